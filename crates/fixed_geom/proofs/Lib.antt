@@ -1,0 +1,5 @@
+pub mod FacingLemmas
+pub mod QuotientLemmas
+pub mod RootLemmas
+pub mod Sizes
+pub mod VectorLemmas

@@ -1,0 +1,4 @@
+pub mod Facings
+pub mod Numbers
+pub mod Refusals
+pub mod Vectors
