@@ -9,9 +9,11 @@ pub mod facings;
 pub mod products;
 pub mod quotients;
 pub mod refusal;
+pub mod roots;
 pub mod vectors;
 
 pub use facings::{Rot, is_facing, rotate};
 pub use quotients::{fdiv, rdiv, rdiv_64, rdiv_unit};
 pub use refusal::Refusal;
-pub use vectors::{UNIT, Vec2, is_within};
+pub use roots::isqrt;
+pub use vectors::{UNIT, Vec2, cross, dot, is_within, minus, moved, span, unit, unit_along};
