@@ -1,12 +1,17 @@
-use Rattle.std.proofs.Common.{◌≡◌, ℕ, ◌+◌, ◌-◌, ◌*◌, ◌^◌, ◌<◌, ◌≤◌, ◌&&◌, nat_le, nat_lt, ℤ, unsigned_abs, arith, refl, false, ◌⊎◌, inl, inr}
+use Rattle.std.proofs.Common.{◌≡◌, ℕ, ◌+◌, ◌-◌, ◌*◌, ◌^◌, ◌<◌, ◌≤◌, ◌&&◌, nat_le, nat_lt, ℤ, pos, negsuc, suc, ◌*ℤ◌, unsigned_abs, arith, refl, ap, ◌∙◌, false, true, ◌⊎◌, inl, inr}
 use Rattle.std.proofs.lemmas.Nat.{mul-le}
+use Rattle.std.proofs.lemmas.Int.{unsigned_abs-mul}
 use Rattle.std.proofs.lemmas.Bool.{cases_lt}
-use Rattle.std.proofs.lemmas.Bool.Decides.{nat_tests}
-use Rattle.fixed_geom.specs.Facings.{is_facing, IsFacing, direction}
-use Rattle.fixed_geom.specs.Vectors.{IsWithin}
+use Rattle.std.proofs.lemmas.Bool.Decides.{nat_tests, same_from_decides, Decides-int_eq}
+use Rattle.std.specs.Ordering.{int_eq}
+use Rattle.fixed_geom.specs.Numbers.{rdiv, nearest}
+use Rattle.fixed_geom.specs.Facings.{is_facing, IsFacing, IsLong, direction, facing_along, swung, turn}
+use Rattle.fixed_geom.specs.Vectors.{IsWithin, unit_length, unit, span}
 use Rattle.fixed_geom.specs.declared.vectors.Vec2.{Vec2}
 use Rattle.fixed_geom.specs.declared.facings.Rot.{Rot}
 use Rattle.fixed_geom.proofs.RootLemmas.{root_at_least, root_at_most, square_of_sum}
+use Rattle.fixed_geom.proofs.QuotientLemmas.{abs_neg}
+use Rattle.fixed_geom.proofs.TurnLemmas.{AreSizes, sizes_of}
 use Rattle.fixed_geom.proofs.VectorLemmas.{span_is}
 
 -- the square of a facing's length
@@ -65,3 +70,40 @@ pub rotated_y_le : (q : Rot) (v : Vec2) (k : ℕ) (sum : ℤ) → IsFacing q →
 rotated_y_le q v k sum h w l =
     let together : unsigned_abs q.s + unsigned_abs q.c ≤ 2 ^ 31 = omega (arith, facing_sum q h) in
     part_le (unsigned_abs q.s) (unsigned_abs q.c) (unsigned_abs v.x) (unsigned_abs v.y) k (unsigned_abs sum) together w.x w.y l
+
+-- ---- the facing along a vector
+
+abs_rdiv : (a b : ℤ) → unsigned_abs (rdiv a b) ≡ nearest (unsigned_abs a) (unsigned_abs b)
+unfolding rdiv
+abs_rdiv (pos n) b = refl
+abs_rdiv (negsuc n) b = abs_neg (nearest (suc n) (unsigned_abs b))
+
+-- the size of a part of a unit vector
+abs_part : (a b : ℤ) (k : ℕ) → b ≡ pos k → unsigned_abs (rdiv (a *ℤ unit_length) b) ≡ nearest (unsigned_abs a * 2 ^ 30) k
+abs_part a b k e = rw e (abs_rdiv (a *ℤ unit_length) (pos k) ∙ ap (λ n. nearest n k) (unsigned_abs-mul a unit_length))
+
+facing_from : (q : Rot) (p r : ℕ) → unsigned_abs q.c ≡ p → unsigned_abs q.s ≡ r → AreSizes p r → IsFacing q
+facing_from q p r e d h = record {
+  c = rw e (omega (arith, h.p_small));
+  s = rw d (omega (arith, h.q_small));
+  long = rw (e, d) h.long;
+  short = rw (e, d) h.short;
+}
+
+pub facing_along_is : (d : Vec2) → IsLong d → IsFacing (facing_along d)
+unfolding unit
+facing_along_is d h =
+    facing_from (facing_along d) _ _ (abs_part d.x (span d) _ (span_is d)) (abs_part d.y (span d) _ (span_is d)) (sizes_of (unsigned_abs d.x) (unsigned_abs d.y) h.long)
+
+-- ---- turning
+
+pub turn-still : (q : Rot) (w : ℤ) → w ≡ pos 0 → turn q w ≡ q
+unfolding turn
+turn-still q w e = rw e refl
+
+other_than : (w : ℤ) → (w ≡ pos 0 → ⊥) → int_eq w (pos 0) ≡ false
+other_than w h = same_from_decides (int_eq w (pos 0)) false (Decides-int_eq w (pos 0)) (λ e. absurd (let no : false ≡ true = e in cc), λ e. absurd (h e))
+
+pub turn-spun : (q : Rot) (w : ℤ) → (w ≡ pos 0 → ⊥) → turn q w ≡ facing_along (swung q w)
+unfolding turn
+turn-spun q w h = rw (other_than w h) refl

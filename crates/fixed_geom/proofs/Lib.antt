@@ -2,4 +2,5 @@ pub mod FacingLemmas
 pub mod QuotientLemmas
 pub mod RootLemmas
 pub mod Sizes
+pub mod TurnLemmas
 pub mod VectorLemmas

@@ -1,6 +1,6 @@
 -- Quotients to the nearest and down.
-use Rattle.std.proofs.Common.{◌≡◌, ℕ, zero, suc, ◌+◌, ◌-◌, ◌*◌, ◌/◌, ◌%◌, ◌<◌, ◌≤◌, ℤ, pos, negsuc, ◌-ℤ◌, ◌*ℤ◌, neg_ℤ, ◌<ℤ◌, ◌≤ℤ◌, unsigned_abs, arith, refl, sym, ◌∙◌, ap}
-use Rattle.std.proofs.lemmas.Nat.{div_below, le-div, div-mul-add, div-add-mod', mod_below}
+use Rattle.std.proofs.Common.{◌≡◌, ℕ, zero, suc, ◌+◌, ◌-◌, ◌*◌, ◌/◌, ◌%◌, ◌<◌, ◌≤◌, ℤ, pos, negsuc, ◌-ℤ◌, neg_ℤ, ◌<ℤ◌, ◌≤ℤ◌, unsigned_abs, arith, refl, ◌∙◌, ap}
+use Rattle.std.proofs.lemmas.Nat.{div_below, div-mul-add, div-add-mod', mod_below}
 use Rattle.std.proofs.lemmas.Int.{ints}
 use Rattle.std.specs.Int.{int_div_euclid}
 use Rattle.fixed_geom.specs.Numbers.{nearest, rdiv, fdiv, IsNearest, IsFloor}
@@ -31,7 +31,7 @@ zero-minus : (n : ℕ) → pos 0 -ℤ pos n ≡ neg_ℤ (pos n)
 zero-minus zero = refl
 zero-minus (suc n) = omega (arith, ints)
 
-abs_neg : (n : ℕ) → unsigned_abs (neg_ℤ (pos n)) ≡ n
+pub abs_neg : (n : ℕ) → unsigned_abs (neg_ℤ (pos n)) ≡ n
 abs_neg zero = refl
 abs_neg (suc n) = refl
 
@@ -82,7 +82,7 @@ fdiv-floor a (negsuc d) p = absurd p.lt
 
 -- ---- the inequality
 
-nearest_between : (n d : ℕ) → 0 < d → (2 * n < 2 * (nearest n d * d) + d) × (2 * (nearest n d * d) ≤ 2 * n + d)
+pub nearest_between : (n d : ℕ) → 0 < d → (2 * n < 2 * (nearest n d * d) + d) × (2 * (nearest n d * d) ≤ 2 * n + d)
 nearest_between n d p =
     let whole : nearest n d * (2 * d) + (2 * n + d) % (2 * d) ≡ 2 * n + d = div-add-mod' (2 * n + d) (2 * d) in
     let below : (2 * n + d) % (2 * d) < 2 * d = mod_below (2 * n + d) (2 * d) (omega arith) in

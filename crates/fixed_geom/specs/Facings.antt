@@ -1,5 +1,5 @@
 -- Facings: a direction as a cosine and a sine, both times 2^30.
-use Rattle.std.specs.Prelude.{◌≡◌, ℕ, Bool, ◌&&◌, ◌+◌, ◌-◌, ◌*◌, ◌^◌, ◌<◌, ◌≤◌, ℤ, pos, ◌+ℤ◌, ◌-ℤ◌, ◌*ℤ◌, unsigned_abs, cond, int_le}
+use Rattle.std.specs.Prelude.{Bool, ◌&&◌, ◌+◌, ◌-◌, ◌*◌, ◌^◌, ◌<◌, ◌≤◌, ℤ, pos, ◌+ℤ◌, ◌-ℤ◌, ◌*ℤ◌, unsigned_abs, cond, int_le}
 use Rattle.std.specs.Ordering.{int_eq}
 use Rattle.fixed_geom.specs.Numbers.{rdiv}
 use Rattle.fixed_geom.specs.Vectors.{unit_length, span, unit}
@@ -31,6 +31,10 @@ rotate q v = record {
 -- q's direction moved along its own tangent by w / 2^30
 abbrev pub swung : Rot → ℤ → Vec2
 swung q w = record { x = q.c -ℤ rdiv (w *ℤ q.s) unit_length; y = q.s +ℤ rdiv (w *ℤ q.c) unit_length }
+
+-- d is at least half as long as a unit vector
+pub record IsLong (d : Vec2) : Type 0 where
+  pub long : (2 ^ 29) * (2 ^ 29) ≤ unsigned_abs d.x * unsigned_abs d.x + unsigned_abs d.y * unsigned_abs d.y
 
 -- the facing along d
 abbrev pub facing_along : Vec2 → Rot

@@ -1,3 +1,4 @@
+pub mod Boxes
 pub mod Facings
 pub mod Numbers
 pub mod Refusals

@@ -5,6 +5,7 @@
 //! times 2^30. A product is exact in 128 bits, and nothing wraps: each range is a condition.
 #![tactic(auto)]
 
+pub mod boxes;
 pub mod facings;
 pub mod products;
 pub mod quotients;
@@ -12,7 +13,9 @@ pub mod refusal;
 pub mod roots;
 pub mod vectors;
 
-pub use facings::{Rot, is_facing, rotate};
+pub use boxes::{Box2, contains, grow, overlaps};
+pub use facings::{Rot, is_facing, rotate, turn};
+pub use products::{difference_of_products, product, scaled, sum_of_products};
 pub use quotients::{fdiv, rdiv, rdiv_64, rdiv_unit};
 pub use refusal::Refusal;
 pub use roots::isqrt;

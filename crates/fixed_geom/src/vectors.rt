@@ -4,8 +4,8 @@ ghost use Rattle.std.specs.Prelude.{◌≡◌, ℕ, ◌+◌, ◌*◌, ◌^◌, �
 ghost use Rattle.fixed_geom.specs.Numbers.{rdiv};
 ghost use Rattle.fixed_geom.specs.Vectors.{IsWithin, is_within, unit_length, dot, cross, minus, moved, span, unit};
 
-use crate::products::{difference_of_products, product, sum_of_products};
-use crate::{isqrt, rdiv, rdiv_unit};
+use crate::products::{difference_of_products, product, scaled, sum_of_products};
+use crate::{isqrt, rdiv};
 
 /// One, for a unit vector and a facing.
 pub const UNIT: i64 = 1 << 30;
@@ -104,15 +104,6 @@ pub fn unit(d: Vec2) -> Vec2
     ensures within { IsWithin (2 ^ 30) result }
 {
     unit_along(d, span(d))
-}
-
-/// `x·by / 2^30` to the nearest.
-fn scaled(x: i64, by: i64) -> i64
-    requires { unsigned_abs x * unsigned_abs by ≤ 2 ^ 92 }
-    ensures value { result ≡ rdiv (x *ℤ by) unit_length }
-    ensures within { (k : ℕ) → unsigned_abs x * unsigned_abs by ≤ k * 2 ^ 30 → unsigned_abs result ≤ k }
-{
-    rdiv_unit(product(x, by))
 }
 
 /// `x + d·t / 2^30`

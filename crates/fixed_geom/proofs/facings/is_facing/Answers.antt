@@ -1,6 +1,5 @@
 use Rattle.std.proofs.Common.{◌≡◌, arith, unsigned_abs}
 use Rattle.std.proofs.lemmas.Int.{to_z-of_z}
-use Rattle.fixed_geom.specs.declared.facings.Rot.{Rot}
 use Rattle.fixed_geom.proofs.FacingLemmas.{is_facing-then, is_facing-else, is_facing-long}
 use Rattle.fixed_geom.proofs.facings.is_facing.Goals as goal
 

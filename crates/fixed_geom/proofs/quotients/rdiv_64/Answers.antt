@@ -1,7 +1,5 @@
 use Rattle.std.proofs.Common.{◌≡◌, pos, ◌<ℤ◌, ◌≤ℤ◌, unsigned_abs, arith}
 use Rattle.std.proofs.lemmas.Int.{to_z-of_z, ints}
-use Rattle.std.specs.Int.{w64}
-use Rattle.fixed_geom.specs.Numbers.{rdiv}
 use Rattle.fixed_geom.proofs.QuotientLemmas.{rdiv-negative, rdiv-nonnegative, finished}
 use Rattle.fixed_geom.proofs.quotients.rdiv_64.Goals as goal
 

@@ -1,11 +1,10 @@
-use Rattle.std.proofs.Common.{◌≡◌, ◌≤◌, ◌<◌, ◌^◌, ◌*◌, ℕ, pos, ◌≤ℤ◌, unsigned_abs, arith, rules, ◌∙◌}
+use Rattle.std.proofs.Common.{◌≡◌, ◌≤◌, ◌<◌, ◌^◌, ◌*◌, unsigned_abs, arith, ◌∙◌}
 use Rattle.std.proofs.lemmas.Int.{to_z-of_z, ints}
 use Rattle.std.specs.Int.{w64, w128}
 use mir.Val.{SFits, to_z, of_z}
-use Rattle.fixed_geom.specs.Numbers.{isqrt}
 use Rattle.fixed_geom.specs.Vectors.{dot, span}
 use Rattle.fixed_geom.proofs.Sizes.{fits_64, narrowed}
-use Rattle.fixed_geom.proofs.VectorLemmas.{dot_self, span_spans, IsSpan}
+use Rattle.fixed_geom.proofs.VectorLemmas.{dot_self, span_spans}
 use Rattle.fixed_geom.proofs.vectors.span.Goals as goal
 
 pub isqrt-requires : goal.isqrt-requires
