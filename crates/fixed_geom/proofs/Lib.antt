@@ -1,4 +1,5 @@
 pub mod FacingLemmas
+pub mod ListLemmas
 pub mod QuotientLemmas
 pub mod RootLemmas
 pub mod Sizes

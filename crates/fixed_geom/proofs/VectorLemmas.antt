@@ -1,10 +1,11 @@
+-- The length of a vector.
 use Rattle.std.proofs.Common.{◌≡◌, ℕ, zero, suc, ◌+◌, ◌*◌, ◌<◌, ◌≤◌, ℤ, pos, negsuc, ◌*ℤ◌, ◌<ℤ◌, ◌≤ℤ◌, unsigned_abs, arith, refl}
 use Rattle.std.proofs.lemmas.Nat.{mul-le}
 use Rattle.std.proofs.lemmas.Int.{ints}
-use Rattle.fixed_geom.specs.Numbers.{root, isqrt}
+use Rattle.fixed_geom.specs.Numbers.{root, isqrt, IsRoot}
 use Rattle.fixed_geom.specs.Vectors.{dot, span, IsWithin}
 use Rattle.fixed_geom.specs.declared.vectors.Vec2.{Vec2}
-use Rattle.fixed_geom.proofs.RootLemmas.{root_is, root_below}
+use Rattle.fixed_geom.proofs.RootLemmas.{root_is, root_below, IsRootOf}
 
 square : (x : ℤ) → x *ℤ x ≡ pos (unsigned_abs x * unsigned_abs x)
 square (pos n) = refl
@@ -54,3 +55,9 @@ pub dot_positive : (d : Vec2) → 0 < unsigned_abs d.x + unsigned_abs d.y → po
 dot_positive d h =
     let some : 0 < unsigned_abs d.x * unsigned_abs d.x + unsigned_abs d.y * unsigned_abs d.y = positive_squares (unsigned_abs d.x) (unsigned_abs d.y) h in
     rw (dot_self d) (omega (arith, ints))
+
+-- the length, as the root that it is
+pub span_root : (d : Vec2) → IsRoot (dot d d) (span d)
+span_root d =
+    let is : IsRootOf (squares d) (root (squares d)) = root_is (squares d) in
+    rw (span_is d, dot_self d) (record { nonnegative = omega (arith, ints); below = omega (arith, ints); above = omega (arith, ints) })

@@ -11,6 +11,8 @@ pub mod products;
 pub mod quotients;
 pub mod refusal;
 pub mod roots;
+#[cfg(test)]
+mod tests;
 pub mod vectors;
 
 pub use boxes::{Box2, contains, grow, overlaps};

@@ -39,10 +39,10 @@ fn nearest_quotient_64(n: u64, d: u64) -> u64
 {
     let quotient = n / d;
     let rest = n % d;
-    if rest >= d - rest {
-        quotient + 1
-    } else {
+    if rest < d - rest {
         quotient
+    } else {
+        quotient + 1
     }
 }
 

@@ -1,7 +1,7 @@
 //! Vectors of whole numbers, their products, lengths and unit vectors.
 
 ghost use Rattle.std.specs.Prelude.{◌≡◌, ℕ, ◌+◌, ◌*◌, ◌^◌, ◌<◌, ◌≤◌, pos, ◌+ℤ◌, ◌*ℤ◌, ◌≤ℤ◌, ◌<ℤ◌, unsigned_abs, IsTrue, ◌↔◌};
-ghost use Rattle.fixed_geom.specs.Numbers.{rdiv};
+ghost use Rattle.fixed_geom.specs.Numbers.{rdiv, IsRoot};
 ghost use Rattle.fixed_geom.specs.Vectors.{IsWithin, is_within, unit_length, dot, cross, minus, moved, span, unit};
 
 use crate::products::{difference_of_products, product, scaled, sum_of_products};
@@ -64,6 +64,7 @@ pub fn cross(a: Vec2, b: Vec2) -> i128
 pub fn span(d: Vec2) -> i64
     requires { IsWithin (2 ^ 61) d }
     ensures value { result ≡ span d }
+    ensures root { IsRoot (dot d d) result }
     ensures nonnegative { pos 0 ≤ℤ result }
     ensures covers { IsWithin (unsigned_abs result) d }
     ensures within { (k : ℕ) → IsWithin k d → unsigned_abs result ≤ 2 * k }

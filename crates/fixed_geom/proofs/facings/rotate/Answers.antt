@@ -13,7 +13,7 @@ rdiv_unit-requires c =
     let vy : SFits w64 c.args.v.y = search rules in
     let fits : SFits w128 c.difference_of_products.result = record { sfits = c.difference_of_products.type_inv } in
     let size = simp to_z-of_z at c.difference_of_products.ensures.size in
-    let small = rotated_x_le c.args.q c.args.v (2 ^ 60) c.difference_of_products.result c.requires.facing c.requires.place size in
+    let small = rotated_x_le c.args.q c.args.v (2 ^ 60) c.difference_of_products.result c.requires.facing c.requires.place (omega (arith, size)) in
     simp to_z-of_z (omega (arith, small))
 
 pub rdiv_unit-requires-2 : goal.rdiv_unit-requires-2
@@ -24,7 +24,7 @@ rdiv_unit-requires-2 c =
     let vy : SFits w64 c.args.v.y = search rules in
     let fits : SFits w128 c.sum_of_products.result = record { sfits = c.sum_of_products.type_inv } in
     let size = simp to_z-of_z at c.sum_of_products.ensures.size in
-    let small = rotated_y_le c.args.q c.args.v (2 ^ 60) c.sum_of_products.result c.requires.facing c.requires.place size in
+    let small = rotated_y_le c.args.q c.args.v (2 ^ 60) c.sum_of_products.result c.requires.facing c.requires.place (omega (arith, size)) in
     simp to_z-of_z (omega (arith, small))
 
 pub returns-clause-within : goal.returns-clause-within
@@ -39,8 +39,8 @@ returns-clause-within c = λ k h.
     let y : SFits w64 c.rdiv_unit-2.result = record { sfits = c.rdiv_unit-2.type_inv } in
     let across_size = simp to_z-of_z at c.difference_of_products.ensures.size in
     let along_size = simp to_z-of_z at c.sum_of_products.ensures.size in
-    let across_le = rotated_x_le c.args.q c.args.v k c.difference_of_products.result c.requires.facing h across_size in
-    let along_le = rotated_y_le c.args.q c.args.v k c.sum_of_products.result c.requires.facing h along_size in
+    let across_le = rotated_x_le c.args.q c.args.v k c.difference_of_products.result c.requires.facing h (omega (arith, across_size)) in
+    let along_le = rotated_y_le c.args.q c.args.v k c.sum_of_products.result c.requires.facing h (omega (arith, along_size)) in
     record {
       x = simp to_z-of_z (c.rdiv_unit.ensures.within (2 * k) (simp to_z-of_z across_le));
       y = simp to_z-of_z (c.rdiv_unit-2.ensures.within (2 * k) (simp to_z-of_z along_le));

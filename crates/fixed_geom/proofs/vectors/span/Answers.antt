@@ -4,7 +4,7 @@ use Rattle.std.specs.Int.{w64, w128}
 use mir.Val.{SFits, to_z, of_z}
 use Rattle.fixed_geom.specs.Vectors.{dot, span}
 use Rattle.fixed_geom.proofs.Sizes.{fits_64, narrowed}
-use Rattle.fixed_geom.proofs.VectorLemmas.{dot_self, span_spans}
+use Rattle.fixed_geom.proofs.VectorLemmas.{dot_self, span_root, span_spans}
 use Rattle.fixed_geom.proofs.vectors.span.Goals as goal
 
 pub isqrt-requires : goal.isqrt-requires
@@ -44,3 +44,6 @@ returns-clause-covers c = rw (whole c) (span_spans c.args.d).covers
 
 pub returns-clause-within : goal.returns-clause-within
 returns-clause-within c = λ k h. rw (whole c) ((span_spans c.args.d).within k h)
+
+pub returns-clause-root : goal.returns-clause-root
+returns-clause-root c = rw (whole c) (span_root c.args.d)
