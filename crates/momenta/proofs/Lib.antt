@@ -1,3 +1,3 @@
 pub mod Rounding
 pub mod Spins
-pub mod Limits
+pub mod MotionLaws

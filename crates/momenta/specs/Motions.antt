@@ -1,7 +1,7 @@
 -- How one body moves in a tick: its velocity and spin, gravity, the speed limit, and the move itself.
 use Rattle.std.specs.Prelude.{◌≡◌, ℕ, zero, ◌≤◌, ◌^◌, ℤ, pos, negsuc, neg_ℤ, ◌+ℤ◌, ◌*ℤ◌, ◌≤ℤ◌, unsigned_abs, cond, nat_le}
 use Rattle.fixed_geom.specs.Numbers.{rdiv}
-use Rattle.fixed_geom.specs.Facings.{IsFacing}
+use Rattle.fixed_geom.specs.Facings.{IsFacing, turn}
 use Rattle.fixed_geom.specs.Vectors.{IsWithin}
 use Rattle.fixed_geom.specs.declared.vectors.Vec2.{Vec2}
 use Rattle.momenta.specs.declared.mass.MassData.{MassData}
@@ -76,8 +76,11 @@ aim m s = record { x = s.x.x +ℤ (velocity m.mass s.p).x; y = s.x.y +ℤ (veloc
 abbrev pub kept_part : ℤ → ℤ → ℤ
 kept_part to p = cond (nat_le (unsigned_abs to) (2 ^ 36)) p (pos 0)
 
+-- the move of a tick: the centre by the velocity, up to the edge, and the facing by the spin
 unfoldable pub advanced : MassData → Motion → Motion
-advanced m s = record s {
+advanced m s = record {
   p = record { x = kept_part (aim m s).x s.p.x; y = kept_part (aim m s).y s.p.y };
+  l = s.l;
   x = record { x = limited (2 ^ 36) (aim m s).x; y = limited (2 ^ 36) (aim m s).y };
+  rot = turn s.rot (spin m.inertia s.l);
 }

@@ -5,9 +5,11 @@ ghost use Rattle.momenta.specs.Motions.{IsMass, IsMotion, IsPulled, pulled};
 use crate::{MassData, Motion};
 use fixed_geom::Vec2;
 
-/// A tick of gravity: `mass·gravity` is added to the momentum.
+/// A tick of gravity: `mass·gravity` is added to the momentum, before the body moves (semi-implicit
+/// Euler, as in Box2D).
 ///
-/// Gravity is in u/tick², each component within ±2^16. The momentum may leave ±2^60 until the speed limit.
+/// Gravity is in u/tick², each component within ±2^16. The momentum may leave ±2^60 until the speed
+/// limit brings it back.
 pub fn pull(motion: Motion, mass: MassData, gravity: Vec2) -> Motion
     requires mass { IsMass mass }
     requires motion { IsMotion mass motion }

@@ -4,7 +4,7 @@ ghost use Rattle.fixed_geom.specs.Vectors.{IsWithin};
 ghost use Rattle.momenta.specs.declared.mass.MassData.{MassData};
 ghost use Rattle.momenta.specs.Motions.{IsMotion, limited, spin, velocity};
 
-use fixed_geom::{Rot, Vec2, rdiv, rdiv_64};
+use fixed_geom::{Rot, UNIT, Vec2, rdiv, rdiv_64};
 
 /// How a body stands and moves.
 ///
@@ -19,7 +19,7 @@ pub struct Motion {
 }
 
 impl Motion {
-    /// A body at rest.
+    /// A body at rest, of any mass: no momentum of either kind.
     pub fn at_rest(x: Vec2, rot: Rot) -> Motion
         requires place { IsWithin (2 ^ 36) x }
         requires facing { IsFacing rot }
@@ -35,7 +35,8 @@ impl Motion {
     }
 }
 
-/// `p / mass` by component, in u/tick, rounded to the nearest, ties away from zero.
+/// The velocity of a momentum, in u/tick: `p / mass` by component, rounded to the nearest, ties away
+/// from zero.
 pub fn velocity(p: Vec2, mass: i64) -> Vec2
     requires momentum { IsWithin (2 ^ 62) p }
     requires positive { pos 1 ≤ℤ mass }
@@ -48,13 +49,15 @@ pub fn velocity(p: Vec2, mass: i64) -> Vec2
     }
 }
 
-/// The most that a body turns in a tick, to either side: a quarter of a radian, times 2^30.
+/// The most that a body turns in a tick, to either side: a quarter of a radian, times 2^30. This
+/// project's own rule.
 pub const MAX_SPIN: i64 = 1 << 28;
 
-/// The largest angular momentum whose product with 2^30 has room in 64 bits.
+/// An angular momentum up to this size still has room in 64 bits once it is multiplied by 2^30.
 const NARROW: u128 = 1 << 32;
 
-/// The turn of a tick, in radians times 2^30, rounded to the nearest and then brought within `MAX_SPIN`.
+/// The spin of an angular momentum, in radians a tick times 2^30: `l / inertia`, rounded to the nearest,
+/// ties away from zero, and then brought within `MAX_SPIN`. A body of inertia 0 has none.
 pub fn spin(l: i128, inertia: i64) -> i64
     requires momentum { unsigned_abs l ≤ 2 ^ 90 }
     requires nonnegative { pos 0 ≤ℤ inertia }
@@ -77,18 +80,20 @@ fn narrow_spin(l: i64, inertia: i64) -> i64
     ensures value { result ≡ spin inertia l }
     ensures small { unsigned_abs result ≤ 2 ^ 28 }
 {
-    limit_spin(i128::from(rdiv_64(l * (1 << 30), inertia)))
+    limit_spin(i128::from(rdiv_64(l * UNIT, inertia)))
 }
 
+/// The spin of any other, in 128 bits.
 fn wide_spin(l: i128, inertia: i64) -> i64
     requires momentum { unsigned_abs l ≤ 2 ^ 90 }
     requires positive { pos 1 ≤ℤ inertia }
     ensures value { result ≡ spin inertia l }
     ensures small { unsigned_abs result ≤ 2 ^ 28 }
 {
-    limit_spin(rdiv(l * (1 << 30), i128::from(inertia)))
+    limit_spin(rdiv(l * i128::from(UNIT), i128::from(inertia)))
 }
 
+/// A spin beyond `MAX_SPIN` is put on it.
 fn limit_spin(w: i128) -> i64
     ensures value { result ≡ limited (2 ^ 28) w }
     ensures small { unsigned_abs result ≤ 2 ^ 28 }

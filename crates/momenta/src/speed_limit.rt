@@ -6,11 +6,12 @@ ghost use Rattle.momenta.specs.Motions.{IsMass, IsMotion, IsPulled, clamped, cla
 use crate::{MassData, Motion};
 use fixed_geom::{Vec2, minus};
 
-/// The most that a body moves in a tick, in u, along each axis to either side.
+/// The most that a body moves in a tick, in u, along each axis to either side. This project's own rule.
 pub const MAX_SPEED: i64 = 1 << 20;
 
-/// The speed limit: a component of the velocity beyond `MAX_SPEED` sets that component of the momentum
-/// to the mass times the limit. Answers the motion and the change of its momentum.
+/// The speed limit: where a component of the velocity is beyond `MAX_SPEED`, that component of the
+/// momentum becomes the mass times the limit, with its sign. Answers the motion and the change of its
+/// momentum.
 pub fn clamp_speed(motion: Motion, mass: MassData) -> (Motion, Vec2)
     requires mass { IsMass mass }
     requires motion { IsPulled mass motion }

@@ -84,3 +84,24 @@ fn a_body_falls_for_four_ticks(rt: HostRuntime) {
     assert_eq!(rt; four.p, at(0, -160768));
     assert_eq!(rt; four.rot, AHEAD);
 }
+
+#[test]
+fn a_fast_spin_turns_by_its_limit(rt: HostRuntime) {
+    let mass = MassData {
+        mass: 2,
+        inertia: 1,
+    };
+    let start = Motion {
+        p: Vec2 { x: 0, y: 300 },
+        l: 150000,
+        x: Vec2 { x: 0, y: 0 },
+        rot: AHEAD,
+    };
+    let (limited, _) = clamp_speed(start, mass);
+    let (moved, change) = advance(limited, mass);
+    assert_eq!(rt; moved.x, at(0, 150));
+    assert_eq!(rt; moved.rot.c, 1041682578);
+    assert_eq!(rt; moved.rot.s, 260420645);
+    assert_eq!(rt; moved.l, 150000);
+    assert_eq!(rt; change, at(0, 0));
+}

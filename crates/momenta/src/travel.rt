@@ -2,16 +2,16 @@ ghost use Rattle.std.specs.Prelude.{◌≡◌, ◌^◌, ◌≤◌, unsigned_abs}
 ghost use Rattle.fixed_geom.specs.Vectors.{IsWithin, minus};
 ghost use Rattle.momenta.specs.Motions.{IsMass, IsMotion, advanced, aim, kept_part, limited, velocity};
 
-use crate::{MassData, Motion, velocity};
-use fixed_geom::{Vec2, minus};
+use crate::{MassData, Motion, spin, velocity};
+use fixed_geom::{Vec2, minus, turn};
 
-/// The edge of the world: a centre's coordinates are within this many u of 0.
+/// The edge of the world: a centre's coordinates are within this many u of 0. This project's own rule.
 pub const EDGE: i64 = 1 << 36;
 
-/// The move of a tick: the centre moves by the velocity. (The facing does not turn yet.)
+/// The move of a tick: the centre moves by the velocity, and the facing turns by the spin.
 ///
-/// A coordinate that would pass `EDGE` stops there, and that component of the momentum becomes 0.
-/// Answers the motion and the change of its momentum.
+/// A coordinate that would pass `EDGE` stops there, and that component of the momentum becomes 0; one
+/// that comes to stand on it just so keeps its momentum. Answers the motion and the change of its momentum.
 pub fn advance(motion: Motion, mass: MassData) -> (Motion, Vec2)
     requires mass { IsMass mass }
     requires motion { IsMotion mass motion }
@@ -30,7 +30,16 @@ pub fn advance(motion: Motion, mass: MassData) -> (Motion, Vec2)
         x: stop_at_edge(to.x),
         y: stop_at_edge(to.y),
     };
-    (Motion { p, x, ..motion }, minus(p, motion.p))
+    let rot = turn(motion.rot, spin(motion.l, mass.inertia));
+    (
+        Motion {
+            p,
+            x,
+            rot,
+            ..motion
+        },
+        minus(p, motion.p),
+    )
 }
 
 /// Where the velocity leads, were there no edge.

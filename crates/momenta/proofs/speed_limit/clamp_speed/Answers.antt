@@ -1,6 +1,6 @@
 use Rattle.std.proofs.Common.{rules}
 use Rattle.momenta.specs.Motions.{velocity, clamped}
-use Rattle.momenta.proofs.Limits.{clamped_slow}
+use Rattle.momenta.proofs.MotionLaws.{clamped_slow}
 use Rattle.momenta.proofs.speed_limit.clamp_speed.Goals as goal
 
 pub returns-clause-value : goal.returns-clause-value
