@@ -1,6 +1,6 @@
 //! Gives slots out and takes them back.
 
-ghost use Rattle.std.specs.Prelude.{◌≡◌, ◌+◌, ◌<◌, ◌≤◌, ◌↔◌, [], length, IsTrue, IfOk, OnOk, OnErr};
+ghost use Rattle.std.specs.Prelude.{◌≡◌, ◌+◌, ◌<◌, ◌≤◌, ◌↔◌, [], length, IsTrue, IfOk, IsOk, OnOk, OnErr};
 ghost use Rattle.std.specs.Result.{IsOkUnless};
 ghost use Rattle.body_handles.specs.Places.{lowest, generation_at, places_with, places_without, is_live, IsLive, IsGone};
 ghost use Rattle.body_handles.specs.Calls.{Insert, Remove, after_call};
@@ -45,6 +45,8 @@ impl Handles {
     /// Makes room for one more slot. Refused for want of memory only.
     pub fn reserve_one(&mut self) -> Result<(), Refusal>
         ensures ok { OnOk result (1 ≤ self.new.room) }
+        ensures enough { 1 ≤ self.old.room → IsOk result }
+        ensures room { self.old.room ≤ self.new.room }
         ensures kept { self.new.places ≡ self.old.places }
         ensures memory_only { IsOkUnless result Refusal.NoMemory }
     {
@@ -64,6 +66,7 @@ impl Handles {
         ensures slot_below { IfOk result (λ h. h.slot < 16384) }
         ensures positive { IfOk result (λ h. 1 ≤ h.generation) }
         ensures few { length self.new.places ≤ 16384 }
+        ensures room { self.old.room ≤ self.new.room + 1 }
 
         ensures full { (result ≡ Err Refusal.TooMany) ↔ (16384 ≤ lowest self.old.places) }
         ensures full_only { IsOkUnless result Refusal.TooMany }
@@ -89,6 +92,7 @@ impl Handles {
         ensures call { self.new.places ≡ after_call (Remove handle) self.old.places }
         ensures gone { IsGone self.new.places handle }
         ensures slots { length self.new.places ≡ length self.old.places }
+        ensures room { self.new.room ≡ self.old.room }
     {
         take_back(&mut self.places, handle);
         self.first_open = self.first_open.min(handle.slot as usize);

@@ -55,6 +55,7 @@ pub(crate) fn give_out(places: &mut Vec<Place>, slot: usize, generation: u32)
     requires room { 1 ≤ vec_capacity places.old - vec_len places.old }
     requires generation { generation ≡ generation_at places.old.items slot }
     ensures places { places.new.items ≡ places_with places.old.items slot }
+    ensures capacity { vec_capacity places.old ≤ vec_capacity places.new }
 {
     let place = Place {
         generation,
@@ -72,6 +73,7 @@ pub(crate) fn take_back(places: &mut Vec<Place>, handle: Handle)
     requires each { All IsPlace places.old.items }
     requires live { IsLive places.old.items handle }
     ensures places { places.new.items ≡ places_without places.old.items handle }
+    ensures capacity { vec_capacity places.new ≡ vec_capacity places.old }
 {
     let place = &mut places[handle.slot as usize];
     place.generation += 1;

@@ -7,7 +7,8 @@ use Rattle.impulse_ledger.specs.declared.totals.Total.{Total}
 use Rattle.impulse_ledger.specs.declared.totals.Totals.{Totals}
 use Rattle.impulse_ledger.specs.Totals.{sum_of, impulse_of, total_in, put_total}
 use Rattle.impulse_ledger.specs.Sums.{Book, is_cause, share, total_of_x, total_of_y, Fits, IsTotal, IsKept}
-use Rattle.impulse_ledger.proofs.SumLemmas.{sum_x-push, sum_y-push, sum_of_x-push, sum_of_y-push, is_cause_is, is_cause-same, total_in-put_same, total_in-put_other}
+use Rattle.impulse_ledger.proofs.SumLemmas.{sum_x-push, sum_y-push, sum_of_x-push, sum_of_y-push}
+use Rattle.impulse_ledger.proofs.CauseLemmas.{is_cause_is, is_cause-same, total_in-put_same, total_in-put_other}
 
 -- the sums by cause once an entry was added to its own
 abbrev pub posted : Totals → Entry → Totals

@@ -1,6 +1,6 @@
 //! The book: its entries, and their kept sums.
 
-ghost use Rattle.std.specs.Prelude.{◌≡◌, ◌+◌, ◌≤◌, [], ◌∷◌, ◌++◌, OnOk, OnErr, IfOk, IsOk};
+ghost use Rattle.std.specs.Prelude.{◌≡◌, ◌+◌, ◌≤◌, ◌^◌, unsigned_abs, [], ◌∷◌, ◌++◌, OnOk, OnErr, IfOk, IsOk};
 ghost use Rattle.std.specs.Result.{IsOkUnless};
 ghost use Rattle.impulse_ledger.specs.Totals.{zero_totals};
 ghost use Rattle.impulse_ledger.specs.Sums.{total_x, total_y, total_of_x, total_of_y, Fits};
@@ -94,6 +94,8 @@ impl Ledger {
     pub fn total(&self) -> Total
         ensures x { result.x ≡ total_x self.now }
         ensures y { result.y ≡ total_y self.now }
+        ensures x_small { unsigned_abs result.x ≤ 2 ^ 126 }
+        ensures y_small { unsigned_abs result.y ≤ 2 ^ 126 }
     {
         self.all
     }
@@ -102,6 +104,8 @@ impl Ledger {
     pub fn total_of(&self, cause: Cause) -> Total
         ensures x { result.x ≡ total_of_x cause self.now }
         ensures y { result.y ≡ total_of_y cause self.now }
+        ensures x_small { unsigned_abs result.x ≤ 2 ^ 126 + 2 ^ 124 }
+        ensures y_small { unsigned_abs result.y ≤ 2 ^ 126 + 2 ^ 124 }
     {
         self.by_cause.of(cause)
     }
