@@ -1,0 +1,4 @@
+pub mod Shapes
+pub mod Bodies
+pub mod Slots
+pub mod Ticks
