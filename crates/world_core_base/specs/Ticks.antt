@@ -1,30 +1,13 @@
 -- A step's ticks: passes over the bodies, and what each adds to the movers' momentum.
-use Rattle.std.specs.Prelude.{◌≡◌, ℕ, zero, suc, ◌≤◌, ◌^◌, Bool, cond, List, [], ◌∷◌, Option, Some, None, option_map, map, ℤ, pos, ◌+ℤ◌, ◌-ℤ◌, unsigned_abs}
+use Rattle.std.specs.Prelude.{ℕ, zero, suc, ◌≤◌, ◌^◌, List, Option, ℤ, pos, ◌+ℤ◌, unsigned_abs}
+use Rattle.fixed_geom.specs.Vectors.{IsWithin}
 use Rattle.fixed_geom.specs.declared.vectors.Vec2.{Vec2}
-use Rattle.momenta.specs.Motions.{pulled, clamped, advanced}
+use Rattle.momenta.specs.Motions.{IsMass, IsMotion, IsPulled, pulled, clamped, advanced}
 use Rattle.momenta.specs.declared.mass.MassData.{MassData}
 use Rattle.momenta.specs.declared.motion.Motion.{Motion}
 use Rattle.world_core_base.specs.declared.body.Body.{Body}
-use Rattle.world_core_base.specs.Bodies.{is_mover, p_x, p_y}
-
--- ---- a pass: one change of motion, made to each mover
-
-abbrev pub changed : (MassData → Motion → Motion) → Body → Body
-changed f b = cond (is_mover b) (record b { motion = f b.mass b.motion }) b
-
-abbrev pub pass : (MassData → Motion → Motion) → List (Option Body) → List (Option Body)
-pass f bodies = map (option_map (changed f)) bodies
-
--- what the pass adds to the movers' momentum
-abbrev pub gain_x : (MassData → Motion → Motion) → List (Option Body) → ℤ
-gain_x f [] = pos 0
-gain_x f (o ∷ bodies) = (p_x (option_map (changed f) o) -ℤ p_x o) +ℤ gain_x f bodies
-
-abbrev pub gain_y : (MassData → Motion → Motion) → List (Option Body) → ℤ
-gain_y f [] = pos 0
-gain_y f (o ∷ bodies) = (p_y (option_map (changed f) o) -ℤ p_y o) +ℤ gain_y f bodies
-
--- ---- a tick
+use Rattle.world_core_base.specs.declared.ticks.StepSums.{StepSums}
+use Rattle.world_core_base.specs.Passes.{pass, gain_x, gain_y}
 
 -- the bodies, and what gravity, and the speed limit with the edge of the world, have added since the step began
 pub record Run : Type 0 where
@@ -60,3 +43,28 @@ ticks (suc n) g r = tick g (ticks n g r)
 
 abbrev pub start : List (Option Body) → Run
 start bodies = record { bodies = bodies; gravity_x = pos 0; gravity_y = pos 0; clamp_x = pos 0; clamp_y = pos 0 }
+
+-- the bodies with the sums that the code has kept
+abbrev pub run_of : List (Option Body) → StepSums → Run
+run_of bodies s = record { bodies = bodies; gravity_x = s.gravity.x; gravity_y = s.gravity.y; clamp_x = s.clamp.x; clamp_y = s.clamp.y }
+
+pub record AreSums (n : ℕ) (s : StepSums) : Type 0 where
+  pub gravity_x : unsigned_abs s.gravity.x ≤ n
+  pub gravity_y : unsigned_abs s.gravity.y ≤ n
+  pub clamp_x : unsigned_abs s.clamp.x ≤ n
+  pub clamp_y : unsigned_abs s.clamp.y ≤ n
+
+-- ---- one mover, between the changes of a tick
+
+-- the speed limit, the speed limit again, the move
+abbrev pub settled : MassData → Motion → Motion
+settled m s = advanced m (clamped m (clamped m s))
+
+pub record CanPull (g : Vec2) (m : MassData) (s : Motion) : Type 0 where
+  pub gravity : IsWithin (2 ^ 16) g
+  pub mass : IsMass m
+  pub motion : IsMotion m s
+
+pub record CanSettle (m : MassData) (s : Motion) : Type 0 where
+  pub mass : IsMass m
+  pub motion : IsPulled m s
