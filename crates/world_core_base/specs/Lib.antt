@@ -2,3 +2,4 @@ pub mod Shapes
 pub mod Bodies
 pub mod Slots
 pub mod Ticks
+pub mod Census

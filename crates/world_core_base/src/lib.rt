@@ -6,11 +6,13 @@
 #![tactic(auto)]
 
 mod body;
+mod census;
 mod gain;
 mod shape;
 mod slots;
 
 pub use body::{Body, BodyDef, BodyView, Kind, SetName};
+pub use census::{Census, take_census};
 pub use gain::Gain;
 pub use shape::{Filter, MAX_SHAPES, Shape, ShapeDef, Shapes, check};
 pub use slots::{body_at, body_of, clear_slot, copy_bodies, put_body, put_momentum};
