@@ -6,6 +6,7 @@
 #![tactic(auto)]
 
 mod body;
+mod census;
 mod gain;
 mod passes;
 mod shape;
@@ -13,6 +14,7 @@ mod slots;
 mod ticks;
 
 pub use body::{Body, BodyDef, BodyView, Kind, SetName};
+pub use census::{Census, take_census};
 pub use gain::Gain;
 pub use shape::{Filter, MAX_SHAPES, Shape, ShapeDef, Shapes, check};
 pub use slots::{body_at, body_of, clear_slot, copy_bodies, put_body, put_momentum};
