@@ -4,9 +4,12 @@
 mod booking;
 mod command;
 mod events;
+mod plain;
 mod pushes;
+mod replay;
 mod world;
 
 pub use command::{Command, Reply};
 pub use events::{ContactKey, Events, ShapeId};
+pub use plain::Plain;
 pub use world::WorldCore;

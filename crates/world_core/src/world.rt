@@ -7,7 +7,7 @@ ghost use Rattle.world_core.specs.Apply.{Answers, empty_world, gravity_refusal, 
 
 use crate::booking::{book, book_step, gain_of, loss_of};
 use crate::pushes::{departing, momentum_after};
-use crate::{Command, Events, Reply};
+use crate::{Command, Events, Plain, Reply};
 use body_handles::{Handle, Handles};
 use fixed_geom::{Refusal, Vec2, is_within};
 use impulse_ledger::{Cause, Ledger};
@@ -204,5 +204,21 @@ impl WorldCore {
         ensures { result.now ≡ self.now.events }
     {
         &self.events
+    }
+
+    /// The world as plain lists. Refused 1 where memory is wanting.
+    pub fn plain(&self) -> Result<Plain, Refusal>
+        ensures plain { IfOk result (λ plain. plain ≡ self.now.plain) }
+        ensures sound { IsSound self.now }
+        ensures memory_only { IsOkUnless result Refusal.NoMemory }
+    {
+        Plain::copied(
+            *self.bodies.allocator(),
+            &self.handles,
+            &self.bodies,
+            self.gravity,
+            self.steps,
+            self.calls,
+        )
     }
 }
