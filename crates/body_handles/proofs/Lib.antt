@@ -1,0 +1,3 @@
+pub mod LowestLemmas
+pub mod TableLemmas
+pub mod GoneLemmas

@@ -1,0 +1,12 @@
+use Rattle.std.proofs.Common.{arith, ◌≡◌, ◌⊎◌, inl, inr, ◌+◌, ◌/◌}
+use Rattle.std.proofs.lemmas.Bool.{cases_lt}
+use Rattle.fixed_geom.proofs.RootLemmas.{step_above, capped}
+use Rattle.fixed_geom.proofs.roots.first_128.Goals as goal
+
+pub returns-clause-above : goal.returns-clause-above
+returns-clause-above c =
+    let guess = c.guess_128-guess.result in
+    let next = (guess + c.args.a / guess) / 2 in
+    let kept : (c.min.result ≡ next) ⊎ (c.min.result ≡ 18446744073709551615) =
+    elim (cases_lt next 18446744073709551615) [ inl h ↦ inl (omega arith) | inr h ↦ inr (omega arith) ] in
+    capped c.args.a next 18446744073709551615 c.min.result (step_above c.args.a guess next c.guess_128-guess.ensures (omega arith)) (omega arith) kept

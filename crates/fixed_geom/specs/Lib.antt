@@ -1,0 +1,5 @@
+pub mod Boxes
+pub mod Facings
+pub mod Numbers
+pub mod Refusals
+pub mod Vectors

@@ -1,0 +1,93 @@
+//! Facings: a direction as a cosine and a sine, both times 2^30.
+
+ghost use Rattle.std.specs.Prelude.{◌≡◌, ℕ, ◌+◌, ◌*◌, ◌^◌, ◌≤◌, unsigned_abs, IsTrue, ◌↔◌};
+ghost use Rattle.fixed_geom.specs.Vectors.{IsWithin};
+ghost use Rattle.fixed_geom.specs.Facings.{IsFacing, is_facing, rotate, IsLong, swung, facing_along, turn};
+
+use crate::products::{difference_of_products, scaled, sum_of_products};
+use crate::{Vec2, rdiv_unit, unit};
+
+/// A facing: the cosine and the sine of an angle, times 2^30. Its length, as a vector, is within
+/// 2 of 2^30 (this project's own rule: a facing is never made exact again).
+#[derive(Clone, Copy, Debug, PartialEq, Eq)]
+pub struct Rot {
+    pub c: i64,
+    pub s: i64,
+}
+
+/// The greatest size of a facing's cosine and sine, and the greatest length of a facing.
+const LONGEST: u64 = (1 << 30) + 2;
+
+/// The least length of a facing.
+const SHORTEST: u64 = (1 << 30) - 2;
+
+/// The length of `(c, s)`, rounded down, is within 2 of 2^30; of any two numbers.
+pub fn is_facing(q: Rot) -> bool
+    ensures value { result ≡ is_facing q }
+    ensures facing { IsTrue result ↔ IsFacing q }
+{
+    let c = q.c.unsigned_abs();
+    let s = q.s.unsigned_abs();
+    if c > LONGEST || s > LONGEST {
+        return false;
+    }
+    let square = c * c + s * s;
+    SHORTEST * SHORTEST <= square && square < (LONGEST + 1) * (LONGEST + 1)
+}
+
+/// `v`, of components up to 2^60, turned by the facing `q`: the product of two complex numbers,
+/// each part rounded to the nearest.
+pub fn rotate(q: Rot, v: Vec2) -> Vec2
+    requires facing { IsFacing q }
+    requires place { IsWithin (2 ^ 60) v }
+    ensures value { result ≡ rotate q v }
+    ensures within { (k : ℕ) → IsWithin k v → IsWithin (2 * k) result }
+{
+    Vec2 {
+        x: rdiv_unit(difference_of_products(q.c, v.x, q.s, v.y)),
+        y: rdiv_unit(sum_of_products(q.s, v.x, q.c, v.y)),
+    }
+}
+
+/// The direction of `q` moved along its own tangent by `w / 2^30`. Its length is at least half of
+/// one, so that it still has a direction.
+fn swung(q: Rot, w: i64) -> Vec2
+    requires facing { IsFacing q }
+    requires spin { unsigned_abs w ≤ 2 ^ 28 }
+    ensures value { result ≡ swung q w }
+    ensures within { IsWithin (2 ^ 31) result }
+    ensures long { IsLong result }
+{
+    Vec2 {
+        x: q.c - scaled(w, q.s),
+        y: q.s + scaled(w, q.c),
+    }
+}
+
+/// The facing along `d`, which is at least half as long as a unit vector: the rounding of both
+/// parts and of the length leaves it within 2 of 2^30.
+fn facing_along(d: Vec2) -> Rot
+    requires place { IsWithin (2 ^ 61) d }
+    requires long { IsLong d }
+    ensures value { result ≡ facing_along d }
+    ensures facing { IsFacing result }
+{
+    let direction = unit(d);
+    Rot {
+        c: direction.x,
+        s: direction.y,
+    }
+}
+
+/// `q` turned by the spin `w`, times 2^30 and at most 2^28 in size: `q` itself at no spin, and
+/// else the direction moved along its tangent and made a unit vector again (this project's own
+/// rule, an explicit step of the rotation as in Box2D's manual, whose angle is the arc tangent
+/// of `w / 2^30`).
+pub fn turn(q: Rot, w: i64) -> Rot
+    requires facing { IsFacing q }
+    requires spin { unsigned_abs w ≤ 2 ^ 28 }
+    ensures value { result ≡ turn q w }
+    ensures facing { IsFacing result }
+{
+    if w == 0 { q } else { facing_along(swung(q, w)) }
+}

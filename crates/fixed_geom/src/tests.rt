@@ -1,0 +1,111 @@
+//! Values worked by hand, each public function once.
+
+use super::*;
+use std::test::Fail;
+
+#[test]
+fn quotients_round(rt: HostRuntime) {
+    assert_eq!(rt; rdiv(5, 2), 3);
+    assert_eq!(rt; rdiv(-5, 2), -3);
+    assert_eq!(rt; rdiv(7, 3), 2);
+    assert_eq!(rt; rdiv(1 << 40, 3) + rdiv(1 << 40, 2), 916259689813);
+    assert_eq!(rt; rdiv_64(-1099511627776, 3), -366503875925);
+    assert_eq!(rt; rdiv_unit(-(1 << 29)), -1);
+    assert_eq!(rt; rdiv_unit((1 << 29) - 1), 0);
+    assert_eq!(rt; fdiv(-20000, 3), -6667);
+    assert_eq!(rt; fdiv(20000, 3), 6666);
+}
+
+#[test]
+fn roots_round_down(rt: HostRuntime) {
+    assert_eq!(rt; isqrt(0), 0);
+    assert_eq!(rt; isqrt(3), 1);
+    assert_eq!(rt; isqrt(4), 2);
+    assert_eq!(rt; isqrt(40000000000), 200000);
+    assert_eq!(rt; isqrt((1 << 64) - 1), (1 << 32) - 1);
+    assert_eq!(rt; isqrt(i128::MAX), 13043817825332782212);
+}
+
+#[test]
+fn vectors_have_products_and_lengths(rt: HostRuntime) {
+    let a = Vec2 { x: 600, y: 800 };
+    let b = Vec2 { x: -30, y: 7 };
+    assert_eq!(rt; dot(a, b), -12400);
+    assert_eq!(rt; cross(a, b), 28200);
+    assert_eq!(rt; minus(a, b), Vec2 { x: 630, y: 793 });
+    assert_eq!(rt; span(a), 1000);
+    assert_eq!(rt;
+        unit(a),
+        Vec2 {
+            x: 644245094,
+            y: 858993459
+        }
+    );
+    assert_eq!(rt; unit_along(a, span(a)), unit(a));
+    assert_eq!(rt; unit(Vec2 { x: 1, y: 1 }), Vec2 { x: UNIT, y: UNIT });
+    assert_eq!(rt; moved(a, b, UNIT / 2), Vec2 { x: 585, y: 804 });
+    assert!(rt; is_within(b, 30) && !is_within(b, 29));
+}
+
+#[test]
+fn facings_turn(rt: HostRuntime) {
+    let ahead = Rot { c: UNIT, s: 0 };
+    let quarter = Rot { c: 0, s: UNIT };
+    assert_eq!(rt; rotate(quarter, Vec2 { x: 5, y: 7 }), Vec2 { x: -7, y: 5 });
+    assert_eq!(rt; turn(quarter, 0), quarter);
+    assert_eq!(rt;
+        turn(ahead, 1 << 28),
+        Rot {
+            c: 1041682578,
+            s: 260420645
+        }
+    );
+    assert_eq!(rt;
+        turn(ahead, -(1 << 28)),
+        Rot {
+            c: 1041682578,
+            s: -260420645
+        }
+    );
+    assert!(rt; is_facing(ahead) && is_facing(Rot { c: 0, s: -UNIT - 2 }));
+    assert!(rt; !is_facing(Rot { c: UNIT + 3, s: 0 }) && !is_facing(Rot { c: UNIT - 3, s: 0 }));
+    assert!(rt;
+        !is_facing(Rot {
+            c: i64::MIN,
+            s: i64::MIN
+        })
+    );
+}
+
+#[test]
+fn boxes_touch_and_contain(rt: HostRuntime) {
+    let a = Box2 {
+        lo: Vec2 { x: 0, y: 0 },
+        hi: Vec2 { x: 10, y: 10 },
+    };
+    let b = Box2 {
+        lo: Vec2 { x: 10, y: 10 },
+        hi: Vec2 { x: 20, y: 11 },
+    };
+    let far = Box2 {
+        lo: Vec2 { x: 11, y: 0 },
+        hi: Vec2 { x: 20, y: 11 },
+    };
+    assert!(rt; overlaps(a, b) && !overlaps(a, far));
+    assert!(rt; contains(a, a) && !contains(a, b));
+    assert_eq!(rt;
+        grow(a, 3),
+        Box2 {
+            lo: Vec2 { x: -3, y: -3 },
+            hi: Vec2 { x: 13, y: 13 }
+        }
+    );
+}
+
+#[test]
+fn refusals_have_texts(rt: HostRuntime) -> Result<(), Fail> {
+    assert_eq!(rt; Refusal::WentBack.number(), 14);
+    let text = format!(in rt.alloc(); "{}", Refusal::BadFile(4))?;
+    assert_eq!(rt; text.as_str(), "the saved world breaks clause 4");
+    Ok(())
+}

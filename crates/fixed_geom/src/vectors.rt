@@ -1,0 +1,134 @@
+//! Vectors of whole numbers, their products, lengths and unit vectors.
+
+ghost use Rattle.std.specs.Prelude.{◌≡◌, ℕ, ◌+◌, ◌*◌, ◌^◌, ◌<◌, ◌≤◌, pos, ◌+ℤ◌, ◌*ℤ◌, ◌≤ℤ◌, ◌<ℤ◌, unsigned_abs, IsTrue, ◌↔◌};
+ghost use Rattle.fixed_geom.specs.Numbers.{rdiv, IsRoot};
+ghost use Rattle.fixed_geom.specs.Vectors.{IsWithin, is_within, unit_length, dot, cross, minus, moved, span, unit};
+
+use crate::products::{difference_of_products, product, scaled, sum_of_products};
+use crate::{isqrt, rdiv};
+
+/// One, for a unit vector and a facing.
+pub const UNIT: i64 = 1 << 30;
+
+/// A vector of whole numbers: a place or a way in u, a velocity in u a tick, or a momentum in
+/// mass·u a tick. A unit vector is times 2^30.
+#[derive(Clone, Copy, Debug, PartialEq, Eq)]
+pub struct Vec2 {
+    pub x: i64,
+    pub y: i64,
+}
+
+/// Both components are at most `limit` in size.
+pub fn is_within(v: Vec2, limit: u64) -> bool
+    ensures value { result ≡ is_within limit v }
+    ensures within { IsTrue result ↔ IsWithin limit v }
+{
+    v.x.unsigned_abs() <= limit && v.y.unsigned_abs() <= limit
+}
+
+/// `a - b`, of components up to 2^61.
+pub fn minus(a: Vec2, b: Vec2) -> Vec2
+    requires first { IsWithin (2 ^ 61) a }
+    requires second { IsWithin (2 ^ 61) b }
+    ensures value { result ≡ minus a b }
+    ensures within { (k : ℕ) → IsWithin k a → IsWithin k b → IsWithin (2 * k) result }
+{
+    Vec2 {
+        x: a.x - b.x,
+        y: a.y - b.y,
+    }
+}
+
+/// The scalar product `a.x·b.x + a.y·b.y`, exact, of components up to 2^62.
+pub fn dot(a: Vec2, b: Vec2) -> i128
+    requires first { IsWithin (2 ^ 62) a }
+    requires second { IsWithin (2 ^ 62) b }
+    ensures value { result ≡ dot a b }
+    ensures size { (m n : ℕ) → IsWithin m a → IsWithin n b → unsigned_abs result ≤ 2 * (m * n) }
+{
+    sum_of_products(a.x, b.x, a.y, b.y)
+}
+
+/// The cross product `a.x·b.y - a.y·b.x`, exact, of components up to 2^62: above zero where `b`
+/// lies to the left of `a`.
+pub fn cross(a: Vec2, b: Vec2) -> i128
+    requires first { IsWithin (2 ^ 62) a }
+    requires second { IsWithin (2 ^ 62) b }
+    ensures value { result ≡ cross a b }
+    ensures size { (m n : ℕ) → IsWithin m a → IsWithin n b → unsigned_abs result ≤ 2 * (m * n) }
+{
+    difference_of_products(a.x, b.y, a.y, b.x)
+}
+
+/// The length of `d`, rounded down, of components up to 2^61. No component is longer.
+pub fn span(d: Vec2) -> i64
+    requires { IsWithin (2 ^ 61) d }
+    ensures value { result ≡ span d }
+    ensures root { IsRoot (dot d d) result }
+    ensures nonnegative { pos 0 ≤ℤ result }
+    ensures covers { IsWithin (unsigned_abs result) d }
+    ensures within { (k : ℕ) → IsWithin k d → unsigned_abs result ≤ 2 * k }
+{
+    isqrt(dot(d, d)) as i64
+}
+
+/// `x·2^30 / k` to the nearest, where `k` is no shorter than `x`.
+fn share(x: i64, k: i64) -> i64
+    requires positive { pos 0 <ℤ k }
+    requires part { unsigned_abs x ≤ unsigned_abs k }
+    ensures value { result ≡ rdiv (x *ℤ unit_length) k }
+    ensures within { unsigned_abs result ≤ 2 ^ 30 }
+{
+    rdiv(product(x, UNIT), i128::from(k)) as i64
+}
+
+/// The unit vector along `d`, where its length `k` is known and not zero.
+pub fn unit_along(d: Vec2, k: i64) -> Vec2
+    requires length { k ≡ span d }
+    requires positive { pos 0 <ℤ k }
+    requires covers { IsWithin (unsigned_abs k) d }
+    ensures value { result ≡ unit d }
+    ensures within { IsWithin (2 ^ 30) result }
+{
+    Vec2 {
+        x: share(d.x, k),
+        y: share(d.y, k),
+    }
+}
+
+/// The unit vector along `d`, times 2^30, of components up to 2^61 that are not both zero. Its
+/// parts are rounded to the nearest, over a length that is rounded down.
+pub fn unit(d: Vec2) -> Vec2
+    requires place { IsWithin (2 ^ 61) d }
+    requires nonzero { 0 < unsigned_abs d.x + unsigned_abs d.y }
+    ensures value { result ≡ unit d }
+    ensures within { IsWithin (2 ^ 30) result }
+{
+    unit_along(d, span(d))
+}
+
+/// `x + d·t / 2^30`
+fn shifted(x: i64, d: i64, t: i64) -> i64
+    requires place { unsigned_abs x ≤ 2 ^ 60 }
+    requires way { unsigned_abs d ≤ 2 ^ 42 }
+    requires times { unsigned_abs t ≤ 2 ^ 46 }
+    ensures value { result ≡ x +ℤ rdiv (d *ℤ t) unit_length }
+    ensures within { (m k : ℕ) → unsigned_abs x ≤ m → unsigned_abs d * unsigned_abs t ≤ k * 2 ^ 30 → unsigned_abs result ≤ m + k }
+{
+    x + scaled(d, t)
+}
+
+/// `p` moved by `t / 2^30` times `d`, each part rounded to the nearest: a share `t` of a way `d`,
+/// or the length `t` along a unit vector `d`.
+pub fn moved(p: Vec2, d: Vec2, t: i64) -> Vec2
+    requires place { IsWithin (2 ^ 60) p }
+    requires way { IsWithin (2 ^ 42) d }
+    requires times { unsigned_abs t ≤ 2 ^ 46 }
+    ensures value { result ≡ moved p d t }
+    ensures within { (m j k : ℕ) → IsWithin m p → IsWithin j d → j * unsigned_abs t ≤ k * 2 ^ 30 → IsWithin (m + k) result }
+{
+    Vec2 {
+        x: shifted(p.x, d.x, t),
+        y: shifted(p.y, d.y, t),
+    }
+}

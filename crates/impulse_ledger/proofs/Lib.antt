@@ -1,0 +1,3 @@
+pub mod SumLemmas
+pub mod CauseLemmas
+pub mod KeptLemmas

@@ -1,0 +1,185 @@
+//! The book: its entries, and their kept sums.
+
+ghost use Rattle.std.specs.Prelude.{◌≡◌, ◌+◌, ◌≤◌, ◌^◌, unsigned_abs, [], ◌∷◌, ◌++◌, OnOk, OnErr, IfOk, IsOk};
+ghost use Rattle.std.specs.Result.{IsOkUnless};
+ghost use Rattle.impulse_ledger.specs.Totals.{zero_totals};
+ghost use Rattle.impulse_ledger.specs.Sums.{total_x, total_y, total_of_x, total_of_y, Fits};
+
+use crate::entry::{Cause, Entry};
+use crate::totals::{Total, Totals};
+use fixed_geom::Refusal;
+use std::alloc::Global;
+use std::marker::Model;
+
+/// The book of impulses. Contracts see its entries, oldest first (`entries`), the sums of entries that were settled and
+/// dropped (`settled`, all zero so far), and how many more entries may be added with no memory (`room`).
+///
+/// A sum by cause stays within ±(2^126 + 2^124), and the sum of all within ±2^126.
+#[derive(Drop)]
+pub struct Ledger {
+    entries: Vec<Entry>,
+    // The sums by cause, and over all causes, kept up to date.
+    by_cause: Totals,
+    all: Total,
+}
+
+impl Model for Ledger {
+    ghost use Rattle.std.specs.Prelude.{◌-◌, vec_capacity, vec_len};
+    ghost use Rattle.impulse_ledger.specs.Sums.{Book, book_of, IsKept};
+
+    ghost Value = { Book };
+
+    ghost view = { λ a. book_of a.entries.items (vec_capacity a.entries - vec_len a.entries) };
+
+    ghost invariant = { λ a. IsKept (book_of a.entries.items (vec_capacity a.entries - vec_len a.entries)) a.by_cause a.all };
+}
+
+impl Ledger {
+    /// An empty book.
+    pub fn new(alloc: Global) -> Self
+        ensures entries { result.entries ≡ [] }
+        ensures settled { result.settled ≡ zero_totals }
+    {
+        Ledger {
+            entries: Vec::new(alloc),
+            by_cause: Totals::zero(),
+            all: Total::ZERO,
+        }
+    }
+
+    /// Makes room for that many more entries. Refused for want of memory only.
+    pub fn reserve(&mut self, additional: usize) -> Result<(), Refusal>
+        ensures ok { OnOk result (additional ≤ self.new.room) }
+        ensures enough { additional ≤ self.old.room → IsOk result }
+        ensures room { self.old.room ≤ self.new.room }
+        ensures entries { self.new.entries ≡ self.old.entries }
+        ensures settled { self.new.settled ≡ self.old.settled }
+        ensures memory_only { IsOkUnless result Refusal.NoMemory }
+    {
+        self.entries.reserve(additional)?;
+        Ok(())
+    }
+
+    /// Adds an entry. Refused for want of memory only, and then nothing is added.
+    pub fn post(&mut self, entry: Entry) -> Result<(), Refusal>
+        requires { Fits self.old entry }
+        ensures ok { OnOk result (self.new.entries ≡ self.old.entries ++ entry ∷ []) }
+        ensures err { OnErr result (self.new.entries ≡ self.old.entries) }
+        ensures enough { 1 ≤ self.old.room → IsOk result }
+        ensures room { self.old.room ≤ self.new.room + 1 }
+        ensures settled { self.new.settled ≡ self.old.settled }
+        ensures memory_only { IsOkUnless result Refusal.NoMemory }
+    {
+        self.reserve(1)?;
+        self.post_reserved(entry);
+        Ok(())
+    }
+
+    /// Adds an entry for which there is room.
+    pub fn post_reserved(&mut self, entry: Entry)
+        requires fits { Fits self.old entry }
+        requires room { 1 ≤ self.old.room }
+        ensures entries { self.new.entries ≡ self.old.entries ++ entry ∷ [] }
+        ensures room { self.old.room ≤ self.new.room + 1 }
+        ensures settled { self.new.settled ≡ self.old.settled }
+    {
+        let impulse = entry.impulse();
+        let of_cause = self.by_cause.of(entry.cause).plus(impulse);
+        self.by_cause.put(entry.cause, of_cause);
+        self.all = self.all.plus(impulse);
+        let _ = self.entries.push(entry);
+    }
+
+    /// The sum of all entries and of what was settled.
+    pub fn total(&self) -> Total
+        ensures x { result.x ≡ total_x self.now }
+        ensures y { result.y ≡ total_y self.now }
+        ensures x_small { unsigned_abs result.x ≤ 2 ^ 126 }
+        ensures y_small { unsigned_abs result.y ≤ 2 ^ 126 }
+    {
+        self.all
+    }
+
+    /// The sum of the entries of one cause, and of what was settled of it.
+    pub fn total_of(&self, cause: Cause) -> Total
+        ensures x { result.x ≡ total_of_x cause self.now }
+        ensures y { result.y ≡ total_of_y cause self.now }
+        ensures x_small { unsigned_abs result.x ≤ 2 ^ 126 + 2 ^ 124 }
+        ensures y_small { unsigned_abs result.y ≤ 2 ^ 126 + 2 ^ 124 }
+    {
+        self.by_cause.of(cause)
+    }
+
+    /// The entries that aren't settled, oldest first.
+    pub fn entries(&self) -> &[Entry]
+        ensures { result.now ≡ self.now.entries }
+    {
+        self.entries.as_slice()
+    }
+
+    /// A copy of its own, with no promise on room. Refused for want of memory only.
+    pub fn try_copy(&self) -> Result<Ledger, Refusal>
+        ensures entries { IfOk result (λ c. c.entries ≡ self.now.entries) }
+        ensures settled { IfOk result (λ c. c.settled ≡ self.now.settled) }
+        ensures memory_only { IsOkUnless result Refusal.NoMemory }
+    {
+        let mut entries = Vec::new(*self.entries.allocator());
+        entries.extend_from_slice(&self.entries)?;
+        Ok(Ledger {
+            entries,
+            by_cause: self.by_cause,
+            all: self.all,
+        })
+    }
+}
+
+#[cfg(test)]
+mod tests {
+    use super::*;
+    use std::test::Fail;
+
+    const PUSHED: Entry = Entry {
+        call: 1,
+        cause: Cause::Command,
+        x: 5,
+        y: -7,
+    };
+
+    const FELL: Entry = Entry {
+        call: 2,
+        cause: Cause::Gravity,
+        x: 0,
+        y: -100,
+    };
+
+    const LEFT: Entry = Entry {
+        call: 3,
+        cause: Cause::Departed,
+        x: -5,
+        y: 107,
+    };
+
+    #[test]
+    fn sums_what_is_booked_by_cause(rt: HostRuntime) -> Result<(), Fail> {
+        let mut ledger = Ledger::new(rt.alloc());
+        ledger.post(PUSHED)?;
+        let before = ledger.try_copy()?;
+        ledger.reserve(2)?;
+        ledger.post_reserved(FELL);
+        ledger.post_reserved(LEFT);
+        assert_eq!(rt; ledger.entries(), [PUSHED, FELL, LEFT].as_slice());
+        assert_eq!(rt; ledger.total(), Total { x: 0, y: 0 });
+        let sums = [
+            (Cause::Command, 5, -7),
+            (Cause::Gravity, 0, -100),
+            (Cause::Departed, -5, 107),
+            (Cause::Rest, 0, 0),
+        ];
+        for (cause, x, y) in sums {
+            assert_eq!(rt; ledger.total_of(cause), Total { x, y });
+        }
+        assert_eq!(rt; before.entries(), [PUSHED].as_slice());
+        assert_eq!(rt; before.total(), Total { x: 5, y: -7 });
+        Ok(())
+    }
+}

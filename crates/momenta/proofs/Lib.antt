@@ -1,0 +1,3 @@
+pub mod Rounding
+pub mod Spins
+pub mod MotionLaws

@@ -1,0 +1,22 @@
+use Rattle.std.proofs.Common.{rules}
+use Rattle.std.proofs.lemmas.Int.{to_z-of_z}
+use Rattle.std.specs.Int.{w64}
+use mir.Val.{SFits}
+use Rattle.momenta.specs.Motions.{velocity}
+use Rattle.momenta.proofs.motion.velocity.Goals as goal
+
+pub returns-clause-value : goal.returns-clause-value
+unfolding velocity
+returns-clause-value c = search rules
+
+pub returns-clause-within : goal.returns-clause-within
+returns-clause-within c =
+    let m : SFits w64 c.args.mass = c.ranges.mass in
+    let x : SFits w64 c.args.p.x = search rules in
+    let y : SFits w64 c.args.p.y = search rules in
+    let vx : SFits w64 c.rdiv_64.result = record { sfits = c.rdiv_64.type_inv } in
+    let vy : SFits w64 c.rdiv_64-2.result = record { sfits = c.rdiv_64-2.type_inv } in
+    λ k h. record {
+      x = simp to_z-of_z (c.rdiv_64.ensures.within k (simp to_z-of_z h.x));
+      y = simp to_z-of_z (c.rdiv_64-2.ensures.within k (simp to_z-of_z h.y));
+    }

@@ -1,0 +1,39 @@
+ghost use Rattle.std.specs.Prelude.{◌≡◌, ◌^◌, ◌≤◌, ◌+ℤ◌, ◌*ℤ◌, unsigned_abs};
+ghost use Rattle.fixed_geom.specs.Vectors.{IsWithin};
+ghost use Rattle.momenta.specs.Motions.{IsMass, IsMotion, IsPulled, pulled};
+
+use crate::{MassData, Motion};
+use fixed_geom::Vec2;
+
+/// A tick of gravity: `mass·gravity` is added to the momentum, before the body moves (semi-implicit
+/// Euler, as in Box2D).
+///
+/// Gravity is in u/tick², each component within ±2^16. The momentum may leave ±2^60 until the speed
+/// limit brings it back.
+pub fn pull(motion: Motion, mass: MassData, gravity: Vec2) -> Motion
+    requires mass { IsMass mass }
+    requires motion { IsMotion mass motion }
+    requires gravity { IsWithin (2 ^ 16) gravity }
+    ensures value { result ≡ pulled gravity mass motion }
+    ensures pulled { IsPulled mass result }
+    ensures kept { result ≡ record motion { p = result.p } }
+{
+    Motion {
+        p: Vec2 {
+            x: add_product(motion.p.x, mass.mass, gravity.x),
+            y: add_product(motion.p.y, mass.mass, gravity.y),
+        },
+        ..motion
+    }
+}
+
+/// `p + mass·g`
+fn add_product(p: i64, mass: i64, g: i64) -> i64
+    requires p { unsigned_abs p ≤ 2 ^ 60 }
+    requires mass { unsigned_abs mass ≤ 2 ^ 20 }
+    requires g { unsigned_abs g ≤ 2 ^ 16 }
+    ensures value { result ≡ p +ℤ mass *ℤ g }
+    ensures small { unsigned_abs result ≤ 2 ^ 61 }
+{
+    p + mass * g
+}

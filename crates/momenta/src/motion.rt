@@ -1,0 +1,108 @@
+ghost use Rattle.std.specs.Prelude.{◌≡◌, ℕ, ◌*◌, ◌^◌, ◌≤◌, pos, ◌≤ℤ◌, unsigned_abs};
+ghost use Rattle.fixed_geom.specs.Facings.{IsFacing};
+ghost use Rattle.fixed_geom.specs.Vectors.{IsWithin};
+ghost use Rattle.momenta.specs.declared.mass.MassData.{MassData};
+ghost use Rattle.momenta.specs.Motions.{IsMotion, limited, spin, velocity};
+
+use fixed_geom::{Rot, UNIT, Vec2, rdiv, rdiv_64};
+
+/// How a body stands and moves.
+///
+/// `p` is its momentum (mass·u/tick, each component within ±2^60), `l` its angular momentum (mass·u²/tick,
+/// within ±2^90, and 0 for a body of inertia 0), `x` its centre (u, each coordinate within ±2^36), `rot` its facing.
+#[derive(Clone, Copy, Debug, PartialEq, Eq)]
+pub struct Motion {
+    pub p: Vec2,
+    pub l: i128,
+    pub x: Vec2,
+    pub rot: Rot,
+}
+
+impl Motion {
+    /// A body at rest, of any mass: no momentum of either kind.
+    pub fn at_rest(x: Vec2, rot: Rot) -> Motion
+        requires place { IsWithin (2 ^ 36) x }
+        requires facing { IsFacing rot }
+        ensures value { result ≡ record { p = record { x = pos 0; y = pos 0 }; l = pos 0; x = x; rot = rot } }
+        ensures motion { (m : MassData) → IsMotion m result }
+    {
+        Motion {
+            p: Vec2 { x: 0, y: 0 },
+            l: 0,
+            x,
+            rot,
+        }
+    }
+}
+
+/// The velocity of a momentum, in u/tick: `p / mass` by component, rounded to the nearest, ties away
+/// from zero.
+pub fn velocity(p: Vec2, mass: i64) -> Vec2
+    requires momentum { IsWithin (2 ^ 62) p }
+    requires positive { pos 1 ≤ℤ mass }
+    ensures value { result ≡ velocity mass p }
+    ensures within { (k : ℕ) → IsWithin (k * unsigned_abs mass) p → IsWithin k result }
+{
+    Vec2 {
+        x: rdiv_64(p.x, mass),
+        y: rdiv_64(p.y, mass),
+    }
+}
+
+/// The most that a body turns in a tick, to either side: a quarter of a radian, times 2^30. This
+/// project's own rule.
+pub const MAX_SPIN: i64 = 1 << 28;
+
+/// An angular momentum up to this size still has room in 64 bits once it is multiplied by 2^30.
+const NARROW: u128 = 1 << 32;
+
+/// The spin of an angular momentum, in radians a tick times 2^30: `l / inertia`, rounded to the nearest,
+/// ties away from zero, and then brought within `MAX_SPIN`. A body of inertia 0 has none.
+pub fn spin(l: i128, inertia: i64) -> i64
+    requires momentum { unsigned_abs l ≤ 2 ^ 90 }
+    requires nonnegative { pos 0 ≤ℤ inertia }
+    ensures value { result ≡ spin inertia l }
+    ensures small { unsigned_abs result ≤ 2 ^ 28 }
+{
+    if l == 0 || inertia == 0 {
+        0
+    } else if l.unsigned_abs() <= NARROW {
+        narrow_spin(l as i64, inertia)
+    } else {
+        wide_spin(l, inertia)
+    }
+}
+
+/// The spin of a small angular momentum, in 64 bits.
+fn narrow_spin(l: i64, inertia: i64) -> i64
+    requires momentum { unsigned_abs l ≤ 2 ^ 32 }
+    requires positive { pos 1 ≤ℤ inertia }
+    ensures value { result ≡ spin inertia l }
+    ensures small { unsigned_abs result ≤ 2 ^ 28 }
+{
+    limit_spin(i128::from(rdiv_64(l * UNIT, inertia)))
+}
+
+/// The spin of any other, in 128 bits.
+fn wide_spin(l: i128, inertia: i64) -> i64
+    requires momentum { unsigned_abs l ≤ 2 ^ 90 }
+    requires positive { pos 1 ≤ℤ inertia }
+    ensures value { result ≡ spin inertia l }
+    ensures small { unsigned_abs result ≤ 2 ^ 28 }
+{
+    limit_spin(rdiv(l * i128::from(UNIT), i128::from(inertia)))
+}
+
+/// A spin beyond `MAX_SPIN` is put on it.
+fn limit_spin(w: i128) -> i64
+    ensures value { result ≡ limited (2 ^ 28) w }
+    ensures small { unsigned_abs result ≤ 2 ^ 28 }
+{
+    if w > i128::from(MAX_SPIN) {
+        MAX_SPIN
+    } else if w < -i128::from(MAX_SPIN) {
+        -MAX_SPIN
+    } else {
+        w as i64
+    }
+}

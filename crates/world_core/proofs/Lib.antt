@@ -1,0 +1,3 @@
+pub mod BookLemmas
+pub mod SlotLemmas
+pub mod Kept

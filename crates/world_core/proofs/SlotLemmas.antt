@@ -1,0 +1,168 @@
+-- One slot changed: what becomes of the movers' momentum, of the bodies, and of the slots that are taken.
+use Rattle.std.proofs.Common.{◌≡◌, ℕ, zero, suc, ◌+◌, ◌*◌, ◌<◌, ◌≤◌, ◌^◌, List, [], ◌∷◌, ◌++◌, length, Option, Some, None, Bool, true, false, cond, ℤ, pos, ◌+ℤ◌, unsigned_abs, arith, refl, sym, ap, ◌∙◌, subst, is_some, nat_lt}
+use Rattle.std.specs.Prelude.{slice_get, slice_set, not, ◌&&◌}
+use Rattle.std.proofs.Common.{inl, inr, get_or}
+use Rattle.std.proofs.lemmas.Bool.{cases_lt}
+use Rattle.std.proofs.lemmas.List.Sums.{passes_at_first}
+use Rattle.std.proofs.lemmas.Int.{ints}
+use Rattle.std.proofs.lemmas.Grind.{common_steps}
+use Rattle.fixed_geom.specs.Vectors.{IsWithin}
+use Rattle.body_handles.specs.declared.places.Place.{Place}
+use Rattle.body_handles.specs.Places.{is_open, lowest}
+use Rattle.body_handles.proofs.LowestLemmas.{no_place}
+use Rattle.world_core_base.specs.declared.body.Body.{Body}
+use Rattle.world_core_base.specs.Bodies.{is_mover, IsBody, AreBodies, p_x, p_y, momentum_x, momentum_y}
+use Rattle.world_core_base.specs.Slots.{body_at, is_taken, AreMatched, HaveSameSlots}
+
+-- ---- the momentum
+
+pub momentum_x-set : (bodies : List (Option Body)) (slot : ℕ) (o : Option Body) → slot < length bodies → momentum_x (slice_set bodies slot o) +ℤ p_x (body_at bodies slot) ≡ momentum_x bodies +ℤ p_x o
+momentum_x-set [] slot o h = absurd (omega arith)
+momentum_x-set (a ∷ bs) zero o h = omega (arith, ints)
+momentum_x-set (a ∷ bs) (suc slot) o h = omega (arith, ints, momentum_x-set bs slot o (omega arith))
+
+pub momentum_y-set : (bodies : List (Option Body)) (slot : ℕ) (o : Option Body) → slot < length bodies → momentum_y (slice_set bodies slot o) +ℤ p_y (body_at bodies slot) ≡ momentum_y bodies +ℤ p_y o
+momentum_y-set [] slot o h = absurd (omega arith)
+momentum_y-set (a ∷ bs) zero o h = omega (arith, ints)
+momentum_y-set (a ∷ bs) (suc slot) o h = omega (arith, ints, momentum_y-set bs slot o (omega arith))
+
+pub momentum_x-push : (bodies : List (Option Body)) (o : Option Body) → momentum_x (bodies ++ o ∷ []) ≡ momentum_x bodies +ℤ p_x o
+momentum_x-push [] o = omega (arith, ints)
+momentum_x-push (a ∷ bs) o = omega (arith, ints, momentum_x-push bs o)
+
+pub momentum_y-push : (bodies : List (Option Body)) (o : Option Body) → momentum_y (bodies ++ o ∷ []) ≡ momentum_y bodies +ℤ p_y o
+momentum_y-push [] o = omega (arith, ints)
+momentum_y-push (a ∷ bs) o = omega (arith, ints, momentum_y-push bs o)
+
+mover_x_le : (m : Bool) (z : ℤ) → unsigned_abs z ≤ 2 ^ 60 → unsigned_abs (cond m z (pos 0)) ≤ 2 ^ 60
+mover_x_le true z h = h
+mover_x_le false z h = omega arith
+
+tail_bodies : (o : Option Body) (bs : List (Option Body)) → AreBodies (o ∷ bs) → AreBodies bs
+tail_bodies o bs all = λ slot b e. all (suc slot) b e
+
+pub momentum_x_le : (bodies : List (Option Body)) → AreBodies bodies → unsigned_abs (momentum_x bodies) ≤ length bodies * 2 ^ 60
+momentum_x_le [] all = omega arith
+momentum_x_le (None ∷ bs) all = omega (arith, ints, momentum_x_le bs (tail_bodies None bs all))
+momentum_x_le (Some a ∷ bs) all =
+    let rest = momentum_x_le bs (tail_bodies (Some a) bs all) in
+    let first : unsigned_abs (p_x (Some a)) ≤ 2 ^ 60 = mover_x_le (is_mover a) a.motion.p.x (all 0 a refl).motion.p.x in
+    omega (arith, ints, rest, first)
+
+pub momentum_y_le : (bodies : List (Option Body)) → AreBodies bodies → unsigned_abs (momentum_y bodies) ≤ length bodies * 2 ^ 60
+momentum_y_le [] all = omega arith
+momentum_y_le (None ∷ bs) all = omega (arith, ints, momentum_y_le bs (tail_bodies None bs all))
+momentum_y_le (Some a ∷ bs) all =
+    let rest = momentum_y_le bs (tail_bodies (Some a) bs all) in
+    let first : unsigned_abs (p_y (Some a)) ≤ 2 ^ 60 = mover_x_le (is_mover a) a.motion.p.y (all 0 a refl).motion.p.y in
+    omega (arith, ints, rest, first)
+
+-- ---- the bodies
+
+extended : (o : Option Body) (bs : List (Option Body)) → ((b : Body) → o ≡ Some b → IsBody b) → AreBodies bs → AreBodies (o ∷ bs)
+extended o bs first rest zero b e = first b (cc)
+extended o bs first rest (suc i) b e = rest i b e
+
+pub AreBodies-set : (bodies : List (Option Body)) (slot : ℕ) (o : Option Body) → AreBodies bodies → ((b : Body) → o ≡ Some b → IsBody b) → AreBodies (slice_set bodies slot o)
+AreBodies-set [] slot o all new = all
+AreBodies-set (a ∷ bs) zero o all new = extended o bs new (tail_bodies a bs all)
+AreBodies-set (a ∷ bs) (suc slot) o all new = extended a (slice_set bs slot o) (λ b e. all zero b (ap Some e)) (AreBodies-set bs slot o (tail_bodies a bs all) new)
+
+pub AreBodies-push : (bodies : List (Option Body)) (o : Option Body) → AreBodies bodies → ((b : Body) → o ≡ Some b → IsBody b) → AreBodies (bodies ++ o ∷ [])
+AreBodies-push [] o all new = extended o [] new all
+AreBodies-push (a ∷ bs) o all new = extended a (bs ++ o ∷ []) (λ b e. all zero b (ap Some e)) (AreBodies-push bs o (tail_bodies a bs all) new)
+
+-- ---- the slots
+
+AllTaken : List Place → List (Option Body) → Type 0
+AllTaken places bodies = (k : ℕ) → is_some (body_at bodies k) ≡ is_taken places k
+
+matched_set : (places : List Place) (bodies : List (Option Body)) (slot : ℕ) (p : Place) (o : Option Body) → length places ≡ length bodies → is_some o ≡ p.live
+    → ((k : ℕ) → is_some (body_at bodies k) ≡ is_taken places k) → (k : ℕ) → is_some (body_at (slice_set bodies slot o) k) ≡ is_taken (slice_set places slot p) k
+matched_set [] [] slot p o len e h k = h k
+matched_set [] (b ∷ bs) slot p o len e h k = absurd (omega arith)
+matched_set (q ∷ ps) [] slot p o len e h k = absurd (omega arith)
+matched_set (q ∷ ps) (b ∷ bs) zero p o len e h zero = e
+matched_set (q ∷ ps) (b ∷ bs) zero p o len e h (suc k) = h (suc k)
+matched_set (q ∷ ps) (b ∷ bs) (suc slot) p o len e h zero = h zero
+matched_set (q ∷ ps) (b ∷ bs) (suc slot) p o len e h (suc k) = matched_set ps bs slot p o (omega arith) e (λ j. h (suc j)) k
+
+matched_push : (places : List Place) (bodies : List (Option Body)) (p : Place) (o : Option Body) → length places ≡ length bodies → is_some o ≡ p.live
+    → ((k : ℕ) → is_some (body_at bodies k) ≡ is_taken places k) → (k : ℕ) → is_some (body_at (bodies ++ o ∷ []) k) ≡ is_taken (places ++ p ∷ []) k
+matched_push [] [] p o len e h zero = e
+matched_push [] [] p o len e h (suc k) = refl
+matched_push [] (b ∷ bs) p o len e h k = absurd (omega arith)
+matched_push (q ∷ ps) [] p o len e h k = absurd (omega arith)
+matched_push (q ∷ ps) (b ∷ bs) p o len e h zero = h zero
+matched_push (q ∷ ps) (b ∷ bs) p o len e h (suc k) = matched_push ps bs p o (omega arith) e (λ j. h (suc j)) k
+
+pub AreMatched-set : (places : List Place) (bodies : List (Option Body)) (slot : ℕ) (p : Place) (o : Option Body) → is_some o ≡ p.live → AreMatched places bodies → AreMatched (slice_set places slot p) (slice_set bodies slot o)
+AreMatched-set places bodies slot p o e m = record {
+  slots = let s = m.slots in grind (arith, common_steps);
+  few = let f = m.few in grind (arith, common_steps);
+  taken = matched_set places bodies slot p o m.slots e m.taken;
+}
+
+pub AreMatched-push : (places : List Place) (bodies : List (Option Body)) (p : Place) (o : Option Body) → is_some o ≡ p.live → length bodies < 16384 → AreMatched places bodies → AreMatched (places ++ p ∷ []) (bodies ++ o ∷ [])
+AreMatched-push places bodies p o e few m = record {
+  slots = let s = m.slots in grind (arith, common_steps);
+  few = grind (arith, common_steps);
+  taken = matched_push places bodies p o m.slots e m.taken;
+}
+
+-- a body stands only in a slot that there is
+pub below_length : (bodies : List (Option Body)) (slot : ℕ) (b : Body) → body_at bodies slot ≡ Some b → slot < length bodies
+below_length [] slot b e = cc
+below_length (a ∷ bs) zero b e = omega arith
+below_length (a ∷ bs) (suc slot) b e = omega (arith, below_length bs slot b e)
+
+pub body_at-in : (bodies : List (Option Body)) (slot : ℕ) (b : Body) → body_at bodies slot ≡ Some b → slice_get bodies slot ≡ Some (Some b)
+body_at-in [] slot b e = cc
+body_at-in (a ∷ bs) zero b e = ap Some e
+body_at-in (a ∷ bs) (suc slot) b e = body_at-in bs slot b e
+
+-- ---- the same slots
+
+same_set : (bodies : List (Option Body)) (slot : ℕ) (o : Option Body) → is_some o ≡ is_some (body_at bodies slot) → (k : ℕ) → is_some (body_at (slice_set bodies slot o) k) ≡ is_some (body_at bodies k)
+same_set [] slot o e k = refl
+same_set (a ∷ bs) zero o e zero = e
+same_set (a ∷ bs) zero o e (suc k) = refl
+same_set (a ∷ bs) (suc slot) o e zero = refl
+same_set (a ∷ bs) (suc slot) o e (suc k) = same_set bs slot o e k
+
+pub HaveSameSlots-set : (bodies : List (Option Body)) (slot : ℕ) (o : Option Body) → is_some o ≡ is_some (body_at bodies slot) → HaveSameSlots bodies (slice_set bodies slot o)
+HaveSameSlots-set bodies slot o e = record { slots = grind (arith, common_steps); taken = same_set bodies slot o e }
+
+pub AreMatched-same : (places : List Place) (old new : List (Option Body)) → HaveSameSlots old new → AreMatched places old → AreMatched places new
+AreMatched-same places old new same m = record {
+  slots = m.slots ∙ sym same.slots;
+  few = rw same.slots m.few;
+  taken = λ k. same.taken k ∙ m.taken k;
+}
+
+-- ---- the lowest slot that can be given out
+
+taken_at : (places : List Place) (slot : ℕ) (d : Place) → slot < length places → is_taken places slot ≡ (get_or places slot d).live
+taken_at [] slot d h = absurd (omega arith)
+taken_at (p ∷ ps) zero d h = refl
+taken_at (p ∷ ps) (suc slot) d h = taken_at ps slot d (omega arith)
+
+taken_past : (places : List Place) (slot : ℕ) → length places ≤ slot → is_taken places slot ≡ false
+taken_past [] slot h = refl
+taken_past (p ∷ ps) zero h = absurd (omega arith)
+taken_past (p ∷ ps) (suc slot) h = taken_past ps slot (omega arith)
+
+free_if : (live able : Bool) → (not live && able) ≡ true → live ≡ false
+free_if true able e = cc
+free_if false able e = refl
+
+-- it isn't taken
+pub lowest-free : (places : List Place) → is_taken places (lowest places) ≡ false
+lowest-free places = elim (cases_lt (lowest places) (length places)) [
+    inl h ↦ (taken_at places (lowest places) no_place h ∙ free_if _ _ (passes_at_first is_open places no_place h))
+  | inr h ↦ taken_past places (lowest places) h ]
+
+-- and no body is there
+pub none_if : (o : Option Body) → is_some o ≡ false → o ≡ None
+none_if None e = refl
+none_if (Some b) e = cc

@@ -1,0 +1,148 @@
+-- What each command does to the plain world, as a function.
+use Rattle.std.specs.Prelude.{◌≡◌, ℕ, ◌+◌, ◌^◌, Bool, true, false, cond, ◌&&◌, nat_le, nat_lt, List, [], ◌∷◌, ◌++◌, Option, Some, None, Result, Ok, Err, ℤ, pos, neg_ℤ, ◌+ℤ◌, unsigned_abs, slice_set, unwrap_or}
+use Rattle.fixed_geom.specs.Vectors.{is_within}
+use Rattle.fixed_geom.specs.declared.vectors.Vec2.{Vec2}
+use Rattle.fixed_geom.specs.declared.refusal.Refusal.{Refusal}
+use Rattle.fixed_geom.specs.declared.refusal.Refusal.TheVariants.{NoMemory, StaleHandle, TooMany, OutOfRange, NotAMover, BodyDisabled, TooFast, WornOut}
+use Rattle.body_handles.specs.declared.handle.Handle.{Handle}
+use Rattle.body_handles.specs.Places.{lowest, generation_at, places_with, places_without}
+use Rattle.impulse_ledger.specs.declared.entry.Entry.{Entry}
+use Rattle.impulse_ledger.specs.declared.entry.Cause as cause
+use Rattle.impulse_ledger.specs.declared.entry.Cause.TheVariants as causes
+use Rattle.impulse_ledger.specs.Totals.{zero_totals}
+use Rattle.world_core_base.specs.Bodies.{is_dynamic, is_mover, def_refusal, made, p_x, p_y}
+use Rattle.world_core_base.specs.Shapes.{is_between}
+use Rattle.world_core_base.specs.Slots.{with_body, with_momentum}
+use Rattle.world_core_base.specs.Ticks.{Run, ticks, start}
+use Rattle.world_core_base.specs.declared.body.Body.{Body}
+use Rattle.world_core_base.specs.declared.body.BodyDef.{BodyDef}
+use Rattle.world_core.specs.declared.command.Command.{Command}
+use Rattle.world_core.specs.declared.command.Command.TheVariants.{CreateBody, DestroyBody, Push, SetGravity, Step}
+use Rattle.world_core.specs.declared.command.Reply.{Reply}
+use Rattle.world_core.specs.declared.command.Reply.TheVariants as replies
+use Rattle.world_core.specs.Events.{EventLists, no_events}
+use Rattle.world_core.specs.World.{Plain, World, body_of}
+
+-- what an accepted command leaves: the plain world, the reply, the ledger's new entries, and the events where it is a step
+pub record Applied : Type 0 where
+  pub plain : Plain
+  pub reply : Reply
+  pub entries : List Entry
+  pub events : Option EventLists
+
+-- an entry, left out where it is zero in both components
+abbrev pub booked : ℕ → cause.Cause → ℤ → ℤ → List Entry
+booked call why x y = cond (nat_le (unsigned_abs x) 0 && nat_le (unsigned_abs y) 0) [] (record { call = call; cause = why; x = x; y = y } ∷ [])
+
+-- ---- CreateBody
+
+abbrev pub created : Plain → BodyDef → Applied
+created w d =
+    let slot = lowest w.places in
+    record {
+      plain = record w { places = places_with w.places slot; bodies = with_body w.bodies slot (made d); calls = w.calls + 1 };
+      reply = replies.Body (record { slot = slot; generation = generation_at w.places slot });
+      entries = [];
+      events = None;
+    }
+
+abbrev pub create_due : Plain → BodyDef → Option Refusal → Result Applied Refusal
+create_due w d (Some e) = Err e
+create_due w d None = cond (nat_lt (lowest w.places) 16384) (Ok (created w d)) (Err TooMany)
+
+abbrev pub apply_create : Plain → BodyDef → Result Applied Refusal
+apply_create w d = create_due w d (def_refusal d)
+
+-- ---- DestroyBody
+
+-- the momentum that leaves with a body
+abbrev pub departing : Option Body → Result Vec2 Refusal
+departing None = Err StaleHandle
+departing (Some b) = Ok (record { x = p_x (Some b); y = p_y (Some b) })
+
+-- it is booked with the other sign
+abbrev pub destroy_due : Plain → Handle → Result Vec2 Refusal → Result Applied Refusal
+destroy_due w h (Err e) = Err e
+destroy_due w h (Ok p) = Ok (record {
+  plain = record w { places = places_without w.places h; bodies = slice_set w.bodies h.slot None; calls = w.calls + 1 };
+  reply = replies.Done;
+  entries = booked (w.calls + 1) causes.Departed (neg_ℤ p.x) (neg_ℤ p.y);
+  events = None;
+})
+
+abbrev pub apply_destroy : Plain → Handle → Result Applied Refusal
+apply_destroy w h = destroy_due w h (departing (body_of w h))
+
+-- ---- Push
+
+abbrev pub sum_of : Vec2 → Vec2 → Vec2
+sum_of a b = record { x = a.x +ℤ b.x; y = a.y +ℤ b.y }
+
+-- the momentum that a push leaves, or the first reason why there is none
+abbrev pub pushed : Option Body → Vec2 → Result Vec2 Refusal
+pushed None j = Err StaleHandle
+pushed (Some b) j = cond (is_dynamic b.kind) (cond b.enabled (cond (is_within (2 ^ 40) j) (cond (is_within (2 ^ 60) (sum_of b.motion.p j)) (Ok (sum_of b.motion.p j)) (Err TooFast)) (Err OutOfRange)) (Err BodyDisabled)) (Err NotAMover)
+
+abbrev pub push_due : Plain → Handle → Vec2 → Result Vec2 Refusal → Result Applied Refusal
+push_due w h j (Err e) = Err e
+push_due w h j (Ok p) = Ok (record {
+  plain = record w { bodies = with_momentum w.bodies h.slot p; calls = w.calls + 1 };
+  reply = replies.Done;
+  entries = booked (w.calls + 1) causes.Command j.x j.y;
+  events = None;
+})
+
+abbrev pub apply_push : Plain → Handle → Vec2 → Result Applied Refusal
+apply_push w h j = push_due w h j (pushed (body_of w h) j)
+
+-- ---- SetGravity
+
+abbrev pub apply_gravity : Plain → Vec2 → Result Applied Refusal
+apply_gravity w g = cond (is_within (2 ^ 16) g) (Ok (record { plain = record w { gravity = g; calls = w.calls + 1 }; reply = replies.Done; entries = []; events = None })) (Err OutOfRange)
+
+-- ---- Step
+
+abbrev pub stepped : Plain → Run → Applied
+stepped w r = record {
+  plain = record w { bodies = r.bodies; steps = w.steps + 1; calls = w.calls + 1 };
+  reply = replies.Stepped (w.steps + 1);
+  entries = booked (w.calls + 1) causes.Gravity r.gravity_x r.gravity_y ++ booked (w.calls + 1) causes.Clamp r.clamp_x r.clamp_y;
+  events = Some no_events;
+}
+
+abbrev pub apply_step : Plain → ℤ → Result Applied Refusal
+apply_step w n = cond (is_between (pos 1) (pos 8) n) (Ok (stepped w (ticks (unsigned_abs n) w.gravity (start w.bodies)))) (Err OutOfRange)
+
+-- ---- a new world
+
+abbrev pub gravity_refusal : Vec2 → Option Refusal
+gravity_refusal g = cond (is_within (2 ^ 16) g) None (Some OutOfRange)
+
+abbrev pub empty_world : Vec2 → World
+empty_world g = record { plain = record { places = []; bodies = []; gravity = g; steps = 0; calls = 0 }; entries = []; settled = zero_totals; events = no_events }
+
+-- ---- all commands
+
+abbrev pub apply_accepted : Plain → Command → Result Applied Refusal
+apply_accepted w (CreateBody d) = apply_create w d
+apply_accepted w (DestroyBody h) = apply_destroy w h
+apply_accepted w (Push h j) = apply_push w h j
+apply_accepted w (SetGravity g) = apply_gravity w g
+apply_accepted w (Step n) = apply_step w n
+
+-- the new plain world, the reply, the entries and the events, or the refusal that comes first
+abbrev pub apply : Plain → Command → Result Applied Refusal
+apply w c = cond (nat_lt w.calls (2 ^ 40)) (apply_accepted w c) (Err WornOut)
+
+-- ---- what a call of the code may answer, and leave, given what is due
+
+-- the world with what an accepted command leaves
+abbrev pub world_with : World → Applied → World
+world_with old a = record old { plain = a.plain; entries = old.entries ++ a.entries; events = unwrap_or a.events old.events }
+
+-- just what is due; or, where a command is due to be accepted, want of memory with nothing changed
+abbrev pub Answers : Result Applied Refusal → World → Result Reply Refusal → World → Type 0
+Answers (Ok a) old (Ok reply) new = (reply ≡ a.reply) × (new ≡ world_with old a)
+Answers (Ok a) old (Err e) new = (e ≡ NoMemory) × (new ≡ old)
+Answers (Err due) old (Err e) new = (e ≡ due) × (new ≡ old)
+Answers (Err due) old (Ok reply) new = ⊥

@@ -1,0 +1,6 @@
+pub mod Events
+pub mod World
+pub mod Apply
+pub mod Replay
+pub mod Sound
+pub mod Inside

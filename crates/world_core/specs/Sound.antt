@@ -1,0 +1,31 @@
+-- What each world keeps.
+use Rattle.std.specs.Prelude.{◌≡◌, ℕ, ◌+◌, ◌*◌, ◌≤◌, ◌^◌, unsigned_abs}
+use Rattle.fixed_geom.specs.Vectors.{IsWithin}
+use Rattle.impulse_ledger.specs.declared.entry.Cause.{Cause}
+use Rattle.impulse_ledger.specs.Sums.{Book, total_x, total_y, total_of_x, total_of_y}
+use Rattle.world_core_base.specs.Bodies.{AreBodies, momentum_x, momentum_y}
+use Rattle.world_core_base.specs.Slots.{AreMatched}
+use Rattle.world_core.specs.World.{World, book_of}
+
+-- no cause's total is beyond n
+pub record AreSmall (n : ℕ) (b : Book) : Type 0 where
+  pub x : (cause : Cause) → unsigned_abs (total_of_x cause b) ≤ n
+  pub y : (cause : Cause) → unsigned_abs (total_of_y cause b) ≤ n
+
+-- The movers' momentum is the ledger's total; there is a body just in the slots that are taken; a body that isn't a mover is
+-- at rest, and a mover's numbers are within their limits.
+pub record IsSound (w : World) : Type 0 where
+  pub total_x : momentum_x w.plain.bodies ≡ total_x (book_of w)
+  pub total_y : momentum_y w.plain.bodies ≡ total_y (book_of w)
+  pub causes : AreSmall (2 ^ 126 + w.plain.calls * 2 ^ 83) (book_of w)
+  pub bodies : AreBodies w.plain.bodies
+  pub matched : AreMatched w.plain.places w.plain.bodies
+  pub gravity : IsWithin (2 ^ 16) w.plain.gravity
+  pub steps : w.plain.steps ≤ w.plain.calls
+  pub calls : w.plain.calls ≤ 2 ^ 40
+
+-- there is room in the numbers for the entries of one more call
+pub record IsRoomy (b : Book) : Type 0 where
+  pub x : unsigned_abs (total_x b) ≤ 2 ^ 100
+  pub y : unsigned_abs (total_y b) ≤ 2 ^ 100
+  pub causes : AreSmall (2 ^ 126 + 2 ^ 123) b

@@ -1,0 +1,63 @@
+ghost use Rattle.std.specs.Prelude.{◌≡◌, ◌+◌, ◌≤◌, ◌^◌, ◌++◌, pos, neg_ℤ, unsigned_abs};
+ghost use Rattle.fixed_geom.specs.Vectors.{IsWithin};
+ghost use Rattle.impulse_ledger.specs.Sums.{Fits};
+ghost use Rattle.world_core.specs.Apply.{booked};
+ghost use Rattle.world_core.specs.Sound.{IsRoomy};
+ghost use Rattle.world_core_base.specs.Ticks.{AreSums};
+
+use fixed_geom::Vec2;
+use impulse_ledger::{Cause, Entry, Ledger};
+use world_core_base::{Gain, StepSums};
+
+/// Books a sum of impulses for which there is room; one that is zero in both components is left out.
+pub fn book(ledger: &mut Ledger, call: u64, cause: Cause, gain: Gain)
+    requires fits { Fits ledger.old (record { call = call; cause = cause; x = gain.x; y = gain.y }) }
+    requires room { 1 ≤ ledger.old.room }
+    ensures entries { ledger.new.entries ≡ ledger.old.entries ++ booked call cause gain.x gain.y }
+    ensures settled { ledger.new.settled ≡ ledger.old.settled }
+    ensures room { ledger.old.room ≤ ledger.new.room + 1 }
+{
+    if gain.x.unsigned_abs() <= 0 && gain.y.unsigned_abs() <= 0 {
+        return;
+    }
+    ledger.post_reserved(Entry {
+        call,
+        cause,
+        x: gain.x,
+        y: gain.y,
+    });
+}
+
+/// A momentum, as it is booked where it comes.
+pub fn gain_of(v: Vec2) -> Gain
+    ensures x { result.x ≡ v.x }
+    ensures y { result.y ≡ v.y }
+{
+    Gain {
+        x: i128::from(v.x),
+        y: i128::from(v.y),
+    }
+}
+
+/// A momentum, as it is booked where it goes.
+pub fn loss_of(v: Vec2) -> Gain
+    ensures x { result.x ≡ neg_ℤ v.x }
+    ensures y { result.y ≡ neg_ℤ v.y }
+{
+    Gain {
+        x: -i128::from(v.x),
+        y: -i128::from(v.y),
+    }
+}
+
+/// Books what a step has added, for which there is room.
+pub fn book_step(ledger: &mut Ledger, call: u64, sums: StepSums)
+    requires room { 2 ≤ ledger.old.room }
+    requires roomy { IsRoomy ledger.old }
+    requires small { AreSums (2 ^ 80) sums }
+    ensures entries { ledger.new.entries ≡ ledger.old.entries ++ (booked call Cause.Gravity sums.gravity.x sums.gravity.y ++ booked call Cause.Clamp sums.clamp.x sums.clamp.y) }
+    ensures settled { ledger.new.settled ≡ ledger.old.settled }
+{
+    book(ledger, call, Cause::Gravity, sums.gravity);
+    book(ledger, call, Cause::Clamp, sums.clamp);
+}

@@ -1,0 +1,208 @@
+ghost use Rattle.std.specs.Prelude.{◌≡◌, ◌+◌, ◌<◌, ◌≤◌, ◌^◌, [], IfOk, OnErr, option_map};
+ghost use Rattle.std.specs.Result.{IsOkUnless, result_err};
+ghost use Rattle.world_core_base.specs.Bodies.{view_of};
+ghost use Rattle.world_core.specs.World.{body_of};
+ghost use Rattle.world_core.specs.Sound.{IsSound};
+ghost use Rattle.world_core.specs.Apply.{Answers, empty_world, gravity_refusal, apply, apply_create, apply_destroy, apply_push, apply_gravity, apply_step};
+
+use crate::booking::{book, book_step, gain_of, loss_of};
+use crate::pushes::{departing, momentum_after};
+use crate::{Command, Events, Reply};
+use body_handles::{Handle, Handles};
+use fixed_geom::{Refusal, Vec2, is_within};
+use impulse_ledger::{Cause, Ledger};
+use std::alloc::Global;
+use std::marker::Model;
+use world_core_base::{
+    Body, BodyDef, BodyView, body_of, clear_slot, copy_bodies, put_body, put_momentum, run_ticks,
+};
+
+/// How many calls a world accepts.
+const MAX_CALLS: u64 = 1 << 40;
+
+/// The greatest size of a component of gravity, in u/tick².
+const MAX_GRAVITY: u64 = 1 << 16;
+
+/// The most ticks of a step.
+const MAX_TICKS: i64 = 8;
+
+/// A world of bodies, changed by one command at a time.
+#[derive(Drop)]
+pub struct WorldCore {
+    handles: Handles,
+    bodies: Vec<Option<Body>>,
+    gravity: Vec2,
+    steps: u64,
+    calls: u64,
+    ledger: Ledger,
+    events: Events,
+}
+
+impl Model for WorldCore {
+    ghost use Rattle.world_core.specs.World.{World};
+    ghost use Rattle.world_core.specs.Sound.{IsSound};
+
+    ghost Value = { World };
+
+    ghost use Rattle.world_core.specs.Inside.{world_of};
+
+    ghost view = { λ a. world_of a };
+
+    ghost invariant = { λ a. IsSound (world_of a) };
+}
+
+impl WorldCore {
+    /// An empty world with this gravity, in u/tick². Refused 5 where a component is beyond 2^16 in size.
+    pub fn new(alloc: Global, gravity: Vec2) -> Result<WorldCore, Refusal>
+        ensures refused { result_err result ≡ gravity_refusal gravity }
+        ensures empty { IfOk result (λ world. world ≡ empty_world gravity) }
+    {
+        if !is_within(gravity, MAX_GRAVITY) {
+            return Err(Refusal::OutOfRange);
+        }
+        Ok(WorldCore {
+            handles: Handles::new(alloc),
+            bodies: Vec::new(alloc),
+            gravity,
+            steps: 0,
+            calls: 0,
+            ledger: Ledger::new(alloc),
+            events: Events::new(alloc),
+        })
+    }
+
+    /// A copy of its own. Refused 1 where memory is wanting.
+    pub fn try_copy(&self) -> Result<WorldCore, Refusal>
+        ensures copy { IfOk result (λ copied. copied ≡ self.now) }
+        ensures memory_only { IsOkUnless result Refusal.NoMemory }
+    {
+        Ok(WorldCore {
+            handles: self.handles.try_copy()?,
+            bodies: copy_bodies(*self.bodies.allocator(), &self.bodies)?,
+            gravity: self.gravity,
+            steps: self.steps,
+            calls: self.calls,
+            ledger: self.ledger.try_copy()?,
+            events: self.events.try_copy()?,
+        })
+    }
+
+    /// Applies one command, or refuses it and changes nothing.
+    pub fn apply(&mut self, command: &Command) -> Result<Reply, Refusal>
+        ensures { Answers (apply self.old.plain command.now) self.old result self.new }
+    {
+        if self.calls >= MAX_CALLS {
+            return Err(Refusal::WornOut);
+        }
+        match command {
+            Command::CreateBody(def) => self.create_body(def),
+            Command::DestroyBody(handle) => self.destroy_body(*handle),
+            Command::Push(handle, by) => self.push(*handle, *by),
+            Command::SetGravity(gravity) => self.set_gravity(*gravity),
+            Command::Step(ticks) => self.step(*ticks),
+        }
+    }
+
+    /// Lets 1 to 8 ticks pass: `apply` of a step. Refused 10 or 5.
+    pub fn step_one(&mut self, ticks: i64) -> Result<Reply, Refusal>
+        ensures { Answers (apply self.old.plain (Command.Step ticks)) self.old result self.new }
+    {
+        self.apply(&Command::Step(ticks))
+    }
+
+    fn create_body(&mut self, def: &BodyDef) -> Result<Reply, Refusal>
+        requires { self.old.plain.calls < 2 ^ 40 }
+        ensures { Answers (apply_create self.old.plain def.now) self.old result self.new }
+    {
+        def.check()?;
+        if self.handles.is_full() {
+            return Err(Refusal::TooMany);
+        }
+        let body = def.make()?;
+        self.handles.reserve_one()?;
+        self.bodies.reserve(1)?;
+        let handle = self.handles.insert()?;
+        put_body(&mut self.bodies, handle.slot as usize, body);
+        self.calls += 1;
+        Ok(Reply::Body(handle))
+    }
+
+    fn destroy_body(&mut self, handle: Handle) -> Result<Reply, Refusal>
+        requires { self.old.plain.calls < 2 ^ 40 }
+        ensures { Answers (apply_destroy self.old.plain handle) self.old result self.new }
+    {
+        let p = departing(&self.handles, &self.bodies, handle)?;
+        self.ledger.reserve(1)?;
+        book(&mut self.ledger, self.calls + 1, Cause::Departed, loss_of(p));
+        clear_slot(&mut self.bodies, handle.slot as usize);
+        self.handles.remove(handle);
+        self.calls += 1;
+        Ok(Reply::Done)
+    }
+
+    fn push(&mut self, handle: Handle, by: Vec2) -> Result<Reply, Refusal>
+        requires { self.old.plain.calls < 2 ^ 40 }
+        ensures { Answers (apply_push self.old.plain handle by) self.old result self.new }
+    {
+        let p = momentum_after(&self.handles, &self.bodies, handle, by)?;
+        self.ledger.reserve(1)?;
+        book(&mut self.ledger, self.calls + 1, Cause::Command, gain_of(by));
+        put_momentum(&mut self.bodies, handle.slot as usize, p);
+        self.calls += 1;
+        Ok(Reply::Done)
+    }
+
+    fn set_gravity(&mut self, gravity: Vec2) -> Result<Reply, Refusal>
+        requires { self.old.plain.calls < 2 ^ 40 }
+        ensures { Answers (apply_gravity self.old.plain gravity) self.old result self.new }
+    {
+        if !is_within(gravity, MAX_GRAVITY) {
+            return Err(Refusal::OutOfRange);
+        }
+        self.gravity = gravity;
+        self.calls += 1;
+        Ok(Reply::Done)
+    }
+
+    fn step(&mut self, ticks: i64) -> Result<Reply, Refusal>
+        requires { self.old.plain.calls < 2 ^ 40 }
+        ensures { Answers (apply_step self.old.plain ticks) self.old result self.new }
+    {
+        if ticks < 1 || ticks > MAX_TICKS {
+            return Err(Refusal::OutOfRange);
+        }
+        self.ledger.reserve(2)?;
+        let sums = run_ticks(&mut self.bodies, self.gravity, ticks.unsigned_abs());
+        book_step(&mut self.ledger, self.calls + 1, sums);
+        self.events.clear();
+        self.steps += 1;
+        self.calls += 1;
+        Ok(Reply::Stepped(self.steps))
+    }
+
+    /// What can be seen of a body; `None` where the handle names none that lives.
+    pub fn body(&self, handle: Handle) -> Option<BodyView>
+        ensures { result ≡ option_map view_of (body_of self.now.plain handle) }
+    {
+        match body_of(&self.handles, &self.bodies, handle) {
+            Some(body) => Some(body.view()),
+            None => None,
+        }
+    }
+
+    /// The ledger. Its total is the movers' momentum.
+    pub fn ledger(&self) -> &Ledger
+        ensures entries { result.now.entries ≡ self.now.entries }
+        ensures settled { result.now.settled ≡ self.now.settled }
+        ensures sound { IsSound self.now }
+    {
+        &self.ledger
+    }
+
+    /// The events of the last accepted step; before the first, none.
+    pub fn events(&self) -> &Events
+        ensures { result.now ≡ self.now.events }
+    {
+        &self.events
+    }
+}

@@ -1,0 +1,5 @@
+pub mod Shapes
+pub mod Bodies
+pub mod Slots
+pub mod Passes
+pub mod Ticks
