@@ -1,0 +1,142 @@
+use crate::ids::Id;
+use body_handles::Handle;
+use fixed_geom::{Refusal, Rot, Vec2};
+use impulse_ledger::{Cause, Ledger, Total};
+use std::fmt;
+use world_core::{ContactKey, Events, ShapeId};
+use world_core_base::{BodyView, SetName};
+
+/// The answer to a line. Its text is compact JSON, the keys of each object ascending.
+#[derive(Clone, Copy)]
+pub enum Answer<'a> {
+    /// A command without an answer of its own was accepted.
+    Done,
+    /// The body that was made.
+    Body(Handle),
+    /// The number of the step, and its events.
+    Stepped(u64, &'a Events),
+    /// What can be seen of a body.
+    Shown(BodyView),
+    /// The ledger's totals.
+    Ledger(&'a Ledger),
+    /// A refused command.
+    Refused(Refusal),
+    /// The number of a line that is no request.
+    Bad(u64),
+}
+
+impl fmt::Display for Answer<'_> {
+    fn fmt<W: fmt::Write>(&self, f: &mut fmt::Formatter<W>) -> fmt::Result {
+        match self {
+            Answer::Done => f.write_str("{\"done\":true}"),
+            Answer::Body(handle) => write_body(f, *handle),
+            Answer::Stepped(step, events) => write_step(f, *step, events),
+            Answer::Shown(view) => write_view(f, view),
+            Answer::Ledger(ledger) => write_ledger(f, ledger),
+            Answer::Refused(refusal) => write_refusal(f, *refusal),
+            Answer::Bad(line) => write!(f, "{{\"bad\":{line}}}"),
+        }
+    }
+}
+
+fn write_body<W: fmt::Write>(f: &mut fmt::Formatter<W>, handle: Handle) -> fmt::Result {
+    let id = Id(handle);
+    write!(f, "{{\"body\":\"{id}\"}}")
+}
+
+fn write_refusal<W: fmt::Write>(f: &mut fmt::Formatter<W>, refusal: Refusal) -> fmt::Result {
+    let number = refusal.number();
+    match refusal {
+        Refusal::BadFile(clause) => write!(f, "{{\"clause\":{clause},\"refused\":{number}}}"),
+        _ => write!(f, "{{\"refused\":{number}}}"),
+    }
+}
+
+/// Writes what stands between two items of a list: nothing before the first.
+fn write_comma<W: fmt::Write>(f: &mut fmt::Formatter<W>, index: usize) -> fmt::Result {
+    if index == 0 { Ok(()) } else { f.write_str(",") }
+}
+
+fn write_contact<W: fmt::Write>(f: &mut fmt::Formatter<W>, contact: &ContactKey) -> fmt::Result {
+    let ShapeId { slot, index } = contact.first;
+    write!(f, "[[{slot},{index}],")?;
+    let ShapeId { slot, index } = contact.second;
+    write!(f, "[{slot},{index}]]")
+}
+
+fn write_contacts<W: fmt::Write>(
+    f: &mut fmt::Formatter<W>,
+    contacts: &[ContactKey],
+) -> fmt::Result {
+    f.write_str("[")?;
+    for (index, contact) in contacts.iter().enumerate() {
+        write_comma(f, index)?;
+        write_contact(f, contact)?;
+    }
+    f.write_str("]")
+}
+
+fn write_bodies<W: fmt::Write>(f: &mut fmt::Formatter<W>, handles: &[Handle]) -> fmt::Result {
+    f.write_str("[")?;
+    for (index, handle) in handles.iter().enumerate() {
+        write_comma(f, index)?;
+        let id = Id(*handle);
+        write!(f, "\"{id}\"")?;
+    }
+    f.write_str("]")
+}
+
+fn write_step<W: fmt::Write>(f: &mut fmt::Formatter<W>, step: u64, events: &Events) -> fmt::Result {
+    f.write_str("{\"begin\":")?;
+    write_contacts(f, events.begin())?;
+    f.write_str(",\"end\":")?;
+    write_contacts(f, events.end())?;
+    f.write_str(",\"slept\":")?;
+    write_bodies(f, events.slept())?;
+    write!(f, ",\"step\":{step},\"woke\":")?;
+    write_bodies(f, events.woke())?;
+    f.write_str("}")
+}
+
+fn write_set<W: fmt::Write>(f: &mut fmt::Formatter<W>, set: SetName) -> fmt::Result {
+    match set {
+        SetName::Static => f.write_str("static"),
+        SetName::Disabled => f.write_str("disabled"),
+        SetName::Awake => f.write_str("awake"),
+        SetName::Sleeping(island) => write!(f, "sleeping {island}"),
+    }
+}
+
+fn write_view<W: fmt::Write>(f: &mut fmt::Formatter<W>, view: &BodyView) -> fmt::Result {
+    let Vec2 { x, y } = view.at;
+    let Rot { c, s } = view.facing;
+    let l = view.l;
+    write!(f, "{{\"at\":[{x},{y}],\"facing\":[{c},{s}],\"l\":\"{l}\",")?;
+    let Vec2 { x, y } = view.p;
+    write!(f, "\"p\":[{x},{y}],\"set\":\"")?;
+    write_set(f, view.set)?;
+    f.write_str("\"}")
+}
+
+fn write_total<W: fmt::Write>(f: &mut fmt::Formatter<W>, total: Total) -> fmt::Result {
+    let Total { x, y } = total;
+    write!(f, "[\"{x}\",\"{y}\"]")
+}
+
+fn write_ledger<W: fmt::Write>(f: &mut fmt::Formatter<W>, ledger: &Ledger) -> fmt::Result {
+    f.write_str("{\"causes\":{\"clamp\":")?;
+    write_total(f, ledger.total_of(Cause::Clamp))?;
+    f.write_str(",\"command\":")?;
+    write_total(f, ledger.total_of(Cause::Command))?;
+    f.write_str(",\"departed\":")?;
+    write_total(f, ledger.total_of(Cause::Departed))?;
+    f.write_str(",\"gravity\":")?;
+    write_total(f, ledger.total_of(Cause::Gravity))?;
+    f.write_str(",\"immovable\":")?;
+    write_total(f, ledger.total_of(Cause::Immovable))?;
+    f.write_str(",\"rest\":")?;
+    write_total(f, ledger.total_of(Cause::Rest))?;
+    f.write_str("},\"total\":")?;
+    write_total(f, ledger.total())?;
+    f.write_str("}")
+}

@@ -1,0 +1,74 @@
+//! Keeps a world of bodies, which a script changes: one JSON request a line on standard input, one
+//! answer a line on standard output. `docs/SCRIPT.md` lists the requests, the answers and the
+//! statuses.
+#![tactic(auto)]
+
+mod answers;
+mod engine;
+mod ids;
+mod lines;
+mod options;
+mod status;
+
+use engine::{Options, run};
+use options::Instead;
+use status::Status;
+use std::io::{BufReader, BufWriter};
+use std::process::ExitCode;
+use std::rt::Env;
+use std::{env, io};
+
+/// Answers standard input on standard output.
+fn serve<R: AllocGlobal + Input + Print>(rt: &R, options: Options) -> Status {
+    let Ok(mut reader) = BufReader::new(rt.alloc(), rt.reader()) else {
+        return Status::NoMemory;
+    };
+    let Ok(mut writer) = BufWriter::new(rt.alloc(), io::writer(rt)) else {
+        return Status::NoMemory;
+    };
+    let status = run(rt, &mut reader, &mut writer, options);
+    // The engine has flushed its answers, unless a write failed: then nothing more is written.
+    let (_output, _unwritten) = writer.into_parts();
+    status
+}
+
+/// The program's words, of which the first is its name.
+fn read_words<R: AllocGlobal + Env>(rt: &R) -> Result<Vec<String>, Status> {
+    match env::args(rt) {
+        Ok(words) => words.collect(rt.alloc()).map_err(|_| Status::NoMemory),
+        Err(error) if error.kind() == io::ErrorKind::OutOfMemory => Err(Status::NoMemory),
+        Err(_) => Err(Status::BadWords),
+    }
+}
+
+/// Does what the program's words ask for.
+fn start<R: AllocGlobal + Env + Input + Print + Eprint>(rt: &R) -> Status {
+    let words = match read_words(rt) {
+        Ok(words) => words,
+        Err(status) => {
+            if status == Status::BadWords {
+                let _ = eprintln!(rt; "error: a word is not UTF-8");
+            }
+            return status;
+        }
+    };
+    match options::options(rt.alloc(), words.as_slice()) {
+        Ok(options) => serve(rt, options),
+        Err(Instead::Help(text)) => match print!(rt; "{text}") {
+            Ok(()) => Status::Ended,
+            Err(_) => Status::Failed,
+        },
+        Err(Instead::BadWords(text)) => {
+            let _ = eprint!(rt; "{text}");
+            Status::BadWords
+        }
+        Err(Instead::NoMemory) => Status::NoMemory,
+    }
+}
+
+fn main(rt: HostRuntime) -> ExitCode {
+    ExitCode::from(start(&rt).code())
+}
+
+#[cfg(test)]
+mod tests;
