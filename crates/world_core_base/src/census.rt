@@ -57,7 +57,7 @@ impl Census {
         self.static_set.as_slice()
     }
 
-    /// The disabled bodies.
+    /// The disabled bodies, static and dynamic.
     pub fn disabled(&self) -> &[Handle]
         ensures { result.now ≡ self.now.disabled }
     {
@@ -158,9 +158,9 @@ mod tests {
             slot: 3,
             generation: 1,
         };
-        assert_eq!(rt; census.static_set(), &[ground]);
-        assert_eq!(rt; census.awake(), &[mover]);
-        assert_eq!(rt; census.disabled(), &[disabled]);
+        assert_eq!(rt; census.static_set(), [ground].as_slice());
+        assert_eq!(rt; census.awake(), [mover].as_slice());
+        assert_eq!(rt; census.disabled(), [disabled].as_slice());
         Ok(())
     }
 }
