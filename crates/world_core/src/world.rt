@@ -1,6 +1,7 @@
 ghost use Rattle.std.specs.Prelude.{◌≡◌, ◌+◌, ◌<◌, ◌≤◌, ◌^◌, [], IfOk, OnErr, option_map};
 ghost use Rattle.std.specs.Result.{IsOkUnless, result_err};
 ghost use Rattle.world_core_base.specs.Bodies.{view_of};
+ghost use Rattle.world_core_base.specs.Census.{IsCensus, census_of};
 ghost use Rattle.world_core.specs.World.{body_of};
 ghost use Rattle.world_core.specs.Sound.{IsSound};
 ghost use Rattle.world_core.specs.Apply.{Answers, empty_world, gravity_refusal, apply, apply_create, apply_destroy, apply_push, apply_gravity, apply_step};
@@ -14,7 +15,8 @@ use impulse_ledger::{Cause, Ledger};
 use std::alloc::Global;
 use std::marker::Model;
 use world_core_base::{
-    Body, BodyDef, BodyView, body_of, clear_slot, copy_bodies, put_body, put_momentum, run_ticks,
+    Body, BodyDef, BodyView, Census, body_of, clear_slot, copy_bodies, put_body, put_momentum,
+    run_ticks, take_census,
 };
 
 /// How many calls a world accepts.
@@ -219,6 +221,20 @@ impl WorldCore {
             self.gravity,
             self.steps,
             self.calls,
+        )
+    }
+
+    /// What stands in each solver set: each live body once, where it stands. Refused 1 where memory is
+    /// wanting.
+    pub fn census(&self) -> Result<Census, Refusal>
+        ensures census { IfOk result (λ census. IsCensus self.now.plain.places self.now.plain.bodies census) }
+        ensures value { IfOk result (λ census. census ≡ census_of self.now.plain.places self.now.plain.bodies) }
+        ensures memory_only { IsOkUnless result Refusal.NoMemory }
+    {
+        take_census(
+            *self.bodies.allocator(),
+            self.handles.places(),
+            &self.bodies,
         )
     }
 }
