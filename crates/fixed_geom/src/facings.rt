@@ -7,8 +7,8 @@ ghost use Rattle.fixed_geom.specs.Facings.{IsFacing, is_facing, rotate, IsLong, 
 use crate::products::{difference_of_products, scaled, sum_of_products};
 use crate::{Vec2, rdiv_unit, unit};
 
-/// A facing: the cosine and the sine of an angle, times 2^30. Its length, as a vector, is within
-/// 2 of 2^30 (this project's own rule: a facing is never made exact again).
+/// A facing: the cosine and the sine of an angle, times 2^30. Its length as a vector is within 2
+/// of 2^30, as `is_facing` tests (this project's own limit).
 #[derive(Clone, Copy, Debug, PartialEq, Eq)]
 pub struct Rot {
     pub c: i64,
@@ -36,7 +36,7 @@ pub fn is_facing(q: Rot) -> bool
 }
 
 /// `v`, of components up to 2^60, turned by the facing `q`: the product of two complex numbers,
-/// each part rounded to the nearest.
+/// each part rounded to the nearest. No component more than doubles.
 pub fn rotate(q: Rot, v: Vec2) -> Vec2
     requires facing { IsFacing q }
     requires place { IsWithin (2 ^ 60) v }
@@ -79,10 +79,10 @@ fn facing_along(d: Vec2) -> Rot
     }
 }
 
-/// `q` turned by the spin `w`, times 2^30 and at most 2^28 in size: `q` itself at no spin, and
-/// else the direction moved along its tangent and made a unit vector again (this project's own
-/// rule, an explicit step of the rotation as in Box2D's manual, whose angle is the arc tangent
-/// of `w / 2^30`).
+/// `q` turned by the spin `w`, which is times 2^30 and at most 2^28 in size (about 14 degrees).
+/// At no spin it is `q`; else the direction moves along its tangent and is made a unit vector
+/// again, as Box2D's `b2IntegrateRotation` does, so that the angle is the arc tangent of
+/// `w / 2^30`. The result is a facing once more, after any number of turns.
 pub fn turn(q: Rot, w: i64) -> Rot
     requires facing { IsFacing q }
     requires spin { unsigned_abs w ≤ 2 ^ 28 }

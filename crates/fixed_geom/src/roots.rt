@@ -1,38 +1,44 @@
-//! Square roots rounded down, by Newton's method from a guess out of the leading zeros.
-//!
-//! Any guess will do: a step of Newton's is never below the root, whatever it starts from.
+//! Square roots rounded down, exact whatever they are guessed from: below 2^64 from the
+//! processor's root of a float, beyond by one or two steps of Newton's method. A step of Newton's
+//! is never below the root, whatever it starts from.
 
 ghost use Rattle.std.specs.Prelude.{◌≡◌, ◌+◌, ◌*◌, ◌^◌, ◌<◌, ◌≤◌, pos, ◌≤ℤ◌};
 ghost use Rattle.fixed_geom.specs.Numbers.{IsRoot, isqrt};
 
-/// A guess at the root, within a tenth of it: with `h` half of the number of bits, five eighths
-/// of `a / 2^h` and three eighths of `2^h`.
+use std::num::{nearest_u64_to_f64, saturating_f64_to_u64};
+
+/// A guess at the root: the processor's root of the nearest float, at most one beside the root.
+/// Nothing is promised of it, since what follows puts any guess right.
 fn guess_64(a: u64) -> u64
-    ensures { 0 < result }
+    ensures small { result < 2 ^ 32 }
 {
-    let half = (65 - a.leading_zeros()) / 2;
-    ((a / 2) >> half) + ((a / 8) >> half) + ((3 << half) / 8) + 1
+    saturating_f64_to_u64(nearest_u64_to_f64(a).sqrt()).min(0xffff_ffff)
 }
 
-/// One step of Newton's from the guess: not below the root.
-fn first_64(a: u64) -> u64
+/// `x`, or the first number below it whose square is at most `a`: one step at most from the guess.
+fn lowered_64(a: u64, mut x: u64) -> u64
+    requires small { x < 2 ^ 32 }
+    ensures below { result * result ≤ a }
+    ensures small { result < 2 ^ 32 }
+{
+    while x * x > a {
+        x -= 1;
+    }
+    x
+}
+
+/// The root of `a`, from an `x` that is not above it: one step at most from the guess.
+fn raised_64(a: u64, mut x: u64) -> u64
+    requires below { x * x ≤ a }
+    requires small { x < 2 ^ 32 }
+    ensures below { result * result ≤ a }
     ensures above { a < (result + 1) * (result + 1) }
     ensures small { result < 2 ^ 32 }
 {
-    let guess = guess_64(a);
-    let quotient = a / guess;
-    guess.midpoint(quotient).min(0xffff_ffff)
-}
-
-/// One step of Newton's from above the root.
-fn nearer_64(a: u64, x: u64) -> u64
-    requires above { a < x * x }
-    requires small { x < 2 ^ 32 }
-    ensures above { a < (result + 1) * (result + 1) }
-    ensures falls { result < x }
-{
-    let quotient = a / x;
-    (x + quotient) / 2
+    while x < 0xffff_ffff && (x + 1) * (x + 1) <= a {
+        x += 1;
+    }
+    x
 }
 
 /// The root of `a`, rounded down.
@@ -41,16 +47,7 @@ fn root_64(a: u64) -> u64
     ensures above { a < (result + 1) * (result + 1) }
     ensures small { result < 2 ^ 32 }
 {
-    let mut x = first_64(a);
-    while x * x > a {
-        // A step often ends one above the root: this saves the division of one more.
-        let less = x - 1;
-        if less * less <= a {
-            return less;
-        }
-        x = nearer_64(a, x);
-    }
-    x
+    raised_64(a, lowered_64(a, guess_64(a)))
 }
 
 /// A guess at the root of a number beyond 64 bits: the root of its leading 64 bits, put back in
@@ -63,7 +60,7 @@ fn guess_128(a: u128) -> u128
     u128::from(root_64(top) + 1) << half
 }
 
-/// `first_64` in 128 bits.
+/// One step of Newton's from the guess: not below the root.
 fn first_128(a: u128) -> u128
     ensures above { a < (result + 1) * (result + 1) }
     ensures small { result < 2 ^ 64 }
@@ -73,7 +70,7 @@ fn first_128(a: u128) -> u128
     guess.midpoint(quotient).min(0xffff_ffff_ffff_ffff)
 }
 
-/// `nearer_64` in 128 bits.
+/// One step of Newton's from above the root.
 fn nearer_128(a: u128, x: u128) -> u128
     requires above { a < x * x }
     requires small { x < 2 ^ 64 }
@@ -84,7 +81,7 @@ fn nearer_128(a: u128, x: u128) -> u128
     (x + quotient) / 2
 }
 
-/// `root_64` in 128 bits.
+/// The root of `a`, rounded down, by Newton's method from above.
 fn root_128(a: u128) -> u128
     ensures below { result * result ≤ a }
     ensures above { a < (result + 1) * (result + 1) }
@@ -92,6 +89,7 @@ fn root_128(a: u128) -> u128
 {
     let mut x = first_128(a);
     while x * x > a {
+        // A step often ends one above the root: this saves the division of one more.
         let less = x - 1;
         if less * less <= a {
             return less;

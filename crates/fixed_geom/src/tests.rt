@@ -22,6 +22,8 @@ fn roots_round_down(rt: HostRuntime) {
     assert_eq!(rt; isqrt(3), 1);
     assert_eq!(rt; isqrt(4), 2);
     assert_eq!(rt; isqrt(40000000000), 200000);
+    // The nearest float's root is one too great here.
+    assert_eq!(rt; isqrt(((1 << 32) - 1) * ((1 << 32) - 1) - 1), (1 << 32) - 2);
     assert_eq!(rt; isqrt((1 << 64) - 1), (1 << 32) - 1);
     assert_eq!(rt; isqrt(i128::MAX), 13043817825332782212);
 }

@@ -113,7 +113,8 @@ fn shifted(x: i64, d: i64, t: i64) -> i64
     requires way { unsigned_abs d ≤ 2 ^ 42 }
     requires times { unsigned_abs t ≤ 2 ^ 46 }
     ensures value { result ≡ x +ℤ rdiv (d *ℤ t) unit_length }
-    ensures within { (m k : ℕ) → unsigned_abs x ≤ m → unsigned_abs d * unsigned_abs t ≤ k * 2 ^ 30 → unsigned_abs result ≤ m + k }
+    ensures within { (m k : ℕ) → unsigned_abs x ≤ m → unsigned_abs d * unsigned_abs t ≤ k * 2 ^ 30
+        → unsigned_abs result ≤ m + k }
 {
     x + scaled(d, t)
 }
@@ -125,7 +126,8 @@ pub fn moved(p: Vec2, d: Vec2, t: i64) -> Vec2
     requires way { IsWithin (2 ^ 42) d }
     requires times { unsigned_abs t ≤ 2 ^ 46 }
     ensures value { result ≡ moved p d t }
-    ensures within { (m j k : ℕ) → IsWithin m p → IsWithin j d → j * unsigned_abs t ≤ k * 2 ^ 30 → IsWithin (m + k) result }
+    ensures within { (m j k : ℕ) → IsWithin m p → IsWithin j d → j * unsigned_abs t ≤ k * 2 ^ 30
+        → IsWithin (m + k) result }
 {
     Vec2 {
         x: shifted(p.x, d.x, t),

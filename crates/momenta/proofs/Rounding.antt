@@ -1,15 +1,9 @@
--- Sizes of rounded quotients and of the code's sums and products.
-use Rattle.std.proofs.Common.{◌≡◌, ℕ, zero, suc, ◌+◌, ◌*◌, ◌^◌, ◌<◌, ◌≤◌, ℤ, pos, negsuc, ◌+ℤ◌, ◌*ℤ◌, neg_ℤ, ◌≤ℤ◌, unsigned_abs, arith, refl, to_z, of_z}
-use Rattle.std.proofs.lemmas.Int.{ints, unsigned_abs-mul}
-use Rattle.std.proofs.lemmas.Nat.{mul-le, div_below, le-div}
-use Rattle.std.specs.Int.{w64}
+-- Sizes of rounded quotients.
+use Rattle.std.proofs.Common.{◌≡◌, ℕ, suc, ◌+◌, ◌*◌, ◌<◌, ◌≤◌, ℤ, pos, negsuc, ◌≤ℤ◌, unsigned_abs, arith, refl}
+use Rattle.std.proofs.lemmas.Int.{ints}
+use Rattle.std.proofs.lemmas.Nat.{div_below, le-div}
 use Rattle.fixed_geom.specs.Numbers.{nearest, rdiv}
-
--- ---- quotients
-
-abs_neg : (n : ℕ) → unsigned_abs (neg_ℤ (pos n)) ≡ n
-abs_neg zero = refl
-abs_neg (suc n) = refl
+use Rattle.fixed_geom.proofs.QuotientLemmas.{abs_neg}
 
 rdiv_size : (a b : ℤ) → unsigned_abs (rdiv a b) ≡ nearest (unsigned_abs a) (unsigned_abs b)
 unfolding rdiv
@@ -39,16 +33,3 @@ pub rdiv_at : (a b : ℤ) (k : ℕ) → pos 1 ≤ℤ b → unsigned_abs a ≡ un
 rdiv_at a b k p h =
     let some : 0 < unsigned_abs b = omega (arith, ints) in
     rdiv_slow a b k p (omega arith)
-
--- ---- products and sums
-
-pub product_le : (a b : ℤ) (m n : ℕ) → unsigned_abs a ≤ m → unsigned_abs b ≤ n → unsigned_abs (a *ℤ b) ≤ m * n
-product_le a b m n h k = rw (unsigned_abs-mul a b) (mul-le (unsigned_abs a) (unsigned_abs b) m n h k)
-
--- the code's `p + t`
-pub record IsAccumulated (p t : ℤ) : Type 0 where
-  pub value : to_z w64 (of_z w64 (p +ℤ to_z w64 (of_z w64 t))) ≡ p +ℤ t
-  pub small : unsigned_abs (p +ℤ t) ≤ 2 ^ 61
-
-pub accumulated : (p t : ℤ) → unsigned_abs p ≤ 2 ^ 60 → unsigned_abs t ≤ 2 ^ 36 → IsAccumulated p t
-accumulated p t h k = record { value = omega (arith, ints); small = omega (arith, ints) }

@@ -1,3 +1,4 @@
 pub mod BookLemmas
 pub mod SlotLemmas
 pub mod Kept
+pub mod ReplayLemmas

@@ -1,26 +1,34 @@
 -- Whole lists of commands, applied one after another.
-use Rattle.std.specs.Prelude.{List, [], ◌∷◌, Result, Ok, Err}
+use Rattle.std.specs.Prelude.{◌≡◌, ℕ, List, [], ◌∷◌, Result, Ok, Err, take}
 use Rattle.fixed_geom.specs.declared.refusal.Refusal.{Refusal}
 use Rattle.world_core.specs.declared.command.Command.{Command}
 use Rattle.world_core.specs.declared.command.Reply.{Reply}
 use Rattle.world_core.specs.World.{World}
 use Rattle.world_core.specs.Apply.{Applied, apply, world_with}
 
--- what is answered where memory is there
+-- the answer to one command, where memory is there
 abbrev pub answer_of : Result Applied Refusal → Result Reply Refusal
 answer_of (Ok a) = Ok a.reply
 answer_of (Err e) = Err e
 
-abbrev pub world_after_one : World → Result Applied Refusal → World
-world_after_one w (Ok a) = world_with w a
-world_after_one w (Err e) = w
+-- the world after it: a refused command changes nothing
+abbrev pub after_one : World → Result Applied Refusal → World
+after_one w (Ok a) = world_with w a
+after_one w (Err e) = w
 
--- the world after a list of commands; a refused one changes nothing
-abbrev pub world_after : World → List Command → World
-world_after w [] = w
-world_after w (c ∷ cs) = world_after (world_after_one w (apply w.plain c)) cs
+abbrev pub after : World → Command → World
+after w c = after_one w (apply w.plain c)
+
+-- the world after a list of commands: a fold
+abbrev pub replay : World → List Command → World
+replay w [] = w
+replay w (c ∷ cs) = replay (after w c) cs
 
 -- the answers to a list of commands
 abbrev pub answers_to : World → List Command → List (Result Reply Refusal)
 answers_to w [] = []
-answers_to w (c ∷ cs) = answer_of (apply w.plain c) ∷ answers_to (world_after_one w (apply w.plain c)) cs
+answers_to w (c ∷ cs) = answer_of (apply w.plain c) ∷ answers_to (after w c) cs
+
+-- the world after some beginning of the list
+abbrev pub IsPartOf : World → List Command → World → Type 0
+IsPartOf w cs new = (n : ℕ) × (new ≡ replay w (take n cs))

@@ -1,20 +1,22 @@
 ghost use Rattle.std.specs.Prelude.{◌≡◌, ◌+◌, ◌<◌, ◌≤◌, ◌^◌, [], IfOk, OnErr, option_map};
 ghost use Rattle.std.specs.Result.{IsOkUnless, result_err};
 ghost use Rattle.world_core_base.specs.Bodies.{view_of};
+ghost use Rattle.world_core_base.specs.Census.{IsCensus, census_of};
 ghost use Rattle.world_core.specs.World.{body_of};
 ghost use Rattle.world_core.specs.Sound.{IsSound};
 ghost use Rattle.world_core.specs.Apply.{Answers, empty_world, gravity_refusal, apply, apply_create, apply_destroy, apply_push, apply_gravity, apply_step};
 
 use crate::booking::{book, book_step, gain_of, loss_of};
 use crate::pushes::{departing, momentum_after};
-use crate::{Command, Events, Reply};
+use crate::{Command, Events, Plain, Reply};
 use body_handles::{Handle, Handles};
 use fixed_geom::{Refusal, Vec2, is_within};
 use impulse_ledger::{Cause, Ledger};
 use std::alloc::Global;
 use std::marker::Model;
 use world_core_base::{
-    Body, BodyDef, BodyView, body_of, clear_slot, copy_bodies, put_body, put_momentum, run_ticks,
+    Body, BodyDef, BodyView, Census, body_of, clear_slot, copy_bodies, put_body, put_momentum,
+    run_ticks, take_census,
 };
 
 /// How many calls a world accepts.
@@ -204,5 +206,35 @@ impl WorldCore {
         ensures { result.now ≡ self.now.events }
     {
         &self.events
+    }
+
+    /// The world as plain lists. Refused 1 where memory is wanting.
+    pub fn plain(&self) -> Result<Plain, Refusal>
+        ensures plain { IfOk result (λ plain. plain ≡ self.now.plain) }
+        ensures sound { IsSound self.now }
+        ensures memory_only { IsOkUnless result Refusal.NoMemory }
+    {
+        Plain::copied(
+            *self.bodies.allocator(),
+            &self.handles,
+            &self.bodies,
+            self.gravity,
+            self.steps,
+            self.calls,
+        )
+    }
+
+    /// What stands in each solver set: each live body once, where it stands. Refused 1 where memory is
+    /// wanting.
+    pub fn census(&self) -> Result<Census, Refusal>
+        ensures census { IfOk result (λ census. IsCensus self.now.plain.places self.now.plain.bodies census) }
+        ensures value { IfOk result (λ census. census ≡ census_of self.now.plain.places self.now.plain.bodies) }
+        ensures memory_only { IsOkUnless result Refusal.NoMemory }
+    {
+        take_census(
+            *self.bodies.allocator(),
+            self.handles.places(),
+            &self.bodies,
+        )
     }
 }

@@ -1,2 +1,3 @@
 pub mod PassLaws
 pub mod TickLaws
+pub mod CensusLemmas

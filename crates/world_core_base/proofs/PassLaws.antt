@@ -1,5 +1,5 @@
 -- A pass, one body further; what passes keep; and passes one after the other.
-use Rattle.std.proofs.Common.{◌≡◌, ℕ, zero, suc, ◌+◌, ◌<◌, ◌≤◌, ◌*◌, ◌^◌, List, [], ◌∷◌, ◌++◌, length, get_or, take, drop, map, Option, Some, None, ℤ, ◌+ℤ◌, unsigned_abs, arith, refl, sym, ap, ◌∙◌, slice_set, inl, inr}
+use Rattle.std.proofs.Common.{◌≡◌, ℕ, zero, suc, ◌+◌, ◌<◌, ◌≤◌, ◌*◌, ◌^◌, List, [], ◌∷◌, ◌++◌, length, get_or, take, drop, map, Option, Some, ℤ, ◌+ℤ◌, unsigned_abs, arith, refl, sym, ap, ◌∙◌, slice_set, inl, inr}
 use Rattle.std.specs.Option.{option_map}
 use Rattle.std.specs.List.{slice_get}
 use Rattle.std.proofs.lemmas.Bool.{cases_lt}
@@ -68,34 +68,58 @@ slice_get-set_below (x ∷ xs) (suc i) (suc k) v h = slice_get-set_below xs i k 
 pub made_more : (P : Body → Type 0) (bs : List (Option Body)) (i : ℕ) (n : Option Body) → i < length bs → ((k : ℕ) (b : Body) → k < i → slice_get bs k ≡ Some (Some b) → P b) → ((b : Body) → n ≡ Some b → P b)
     → (k : ℕ) (b : Body) → k < i + 1 → slice_get (slice_set bs i n) k ≡ Some (Some b) → P b
 made_more P bs i n h below here k b lt e = elim (cases_lt k i) [
-    inl less ↦ below k b less (sym (slice_get-set_below bs i k n less) ∙ e)
-  | inr more ↦ let same : k ≡ i = omega arith in here b (let got : slice_get (slice_set bs i n) i ≡ Some (Some b) = rw same at e in let both : Some n ≡ Some (Some b) = sym (slice_get-set_here bs i n h) ∙ got in cc both) ]
+  | inl less ↦ below k b less (sym (slice_get-set_below bs i k n less) ∙ e)
+  | inr more ↦ let same : k ≡ i = omega arith in here b (let got : slice_get (slice_set bs i n) i ≡ Some (Some b) = rw same at e in let both : Some n ≡ Some (Some b) = sym (slice_get-set_here bs i n h) ∙ got in cc both)
+]
 
 -- ---- what a pass adds, one body further
 
-pub gain_x-drop : (f : MassData → Motion → Motion) (all : List (Option Body)) (i : ℕ) (d : Option Body) → i < length all → gain_x f (drop i all) ≡ one_gain_x f (get_or all i d) +ℤ gain_x f (drop (suc i) all)
+gain_x-drop : (f : MassData → Motion → Motion) (all : List (Option Body)) (i : ℕ) (d : Option Body) → i < length all → gain_x f (drop i all) ≡ one_gain_x f (get_or all i d) +ℤ gain_x f (drop (suc i) all)
 gain_x-drop f [] i d h = absurd (omega arith)
 gain_x-drop f (o ∷ all) zero d h = refl
 gain_x-drop f (o ∷ all) (suc i) d h = gain_x-drop f all i d (omega arith)
 
-pub gain_y-drop : (f : MassData → Motion → Motion) (all : List (Option Body)) (i : ℕ) (d : Option Body) → i < length all → gain_y f (drop i all) ≡ one_gain_y f (get_or all i d) +ℤ gain_y f (drop (suc i) all)
+gain_y-drop : (f : MassData → Motion → Motion) (all : List (Option Body)) (i : ℕ) (d : Option Body) → i < length all → gain_y f (drop i all) ≡ one_gain_y f (get_or all i d) +ℤ gain_y f (drop (suc i) all)
 gain_y-drop f [] i d h = absurd (omega arith)
 gain_y-drop f (o ∷ all) zero d h = refl
 gain_y-drop f (o ∷ all) (suc i) d h = gain_y-drop f all i d (omega arith)
 
-pub gain_x-pass_drop : (f g : MassData → Motion → Motion) (all : List (Option Body)) (i : ℕ) (d : Option Body) → i < length all → gain_x g (pass f (drop i all)) ≡ one_gain_x g (option_map (changed f) (get_or all i d)) +ℤ gain_x g (pass f (drop (suc i) all))
+gain_x-pass_drop : (f g : MassData → Motion → Motion) (all : List (Option Body)) (i : ℕ) (d : Option Body) → i < length all → gain_x g (pass f (drop i all)) ≡ one_gain_x g (option_map (changed f) (get_or all i d)) +ℤ gain_x g (pass f (drop (suc i) all))
 gain_x-pass_drop f g [] i d h = absurd (omega arith)
 gain_x-pass_drop f g (o ∷ all) zero d h = refl
 gain_x-pass_drop f g (o ∷ all) (suc i) d h = gain_x-pass_drop f g all i d (omega arith)
 
-pub gain_y-pass_drop : (f g : MassData → Motion → Motion) (all : List (Option Body)) (i : ℕ) (d : Option Body) → i < length all → gain_y g (pass f (drop i all)) ≡ one_gain_y g (option_map (changed f) (get_or all i d)) +ℤ gain_y g (pass f (drop (suc i) all))
+gain_y-pass_drop : (f g : MassData → Motion → Motion) (all : List (Option Body)) (i : ℕ) (d : Option Body) → i < length all → gain_y g (pass f (drop i all)) ≡ one_gain_y g (option_map (changed f) (get_or all i d)) +ℤ gain_y g (pass f (drop (suc i) all))
 gain_y-pass_drop f g [] i d h = absurd (omega arith)
 gain_y-pass_drop f g (o ∷ all) zero d h = refl
 gain_y-pass_drop f g (o ∷ all) (suc i) d h = gain_y-pass_drop f g all i d (omega arith)
 
--- the sum so far with one body's part
-pub told : (a b rest all first more : ℤ) → (a +ℤ rest) ≡ all → rest ≡ first +ℤ more → b ≡ first → ((a +ℤ b) +ℤ more) ≡ all
+told : (a b rest all first more : ℤ) → (a +ℤ rest) ≡ all → rest ≡ first +ℤ more → b ≡ first → ((a +ℤ b) +ℤ more) ≡ all
 told a b rest all first more h e k = omega (arith, ints)
+
+-- the gain so far, a, with the gain of the body at i, b
+pub gain_x_more : (f : MassData → Motion → Motion) (all : List (Option Body)) (i : ℕ) (o : Option Body) (a b : ℤ) → i < length all → o ≡ get_or all i o → (a +ℤ gain_x f (drop i all)) ≡ gain_x f all → b ≡ one_gain_x f o
+    → ((a +ℤ b) +ℤ gain_x f (drop (suc i) all)) ≡ gain_x f all
+gain_x_more f all i o a b h here e k =
+    told a b (gain_x f (drop i all)) (gain_x f all) (one_gain_x f (get_or all i o)) (gain_x f (drop (suc i) all)) e (gain_x-drop f all i o h) (k ∙ ap (one_gain_x f) here)
+
+pub gain_x_more_after : (f g : MassData → Motion → Motion) (all : List (Option Body)) (i : ℕ) (o : Option Body) (a b : ℤ) → i < length all → o ≡ get_or all i o → (a +ℤ gain_x g (pass f (drop i all))) ≡ gain_x g (pass f all) → b ≡ one_gain_x g (option_map (changed f) o)
+    → ((a +ℤ b) +ℤ gain_x g (pass f (drop (suc i) all))) ≡ gain_x g (pass f all)
+gain_x_more_after f g all i o a b h here e k =
+    told a b (gain_x g (pass f (drop i all))) (gain_x g (pass f all)) (one_gain_x g (option_map (changed f) (get_or all i o))) (gain_x g (pass f (drop (suc i) all))) e (gain_x-pass_drop f g all i o h)
+    (k ∙ ap (λ (n : Option Body). one_gain_x g (option_map (changed f) n)) here)
+
+-- the gain so far, a, with the gain of the body at i, b
+pub gain_y_more : (f : MassData → Motion → Motion) (all : List (Option Body)) (i : ℕ) (o : Option Body) (a b : ℤ) → i < length all → o ≡ get_or all i o → (a +ℤ gain_y f (drop i all)) ≡ gain_y f all → b ≡ one_gain_y f o
+    → ((a +ℤ b) +ℤ gain_y f (drop (suc i) all)) ≡ gain_y f all
+gain_y_more f all i o a b h here e k =
+    told a b (gain_y f (drop i all)) (gain_y f all) (one_gain_y f (get_or all i o)) (gain_y f (drop (suc i) all)) e (gain_y-drop f all i o h) (k ∙ ap (one_gain_y f) here)
+
+pub gain_y_more_after : (f g : MassData → Motion → Motion) (all : List (Option Body)) (i : ℕ) (o : Option Body) (a b : ℤ) → i < length all → o ≡ get_or all i o → (a +ℤ gain_y g (pass f (drop i all))) ≡ gain_y g (pass f all) → b ≡ one_gain_y g (option_map (changed f) o)
+    → ((a +ℤ b) +ℤ gain_y g (pass f (drop (suc i) all))) ≡ gain_y g (pass f all)
+gain_y_more_after f g all i o a b h here e k =
+    told a b (gain_y g (pass f (drop i all))) (gain_y g (pass f all)) (one_gain_y g (option_map (changed f) (get_or all i o))) (gain_y g (pass f (drop (suc i) all))) e (gain_y-pass_drop f g all i o h)
+    (k ∙ ap (λ (n : Option Body). one_gain_y g (option_map (changed f) n)) here)
 
 pub grown : (a b : ℤ) (n : ℕ) → unsigned_abs a ≤ n * 2 ^ 62 → unsigned_abs b ≤ 2 ^ 62 → unsigned_abs (a +ℤ b) ≤ (n + 1) * 2 ^ 62
 grown a b n h k = omega (arith, ints)

@@ -3,3 +3,4 @@ pub mod Bodies
 pub mod Slots
 pub mod Passes
 pub mod Ticks
+pub mod Census

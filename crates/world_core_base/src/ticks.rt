@@ -99,3 +99,6 @@ pub fn run_ticks(bodies: &mut Vec<Option<Body>>, gravity: Vec2, count: u64) -> S
     }
     sums
 }
+
+#[cfg(test)]
+mod tests;

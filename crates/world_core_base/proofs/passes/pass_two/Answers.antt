@@ -1,9 +1,7 @@
-use Rattle.std.proofs.Common.{◌≡◌, suc, ◌+◌, ◌<◌, length, get_or, Some, Option, arith, ap, ◌∙◌, add-one}
-use Rattle.std.specs.Option.{option_map}
+use Rattle.std.proofs.Common.{◌≡◌, ◌<◌, length, get_or, Some, arith, ap, ◌∙◌, add-one}
 use Rattle.std.proofs.lemmas.Option.{slice_get_within}
-use Rattle.world_core_base.specs.declared.body.Body.{Body}
-use Rattle.world_core_base.specs.Passes.{OnMover, one_gain_x, one_gain_y, changed}
-use Rattle.world_core_base.proofs.PassLaws.{next_is, length_is, items_more, slice_get-get, made_more, gain_x-drop, gain_y-drop, gain_x-pass_drop, gain_y-pass_drop, told, grown}
+use Rattle.world_core_base.specs.Passes.{OnMover}
+use Rattle.world_core_base.proofs.PassLaws.{next_is, length_is, items_more, slice_get-get, made_more, gain_x_more, gain_y_more, gain_x_more_after, gain_y_more_after, grown}
 use Rattle.world_core_base.proofs.passes.pass_two.Goals as goal
 
 pub change_entry-gains-requires-clause-small : goal.change_entry-gains-requires-clause-small
@@ -34,10 +32,10 @@ loop-slot-preserved g c =
     let within : slot < length items = omega (arith, here, length_is f s all items slot known.items) in
     record {
       items = rw made.entry (items_more f s all items slot now here known.items c.index_mut.ensures.value);
-      first_x = rw (c.plus.ensures.x, add-one) (told sums.first.x gains.first.x _ _ _ _ known.first_x (gain_x-drop f all slot now here) (made.first_x ∙ ap (one_gain_x f) same));
-      first_y = rw (c.plus.ensures.y, add-one) (told sums.first.y gains.first.y _ _ _ _ known.first_y (gain_y-drop f all slot now here) (made.first_y ∙ ap (one_gain_y f) same));
-      second_x = rw (c.plus-in-loop-slot.ensures.x, add-one) (told sums.second.x gains.second.x _ _ _ _ known.second_x (gain_x-pass_drop f s all slot now here) (made.second_x ∙ ap (λ (o : Option Body). one_gain_x s (option_map (changed f) o)) same));
-      second_y = rw (c.plus-in-loop-slot.ensures.y, add-one) (told sums.second.y gains.second.y _ _ _ _ known.second_y (gain_y-pass_drop f s all slot now here) (made.second_y ∙ ap (λ (o : Option Body). one_gain_y s (option_map (changed f) o)) same));
+      first_x = rw (c.plus.ensures.x, add-one) (gain_x_more f all slot now sums.first.x gains.first.x here same known.first_x made.first_x);
+      first_y = rw (c.plus.ensures.y, add-one) (gain_y_more f all slot now sums.first.y gains.first.y here same known.first_y made.first_y);
+      second_x = rw (c.plus-in-loop-slot.ensures.x, add-one) (gain_x_more_after f s all slot now sums.second.x gains.second.x here same known.second_x made.second_x);
+      second_y = rw (c.plus-in-loop-slot.ensures.y, add-one) (gain_y_more_after f s all slot now sums.second.y gains.second.y here same known.second_y made.second_y);
       small_first = record {
         x = rw c.plus.ensures.x (grown sums.first.x gains.first.x slot known.small_first.x made.small_first.x);
         y = rw c.plus.ensures.y (grown sums.first.y gains.first.y slot known.small_first.y made.small_first.y);
@@ -56,5 +54,5 @@ returns-clause-gives g c =
     let items = c.loop-slot.bodies.items in
     let as_long = length_is f s c.args.bodies.now.items items c.loop-slot.slot c.loop-slot.invariant.items in
     λ k b e.
-      let within = slice_get_within items k (Some b) e in
-      c.loop-slot.invariant.made k b (omega (arith, within, as_long, c.loop-slot-test.false, c.len-slot-end.ensures, c.args.bodies.now.ok)) e
+    let within = slice_get_within items k (Some b) e in
+    c.loop-slot.invariant.made k b (omega (arith, within, as_long, c.loop-slot-test.false, c.len-slot-end.ensures, c.args.bodies.now.ok)) e

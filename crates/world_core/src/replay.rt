@@ -1,0 +1,42 @@
+ghost use Rattle.std.specs.Prelude.{◌≡◌, ◌↔◌, IsTrue, IfOk, OnOk, OnErr, Err};
+ghost use Rattle.std.specs.Result.{IsOkUnless};
+ghost use Rattle.world_core.specs.Replay.{replay, answers_to, IsPartOf};
+ghost use Rattle.world_core.specs.Sound.{IsSound};
+
+use crate::{Command, Reply, WorldCore};
+use fixed_geom::Refusal;
+use std::alloc::Global;
+
+impl WorldCore {
+    /// Applies commands one after another, and gives the answer to each. A refused command changes
+    /// nothing, and the next one follows.
+    ///
+    /// Whatever the list, the answers and the world are those of the definition. Refused 1 where memory
+    /// is wanting, and then the world is that after the commands before.
+    pub fn replay(
+        &mut self,
+        alloc: Global,
+        commands: &[Command],
+    ) -> Result<Vec<Result<Reply, Refusal>>, Refusal>
+        ensures answers { IfOk result (λ answers. answers.items ≡ answers_to self.old commands.now) }
+        ensures world { OnOk result (self.new ≡ replay self.old commands.now) }
+        ensures err { OnErr result (IsPartOf self.old commands.now self.new) }
+        ensures memory_only { IsOkUnless result Refusal.NoMemory }
+    {
+        let mut answers = Vec::with_capacity(alloc, commands.len())?;
+        for command in commands {
+            let answer = self.apply(command);
+            if is_want_of_memory(&answer) {
+                return Err(Refusal::NoMemory);
+            }
+            answers.push(answer)?;
+        }
+        Ok(answers)
+    }
+}
+
+fn is_want_of_memory(answer: &Result<Reply, Refusal>) -> bool
+    ensures { IsTrue result ↔ (answer.now ≡ Err Refusal.NoMemory) }
+{
+    matches!(answer, Err(Refusal::NoMemory))
+}
