@@ -53,8 +53,12 @@ pub fn core_of(shape: &Shape, pose: Pose) -> Core
     ensures value { result ≡ core_of shape.now pose }
     ensures placed { IsPlaced result }
 {
-    Core {
-        p: placed(pose, shape.first_end()),
-        q: placed(pose, shape.second_end()),
+    let p = placed(pose, shape.first_end());
+    match shape {
+        Shape::Circle { .. } => Core { p, q: p },
+        _ => Core {
+            p,
+            q: placed(pose, shape.second_end()),
+        },
     }
 }
