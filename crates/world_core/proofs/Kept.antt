@@ -122,6 +122,7 @@ IsBody-put b p is mover small = record {
   motion = record { p = small; l = is.motion.l; still = is.motion.still; x = is.motion.x; facing = is.motion.facing };
   rest = λ no. absurd (true_false (is_mover b) mover no);
   shapes = is.shapes;
+  forms = is.forms;
 }
 
 put_is : (o : Option Body) (b : Body) (p : Vec2) → o ≡ Some b → option_map (put_p p) o ≡ Some (put_p p b)

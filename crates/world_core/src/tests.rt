@@ -3,9 +3,10 @@ use body_handles::Handle;
 use fixed_geom::{Refusal, Rot, Vec2};
 use impulse_ledger::{Cause, Entry, Total};
 use momenta::MassData;
+use shapes::{Filter, Shape, ShapeDef, Shapes};
 use std::alloc::Global;
 use std::test::Fail;
-use world_core_base::{BodyDef, BodyView, Filter, Kind, SetName, Shape, ShapeDef, Shapes};
+use world_core_base::{BodyDef, BodyView, Kind, SetName};
 
 const FIRST: Handle = Handle {
     slot: 0,
