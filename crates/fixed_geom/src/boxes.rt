@@ -6,7 +6,7 @@ ghost use Rattle.fixed_geom.specs.Boxes.{IsBoxWithin, Overlaps, meets, overlaps,
 use crate::Vec2;
 
 /// A box from its lower to its upper corner, in u. Its sides belong to it.
-#[derive(Clone, Copy, Debug, PartialEq, Eq)]
+#[derive(Clone, Copy, Debug, Default, PartialEq, Eq)]
 pub struct Box2 {
     pub lo: Vec2,
     pub hi: Vec2,

@@ -12,7 +12,7 @@ pub const UNIT: i64 = 1 << 30;
 
 /// A vector of whole numbers: a place or a way in u, a velocity in u a tick, or a momentum in
 /// mass·u a tick. A unit vector is times 2^30.
-#[derive(Clone, Copy, Debug, PartialEq, Eq)]
+#[derive(Clone, Copy, Debug, Default, PartialEq, Eq)]
 pub struct Vec2 {
     pub x: i64,
     pub y: i64,

@@ -1,3 +1,5 @@
 pub mod PassLaws
 pub mod TickLaws
 pub mod CensusLemmas
+pub mod FatLaws
+pub mod RenewalLaws

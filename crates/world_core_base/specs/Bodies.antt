@@ -1,5 +1,5 @@
 -- Bodies: which are movers, where each stands, what may be made, and the movers' momentum.
-use Rattle.std.specs.Prelude.{◌≡◌, ℕ, ◌^◌, Bool, true, false, not, ◌&&◌, cond, All, List, [], ◌∷◌, Option, Some, None, ℤ, pos, ◌+ℤ◌, slice_get}
+use Rattle.std.specs.Prelude.{◌≡◌, ℕ, ◌^◌, Bool, true, false, not, ◌&&◌, cond, All, length, List, [], ◌∷◌, Option, Some, None, ℤ, pos, ◌+ℤ◌, slice_get}
 use Rattle.std.specs.Ordering.{int_eq}
 use Rattle.fixed_geom.specs.Vectors.{IsWithin, is_within}
 use Rattle.fixed_geom.specs.Facings.{IsFacing, is_facing}
@@ -18,6 +18,8 @@ use Rattle.world_core_base.specs.declared.body.Body.{Body}
 use Rattle.world_core_base.specs.declared.body.BodyDef.{BodyDef}
 use Rattle.world_core_base.specs.declared.body.BodyView.{BodyView}
 use Rattle.shapes.specs.Shapes.{is_between, shapes_refusal, IsShapeDef}
+use Rattle.shapes.specs.declared.pose.Pose.{Pose}
+use Rattle.world_core_base.specs.Fats.{fat_boxes}
 
 -- ---- where a body stands
 
@@ -35,6 +37,10 @@ set_of Dynamic = sets.Awake
 
 abbrev pub standing_of : Body → SetName
 standing_of b = cond b.enabled (set_of b.kind) sets.Disabled
+
+-- where its shapes are in the world
+abbrev pub pose_of : Body → Pose
+pose_of b = record { x = b.motion.x; rot = b.motion.rot }
 
 -- what can be seen of a body
 abbrev pub view_of : Body → BodyView
@@ -62,7 +68,7 @@ at_rest x rot = record { p = record { x = pos 0; y = pos 0 }; l = pos 0; x = x; 
 
 -- the body: at rest, enabled, its timer 0
 abbrev pub made : BodyDef → Body
-made d = record { kind = d.kind; mass = d.mass; motion = at_rest d.x d.rot; shapes = d.shapes; timer = 0; enabled = true }
+made d = record { kind = d.kind; mass = d.mass; motion = at_rest d.x d.rot; shapes = d.shapes; fats = fat_boxes d.shapes (record { x = d.x; rot = d.rot }); timer = 0; enabled = true }
 
 abbrev pub IsMassOf : Kind → MassData → Type 0
 IsMassOf Static m = (m.mass ≡ pos 0) × (m.inertia ≡ pos 0)
@@ -89,6 +95,7 @@ pub record IsBody (b : Body) : Type 0 where
   pub rest : is_mover b ≡ false → IsAtRest b.motion
   pub shapes : shapes_refusal (not (is_dynamic b.kind)) b.shapes ≡ None
   pub forms : All IsShapeDef b.shapes
+  pub fats : length b.fats ≡ length b.shapes
 
 abbrev pub AreBodies : List (Option Body) → Type 0
 AreBodies bodies = (slot : ℕ) (b : Body) → slice_get bodies slot ≡ Some (Some b) → IsBody b

@@ -3,3 +3,5 @@ pub mod Slots
 pub mod Passes
 pub mod Ticks
 pub mod Census
+pub mod Fats
+pub mod Renewal

@@ -1,11 +1,13 @@
 ghost use Rattle.std.specs.Prelude.{◌≡◌, IfOk, OnOk, IsTrue};
 ghost use Rattle.std.specs.Result.{IsOkUnless, result_err};
 ghost use Rattle.shapes.specs.Shapes.{is_between};
-ghost use Rattle.world_core_base.specs.Bodies.{is_dynamic, is_mover, standing_of, view_of, is_mass_allowed, def_refusal, made, IsMassOf, IsAllowed, IsBody};
+ghost use Rattle.world_core_base.specs.Bodies.{is_dynamic, is_mover, pose_of, standing_of, view_of, is_mass_allowed, def_refusal, made, IsMassOf, IsAllowed, IsBody};
 
+use crate::fats::FatBoxes;
 use fixed_geom::{Refusal, Rot, Vec2, is_facing, is_within};
 use momenta::{MassData, Motion};
-use shapes::{Shapes, check};
+use shapes::{Pose, Shapes, check};
+use std::alloc::Global;
 
 /// The greatest size of a coordinate of a place, in u.
 const MAX_PLACE: u64 = 1 << 36;
@@ -68,18 +70,24 @@ impl BodyDef {
     }
 
     /// The body: at rest, enabled, its timer 0. Refused 1 where memory is wanting.
-    pub fn make(&self) -> Result<Body, Refusal>
+    pub fn make(&self, alloc: Global) -> Result<Body, Refusal>
         requires { IsAllowed self.now }
         ensures made { IfOk result (λ body. body ≡ made self.now) }
         ensures body { IfOk result (λ body. IsBody body) }
         ensures memory_only { IsOkUnless result Refusal.NoMemory }
     {
         let shapes = self.shapes.try_copy()?;
+        let pose = Pose {
+            x: self.x,
+            rot: self.rot,
+        };
+        let fats = FatBoxes::around(alloc, self.shapes.as_slice(), pose)?;
         Ok(Body {
             kind: self.kind,
             mass: self.mass,
             motion: Motion::at_rest(self.x, self.rot),
             shapes,
+            fats,
             timer: 0,
             enabled: true,
         })
@@ -113,6 +121,8 @@ pub struct Body {
     pub mass: MassData,
     pub motion: Motion,
     pub shapes: Shapes,
+    /// For each shape, in their order, a box that holds it with room to move in.
+    pub fats: FatBoxes,
     /// For how many ticks it has been slow.
     pub timer: u64,
     pub enabled: bool,
@@ -124,6 +134,16 @@ impl Body {
         ensures { result ≡ is_mover self.now }
     {
         self.enabled && self.kind.is_dynamic()
+    }
+
+    /// Where its shapes are in the world.
+    pub fn pose(&self) -> Pose
+        ensures { result ≡ pose_of self.now }
+    {
+        Pose {
+            x: self.motion.x,
+            rot: self.motion.rot,
+        }
     }
 
     /// Where it stands.
@@ -158,11 +178,13 @@ impl Body {
         ensures memory_only { IsOkUnless result Refusal.NoMemory }
     {
         let shapes = self.shapes.try_copy()?;
+        let fats = self.fats.try_copy()?;
         Ok(Body {
             kind: self.kind,
             mass: self.mass,
             motion: self.motion,
             shapes,
+            fats,
             timer: self.timer,
             enabled: self.enabled,
         })

@@ -100,6 +100,7 @@ pub fn take_census(
 mod tests {
     use super::*;
     use crate::body::Kind;
+    use crate::fats::FatBoxes;
         use fixed_geom::{Rot, Vec2};
     use momenta::{MassData, Motion};
     use shapes::Shapes;
@@ -114,6 +115,7 @@ mod tests {
             },
             motion: Motion::at_rest(Vec2 { x: 0, y: 0 }, Rot { c: 1 << 30, s: 0 }),
             shapes: Shapes::new(alloc),
+            fats: FatBoxes::new(alloc),
             timer: 0,
             enabled,
         }

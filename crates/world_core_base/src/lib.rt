@@ -7,13 +7,17 @@
 
 mod body;
 mod census;
+mod fats;
 mod gain;
 mod passes;
+mod renewal;
 mod slots;
 mod ticks;
 
 pub use body::{Body, BodyDef, BodyView, Kind, SetName};
 pub use census::{Census, take_census};
+pub use fats::FatBoxes;
 pub use gain::Gain;
+pub use renewal::renew_fats;
 pub use slots::{body_at, body_of, clear_slot, copy_bodies, put_body, put_momentum};
 pub use ticks::{StepSums, run_ticks};

@@ -1,0 +1,90 @@
+-- Fat boxes made anew change nothing else of a body.
+use Rattle.std.proofs.Common.{◌≡◌, ℕ, zero, suc, ◌+◌, ◌<◌, ◌≤◌, List, [], ◌∷◌, ◌++◌, length, get_or, take, drop, map, Option, Some, None, Bool, true, false, cond, ◌+ℤ◌, refl, ap, sym, ◌∙◌, arith, is_some, subst}
+use Rattle.std.specs.Prelude.{option_map}
+use Rattle.std.specs.List.{slice_get}
+use Rattle.std.proofs.lemmas.Int.{ints}
+use Rattle.world_core_base.specs.declared.body.Body.{Body}
+use Rattle.world_core_base.specs.Bodies.{is_mover, pose_of, IsBody, AreBodies, p_x, p_y, momentum_x, momentum_y}
+use Rattle.world_core_base.specs.Fats.{renewed_boxes}
+use Rattle.world_core_base.specs.Renewal.{with_renewed, renewed_bodies}
+use Rattle.world_core_base.specs.Slots.{body_at, HaveSameSlots}
+use Rattle.shapes.specs.declared.pose.Pose.{Pose}
+use Rattle.shapes.specs.declared.shape.ShapeDef.{ShapeDef}
+use Rattle.fixed_geom.specs.declared.boxes.Box2.{Box2}
+
+at_now : {X : Type 0} (g : X → X) (all : List X) (i : ℕ) (now : X) → i < length all → get_or (map g (take i all) ++ drop i all) i now ≡ get_or all i now
+at_now g [] i now h = absurd (omega arith)
+at_now g (x ∷ xs) zero now h = refl
+at_now g (x ∷ xs) (suc i) now h = at_now g xs i now (omega arith)
+
+-- the slot that is next is as it was
+pub next_is : {X : Type 0} (g : X → X) (all items : List X) (i : ℕ) (now : X) → i < length all → items ≡ map g (take i all) ++ drop i all → now ≡ get_or items i now → now ≡ get_or all i now
+next_is {X} g all items i now h is here = here ∙ ap (λ (l : List X). get_or l i now) is ∙ at_now g all i now h
+
+length-renewed : (o : Pose) (defs : List ShapeDef) (fats : List Box2) → length fats ≡ length defs → length (renewed_boxes o defs fats) ≡ length defs
+length-renewed o [] fats e = e
+length-renewed o (d ∷ defs) [] e = absurd (omega arith)
+length-renewed o (d ∷ defs) (f ∷ fats) e = let rest = length-renewed o defs fats (omega arith) in omega (arith, rest)
+
+kept_if : (m : Bool) (b : Body) → is_mover b ≡ m → IsBody b → IsBody (cond m (record b { fats = renewed_boxes (pose_of b) b.shapes b.fats }) b)
+kept_if true b e is = record { mass = is.mass; motion = is.motion; rest = is.rest; shapes = is.shapes; forms = is.forms; fats = length-renewed (pose_of b) b.shapes b.fats is.fats }
+kept_if false b e is = is
+
+is_body : (b : Body) → IsBody b → IsBody (with_renewed b)
+is_body b is = kept_if (is_mover b) b refl is
+
+entry_body : (o : Option Body) (b : Body) → ((a : Body) → o ≡ Some a → IsBody a) → option_map with_renewed o ≡ Some b → IsBody b
+entry_body None b is e = cc
+entry_body (Some a) b is e = let same : with_renewed a ≡ b = cc in subst IsBody same (is_body a (is a refl))
+
+pub bodies-renewed : (bodies : List (Option Body)) → AreBodies bodies → AreBodies (renewed_bodies bodies)
+bodies-renewed [] all slot b e = cc
+bodies-renewed (o ∷ os) all zero b e = entry_body o b (λ a f. all zero a (ap Some f)) (cc)
+bodies-renewed (o ∷ os) all (suc slot) b e = bodies-renewed os (λ k c f. all (suc k) c f) slot b e
+
+same_length : (bodies : List (Option Body)) → length (renewed_bodies bodies) ≡ length bodies
+same_length [] = refl
+same_length (o ∷ os) = let rest = same_length os in omega (arith, rest)
+
+same_presence : (o : Option Body) → is_some (option_map with_renewed o) ≡ is_some o
+same_presence None = refl
+same_presence (Some b) = refl
+
+same_taken : (bodies : List (Option Body)) (slot : ℕ) → is_some (body_at (renewed_bodies bodies) slot) ≡ is_some (body_at bodies slot)
+same_taken [] slot = refl
+same_taken (o ∷ os) zero = same_presence o
+same_taken (o ∷ os) (suc slot) = same_taken os slot
+
+pub slots-renewed : (bodies : List (Option Body)) → HaveSameSlots bodies (renewed_bodies bodies)
+slots-renewed bodies = record { slots = same_length bodies; taken = same_taken bodies }
+
+x_if : (m : Bool) (b : Body) → is_mover b ≡ m → p_x (Some (cond m (record b { fats = renewed_boxes (pose_of b) b.shapes b.fats }) b)) ≡ p_x (Some b)
+x_if true b e = refl
+x_if false b e = refl
+
+y_if : (m : Bool) (b : Body) → is_mover b ≡ m → p_y (Some (cond m (record b { fats = renewed_boxes (pose_of b) b.shapes b.fats }) b)) ≡ p_y (Some b)
+y_if true b e = refl
+y_if false b e = refl
+
+x_same : (o : Option Body) → p_x (option_map with_renewed o) ≡ p_x o
+x_same None = refl
+x_same (Some b) = x_if (is_mover b) b refl
+
+y_same : (o : Option Body) → p_y (option_map with_renewed o) ≡ p_y o
+y_same None = refl
+y_same (Some b) = y_if (is_mover b) b refl
+
+pub momentum_x-renewed : (bodies : List (Option Body)) → momentum_x (renewed_bodies bodies) ≡ momentum_x bodies
+momentum_x-renewed [] = refl
+momentum_x-renewed (o ∷ os) = let first = x_same o in let rest = momentum_x-renewed os in omega (arith, ints, first, rest)
+
+pub momentum_y-renewed : (bodies : List (Option Body)) → momentum_y (renewed_bodies bodies) ≡ momentum_y bodies
+momentum_y-renewed [] = refl
+momentum_y-renewed (o ∷ os) = let first = y_same o in let rest = momentum_y-renewed os in omega (arith, ints, first, rest)
+
+-- once all slots were seen
+pub whole : (all : List (Option Body)) (i : ℕ) → length all ≤ i → renewed_bodies (take i all) ++ drop i all ≡ renewed_bodies all
+whole [] zero h = refl
+whole [] (suc i) h = refl
+whole (o ∷ os) zero h = absurd (omega arith)
+whole (o ∷ os) (suc i) h = ap (λ (l : List (Option Body)). option_map with_renewed o ∷ l) (whole os i (omega arith))

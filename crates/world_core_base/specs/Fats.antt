@@ -1,0 +1,25 @@
+-- Fat boxes: for each shape of a body a box with room to move in.
+use Rattle.std.specs.Prelude.{◌≡◌, cond, List, [], ◌∷◌, map}
+use Rattle.fixed_geom.specs.Boxes.{contains}
+use Rattle.fixed_geom.specs.declared.boxes.Box2.{Box2}
+use Rattle.shapes.specs.Bounds.{tight_box, fat_box}
+use Rattle.shapes.specs.declared.pose.Pose.{Pose}
+use Rattle.shapes.specs.declared.shape.Shape.{Shape}
+use Rattle.shapes.specs.declared.shape.ShapeDef.{ShapeDef}
+
+-- the fat box of a shape of a body with the pose o
+abbrev pub fat_box_of : Shape → Pose → Box2
+fat_box_of s o = fat_box (tight_box s o)
+
+-- those of a body's shapes, in their order
+abbrev pub fat_boxes : List ShapeDef → Pose → List Box2
+fat_boxes defs o = map (λ (d : ShapeDef). fat_box_of d.shape o) defs
+
+-- a fat box is made anew where the shape's tight box has left it
+unfoldable pub renewed : Shape → Pose → Box2 → Box2
+renewed s o fat = cond (contains fat (tight_box s o)) fat (fat_box_of s o)
+
+abbrev pub renewed_boxes : Pose → List ShapeDef → List Box2 → List Box2
+renewed_boxes o [] fats = fats
+renewed_boxes o (d ∷ defs) [] = []
+renewed_boxes o (d ∷ defs) (fat ∷ fats) = renewed d.shape o fat ∷ renewed_boxes o defs fats
