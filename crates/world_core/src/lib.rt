@@ -14,3 +14,6 @@ pub use events::{ContactKey, Events, ShapeId};
 pub use plain::Plain;
 pub use world::WorldCore;
 pub use world_core_base::Census;
+
+#[cfg(test)]
+mod tests;

@@ -135,7 +135,12 @@ impl WorldCore {
     {
         let p = departing(&self.handles, &self.bodies, handle)?;
         self.ledger.reserve(1)?;
-        book(&mut self.ledger, self.calls + 1, Cause::Departed, loss_of(p));
+        book(
+            &mut self.ledger,
+            self.calls + 1,
+            Cause::Departed,
+            loss_of(p),
+        );
         clear_slot(&mut self.bodies, handle.slot as usize);
         self.handles.remove(handle);
         self.calls += 1;
@@ -148,7 +153,12 @@ impl WorldCore {
     {
         let p = momentum_after(&self.handles, &self.bodies, handle, by)?;
         self.ledger.reserve(1)?;
-        book(&mut self.ledger, self.calls + 1, Cause::Command, gain_of(by));
+        book(
+            &mut self.ledger,
+            self.calls + 1,
+            Cause::Command,
+            gain_of(by),
+        );
         put_momentum(&mut self.bodies, handle.slot as usize, p);
         self.calls += 1;
         Ok(Reply::Done)

@@ -81,7 +81,7 @@ body_kept : (f : MassData → Motion → Motion) (b : Body) → IsBody b → OnM
 body_kept f b h moved = elim (cases_Bool (is_mover b)) [
   | inl moves ↦
       let now : OnMover IsMotion (record b { motion = f b.mass b.motion }) = subst (OnMover IsMotion) (changed_mover f b moves) moved in
-      subst IsBody (sym (changed_mover f b moves)) (record { mass = h.mass; motion = now moves; rest = λ still. absurd (let e : true ≡ false = sym moves ∙ still in cc e); shapes = h.shapes })
+      subst IsBody (sym (changed_mover f b moves)) (record { mass = h.mass; motion = now moves; rest = λ still. absurd (let e : true ≡ false = sym moves ∙ still in cc e); shapes = h.shapes; forms = h.forms })
   | inr still ↦ subst IsBody (sym (changed_other f b still)) h
 ]
 

@@ -100,9 +100,9 @@ pub fn take_census(
 mod tests {
     use super::*;
     use crate::body::Kind;
-    use crate::shape::Shapes;
-    use fixed_geom::{Rot, Vec2};
+        use fixed_geom::{Rot, Vec2};
     use momenta::{MassData, Motion};
+    use shapes::Shapes;
     use std::test::Fail;
 
     fn resting(alloc: Global, kind: Kind, enabled: bool) -> Body {

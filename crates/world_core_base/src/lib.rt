@@ -9,13 +9,11 @@ mod body;
 mod census;
 mod gain;
 mod passes;
-mod shape;
 mod slots;
 mod ticks;
 
 pub use body::{Body, BodyDef, BodyView, Kind, SetName};
 pub use census::{Census, take_census};
 pub use gain::Gain;
-pub use shape::{Filter, MAX_SHAPES, Shape, ShapeDef, Shapes, check};
 pub use slots::{body_at, body_of, clear_slot, copy_bodies, put_body, put_momentum};
 pub use ticks::{StepSums, run_ticks};
