@@ -1,3 +1,5 @@
+pub mod BeamLemmas
 pub mod ChoiceLemmas
 pub mod CoreLemmas
+pub mod RootBounds
 pub mod ShapeLemmas

@@ -5,5 +5,6 @@ pub mod Filters
 pub mod Manifolds
 pub mod Mixing
 pub mod Poses
+pub mod Rays
 pub mod Shapes
 pub mod Spots

@@ -6,6 +6,7 @@
 //! memory, and only `check` refuses.
 #![tactic(auto)]
 
+pub mod beam;
 pub mod bounds;
 pub mod choice;
 pub mod cores;
@@ -15,6 +16,7 @@ pub mod manifolds;
 pub mod mixing;
 pub mod points;
 pub mod pose;
+pub mod rays;
 pub mod shape;
 pub mod spots;
 
@@ -25,4 +27,5 @@ pub use manifolds::manifold;
 pub use mixing::{mixed_friction, mixed_restitution};
 pub use points::{Manifold, Point};
 pub use pose::{Core, Pose, core_of, placed};
+pub use rays::ray;
 pub use shape::{Shape, ShapeDef, Shapes};

@@ -58,7 +58,8 @@ pub fn measured(number: u8, a: Vec2, b: Vec2) -> Candidate
     }
 }
 
-fn opposite(v: Vec2) -> Vec2
+/// `v` turned round.
+pub fn opposite(v: Vec2) -> Vec2
     requires { IsWithin (2 ^ 40) v }
     ensures value { result ≡ opposite v }
     ensures within { (k : ℕ) → IsWithin k v → IsWithin k result }

@@ -2,23 +2,12 @@ use Rattle.std.proofs.Common.{◌≡◌, ℕ, ◌*◌, ◌≤◌, ℤ, pos, negs
 use Rattle.std.proofs.lemmas.Int.{to_z-of_z, ints}
 use Rattle.std.specs.Int.{w64, w128}
 use mir.Val.{SFits}
-use Rattle.fixed_geom.specs.Numbers.{IsRoot, isqrt}
-use Rattle.fixed_geom.proofs.RootLemmas.{root_below}
+use Rattle.fixed_geom.specs.Numbers.{isqrt}
 use Rattle.fixed_geom.proofs.Sizes.{product_le, narrowed}
+use Rattle.shapes.proofs.RootBounds.{IsSmallRoot, small_root}
 use Rattle.shapes.proofs.mixing.mixed_friction.Goals as goal
 
-record IsSmallRoot (k : ℤ) : Type 0 where
-  nonnegative : pos 0 ≤ℤ k
-  small : unsigned_abs k ≤ 512
-
-small_root : (a k : ℤ) → unsigned_abs a ≤ 512 * 512 → IsRoot a k → IsSmallRoot k
-small_root (pos n) (pos m) h r =
-    let below : m * m ≤ n = omega (arith, ints, r.below) in
-    record { nonnegative = r.nonnegative; small = root_below n m 512 below (omega arith) }
-small_root (negsuc n) (pos m) h r = absurd (omega (arith, ints, r.below))
-small_root a (negsuc m) h r = absurd (omega (arith, ints, r.nonnegative))
-
-root_of : (c : goal.After-isqrt) → IsSmallRoot c.isqrt.result
+root_of : (c : goal.After-isqrt) → IsSmallRoot 512 c.isqrt.result
 root_of c =
     let first : SFits w64 c.args.a = c.ranges.a in
     let second : SFits w64 c.args.b = c.ranges.b in
@@ -26,7 +15,7 @@ root_of c =
     let product : c.product.result ≡ c.args.a *ℤ c.args.b = simp to_z-of_z at c.product.ensures.value in
     let size : unsigned_abs c.product.result ≤ 512 * 512 = rw product (product_le c.args.a c.args.b 512 512 c.requires.first_small c.requires.second_small) in
     let root = simp to_z-of_z at c.isqrt.ensures.root in
-    small_root c.product.result c.isqrt.result size root
+    small_root c.product.result c.isqrt.result (512 * 512) 512 size (omega arith) root
 
 pub overflow_cast-result : goal.overflow_cast-result
 overflow_cast-result c = let r = root_of c in omega (arith, ints, r.small)

@@ -1,0 +1,45 @@
+/// A call of a world to which memory may be refused.
+#[derive(Clone, Copy, Debug, PartialEq, Eq)]
+pub enum Call {
+    Create,
+    /// A body whose shapes need memory of their own.
+    CreateManyShapes,
+    Push,
+    Destroy,
+    Step,
+    Gravity,
+    Plain,
+    TryCopy,
+    Replay,
+}
+
+/// Every call.
+pub const ALL: [Call; 9] = [
+    Call::Create,
+    Call::CreateManyShapes,
+    Call::Push,
+    Call::Destroy,
+    Call::Step,
+    Call::Gravity,
+    Call::Plain,
+    Call::TryCopy,
+    Call::Replay,
+];
+
+impl Call {
+    /// The call that a word of the program names.
+    pub fn of_word(word: &str) -> Option<Call> {
+        match word {
+            "create" => Some(Call::Create),
+            "create_many_shapes" => Some(Call::CreateManyShapes),
+            "push" => Some(Call::Push),
+            "destroy" => Some(Call::Destroy),
+            "step" => Some(Call::Step),
+            "gravity" => Some(Call::Gravity),
+            "plain" => Some(Call::Plain),
+            "try_copy" => Some(Call::TryCopy),
+            "replay" => Some(Call::Replay),
+            _ => None,
+        }
+    }
+}

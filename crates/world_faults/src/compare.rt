@@ -1,0 +1,93 @@
+use crate::stop::{Moment, Part, Stop};
+use impulse_ledger::{Cause, Ledger};
+use world_core::{Events, Plain, WorldCore};
+use world_core_base::Body;
+
+const CAUSES: [Cause; 6] = [
+    Cause::Command,
+    Cause::Gravity,
+    Cause::Immovable,
+    Cause::Clamp,
+    Cause::Rest,
+    Cause::Departed,
+];
+
+/// Stops where the two aren't equal.
+pub fn expect(moment: Moment, part: Part, is_same: bool) -> Result<(), Stop> {
+    if is_same {
+        Ok(())
+    } else {
+        Err(Stop::Differs(moment, part))
+    }
+}
+
+/// Stops where the two worlds differ: in their plain lists, their ledgers or their events.
+pub fn expect_same_worlds(
+    moment: Moment,
+    first: &WorldCore,
+    second: &WorldCore,
+) -> Result<(), Stop> {
+    expect_same_lists(moment, &first.plain()?, &second.plain()?)?;
+    let (ledger, other) = (first.ledger(), second.ledger());
+    expect(moment, Part::Entries, ledger.entries() == other.entries())?;
+    expect(moment, Part::Totals, are_same_totals(ledger, other))?;
+    expect(
+        moment,
+        Part::Events,
+        are_same_events(first.events(), second.events()),
+    )
+}
+
+/// Stops where the two lists of worlds differ.
+pub fn expect_same_lists(moment: Moment, first: &Plain, second: &Plain) -> Result<(), Stop> {
+    expect(moment, Part::Places, first.places() == second.places())?;
+    expect(
+        moment,
+        Part::Bodies,
+        are_same_bodies(first.bodies(), second.bodies()),
+    )?;
+    expect(moment, Part::Gravity, first.gravity() == second.gravity())?;
+    expect(moment, Part::Steps, first.steps() == second.steps())?;
+    expect(moment, Part::Calls, first.calls() == second.calls())
+}
+
+fn are_same_bodies(first: &[Option<Body>], second: &[Option<Body>]) -> bool {
+    first.len() == second.len()
+        && first
+            .iter()
+            .zip(second)
+            .all(|(entry, other)| is_same_entry(entry, other))
+}
+
+fn is_same_entry(first: &Option<Body>, second: &Option<Body>) -> bool {
+    match (first, second) {
+        (Some(body), Some(other)) => is_same_body(body, other),
+        (None, None) => true,
+        _ => false,
+    }
+}
+
+fn is_same_body(first: &Body, second: &Body) -> bool {
+    first.kind == second.kind
+        && first.mass == second.mass
+        && first.motion == second.motion
+        && first.shapes.as_slice() == second.shapes.as_slice()
+        && first.timer == second.timer
+        && first.enabled == second.enabled
+}
+
+fn are_same_totals(first: &Ledger, second: &Ledger) -> bool {
+    for cause in CAUSES {
+        if first.total_of(cause) != second.total_of(cause) {
+            return false;
+        }
+    }
+    first.total() == second.total()
+}
+
+fn are_same_events(first: &Events, second: &Events) -> bool {
+    first.begin() == second.begin()
+        && first.end() == second.end()
+        && first.slept() == second.slept()
+        && first.woke() == second.woke()
+}

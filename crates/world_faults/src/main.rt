@@ -1,0 +1,74 @@
+//! Makes one call of a world while memory may be refused to it, and says in a line what came of it:
+//! `kept` where a refused call left everything as it was and then succeeded, `none` where the call met
+//! no refusal, `outside` where something beside the call met it, and else what differs.
+//!
+//! `world_faults CALL` makes that call; without a word it makes each in turn, a line for each. What
+//! refuses the memory is beside the program: `faults/run`.
+#![tactic(auto)]
+
+mod call;
+mod compare;
+mod scene;
+mod stop;
+mod trial;
+mod worlds;
+
+use call::{ALL, Call};
+use std::process::ExitCode;
+use std::rt::Env;
+use std::{env, io};
+use stop::Stop;
+use trial::{Outcome, trial};
+
+/// Which calls the program's words ask for.
+enum Asked {
+    One(Call),
+    Each,
+    /// A word that names no call.
+    Unknown,
+}
+
+/// Reads the program's words, of which the first is its name.
+fn read_words<R: AllocGlobal + Env>(rt: &R) -> io::Result<Asked> {
+    let words: Vec<String> = env::args(rt)?.collect(rt.alloc())?;
+    match words.get(1) {
+        Some(word) => match Call::of_word(word.as_str()) {
+            Some(call) => Ok(Asked::One(call)),
+            None => Ok(Asked::Unknown),
+        },
+        None => Ok(Asked::Each),
+    }
+}
+
+fn print_trial<R: AllocGlobal + Print>(rt: &R, call: Call) -> io::Result<()> {
+    match trial(rt.alloc(), call) {
+        Ok(Outcome::Kept) => println!(rt; "kept"),
+        Ok(Outcome::Unmet) => println!(rt; "none"),
+        Err(stop) => println!(rt; "{stop}"),
+    }
+}
+
+fn print_each<R: AllocGlobal + Print>(rt: &R) -> io::Result<()> {
+    for call in ALL {
+        print_trial(rt, call)?;
+    }
+    Ok(())
+}
+
+/// Makes the calls that are asked for. An unknown word is the only fault that has no line.
+fn start<R: AllocGlobal + Env + Print>(rt: &R) -> io::Result<ExitCode> {
+    match read_words(rt) {
+        Ok(Asked::One(call)) => print_trial(rt, call)?,
+        Ok(Asked::Each) => print_each(rt)?,
+        Ok(Asked::Unknown) => return Ok(ExitCode::from(2)),
+        Err(_) => println!(rt; "{}", Stop::Outside)?,
+    }
+    Ok(ExitCode::SUCCESS)
+}
+
+fn main(rt: HostRuntime) -> ExitCode {
+    match start(&rt) {
+        Ok(code) => code,
+        Err(_) => ExitCode::from(1),
+    }
+}

@@ -1,0 +1,152 @@
+use crate::call::Call;
+use crate::compare::{expect, expect_same_lists, expect_same_worlds};
+use crate::scene;
+use crate::stop::{Moment, Part, Stop};
+use crate::worlds::Worlds;
+use fixed_geom::Refusal;
+use std::alloc::Global;
+use world_core::{Command, Plain, Reply};
+
+/// What a world answers to a command.
+type Answer = Result<Reply, Refusal>;
+
+/// How a call went that did what it should.
+#[derive(Clone, Copy, Debug, PartialEq, Eq)]
+pub enum Outcome {
+    /// It was refused, left everything as it was, and succeeded when it was made again.
+    Kept,
+    /// It met no refusal.
+    Unmet,
+}
+
+/// Makes a call in the scene's world, and once more if memory was refused to it. The reference, the copy
+/// and whatever else needs memory come before the call.
+pub fn trial(alloc: Global, call: Call) -> Result<Outcome, Stop> {
+    match call {
+        Call::Create => try_command(alloc, &scene::create(alloc)?),
+        Call::CreateManyShapes => try_command(alloc, &scene::create_many_shapes(alloc)?),
+        Call::Push => try_command(alloc, &scene::push()),
+        Call::Destroy => try_command(alloc, &scene::destroy()),
+        Call::Step => try_command(alloc, &scene::step()),
+        Call::Gravity => try_command(alloc, &scene::gravity()),
+        Call::Plain => try_plain(alloc),
+        Call::TryCopy => try_copy(alloc),
+        Call::Replay => try_replay(alloc),
+    }
+}
+
+/// Stops where a call that was made again was refused again.
+fn again(is_accepted: bool) -> Result<Outcome, Stop> {
+    expect(Moment::Accepted, Part::Answer, is_accepted)?;
+    Ok(Outcome::Kept)
+}
+
+fn try_command(alloc: Global, command: &Command) -> Result<Outcome, Stop> {
+    let mut worlds = Worlds::new(alloc)?;
+    let expected = worlds.reference.apply(command)?;
+    if is_applied(&mut worlds, command, expected)? {
+        return Ok(Outcome::Unmet);
+    }
+    worlds.expect_kept()?;
+    again(is_applied(&mut worlds, command, expected)?)
+}
+
+/// Applies the command, and stops where it is accepted and gives something else than in the reference.
+fn is_applied(worlds: &mut Worlds, command: &Command, expected: Reply) -> Result<bool, Stop> {
+    let answer = worlds.world.apply(command);
+    if answer == Err(Refusal::NoMemory) {
+        return Ok(false);
+    }
+    expect(Moment::Accepted, Part::Answer, answer == Ok(expected))?;
+    worlds.expect_as_reference()?;
+    Ok(true)
+}
+
+fn try_plain(alloc: Global) -> Result<Outcome, Stop> {
+    let worlds = Worlds::new(alloc)?;
+    let expected = worlds.reference.plain()?;
+    if is_listed(&worlds, &expected)? {
+        return Ok(Outcome::Unmet);
+    }
+    worlds.expect_kept()?;
+    again(is_listed(&worlds, &expected)?)
+}
+
+fn is_listed(worlds: &Worlds, expected: &Plain) -> Result<bool, Stop> {
+    match worlds.world.plain() {
+        Ok(plain) => {
+            expect_same_lists(Moment::Accepted, &plain, expected)?;
+            Ok(true)
+        }
+        Err(_) => Ok(false),
+    }
+}
+
+fn try_copy(alloc: Global) -> Result<Outcome, Stop> {
+    let worlds = Worlds::new(alloc)?;
+    if is_copied(&worlds)? {
+        return Ok(Outcome::Unmet);
+    }
+    worlds.expect_kept()?;
+    again(is_copied(&worlds)?)
+}
+
+fn is_copied(worlds: &Worlds) -> Result<bool, Stop> {
+    match worlds.world.try_copy() {
+        Ok(copied) => {
+            expect_same_worlds(Moment::Accepted, &copied, &worlds.reference)?;
+            Ok(true)
+        }
+        Err(_) => Ok(false),
+    }
+}
+
+fn try_replay(alloc: Global) -> Result<Outcome, Stop> {
+    let commands = scene::commands(alloc)?;
+    let mut worlds = Worlds::new(alloc)?;
+    let expected = worlds.reference.replay(alloc, &commands)?;
+    replay_twice(alloc, &mut worlds, &commands, &expected)
+}
+
+/// A replay that was refused has made the commands before the one that met the refusal. The replay of
+/// the others does the rest.
+fn replay_twice(
+    alloc: Global,
+    worlds: &mut Worlds,
+    commands: &[Command],
+    expected: &[Answer],
+) -> Result<Outcome, Stop> {
+    if is_replayed(alloc, worlds, commands, expected)? {
+        return Ok(Outcome::Unmet);
+    }
+    let made = worlds.calls_made()?;
+    let (Some(accepted), Some(rest)) = (commands.get(..made), commands.get(made..)) else {
+        return Err(Stop::Differs(Moment::Refused, Part::Calls));
+    };
+    worlds.before.replay(alloc, accepted)?;
+    worlds.expect_kept()?;
+    match expected.get(made..) {
+        Some(expected_rest) => again(is_replayed(alloc, worlds, rest, expected_rest)?),
+        None => Err(Stop::Differs(Moment::Refused, Part::Calls)),
+    }
+}
+
+fn is_replayed(
+    alloc: Global,
+    worlds: &mut Worlds,
+    commands: &[Command],
+    expected: &[Answer],
+) -> Result<bool, Stop> {
+    match worlds.world.replay(alloc, commands) {
+        Ok(answers) => {
+            expect(
+                Moment::Accepted,
+                Part::Answer,
+                answers.as_slice() == expected,
+            )?;
+            worlds.expect_as_reference()?;
+            Ok(true)
+        }
+        Err(_) => Ok(false),
+    }
+}
