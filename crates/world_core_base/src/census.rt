@@ -100,7 +100,7 @@ pub fn take_census(
 mod tests {
     use super::*;
     use crate::body::Kind;
-        use fixed_geom::{Rot, Vec2};
+    use fixed_geom::{Rot, Vec2};
     use momenta::{MassData, Motion};
     use shapes::Shapes;
     use std::test::Fail;
