@@ -3,6 +3,9 @@ use fixed_geom::Vec2;
 use world_core_base::BodyDef;
 
 /// What can be asked of a world. Each accepted command is one call, and takes the next call number.
+///
+/// Beside the refusals named here, each is refused 10 once 2^40 calls were accepted, before all else,
+/// and 1 where memory is wanting, after all else. Gravity needs no memory.
 #[derive(Drop)]
 pub enum Command {
     /// Makes a body at rest, enabled. Refused 4 for its shapes, 5 for a number outside its limit, 3 where

@@ -1,7 +1,6 @@
 ghost use Rattle.std.specs.Prelude.{◌≡◌, ◌↔◌, IsTrue, IfOk, OnOk, OnErr, Err};
 ghost use Rattle.std.specs.Result.{IsOkUnless};
 ghost use Rattle.world_core.specs.Replay.{replay, answers_to, IsPartOf};
-ghost use Rattle.world_core.specs.Sound.{IsSound};
 
 use crate::{Command, Reply, WorldCore};
 use fixed_geom::Refusal;

@@ -1,8 +1,8 @@
 //! Bodies, and what a tick does to a list of them.
 //!
-//! A world keeps its bodies by slot. This crate has what one slot contains (`Body`, `BodyDef`,
-//! `Shapes`), where a body stands (`SetName`) and what stands in each set (`Census`), and the
-//! passes of a step over all slots (`run_ticks`), with what each pass adds to the movers' momentum.
+//! A world keeps its bodies by slot. This crate has what one slot contains (`Body`, `BodyDef`), where
+//! a body stands (`SetName`) and what stands in each set (`Census`), and the passes of a step over all
+//! slots (`run_ticks`), with what each pass adds to the movers' momentum.
 #![tactic(auto)]
 
 mod body;
