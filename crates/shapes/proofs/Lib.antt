@@ -1,5 +1,6 @@
 pub mod BeamLemmas
 pub mod ChoiceLemmas
 pub mod CoreLemmas
+pub mod PointLemmas
 pub mod RootBounds
 pub mod ShapeLemmas
