@@ -1,5 +1,7 @@
 pub mod BeamLemmas
 pub mod ChoiceLemmas
 pub mod CoreLemmas
+pub mod LeastLemmas
+pub mod PointLemmas
 pub mod RootBounds
 pub mod ShapeLemmas

@@ -76,6 +76,12 @@ is_allowed first t = cond (is_rival first t) (is_far t.at first.at) false
 abbrev pub point_of : Vec2 → Vec2 → Spot → Point
 point_of center_a center_b t = record { candidate = t.candidate; normal = t.normal; separation = t.separation; ra = minus t.at center_a; rb = minus t.at center_b }
 
+-- the point p is what the bodies keep of the least spot of a list
+pub record IsLeastPoint (center_a center_b : Vec2) (ts : List Spot) (p : Point) : Type 0 where
+  pub spot : Spot
+  pub least : IsLeast spot ts
+  pub is : p ≡ point_of center_a center_b spot
+
 unfoldable pub nearest_spot : Pair → Spot
 nearest_spot s = soonest (first_spot s) (other_spots s)
 

@@ -1,7 +1,8 @@
 //! The choice of at most two of up to four candidates.
 
-ghost use Rattle.std.specs.Prelude.{◌≡◌, ℕ, ◌^◌, ◌≤◌, All, IfSome, pos, int_le};
+ghost use Rattle.std.specs.Prelude.{◌≡◌, ℕ, ◌^◌, ◌≤◌, ◌∷◌, [], All, IfSome, true, pos, int_le};
 ghost use Rattle.fixed_geom.specs.Vectors.{IsWithin};
+ghost use Rattle.shapes.specs.Cores.{is_point};
 ghost use Rattle.shapes.specs.Spots.{IsPair, IsCandidate, IsSpot, separation_of, spot_of, of_a, of_b, others};
 ghost use Rattle.shapes.specs.Manifolds.{is_before, sooner, is_far, is_rival, chosen_spots};
 ghost use Rattle.shapes.specs.Choice.{nearer, nearest, sooner_of, tried, second_from, chosen_from};
@@ -190,6 +191,23 @@ fn of_b(pair: &Pair, number: u8, e: Vec2) -> Candidate
     measured(number, closest(&pair.a, e), e)
 }
 
+/// The choice between two points: candidates 0 and 2 are the same two places.
+fn chosen_of_points(pair: &Pair, head: Candidate) -> Chosen
+    requires pair { IsPair pair.now }
+    requires first { is_point pair.now.a ≡ true }
+    requires second { is_point pair.now.b ≡ true }
+    requires head { head ≡ of_a pair.now 0 pair.now.a.p }
+    requires candidate { IsCandidate head }
+    ensures value { result ≡ chosen_from pair.now head (of_b pair.now 2 pair.now.b.p ∷ []) }
+    ensures first { IsSpot result.first }
+    ensures second { IfSome result.second IsSpot }
+{
+    Chosen {
+        first: spot_of(pair, &head),
+        second: None,
+    }
+}
+
 /// The first and the second of all candidates: 0 and 1 are the ends of the first core, 2 and 3
 /// those of the second, and a point has one end.
 #[tactic(auto, unfolding(crate::specs::Spots::others))]
@@ -200,13 +218,14 @@ fn chosen_of_all(pair: &Pair) -> Chosen
     ensures second { IfSome result.second IsSpot }
 {
     let head = of_a(pair, 0, pair.a.p);
-    let third = of_b(pair, 2, pair.b.p);
     if is_point(&pair.a) {
         if is_point(&pair.b) {
-            return chosen_from(pair, head, &[third]);
+            return chosen_of_points(pair, head);
         }
+        let third = of_b(pair, 2, pair.b.p);
         return chosen_from(pair, head, &[third, of_b(pair, 3, pair.b.q)]);
     }
+    let third = of_b(pair, 2, pair.b.p);
     let second = of_a(pair, 1, pair.a.q);
     if is_point(&pair.b) {
         return chosen_from(pair, head, &[second, third]);

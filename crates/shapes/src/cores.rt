@@ -66,16 +66,14 @@ fn fraction(part: i128, whole: i128) -> i64
     inner_fraction(part, whole)
 }
 
-/// How far along the core its point nearest to `e` lies, times 2^30.
+/// How far along a core, that is no point, its point nearest to `e` lies, times 2^30.
 fn share_of(core: &Core, e: Vec2) -> i64
+    requires wide { is_point core.now ≡ false }
     requires core { IsPlaced core.now }
     requires place { IsWithin (2 ^ 37) e }
     ensures value { result ≡ share_of core.now e }
     ensures within { unsigned_abs result ≤ 2 ^ 30 }
 {
-    if is_point(core) {
-        return 0;
-    }
     let way = way_of(core);
     fraction(dot(minus(e, core.p), way), dot(way, way))
 }
@@ -87,6 +85,9 @@ pub fn closest(core: &Core, e: Vec2) -> Vec2
     ensures value { result ≡ closest core.now e }
     ensures within { IsWithin (2 ^ 39) result }
 {
+    if is_point(core) {
+        return core.p;
+    }
     moved(core.p, way_of(core), share_of(core, e))
 }
 

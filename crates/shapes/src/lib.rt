@@ -14,11 +14,15 @@ pub mod filter;
 pub mod limits;
 pub mod manifolds;
 pub mod mixing;
+#[cfg(test)]
+mod placements;
 pub mod points;
 pub mod pose;
 pub mod rays;
 pub mod shape;
 pub mod spots;
+#[cfg(test)]
+mod tests;
 
 pub use bounds::{fat_box, tight_box};
 pub use filter::{Filter, should_collide};

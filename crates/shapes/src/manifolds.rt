@@ -1,11 +1,11 @@
 //! The manifold of two shapes: the one or two points at which they touch.
 
-ghost use Rattle.std.specs.Prelude.{◌≡◌, ◌^◌, ◌≤◌, unsigned_abs};
+ghost use Rattle.std.specs.Prelude.{◌≡◌, ◌^◌, ◌≤◌, [], IfSome, IfNone, unsigned_abs};
 ghost use Rattle.fixed_geom.specs.Vectors.{IsWithin};
 ghost use Rattle.shapes.specs.Shapes.{IsShape};
 ghost use Rattle.shapes.specs.Poses.{IsPose, IsPlaced};
 ghost use Rattle.shapes.specs.Spots.{IsPair, IsSpot, pair_of};
-ghost use Rattle.shapes.specs.Manifolds.{point_of, manifold_between, manifold_of};
+ghost use Rattle.shapes.specs.Manifolds.{point_of, IsLeastPoint, spots, allowed_spots, manifold_between, placed_pair, manifold_of};
 
 use crate::choice::chosen_spots;
 use crate::cores::cores_cross;
@@ -79,6 +79,9 @@ pub fn manifold(a: &Shape, pose_a: Pose, b: &Shape, pose_b: Pose) -> Manifold
     requires second { IsShape b.now }
     requires second_pose { IsPose pose_b }
     ensures value { result ≡ manifold_of a.now pose_a b.now pose_b }
+    ensures first { IsLeastPoint pose_a.x pose_b.x (spots (placed_pair a.now pose_a b.now pose_b)) result.first }
+    ensures second { IfSome result.second (λ p. IsLeastPoint pose_a.x pose_b.x (allowed_spots (placed_pair a.now pose_a b.now pose_b)) p) }
+    ensures alone { IfNone result.second (allowed_spots (placed_pair a.now pose_a b.now pose_b) ≡ []) }
 {
     let pair = pair_of(
         core_of(a, pose_a),

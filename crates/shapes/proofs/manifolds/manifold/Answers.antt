@@ -2,11 +2,21 @@ use Rattle.std.proofs.Common.{refl}
 use Rattle.std.proofs.lemmas.Int.{to_z-of_z}
 use Rattle.std.specs.Int.{w64}
 use mir.Val.{SFits}
+use Rattle.shapes.proofs.LeastLemmas.{manifold_has_least}
 use Rattle.shapes.proofs.manifolds.manifold.Goals as goal
 
-pub returns : goal.returns
-returns c =
+pub returns-clause-value : goal.returns-clause-value
+returns-clause-value c =
     let first : SFits w64 c.radius.result = record { sfits = c.radius.type_inv } in
     let second : SFits w64 c.radius-2.result = record { sfits = c.radius-2.type_inv } in
     let pair = simp to_z-of_z at c.pair_of-pair.ensures.value in
-    record { value = rw (c.manifold_between.ensures, pair, c.core_of.ensures.value, c.core_of-2.ensures.value, c.radius.ensures, c.radius-2.ensures) refl }
+    rw (c.manifold_between.ensures, pair, c.core_of.ensures.value, c.core_of-2.ensures.value, c.radius.ensures, c.radius-2.ensures) refl
+
+pub returns-clause-first : goal.returns-clause-first
+returns-clause-first c = (manifold_has_least c.args.a.now c.args.pose_a c.args.b.now c.args.pose_b c.manifold_between.result (returns-clause-value c)).first
+
+pub returns-clause-second : goal.returns-clause-second
+returns-clause-second c = (manifold_has_least c.args.a.now c.args.pose_a c.args.b.now c.args.pose_b c.manifold_between.result (returns-clause-value c)).second
+
+pub returns-clause-alone : goal.returns-clause-alone
+returns-clause-alone c = (manifold_has_least c.args.a.now c.args.pose_a c.args.b.now c.args.pose_b c.manifold_between.result (returns-clause-value c)).alone
