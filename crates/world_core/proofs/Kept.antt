@@ -17,11 +17,13 @@ use Rattle.impulse_ledger.specs.declared.entry.Cause.TheVariants as causes
 use Rattle.impulse_ledger.specs.declared.entry.Entry.{Entry}
 use Rattle.impulse_ledger.specs.declared.totals.Totals.{Totals}
 use Rattle.impulse_ledger.specs.Sums.{Book, total_x, total_y}
+use Rattle.contacts_base.specs.declared.contact.ContactEntry.{ContactEntry}
+use Rattle.contacts_base.specs.Contacts.{AreKeysRising}
 use Rattle.world_core_base.specs.declared.body.Body.{Body}
 use Rattle.world_core_base.specs.declared.body.BodyDef.{BodyDef}
 use Rattle.world_core_base.specs.Bodies.{is_mover, is_dynamic, IsBody, AreBodies, p_x, p_y, momentum_x, momentum_y, made}
 use Rattle.world_core_base.specs.Slots.{body_at, is_taken, AreMatched, HaveSameSlots, with_body, with_momentum, put_p}
-use Rattle.world_core.specs.Events.{EventLists, no_events}
+use Rattle.event_feed.specs.Events.{EventLists, no_events}
 use Rattle.world_core.specs.World.{World, Plain, body_of, book_of}
 use Rattle.world_core.specs.Apply.{booked, sum_of, pushed, departing}
 use Rattle.world_core.specs.Sound.{AreSmall, IsRoomy, IsSound}
@@ -62,6 +64,7 @@ gravity_kept w g s few h = record {
   causes = AreSmall-weaker (2 ^ 126 + w.plain.calls * 2 ^ 83) (2 ^ 126 + (w.plain.calls + 1) * 2 ^ 83) (book_of w) (omega arith) s.causes;
   bodies = s.bodies;
   matched = s.matched;
+  contacts = s.contacts;
   gravity = h;
   steps = omega (arith, s.steps);
   calls = omega arith;
@@ -123,6 +126,7 @@ IsBody-put b p is mover small = record {
   rest = λ no. absurd (true_false (is_mover b) mover no);
   shapes = is.shapes;
   forms = is.forms;
+  fats = is.fats;
 }
 
 put_is : (o : Option Body) (b : Body) (p : Vec2) → o ≡ Some b → option_map (put_p p) o ≡ Some (put_p p b)
@@ -153,6 +157,7 @@ push_kept w h j p call why s few e =
           (AreSmall-booked (2 ^ 126 + w.plain.calls * 2 ^ 83) (2 ^ 40) 0 0 w.entries w.settled call why j.x j.y s.causes got.push.x got.push.y);
       bodies = AreBodies-set bodies h.slot _ s.bodies (λ b f. let same : put_p p got.body ≡ b = cc in subst IsBody same (IsBody-put got.body p was got.mover got.small));
       matched = AreMatched-same w.plain.places bodies _ (HaveSameSlots-set bodies h.slot _ (ap is_some put ∙ sym (ap is_some at))) s.matched;
+      contacts = s.contacts;
       gravity = s.gravity;
       steps = omega (arith, s.steps);
       calls = omega arith;
@@ -186,9 +191,9 @@ departing_small o p is e =
 pub named : (live : Bool) (bodies : List (Option Body)) (slot : ℕ) (b : Body) → AreBodies bodies → cond live (body_at bodies slot) None ≡ Some b → IsBody b
 named live bodies slot b all e = all slot b (body_at-in bodies slot b (found_at live (body_at bodies slot) b e))
 
-pub destroy_kept : (w : World) (h : Handle) (p : Vec2) (call : ℕ) (why : Cause) (x y : ℤ) → IsSound w → w.plain.calls < 2 ^ 40 → departing (body_of w.plain h) ≡ Ok p → x ≡ neg_ℤ p.x → y ≡ neg_ℤ p.y
-    → IsSound (record w { plain = record w.plain { places = places_without w.plain.places h; bodies = slice_set w.plain.bodies h.slot None; calls = w.plain.calls + 1 }; entries = w.entries ++ booked call why x y })
-destroy_kept w h p call why x y s few e is_x is_y =
+pub destroy_kept : (w : World) (h : Handle) (p : Vec2) (call : ℕ) (why : Cause) (x y : ℤ) (contacts : List ContactEntry) → IsSound w → w.plain.calls < 2 ^ 40 → departing (body_of w.plain h) ≡ Ok p → x ≡ neg_ℤ p.x → y ≡ neg_ℤ p.y → AreKeysRising contacts
+    → IsSound (record w { plain = record w.plain { places = places_without w.plain.places h; bodies = slice_set w.plain.bodies h.slot None; contacts = contacts; calls = w.plain.calls + 1 }; entries = w.entries ++ booked call why x y })
+destroy_kept w h p call why x y contacts s few e is_x is_y rising =
     let small = departing_small (body_of w.plain h) p (λ b f. named (is_live w.plain.places h) w.plain.bodies h.slot b s.bodies f) e in
     let got = departing_from (body_of w.plain h) p e in
     let bodies = w.plain.bodies in
@@ -205,6 +210,7 @@ destroy_kept w h p call why x y s few e is_x is_y =
           (AreSmall-booked (2 ^ 126 + w.plain.calls * 2 ^ 83) (2 ^ 60) 0 0 w.entries w.settled call why x y s.causes (let l = small.x in omega (arith, ints)) (let l = small.y in omega (arith, ints)));
       bodies = AreBodies-set bodies h.slot None s.bodies (λ b f. cc);
       matched = AreMatched-set w.plain.places bodies h.slot _ None refl s.matched;
+      contacts = rising;
       gravity = s.gravity;
       steps = omega (arith, s.steps);
       calls = omega arith;
@@ -226,6 +232,7 @@ kept_with true w slot place b s few below past live is px py none =
       causes = AreSmall-weaker (2 ^ 126 + w.plain.calls * 2 ^ 83) (2 ^ 126 + (w.plain.calls + 1) * 2 ^ 83) (book_of w) (omega arith) s.causes;
       bodies = AreBodies-set w.plain.bodies slot (Some b) s.bodies (λ c f. let same : b ≡ c = cc in subst IsBody same is);
       matched = AreMatched-set w.plain.places w.plain.bodies slot place (Some b) (sym live) s.matched;
+      contacts = s.contacts;
       gravity = s.gravity;
       steps = omega (arith, s.steps);
       calls = omega arith;
@@ -239,6 +246,7 @@ kept_with false w slot place b s few below past live is px py none =
       causes = AreSmall-weaker (2 ^ 126 + w.plain.calls * 2 ^ 83) (2 ^ 126 + (w.plain.calls + 1) * 2 ^ 83) (book_of w) (omega arith) s.causes;
       bodies = AreBodies-push w.plain.bodies (Some b) s.bodies (λ c f. let same : b ≡ c = cc in subst IsBody same is);
       matched = AreMatched-push w.plain.places w.plain.bodies place (Some b) (sym live) (past refl) s.matched;
+      contacts = s.contacts;
       gravity = s.gravity;
       steps = omega (arith, s.steps);
       calls = omega arith;
@@ -255,11 +263,11 @@ create_kept w d s few free is =
 
 -- ---- Step
 
-pub step_kept : (w : World) (bodies : List (Option Body)) (gx gy cx cy : ℤ) (a b : Cause) (events : EventLists) → IsSound w → w.plain.calls < 2 ^ 40 → AreBodies bodies → HaveSameSlots w.plain.bodies bodies
+pub step_kept : (w : World) (bodies : List (Option Body)) (gx gy cx cy : ℤ) (a b : Cause) (events : EventLists) (contacts : List ContactEntry) → IsSound w → w.plain.calls < 2 ^ 40 → AreBodies bodies → HaveSameSlots w.plain.bodies bodies
     → IsSmallGain gx gy → IsSmallGain cx cy
-    → momentum_x bodies ≡ momentum_x w.plain.bodies +ℤ (gx +ℤ cx) → momentum_y bodies ≡ momentum_y w.plain.bodies +ℤ (gy +ℤ cy)
-    → IsSound (record w { plain = record w.plain { bodies = bodies; steps = w.plain.steps + 1; calls = w.plain.calls + 1 }; entries = w.entries ++ (booked (w.plain.calls + 1) a gx gy ++ booked (w.plain.calls + 1) b cx cy); events = events })
-step_kept w bodies gx gy cx cy a b events s few all same g c mx my =
+    → momentum_x bodies ≡ momentum_x w.plain.bodies +ℤ (gx +ℤ cx) → momentum_y bodies ≡ momentum_y w.plain.bodies +ℤ (gy +ℤ cy) → AreKeysRising contacts
+    → IsSound (record w { plain = record w.plain { bodies = bodies; contacts = contacts; steps = w.plain.steps + 1; calls = w.plain.calls + 1 }; entries = w.entries ++ (booked (w.plain.calls + 1) a gx gy ++ booked (w.plain.calls + 1) b cx cy); events = events })
+step_kept w bodies gx gy cx cy a b events contacts s few all same g c mx my rising =
     let call = w.plain.calls + 1 in
     record {
       total_x = let t = s.total_x in rw (← append_assoc, sum_x-booked _ _ b cx cy, sum_x-booked _ _ a gx gy) (omega (arith, ints, mx, t));
@@ -269,6 +277,7 @@ step_kept w bodies gx gy cx cy a b events s few all same g c mx my =
           (AreSmall-booked (2 ^ 126 + w.plain.calls * 2 ^ 83) (2 ^ 80) 0 0 w.entries w.settled call a gx gy s.causes g.x g.y) c.x c.y));
       bodies = all;
       matched = AreMatched-same w.plain.places w.plain.bodies bodies same s.matched;
+      contacts = rising;
       gravity = s.gravity;
       steps = omega (arith, s.steps);
       calls = omega arith;

@@ -14,13 +14,15 @@ use Rattle.world_core_base.specs.Bodies.{is_dynamic, is_mover, def_refusal, made
 use Rattle.shapes.specs.Shapes.{is_between}
 use Rattle.world_core_base.specs.Slots.{with_body, with_momentum}
 use Rattle.world_core_base.specs.Ticks.{Run, ticks, start}
+use Rattle.world_core_base.specs.Renewal.{renewed_bodies}
 use Rattle.world_core_base.specs.declared.body.Body.{Body}
 use Rattle.world_core_base.specs.declared.body.BodyDef.{BodyDef}
 use Rattle.world_core.specs.declared.command.Command.{Command}
 use Rattle.world_core.specs.declared.command.Command.TheVariants.{CreateBody, DestroyBody, Push, SetGravity, Step}
 use Rattle.world_core.specs.declared.command.Reply.{Reply}
 use Rattle.world_core.specs.declared.command.Reply.TheVariants as replies
-use Rattle.world_core.specs.Events.{EventLists, no_events}
+use Rattle.world_core.specs.Collide.{Collided, collided, contacts_without}
+use Rattle.event_feed.specs.Events.{EventLists, no_events}
 use Rattle.world_core.specs.World.{Plain, World, body_of}
 
 -- what an accepted command leaves: the plain world, the reply, the ledger's new entries, and the events where it is a step
@@ -64,7 +66,7 @@ departing (Some b) = Ok (record { x = p_x (Some b); y = p_y (Some b) })
 abbrev pub destroy_due : Plain → Handle → Result Vec2 Refusal → Result Applied Refusal
 destroy_due w h (Err e) = Err e
 destroy_due w h (Ok p) = Ok (record {
-  plain = record w { places = places_without w.places h; bodies = slice_set w.bodies h.slot None; calls = w.calls + 1 };
+  plain = record w { places = places_without w.places h; bodies = slice_set w.bodies h.slot None; contacts = contacts_without h.slot w.contacts; calls = w.calls + 1 };
   reply = replies.Done;
   entries = booked (w.calls + 1) causes.Departed (neg_ℤ p.x) (neg_ℤ p.y);
   events = None;
@@ -102,16 +104,21 @@ apply_gravity w g = cond (is_within (2 ^ 16) g) (Ok (record { plain = record w {
 
 -- ---- Step
 
-abbrev pub stepped : Plain → Run → Applied
-stepped w r = record {
-  plain = record w { bodies = r.bodies; steps = w.steps + 1; calls = w.calls + 1 };
+-- the events of a step, from its collide
+abbrev pub events_of : Collided → EventLists
+events_of c = record { begin = c.begin; end = c.end; slept = []; woke = [] }
+
+-- first the collide, then the ticks, which contacts don't act on yet, and then the fat boxes
+abbrev pub stepped : Plain → Collided → Run → Applied
+stepped w c r = record {
+  plain = record w { bodies = renewed_bodies r.bodies; contacts = c.now; steps = w.steps + 1; calls = w.calls + 1 };
   reply = replies.Stepped (w.steps + 1);
   entries = booked (w.calls + 1) causes.Gravity r.gravity_x r.gravity_y ++ booked (w.calls + 1) causes.Clamp r.clamp_x r.clamp_y;
-  events = Some no_events;
+  events = Some (events_of c);
 }
 
 abbrev pub apply_step : Plain → ℤ → Result Applied Refusal
-apply_step w n = cond (is_between (pos 1) (pos 8) n) (Ok (stepped w (ticks (unsigned_abs n) w.gravity (start w.bodies)))) (Err OutOfRange)
+apply_step w n = cond (is_between (pos 1) (pos 8) n) (Ok (stepped w (collided w.bodies w.contacts) (ticks (unsigned_abs n) w.gravity (start w.bodies)))) (Err OutOfRange)
 
 -- ---- a new world
 
@@ -119,7 +126,7 @@ abbrev pub gravity_refusal : Vec2 → Option Refusal
 gravity_refusal g = cond (is_within (2 ^ 16) g) None (Some OutOfRange)
 
 abbrev pub empty_world : Vec2 → World
-empty_world g = record { plain = record { places = []; bodies = []; gravity = g; steps = 0; calls = 0 }; entries = []; settled = zero_totals; events = no_events }
+empty_world g = record { plain = record { places = []; bodies = []; contacts = []; gravity = g; steps = 0; calls = 0 }; entries = []; settled = zero_totals; events = no_events }
 
 -- ---- all commands
 

@@ -1,4 +1,4 @@
-pub mod Events
+pub mod Collide
 pub mod World
 pub mod Apply
 pub mod Replay

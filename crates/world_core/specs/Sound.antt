@@ -3,6 +3,7 @@ use Rattle.std.specs.Prelude.{◌≡◌, ℕ, ◌+◌, ◌*◌, ◌≤◌, ◌^�
 use Rattle.fixed_geom.specs.Vectors.{IsWithin}
 use Rattle.impulse_ledger.specs.declared.entry.Cause.{Cause}
 use Rattle.impulse_ledger.specs.Sums.{Book, total_x, total_y, total_of_x, total_of_y}
+use Rattle.contacts_base.specs.Contacts.{AreKeysRising}
 use Rattle.world_core_base.specs.Bodies.{AreBodies, momentum_x, momentum_y}
 use Rattle.world_core_base.specs.Slots.{AreMatched}
 use Rattle.world_core.specs.World.{World, book_of}
@@ -13,13 +14,14 @@ pub record AreSmall (n : ℕ) (b : Book) : Type 0 where
   pub y : (cause : Cause) → unsigned_abs (total_of_y cause b) ≤ n
 
 -- The movers' momentum is the ledger's total; there is a body just in the slots that are taken; a body that isn't a mover is
--- at rest, and a mover's numbers are within their limits.
+-- at rest, and a mover's numbers are within their limits; the contacts' keys ascend.
 pub record IsSound (w : World) : Type 0 where
   pub total_x : momentum_x w.plain.bodies ≡ total_x (book_of w)
   pub total_y : momentum_y w.plain.bodies ≡ total_y (book_of w)
   pub causes : AreSmall (2 ^ 126 + w.plain.calls * 2 ^ 83) (book_of w)
   pub bodies : AreBodies w.plain.bodies
   pub matched : AreMatched w.plain.places w.plain.bodies
+  pub contacts : AreKeysRising w.plain.contacts
   pub gravity : IsWithin (2 ^ 16) w.plain.gravity
   pub steps : w.plain.steps ≤ w.plain.calls
   pub calls : w.plain.calls ≤ 2 ^ 40

@@ -6,14 +6,17 @@ use Rattle.body_handles.specs.declared.places.Place.{Place}
 use Rattle.impulse_ledger.specs.declared.entry.Entry.{Entry}
 use Rattle.impulse_ledger.specs.declared.totals.Totals.{Totals}
 use Rattle.impulse_ledger.specs.Sums.{Book}
+use Rattle.contacts_base.specs.declared.contact.ContactEntry.{ContactEntry}
 use Rattle.world_core_base.specs.Slots as slots
 use Rattle.world_core_base.specs.declared.body.Body.{Body}
-use Rattle.world_core.specs.Events.{EventLists}
+use Rattle.event_feed.specs.Events.{EventLists}
 
 pub record Plain : Type 0 where
   -- each body slot that was ever used, and the body in it
   pub places : List Place
   pub bodies : List (Option Body)
+  -- ascending by key
+  pub contacts : List ContactEntry
   -- u/tick²
   pub gravity : Vec2
   -- how many steps and how many calls were accepted

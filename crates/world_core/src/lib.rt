@@ -2,15 +2,16 @@
 #![tactic(auto)]
 
 mod booking;
+mod collide;
 mod command;
-mod events;
 mod plain;
 mod pushes;
 mod replay;
 mod world;
 
 pub use command::{Command, Reply};
-pub use events::{ContactKey, Events, ShapeId};
+pub use contacts_base::{ContactKey, ShapeId};
+pub use event_feed::Events;
 pub use plain::Plain;
 pub use world::WorldCore;
 pub use world_core_base::Census;

@@ -2,6 +2,7 @@ ghost use Rattle.std.specs.Prelude.{◌≡◌, IfOk};
 ghost use Rattle.std.specs.Result.{IsOkUnless};
 
 use body_handles::{Handles, Place};
+use contacts_base::ContactEntry;
 use fixed_geom::{Refusal, Vec2};
 use std::alloc::Global;
 use std::marker::Model;
@@ -12,6 +13,7 @@ use world_core_base::{Body, copy_bodies};
 pub struct Plain {
     places: Vec<Place>,
     bodies: Vec<Option<Body>>,
+    contacts: Vec<ContactEntry>,
     gravity: Vec2,
     steps: u64,
     calls: u64,
@@ -22,7 +24,7 @@ impl Model for Plain {
 
     ghost Value = { PlainWorld };
 
-    ghost view = { λ a. record { places = a.places.items; bodies = a.bodies.items; gravity = a.gravity; steps = a.steps; calls = a.calls } };
+    ghost view = { λ a. record { places = a.places.items; bodies = a.bodies.items; contacts = a.contacts.items; gravity = a.gravity; steps = a.steps; calls = a.calls } };
 }
 
 impl Plain {
@@ -31,19 +33,23 @@ impl Plain {
         alloc: Global,
         handles: &Handles,
         bodies: &[Option<Body>],
+        contacts: &[ContactEntry],
         gravity: Vec2,
         steps: u64,
         calls: u64,
     ) -> Result<Plain, Refusal>
-        ensures copy { IfOk result (λ plain. plain ≡ record { places = handles.now.places; bodies = bodies.now; gravity = gravity; steps = steps; calls = calls }) }
+        ensures copy { IfOk result (λ plain. plain ≡ record { places = handles.now.places; bodies = bodies.now; contacts = contacts.now; gravity = gravity; steps = steps; calls = calls }) }
         ensures memory_only { IsOkUnless result Refusal.NoMemory }
     {
         let mut places = Vec::new(alloc);
         places.extend_from_slice(handles.places())?;
         let bodies = copy_bodies(alloc, bodies)?;
+        let mut copied = Vec::new(alloc);
+        copied.extend_from_slice(contacts)?;
         Ok(Plain {
             places,
             bodies,
+            contacts: copied,
             gravity,
             steps,
             calls,
@@ -62,6 +68,13 @@ impl Plain {
         ensures { result.now ≡ self.now.bodies }
     {
         self.bodies.as_slice()
+    }
+
+    /// The contacts of near shapes, ascending by key.
+    pub fn contacts(&self) -> &[ContactEntry]
+        ensures { result.now ≡ self.now.contacts }
+    {
+        self.contacts.as_slice()
     }
 
     /// The gravity, in u/tick².

@@ -6,17 +6,21 @@ ghost use Rattle.world_core.specs.World.{body_of};
 ghost use Rattle.world_core.specs.Sound.{IsSound};
 ghost use Rattle.world_core.specs.Apply.{Answers, empty_world, gravity_refusal, apply, apply_create, apply_destroy, apply_push, apply_gravity, apply_step};
 
+use crate::collide::{collide, copy_contacts, drop_contacts, events_of};
 use crate::booking::{book, book_step, gain_of, loss_of};
 use crate::pushes::{departing, momentum_after};
-use crate::{Command, Events, Plain, Reply};
+use crate::{Command, Plain, Reply};
 use body_handles::{Handle, Handles};
+use contacts::BroadPhase;
+use contacts_base::ContactEntry;
+use event_feed::Events;
 use fixed_geom::{Refusal, Vec2, is_within};
 use impulse_ledger::{Cause, Ledger};
 use std::alloc::Global;
 use std::marker::Model;
 use world_core_base::{
     Body, BodyDef, BodyView, Census, body_of, clear_slot, copy_bodies, put_body, put_momentum,
-    run_ticks, take_census,
+    renew_fats, run_ticks, take_census,
 };
 
 /// How many calls a world accepts.
@@ -33,6 +37,9 @@ const MAX_TICKS: i64 = 8;
 pub struct WorldCore {
     handles: Handles,
     bodies: Vec<Option<Body>>,
+    contacts: Vec<ContactEntry>,
+    // Room that a collide works in, kept from step to step.
+    broad: BroadPhase,
     gravity: Vec2,
     steps: u64,
     calls: u64,
@@ -65,6 +72,8 @@ impl WorldCore {
         Ok(WorldCore {
             handles: Handles::new(alloc),
             bodies: Vec::new(alloc),
+            contacts: Vec::new(alloc),
+            broad: BroadPhase::new(alloc),
             gravity,
             steps: 0,
             calls: 0,
@@ -81,6 +90,8 @@ impl WorldCore {
         Ok(WorldCore {
             handles: self.handles.try_copy()?,
             bodies: copy_bodies(*self.bodies.allocator(), &self.bodies)?,
+            contacts: copy_contacts(&self.contacts)?,
+            broad: BroadPhase::new(*self.bodies.allocator()),
             gravity: self.gravity,
             steps: self.steps,
             calls: self.calls,
@@ -120,7 +131,7 @@ impl WorldCore {
         if self.handles.is_full() {
             return Err(Refusal::TooMany);
         }
-        let body = def.make()?;
+        let body = def.make(*self.bodies.allocator())?;
         self.handles.reserve_one()?;
         self.bodies.reserve(1)?;
         let handle = self.handles.insert()?;
@@ -142,6 +153,7 @@ impl WorldCore {
             loss_of(p),
         );
         clear_slot(&mut self.bodies, handle.slot as usize);
+        drop_contacts(&mut self.contacts, handle.slot);
         self.handles.remove(handle);
         self.calls += 1;
         Ok(Reply::Done)
@@ -183,10 +195,14 @@ impl WorldCore {
         if ticks < 1 || ticks > MAX_TICKS {
             return Err(Refusal::OutOfRange);
         }
+        let alloc = *self.bodies.allocator();
         self.ledger.reserve(2)?;
+        let changes = collide(alloc, &mut self.broad, &self.bodies, &self.contacts)?;
+        self.events = events_of(alloc, changes.begin, changes.end);
+        self.contacts = changes.now;
         let sums = run_ticks(&mut self.bodies, self.gravity, ticks.unsigned_abs());
+        renew_fats(&mut self.bodies);
         book_step(&mut self.ledger, self.calls + 1, sums);
-        self.events.clear();
         self.steps += 1;
         self.calls += 1;
         Ok(Reply::Stepped(self.steps))
@@ -228,6 +244,7 @@ impl WorldCore {
             *self.bodies.allocator(),
             &self.handles,
             &self.bodies,
+            &self.contacts,
             self.gravity,
             self.steps,
             self.calls,

@@ -1,0 +1,57 @@
+-- The shapes that a collide reads, and contacts that are dropped.
+use Rattle.std.proofs.Common.{◌≡◌, ℕ, zero, suc, ◌+◌, ◌*◌, ◌<◌, ◌≤◌, List, [], ◌∷◌, ◌++◌, length, get_or, map, drop, Option, Some, None, Bool, true, false, cond, refl, ap, sym, ◌∙◌, arith, append_assoc, add-one, All}
+use Rattle.std.specs.Prelude.{nat_le, not, filter}
+use Rattle.std.specs.List.{list_all}
+use Rattle.std.proofs.Math.Seq.{drop-cons}
+use Rattle.std.proofs.lemmas.Bool.{leb-true}
+use Rattle.std.proofs.lemmas.List.Elements.{All-push, filter_from_retain}
+use Rattle.fixed_geom.specs.declared.boxes.Box2.{Box2}
+use Rattle.fixed_geom.specs.declared.refusal.Refusal.{Refusal}
+use Rattle.fixed_geom.specs.declared.refusal.Refusal.TheVariants.{BadShape, OutOfRange}
+use Rattle.shapes.specs.declared.pose.Pose.{Pose}
+use Rattle.shapes.specs.declared.shape.ShapeDef.{ShapeDef}
+use Rattle.shapes.specs.Shapes.{are_forms_allowed, shapes_refusal, is_in_range, is_form_allowed}
+use Rattle.contacts_base.specs.declared.contact.ContactEntry.{ContactEntry}
+use Rattle.contacts_base.specs.declared.near.Proxy.{Proxy}
+use Rattle.contacts_base.specs.Contacts.{number_of, AreKeysRising}
+use Rattle.contacts.proofs.Members.{Each}
+use Rattle.contacts.proofs.Rising.{IsRising, increasing_from_rising, rising_from_increasing}
+use Rattle.world_core_base.specs.declared.body.Body.{Body}
+use Rattle.world_core.specs.Collide.{shape_proxies, body_proxies, entry_proxies, proxies_from}
+
+-- ---- contacts that are dropped
+
+each_step : (t : Bool) (b : ℕ) (e : ContactEntry) (es : List ContactEntry) → b < number_of e → Each (λ n. b < n) (map number_of es) → Each (λ n. b < n) (map number_of (cond t (e ∷ es) es))
+each_step true b e es h rest = (h, rest)
+each_step false b e es h rest = rest
+
+filter_each : (p : ContactEntry → Bool) (b : ℕ) (es : List ContactEntry) → Each (λ n. b < n) (map number_of es) → Each (λ n. b < n) (map number_of (filter p es))
+filter_each p b [] h = h
+filter_each p b (e ∷ es) h = each_step (p e) b e (filter p es) h.0 (filter_each p b es h.1)
+
+rise_step : (t : Bool) (e : ContactEntry) (es : List ContactEntry) → Each (λ n. number_of e < n) (map number_of es) → IsRising (map number_of es) → IsRising (map number_of (cond t (e ∷ es) es))
+rise_step true e es h rest = (h, rest)
+rise_step false e es h rest = rest
+
+filter_rises : (p : ContactEntry → Bool) (es : List ContactEntry) → IsRising (map number_of es) → IsRising (map number_of (filter p es))
+filter_rises p [] h = h
+filter_rises p (e ∷ es) h = rise_step (p e) e (filter p es) (filter_each p (number_of e) es h.0) (filter_rises p es h.1)
+
+pub AreKeysRising-filter : (p : ContactEntry → Bool) (es : List ContactEntry) → AreKeysRising es → AreKeysRising (filter p es)
+AreKeysRising-filter p es h = increasing_from_rising (map number_of (filter p es)) (filter_rises p es (rising_from_increasing (map number_of es) h))
+
+-- ---- a body has eight shapes at most
+
+count_if : (few some forms : Bool) → cond some (cond few forms false) false ≡ true → few ≡ true
+count_if true some forms e = refl
+count_if false true forms e = cc
+count_if false false forms e = cc
+
+allowed_if : (forms range : Bool) → cond forms (cond range None (Some OutOfRange)) (Some BadShape) ≡ None → forms ≡ true
+allowed_if true range e = refl
+allowed_if false range e = cc
+
+pub eight_at_most : (segments : Bool) (defs : List ShapeDef) → shapes_refusal segments defs ≡ None → length defs ≤ 8
+unfolding shapes_refusal
+eight_at_most segments defs e =
+    leb-true _ _ (count_if (nat_le (length defs) 8) (nat_le 1 (length defs)) (list_all (λ d. is_form_allowed segments d.shape) defs) (allowed_if (are_forms_allowed segments defs) (list_all is_in_range defs) e))

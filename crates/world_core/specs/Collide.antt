@@ -1,0 +1,63 @@
+-- The collide: which shapes touch, and what begins and ends.
+use Rattle.std.specs.Prelude.{ℕ, suc, ◌==◌, ◌||◌, Bool, not, cond, List, [], ◌∷◌, ◌++◌, filter, Option, Some, None}
+use Rattle.fixed_geom.specs.declared.boxes.Box2.{Box2}
+use Rattle.shapes.specs.declared.pose.Pose.{Pose}
+use Rattle.shapes.specs.declared.shape.ShapeDef.{ShapeDef}
+use Rattle.contacts_base.specs.declared.key.ContactKey.{ContactKey}
+use Rattle.contacts_base.specs.declared.contact.ContactEntry.{ContactEntry}
+use Rattle.contacts_base.specs.declared.near.Proxy.{Proxy}
+use Rattle.contacts_base.specs.Near.{near_codes}
+use Rattle.contacts.specs.Changes.{contacts_of, keys_touching_only_in}
+use Rattle.world_core_base.specs.declared.body.Body.{Body}
+use Rattle.world_core_base.specs.Bodies.{is_dynamic, pose_of}
+
+-- ---- the shapes that the collide reads: those of enabled bodies, ascending
+
+-- those of one body, from the shape at `index` on, with their fat boxes
+abbrev pub shape_proxies : ℕ → Bool → Pose → ℕ → List ShapeDef → List Box2 → List Proxy
+shape_proxies slot dynamic pose index [] fats = []
+shape_proxies slot dynamic pose index (d ∷ defs) [] = []
+shape_proxies slot dynamic pose index (d ∷ defs) (fat ∷ fats) =
+    record { id = record { slot = slot; index = index }; fat = fat; filter = d.filter; dynamic = dynamic; shape = d.shape; pose = pose } ∷ shape_proxies slot dynamic pose (suc index) defs fats
+
+abbrev pub body_proxies : ℕ → Body → List Proxy
+body_proxies slot b = cond b.enabled (shape_proxies slot (is_dynamic b.kind) (pose_of b) 0 b.shapes b.fats) []
+
+abbrev pub entry_proxies : ℕ → Option Body → List Proxy
+entry_proxies slot None = []
+entry_proxies slot (Some b) = body_proxies slot b
+
+-- where the list begins with this slot
+abbrev pub proxies_from : ℕ → List (Option Body) → List Proxy
+proxies_from slot [] = []
+proxies_from slot (o ∷ bodies) = entry_proxies slot o ++ proxies_from (suc slot) bodies
+
+abbrev pub proxies_of : List (Option Body) → List Proxy
+proxies_of bodies = proxies_from 0 bodies
+
+-- ---- the collide
+
+-- the contacts, and those that began and ended, ascending
+pub record Collided : Type 0 where
+  pub now : List ContactEntry
+  pub begin : List ContactKey
+  pub end : List ContactKey
+
+-- every near pair has a contact, evaluated anew with its kept impulses
+unfoldable pub contacts_after : List (Option Body) → List ContactEntry → List ContactEntry
+contacts_after bodies old = contacts_of old (proxies_of bodies) (near_codes (proxies_of bodies))
+
+abbrev pub collided : List (Option Body) → List ContactEntry → Collided
+collided bodies old = record {
+  now = contacts_after bodies old;
+  begin = keys_touching_only_in old (contacts_after bodies old);
+  end = keys_touching_only_in (contacts_after bodies old) old;
+}
+
+-- ---- a body that goes takes its contacts along
+
+abbrev pub has_slot : ℕ → ContactEntry → Bool
+has_slot slot e = (e.key.first.slot == slot) || (e.key.second.slot == slot)
+
+abbrev pub contacts_without : ℕ → List ContactEntry → List ContactEntry
+contacts_without slot entries = filter (λ e. not (has_slot slot e)) entries
