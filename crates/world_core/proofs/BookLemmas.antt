@@ -59,9 +59,9 @@ pub AreSmall-booked : (n m room more : ℕ) (es : List Entry) (settled : Totals)
     → unsigned_abs x ≤ m → unsigned_abs y ≤ m → AreSmall (n + m) (record { entries = es ++ booked call why x y; settled = settled; room = more })
 AreSmall-booked n m room more es settled call why x y small hx hy = record {
   x = λ cause. rw (sum_of_x-append cause es (booked call why x y)) (grown_le (sum_of_x cause es) (sum_of_x cause (booked call why x y)) _ n m (small.x cause)
-    (omega (arith, hx, sum_of_x_by (nat_le (unsigned_abs x) 0 && nat_le (unsigned_abs y) 0) cause (record { call = call; cause = why; x = x; y = y }))));
+      (omega (arith, hx, sum_of_x_by (nat_le (unsigned_abs x) 0 && nat_le (unsigned_abs y) 0) cause (record { call = call; cause = why; x = x; y = y }))));
   y = λ cause. rw (sum_of_y-append cause es (booked call why x y)) (grown_le (sum_of_y cause es) (sum_of_y cause (booked call why x y)) _ n m (small.y cause)
-    (omega (arith, hy, sum_of_y_by (nat_le (unsigned_abs x) 0 && nat_le (unsigned_abs y) 0) cause (record { call = call; cause = why; x = x; y = y }))));
+      (omega (arith, hy, sum_of_y_by (nat_le (unsigned_abs x) 0 && nat_le (unsigned_abs y) 0) cause (record { call = call; cause = why; x = x; y = y }))));
 }
 
 pub AreSmall-weaker : (n m : ℕ) (b : Book) → n ≤ m → AreSmall n b → AreSmall m b

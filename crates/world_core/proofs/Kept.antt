@@ -20,7 +20,7 @@ use Rattle.impulse_ledger.specs.Sums.{Book, total_x, total_y}
 use Rattle.world_core_base.specs.declared.body.Body.{Body}
 use Rattle.world_core_base.specs.declared.body.BodyDef.{BodyDef}
 use Rattle.world_core_base.specs.Bodies.{is_mover, is_dynamic, IsBody, AreBodies, p_x, p_y, momentum_x, momentum_y, made}
-use Rattle.world_core_base.specs.Slots.{body_at, is_taken, AreMatched, HaveSameSlots, with_body, with_momentum, put_p} 
+use Rattle.world_core_base.specs.Slots.{body_at, is_taken, AreMatched, HaveSameSlots, with_body, with_momentum, put_p}
 use Rattle.world_core.specs.Events.{EventLists, no_events}
 use Rattle.world_core.specs.World.{World, Plain, body_of, book_of}
 use Rattle.world_core.specs.Apply.{booked, sum_of, pushed, departing}
@@ -122,6 +122,7 @@ IsBody-put b p is mover small = record {
   motion = record { p = small; l = is.motion.l; still = is.motion.still; x = is.motion.x; facing = is.motion.facing };
   rest = λ no. absurd (true_false (is_mover b) mover no);
   shapes = is.shapes;
+  forms = is.forms;
 }
 
 put_is : (o : Option Body) (b : Body) (p : Vec2) → o ≡ Some b → option_map (put_p p) o ≡ Some (put_p p b)
@@ -149,7 +150,7 @@ push_kept w h j p call why s few e =
       total_x = let t = s.total_x in rw (sum_x-booked w.entries call why j.x j.y) (omega (arith, ints, mx, old_x, new_x, x, t));
       total_y = let t = s.total_y in rw (sum_y-booked w.entries call why j.x j.y) (omega (arith, ints, my, old_y, new_y, y, t));
       causes = AreSmall-weaker (2 ^ 126 + w.plain.calls * 2 ^ 83 + 2 ^ 40) (2 ^ 126 + (w.plain.calls + 1) * 2 ^ 83) _ (omega arith)
-        (AreSmall-booked (2 ^ 126 + w.plain.calls * 2 ^ 83) (2 ^ 40) 0 0 w.entries w.settled call why j.x j.y s.causes got.push.x got.push.y);
+          (AreSmall-booked (2 ^ 126 + w.plain.calls * 2 ^ 83) (2 ^ 40) 0 0 w.entries w.settled call why j.x j.y s.causes got.push.x got.push.y);
       bodies = AreBodies-set bodies h.slot _ s.bodies (λ b f. let same : put_p p got.body ≡ b = cc in subst IsBody same (IsBody-put got.body p was got.mover got.small));
       matched = AreMatched-same w.plain.places bodies _ (HaveSameSlots-set bodies h.slot _ (ap is_some put ∙ sym (ap is_some at))) s.matched;
       gravity = s.gravity;
@@ -201,7 +202,7 @@ destroy_kept w h p call why x y s few e is_x is_y =
       total_x = let t = s.total_x in rw (sum_x-booked w.entries call why x y) (omega (arith, ints, mx, old_x, is_x, t));
       total_y = let t = s.total_y in rw (sum_y-booked w.entries call why x y) (omega (arith, ints, my, old_y, is_y, t));
       causes = AreSmall-weaker (2 ^ 126 + w.plain.calls * 2 ^ 83 + 2 ^ 60) (2 ^ 126 + (w.plain.calls + 1) * 2 ^ 83) _ (omega arith)
-        (AreSmall-booked (2 ^ 126 + w.plain.calls * 2 ^ 83) (2 ^ 60) 0 0 w.entries w.settled call why x y s.causes (let l = small.x in omega (arith, ints)) (let l = small.y in omega (arith, ints)));
+          (AreSmall-booked (2 ^ 126 + w.plain.calls * 2 ^ 83) (2 ^ 60) 0 0 w.entries w.settled call why x y s.causes (let l = small.x in omega (arith, ints)) (let l = small.y in omega (arith, ints)));
       bodies = AreBodies-set bodies h.slot None s.bodies (λ b f. cc);
       matched = AreMatched-set w.plain.places bodies h.slot _ None refl s.matched;
       gravity = s.gravity;
@@ -250,7 +251,7 @@ create_kept w d s few free is =
     let none : body_at w.plain.bodies slot ≡ None = none_if _ (s.matched.taken slot ∙ lowest-free w.plain.places) in
     let same = s.matched.slots in
     rw same (kept_with (nat_lt slot (length w.plain.bodies)) w slot (record { generation = generation_at w.plain.places slot; live = true }) (made d) s few
-      (λ e. grind (arith, common_steps)) (λ e. let past : length w.plain.bodies ≤ slot = grind (arith, common_steps) in omega arith) refl is (resting_part (is_mover (made d))) (resting_part (is_mover (made d))) none)
+    (λ e. grind (arith, common_steps)) (λ e. let past : length w.plain.bodies ≤ slot = grind (arith, common_steps) in omega arith) refl is (resting_part (is_mover (made d))) (resting_part (is_mover (made d))) none)
 
 -- ---- Step
 
@@ -264,7 +265,7 @@ step_kept w bodies gx gy cx cy a b events s few all same g c mx my =
       total_x = let t = s.total_x in rw (← append_assoc, sum_x-booked _ _ b cx cy, sum_x-booked _ _ a gx gy) (omega (arith, ints, mx, t));
       total_y = let t = s.total_y in rw (← append_assoc, sum_y-booked _ _ b cx cy, sum_y-booked _ _ a gx gy) (omega (arith, ints, my, t));
       causes = rw (← append_assoc) (AreSmall-weaker (2 ^ 126 + w.plain.calls * 2 ^ 83 + 2 ^ 80 + 2 ^ 80) (2 ^ 126 + (w.plain.calls + 1) * 2 ^ 83) _ (omega arith)
-        (AreSmall-booked (2 ^ 126 + w.plain.calls * 2 ^ 83 + 2 ^ 80) (2 ^ 80) 0 0 (w.entries ++ booked call a gx gy) w.settled call b cx cy
+          (AreSmall-booked (2 ^ 126 + w.plain.calls * 2 ^ 83 + 2 ^ 80) (2 ^ 80) 0 0 (w.entries ++ booked call a gx gy) w.settled call b cx cy
           (AreSmall-booked (2 ^ 126 + w.plain.calls * 2 ^ 83) (2 ^ 80) 0 0 w.entries w.settled call a gx gy s.causes g.x g.y) c.x c.y));
       bodies = all;
       matched = AreMatched-same w.plain.places w.plain.bodies bodies same s.matched;

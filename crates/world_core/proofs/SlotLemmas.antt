@@ -159,8 +159,9 @@ free_if false able e = refl
 -- it isn't taken
 pub lowest-free : (places : List Place) → is_taken places (lowest places) ≡ false
 lowest-free places = elim (cases_lt (lowest places) (length places)) [
-    inl h ↦ (taken_at places (lowest places) no_place h ∙ free_if _ _ (passes_at_first is_open places no_place h))
-  | inr h ↦ taken_past places (lowest places) h ]
+  | inl h ↦ (taken_at places (lowest places) no_place h ∙ free_if _ _ (passes_at_first is_open places no_place h))
+  | inr h ↦ taken_past places (lowest places) h
+]
 
 -- and no body is there
 pub none_if : (o : Option Body) → is_some o ≡ false → o ≡ None

@@ -11,7 +11,7 @@ use Rattle.impulse_ledger.specs.declared.entry.Cause as cause
 use Rattle.impulse_ledger.specs.declared.entry.Cause.TheVariants as causes
 use Rattle.impulse_ledger.specs.Totals.{zero_totals}
 use Rattle.world_core_base.specs.Bodies.{is_dynamic, is_mover, def_refusal, made, p_x, p_y}
-use Rattle.world_core_base.specs.Shapes.{is_between}
+use Rattle.shapes.specs.Shapes.{is_between}
 use Rattle.world_core_base.specs.Slots.{with_body, with_momentum}
 use Rattle.world_core_base.specs.Ticks.{Run, ticks, start}
 use Rattle.world_core_base.specs.declared.body.Body.{Body}

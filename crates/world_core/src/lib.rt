@@ -13,3 +13,7 @@ pub use command::{Command, Reply};
 pub use events::{ContactKey, Events, ShapeId};
 pub use plain::Plain;
 pub use world::WorldCore;
+pub use world_core_base::Census;
+
+#[cfg(test)]
+mod tests;

@@ -1,6 +1,7 @@
 ghost use Rattle.std.specs.Prelude.{◌≡◌, ◌+◌, ◌<◌, ◌≤◌, ◌^◌, [], IfOk, OnErr, option_map};
 ghost use Rattle.std.specs.Result.{IsOkUnless, result_err};
 ghost use Rattle.world_core_base.specs.Bodies.{view_of};
+ghost use Rattle.world_core_base.specs.Census.{IsCensus, census_of};
 ghost use Rattle.world_core.specs.World.{body_of};
 ghost use Rattle.world_core.specs.Sound.{IsSound};
 ghost use Rattle.world_core.specs.Apply.{Answers, empty_world, gravity_refusal, apply, apply_create, apply_destroy, apply_push, apply_gravity, apply_step};
@@ -14,7 +15,8 @@ use impulse_ledger::{Cause, Ledger};
 use std::alloc::Global;
 use std::marker::Model;
 use world_core_base::{
-    Body, BodyDef, BodyView, body_of, clear_slot, copy_bodies, put_body, put_momentum, run_ticks,
+    Body, BodyDef, BodyView, Census, body_of, clear_slot, copy_bodies, put_body, put_momentum,
+    run_ticks, take_census,
 };
 
 /// How many calls a world accepts.
@@ -133,7 +135,12 @@ impl WorldCore {
     {
         let p = departing(&self.handles, &self.bodies, handle)?;
         self.ledger.reserve(1)?;
-        book(&mut self.ledger, self.calls + 1, Cause::Departed, loss_of(p));
+        book(
+            &mut self.ledger,
+            self.calls + 1,
+            Cause::Departed,
+            loss_of(p),
+        );
         clear_slot(&mut self.bodies, handle.slot as usize);
         self.handles.remove(handle);
         self.calls += 1;
@@ -146,7 +153,12 @@ impl WorldCore {
     {
         let p = momentum_after(&self.handles, &self.bodies, handle, by)?;
         self.ledger.reserve(1)?;
-        book(&mut self.ledger, self.calls + 1, Cause::Command, gain_of(by));
+        book(
+            &mut self.ledger,
+            self.calls + 1,
+            Cause::Command,
+            gain_of(by),
+        );
         put_momentum(&mut self.bodies, handle.slot as usize, p);
         self.calls += 1;
         Ok(Reply::Done)
@@ -219,6 +231,20 @@ impl WorldCore {
             self.gravity,
             self.steps,
             self.calls,
+        )
+    }
+
+    /// What stands in each solver set: each live body once, where it stands. Refused 1 where memory is
+    /// wanting.
+    pub fn census(&self) -> Result<Census, Refusal>
+        ensures census { IfOk result (λ census. IsCensus self.now.plain.places self.now.plain.bodies census) }
+        ensures value { IfOk result (λ census. census ≡ census_of self.now.plain.places self.now.plain.bodies) }
+        ensures memory_only { IsOkUnless result Refusal.NoMemory }
+    {
+        take_census(
+            *self.bodies.allocator(),
+            self.handles.places(),
+            &self.bodies,
         )
     }
 }

@@ -1,6 +1,6 @@
 -- The census is a census, and how a loop over the slots makes it.
-use Rattle.std.proofs.Common.{◌≡◌, ℕ, zero, suc, ◌+◌, ◌<◌, ◌≤◌, Bool, true, false, cond, List, [], ◌∷◌, ◌++◌, length, get_or, drop, map, Option, Some, None, is_some, arith, refl, sym, ap, ◌∙◌, append_assoc, add-one, drop-cons}
-use Rattle.std.specs.Prelude.{IsSomeAnd, Contains, ◌==◌, ◌&&◌, slice_get, slice_index}
+use Rattle.std.proofs.Common.{◌≡◌, ℕ, zero, suc, ◌+◌, ◌<◌, ◌≤◌, Bool, true, false, cond, List, [], ◌∷◌, ◌++◌, length, get_or, drop, map, Option, Some, None, is_some, arith, refl, sym, ap, append_assoc, add-one, drop-cons}
+use Rattle.std.specs.Prelude.{IsSomeAnd, Contains, ◌==◌, ◌&&◌, slice_index}
 use Rattle.std.specs.List.Sorted.{IsStrictlyIncreasing}
 use Rattle.std.proofs.lemmas.Grind.{common_steps}
 use Rattle.std.proofs.lemmas.List.{append-nil, drop_all}
@@ -59,7 +59,7 @@ with_rest-end c slot places bodies passed = rw (drop_all slot places passed) (si
 
 -- ---- how often a handle is listed
 
--- how often the set's list has a handle that names this
+-- how often the set's list has the handle of this body
 abbrev count_in : SetName → Option Body → ℕ
 count_in set o = cond (stands_in set o) 1 0
 
@@ -71,7 +71,7 @@ member-other : (stands : Bool) (h listed : Handle) → is_same_handle h listed �
 member-other true h listed other = rw other refl
 member-other false h listed other = refl
 
--- a handle of a lower slot isn't listed
+-- a handle of a lower slot isn't listed from here on
 times-below : (set : SetName) (h : Handle) (slot : ℕ) (places : List Place) (bodies : List (Option Body)) → h.slot < slot → times h (members_from set slot places bodies) ≡ 0
 times-below set h slot [] bodies below = refl
 times-below set h slot (p ∷ places) [] below = refl
@@ -82,6 +82,7 @@ times-below set h slot (p ∷ places) (o ∷ bodies) below =
     let later : times h (members_from set (suc slot) places bodies) ≡ 0 = times-below set h (suc slot) places bodies (omega arith) in
     omega (arith, sum_by-append (λ (x : Handle). cond (is_same_handle h x) 1 0) (member set listed o) (members_from set (suc slot) places bodies))
 
+-- where no body is named, none is counted
 nobody : (set : SetName) (live : Bool) → count_in set (cond live None None) ≡ 0
 nobody set true = refl
 nobody set false = refl
@@ -178,7 +179,10 @@ IsListOf-members set places bodies matched = record {
 }
 
 -- a body stands in one set
-one_standing : (enabled : Bool) (kind : Kind) → cond (is_same_set Static (cond enabled (set_of kind) Disabled)) 1 0 + (cond (is_same_set Disabled (cond enabled (set_of kind) Disabled)) 1 0 + cond (is_same_set Awake (cond enabled (set_of kind) Disabled)) 1 0) ≡ 1
+one_standing : (enabled : Bool) (kind : Kind)
+    → cond (is_same_set Static (cond enabled (set_of kind) Disabled)) 1 0
+    + (cond (is_same_set Disabled (cond enabled (set_of kind) Disabled)) 1 0
+    + cond (is_same_set Awake (cond enabled (set_of kind) Disabled)) 1 0) ≡ 1
 one_standing true kinds.Static = refl
 one_standing true kinds.Dynamic = refl
 one_standing false kind = refl

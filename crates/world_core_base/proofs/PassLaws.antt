@@ -1,5 +1,5 @@
 -- A pass, one body further; what passes keep; and passes one after the other.
-use Rattle.std.proofs.Common.{◌≡◌, ℕ, zero, suc, ◌+◌, ◌<◌, ◌≤◌, ◌*◌, ◌^◌, List, [], ◌∷◌, ◌++◌, length, get_or, take, drop, map, Option, Some, None, ℤ, ◌+ℤ◌, unsigned_abs, arith, refl, sym, ap, ◌∙◌, slice_set, inl, inr}
+use Rattle.std.proofs.Common.{◌≡◌, ℕ, zero, suc, ◌+◌, ◌<◌, ◌≤◌, ◌*◌, ◌^◌, List, [], ◌∷◌, ◌++◌, length, get_or, take, drop, map, Option, Some, ℤ, ◌+ℤ◌, unsigned_abs, arith, refl, sym, ap, ◌∙◌, slice_set, inl, inr}
 use Rattle.std.specs.Option.{option_map}
 use Rattle.std.specs.List.{slice_get}
 use Rattle.std.proofs.lemmas.Bool.{cases_lt}
@@ -68,8 +68,9 @@ slice_get-set_below (x ∷ xs) (suc i) (suc k) v h = slice_get-set_below xs i k 
 pub made_more : (P : Body → Type 0) (bs : List (Option Body)) (i : ℕ) (n : Option Body) → i < length bs → ((k : ℕ) (b : Body) → k < i → slice_get bs k ≡ Some (Some b) → P b) → ((b : Body) → n ≡ Some b → P b)
     → (k : ℕ) (b : Body) → k < i + 1 → slice_get (slice_set bs i n) k ≡ Some (Some b) → P b
 made_more P bs i n h below here k b lt e = elim (cases_lt k i) [
-    inl less ↦ below k b less (sym (slice_get-set_below bs i k n less) ∙ e)
-  | inr more ↦ let same : k ≡ i = omega arith in here b (let got : slice_get (slice_set bs i n) i ≡ Some (Some b) = rw same at e in let both : Some n ≡ Some (Some b) = sym (slice_get-set_here bs i n h) ∙ got in cc both) ]
+  | inl less ↦ below k b less (sym (slice_get-set_below bs i k n less) ∙ e)
+  | inr more ↦ let same : k ≡ i = omega arith in here b (let got : slice_get (slice_set bs i n) i ≡ Some (Some b) = rw same at e in let both : Some n ≡ Some (Some b) = sym (slice_get-set_here bs i n h) ∙ got in cc both)
+]
 
 -- ---- what a pass adds, one body further
 
@@ -106,7 +107,7 @@ pub gain_x_more_after : (f g : MassData → Motion → Motion) (all : List (Opti
     → ((a +ℤ b) +ℤ gain_x g (pass f (drop (suc i) all))) ≡ gain_x g (pass f all)
 gain_x_more_after f g all i o a b h here e k =
     told a b (gain_x g (pass f (drop i all))) (gain_x g (pass f all)) (one_gain_x g (option_map (changed f) (get_or all i o))) (gain_x g (pass f (drop (suc i) all))) e (gain_x-pass_drop f g all i o h)
-      (k ∙ ap (λ (n : Option Body). one_gain_x g (option_map (changed f) n)) here)
+    (k ∙ ap (λ (n : Option Body). one_gain_x g (option_map (changed f) n)) here)
 
 -- the gain so far, a, with the gain of the body at i, b
 pub gain_y_more : (f : MassData → Motion → Motion) (all : List (Option Body)) (i : ℕ) (o : Option Body) (a b : ℤ) → i < length all → o ≡ get_or all i o → (a +ℤ gain_y f (drop i all)) ≡ gain_y f all → b ≡ one_gain_y f o
@@ -118,7 +119,7 @@ pub gain_y_more_after : (f g : MassData → Motion → Motion) (all : List (Opti
     → ((a +ℤ b) +ℤ gain_y g (pass f (drop (suc i) all))) ≡ gain_y g (pass f all)
 gain_y_more_after f g all i o a b h here e k =
     told a b (gain_y g (pass f (drop i all))) (gain_y g (pass f all)) (one_gain_y g (option_map (changed f) (get_or all i o))) (gain_y g (pass f (drop (suc i) all))) e (gain_y-pass_drop f g all i o h)
-      (k ∙ ap (λ (n : Option Body). one_gain_y g (option_map (changed f) n)) here)
+    (k ∙ ap (λ (n : Option Body). one_gain_y g (option_map (changed f) n)) here)
 
 pub grown : (a b : ℤ) (n : ℕ) → unsigned_abs a ≤ n * 2 ^ 62 → unsigned_abs b ≤ 2 ^ 62 → unsigned_abs (a +ℤ b) ≤ (n + 1) * 2 ^ 62
 grown a b n h k = omega (arith, ints)

@@ -1,7 +1,6 @@
 -- What a tick does to the slots, the bodies and the movers' momentum.
-use Rattle.std.proofs.Common.{◌≡◌, ◌⊎◌, inl, inr, ℕ, zero, suc, List, [], ◌∷◌, length, Option, Some, None, Bool, true, false, cond, ℤ, pos, ◌+ℤ◌, ◌-ℤ◌, arith, refl, sym, ap, ◌∙◌, subst}
+use Rattle.std.proofs.Common.{◌≡◌, inl, inr, ℕ, zero, suc, List, [], ◌∷◌, length, Option, Some, None, Bool, true, false, cond, ◌+ℤ◌, arith, refl, sym, ap, ◌∙◌, subst}
 use Rattle.std.specs.Option.{option_map, is_some}
-use Rattle.std.specs.List.{slice_get}
 use Rattle.std.proofs.lemmas.Bool.{cases_Bool}
 use Rattle.std.proofs.lemmas.Int.{ints}
 use Rattle.fixed_geom.specs.declared.vectors.Vec2.{Vec2}
@@ -12,7 +11,7 @@ use Rattle.world_core_base.specs.declared.body.Body.{Body}
 use Rattle.world_core_base.specs.declared.body.Kind.{Kind}
 use Rattle.world_core_base.specs.declared.body.Kind.TheVariants.{Static, Dynamic}
 use Rattle.world_core_base.specs.Bodies.{AreBodies, IsBody, IsMassOf, is_dynamic, is_mover, momentum_x, momentum_y, p_x, p_y}
-use Rattle.world_core_base.specs.Passes.{OnMover, OnMovers, changed, pass, one_gain_x, one_gain_y, gain_x, gain_y}
+use Rattle.world_core_base.specs.Passes.{OnMover, OnMovers, changed, pass, gain_x, gain_y}
 use Rattle.world_core_base.specs.Slots.{HaveSameSlots, body_at}
 use Rattle.world_core_base.specs.Ticks.{Run, clamp_all, pull_all, settled, start, tick, ticks}
 
@@ -29,8 +28,9 @@ changed_other f b h = rw h
 
 changed_after : (f g : MassData → Motion → Motion) (b : Body) → changed (after f g) b ≡ changed g (changed f b)
 changed_after f g b = elim (cases_Bool (is_mover b)) [
-    inl h ↦ rw (changed_mover f b h) (changed_mover (after f g) b h ∙ sym (changed_mover g (record b { motion = f b.mass b.motion }) h))
-  | inr h ↦ rw (changed_other f b h) (changed_other (after f g) b h ∙ sym (changed_other g b h)) ]
+  | inl h ↦ rw (changed_mover f b h) (changed_mover (after f g) b h ∙ sym (changed_mover g (record b { motion = f b.mass b.motion }) h))
+  | inr h ↦ rw (changed_other f b h) (changed_other (after f g) b h ∙ sym (changed_other g b h))
+]
 
 entry_after : (f g : MassData → Motion → Motion) (o : Option Body) → option_map (changed (after f g)) o ≡ option_map (changed g) (option_map (changed f) o)
 entry_after f g None = refl
@@ -79,10 +79,11 @@ mass_of b h e = mass_at b.kind b.enabled b.mass e h.mass
 
 body_kept : (f : MassData → Motion → Motion) (b : Body) → IsBody b → OnMover IsMotion (changed f b) → IsBody (changed f b)
 body_kept f b h moved = elim (cases_Bool (is_mover b)) [
-    inl moves ↦
+  | inl moves ↦
       let now : OnMover IsMotion (record b { motion = f b.mass b.motion }) = subst (OnMover IsMotion) (changed_mover f b moves) moved in
-      subst IsBody (sym (changed_mover f b moves)) (record { mass = h.mass; motion = now moves; rest = λ still. absurd (let e : true ≡ false = sym moves ∙ still in cc e); shapes = h.shapes })
-  | inr still ↦ subst IsBody (sym (changed_other f b still)) h ]
+      subst IsBody (sym (changed_mover f b moves)) (record { mass = h.mass; motion = now moves; rest = λ still. absurd (let e : true ≡ false = sym moves ∙ still in cc e); shapes = h.shapes; forms = h.forms })
+  | inr still ↦ subst IsBody (sym (changed_other f b still)) h
+]
 
 bodies_kept : (f : MassData → Motion → Motion) (bodies : List (Option Body)) → AreBodies bodies → OnMovers IsMotion (pass f bodies) → AreBodies (pass f bodies)
 bodies_kept f [] all moved slot b e = cc

@@ -1,5 +1,5 @@
 -- Bodies: which are movers, where each stands, what may be made, and the movers' momentum.
-use Rattle.std.specs.Prelude.{◌≡◌, ℕ, ◌^◌, Bool, true, false, ◌&&◌, cond, List, [], ◌∷◌, Option, Some, None, ℤ, pos, ◌+ℤ◌, slice_get}
+use Rattle.std.specs.Prelude.{◌≡◌, ℕ, ◌^◌, Bool, true, false, not, ◌&&◌, cond, All, List, [], ◌∷◌, Option, Some, None, ℤ, pos, ◌+ℤ◌, slice_get}
 use Rattle.std.specs.Ordering.{int_eq}
 use Rattle.fixed_geom.specs.Vectors.{IsWithin, is_within}
 use Rattle.fixed_geom.specs.Facings.{IsFacing, is_facing}
@@ -17,7 +17,7 @@ use Rattle.world_core_base.specs.declared.body.SetName.TheVariants as sets
 use Rattle.world_core_base.specs.declared.body.Body.{Body}
 use Rattle.world_core_base.specs.declared.body.BodyDef.{BodyDef}
 use Rattle.world_core_base.specs.declared.body.BodyView.{BodyView}
-use Rattle.world_core_base.specs.Shapes.{is_between, shapes_refusal}
+use Rattle.shapes.specs.Shapes.{is_between, shapes_refusal, IsShapeDef}
 
 -- ---- where a body stands
 
@@ -53,9 +53,9 @@ abbrev pub first_of : Option Refusal → Option Refusal → Option Refusal
 first_of (Some e) later = Some e
 first_of None later = later
 
--- why a body can't be made: first its shapes, then its numbers
+-- why a body can't be made: first its shapes, of which segments are for static bodies alone, then its numbers
 unfoldable pub def_refusal : BodyDef → Option Refusal
-def_refusal d = first_of (shapes_refusal d.shapes) (numbers_refusal d)
+def_refusal d = first_of (shapes_refusal (not (is_dynamic d.kind)) d.shapes) (numbers_refusal d)
 
 abbrev pub at_rest : Vec2 → Rot → Motion
 at_rest x rot = record { p = record { x = pos 0; y = pos 0 }; l = pos 0; x = x; rot = rot }
@@ -70,7 +70,8 @@ IsMassOf Dynamic m = IsMass m
 
 -- nothing keeps the body from being made
 pub record IsAllowed (d : BodyDef) : Type 0 where
-  pub shapes : shapes_refusal d.shapes ≡ None
+  pub shapes : shapes_refusal (not (is_dynamic d.kind)) d.shapes ≡ None
+  pub forms : All IsShapeDef d.shapes
   pub mass : IsMassOf d.kind d.mass
   pub place : IsWithin (2 ^ 36) d.x
   pub facing : IsFacing d.rot
@@ -86,7 +87,8 @@ pub record IsBody (b : Body) : Type 0 where
   pub mass : IsMassOf b.kind b.mass
   pub motion : IsMotion b.mass b.motion
   pub rest : is_mover b ≡ false → IsAtRest b.motion
-  pub shapes : shapes_refusal b.shapes ≡ None
+  pub shapes : shapes_refusal (not (is_dynamic b.kind)) b.shapes ≡ None
+  pub forms : All IsShapeDef b.shapes
 
 abbrev pub AreBodies : List (Option Body) → Type 0
 AreBodies bodies = (slot : ℕ) (b : Body) → slice_get bodies slot ≡ Some (Some b) → IsBody b

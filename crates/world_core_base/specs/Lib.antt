@@ -1,4 +1,3 @@
-pub mod Shapes
 pub mod Bodies
 pub mod Slots
 pub mod Passes

@@ -1,10 +1,11 @@
 ghost use Rattle.std.specs.Prelude.{◌≡◌, IfOk, OnOk, IsTrue};
 ghost use Rattle.std.specs.Result.{IsOkUnless, result_err};
+ghost use Rattle.shapes.specs.Shapes.{is_between};
 ghost use Rattle.world_core_base.specs.Bodies.{is_dynamic, is_mover, standing_of, view_of, is_mass_allowed, def_refusal, made, IsMassOf, IsAllowed, IsBody};
 
-use crate::shape::{Shapes, check, is_between};
 use fixed_geom::{Refusal, Rot, Vec2, is_facing, is_within};
 use momenta::{MassData, Motion};
+use shapes::{Shapes, check};
 
 /// The greatest size of a coordinate of a place, in u.
 const MAX_PLACE: u64 = 1 << 36;
@@ -53,7 +54,7 @@ impl BodyDef {
         ensures refusal { result_err result ≡ def_refusal self.now }
         ensures allowed { OnOk result (IsAllowed self.now) }
     {
-        check(self.shapes.as_slice())?;
+        check(self.shapes.as_slice(), !self.kind.is_dynamic())?;
         if !is_mass_allowed(self.kind, self.mass) {
             return Err(Refusal::OutOfRange);
         }
@@ -83,6 +84,12 @@ impl BodyDef {
             enabled: true,
         })
     }
+}
+
+fn is_between(low: i64, high: i64, value: i64) -> bool
+    ensures { result ≡ is_between low high value }
+{
+    low <= value && value <= high
 }
 
 /// Whether a body of this kind may have this mass: none for a static one, and for a dynamic one a mass of

@@ -57,7 +57,7 @@ impl Census {
         self.static_set.as_slice()
     }
 
-    /// The disabled bodies.
+    /// The disabled bodies, static and dynamic.
     pub fn disabled(&self) -> &[Handle]
         ensures { result.now ≡ self.now.disabled }
     {
@@ -100,9 +100,9 @@ pub fn take_census(
 mod tests {
     use super::*;
     use crate::body::Kind;
-    use crate::shape::Shapes;
-    use fixed_geom::{Rot, Vec2};
+        use fixed_geom::{Rot, Vec2};
     use momenta::{MassData, Motion};
+    use shapes::Shapes;
     use std::test::Fail;
 
     fn resting(alloc: Global, kind: Kind, enabled: bool) -> Body {
@@ -158,9 +158,9 @@ mod tests {
             slot: 3,
             generation: 1,
         };
-        assert_eq!(rt; census.static_set(), &[ground]);
-        assert_eq!(rt; census.awake(), &[mover]);
-        assert_eq!(rt; census.disabled(), &[disabled]);
+        assert_eq!(rt; census.static_set(), [ground].as_slice());
+        assert_eq!(rt; census.awake(), [mover].as_slice());
+        assert_eq!(rt; census.disabled(), [disabled].as_slice());
         Ok(())
     }
 }

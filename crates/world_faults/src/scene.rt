@@ -1,9 +1,10 @@
 use body_handles::Handle;
 use fixed_geom::{Refusal, Rot, UNIT, Vec2};
 use momenta::MassData;
+use shapes::{MAX_SHAPES, Shape, ShapeDef, Shapes};
 use std::alloc::Global;
 use world_core::{Command, WorldCore};
-use world_core_base::{BodyDef, Kind, MAX_SHAPES, Shape, ShapeDef, Shapes};
+use world_core_base::{BodyDef, Kind};
 
 const METRE: i64 = 1 << 20;
 

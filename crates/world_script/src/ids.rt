@@ -1,3 +1,7 @@
+ghost use Rattle.std.specs.Prelude.{◌≡◌, ◌<◌, ◌^◌, ◌↔◌, ℕ, Some, IsTrue, IfSome};
+ghost use Rattle.std.specs.Fmt.{decimal};
+ghost use Rattle.world_script.specs.IdTexts.{id_text, IsPadded};
+
 use body_handles::Handle;
 use std::fmt;
 
@@ -6,23 +10,38 @@ use std::fmt;
 pub struct Id(pub Handle);
 
 impl fmt::Display for Id {
+    ghost output = { λ id. Some (id_text id.0) };
+
     fn fmt<W: fmt::Write>(&self, f: &mut fmt::Formatter<W>) -> fmt::Result {
         let Handle { slot, generation } = self.0;
         write!(f, "{slot}.{generation}")
     }
 }
 
-/// A whole number in decimal, without a sign or a leading zero.
-fn part_of(digits: &str) -> Option<u32> {
-    let has_leading_zero = digits.len() > 1 && digits.starts_with('0');
-    if has_leading_zero || digits.starts_with('+') {
+/// Whether a number's text begins with a sign, or with a zero before other digits.
+fn is_padded(digits: &str) -> bool
+    ensures { IsTrue result ↔ IsPadded digits.now }
+{
+    digits.starts_with('+') || (digits.starts_with('0') && digits.len() > 1)
+}
+
+/// Reads a whole number in decimal, without a sign and a leading zero.
+fn part_of(digits: &str) -> Option<u32>
+    ensures read { IfSome result (λ number. digits.now ≡ decimal number) }
+    ensures all { (number : ℕ) → number < 2 ^ 32 → digits.now ≡ decimal number → result ≡ Some number }
+{
+    if is_padded(digits) {
         return None;
     }
     digits.parse::<u32>().ok()
 }
 
-/// Reads an id.
-pub fn handle_of(text: &str) -> Option<Handle> {
+/// Reads an id. What it reads is just what `Id` writes: no handle has two texts.
+pub fn handle_of(text: &str) -> Option<Handle>
+    ensures read { IfSome result (λ handle. text.now ≡ id_text handle) }
+    ensures all { (handle : Handle) → handle.slot < 2 ^ 32 → handle.generation < 2 ^ 32
+        → text.now ≡ id_text handle → result ≡ Some handle }
+{
     let (slot, generation) = text.split_once('.')?;
     Some(Handle {
         slot: part_of(slot)?,

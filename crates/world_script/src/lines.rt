@@ -3,9 +3,10 @@ use body_handles::Handle;
 use fixed_geom::{Rot, Vec2};
 use momenta::MassData;
 use serde_json::{Map, Value};
+use shapes::{Filter, Shape, ShapeDef, Shapes};
 use std::alloc::Global;
 use world_core::Command;
-use world_core_base::{BodyDef, Filter, Kind, Shape, ShapeDef, Shapes};
+use world_core_base::{BodyDef, Kind};
 
 /// What a line asks for.
 #[derive(Drop)]

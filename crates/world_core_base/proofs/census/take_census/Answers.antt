@@ -4,7 +4,7 @@ use Rattle.world_core_base.proofs.census.take_census.Goals as goal
 use Rattle.world_core_base.proofs.census.take_census.Goals.{in-Some+in_ok-list, in_default}
 
 pub loop-slot-preserved : goal.loop-slot-preserved
-loop-slot-preserved c = 
+loop-slot-preserved c =
     let places = c.args.places.now in
     let bodies = c.args.bodies.now in
     let slot = c.loop-slot.slot in

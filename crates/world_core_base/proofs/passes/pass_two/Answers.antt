@@ -1,8 +1,6 @@
-use Rattle.std.proofs.Common.{◌≡◌, suc, ◌+◌, ◌<◌, length, get_or, Some, Option, arith, ap, ◌∙◌, add-one}
-use Rattle.std.specs.Option.{option_map}
+use Rattle.std.proofs.Common.{◌≡◌, ◌<◌, length, get_or, Some, arith, ap, ◌∙◌, add-one}
 use Rattle.std.proofs.lemmas.Option.{slice_get_within}
-use Rattle.world_core_base.specs.declared.body.Body.{Body}
-use Rattle.world_core_base.specs.Passes.{OnMover, one_gain_x, one_gain_y, changed}
+use Rattle.world_core_base.specs.Passes.{OnMover}
 use Rattle.world_core_base.proofs.PassLaws.{next_is, length_is, items_more, slice_get-get, made_more, gain_x_more, gain_y_more, gain_x_more_after, gain_y_more_after, grown}
 use Rattle.world_core_base.proofs.passes.pass_two.Goals as goal
 
@@ -56,5 +54,5 @@ returns-clause-gives g c =
     let items = c.loop-slot.bodies.items in
     let as_long = length_is f s c.args.bodies.now.items items c.loop-slot.slot c.loop-slot.invariant.items in
     λ k b e.
-      let within = slice_get_within items k (Some b) e in
-      c.loop-slot.invariant.made k b (omega (arith, within, as_long, c.loop-slot-test.false, c.len-slot-end.ensures, c.args.bodies.now.ok)) e
+    let within = slice_get_within items k (Some b) e in
+    c.loop-slot.invariant.made k b (omega (arith, within, as_long, c.loop-slot-test.false, c.len-slot-end.ensures, c.args.bodies.now.ok)) e

@@ -1,7 +1,5 @@
-use Rattle.std.proofs.Common.{◌≤◌, ◌*◌, ◌^◌, List, Option, arith, ap, sym, subst, ◌∙◌, add-one}
-use Rattle.world_core_base.specs.declared.body.Body.{Body}
-use Rattle.world_core_base.specs.Slots.{HaveSameSlots}
-use Rattle.world_core_base.specs.Ticks.{Run, run_of, start, tick, ticks}
+use Rattle.std.proofs.Common.{◌*◌, ◌^◌, arith, ap, ◌∙◌, add-one}
+use Rattle.world_core_base.specs.Ticks.{start, tick}
 use Rattle.world_core_base.proofs.TickLaws.{momentum_x-ticks, momentum_y-ticks, same_slots-ticks}
 use Rattle.world_core_base.proofs.ticks.run_ticks.Goals as goal
 

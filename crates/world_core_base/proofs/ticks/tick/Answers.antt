@@ -1,4 +1,4 @@
-use Rattle.std.proofs.Common.{◌≤◌, ◌^◌, arith}
+use Rattle.std.proofs.Common.{arith}
 use Rattle.momenta.specs.Motions.{pulled}
 use Rattle.world_core_base.specs.Ticks.{settled, run_of}
 use Rattle.world_core_base.proofs.TickLaws.{bodies_after, mass_of, tick_is}
@@ -17,7 +17,7 @@ pass_two-gains-requires-clause-small c = λ slot b e moves.
 pub returns-clause-tick : goal.returns-clause-tick
 returns-clause-tick c =
     rw (tick_is c.args.gravity (run_of c.args.bodies.now.items c.args.sums))
-       (rw (c.plus.ensures.x, c.plus.ensures.y, c.plus-2.ensures.x, c.plus-2.ensures.y, c.pass_two-gains.ensures.first_x, c.pass_two-gains.ensures.first_y, c.pass_two-gains.ensures.second_x, c.pass_two-gains.ensures.second_y, c.pass_two-gains.ensures.bodies))
+    (rw (c.plus.ensures.x, c.plus.ensures.y, c.plus-2.ensures.x, c.plus-2.ensures.y, c.pass_two-gains.ensures.first_x, c.pass_two-gains.ensures.first_y, c.pass_two-gains.ensures.second_x, c.pass_two-gains.ensures.second_y, c.pass_two-gains.ensures.bodies))
 
 pub returns-clause-bodies : goal.returns-clause-bodies
 returns-clause-bodies c =
