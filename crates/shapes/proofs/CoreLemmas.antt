@@ -20,7 +20,7 @@ pub clamped_inside : (q : ℤ) → pos 0 ≤ℤ q → unsigned_abs q ≤ 2 ^ 30 
 unfolding clamped
 clamped_inside q h l = grind (arith, ints, nat_tests)
 
-rdiv_low : (a b : ℤ) → a ≤ℤ pos 0 → pos 0 <ℤ b → rdiv a b ≤ℤ pos 0
+pub rdiv_low : (a b : ℤ) → a ≤ℤ pos 0 → pos 0 <ℤ b → rdiv a b ≤ℤ pos 0
 unfolding rdiv
 rdiv_low (pos zero) b h p = let none : nearest 0 (unsigned_abs b) ≤ 0 = nearest_le 0 (unsigned_abs b) 0 (omega (arith, ints)) (omega arith) in omega (arith, ints, none)
 rdiv_low (pos (suc n)) b h p = absurd (omega (arith, ints))

@@ -1,11 +1,11 @@
 //! The manifold of two shapes: the one or two points at which they touch.
 
-ghost use Rattle.std.specs.Prelude.{◌≡◌, ◌^◌, ◌≤◌, [], IfSome, IfNone, unsigned_abs};
-ghost use Rattle.fixed_geom.specs.Vectors.{IsWithin};
+ghost use Rattle.std.specs.Prelude.{◌≡◌, ℕ, ◌+◌, ◌*◌, ◌^◌, ◌≤◌, [], IfSome, IfNone, unsigned_abs};
+ghost use Rattle.fixed_geom.specs.Vectors.{IsWithin, minus};
 ghost use Rattle.shapes.specs.Shapes.{IsShape};
 ghost use Rattle.shapes.specs.Poses.{IsPose, IsPlaced};
 ghost use Rattle.shapes.specs.Spots.{IsPair, IsSpot, pair_of};
-ghost use Rattle.shapes.specs.Manifolds.{point_of, IsLeastPoint, spots, allowed_spots, manifold_between, placed_pair, manifold_of};
+ghost use Rattle.shapes.specs.Manifolds.{point_of, IsPointWithin, IsLeastPoint, spots, allowed_spots, manifold_between, placed_pair, manifold_of};
 
 use crate::choice::chosen_spots;
 use crate::cores::cores_cross;
@@ -82,6 +82,8 @@ pub fn manifold(a: &Shape, pose_a: Pose, b: &Shape, pose_b: Pose) -> Manifold
     ensures first { IsLeastPoint pose_a.x pose_b.x (spots (placed_pair a.now pose_a b.now pose_b)) result.first }
     ensures second { IfSome result.second (λ p. IsLeastPoint pose_a.x pose_b.x (allowed_spots (placed_pair a.now pose_a b.now pose_b)) p) }
     ensures alone { IfNone result.second (allowed_spots (placed_pair a.now pose_a b.now pose_b) ≡ []) }
+    ensures first_near { (k : ℕ) → IsWithin k (minus pose_b.x pose_a.x) → IsPointWithin (4 * k + 2 ^ 28) result.first }
+    ensures second_near { (k : ℕ) → IsWithin k (minus pose_b.x pose_a.x) → IfSome result.second (λ p. IsPointWithin (4 * k + 2 ^ 28) p) }
 {
     let pair = pair_of(
         core_of(a, pose_a),
