@@ -4,5 +4,6 @@ pub mod CoreLemmas
 pub mod LeastLemmas
 pub mod NearLemmas
 pub mod PointLemmas
+pub mod RayLemmas
 pub mod RootBounds
 pub mod ShapeLemmas
