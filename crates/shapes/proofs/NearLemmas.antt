@@ -1,30 +1,29 @@
 -- How far from the bodies' centres their contact points are.
-use Rattle.std.proofs.Common.{◌≡◌, ℕ, zero, suc, ◌+◌, ◌*◌, ◌^◌, ◌<◌, ◌≤◌, ◌/◌, Bool, true, false, cond, ◌&&◌, ℤ, pos, negsuc, neg_ℤ, ◌+ℤ◌, ◌-ℤ◌, ◌*ℤ◌, ◌<ℤ◌, ◌≤ℤ◌, unsigned_abs, int_lt, List, [], ◌∷◌, All, map, Option, None, Some, IfSome, option_map, ◌⊎◌, inl, inr, arith, refl, sym, ◌∙◌, ap}
+use Rattle.std.proofs.Common.{◌≡◌, ℕ, zero, suc, ◌+◌, ◌*◌, ◌^◌, ◌<◌, ◌≤◌, ◌/◌, Bool, true, false, cond, ◌&&◌, ℤ, pos, negsuc, neg_ℤ, ◌+ℤ◌, ◌-ℤ◌, ◌*ℤ◌, ◌≤ℤ◌, unsigned_abs, List, [], ◌∷◌, All, map, IfSome, option_map, ◌⊎◌, inl, inr, arith, refl, sym}
 use Rattle.std.specs.Ordering.{int_eq}
 use Rattle.std.specs.List.{filter}
 use Rattle.std.proofs.lemmas.Int.{ints}
-use Rattle.std.proofs.lemmas.Bool.{cases_Bool, cases_lt}
+use Rattle.std.proofs.lemmas.Bool.{cases_Bool}
 use Rattle.std.proofs.lemmas.Bool.Decides.{nat_tests}
 use Rattle.std.proofs.Math.Nat.{div-le_self}
 use Rattle.std.proofs.lemmas.List.Elements.{All-nil, All-cons, All-head, All-tail}
 use Rattle.fixed_geom.specs.Numbers.{rdiv, fdiv}
-use Rattle.fixed_geom.specs.Vectors.{IsWithin, unit_length, dot, minus, moved, span, unit}
-use Rattle.fixed_geom.specs.Facings.{IsFacing, rotate}
+use Rattle.fixed_geom.specs.Vectors.{IsWithin, unit_length, minus, span, unit}
 use Rattle.fixed_geom.specs.declared.vectors.Vec2.{Vec2}
 use Rattle.fixed_geom.proofs.FacingLemmas.{rotated_x_le, rotated_y_le}
 use Rattle.fixed_geom.proofs.QuotientLemmas.{rdiv_le}
 use Rattle.fixed_geom.proofs.Sizes.{product_le, sum_le, difference_le}
-use Rattle.fixed_geom.proofs.VectorLemmas.{IsSpan, span_spans}
+use Rattle.fixed_geom.proofs.VectorLemmas.{span_spans}
 use Rattle.shapes.specs.declared.pose.Pose.{Pose}
 use Rattle.shapes.specs.declared.pose.Core.{Core}
 use Rattle.shapes.specs.declared.shape.Shape.{Shape}
 use Rattle.shapes.specs.declared.spots.Pair.{Pair}
 use Rattle.shapes.specs.declared.spots.Candidate.{Candidate}
 use Rattle.shapes.specs.declared.spots.Spot.{Spot}
-use Rattle.shapes.specs.Shapes.{IsShape, first_end, second_end, radius_of}
-use Rattle.shapes.specs.Poses.{IsPose, placed, core_of}
+use Rattle.shapes.specs.Shapes.{IsShape, first_end, second_end}
+use Rattle.shapes.specs.Poses.{IsPose, placed}
 use Rattle.shapes.specs.Cores.{is_point, way_of, clamped, share_of, closest}
-use Rattle.shapes.specs.Spots.{measured, of_a, of_b, others, opposite, square_to, across, up, flat_normal, normal_of, turned, separation_of, place_of, spot_of}
+use Rattle.shapes.specs.Spots.{of_a, of_b, others, opposite, square_to, across, up, flat_normal, normal_of, turned, separation_of, place_of, spot_of}
 use Rattle.shapes.specs.declared.points.Manifold.{Manifold}
 use Rattle.shapes.specs.Manifolds.{is_sooner, sooner, soonest, least_of, is_allowed, nearest_spot, chosen_spots, spots, first_spot, other_spots, allowed_spots, point_of, placed_pair, manifold_of, IsPointWithin}
 use Rattle.shapes.proofs.CoreLemmas.{rdiv_low, rdiv_nonnegative}

@@ -1,5 +1,5 @@
 -- Which shapes may collide.
-use Rattle.std.specs.Prelude.{ℕ, Bool, false, cond, not, ◌==◌, ℤ, pos, int_lt, bit_and, ◌^◌, ◌-◌}
+use Rattle.std.specs.Prelude.{Bool, false, cond, not, ◌==◌, pos, int_lt, bit_and, ◌^◌, ◌-◌}
 use Rattle.std.specs.Ordering.{int_eq}
 use Rattle.shapes.specs.declared.filter.Filter.{Filter}
 

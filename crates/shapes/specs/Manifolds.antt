@@ -1,12 +1,11 @@
 -- The first and the second point of a contact.
-use Rattle.std.specs.Prelude.{◌≡◌, ℕ, ◌==◌, nat_lt, Bool, true, false, ◌&&◌, ◌||◌, cond, ℤ, pos, int_lt, int_le, ◌+ℤ◌, unsigned_abs, ◌^◌, ◌≤◌, List, [], ◌∷◌, Option, None, Some, All, ◌⊎◌, option_map, map, filter}
+use Rattle.std.specs.Prelude.{◌≡◌, ℕ, ◌==◌, nat_lt, Bool, false, ◌&&◌, ◌||◌, cond, ℤ, pos, int_lt, int_le, ◌+ℤ◌, unsigned_abs, ◌^◌, ◌≤◌, List, [], ◌∷◌, Option, None, Some, All, ◌⊎◌, option_map, map, filter}
 use Rattle.std.specs.Ordering.{int_eq}
 use Rattle.fixed_geom.specs.Vectors.{IsWithin, dot, minus}
 use Rattle.fixed_geom.specs.declared.vectors.Vec2.{Vec2}
 use Rattle.shapes.specs.declared.pose.Pose.{Pose}
 use Rattle.shapes.specs.declared.shape.Shape.{Shape}
 use Rattle.shapes.specs.declared.spots.Pair.{Pair}
-use Rattle.shapes.specs.declared.spots.Candidate.{Candidate}
 use Rattle.shapes.specs.declared.spots.Spot.{Spot}
 use Rattle.shapes.specs.declared.choice.Chosen.{Chosen}
 use Rattle.shapes.specs.declared.points.Point.{Point}

@@ -1,5 +1,5 @@
 -- Where a ray meets a shape: the least of its hits, in 2^24ths of the ray's way.
-use Rattle.std.specs.Prelude.{◌≡◌, ℕ, ◌^◌, Bool, true, false, cond, All, ◌⊎◌, nat_lt, ℤ, pos, neg_ℤ, ◌+ℤ◌, ◌-ℤ◌, ◌*ℤ◌, int_lt, int_le, unsigned_abs, List, [], ◌∷◌, Option, None, Some}
+use Rattle.std.specs.Prelude.{◌≡◌, ℕ, ◌^◌, Bool, true, false, cond, All, ◌⊎◌, nat_lt, ℤ, pos, neg_ℤ, ◌-ℤ◌, ◌*ℤ◌, int_lt, int_le, unsigned_abs, List, [], ◌∷◌, Option, None, Some}
 use Rattle.std.specs.Ordering.{int_eq}
 use Rattle.std.specs.Int.{int_max}
 use Rattle.fixed_geom.specs.Numbers.{rdiv, fdiv, isqrt}
@@ -11,7 +11,7 @@ use Rattle.shapes.specs.declared.shape.Shape.{Shape}
 use Rattle.shapes.specs.declared.beam.Beam.{Beam}
 use Rattle.shapes.specs.Shapes.{radius_of}
 use Rattle.shapes.specs.Poses.{plus, core_of}
-use Rattle.shapes.specs.Cores.{is_point, way_of, closest}
+use Rattle.shapes.specs.Cores.{is_point, closest}
 use Rattle.shapes.specs.Spots.{opposite, across}
 
 -- a ray's place in the world
