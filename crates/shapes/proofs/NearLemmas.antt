@@ -1,9 +1,9 @@
 -- How far from the bodies' centres their contact points are.
-use Rattle.std.proofs.Common.{◌≡◌, ℕ, zero, suc, ◌+◌, ◌*◌, ◌^◌, ◌<◌, ◌≤◌, ◌/◌, Bool, true, false, cond, ◌&&◌, ℤ, pos, negsuc, neg_ℤ, ◌+ℤ◌, ◌-ℤ◌, ◌*ℤ◌, ◌≤ℤ◌, unsigned_abs, List, [], ◌∷◌, All, map, IfSome, option_map, ◌⊎◌, inl, inr, arith, refl, sym}
+use Rattle.std.proofs.Common.{◌≡◌, ℕ, zero, suc, ◌+◌, ◌*◌, ◌^◌, ◌<◌, ◌≤◌, ◌/◌, ◌==◌, int_lt, int_le, Bool, true, false, cond, ◌&&◌, ℤ, pos, negsuc, neg_ℤ, ◌+ℤ◌, ◌-ℤ◌, ◌*ℤ◌, ◌≤ℤ◌, unsigned_abs, List, [], ◌∷◌, All, map, IfSome, option_map, ◌⊎◌, inl, inr, arith, refl, sym}
 use Rattle.std.specs.Ordering.{int_eq}
 use Rattle.std.specs.List.{filter}
 use Rattle.std.proofs.lemmas.Int.{ints}
-use Rattle.std.proofs.lemmas.Bool.{cases_Bool}
+use Rattle.std.proofs.lemmas.Bool.{cases_Bool, false≢true}
 use Rattle.std.proofs.lemmas.Bool.Decides.{nat_tests}
 use Rattle.std.proofs.Math.Nat.{div-le_self}
 use Rattle.std.proofs.lemmas.List.Elements.{All-nil, All-cons, All-head, All-tail}
@@ -25,7 +25,7 @@ use Rattle.shapes.specs.Poses.{IsPose, placed}
 use Rattle.shapes.specs.Cores.{is_point, way_of, clamped, share_of, closest}
 use Rattle.shapes.specs.Spots.{of_a, of_b, others, opposite, square_to, across, up, flat_normal, normal_of, turned, separation_of, place_of, spot_of}
 use Rattle.shapes.specs.declared.points.Manifold.{Manifold}
-use Rattle.shapes.specs.Manifolds.{is_sooner, sooner, soonest, least_of, is_allowed, nearest_spot, chosen_spots, spots, first_spot, other_spots, allowed_spots, point_of, placed_pair, manifold_of, IsPointWithin}
+use Rattle.shapes.specs.Manifolds.{is_sooner, sooner, soonest, least_of, is_allowed, nearest_spot, chosen_spots, spots, first_spot, other_spots, allowed_spots, point_of, placed_pair, manifold_of, IsPointWithin, IsSecond, is_rival, is_far}
 use Rattle.shapes.proofs.CoreLemmas.{rdiv_low, rdiv_nonnegative}
 
 -- v is within k of c in each coordinate
@@ -179,6 +179,7 @@ normal_within s c e = elim (cases_Bool (int_eq c.dist (pos 0))) [
 -- ---- candidates
 
 record IsNearCandidate (k : ℕ) (x y : Vec2) (c : Candidate) : Type 0 where
+  number : c.number ≤ 3
   a : IsNear (2 ^ 25) x c.a
   b : IsNear (2 ^ 25) y c.b
   dist : c.dist ≡ span (minus c.b c.a)
@@ -244,6 +245,7 @@ spot_near s k x y c ra rb w h =
     let bx = to_second c.a.x (rdiv (n.x *ℤ m) unit_length) x.x y.x k (far k) w.x h.a.across dx in
     let by = to_second c.a.y (rdiv (n.y *ℤ m) unit_length) x.y y.y k (far k) w.y h.a.along dy in
     record {
+      candidate = h.number;
       normal = normal;
       separation = omega (arith, separation);
       ra = record { x = omega (arith, ax); y = omega (arith, ay) };
@@ -258,11 +260,16 @@ record IsAround (s : Pair) (x y : Vec2) : Type 0 where
   b_first : IsNear (2 ^ 25) y s.b.p
   b_second : IsNear (2 ^ 25) y s.b.q
 
-a_near : (s : Pair) (k n : ℕ) (x y e : Vec2) → IsAround s x y → IsNear (2 ^ 25) x e → IsNearCandidate k x y (of_a s n e)
-a_near s k n x y e h l = record { a = l; b = closest_near (2 ^ 25) y s.b e h.b_first h.b_second; dist = refl }
+a_near : (s : Pair) (k n : ℕ) (x y e : Vec2) → n ≤ 3 → IsAround s x y → IsNear (2 ^ 25) x e → IsNearCandidate k x y (of_a s n e)
+a_near s k n x y e i h l = record { number = i; a = l; b = closest_near (2 ^ 25) y s.b e h.b_first h.b_second; dist = refl }
 
-b_near : (s : Pair) (k n : ℕ) (x y e : Vec2) → IsAround s x y → IsNear (2 ^ 25) y e → IsNearCandidate k x y (of_b s n e)
-b_near s k n x y e h l = record { a = closest_near (2 ^ 25) x s.a e h.a_first h.a_second; b = l; dist = refl }
+b_near : (s : Pair) (k n : ℕ) (x y e : Vec2) → n ≤ 3 → IsAround s x y → IsNear (2 ^ 25) y e → IsNearCandidate k x y (of_b s n e)
+b_near s k n x y e i h l = record {
+  number = i;
+  a = closest_near (2 ^ 25) x s.a e h.a_first h.a_second;
+  b = l;
+  dist = refl;
+}
 
 either_all : (P : Candidate → Type 0) (b : Bool) (cs ds : List Candidate) → All P cs → All P ds → All P (cond b cs ds)
 either_all P true cs ds h l = h
@@ -275,9 +282,9 @@ others_near s k x y h =
     let one = of_a s 1 s.a.q in
     let two = of_b s 2 s.b.p in
     let three = of_b s 3 s.b.q in
-    let first = a_near s k 1 x y s.a.q h h.a_second in
-    let second = b_near s k 2 x y s.b.p h h.b_first in
-    let third = b_near s k 3 x y s.b.q h h.b_second in
+    let first = a_near s k 1 x y s.a.q (omega arith) h h.a_second in
+    let second = b_near s k 2 x y s.b.p (omega arith) h h.b_first in
+    let third = b_near s k 3 x y s.b.q (omega arith) h h.b_second in
     let end = All-cons P two [] second (All-nil P) in
     let ends = All-cons P two (three ∷ []) second (All-cons P three [] third (All-nil P)) in
     either_all P (is_point s.a)
@@ -332,7 +339,7 @@ has_near a o b p k ha ho hb hp w =
     let s = placed_pair a o b p in
     let h = around a o b p ha ho hb hp in
     let P : Spot → Type 0 = λ t. IsNearSpot k o.x p.x t in
-    let head = spot_near s k o.x p.x (of_a s 0 s.a.p) ha.radius hb.radius w (a_near s k 0 o.x p.x s.a.p h h.a_first) in
+    let head = spot_near s k o.x p.x (of_a s 0 s.a.p) ha.radius hb.radius w (a_near s k 0 o.x p.x s.a.p (omega arith) h h.a_first) in
     let rest = map_near s k o.x p.x (others s) ha.radius hb.radius w (others_near s k o.x p.x h) in
     record {
       first = soonest_all P (first_spot s) (other_spots s) head rest;
@@ -341,3 +348,51 @@ has_near a o b p k ha ho hb hp w =
 
 pub manifold_has_near : (a : Shape) (o : Pose) (b : Shape) (p : Pose) (m : Manifold) → m ≡ manifold_of a o b p → IsShape a → IsPose o → IsShape b → IsPose p → (k : ℕ) → IsWithin k (minus p.x o.x) → HasNear k m
 manifold_has_near a o b p m e ha ho hb hp k w = rw e (has_near a o b p k ha ho hb hp w)
+
+-- ---- the second point
+
+allowed_other : (first t : Spot) → is_allowed first t ≡ true → (t.candidate == first.candidate) ≡ false
+unfolding is_allowed is_rival
+allowed_other first t h = elim (cases_Bool (t.candidate == first.candidate)) [
+  | inl e ↦ absurd (false≢true (rw e at h))
+  | inr e ↦ e
+]
+
+passed : (a b c d : Bool) → cond (cond a false (cond b false c)) d false ≡ true → c ≡ true
+passed true b c d h = absurd (false≢true h)
+passed false true c d h = absurd (false≢true h)
+passed false false true d h = refl
+passed false false false d h = absurd (false≢true h)
+
+not_above : (x : ℤ) → int_le x (pos 0) ≡ true → x ≤ℤ pos 0
+not_above x h = grind (arith, ints, nat_tests)
+
+allowed_overlap : (first t : Spot) → is_allowed first t ≡ true → t.separation ≤ℤ pos 0
+unfolding is_allowed is_rival
+allowed_overlap first t h =
+    not_above t.separation (passed (t.candidate == first.candidate) (int_lt (first.dist +ℤ pos 20972) t.dist) (int_le t.separation (pos 0)) (is_far t.at first.at) h)
+
+kept_passes : (ok : Spot → Bool) (b : Bool) (t : Spot) (ts : List Spot) → ok t ≡ b → All (λ u. ok u ≡ true) ts → All (λ u. ok u ≡ true) (cond b (t ∷ ts) ts)
+kept_passes ok true t ts e h = All-cons (λ u. ok u ≡ true) t ts e h
+kept_passes ok false t ts e h = h
+
+filter_passes : (ok : Spot → Bool) (ts : List Spot) → All (λ u. ok u ≡ true) (filter ok ts)
+filter_passes ok [] = All-nil (λ u. ok u ≡ true)
+filter_passes ok (t ∷ ts) = kept_passes ok (ok t) t (filter ok ts) refl (filter_passes ok ts)
+
+second_is : (x y : Vec2) (first : Spot) (ts : List Spot) → All (λ u. is_allowed first u ≡ true) ts → IfSome (option_map (point_of x y) (least_of ts)) (λ p. IsSecond (point_of x y first) p)
+second_is x y first [] h = tt
+second_is x y first (t ∷ ts) h =
+    let P : Spot → Type 0 = λ u. is_allowed first u ≡ true in
+    let allowed = soonest_all P t ts (All-head P t ts h) (All-tail P t ts h) in
+    record { other = allowed_other first (soonest t ts) allowed; overlap = allowed_overlap first (soonest t ts) allowed }
+
+has_second : (a : Shape) (o : Pose) (b : Shape) (p : Pose) → IfSome (manifold_of a o b p).second (λ q. IsSecond (manifold_of a o b p).first q)
+unfolding chosen_spots nearest_spot
+has_second a o b p =
+    let s = placed_pair a o b p in
+    let first = soonest (first_spot s) (other_spots s) in
+    second_is o.x p.x first (allowed_spots s) (filter_passes (is_allowed first) (spots s))
+
+pub manifold_has_second : (a : Shape) (o : Pose) (b : Shape) (p : Pose) (m : Manifold) → m ≡ manifold_of a o b p → IfSome m.second (λ q. IsSecond m.first q)
+manifold_has_second a o b p m e = rw e (has_second a o b p)

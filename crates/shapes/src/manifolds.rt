@@ -5,7 +5,7 @@ ghost use Rattle.fixed_geom.specs.Vectors.{IsWithin, minus};
 ghost use Rattle.shapes.specs.Shapes.{IsShape};
 ghost use Rattle.shapes.specs.Poses.{IsPose, IsPlaced};
 ghost use Rattle.shapes.specs.Spots.{IsPair, IsSpot, pair_of};
-ghost use Rattle.shapes.specs.Manifolds.{point_of, IsPointWithin, IsLeastPoint, spots, allowed_spots, manifold_between, placed_pair, manifold_of};
+ghost use Rattle.shapes.specs.Manifolds.{point_of, IsPointWithin, IsSecond, IsLeastPoint, spots, allowed_spots, manifold_between, placed_pair, manifold_of};
 
 use crate::choice::chosen_spots;
 use crate::cores::cores_cross;
@@ -81,6 +81,7 @@ pub fn manifold(a: &Shape, pose_a: Pose, b: &Shape, pose_b: Pose) -> Manifold
     ensures value { result ≡ manifold_of a.now pose_a b.now pose_b }
     ensures first { IsLeastPoint pose_a.x pose_b.x (spots (placed_pair a.now pose_a b.now pose_b)) result.first }
     ensures second { IfSome result.second (λ p. IsLeastPoint pose_a.x pose_b.x (allowed_spots (placed_pair a.now pose_a b.now pose_b)) p) }
+    ensures other { IfSome result.second (λ p. IsSecond result.first p) }
     ensures alone { IfNone result.second (allowed_spots (placed_pair a.now pose_a b.now pose_b) ≡ []) }
     ensures first_near { (k : ℕ) → IsWithin k (minus pose_b.x pose_a.x) → IsPointWithin (4 * k + 2 ^ 28) result.first }
     ensures second_near { (k : ℕ) → IsWithin k (minus pose_b.x pose_a.x) → IfSome result.second (λ p. IsPointWithin (4 * k + 2 ^ 28) p) }
