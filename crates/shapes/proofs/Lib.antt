@@ -6,4 +6,6 @@ pub mod NearLemmas
 pub mod PointLemmas
 pub mod RayLemmas
 pub mod RootBounds
+pub mod SecondLemmas
 pub mod ShapeLemmas
+pub mod SpotLists

@@ -1,9 +1,8 @@
 -- How far from the bodies' centres their contact points are.
-use Rattle.std.proofs.Common.{◌≡◌, ℕ, zero, suc, ◌+◌, ◌*◌, ◌^◌, ◌<◌, ◌≤◌, ◌/◌, ◌==◌, int_lt, int_le, Bool, true, false, cond, ◌&&◌, ℤ, pos, negsuc, neg_ℤ, ◌+ℤ◌, ◌-ℤ◌, ◌*ℤ◌, ◌≤ℤ◌, unsigned_abs, List, [], ◌∷◌, All, map, IfSome, option_map, ◌⊎◌, inl, inr, arith, refl, sym}
+use Rattle.std.proofs.Common.{◌≡◌, ℕ, zero, suc, ◌+◌, ◌*◌, ◌^◌, ◌<◌, ◌≤◌, ◌/◌, Bool, true, false, cond, ◌&&◌, ℤ, pos, negsuc, neg_ℤ, ◌+ℤ◌, ◌-ℤ◌, ◌*ℤ◌, ◌≤ℤ◌, unsigned_abs, List, [], ◌∷◌, All, map, IfSome, option_map, ◌⊎◌, inl, inr, arith, refl, sym}
 use Rattle.std.specs.Ordering.{int_eq}
-use Rattle.std.specs.List.{filter}
 use Rattle.std.proofs.lemmas.Int.{ints}
-use Rattle.std.proofs.lemmas.Bool.{cases_Bool, false≢true}
+use Rattle.std.proofs.lemmas.Bool.{cases_Bool}
 use Rattle.std.proofs.lemmas.Bool.Decides.{nat_tests}
 use Rattle.std.proofs.Math.Nat.{div-le_self}
 use Rattle.std.proofs.lemmas.List.Elements.{All-nil, All-cons, All-head, All-tail}
@@ -25,7 +24,8 @@ use Rattle.shapes.specs.Poses.{IsPose, placed}
 use Rattle.shapes.specs.Cores.{is_point, way_of, clamped, share_of, closest}
 use Rattle.shapes.specs.Spots.{of_a, of_b, others, opposite, square_to, across, up, flat_normal, normal_of, turned, separation_of, place_of, spot_of}
 use Rattle.shapes.specs.declared.points.Manifold.{Manifold}
-use Rattle.shapes.specs.Manifolds.{is_sooner, sooner, soonest, least_of, is_allowed, nearest_spot, chosen_spots, spots, first_spot, other_spots, allowed_spots, point_of, placed_pair, manifold_of, IsPointWithin, IsSecond, is_rival, is_far}
+use Rattle.shapes.specs.Manifolds.{soonest, least_of, is_allowed, nearest_spot, chosen_spots, spots, first_spot, other_spots, allowed_spots, point_of, placed_pair, manifold_of, IsPointWithin}
+use Rattle.shapes.proofs.SpotLists.{soonest_all, filter_all}
 use Rattle.shapes.proofs.CoreLemmas.{rdiv_low, rdiv_nonnegative}
 
 -- v is within k of c in each coordinate
@@ -300,23 +300,6 @@ map_near s k x y (c ∷ cs) ra rb w h =
     (spot_near s k x y c ra rb w (All-head (λ c. IsNearCandidate k x y c) c cs h))
     (map_near s k x y cs ra rb w (All-tail (λ c. IsNearCandidate k x y c) c cs h))
 
-either_spot : (P : Spot → Type 0) (b : Bool) (t u : Spot) → P t → P u → P (cond b t u)
-either_spot P true t u h l = h
-either_spot P false t u h l = l
-
-soonest_all : (P : Spot → Type 0) (t : Spot) (ts : List Spot) → P t → All P ts → P (soonest t ts)
-unfolding sooner
-soonest_all P t [] h l = h
-soonest_all P t (u ∷ us) h l = soonest_all P (sooner t u) us (either_spot P (is_sooner u t) u t (All-head P u us l) h) (All-tail P u us l)
-
-kept : (P : Spot → Type 0) (b : Bool) (t : Spot) (ts : List Spot) → P t → All P ts → All P (cond b (t ∷ ts) ts)
-kept P true t ts h l = All-cons P t ts h l
-kept P false t ts h l = l
-
-filter_all : (P : Spot → Type 0) (ok : Spot → Bool) (ts : List Spot) → All P ts → All P (filter ok ts)
-filter_all P ok [] h = All-nil P
-filter_all P ok (t ∷ ts) h = kept P (ok t) t (filter ok ts) (All-head P t ts h) (filter_all P ok ts (All-tail P t ts h))
-
 second_near : (k : ℕ) (x y : Vec2) (ts : List Spot) → All (λ t. IsNearSpot k x y t) ts → IfSome (option_map (point_of x y) (least_of ts)) (λ p. IsPointWithin (4 * k + 2 ^ 28) p)
 second_near k x y [] h = tt
 second_near k x y (t ∷ ts) h = soonest_all (λ t. IsNearSpot k x y t) t ts (All-head (λ t. IsNearSpot k x y t) t ts h) (All-tail (λ t. IsNearSpot k x y t) t ts h)
@@ -348,51 +331,3 @@ has_near a o b p k ha ho hb hp w =
 
 pub manifold_has_near : (a : Shape) (o : Pose) (b : Shape) (p : Pose) (m : Manifold) → m ≡ manifold_of a o b p → IsShape a → IsPose o → IsShape b → IsPose p → (k : ℕ) → IsWithin k (minus p.x o.x) → HasNear k m
 manifold_has_near a o b p m e ha ho hb hp k w = rw e (has_near a o b p k ha ho hb hp w)
-
--- ---- the second point
-
-allowed_other : (first t : Spot) → is_allowed first t ≡ true → (t.candidate == first.candidate) ≡ false
-unfolding is_allowed is_rival
-allowed_other first t h = elim (cases_Bool (t.candidate == first.candidate)) [
-  | inl e ↦ absurd (false≢true (rw e at h))
-  | inr e ↦ e
-]
-
-passed : (a b c d : Bool) → cond (cond a false (cond b false c)) d false ≡ true → c ≡ true
-passed true b c d h = absurd (false≢true h)
-passed false true c d h = absurd (false≢true h)
-passed false false true d h = refl
-passed false false false d h = absurd (false≢true h)
-
-not_above : (x : ℤ) → int_le x (pos 0) ≡ true → x ≤ℤ pos 0
-not_above x h = grind (arith, ints, nat_tests)
-
-allowed_overlap : (first t : Spot) → is_allowed first t ≡ true → t.separation ≤ℤ pos 0
-unfolding is_allowed is_rival
-allowed_overlap first t h =
-    not_above t.separation (passed (t.candidate == first.candidate) (int_lt (first.dist +ℤ pos 20972) t.dist) (int_le t.separation (pos 0)) (is_far t.at first.at) h)
-
-kept_passes : (ok : Spot → Bool) (b : Bool) (t : Spot) (ts : List Spot) → ok t ≡ b → All (λ u. ok u ≡ true) ts → All (λ u. ok u ≡ true) (cond b (t ∷ ts) ts)
-kept_passes ok true t ts e h = All-cons (λ u. ok u ≡ true) t ts e h
-kept_passes ok false t ts e h = h
-
-filter_passes : (ok : Spot → Bool) (ts : List Spot) → All (λ u. ok u ≡ true) (filter ok ts)
-filter_passes ok [] = All-nil (λ u. ok u ≡ true)
-filter_passes ok (t ∷ ts) = kept_passes ok (ok t) t (filter ok ts) refl (filter_passes ok ts)
-
-second_is : (x y : Vec2) (first : Spot) (ts : List Spot) → All (λ u. is_allowed first u ≡ true) ts → IfSome (option_map (point_of x y) (least_of ts)) (λ p. IsSecond (point_of x y first) p)
-second_is x y first [] h = tt
-second_is x y first (t ∷ ts) h =
-    let P : Spot → Type 0 = λ u. is_allowed first u ≡ true in
-    let allowed = soonest_all P t ts (All-head P t ts h) (All-tail P t ts h) in
-    record { other = allowed_other first (soonest t ts) allowed; overlap = allowed_overlap first (soonest t ts) allowed }
-
-has_second : (a : Shape) (o : Pose) (b : Shape) (p : Pose) → IfSome (manifold_of a o b p).second (λ q. IsSecond (manifold_of a o b p).first q)
-unfolding chosen_spots nearest_spot
-has_second a o b p =
-    let s = placed_pair a o b p in
-    let first = soonest (first_spot s) (other_spots s) in
-    second_is o.x p.x first (allowed_spots s) (filter_passes (is_allowed first) (spots s))
-
-pub manifold_has_second : (a : Shape) (o : Pose) (b : Shape) (p : Pose) (m : Manifold) → m ≡ manifold_of a o b p → IfSome m.second (λ q. IsSecond m.first q)
-manifold_has_second a o b p m e = rw e (has_second a o b p)

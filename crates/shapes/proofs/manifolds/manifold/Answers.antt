@@ -3,7 +3,8 @@ use Rattle.std.proofs.lemmas.Int.{to_z-of_z}
 use Rattle.std.specs.Int.{w64}
 use mir.Val.{SFits}
 use Rattle.shapes.proofs.LeastLemmas.{manifold_has_least}
-use Rattle.shapes.proofs.NearLemmas.{manifold_has_near, manifold_has_second}
+use Rattle.shapes.proofs.NearLemmas.{manifold_has_near}
+use Rattle.shapes.proofs.SecondLemmas.{manifold_has_second}
 use Rattle.shapes.proofs.manifolds.manifold.Goals as goal
 
 pub returns-clause-value : goal.returns-clause-value
