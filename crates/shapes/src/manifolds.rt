@@ -72,7 +72,8 @@ fn pair_of(a: Core, radius_a: i64, b: Core, radius_b: i64) -> Pair
 /// point is the nearest candidate's, the lesser number's at the same distance; the second is the
 /// next such one that lies at most 20,972 u further, where the shapes overlap, and more than
 /// 20,972 u from the first. (Two points as in Box2D's manifolds; the candidates are this project's
-/// own rule.)
+/// own rule.) Where the bodies' centres are at most `k` u apart in each coordinate, no offset and no
+/// separation is beyond `4·k + 2^28` u in size.
 pub fn manifold(a: &Shape, pose_a: Pose, b: &Shape, pose_b: Pose) -> Manifold
     requires first { IsShape a.now }
     requires first_pose { IsPose pose_a }
