@@ -1,13 +1,13 @@
 -- The running least is the least of the list.
-use Rattle.std.proofs.Common.{◌≡◌, ℕ, Bool, true, false, cond, List, [], ◌∷◌, Option, None, Some, map, refl, sym, ◌∙◌, ap}
+use Rattle.std.proofs.Common.{◌≡◌, Bool, true, false, cond, List, [], ◌∷◌, Option, None, Some, map, refl, sym, ◌∙◌, ap}
 use Rattle.std.specs.List.{filter}
 use Rattle.shapes.specs.declared.choice.Chosen.{Chosen}
 use Rattle.shapes.specs.declared.spots.Pair.{Pair}
 use Rattle.shapes.specs.declared.spots.Candidate.{Candidate}
 use Rattle.shapes.specs.declared.spots.Spot.{Spot}
 use Rattle.shapes.specs.Spots.{of_a, others, spot_of}
-use Rattle.shapes.specs.Manifolds.{is_before, is_sooner, sooner, soonest, least_of, is_allowed, nearest_spot, chosen_spots, first_spot, other_spots, spots}
-use Rattle.shapes.specs.Choice.{nearer, nearest, sooner_of, tried, second_from, chosen_from}
+use Rattle.shapes.specs.Manifolds.{is_before, is_sooner, sooner, soonest, least_of, is_allowed, nearest_spot, chosen_spots, spots}
+use Rattle.shapes.specs.Choice.{nearer, nearest, tried, second_from, chosen_from}
 
 pushed : (s : Pair) (b : Bool) (c d : Candidate) → cond b (spot_of s c) (spot_of s d) ≡ spot_of s (cond b c d)
 pushed s true c d = refl

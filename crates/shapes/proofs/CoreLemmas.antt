@@ -1,5 +1,5 @@
 -- Shares of a core.
-use Rattle.std.proofs.Common.{◌≡◌, ℕ, zero, suc, ◌+◌, ◌*◌, ◌/◌, ◌^◌, ◌<◌, ◌≤◌, ℤ, pos, negsuc, neg_ℤ, ◌*ℤ◌, ◌<ℤ◌, ◌≤ℤ◌, unsigned_abs, arith, refl, int_lt}
+use Rattle.std.proofs.Common.{◌≡◌, ℕ, zero, suc, ◌+◌, ◌*◌, ◌^◌, ◌<◌, ◌≤◌, ℤ, pos, negsuc, ◌*ℤ◌, ◌<ℤ◌, ◌≤ℤ◌, unsigned_abs, arith}
 use Rattle.std.proofs.lemmas.Int.{ints}
 use Rattle.std.proofs.Math.Nat.{le-div_iff_mul-le}
 use Rattle.std.proofs.lemmas.Bool.Decides.{nat_tests}
@@ -20,7 +20,7 @@ pub clamped_inside : (q : ℤ) → pos 0 ≤ℤ q → unsigned_abs q ≤ 2 ^ 30 
 unfolding clamped
 clamped_inside q h l = grind (arith, ints, nat_tests)
 
-rdiv_low : (a b : ℤ) → a ≤ℤ pos 0 → pos 0 <ℤ b → rdiv a b ≤ℤ pos 0
+pub rdiv_low : (a b : ℤ) → a ≤ℤ pos 0 → pos 0 <ℤ b → rdiv a b ≤ℤ pos 0
 unfolding rdiv
 rdiv_low (pos zero) b h p = let none : nearest 0 (unsigned_abs b) ≤ 0 = nearest_le 0 (unsigned_abs b) 0 (omega (arith, ints)) (omega arith) in omega (arith, ints, none)
 rdiv_low (pos (suc n)) b h p = absurd (omega (arith, ints))

@@ -1,6 +1,5 @@
 -- The least of a list is one of the list, and none of the list is less.
-use Rattle.std.proofs.Common.{◌≡◌, ℕ, Bool, true, false, cond, ℤ, int_lt, nat_lt, List, [], ◌∷◌, All, Option, None, Some, IfSome, IfNone, option_map, ◌⊎◌, inl, inr, refl, sym, ◌∙◌, ap, subst, arith, ◌||◌, ◌&&◌}
-use Rattle.std.specs.Ordering.{int_eq}
+use Rattle.std.proofs.Common.{◌≡◌, ℕ, true, false, ℤ, List, [], ◌∷◌, Option, IfSome, IfNone, option_map, ◌⊎◌, inl, inr, refl, ◌∙◌, arith}
 use Rattle.std.proofs.lemmas.Int.{ints}
 use Rattle.std.proofs.lemmas.Bool.{cases_Bool}
 use Rattle.std.proofs.lemmas.Bool.Decides.{nat_tests}
@@ -8,10 +7,9 @@ use Rattle.std.proofs.lemmas.List.Elements.{All-nil, All-cons, All-head, All-tai
 use Rattle.fixed_geom.specs.declared.vectors.Vec2.{Vec2}
 use Rattle.shapes.specs.declared.pose.Pose.{Pose}
 use Rattle.shapes.specs.declared.shape.Shape.{Shape}
-use Rattle.shapes.specs.declared.spots.Pair.{Pair}
 use Rattle.shapes.specs.declared.spots.Spot.{Spot}
 use Rattle.shapes.specs.declared.points.Manifold.{Manifold}
-use Rattle.shapes.specs.Manifolds.{is_before, is_sooner, sooner, soonest, least_of, IsAmong, IsLeast, point_of, IsLeastPoint, nearest_spot, spots, first_spot, other_spots, allowed_spots, chosen_spots, placed_pair, manifold_between, manifold_of}
+use Rattle.shapes.specs.Manifolds.{is_before, is_sooner, sooner, soonest, least_of, IsAmong, IsLeast, point_of, IsLeastPoint, nearest_spot, spots, first_spot, other_spots, allowed_spots, chosen_spots, placed_pair, manifold_of}
 
 before_trans : (d e f : ℤ) (n m k : ℕ) → is_before e m d n ≡ false → is_before f k e m ≡ false → is_before f k d n ≡ false
 unfolding is_before

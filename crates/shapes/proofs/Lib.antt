@@ -2,6 +2,10 @@ pub mod BeamLemmas
 pub mod ChoiceLemmas
 pub mod CoreLemmas
 pub mod LeastLemmas
+pub mod NearLemmas
 pub mod PointLemmas
+pub mod RayLemmas
 pub mod RootBounds
+pub mod SecondLemmas
 pub mod ShapeLemmas
+pub mod SpotLists

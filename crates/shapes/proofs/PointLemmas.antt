@@ -1,8 +1,6 @@
 -- Two cores that are points have one contact point.
-use Rattle.std.proofs.Common.{◌≡◌, ℕ, ◌==◌, ◌+◌, Bool, true, false, cond, ℤ, pos, ◌+ℤ◌, ◌-ℤ◌, ◌*ℤ◌, int_lt, ◌&&◌, ◌∷◌, [], Option, None, Some, nat_lt, arith, refl, sym, ◌∙◌, ap, inl, inr}
-use Rattle.std.specs.Ordering.{int_eq}
+use Rattle.std.proofs.Common.{◌≡◌, ℕ, ◌+◌, Bool, true, false, cond, ℤ, pos, ◌+ℤ◌, ◌-ℤ◌, ◌*ℤ◌, ◌∷◌, [], Option, None, Some, arith, refl, sym, ◌∙◌, ap}
 use Rattle.std.proofs.lemmas.Int.{ints}
-use Rattle.std.proofs.lemmas.Bool.{cases_Bool}
 use Rattle.std.proofs.lemmas.Bool.Decides.{nat_tests}
 use Rattle.fixed_geom.specs.Numbers.{rdiv}
 use Rattle.fixed_geom.specs.Vectors.{unit_length, dot, minus, moved, span}
@@ -15,7 +13,7 @@ use Rattle.shapes.specs.declared.spots.Spot.{Spot}
 use Rattle.shapes.specs.Cores.{is_point, way_of, share_of, closest}
 use Rattle.shapes.specs.Spots.{measured, of_a, of_b, normal_of, separation_of, place_of, spot_of}
 use Rattle.shapes.specs.Manifolds.{is_before, is_far, is_rival, is_allowed}
-use Rattle.shapes.specs.Choice.{nearer, nearest, tried, second_from, chosen_from}
+use Rattle.shapes.specs.Choice.{nearer, tried, second_from, chosen_from}
 
 times_zero : (x : ℤ) → x *ℤ pos 0 ≡ pos 0
 times_zero x = omega (arith, ints)

@@ -1,9 +1,7 @@
 -- Shapes that passed the tests are within their limits.
-use Rattle.std.proofs.Common.{◌≡◌, refl, ℕ, ◌^◌, ◌≤◌, Bool, true, false, ◌&&◌, not, cond, nat_le, List, length, ℤ, pos, int_le, ◌≤ℤ◌, unsigned_abs, All, arith, tests, rules}
-use Rattle.std.specs.Ordering.{int_eq}
+use Rattle.std.proofs.Common.{◌≡◌, refl, ℕ, ◌^◌, ◌≤◌, Bool, true, false, cond, nat_le, List, length, ℤ, pos, ◌≤ℤ◌, unsigned_abs, All, arith}
 use Rattle.std.specs.List.{list_all}
 use Rattle.std.proofs.lemmas.Int.{ints}
-use Rattle.std.proofs.lemmas.Bool.{cases_Bool}
 use Rattle.std.proofs.lemmas.Bool.Decides.{nat_tests}
 use Rattle.std.proofs.lemmas.List.Sums.{AllPass-from_list_all}
 use Rattle.fixed_geom.specs.Vectors.{IsWithin, is_within}
@@ -11,7 +9,7 @@ use Rattle.fixed_geom.specs.declared.vectors.Vec2.{Vec2}
 use Rattle.shapes.specs.declared.shape.Shape.{Shape}
 use Rattle.shapes.specs.declared.shape.Shape.TheVariants.{Circle, Capsule, Segment}
 use Rattle.shapes.specs.declared.shape.ShapeDef.{ShapeDef}
-use Rattle.shapes.specs.Shapes.{IsShape, IsShapeDef, is_between, are_apart, is_form_allowed, is_core_near, is_in_range, are_forms_allowed, first_end, second_end, radius_of}
+use Rattle.shapes.specs.Shapes.{IsShapeDef, is_between, are_apart, is_form_allowed, is_core_near, is_in_range, are_forms_allowed, first_end, second_end, radius_of}
 
 record IsBoth (a b : Bool) : Type 0 where
   left : a ≡ true

@@ -4,7 +4,7 @@ use Rattle.shapes.specs.declared.choice.Chosen.{Chosen}
 use Rattle.shapes.specs.declared.spots.Pair.{Pair}
 use Rattle.shapes.specs.declared.spots.Candidate.{Candidate}
 use Rattle.shapes.specs.declared.spots.Spot.{Spot}
-use Rattle.shapes.specs.Spots.{of_a, others, spot_of}
+use Rattle.shapes.specs.Spots.{spot_of}
 use Rattle.shapes.specs.Manifolds.{is_before, sooner, is_allowed}
 
 unfoldable pub nearer : Candidate → Candidate → Candidate

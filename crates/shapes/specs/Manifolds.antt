@@ -1,12 +1,11 @@
 -- The first and the second point of a contact.
-use Rattle.std.specs.Prelude.{◌≡◌, ℕ, ◌==◌, nat_lt, Bool, true, false, ◌&&◌, ◌||◌, cond, ℤ, pos, int_lt, int_le, ◌+ℤ◌, List, [], ◌∷◌, Option, None, Some, All, ◌⊎◌, option_map, map, filter}
+use Rattle.std.specs.Prelude.{◌≡◌, ℕ, ◌==◌, nat_lt, Bool, false, ◌&&◌, ◌||◌, cond, ℤ, pos, int_lt, int_le, ◌≤ℤ◌, ◌+ℤ◌, unsigned_abs, ◌^◌, ◌≤◌, List, [], ◌∷◌, Option, None, Some, All, ◌⊎◌, option_map, map, filter}
 use Rattle.std.specs.Ordering.{int_eq}
-use Rattle.fixed_geom.specs.Vectors.{dot, minus}
+use Rattle.fixed_geom.specs.Vectors.{IsWithin, dot, minus}
 use Rattle.fixed_geom.specs.declared.vectors.Vec2.{Vec2}
 use Rattle.shapes.specs.declared.pose.Pose.{Pose}
 use Rattle.shapes.specs.declared.shape.Shape.{Shape}
 use Rattle.shapes.specs.declared.spots.Pair.{Pair}
-use Rattle.shapes.specs.declared.spots.Candidate.{Candidate}
 use Rattle.shapes.specs.declared.spots.Spot.{Spot}
 use Rattle.shapes.specs.declared.choice.Chosen.{Chosen}
 use Rattle.shapes.specs.declared.points.Point.{Point}
@@ -75,6 +74,20 @@ is_allowed first t = cond (is_rival first t) (is_far t.at first.at) false
 -- a spot as the two bodies keep it: by its offsets from their centres
 abbrev pub point_of : Vec2 → Vec2 → Spot → Point
 point_of center_a center_b t = record { candidate = t.candidate; normal = t.normal; separation = t.separation; ra = minus t.at center_a; rb = minus t.at center_b }
+
+-- the point is of one of four candidates, its normal is no longer than one in each part, and its
+-- other numbers are within k
+pub record IsPointWithin (k : ℕ) (p : Point) : Type 0 where
+  pub candidate : p.candidate ≤ 3
+  pub normal : IsWithin (2 ^ 30) p.normal
+  pub separation : unsigned_abs p.separation ≤ k
+  pub ra : IsWithin k p.ra
+  pub rb : IsWithin k p.rb
+
+-- a second point is of another candidate than the first, and the shapes overlap there
+pub record IsSecond (first p : Point) : Type 0 where
+  pub other : (p.candidate == first.candidate) ≡ false
+  pub overlap : p.separation ≤ℤ pos 0
 
 -- the point p is what the bodies keep of the least spot of a list
 pub record IsLeastPoint (center_a center_b : Vec2) (ts : List Spot) (p : Point) : Type 0 where

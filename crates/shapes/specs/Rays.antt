@@ -1,5 +1,5 @@
 -- Where a ray meets a shape: the least of its hits, in 2^24ths of the ray's way.
-use Rattle.std.specs.Prelude.{◌≡◌, ℕ, ◌^◌, Bool, cond, nat_lt, ℤ, pos, neg_ℤ, ◌+ℤ◌, ◌-ℤ◌, ◌*ℤ◌, int_lt, int_le, unsigned_abs, List, [], ◌∷◌, Option, None, Some}
+use Rattle.std.specs.Prelude.{◌≡◌, ℕ, ◌^◌, Bool, true, false, cond, All, ◌⊎◌, nat_lt, ℤ, pos, neg_ℤ, ◌-ℤ◌, ◌*ℤ◌, int_lt, int_le, unsigned_abs, List, [], ◌∷◌, Option, None, Some}
 use Rattle.std.specs.Ordering.{int_eq}
 use Rattle.std.specs.Int.{int_max}
 use Rattle.fixed_geom.specs.Numbers.{rdiv, fdiv, isqrt}
@@ -11,7 +11,7 @@ use Rattle.shapes.specs.declared.shape.Shape.{Shape}
 use Rattle.shapes.specs.declared.beam.Beam.{Beam}
 use Rattle.shapes.specs.Shapes.{radius_of}
 use Rattle.shapes.specs.Poses.{plus, core_of}
-use Rattle.shapes.specs.Cores.{is_point, way_of, closest}
+use Rattle.shapes.specs.Cores.{is_point, closest}
 use Rattle.shapes.specs.Spots.{opposite, across}
 
 -- a ray's place in the world
@@ -87,6 +87,24 @@ earliest h (g ∷ gs) = earliest (earlier h g) gs
 abbrev pub other_hits : Beam → Core → ℤ → List (Option ℕ)
 other_hits r c radius = cond (is_point c) [] (end_hit r radius c.q ∷ side_hits r c radius)
 
+abbrev pub hits : Beam → Core → ℤ → List (Option ℕ)
+hits r c radius = end_hit r radius c.p ∷ other_hits r c radius
+
+-- a hit at a lesser fraction; any hit comes before none
+abbrev pub is_earlier : Option ℕ → Option ℕ → Bool
+is_earlier None h = false
+is_earlier (Some s) None = true
+is_earlier (Some s) (Some t) = nat_lt s t
+
+abbrev pub IsAmongHits : Option ℕ → List (Option ℕ) → Type 0
+IsAmongHits h [] = ⊥
+IsAmongHits h (g ∷ gs) = (h ≡ g) ⊎ IsAmongHits h gs
+
+-- h is one of the hits, and none of them is earlier
+pub record IsEarliest (h : Option ℕ) (hs : List (Option ℕ)) : Type 0 where
+  pub among : IsAmongHits h hs
+  pub none_earlier : All (λ g. is_earlier g h ≡ false) hs
+
 -- the start lies in the shape
 unfoldable pub is_inside : Core → ℤ → Vec2 → Bool
 is_inside c radius e = int_le (span (minus (closest c e) e)) radius
@@ -94,5 +112,8 @@ is_inside c radius e = int_le (span (minus (closest c e) e)) radius
 unfoldable pub core_ray : Beam → Core → ℤ → Option ℕ
 core_ray r c radius = cond (is_inside c radius r.from) (Some 0) (earliest (end_hit r radius c.p) (other_hits r c radius))
 
+abbrev pub beam_of : Vec2 → Vec2 → Beam
+beam_of from along = record { from = from; along = along }
+
 abbrev pub ray_of : Shape → Pose → Vec2 → Vec2 → Option ℕ
-ray_of s o from along = core_ray (record { from = from; along = along }) (core_of s o) (radius_of s)
+ray_of s o from along = core_ray (beam_of from along) (core_of s o) (radius_of s)

@@ -1,5 +1,5 @@
 -- The parts of a shape, and which shapes a body may have.
-use Rattle.std.specs.Prelude.{◌≡◌, ℕ, ◌^◌, ◌≤◌, Bool, true, false, ◌&&◌, ◌||◌, not, cond, nat_le, List, length, ℤ, pos, int_le, ◌≤ℤ◌, unsigned_abs, Option, Some, None}
+use Rattle.std.specs.Prelude.{◌^◌, ◌≤◌, Bool, false, ◌&&◌, not, cond, nat_le, List, length, ℤ, pos, int_le, ◌≤ℤ◌, unsigned_abs, Option, Some, None}
 use Rattle.std.specs.Ordering.{int_eq}
 use Rattle.std.specs.List.{list_all}
 use Rattle.fixed_geom.specs.Vectors.{IsWithin, is_within}
@@ -9,6 +9,7 @@ use Rattle.fixed_geom.specs.declared.refusal.Refusal.TheVariants.{BadShape, OutO
 use Rattle.shapes.specs.declared.shape.Shape.{Shape}
 use Rattle.shapes.specs.declared.shape.Shape.TheVariants.{Circle, Capsule, Segment}
 use Rattle.shapes.specs.declared.shape.ShapeDef.{ShapeDef}
+use Rattle.shapes.specs.Filters.{default_filter}
 
 abbrev pub first_end : Shape → Vec2
 first_end (Circle center radius) = center
@@ -31,6 +32,10 @@ pub record IsShape (s : Shape) : Type 0 where
   pub second : IsWithin (2 ^ 24) (second_end s)
   pub nonnegative : pos 0 ≤ℤ radius_of s
   pub radius : unsigned_abs (radius_of s) ≤ 2 ^ 24
+
+-- a shape without friction and restitution that collides with all
+abbrev pub default_def : ShapeDef
+default_def = record { shape = Circle (record { x = pos 0; y = pos 0 }) (pos 0); friction = pos 0; restitution = pos 0; filter = default_filter }
 
 -- a shape as a body may have it; friction and restitution are in 256ths
 pub record IsShapeDef (d : ShapeDef) : Type 0 where

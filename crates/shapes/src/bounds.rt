@@ -1,9 +1,10 @@
 //! Boxes round shapes.
 
-ghost use Rattle.std.specs.Prelude.{◌≡◌, ◌+◌, ◌^◌};
+ghost use Rattle.std.specs.Prelude.{◌≡◌, ℕ, ◌+◌, ◌^◌};
 ghost use Rattle.fixed_geom.specs.Boxes.{IsBoxWithin, Contains};
+ghost use Rattle.fixed_geom.specs.Vectors.{IsWithin};
 ghost use Rattle.shapes.specs.Shapes.{IsShape};
-ghost use Rattle.shapes.specs.Poses.{IsPose, IsPlaced};
+ghost use Rattle.shapes.specs.Poses.{IsPose};
 ghost use Rattle.shapes.specs.Bounds.{box_of_ends, tight_box, fat_box};
 
 use crate::{Core, Pose, Shape, core_of};
@@ -14,9 +15,8 @@ pub const MARGIN: i64 = 131_072;
 
 /// The least box that holds both ends of a core.
 fn box_of_ends(core: &Core) -> Box2
-    requires { IsPlaced core.now }
     ensures value { result ≡ box_of_ends core.now }
-    ensures within { IsBoxWithin (2 ^ 37) result }
+    ensures within { (k : ℕ) → IsWithin k core.now.p → IsWithin k core.now.q → IsBoxWithin k result }
 {
     Box2 {
         lo: Vec2 {
@@ -35,16 +35,16 @@ pub fn tight_box(shape: &Shape, pose: Pose) -> Box2
     requires shape { IsShape shape.now }
     requires pose { IsPose pose }
     ensures value { result ≡ tight_box shape.now pose }
-    ensures within { IsBoxWithin (2 ^ 37 + 2 ^ 24) result }
+    ensures within { IsBoxWithin (2 ^ 36 + 2 ^ 25 + 2 ^ 24) result }
 {
     grow(box_of_ends(&core_of(shape, pose)), shape.radius())
 }
 
 /// The tight box grown by 131,072 u, which a shape may move in before its box is made anew.
 pub fn fat_box(tight: Box2) -> Box2
-    requires { IsBoxWithin (2 ^ 37 + 2 ^ 24) tight }
+    requires { IsBoxWithin (2 ^ 60) tight }
     ensures value { result ≡ fat_box tight }
-    ensures within { IsBoxWithin (2 ^ 38) result }
+    ensures within { (k : ℕ) → IsBoxWithin k tight → IsBoxWithin (k + 131072) result }
     ensures contains { Contains result tight }
 {
     grow(tight, MARGIN)

@@ -1,7 +1,7 @@
 //! Which shapes may collide.
 
 ghost use Rattle.std.specs.Prelude.{◌≡◌};
-ghost use Rattle.shapes.specs.Filters.{meets, should_collide};
+ghost use Rattle.shapes.specs.Filters.{default_filter, meets, should_collide};
 
 use std::default::Default;
 
@@ -15,6 +15,8 @@ pub struct Filter {
 }
 
 impl Default for Filter {
+    ghost is_default = { λ f. f ≡ default_filter };
+
     fn default() -> Filter {
         Filter {
             category: 1,

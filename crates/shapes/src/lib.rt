@@ -2,29 +2,29 @@
 //! where a ray hits one.
 //!
 //! A shape is a core, which is one point or the way between two, and all that lies within a radius
-//! of it. A circle's core is a point; a capsule's and a segment's have two ends. No call takes
-//! memory, and only `check` refuses.
+//! of it. A circle's core is a point; a capsule's and a segment's have two ends. Only `Shapes`, the
+//! list that a body has, takes memory, and only `check` refuses a shape.
 #![tactic(auto)]
 
-pub mod beam;
-pub mod bounds;
-pub mod choice;
-pub mod cores;
-pub mod filter;
-pub mod limits;
-pub mod manifolds;
-pub mod mixing;
+mod beam;
+mod bounds;
+mod choice;
+mod cores;
+mod filter;
+mod limits;
+mod manifolds;
+mod mixing;
 #[cfg(test)]
 mod placements;
-pub mod points;
-pub mod pose;
-pub mod rays;
-pub mod shape;
-pub mod spots;
+mod points;
+mod pose;
+mod rays;
+mod shape;
+mod spots;
 #[cfg(test)]
 mod tests;
 
-pub use bounds::{fat_box, tight_box};
+pub use bounds::{MARGIN, fat_box, tight_box};
 pub use filter::{Filter, should_collide};
 pub use limits::{MAX_SHAPES, check};
 pub use manifolds::manifold;

@@ -1,11 +1,11 @@
 //! The manifold of two shapes: the one or two points at which they touch.
 
-ghost use Rattle.std.specs.Prelude.{◌≡◌, ◌^◌, ◌≤◌, [], IfSome, IfNone, unsigned_abs};
-ghost use Rattle.fixed_geom.specs.Vectors.{IsWithin};
+ghost use Rattle.std.specs.Prelude.{◌≡◌, ℕ, ◌+◌, ◌*◌, ◌^◌, ◌≤◌, [], IfSome, IfNone, unsigned_abs};
+ghost use Rattle.fixed_geom.specs.Vectors.{IsWithin, minus};
 ghost use Rattle.shapes.specs.Shapes.{IsShape};
 ghost use Rattle.shapes.specs.Poses.{IsPose, IsPlaced};
 ghost use Rattle.shapes.specs.Spots.{IsPair, IsSpot, pair_of};
-ghost use Rattle.shapes.specs.Manifolds.{point_of, IsLeastPoint, spots, allowed_spots, manifold_between, placed_pair, manifold_of};
+ghost use Rattle.shapes.specs.Manifolds.{point_of, IsPointWithin, IsSecond, IsLeastPoint, spots, allowed_spots, manifold_between, placed_pair, manifold_of};
 
 use crate::choice::chosen_spots;
 use crate::cores::cores_cross;
@@ -72,7 +72,8 @@ fn pair_of(a: Core, radius_a: i64, b: Core, radius_b: i64) -> Pair
 /// point is the nearest candidate's, the lesser number's at the same distance; the second is the
 /// next such one that lies at most 20,972 u further, where the shapes overlap, and more than
 /// 20,972 u from the first. (Two points as in Box2D's manifolds; the candidates are this project's
-/// own rule.)
+/// own rule.) Where the bodies' centres are at most `k` u apart in each coordinate, no offset and no
+/// separation is beyond `4·k + 2^28` u in size.
 pub fn manifold(a: &Shape, pose_a: Pose, b: &Shape, pose_b: Pose) -> Manifold
     requires first { IsShape a.now }
     requires first_pose { IsPose pose_a }
@@ -81,7 +82,10 @@ pub fn manifold(a: &Shape, pose_a: Pose, b: &Shape, pose_b: Pose) -> Manifold
     ensures value { result ≡ manifold_of a.now pose_a b.now pose_b }
     ensures first { IsLeastPoint pose_a.x pose_b.x (spots (placed_pair a.now pose_a b.now pose_b)) result.first }
     ensures second { IfSome result.second (λ p. IsLeastPoint pose_a.x pose_b.x (allowed_spots (placed_pair a.now pose_a b.now pose_b)) p) }
+    ensures other { IfSome result.second (λ p. IsSecond result.first p) }
     ensures alone { IfNone result.second (allowed_spots (placed_pair a.now pose_a b.now pose_b) ≡ []) }
+    ensures first_near { (k : ℕ) → IsWithin k (minus pose_b.x pose_a.x) → IsPointWithin (4 * k + 2 ^ 28) result.first }
+    ensures second_near { (k : ℕ) → IsWithin k (minus pose_b.x pose_a.x) → IfSome result.second (λ p. IsPointWithin (4 * k + 2 ^ 28) p) }
 {
     let pair = pair_of(
         core_of(a, pose_a),

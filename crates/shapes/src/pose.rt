@@ -41,7 +41,7 @@ pub fn placed(pose: Pose, v: Vec2) -> Vec2
     requires pose { IsPose pose }
     requires near { IsWithin (2 ^ 24) v }
     ensures value { result ≡ placed pose v }
-    ensures within { IsWithin (2 ^ 37) result }
+    ensures within { IsWithin (2 ^ 36 + 2 ^ 25) result }
 {
     plus(pose.x, rotate(pose.rot, v))
 }
@@ -52,6 +52,8 @@ pub fn core_of(shape: &Shape, pose: Pose) -> Core
     requires pose { IsPose pose }
     ensures value { result ≡ core_of shape.now pose }
     ensures placed { IsPlaced result }
+    ensures first { IsWithin (2 ^ 36 + 2 ^ 25) result.p }
+    ensures second { IsWithin (2 ^ 36 + 2 ^ 25) result.q }
 {
     let p = placed(pose, shape.first_end());
     match shape {

@@ -1,11 +1,11 @@
 //! Where a ray first meets a shape.
 
-ghost use Rattle.std.specs.Prelude.{◌≡◌, ◌^◌, ◌≤◌, false, unsigned_abs};
+ghost use Rattle.std.specs.Prelude.{◌≡◌, ◌^◌, ◌≤◌, true, false, Some, IfSome, unsigned_abs};
 ghost use Rattle.fixed_geom.specs.Vectors.{IsWithin};
-ghost use Rattle.shapes.specs.Shapes.{IsShape};
-ghost use Rattle.shapes.specs.Poses.{IsPose, IsPlaced};
+ghost use Rattle.shapes.specs.Shapes.{IsShape, radius_of};
+ghost use Rattle.shapes.specs.Poses.{IsPose, IsPlaced, core_of};
 ghost use Rattle.shapes.specs.Cores.{is_point};
-ghost use Rattle.shapes.specs.Rays.{IsBeam, to_side, shifted, is_inside, earliest, side_hits, core_ray, ray_of};
+ghost use Rattle.shapes.specs.Rays.{IsBeam, to_side, shifted, is_inside, earliest, side_hits, hits, IsEarliest, core_ray, beam_of, ray_of};
 
 use crate::beam::{Beam, earlier, end_hit, side_hit};
 use crate::cores::{closest, is_point};
@@ -100,6 +100,9 @@ pub fn ray(shape: &Shape, pose: Pose, from: Vec2, along: Vec2) -> Option<u32>
     requires from { IsWithin (2 ^ 36) from }
     requires along { IsWithin (2 ^ 28) along }
     ensures value { result ≡ ray_of shape.now pose from along }
+    ensures within { IfSome result (λ t. t ≤ 2 ^ 24) }
+    ensures start { is_inside (core_of shape.now pose) (radius_of shape.now) from ≡ true → result ≡ Some 0 }
+    ensures earliest { is_inside (core_of shape.now pose) (radius_of shape.now) from ≡ false → IsEarliest result (hits (beam_of from along) (core_of shape.now pose) (radius_of shape.now)) }
 {
     core_ray(&Beam { from, along }, &core_of(shape, pose), shape.radius())
 }

@@ -2,7 +2,7 @@
 
 ghost use Rattle.std.specs.Prelude.{◌≡◌, ◌∷◌, ◌++◌, [], OnOk, OnErr, IfOk};
 ghost use Rattle.std.specs.Result.{IsOkUnless};
-ghost use Rattle.shapes.specs.Shapes.{first_end, second_end, radius_of};
+ghost use Rattle.shapes.specs.Shapes.{first_end, second_end, radius_of, default_def};
 
 use crate::Filter;
 use fixed_geom::{Refusal, Vec2};
@@ -90,6 +90,8 @@ pub struct ShapeDef {
 }
 
 impl Default for ShapeDef {
+    ghost is_default = { λ d. d ≡ default_def };
+
     fn default() -> ShapeDef {
         ShapeDef {
             shape: Shape::Circle {

@@ -9,12 +9,13 @@ pub enum Call {
     Step,
     Gravity,
     Plain,
+    Census,
     TryCopy,
     Replay,
 }
 
 /// Every call.
-pub const ALL: [Call; 9] = [
+pub const ALL: [Call; 10] = [
     Call::Create,
     Call::CreateManyShapes,
     Call::Push,
@@ -22,6 +23,7 @@ pub const ALL: [Call; 9] = [
     Call::Step,
     Call::Gravity,
     Call::Plain,
+    Call::Census,
     Call::TryCopy,
     Call::Replay,
 ];
@@ -37,6 +39,7 @@ impl Call {
             "step" => Some(Call::Step),
             "gravity" => Some(Call::Gravity),
             "plain" => Some(Call::Plain),
+            "census" => Some(Call::Census),
             "try_copy" => Some(Call::TryCopy),
             "replay" => Some(Call::Replay),
             _ => None,

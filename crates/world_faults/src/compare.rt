@@ -1,7 +1,7 @@
 use crate::stop::{Moment, Part, Stop};
 use impulse_ledger::{Cause, Ledger};
 use world_core::{Events, Plain, WorldCore};
-use world_core_base::Body;
+use world_core_base::{Body, Census};
 
 const CAUSES: [Cause; 6] = [
     Cause::Command,
@@ -51,6 +51,13 @@ pub fn expect_same_lists(moment: Moment, first: &Plain, second: &Plain) -> Resul
     expect(moment, Part::Calls, first.calls() == second.calls())
 }
 
+/// Whether the two list the same bodies in each set.
+pub fn are_same_censuses(first: &Census, second: &Census) -> bool {
+    first.static_set() == second.static_set()
+        && first.disabled() == second.disabled()
+        && first.awake() == second.awake()
+}
+
 fn are_same_bodies(first: &[Option<Body>], second: &[Option<Body>]) -> bool {
     first.len() == second.len()
         && first
@@ -91,3 +98,6 @@ fn are_same_events(first: &Events, second: &Events) -> bool {
         && first.slept() == second.slept()
         && first.woke() == second.woke()
 }
+
+#[cfg(test)]
+mod tests;

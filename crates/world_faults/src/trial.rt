@@ -1,11 +1,12 @@
 use crate::call::Call;
-use crate::compare::{expect, expect_same_lists, expect_same_worlds};
+use crate::compare::{are_same_censuses, expect, expect_same_lists, expect_same_worlds};
 use crate::scene;
 use crate::stop::{Moment, Part, Stop};
 use crate::worlds::Worlds;
 use fixed_geom::Refusal;
 use std::alloc::Global;
 use world_core::{Command, Plain, Reply};
+use world_core_base::Census;
 
 /// What a world answers to a command.
 type Answer = Result<Reply, Refusal>;
@@ -30,6 +31,7 @@ pub fn trial(alloc: Global, call: Call) -> Result<Outcome, Stop> {
         Call::Step => try_command(alloc, &scene::step()),
         Call::Gravity => try_command(alloc, &scene::gravity()),
         Call::Plain => try_plain(alloc),
+        Call::Census => try_census(alloc),
         Call::TryCopy => try_copy(alloc),
         Call::Replay => try_replay(alloc),
     }
@@ -76,6 +78,27 @@ fn is_listed(worlds: &Worlds, expected: &Plain) -> Result<bool, Stop> {
     match worlds.world.plain() {
         Ok(plain) => {
             expect_same_lists(Moment::Accepted, &plain, expected)?;
+            Ok(true)
+        }
+        Err(_) => Ok(false),
+    }
+}
+
+fn try_census(alloc: Global) -> Result<Outcome, Stop> {
+    let worlds = Worlds::new(alloc)?;
+    let expected = worlds.reference.census()?;
+    if is_counted(&worlds, &expected)? {
+        return Ok(Outcome::Unmet);
+    }
+    worlds.expect_kept()?;
+    again(is_counted(&worlds, &expected)?)
+}
+
+fn is_counted(worlds: &Worlds, expected: &Census) -> Result<bool, Stop> {
+    match worlds.world.census() {
+        Ok(census) => {
+            let is_same = are_same_censuses(&census, expected);
+            expect(Moment::Accepted, Part::Answer, is_same)?;
             Ok(true)
         }
         Err(_) => Ok(false),

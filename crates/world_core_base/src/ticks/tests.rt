@@ -3,9 +3,10 @@ ghost use Rattle.fixed_geom.specs.Vectors.{IsWithin};
 ghost use Rattle.world_core_base.specs.Bodies.{AreBodies, IsBody, is_mover};
 
 use super::run_ticks;
-use crate::{Body, BodyDef, Gain, Kind, ShapeDef, Shapes};
+use crate::{Body, BodyDef, Gain, Kind};
 use fixed_geom::{Refusal, Rot, Vec2};
 use momenta::MassData;
+use shapes::{ShapeDef, Shapes};
 use std::alloc::Global;
 use std::default::Default;
 use std::test::Fail;

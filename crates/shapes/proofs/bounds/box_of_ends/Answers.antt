@@ -1,8 +1,8 @@
-use Rattle.std.proofs.Common.{◌≡◌, ℕ, ◌≤◌, ◌^◌, ℤ, unsigned_abs, Bool, true, false, cond, int_lt, refl, rules}
+use Rattle.std.proofs.Common.{ℕ, ◌≤◌, ◌^◌, ℤ, unsigned_abs, Bool, true, false, cond, int_lt, refl, rules}
 use Rattle.std.proofs.lemmas.Int.{to_z-of_z}
 use Rattle.fixed_geom.specs.Boxes.{IsBoxWithin}
 use Rattle.shapes.specs.declared.pose.Core.{Core}
-use Rattle.shapes.specs.Poses.{IsPlaced}
+use Rattle.fixed_geom.specs.Vectors.{IsWithin}
 use Rattle.std.specs.Int.{w64, int_min, int_max}
 use mir.Val.{SFits}
 use Rattle.shapes.specs.Bounds.{box_of_ends}
@@ -35,12 +35,12 @@ min_le x y n h l = either_le (int_lt y x) y x n l h
 max_le : (x y : ℤ) (n : ℕ) → unsigned_abs x ≤ n → unsigned_abs y ≤ n → unsigned_abs (int_max x y) ≤ n
 max_le x y n h l = either_le (int_lt y x) x y n h l
 
-within : (p : Core) → IsPlaced p → IsBoxWithin (2 ^ 37) (box_of_ends p)
+within : (p : Core) (k : ℕ) → IsWithin k p.p → IsWithin k p.q → IsBoxWithin k (box_of_ends p)
 unfolding box_of_ends
-within p h = record {
-  lo = record { x = min_le p.p.x p.q.x (2 ^ 37) h.p.x h.q.x; y = min_le p.p.y p.q.y (2 ^ 37) h.p.y h.q.y };
-  hi = record { x = max_le p.p.x p.q.x (2 ^ 37) h.p.x h.q.x; y = max_le p.p.y p.q.y (2 ^ 37) h.p.y h.q.y };
+within p k h l = record {
+  lo = record { x = min_le p.p.x p.q.x k h.x l.x; y = min_le p.p.y p.q.y k h.y l.y };
+  hi = record { x = max_le p.p.x p.q.x k h.x l.x; y = max_le p.p.y p.q.y k h.y l.y };
 }
 
 pub returns-clause-within : goal.returns-clause-within
-returns-clause-within c = rw (returns-clause-value c) (within c.args.core.now c.requires)
+returns-clause-within c = λ k h l. rw (returns-clause-value c) (within c.args.core.now k h l)

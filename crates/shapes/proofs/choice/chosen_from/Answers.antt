@@ -1,7 +1,7 @@
 use Rattle.std.proofs.Common.{◌≡◌, ◌∙◌, ap, Option, None, ◌∷◌}
 use Rattle.shapes.specs.declared.spots.Spot.{Spot}
 use Rattle.shapes.specs.Spots.{spot_of}
-use Rattle.shapes.specs.Choice.{nearest, second_from, tried}
+use Rattle.shapes.specs.Choice.{nearest, second_from}
 use Rattle.shapes.proofs.ChoiceLemmas.{chosen_is}
 use Rattle.shapes.proofs.choice.chosen_from.Goals as goal
 

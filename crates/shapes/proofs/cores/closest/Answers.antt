@@ -1,10 +1,8 @@
-use Rattle.std.proofs.Common.{◌≡◌, ◌≤◌, ◌*◌, ◌^◌, arith, refl, sym, ◌∙◌, unsigned_abs}
+use Rattle.std.proofs.Common.{◌≤◌, ◌*◌, ◌^◌, arith, refl, sym, ◌∙◌, unsigned_abs}
 use Rattle.std.proofs.lemmas.Int.{to_z-of_z}
-use Rattle.std.proofs.lemmas.Nat.{mul-le}
 use Rattle.std.specs.Int.{w64}
 use mir.Val.{SFits}
-use Rattle.fixed_geom.specs.Vectors.{moved}
-use Rattle.shapes.specs.Cores.{closest, way_of, share_of}
+use Rattle.shapes.specs.Cores.{closest}
 use Rattle.shapes.proofs.PointLemmas.{closest_point}
 use Rattle.shapes.proofs.cores.closest.Goals as goal
 

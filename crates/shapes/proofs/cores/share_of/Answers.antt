@@ -1,8 +1,8 @@
-use Rattle.std.proofs.Common.{◌≡◌, ◌∙◌, ap, sym, arith, rules, refl, true, false, ◌≤◌, ◌*◌, ◌^◌, unsigned_abs, pos}
+use Rattle.std.proofs.Common.{◌≡◌, arith, refl, false, ◌≤◌, ◌*◌, ◌^◌, unsigned_abs}
 use Rattle.std.proofs.lemmas.Int.{to_z-of_z}
 use Rattle.std.specs.Int.{w64, w128}
 use mir.Val.{SFits}
-use Rattle.fixed_geom.specs.Vectors.{IsWithin, dot, minus}
+use Rattle.fixed_geom.specs.Vectors.{dot, minus}
 use Rattle.fixed_geom.proofs.VectorLemmas.{dot_positive}
 use Rattle.shapes.specs.Cores.{share_of, is_point, way_of}
 use Rattle.shapes.proofs.cores.share_of.Goals as goal

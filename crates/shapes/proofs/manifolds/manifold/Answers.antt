@@ -3,6 +3,8 @@ use Rattle.std.proofs.lemmas.Int.{to_z-of_z}
 use Rattle.std.specs.Int.{w64}
 use mir.Val.{SFits}
 use Rattle.shapes.proofs.LeastLemmas.{manifold_has_least}
+use Rattle.shapes.proofs.NearLemmas.{manifold_has_near}
+use Rattle.shapes.proofs.SecondLemmas.{manifold_has_second}
 use Rattle.shapes.proofs.manifolds.manifold.Goals as goal
 
 pub returns-clause-value : goal.returns-clause-value
@@ -20,3 +22,14 @@ returns-clause-second c = (manifold_has_least c.args.a.now c.args.pose_a c.args.
 
 pub returns-clause-alone : goal.returns-clause-alone
 returns-clause-alone c = (manifold_has_least c.args.a.now c.args.pose_a c.args.b.now c.args.pose_b c.manifold_between.result (returns-clause-value c)).alone
+
+pub returns-clause-first_near : goal.returns-clause-first_near
+returns-clause-first_near c = λ k w.
+    (manifold_has_near c.args.a.now c.args.pose_a c.args.b.now c.args.pose_b c.manifold_between.result (returns-clause-value c) c.requires.first c.requires.first_pose c.requires.second c.requires.second_pose k w).first
+
+pub returns-clause-second_near : goal.returns-clause-second_near
+returns-clause-second_near c = λ k w.
+    (manifold_has_near c.args.a.now c.args.pose_a c.args.b.now c.args.pose_b c.manifold_between.result (returns-clause-value c) c.requires.first c.requires.first_pose c.requires.second c.requires.second_pose k w).second
+
+pub returns-clause-other : goal.returns-clause-other
+returns-clause-other c = manifold_has_second c.args.a.now c.args.pose_a c.args.b.now c.args.pose_b c.manifold_between.result (returns-clause-value c)

@@ -1,4 +1,4 @@
-use Rattle.std.proofs.Common.{◌*◌, ◌+◌, ◌^◌, arith, refl}
+use Rattle.std.proofs.Common.{◌*◌, ◌^◌, arith, refl}
 use Rattle.shapes.specs.Poses.{placed}
 use Rattle.shapes.proofs.pose.placed.Goals as goal
 

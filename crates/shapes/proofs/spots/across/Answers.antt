@@ -1,4 +1,4 @@
-use Rattle.std.proofs.Common.{◌≡◌, refl}
+use Rattle.std.proofs.Common.{refl}
 use Rattle.shapes.specs.Spots.{across}
 use Rattle.shapes.proofs.spots.across.Goals as goal
 

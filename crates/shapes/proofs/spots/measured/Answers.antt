@@ -1,9 +1,8 @@
-use Rattle.std.proofs.Common.{◌≡◌, ◌∙◌, ap, arith, ◌≤◌, ◌*◌, ◌^◌, unsigned_abs, refl}
+use Rattle.std.proofs.Common.{◌≡◌, ◌∙◌, ap, arith, ◌≤◌, ◌*◌, ◌^◌, unsigned_abs}
 use Rattle.std.proofs.lemmas.Int.{to_z-of_z}
 use Rattle.std.specs.Int.{w64}
 use mir.Val.{SFits}
-use Rattle.fixed_geom.specs.Vectors.{span, minus, IsWithin}
-use Rattle.shapes.specs.Spots.{IsCandidate}
+use Rattle.fixed_geom.specs.Vectors.{span, minus}
 use Rattle.shapes.proofs.spots.measured.Goals as goal
 
 pub returns-clause-candidate : goal.returns-clause-candidate

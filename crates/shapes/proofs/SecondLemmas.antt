@@ -1,0 +1,60 @@
+-- The second point of a contact.
+use Rattle.std.proofs.Common.{◌≡◌, ◌==◌, int_lt, int_le, Bool, true, false, cond, ℤ, pos, ◌+ℤ◌, ◌≤ℤ◌, List, [], ◌∷◌, All, IfSome, option_map, inl, inr, arith, refl}
+use Rattle.std.specs.List.{filter}
+use Rattle.std.proofs.lemmas.Int.{ints}
+use Rattle.std.proofs.lemmas.Bool.{cases_Bool, false≢true}
+use Rattle.std.proofs.lemmas.Bool.Decides.{nat_tests}
+use Rattle.std.proofs.lemmas.List.Elements.{All-nil, All-cons, All-head, All-tail}
+use Rattle.fixed_geom.specs.declared.vectors.Vec2.{Vec2}
+use Rattle.shapes.specs.declared.pose.Pose.{Pose}
+use Rattle.shapes.specs.declared.shape.Shape.{Shape}
+use Rattle.shapes.specs.declared.spots.Spot.{Spot}
+use Rattle.shapes.specs.declared.points.Manifold.{Manifold}
+use Rattle.shapes.specs.Manifolds.{soonest, least_of, is_allowed, nearest_spot, chosen_spots, spots, first_spot, other_spots, allowed_spots, point_of, placed_pair, manifold_of, IsSecond, is_rival, is_far}
+use Rattle.shapes.proofs.SpotLists.{soonest_all}
+
+allowed_other : (first t : Spot) → is_allowed first t ≡ true → (t.candidate == first.candidate) ≡ false
+unfolding is_allowed is_rival
+allowed_other first t h = elim (cases_Bool (t.candidate == first.candidate)) [
+  | inl e ↦ absurd (false≢true (rw e at h))
+  | inr e ↦ e
+]
+
+passed : (a b c d : Bool) → cond (cond a false (cond b false c)) d false ≡ true → c ≡ true
+passed true b c d h = absurd (false≢true h)
+passed false true c d h = absurd (false≢true h)
+passed false false true d h = refl
+passed false false false d h = absurd (false≢true h)
+
+not_above : (x : ℤ) → int_le x (pos 0) ≡ true → x ≤ℤ pos 0
+not_above x h = grind (arith, ints, nat_tests)
+
+allowed_overlap : (first t : Spot) → is_allowed first t ≡ true → t.separation ≤ℤ pos 0
+unfolding is_allowed is_rival
+allowed_overlap first t h =
+    not_above t.separation (passed (t.candidate == first.candidate) (int_lt (first.dist +ℤ pos 20972) t.dist) (int_le t.separation (pos 0)) (is_far t.at first.at) h)
+
+kept_passes : (ok : Spot → Bool) (b : Bool) (t : Spot) (ts : List Spot) → ok t ≡ b → All (λ u. ok u ≡ true) ts → All (λ u. ok u ≡ true) (cond b (t ∷ ts) ts)
+kept_passes ok true t ts e h = All-cons (λ u. ok u ≡ true) t ts e h
+kept_passes ok false t ts e h = h
+
+filter_passes : (ok : Spot → Bool) (ts : List Spot) → All (λ u. ok u ≡ true) (filter ok ts)
+filter_passes ok [] = All-nil (λ u. ok u ≡ true)
+filter_passes ok (t ∷ ts) = kept_passes ok (ok t) t (filter ok ts) refl (filter_passes ok ts)
+
+second_is : (x y : Vec2) (first : Spot) (ts : List Spot) → All (λ u. is_allowed first u ≡ true) ts → IfSome (option_map (point_of x y) (least_of ts)) (λ p. IsSecond (point_of x y first) p)
+second_is x y first [] h = tt
+second_is x y first (t ∷ ts) h =
+    let P : Spot → Type 0 = λ u. is_allowed first u ≡ true in
+    let allowed = soonest_all P t ts (All-head P t ts h) (All-tail P t ts h) in
+    record { other = allowed_other first (soonest t ts) allowed; overlap = allowed_overlap first (soonest t ts) allowed }
+
+has_second : (a : Shape) (o : Pose) (b : Shape) (p : Pose) → IfSome (manifold_of a o b p).second (λ q. IsSecond (manifold_of a o b p).first q)
+unfolding chosen_spots nearest_spot
+has_second a o b p =
+    let s = placed_pair a o b p in
+    let first = soonest (first_spot s) (other_spots s) in
+    second_is o.x p.x first (allowed_spots s) (filter_passes (is_allowed first) (spots s))
+
+pub manifold_has_second : (a : Shape) (o : Pose) (b : Shape) (p : Pose) (m : Manifold) → m ≡ manifold_of a o b p → IfSome m.second (λ q. IsSecond m.first q)
+manifold_has_second a o b p m e = rw e (has_second a o b p)
