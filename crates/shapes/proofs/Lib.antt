@@ -1,0 +1,3 @@
+pub mod ChoiceLemmas
+pub mod CoreLemmas
+pub mod ShapeLemmas

@@ -1,0 +1,9 @@
+pub mod Bounds
+pub mod Choice
+pub mod Cores
+pub mod Filters
+pub mod Manifolds
+pub mod Mixing
+pub mod Poses
+pub mod Shapes
+pub mod Spots

@@ -1,0 +1,30 @@
+-- Where bodies and cores are in the world.
+use Rattle.std.specs.Prelude.{◌^◌, ◌+ℤ◌}
+use Rattle.fixed_geom.specs.Vectors.{IsWithin}
+use Rattle.fixed_geom.specs.Facings.{IsFacing, rotate}
+use Rattle.fixed_geom.specs.declared.vectors.Vec2.{Vec2}
+use Rattle.shapes.specs.declared.pose.Pose.{Pose}
+use Rattle.shapes.specs.declared.pose.Core.{Core}
+use Rattle.shapes.specs.declared.shape.Shape.{Shape}
+use Rattle.shapes.specs.Shapes.{first_end, second_end}
+
+-- a body's place in the world
+pub record IsPose (o : Pose) : Type 0 where
+  pub x : IsWithin (2 ^ 36) o.x
+  pub rot : IsFacing o.rot
+
+-- a core's place in the world
+pub record IsPlaced (c : Core) : Type 0 where
+  pub p : IsWithin (2 ^ 37) c.p
+  pub q : IsWithin (2 ^ 37) c.q
+
+abbrev pub plus : Vec2 → Vec2 → Vec2
+plus a b = record { x = a.x +ℤ b.x; y = a.y +ℤ b.y }
+
+-- where in the world v is, given from the centre of a body with the pose o
+unfoldable pub placed : Pose → Vec2 → Vec2
+placed o v = plus o.x (rotate o.rot v)
+
+-- the core of the shape s of a body with the pose o
+abbrev pub core_of : Shape → Pose → Core
+core_of s o = record { p = placed o (first_end s); q = placed o (second_end s) }

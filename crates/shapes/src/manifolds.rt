@@ -1,0 +1,90 @@
+//! The manifold of two shapes: the one or two points at which they touch.
+
+ghost use Rattle.std.specs.Prelude.{◌≡◌, ◌^◌, ◌≤◌, unsigned_abs};
+ghost use Rattle.fixed_geom.specs.Vectors.{IsWithin};
+ghost use Rattle.shapes.specs.Shapes.{IsShape};
+ghost use Rattle.shapes.specs.Poses.{IsPose, IsPlaced};
+ghost use Rattle.shapes.specs.Spots.{IsPair, IsSpot, pair_of};
+ghost use Rattle.shapes.specs.Manifolds.{point_of, manifold_between, manifold_of};
+
+use crate::choice::chosen_spots;
+use crate::cores::cores_cross;
+use crate::spots::{Pair, Spot};
+use crate::{Core, Manifold, Point, Pose, Shape, core_of};
+use fixed_geom::{Vec2, minus};
+
+fn point_of(center_a: Vec2, center_b: Vec2, spot: &Spot) -> Point
+    requires first { IsWithin (2 ^ 36) center_a }
+    requires second { IsWithin (2 ^ 36) center_b }
+    requires spot { IsSpot spot.now }
+    ensures { result ≡ point_of center_a center_b spot.now }
+{
+    Point {
+        candidate: spot.candidate,
+        normal: spot.normal,
+        separation: spot.separation,
+        ra: minus(spot.at, center_a),
+        rb: minus(spot.at, center_b),
+    }
+}
+
+fn manifold_between(pair: &Pair, center_a: Vec2, center_b: Vec2) -> Manifold
+    requires pair { IsPair pair.now }
+    requires first { IsWithin (2 ^ 36) center_a }
+    requires second { IsWithin (2 ^ 36) center_b }
+    ensures { result ≡ manifold_between pair.now center_a center_b }
+{
+    let chosen = chosen_spots(pair);
+    let first = point_of(center_a, center_b, &chosen.first);
+    match chosen.second {
+        None => Manifold {
+            first,
+            second: None,
+        },
+        Some(second) => Manifold {
+            first,
+            second: Some(point_of(center_a, center_b, &second)),
+        },
+    }
+}
+
+/// Two cores with their radii, and whether the cores cross.
+fn pair_of(a: Core, radius_a: i64, b: Core, radius_b: i64) -> Pair
+    requires first { IsPlaced a }
+    requires second { IsPlaced b }
+    requires radius_a { unsigned_abs radius_a ≤ 2 ^ 24 }
+    requires radius_b { unsigned_abs radius_b ≤ 2 ^ 24 }
+    ensures value { result ≡ pair_of a radius_a b radius_b }
+    ensures pair { IsPair result }
+{
+    Pair {
+        a,
+        b,
+        radius_a,
+        radius_b,
+        crossing: cores_cross(&a, &b),
+    }
+}
+
+/// The manifold of two shapes of bodies with these poses; `a` is the shape with the lesser number.
+///
+/// Each end of a core and the point of the other core nearest to it are a candidate. The first
+/// point is the nearest candidate's, the lesser number's at the same distance; the second is the
+/// next such one that lies at most 20,972 u further, where the shapes overlap, and more than
+/// 20,972 u from the first. (Two points as in Box2D's manifolds; the candidates are this project's
+/// own rule.)
+pub fn manifold(a: &Shape, pose_a: Pose, b: &Shape, pose_b: Pose) -> Manifold
+    requires first { IsShape a.now }
+    requires first_pose { IsPose pose_a }
+    requires second { IsShape b.now }
+    requires second_pose { IsPose pose_b }
+    ensures value { result ≡ manifold_of a.now pose_a b.now pose_b }
+{
+    let pair = pair_of(
+        core_of(a, pose_a),
+        a.radius(),
+        core_of(b, pose_b),
+        b.radius(),
+    );
+    manifold_between(&pair, pose_a.x, pose_b.x)
+}

@@ -1,0 +1,22 @@
+//! The points of a contact, as the two bodies keep them.
+
+use fixed_geom::Vec2;
+
+/// A point of contact: the number of its candidate, 0 to 3, the normal from the first shape to the
+/// second, times 2^30, the separation in u (below zero where the shapes overlap), and the contact
+/// point by its offsets from the two bodies' centres, in u.
+#[derive(Clone, Copy, Debug, PartialEq, Eq)]
+pub struct Point {
+    pub candidate: u8,
+    pub normal: Vec2,
+    pub separation: i64,
+    pub ra: Vec2,
+    pub rb: Vec2,
+}
+
+/// The one or two points at which two shapes touch or are nearest.
+#[derive(Clone, Copy, Debug, PartialEq, Eq)]
+pub struct Manifold {
+    pub first: Point,
+    pub second: Option<Point>,
+}

@@ -1,0 +1,64 @@
+//! Where bodies and cores are in the world.
+
+ghost use Rattle.std.specs.Prelude.{◌≡◌, ℕ, ◌+◌, ◌*◌, ◌^◌, ◌≤◌};
+ghost use Rattle.fixed_geom.specs.Vectors.{IsWithin};
+ghost use Rattle.shapes.specs.Shapes.{IsShape};
+ghost use Rattle.shapes.specs.Poses.{IsPose, IsPlaced, plus, placed, core_of};
+
+use crate::Shape;
+use fixed_geom::{Rot, Vec2, rotate};
+
+/// Where a body is: its centre, in u, and its facing.
+#[derive(Clone, Copy, Debug, PartialEq, Eq)]
+pub struct Pose {
+    pub x: Vec2,
+    pub rot: Rot,
+}
+
+/// The core of a shape in the world, by its two ends. Where they are equal it is a point.
+#[derive(Clone, Copy, Debug, PartialEq, Eq)]
+pub struct Core {
+    pub p: Vec2,
+    pub q: Vec2,
+}
+
+/// `a + b`, of components up to 2^61.
+pub fn plus(a: Vec2, b: Vec2) -> Vec2
+    requires first { IsWithin (2 ^ 61) a }
+    requires second { IsWithin (2 ^ 61) b }
+    ensures value { result ≡ plus a b }
+    ensures within { (j k : ℕ) → IsWithin j a → IsWithin k b → IsWithin (j + k) result }
+{
+    Vec2 {
+        x: a.x + b.x,
+        y: a.y + b.y,
+    }
+}
+
+/// Where in the world a point of a body is, given from the body's centre and at most 2^24 u from
+/// it in each coordinate.
+pub fn placed(pose: Pose, v: Vec2) -> Vec2
+    requires pose { IsPose pose }
+    requires near { IsWithin (2 ^ 24) v }
+    ensures value { result ≡ placed pose v }
+    ensures within { IsWithin (2 ^ 37) result }
+{
+    plus(pose.x, rotate(pose.rot, v))
+}
+
+/// The core of a shape of a body with this pose.
+pub fn core_of(shape: &Shape, pose: Pose) -> Core
+    requires shape { IsShape shape.now }
+    requires pose { IsPose pose }
+    ensures value { result ≡ core_of shape.now pose }
+    ensures placed { IsPlaced result }
+{
+    let p = placed(pose, shape.first_end());
+    match shape {
+        Shape::Circle { .. } => Core { p, q: p },
+        _ => Core {
+            p,
+            q: placed(pose, shape.second_end()),
+        },
+    }
+}
