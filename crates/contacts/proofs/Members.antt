@@ -1,5 +1,5 @@
 -- What is in a list, by recursion on the list, and how that agrees with places.
-use Rattle.std.proofs.Common.{◌≡◌, ℕ, zero, suc, ◌+◌, ◌<◌, ◌≤◌, List, [], ◌∷◌, ◌++◌, length, get_or, Bool, true, false, cond, ◌⊎◌, inl, inr, refl, sym, arith}
+use Rattle.std.proofs.Common.{◌≡◌, ℕ, zero, suc, ◌<◌, List, [], ◌∷◌, ◌++◌, length, get_or, Bool, true, false, cond, ◌⊎◌, inl, inr, refl, sym, arith}
 use Rattle.std.specs.List.{Contains, All}
 
 abbrev pub Each : {X : Type 0} → (X → Type 0) → List X → Type 0

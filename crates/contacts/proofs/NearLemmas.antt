@@ -1,9 +1,9 @@
 -- What is in the scan of all pairs, and that it rises.
-use Rattle.std.proofs.Common.{◌≡◌, ℕ, zero, suc, ◌+◌, ◌*◌, ◌^◌, ◌<◌, ◌≤◌, List, [], ◌∷◌, ◌++◌, length, Bool, true, false, cond, ◌⊎◌, inl, inr, refl, sym, arith}
+use Rattle.std.proofs.Common.{◌≡◌, ℕ, zero, suc, ◌+◌, ◌*◌, ◌^◌, ◌<◌, ◌≤◌, List, [], ◌∷◌, length, Bool, true, false, cond, inl, inr, refl, arith}
 use Rattle.contacts_base.specs.declared.near.Proxy.{Proxy}
-use Rattle.contacts_base.specs.Near.{is_near, pair_code, near_with, near_from, near_codes}
+use Rattle.contacts_base.specs.Near.{is_near, pair_code, near_with, near_from}
 use Rattle.contacts.specs.Sweep.{proxy_at}
-use Rattle.contacts.proofs.Members.{Each, IsIn, each_from, in_append, in_left, in_right, in_passed, in_new}
+use Rattle.contacts.proofs.Members.{IsIn, each_from, in_append, in_left, in_right, in_passed, in_new}
 use Rattle.contacts.proofs.Rising.{IsRising, rising_append, rising_passed}
 
 -- the code of a near pair of the list, whose first shape is at place n

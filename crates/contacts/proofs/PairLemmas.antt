@@ -1,9 +1,9 @@
 -- The near pairs are pairs of the list.
-use Rattle.std.proofs.Common.{◌≡◌, ℕ, ◌+◌, ◌*◌, ◌^◌, ◌<◌, ◌≤◌, List, length, arith}
+use Rattle.std.proofs.Common.{◌≡◌, ℕ, ◌+◌, ◌^◌, ◌<◌, ◌≤◌, List, length, arith}
 use Rattle.contacts_base.specs.declared.near.Proxy.{Proxy}
 use Rattle.contacts_base.specs.Near.{IsProxyList, pair_code, near_from, near_codes}
-use Rattle.contacts.specs.Changes.{IsPair, ArePairs, first_place, second_place}
-use Rattle.contacts.proofs.Members.{IsIn, each_from, all_from_each}
+use Rattle.contacts.specs.Changes.{IsPair, ArePairs}
+use Rattle.contacts.proofs.Members.{each_from, all_from_each}
 use Rattle.contacts.proofs.Rising.{increasing_from_rising}
 use Rattle.contacts.proofs.NearLemmas.{IsNearFrom, from_is, from_rises}
 use Rattle.contacts.proofs.ProxyLemmas.{few}

@@ -1,5 +1,5 @@
 -- Lists of numbers that rise: two with the same members are equal.
-use Rattle.std.proofs.Common.{◌≡◌, ℕ, zero, suc, ◌+◌, ◌<◌, ◌≤◌, List, [], ◌∷◌, ◌++◌, length, get_or, Bool, true, false, cond, inl, inr, refl, sym, arith, add-one}
+use Rattle.std.proofs.Common.{◌≡◌, ℕ, zero, suc, ◌<◌, ◌≤◌, List, [], ◌∷◌, ◌++◌, length, get_or, Bool, true, false, cond, inl, inr, refl, sym, arith, add-one}
 use Rattle.std.specs.List.Sorted.{IsStrictlyIncreasing}
 use Rattle.std.proofs.lemmas.List.Kept.{AllPairs-from_increasing}
 use Rattle.contacts.proofs.Members.{Each, IsIn, each_in, each_append}
@@ -58,6 +58,7 @@ each_from_places x (y ∷ ys) h = (h 0 (omega arith), each_from_places x ys (λ 
 
 pub rising_from_increasing : (xs : List ℕ) → IsStrictlyIncreasing xs → IsRising xs
 rising_from_increasing [] r = tt
-rising_from_increasing (x ∷ xs) r =
-    ( each_from_places x xs (λ k lt. AllPairs-from_increasing (x ∷ xs) r 0 (suc k) 0 (omega arith) (omega arith)),
-      rising_from_increasing xs (λ k lt. rw add-one (rw add-one at (r (suc k) (omega arith)))) )
+rising_from_increasing (x ∷ xs) r = (
+  each_from_places x xs (λ k lt. AllPairs-from_increasing (x ∷ xs) r 0 (suc k) 0 (omega arith) (omega arith)),
+  rising_from_increasing xs (λ k lt. rw add-one (rw add-one at (r (suc k) (omega arith)))),
+)

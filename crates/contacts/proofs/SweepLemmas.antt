@@ -1,5 +1,5 @@
 -- The sweep finds the near pairs and no others.
-use Rattle.std.proofs.Common.{◌≡◌, ℕ, zero, suc, ◌+◌, ◌*◌, ◌^◌, ◌<◌, ◌≤◌, List, [], ◌∷◌, ◌++◌, length, get_or, subst, Bool, true, false, cond, ◌&&◌, ◌||◌, Option, None, Some, ◌⊎◌, inl, inr, refl, sym, ap, ◌∙◌, arith, ltb, ltb-true, ltb-false, eqb, nat_lt, ℤ, ◌≤ℤ◌, ◌<ℤ◌, is_lt}
+use Rattle.std.proofs.Common.{◌≡◌, ℕ, zero, suc, ◌+◌, ◌^◌, ◌<◌, ◌≤◌, List, [], ◌∷◌, length, get_or, subst, Bool, true, false, cond, ◌&&◌, ◌||◌, Option, None, Some, inl, inr, refl, sym, ap, ◌∙◌, arith, ltb-true, ltb-false, eqb, nat_lt, ℤ, ◌≤ℤ◌, is_lt}
 use Rattle.std.specs.Prelude.{int_lt, int_le, ◌==◌}
 use Rattle.std.specs.Option.{option_to_list}
 use Rattle.std.specs.List.{All, dedup}
@@ -11,12 +11,12 @@ use Rattle.std.proofs.lemmas.List.Sorted.{sorted_far, ranks_by, Contains-permuta
 use Rattle.std.proofs.lemmas.List.Kept.{Contains-dedup_nat, Contains-from_dedup}
 use Rattle.std.proofs.lemmas.Map.Keys.{IsStrictlyIncreasing-dedup}
 use Rattle.std.proofs.lemmas.Cmp.{int_cmp_total}
-use Rattle.fixed_geom.specs.Boxes.{meets, overlaps}
+use Rattle.fixed_geom.specs.Boxes.{meets}
 use Rattle.contacts_base.specs.declared.near.Proxy.{Proxy}
 use Rattle.contacts_base.specs.Near.{is_near, pair_code, near_codes}
 use Rattle.contacts.specs.declared.sweep.Start.{Start}
 use Rattle.contacts.specs.Sweep.{proxy_at, pair_at, near_pair, low_of, starts_from, starts_of, IsPlaceIn, met_until, met, swept}
-use Rattle.contacts.proofs.Members.{Each, IsIn, each_in, each_from, in_append, in_left, in_right, in_from_contains, contains_from_in, all_from_each}
+use Rattle.contacts.proofs.Members.{Each, IsIn, each_in, in_append, in_left, in_right, in_from_contains, contains_from_in, all_from_each}
 use Rattle.contacts.proofs.NearLemmas.{IsNearFrom, from_has, from_is, from_rises}
 use Rattle.contacts.proofs.Rising.{IsRising, same_rising, rising_from_increasing}
 
@@ -213,9 +213,10 @@ above_from s (t ∷ ts) h = (h 0 t (omega arith), above_from s ts (λ k d lt. h 
 
 by_low_from : (ss : List Start) → ((i j : ℕ) (d : Start) → i ≤ j → j < length ss → (get_or ss i d).low ≤ℤ (get_or ss j d).low) → IsByLow ss
 by_low_from [] h = tt
-by_low_from (s ∷ ss) h =
-    ( above_from s ss (λ k d lt. h 0 (suc k) d (omega arith) (omega arith)),
-      by_low_from ss (λ i j d le lt. h (suc i) (suc j) d (omega arith) (omega arith)) )
+by_low_from (s ∷ ss) h = (
+  above_from s ss (λ k d lt. h 0 (suc k) d (omega arith) (omega arith)),
+  by_low_from ss (λ i j d le lt. h (suc i) (suc j) d (omega arith) (omega arith)),
+)
 
 by_low : (ss : List Start) → IsSortedByKey low_of int_cmp ss → IsByLow ss
 by_low ss h = by_low_from ss (λ i j d le lt. le_from_cmp _ _ (sorted_far _ (ranks_by int_cmp_total low_of) ss h i j d le lt))

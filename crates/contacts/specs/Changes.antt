@@ -1,5 +1,5 @@
 -- What becomes of the contacts.
-use Rattle.std.specs.Prelude.{ℕ, ◌<◌, ◌/◌, ◌%◌, ◌^◌, Bool, true, false, ◌&&◌, not, cond, List, length, map, All, Option, Some, None, is_some}
+use Rattle.std.specs.Prelude.{ℕ, ◌<◌, ◌/◌, ◌%◌, ◌^◌, Bool, false, cond, List, length, map, All, Option, Some, None, is_some}
 use Rattle.std.specs.List.{filter_map}
 use Rattle.std.specs.List.Sorted.{IsStrictlyIncreasing}
 use Rattle.shapes.specs.Manifolds.{manifold_of}

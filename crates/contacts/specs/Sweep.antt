@@ -1,8 +1,7 @@
 -- A sweep along x over a list of shapes.
-use Rattle.std.specs.Prelude.{ℕ, suc, ◌<◌, Bool, false, cond, nat_lt, ℤ, pos, int_lt, List, [], ◌∷◌, ◌++◌, length, slice_index_or, Option, Some, None}
+use Rattle.std.specs.Prelude.{ℕ, suc, ◌<◌, false, cond, nat_lt, ℤ, pos, int_lt, List, [], ◌∷◌, ◌++◌, length, slice_index_or, Option, Some, None}
 use Rattle.std.specs.Option.{option_to_list}
 use Rattle.fixed_geom.specs.declared.vectors.Vec2.{Vec2}
-use Rattle.fixed_geom.specs.declared.facings.Rot.{Rot}
 use Rattle.shapes.specs.declared.shape.Shape.TheVariants.{Circle}
 use Rattle.contacts_base.specs.declared.near.Proxy.{Proxy}
 use Rattle.contacts_base.specs.Near.{is_near, pair_code}

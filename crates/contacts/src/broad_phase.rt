@@ -35,7 +35,9 @@ impl BroadPhase {
     pub fn new(alloc: Global) -> BroadPhase
         ensures { result ≡ [] }
     {
-        BroadPhase { proxies: Vec::new(alloc) }
+        BroadPhase {
+            proxies: Vec::new(alloc),
+        }
     }
 
     /// Drops all shapes and keeps their room.

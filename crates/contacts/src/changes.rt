@@ -31,9 +31,15 @@ fn entry_of(old: &[ContactEntry], p: &Proxy, q: &Proxy) -> ContactEntry
     requires second { IsProxy q.now }
     ensures { result ≡ entry_of old.now p.now q.now }
 {
-    let key = ContactKey { first: p.id, second: q.id };
+    let key = ContactKey {
+        first: p.id,
+        second: q.id,
+    };
     let manifold = manifold(&p.shape, p.pose, &q.shape, q.pose);
-    ContactEntry { key, contact: evaluate(find(old, key), &manifold) }
+    ContactEntry {
+        key,
+        contact: evaluate(find(old, key), &manifold),
+    }
 }
 
 /// The contact of the pair with this number.
@@ -87,7 +93,9 @@ fn keys_not_in(
     entries: &[ContactEntry],
 ) -> Result<Vec<ContactKey>, Refusal>
     requires others { AreKeysRising others.now }
+    requires entries { AreKeysRising entries.now }
     ensures value { IfOk result (λ keys. keys.items ≡ keys_not_in others.now entries.now) }
+    ensures rising { IfOk result (λ keys. AreRising keys.items) }
     ensures memory_only { IsOkUnless result Refusal.NoMemory }
 {
     let mut keys = Vec::new(alloc);
@@ -116,7 +124,11 @@ fn key_if_touching(others: &[ContactEntry], entry: &ContactEntry) -> Option<Cont
     if !entry.contact.touching {
         return None;
     }
-    if is_touching(find(others, entry.key)) { None } else { Some(entry.key) }
+    if is_touching(find(others, entry.key)) {
+        None
+    } else {
+        Some(entry.key)
+    }
 }
 
 /// The keys of `entries` that touch, and among the others don't touch or aren't there. Refused 1
@@ -127,7 +139,9 @@ fn keys_touching_only_in(
     entries: &[ContactEntry],
 ) -> Result<Vec<ContactKey>, Refusal>
     requires others { AreKeysRising others.now }
+    requires entries { AreKeysRising entries.now }
     ensures value { IfOk result (λ keys. keys.items ≡ keys_touching_only_in others.now entries.now) }
+    ensures rising { IfOk result (λ keys. AreRising keys.items) }
     ensures memory_only { IsOkUnless result Refusal.NoMemory }
 {
     let mut keys = Vec::new(alloc);
@@ -159,6 +173,10 @@ pub fn update(
     ensures gone { IfOk result (λ changes. changes.gone.items ≡ keys_not_in changes.now.items old.now) }
     ensures begin { IfOk result (λ changes. changes.begin.items ≡ keys_touching_only_in old.now changes.now.items) }
     ensures end { IfOk result (λ changes. changes.end.items ≡ keys_touching_only_in changes.now.items old.now) }
+    ensures made_rising { IfOk result (λ changes. AreRising changes.made.items) }
+    ensures gone_rising { IfOk result (λ changes. AreRising changes.gone.items) }
+    ensures begin_rising { IfOk result (λ changes. AreRising changes.begin.items) }
+    ensures end_rising { IfOk result (λ changes. AreRising changes.end.items) }
     ensures memory_only { IsOkUnless result Refusal.NoMemory }
 {
     let now = contacts_of(alloc, old, broad.proxies(), near)?;
@@ -166,5 +184,11 @@ pub fn update(
     let gone = keys_not_in(alloc, &now, old)?;
     let begin = keys_touching_only_in(alloc, old, &now)?;
     let end = keys_touching_only_in(alloc, &now, old)?;
-    Ok(Changes { now, made, gone, begin, end })
+    Ok(Changes {
+        now,
+        made,
+        gone,
+        begin,
+        end,
+    })
 }

@@ -8,6 +8,8 @@
 mod broad_phase;
 mod changes;
 mod sweep;
+#[cfg(test)]
+mod tests;
 
 pub use broad_phase::BroadPhase;
 pub use changes::{Changes, update};

@@ -27,7 +27,11 @@ fn pair_at(proxies: &[Proxy], first: usize, second: usize) -> Option<u64>
     requires second { second < length proxies.now }
     ensures { result ≡ pair_at proxies.now first second }
 {
-    if is_near(&proxies[first], &proxies[second]) { Some(code_of(first, second)) } else { None }
+    if is_near(&proxies[first], &proxies[second]) {
+        Some(code_of(first, second))
+    } else {
+        None
+    }
 }
 
 /// The same of two places in either order.
@@ -38,12 +42,21 @@ fn near_pair(proxies: &[Proxy], place: usize, other: usize) -> Option<u64>
     requires other { other < length proxies.now }
     ensures { result ≡ near_pair proxies.now place other }
 {
-    if place < other { pair_at(proxies, place, other) } else { pair_at(proxies, other, place) }
+    if place < other {
+        pair_at(proxies, place, other)
+    } else {
+        pair_at(proxies, other, place)
+    }
 }
 
 /// Adds the pairs of the shape at `place` with those that are near it, until one begins where it
 /// has ended. Refused 1 where memory is wanting.
-fn push_met(near: &mut Vec<u64>, proxies: &[Proxy], place: usize, starts: &[Start]) -> Result<(), Refusal>
+fn push_met(
+    near: &mut Vec<u64>,
+    proxies: &[Proxy],
+    place: usize,
+    starts: &[Start],
+) -> Result<(), Refusal>
     requires few { length proxies.now ≤ 2 ^ 32 }
     requires place { place < length proxies.now }
     requires starts { All (IsPlaceIn proxies.now) starts.now }
@@ -84,7 +97,10 @@ fn starts_of(alloc: Global, proxies: &[Proxy]) -> Result<Vec<Start>, Refusal>
 {
     let mut starts = Vec::new(alloc);
     for (place, proxy) in proxies.iter().enumerate() {
-        starts.push(Start { low: proxy.fat.lo.x, place: place as u32 })?;
+        starts.push(Start {
+            low: proxy.fat.lo.x,
+            place: place as u32,
+        })?;
     }
     Ok(starts)
 }

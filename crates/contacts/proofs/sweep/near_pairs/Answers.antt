@@ -1,4 +1,4 @@
-use Rattle.std.proofs.Common.{arith, rules, eqb}
+use Rattle.std.proofs.Common.{eqb}
 use Rattle.std.proofs.lemmas.List.Filters.{dedup_is}
 use Rattle.contacts.proofs.ProxyLemmas.{few}
 use Rattle.contacts.proofs.SweepLemmas.{places_in, sweep_is_scan}

@@ -1,4 +1,4 @@
-use Rattle.std.proofs.Common.{arith, rules}
+use Rattle.std.proofs.Common.{rules}
 use Rattle.std.proofs.lemmas.List.Sorted.{answers_always}
 use Rattle.contacts.specs.Sweep.{low_of}
 use Rattle.contacts.proofs.sweep.starts_by_low.Goals as goal
