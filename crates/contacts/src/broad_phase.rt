@@ -47,15 +47,6 @@ impl BroadPhase {
         self.proxies.clear();
     }
 
-    /// Makes room for `additional` more shapes. Refused 1 where memory is wanting.
-    pub fn reserve(&mut self, additional: usize) -> Result<(), Refusal>
-        ensures same { self.new ≡ self.old }
-        ensures memory_only { IsOkUnless result Refusal.NoMemory }
-    {
-        self.proxies.reserve(additional)?;
-        Ok(())
-    }
-
     /// Adds a shape after those that are there, all of them lower. Refused 1 where memory is
     /// wanting, and then nothing is added.
     pub fn push(&mut self, proxy: Proxy) -> Result<(), Refusal>
@@ -67,6 +58,16 @@ impl BroadPhase {
     {
         self.proxies.push(proxy)?;
         Ok(())
+    }
+
+    /// A copy. Refused 1 where memory is wanting.
+    pub fn try_copy(&self) -> Result<BroadPhase, Refusal>
+        ensures copy { IfOk result (λ copied. copied ≡ self.now) }
+        ensures memory_only { IsOkUnless result Refusal.NoMemory }
+    {
+        let mut proxies = Vec::new(*self.proxies.allocator());
+        proxies.extend_from_slice(&self.proxies)?;
+        Ok(BroadPhase { proxies })
     }
 
     /// The shapes, ascending by id.

@@ -104,7 +104,6 @@ const KEY: ContactKey = ContactKey {
 /// A floor, and a capsule that lies at this height.
 fn lying_at(alloc: Global, y: i64) -> Result<BroadPhase, Refusal> {
     let mut broad = BroadPhase::new(alloc);
-    broad.reserve(2)?;
     add(&mut broad, proxy_of(0, FLOOR, 0, 0, false)?)?;
     add(&mut broad, proxy_of(1, LYING, 0, y, true)?)?;
     Ok(broad)
@@ -207,8 +206,10 @@ fn boxes_that_touch_are_near(rt: HostRuntime) -> Result<(), Fail> {
     let near = broad.near_pairs(rt.alloc())?;
     let pairs = [(1 << 32) + 2, (1 << 32) + 3, (2 << 32) + 3];
     assert_eq!(rt; near.as_slice(), pairs.as_slice());
+    let copied = broad.try_copy()?;
     broad.clear();
     assert!(rt; broad.near_pairs(rt.alloc())?.is_empty());
+    assert_eq!(rt; copied.near_pairs(rt.alloc())?.as_slice(), pairs.as_slice());
     Ok(())
 }
 
