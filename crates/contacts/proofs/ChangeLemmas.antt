@@ -1,0 +1,101 @@
+-- What a step of the lists of keys adds, and that the keys rise.
+use Rattle.std.proofs.Common.{◌≡◌, ℕ, ◌+◌, ◌*◌, ◌^◌, ◌<◌, ◌≤◌, List, [], ◌∷◌, length, map, get_or, Option, None, Some, ◌⊎◌, inl, inr, refl, ap, ◌∙◌, arith, Bool, true, false, cond, nat_lt, ltb-true, ltb-false}
+use Rattle.std.specs.List.{filter_map, cons_option}
+use Rattle.std.proofs.lemmas.List.{get_or-map, length-map}
+use Rattle.contacts_base.specs.declared.near.Proxy.{Proxy}
+use Rattle.contacts_base.specs.declared.key.ContactKey.{ContactKey}
+use Rattle.contacts_base.specs.declared.contact.ContactEntry.{ContactEntry}
+use Rattle.contacts_base.specs.Keys.{id_number, key_number}
+use Rattle.contacts_base.specs.Near.{IsProxy, IsProxyList}
+use Rattle.contacts_base.specs.Contacts.{number_of, AreKeysRising}
+use Rattle.contacts.specs.Sweep.{proxy_at}
+use Rattle.contacts.specs.Changes.{IsPair, ArePairs, first_place, second_place, entry_of, entry_at, contacts_of, key_unless_in, key_if_touching, keys_not_in, keys_touching_only_in, AreRising}
+use Rattle.contacts.proofs.Members.{Each}
+use Rattle.contacts.proofs.Rising.{IsRising, increasing_from_rising, rising_from_increasing}
+use Rattle.contacts.proofs.ProxyLemmas.{numbers_later}
+
+-- ---- the keys of the contacts rise
+
+entry_number : (old : List ContactEntry) (p q : Proxy) → number_of (entry_of old p q) ≡ id_number p.id * 2 ^ 40 + id_number q.id
+unfolding entry_of
+entry_number old p q = refl
+
+first_apart : (i k m n : ℕ) → i < k → m < 2 ^ 40 → i * 2 ^ 40 + m < k * 2 ^ 40 + n
+first_apart i k m n h l = omega arith
+
+by_places : (old : List ContactEntry) (ps : List Proxy) (i j k l : ℕ) → IsProxyList ps → i < length ps → j < length ps → k < length ps → l < length ps → (i < k) ⊎ ((i ≡ k) × (j < l)) → number_of (entry_of old (proxy_at ps i) (proxy_at ps j)) < number_of (entry_of old (proxy_at ps k) (proxy_at ps l))
+by_places old ps i j k l list bi bj bk bl h =
+    let pj : IsProxy (proxy_at ps j) = list.each j _ bj in
+    let small : id_number (proxy_at ps j).id < 2 ^ 40 = omega (arith, pj.slot, pj.index) in
+    rw (entry_number old (proxy_at ps i) (proxy_at ps j), entry_number old (proxy_at ps k) (proxy_at ps l))
+    (elim h [
+      | inl a ↦ let n : id_number (proxy_at ps i).id < id_number (proxy_at ps k).id = numbers_later ps list.rising i k _ a bk in first_apart _ _ _ _ n small
+      | inr b ↦ let n : id_number (proxy_at ps j).id < id_number (proxy_at ps l).id = numbers_later ps list.rising j l _ b.1 bl in rw b.0 (omega arith)
+    ])
+
+by_codes_from : (c d : ℕ) (t : Bool) → nat_lt (first_place c) (first_place d) ≡ t → c < d → (first_place c < first_place d) ⊎ ((first_place c ≡ first_place d) × (second_place c < second_place d))
+by_codes_from c d true e h = inl (ltb-true _ _ e)
+by_codes_from c d false e h = let le : first_place d ≤ first_place c = ltb-false _ _ e in inr (omega arith, omega arith)
+
+by_codes : (c d : ℕ) → c < d → (first_place c < first_place d) ⊎ ((first_place c ≡ first_place d) × (second_place c < second_place d))
+by_codes c d h = by_codes_from c d (nat_lt (first_place c) (first_place d)) refl h
+
+pub entry_rises : (old : List ContactEntry) (ps : List Proxy) (c d : ℕ) → IsProxyList ps → IsPair ps c → IsPair ps d → c < d → number_of (entry_at old ps c) < number_of (entry_at old ps d)
+entry_rises old ps c d list pc pd h = by_places old ps (first_place c) (second_place c) (first_place d) (second_place d) list (omega (arith, pc.before, pc.within)) pc.within (omega (arith, pd.before, pd.within)) pd.within (by_codes c d h)
+
+number_at : (old : List ContactEntry) (ps : List Proxy) (codes : List ℕ) (k : ℕ) → k < length codes → get_or (map number_of (contacts_of old ps codes)) k 0 ≡ number_of (entry_at old ps (get_or codes k 0))
+number_at old ps codes k lt =
+    let es = contacts_of old ps codes in
+    let d = entry_at old ps 0 in
+    let n : length (map (entry_at old ps) codes) ≡ length codes = length-map codes (entry_at old ps) in
+    get_or-map number_of es k d 0 (omega arith) ∙ ap number_of (get_or-map (entry_at old ps) codes k 0 d lt)
+
+pub contacts_rise : (old : List ContactEntry) (ps : List Proxy) (codes : List ℕ) → IsProxyList ps → ArePairs ps codes → AreKeysRising (contacts_of old ps codes)
+contacts_rise old ps codes list pairs k lt =
+    let n : length (map number_of (contacts_of old ps codes)) ≡ length codes = length-map (contacts_of old ps codes) number_of ∙ length-map codes (entry_at old ps) in
+    let b : k + 1 < length codes = omega arith in
+    rw (number_at old ps codes k (omega arith), number_at old ps codes (k + 1) b)
+    (entry_rises old ps (get_or codes k 0) (get_or codes (k + 1) 0) list (pairs.each k 0 (omega arith)) (pairs.each (k + 1) 0 b) (pairs.rising k b))
+
+-- ---- the keys that are picked out of ascending ones ascend
+
+cons_each : (b : ℕ) (o : Option ContactKey) (keys : List ContactKey) → ((k : ContactKey) → o ≡ Some k → b < key_number k) → Each (λ n. b < n) (map key_number keys) → Each (λ n. b < n) (map key_number (cons_option o keys))
+cons_each b None keys h a = a
+cons_each b (Some k) keys h a = (h k refl, a)
+
+cons_rising : (b : ℕ) (o : Option ContactKey) (keys : List ContactKey) → ((k : ContactKey) → o ≡ Some k → key_number k ≡ b) → Each (λ n. b < n) (map key_number keys) → IsRising (map key_number keys) → IsRising (map key_number (cons_option o keys))
+cons_rising b None keys h a r = r
+cons_rising b (Some k) keys h a r = let e : key_number k ≡ b = h k refl in (rw e a, r)
+
+-- what the test picks of an entry is the entry's key
+abbrev PicksKeys : (ContactEntry → Option ContactKey) → Type 0
+PicksKeys pick = (e : ContactEntry) (k : ContactKey) → pick e ≡ Some k → key_number k ≡ number_of e
+
+picked_above : (pick : ContactEntry → Option ContactKey) → PicksKeys pick → (b : ℕ) (es : List ContactEntry) → Each (λ n. b < n) (map number_of es) → Each (λ n. b < n) (map key_number (filter_map pick es))
+picked_above pick f b [] a = tt
+picked_above pick f b (e ∷ es) a =
+    let low : b < number_of e = a.0 in
+    cons_each b (pick e) (filter_map pick es) (λ k h. let same : key_number k ≡ number_of e = f e k h in omega arith) (picked_above pick f b es a.1)
+
+picked_rising : (pick : ContactEntry → Option ContactKey) → PicksKeys pick → (es : List ContactEntry) → IsRising (map number_of es) → IsRising (map key_number (filter_map pick es))
+picked_rising pick f [] r = tt
+picked_rising pick f (e ∷ es) r = cons_rising (number_of e) (pick e) (filter_map pick es) (f e) (picked_above pick f (number_of e) es r.0) (picked_rising pick f es r.1)
+
+picked_rise : (pick : ContactEntry → Option ContactKey) → PicksKeys pick → (es : List ContactEntry) → AreKeysRising es → AreRising (filter_map pick es)
+picked_rise pick f es h = increasing_from_rising (map key_number (filter_map pick es)) (picked_rising pick f es (rising_from_increasing (map number_of es) h))
+
+unless_step : (t : Bool) (k j : ContactKey) → cond t None (Some j) ≡ Some k → key_number k ≡ key_number j
+unless_step true k j h = cc
+unless_step false k j h = cc
+
+if_step : (t : Bool) (o : Option ContactKey) (k j : ContactKey) → (o ≡ Some k → key_number k ≡ key_number j) → cond t o None ≡ Some k → key_number k ≡ key_number j
+if_step true o k j f h = f h
+if_step false o k j f h = cc
+
+pub keys_not_in_rise : (others es : List ContactEntry) → AreKeysRising es → AreRising (keys_not_in others es)
+unfolding key_unless_in
+keys_not_in_rise others es h = picked_rise (key_unless_in others) (λ e k q. unless_step _ k e.key q) es h
+
+pub keys_touching_rise : (others es : List ContactEntry) → AreKeysRising es → AreRising (keys_touching_only_in others es)
+unfolding key_if_touching
+keys_touching_rise others es h = picked_rise (key_if_touching others) (λ e k q. if_step _ _ k e.key (unless_step _ k e.key) q) es h

@@ -1,0 +1,7 @@
+pub mod Members
+pub mod Rising
+pub mod NearLemmas
+pub mod ProxyLemmas
+pub mod PairLemmas
+pub mod SweepLemmas
+pub mod ChangeLemmas

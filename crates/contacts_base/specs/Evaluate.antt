@@ -1,0 +1,37 @@
+-- What a contact becomes when its shapes are evaluated.
+use Rattle.std.specs.Prelude.{ℕ, ◌==◌, true, false, cond, pos, int_lt, Option, Some, None, option_map}
+use Rattle.shapes.specs.declared.points.Point.{Point}
+use Rattle.shapes.specs.declared.points.Manifold.{Manifold}
+use Rattle.contacts_base.specs.declared.contact.ContactPoint.{ContactPoint}
+use Rattle.contacts_base.specs.declared.contact.Contact.{Contact}
+use Rattle.contacts_base.specs.declared.evaluation.Impulses.{Impulses}
+
+abbrev pub no_impulses : Impulses
+no_impulses = record { push = pos 0; slip = pos 0 }
+
+-- the impulses of the point, if it is the candidate's
+abbrev pub impulses_at : Option ContactPoint → ℕ → Option Impulses
+impulses_at None candidate = None
+impulses_at (Some p) candidate = cond (p.candidate == candidate) (Some (record { push = p.push; slip = p.slip })) None
+
+abbrev pub first_of : Option Impulses → Option Impulses → Impulses
+first_of (Some i) other = i
+first_of None (Some i) = i
+first_of None None = no_impulses
+
+-- the impulses that the contact kept at the candidate
+abbrev pub kept : Option Contact → ℕ → Impulses
+kept None candidate = no_impulses
+kept (Some c) candidate = first_of (impulses_at c.first candidate) (impulses_at c.second candidate)
+
+-- the point with the impulses kept at its candidate
+abbrev pub kept_point : Option Contact → Point → ContactPoint
+kept_point old p = record { candidate = p.candidate; normal = p.normal; separation = p.separation; ra = p.ra; rb = p.rb; push = (kept old p.candidate).push; slip = (kept old p.candidate).slip }
+
+-- the shapes don't touch
+abbrev pub apart : Contact
+apart = record { touching = false; first = None; second = None }
+
+-- the contact of two shapes with the manifold, which was `old` before
+unfoldable pub evaluated : Option Contact → Manifold → Contact
+evaluated old m = cond (int_lt (pos 0) m.first.separation) apart (record { touching = true; first = Some (kept_point old m.first); second = option_map (kept_point old) m.second })

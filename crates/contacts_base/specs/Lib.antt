@@ -1,0 +1,4 @@
+pub mod Keys
+pub mod Contacts
+pub mod Evaluate
+pub mod Near

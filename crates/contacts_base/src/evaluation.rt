@@ -1,0 +1,95 @@
+//! What a contact becomes when its two shapes are evaluated anew.
+
+ghost use Rattle.std.specs.Prelude.{◌≡◌};
+ghost use Rattle.contacts_base.specs.Evaluate.{impulses_at, kept, kept_point, evaluated};
+
+use crate::{Contact, ContactPoint};
+use shapes::{Manifold, Point};
+
+/// The impulses that a point keeps from one step to the next, along the normal (push) and across it
+/// (slip), in mass·u/tick.
+#[derive(Clone, Copy, Debug, PartialEq, Eq)]
+pub struct Impulses {
+    pub push: i64,
+    pub slip: i64,
+}
+
+const NO_IMPULSES: Impulses = Impulses { push: 0, slip: 0 };
+
+/// The two shapes don't touch.
+const APART: Contact = Contact {
+    touching: false,
+    first: None,
+    second: None,
+};
+
+/// The impulses of a point if it is this candidate's.
+fn impulses_at(point: Option<ContactPoint>, candidate: u8) -> Option<Impulses>
+    ensures { result ≡ impulses_at point candidate }
+{
+    match point {
+        None => None,
+        Some(point) => {
+            if point.candidate == candidate {
+                Some(Impulses {
+                    push: point.push,
+                    slip: point.slip,
+                })
+            } else {
+                None
+            }
+        }
+    }
+}
+
+/// The impulses that a contact kept at this candidate, zero where it has no such point.
+fn kept(old: Option<Contact>, candidate: u8) -> Impulses
+    ensures { result ≡ kept old candidate }
+{
+    match old {
+        None => NO_IMPULSES,
+        Some(contact) => match impulses_at(contact.first, candidate) {
+            Some(impulses) => impulses,
+            None => impulses_at(contact.second, candidate).unwrap_or(NO_IMPULSES),
+        },
+    }
+}
+
+/// A point of the manifold with the impulses kept at its candidate.
+fn kept_point(old: Option<Contact>, point: &Point) -> ContactPoint
+    ensures { result ≡ kept_point old point.now }
+{
+    let impulses = kept(old, point.candidate);
+    ContactPoint {
+        candidate: point.candidate,
+        normal: point.normal,
+        separation: point.separation,
+        ra: point.ra,
+        rb: point.rb,
+        push: impulses.push,
+        slip: impulses.slip,
+    }
+}
+
+/// The contact of two shapes with this manifold, where `old` is what it was before.
+///
+/// It touches if the separation at the first point is at most 0. A contact that touches has the
+/// manifold's points, each with the impulses that the old contact kept at the same candidate (as
+/// Box2D carries them over by feature id), or 0. One that doesn't touch has no points.
+#[tactic(auto, unfolding(crate::specs::Evaluate::evaluated))]
+pub fn evaluate(old: Option<Contact>, manifold: &Manifold) -> Contact
+    ensures { result ≡ evaluated old manifold.now }
+{
+    if manifold.first.separation > 0 {
+        return APART;
+    }
+    let second = match &manifold.second {
+        None => None,
+        Some(point) => Some(kept_point(old, point)),
+    };
+    Contact {
+        touching: true,
+        first: Some(kept_point(old, &manifold.first)),
+        second,
+    }
+}

@@ -1,0 +1,13 @@
+//! What the collide of a step reads and keeps: shapes with their fat boxes, contacts with their
+//! points, and the definitions of near pairs and of the contacts that come of them.
+#![tactic(auto)]
+
+pub mod contact;
+pub mod evaluation;
+pub mod key;
+pub mod near;
+
+pub use contact::{Contact, ContactEntry, ContactPoint, find};
+pub use evaluation::evaluate;
+pub use key::{ContactKey, ShapeId};
+pub use near::{Proxy, code_of, is_near};
