@@ -1,9 +1,10 @@
 //! The four lists of a step's events.
 
-ghost use Rattle.std.specs.Prelude.{◌≡◌, IfOk};
+ghost use Rattle.std.specs.Prelude.{◌≡◌, IfOk, map};
 ghost use Rattle.std.specs.Result.{IsOkUnless};
-ghost use Rattle.std.specs.List.Sorted.{IsPermutation, IsSorted};
-ghost use Rattle.event_feed.specs.Orders.{key_cmp, handle_cmp};
+ghost use Rattle.std.specs.List.Sorted.{IsPermutation, IsSorted, IsNonDecreasingBy, IsStrictlyIncreasing};
+ghost use Rattle.contacts_base.specs.Keys.{key_number};
+ghost use Rattle.event_feed.specs.Orders.{handle_cmp, slot_of};
 ghost use Rattle.event_feed.specs.Events.{no_events};
 
 use body_handles::Handle;
@@ -30,13 +31,24 @@ impl Model for Events {
     ghost view = { λ a. record { begin = a.begin.items; end = a.end.items; slept = a.slept.items; woke = a.woke.items } };
 }
 
-/// The same items, ascending.
-fn ascending<T: Ord>(mut items: Vec<T>) -> Vec<T>
-    ensures same_items { IsPermutation items.items result.items }
-    ensures sorted { IsSorted T.cmp result.items }
+/// The same contacts, by their keys' numbers.
+fn ascending_contacts(mut keys: Vec<ContactKey>) -> Vec<ContactKey>
+    ensures same_items { IsPermutation keys.items result.items }
+    ensures ascends { IsNonDecreasingBy key_number result.items }
+    ensures kept { IsStrictlyIncreasing (map key_number keys.items) → result.items ≡ keys.items }
 {
-    items.sort_unstable();
-    items
+    keys.sort_unstable_by_key(|key| key.number());
+    keys
+}
+
+/// The same bodies, by slot and then by generation.
+fn ascending_bodies(mut bodies: Vec<Handle>) -> Vec<Handle>
+    ensures same_items { IsPermutation bodies.items result.items }
+    ensures ascends { IsSorted handle_cmp result.items }
+    ensures kept { IsStrictlyIncreasing (map slot_of bodies.items) → result.items ≡ bodies.items }
+{
+    bodies.sort_unstable();
+    bodies
 }
 
 impl Events {
@@ -57,23 +69,23 @@ impl Events {
     /// handed in, and a list that ascends already stays as it is. Takes no memory.
     pub fn from_lists(begin: Vec<ContactKey>, end: Vec<ContactKey>, slept: Vec<Handle>, woke: Vec<Handle>) -> Events
         ensures begin_items { IsPermutation begin.items result.begin }
-        ensures begin_ascends { IsSorted key_cmp result.begin }
-        ensures begin_kept { IsSorted key_cmp begin.items → result.begin ≡ begin.items }
+        ensures begin_ascends { IsNonDecreasingBy key_number result.begin }
+        ensures begin_kept { IsStrictlyIncreasing (map key_number begin.items) → result.begin ≡ begin.items }
         ensures end_items { IsPermutation end.items result.end }
-        ensures end_ascends { IsSorted key_cmp result.end }
-        ensures end_kept { IsSorted key_cmp end.items → result.end ≡ end.items }
+        ensures end_ascends { IsNonDecreasingBy key_number result.end }
+        ensures end_kept { IsStrictlyIncreasing (map key_number end.items) → result.end ≡ end.items }
         ensures slept_items { IsPermutation slept.items result.slept }
         ensures slept_ascends { IsSorted handle_cmp result.slept }
-        ensures slept_kept { IsSorted handle_cmp slept.items → result.slept ≡ slept.items }
+        ensures slept_kept { IsStrictlyIncreasing (map slot_of slept.items) → result.slept ≡ slept.items }
         ensures woke_items { IsPermutation woke.items result.woke }
         ensures woke_ascends { IsSorted handle_cmp result.woke }
-        ensures woke_kept { IsSorted handle_cmp woke.items → result.woke ≡ woke.items }
+        ensures woke_kept { IsStrictlyIncreasing (map slot_of woke.items) → result.woke ≡ woke.items }
     {
         Events {
-            begin: ascending(begin),
-            end: ascending(end),
-            slept: ascending(slept),
-            woke: ascending(woke),
+            begin: ascending_contacts(begin),
+            end: ascending_contacts(end),
+            slept: ascending_bodies(slept),
+            woke: ascending_bodies(woke),
         }
     }
 
