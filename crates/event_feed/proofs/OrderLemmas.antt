@@ -1,5 +1,5 @@
 -- Lists that ascend strictly are what sorting them gives.
-use Rattle.std.proofs.Common.{◌≡◌, ℕ, zero, suc, ◌+◌, ◌<◌, ◌≤◌, Bool, true, false, List, [], ◌∷◌, length, map, get_or, refl, sym, ap, ap₂, ◌∙◌, arith, Ordering, Less, Equal, Greater, is_lt, is_gt, true≢false, IsPermutation, IsSorted}
+use Rattle.std.proofs.Common.{◌≡◌, ℕ, ◌+◌, ◌<◌, ◌≤◌, false, List, length, map, get_or, refl, sym, ap, ap₂, ◌∙◌, arith, Ordering, Less, Equal, Greater, is_lt, is_gt, true≢false, IsPermutation, IsSorted}
 use Rattle.std.specs.List.{Contains}
 use Rattle.std.specs.List.Sorted.{IsStrictlyIncreasing, IsNonDecreasingBy, IsSortedByKey}
 use Rattle.std.specs.Cmp.{IsTotalOrder}
@@ -12,7 +12,7 @@ use Rattle.std.proofs.lemmas.List.Kept.{AllPairs-from_increasing}
 use Rattle.std.proofs.lemmas.List.Sorted.{Contains-permutation, IsPermutation-sym}
 use Rattle.body_handles.specs.declared.handle.Handle.{Handle}
 use Rattle.event_feed.specs.Orders.{handle_cmp, slot_of}
-use Rattle.event_feed.proofs.OnceLemmas.{sorted_once, OnlySelfTies}
+use Rattle.event_feed.proofs.OnceLemmas.{sorted_once}
 
 not_lt : (a b : ℕ) → b ≤ a → is_lt (nat_cmp a b) ≡ false
 not_lt a b h = grind (arith, nat_tests)

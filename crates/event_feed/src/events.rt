@@ -31,7 +31,7 @@ impl Model for Events {
     ghost view = { λ a. record { begin = a.begin.items; end = a.end.items; slept = a.slept.items; woke = a.woke.items } };
 }
 
-/// The same contacts, by their keys' numbers.
+/// The same contacts, ascending by their keys' numbers.
 fn ascending_contacts(mut keys: Vec<ContactKey>) -> Vec<ContactKey>
     ensures same_items { IsPermutation keys.items result.items }
     ensures ascends { IsNonDecreasingBy key_number result.items }
@@ -41,7 +41,7 @@ fn ascending_contacts(mut keys: Vec<ContactKey>) -> Vec<ContactKey>
     keys
 }
 
-/// The same bodies, by slot and then by generation.
+/// The same bodies, ascending by slot and then by generation.
 fn ascending_bodies(mut bodies: Vec<Handle>) -> Vec<Handle>
     ensures same_items { IsPermutation bodies.items result.items }
     ensures ascends { IsSorted handle_cmp result.items }
@@ -64,10 +64,16 @@ impl Events {
         }
     }
 
-    /// The events of these lists, each made ascending: contacts by the slot and index of their first shape
-    /// and then of their second, bodies by slot and then by generation. An item comes as often as it was
-    /// handed in, and a list that ascends already stays as it is. Takes no memory.
-    pub fn from_lists(begin: Vec<ContactKey>, end: Vec<ContactKey>, slept: Vec<Handle>, woke: Vec<Handle>) -> Events
+    /// The events of these lists, each made ascending: contacts by their keys' numbers (the slot and index of
+    /// the first shape, then those of the second), bodies by slot and then by generation. An item comes as
+    /// often as it was handed in. A list whose keys' numbers, or whose slots, rise already stays as it is.
+    /// Sorts in place, so it takes no memory and refuses nothing.
+    pub fn from_lists(
+        begin: Vec<ContactKey>,
+        end: Vec<ContactKey>,
+        slept: Vec<Handle>,
+        woke: Vec<Handle>,
+    ) -> Events
         ensures begin_items { IsPermutation begin.items result.begin }
         ensures begin_ascends { IsNonDecreasingBy key_number result.begin }
         ensures begin_kept { IsStrictlyIncreasing (map key_number begin.items) → result.begin ≡ begin.items }
@@ -89,24 +95,28 @@ impl Events {
         }
     }
 
+    /// The contacts that began, ascending.
     pub fn begin(&self) -> &[ContactKey]
         ensures { result.now ≡ self.now.begin }
     {
         self.begin.as_slice()
     }
 
+    /// The contacts that ended, ascending.
     pub fn end(&self) -> &[ContactKey]
         ensures { result.now ≡ self.now.end }
     {
         self.end.as_slice()
     }
 
+    /// The bodies that fell asleep, ascending.
     pub fn slept(&self) -> &[Handle]
         ensures { result.now ≡ self.now.slept }
     {
         self.slept.as_slice()
     }
 
+    /// The bodies that woke, ascending.
     pub fn woke(&self) -> &[Handle]
         ensures { result.now ≡ self.now.woke }
     {

@@ -3,5 +3,7 @@
 #![tactic(auto)]
 
 mod events;
+#[cfg(test)]
+mod tests;
 
 pub use events::Events;
