@@ -1,0 +1,9 @@
+//! What the last accepted step of a world tells: the contacts that began and ended, and the bodies that
+//! fell asleep and woke, each list ascending.
+#![tactic(auto)]
+
+mod events;
+#[cfg(test)]
+mod tests;
+
+pub use events::Events;
