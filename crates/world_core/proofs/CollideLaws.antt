@@ -1,23 +1,15 @@
 -- The shapes that a collide reads, and contacts that are dropped.
-use Rattle.std.proofs.Common.{◌≡◌, ℕ, zero, suc, ◌+◌, ◌*◌, ◌<◌, ◌≤◌, List, [], ◌∷◌, ◌++◌, length, get_or, map, drop, Option, Some, None, Bool, true, false, cond, refl, ap, sym, ◌∙◌, arith, append_assoc, add-one, All}
-use Rattle.std.specs.Prelude.{nat_le, not, filter}
+use Rattle.std.proofs.Common.{◌≡◌, ℕ, ◌<◌, ◌≤◌, List, [], ◌∷◌, length, map, Some, None, Bool, true, false, cond, refl}
+use Rattle.std.specs.Prelude.{nat_le, filter}
 use Rattle.std.specs.List.{list_all}
-use Rattle.std.proofs.Math.Seq.{drop-cons}
 use Rattle.std.proofs.lemmas.Bool.{leb-true}
-use Rattle.std.proofs.lemmas.List.Elements.{All-push, filter_from_retain}
-use Rattle.fixed_geom.specs.declared.boxes.Box2.{Box2}
-use Rattle.fixed_geom.specs.declared.refusal.Refusal.{Refusal}
 use Rattle.fixed_geom.specs.declared.refusal.Refusal.TheVariants.{BadShape, OutOfRange}
-use Rattle.shapes.specs.declared.pose.Pose.{Pose}
 use Rattle.shapes.specs.declared.shape.ShapeDef.{ShapeDef}
 use Rattle.shapes.specs.Shapes.{are_forms_allowed, shapes_refusal, is_in_range, is_form_allowed}
 use Rattle.contacts_base.specs.declared.contact.ContactEntry.{ContactEntry}
-use Rattle.contacts_base.specs.declared.near.Proxy.{Proxy}
 use Rattle.contacts_base.specs.Contacts.{number_of, AreKeysRising}
 use Rattle.contacts.proofs.Members.{Each}
 use Rattle.contacts.proofs.Rising.{IsRising, increasing_from_rising, rising_from_increasing}
-use Rattle.world_core_base.specs.declared.body.Body.{Body}
-use Rattle.world_core.specs.Collide.{shape_proxies, body_proxies, entry_proxies, proxies_from}
 
 -- ---- contacts that are dropped
 

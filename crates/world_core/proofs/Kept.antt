@@ -1,32 +1,26 @@
 -- Each command keeps a world sound.
 use Rattle.std.proofs.Common.{◌≡◌, ℕ, ◌+◌, ◌*◌, ◌<◌, ◌≤◌, ◌^◌, List, [], ◌∷◌, ◌++◌, length, Option, Some, None, Ok, Err, Bool, true, false, cond, ℤ, pos, neg_ℤ, ◌+ℤ◌, unsigned_abs, arith, refl, sym, ap, ◌∙◌, subst, is_some, nat_lt, append_assoc}
-use Rattle.std.specs.Prelude.{slice_get, slice_set, nat_le, ◌&&◌, unwrap_or, option_map, if◌then◌else◌}
+use Rattle.std.specs.Prelude.{slice_set, option_map, if◌then◌else◌}
 use Rattle.std.proofs.lemmas.Int.{ints}
 use Rattle.std.proofs.lemmas.Grind.{common_steps}
-use Rattle.std.proofs.lemmas.List.{append-nil}
 use Rattle.fixed_geom.specs.Vectors.{IsWithin, is_within}
 use Rattle.fixed_geom.specs.declared.vectors.Vec2.{Vec2}
-use Rattle.fixed_geom.specs.declared.refusal.Refusal.{Refusal}
-use Rattle.fixed_geom.specs.declared.refusal.Refusal.TheVariants.{StaleHandle, OutOfRange, NotAMover, BodyDisabled, TooFast}
+use Rattle.fixed_geom.specs.declared.refusal.Refusal.TheVariants.{OutOfRange, NotAMover, BodyDisabled, TooFast}
 use Rattle.body_handles.specs.declared.handle.Handle.{Handle}
 use Rattle.body_handles.specs.declared.places.Place.{Place}
 use Rattle.body_handles.specs.Places.{lowest, generation_at, places_with, places_without, is_live}
-use Rattle.body_handles.proofs.LowestLemmas.{lowest-le-length}
 use Rattle.impulse_ledger.specs.declared.entry.Cause.{Cause}
-use Rattle.impulse_ledger.specs.declared.entry.Cause.TheVariants as causes
-use Rattle.impulse_ledger.specs.declared.entry.Entry.{Entry}
-use Rattle.impulse_ledger.specs.declared.totals.Totals.{Totals}
-use Rattle.impulse_ledger.specs.Sums.{Book, total_x, total_y}
+use Rattle.impulse_ledger.specs.Sums.{Book}
 use Rattle.contacts_base.specs.declared.contact.ContactEntry.{ContactEntry}
 use Rattle.contacts_base.specs.Contacts.{AreKeysRising}
 use Rattle.world_core_base.specs.declared.body.Body.{Body}
 use Rattle.world_core_base.specs.declared.body.BodyDef.{BodyDef}
 use Rattle.world_core_base.specs.Bodies.{is_mover, is_dynamic, IsBody, AreBodies, p_x, p_y, momentum_x, momentum_y, made}
-use Rattle.world_core_base.specs.Slots.{body_at, is_taken, AreMatched, HaveSameSlots, with_body, with_momentum, put_p}
-use Rattle.event_feed.specs.Events.{EventLists, no_events}
-use Rattle.world_core.specs.World.{World, Plain, body_of, book_of}
+use Rattle.world_core_base.specs.Slots.{body_at, HaveSameSlots, with_body, with_momentum, put_p}
+use Rattle.event_feed.specs.Events.{EventLists}
+use Rattle.world_core.specs.World.{World, body_of, book_of}
 use Rattle.world_core.specs.Apply.{booked, sum_of, pushed, departing}
-use Rattle.world_core.specs.Sound.{AreSmall, IsRoomy, IsSound}
+use Rattle.world_core.specs.Sound.{IsRoomy, IsSound}
 use Rattle.world_core.proofs.BookLemmas.{sum_x-booked, sum_y-booked, AreSmall-booked, AreSmall-weaker}
 use Rattle.world_core.proofs.SlotLemmas.{momentum_x-set, momentum_y-set, momentum_x-push, momentum_y-push, momentum_x_le, momentum_y_le, AreBodies-set, AreBodies-push, AreMatched-set, AreMatched-push, HaveSameSlots-set, AreMatched-same, below_length, body_at-in, lowest-free, none_if}
 

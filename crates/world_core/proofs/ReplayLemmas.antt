@@ -1,5 +1,5 @@
 -- One more command at the end of a list, and what an answer of the code says of the definition.
-use Rattle.std.proofs.Common.{◌≡◌, ℕ, suc, ◌+◌, ◌<◌, List, [], ◌∷◌, ◌++◌, Result, Ok, Err, length, take, drop, get_or, refl, sym, ap, ◌∙◌, add-one, append_assoc}
+use Rattle.std.proofs.Common.{◌≡◌, ℕ, ◌+◌, ◌<◌, List, [], ◌∷◌, ◌++◌, Result, Ok, Err, length, take, drop, get_or, refl, sym, ap, ◌∙◌, add-one, append_assoc}
 use Rattle.std.specs.Result.{OnErr}
 use Rattle.std.proofs.Math.Seq.{take-suc, drop-cons}
 use Rattle.fixed_geom.specs.declared.refusal.Refusal.{Refusal}
@@ -7,7 +7,7 @@ use Rattle.fixed_geom.specs.declared.refusal.Refusal.TheVariants.{NoMemory}
 use Rattle.world_core.specs.declared.command.Command.{Command}
 use Rattle.world_core.specs.declared.command.Reply.{Reply}
 use Rattle.world_core.specs.World.{World}
-use Rattle.world_core.specs.Apply.{Applied, Answers, apply, world_with}
+use Rattle.world_core.specs.Apply.{Applied, Answers, apply}
 use Rattle.world_core.specs.Replay.{answer_of, after_one, after, replay, answers_to}
 
 pub replay-push : (w : World) (cs : List Command) (c : Command) → replay w (cs ++ c ∷ []) ≡ after (replay w cs) c

@@ -1,6 +1,5 @@
 -- What a step answers, from what its parts have made.
-use Rattle.std.proofs.Common.{◌≡◌, ℕ, ◌+◌, ◌++◌, List, [], Option, Some, Ok, Err, Bool, true, false, cond, ℤ, pos, unsigned_abs, refl, Result}
-use Rattle.fixed_geom.specs.declared.refusal.Refusal.{Refusal}
+use Rattle.std.proofs.Common.{◌≡◌, ◌+◌, ◌++◌, List, [], Option, Ok, Err, Bool, true, false, cond, ℤ, pos, unsigned_abs, refl}
 use Rattle.fixed_geom.specs.declared.refusal.Refusal.TheVariants.{OutOfRange}
 use Rattle.impulse_ledger.specs.declared.entry.Cause.TheVariants as causes
 use Rattle.shapes.specs.Shapes.{is_between}
@@ -34,6 +33,6 @@ after_step old bodies sums = record {
 }
 
 pub step_answers : (old : World) (n : ℤ) (bodies : List (Option Body)) (sums : StepSums) → is_between (pos 1) (pos 8) n ≡ true → run_of bodies sums ≡ ticks (unsigned_abs n) old.plain.gravity (start old.plain.bodies)
-  → Answers (apply_step old.plain n) old (Ok (replies.Stepped (old.plain.steps + 1))) (after_step old bodies sums)
+    → Answers (apply_step old.plain n) old (Ok (replies.Stepped (old.plain.steps + 1))) (after_step old bodies sums)
 step_answers old n bodies sums between run =
     if_accepted (is_between (pos 1) (pos 8) n) (stepped old.plain (collided old.plain.bodies old.plain.contacts) (ticks (unsigned_abs n) old.plain.gravity (start old.plain.bodies))) old _ _ between refl (rw (← run) refl)

@@ -1,5 +1,5 @@
 -- What each command does to the plain world, as a function.
-use Rattle.std.specs.Prelude.{◌≡◌, ℕ, ◌+◌, ◌^◌, Bool, true, false, cond, ◌&&◌, nat_le, nat_lt, List, [], ◌∷◌, ◌++◌, Option, Some, None, Result, Ok, Err, ℤ, pos, neg_ℤ, ◌+ℤ◌, unsigned_abs, slice_set, unwrap_or}
+use Rattle.std.specs.Prelude.{◌≡◌, ℕ, ◌+◌, ◌^◌, cond, ◌&&◌, nat_le, nat_lt, List, [], ◌∷◌, ◌++◌, Option, Some, None, Result, Ok, Err, ℤ, pos, neg_ℤ, ◌+ℤ◌, unsigned_abs, slice_set, unwrap_or}
 use Rattle.fixed_geom.specs.Vectors.{is_within}
 use Rattle.fixed_geom.specs.declared.vectors.Vec2.{Vec2}
 use Rattle.fixed_geom.specs.declared.refusal.Refusal.{Refusal}
@@ -10,7 +10,7 @@ use Rattle.impulse_ledger.specs.declared.entry.Entry.{Entry}
 use Rattle.impulse_ledger.specs.declared.entry.Cause as cause
 use Rattle.impulse_ledger.specs.declared.entry.Cause.TheVariants as causes
 use Rattle.impulse_ledger.specs.Totals.{zero_totals}
-use Rattle.world_core_base.specs.Bodies.{is_dynamic, is_mover, def_refusal, made, p_x, p_y}
+use Rattle.world_core_base.specs.Bodies.{is_dynamic, def_refusal, made, p_x, p_y}
 use Rattle.shapes.specs.Shapes.{is_between}
 use Rattle.world_core_base.specs.Slots.{with_body, with_momentum}
 use Rattle.world_core_base.specs.Ticks.{Run, ticks, start}

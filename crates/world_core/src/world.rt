@@ -6,8 +6,8 @@ ghost use Rattle.world_core.specs.World.{body_of};
 ghost use Rattle.world_core.specs.Sound.{IsSound};
 ghost use Rattle.world_core.specs.Apply.{Answers, empty_world, gravity_refusal, apply, apply_create, apply_destroy, apply_push, apply_gravity, apply_step};
 
-use crate::collide::{collide, copy_contacts, drop_contacts, events_of};
 use crate::booking::{book, book_step, gain_of, loss_of};
+use crate::collide::{collide, copy_contacts, drop_contacts, events_of};
 use crate::pushes::{departing, momentum_after};
 use crate::{Command, Plain, Reply};
 use body_handles::{Handle, Handles};

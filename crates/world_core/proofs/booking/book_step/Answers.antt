@@ -1,4 +1,4 @@
-use Rattle.std.proofs.Common.{◌≤◌, ◌^◌, unsigned_abs, arith}
+use Rattle.std.proofs.Common.{arith}
 use Rattle.impulse_ledger.specs.declared.entry.Cause.TheVariants.{Gravity}
 use Rattle.world_core.proofs.BookLemmas.{Fits-roomy, Fits-after}
 use Rattle.world_core.proofs.booking.book_step.Goals as goal

@@ -1,4 +1,4 @@
-use Rattle.std.proofs.Common.{◌≤◌, ◌<◌, length, All, arith}
+use Rattle.std.proofs.Common.{◌≤◌, length, All, arith}
 use Rattle.shapes.specs.Shapes.{IsShapeDef}
 use Rattle.shapes.specs.Poses.{IsPose}
 use Rattle.world_core.proofs.CollideLaws.{eight_at_most}

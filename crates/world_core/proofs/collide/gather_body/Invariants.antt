@@ -1,6 +1,5 @@
 use Rattle.std.proofs.Common.{◌≡◌, ◌+◌, ◌*◌, ◌<◌, ◌++◌, drop, All}
 use Rattle.contacts_base.specs.Near.{number_of}
-use Rattle.world_core_base.specs.Bodies.{is_dynamic, pose_of}
 use Rattle.world_core.specs.Collide.{shape_proxies}
 use Rattle.world_core.proofs.collide.gather_body.Given as goal
 

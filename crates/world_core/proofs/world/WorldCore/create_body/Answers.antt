@@ -1,4 +1,4 @@
-use Rattle.std.proofs.Common.{◌≡◌, ◌<◌, ◌^◌}
+use Rattle.std.proofs.Common.{◌<◌, ◌^◌}
 use Rattle.body_handles.specs.Places.{lowest}
 use Rattle.world_core_base.specs.Bodies.{IsBody, made}
 use Rattle.world_core.proofs.Kept.{create_kept}

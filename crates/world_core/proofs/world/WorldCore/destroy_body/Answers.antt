@@ -1,4 +1,4 @@
-use Rattle.std.proofs.Common.{◌≡◌, ◌<◌, ◌≤◌, ◌^◌, Ok, sym, arith, unsigned_abs}
+use Rattle.std.proofs.Common.{◌≡◌, ◌<◌, ◌^◌, Ok, sym, arith}
 use Rattle.std.proofs.lemmas.Int.{ints}
 use Rattle.contacts_base.specs.Contacts.{AreKeysRising}
 use Rattle.world_core_base.specs.Slots as slots

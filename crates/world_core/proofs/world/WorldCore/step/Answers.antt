@@ -1,7 +1,5 @@
-use Rattle.std.proofs.Common.{rules, tests, true, pos, unsigned_abs, ◌≡◌, ◌<◌, ◌≤◌, ◌^◌, ◌+ℤ◌, ◌∙◌, arith}
+use Rattle.std.proofs.Common.{rules, tests, true, pos, unsigned_abs, ◌≡◌, ◌<◌, ◌^◌, ◌∙◌, arith}
 use Rattle.impulse_ledger.specs.declared.entry.Cause.TheVariants.{Gravity, Clamp}
-use Rattle.world_core_base.specs.Bodies.{momentum_x, momentum_y}
-use Rattle.world_core_base.specs.Slots.{HaveSameSlots}
 use Rattle.world_core.proofs.Kept.{IsRoomy-sound, IsRoomy-same, step_kept}
 use Rattle.std.proofs.lemmas.Int.{to_z-of_z}
 use Rattle.shapes.specs.Shapes.{is_between}
@@ -25,8 +23,8 @@ invariant_of-self-2 c =
     let sums = c.run_ticks-sums.result in
     rw (c.book_step.ensures.entries, c.book_step.ensures.settled, c.in_ok-reserve.ensures.entries, c.in_ok-reserve.ensures.settled)
     (step_kept _ c.renew_fats.new.bodies.items sums.gravity.x sums.gravity.y sums.clamp.x sums.clamp.y Gravity Clamp c.events_of.result c.in_ok-changes.changes.now.items c.self.invariant calls fats.bodies
-      (HaveSameSlots-trans _ _ _ ticks.slots fats.slots) (record { x = ticks.small.gravity_x; y = ticks.small.gravity_y }) (record { x = ticks.small.clamp_x; y = ticks.small.clamp_y })
-      (fats.momentum_x ∙ ticks.momentum_x) (fats.momentum_y ∙ ticks.momentum_y) c.in_ok-changes.ensures.rising)
+    (HaveSameSlots-trans _ _ _ ticks.slots fats.slots) (record { x = ticks.small.gravity_x; y = ticks.small.gravity_y }) (record { x = ticks.small.clamp_x; y = ticks.small.clamp_y })
+    (fats.momentum_x ∙ ticks.momentum_x) (fats.momentum_y ∙ ticks.momentum_y) c.in_ok-changes.ensures.rising)
 
 pub returns : goal.returns
 returns c =
