@@ -5,7 +5,8 @@ ghost use Rattle.std.specs.Prelude.{◌≡◌, ◌^◌, ◌<◌, ◌≤◌, ◌+
 ghost use Rattle.std.specs.Result.{IsOkUnless};
 ghost use Rattle.std.specs.List.Sorted.{IsPermutation, IsSortedByKey};
 ghost use Rattle.std.specs.Ordering.{int_cmp};
-ghost use Rattle.contacts.specs.Sweep.{pair_at, near_pair, starts_of, IsPlaceIn, met, swept, low_of};
+ghost use Rattle.std.specs.Option.{option_to_list};
+ghost use Rattle.contacts.specs.Sweep.{pair_at, near_pair, starts_of, IsPlaceIn, met_until, swept, low_of};
 ghost use Rattle.contacts_base.specs.Near.{IsProxyList, near_codes};
 
 use contacts_base::{Proxy, code_of, is_near};
@@ -49,28 +50,37 @@ fn near_pair(proxies: &[Proxy], place: usize, other: usize) -> Option<u64>
     }
 }
 
-/// Adds the pairs of the shape at `place` with those that are near it, until one begins where it
-/// has ended. Refused 1 where memory is wanting.
+/// Adds a number, if there is one. Refused 1 where memory is wanting.
+fn push_found(near: &mut Vec<u64>, found: Option<u64>) -> Result<(), Refusal>
+    ensures pushed { OnOk result (near.new.items ≡ near.old.items ++ option_to_list found) }
+    ensures memory_only { IsOkUnless result Refusal.NoMemory }
+{
+    if let Some(code) = found {
+        near.push(code)?;
+    }
+    Ok(())
+}
+
+/// Adds the pairs of the shape at `place`, which ends at `high`, with those that are near it, until
+/// one begins further right. Refused 1 where memory is wanting.
 fn push_met(
     near: &mut Vec<u64>,
     proxies: &[Proxy],
     place: usize,
+    high: i64,
     starts: &[Start],
 ) -> Result<(), Refusal>
     requires few { length proxies.now ≤ 2 ^ 32 }
     requires place { place < length proxies.now }
     requires starts { All (IsPlaceIn proxies.now) starts.now }
-    ensures pushed { OnOk result (near.new.items ≡ near.old.items ++ met proxies.now place starts.now) }
+    ensures pushed { OnOk result (near.new.items ≡ near.old.items ++ met_until high proxies.now place starts.now) }
     ensures memory_only { IsOkUnless result Refusal.NoMemory }
 {
-    let high = proxies[place].fat.hi.x;
     for start in starts {
         if high < start.low {
             return Ok(());
         }
-        if let Some(code) = near_pair(proxies, place, start.place as usize) {
-            near.push(code)?;
-        }
+        push_found(near, near_pair(proxies, place, start.place as usize))?;
     }
     Ok(())
 }
@@ -84,7 +94,9 @@ fn sweep(near: &mut Vec<u64>, proxies: &[Proxy], starts: &[Start]) -> Result<(),
     ensures memory_only { IsOkUnless result Refusal.NoMemory }
 {
     for (place, start) in starts.iter().enumerate() {
-        push_met(near, proxies, start.place as usize, &starts[place + 1..])?;
+        let shape = start.place as usize;
+        let high = proxies[shape].fat.hi.x;
+        push_met(near, proxies, shape, high, &starts[place + 1..])?;
     }
     Ok(())
 }
