@@ -278,3 +278,57 @@ fn lists_and_census_are_the_world(rt: HostRuntime) -> Result<(), Fail> {
     assert!(rt; census.awake().is_empty() && census.disabled().is_empty());
     Ok(())
 }
+
+const MEETING: ContactKey = ContactKey {
+    first: ShapeId { slot: 0, index: 0 },
+    second: ShapeId { slot: 1, index: 0 },
+};
+
+fn begun(world: &WorldCore) -> &[ContactKey] {
+    world.events().begin()
+}
+
+fn ended(world: &WorldCore) -> &[ContactKey] {
+    world.events().end()
+}
+
+/// A circle that comes from the left to one that stays, which it would pass after two steps of one tick.
+fn approach(alloc: Global) -> Result<WorldCore, Refusal> {
+    let mut world = new_world(alloc, NO_GRAVITY)?;
+    let first = create(alloc, 1, ORIGIN)?;
+    answer(&mut world, &first)?;
+    let second = create(alloc, 1, Vec2 { x: 200_000, y: 0 })?;
+    answer(&mut world, &second)?;
+    let push = Vec2 { x: 100_000, y: 0 };
+    answer(&mut world, &Command::Push(FIRST, push))?;
+    Ok(world)
+}
+
+#[test]
+fn circles_meet_and_part(rt: HostRuntime) -> Result<(), Fail> {
+    let mut world = approach(rt.alloc())?;
+    step(&mut world, 1)?;
+    assert!(rt; has_no_events(&world));
+    step(&mut world, 4)?;
+    assert_eq!(rt; begun(&world), [MEETING].as_slice());
+    assert!(rt; ended(&world).is_empty());
+    step(&mut world, 1)?;
+    assert!(rt; begun(&world).is_empty());
+    assert_eq!(rt; ended(&world), [MEETING].as_slice());
+    Ok(())
+}
+
+#[test]
+fn a_destroyed_body_takes_its_contacts_along(rt: HostRuntime) -> Result<(), Fail> {
+    let mut world = approach(rt.alloc())?;
+    step(&mut world, 1)?;
+    step(&mut world, 1)?;
+    let plain = lists_of(&world)?;
+    assert_eq!(rt; plain.contacts().len(), 1);
+    answer(&mut world, &Command::DestroyBody(SECOND))?;
+    let plain = lists_of(&world)?;
+    assert!(rt; plain.contacts().is_empty());
+    step(&mut world, 1)?;
+    assert!(rt; has_no_events(&world));
+    Ok(())
+}

@@ -46,6 +46,11 @@ pub fn expect_same_lists(moment: Moment, first: &Plain, second: &Plain) -> Resul
         Part::Bodies,
         are_same_bodies(first.bodies(), second.bodies()),
     )?;
+    expect(
+        moment,
+        Part::Contacts,
+        first.contacts() == second.contacts(),
+    )?;
     expect(moment, Part::Gravity, first.gravity() == second.gravity())?;
     expect(moment, Part::Steps, first.steps() == second.steps())?;
     expect(moment, Part::Calls, first.calls() == second.calls())
@@ -79,6 +84,7 @@ fn is_same_body(first: &Body, second: &Body) -> bool {
         && first.mass == second.mass
         && first.motion == second.motion
         && first.shapes.as_slice() == second.shapes.as_slice()
+        && first.fats.as_slice() == second.fats.as_slice()
         && first.timer == second.timer
         && first.enabled == second.enabled
 }
