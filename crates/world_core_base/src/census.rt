@@ -100,12 +100,8 @@ pub fn take_census(
 mod tests {
     use super::*;
     use crate::body::Kind;
-<<<<<<< HEAD
     use crate::fats::FatBoxes;
-        use fixed_geom::{Rot, Vec2};
-=======
     use fixed_geom::{Rot, Vec2};
->>>>>>> a0ffb74c4b64d1abec3b6364cdc40f96c042b939
     use momenta::{MassData, Motion};
     use shapes::Shapes;
     use std::test::Fail;

@@ -32,7 +32,7 @@ fn point(alloc: Global, mass: i64) -> Result<Body, Refusal>
         shapes,
     };
     def.check()?;
-    def.make()
+    def.make(alloc)
 }
 
 fn pushed(body: Body, p: Vec2) -> Body
