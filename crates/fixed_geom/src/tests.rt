@@ -1,5 +1,10 @@
 //! Values worked by hand, each public function once.
 
+ghost use Rattle.std.specs.Prelude.{◌≡◌, pos, neg_ℤ, true};
+ghost use Rattle.fixed_geom.specs.Numbers.{rdiv, fdiv, isqrt};
+ghost use Rattle.fixed_geom.specs.Vectors.{cross, unit};
+ghost use Rattle.fixed_geom.specs.Facings.{is_facing, turn};
+
 use super::*;
 use std::test::Fail;
 
@@ -111,3 +116,16 @@ fn refusals_have_texts(rt: HostRuntime) -> Result<(), Fail> {
     assert_eq!(rt; text.as_str(), "the saved world breaks clause 4");
     Ok(())
 }
+
+/// The definitions give the same values, computed by themselves.
+#[tactic(auto, unfolding(crate::specs::Numbers::rdiv, crate::specs::Numbers::fdiv, crate::specs::Numbers::root_of, crate::specs::Numbers::root, crate::specs::Numbers::isqrt, crate::specs::Vectors::dot, crate::specs::Vectors::cross, crate::specs::Vectors::span, crate::specs::Vectors::unit, crate::specs::Facings::turn, crate::specs::Facings::is_facing))]
+fn definitions_compute()
+    ensures up { rdiv (pos 5) (pos 2) ≡ pos 3 }
+    ensures away { rdiv (neg_ℤ (pos 5)) (pos 2) ≡ neg_ℤ (pos 3) }
+    ensures down { fdiv (neg_ℤ (pos 20000)) (pos 3) ≡ neg_ℤ (pos 6667) }
+    ensures root { isqrt (pos 8) ≡ pos 2 }
+    ensures cross { cross (record { x = pos 3; y = pos 4 }) (record { x = pos 5; y = pos 6 }) ≡ neg_ℤ (pos 2) }
+    ensures diagonal { unit (record { x = pos 1; y = pos 1 }) ≡ record { x = pos 1073741824; y = pos 1073741824 } }
+    ensures facing { is_facing (record { c = pos 1073741824; s = pos 0 }) ≡ true }
+    ensures turned { turn (record { c = pos 1073741824; s = pos 0 }) (pos 0) ≡ record { c = pos 1073741824; s = pos 0 } }
+{}

@@ -1,4 +1,6 @@
-ghost use Rattle.std.specs.Prelude.{◌≡◌, ◌^◌, ◌≤◌, length, true, IfOk};
+ghost use Rattle.std.specs.Prelude.{◌≡◌, ◌^◌, ◌≤◌, [], ◌∷◌, Some, length, true, IfOk, pos, neg_ℤ};
+ghost use Rattle.world_core_base.specs.Ticks.{ticks, start};
+ghost use Rattle.world_core_base.specs.declared.body.Kind.TheVariants.{Dynamic};
 ghost use Rattle.fixed_geom.specs.Vectors.{IsWithin};
 ghost use Rattle.world_core_base.specs.Bodies.{AreBodies, IsBody, is_mover};
 
@@ -86,3 +88,13 @@ fn the_speed_limit_is_booked_as_clamp(rt: HostRuntime) -> Result<(), Fail> {
     }
     Ok(())
 }
+
+/// The definitions give the same values, computed by themselves: a fall, the speed limit, the edge.
+#[tactic(auto, unfolding(fixed_geom::specs::Numbers::rdiv, fixed_geom::specs::Facings::turn, momenta::specs::Motions::velocity, momenta::specs::Motions::spin, momenta::specs::Motions::pulled, momenta::specs::Motions::clamped, momenta::specs::Motions::aim, momenta::specs::Motions::advanced, crate::specs::Ticks::tick))]
+fn definitions_compute()
+    ensures falls { (ticks 4 (record { x = pos 0; y = neg_ℤ (pos 157) }) (start (Some (record { kind = Dynamic; mass = record { mass = pos 256; inertia = pos 0 }; motion = record { p = record { x = pos 0; y = pos 0 }; l = pos 0; x = record { x = pos 0; y = pos 0 }; rot = record { c = pos 1073741824; s = pos 0 } }; shapes = []; fats = []; timer = 0; enabled = true }) ∷ []))).bodies ≡ Some (record { kind = Dynamic; mass = record { mass = pos 256; inertia = pos 0 }; motion = record { p = record { x = pos 0; y = neg_ℤ (pos 160768) }; l = pos 0; x = record { x = pos 0; y = neg_ℤ (pos 1570) }; rot = record { c = pos 1073741824; s = pos 0 } }; shapes = []; fats = []; timer = 0; enabled = true }) ∷ [] }
+    ensures pulled { (ticks 4 (record { x = pos 0; y = neg_ℤ (pos 157) }) (start (Some (record { kind = Dynamic; mass = record { mass = pos 256; inertia = pos 0 }; motion = record { p = record { x = pos 0; y = pos 0 }; l = pos 0; x = record { x = pos 0; y = pos 0 }; rot = record { c = pos 1073741824; s = pos 0 } }; shapes = []; fats = []; timer = 0; enabled = true }) ∷ []))).gravity_y ≡ neg_ℤ (pos 160768) }
+    ensures limited { (ticks 1 (record { x = pos 0; y = pos 0 }) (start (Some (record { kind = Dynamic; mass = record { mass = pos 1; inertia = pos 0 }; motion = record { p = record { x = pos 2097152; y = pos 0 }; l = pos 0; x = record { x = pos 0; y = pos 0 }; rot = record { c = pos 1073741824; s = pos 0 } }; shapes = []; fats = []; timer = 0; enabled = true }) ∷ []))).bodies ≡ Some (record { kind = Dynamic; mass = record { mass = pos 1; inertia = pos 0 }; motion = record { p = record { x = pos 1048576; y = pos 0 }; l = pos 0; x = record { x = pos 1048576; y = pos 0 }; rot = record { c = pos 1073741824; s = pos 0 } }; shapes = []; fats = []; timer = 0; enabled = true }) ∷ [] }
+    ensures booked { (ticks 1 (record { x = pos 0; y = pos 0 }) (start (Some (record { kind = Dynamic; mass = record { mass = pos 1; inertia = pos 0 }; motion = record { p = record { x = pos 2097152; y = pos 0 }; l = pos 0; x = record { x = pos 0; y = pos 0 }; rot = record { c = pos 1073741824; s = pos 0 } }; shapes = []; fats = []; timer = 0; enabled = true }) ∷ []))).clamp_x ≡ neg_ℤ (pos 1048576) }
+    ensures edge { (ticks 1 (record { x = pos 0; y = pos 0 }) (start (Some (record { kind = Dynamic; mass = record { mass = pos 1; inertia = pos 0 }; motion = record { p = record { x = pos 10; y = pos 0 }; l = pos 0; x = record { x = pos 68719476735; y = pos 0 }; rot = record { c = pos 1073741824; s = pos 0 } }; shapes = []; fats = []; timer = 0; enabled = true }) ∷ []))).bodies ≡ Some (record { kind = Dynamic; mass = record { mass = pos 1; inertia = pos 0 }; motion = record { p = record { x = pos 0; y = pos 0 }; l = pos 0; x = record { x = pos 68719476736; y = pos 0 }; rot = record { c = pos 1073741824; s = pos 0 } }; shapes = []; fats = []; timer = 0; enabled = true }) ∷ [] }
+{}
