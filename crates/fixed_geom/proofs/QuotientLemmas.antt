@@ -1,5 +1,5 @@
 -- Quotients to the nearest and down.
-use Rattle.std.proofs.Common.{◌≡◌, ℕ, zero, suc, ◌+◌, ◌-◌, ◌*◌, ◌/◌, ◌%◌, ◌<◌, ◌≤◌, ℤ, pos, negsuc, ◌-ℤ◌, neg_ℤ, ◌<ℤ◌, ◌≤ℤ◌, unsigned_abs, arith, refl, ◌∙◌, ap}
+use Rattle.std.proofs.Common.{◌≡◌, ℕ, zero, suc, ◌+◌, ◌-◌, ◌*◌, ◌/◌, ◌%◌, ◌^◌, ◌<◌, ◌≤◌, ℤ, pos, negsuc, ◌-ℤ◌, neg_ℤ, ◌<ℤ◌, ◌≤ℤ◌, unsigned_abs, arith, refl, sym, ◌∙◌, ap}
 use Rattle.std.proofs.lemmas.Nat.{div_below, div-mul-add, div-add-mod', mod_below}
 use Rattle.std.proofs.lemmas.Int.{ints}
 use Rattle.std.specs.Int.{int_div_euclid}
@@ -20,6 +20,13 @@ nearest_down n d p h =
     let rest : 2 * (n % d) + d < 2 * d = omega arith in
     let sum : 2 * n + d ≡ (n / d) * (2 * d) + (2 * (n % d) + d) = omega arith in
     ap (λ x. x / (2 * d)) sum ∙ div-mul-add (n / d) (2 * d) (2 * (n % d) + d) rest
+
+-- a guess a, between the bounds of the quotient, is the quotient
+pub nearest_guessed : (n d q a b : ℕ) → 0 < d → a ≡ q → b ≡ 2 * d → a * b ≤ n * 2 ^ 31 + d → n * 2 ^ 31 + d < a * b + 2 * d → q ≡ nearest (n * 2 ^ 30) d
+nearest_guessed n d q a b p e f h l =
+    let same : a * b ≡ q * (2 * d) = rw (e, f) refl in
+    let sum : 2 * (n * 2 ^ 30) + d ≡ q * (2 * d) + (n * 2 ^ 31 + d - q * (2 * d)) = omega arith in
+    sym (ap (λ x. x / (2 * d)) sum ∙ div-mul-add q (2 * d) (n * 2 ^ 31 + d - q * (2 * d)) (omega arith))
 
 pub nearest_le : (n d k : ℕ) → 0 < d → n ≤ k * d → nearest n d ≤ k
 nearest_le n d k p h =

@@ -18,7 +18,7 @@ pub mod vectors;
 pub use boxes::{Box2, contains, grow, overlaps};
 pub use facings::{Rot, is_facing, rotate, turn};
 pub use products::{difference_of_products, product, scaled, sum_of_products};
-pub use quotients::{fdiv, rdiv, rdiv_64, rdiv_unit};
+pub use quotients::{fdiv, rdiv, rdiv_64, rdiv_unit, share};
 pub use refusal::Refusal;
 pub use roots::isqrt;
 pub use vectors::{UNIT, Vec2, cross, dot, is_within, minus, moved, span, unit, unit_along};

@@ -1,8 +1,11 @@
 //! Quotients of whole numbers, rounded to the nearest or down: this project's own rule.
 
-ghost use Rattle.std.specs.Prelude.{◌≡◌, ℕ, ◌+◌, ◌*◌, ◌/◌, ◌^◌, ◌<◌, ◌≤◌, pos, ◌<ℤ◌, unsigned_abs};
+ghost use Rattle.std.specs.Prelude.{◌≡◌, ℕ, ◌+◌, ◌*◌, ◌/◌, ◌^◌, ◌<◌, ◌≤◌, pos, ◌<ℤ◌, ◌*ℤ◌, unsigned_abs};
 ghost use Rattle.fixed_geom.specs.Numbers.{nearest, rdiv, fdiv, IsNearest, IsFloor};
 ghost use Rattle.fixed_geom.specs.Vectors.{unit_length};
+
+use crate::product;
+use crate::roots::{float_of, low_bits};
 
 /// The nearest natural number to `n / d`, the greater where two are as near.
 fn nearest_quotient(n: u128, d: u128) -> u128
@@ -76,6 +79,72 @@ pub fn rdiv_unit(x: i128) -> i64
 {
     let nearest = nearest_unit(x.unsigned_abs()) as i64;
     if x < 0 { -nearest } else { nearest }
+}
+
+/// A guess at `n·2^30 / d` to the nearest, by a quotient of floats. Nothing else is promised of it,
+/// since what follows puts any guess right.
+fn guess_share(n: u64, d: u64) -> u64
+    ensures small { result < 2 ^ 33 }
+{
+    let quotient = float_of(n) / float_of(d);
+    low_bits(quotient * 1_073_741_824.0)
+}
+
+/// The nearest natural number to `n·2^30 / d`, the greater where two are as near: the guess if that
+/// is it, as it nearly always is, which spares a division of 128 bits.
+fn share_of_sizes(n: u64, d: u64) -> u64
+    requires positive { 0 < d }
+    requires part { n ≤ d }
+    requires whole { d < 2 ^ 62 }
+    ensures value { result ≡ nearest (n * 2 ^ 30) d }
+    ensures small { result ≤ 2 ^ 30 }
+{
+    let guess = guess_share(n, d);
+    let least = u128::from(guess) * u128::from(2 * d);
+    let sum = (u128::from(n) << 31) + u128::from(d);
+    if least <= sum {
+        if sum - least < u128::from(2 * d) {
+            return guess;
+        }
+    }
+    nearest_quotient(u128::from(n) << 30, u128::from(d)) as u64
+}
+
+/// `share` of a whole below 2^62.
+fn near_share(x: i64, k: i64) -> i64
+    requires positive { pos 0 <ℤ k }
+    requires part { unsigned_abs x ≤ unsigned_abs k }
+    requires whole { unsigned_abs k < 2 ^ 62 }
+    ensures value { result ≡ rdiv (x *ℤ unit_length) k }
+    ensures within { unsigned_abs result ≤ 2 ^ 30 }
+{
+    let size = share_of_sizes(x.unsigned_abs(), k.unsigned_abs()) as i64;
+    if x < 0 { -size } else { size }
+}
+
+/// `share` of any whole.
+fn far_share(x: i64, k: i64) -> i64
+    requires positive { pos 0 <ℤ k }
+    requires part { unsigned_abs x ≤ unsigned_abs k }
+    ensures value { result ≡ rdiv (x *ℤ unit_length) k }
+    ensures within { unsigned_abs result ≤ 2 ^ 30 }
+{
+    rdiv(product(x, 1 << 30), i128::from(k)) as i64
+}
+
+/// `x·2^30 / k` to the nearest, ties away from zero, of an `x` that is no greater in size than `k`:
+/// which part of a whole it is, times 2^30. Fast where `k` is below 2^62.
+pub fn share(x: i64, k: i64) -> i64
+    requires positive { pos 0 <ℤ k }
+    requires part { unsigned_abs x ≤ unsigned_abs k }
+    ensures value { result ≡ rdiv (x *ℤ unit_length) k }
+    ensures within { unsigned_abs result ≤ 2 ^ 30 }
+{
+    if k < 1 << 62 {
+        near_share(x, k)
+    } else {
+        far_share(x, k)
+    }
 }
 
 /// The greatest whole number at most `a / b`.

@@ -5,14 +5,35 @@
 ghost use Rattle.std.specs.Prelude.{◌≡◌, ◌+◌, ◌*◌, ◌^◌, ◌<◌, ◌≤◌, pos, ◌≤ℤ◌};
 ghost use Rattle.fixed_geom.specs.Numbers.{IsRoot, isqrt};
 
-use std::num::{nearest_u64_to_f64, saturating_f64_to_u64};
+use std::num::{f64_from_bits_with_nan, f64_to_bits_with_nan, nearest_u64_to_f64};
 
-/// A guess at the root: the processor's root of the nearest float, at most one beside the root.
-/// Nothing is promised of it, since what follows puts any guess right.
+/// The float nearest to `n`. Below 2^52 its bits are put together, which is faster than a
+/// conversion: they are those of `2^52 + n`.
+pub(crate) fn float_of(n: u64) -> f64 {
+    if n < 1 << 52 {
+        f64_from_bits_with_nan(0x4330_0000_0000_0000 | n) - 4_503_599_627_370_496.0
+    } else {
+        nearest_u64_to_f64(n)
+    }
+}
+
+/// The whole number nearest to `x`, if that is from 0 to 2^32; of another `x` any number. It is the
+/// lowest bits of `2^52 + x`.
+pub(crate) fn low_bits(x: f64) -> u64
+    ensures small { result < 2 ^ 33 }
+{
+    f64_to_bits_with_nan(x + 4_503_599_627_370_496.0) & 0x1_ffff_ffff
+}
+
+/// A guess at the root: the processor's root of the nearest float, rounded down but for a hair.
+/// Nothing is promised of it, since what follows puts any guess right; but that takes as many steps
+/// as the guess is off, so that it is right, or one off, from 0 to the greatest number.
 fn guess_64(a: u64) -> u64
     ensures small { result < 2 ^ 32 }
 {
-    saturating_f64_to_u64(nearest_u64_to_f64(a).sqrt()).min(0xffff_ffff)
+    low_bits(float_of(a).sqrt() + 0.5001)
+        .saturating_sub(1)
+        .min(0xffff_ffff)
 }
 
 /// `x`, or the first number below it whose square is at most `a`: one step at most from the guess.

@@ -4,8 +4,8 @@ ghost use Rattle.std.specs.Prelude.{◌≡◌, ℕ, ◌+◌, ◌*◌, ◌^◌, �
 ghost use Rattle.fixed_geom.specs.Numbers.{rdiv, IsRoot};
 ghost use Rattle.fixed_geom.specs.Vectors.{IsWithin, is_within, unit_length, dot, cross, minus, moved, span, unit};
 
-use crate::products::{difference_of_products, product, scaled, sum_of_products};
-use crate::{isqrt, rdiv};
+use crate::products::{difference_of_products, scaled, sum_of_products};
+use crate::{isqrt, share};
 
 /// One, for a unit vector and a facing.
 pub const UNIT: i64 = 1 << 30;
@@ -70,16 +70,6 @@ pub fn span(d: Vec2) -> i64
     ensures within { (k : ℕ) → IsWithin k d → unsigned_abs result ≤ 2 * k }
 {
     isqrt(dot(d, d)) as i64
-}
-
-/// `x·2^30 / k` to the nearest, where `k` is no shorter than `x`.
-fn share(x: i64, k: i64) -> i64
-    requires positive { pos 0 <ℤ k }
-    requires part { unsigned_abs x ≤ unsigned_abs k }
-    ensures value { result ≡ rdiv (x *ℤ unit_length) k }
-    ensures within { unsigned_abs result ≤ 2 ^ 30 }
-{
-    rdiv(product(x, UNIT), i128::from(k)) as i64
 }
 
 /// The unit vector along `d`, where its length `k` is known and not zero.
