@@ -1,6 +1,8 @@
 pub mod BeamLemmas
 pub mod ChoiceLemmas
 pub mod CoreLemmas
+pub mod CrossLemmas
+pub mod DiscLemmas
 pub mod LeastLemmas
 pub mod NearLemmas
 pub mod PointLemmas
@@ -9,3 +11,4 @@ pub mod RootBounds
 pub mod SecondLemmas
 pub mod ShapeLemmas
 pub mod SpotLists
+pub mod TouchLemmas

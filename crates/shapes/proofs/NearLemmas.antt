@@ -61,9 +61,9 @@ placed_near o v h w = record {
 
 -- ---- the nearest point lies between the ends
 
-record IsShare (t : ℤ) : Type 0 where
-  nonnegative : pos 0 ≤ℤ t
-  small : unsigned_abs t ≤ 2 ^ 30
+pub record IsShare (t : ℤ) : Type 0 where
+  pub nonnegative : pos 0 ≤ℤ t
+  pub small : unsigned_abs t ≤ 2 ^ 30
 
 clamped_share : (t : ℤ) → IsShare (clamped t)
 unfolding clamped
@@ -73,15 +73,15 @@ cond_share : (b : Bool) (t : ℤ) → IsShare t → IsShare (cond b (pos 0) t)
 cond_share true t h = record { nonnegative = omega (arith, ints); small = omega arith }
 cond_share false t h = h
 
-share_is : (c : Core) (e : Vec2) → IsShare (share_of c e)
+pub share_is : (c : Core) (e : Vec2) → IsShare (share_of c e)
 unfolding share_of
 share_is c e = cond_share (is_point c) _ (clamped_share _)
 
 -- r is a part of d
-record IsPart (d r : ℤ) : Type 0 where
-  small : unsigned_abs r ≤ unsigned_abs d
-  up : pos 0 ≤ℤ d → pos 0 ≤ℤ r
-  down : d ≤ℤ pos 0 → r ≤ℤ pos 0
+pub record IsPart (d r : ℤ) : Type 0 where
+  pub small : unsigned_abs r ≤ unsigned_abs d
+  pub up : pos 0 ≤ℤ d → pos 0 ≤ℤ r
+  pub down : d ≤ℤ pos 0 → r ≤ℤ pos 0
 
 times_up : (d t : ℤ) → pos 0 ≤ℤ d → pos 0 ≤ℤ t → pos 0 ≤ℤ (d *ℤ t)
 times_up (pos m) (pos n) h l = omega (arith, ints)
@@ -94,7 +94,7 @@ times_down (pos (suc m)) t h l = absurd (omega (arith, ints, h))
 times_down (negsuc m) (pos n) h l = omega (arith, ints)
 times_down (negsuc m) (negsuc n) h l = absurd (omega (arith, ints, l))
 
-part_is : (d t : ℤ) → IsShare t → IsPart d (rdiv (d *ℤ t) unit_length)
+pub part_is : (d t : ℤ) → IsShare t → IsPart d (rdiv (d *ℤ t) unit_length)
 part_is d t h = record {
   small = rdiv_le (d *ℤ t) unit_length (unsigned_abs d) (omega arith) (product_le d t (unsigned_abs d) (2 ^ 30) (omega arith) h.small);
   up = λ l. rdiv_nonnegative (d *ℤ t) unit_length (times_up d t l h.nonnegative);
@@ -167,7 +167,7 @@ either_within false u v k h l = l
 some_dist : (d : ℤ) → int_eq d (pos 0) ≡ false → 0 < unsigned_abs d
 some_dist d h = grind (arith, ints, nat_tests)
 
-normal_within : (s : Pair) (c : Candidate) → c.dist ≡ span (minus c.b c.a) → IsWithin (2 ^ 30) (normal_of s c)
+pub normal_within : (s : Pair) (c : Candidate) → c.dist ≡ span (minus c.b c.a) → IsWithin (2 ^ 30) (normal_of s c)
 unfolding normal_of
 normal_within s c e = elim (cases_Bool (int_eq c.dist (pos 0))) [
   | inl h ↦ rw h (flat_within s.a s.b)
@@ -211,7 +211,7 @@ reach_le r s n h l = let half = half_le s in sum_of r (fdiv s (pos 2)) n h (omeg
     sum_of : (r f : ℤ) (n : ℕ) → unsigned_abs r ≤ 2 ^ 24 → unsigned_abs f ≤ n → unsigned_abs (r +ℤ f) ≤ n + 2 ^ 24
     sum_of r f n h l = omega (arith, ints)
 
-scaled_le : (u m : ℤ) (n : ℕ) → unsigned_abs u ≤ 2 ^ 30 → unsigned_abs m ≤ n → unsigned_abs (rdiv (u *ℤ m) unit_length) ≤ n
+pub scaled_le : (u m : ℤ) (n : ℕ) → unsigned_abs u ≤ 2 ^ 30 → unsigned_abs m ≤ n → unsigned_abs (rdiv (u *ℤ m) unit_length) ≤ n
 scaled_le u m n h l =
     let size = product_le u m (2 ^ 30) n h l in
     rdiv_le (u *ℤ m) unit_length n (omega arith) (omega (arith, size))

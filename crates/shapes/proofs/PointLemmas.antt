@@ -1,11 +1,16 @@
 -- Two cores that are points have one contact point.
-use Rattle.std.proofs.Common.{◌≡◌, ℕ, ◌+◌, Bool, true, false, cond, ℤ, pos, ◌+ℤ◌, ◌-ℤ◌, ◌*ℤ◌, ◌∷◌, [], Option, None, Some, arith, refl, sym, ◌∙◌, ap}
+use Rattle.std.proofs.Common.{◌≡◌, ℕ, ◌+◌, ◌*◌, ◌≤◌, Bool, true, false, cond, ℤ, pos, negsuc, int_lt, unsigned_abs, ◌≤ℤ◌, ◌+ℤ◌, ◌-ℤ◌, ◌*ℤ◌, ◌∷◌, [], Option, None, Some, arith, refl, sym, ◌∙◌, ap, subst}
 use Rattle.std.proofs.lemmas.Int.{ints}
 use Rattle.std.proofs.lemmas.Bool.Decides.{nat_tests}
-use Rattle.fixed_geom.specs.Numbers.{rdiv}
+use Rattle.std.proofs.lemmas.Bool.{false≢true}
+use Rattle.fixed_geom.specs.Numbers.{rdiv, root}
+use Rattle.fixed_geom.proofs.RootLemmas.{root_is, root_below}
+use Rattle.fixed_geom.proofs.VectorLemmas.{dot_self, span_is}
 use Rattle.fixed_geom.specs.Vectors.{unit_length, dot, minus, moved, span}
 use Rattle.fixed_geom.specs.declared.vectors.Vec2.{Vec2}
+use Rattle.shapes.specs.declared.pose.Pose.{Pose}
 use Rattle.shapes.specs.declared.pose.Core.{Core}
+use Rattle.shapes.specs.Poses.{placed}
 use Rattle.shapes.specs.declared.choice.Chosen.{Chosen}
 use Rattle.shapes.specs.declared.spots.Pair.{Pair}
 use Rattle.shapes.specs.declared.spots.Candidate.{Candidate}
@@ -13,7 +18,7 @@ use Rattle.shapes.specs.declared.spots.Spot.{Spot}
 use Rattle.shapes.specs.Cores.{is_point, way_of, share_of, closest}
 use Rattle.shapes.specs.Spots.{measured, of_a, of_b, normal_of, separation_of, place_of, spot_of}
 use Rattle.shapes.specs.Manifolds.{is_before, is_far, is_rival, is_allowed}
-use Rattle.shapes.specs.Choice.{nearer, tried, second_from, chosen_from}
+use Rattle.shapes.specs.Choice.{nearer, nearest, tried, second_from, chosen_from}
 
 times_zero : (x : ℤ) → x *ℤ pos 0 ≡ pos 0
 times_zero x = omega (arith, ints)
@@ -27,6 +32,12 @@ unmoved x d = rw (times_zero d) (plus_zero x)
 
 moved_not : (p d : Vec2) → moved p d (pos 0) ≡ p
 moved_not p d = rw (unmoved p.x d.x, unmoved p.y d.y) refl
+
+-- a body's centre is where it is, however it is turned
+pub placed_center : (o : Pose) (v : Vec2) → v.x ≡ pos 0 → v.y ≡ pos 0 → o.x ≡ placed o v
+unfolding placed rdiv
+placed_center o v e h =
+    rw (e, h, times_zero o.rot.c, times_zero o.rot.s, plus_zero o.x.x, plus_zero o.x.y) refl
 
 -- the nearest point of a point
 pub closest_point : (c : Core) (e : Vec2) → is_point c ≡ true → closest c e ≡ c.p
@@ -52,7 +63,7 @@ never_there : (r : Bool) (v w : Vec2) (t : Option Spot) → v ≡ w → cond (co
 never_there r v w t e = rw (e, not_far w) (never r t)
 
 -- no second point where the first is
-no_second : (first t : Spot) → t.at ≡ first.at → tried first None t ≡ None
+pub no_second : (first t : Spot) → t.at ≡ first.at → tried first None t ≡ None
 unfolding tried is_allowed
 no_second first t e = never_there (is_rival first t) t.at first.at (Some t) e
 
@@ -64,7 +75,7 @@ nearer_twin : (a b : Vec2) → nearer (measured 0 a b) (measured 2 a b) ≡ meas
 unfolding nearer
 nearer_twin a b = rw (not_after (span (minus b a)) 0) refl
 
-abbrev both : Spot → Option Spot → Chosen
+abbrev pub both : Spot → Option Spot → Chosen
 both first second = record { first = first; second = second }
 
 twin : (s : Pair) (a b : Vec2) → chosen_from s (measured 0 a b) (measured 2 a b ∷ []) ≡ both (spot_of s (measured 0 a b)) None
@@ -76,8 +87,92 @@ twin s a b =
     ap (λ (c : Candidate). both (spot_of s c) (second_from s (spot_of s c) None (h ∷ t ∷ []))) (nearer_twin a b)
     ∙ ap (both f) (ap (λ (o : Option Spot). tried f o (spot_of s t)) (no_second f f refl) ∙ no_second f (spot_of s t) (same_place s a b))
 
-pub points_are : (s : Pair) (h : Candidate) → is_point s.a ≡ true → is_point s.b ≡ true → h ≡ of_a s 0 s.a.p → both (spot_of s h) None ≡ chosen_from s h (of_b s 2 s.b.p ∷ [])
-points_are s h a b e =
+pub points_are : (s : Pair) → is_point s.a ≡ true → is_point s.b ≡ true → both (spot_of s (of_a s 0 s.a.p)) None ≡ chosen_from s (of_a s 0 s.a.p) (of_b s 2 s.b.p ∷ [])
+points_are s a b =
     let to_b : closest s.b s.a.p ≡ s.b.p = closest_point s.b s.a.p b in
     let to_a : closest s.a s.b.p ≡ s.a.p = closest_point s.a s.b.p a in
-    rw (e, to_b, to_a) (sym (twin s s.a.p s.b.p))
+    rw (to_b, to_a) (sym (twin s s.a.p s.b.p))
+
+-- ---- a candidate beside which no other counts
+
+-- d is further than the tolerance beyond c
+abbrev pub IsBeyond : Candidate → Candidate → Type 0
+IsBeyond c d = int_lt (c.dist +ℤ pos 20972) d.dist ≡ true
+
+before_beyond : (d e : ℤ) (n m : ℕ) → int_lt (d +ℤ pos 20972) e ≡ true → is_before d n e m ≡ true
+unfolding is_before
+before_beyond d e n m h = grind (arith, ints, nat_tests)
+
+not_before_beyond : (d e : ℤ) (n m : ℕ) → int_lt (d +ℤ pos 20972) e ≡ true → is_before e m d n ≡ false
+unfolding is_before
+not_before_beyond d e n m h = grind (arith, ints, nat_tests)
+
+nearer_new : (b c : Candidate) → IsBeyond c b → nearer b c ≡ c
+unfolding nearer
+nearer_new b c h = rw (before_beyond c.dist b.dist c.number b.number h) refl
+
+nearer_old : (b c : Candidate) → IsBeyond b c → nearer b c ≡ b
+unfolding nearer
+nearer_old b c h = rw (not_before_beyond b.dist c.dist b.number c.number h) refl
+
+either_beyond : (b : Bool) (c d e : Candidate) → IsBeyond c d → IsBeyond c e → IsBeyond c (cond b d e)
+either_beyond true c d e h l = h
+either_beyond false c d e h l = l
+
+nearer_beyond : (c d e : Candidate) → IsBeyond c d → IsBeyond c e → IsBeyond c (nearer d e)
+unfolding nearer
+nearer_beyond c d e h l = either_beyond (is_before e.dist e.number d.dist d.number) c e d l h
+
+no_rival : (b c e : Bool) (x y : Bool) (t : Option Spot) → b ≡ true → cond (cond (cond c false (cond b false x)) y false) t None ≡ None
+no_rival true true e x y t h = refl
+no_rival true false e x y t h = refl
+no_rival false c e x y t h = absurd (false≢true h)
+
+not_beyond : (s : Pair) (c d : Candidate) → IsBeyond c d → tried (spot_of s c) None (spot_of s d) ≡ None
+unfolding tried is_allowed is_rival spot_of
+not_beyond s c d h = no_rival (int_lt (c.dist +ℤ pos 20972) d.dist) _ true _ _ _ h
+
+not_itself : (s : Pair) (c : Candidate) → tried (spot_of s c) None (spot_of s c) ≡ None
+not_itself s c = no_second (spot_of s c) (spot_of s c) refl
+
+-- three candidates' spots, none of which may be the second point
+none_of : (f t u v : Spot) → tried f None t ≡ None → tried f None u ≡ None → tried f None v ≡ None → tried f (tried f (tried f None t) u) v ≡ None
+none_of f t u v h k l = ap (λ (o : Option Spot). tried f (tried f o u) v) h ∙ ap (λ (o : Option Spot). tried f o v) k ∙ l
+
+chosen_alone : (s : Pair) (c d e n : Candidate) → nearest c (d ∷ e ∷ []) ≡ n → second_from s (spot_of s n) None (c ∷ d ∷ e ∷ []) ≡ None → chosen_from s c (d ∷ e ∷ []) ≡ both (spot_of s n) None
+unfolding chosen_from
+chosen_alone s c d e n h l =
+    ap (λ (m : Candidate). both (spot_of s m) (second_from s (spot_of s m) None (c ∷ d ∷ e ∷ []))) h ∙ ap (both (spot_of s n)) l
+
+-- the first of three is alone
+pub first_alone : (s : Pair) (c d e : Candidate) → IsBeyond c d → IsBeyond c e → both (spot_of s c) None ≡ chosen_from s c (d ∷ e ∷ [])
+first_alone s c d e h l =
+    sym (chosen_alone s c d e c (ap (λ (m : Candidate). nearer m e) (nearer_old c d h) ∙ nearer_old c e l)
+    (none_of (spot_of s c) (spot_of s c) (spot_of s d) (spot_of s e) (not_itself s c) (not_beyond s c d h) (not_beyond s c e l)))
+
+-- the last of three is alone
+pub last_alone : (s : Pair) (c d e : Candidate) → IsBeyond e c → IsBeyond e d → both (spot_of s e) None ≡ chosen_from s c (d ∷ e ∷ [])
+last_alone s c d e h l =
+    sym (chosen_alone s c d e e (nearer_new (nearer c d) e (nearer_beyond e c d h l))
+    (none_of (spot_of s e) (spot_of s c) (spot_of s d) (spot_of s e) (not_beyond s e c h) (not_beyond s e d l) (not_itself s e)))
+
+-- what `is_beyond` tests
+pub beyond_square : (d : Vec2) (k m : ℤ) → pos 0 ≤ℤ k → m ≡ (k +ℤ pos 20973) *ℤ (k +ℤ pos 20973) → m ≤ℤ dot d d → int_lt (k +ℤ pos 20972) (span d) ≡ true
+beyond_square d (pos n) m h e l =
+    let dotted = rw (dot_self d) at l in
+    let square : (n + 20973) * (n + 20973) ≤ unsigned_abs d.x * unsigned_abs d.x + unsigned_abs d.y * unsigned_abs d.y = omega (arith, ints, dotted, e) in
+    let root : n + 20973 ≤ root (unsigned_abs d.x * unsigned_abs d.x + unsigned_abs d.y * unsigned_abs d.y) = root_below _ (n + 20973) _ square (root_is _).above in
+    rw (span_is d) (grind (arith, ints, nat_tests))
+beyond_square d (negsuc n) m h e l = absurd (omega (arith, ints, h))
+
+pub alone_at : (s : Pair) {c d : Candidate} → c ≡ d → both (spot_of s c) None ≡ both (spot_of s d) None
+alone_at s e = ap (λ (m : Candidate). both (spot_of s m) None) e
+
+-- what is beyond the one point of a core is beyond its candidate
+pub beyond_first : (s : Pair) (n : Candidate) (k : ℕ) (e : Vec2) → is_point s.a ≡ true → n ≡ of_a s 0 s.a.p → int_lt (n.dist +ℤ pos 20972) (span (minus e s.a.p)) ≡ true → IsBeyond (of_a s 0 s.a.p) (of_b s k e)
+beyond_first s n k e h f l =
+    rw (closest_point s.a e h) (subst (λ (c : Candidate). int_lt (c.dist +ℤ pos 20972) (span (minus e s.a.p)) ≡ true) f l)
+
+pub beyond_second : (s : Pair) (n : Candidate) (k : ℕ) (e : Vec2) → is_point s.b ≡ true → n ≡ of_b s 2 s.b.p → int_lt (n.dist +ℤ pos 20972) (span (minus s.b.p e)) ≡ true → IsBeyond (of_b s 2 s.b.p) (of_a s k e)
+beyond_second s n k e h f l =
+    rw (closest_point s.b e h) (subst (λ (c : Candidate). int_lt (c.dist +ℤ pos 20972) (span (minus s.b.p e)) ≡ true) f l)

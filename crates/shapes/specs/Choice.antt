@@ -30,3 +30,7 @@ second_from s first best (c ∷ cs) = second_from s first (tried first best (spo
 -- the first and the second of a candidate and a list
 unfoldable pub chosen_from : Pair → Candidate → List Candidate → Chosen
 chosen_from s c cs = let first = spot_of s (nearest c cs) in record { first = first; second = second_from s first None (c ∷ cs) }
+
+-- a first spot and no second
+abbrev pub alone : Spot → Chosen
+alone first = record { first = first; second = None }

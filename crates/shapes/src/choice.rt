@@ -1,15 +1,17 @@
 //! The choice of at most two of up to four candidates.
 
-ghost use Rattle.std.specs.Prelude.{◌≡◌, ℕ, ◌^◌, ◌≤◌, ◌∷◌, [], All, IfSome, true, pos, int_le};
-ghost use Rattle.fixed_geom.specs.Vectors.{IsWithin};
+ghost use Rattle.std.specs.Prelude.{◌≡◌, ℕ, ◌^◌, ◌≤◌, ◌∷◌, [], All, IfSome, true, pos, ◌+ℤ◌, ◌≤ℤ◌, unsigned_abs, int_le, int_lt};
+ghost use Rattle.fixed_geom.specs.Vectors.{IsWithin, minus, span};
+ghost use Rattle.shapes.specs.Poses.{IsPlaced};
 ghost use Rattle.shapes.specs.Cores.{is_point};
 ghost use Rattle.shapes.specs.Spots.{IsPair, IsCandidate, IsSpot, separation_of, spot_of, of_a, of_b, others};
 ghost use Rattle.shapes.specs.Manifolds.{is_before, sooner, is_far, is_rival, chosen_spots};
-ghost use Rattle.shapes.specs.Choice.{nearer, nearest, sooner_of, tried, second_from, chosen_from};
+ghost use Rattle.shapes.specs.Choice.{nearer, nearest, sooner_of, tried, second_from, chosen_from, alone};
 
+use crate::Core;
 use crate::cores::{closest, is_point};
 use crate::spots::{Candidate, Pair, Spot, measured, separation_of, spot_of};
-use fixed_geom::{Vec2, dot, minus};
+use fixed_geom::{Vec2, dot, minus, product};
 
 /// How much further than the first point the second may be, and how far the two have to be from
 /// one another, in u (2 hundredths of a metre).
@@ -171,6 +173,62 @@ fn chosen_from(pair: &Pair, head: Candidate, rest: &[Candidate]) -> Chosen
     Chosen { first, second }
 }
 
+/// The choice of a candidate alone.
+fn alone(pair: &Pair, c: &Candidate) -> Chosen
+    requires pair { IsPair pair.now }
+    requires candidate { IsCandidate c.now }
+    ensures value { result ≡ alone (spot_of pair.now c.now) }
+    ensures first { IsSpot result.first }
+    ensures second { IfSome result.second IsSpot }
+{
+    Chosen {
+        first: spot_of(pair, c),
+        second: None,
+    }
+}
+
+/// From where on a distance doesn't count beside this one.
+fn limit_of(dist: i64) -> i64
+    requires small { unsigned_abs dist ≤ 2 ^ 41 }
+    ensures value { result ≡ dist +ℤ pos 20973 }
+    ensures small { unsigned_abs result ≤ 2 ^ 42 }
+{
+    dist + (TOLERANCE + 1)
+}
+
+/// Two places are too far apart to count beside a candidate of this distance. Squares are compared,
+/// which spares most roots.
+fn is_beyond(dist: i64, a: Vec2, b: Vec2) -> bool
+    requires nonnegative { pos 0 ≤ℤ dist }
+    requires small { unsigned_abs dist ≤ 2 ^ 41 }
+    requires first { IsWithin (2 ^ 37) a }
+    requires second { IsWithin (2 ^ 37) b }
+    ensures { result ≡ true → int_lt (dist +ℤ pos 20972) (span (minus b a)) ≡ true }
+{
+    let way = minus(b, a);
+    let limit = limit_of(dist);
+    if dot(way, way) < product(limit, limit) {
+        return false;
+    }
+    true
+}
+
+/// The first ends of two cores are too far apart to count beside this distance, and so are the
+/// second ends.
+fn are_beyond(dist: i64, a: &Core, b: &Core) -> bool
+    requires nonnegative { pos 0 ≤ℤ dist }
+    requires small { unsigned_abs dist ≤ 2 ^ 41 }
+    requires first { IsPlaced a.now }
+    requires second { IsPlaced b.now }
+    ensures first { result ≡ true → int_lt (dist +ℤ pos 20972) (span (minus b.now.p a.now.p)) ≡ true }
+    ensures second { result ≡ true → int_lt (dist +ℤ pos 20972) (span (minus b.now.q a.now.q)) ≡ true }
+{
+    if !is_beyond(dist, a.p, b.p) {
+        return false;
+    }
+    is_beyond(dist, a.q, b.q)
+}
+
 /// An end of the first core against the second.
 fn of_a(pair: &Pair, number: u8, e: Vec2) -> Candidate
     requires pair { IsPair pair.now }
@@ -192,20 +250,50 @@ fn of_b(pair: &Pair, number: u8, e: Vec2) -> Candidate
 }
 
 /// The choice between two points: candidates 0 and 2 are the same two places.
-fn chosen_of_points(pair: &Pair, head: Candidate) -> Chosen
+fn chosen_of_points(pair: &Pair) -> Chosen
     requires pair { IsPair pair.now }
     requires first { is_point pair.now.a ≡ true }
     requires second { is_point pair.now.b ≡ true }
-    requires head { head ≡ of_a pair.now 0 pair.now.a.p }
-    requires candidate { IsCandidate head }
-    ensures value { result ≡ chosen_from pair.now head (of_b pair.now 2 pair.now.b.p ∷ []) }
+    ensures value { result ≡ chosen_from pair.now (of_a pair.now 0 pair.now.a.p) (of_b pair.now 2 pair.now.b.p ∷ []) }
     ensures first { IsSpot result.first }
     ensures second { IfSome result.second IsSpot }
 {
-    Chosen {
-        first: spot_of(pair, &head),
-        second: None,
+    alone(pair, &of_a(pair, 0, pair.a.p))
+}
+
+/// The choice where the first core is a point: mostly its own candidate alone, since the ends of
+/// the other core are too far to count.
+fn chosen_of_first_point(pair: &Pair) -> Chosen
+    requires pair { IsPair pair.now }
+    requires first { is_point pair.now.a ≡ true }
+    ensures value { result ≡ chosen_from pair.now (of_a pair.now 0 pair.now.a.p) (of_b pair.now 2 pair.now.b.p ∷ of_b pair.now 3 pair.now.b.q ∷ []) }
+    ensures first { IsSpot result.first }
+    ensures second { IfSome result.second IsSpot }
+{
+    let near = of_a(pair, 0, pair.a.p);
+    let point = pair.a.p;
+    if are_beyond(near.dist, &Core { p: point, q: point }, &pair.b) {
+        return alone(pair, &near);
     }
+    let third = of_b(pair, 2, pair.b.p);
+    chosen_from(pair, near, &[third, of_b(pair, 3, pair.b.q)])
+}
+
+/// The choice where the second core is a point, likewise.
+fn chosen_of_second_point(pair: &Pair) -> Chosen
+    requires pair { IsPair pair.now }
+    requires second { is_point pair.now.b ≡ true }
+    ensures value { result ≡ chosen_from pair.now (of_a pair.now 0 pair.now.a.p) (of_a pair.now 1 pair.now.a.q ∷ of_b pair.now 2 pair.now.b.p ∷ []) }
+    ensures first { IsSpot result.first }
+    ensures second { IfSome result.second IsSpot }
+{
+    let near = of_b(pair, 2, pair.b.p);
+    let point = pair.b.p;
+    if are_beyond(near.dist, &pair.a, &Core { p: point, q: point }) {
+        return alone(pair, &near);
+    }
+    let head = of_a(pair, 0, pair.a.p);
+    chosen_from(pair, head, &[of_a(pair, 1, pair.a.q), near])
 }
 
 /// The first and the second of all candidates: 0 and 1 are the ends of the first core, 2 and 3
@@ -217,19 +305,18 @@ fn chosen_of_all(pair: &Pair) -> Chosen
     ensures first { IsSpot result.first }
     ensures second { IfSome result.second IsSpot }
 {
-    let head = of_a(pair, 0, pair.a.p);
     if is_point(&pair.a) {
         if is_point(&pair.b) {
-            return chosen_of_points(pair, head);
+            return chosen_of_points(pair);
         }
-        let third = of_b(pair, 2, pair.b.p);
-        return chosen_from(pair, head, &[third, of_b(pair, 3, pair.b.q)]);
+        return chosen_of_first_point(pair);
     }
-    let third = of_b(pair, 2, pair.b.p);
-    let second = of_a(pair, 1, pair.a.q);
     if is_point(&pair.b) {
-        return chosen_from(pair, head, &[second, third]);
+        return chosen_of_second_point(pair);
     }
+    let head = of_a(pair, 0, pair.a.p);
+    let second = of_a(pair, 1, pair.a.q);
+    let third = of_b(pair, 2, pair.b.p);
     chosen_from(pair, head, &[second, third, of_b(pair, 3, pair.b.q)])
 }
 

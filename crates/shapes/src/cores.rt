@@ -7,7 +7,7 @@ ghost use Rattle.shapes.specs.Poses.{IsPlaced};
 ghost use Rattle.shapes.specs.Cores.{is_point, way_of, clamped, share_of, closest, side, is_parted, cores_cross};
 
 use crate::Core;
-use fixed_geom::{UNIT, Vec2, cross, dot, minus, moved, rdiv};
+use fixed_geom::{UNIT, Vec2, cross, dot, minus, moved, rdiv, share};
 
 /// Both ends are at one place.
 #[tactic(auto, unfolding(crate::specs::Cores::is_point))]
@@ -49,6 +49,18 @@ fn inner_fraction(part: i128, whole: i128) -> i64
     rdiv(times_unit(part), whole) as i64
 }
 
+/// `inner_fraction` of a whole that 64 bits hold, as that of two ends within 2^30 u is.
+fn near_fraction(part: i128, whole: i128) -> i64
+    requires nonnegative { pos 0 ≤ℤ part }
+    requires inside { part ≤ℤ whole }
+    requires positive { pos 0 <ℤ whole }
+    requires near { unsigned_abs whole ≤ 2 ^ 62 }
+    ensures value { result ≡ clamped (rdiv (part *ℤ unit_length) whole) }
+    ensures within { unsigned_abs result ≤ 2 ^ 30 }
+{
+    share(part as i64, whole as i64)
+}
+
 /// `part / whole`, times 2^30 and to the nearest, brought within 0 to 2^30. Only a part that is
 /// inside the whole has to be divided.
 fn fraction(part: i128, whole: i128) -> i64
@@ -62,6 +74,9 @@ fn fraction(part: i128, whole: i128) -> i64
     }
     if part >= whole {
         return UNIT;
+    }
+    if whole <= 1 << 62 {
+        return near_fraction(part, whole);
     }
     inner_fraction(part, whole)
 }

@@ -1,6 +1,6 @@
 //! The manifold of two shapes: the one or two points at which they touch.
 
-ghost use Rattle.std.specs.Prelude.{◌≡◌, ℕ, ◌+◌, ◌*◌, ◌^◌, ◌≤◌, [], IfSome, IfNone, unsigned_abs};
+ghost use Rattle.std.specs.Prelude.{◌≡◌, ℕ, ◌+◌, ◌*◌, ◌^◌, ◌≤◌, pos, ◌≤ℤ◌, [], IfSome, IfNone, unsigned_abs};
 ghost use Rattle.fixed_geom.specs.Vectors.{IsWithin, minus};
 ghost use Rattle.shapes.specs.Shapes.{IsShape};
 ghost use Rattle.shapes.specs.Poses.{IsPose, IsPlaced};
@@ -73,7 +73,9 @@ fn pair_of(a: Core, radius_a: i64, b: Core, radius_b: i64) -> Pair
 /// next such one that lies at most 20,972 u further, where the shapes overlap, and more than
 /// 20,972 u from the first. (Two points as in Box2D's manifolds; the candidates are this project's
 /// own rule.) Where the bodies' centres are at most `k` u apart in each coordinate, no offset and no
-/// separation is beyond `4·k + 2^28` u in size.
+/// separation is beyond `4·k + 2^28` u in size. Where the shapes touch, none is beyond 2^27 u, and
+/// no centres need be near: a core's ends are within 1.5·2^24 u of its body's centre, and cores that
+/// cross have a place in common.
 pub fn manifold(a: &Shape, pose_a: Pose, b: &Shape, pose_b: Pose) -> Manifold
     requires first { IsShape a.now }
     requires first_pose { IsPose pose_a }
@@ -86,6 +88,8 @@ pub fn manifold(a: &Shape, pose_a: Pose, b: &Shape, pose_b: Pose) -> Manifold
     ensures alone { IfNone result.second (allowed_spots (placed_pair a.now pose_a b.now pose_b) ≡ []) }
     ensures first_near { (k : ℕ) → IsWithin k (minus pose_b.x pose_a.x) → IsPointWithin (4 * k + 2 ^ 28) result.first }
     ensures second_near { (k : ℕ) → IsWithin k (minus pose_b.x pose_a.x) → IfSome result.second (λ p. IsPointWithin (4 * k + 2 ^ 28) p) }
+    ensures first_touching { result.first.separation ≤ℤ pos 0 → IsPointWithin (2 ^ 27) result.first }
+    ensures second_touching { IfSome result.second (λ p. IsPointWithin (2 ^ 27) p) }
 {
     let pair = pair_of(
         core_of(a, pose_a),

@@ -43,6 +43,10 @@ pub fn placed(pose: Pose, v: Vec2) -> Vec2
     ensures value { result ≡ placed pose v }
     ensures within { IsWithin (2 ^ 36 + 2 ^ 25) result }
 {
+    // The centre of most circles.
+    if v.x == 0 && v.y == 0 {
+        return pose.x;
+    }
     plus(pose.x, rotate(pose.rot, v))
 }
 

@@ -1,4 +1,4 @@
-use Rattle.std.proofs.Common.{ℕ, ◌≤◌, ◌^◌, ℤ, unsigned_abs, Bool, true, false, cond, int_lt, refl, rules}
+use Rattle.std.proofs.Common.{ℕ, ◌≤◌, ℤ, unsigned_abs, Bool, true, false, cond, int_lt, refl, rules}
 use Rattle.std.proofs.lemmas.Int.{to_z-of_z}
 use Rattle.fixed_geom.specs.Boxes.{IsBoxWithin}
 use Rattle.shapes.specs.declared.pose.Core.{Core}

@@ -5,6 +5,7 @@ use mir.Val.{SFits}
 use Rattle.shapes.proofs.LeastLemmas.{manifold_has_least}
 use Rattle.shapes.proofs.NearLemmas.{manifold_has_near}
 use Rattle.shapes.proofs.SecondLemmas.{manifold_has_second}
+use Rattle.shapes.proofs.TouchLemmas.{manifold_has_touching}
 use Rattle.shapes.proofs.manifolds.manifold.Goals as goal
 
 pub returns-clause-value : goal.returns-clause-value
@@ -33,3 +34,11 @@ returns-clause-second_near c = λ k w.
 
 pub returns-clause-other : goal.returns-clause-other
 returns-clause-other c = manifold_has_second c.args.a.now c.args.pose_a c.args.b.now c.args.pose_b c.manifold_between.result (returns-clause-value c)
+
+pub returns-clause-first_touching : goal.returns-clause-first_touching
+returns-clause-first_touching c =
+    (manifold_has_touching c.args.a.now c.args.pose_a c.args.b.now c.args.pose_b c.manifold_between.result (returns-clause-value c) c.requires.first c.requires.first_pose c.requires.second c.requires.second_pose).first
+
+pub returns-clause-second_touching : goal.returns-clause-second_touching
+returns-clause-second_touching c =
+    (manifold_has_touching c.args.a.now c.args.pose_a c.args.b.now c.args.pose_b c.manifold_between.result (returns-clause-value c) c.requires.first c.requires.first_pose c.requires.second c.requires.second_pose).second

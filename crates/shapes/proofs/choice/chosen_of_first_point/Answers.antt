@@ -1,0 +1,23 @@
+use Rattle.std.proofs.Common.{◌≡◌, true, pos, int_lt, ◌+ℤ◌, [], ◌∷◌, ◌∙◌, rules}
+use Rattle.std.proofs.lemmas.Int.{to_z-of_z}
+use Rattle.std.proofs.lemmas.List.Elements.{All-nil, All-cons}
+use Rattle.std.specs.Int.{w64}
+use mir.Val.{SFits}
+use Rattle.fixed_geom.specs.Vectors.{span, minus}
+use Rattle.shapes.specs.Spots.{IsCandidate, of_a, of_b}
+use Rattle.shapes.proofs.PointLemmas.{alone_at, first_alone, beyond_first}
+use Rattle.shapes.proofs.choice.chosen_of_first_point.Goals as goal
+
+pub returns-then-are_beyond-clause-value : goal.returns-then-are_beyond-clause-value
+returns-then-are_beyond-clause-value c =
+    let s = c.args.pair.now in
+    let fits : SFits w64 c.of_a-near.result.dist = search rules in
+    let first : int_lt (c.of_a-near.result.dist +ℤ pos 20972) (span (minus c.args.pair.now.b.p c.args.pair.now.a.p)) ≡ true = simp to_z-of_z at (c.are_beyond.ensures.first c.if-are_beyond.true) in
+    let second : int_lt (c.of_a-near.result.dist +ℤ pos 20972) (span (minus c.args.pair.now.b.q c.args.pair.now.a.p)) ≡ true = simp to_z-of_z at (c.are_beyond.ensures.second c.if-are_beyond.true) in
+    c.alone.ensures.value ∙ alone_at s c.of_a-near.ensures.value
+    ∙ first_alone s (of_a s 0 s.a.p) (of_b s 2 s.b.p) (of_b s 3 s.b.q)
+    (beyond_first s c.of_a-near.result 2 s.b.p c.requires.first c.of_a-near.ensures.value first)
+    (beyond_first s c.of_a-near.result 3 s.b.q c.requires.first c.of_a-near.ensures.value second)
+
+pub chosen_from-requires-clause-rest : goal.chosen_from-requires-clause-rest
+chosen_from-requires-clause-rest c = All-cons IsCandidate c.of_b-third.result (c.of_b.result ∷ []) c.of_b-third.ensures.candidate (All-cons IsCandidate c.of_b.result [] c.of_b.ensures.candidate (All-nil IsCandidate))
