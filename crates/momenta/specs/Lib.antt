@@ -1,1 +1,3 @@
 pub mod Motions
+pub mod Impulses
+pub mod Gains

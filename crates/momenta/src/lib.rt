@@ -1,19 +1,27 @@
-//! How one body moves in a tick: velocity and spin from the momenta, gravity, the speed limit, the move.
+//! How one body moves in a tick: velocity and spin from the momenta, gravity, the speed limit, the move;
+//! and the impulses that two bodies give one another along a line.
 //!
 //! Lengths are in u, times in ticks, masses are whole numbers. A momentum is in mass·u/tick, an angular
 //! momentum in mass·u²/tick, a spin is the turn of a tick in radians times 2^30.
 #![tactic(auto)]
 
+pub mod gain;
 pub mod gravity;
+pub mod line;
 pub mod mass;
 pub mod motion;
+mod narrow;
 pub mod speed_limit;
+pub mod state;
 #[cfg(test)]
 mod tests;
 pub mod travel;
 
+pub use gain::{Gain, NOTHING, gain_between, plus};
 pub use gravity::pull;
+pub use line::{Exerted, Line, inverse_mass, solve_line, speed_along, warm_line};
 pub use mass::MassData;
 pub use motion::{Motion, spin, velocity};
 pub use speed_limit::clamp_speed;
+pub use state::{BodyState, Ends, impulse_pair};
 pub use travel::advance;

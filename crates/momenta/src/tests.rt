@@ -1,8 +1,12 @@
-ghost use Rattle.std.specs.Prelude.{◌^◌};
+ghost use Rattle.std.specs.Prelude.{◌≡◌, ◌^◌, ◌≤◌, ◌≤ℤ◌, pos, true, unsigned_abs};
 ghost use Rattle.fixed_geom.specs.Vectors.{IsWithin};
+ghost use Rattle.momenta.specs.Impulses.{AreStates, IsLine, IsState};
 ghost use Rattle.momenta.specs.Motions.{IsMass, IsMotion};
 
-use crate::{MassData, Motion, advance, clamp_speed, pull};
+use crate::{
+    BodyState, Ends, Exerted, Line, MassData, Motion, advance, clamp_speed, inverse_mass, pull,
+    solve_line,
+};
 use fixed_geom::{Rot, Vec2};
 
 const AHEAD: Rot = Rot { c: 1 << 30, s: 0 };
@@ -104,4 +108,96 @@ fn a_fast_spin_turns_by_its_limit(rt: HostRuntime) {
     assert_eq!(rt; moved.rot.s, 260420645);
     assert_eq!(rt; moved.l, 150000);
     assert_eq!(rt; change, at(0, 0));
+}
+
+const ORIGIN: Vec2 = Vec2 { x: 0, y: 0 };
+
+/// A mover that never turns, at the origin.
+fn mover(mass: i64, p: Vec2) -> BodyState
+    requires positive { pos 1 ≤ℤ mass }
+    requires mass { unsigned_abs mass ≤ 2 ^ 20 }
+    requires momentum { IsWithin (2 ^ 60) p }
+    ensures state { IsState result }
+    ensures movable { result.movable ≡ true }
+{
+    BodyState {
+        movable: true,
+        mass: MassData { mass, inertia: 0 },
+        motion: Motion {
+            p,
+            l: 0,
+            x: ORIGIN,
+            rot: AHEAD,
+        },
+        start: ORIGIN,
+    }
+}
+
+/// A line through both centres.
+fn line(direction: Vec2, inverse_mass: i128) -> Line
+    requires direction { IsWithin (2 ^ 30) direction }
+    requires low { pos (2 ^ 20) ≤ℤ inverse_mass }
+    requires high { unsigned_abs inverse_mass ≤ 2 ^ 98 }
+    ensures { IsLine result }
+{
+    Line {
+        direction,
+        ra: ORIGIN,
+        rb: ORIGIN,
+        inverse_mass,
+    }
+}
+
+/// One impulse of the solver towards the speed `bias`, which never pulls.
+fn push(line: &Line, bias: i64, ends: &Ends) -> Exerted
+    requires line { IsLine line.now }
+    requires bias { unsigned_abs bias ≤ 2 ^ 62 }
+    requires states { AreStates ends.now }
+{
+    solve_line(line, bias, 0, 4398046511104, 0, ends)
+}
+
+#[test]
+fn two_masses_that_meet_stop_one_another(rt: HostRuntime) {
+    let a = mover(3, Vec2 { x: 30, y: 0 });
+    let b = mover(2, Vec2 { x: -20, y: 0 });
+    let ahead = Vec2 {
+        x: 1073741824,
+        y: 0,
+    };
+    let ends = Ends { a, b };
+    assert_eq!(rt; inverse_mass(ahead, ORIGIN, ORIGIN, &ends), 916259689813);
+    let after = push(&line(ahead, 916259689813), 0, &ends);
+    assert_eq!(rt; after.total, 24);
+    assert_eq!(rt; after.ends.a.motion.p, at(6, 0));
+    assert_eq!(rt; after.ends.b.motion.p, at(4, 0));
+}
+
+#[test]
+fn an_impulse_is_rounded_once_for_both(rt: HostRuntime) {
+    let a = mover(1, Vec2 { x: 10, y: 0 });
+    let b = mover(1, ORIGIN);
+    let slanted = Vec2 {
+        x: 644245094,
+        y: 858993459,
+    };
+    let after = push(&line(slanted, 2199023255552), 0, &Ends { a, b });
+    assert_eq!(rt; after.total, 3);
+    assert_eq!(rt; after.ends.a.motion.p, at(8, -2));
+    assert_eq!(rt; after.ends.b.motion.p, at(2, 2));
+}
+
+#[test]
+fn an_impulse_beyond_the_limit_is_dropped(rt: HostRuntime) {
+    let limit = 1152921504606846976;
+    let a = mover(1, ORIGIN);
+    let b = mover(1, Vec2 { x: limit, y: 0 });
+    let ahead = Vec2 {
+        x: 1073741824,
+        y: 0,
+    };
+    let after = push(&line(ahead, 2199023255552), limit + 5, &Ends { a, b });
+    assert_eq!(rt; after.total, 0);
+    assert_eq!(rt; after.ends.a.motion.p, ORIGIN);
+    assert_eq!(rt; after.ends.b.motion.p, at(limit, 0));
 }

@@ -1,0 +1,78 @@
+-- Laws of an impulse: which states it leaves, what it leaves alone, and that two movers' momenta have the same sum after it.
+use Rattle.std.proofs.Common.{◌≡◌, ◌^◌, ◌≤◌, Bool, true, false, cond, Some, None, ℤ, pos, neg_ℤ, ◌+ℤ◌, unsigned_abs, arith, refl}
+use Rattle.std.proofs.lemmas.Bool.Decides.{nat_tests}
+use Rattle.std.proofs.lemmas.Int.{ints}
+use Rattle.fixed_geom.specs.Vectors.{IsWithin, cross}
+use Rattle.fixed_geom.specs.declared.vectors.Vec2.{Vec2}
+use Rattle.momenta.specs.declared.motion.Motion.{Motion}
+use Rattle.momenta.specs.declared.state.BodyState.{BodyState}
+use Rattle.momenta.specs.declared.state.Ends.{Ends}
+use Rattle.momenta.specs.Impulses.{IsState, IsSameBody, IsMomentumKept, fits, given, negated, plus, taken, turned_by}
+
+-- ---- the state after it
+
+record AreFitting (m : Motion) : Type 0 where
+  p : IsWithin (2 ^ 60) m.p
+  l : unsigned_abs m.l ≤ 2 ^ 90
+
+fitting : (m : Motion) → fits m ≡ true → AreFitting m
+fitting m h = record { p = record { x = grind (arith, nat_tests); y = grind (arith, nat_tests) }; l = grind (arith, nat_tests) }
+
+turned_still : (inertia l moment : ℤ) → (inertia ≡ pos 0 → l ≡ pos 0) → inertia ≡ pos 0 → turned_by inertia l moment ≡ pos 0
+turned_still inertia l moment still h = rw h (still h)
+
+-- what the impulse makes of a mover
+abbrev moved_by : Vec2 → Vec2 → BodyState → BodyState
+moved_by j r s = record s { motion = record s.motion { p = plus s.motion.p j; l = turned_by s.mass.inertia s.motion.l (cross r j) } }
+
+state_by : (t : Bool) (j r : Vec2) (s : BodyState) → IsState s → fits (cond t (moved_by j r s) s).motion ≡ true → IsState (cond t (moved_by j r s) s)
+state_by true j r s h k =
+    let f = fitting (moved_by j r s).motion k in
+    record { mass = h.mass; motion = record { p = f.p; l = f.l; still = λ e. turned_still s.mass.inertia s.motion.l (cross r j) h.motion.still e; x = h.motion.x; facing = h.motion.facing }; start = h.start }
+state_by false j r s h k = h
+
+-- where the momenta are within their limits
+pub given_state : (j r : Vec2) (s m : BodyState) → m ≡ given j r s → IsState s → fits m.motion ≡ true → IsState m
+unfolding given
+given_state j r s m e h k = rw e (state_by s.movable j r s h (rw e at k))
+
+-- ---- what it leaves alone
+
+same_body_by : (t : Bool) (j r : Vec2) (s : BodyState) → s.movable ≡ t → IsSameBody s (cond t (moved_by j r s) s)
+same_body_by true j r s e = record { movable = refl; mass = refl; start = refl; place = refl; facing = refl; immovable = λ h. cc }
+same_body_by false j r s e = record { movable = refl; mass = refl; start = refl; place = refl; facing = refl; immovable = λ h. refl }
+
+pub given_same : (j r : Vec2) (s : BodyState) → IsSameBody s (given j r s)
+unfolding given
+given_same j r s = same_body_by s.movable j r s refl
+
+-- ---- the sum
+
+given_x : (j r : Vec2) (s : BodyState) → s.movable ≡ true → (given j r s).motion.p.x ≡ s.motion.p.x +ℤ j.x
+unfolding given
+given_x j r s h = rw h refl
+
+given_y : (j r : Vec2) (s : BodyState) → s.movable ≡ true → (given j r s).motion.p.y ≡ s.motion.p.y +ℤ j.y
+unfolding given
+given_y j r s h = rw h refl
+
+sum_kept : (p q j : ℤ) → (p +ℤ neg_ℤ j) +ℤ (q +ℤ j) ≡ p +ℤ q
+sum_kept p q j = omega (arith, ints)
+
+given_momentum : (j ra rb : Vec2) (e : Ends) → IsMomentumKept e (record { a = given (negated j) ra e.a; b = given j rb e.b })
+given_momentum j ra rb e = record {
+  x = λ h k. rw (given_x (negated j) ra e.a h, given_x j rb e.b k) (sum_kept e.a.motion.p.x e.b.motion.p.x j.x);
+  y = λ h k. rw (given_y (negated j) ra e.a h, given_y j rb e.b k) (sum_kept e.a.motion.p.y e.b.motion.p.y j.y);
+}
+
+some_by : (t : Bool) (a s : BodyState) → Some a ≡ cond t (Some s) None → a ≡ s
+some_by true a s h = cc
+some_by false a s h = cc
+
+-- what is taken is what is given
+taken_is : (j r : Vec2) (s a : BodyState) → Some a ≡ taken j r s → a ≡ given j r s
+unfolding taken
+taken_is j r s a h = some_by (fits (given j r s).motion) a (given j r s) h
+
+pub taken_momentum : (j ra rb : Vec2) (e : Ends) (a b : BodyState) → Some a ≡ taken (negated j) ra e.a → Some b ≡ taken j rb e.b → IsMomentumKept e (record { a = a; b = b })
+taken_momentum j ra rb e a b h k = rw (taken_is (negated j) ra e.a a h, taken_is j rb e.b b k) (given_momentum j ra rb e)

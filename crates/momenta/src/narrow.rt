@@ -1,0 +1,56 @@
+//! Products with a direction in 64 bits, where the sizes leave room.
+
+ghost use Rattle.std.specs.Prelude.{◌≡◌, ◌*◌, ◌^◌, ◌≤◌, ◌*ℤ◌, unsigned_abs};
+ghost use Rattle.fixed_geom.specs.Numbers.{nearest, rdiv};
+ghost use Rattle.fixed_geom.specs.Vectors.{IsWithin, dot, unit_length};
+
+use fixed_geom::Vec2;
+
+/// The nearest natural number to `n / 2^30`, the greater where two are as near.
+fn nearest_unit_64(n: u64) -> u64
+    requires { n ≤ 2 ^ 62 }
+    ensures value { result ≡ nearest n (2 ^ 30) }
+    ensures small { result ≤ 2 ^ 32 }
+{
+    (n + (1 << 29)) >> 30
+}
+
+/// `x / 2^30` to the nearest, ties away from zero; `x` is at most 2^62 in size.
+pub fn rdiv_unit_64(x: i64) -> i64
+    requires { unsigned_abs x ≤ 2 ^ 62 }
+    ensures value { result ≡ rdiv x unit_length }
+    ensures within { unsigned_abs result ≤ 2 ^ 32 }
+{
+    let nearest = nearest_unit_64(x.unsigned_abs()) as i64;
+    if x < 0 { -nearest } else { nearest }
+}
+
+/// `a·b`
+fn narrow_product(a: i64, b: i64) -> i64
+    requires a { unsigned_abs a ≤ 2 ^ 32 }
+    requires b { unsigned_abs b ≤ 2 ^ 30 }
+    ensures value { result ≡ a *ℤ b }
+    ensures size { unsigned_abs result ≡ unsigned_abs a * unsigned_abs b }
+{
+    a * b
+}
+
+/// `a·b / 2^30` to the nearest, where `b` is a part of a direction.
+pub fn narrow_scaled(a: i64, b: i64) -> i64
+    requires a { unsigned_abs a ≤ 2 ^ 32 }
+    requires b { unsigned_abs b ≤ 2 ^ 30 }
+    ensures value { result ≡ rdiv (a *ℤ b) unit_length }
+    ensures within { unsigned_abs result ≤ 2 ^ 32 }
+{
+    rdiv_unit_64(narrow_product(a, b))
+}
+
+/// The scalar product of a slow velocity and a direction.
+pub fn narrow_dot(v: Vec2, direction: Vec2) -> i64
+    requires v { IsWithin (2 ^ 31) v }
+    requires direction { IsWithin (2 ^ 30) direction }
+    ensures value { result ≡ dot v direction }
+    ensures within { unsigned_abs result ≤ 2 ^ 62 }
+{
+    narrow_product(v.x, direction.x) + narrow_product(v.y, direction.y)
+}
