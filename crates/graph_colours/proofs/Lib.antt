@@ -1,0 +1,9 @@
+pub mod Cases
+pub mod PlaceLemmas
+pub mod MoverLemmas
+pub mod ListLemmas
+pub mod MarkLemmas
+pub mod SearchLemmas
+pub mod StepLemmas
+pub mod ColouringLemmas
+pub mod GraphLemmas

@@ -1,0 +1,4 @@
+pub mod Movers
+pub mod Members
+pub mod Colours
+pub mod Marks

@@ -1,0 +1,60 @@
+-- How one colour is kept: its members, and for each slot whether one of them has the mover there.
+use Rattle.std.specs.Prelude.{◌≡◌, ℕ, ◌≤◌, ◌||◌, Bool, false, List, ◌∷◌, [], ◌++◌, length, map, slice_index_or, slice_set, All, Option, Some, None}
+use Rattle.std.specs.List.{list_any}
+use Rattle.graph_colours.specs.declared.member.Movers.{Movers}
+use Rattle.graph_colours.specs.declared.member.Member.{Member}
+use Rattle.graph_colours.specs.Movers.{has_mover}
+use Rattle.graph_colours.specs.Members.{AreRising, AreApart}
+use Rattle.graph_colours.specs.Colours.{IsColouring}
+
+-- what a colour shows: its members, how many more it takes with no memory, and the slots that have marks
+pub record Bucket (C : Type 0) : Type 0 where
+  pub members : List (Member C)
+  pub room : ℕ
+  pub slots : ℕ
+
+abbrev pub is_marked_second : List Bool → Option ℕ → Bool
+is_marked_second used None = false
+is_marked_second used (Some slot) = slice_index_or used slot false
+
+-- a mover of the constraint is marked
+abbrev pub is_marked : List Bool → Movers → Bool
+is_marked used movers = slice_index_or used movers.first false || is_marked_second used movers.second
+
+-- a mark in a slot, if there is one
+abbrev pub set_second : List Bool → Option ℕ → Bool → List Bool
+set_second used None mark = used
+set_second used (Some slot) mark = slice_set used slot mark
+
+-- the marks of the movers are set
+abbrev pub set_marks : List Bool → Movers → Bool → List Bool
+set_marks used movers mark = set_second (slice_set used movers.first mark) movers.second mark
+
+-- a slot is marked just where a member has the mover there
+abbrev pub AreMarks : {C : Type 0} → List (Member C) → List Bool → Type 0
+AreMarks ms used = (slot : ℕ) → slice_index_or used slot false ≡ list_any (λ m. has_mover m.movers slot) ms
+
+-- what a colour keeps
+pub record IsKept {C : Type 0} (number : C → ℕ) (ms : List (Member C)) (used : List Bool) : Type 0 where
+  pub rising : AreRising number ms
+  pub apart : AreApart ms
+  pub marks : AreMarks ms used
+
+-- there is room for that many, whose movers' slots are below the bound
+pub record HasRoom {C : Type 0} (constraints slots : ℕ) (b : Bucket C) : Type 0 where
+  pub enough : constraints ≤ b.room
+  pub below : slots ≤ b.slots
+
+-- the members of the twelve colours and of the overflow
+abbrev pub members_in : {C : Type 0} → Bucket C → List (Member C)
+members_in b = b.members
+
+abbrev pub lists_of : {C : Type 0} → List (Bucket C) → List (Member C) → List (List (Member C))
+lists_of colours overflow = map members_in colours ++ overflow ∷ []
+
+-- what the whole graph keeps: a colouring, with room for that many more in each colour and in the overflow
+pub record IsGraph {C : Type 0} (number : C → ℕ) (colours : List (Bucket C)) (overflow : List (Member C)) (spare room slots : ℕ) : Type 0 where
+  pub colouring : IsColouring number (lists_of colours overflow)
+  pub twelve : length colours ≡ 12
+  pub rooms : All (HasRoom room slots) colours
+  pub overflow_room : room ≤ spare

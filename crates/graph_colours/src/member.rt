@@ -1,0 +1,81 @@
+//! Constraints with their movers, in lists that ascend by id.
+
+ghost use Rattle.std.specs.Prelude.{◌≡◌, ℕ, ◌<◌, ◌≤◌, ◌+◌, length, vec_len, vec_capacity};
+ghost use Rattle.std.specs.List.{AllWithin};
+ghost use Rattle.graph_colours.specs.Members.{AreRising, has_id, inserted, without, movers_of};
+
+/// The name of a constraint. Constraints are solved in the order of these numbers, and two names
+/// with one number are one constraint.
+pub trait Id: Copy {
+    ghost number: { Self → ℕ };
+
+    /// The number that names the constraint.
+    fn number(&self) -> u128
+        ensures { result ≡ number self.now };
+}
+
+/// The slots of the movers that a constraint acts on: one or two.
+#[derive(Clone, Copy, Debug, PartialEq, Eq)]
+pub struct Movers {
+    pub first: u32,
+    pub second: Option<u32>,
+}
+
+/// A constraint that has a colour.
+#[derive(Clone, Copy, Debug, PartialEq, Eq)]
+pub struct Member<C> {
+    pub id: C,
+    pub movers: Movers,
+}
+
+/// The place of the first member whose id's number is at least `wanted`, or the list's length.
+pub(crate) fn place_from<C: Id>(members: &[Member<C>], wanted: u128) -> usize
+    requires { AreRising C.number members.now }
+    ensures within { result ≤ length members.now }
+    ensures before { AllWithin (λ m. C.number m.id < wanted) members.now 0 result }
+    ensures after { AllWithin (λ m. wanted ≤ C.number m.id) members.now result (length members.now) }
+{
+    members.partition_point(|member| member.id.number() < wanted)
+}
+
+/// Whether a member has the id.
+pub(crate) fn has_id<C: Id>(members: &[Member<C>], id: C) -> bool
+    requires { AreRising C.number members.now }
+    ensures { result ≡ has_id C.number id members.now }
+{
+    let wanted = id.number();
+    match members.get(place_from(members, wanted)) {
+        Some(member) => member.id.number() == wanted,
+        None => false,
+    }
+}
+
+/// Adds a member, for which there is room.
+pub(crate) fn insert<C: Id>(members: &mut Vec<Member<C>>, member: Member<C>)
+    requires rising { AreRising C.number members.old.items }
+    requires room { vec_len members.old < vec_capacity members.old }
+    ensures items { members.new.items ≡ inserted C.number member members.old.items }
+    ensures len { vec_len members.new ≡ vec_len members.old + 1 }
+    ensures capacity { vec_capacity members.old ≤ vec_capacity members.new }
+{
+    let place = place_from(members, member.id.number());
+    let _ = members.insert(place, member);
+}
+
+/// Takes out the member that has the id, and answers its movers.
+pub(crate) fn remove<C: Id>(members: &mut Vec<Member<C>>, id: C) -> Option<Movers>
+    requires { AreRising C.number members.old.items }
+    ensures value { result ≡ movers_of C.number id members.old.items }
+    ensures items { members.new.items ≡ without C.number id members.old.items }
+    ensures len { vec_len members.new ≤ vec_len members.old }
+    ensures capacity { vec_capacity members.new ≡ vec_capacity members.old }
+{
+    let wanted = id.number();
+    let place = place_from(members, wanted);
+    let member = *members.get(place)?;
+    if member.id.number() != wanted {
+        return None;
+    }
+    members.remove(place);
+    Some(member.movers)
+}

@@ -1,0 +1,106 @@
+//! Worked by hand: a hub, what a release leaves, and what doesn't move.
+
+ghost use Rattle.std.specs.Prelude.{◌≡◌, ℕ, Some, None, true, replicate, [], ◌∷◌, ◌++◌};
+ghost use Rattle.graph_colours.specs.Movers.{shares};
+ghost use Rattle.graph_colours.specs.Colours.{least_colour, placed, released, colour_of};
+
+use super::*;
+use fixed_geom::Refusal;
+use std::alloc::Global;
+use std::test::Fail;
+
+#[derive(Clone, Copy, Debug, PartialEq, Eq)]
+struct Joint(u32);
+
+impl Id for Joint {
+    ghost number = { λ joint. joint.0 };
+
+    fn number(&self) -> u128 {
+        self.0 as u128
+    }
+}
+
+/// Places a constraint that has no colour yet, after making room for it.
+fn place(colours: &mut Colours<Joint>, id: u32, movers: Movers) -> Result<u8, Refusal> {
+    colours.reserve(1, 100)?;
+    if colours.colour_of(Joint(id)).is_some() || movers.first >= 100 {
+        return Err(Refusal::OutOfRange);
+    }
+    if let Some(second) = movers.second
+        && second >= 100
+    {
+        return Err(Refusal::OutOfRange);
+    }
+    Ok(colours.place(Joint(id), movers))
+}
+
+fn between(first: u32, second: u32) -> Movers {
+    Movers {
+        first,
+        second: Some(second),
+    }
+}
+
+/// Fifteen constraints between the mover in slot 0 and another one each.
+fn hub(alloc: Global) -> Result<Colours<Joint>, Refusal> {
+    let mut colours = Colours::new(alloc)?;
+    for spoke in 1..16 {
+        place(&mut colours, spoke, between(0, spoke))?;
+    }
+    Ok(colours)
+}
+
+#[test]
+fn a_hub_takes_all_colours(rt: HostRuntime) -> Result<(), Fail> {
+    let colours = hub(rt.alloc())?;
+    for spoke in 1..13u8 {
+        assert_eq!(rt; colours.colour_of(Joint(spoke as u32)), Some(spoke - 1));
+    }
+    let over = colours.members(12);
+    assert_eq!(rt; over.len(), 3);
+    assert_eq!(rt; over[0].id, Joint(13));
+    assert_eq!(rt; over[2].id, Joint(15));
+    Ok(())
+}
+
+#[test]
+fn a_released_colour_is_taken_next(rt: HostRuntime) -> Result<(), Fail> {
+    let mut colours = hub(rt.alloc())?;
+    let before = colours.try_copy()?;
+    colours.release(Joint(4));
+    assert_eq!(rt; colours.colour_of(Joint(4)), None);
+    assert_eq!(rt; colours.colour_of(Joint(5)), Some(4));
+    assert_eq!(rt; colours.colour_of(Joint(13)), Some(12));
+    assert_eq!(rt; place(&mut colours, 20, between(20, 0))?, 3);
+    assert_eq!(rt; before.colour_of(Joint(4)), Some(3));
+    assert_eq!(rt; before.colour_of(Joint(20)), None);
+    Ok(())
+}
+
+#[test]
+fn a_static_floor_does_not_count(rt: HostRuntime) -> Result<(), Fail> {
+    let mut colours = Colours::new(rt.alloc())?;
+    let alone = |first: u32| Movers {
+        first,
+        second: None,
+    };
+    assert_eq!(rt; place(&mut colours, 9, alone(2))?, 0);
+    assert_eq!(rt; place(&mut colours, 7, alone(1))?, 0);
+    assert_eq!(rt; place(&mut colours, 8, between(3, 1))?, 1);
+    let members = colours.members(0);
+    assert_eq!(rt; members.len(), 2);
+    assert_eq!(rt; members[0].id, Joint(7));
+    Ok(())
+}
+
+// Constraint 5 alone, which acts on the mover in slot 0, is in colour 0.
+#[tactic(auto, unfolding(crate::specs::Members::is_free, crate::specs::Members::has_id, crate::specs::Members::without, crate::specs::Colours::least_colour, crate::specs::Colours::placed, crate::specs::Colours::released, crate::specs::Colours::colour_of,))]
+fn definitions_compute()
+    ensures second_of_one { shares (record { first = 7; second = Some 2 }) (record { first = 2; second = None }) ≡ true }
+    ensures taken { least_colour {C = ℕ} ((record { id = 5; movers = record { first = 0; second = None } } ∷ []) ∷ replicate 12 []) (record { first = 3; second = Some 0 }) ≡ 1 }
+    ensures free { least_colour {C = ℕ} ((record { id = 5; movers = record { first = 0; second = None } } ∷ []) ∷ replicate 12 []) (record { first = 3; second = None }) ≡ 0 }
+    ensures full { least_colour {C = ℕ} (replicate 12 (record { id = 5; movers = record { first = 0; second = None } } ∷ []) ++ [] ∷ []) (record { first = 3; second = Some 0 }) ≡ 12 }
+    ensures before { placed (λ id. id) (record { id = 4; movers = record { first = 1; second = None } }) ((record { id = 5; movers = record { first = 0; second = None } } ∷ []) ∷ replicate 12 []) ≡ (record { id = 4; movers = record { first = 1; second = None } } ∷ record { id = 5; movers = record { first = 0; second = None } } ∷ []) ∷ replicate 12 [] }
+    ensures gone { released (λ id. id) 5 ((record { id = 5; movers = record { first = 0; second = None } } ∷ []) ∷ replicate 12 []) ≡ replicate 13 [] }
+    ensures there { colour_of (λ id. id) 5 ((record { id = 5; movers = record { first = 0; second = None } } ∷ []) ∷ replicate 12 []) ≡ Some 0 }
+{}
