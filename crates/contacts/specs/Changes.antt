@@ -36,8 +36,19 @@ key_of p q = record { first = p.id; second = q.id }
 unfoldable pub entry_of : List ContactEntry → Proxy → Proxy → ContactEntry
 entry_of old p q = record { key = key_of p q; contact = evaluated (lookup old (key_of p q)) (manifold_of p.shape p.pose q.shape q.pose) }
 
+-- the same, where the contact until now is given
+unfoldable pub entry_with : Option Contact → Proxy → Proxy → ContactEntry
+entry_with old p q = record { key = key_of p q; contact = evaluated old (manifold_of p.shape p.pose q.shape q.pose) }
+
 abbrev pub entry_at : List ContactEntry → List Proxy → ℕ → ContactEntry
 entry_at old ps code = entry_of old (proxy_at ps (first_place code)) (proxy_at ps (second_place code))
+
+-- the key of the pair
+abbrev pub pair_key : List Proxy → ℕ → ContactKey
+pair_key ps code = key_of (proxy_at ps (first_place code)) (proxy_at ps (second_place code))
+
+abbrev pub pair_entry : Option Contact → List Proxy → ℕ → ContactEntry
+pair_entry old ps code = entry_with old (proxy_at ps (first_place code)) (proxy_at ps (second_place code))
 
 -- the contacts of all pairs
 abbrev pub contacts_of : List ContactEntry → List Proxy → List ℕ → List ContactEntry
@@ -54,6 +65,13 @@ key_unless_in others e = cond (is_some (lookup others e.key)) None (Some e.key)
 -- the entry's key, if it touches and doesn't touch in the others
 unfoldable pub key_if_touching : List ContactEntry → ContactEntry → Option ContactKey
 key_if_touching others e = cond e.contact.touching (cond (is_touching (lookup others e.key)) None (Some e.key)) None
+
+-- the same two of an entry, where the others' contact with its key is given
+unfoldable pub key_unless : Option Contact → ContactEntry → Option ContactKey
+key_unless other e = cond (is_some other) None (Some e.key)
+
+unfoldable pub key_if_new : Option Contact → ContactEntry → Option ContactKey
+key_if_new other e = cond e.contact.touching (cond (is_touching other) None (Some e.key)) None
 
 -- the keys of entries that the others lack
 abbrev pub keys_not_in : List ContactEntry → List ContactEntry → List ContactKey

@@ -3,10 +3,12 @@
 ghost use Rattle.std.specs.Prelude.{◌≡◌, ◌<◌, ◌∷◌, ◌++◌, [], All, OnOk, OnErr, IfOk};
 ghost use Rattle.std.specs.Result.{IsOkUnless};
 ghost use Rattle.contacts_base.specs.Near.{IsProxy, IsProxyList, number_of, near_codes};
-ghost use Rattle.contacts.specs.Changes.{ArePairs};
+ghost use Rattle.contacts_base.specs.Contacts.{AreKeysRising};
+ghost use Rattle.contacts.specs.Changes.{ArePairs, AreRising, contacts_of, keys_not_in, keys_touching_only_in};
 
-use crate::sweep;
-use contacts_base::Proxy;
+use crate::changes::{Changes, update};
+use crate::sweep::{Start, near_pairs};
+use contacts_base::{ContactEntry, Proxy};
 use fixed_geom::Refusal;
 use std::alloc::Global;
 use std::marker::Model;
@@ -15,6 +17,9 @@ use std::marker::Model;
 #[derive(Drop)]
 pub struct BroadPhase {
     proxies: Vec<Proxy>,
+    // Room that the sweep works in, kept from one to the next.
+    starts: Vec<Start>,
+    near: Vec<u64>,
 }
 
 impl Model for BroadPhase {
@@ -37,6 +42,8 @@ impl BroadPhase {
     {
         BroadPhase {
             proxies: Vec::new(alloc),
+            starts: Vec::new(alloc),
+            near: Vec::new(alloc),
         }
     }
 
@@ -65,9 +72,14 @@ impl BroadPhase {
         ensures copy { IfOk result (λ copied. copied ≡ self.now) }
         ensures memory_only { IsOkUnless result Refusal.NoMemory }
     {
-        let mut proxies = Vec::new(*self.proxies.allocator());
+        let alloc = *self.proxies.allocator();
+        let mut proxies = Vec::new(alloc);
         proxies.extend_from_slice(&self.proxies)?;
-        Ok(BroadPhase { proxies })
+        Ok(BroadPhase {
+            proxies,
+            starts: Vec::new(alloc),
+            near: Vec::new(alloc),
+        })
     }
 
     /// The shapes, ascending by id.
@@ -81,13 +93,46 @@ impl BroadPhase {
     /// The numbers of all near pairs, ascending: 2^32 times the place of the one shape, and the place
     /// of the other. Refused 1 where memory is wanting.
     ///
-    /// By a sweep along x: the cost grows with the shapes and with the pairs whose fat boxes overlap
-    /// along x.
-    pub fn near_pairs(&self, alloc: Global) -> Result<Vec<u64>, Refusal>
-        ensures value { IfOk result (λ near. near.items ≡ near_codes self.now) }
-        ensures pairs { IfOk result (λ near. ArePairs self.now near.items) }
+    /// By a sweep along x in strips: the cost grows with the shapes and with the pairs whose fat boxes
+    /// are close. The lists that it works in keep their room.
+    pub fn near_pairs(&mut self, alloc: Global) -> Result<Vec<u64>, Refusal>
+        ensures kept { self.new ≡ self.old }
+        ensures value { IfOk result (λ near. near.items ≡ near_codes self.old) }
+        ensures pairs { IfOk result (λ near. ArePairs self.old near.items) }
         ensures memory_only { IsOkUnless result Refusal.NoMemory }
     {
-        sweep::near_pairs(alloc, self.proxies.as_slice())
+        near_pairs(&mut self.starts, &mut self.near, &self.proxies)?;
+        let mut near = Vec::new(alloc);
+        near.extend_from_slice(&self.near)?;
+        Ok(near)
+    }
+
+    /// The contacts of the near pairs, each evaluated anew, and what changed; `old` are the contacts
+    /// until now, with ascending keys. Refused 1 where memory is wanting.
+    ///
+    /// A pair that had a contact keeps the impulses of its points by their candidates; a new pair gets
+    /// a contact. A contact ends that touched and doesn't any more, also where its shapes are no longer
+    /// near.
+    pub fn update_contacts(
+        &mut self,
+        alloc: Global,
+        old: &[ContactEntry],
+    ) -> Result<Changes, Refusal>
+        requires { AreKeysRising old.now }
+        ensures kept { self.new ≡ self.old }
+        ensures now { IfOk result (λ changes. changes.now.items ≡ contacts_of old.now self.old (near_codes self.old)) }
+        ensures rising { IfOk result (λ changes. AreKeysRising changes.now.items) }
+        ensures made { IfOk result (λ changes. changes.made.items ≡ keys_not_in old.now changes.now.items) }
+        ensures gone { IfOk result (λ changes. changes.gone.items ≡ keys_not_in changes.now.items old.now) }
+        ensures begin { IfOk result (λ changes. changes.begin.items ≡ keys_touching_only_in old.now changes.now.items) }
+        ensures end { IfOk result (λ changes. changes.end.items ≡ keys_touching_only_in changes.now.items old.now) }
+        ensures made_rising { IfOk result (λ changes. AreRising changes.made.items) }
+        ensures gone_rising { IfOk result (λ changes. AreRising changes.gone.items) }
+        ensures begin_rising { IfOk result (λ changes. AreRising changes.begin.items) }
+        ensures end_rising { IfOk result (λ changes. AreRising changes.end.items) }
+        ensures memory_only { IsOkUnless result Refusal.NoMemory }
+    {
+        near_pairs(&mut self.starts, &mut self.near, &self.proxies)?;
+        update(alloc, old, &self.proxies, &self.near)
     }
 }

@@ -1,15 +1,14 @@
 //! What becomes of the contacts in a step's collide.
 
-ghost use Rattle.std.specs.Prelude.{◌≡◌, ◌^◌, ◌<◌, ◌≤◌, ◌++◌, length, All, OnOk, IfOk};
+ghost use Rattle.std.specs.Prelude.{◌≡◌, ◌++◌, All, OnOk, IfOk};
 ghost use Rattle.std.specs.Result.{IsOkUnless};
 ghost use Rattle.contacts_base.specs.Near.{IsProxy, IsProxyList};
+ghost use Rattle.std.specs.Option.{option_to_list};
 ghost use Rattle.contacts_base.specs.Contacts.{AreKeysRising};
-ghost use Rattle.contacts.specs.Changes.{IsPair, ArePairs, is_touching, entry_of, entry_at, contacts_of, key_unless_in, key_if_touching, keys_not_in, keys_touching_only_in, AreRising};
+ghost use Rattle.contacts.specs.Changes.{IsPair, ArePairs, is_touching, pair_key, entry_with, pair_entry, contacts_of, key_unless, key_if_new, keys_not_in, keys_touching_only_in, AreRising};
 
-use crate::BroadPhase;
-use contacts_base::{Contact, ContactEntry, ContactKey, Proxy, evaluate, find};
+use contacts_base::{Contact, ContactEntry, ContactKey, Proxy, contact_of, find_from};
 use fixed_geom::Refusal;
-use shapes::manifold;
 use std::alloc::Global;
 
 /// The contacts after a collide, and the keys of those that were made, are gone, began to touch and
@@ -23,88 +22,53 @@ pub struct Changes {
     pub end: Vec<ContactKey>,
 }
 
-/// The contact of two shapes, which the old contacts have or lack.
-#[tactic(auto, unfolding(crate::specs::Changes::entry_of))]
-fn entry_of(old: &[ContactEntry], p: &Proxy, q: &Proxy) -> ContactEntry
-    requires old { AreKeysRising old.now }
-    requires first { IsProxy p.now }
-    requires second { IsProxy q.now }
-    ensures { result ≡ entry_of old.now p.now q.now }
+/// The key of the pair with this number.
+fn key_at(proxies: &[Proxy], code: u64) -> ContactKey
+    requires { IsPair proxies.now code }
+    ensures { result ≡ pair_key proxies.now code }
 {
-    let key = ContactKey {
-        first: p.id,
-        second: q.id,
-    };
-    let manifold = manifold(&p.shape, p.pose, &q.shape, q.pose);
-    ContactEntry {
-        key,
-        contact: evaluate(find(old, key), &manifold),
+    ContactKey {
+        first: proxies[(code / (1 << 32)) as usize].id,
+        second: proxies[(code % (1 << 32)) as usize].id,
     }
 }
 
-/// The contact of the pair with this number.
-fn entry_at(old: &[ContactEntry], proxies: &[Proxy], code: u64) -> ContactEntry
-    requires old { AreKeysRising old.now }
+/// The contact of two shapes, whose contact until now was `old`.
+#[tactic(auto, unfolding(crate::specs::Changes::entry_with))]
+fn entry_with(old: Option<Contact>, p: &Proxy, q: &Proxy) -> ContactEntry
+    requires first { IsProxy p.now }
+    requires second { IsProxy q.now }
+    ensures { result ≡ entry_with old p.now q.now }
+{
+    ContactEntry {
+        key: ContactKey {
+            first: p.id,
+            second: q.id,
+        },
+        contact: contact_of(old, p, q),
+    }
+}
+
+/// The contact of the pair with this number, whose contact until now was `old`.
+fn pair_entry(old: Option<Contact>, proxies: &[Proxy], code: u64) -> ContactEntry
     requires proxies { All IsProxy proxies.now }
     requires pair { IsPair proxies.now code }
-    ensures { result ≡ entry_at old.now proxies.now code }
+    ensures { result ≡ pair_entry old proxies.now code }
 {
     let first = (code / (1 << 32)) as usize;
     let second = (code % (1 << 32)) as usize;
-    entry_of(old, &proxies[first], &proxies[second])
+    entry_with(old, &proxies[first], &proxies[second])
 }
 
-/// The contacts of these pairs. Refused 1 where memory is wanting.
-fn contacts_of(
-    alloc: Global,
-    old: &[ContactEntry],
-    proxies: &[Proxy],
-    near: &[u64],
-) -> Result<Vec<ContactEntry>, Refusal>
-    requires old { AreKeysRising old.now }
-    requires proxies { IsProxyList proxies.now }
-    requires near { ArePairs proxies.now near.now }
-    ensures value { IfOk result (λ entries. entries.items ≡ contacts_of old.now proxies.now near.now) }
-    ensures rising { IfOk result (λ entries. AreKeysRising entries.items) }
-    ensures memory_only { IsOkUnless result Refusal.NoMemory }
+/// The entry's key, unless there is another contact with it.
+#[tactic(auto, unfolding(crate::specs::Changes::key_unless))]
+fn key_unless(other: Option<Contact>, entry: &ContactEntry) -> Option<ContactKey>
+    ensures { result ≡ key_unless other entry.now }
 {
-    let mut entries = Vec::new(alloc);
-    for code in near {
-        entries.push(entry_at(old, proxies, *code))?;
-    }
-    Ok(entries)
-}
-
-#[tactic(auto, unfolding(crate::specs::Changes::key_unless_in))]
-fn key_unless_in(others: &[ContactEntry], entry: &ContactEntry) -> Option<ContactKey>
-    requires { AreKeysRising others.now }
-    ensures { result ≡ key_unless_in others.now entry.now }
-{
-    match find(others, entry.key) {
+    match other {
         Some(_) => None,
         None => Some(entry.key),
     }
-}
-
-/// The keys of `entries` that the others lack. Refused 1 where memory is wanting.
-fn keys_not_in(
-    alloc: Global,
-    others: &[ContactEntry],
-    entries: &[ContactEntry],
-) -> Result<Vec<ContactKey>, Refusal>
-    requires others { AreKeysRising others.now }
-    requires entries { AreKeysRising entries.now }
-    ensures value { IfOk result (λ keys. keys.items ≡ keys_not_in others.now entries.now) }
-    ensures rising { IfOk result (λ keys. AreRising keys.items) }
-    ensures memory_only { IsOkUnless result Refusal.NoMemory }
-{
-    let mut keys = Vec::new(alloc);
-    for entry in entries {
-        if let Some(key) = key_unless_in(others, entry) {
-            keys.push(key)?;
-        }
-    }
-    Ok(keys)
 }
 
 fn is_touching(contact: Option<Contact>) -> bool
@@ -116,58 +80,112 @@ fn is_touching(contact: Option<Contact>) -> bool
     }
 }
 
-#[tactic(auto, unfolding(crate::specs::Changes::key_if_touching))]
-fn key_if_touching(others: &[ContactEntry], entry: &ContactEntry) -> Option<ContactKey>
-    requires { AreKeysRising others.now }
-    ensures { result ≡ key_if_touching others.now entry.now }
+/// The entry's key, if it touches and the other contact with its key, if there is one, doesn't.
+#[tactic(auto, unfolding(crate::specs::Changes::key_if_new))]
+fn key_if_new(other: Option<Contact>, entry: &ContactEntry) -> Option<ContactKey>
+    ensures { result ≡ key_if_new other entry.now }
 {
     if !entry.contact.touching {
         return None;
     }
-    if is_touching(find(others, entry.key)) {
+    if is_touching(other) {
         None
     } else {
         Some(entry.key)
     }
 }
 
-/// The keys of `entries` that touch, and among the others don't touch or aren't there. Refused 1
-/// where memory is wanting.
-fn keys_touching_only_in(
-    alloc: Global,
-    others: &[ContactEntry],
-    entries: &[ContactEntry],
-) -> Result<Vec<ContactKey>, Refusal>
-    requires others { AreKeysRising others.now }
-    requires entries { AreKeysRising entries.now }
-    ensures value { IfOk result (λ keys. keys.items ≡ keys_touching_only_in others.now entries.now) }
-    ensures rising { IfOk result (λ keys. AreRising keys.items) }
+/// Adds a key, if there is one. Refused 1 where memory is wanting.
+fn push_key(keys: &mut Vec<ContactKey>, key: Option<ContactKey>) -> Result<(), Refusal>
+    ensures pushed { OnOk result (keys.new.items ≡ keys.old.items ++ option_to_list key) }
     ensures memory_only { IsOkUnless result Refusal.NoMemory }
 {
-    let mut keys = Vec::new(alloc);
-    for entry in entries {
-        if let Some(key) = key_if_touching(others, entry) {
-            keys.push(key)?;
-        }
+    if let Some(key) = key {
+        keys.push(key)?;
     }
-    Ok(keys)
+    Ok(())
 }
 
-/// The contacts of the near pairs, each evaluated anew, and what changed. `old` are the contacts
-/// until now, with ascending keys, and `near` the near pairs. Refused 1 where memory is wanting.
+/// The contacts of all near pairs, and the keys of those that were made and that began to touch.
+#[derive(Drop)]
+struct Present {
+    now: Vec<ContactEntry>,
+    made: Vec<ContactKey>,
+    begin: Vec<ContactKey>,
+}
+
+/// The keys of the contacts that are gone, and of those that ended.
+#[derive(Drop)]
+struct Past {
+    gone: Vec<ContactKey>,
+    end: Vec<ContactKey>,
+}
+
+/// The contacts of these pairs, and what is new in them. Refused 1 where memory is wanting.
 ///
-/// A pair that had a contact keeps the impulses of its points by their candidates; a new pair gets
-/// a contact. A contact ends that touched and doesn't any more, also where its shapes are no longer
-/// near.
+/// Pairs and old contacts ascend, so each search goes on where the one before it ended.
+fn contacts_of_pairs(
+    alloc: Global,
+    old: &[ContactEntry],
+    proxies: &[Proxy],
+    near: &[u64],
+) -> Result<Present, Refusal>
+    requires old { AreKeysRising old.now }
+    requires proxies { IsProxyList proxies.now }
+    requires near { ArePairs proxies.now near.now }
+    ensures now { IfOk result (λ present. present.now.items ≡ contacts_of old.now proxies.now near.now) }
+    ensures rising { IfOk result (λ present. AreKeysRising present.now.items) }
+    ensures made { IfOk result (λ present. present.made.items ≡ keys_not_in old.now present.now.items) }
+    ensures begin { IfOk result (λ present. present.begin.items ≡ keys_touching_only_in old.now present.now.items) }
+    ensures memory_only { IsOkUnless result Refusal.NoMemory }
+{
+    let mut now = Vec::with_capacity(alloc, near.len())?;
+    let mut made = Vec::new(alloc);
+    let mut begin = Vec::new(alloc);
+    let mut place = 0;
+    for code in near {
+        let found = find_from(old, place, key_at(proxies, *code));
+        let entry = pair_entry(found.contact, proxies, *code);
+        push_key(&mut made, key_unless(found.contact, &entry))?;
+        push_key(&mut begin, key_if_new(found.contact, &entry))?;
+        now.push(entry)?;
+        place = found.place;
+    }
+    Ok(Present { now, made, begin })
+}
+
+/// What is no longer in the contacts. Refused 1 where memory is wanting.
+fn lost_keys(alloc: Global, now: &[ContactEntry], old: &[ContactEntry]) -> Result<Past, Refusal>
+    requires now { AreKeysRising now.now }
+    requires old { AreKeysRising old.now }
+    ensures gone { IfOk result (λ past. past.gone.items ≡ keys_not_in now.now old.now) }
+    ensures end { IfOk result (λ past. past.end.items ≡ keys_touching_only_in now.now old.now) }
+    ensures memory_only { IsOkUnless result Refusal.NoMemory }
+{
+    let mut gone = Vec::new(alloc);
+    let mut end = Vec::new(alloc);
+    let mut place = 0;
+    for entry in old {
+        let found = find_from(now, place, entry.key);
+        push_key(&mut gone, key_unless(found.contact, entry))?;
+        push_key(&mut end, key_if_new(found.contact, entry))?;
+        place = found.place;
+    }
+    Ok(Past { gone, end })
+}
+
+/// The contacts of these pairs, each evaluated anew, and what changed. `old` are the contacts until
+/// now, with ascending keys. Refused 1 where memory is wanting.
 pub fn update(
     alloc: Global,
     old: &[ContactEntry],
-    broad: &BroadPhase,
+    proxies: &[Proxy],
     near: &[u64],
 ) -> Result<Changes, Refusal>
     requires old { AreKeysRising old.now }
-    requires near { ArePairs broad.now near.now }
-    ensures now { IfOk result (λ changes. changes.now.items ≡ contacts_of old.now broad.now near.now) }
+    requires proxies { IsProxyList proxies.now }
+    requires near { ArePairs proxies.now near.now }
+    ensures now { IfOk result (λ changes. changes.now.items ≡ contacts_of old.now proxies.now near.now) }
     ensures rising { IfOk result (λ changes. AreKeysRising changes.now.items) }
     ensures made { IfOk result (λ changes. changes.made.items ≡ keys_not_in old.now changes.now.items) }
     ensures gone { IfOk result (λ changes. changes.gone.items ≡ keys_not_in changes.now.items old.now) }
@@ -179,16 +197,13 @@ pub fn update(
     ensures end_rising { IfOk result (λ changes. AreRising changes.end.items) }
     ensures memory_only { IsOkUnless result Refusal.NoMemory }
 {
-    let now = contacts_of(alloc, old, broad.proxies(), near)?;
-    let made = keys_not_in(alloc, old, &now)?;
-    let gone = keys_not_in(alloc, &now, old)?;
-    let begin = keys_touching_only_in(alloc, old, &now)?;
-    let end = keys_touching_only_in(alloc, &now, old)?;
+    let present = contacts_of_pairs(alloc, old, proxies, near)?;
+    let past = lost_keys(alloc, &present.now, old)?;
     Ok(Changes {
-        now,
-        made,
-        gone,
-        begin,
-        end,
+        now: present.now,
+        made: present.made,
+        gone: past.gone,
+        begin: present.begin,
+        end: past.end,
     })
 }

@@ -1,15 +1,17 @@
 //! The collide of a step: which shapes are near one another, and what becomes of the contacts.
 //!
 //! `BroadPhase` has the shapes of the enabled bodies with their fat boxes and finds the near pairs;
-//! `update` makes the new list of contacts and says which were made, which are gone, and which
-//! began or ended to touch.
+//! its `update_contacts` makes the new list of contacts and says which were made, which are gone,
+//! and which began or ended to touch.
 #![tactic(auto)]
 
 mod broad_phase;
 mod changes;
+mod constraint;
 mod sweep;
 #[cfg(test)]
 mod tests;
 
 pub use broad_phase::BroadPhase;
-pub use changes::{Changes, update};
+pub use changes::Changes;
+pub use constraint::Constraint;

@@ -1,23 +1,124 @@
-//! Near pairs by a sweep along x: each shape is tested against those whose fat boxes begin no
-//! further right than its own ends.
+//! Near pairs by a sweep along x, strip by strip.
+//!
+//! The plane is cut into strips along x, each some fat boxes high, and each shape is listed in all
+//! strips that its box reaches. In each strip a shape is tested against those whose boxes begin no
+//! further right than its own ends. So the work grows with the shapes and with the pairs that are
+//! close, whether they are spread along x or along y.
 
-ghost use Rattle.std.specs.Prelude.{◌≡◌, ◌^◌, ◌<◌, ◌≤◌, ◌++◌, length, All, OnOk, IfOk};
+ghost use Rattle.std.specs.Prelude.{◌≡◌, ◌^◌, ◌<◌, ◌≤◌, ◌++◌, length, All, OnOk, IfOk, IsTrue};
 ghost use Rattle.std.specs.Result.{IsOkUnless};
 ghost use Rattle.std.specs.List.Sorted.{IsPermutation, IsSortedByKey};
-ghost use Rattle.std.specs.Ordering.{int_cmp};
+ghost use Rattle.std.specs.Ordering.{nat_cmp};
 ghost use Rattle.std.specs.Option.{option_to_list};
-ghost use Rattle.contacts.specs.Sweep.{pair_at, near_pair, starts_of, IsPlaceIn, met_until, swept, low_of};
+ghost use Rattle.contacts.specs.Sweep.{pair_at, near_pair, column, strip_of, spot, start_in, reach, starts_up, starts_of, IsPlaceIn, may_meet, pair_of, met, swept, low_of};
 ghost use Rattle.contacts_base.specs.Near.{IsProxyList, near_codes};
 
 use contacts_base::{Proxy, code_of, is_near};
 use fixed_geom::Refusal;
-use std::alloc::Global;
 
-/// Where a fat box begins along x, in u, and the place of its shape.
+/// A shape in a strip: where its fat box begins and ends along x, as numbers that the strip decides
+/// first, and along y, in u; the shape's place; and whether its box begins in this strip.
 #[derive(Clone, Copy)]
 pub struct Start {
-    pub low: i64,
+    pub low: u64,
+    pub high: u64,
+    pub bottom: i64,
+    pub top: i64,
     pub place: u32,
+    pub first: bool,
+}
+
+/// The lowest strip has this many bits at least, so that there are at most 2^26 strips.
+const LEAST_BITS: u32 = 12;
+
+/// Half of what is seen of the plane: coordinates beyond are as if they were here.
+const HALF: i64 = 1 << 37;
+
+/// A coordinate, in u, as a number below 2^38 that rises with it.
+#[tactic(auto, unfolding(crate::specs::Sweep::column))]
+fn column(x: i64) -> u64
+    ensures value { result ≡ column x }
+    ensures small { result < 2 ^ 38 }
+{
+    (x.max(-HALF).min(HALF - 1) + HALF).unsigned_abs()
+}
+
+/// The strip of a height in u, where a strip is 2^bits u high.
+fn strip_of(bits: u32, y: i64) -> u64
+    requires { bits < 64 }
+    ensures value { result ≡ strip_of bits y }
+    ensures few { 12 ≤ bits → result < 2 ^ 26 }
+{
+    column(y) >> bits
+}
+
+/// A place in a strip, as a number that the strip decides first.
+fn spot(strip: u64, x: i64) -> u64
+    requires { strip < 2 ^ 26 }
+    ensures { result ≡ spot strip x }
+{
+    strip * (1 << 38) + column(x)
+}
+
+/// The shape at this place, in a strip.
+fn start_in(place: u32, proxy: &Proxy, strip: u64, first: bool) -> Start
+    requires { strip < 2 ^ 26 }
+    ensures { result ≡ start_in place proxy.now strip first }
+{
+    Start {
+        low: spot(strip, proxy.fat.lo.x),
+        high: spot(strip, proxy.fat.hi.x),
+        bottom: proxy.fat.lo.y,
+        top: proxy.fat.hi.y,
+        place,
+        first,
+    }
+}
+
+/// Adds a shape in each strip that its box reaches. Refused 1 where memory is wanting.
+fn push_starts(starts: &mut Vec<Start>, bits: u32, place: u32, proxy: &Proxy) -> Result<(), Refusal>
+    requires least { 12 ≤ bits }
+    requires most { bits < 64 }
+    ensures pushed { OnOk result (starts.new.items ≡ starts.old.items ++ starts_up bits place proxy.now (reach bits proxy.now)) }
+    ensures memory_only { IsOkUnless result Refusal.NoMemory }
+{
+    let strip = strip_of(bits, proxy.fat.lo.y);
+    let further = strip_of(bits, proxy.fat.hi.y).saturating_sub(strip);
+    starts.push(start_in(place, proxy, strip, true))?;
+    for step in 0..further {
+        starts.push(start_in(place, proxy, strip + (step + 1), false))?;
+    }
+    Ok(())
+}
+
+/// Fills `starts` with all shapes, strip by strip for each. Refused 1 where memory is wanting.
+fn fill_starts(starts: &mut Vec<Start>, bits: u32, proxies: &[Proxy]) -> Result<(), Refusal>
+    requires least { 12 ≤ bits }
+    requires most { bits < 64 }
+    requires few { length proxies.now ≤ 2 ^ 32 }
+    ensures filled { OnOk result (starts.new.items ≡ starts_of bits proxies.now) }
+    ensures memory_only { IsOkUnless result Refusal.NoMemory }
+{
+    starts.clear();
+    for (place, proxy) in proxies.iter().enumerate() {
+        push_starts(starts, bits, place as u32, proxy)?;
+    }
+    Ok(())
+}
+
+/// The same in the order of the strips, and in a strip the leftmost first. Refused 1 where memory
+/// is wanting.
+fn list_starts(starts: &mut Vec<Start>, bits: u32, proxies: &[Proxy]) -> Result<(), Refusal>
+    requires least { 12 ≤ bits }
+    requires most { bits < 64 }
+    requires few { length proxies.now ≤ 2 ^ 32 }
+    ensures permutation { OnOk result (IsPermutation (starts_of bits proxies.now) starts.new.items) }
+    ensures sorted { OnOk result (IsSortedByKey low_of nat_cmp starts.new.items) }
+    ensures memory_only { IsOkUnless result Refusal.NoMemory }
+{
+    fill_starts(starts, bits, proxies)?;
+    starts.sort_unstable_by_key(|start| start.low);
+    Ok(())
 }
 
 /// The number of the pair of the shapes at two places, if they are near.
@@ -61,32 +162,60 @@ fn push_found(near: &mut Vec<u64>, found: Option<u64>) -> Result<(), Refusal>
     Ok(())
 }
 
-/// Adds the pairs of the shape at `place`, which ends at `high`, with those that are near it, until
-/// one begins further right. Refused 1 where memory is wanting.
+/// Whether two boxes in one strip overlap along y, and begin together in no lower strip.
+#[tactic(auto, unfolding(crate::specs::Sweep::may_meet))]
+fn may_meet(s: &Start, t: &Start) -> bool
+    ensures { result ≡ may_meet s.now t.now }
+{
+    if s.top < t.bottom {
+        return false;
+    }
+    if t.top < s.bottom {
+        return false;
+    }
+    s.first || t.first
+}
+
+/// The number of the pair of two shapes in one strip, if they are near and are not in a lower strip
+/// together.
+#[tactic(auto, unfolding(crate::specs::Sweep::pair_of))]
+fn pair_of(proxies: &[Proxy], s: &Start, t: &Start) -> Option<u64>
+    requires few { length proxies.now ≤ 2 ^ 32 }
+    requires first { IsPlaceIn proxies.now s.now }
+    requires second { IsPlaceIn proxies.now t.now }
+    ensures { result ≡ pair_of proxies.now s.now t.now }
+{
+    if may_meet(s, t) {
+        near_pair(proxies, s.place as usize, t.place as usize)
+    } else {
+        None
+    }
+}
+
+/// Adds the pairs of a shape with those of the starts that are near it, until one begins further
+/// right than the shape ends. Refused 1 where memory is wanting.
 fn push_met(
     near: &mut Vec<u64>,
     proxies: &[Proxy],
-    place: usize,
-    high: i64,
-    starts: &[Start],
+    start: &Start,
+    others: &[Start],
 ) -> Result<(), Refusal>
     requires few { length proxies.now ≤ 2 ^ 32 }
-    requires place { place < length proxies.now }
-    requires starts { All (IsPlaceIn proxies.now) starts.now }
-    ensures pushed { OnOk result (near.new.items ≡ near.old.items ++ met_until high proxies.now place starts.now) }
+    requires start { IsPlaceIn proxies.now start.now }
+    requires others { All (IsPlaceIn proxies.now) others.now }
+    ensures pushed { OnOk result (near.new.items ≡ near.old.items ++ met proxies.now start.now others.now) }
     ensures memory_only { IsOkUnless result Refusal.NoMemory }
 {
-    for start in starts {
-        if high < start.low {
+    for other in others {
+        if start.high < other.low {
             return Ok(());
         }
-        push_found(near, near_pair(proxies, place, start.place as usize))?;
+        push_found(near, pair_of(proxies, start, other))?;
     }
     Ok(())
 }
 
-/// Adds the pairs that each shape in this order makes with the later ones. Refused 1 where memory
-/// is wanting.
+/// Adds the pairs that each start makes with the later ones. Refused 1 where memory is wanting.
 fn sweep(near: &mut Vec<u64>, proxies: &[Proxy], starts: &[Start]) -> Result<(), Refusal>
     requires few { length proxies.now ≤ 2 ^ 32 }
     requires starts { All (IsPlaceIn proxies.now) starts.now }
@@ -94,51 +223,45 @@ fn sweep(near: &mut Vec<u64>, proxies: &[Proxy], starts: &[Start]) -> Result<(),
     ensures memory_only { IsOkUnless result Refusal.NoMemory }
 {
     for (place, start) in starts.iter().enumerate() {
-        let shape = start.place as usize;
-        let high = proxies[shape].fat.hi.x;
-        push_met(near, proxies, shape, high, &starts[place + 1..])?;
+        push_met(near, proxies, start, &starts[place + 1..])?;
     }
     Ok(())
 }
 
-/// Where each fat box begins, in the list's order. Refused 1 where memory is wanting.
-fn starts_of(alloc: Global, proxies: &[Proxy]) -> Result<Vec<Start>, Refusal>
-    requires few { length proxies.now ≤ 2 ^ 32 }
-    ensures value { IfOk result (λ starts. starts.items ≡ starts_of proxies.now) }
-    ensures memory_only { IsOkUnless result Refusal.NoMemory }
-{
-    let mut starts = Vec::new(alloc);
-    for (place, proxy) in proxies.iter().enumerate() {
-        starts.push(Start {
-            low: proxy.fat.lo.x,
-            place: place as u32,
-        })?;
+/// The sum of the heights of the boxes, in u, or 2^64 - 1 if it is beyond.
+fn heights(proxies: &[Proxy]) -> u64 {
+    let mut sum: u64 = 0;
+    for proxy in proxies {
+        sum = sum.saturating_add(proxy.fat.lo.y.abs_diff(proxy.fat.hi.y));
     }
-    Ok(starts)
+    sum
 }
 
-/// The same by x, the leftmost first. Refused 1 where memory is wanting.
-fn starts_by_low(alloc: Global, proxies: &[Proxy]) -> Result<Vec<Start>, Refusal>
-    requires few { length proxies.now ≤ 2 ^ 32 }
-    ensures permutation { IfOk result (λ starts. IsPermutation (starts_of proxies.now) starts.items) }
-    ensures sorted { IfOk result (λ starts. IsSortedByKey low_of int_cmp starts.items) }
-    ensures memory_only { IsOkUnless result Refusal.NoMemory }
+/// How high strips should be, as a power of two: two to four times the mean of the boxes' heights,
+/// so that few boxes are listed often. Any height serves.
+fn strip_bits(proxies: &[Proxy]) -> u32
+    ensures least { 12 ≤ result }
+    ensures most { result < 64 }
 {
-    let mut starts = starts_of(alloc, proxies)?;
-    starts.sort_unstable_by_key(|start| start.low);
-    Ok(starts)
+    let mean = heights(proxies) / (proxies.len() as u64).max(1);
+    (65 - mean.leading_zeros()).max(LEAST_BITS).min(38)
 }
 
-/// The numbers of all near pairs, ascending. Refused 1 where memory is wanting.
-pub fn near_pairs(alloc: Global, proxies: &[Proxy]) -> Result<Vec<u64>, Refusal>
+/// Fills `near` with the numbers of all near pairs, ascending, and uses `starts` as room to work in.
+/// Refused 1 where memory is wanting.
+pub fn near_pairs(
+    starts: &mut Vec<Start>,
+    near: &mut Vec<u64>,
+    proxies: &[Proxy],
+) -> Result<(), Refusal>
     requires { IsProxyList proxies.now }
-    ensures value { IfOk result (λ near. near.items ≡ near_codes proxies.now) }
+    ensures value { OnOk result (near.new.items ≡ near_codes proxies.now) }
     ensures memory_only { IsOkUnless result Refusal.NoMemory }
 {
-    let starts = starts_by_low(alloc, proxies)?;
-    let mut near = Vec::new(alloc);
-    sweep(&mut near, proxies, &starts)?;
+    list_starts(starts, strip_bits(proxies), proxies)?;
+    near.clear();
+    sweep(near, proxies, starts)?;
     near.sort_unstable();
     near.dedup();
-    Ok(near)
+    Ok(())
 }

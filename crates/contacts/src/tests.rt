@@ -68,12 +68,11 @@ fn add_filtered(
     add(broad, Proxy { filter, ..proxy })
 }
 
-fn collide(alloc: Global, old: &[ContactEntry], broad: &BroadPhase) -> Result<Changes, Refusal>
+fn collide(alloc: Global, old: &[ContactEntry], broad: &mut BroadPhase) -> Result<Changes, Refusal>
     requires { AreKeysRising old.now }
     ensures { IfOk result (λ changes. AreKeysRising changes.now.items) }
 {
-    let near = broad.near_pairs(alloc)?;
-    update(alloc, old, broad, &near)
+    broad.update_contacts(alloc, old)
 }
 
 const FLOOR: Shape = Shape::Segment {
@@ -124,8 +123,8 @@ fn point(candidate: u8, x: i64, push: i64, slip: i64) -> ContactPoint {
 #[test]
 fn a_capsule_comes_to_lie_on_a_segment(rt: HostRuntime) -> Result<(), Fail> {
     let none: [ContactEntry; 0] = [];
-    let lying = lying_at(rt.alloc(), 20_000)?;
-    let laid = collide(rt.alloc(), &none, &lying)?;
+    let mut lying = lying_at(rt.alloc(), 20_000)?;
+    let laid = collide(rt.alloc(), &none, &mut lying)?;
     let contact = Contact {
         touching: true,
         first: Some(point(2, -50_000, 0, 0)),
@@ -135,7 +134,7 @@ fn a_capsule_comes_to_lie_on_a_segment(rt: HostRuntime) -> Result<(), Fail> {
     assert_eq!(rt; laid.now.as_slice(), [entry].as_slice());
     assert_eq!(rt; laid.made.as_slice(), [KEY].as_slice());
     assert_eq!(rt; laid.begin.as_slice(), [KEY].as_slice());
-    let lies = collide(rt.alloc(), &laid.now, &lying)?;
+    let lies = collide(rt.alloc(), &laid.now, &mut lying)?;
     assert!(rt; lies.made.is_empty() && lies.gone.is_empty());
     assert!(rt; lies.begin.is_empty() && lies.end.is_empty());
     Ok(())
@@ -155,7 +154,7 @@ fn resting() -> [ContactEntry; 1]
 
 #[test]
 fn a_lifted_capsule_parts(rt: HostRuntime) -> Result<(), Fail> {
-    let lifted = collide(rt.alloc(), &resting(), &lying_at(rt.alloc(), 20_001)?)?;
+    let lifted = collide(rt.alloc(), &resting(), &mut lying_at(rt.alloc(), 20_001)?)?;
     assert_eq!(rt; lifted.end.as_slice(), [KEY].as_slice());
     assert!(rt; lifted.gone.is_empty());
     let apart = Contact {
@@ -173,7 +172,11 @@ fn a_lifted_capsule_parts(rt: HostRuntime) -> Result<(), Fail> {
 
 #[test]
 fn a_capsule_far_above_is_gone(rt: HostRuntime) -> Result<(), Fail> {
-    let gone = collide(rt.alloc(), &resting(), &lying_at(rt.alloc(), 1_000_000)?)?;
+    let gone = collide(
+        rt.alloc(),
+        &resting(),
+        &mut lying_at(rt.alloc(), 1_000_000)?,
+    )?;
     assert_eq!(rt; gone.end.as_slice(), [KEY].as_slice());
     assert_eq!(rt; gone.gone.as_slice(), [KEY].as_slice());
     assert!(rt; gone.now.is_empty());
@@ -182,7 +185,7 @@ fn a_capsule_far_above_is_gone(rt: HostRuntime) -> Result<(), Fail> {
 
 #[test]
 fn impulses_stay_with_their_candidates(rt: HostRuntime) -> Result<(), Fail> {
-    let lies = collide(rt.alloc(), &resting(), &lying_at(rt.alloc(), 20_000)?)?;
+    let lies = collide(rt.alloc(), &resting(), &mut lying_at(rt.alloc(), 20_000)?)?;
     let contact = Contact {
         touching: true,
         first: Some(point(2, -50_000, 5, 1)),
@@ -206,7 +209,7 @@ fn boxes_that_touch_are_near(rt: HostRuntime) -> Result<(), Fail> {
     let near = broad.near_pairs(rt.alloc())?;
     let pairs = [(1 << 32) + 2, (1 << 32) + 3, (2 << 32) + 3];
     assert_eq!(rt; near.as_slice(), pairs.as_slice());
-    let copied = broad.try_copy()?;
+    let mut copied = broad.try_copy()?;
     broad.clear();
     assert!(rt; broad.near_pairs(rt.alloc())?.is_empty());
     assert_eq!(rt; copied.near_pairs(rt.alloc())?.as_slice(), pairs.as_slice());

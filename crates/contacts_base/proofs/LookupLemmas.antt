@@ -47,10 +47,10 @@ lookup-found es key i e before lt is same =
     let h : number_of (get_or es i e) ≡ key_number key = rw (← is) same in
     rw (lookup-at es key i e lt (λ k q. before k e (omega arith) q) h, ← is) refl
 
-pub lookup-missed : (es : List ContactEntry) (key : ContactKey) (i : ℕ) (e : ContactEntry) → AreKeysRising es → AllWithin (λ f. number_of f < key_number key) es 0 i → AllWithin (λ f. key_number key ≤ number_of f) es i (length es) → i < length es → e ≡ get_or es i e → (number_of e ≡ key_number key → ⊥) → lookup es key ≡ None
-lookup-missed es key i e rising before after lt is other =
+pub lookup-missed : (es : List ContactEntry) (key : ContactKey) (i : ℕ) (e : ContactEntry) → AreKeysRising es → AllWithin (λ f. number_of f < key_number key) es 0 i → (i < length es → key_number key ≤ number_of (get_or es i e)) → i < length es → e ≡ get_or es i e → (number_of e ≡ key_number key → ⊥) → lookup es key ≡ None
+lookup-missed es key i e rising before there lt is other =
     let here : number_of (get_or es i e) ≡ key_number key → ⊥ = λ q. other (rw (← is) at q) in
-    let least : key_number key ≤ number_of (get_or es i e) = after i e (omega arith) lt in
+    let least : key_number key ≤ number_of (get_or es i e) = there lt in
     lookup-none es key e (λ k q same.
     let low : k < i → ⊥ = λ r. let b : number_of (get_or es k e) < key_number key = before k e (omega arith) r in omega arith in
     let high : i < k → ⊥ = λ r. let b : number_of (get_or es i e) < number_of (get_or es k e) = keys_later es rising i k e r q in omega arith in

@@ -2,3 +2,5 @@ pub mod Keys
 pub mod Contacts
 pub mod Evaluate
 pub mod Near
+pub mod Circles
+pub mod Limits

@@ -1,8 +1,8 @@
 //! Contacts, and how one is found by its key.
 
-ghost use Rattle.std.specs.Prelude.{◌≡◌, ◌<◌, ◌≤◌, length};
-ghost use Rattle.std.specs.List.{AllWithin};
-ghost use Rattle.contacts_base.specs.Contacts.{number_of, lookup, AreKeysRising};
+ghost use Rattle.std.specs.Prelude.{◌≡◌};
+ghost use Rattle.contacts_base.specs.Keys.{key_number};
+ghost use Rattle.contacts_base.specs.Contacts.{number_of, lookup, found_place, AreKeysRising, IsAllBelow, IsFirstFrom};
 
 use crate::ContactKey;
 use fixed_geom::Vec2;
@@ -37,13 +37,49 @@ pub struct ContactEntry {
 }
 
 /// The place of the first contact whose key's number is at least `wanted`, or the list's length.
-fn place_from(entries: &[ContactEntry], wanted: u128) -> usize
+fn place_of(entries: &[ContactEntry], wanted: u128) -> usize
     requires { AreKeysRising entries.now }
-    ensures within { result ≤ length entries.now }
-    ensures before { AllWithin (λ e. number_of e < wanted) entries.now 0 result }
-    ensures after { AllWithin (λ e. wanted ≤ number_of e) entries.now result (length entries.now) }
+    ensures { IsFirstFrom entries.now wanted result }
 {
     entries.partition_point(|entry| entry.key.number() < wanted)
+}
+
+/// The contact with this key, where `place` is that of the first contact whose key isn't below it.
+fn contact_at(entries: &[ContactEntry], place: usize, key: ContactKey) -> Option<Contact>
+    requires rising { AreKeysRising entries.now }
+    requires place { IsFirstFrom entries.now (key_number key) place }
+    ensures { result ≡ lookup entries.now key }
+{
+    let wanted = key.number();
+    let entry = entries.get(place)?;
+    if entry.key.number() == wanted {
+        Some(entry.contact)
+    } else {
+        None
+    }
+}
+
+/// The place of the contact with this key, where `place` is that of the first whose key isn't below it.
+fn place_at(entries: &[ContactEntry], place: usize, key: ContactKey) -> Option<usize>
+    requires rising { AreKeysRising entries.now }
+    requires place { IsFirstFrom entries.now (key_number key) place }
+    ensures { result ≡ found_place entries.now key }
+{
+    let sought = key.number();
+    let entry = entries.get(place)?;
+    if entry.key.number() == sought {
+        Some(place)
+    } else {
+        None
+    }
+}
+
+/// The place of the contact with this key, in a list whose keys ascend; `None` where there is none.
+pub fn find_place(entries: &[ContactEntry], key: ContactKey) -> Option<usize>
+    requires { AreKeysRising entries.now }
+    ensures { result ≡ found_place entries.now key }
+{
+    place_at(entries, place_of(entries, key.number()), key)
 }
 
 /// The contact with this key, in a list whose keys ascend; `None` where there is none.
@@ -51,11 +87,45 @@ pub fn find(entries: &[ContactEntry], key: ContactKey) -> Option<Contact>
     requires { AreKeysRising entries.now }
     ensures { result ≡ lookup entries.now key }
 {
-    let wanted = key.number();
-    let entry = entries.get(place_from(entries, wanted))?;
-    if entry.key.number() == wanted {
-        Some(entry.contact)
-    } else {
-        None
+    contact_at(entries, place_of(entries, key.number()), key)
+}
+
+/// What a search found: the contact with the key, if there is one, and where the search for a
+/// greater key may go on.
+#[derive(Clone, Copy, Debug, PartialEq, Eq)]
+pub struct Found {
+    pub place: usize,
+    pub contact: Option<Contact>,
+}
+
+/// The place of the first contact, from the place `from` on, whose key's number is at least
+/// `wanted`, or the list's length.
+fn place_from(entries: &[ContactEntry], from: usize, wanted: u128) -> usize
+    requires from { IsAllBelow entries.now wanted from }
+    ensures { IsFirstFrom entries.now wanted result }
+{
+    for place in from..entries.len() {
+        if entries[place].key.number() >= wanted {
+            return place;
+        }
+    }
+    entries.len()
+}
+
+/// The contact with this key, in a list whose keys ascend, where all contacts before the place
+/// `from` have lesser keys.
+///
+/// A search for one key after the other, ascending, each from the place where the one before it
+/// ended, goes through the list once.
+pub fn find_from(entries: &[ContactEntry], from: usize, key: ContactKey) -> Found
+    requires rising { AreKeysRising entries.now }
+    requires from { IsAllBelow entries.now (key_number key) from }
+    ensures contact { result.contact ≡ lookup entries.now key }
+    ensures place { IsAllBelow entries.now (key_number key) result.place }
+{
+    let place = place_from(entries, from, key.number());
+    Found {
+        place,
+        contact: contact_at(entries, place, key),
     }
 }

@@ -1,10 +1,13 @@
 //! What a contact becomes when its two shapes are evaluated anew.
 
 ghost use Rattle.std.specs.Prelude.{◌≡◌};
+ghost use Rattle.shapes.specs.Manifolds.{manifold_of};
+ghost use Rattle.contacts_base.specs.Near.{IsProxy};
 ghost use Rattle.contacts_base.specs.Evaluate.{impulses_at, kept, kept_point, evaluated};
 
-use crate::{Contact, ContactPoint};
-use shapes::{Manifold, Point};
+use crate::circles::are_circles_apart;
+use crate::{Contact, ContactPoint, Proxy};
+use shapes::{Manifold, Point, manifold};
 
 /// The impulses that a point keeps from one step to the next, along the normal (push) and across it
 /// (slip), in mass·u/tick.
@@ -92,4 +95,18 @@ pub fn evaluate(old: Option<Contact>, manifold: &Manifold) -> Contact
         first: Some(kept_point(old, &manifold.first)),
         second,
     }
+}
+
+/// What the contact of two shapes becomes, where `old` is what it was before: `evaluate` of their
+/// manifold, which isn't computed where a quick look shows that they are apart.
+#[tactic(auto, unfolding(crate::specs::Evaluate::evaluated))]
+pub fn contact_of(old: Option<Contact>, p: &Proxy, q: &Proxy) -> Contact
+    requires first { IsProxy p.now }
+    requires second { IsProxy q.now }
+    ensures { result ≡ evaluated old (manifold_of p.now.shape p.now.pose q.now.shape q.now.pose) }
+{
+    if are_circles_apart(p, q) {
+        return APART;
+    }
+    evaluate(old, &manifold(&p.shape, p.pose, &q.shape, q.pose))
 }

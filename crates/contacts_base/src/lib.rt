@@ -2,12 +2,13 @@
 //! points, and the definitions of near pairs and of the contacts that come of them.
 #![tactic(auto)]
 
+pub mod circles;
 pub mod contact;
 pub mod evaluation;
 pub mod key;
 pub mod near;
 
-pub use contact::{Contact, ContactEntry, ContactPoint, find};
-pub use evaluation::evaluate;
+pub use contact::{Contact, ContactEntry, ContactPoint, Found, find, find_from, find_place};
+pub use evaluation::{contact_of, evaluate};
 pub use key::{ContactKey, ShapeId};
 pub use near::{Proxy, code_of, is_near};

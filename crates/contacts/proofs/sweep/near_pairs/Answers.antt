@@ -1,19 +1,20 @@
 use Rattle.std.proofs.Common.{eqb}
 use Rattle.std.proofs.lemmas.List.Filters.{dedup_is}
 use Rattle.contacts.proofs.ProxyLemmas.{few}
-use Rattle.contacts.proofs.SweepLemmas.{places_in, sweep_is_scan}
+use Rattle.contacts.proofs.StripLemmas.{places_in}
+use Rattle.contacts.proofs.SweepLemmas.{sweep_is_scan}
 use Rattle.contacts.proofs.sweep.near_pairs.Goals as goal
 
-pub starts_by_low-requires : goal.starts_by_low-requires
-starts_by_low-requires c = record { few = few _ c.requires }
+pub list_starts-requires-clause-few : goal.list_starts-requires-clause-few
+list_starts-requires-clause-few c = few _ c.requires
 
 pub sweep-requires-clause-few : goal.sweep-requires-clause-few
 sweep-requires-clause-few c = few _ c.requires
 
 pub sweep-requires-clause-starts : goal.sweep-requires-clause-starts
-sweep-requires-clause-starts c = rw c.deref.ensures.value (places_in _ _ c.in_ok-starts.ensures.permutation)
+sweep-requires-clause-starts c = rw c.deref.ensures.value (places_in c.strip_bits.result _ _ c.in_ok-list_starts.ensures.permutation)
 
 pub returns-clause-value : goal.returns-clause-value
 returns-clause-value c =
-    let moved = rw (c.in_ok-sweep.ensures.pushed, c.new-near.ensures.items, c.deref.ensures.value) at c.sort_unstable.ensures.permutation in
-    sweep_is_scan c.args.proxies.now c.in_ok-starts.starts.items _ _ (few _ c.requires) c.in_ok-starts.ensures.permutation c.in_ok-starts.ensures.sorted moved c.sort_unstable.ensures.sorted (dedup_is eqb _ _ c.dedup.ensures.filtered)
+    let moved = rw (c.in_ok-sweep.ensures.pushed, c.clear.ensures.items, c.deref.ensures.value) at c.sort_unstable.ensures.permutation in
+    sweep_is_scan c.strip_bits.result c.args.proxies.now c.list_starts.new.starts.items _ _ (few _ c.requires) c.in_ok-list_starts.ensures.permutation c.in_ok-list_starts.ensures.sorted moved c.sort_unstable.ensures.sorted (dedup_is eqb _ _ c.dedup.ensures.filtered)

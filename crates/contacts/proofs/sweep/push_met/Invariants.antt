@@ -1,6 +1,6 @@
 use Rattle.std.proofs.Common.{◌≡◌, ◌++◌, drop}
-use Rattle.contacts.specs.Sweep.{met_until}
+use Rattle.contacts.specs.Sweep.{met}
 use Rattle.contacts.proofs.sweep.push_met.Given as goal
 
-abbrev pub invariant-loop-start : goal.invariant-loop-start
-invariant-loop-start l = l.near.items ++ met_until l.high l.proxies l.place (drop l.start-index l.starts) ≡ l.initial.near.items ++ met_until l.high l.proxies l.place l.starts
+abbrev pub invariant-loop-other : goal.invariant-loop-other
+invariant-loop-other l = l.near.items ++ met l.proxies l.start (drop l.other-index l.others) ≡ l.initial.near.items ++ met l.proxies l.start l.others

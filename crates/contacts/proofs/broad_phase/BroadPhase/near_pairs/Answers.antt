@@ -1,13 +1,15 @@
-use Rattle.std.proofs.Common.{◌≡◌, ◌∙◌, ℕ, List, sym, ap, subst}
-use Rattle.std.proofs.lemmas.Result.{IfOk-weaker}
-use Rattle.contacts_base.specs.Near.{IsProxyList, near_codes}
+use Rattle.std.proofs.Common.{ℕ, List, sym, subst, arith}
+use Rattle.std.proofs.lemmas.Grind.{common_steps}
+use Rattle.contacts_base.specs.Near.{IsProxyList}
 use Rattle.contacts.specs.Changes.{ArePairs}
 use Rattle.contacts.proofs.PairLemmas.{near_are_pairs}
 use Rattle.contacts.proofs.broad_phase.BroadPhase.near_pairs.Goals as goal
 
+pub returns-clause-value : goal.returns-clause-value
+returns-clause-value c = grind (arith, common_steps)
+
 pub returns-clause-pairs : goal.returns-clause-pairs
 returns-clause-pairs c =
     let now = c.args.self.now in
-    let same : c.as_slice.result.now ≡ now = cc in
     let list : IsProxyList now = rw (← c.self.view_is) c.self.invariant in
-    IfOk-weaker c.near_pairs.result _ _ (λ near h. subst (λ (codes : List ℕ). ArePairs now codes) (sym (h ∙ ap near_codes same)) (near_are_pairs now list)) c.near_pairs.ensures.value
+    subst (λ (codes : List ℕ). ArePairs now codes) (sym (returns-clause-value c)) (near_are_pairs now list)

@@ -1,0 +1,21 @@
+use Rattle.std.proofs.Common.{◌≡◌, arith, sym, refl, ltb-true, ltb-false}
+use Rattle.contacts_base.specs.Keys.{key_number}
+use Rattle.contacts_base.specs.Contacts.{number_of}
+use Rattle.contacts_base.proofs.LookupLemmas.{lookup-found, lookup-missed, lookup-beyond}
+use Rattle.contacts_base.proofs.contact.contact_at.Goals as goal
+
+pub returns-in_err-entry : goal.returns-in_err-entry
+returns-in_err-entry c =
+    rw (lookup-beyond c.args.entries.now c.args.key c.args.place c.requires.place.below.before (ltb-false _ _ (sym c.in_err-entry.ensures.lookup.0))) c.from_residual.ensures
+
+pub returns-then-number-wanted : goal.returns-then-number-wanted
+returns-then-number-wanted c =
+    let e = c.in_ok-entry.entry.now in
+    let same : number_of e ≡ key_number c.args.key = omega arith in
+    rw (lookup-found c.args.entries.now c.args.key c.args.place e c.requires.place.below.before (ltb-true _ _ (sym c.in_ok-entry.ensures.lookup.0)) c.in_ok-entry.ensures.lookup.1 same) refl
+
+pub returns-else-number-wanted : goal.returns-else-number-wanted
+returns-else-number-wanted c =
+    let e = c.in_ok-entry.entry.now in
+    let other : number_of e ≡ key_number c.args.key → ⊥ = λ q. c.if-number-wanted.false (omega arith) in
+    rw (lookup-missed c.args.entries.now c.args.key c.args.place e c.requires.rising c.requires.place.below.before (c.requires.place.there e) (ltb-true _ _ (sym c.in_ok-entry.ensures.lookup.0)) c.in_ok-entry.ensures.lookup.1 other) refl
