@@ -1,0 +1,5 @@
+pub mod PassLaws
+pub mod TurnLaws
+pub mod TickLaws
+pub mod SameLaws
+pub mod ColourLaw

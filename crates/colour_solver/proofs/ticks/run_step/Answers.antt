@@ -1,0 +1,37 @@
+use Rattle.std.proofs.Common.{◌*◌, ◌^◌, arith, ap, ◌∙◌, add-one}
+use Rattle.colour_solver.specs.Ticks.{tick}
+use Rattle.colour_solver.proofs.SameLaws.{same_on}
+use Rattle.colour_solver.proofs.TickLaws.{carried_on, last_added}
+use Rattle.colour_solver.proofs.ticks.run_step.Goals as goal
+
+pub loop-index-preserved : goal.loop-index-preserved
+loop-index-preserved c =
+    let known = c.loop-index.invariant in
+    let made = c.tick-sums.ensures in
+    let grown = made.grown (c.loop-index.index * 2 ^ 78) known.small in
+    record {
+      run = rw add-one (made.tick ∙ ap (tick c.args.gravity) known.run);
+      all_states = made.states;
+      all_rows = made.rows;
+      long = made.long ∙ known.long;
+      same = same_on c.args.states.now.items c.loop-index.states.items c.tick-sums.new.states.items known.same made.same;
+      small = record {
+        gravity = record { x = omega (arith, grown.gravity.x); y = omega (arith, grown.gravity.y) };
+        immovable = record { x = omega (arith, grown.immovable.x); y = omega (arith, grown.immovable.y) };
+        clamp = record { x = omega (arith, grown.clamp.x); y = omega (arith, grown.clamp.y) };
+      };
+      momentum_x = carried_on _ _ _ _ _ made.momentum_x known.momentum_x;
+      momentum_y = carried_on _ _ _ _ _ made.momentum_y known.momentum_y;
+    }
+
+pub returns-clause-momentum_x : goal.returns-clause-momentum_x
+returns-clause-momentum_x c =
+    rw c.plus.ensures.x (last_added _ _ _ _ _ _ _ c.pass_rows-bounced.ensures.momentum_x c.loop-index.invariant.momentum_x)
+
+pub returns-clause-momentum_y : goal.returns-clause-momentum_y
+returns-clause-momentum_y c =
+    rw c.plus.ensures.y (last_added _ _ _ _ _ _ _ c.pass_rows-bounced.ensures.momentum_y c.loop-index.invariant.momentum_y)
+
+pub returns-clause-same : goal.returns-clause-same
+returns-clause-same c =
+    same_on c.args.states.now.items c.loop-index.states.items c.pass_rows-bounced.new.states.items c.loop-index.invariant.same c.pass_rows-bounced.ensures.same

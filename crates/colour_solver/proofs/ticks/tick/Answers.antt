@@ -1,0 +1,116 @@
+use Rattle.std.proofs.Common.{◌^◌, length, arith}
+use Rattle.momenta.specs.Motions.{pulled, clamped, advanced}
+use Rattle.colour_solver.specs.States.{total_x, total_y}
+use Rattle.colour_solver.specs.Ticks.{tick}
+use Rattle.colour_solver.proofs.SameLaws.{same_on}
+use Rattle.colour_solver.proofs.TickLaws.{long_after, one_more, rows_as_long, states_after, three_more, tick_adds, total_x-after, total_y-after, two_more}
+use Rattle.colour_solver.proofs.ticks.tick.Goals as goal
+
+pub pass_two-fallen-requires-clause-fits : goal.pass_two-fallen-requires-clause-fits
+pass_two-fallen-requires-clause-fits c = λ slot s e moves.
+    let state = c.requires.states slot s e in
+    record { gravity = c.requires.gravity; mass = state.mass moves; motion = state.motion }
+
+pub pass_two-fallen-requires-clause-small : goal.pass_two-fallen-requires-clause-small
+pass_two-fallen-requires-clause-small c = λ slot s e moves.
+    let p = (c.requires.states slot s e).motion.p in
+    record { x = omega (arith, p.x); y = omega (arith, p.y) }
+
+pub pass_rows-warm-requires-clause-states : goal.pass_rows-warm-requires-clause-states
+pass_rows-warm-requires-clause-states c =
+    states_after (pulled c.args.gravity) clamped c.args.states.now.items _ c.pass_two-fallen.ensures.states c.requires.states (λ slot s e moves. (c.pass_two-fallen.ensures.gives slot s e moves).motion)
+
+pub pass_rows-warm-requires-clause-rows : goal.pass_rows-warm-requires-clause-rows
+pass_rows-warm-requires-clause-rows c =
+    rows_as_long (length c.pass_two-fallen.new.states.items) (length c.args.states.now.items) c.args.rows.now.items (long_after (pulled c.args.gravity) clamped c.args.states.now.items c.pass_two-fallen.new.states.items c.pass_two-fallen.ensures.states) c.requires.rows
+
+pub pass_two-moved-requires-clause-fits : goal.pass_two-moved-requires-clause-fits
+pass_two-moved-requires-clause-fits c = λ slot s e moves.
+    let state = c.pass_rows-solved.ensures.all_states slot s e in
+    let m = state.motion in
+    record { mass = state.mass moves; motion = record { p = record { x = omega (arith, m.p.x); y = omega (arith, m.p.y) }; l = m.l; still = m.still; x = m.x; facing = m.facing } }
+
+pub pass_two-moved-requires-clause-small : goal.pass_two-moved-requires-clause-small
+pass_two-moved-requires-clause-small c = λ slot s e moves.
+    let p = (c.pass_rows-solved.ensures.all_states slot s e).motion.p in
+    record { x = omega (arith, p.x); y = omega (arith, p.y) }
+
+pub plus-requires-6-clause-first : goal.plus-requires-6-clause-first
+plus-requires-6-clause-first c = record {
+  x = rw (c.plus-5.ensures.x, c.plus-4.ensures.x) (let small = two_more c.args.sums.clamp.x c.pass_two-fallen.result.second.x c.pass_two-moved.result.first.x (2 ^ 82) c.requires.sums.clamp.x c.pass_two-fallen.ensures.small_second.x c.pass_two-moved.ensures.small_first.x in omega (arith, small));
+  y = rw (c.plus-5.ensures.y, c.plus-4.ensures.y) (let small = two_more c.args.sums.clamp.y c.pass_two-fallen.result.second.y c.pass_two-moved.result.first.y (2 ^ 82) c.requires.sums.clamp.y c.pass_two-fallen.ensures.small_second.y c.pass_two-moved.ensures.small_first.y in omega (arith, small));
+}
+
+pub returns-clause-tick : goal.returns-clause-tick
+unfolding tick
+returns-clause-tick c =
+    rw (c.plus.ensures.x, c.plus.ensures.y, c.plus-3.ensures.x, c.plus-3.ensures.y, c.plus-2.ensures.x, c.plus-2.ensures.y, c.plus-6.ensures.x, c.plus-6.ensures.y, c.plus-5.ensures.x, c.plus-5.ensures.y, c.plus-4.ensures.x, c.plus-4.ensures.y)
+    (rw (c.pass_two-moved.ensures.states, c.pass_two-moved.ensures.first_x, c.pass_two-moved.ensures.first_y, c.pass_two-moved.ensures.second_x, c.pass_two-moved.ensures.second_y)
+    (rw (c.pass_rows-solved.ensures.states, c.pass_rows-solved.ensures.rows, c.pass_rows-solved.ensures.share_x, c.pass_rows-solved.ensures.share_y)
+    (rw (c.pass_rows-warm.ensures.states, c.pass_rows-warm.ensures.rows, c.pass_rows-warm.ensures.share_x, c.pass_rows-warm.ensures.share_y)
+    (rw (c.pass_two-fallen.ensures.states, c.pass_two-fallen.ensures.first_x, c.pass_two-fallen.ensures.first_y, c.pass_two-fallen.ensures.second_x, c.pass_two-fallen.ensures.second_y)))))
+
+pub returns-clause-states : goal.returns-clause-states
+returns-clause-states c =
+    states_after clamped advanced c.pass_rows-solved.new.states.items _ c.pass_two-moved.ensures.states c.pass_rows-solved.ensures.all_states c.pass_two-moved.ensures.gives
+
+pub returns-clause-rows : goal.returns-clause-rows
+returns-clause-rows c =
+    rows_as_long (length c.pass_two-moved.new.states.items) (length c.pass_rows-solved.new.states.items) c.pass_rows-solved.new.rows.items (long_after clamped advanced c.pass_rows-solved.new.states.items c.pass_two-moved.new.states.items c.pass_two-moved.ensures.states) c.pass_rows-solved.ensures.all_rows
+
+pub returns-clause-grown : goal.returns-clause-grown
+returns-clause-grown c = λ n h.
+    let fallen = c.pass_two-fallen in
+    let moved = c.pass_two-moved in
+    record {
+      gravity = record {
+        x = rw c.plus.ensures.x (one_more c.args.sums.gravity.x fallen.result.first.x n h.gravity.x fallen.ensures.small_first.x);
+        y = rw c.plus.ensures.y (one_more c.args.sums.gravity.y fallen.result.first.y n h.gravity.y fallen.ensures.small_first.y);
+      };
+      immovable = record {
+        x = rw (c.plus-3.ensures.x, c.plus-2.ensures.x) (two_more c.args.sums.immovable.x c.pass_rows-warm.result.x c.pass_rows-solved.result.x n h.immovable.x c.pass_rows-warm.ensures.small.x c.pass_rows-solved.ensures.small.x);
+        y = rw (c.plus-3.ensures.y, c.plus-2.ensures.y) (two_more c.args.sums.immovable.y c.pass_rows-warm.result.y c.pass_rows-solved.result.y n h.immovable.y c.pass_rows-warm.ensures.small.y c.pass_rows-solved.ensures.small.y);
+      };
+      clamp = record {
+        x = rw (c.plus-6.ensures.x, c.plus-5.ensures.x, c.plus-4.ensures.x) (three_more c.args.sums.clamp.x fallen.result.second.x moved.result.first.x moved.result.second.x n h.clamp.x fallen.ensures.small_second.x moved.ensures.small_first.x moved.ensures.small_second.x);
+        y = rw (c.plus-6.ensures.y, c.plus-5.ensures.y, c.plus-4.ensures.y) (three_more c.args.sums.clamp.y fallen.result.second.y moved.result.first.y moved.result.second.y n h.clamp.y fallen.ensures.small_second.y moved.ensures.small_first.y moved.ensures.small_second.y);
+      };
+    }
+
+pub returns-clause-momentum_x : goal.returns-clause-momentum_x
+returns-clause-momentum_x c =
+    let fallen = c.pass_two-fallen in
+    let warm = c.pass_rows-warm in
+    let solved = c.pass_rows-solved in
+    let moved = c.pass_two-moved in
+    let sums = c.args.sums in
+    rw (c.plus.ensures.x, c.plus-3.ensures.x, c.plus-2.ensures.x, c.plus-6.ensures.x, c.plus-5.ensures.x, c.plus-4.ensures.x)
+    (tick_adds (total_x c.args.states.now.items) (total_x fallen.new.states.items) (total_x warm.new.states.items) (total_x solved.new.states.items) (total_x moved.new.states.items)
+    fallen.result.first.x fallen.result.second.x warm.result.x solved.result.x moved.result.first.x moved.result.second.x sums.gravity.x sums.immovable.x sums.clamp.x
+    (total_x-after (pulled c.args.gravity) clamped c.args.states.now.items fallen.new.states.items fallen.result.first.x fallen.result.second.x fallen.ensures.states fallen.ensures.first_x fallen.ensures.second_x)
+    warm.ensures.momentum_x solved.ensures.momentum_x
+    (total_x-after clamped advanced solved.new.states.items moved.new.states.items moved.result.first.x moved.result.second.x moved.ensures.states moved.ensures.first_x moved.ensures.second_x))
+
+pub returns-clause-momentum_y : goal.returns-clause-momentum_y
+returns-clause-momentum_y c =
+    let fallen = c.pass_two-fallen in
+    let warm = c.pass_rows-warm in
+    let solved = c.pass_rows-solved in
+    let moved = c.pass_two-moved in
+    let sums = c.args.sums in
+    rw (c.plus.ensures.y, c.plus-3.ensures.y, c.plus-2.ensures.y, c.plus-6.ensures.y, c.plus-5.ensures.y, c.plus-4.ensures.y)
+    (tick_adds (total_y c.args.states.now.items) (total_y fallen.new.states.items) (total_y warm.new.states.items) (total_y solved.new.states.items) (total_y moved.new.states.items)
+    fallen.result.first.y fallen.result.second.y warm.result.y solved.result.y moved.result.first.y moved.result.second.y sums.gravity.y sums.immovable.y sums.clamp.y
+    (total_y-after (pulled c.args.gravity) clamped c.args.states.now.items fallen.new.states.items fallen.result.first.y fallen.result.second.y fallen.ensures.states fallen.ensures.first_y fallen.ensures.second_y)
+    warm.ensures.momentum_y solved.ensures.momentum_y
+    (total_y-after clamped advanced solved.new.states.items moved.new.states.items moved.result.first.y moved.result.second.y moved.ensures.states moved.ensures.first_y moved.ensures.second_y))
+
+pub returns-clause-same : goal.returns-clause-same
+returns-clause-same c =
+    let first = c.args.states.now.items in
+    let fallen = c.pass_two-fallen in
+    let warm = c.pass_rows-warm in
+    let solved = c.pass_rows-solved in
+    let moved = c.pass_two-moved in
+    same_on first solved.new.states.items moved.new.states.items
+    (same_on first warm.new.states.items solved.new.states.items (same_on first fallen.new.states.items warm.new.states.items fallen.ensures.same warm.ensures.same) solved.ensures.same) moved.ensures.same

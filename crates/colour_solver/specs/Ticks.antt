@@ -1,0 +1,100 @@
+-- A step's ticks and its restitution: passes over the bodies and the contacts, and what each adds to the movers' momentum.
+use Rattle.std.specs.Prelude.{ℕ, zero, suc, ◌^◌, List, ℤ, pos, ◌+ℤ◌}
+use Rattle.fixed_geom.specs.Vectors.{IsWithin}
+use Rattle.fixed_geom.specs.declared.vectors.Vec2.{Vec2}
+use Rattle.momenta.specs.Motions.{IsMass, IsMotion, IsPulled, pulled, clamped, advanced, velocity}
+use Rattle.momenta.specs.Gains.{IsGain}
+use Rattle.momenta.specs.declared.mass.MassData.{MassData}
+use Rattle.momenta.specs.declared.motion.Motion.{Motion}
+use Rattle.momenta.specs.declared.state.BodyState.{BodyState}
+use Rattle.momenta.specs.declared.state.Ends.{Ends}
+use Rattle.colour_solver_base.specs.declared.row.ContactRow.{ContactRow}
+use Rattle.colour_solver_base.specs.declared.solve.RowTurn.{RowTurn}
+use Rattle.colour_solver_base.specs.Rows.{row_warmed, row_solved, row_bounced}
+use Rattle.colour_solver.specs.declared.ticks.StepSums.{StepSums}
+use Rattle.colour_solver.specs.Passes.{pass, gain_x, gain_y}
+use Rattle.colour_solver.specs.Turns.{passed, rows_passed, share_x, share_y}
+
+-- the bodies and the contacts, and what gravity, immovable bodies, and the speed limit with the edge of the world have added since
+-- the step began
+pub record Run : Type 0 where
+  pub states : List BodyState
+  pub rows : List ContactRow
+  pub gravity_x : ℤ
+  pub gravity_y : ℤ
+  pub immovable_x : ℤ
+  pub immovable_y : ℤ
+  pub clamp_x : ℤ
+  pub clamp_y : ℤ
+
+-- gravity, booked as such
+abbrev pub pull_all : Vec2 → Run → Run
+pull_all g r = record r {
+  states = pass (pulled g) r.states;
+  gravity_x = r.gravity_x +ℤ gain_x (pulled g) r.states;
+  gravity_y = r.gravity_y +ℤ gain_y (pulled g) r.states;
+}
+
+-- a change that is booked as Clamp: the speed limit, and the move with its stop at the edge of the world
+abbrev pub clamp_all : (MassData → Motion → Motion) → Run → Run
+clamp_all f r = record r {
+  states = pass f r.states;
+  clamp_x = r.clamp_x +ℤ gain_x f r.states;
+  clamp_y = r.clamp_y +ℤ gain_y f r.states;
+}
+
+-- a pass over the contacts; what immovable bodies give is booked as Immovable
+abbrev pub turn_all : (ContactRow → Ends → RowTurn) → Run → Run
+turn_all f r = record r {
+  states = passed f r.states r.rows;
+  rows = rows_passed f r.states r.rows;
+  immovable_x = r.immovable_x +ℤ share_x f r.states r.rows;
+  immovable_y = r.immovable_y +ℤ share_y f r.states r.rows;
+}
+
+-- gravity, the speed limit, the warm start, the solver's pass, the speed limit again, the move
+unfoldable pub tick : Vec2 → Run → Run
+tick g r = clamp_all advanced (clamp_all clamped (turn_all row_solved (turn_all row_warmed (clamp_all clamped (pull_all g r)))))
+
+abbrev pub ticks : ℕ → Vec2 → Run → Run
+ticks zero g r = r
+ticks (suc n) g r = tick g (ticks n g r)
+
+-- all ticks, and then the restitution
+unfoldable pub ran : ℕ → Vec2 → Run → Run
+ran n g r = turn_all row_bounced (ticks n g r)
+
+abbrev pub start : List BodyState → List ContactRow → Run
+start states rows = record { states = states; rows = rows; gravity_x = pos 0; gravity_y = pos 0; immovable_x = pos 0; immovable_y = pos 0; clamp_x = pos 0; clamp_y = pos 0 }
+
+-- the bodies and contacts with the sums that the code has kept
+abbrev pub run_of : List BodyState → List ContactRow → StepSums → Run
+run_of states rows s = record { states = states; rows = rows; gravity_x = s.gravity.x; gravity_y = s.gravity.y; immovable_x = s.immovable.x; immovable_y = s.immovable.y; clamp_x = s.clamp.x; clamp_y = s.clamp.y }
+
+pub record AreSums (n : ℕ) (s : StepSums) : Type 0 where
+  pub gravity : IsGain n s.gravity
+  pub immovable : IsGain n s.immovable
+  pub clamp : IsGain n s.clamp
+
+-- all that has been added
+abbrev pub added_x : StepSums → ℤ
+added_x s = s.gravity.x +ℤ (s.immovable.x +ℤ s.clamp.x)
+
+abbrev pub added_y : StepSums → ℤ
+added_y s = s.gravity.y +ℤ (s.immovable.y +ℤ s.clamp.y)
+
+-- ---- one mover, between the changes of a tick
+
+pub record CanPull (g : Vec2) (m : MassData) (s : Motion) : Type 0 where
+  pub gravity : IsWithin (2 ^ 16) g
+  pub mass : IsMass m
+  pub motion : IsMotion m s
+
+pub record CanLimit (m : MassData) (s : Motion) : Type 0 where
+  pub mass : IsMass m
+  pub motion : IsPulled m s
+
+pub record CanMove (m : MassData) (s : Motion) : Type 0 where
+  pub mass : IsMass m
+  pub motion : IsMotion m s
+  pub slow : IsWithin (2 ^ 20) (velocity m.mass s.p)

@@ -1,0 +1,95 @@
+//! Passes over the bodies: two changes of motion, made to each mover in one loop.
+
+ghost use Rattle.std.specs.Prelude.{◌≡◌, ◌^◌, ◌≤◌, length, ◌+ℤ◌};
+ghost use Rattle.fixed_geom.specs.Vectors.{IsWithin};
+ghost use Rattle.momenta.specs.declared.mass.MassData.{MassData};
+ghost use Rattle.momenta.specs.declared.motion.Motion.{Motion};
+ghost use Rattle.momenta.specs.Gains.{IsGain};
+ghost use Rattle.colour_solver.specs.States.{AreSameStates, total_x, total_y};
+ghost use Rattle.colour_solver.specs.Passes.{OnMover, OnMovers, changed, gain_x, gain_y, one_gain_x, one_gain_y, pass};
+
+use momenta::{BodyState, Gain, MassData, Motion, NOTHING, gain_between, plus};
+
+/// A change of a mover's motion.
+pub trait Change {
+    ghost after: { Self → MassData → Motion → Motion };
+
+    /// The motions that it may be made to.
+    ghost fits: { Self → MassData → Motion → Type 0 };
+
+    /// What is known of the motions that it makes.
+    ghost gives: { Self → MassData → Motion → Type 0 };
+
+    fn change(&self, mass: MassData, motion: Motion) -> Motion
+        requires { fits self.now mass motion }
+        ensures value { result ≡ after self.now mass motion }
+        ensures gives { gives self.now mass result }
+        ensures small { IsWithin (2 ^ 61) result.p };
+}
+
+/// What each of two changes has added to the movers' momentum.
+#[derive(Clone, Copy, Debug, PartialEq, Eq)]
+pub struct Gains {
+    pub first: Gain,
+    pub second: Gain,
+}
+
+/// Makes two changes to a mover, and none to another body.
+fn change_body<A: Change, B: Change>(body: &mut BodyState, first: &A, second: &B) -> Gains
+    requires fits { OnMover (A.fits first.now) body.old }
+    requires meets { (m : MassData) (s : Motion) → A.gives first.now m s → B.fits second.now m s }
+    requires small { OnMover (λ m s. IsWithin (2 ^ 61) s.p) body.old }
+    ensures body { body.new ≡ changed (B.after second.now) (changed (A.after first.now) body.old) }
+    ensures first_x { result.first.x ≡ one_gain_x (A.after first.now) body.old }
+    ensures first_y { result.first.y ≡ one_gain_y (A.after first.now) body.old }
+    ensures second_x { result.second.x ≡ one_gain_x (B.after second.now) (changed (A.after first.now) body.old) }
+    ensures second_y { result.second.y ≡ one_gain_y (B.after second.now) (changed (A.after first.now) body.old) }
+    ensures small_first { IsGain (2 ^ 62) result.first }
+    ensures small_second { IsGain (2 ^ 62) result.second }
+    ensures gives { OnMover (B.gives second.now) body.new }
+{
+    if !body.movable {
+        return Gains {
+            first: NOTHING,
+            second: NOTHING,
+        };
+    }
+    let between = first.change(body.mass, body.motion);
+    let last = second.change(body.mass, between);
+    let gains = Gains {
+        first: gain_between(body.motion.p, between.p),
+        second: gain_between(between.p, last.p),
+    };
+    body.motion = last;
+    gains
+}
+
+/// Makes two changes to each mover, one after the other, in one pass.
+pub fn pass_two<A: Change, B: Change>(states: &mut Vec<BodyState>, first: &A, second: &B) -> Gains
+    requires few { length states.old.items ≤ 16384 }
+    requires fits { OnMovers (A.fits first.now) states.old.items }
+    requires meets { (m : MassData) (s : Motion) → A.gives first.now m s → B.fits second.now m s }
+    requires small { OnMovers (λ m s. IsWithin (2 ^ 61) s.p) states.old.items }
+    ensures states { states.new.items ≡ pass (B.after second.now) (pass (A.after first.now) states.old.items) }
+    ensures first_x { result.first.x ≡ gain_x (A.after first.now) states.old.items }
+    ensures first_y { result.first.y ≡ gain_y (A.after first.now) states.old.items }
+    ensures second_x { result.second.x ≡ gain_x (B.after second.now) (pass (A.after first.now) states.old.items) }
+    ensures second_y { result.second.y ≡ gain_y (B.after second.now) (pass (A.after first.now) states.old.items) }
+    ensures small_first { IsGain (2 ^ 76) result.first }
+    ensures small_second { IsGain (2 ^ 76) result.second }
+    ensures gives { OnMovers (B.gives second.now) states.new.items }
+    ensures same { AreSameStates states.old.items states.new.items }
+{
+    let mut sums = Gains {
+        first: NOTHING,
+        second: NOTHING,
+    };
+    for slot in 0..states.len() {
+        let gains = change_body(&mut states[slot], first, second);
+        sums = Gains {
+            first: plus(sums.first, gains.first),
+            second: plus(sums.second, gains.second),
+        };
+    }
+    sums
+}

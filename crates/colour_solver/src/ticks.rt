@@ -1,0 +1,194 @@
+//! The ticks of a step, and the restitution that ends it.
+
+ghost use Rattle.std.specs.Prelude.{◌≡◌, ℕ, ◌^◌, ◌+◌, ◌≤◌, ◌+ℤ◌, length};
+ghost use Rattle.fixed_geom.specs.Vectors.{IsWithin};
+ghost use Rattle.momenta.specs.Motions.{pulled, clamped, advanced, IsMotion};
+ghost use Rattle.colour_solver_base.specs.Rows.{row_warmed, row_solved, row_bounced};
+ghost use Rattle.colour_solver.specs.States.{AreAllStates, AreSameStates, total_x, total_y};
+ghost use Rattle.colour_solver.specs.Turns.{AreRowsBelow};
+ghost use Rattle.colour_solver.specs.Ticks.{AreSums, CanLimit, CanMove, CanPull, added_x, added_y, ran, run_of, start, tick, ticks};
+
+use crate::{Change, Turn, pass_rows, pass_two};
+use colour_solver_base::{ContactRow, RowTurn, bounce_row, solve_row, warm_row};
+use fixed_geom::Vec2;
+use momenta::{BodyState, Ends, Gain, MassData, Motion, NOTHING, advance, clamp_speed, plus, pull};
+
+/// What a step has added to the movers' momentum, by cause.
+#[derive(Clone, Copy, Debug, PartialEq, Eq)]
+pub struct StepSums {
+    pub gravity: Gain,
+    /// By immovable bodies, through contacts.
+    pub immovable: Gain,
+    /// By the speed limit, and by the edge of the world.
+    pub clamp: Gain,
+}
+
+/// A tick of gravity.
+#[derive(Clone, Copy)]
+pub struct Pull {
+    pub gravity: Vec2,
+}
+
+impl Change for Pull {
+    ghost after = { λ pull m s. pulled pull.gravity m s };
+
+    ghost fits = { λ pull m s. CanPull pull.gravity m s };
+
+    ghost gives = { λ _ m s. CanLimit m s };
+
+    fn change(&self, mass: MassData, motion: Motion) -> Motion {
+        pull(motion, mass, self.gravity)
+    }
+}
+
+/// The speed limit.
+#[derive(Clone, Copy)]
+pub struct Limit;
+
+impl Change for Limit {
+    ghost after = { λ _ m s. clamped m s };
+
+    ghost fits = { λ _ m s. CanLimit m s };
+
+    ghost gives = { λ _ m s. CanMove m s };
+
+    fn change(&self, mass: MassData, motion: Motion) -> Motion {
+        let (limited, _) = clamp_speed(motion, mass);
+        limited
+    }
+}
+
+/// The move.
+#[derive(Clone, Copy)]
+pub struct Move;
+
+impl Change for Move {
+    ghost after = { λ _ m s. advanced m s };
+
+    ghost fits = { λ _ m s. CanMove m s };
+
+    ghost gives = { λ _ m s. IsMotion m s };
+
+    fn change(&self, mass: MassData, motion: Motion) -> Motion {
+        let (moved, _) = advance(motion, mass);
+        moved
+    }
+}
+
+/// The warm start of a contact.
+#[derive(Clone, Copy)]
+pub struct Warm;
+
+impl Turn for Warm {
+    ghost turn = { λ _ r e. row_warmed r e };
+
+    fn turn(&self, row: &ContactRow, ends: &Ends) -> RowTurn {
+        warm_row(row, ends)
+    }
+}
+
+/// The impulses of a contact.
+#[derive(Clone, Copy)]
+pub struct Solve;
+
+impl Turn for Solve {
+    ghost turn = { λ _ r e. row_solved r e };
+
+    fn turn(&self, row: &ContactRow, ends: &Ends) -> RowTurn {
+        solve_row(row, ends)
+    }
+}
+
+/// The restitution of a contact.
+#[derive(Clone, Copy)]
+pub struct Bounce;
+
+impl Turn for Bounce {
+    ghost turn = { λ _ r e. row_bounced r e };
+
+    fn turn(&self, row: &ContactRow, ends: &Ends) -> RowTurn {
+        bounce_row(row, ends)
+    }
+}
+
+/// One tick: gravity, the speed limit, the warm start, the solver's pass, the speed limit again, the move. Adds to the
+/// sums so far.
+#[tactic(auto, unfolding(crate::specs::Ticks::tick))]
+fn tick(
+    states: &mut Vec<BodyState>,
+    rows: &mut Vec<ContactRow>,
+    gravity: Vec2,
+    sums: StepSums,
+) -> StepSums
+    requires few { length states.old.items ≤ 16384 }
+    requires gravity { IsWithin (2 ^ 16) gravity }
+    requires states { AreAllStates states.old.items }
+    requires rows { AreRowsBelow (length states.old.items) rows.old.items }
+    requires sums { AreSums (2 ^ 82) sums }
+    ensures tick { run_of states.new.items rows.new.items result ≡ tick gravity (run_of states.old.items rows.old.items sums) }
+    ensures states { AreAllStates states.new.items }
+    ensures rows { AreRowsBelow (length states.new.items) rows.new.items }
+    ensures long { length states.new.items ≡ length states.old.items }
+    ensures same { AreSameStates states.old.items states.new.items }
+    ensures grown { (n : ℕ) → AreSums n sums → AreSums (n + 2 ^ 78) result }
+    ensures momentum_x { total_x states.new.items +ℤ added_x sums ≡ total_x states.old.items +ℤ added_x result }
+    ensures momentum_y { total_y states.new.items +ℤ added_y sums ≡ total_y states.old.items +ℤ added_y result }
+{
+    let fallen = pass_two(states, &Pull { gravity }, &Limit);
+    let warm = pass_rows(states, rows, &Warm);
+    let solved = pass_rows(states, rows, &Solve);
+    let moved = pass_two(states, &Limit, &Move);
+    StepSums {
+        gravity: plus(sums.gravity, fallen.first),
+        immovable: plus(plus(sums.immovable, warm), solved),
+        clamp: plus(
+            plus(plus(sums.clamp, fallen.second), moved.first),
+            moved.second,
+        ),
+    }
+}
+
+/// Runs that many ticks, 0 to 8, over all bodies and contacts, and then the restitution: in each tick gravity (u/tick², each
+/// component within ±2^16), the speed limit, the warm start and the solver's pass over the contacts in their order, the speed limit
+/// again, and the move.
+///
+/// Answers what gravity, what immovable bodies, and what the speed limit with the edge of the world have added to the movers'
+/// momentum (mass·u/tick).
+#[tactic(auto, unfolding(crate::specs::Ticks::ran))]
+pub fn run_step(
+    states: &mut Vec<BodyState>,
+    rows: &mut Vec<ContactRow>,
+    gravity: Vec2,
+    count: u64,
+) -> StepSums
+    requires few { length states.old.items ≤ 16384 }
+    requires gravity { IsWithin (2 ^ 16) gravity }
+    requires states { AreAllStates states.old.items }
+    requires rows { AreRowsBelow (length states.old.items) rows.old.items }
+    requires count { count ≤ 8 }
+    ensures run { run_of states.new.items rows.new.items result ≡ ran count gravity (start states.old.items rows.old.items) }
+    ensures states { AreAllStates states.new.items }
+    ensures rows { AreRowsBelow (length states.new.items) rows.new.items }
+    ensures long { length states.new.items ≡ length states.old.items }
+    ensures same { AreSameStates states.old.items states.new.items }
+    ensures small { AreSums (2 ^ 82) result }
+    ensures momentum_x { total_x states.new.items ≡ total_x states.old.items +ℤ added_x result }
+    ensures momentum_y { total_y states.new.items ≡ total_y states.old.items +ℤ added_y result }
+{
+    let mut sums = StepSums {
+        gravity: NOTHING,
+        immovable: NOTHING,
+        clamp: NOTHING,
+    };
+    for index in 0..count {
+        sums = tick(states, rows, gravity, sums);
+    }
+    let bounced = pass_rows(states, rows, &Bounce);
+    StepSums {
+        immovable: plus(sums.immovable, bounced),
+        ..sums
+    }
+}
+
+#[cfg(test)]
+mod tests;

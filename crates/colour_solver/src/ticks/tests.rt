@@ -1,0 +1,164 @@
+ghost use Rattle.std.specs.Prelude.{◌≡◌, ◌^◌, ◌≤◌, [], ◌∷◌, length, IfOk, true, pos, neg_ℤ, ◌≤ℤ◌, unsigned_abs};
+ghost use Rattle.fixed_geom.specs.Vectors.{IsWithin};
+ghost use Rattle.momenta.specs.Impulses.{IsState};
+ghost use Rattle.colour_solver_base.specs.Rows.{IsRow};
+ghost use Rattle.colour_solver.specs.States.{AreAllStates};
+ghost use Rattle.colour_solver.specs.Turns.{AreRowsBelow, IsRowBelow};
+ghost use Rattle.colour_solver.specs.Ticks.{start, ticks};
+
+use super::run_step;
+use colour_solver_base::{Bodies, ContactRow, PointRow};
+use fixed_geom::{Refusal, Rot, Vec2};
+use momenta::{BodyState, Gain, MassData, Motion};
+use std::alloc::Global;
+use std::test::Fail;
+
+const ORIGIN: Vec2 = Vec2 { x: 0, y: 0 };
+
+const AHEAD: Rot = Rot { c: 1 << 30, s: 0 };
+
+fn at(x: i64, y: i64) -> Vec2
+    ensures { result ≡ record { x = x; y = y } }
+{
+    Vec2 { x, y }
+}
+
+/// A point of this mass and momentum, at the origin.
+fn point(movable: bool, mass: i64, p: Vec2) -> BodyState
+    requires positive { pos 1 ≤ℤ mass }
+    requires mass { unsigned_abs mass ≤ 2 ^ 20 }
+    requires slow { IsWithin (2 ^ 60) p }
+    ensures { IsState result }
+{
+    BodyState {
+        movable,
+        mass: MassData { mass, inertia: 0 },
+        motion: Motion {
+            p,
+            l: 0,
+            x: ORIGIN,
+            rot: AHEAD,
+        },
+        start: ORIGIN,
+    }
+}
+
+fn one_body(alloc: Global, state: BodyState) -> Result<Vec<BodyState>, Refusal>
+    requires { IsState state }
+    ensures long { IfOk result (λ states. length states.items ≡ 1) }
+    ensures states { IfOk result (λ states. AreAllStates states.items) }
+{
+    let mut states = Vec::with_capacity(alloc, 1)?;
+    states.push(state)?;
+    Ok(states)
+}
+
+fn no_rows(alloc: Global) -> Vec<ContactRow>
+    ensures { result.items ≡ [] }
+{
+    Vec::new(alloc)
+}
+
+#[test]
+fn a_point_falls_for_four_ticks(rt: HostRuntime) -> Result<(), Fail> {
+    let mut states = one_body(rt.alloc(), point(true, 256, ORIGIN))?;
+    let mut rows = no_rows(rt.alloc());
+    let sums = run_step(&mut states, &mut rows, at(0, -157), 4);
+    assert_eq!(rt; sums.gravity, Gain { x: 0, y: -160768 });
+    assert_eq!(rt; sums.immovable, Gain { x: 0, y: 0 });
+    assert_eq!(rt; sums.clamp, Gain { x: 0, y: 0 });
+    for state in &states {
+        assert_eq!(rt; state.motion.x, at(0, -1570));
+        assert_eq!(rt; state.motion.p, at(0, -160768));
+    }
+    Ok(())
+}
+
+#[test]
+fn the_speed_limit_is_booked_as_clamp(rt: HostRuntime) -> Result<(), Fail> {
+    let mut states = one_body(rt.alloc(), point(true, 1, at(2097152, 0)))?;
+    let mut rows = no_rows(rt.alloc());
+    let sums = run_step(&mut states, &mut rows, ORIGIN, 1);
+    assert_eq!(rt; sums.gravity, Gain { x: 0, y: 0 });
+    assert_eq!(rt; sums.clamp, Gain { x: -1048576, y: 0 });
+    for state in &states {
+        assert_eq!(rt; state.motion.x, at(1048576, 0));
+        assert_eq!(rt; state.motion.p, at(1048576, 0));
+    }
+    Ok(())
+}
+
+/// The contact of a point of mass 1 that comes down on an immovable body at 8,192 u a tick, and bounces in full.
+fn landing() -> ContactRow
+    ensures { IsRowBelow 2 result }
+{
+    let point = PointRow {
+        normal: Vec2 { x: 0, y: 1 << 30 },
+        ra: ORIGIN,
+        rb: ORIGIN,
+        push_inverse: 1 << 40,
+        slip_inverse: 1 << 40,
+        separation: 0,
+        start_speed: -8192,
+        push: 0,
+        slip: 0,
+    };
+    ContactRow {
+        bodies: Bodies {
+            place: 0,
+            a: 0,
+            b: 1,
+            friction: 0,
+            restitution: 256,
+        },
+        first: point,
+        second: None,
+    }
+}
+
+fn two_bodies(alloc: Global) -> Result<Vec<BodyState>, Refusal>
+    ensures long { IfOk result (λ states. length states.items ≡ 2) }
+    ensures states { IfOk result (λ states. AreAllStates states.items) }
+{
+    let mut states = one_body(alloc, point(false, 1, ORIGIN))?;
+    states.push(point(true, 1, at(0, -8192)))?;
+    Ok(states)
+}
+
+fn one_row(alloc: Global) -> Result<Vec<ContactRow>, Refusal>
+    ensures { IfOk result (λ rows. AreRowsBelow 2 rows.items) }
+{
+    let mut rows = Vec::with_capacity(alloc, 1)?;
+    rows.push(landing())?;
+    Ok(rows)
+}
+
+#[test]
+fn a_point_bounces_off_an_immovable_body(rt: HostRuntime) -> Result<(), Fail> {
+    let mut states = two_bodies(rt.alloc())?;
+    let mut rows = one_row(rt.alloc())?;
+    let sums = run_step(&mut states, &mut rows, ORIGIN, 1);
+    assert_eq!(rt; sums.immovable, Gain { x: 0, y: 16384 });
+    assert_eq!(rt; sums.gravity, Gain { x: 0, y: 0 });
+    assert_eq!(rt; sums.clamp, Gain { x: 0, y: 0 });
+    for state in &states {
+        assert_eq!(rt; state.motion.x, ORIGIN);
+        if state.movable {
+            assert_eq!(rt; state.motion.p, at(0, 8192));
+        }
+    }
+    for row in &rows {
+        assert_eq!(rt; row.first.push, 16384);
+    }
+    Ok(())
+}
+
+/// The definitions give the same values, computed by themselves: a fall, the speed limit, the edge.
+#[tactic(auto, unfolding(fixed_geom::specs::Numbers::rdiv, fixed_geom::specs::Facings::turn, momenta::specs::Motions::velocity, momenta::specs::Motions::spin, momenta::specs::Motions::pulled, momenta::specs::Motions::clamped, momenta::specs::Motions::aim, momenta::specs::Motions::advanced, crate::specs::Ticks::tick))]
+fn definitions_compute()
+    ensures falls { (ticks 4 (record { x = pos 0; y = neg_ℤ (pos 157) }) (start ((record { movable = true; mass = record { mass = pos 256; inertia = pos 0 }; motion = record { p = record { x = pos 0; y = pos 0 }; l = pos 0; x = record { x = pos 0; y = pos 0 }; rot = record { c = pos 1073741824; s = pos 0 } }; start = record { x = pos 0; y = pos 0 } }) ∷ []) [])).states ≡ (record { movable = true; mass = record { mass = pos 256; inertia = pos 0 }; motion = record { p = record { x = pos 0; y = neg_ℤ (pos 160768) }; l = pos 0; x = record { x = pos 0; y = neg_ℤ (pos 1570) }; rot = record { c = pos 1073741824; s = pos 0 } }; start = record { x = pos 0; y = pos 0 } }) ∷ [] }
+    ensures pulled { (ticks 4 (record { x = pos 0; y = neg_ℤ (pos 157) }) (start ((record { movable = true; mass = record { mass = pos 256; inertia = pos 0 }; motion = record { p = record { x = pos 0; y = pos 0 }; l = pos 0; x = record { x = pos 0; y = pos 0 }; rot = record { c = pos 1073741824; s = pos 0 } }; start = record { x = pos 0; y = pos 0 } }) ∷ []) [])).gravity_y ≡ neg_ℤ (pos 160768) }
+    ensures limited { (ticks 1 (record { x = pos 0; y = pos 0 }) (start ((record { movable = true; mass = record { mass = pos 1; inertia = pos 0 }; motion = record { p = record { x = pos 2097152; y = pos 0 }; l = pos 0; x = record { x = pos 0; y = pos 0 }; rot = record { c = pos 1073741824; s = pos 0 } }; start = record { x = pos 0; y = pos 0 } }) ∷ []) [])).states ≡ (record { movable = true; mass = record { mass = pos 1; inertia = pos 0 }; motion = record { p = record { x = pos 1048576; y = pos 0 }; l = pos 0; x = record { x = pos 1048576; y = pos 0 }; rot = record { c = pos 1073741824; s = pos 0 } }; start = record { x = pos 0; y = pos 0 } }) ∷ [] }
+    ensures booked { (ticks 1 (record { x = pos 0; y = pos 0 }) (start ((record { movable = true; mass = record { mass = pos 1; inertia = pos 0 }; motion = record { p = record { x = pos 2097152; y = pos 0 }; l = pos 0; x = record { x = pos 0; y = pos 0 }; rot = record { c = pos 1073741824; s = pos 0 } }; start = record { x = pos 0; y = pos 0 } }) ∷ []) [])).clamp_x ≡ neg_ℤ (pos 1048576) }
+    ensures edge { (ticks 1 (record { x = pos 0; y = pos 0 }) (start ((record { movable = true; mass = record { mass = pos 1; inertia = pos 0 }; motion = record { p = record { x = pos 10; y = pos 0 }; l = pos 0; x = record { x = pos 68719476735; y = pos 0 }; rot = record { c = pos 1073741824; s = pos 0 } }; start = record { x = pos 0; y = pos 0 } }) ∷ []) [])).states ≡ (record { movable = true; mass = record { mass = pos 1; inertia = pos 0 }; motion = record { p = record { x = pos 0; y = pos 0 }; l = pos 0; x = record { x = pos 68719476736; y = pos 0 }; rot = record { c = pos 1073741824; s = pos 0 } }; start = record { x = pos 0; y = pos 0 } }) ∷ [] }
+{}

@@ -1,0 +1,140 @@
+//! What stays for a whole step: offsets, normals, inverse masses, and the speed at which it began.
+
+ghost use Rattle.std.specs.Prelude.{◌≡◌, ◌^◌, ◌⊎◌, true, neg_ℤ};
+ghost use Rattle.std.specs.Option.{ForSome};
+ghost use Rattle.fixed_geom.specs.Vectors.{IsWithin};
+ghost use Rattle.momenta.specs.Impulses.{AreStates, IsLine};
+ghost use Rattle.contacts_base.specs.Limits.{IsContact, IsContactPoint};
+ghost use Rattle.colour_solver_base.specs.Rows.{AreSurfaces, IsPointRow, IsRow, contact_row, point_row, push_line, slip_line, tangent};
+
+use contacts_base::{Contact, ContactPoint};
+use fixed_geom::Vec2;
+use momenta::{Ends, Line, inverse_mass, speed_along};
+
+/// A point of a contact in a step: the normal from the first body to the second (times 2^30), the offsets from the two
+/// centres (u), the inverse masses along the normal and across it (times 2^40), the separation (u) and the
+/// speed along the normal (u/tick) when the step began, and the accumulated impulses along the normal and across it
+/// (mass·u/tick).
+#[derive(Clone, Copy, Debug, PartialEq, Eq)]
+pub struct PointRow {
+    pub normal: Vec2,
+    pub ra: Vec2,
+    pub rb: Vec2,
+    pub push_inverse: i128,
+    pub slip_inverse: i128,
+    pub separation: i64,
+    pub start_speed: i64,
+    pub push: i64,
+    pub slip: i64,
+}
+
+/// Which contact of the list a row is of, the slots of its bodies, and its mixed friction and restitution in 256ths.
+#[derive(Clone, Copy, Debug, PartialEq, Eq)]
+pub struct Bodies {
+    pub place: usize,
+    pub a: u32,
+    pub b: u32,
+    pub friction: i64,
+    pub restitution: i64,
+}
+
+/// A touching contact in a step, with its one or two points.
+#[derive(Clone, Copy, Debug, PartialEq, Eq)]
+pub struct ContactRow {
+    pub bodies: Bodies,
+    pub first: PointRow,
+    pub second: Option<PointRow>,
+}
+
+/// The direction of friction: the normal turned to the right.
+fn tangent(normal: Vec2) -> Vec2
+    requires { IsWithin (2 ^ 30) normal }
+    ensures value { result ≡ tangent normal }
+    ensures within { IsWithin (2 ^ 30) result }
+{
+    Vec2 {
+        x: normal.y,
+        y: -normal.x,
+    }
+}
+
+impl PointRow {
+    /// The line of its normal impulse.
+    pub fn push_line(&self) -> Line
+        ensures { result ≡ push_line self.now }
+    {
+        Line {
+            direction: self.normal,
+            ra: self.ra,
+            rb: self.rb,
+            inverse_mass: self.push_inverse,
+        }
+    }
+
+    /// The line of its friction.
+    pub fn slip_line(&self) -> Line
+        requires { IsWithin (2 ^ 30) self.now.normal }
+        ensures { result ≡ slip_line self.now }
+    {
+        Line {
+            direction: tangent(self.normal),
+            ra: self.ra,
+            rb: self.rb,
+            inverse_mass: self.slip_inverse,
+        }
+    }
+}
+
+/// The row of a contact's point.
+#[tactic(auto, unfolding(crate::specs::Rows::point_row))]
+fn point_row(point: &ContactPoint, ends: &Ends) -> PointRow
+    requires point { IsContactPoint point.now }
+    requires states { AreStates ends.now }
+    requires mover { (ends.now.a.movable ≡ true) ⊎ (ends.now.b.movable ≡ true) }
+    ensures value { result ≡ point_row ends.now point.now }
+    ensures row { IsPointRow result }
+{
+    let across = tangent(point.normal);
+    let line = Line {
+        direction: point.normal,
+        ra: point.ra,
+        rb: point.rb,
+        inverse_mass: inverse_mass(point.normal, point.ra, point.rb, ends),
+    };
+    PointRow {
+        normal: point.normal,
+        ra: point.ra,
+        rb: point.rb,
+        push_inverse: line.inverse_mass,
+        slip_inverse: inverse_mass(across, point.ra, point.rb, ends),
+        separation: point.separation,
+        start_speed: speed_along(&line, ends),
+        push: point.push,
+        slip: point.slip,
+    }
+}
+
+/// The row of a contact between two bodies, one of them movable at least, which stand as they do when the step
+/// begins. `None` where it doesn't touch.
+pub fn contact_row(bodies: Bodies, contact: &Contact, ends: &Ends) -> Option<ContactRow>
+    requires surfaces { AreSurfaces bodies }
+    requires contact { IsContact contact.now }
+    requires states { AreStates ends.now }
+    requires mover { (ends.now.a.movable ≡ true) ⊎ (ends.now.b.movable ≡ true) }
+    ensures value { result ≡ contact_row bodies ends.now contact.now }
+    ensures row { ForSome result IsRow }
+{
+    let first = match &contact.first {
+        None => return None,
+        Some(point) => point_row(point, ends),
+    };
+    let second = match &contact.second {
+        None => None,
+        Some(point) => Some(point_row(point, ends)),
+    };
+    Some(ContactRow {
+        bodies,
+        first,
+        second,
+    })
+}

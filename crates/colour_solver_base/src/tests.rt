@@ -1,0 +1,145 @@
+ghost use Rattle.std.specs.Prelude.{◌≡◌, ◌^◌, ◌≤◌, ◌≤ℤ◌, pos, unsigned_abs};
+ghost use Rattle.fixed_geom.specs.Vectors.{IsWithin};
+ghost use Rattle.momenta.specs.Impulses.{AreStates, IsState};
+ghost use Rattle.colour_solver_base.specs.Rows.{IsRow};
+
+use crate::{Bodies, ContactRow, PointRow, RowTurn, bounce_row, solve_row, warm_row};
+use fixed_geom::{Rot, Vec2};
+use momenta::{BodyState, Ends, MassData, Motion};
+
+const ORIGIN: Vec2 = Vec2 { x: 0, y: 0 };
+
+const UPWARDS: Vec2 = Vec2 { x: 0, y: 1 << 30 };
+
+const AHEAD: Rot = Rot { c: 1 << 30, s: 0 };
+
+fn at(x: i64, y: i64) -> Vec2 {
+    Vec2 { x, y }
+}
+
+/// A body of mass 1 that never turns, at the origin.
+fn body(movable: bool, p: Vec2) -> BodyState
+    requires { IsWithin (2 ^ 60) p }
+    ensures state { IsState result }
+{
+    BodyState {
+        movable,
+        mass: MassData {
+            mass: 1,
+            inertia: 0,
+        },
+        motion: Motion {
+            p,
+            l: 0,
+            x: ORIGIN,
+            rot: AHEAD,
+        },
+        start: ORIGIN,
+    }
+}
+
+/// A mover with the momentum `p` on ground that doesn't move.
+fn on_ground(p: Vec2) -> Ends
+    requires { IsWithin (2 ^ 60) p }
+    ensures { AreStates result }
+{
+    Ends {
+        a: body(false, ORIGIN),
+        b: body(true, p),
+    }
+}
+
+/// A contact of both on a level line, with half of the friction and of the restitution that there can be.
+fn contact(separation: i64, start_speed: i64, push: i64) -> ContactRow
+    requires separation { unsigned_abs separation ≤ 2 ^ 27 }
+    requires start_speed { unsigned_abs start_speed ≤ 2 ^ 62 }
+    requires push_low { pos 0 ≤ℤ push }
+    requires push_high { unsigned_abs push ≤ 2 ^ 42 }
+    ensures { IsRow result }
+{
+    let bodies = Bodies {
+        place: 0,
+        a: 0,
+        b: 1,
+        friction: 128,
+        restitution: 128,
+    };
+    let first = PointRow {
+        normal: UPWARDS,
+        ra: ORIGIN,
+        rb: ORIGIN,
+        push_inverse: 1 << 40,
+        slip_inverse: 1 << 40,
+        separation,
+        start_speed,
+        push,
+        slip: 0,
+    };
+    ContactRow {
+        bodies,
+        first,
+        second: None,
+    }
+}
+
+/// The normal impulse that two bodies at rest get where they overlap.
+fn push_out(separation: i64) -> i64
+    requires { unsigned_abs separation ≤ 2 ^ 27 }
+{
+    solve_row(&contact(separation, 0, 0), &on_ground(ORIGIN))
+        .row
+        .first
+        .push
+}
+
+fn bounce(start_speed: i64) -> RowTurn
+    requires { unsigned_abs start_speed ≤ 2 ^ 62 }
+{
+    bounce_row(&contact(0, start_speed, 1), &on_ground(ORIGIN))
+}
+
+#[test]
+fn an_overlap_beyond_the_slop_is_pushed_out(rt: HostRuntime) {
+    assert_eq!(rt; push_out(-5243), 0);
+    assert_eq!(rt; push_out(-5250), 0);
+    assert_eq!(rt; push_out(-5251), 1);
+    assert_eq!(rt; push_out(-200000), 16384);
+}
+
+#[test]
+fn friction_is_at_most_its_share_of_the_push(rt: HostRuntime) {
+    let after = solve_row(&contact(0, 0, 1000), &on_ground(Vec2 { x: 600, y: 0 }));
+    assert_eq!(rt; after.row.first.push, 1000);
+    assert_eq!(rt; after.row.first.slip, -500);
+    assert_eq!(rt; after.ends.b.motion.p, at(100, 0));
+    assert_eq!(rt; after.ends.a.motion.p, ORIGIN);
+}
+
+#[test]
+fn the_normal_impulse_comes_before_friction(rt: HostRuntime) {
+    let after = solve_row(&contact(0, 0, 0), &on_ground(Vec2 { x: 600, y: -1000 }));
+    assert_eq!(rt; after.row.first.push, 1000);
+    assert_eq!(rt; after.row.first.slip, -500);
+    assert_eq!(rt; after.ends.b.motion.p, at(100, 0));
+}
+
+#[test]
+fn a_fast_meeting_bounces(rt: HostRuntime) {
+    let after = bounce(-10000);
+    assert_eq!(rt; after.row.first.push, 5001);
+    assert_eq!(rt; after.ends.b.motion.p, at(0, 5000));
+}
+
+#[test]
+fn a_slow_meeting_does_not_bounce(rt: HostRuntime) {
+    let after = bounce(-4096);
+    assert_eq!(rt; after.row.first.push, 1);
+    assert_eq!(rt; after.ends.b.motion.p, ORIGIN);
+}
+
+#[test]
+fn a_warm_start_gives_the_kept_impulses(rt: HostRuntime) {
+    let after = warm_row(&contact(0, 0, 1000), &on_ground(ORIGIN));
+    assert_eq!(rt; after.row.first.push, 1000);
+    assert_eq!(rt; after.ends.b.motion.p, at(0, 1000));
+}
