@@ -4,10 +4,14 @@ use Rattle.std.specs.Prelude.{nat_le, ◌&&◌, if◌then◌else◌}
 use Rattle.std.proofs.lemmas.Int.{ints}
 use Rattle.std.proofs.lemmas.Grind.{common_steps}
 use Rattle.impulse_ledger.specs.declared.entry.Cause.{Cause}
+use Rattle.impulse_ledger.specs.declared.entry.Cause.TheVariants as causes
 use Rattle.impulse_ledger.specs.declared.entry.Entry.{Entry}
 use Rattle.impulse_ledger.specs.declared.totals.Totals.{Totals}
 use Rattle.impulse_ledger.specs.Sums.{Book, sum_x, sum_y, sum_of_x, sum_of_y, is_cause, total_x, total_y, total_of_x, total_of_y, Fits}
 use Rattle.impulse_ledger.proofs.SumLemmas.{sum_x-append, sum_y-append, sum_of_x-append, sum_of_y-append}
+use Rattle.impulse_ledger.specs.Totals.{total_in}
+use Rattle.colour_solver.specs.declared.ticks.StepSums.{StepSums}
+use Rattle.colour_solver.specs.Ticks.{AreSums, added_x, added_y}
 use Rattle.world_core.specs.Apply.{booked}
 use Rattle.world_core.specs.Sound.{AreSmall, IsRoomy}
 
@@ -79,15 +83,135 @@ Fits-roomy b e r hx hy = record {
   of_cause_y = let n = near (total_of_y e.cause b) e.y _ _ (r.causes.y e.cause) hy in omega (arith, n);
 }
 
--- and those after a first one
+-- and those after a first one, and after a second
 pub Fits-after : (b new : Book) (e : Entry) (call : ℕ) (why : Cause) (x y : ℤ) → IsRoomy b → new.entries ≡ b.entries ++ booked call why x y → new.settled ≡ b.settled
-    → unsigned_abs x ≤ 2 ^ 80 → unsigned_abs y ≤ 2 ^ 80 → unsigned_abs e.x ≤ 2 ^ 80 → unsigned_abs e.y ≤ 2 ^ 80 → Fits new e
+    → unsigned_abs x ≤ 2 ^ 82 → unsigned_abs y ≤ 2 ^ 82 → unsigned_abs e.x ≤ 2 ^ 82 → unsigned_abs e.y ≤ 2 ^ 82 → Fits new e
 Fits-after b new e call why x y r entries settled hx hy ex ey =
     let after : Book = record { entries = b.entries ++ booked call why x y; settled = b.settled; room = 0 } in
-    let small : AreSmall (2 ^ 126 + 2 ^ 123 + 2 ^ 80) after = AreSmall-booked (2 ^ 126 + 2 ^ 123) (2 ^ 80) b.room 0 b.entries b.settled call why x y r.causes hx hy in
+    let small : AreSmall (2 ^ 126 + 2 ^ 123 + 2 ^ 82) after = AreSmall-booked (2 ^ 126 + 2 ^ 123) (2 ^ 82) b.room 0 b.entries b.settled call why x y r.causes hx hy in
     record {
       x = rw (entries, settled, sum_x-booked b.entries call why x y) (let r_x = r.x in omega (arith, ints));
       y = rw (entries, settled, sum_y-booked b.entries call why x y) (let r_y = r.y in omega (arith, ints));
-      of_cause_x = rw (entries, settled) (let n = near (total_of_x e.cause after) e.x (2 ^ 126 + 2 ^ 123 + 2 ^ 80) (2 ^ 80) (small.x e.cause) ex in omega (arith, n));
-      of_cause_y = rw (entries, settled) (let n = near (total_of_y e.cause after) e.y (2 ^ 126 + 2 ^ 123 + 2 ^ 80) (2 ^ 80) (small.y e.cause) ey in omega (arith, n));
+      of_cause_x = rw (entries, settled) (let n = near (total_of_x e.cause after) e.x (2 ^ 126 + 2 ^ 123 + 2 ^ 82) (2 ^ 82) (small.x e.cause) ex in omega (arith, n));
+      of_cause_y = rw (entries, settled) (let n = near (total_of_y e.cause after) e.y (2 ^ 126 + 2 ^ 123 + 2 ^ 82) (2 ^ 82) (small.y e.cause) ey in omega (arith, n));
     }
+
+pub Fits-last : (b new : Book) (e : Entry) (call : ℕ) (a c : Cause) (x y u v : ℤ) → IsRoomy b → new.entries ≡ (b.entries ++ booked call a x y) ++ booked call c u v → new.settled ≡ b.settled
+    → unsigned_abs x ≤ 2 ^ 82 → unsigned_abs y ≤ 2 ^ 82 → unsigned_abs u ≤ 2 ^ 82 → unsigned_abs v ≤ 2 ^ 82 → unsigned_abs e.x ≤ 2 ^ 82 → unsigned_abs e.y ≤ 2 ^ 82 → Fits new e
+Fits-last b new e call a c x y u v r entries settled hx hy hu hv ex ey =
+    let es : List Entry = b.entries ++ booked call a x y in
+    let after : Book = record { entries = es ++ booked call c u v; settled = b.settled; room = 0 } in
+    let first : AreSmall (2 ^ 126 + 2 ^ 123 + 2 ^ 82) (record { entries = es; settled = b.settled; room = 0 }) = AreSmall-booked (2 ^ 126 + 2 ^ 123) (2 ^ 82) b.room 0 b.entries b.settled call a x y r.causes hx hy in
+    let small : AreSmall (2 ^ 126 + 2 ^ 123 + 2 ^ 82 + 2 ^ 82) after = AreSmall-booked (2 ^ 126 + 2 ^ 123 + 2 ^ 82) (2 ^ 82) 0 0 es b.settled call c u v first hu hv in
+    record {
+      x = rw (entries, settled, sum_x-booked es call c u v, sum_x-booked b.entries call a x y) (let r_x = r.x in omega (arith, ints));
+      y = rw (entries, settled, sum_y-booked es call c u v, sum_y-booked b.entries call a x y) (let r_y = r.y in omega (arith, ints));
+      of_cause_x = rw (entries, settled) (let n = near (total_of_x e.cause after) e.x (2 ^ 126 + 2 ^ 123 + 2 ^ 82 + 2 ^ 82) (2 ^ 82) (small.x e.cause) ex in omega (arith, n));
+      of_cause_y = rw (entries, settled) (let n = near (total_of_y e.cause after) e.y (2 ^ 126 + 2 ^ 123 + 2 ^ 82 + 2 ^ 82) (2 ^ 82) (small.y e.cause) ey in omega (arith, n));
+    }
+
+-- ---- the entries of a step: each cause has one at most, and grows by no more than that
+
+one_of : (m : ℕ) (a b c : Bool) (s x y z : ℤ) (n : ℕ) → (a && b) ≡ false → (a && c) ≡ false → (b && c) ≡ false → unsigned_abs s ≤ n → unsigned_abs x ≤ m → unsigned_abs y ≤ m → unsigned_abs z ≤ m → (a ≡ false → x ≡ pos 0) → (b ≡ false → y ≡ pos 0) → (c ≡ false → z ≡ pos 0)
+    → unsigned_abs (s +ℤ (x +ℤ (y +ℤ z))) ≤ n + m
+one_of m true true c s x y z n ab ac bc hs hx hy hz nx ny nz = cc
+one_of m true false true s x y z n ab ac bc hs hx hy hz nx ny nz = cc
+one_of m true false false s x y z n ab ac bc hs hx hy hz nx ny nz = let b = ny refl in let c = nz refl in omega (arith, ints)
+one_of m false true true s x y z n ab ac bc hs hx hy hz nx ny nz = cc
+one_of m false true false s x y z n ab ac bc hs hx hy hz nx ny nz = let a = nx refl in let c = nz refl in omega (arith, ints)
+one_of m false false true s x y z n ab ac bc hs hx hy hz nx ny nz = let a = nx refl in let b = ny refl in omega (arith, ints)
+one_of m false false false s x y z n ab ac bc hs hx hy hz nx ny nz = let a = nx refl in let b = ny refl in let c = nz refl in omega (arith, ints)
+
+other_x : (b : Bool) (cause : Cause) (e : Entry) → is_cause cause e.cause ≡ false → sum_of_x cause (cond b [] (e ∷ [])) ≡ pos 0
+other_x true cause e h = refl
+other_x false cause e h = rw h refl
+
+other_y : (b : Bool) (cause : Cause) (e : Entry) → is_cause cause e.cause ≡ false → sum_of_y cause (cond b [] (e ∷ [])) ≡ pos 0
+other_y true cause e h = refl
+other_y false cause e h = rw h refl
+
+-- no two of a step's causes are the same
+record IsOne (c : Cause) : Type 0 where
+  gi : (is_cause c causes.Gravity && is_cause c causes.Immovable) ≡ false
+  gc : (is_cause c causes.Gravity && is_cause c causes.Clamp) ≡ false
+  ic : (is_cause c causes.Immovable && is_cause c causes.Clamp) ≡ false
+
+one_cause : (c : Cause) → IsOne c
+one_cause causes.Command = record { gi = refl; gc = refl; ic = refl }
+one_cause causes.Gravity = record { gi = refl; gc = refl; ic = refl }
+one_cause causes.Immovable = record { gi = refl; gc = refl; ic = refl }
+one_cause causes.Clamp = record { gi = refl; gc = refl; ic = refl }
+one_cause causes.Rest = record { gi = refl; gc = refl; ic = refl }
+one_cause causes.Departed = record { gi = refl; gc = refl; ic = refl }
+
+moved : (es rest s : ℤ) (n : ℕ) → unsigned_abs ((es +ℤ s) +ℤ rest) ≤ n → unsigned_abs ((es +ℤ rest) +ℤ s) ≤ n
+moved es rest s n h = omega (arith, ints)
+
+-- what a step books
+abbrev pub step_booked : ℕ → StepSums → List Entry
+step_booked call s = booked call causes.Gravity s.gravity.x s.gravity.y ++ (booked call causes.Immovable s.immovable.x s.immovable.y ++ booked call causes.Clamp s.clamp.x s.clamp.y)
+
+step_small_x : (n m : ℕ) (es : List Entry) (settled : ℤ) (call : ℕ) (s : StepSums) (cause : Cause) → AreSums m s → unsigned_abs (sum_of_x cause es +ℤ settled) ≤ n → unsigned_abs (sum_of_x cause (es ++ step_booked call s) +ℤ settled) ≤ n + m
+step_small_x n m es settled call s cause small h =
+    let gs : List Entry = booked call causes.Gravity s.gravity.x s.gravity.y in
+    let is : List Entry = booked call causes.Immovable s.immovable.x s.immovable.y in
+    let cs : List Entry = booked call causes.Clamp s.clamp.x s.clamp.y in
+    let one = one_cause cause in
+    let zg : Bool = nat_le (unsigned_abs s.gravity.x) 0 && nat_le (unsigned_abs s.gravity.y) 0 in
+    let zi : Bool = nat_le (unsigned_abs s.immovable.x) 0 && nat_le (unsigned_abs s.immovable.y) 0 in
+    let zc : Bool = nat_le (unsigned_abs s.clamp.x) 0 && nat_le (unsigned_abs s.clamp.y) 0 in
+    let eg : Entry = record { call = call; cause = causes.Gravity; x = s.gravity.x; y = s.gravity.y } in
+    let ei : Entry = record { call = call; cause = causes.Immovable; x = s.immovable.x; y = s.immovable.y } in
+    let ec : Entry = record { call = call; cause = causes.Clamp; x = s.clamp.x; y = s.clamp.y } in
+    rw (sum_of_x-append cause es (gs ++ (is ++ cs)), sum_of_x-append cause gs (is ++ cs), sum_of_x-append cause is cs)
+    (moved (sum_of_x cause es) (sum_of_x cause gs +ℤ (sum_of_x cause is +ℤ sum_of_x cause cs)) settled (n + m)
+    (one_of m (is_cause cause causes.Gravity) (is_cause cause causes.Immovable) (is_cause cause causes.Clamp) (sum_of_x cause es +ℤ settled) (sum_of_x cause gs) (sum_of_x cause is) (sum_of_x cause cs) n one.gi one.gc one.ic h
+    (let b = small.gravity.x in omega (arith, b, sum_of_x_by zg cause eg)) (let b = small.immovable.x in omega (arith, b, sum_of_x_by zi cause ei)) (let b = small.clamp.x in omega (arith, b, sum_of_x_by zc cause ec))
+    (other_x zg cause eg) (other_x zi cause ei) (other_x zc cause ec)))
+
+step_small_y : (n m : ℕ) (es : List Entry) (settled : ℤ) (call : ℕ) (s : StepSums) (cause : Cause) → AreSums m s → unsigned_abs (sum_of_y cause es +ℤ settled) ≤ n → unsigned_abs (sum_of_y cause (es ++ step_booked call s) +ℤ settled) ≤ n + m
+step_small_y n m es settled call s cause small h =
+    let gs : List Entry = booked call causes.Gravity s.gravity.x s.gravity.y in
+    let is : List Entry = booked call causes.Immovable s.immovable.x s.immovable.y in
+    let cs : List Entry = booked call causes.Clamp s.clamp.x s.clamp.y in
+    let one = one_cause cause in
+    let zg : Bool = nat_le (unsigned_abs s.gravity.x) 0 && nat_le (unsigned_abs s.gravity.y) 0 in
+    let zi : Bool = nat_le (unsigned_abs s.immovable.x) 0 && nat_le (unsigned_abs s.immovable.y) 0 in
+    let zc : Bool = nat_le (unsigned_abs s.clamp.x) 0 && nat_le (unsigned_abs s.clamp.y) 0 in
+    let eg : Entry = record { call = call; cause = causes.Gravity; x = s.gravity.x; y = s.gravity.y } in
+    let ei : Entry = record { call = call; cause = causes.Immovable; x = s.immovable.x; y = s.immovable.y } in
+    let ec : Entry = record { call = call; cause = causes.Clamp; x = s.clamp.x; y = s.clamp.y } in
+    rw (sum_of_y-append cause es (gs ++ (is ++ cs)), sum_of_y-append cause gs (is ++ cs), sum_of_y-append cause is cs)
+    (moved (sum_of_y cause es) (sum_of_y cause gs +ℤ (sum_of_y cause is +ℤ sum_of_y cause cs)) settled (n + m)
+    (one_of m (is_cause cause causes.Gravity) (is_cause cause causes.Immovable) (is_cause cause causes.Clamp) (sum_of_y cause es +ℤ settled) (sum_of_y cause gs) (sum_of_y cause is) (sum_of_y cause cs) n one.gi one.gc one.ic h
+    (let b = small.gravity.y in omega (arith, b, sum_of_y_by zg cause eg)) (let b = small.immovable.y in omega (arith, b, sum_of_y_by zi cause ei)) (let b = small.clamp.y in omega (arith, b, sum_of_y_by zc cause ec))
+    (other_y zg cause eg) (other_y zi cause ei) (other_y zc cause ec)))
+
+pub AreSmall-step : (n m : ℕ) (es : List Entry) (settled : Totals) (call : ℕ) (s : StepSums) → AreSums m s → AreSmall n (record { entries = es; settled = settled; room = 0 }) → AreSmall (n + m) (record { entries = es ++ step_booked call s; settled = settled; room = 0 })
+AreSmall-step n m es settled call s sums small = record {
+  x = λ cause. step_small_x n m es (total_in cause settled).x call s cause sums (small.x cause);
+  y = λ cause. step_small_y n m es (total_in cause settled).y call s cause sums (small.y cause);
+}
+
+-- the sums with a step's entries
+pub sum_x-step : (es : List Entry) (call : ℕ) (s : StepSums) → sum_x (es ++ step_booked call s) ≡ sum_x es +ℤ added_x s
+sum_x-step es call s =
+    let gs : List Entry = booked call causes.Gravity s.gravity.x s.gravity.y in
+    let is : List Entry = booked call causes.Immovable s.immovable.x s.immovable.y in
+    let c = sum_x-booked is call causes.Clamp s.clamp.x s.clamp.y in
+    let i = sum_x-booked [] call causes.Immovable s.immovable.x s.immovable.y in
+    let g = sum_x-booked [] call causes.Gravity s.gravity.x s.gravity.y in
+    let a = sum_x-append es (step_booked call s) in
+    let b = sum_x-append gs (is ++ booked call causes.Clamp s.clamp.x s.clamp.y) in
+    omega (arith, ints, a, b, c, i, g)
+
+pub sum_y-step : (es : List Entry) (call : ℕ) (s : StepSums) → sum_y (es ++ step_booked call s) ≡ sum_y es +ℤ added_y s
+sum_y-step es call s =
+    let gs : List Entry = booked call causes.Gravity s.gravity.x s.gravity.y in
+    let is : List Entry = booked call causes.Immovable s.immovable.x s.immovable.y in
+    let c = sum_y-booked is call causes.Clamp s.clamp.x s.clamp.y in
+    let i = sum_y-booked [] call causes.Immovable s.immovable.x s.immovable.y in
+    let g = sum_y-booked [] call causes.Gravity s.gravity.x s.gravity.y in
+    let a = sum_y-append es (step_booked call s) in
+    let b = sum_y-append gs (is ++ booked call causes.Clamp s.clamp.x s.clamp.y) in
+    omega (arith, ints, a, b, c, i, g)

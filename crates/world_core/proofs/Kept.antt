@@ -10,18 +10,23 @@ use Rattle.body_handles.specs.declared.handle.Handle.{Handle}
 use Rattle.body_handles.specs.declared.places.Place.{Place}
 use Rattle.body_handles.specs.Places.{lowest, generation_at, places_with, places_without, is_live}
 use Rattle.impulse_ledger.specs.declared.entry.Cause.{Cause}
-use Rattle.impulse_ledger.specs.Sums.{Book}
+use Rattle.impulse_ledger.specs.declared.entry.Cause.TheVariants as causes
+use Rattle.impulse_ledger.specs.Sums.{Book, total_of_x, total_of_y}
 use Rattle.contacts_base.specs.declared.contact.ContactEntry.{ContactEntry}
-use Rattle.contacts_base.specs.Contacts.{AreKeysRising}
+use Rattle.colour_solver.specs.declared.ticks.StepSums.{StepSums}
+use Rattle.colour_solver.specs.Ticks.{AreSums, added_x, added_y}
 use Rattle.world_core_base.specs.declared.body.Body.{Body}
 use Rattle.world_core_base.specs.declared.body.BodyDef.{BodyDef}
 use Rattle.world_core_base.specs.Bodies.{is_mover, is_dynamic, IsBody, AreBodies, p_x, p_y, momentum_x, momentum_y, made}
 use Rattle.world_core_base.specs.Slots.{body_at, HaveSameSlots, with_body, with_momentum, put_p}
 use Rattle.event_feed.specs.Events.{EventLists}
 use Rattle.world_core.specs.World.{World, body_of, book_of}
-use Rattle.world_core.specs.Apply.{booked, sum_of, pushed, departing}
+use Rattle.world_core.specs.Colouring.{Lists}
+use Rattle.world_core.specs.Apply.{booked, sum_of, pushed, departing, empty_world}
 use Rattle.world_core.specs.Sound.{IsRoomy, IsSound}
-use Rattle.world_core.proofs.BookLemmas.{sum_x-booked, sum_y-booked, AreSmall-booked, AreSmall-weaker}
+use Rattle.world_core.proofs.BookLemmas.{sum_x-booked, sum_y-booked, AreSmall-booked, AreSmall-weaker, step_booked, AreSmall-step, sum_x-step, sum_y-step}
+use Rattle.world_core.proofs.KeptContacts.{MovesSame-momentum}
+use Rattle.world_core.proofs.TiedLaws.{AreTied, tied_sound, tied_bodies, tied_empty}
 use Rattle.world_core.proofs.SlotLemmas.{momentum_x-set, momentum_y-set, momentum_x-push, momentum_y-push, momentum_x_le, momentum_y_le, AreBodies-set, AreBodies-push, AreMatched-set, AreMatched-push, HaveSameSlots-set, AreMatched-same, below_length, body_at-in, lowest-free, none_if}
 
 -- ---- a sound world has room in its ledger's numbers
@@ -37,16 +42,45 @@ IsRoomy-sound w room s =
       causes = AreSmall-weaker (2 ^ 126 + w.plain.calls * 2 ^ 83) (2 ^ 126 + 2 ^ 123) (record { entries = w.entries; settled = w.settled; room = room }) (omega (arith, s.calls)) (record { x = s.causes.x; y = s.causes.y });
     }
 
--- what a step adds by one cause
-pub record IsSmallGain (gx gy : ℤ) : Type 0 where
-  pub x : unsigned_abs gx ≤ 2 ^ 80
-  pub y : unsigned_abs gy ≤ 2 ^ 80
-
 pub IsRoomy-same : (b new : Book) → new.entries ≡ b.entries → new.settled ≡ b.settled → IsRoomy b → IsRoomy new
 IsRoomy-same b new entries settled r = record {
   x = rw (entries, settled) r.x;
   y = rw (entries, settled) r.y;
   causes = record { x = λ cause. rw (entries, settled) (r.causes.x cause); y = λ cause. rw (entries, settled) (r.causes.y cause) };
+}
+
+-- ---- an empty world
+
+no_total_x : (g : Vec2) (c : Cause) → unsigned_abs (total_of_x c (book_of (empty_world g))) ≤ 2 ^ 126
+no_total_x g causes.Command = omega arith
+no_total_x g causes.Gravity = omega arith
+no_total_x g causes.Immovable = omega arith
+no_total_x g causes.Clamp = omega arith
+no_total_x g causes.Rest = omega arith
+no_total_x g causes.Departed = omega arith
+
+no_total_y : (g : Vec2) (c : Cause) → unsigned_abs (total_of_y c (book_of (empty_world g))) ≤ 2 ^ 126
+no_total_y g causes.Command = omega arith
+no_total_y g causes.Gravity = omega arith
+no_total_y g causes.Immovable = omega arith
+no_total_y g causes.Clamp = omega arith
+no_total_y g causes.Rest = omega arith
+no_total_y g causes.Departed = omega arith
+
+pub new_sound : (g : Vec2) → IsWithin (2 ^ 16) g → IsSound (empty_world g)
+new_sound g h = record {
+  total_x = refl;
+  total_y = refl;
+  causes = AreSmall-weaker (2 ^ 126) (2 ^ 126 + 0 * 2 ^ 83) (book_of (empty_world g)) (omega arith) (record { x = no_total_x g; y = no_total_y g });
+  bodies = λ slot b e. cc;
+  matched = record { slots = refl; few = omega arith; taken = λ slot. refl };
+  contacts = tied_empty.rising;
+  pairs = tied_empty.pairs;
+  there = tied_empty.there;
+  colours = tied_empty.colours;
+  gravity = h;
+  steps = omega arith;
+  calls = omega arith;
 }
 
 -- ---- gravity
@@ -59,6 +93,9 @@ gravity_kept w g s few h = record {
   bodies = s.bodies;
   matched = s.matched;
   contacts = s.contacts;
+  pairs = s.pairs;
+  there = s.there;
+  colours = s.colours;
   gravity = h;
   steps = omega (arith, s.steps);
   calls = omega arith;
@@ -144,14 +181,19 @@ push_kept w h j p call why s few e =
     let new_y : p_y (option_map (put_p p) (body_at bodies h.slot)) ≡ p.y = ap p_y put ∙ mover_part (is_mover got.body) p.y got.mover in
     let x : p.x ≡ got.body.motion.p.x +ℤ j.x = ap (λ (v : Vec2). v.x) got.sum in
     let y : p.y ≡ got.body.motion.p.y +ℤ j.y = ap (λ (v : Vec2). v.y) got.sum in
+    let slots : HaveSameSlots bodies (with_momentum bodies h.slot p) = HaveSameSlots-set bodies h.slot _ (ap is_some put ∙ sym (ap is_some at)) in
+    let tied = tied_bodies bodies (with_momentum bodies h.slot p) w.plain.contacts w.plain.colours (MovesSame-momentum bodies h.slot p) slots (tied_sound w s) in
     record {
       total_x = let t = s.total_x in rw (sum_x-booked w.entries call why j.x j.y) (omega (arith, ints, mx, old_x, new_x, x, t));
       total_y = let t = s.total_y in rw (sum_y-booked w.entries call why j.x j.y) (omega (arith, ints, my, old_y, new_y, y, t));
       causes = AreSmall-weaker (2 ^ 126 + w.plain.calls * 2 ^ 83 + 2 ^ 40) (2 ^ 126 + (w.plain.calls + 1) * 2 ^ 83) _ (omega arith)
           (AreSmall-booked (2 ^ 126 + w.plain.calls * 2 ^ 83) (2 ^ 40) 0 0 w.entries w.settled call why j.x j.y s.causes got.push.x got.push.y);
       bodies = AreBodies-set bodies h.slot _ s.bodies (λ b f. let same : put_p p got.body ≡ b = cc in subst IsBody same (IsBody-put got.body p was got.mover got.small));
-      matched = AreMatched-same w.plain.places bodies _ (HaveSameSlots-set bodies h.slot _ (ap is_some put ∙ sym (ap is_some at))) s.matched;
-      contacts = s.contacts;
+      matched = AreMatched-same w.plain.places bodies _ slots s.matched;
+      contacts = tied.rising;
+      pairs = tied.pairs;
+      there = tied.there;
+      colours = tied.colours;
       gravity = s.gravity;
       steps = omega (arith, s.steps);
       calls = omega arith;
@@ -185,9 +227,9 @@ departing_small o p is e =
 pub named : (live : Bool) (bodies : List (Option Body)) (slot : ℕ) (b : Body) → AreBodies bodies → cond live (body_at bodies slot) None ≡ Some b → IsBody b
 named live bodies slot b all e = all slot b (body_at-in bodies slot b (found_at live (body_at bodies slot) b e))
 
-pub destroy_kept : (w : World) (h : Handle) (p : Vec2) (call : ℕ) (why : Cause) (x y : ℤ) (contacts : List ContactEntry) → IsSound w → w.plain.calls < 2 ^ 40 → departing (body_of w.plain h) ≡ Ok p → x ≡ neg_ℤ p.x → y ≡ neg_ℤ p.y → AreKeysRising contacts
-    → IsSound (record w { plain = record w.plain { places = places_without w.plain.places h; bodies = slice_set w.plain.bodies h.slot None; contacts = contacts; calls = w.plain.calls + 1 }; entries = w.entries ++ booked call why x y })
-destroy_kept w h p call why x y contacts s few e is_x is_y rising =
+pub destroy_kept : (w : World) (h : Handle) (p : Vec2) (call : ℕ) (why : Cause) (x y : ℤ) (contacts : List ContactEntry) (lists : Lists) → IsSound w → w.plain.calls < 2 ^ 40 → departing (body_of w.plain h) ≡ Ok p → x ≡ neg_ℤ p.x → y ≡ neg_ℤ p.y → AreTied (slice_set w.plain.bodies h.slot None) contacts lists
+    → IsSound (record w { plain = record w.plain { places = places_without w.plain.places h; bodies = slice_set w.plain.bodies h.slot None; contacts = contacts; colours = lists; calls = w.plain.calls + 1 }; entries = w.entries ++ booked call why x y })
+destroy_kept w h p call why x y contacts lists s few e is_x is_y tied =
     let small = departing_small (body_of w.plain h) p (λ b f. named (is_live w.plain.places h) w.plain.bodies h.slot b s.bodies f) e in
     let got = departing_from (body_of w.plain h) p e in
     let bodies = w.plain.bodies in
@@ -204,7 +246,10 @@ destroy_kept w h p call why x y contacts s few e is_x is_y rising =
           (AreSmall-booked (2 ^ 126 + w.plain.calls * 2 ^ 83) (2 ^ 60) 0 0 w.entries w.settled call why x y s.causes (let l = small.x in omega (arith, ints)) (let l = small.y in omega (arith, ints)));
       bodies = AreBodies-set bodies h.slot None s.bodies (λ b f. cc);
       matched = AreMatched-set w.plain.places bodies h.slot _ None refl s.matched;
-      contacts = rising;
+      contacts = tied.rising;
+      pairs = tied.pairs;
+      there = tied.there;
+      colours = tied.colours;
       gravity = s.gravity;
       steps = omega (arith, s.steps);
       calls = omega arith;
@@ -213,9 +258,9 @@ destroy_kept w h p call why x y contacts s few e is_x is_y rising =
 -- ---- CreateBody
 
 kept_with : (t : Bool) (w : World) (slot : ℕ) (place : Place) (b : Body) → IsSound w → w.plain.calls < 2 ^ 40 → (t ≡ true → slot < length w.plain.bodies) → (t ≡ false → length w.plain.bodies < 16384)
-    → place.live ≡ true → IsBody b → p_x (Some b) ≡ pos 0 → p_y (Some b) ≡ pos 0 → body_at w.plain.bodies slot ≡ None
+    → place.live ≡ true → IsBody b → p_x (Some b) ≡ pos 0 → p_y (Some b) ≡ pos 0 → body_at w.plain.bodies slot ≡ None → AreTied (cond t (slice_set w.plain.bodies slot (Some b)) (w.plain.bodies ++ Some b ∷ [])) w.plain.contacts w.plain.colours
     → IsSound (record w { plain = record w.plain { places = (if t then slice_set w.plain.places slot place else w.plain.places ++ place ∷ []); bodies = cond t (slice_set w.plain.bodies slot (Some b)) (w.plain.bodies ++ Some b ∷ []); calls = w.plain.calls + 1 } })
-kept_with true w slot place b s few below past live is px py none =
+kept_with true w slot place b s few below past live is px py none tied =
     let mx = momentum_x-set w.plain.bodies slot (Some b) (below refl) in
     let my = momentum_y-set w.plain.bodies slot (Some b) (below refl) in
     let old_x : p_x (body_at w.plain.bodies slot) ≡ pos 0 = ap p_x none in
@@ -226,12 +271,15 @@ kept_with true w slot place b s few below past live is px py none =
       causes = AreSmall-weaker (2 ^ 126 + w.plain.calls * 2 ^ 83) (2 ^ 126 + (w.plain.calls + 1) * 2 ^ 83) (book_of w) (omega arith) s.causes;
       bodies = AreBodies-set w.plain.bodies slot (Some b) s.bodies (λ c f. let same : b ≡ c = cc in subst IsBody same is);
       matched = AreMatched-set w.plain.places w.plain.bodies slot place (Some b) (sym live) s.matched;
-      contacts = s.contacts;
+      contacts = tied.rising;
+      pairs = tied.pairs;
+      there = tied.there;
+      colours = tied.colours;
       gravity = s.gravity;
       steps = omega (arith, s.steps);
       calls = omega arith;
     }
-kept_with false w slot place b s few below past live is px py none =
+kept_with false w slot place b s few below past live is px py none tied =
     let mx = momentum_x-push w.plain.bodies (Some b) in
     let my = momentum_y-push w.plain.bodies (Some b) in
     record {
@@ -240,38 +288,55 @@ kept_with false w slot place b s few below past live is px py none =
       causes = AreSmall-weaker (2 ^ 126 + w.plain.calls * 2 ^ 83) (2 ^ 126 + (w.plain.calls + 1) * 2 ^ 83) (book_of w) (omega arith) s.causes;
       bodies = AreBodies-push w.plain.bodies (Some b) s.bodies (λ c f. let same : b ≡ c = cc in subst IsBody same is);
       matched = AreMatched-push w.plain.places w.plain.bodies place (Some b) (sym live) (past refl) s.matched;
-      contacts = s.contacts;
+      contacts = tied.rising;
+      pairs = tied.pairs;
+      there = tied.there;
+      colours = tied.colours;
       gravity = s.gravity;
       steps = omega (arith, s.steps);
       calls = omega arith;
     }
 
-pub create_kept : (w : World) (d : BodyDef) → IsSound w → w.plain.calls < 2 ^ 40 → lowest w.plain.places < 16384 → IsBody (made d)
+-- the slot that a new body comes into is free
+pub free_slot : (w : World) → IsSound w → body_at w.plain.bodies (lowest w.plain.places) ≡ None
+free_slot w s = none_if _ (s.matched.taken (lowest w.plain.places) ∙ lowest-free w.plain.places)
+
+pub create_kept : (w : World) (d : BodyDef) → IsSound w → w.plain.calls < 2 ^ 40 → lowest w.plain.places < 16384 → IsBody (made d) → AreTied (with_body w.plain.bodies (lowest w.plain.places) (made d)) w.plain.contacts w.plain.colours
     → IsSound (record w { plain = record w.plain { places = places_with w.plain.places (lowest w.plain.places); bodies = with_body w.plain.bodies (lowest w.plain.places) (made d); calls = w.plain.calls + 1 } })
-create_kept w d s few free is =
+create_kept w d s few free is tied =
     let slot = lowest w.plain.places in
-    let none : body_at w.plain.bodies slot ≡ None = none_if _ (s.matched.taken slot ∙ lowest-free w.plain.places) in
+    let none : body_at w.plain.bodies slot ≡ None = free_slot w s in
     let same = s.matched.slots in
     rw same (kept_with (nat_lt slot (length w.plain.bodies)) w slot (record { generation = generation_at w.plain.places slot; live = true }) (made d) s few
-    (λ e. grind (arith, common_steps)) (λ e. let past : length w.plain.bodies ≤ slot = grind (arith, common_steps) in omega arith) refl is (resting_part (is_mover (made d))) (resting_part (is_mover (made d))) none)
+    (λ e. grind (arith, common_steps)) (λ e. let past : length w.plain.bodies ≤ slot = grind (arith, common_steps) in omega arith) refl is (resting_part (is_mover (made d))) (resting_part (is_mover (made d))) none tied)
 
 -- ---- Step
 
-pub step_kept : (w : World) (bodies : List (Option Body)) (gx gy cx cy : ℤ) (a b : Cause) (events : EventLists) (contacts : List ContactEntry) → IsSound w → w.plain.calls < 2 ^ 40 → AreBodies bodies → HaveSameSlots w.plain.bodies bodies
-    → IsSmallGain gx gy → IsSmallGain cx cy
-    → momentum_x bodies ≡ momentum_x w.plain.bodies +ℤ (gx +ℤ cx) → momentum_y bodies ≡ momentum_y w.plain.bodies +ℤ (gy +ℤ cy) → AreKeysRising contacts
-    → IsSound (record w { plain = record w.plain { bodies = bodies; contacts = contacts; steps = w.plain.steps + 1; calls = w.plain.calls + 1 }; entries = w.entries ++ (booked (w.plain.calls + 1) a gx gy ++ booked (w.plain.calls + 1) b cx cy); events = events })
-step_kept w bodies gx gy cx cy a b events contacts s few all same g c mx my rising =
+-- what a step leaves of the bodies, and what it has added
+pub record IsStep (old new : List (Option Body)) (sums : StepSums) : Type 0 where
+  pub bodies : AreBodies new
+  pub slots : HaveSameSlots old new
+  pub small : AreSums (2 ^ 82) sums
+  pub momentum_x : momentum_x new ≡ momentum_x old +ℤ added_x sums
+  pub momentum_y : momentum_y new ≡ momentum_y old +ℤ added_y sums
+
+pub step_kept : (w : World) (bodies : List (Option Body)) (sums : StepSums) (events : EventLists) (contacts : List ContactEntry) (lists : Lists) → IsSound w → w.plain.calls < 2 ^ 40 → IsStep w.plain.bodies bodies sums → AreTied bodies contacts lists
+    → IsSound (record w { plain = record w.plain { bodies = bodies; contacts = contacts; colours = lists; steps = w.plain.steps + 1; calls = w.plain.calls + 1 }; entries = w.entries ++ step_booked (w.plain.calls + 1) sums; events = events })
+step_kept w bodies sums events contacts lists s few step tied =
     let call = w.plain.calls + 1 in
+    let mx = step.momentum_x in
+    let my = step.momentum_y in
     record {
-      total_x = let t = s.total_x in rw (← append_assoc, sum_x-booked _ _ b cx cy, sum_x-booked _ _ a gx gy) (omega (arith, ints, mx, t));
-      total_y = let t = s.total_y in rw (← append_assoc, sum_y-booked _ _ b cx cy, sum_y-booked _ _ a gx gy) (omega (arith, ints, my, t));
-      causes = rw (← append_assoc) (AreSmall-weaker (2 ^ 126 + w.plain.calls * 2 ^ 83 + 2 ^ 80 + 2 ^ 80) (2 ^ 126 + (w.plain.calls + 1) * 2 ^ 83) _ (omega arith)
-          (AreSmall-booked (2 ^ 126 + w.plain.calls * 2 ^ 83 + 2 ^ 80) (2 ^ 80) 0 0 (w.entries ++ booked call a gx gy) w.settled call b cx cy
-          (AreSmall-booked (2 ^ 126 + w.plain.calls * 2 ^ 83) (2 ^ 80) 0 0 w.entries w.settled call a gx gy s.causes g.x g.y) c.x c.y));
-      bodies = all;
-      matched = AreMatched-same w.plain.places w.plain.bodies bodies same s.matched;
-      contacts = rising;
+      total_x = let t = s.total_x in rw (sum_x-step w.entries call sums) (omega (arith, ints, mx, t));
+      total_y = let t = s.total_y in rw (sum_y-step w.entries call sums) (omega (arith, ints, my, t));
+      causes = AreSmall-weaker (2 ^ 126 + w.plain.calls * 2 ^ 83 + 2 ^ 82) (2 ^ 126 + (w.plain.calls + 1) * 2 ^ 83) _ (omega arith)
+          (AreSmall-step (2 ^ 126 + w.plain.calls * 2 ^ 83) (2 ^ 82) w.entries w.settled call sums step.small s.causes);
+      bodies = step.bodies;
+      matched = AreMatched-same w.plain.places w.plain.bodies bodies step.slots s.matched;
+      contacts = tied.rising;
+      pairs = tied.pairs;
+      there = tied.there;
+      colours = tied.colours;
       gravity = s.gravity;
       steps = omega (arith, s.steps);
       calls = omega arith;

@@ -4,3 +4,10 @@ pub mod Kept
 pub mod ReplayLemmas
 pub mod CollideLaws
 pub mod StepLemmas
+pub mod PairLaws
+pub mod KeptContacts
+pub mod ColouringSteps
+pub mod ColouringTurns
+pub mod ColouringLaws
+pub mod ColouringBodies
+pub mod TiedLaws

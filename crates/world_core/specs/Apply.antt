@@ -1,5 +1,5 @@
 -- What each command does to the plain world, as a function.
-use Rattle.std.specs.Prelude.{◌≡◌, ℕ, ◌+◌, ◌^◌, cond, ◌&&◌, nat_le, nat_lt, List, [], ◌∷◌, ◌++◌, Option, Some, None, Result, Ok, Err, ℤ, pos, neg_ℤ, ◌+ℤ◌, unsigned_abs, slice_set, unwrap_or}
+use Rattle.std.specs.Prelude.{◌≡◌, ℕ, ◌+◌, ◌^◌, cond, ◌&&◌, nat_le, nat_lt, List, [], ◌∷◌, ◌++◌, Option, Some, None, Result, Ok, Err, ℤ, pos, neg_ℤ, ◌+ℤ◌, unsigned_abs, slice_set, unwrap_or, replicate}
 use Rattle.fixed_geom.specs.Vectors.{is_within}
 use Rattle.fixed_geom.specs.declared.vectors.Vec2.{Vec2}
 use Rattle.fixed_geom.specs.declared.refusal.Refusal.{Refusal}
@@ -13,7 +13,8 @@ use Rattle.impulse_ledger.specs.Totals.{zero_totals}
 use Rattle.world_core_base.specs.Bodies.{is_dynamic, def_refusal, made, p_x, p_y}
 use Rattle.shapes.specs.Shapes.{is_between}
 use Rattle.world_core_base.specs.Slots.{with_body, with_momentum}
-use Rattle.world_core_base.specs.Ticks.{Run, ticks, start}
+use Rattle.world_core_base.specs.Gather.{states_of, rows_of, with_motions, with_rows}
+use Rattle.colour_solver.specs.Ticks.{Run, ran, start}
 use Rattle.world_core_base.specs.Renewal.{renewed_bodies}
 use Rattle.world_core_base.specs.declared.body.Body.{Body}
 use Rattle.world_core_base.specs.declared.body.BodyDef.{BodyDef}
@@ -22,6 +23,8 @@ use Rattle.world_core.specs.declared.command.Command.TheVariants.{CreateBody, De
 use Rattle.world_core.specs.declared.command.Reply.{Reply}
 use Rattle.world_core.specs.declared.command.Reply.TheVariants as replies
 use Rattle.world_core.specs.Collide.{Collided, collided, contacts_without}
+use Rattle.world_core.specs.Colouring.{Lists, turned, lists_without}
+use Rattle.contacts_base.specs.declared.contact.ContactEntry.{ContactEntry}
 use Rattle.event_feed.specs.Events.{EventLists, no_events}
 use Rattle.world_core.specs.World.{Plain, World, body_of}
 
@@ -66,7 +69,7 @@ departing (Some b) = Ok (record { x = p_x (Some b); y = p_y (Some b) })
 abbrev pub destroy_due : Plain → Handle → Result Vec2 Refusal → Result Applied Refusal
 destroy_due w h (Err e) = Err e
 destroy_due w h (Ok p) = Ok (record {
-  plain = record w { places = places_without w.places h; bodies = slice_set w.bodies h.slot None; contacts = contacts_without h.slot w.contacts; calls = w.calls + 1 };
+  plain = record w { places = places_without w.places h; bodies = slice_set w.bodies h.slot None; contacts = contacts_without h.slot w.contacts; colours = lists_without h.slot w.colours w.contacts; calls = w.calls + 1 };
   reply = replies.Done;
   entries = booked (w.calls + 1) causes.Departed (neg_ℤ p.x) (neg_ℤ p.y);
   events = None;
@@ -108,17 +111,33 @@ apply_gravity w g = cond (is_within (2 ^ 16) g) (Ok (record { plain = record w {
 abbrev pub events_of : Collided → EventLists
 events_of c = record { begin = c.begin; end = c.end; slept = []; woke = [] }
 
--- first the collide, then the ticks, which contacts don't act on yet, and then the fat boxes
-abbrev pub stepped : Plain → Collided → Run → Applied
-stepped w c r = record {
-  plain = record w { bodies = renewed_bodies r.bodies; contacts = c.now; steps = w.steps + 1; calls = w.calls + 1 };
+-- the colours after the collide: who begins takes one, who ends gives it up
+abbrev pub colours_after : Plain → Collided → Lists
+colours_after w c = turned w.bodies w.colours c.begin c.end
+
+-- the ticks and the restitution, over the bodies and over the contacts in solve order
+abbrev pub run_after : Plain → ℕ → List ContactEntry → Lists → Run
+run_after w n contacts lists = ran n w.gravity (start (states_of w.bodies) (rows_of (states_of w.bodies) w.bodies contacts lists))
+
+-- what the step has added to the movers' momentum
+abbrev pub step_entries : ℕ → Run → List Entry
+step_entries call r = booked call causes.Gravity r.gravity_x r.gravity_y ++ (booked call causes.Immovable r.immovable_x r.immovable_y ++ booked call causes.Clamp r.clamp_x r.clamp_y)
+
+-- the bodies and contacts that the ticks have left, and then the fat boxes
+abbrev pub stepped : Plain → Collided → Lists → Run → Applied
+stepped w c lists r = record {
+  plain = record w { bodies = renewed_bodies (with_motions w.bodies r.states); contacts = with_rows c.now r.rows; colours = lists; steps = w.steps + 1; calls = w.calls + 1 };
   reply = replies.Stepped (w.steps + 1);
-  entries = booked (w.calls + 1) causes.Gravity r.gravity_x r.gravity_y ++ booked (w.calls + 1) causes.Clamp r.clamp_x r.clamp_y;
+  entries = step_entries (w.calls + 1) r;
   events = Some (events_of c);
 }
 
+-- first the collide with its colours, and then the ticks
+abbrev pub step_done : Plain → ℕ → Collided → Applied
+step_done w n c = stepped w c (colours_after w c) (run_after w n c.now (colours_after w c))
+
 abbrev pub apply_step : Plain → ℤ → Result Applied Refusal
-apply_step w n = cond (is_between (pos 1) (pos 8) n) (Ok (stepped w (collided w.bodies w.contacts) (ticks (unsigned_abs n) w.gravity (start w.bodies)))) (Err OutOfRange)
+apply_step w n = cond (is_between (pos 1) (pos 8) n) (Ok (step_done w (unsigned_abs n) (collided w.bodies w.contacts))) (Err OutOfRange)
 
 -- ---- a new world
 
@@ -126,7 +145,14 @@ abbrev pub gravity_refusal : Vec2 → Option Refusal
 gravity_refusal g = cond (is_within (2 ^ 16) g) None (Some OutOfRange)
 
 abbrev pub empty_world : Vec2 → World
-empty_world g = record { plain = record { places = []; bodies = []; contacts = []; gravity = g; steps = 0; calls = 0 }; entries = []; settled = zero_totals; events = no_events }
+empty_world g = record { plain = record { places = []; bodies = []; contacts = []; colours = replicate 13 []; gravity = g; steps = 0; calls = 0 }; entries = []; settled = zero_totals; events = no_events }
+
+-- just what is due; or, where nothing keeps the world from being made, want of memory
+abbrev pub IsMade : Option Refusal → World → Result World Refusal → Type 0
+IsMade None w (Ok made) = made ≡ w
+IsMade None w (Err e) = e ≡ NoMemory
+IsMade (Some due) w (Ok made) = ⊥
+IsMade (Some due) w (Err e) = e ≡ due
 
 -- ---- all commands
 

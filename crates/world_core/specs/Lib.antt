@@ -1,4 +1,5 @@
 pub mod Collide
+pub mod Colouring
 pub mod World
 pub mod Apply
 pub mod Replay

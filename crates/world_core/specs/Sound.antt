@@ -1,11 +1,15 @@
 -- What each world keeps.
-use Rattle.std.specs.Prelude.{◌≡◌, ℕ, ◌+◌, ◌*◌, ◌≤◌, ◌^◌, unsigned_abs}
+use Rattle.std.specs.Prelude.{◌≡◌, ℕ, ◌+◌, ◌*◌, ◌≤◌, ◌^◌, true, List, Option, All, is_some, unsigned_abs}
 use Rattle.fixed_geom.specs.Vectors.{IsWithin}
 use Rattle.impulse_ledger.specs.declared.entry.Cause.{Cause}
 use Rattle.impulse_ledger.specs.Sums.{Book, total_x, total_y, total_of_x, total_of_y}
+use Rattle.contacts_base.specs.declared.contact.ContactEntry.{ContactEntry}
 use Rattle.contacts_base.specs.Contacts.{AreKeysRising}
+use Rattle.world_core_base.specs.declared.body.Body.{Body}
 use Rattle.world_core_base.specs.Bodies.{AreBodies, momentum_x, momentum_y}
-use Rattle.world_core_base.specs.Slots.{AreMatched}
+use Rattle.world_core_base.specs.Slots.{AreMatched, body_at}
+use Rattle.world_core_base.specs.Gather.{AreContactsOf}
+use Rattle.world_core.specs.Colouring.{AreColoured, IsNamed}
 use Rattle.world_core.specs.World.{World, book_of}
 
 -- no cause's total is beyond n
@@ -13,8 +17,15 @@ pub record AreSmall (n : ℕ) (b : Book) : Type 0 where
   pub x : (cause : Cause) → unsigned_abs (total_of_x cause b) ≤ n
   pub y : (cause : Cause) → unsigned_abs (total_of_y cause b) ≤ n
 
+-- the bodies of both its shapes are there, and the shapes' names are within their ranges
+pub record HasBodies (bodies : List (Option Body)) (e : ContactEntry) : Type 0 where
+  pub first : is_some (body_at bodies e.key.first.slot) ≡ true
+  pub second : is_some (body_at bodies e.key.second.slot) ≡ true
+  pub named : IsNamed e.key
+
 -- The movers' momentum is the ledger's total; there is a body just in the slots that are taken; a body that isn't a mover is
--- at rest, and a mover's numbers are within their limits; the contacts' keys ascend.
+-- at rest, and a mover's numbers are within their limits; the contacts' keys ascend, and each is of two bodies that are there, one of them a mover;
+-- those that touch are just those with a colour, and no two of one colour 0 to 11 share a mover.
 pub record IsSound (w : World) : Type 0 where
   pub total_x : momentum_x w.plain.bodies ≡ total_x (book_of w)
   pub total_y : momentum_y w.plain.bodies ≡ total_y (book_of w)
@@ -22,6 +33,9 @@ pub record IsSound (w : World) : Type 0 where
   pub bodies : AreBodies w.plain.bodies
   pub matched : AreMatched w.plain.places w.plain.bodies
   pub contacts : AreKeysRising w.plain.contacts
+  pub pairs : AreContactsOf w.plain.bodies w.plain.contacts
+  pub there : All (HasBodies w.plain.bodies) w.plain.contacts
+  pub colours : AreColoured w.plain.bodies w.plain.contacts w.plain.colours
   pub gravity : IsWithin (2 ^ 16) w.plain.gravity
   pub steps : w.plain.steps ≤ w.plain.calls
   pub calls : w.plain.calls ≤ 2 ^ 40

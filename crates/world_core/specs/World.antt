@@ -10,6 +10,7 @@ use Rattle.contacts_base.specs.declared.contact.ContactEntry.{ContactEntry}
 use Rattle.world_core_base.specs.Slots as slots
 use Rattle.world_core_base.specs.declared.body.Body.{Body}
 use Rattle.event_feed.specs.Events.{EventLists}
+use Rattle.world_core.specs.Colouring.{Lists}
 
 pub record Plain : Type 0 where
   -- each body slot that was ever used, and the body in it
@@ -17,6 +18,8 @@ pub record Plain : Type 0 where
   pub bodies : List (Option Body)
   -- ascending by key
   pub contacts : List ContactEntry
+  -- the contacts that touch, by colour
+  pub colours : Lists
   -- u/tick²
   pub gravity : Vec2
   -- how many steps and how many calls were accepted

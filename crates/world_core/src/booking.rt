@@ -3,11 +3,12 @@ ghost use Rattle.fixed_geom.specs.Vectors.{IsWithin};
 ghost use Rattle.impulse_ledger.specs.Sums.{Fits};
 ghost use Rattle.world_core.specs.Apply.{booked};
 ghost use Rattle.world_core.specs.Sound.{IsRoomy};
-ghost use Rattle.world_core_base.specs.Ticks.{AreSums};
+ghost use Rattle.colour_solver.specs.Ticks.{AreSums};
 
+use colour_solver::StepSums;
 use fixed_geom::Vec2;
 use impulse_ledger::{Cause, Entry, Ledger};
-use world_core_base::{Gain, StepSums};
+use momenta::Gain;
 
 /// Books a sum of impulses for which there is room; one that is zero in both components is left out.
 pub fn book(ledger: &mut Ledger, call: u64, cause: Cause, gain: Gain)
@@ -52,12 +53,13 @@ pub fn loss_of(v: Vec2) -> Gain
 
 /// Books what a step has added, for which there is room.
 pub fn book_step(ledger: &mut Ledger, call: u64, sums: StepSums)
-    requires room { 2 ≤ ledger.old.room }
+    requires room { 3 ≤ ledger.old.room }
     requires roomy { IsRoomy ledger.old }
-    requires small { AreSums (2 ^ 80) sums }
-    ensures entries { ledger.new.entries ≡ ledger.old.entries ++ (booked call Cause.Gravity sums.gravity.x sums.gravity.y ++ booked call Cause.Clamp sums.clamp.x sums.clamp.y) }
+    requires small { AreSums (2 ^ 82) sums }
+    ensures entries { ledger.new.entries ≡ ledger.old.entries ++ (booked call Cause.Gravity sums.gravity.x sums.gravity.y ++ (booked call Cause.Immovable sums.immovable.x sums.immovable.y ++ booked call Cause.Clamp sums.clamp.x sums.clamp.y)) }
     ensures settled { ledger.new.settled ≡ ledger.old.settled }
 {
     book(ledger, call, Cause::Gravity, sums.gravity);
+    book(ledger, call, Cause::Immovable, sums.immovable);
     book(ledger, call, Cause::Clamp, sums.clamp);
 }

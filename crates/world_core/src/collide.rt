@@ -6,7 +6,7 @@ ghost use Rattle.contacts.specs.Changes.{keys_touching_only_in, AreRising};
 ghost use Rattle.world_core_base.specs.Bodies.{AreBodies, IsBody};
 ghost use Rattle.world_core.specs.Collide.{body_proxies, proxies_of, contacts_after, has_slot, contacts_without};
 
-use contacts::{BroadPhase, Changes, update};
+use contacts::{BroadPhase, Changes};
 use contacts_base::{ContactEntry, ContactKey, Proxy, ShapeId};
 use event_feed::Events;
 use fixed_geom::Refusal;
@@ -81,8 +81,7 @@ pub fn collide(
     ensures memory_only { IsOkUnless result Refusal.NoMemory }
 {
     gather(broad, bodies)?;
-    let near = broad.near_pairs(alloc)?;
-    update(alloc, old, broad, &near)
+    broad.update_contacts(alloc, old)
 }
 
 fn has_slot(slot: u32, entry: &ContactEntry) -> bool

@@ -3,6 +3,7 @@
 
 mod booking;
 mod collide;
+mod colouring;
 mod command;
 mod plain;
 mod pushes;
@@ -10,6 +11,7 @@ mod replay;
 mod world;
 
 pub use command::{Command, Reply};
+pub use contacts::Constraint;
 pub use contacts_base::{ContactKey, ShapeId};
 pub use event_feed::Events;
 pub use plain::Plain;

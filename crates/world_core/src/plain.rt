@@ -1,9 +1,12 @@
-ghost use Rattle.std.specs.Prelude.{◌≡◌, IfOk};
+ghost use Rattle.std.specs.Prelude.{◌≡◌, ◌≤◌, IfOk};
+ghost use Rattle.graph_colours.specs.Colours.{list_at};
 ghost use Rattle.std.specs.Result.{IsOkUnless};
 
 use body_handles::{Handles, Place};
+use contacts::Constraint;
 use contacts_base::ContactEntry;
 use fixed_geom::{Refusal, Vec2};
+use graph_colours::{Colours, Member};
 use std::alloc::Global;
 use std::marker::Model;
 use world_core_base::{Body, copy_bodies};
@@ -14,6 +17,7 @@ pub struct Plain {
     places: Vec<Place>,
     bodies: Vec<Option<Body>>,
     contacts: Vec<ContactEntry>,
+    colours: Colours<Constraint>,
     gravity: Vec2,
     steps: u64,
     calls: u64,
@@ -24,7 +28,7 @@ impl Model for Plain {
 
     ghost Value = { PlainWorld };
 
-    ghost view = { λ a. record { places = a.places.items; bodies = a.bodies.items; contacts = a.contacts.items; gravity = a.gravity; steps = a.steps; calls = a.calls } };
+    ghost view = { λ a. record { places = a.places.items; bodies = a.bodies.items; contacts = a.contacts.items; colours = a.colours.lists; gravity = a.gravity; steps = a.steps; calls = a.calls } };
 }
 
 impl Plain {
@@ -34,11 +38,12 @@ impl Plain {
         handles: &Handles,
         bodies: &[Option<Body>],
         contacts: &[ContactEntry],
+        colours: &Colours<Constraint>,
         gravity: Vec2,
         steps: u64,
         calls: u64,
     ) -> Result<Plain, Refusal>
-        ensures copy { IfOk result (λ plain. plain ≡ record { places = handles.now.places; bodies = bodies.now; contacts = contacts.now; gravity = gravity; steps = steps; calls = calls }) }
+        ensures copy { IfOk result (λ plain. plain ≡ record { places = handles.now.places; bodies = bodies.now; contacts = contacts.now; colours = colours.now.lists; gravity = gravity; steps = steps; calls = calls }) }
         ensures memory_only { IsOkUnless result Refusal.NoMemory }
     {
         let mut places = Vec::new(alloc);
@@ -50,6 +55,7 @@ impl Plain {
             places,
             bodies,
             contacts: copied,
+            colours: colours.try_copy()?,
             gravity,
             steps,
             calls,
@@ -75,6 +81,14 @@ impl Plain {
         ensures { result.now ≡ self.now.contacts }
     {
         self.contacts.as_slice()
+    }
+
+    /// The members of a colour, ascending: 0 to 11, and 12 for the overflow.
+    pub fn members(&self, colour: u8) -> &[Member<Constraint>]
+        requires { colour ≤ 12 }
+        ensures { result.now ≡ list_at self.now.colours colour }
+    {
+        self.colours.members(colour)
     }
 
     /// The gravity, in u/tick².

@@ -1,4 +1,4 @@
-ghost use Rattle.std.specs.Prelude.{◌≡◌, [], ◌∷◌, Some, Ok, Err, true, pos, neg_ℤ};
+ghost use Rattle.std.specs.Prelude.{◌≡◌, [], ◌∷◌, Some, Ok, Err, true, pos, neg_ℤ, replicate};
 ghost use Rattle.fixed_geom.specs.declared.refusal.Refusal.TheVariants.{OutOfRange, NotAMover};
 ghost use Rattle.impulse_ledger.specs.declared.entry.Cause.TheVariants.{Gravity};
 ghost use Rattle.world_core_base.specs.declared.body.Kind.TheVariants.{Static, Dynamic};
@@ -16,6 +16,8 @@ use shapes::{Filter, Shape, ShapeDef, Shapes};
 use std::alloc::Global;
 use std::test::Fail;
 use world_core_base::{BodyDef, BodyView, Kind, SetName};
+
+mod meetings;
 
 const FIRST: Handle = Handle {
     slot: 0,
@@ -49,8 +51,13 @@ const CIRCLE: ShapeDef = ShapeDef {
 
 /// A dynamic circle, or a static one where the mass is 0.
 fn create(alloc: Global, mass: i64, x: Vec2) -> Result<Command, Refusal> {
+    create_of(alloc, mass, x, CIRCLE)
+}
+
+/// A dynamic body of one shape, or a static one where the mass is 0.
+fn create_of(alloc: Global, mass: i64, x: Vec2, shape: ShapeDef) -> Result<Command, Refusal> {
     let mut shapes = Shapes::new(alloc);
-    shapes.push(CIRCLE)?;
+    shapes.push(shape)?;
     let kind = if mass == 0 {
         Kind::Static
     } else {
@@ -288,64 +295,10 @@ fn lists_and_census_are_the_world(rt: HostRuntime) -> Result<(), Fail> {
     Ok(())
 }
 
-const MEETING: ContactKey = ContactKey {
-    first: ShapeId { slot: 0, index: 0 },
-    second: ShapeId { slot: 1, index: 0 },
-};
-
-fn begun(world: &WorldCore) -> &[ContactKey] {
-    world.events().begin()
-}
-
-fn ended(world: &WorldCore) -> &[ContactKey] {
-    world.events().end()
-}
-
-/// A circle that comes from the left to one that stays, which it would pass after two steps of one tick.
-fn approach(alloc: Global) -> Result<WorldCore, Refusal> {
-    let mut world = new_world(alloc, NO_GRAVITY)?;
-    let first = create(alloc, 1, ORIGIN)?;
-    answer(&mut world, &first)?;
-    let second = create(alloc, 1, Vec2 { x: 200_000, y: 0 })?;
-    answer(&mut world, &second)?;
-    let push = Vec2 { x: 100_000, y: 0 };
-    answer(&mut world, &Command::Push(FIRST, push))?;
-    Ok(world)
-}
-
-#[test]
-fn circles_meet_and_part(rt: HostRuntime) -> Result<(), Fail> {
-    let mut world = approach(rt.alloc())?;
-    step(&mut world, 1)?;
-    assert!(rt; has_no_events(&world));
-    step(&mut world, 4)?;
-    assert_eq!(rt; begun(&world), [MEETING].as_slice());
-    assert!(rt; ended(&world).is_empty());
-    step(&mut world, 1)?;
-    assert!(rt; begun(&world).is_empty());
-    assert_eq!(rt; ended(&world), [MEETING].as_slice());
-    Ok(())
-}
-
-#[test]
-fn a_destroyed_body_takes_its_contacts_along(rt: HostRuntime) -> Result<(), Fail> {
-    let mut world = approach(rt.alloc())?;
-    step(&mut world, 1)?;
-    step(&mut world, 1)?;
-    let plain = lists_of(&world)?;
-    assert_eq!(rt; plain.contacts().len(), 1);
-    answer(&mut world, &Command::DestroyBody(SECOND))?;
-    let plain = lists_of(&world)?;
-    assert!(rt; plain.contacts().is_empty());
-    step(&mut world, 1)?;
-    assert!(rt; has_no_events(&world));
-    Ok(())
-}
-
 /// The definitions give the same values, computed by themselves: the empty step, refused steps and pushes.
-#[tactic(auto, unfolding(contacts_base::specs::Near::near_codes, world_core_base::specs::Ticks::tick, crate::specs::Collide::contacts_after))]
+#[tactic(auto, unfolding(contacts_base::specs::Near::near_codes, world_core_base::specs::Gather::rows_of, colour_solver::specs::Ticks::tick, colour_solver::specs::Ticks::ran, crate::specs::Collide::contacts_after))]
 fn definitions_compute()
-    ensures stepped { apply (empty_world (record { x = pos 0; y = pos 0 })).plain (Step (pos 4)) ≡ Ok (record { plain = record { places = []; bodies = []; contacts = []; gravity = record { x = pos 0; y = pos 0 }; steps = 1; calls = 1 }; reply = Stepped 1; entries = []; events = Some no_events }) }
+    ensures stepped { apply (empty_world (record { x = pos 0; y = pos 0 })).plain (Step (pos 4)) ≡ Ok (record { plain = record { places = []; bodies = []; contacts = []; colours = replicate 13 []; gravity = record { x = pos 0; y = pos 0 }; steps = 1; calls = 1 }; reply = Stepped 1; entries = []; events = Some no_events }) }
     ensures no_ticks { apply (empty_world (record { x = pos 0; y = pos 0 })).plain (Step (pos 0)) ≡ Err OutOfRange }
     ensures nine_ticks { apply (empty_world (record { x = pos 0; y = pos 0 })).plain (Step (pos 9)) ≡ Err OutOfRange }
     ensures pushed { pushed (Some (record { kind = Dynamic; mass = record { mass = pos 1; inertia = pos 0 }; motion = record { p = record { x = pos 5; y = pos 0 }; l = pos 0; x = record { x = pos 0; y = pos 0 }; rot = record { c = pos 1073741824; s = pos 0 } }; shapes = []; fats = []; timer = 0; enabled = true })) (record { x = pos 7; y = neg_ℤ (pos 3) }) ≡ Ok (record { x = pos 12; y = neg_ℤ (pos 3) }) }

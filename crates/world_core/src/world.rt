@@ -1,26 +1,33 @@
 ghost use Rattle.std.specs.Prelude.{◌≡◌, ◌+◌, ◌<◌, ◌≤◌, ◌^◌, [], IfOk, OnErr, option_map};
-ghost use Rattle.std.specs.Result.{IsOkUnless, result_err};
+ghost use Rattle.std.specs.Result.{IsOkUnless};
 ghost use Rattle.world_core_base.specs.Bodies.{view_of};
 ghost use Rattle.world_core_base.specs.Census.{IsCensus, census_of};
+ghost use Rattle.contacts.specs.Constraints.{constraint_number};
+ghost use Rattle.graph_colours.specs.Colours.{colour_of};
 ghost use Rattle.world_core.specs.World.{body_of};
 ghost use Rattle.world_core.specs.Sound.{IsSound};
-ghost use Rattle.world_core.specs.Apply.{Answers, empty_world, gravity_refusal, apply, apply_create, apply_destroy, apply_push, apply_gravity, apply_step};
+ghost use Rattle.world_core.specs.Apply.{Answers, IsMade, empty_world, gravity_refusal, apply, apply_create, apply_destroy, apply_push, apply_gravity, apply_step};
 
 use crate::booking::{book, book_step, gain_of, loss_of};
 use crate::collide::{collide, copy_contacts, drop_contacts, events_of};
+use crate::colouring::{count_with, drop_colours, turn_colours};
 use crate::pushes::{departing, momentum_after};
 use crate::{Command, Plain, Reply};
 use body_handles::{Handle, Handles};
-use contacts::BroadPhase;
+use colour_solver::run_step;
+use colour_solver_base::ContactRow;
+use contacts::{BroadPhase, Constraint};
 use contacts_base::ContactEntry;
 use event_feed::Events;
 use fixed_geom::{Refusal, Vec2, is_within};
+use graph_colours::Colours;
 use impulse_ledger::{Cause, Ledger};
+use momenta::BodyState;
 use std::alloc::Global;
 use std::marker::Model;
 use world_core_base::{
-    Body, BodyDef, BodyView, Census, body_of, clear_slot, copy_bodies, put_body, put_momentum,
-    renew_fats, run_ticks, take_census,
+    Body, BodyDef, BodyView, Census, body_of, clear_slot, copy_bodies, gather_rows, gather_states,
+    put_body, put_impulses, put_momentum, put_motions, renew_fats, take_census,
 };
 
 /// How many calls a world accepts.
@@ -40,6 +47,11 @@ pub struct WorldCore {
     contacts: Vec<ContactEntry>,
     // Room that a collide works in, kept from step to step.
     broad: BroadPhase,
+    // The colours of the active constraints.
+    colours: Colours<Constraint>,
+    // Room that a step works in, kept from step to step.
+    states: Vec<BodyState>,
+    rows: Vec<ContactRow>,
     gravity: Vec2,
     steps: u64,
     calls: u64,
@@ -61,9 +73,10 @@ impl Model for WorldCore {
 }
 
 impl WorldCore {
-    /// An empty world with this gravity, in u/tick². Refused 5 where a component is beyond 2^16 in size.
+    /// An empty world with this gravity, in u/tick². Refused 5 where a component is beyond 2^16 in size, else 1 where
+    /// memory is wanting.
     pub fn new(alloc: Global, gravity: Vec2) -> Result<WorldCore, Refusal>
-        ensures refused { result_err result ≡ gravity_refusal gravity }
+        ensures made { IsMade (gravity_refusal gravity) (empty_world gravity) result }
         ensures empty { IfOk result (λ world. world ≡ empty_world gravity) }
     {
         if !is_within(gravity, MAX_GRAVITY) {
@@ -74,6 +87,9 @@ impl WorldCore {
             bodies: Vec::new(alloc),
             contacts: Vec::new(alloc),
             broad: BroadPhase::new(alloc),
+            colours: Colours::new(alloc)?,
+            states: Vec::new(alloc),
+            rows: Vec::new(alloc),
             gravity,
             steps: 0,
             calls: 0,
@@ -92,6 +108,9 @@ impl WorldCore {
             bodies: copy_bodies(*self.bodies.allocator(), &self.bodies)?,
             contacts: copy_contacts(&self.contacts)?,
             broad: BroadPhase::new(*self.bodies.allocator()),
+            colours: self.colours.try_copy()?,
+            states: Vec::new(*self.bodies.allocator()),
+            rows: Vec::new(*self.bodies.allocator()),
             gravity: self.gravity,
             steps: self.steps,
             calls: self.calls,
@@ -153,6 +172,7 @@ impl WorldCore {
             loss_of(p),
         );
         clear_slot(&mut self.bodies, handle.slot as usize);
+        drop_colours(&mut self.colours, &self.contacts, handle.slot);
         drop_contacts(&mut self.contacts, handle.slot);
         self.handles.remove(handle);
         self.calls += 1;
@@ -196,11 +216,36 @@ impl WorldCore {
             return Err(Refusal::OutOfRange);
         }
         let alloc = *self.bodies.allocator();
-        self.ledger.reserve(2)?;
+        self.ledger.reserve(3)?;
         let changes = collide(alloc, &mut self.broad, &self.bodies, &self.contacts)?;
+        self.colours
+            .reserve(changes.begin.len(), self.bodies.len())?;
+        gather_states(&mut self.states, &self.bodies)?;
+        let most = count_with(&self.colours, changes.begin.len())?;
+        self.rows.reserve(most)?;
+        turn_colours(
+            &mut self.colours,
+            &self.bodies,
+            &changes.begin,
+            &changes.end,
+        );
         self.events = events_of(alloc, changes.begin, changes.end);
         self.contacts = changes.now;
-        let sums = run_ticks(&mut self.bodies, self.gravity, ticks.unsigned_abs());
+        gather_rows(
+            &mut self.rows,
+            &self.states,
+            &self.bodies,
+            &self.contacts,
+            &self.colours,
+        );
+        let sums = run_step(
+            &mut self.states,
+            &mut self.rows,
+            self.gravity,
+            ticks.unsigned_abs(),
+        );
+        put_motions(&mut self.bodies, &self.states);
+        put_impulses(&mut self.contacts, &self.rows);
         renew_fats(&mut self.bodies);
         book_step(&mut self.ledger, self.calls + 1, sums);
         self.steps += 1;
@@ -216,6 +261,13 @@ impl WorldCore {
             Some(body) => Some(body.view()),
             None => None,
         }
+    }
+
+    /// The colour of an active constraint, 0 to 11, or 12 in the overflow; `None` of one that isn't active.
+    pub fn colour_of(&self, constraint: Constraint) -> Option<u8>
+        ensures { result ≡ colour_of constraint_number constraint self.now.plain.colours }
+    {
+        self.colours.colour_of(constraint)
     }
 
     /// The ledger. Its total is the movers' momentum.
@@ -245,6 +297,7 @@ impl WorldCore {
             &self.handles,
             &self.bodies,
             &self.contacts,
+            &self.colours,
             self.gravity,
             self.steps,
             self.calls,

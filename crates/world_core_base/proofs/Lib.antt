@@ -1,5 +1,6 @@
-pub mod PassLaws
-pub mod TickLaws
+pub mod SlotLaws
 pub mod CensusLemmas
 pub mod FatLaws
 pub mod RenewalLaws
+pub mod GatherLaws
+pub mod ContactLaws

@@ -1,7 +1,6 @@
 pub mod Bodies
 pub mod Slots
-pub mod Passes
-pub mod Ticks
 pub mod Census
 pub mod Fats
 pub mod Renewal
+pub mod Gather

@@ -1,23 +1,20 @@
-//! Bodies, and what a tick does to a list of them.
+//! Bodies, and what a step works on.
 //!
 //! A world keeps its bodies by slot. This crate has what one slot contains (`Body`, `BodyDef`), where
-//! a body stands (`SetName`) and what stands in each set (`Census`), and the passes of a step over all
-//! slots (`run_ticks`), with what each pass adds to the movers' momentum.
+//! a body stands (`SetName`) and what stands in each set (`Census`), the fat boxes of its shapes, and what a
+//! step gathers of bodies and contacts (`gather_states`, `gather_rows`) and writes back to them.
 #![tactic(auto)]
 
 mod body;
 mod census;
 mod fats;
-mod gain;
-mod passes;
+mod gather;
 mod renewal;
 mod slots;
-mod ticks;
 
 pub use body::{Body, BodyDef, BodyView, Kind, SetName};
 pub use census::{Census, take_census};
 pub use fats::FatBoxes;
-pub use gain::Gain;
+pub use gather::{Surface, gather_rows, gather_states, put_impulses, put_motions};
 pub use renewal::renew_fats;
 pub use slots::{body_at, body_of, clear_slot, copy_bodies, put_body, put_momentum};
-pub use ticks::{StepSums, run_ticks};

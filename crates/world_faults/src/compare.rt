@@ -1,3 +1,4 @@
+use crate::calls::{events_of, ledger_of, lists_of};
 use crate::stop::{Moment, Part, Stop};
 use impulse_ledger::{Cause, Ledger};
 use world_core::{Events, Plain, WorldCore};
@@ -27,14 +28,26 @@ pub fn expect_same_worlds(
     first: &WorldCore,
     second: &WorldCore,
 ) -> Result<(), Stop> {
-    expect_same_lists(moment, &first.plain()?, &second.plain()?)?;
-    let (ledger, other) = (first.ledger(), second.ledger());
+    let lists = lists_of(first)?;
+    expect_lists_of(moment, &lists, second)?;
+    expect_same_books(moment, first, second)
+}
+
+/// Stops where these aren't the world's lists.
+fn expect_lists_of(moment: Moment, lists: &Plain, world: &WorldCore) -> Result<(), Stop> {
+    let others = lists_of(world)?;
+    expect_same_lists(moment, lists, &others)
+}
+
+/// Stops where the two worlds differ in their ledgers or their events.
+fn expect_same_books(moment: Moment, first: &WorldCore, second: &WorldCore) -> Result<(), Stop> {
+    let (ledger, other) = (ledger_of(first), ledger_of(second));
     expect(moment, Part::Entries, ledger.entries() == other.entries())?;
     expect(moment, Part::Totals, are_same_totals(ledger, other))?;
     expect(
         moment,
         Part::Events,
-        are_same_events(first.events(), second.events()),
+        are_same_events(events_of(first), events_of(second)),
     )
 }
 
@@ -51,6 +64,7 @@ pub fn expect_same_lists(moment: Moment, first: &Plain, second: &Plain) -> Resul
         Part::Contacts,
         first.contacts() == second.contacts(),
     )?;
+    expect(moment, Part::Colours, are_same_colours(first, second))?;
     expect(moment, Part::Gravity, first.gravity() == second.gravity())?;
     expect(moment, Part::Steps, first.steps() == second.steps())?;
     expect(moment, Part::Calls, first.calls() == second.calls())
@@ -80,13 +94,29 @@ fn is_same_entry(first: &Option<Body>, second: &Option<Body>) -> bool {
 }
 
 fn is_same_body(first: &Body, second: &Body) -> bool {
+    have_same_numbers(first, second) && have_same_shapes(first, second)
+}
+
+fn have_same_numbers(first: &Body, second: &Body) -> bool {
     first.kind == second.kind
         && first.mass == second.mass
         && first.motion == second.motion
-        && first.shapes.as_slice() == second.shapes.as_slice()
-        && first.fats.as_slice() == second.fats.as_slice()
         && first.timer == second.timer
         && first.enabled == second.enabled
+}
+
+fn have_same_shapes(first: &Body, second: &Body) -> bool {
+    first.shapes.as_slice() == second.shapes.as_slice()
+        && first.fats.as_slice() == second.fats.as_slice()
+}
+
+fn are_same_colours(first: &Plain, second: &Plain) -> bool {
+    for colour in 0..13 {
+        if first.members(colour) != second.members(colour) {
+            return false;
+        }
+    }
+    true
 }
 
 fn are_same_totals(first: &Ledger, second: &Ledger) -> bool {

@@ -7,6 +7,7 @@
 #![tactic(auto)]
 
 mod call;
+mod calls;
 mod compare;
 mod scene;
 mod stop;

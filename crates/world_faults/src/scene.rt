@@ -1,3 +1,4 @@
+use crate::calls::{apply, copy_of, new_world, step};
 use body_handles::Handle;
 use fixed_geom::{Refusal, Rot, UNIT, Vec2};
 use momenta::MassData;
@@ -12,7 +13,7 @@ const MASS: i64 = 256;
 
 const GRAVITY: Vec2 = Vec2 { x: 3, y: -157 };
 
-/// How many movers the scene makes.
+/// How many movers the scene's row has.
 const MOVERS: u32 = 5;
 
 /// A mover of the scene that is pushed. The slots before it are those of the ground and of another mover.
@@ -24,6 +25,15 @@ const PUSHED: Handle = Handle {
 /// A mover of the scene that is destroyed while it is made.
 const DESTROYED: Handle = Handle {
     slot: 3,
+    generation: 1,
+};
+
+/// Where the last mover of the row is.
+const LAST: i64 = 4 * 4 * METRE;
+
+/// The mover that overlaps the last one of the row, and is pushed away from it.
+const PARTNER: Handle = Handle {
+    slot: 6,
     generation: 1,
 };
 
@@ -75,20 +85,49 @@ fn mover(alloc: Global, x: i64, shapes: u32) -> Result<Command, Refusal> {
     }))
 }
 
-/// A world with a static body, movers that were pushed and fell, a slot that is free again, and entries
-/// of several causes in its ledger. Its lists have no spare room, so that whatever grows asks for memory.
-pub fn world(alloc: Global) -> Result<WorldCore, Refusal> {
-    let mut world = WorldCore::new(alloc, GRAVITY)?;
-    world.apply(&ground(alloc)?)?;
+/// The ground, and movers beside one another; the last two overlap.
+fn add_bodies(alloc: Global, world: &mut WorldCore) -> Result<(), Refusal> {
+    let ground = ground(alloc)?;
+    apply(world, &ground)?;
     for index in 0..MOVERS {
-        world.apply(&mover(alloc, i64::from(index) * 4 * METRE, 1)?)?;
+        let mover = mover(alloc, i64::from(index) * 4 * METRE, 1)?;
+        apply(world, &mover)?;
     }
-    world.apply(&Command::Push(PUSHED, Vec2 { x: 70_000, y: 9 }))?;
-    world.apply(&Command::Push(DESTROYED, Vec2 { x: -5, y: 11 }))?;
-    world.step_one(4)?;
-    world.apply(&Command::DestroyBody(DESTROYED))?;
-    world.step_one(1)?;
-    world.try_copy()
+    let partner = mover(alloc, LAST + METRE / 2, 1)?;
+    apply(world, &partner)?;
+    Ok(())
+}
+
+/// Pushes, and steps after which the two that overlap have just parted.
+fn let_pass(world: &mut WorldCore) -> Result<(), Refusal> {
+    apply(world, &Command::Push(PUSHED, Vec2 { x: 70_000, y: 9 }))?;
+    apply(world, &Command::Push(DESTROYED, Vec2 { x: -5, y: 11 }))?;
+    step(world, 4)?;
+    let away = Vec2 {
+        x: MASS * METRE,
+        y: 0,
+    };
+    apply(world, &Command::Push(PARTNER, away))?;
+    step(world, 1)?;
+    Ok(())
+}
+
+fn fill(alloc: Global, world: &mut WorldCore) -> Result<(), Refusal> {
+    add_bodies(alloc, world)?;
+    let_pass(world)?;
+    let last = mover(alloc, METRE / 2, 1)?;
+    apply(world, &last)?;
+    apply(world, &Command::DestroyBody(DESTROYED))?;
+    Ok(())
+}
+
+/// A world with a static body, movers that were pushed and fell, a slot that is free again, and entries
+/// of several causes in its ledger. Its next step sees a contact end and another begin. Its lists have no spare room, so that
+/// whatever grows asks for memory.
+pub fn world(alloc: Global) -> Result<WorldCore, Refusal> {
+    let mut world = new_world(alloc, GRAVITY)?;
+    fill(alloc, &mut world)?;
+    copy_of(&world)
 }
 
 /// The command of a call, which the scene's world accepts.
@@ -108,7 +147,7 @@ pub fn destroy() -> Command {
     Command::DestroyBody(PUSHED)
 }
 
-pub fn step() -> Command {
+pub fn step_command() -> Command {
     Command::Step(3)
 }
 
@@ -121,11 +160,11 @@ pub fn commands(alloc: Global) -> Result<Vec<Command>, Refusal> {
     let mut commands = Vec::new(alloc);
     commands.push(create_many_shapes(alloc)?)?;
     commands.push(push())?;
-    commands.push(step())?;
+    commands.push(step_command())?;
     commands.push(destroy())?;
     commands.push(gravity())?;
     commands.push(create(alloc)?)?;
-    commands.push(step())?;
+    commands.push(step_command())?;
     commands.push(Command::DestroyBody(DESTROYED))?;
     Ok(commands)
 }

@@ -1,4 +1,5 @@
 use crate::call::Call;
+use crate::calls::{Answer, census_of, copy_of, lists_of, replay};
 use crate::compare::{are_same_censuses, expect, expect_same_lists, expect_same_worlds};
 use crate::scene;
 use crate::stop::{Moment, Part, Stop};
@@ -7,9 +8,6 @@ use fixed_geom::Refusal;
 use std::alloc::Global;
 use world_core::{Command, Plain, Reply};
 use world_core_base::Census;
-
-/// What a world answers to a command.
-type Answer = Result<Reply, Refusal>;
 
 /// How a call went that did what it should.
 #[derive(Clone, Copy, Debug, PartialEq, Eq)]
@@ -28,7 +26,7 @@ pub fn trial(alloc: Global, call: Call) -> Result<Outcome, Stop> {
         Call::CreateManyShapes => try_command(alloc, &scene::create_many_shapes(alloc)?),
         Call::Push => try_command(alloc, &scene::push()),
         Call::Destroy => try_command(alloc, &scene::destroy()),
-        Call::Step => try_command(alloc, &scene::step()),
+        Call::Step => try_command(alloc, &scene::step_command()),
         Call::Gravity => try_command(alloc, &scene::gravity()),
         Call::Plain => try_plain(alloc),
         Call::Census => try_census(alloc),
@@ -45,17 +43,21 @@ fn again(is_accepted: bool) -> Result<Outcome, Stop> {
 
 fn try_command(alloc: Global, command: &Command) -> Result<Outcome, Stop> {
     let mut worlds = Worlds::new(alloc)?;
-    let expected = worlds.reference.apply(command)?;
-    if is_applied(&mut worlds, command, expected)? {
+    apply_twice(&mut worlds, command)
+}
+
+fn apply_twice(worlds: &mut Worlds, command: &Command) -> Result<Outcome, Stop> {
+    let expected = worlds.apply_to_reference(command)?;
+    if is_applied(worlds, command, expected)? {
         return Ok(Outcome::Unmet);
     }
     worlds.expect_kept()?;
-    again(is_applied(&mut worlds, command, expected)?)
+    again(is_applied(worlds, command, expected)?)
 }
 
 /// Applies the command, and stops where it is accepted and gives something else than in the reference.
 fn is_applied(worlds: &mut Worlds, command: &Command, expected: Reply) -> Result<bool, Stop> {
-    let answer = worlds.world.apply(command);
+    let answer = worlds.apply(command);
     if answer == Err(Refusal::NoMemory) {
         return Ok(false);
     }
@@ -66,16 +68,20 @@ fn is_applied(worlds: &mut Worlds, command: &Command, expected: Reply) -> Result
 
 fn try_plain(alloc: Global) -> Result<Outcome, Stop> {
     let worlds = Worlds::new(alloc)?;
-    let expected = worlds.reference.plain()?;
-    if is_listed(&worlds, &expected)? {
+    list_twice(&worlds)
+}
+
+fn list_twice(worlds: &Worlds) -> Result<Outcome, Stop> {
+    let expected = lists_of(&worlds.reference)?;
+    if is_listed(worlds, &expected)? {
         return Ok(Outcome::Unmet);
     }
     worlds.expect_kept()?;
-    again(is_listed(&worlds, &expected)?)
+    again(is_listed(worlds, &expected)?)
 }
 
 fn is_listed(worlds: &Worlds, expected: &Plain) -> Result<bool, Stop> {
-    match worlds.world.plain() {
+    match lists_of(&worlds.world) {
         Ok(plain) => {
             expect_same_lists(Moment::Accepted, &plain, expected)?;
             Ok(true)
@@ -86,16 +92,20 @@ fn is_listed(worlds: &Worlds, expected: &Plain) -> Result<bool, Stop> {
 
 fn try_census(alloc: Global) -> Result<Outcome, Stop> {
     let worlds = Worlds::new(alloc)?;
-    let expected = worlds.reference.census()?;
-    if is_counted(&worlds, &expected)? {
+    count_twice(&worlds)
+}
+
+fn count_twice(worlds: &Worlds) -> Result<Outcome, Stop> {
+    let expected = census_of(&worlds.reference)?;
+    if is_counted(worlds, &expected)? {
         return Ok(Outcome::Unmet);
     }
     worlds.expect_kept()?;
-    again(is_counted(&worlds, &expected)?)
+    again(is_counted(worlds, &expected)?)
 }
 
 fn is_counted(worlds: &Worlds, expected: &Census) -> Result<bool, Stop> {
-    match worlds.world.census() {
+    match census_of(&worlds.world) {
         Ok(census) => {
             let is_same = are_same_censuses(&census, expected);
             expect(Moment::Accepted, Part::Answer, is_same)?;
@@ -107,15 +117,19 @@ fn is_counted(worlds: &Worlds, expected: &Census) -> Result<bool, Stop> {
 
 fn try_copy(alloc: Global) -> Result<Outcome, Stop> {
     let worlds = Worlds::new(alloc)?;
-    if is_copied(&worlds)? {
+    copy_twice(&worlds)
+}
+
+fn copy_twice(worlds: &Worlds) -> Result<Outcome, Stop> {
+    if is_copied(worlds)? {
         return Ok(Outcome::Unmet);
     }
     worlds.expect_kept()?;
-    again(is_copied(&worlds)?)
+    again(is_copied(worlds)?)
 }
 
 fn is_copied(worlds: &Worlds) -> Result<bool, Stop> {
-    match worlds.world.try_copy() {
+    match copy_of(&worlds.world) {
         Ok(copied) => {
             expect_same_worlds(Moment::Accepted, &copied, &worlds.reference)?;
             Ok(true)
@@ -127,8 +141,12 @@ fn is_copied(worlds: &Worlds) -> Result<bool, Stop> {
 fn try_replay(alloc: Global) -> Result<Outcome, Stop> {
     let commands = scene::commands(alloc)?;
     let mut worlds = Worlds::new(alloc)?;
-    let expected = worlds.reference.replay(alloc, &commands)?;
-    replay_twice(alloc, &mut worlds, &commands, &expected)
+    replay_all(alloc, &mut worlds, &commands)
+}
+
+fn replay_all(alloc: Global, worlds: &mut Worlds, commands: &[Command]) -> Result<Outcome, Stop> {
+    let expected = replay(alloc, &mut worlds.reference, commands)?;
+    replay_twice(alloc, worlds, commands, &expected)
 }
 
 /// A replay that was refused has made the commands before the one that met the refusal. The replay of
@@ -146,7 +164,7 @@ fn replay_twice(
     let (Some(accepted), Some(rest)) = (commands.get(..made), commands.get(made..)) else {
         return Err(Stop::Differs(Moment::Refused, Part::Calls));
     };
-    worlds.before.replay(alloc, accepted)?;
+    replay(alloc, &mut worlds.before, accepted)?;
     worlds.expect_kept()?;
     match expected.get(made..) {
         Some(expected_rest) => again(is_replayed(alloc, worlds, rest, expected_rest)?),
@@ -160,7 +178,7 @@ fn is_replayed(
     commands: &[Command],
     expected: &[Answer],
 ) -> Result<bool, Stop> {
-    match worlds.world.replay(alloc, commands) {
+    match replay(alloc, &mut worlds.world, commands) {
         Ok(answers) => {
             expect(
                 Moment::Accepted,

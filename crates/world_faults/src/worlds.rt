@@ -1,9 +1,10 @@
+use crate::calls::{Answer, apply, copy_of, lists_of};
 use crate::compare::expect_same_worlds;
 use crate::scene;
 use crate::stop::{Moment, Stop};
 use fixed_geom::Refusal;
 use std::alloc::Global;
-use world_core::WorldCore;
+use world_core::{Command, WorldCore};
 
 /// Three equal worlds.
 #[derive(Drop)]
@@ -20,13 +21,23 @@ impl Worlds {
     /// The scene's world, three times.
     pub fn new(alloc: Global) -> Result<Worlds, Refusal> {
         let world = scene::world(alloc)?;
-        let before = world.try_copy()?;
+        let before = copy_of(&world)?;
         let reference = scene::world(alloc)?;
         Ok(Worlds {
             world,
             before,
             reference,
         })
+    }
+
+    /// Applies a command to the world in which memory may be refused.
+    pub fn apply(&mut self, command: &Command) -> Answer {
+        apply(&mut self.world, command)
+    }
+
+    /// Applies a command to the reference.
+    pub fn apply_to_reference(&mut self, command: &Command) -> Answer {
+        apply(&mut self.reference, command)
     }
 
     /// Stops where the refused call has left something else than was there before.
@@ -41,7 +52,7 @@ impl Worlds {
 
     /// How many calls the world accepted since it was copied.
     pub fn calls_made(&self) -> Result<usize, Refusal> {
-        let calls = self.world.plain()?.calls();
-        Ok(calls.saturating_sub(self.before.plain()?.calls()) as usize)
+        let calls = lists_of(&self.world)?.calls();
+        Ok(calls.saturating_sub(lists_of(&self.before)?.calls()) as usize)
     }
 }

@@ -1,4 +1,5 @@
 use super::*;
+use crate::calls::{apply, copy_of};
 use crate::scene;
 use body_handles::Handle;
 use fixed_geom::{Refusal, Vec2};
@@ -9,8 +10,8 @@ use world_core::Command;
 /// What is found where a command was applied to one of two equal worlds.
 fn found_after(alloc: Global, command: &Command) -> Result<Result<(), Stop>, Refusal> {
     let world = scene::world(alloc)?;
-    let mut changed = world.try_copy()?;
-    changed.apply(command)?;
+    let mut changed = copy_of(&world)?;
+    apply(&mut changed, command)?;
     Ok(expect_same_worlds(Moment::Refused, &changed, &world))
 }
 
@@ -21,8 +22,8 @@ fn pushed(alloc: Global, first: Vec2, second: Vec2) -> Result<WorldCore, Refusal
         generation: 1,
     };
     let mut world = scene::world(alloc)?;
-    world.apply(&Command::Push(handle, first))?;
-    world.apply(&Command::Push(handle, second))?;
+    apply(&mut world, &Command::Push(handle, first))?;
+    apply(&mut world, &Command::Push(handle, second))?;
     Ok(world)
 }
 
@@ -51,5 +52,14 @@ fn finds_entries_in_another_order(rt: HostRuntime) -> Result<(), Fail> {
     assert_eq!(rt; found, differs(Part::Entries));
     let same = expect_same_worlds(Moment::Refused, &world, &world);
     assert_eq!(rt; same, Ok(()));
+    Ok(())
+}
+
+#[test]
+fn a_contact_begins_and_one_ends_in_the_step(rt: HostRuntime) -> Result<(), Fail> {
+    let mut world = scene::world(rt.alloc())?;
+    apply(&mut world, &scene::step_command())?;
+    let events = events_of(&world);
+    assert_eq!(rt; (events.begin().len(), events.end().len()), (1, 1));
     Ok(())
 }

@@ -3,7 +3,7 @@ use Rattle.std.specs.Prelude.{option_map}
 use Rattle.std.proofs.lemmas.List.Edits.{map_over_more}
 use Rattle.world_core_base.specs.declared.body.Body.{Body}
 use Rattle.world_core_base.specs.Renewal.{with_renewed, renewed_bodies}
-use Rattle.world_core_base.proofs.PassLaws.{slice_get-get}
+use Rattle.world_core_base.proofs.SlotLaws.{slice_get-get}
 use Rattle.world_core_base.proofs.RenewalLaws.{next_is, whole, bodies-renewed, slots-renewed, momentum_x-renewed, momentum_y-renewed}
 use Rattle.world_core_base.proofs.renewal.renew_fats.Goals as goal
 

@@ -1,0 +1,294 @@
+-- The contacts that a collide makes are of bodies that are there, one of them a mover, and their numbers are within their limits.
+use Rattle.std.proofs.Common.{◌≡◌, ℕ, suc, ◌+◌, ◌*◌, ◌^◌, ◌<◌, ◌≤◌, Bool, true, false, cond, ℤ, pos, ◌≤ℤ◌, unsigned_abs, List, [], ◌∷◌, length, Option, Some, None, option_map, IfSome, All, ◌⊎◌, inl, inr, arith, refl, sym, ap, ◌∙◌, subst, is_some, length-append}
+use Rattle.std.specs.Prelude.{◌==◌, ◌||◌, ◌≢◌, int_lt}
+use Rattle.std.specs.Option.{ForSome}
+use Rattle.std.proofs.lemmas.Bool.{eqb-false}
+use Rattle.std.proofs.lemmas.Grind.{common_steps}
+use Rattle.std.proofs.lemmas.List.Elements.{All-head, All-tail, All-map}
+use Rattle.fixed_geom.specs.declared.boxes.Box2.{Box2}
+use Rattle.fixed_geom.specs.Boxes.{overlaps}
+use Rattle.shapes.specs.declared.points.Point.{Point}
+use Rattle.shapes.specs.declared.points.Manifold.{Manifold}
+use Rattle.shapes.specs.declared.shape.ShapeDef.{ShapeDef}
+use Rattle.shapes.specs.Shapes.{IsShape, IsShapeDef}
+use Rattle.shapes.specs.Filters.{should_collide}
+use Rattle.shapes.specs.Poses.{IsPose}
+use Rattle.shapes.specs.Manifolds.{manifold_of, IsPointWithin}
+use Rattle.shapes.proofs.TouchLemmas.{has_touching}
+use Rattle.contacts_base.specs.declared.key.ContactKey.{ContactKey}
+use Rattle.contacts_base.specs.declared.contact.Contact.{Contact}
+use Rattle.contacts_base.specs.declared.contact.ContactPoint.{ContactPoint}
+use Rattle.contacts_base.specs.declared.contact.ContactEntry.{ContactEntry}
+use Rattle.contacts_base.specs.declared.evaluation.Impulses.{Impulses}
+use Rattle.contacts_base.specs.declared.near.Proxy.{Proxy}
+use Rattle.contacts_base.specs.Keys.{key_number}
+use Rattle.contacts_base.specs.Contacts.{number_of, lookup}
+use Rattle.contacts_base.specs.Evaluate.{apart, impulses_at, first_of, kept, kept_point, evaluated}
+use Rattle.contacts_base.specs.Limits.{IsContactPoint, IsContact}
+use Rattle.contacts_base.specs.Near.{is_near, pair_code, near_from, near_codes}
+use Rattle.contacts.specs.Sweep.{no_proxy, proxy_at}
+use Rattle.contacts.specs.Changes.{first_place, second_place, key_of, entry_of, entry_at}
+use Rattle.contacts.proofs.Members.{Each, each_in, each_from, each_append, all_from_each}
+use Rattle.contacts.proofs.NearLemmas.{IsNearFrom, from_is}
+use Rattle.world_core_base.specs.declared.body.Body.{Body}
+use Rattle.world_core_base.specs.Bodies.{is_dynamic, is_mover, pose_of, IsBody, AreBodies}
+use Rattle.world_core_base.specs.Slots.{body_at}
+use Rattle.world_core_base.specs.Gather.{moves_in, moves, IsContactOf, AreContactsOf}
+use Rattle.world_core.specs.Collide.{shape_proxies, body_proxies, entry_proxies, proxies_from, proxies_of, contacts_after}
+use Rattle.world_core.specs.Sound.{HasBodies}
+use Rattle.world_core.proofs.CollideLaws.{eight_at_most}
+use Rattle.world_core.proofs.SlotLemmas.{below_length}
+
+-- ---- the shapes that the collide reads
+
+-- a shape of the body, which is enabled
+pub record IsProxyOf (b : Body) (p : Proxy) : Type 0 where
+  pub index : p.id.index < 8
+  pub enabled : b.enabled ≡ true
+  pub dynamic : p.dynamic ≡ is_dynamic b.kind
+  pub shape : IsShape p.shape
+  pub pose : IsPose p.pose
+
+-- a shape of the body in its slot, the first of the bodies having the slot n
+pub record IsProxyIn (n : ℕ) (bodies : List (Option Body)) (p : Proxy) : Type 0 where
+  pub place : ℕ
+  pub slot : p.id.slot ≡ n + place
+  pub body : Body
+  pub there : body_at bodies place ≡ Some body
+  pub is : IsProxyOf body p
+
+each_weaker : {X : Type 0} (P Q : X → Type 0) → ((x : X) → P x → Q x) → (xs : List X) → Each P xs → Each Q xs
+each_weaker P Q f xs h = each_from Q xs (λ x i. f x (each_in P x xs h i))
+
+record IsProxyAt (slot : ℕ) (b : Body) (p : Proxy) : Type 0 where
+  slot_is : p.id.slot ≡ slot
+  is : IsProxyOf b p
+
+shapes_are : (slot : ℕ) (b : Body) (index : ℕ) (defs : List ShapeDef) (fats : List Box2) → IsBody b → b.enabled ≡ true → index + length defs ≤ 8 → All IsShapeDef defs
+    → Each (IsProxyAt slot b) (shape_proxies slot (is_dynamic b.kind) (pose_of b) index defs fats)
+shapes_are slot b index [] fats is on few forms = tt
+shapes_are slot b index (d ∷ defs) [] is on few forms = tt
+shapes_are slot b index (d ∷ defs) (fat ∷ fats) is on few forms = (
+  record {
+    slot_is = refl;
+    is = record { index = omega arith; enabled = on; dynamic = refl; shape = (All-head IsShapeDef d defs forms).shape; pose = record { x = is.motion.x; rot = is.motion.facing } };
+  },
+  shapes_are slot b (suc index) defs fats is on (omega arith) (All-tail IsShapeDef d defs forms),
+)
+
+if_enabled : (P : Proxy → Type 0) (t : Bool) (ps : List Proxy) → (t ≡ true → Each P ps) → Each P (cond t ps [])
+if_enabled P true ps h = h refl
+if_enabled P false ps h = tt
+
+body_are : (slot : ℕ) (b : Body) → IsBody b → Each (IsProxyAt slot b) (body_proxies slot b)
+body_are slot b is =
+    if_enabled (IsProxyAt slot b) b.enabled (shape_proxies slot (is_dynamic b.kind) (pose_of b) 0 b.shapes b.fats)
+    (λ on. let few = eight_at_most _ _ is.shapes in shapes_are slot b 0 b.shapes b.fats is on (omega (arith, few)) is.forms)
+
+entry_are : (n : ℕ) (o : Option Body) (bodies : List (Option Body)) → AreBodies (o ∷ bodies) → Each (IsProxyIn n (o ∷ bodies)) (entry_proxies n o)
+entry_are n None bodies all = tt
+entry_are n (Some b) bodies all =
+    each_weaker (IsProxyAt n b) (IsProxyIn n (Some b ∷ bodies)) (λ p h. let s : p.id.slot ≡ n = h.slot_is in record { place = 0; slot = omega arith; body = b; there = refl; is = h.is })
+    (body_proxies n b) (body_are n b (all 0 b refl))
+
+later : (n : ℕ) (o : Option Body) (bodies : List (Option Body)) (p : Proxy) → IsProxyIn (suc n) bodies p → IsProxyIn n (o ∷ bodies) p
+later n o bodies p h = let s : p.id.slot ≡ suc n + h.place = h.slot in record { place = suc h.place; slot = omega arith; body = h.body; there = h.there; is = h.is }
+
+rest_bodies : (o : Option Body) (bodies : List (Option Body)) → AreBodies (o ∷ bodies) → AreBodies bodies
+rest_bodies o bodies all = λ slot b e. all (suc slot) b e
+
+-- each is of an enabled body that is there
+pub proxies_are : (n : ℕ) (bodies : List (Option Body)) → AreBodies bodies → Each (IsProxyIn n bodies) (proxies_from n bodies)
+proxies_are n [] all = tt
+proxies_are n (o ∷ bodies) all =
+    each_append (IsProxyIn n (o ∷ bodies)) (entry_proxies n o) (proxies_from (suc n) bodies) (entry_are n o bodies all)
+    (each_weaker (IsProxyIn (suc n) bodies) (IsProxyIn n (o ∷ bodies)) (later n o bodies) (proxies_from (suc n) bodies) (proxies_are (suc n) bodies (rest_bodies o bodies all)))
+
+-- ---- there are eight a body at most
+
+shapes_few : (slot : ℕ) (b : Body) (index : ℕ) (defs : List ShapeDef) (fats : List Box2) → length (shape_proxies slot (is_dynamic b.kind) (pose_of b) index defs fats) ≤ length defs
+shapes_few slot b index [] fats = omega arith
+shapes_few slot b index (d ∷ defs) [] = omega arith
+shapes_few slot b index (d ∷ defs) (fat ∷ fats) = omega (arith, shapes_few slot b (suc index) defs fats)
+
+few_if : (t : Bool) (ps : List Proxy) → length ps ≤ 8 → length (cond t ps []) ≤ 8
+few_if true ps h = h
+few_if false ps h = omega arith
+
+entry_few : (n : ℕ) (o : Option Body) (bodies : List (Option Body)) → AreBodies (o ∷ bodies) → length (entry_proxies n o) ≤ 8
+entry_few n None bodies all = omega arith
+entry_few n (Some b) bodies all =
+    few_if b.enabled (shape_proxies n (is_dynamic b.kind) (pose_of b) 0 b.shapes b.fats) (let few = eight_at_most _ _ (all 0 b refl).shapes in omega (arith, few, shapes_few n b 0 b.shapes b.fats))
+
+pub proxies_few : (n : ℕ) (bodies : List (Option Body)) → AreBodies bodies → length (proxies_from n bodies) ≤ length bodies * 8
+proxies_few n [] all = omega arith
+proxies_few n (o ∷ bodies) all =
+    omega (arith, length-append (entry_proxies n o) (proxies_from (suc n) bodies), entry_few n o bodies all, proxies_few (suc n) bodies (rest_bodies o bodies all))
+
+-- ---- near pairs
+
+-- the code of two places of the list, the lesser first, whose shapes are near
+pub record IsNearPair (ps : List Proxy) (code : ℕ) : Type 0 where
+  pub before : first_place code < second_place code
+  pub within : second_place code < length ps
+  pub near : is_near (proxy_at ps (first_place code)) (proxy_at ps (second_place code)) ≡ true
+
+near_pair_from : (ps : List Proxy) (code : ℕ) → length ps ≤ 2 ^ 32 → IsNearFrom 0 ps code → IsNearPair ps code
+near_pair_from ps code few h =
+    let e : code ≡ pair_code (0 + h.i) (0 + h.j) = h.is in
+    let b : h.i < h.j = h.before in
+    let w : h.j < length ps = h.within in
+    let first : first_place code ≡ h.i = omega arith in
+    let second : second_place code ≡ h.j = omega arith in
+    record { before = rw (first, second) b; within = rw second w; near = rw (first, second) h.near }
+
+pub near_codes_are : (ps : List Proxy) → length ps ≤ 2 ^ 32 → Each (IsNearPair ps) (near_codes ps)
+unfolding near_codes
+near_codes_are ps few = each_from (IsNearPair ps) (near_from 0 ps) (λ c i. near_pair_from ps c few (from_is 0 ps c i))
+
+near_if : (same a b collide over : Bool) → cond same false (cond (a || b) (cond collide over false) false) ≡ true → (same ≡ false) × ((a ≡ true) ⊎ (b ≡ true))
+near_if true a b collide over e = cc
+near_if false true b collide over e = (refl, inl refl)
+near_if false false true collide over e = (refl, inr refl)
+near_if false false false collide over e = cc
+
+-- shapes that are near are of different bodies, one of them dynamic at least
+pub record AreApart (p q : Proxy) : Type 0 where
+  pub slots : p.id.slot ≢ q.id.slot
+  pub dynamic : (p.dynamic ≡ true) ⊎ (q.dynamic ≡ true)
+
+pub near_apart : (p q : Proxy) → is_near p q ≡ true → AreApart p q
+unfolding is_near
+near_apart p q e = let t = near_if (p.id.slot == q.id.slot) p.dynamic q.dynamic (should_collide p.filter q.filter) (overlaps p.fat q.fat) e in record { slots = eqb-false _ _ t.0; dynamic = t.1 }
+
+-- ---- the contact that is found by its key
+
+found_within : (t : Bool) (c : Contact) (o : Option Contact) → IsContact c → ForSome o IsContact → ForSome (cond t (Some c) o) IsContact
+found_within true c o is rest = λ x e. let same : c ≡ x = cc in subst IsContact same is
+found_within false c o is rest = rest
+
+pub lookup_within : (bodies : List (Option Body)) (old : List ContactEntry) (key : ContactKey) → AreContactsOf bodies old → ForSome (lookup old key) IsContact
+lookup_within bodies [] key all = λ x e. cc
+lookup_within bodies (e ∷ es) key all =
+    found_within (number_of e == key_number key) e.contact (lookup es key) (All-head (IsContactOf bodies) e es all).contact (lookup_within bodies es key (All-tail (IsContactOf bodies) e es all))
+
+-- ---- the contact that is evaluated
+
+record AreImpulses (i : Impulses) : Type 0 where
+  push_low : pos 0 ≤ℤ i.push
+  push_high : unsigned_abs i.push ≤ 2 ^ 42
+  slip : unsigned_abs i.slip ≤ 2 ^ 43
+
+chosen_within : (t : Bool) (i : Impulses) → AreImpulses i → ForSome (cond t (Some i) None) AreImpulses
+chosen_within true i is = λ x e. let same : i ≡ x = cc in subst AreImpulses same is
+chosen_within false i is = λ x e. cc
+
+impulses_within : (o : Option ContactPoint) (candidate : ℕ) → ForSome o IsContactPoint → ForSome (impulses_at o candidate) AreImpulses
+impulses_within None candidate h = λ x e. cc
+impulses_within (Some p) candidate h =
+    let is : IsContactPoint p = h p refl in
+    chosen_within (p.candidate == candidate) (record { push = p.push; slip = p.slip }) (record { push_low = is.push_low; push_high = is.push_high; slip = is.slip })
+
+first_within : (o other : Option Impulses) → ForSome o AreImpulses → ForSome other AreImpulses → AreImpulses (first_of o other)
+first_within (Some i) other h l = h i refl
+first_within None (Some i) h l = l i refl
+first_within None None h l = record { push_low = omega arith; push_high = omega arith; slip = omega arith }
+
+kept_within : (old : Option Contact) (candidate : ℕ) → ForSome old IsContact → AreImpulses (kept old candidate)
+kept_within None candidate h = record { push_low = omega arith; push_high = omega arith; slip = omega arith }
+kept_within (Some c) candidate h =
+    let is : IsContact c = h c refl in
+    first_within (impulses_at c.first candidate) (impulses_at c.second candidate) (impulses_within c.first candidate is.first) (impulses_within c.second candidate is.second)
+
+point_within : (old : Option Contact) (p : Point) → ForSome old IsContact → IsPointWithin (2 ^ 27) p → IsContactPoint (kept_point old p)
+point_within old p h is =
+    let i = kept_within old p.candidate h in
+    record { normal = is.normal; separation = is.separation; ra = is.ra; rb = is.rb; push_low = i.push_low; push_high = i.push_high; slip = i.slip }
+
+second_within : (old : Option Contact) (o : Option Point) → ForSome old IsContact → IfSome o (λ p. IsPointWithin (2 ^ 27) p) → ForSome (option_map (kept_point old) o) IsContactPoint
+second_within old None h is = λ x e. cc
+second_within old (Some p) h is = λ x e. let same : kept_point old p ≡ x = cc in subst IsContactPoint same (point_within old p h is)
+
+apart_within : IsContact apart
+apart_within = record { first = λ x e. cc; second = λ x e. cc }
+
+touching_within : (old : Option Contact) (m : Manifold) → ForSome old IsContact → IsPointWithin (2 ^ 27) m.first → IfSome m.second (λ p. IsPointWithin (2 ^ 27) p)
+    → IsContact (record { touching = true; first = Some (kept_point old m.first); second = option_map (kept_point old) m.second })
+touching_within old m h first second = record {
+  first = λ x e. let same : kept_point old m.first ≡ x = cc in subst IsContactPoint same (point_within old m.first h first);
+  second = second_within old m.second h second;
+}
+
+either_within : (t : Bool) (c d : Contact) → IsContact c → (t ≡ false → IsContact d) → IsContact (cond t c d)
+either_within true c d h l = h
+either_within false c d h l = l refl
+
+not_above : (z : ℤ) → int_lt (pos 0) z ≡ false → z ≤ℤ pos 0
+not_above z e = grind (arith, common_steps)
+
+-- its numbers are within their limits, where those of the manifold's points are, and those of the old contact
+pub evaluated_within : (old : Option Contact) (m : Manifold) → ForSome old IsContact → (m.first.separation ≤ℤ pos 0 → IsPointWithin (2 ^ 27) m.first) → IfSome m.second (λ p. IsPointWithin (2 ^ 27) p)
+    → IsContact (evaluated old m)
+unfolding evaluated
+evaluated_within old m h first second =
+    either_within (int_lt (pos 0) m.first.separation) apart (record { touching = true; first = Some (kept_point old m.first); second = option_map (kept_point old) m.second }) apart_within
+    (λ e. touching_within old m h (first (not_above m.first.separation e)) second)
+
+-- ---- all contacts
+
+body_there : (bodies : List (Option Body)) (p : Proxy) (h : IsProxyIn 0 bodies p) → body_at bodies p.id.slot ≡ Some h.body
+body_there bodies p h = let s : p.id.slot ≡ h.place = h.slot ∙ omega arith in rw s h.there
+
+mover_if : (b : Body) → b.enabled ≡ true → is_dynamic b.kind ≡ true → is_mover b ≡ true
+mover_if b on d = rw (on, d) refl
+
+dynamic_moves : (bodies : List (Option Body)) (p : Proxy) → IsProxyIn 0 bodies p → p.dynamic ≡ true → moves bodies p.id.slot ≡ true
+dynamic_moves bodies p h d = ap moves_in (body_there bodies p h) ∙ mover_if h.body h.is.enabled (sym h.is.dynamic ∙ d)
+
+pub entry_within : (bodies : List (Option Body)) (old : List ContactEntry) (p q : Proxy) → IsProxyIn 0 bodies p → IsProxyIn 0 bodies q → is_near p q ≡ true → AreContactsOf bodies old → IsContactOf bodies (entry_of old p q)
+unfolding entry_of
+entry_within bodies old p q hp hq near all =
+    let apart = near_apart p q near in
+    let touching = has_touching p.shape p.pose q.shape q.pose hp.is.shape hp.is.pose hq.is.shape hq.is.pose in
+    record {
+      first = below_length bodies p.id.slot hp.body (body_there bodies p hp);
+      second = below_length bodies q.id.slot hq.body (body_there bodies q hq);
+      apart = apart.slots;
+      mover = elim apart.dynamic [ inl d ↦ inl (dynamic_moves bodies p hp d) | inr d ↦ inr (dynamic_moves bodies q hq d) ];
+      contact = evaluated_within (lookup old (key_of p q)) (manifold_of p.shape p.pose q.shape q.pose) (lookup_within bodies old (key_of p q) all) touching.first touching.second;
+    }
+
+-- the bodies of both its shapes are there
+pub entry_has_bodies : (bodies : List (Option Body)) (old : List ContactEntry) (p q : Proxy) → length bodies ≤ 16384 → IsProxyIn 0 bodies p → IsProxyIn 0 bodies q → HasBodies bodies (entry_of old p q)
+unfolding entry_of
+entry_has_bodies bodies old p q few hp hq =
+    let a = hp.is.index in
+    let b = hq.is.index in
+    let slot = below_length bodies q.id.slot hq.body (body_there bodies q hq) in
+    record {
+      first = ap is_some (body_there bodies p hp);
+      second = ap is_some (body_there bodies q hq);
+      named = record { first = omega (arith, a); second = omega (arith, b); slot = omega (arith, slot, few) };
+    }
+
+-- what holds of the contact of each two near shapes of bodies holds of all contacts
+pub all_after : (P : ContactEntry → Type 0) (bodies : List (Option Body)) (old : List ContactEntry) → AreBodies bodies → length bodies ≤ 16384
+    → ((p q : Proxy) → IsProxyIn 0 bodies p → IsProxyIn 0 bodies q → is_near p q ≡ true → P (entry_of old p q)) → All P (contacts_after bodies old)
+unfolding contacts_after
+all_after P bodies old all few each =
+    let ps = proxies_of bodies in
+    let are : All (IsProxyIn 0 bodies) ps = all_from_each (IsProxyIn 0 bodies) ps (proxies_are 0 bodies all) in
+    let short : length ps ≤ 2 ^ 32 = omega (arith, few, proxies_few 0 bodies all) in
+    let pair : (code : ℕ) → IsNearPair ps code → P (entry_at old ps code) = λ code h.
+    let b = h.before in
+    let w = h.within in
+    each (proxy_at ps (first_place code)) (proxy_at ps (second_place code)) (are (first_place code) no_proxy (omega (arith, b, w))) (are (second_place code) no_proxy w) h.near in
+    All-map P (entry_at old ps) (near_codes ps)
+    (all_from_each (λ c. P (entry_at old ps c)) (near_codes ps) (each_weaker (IsNearPair ps) (λ c. P (entry_at old ps c)) pair (near_codes ps) (near_codes_are ps short)))
+
+pub contacts_of_after : (bodies : List (Option Body)) (old : List ContactEntry) → AreBodies bodies → length bodies ≤ 16384 → AreContactsOf bodies old → AreContactsOf bodies (contacts_after bodies old)
+contacts_of_after bodies old all few pairs =
+    all_after (IsContactOf bodies) bodies old all few (λ p q hp hq near. entry_within bodies old p q hp hq near pairs)
+
+pub has_bodies_after : (bodies : List (Option Body)) (old : List ContactEntry) → AreBodies bodies → length bodies ≤ 16384 → All (HasBodies bodies) (contacts_after bodies old)
+has_bodies_after bodies old all few = all_after (HasBodies bodies) bodies old all few (λ p q hp hq near. entry_has_bodies bodies old p q few hp hq)

@@ -1,0 +1,101 @@
+-- Which contacts have a colour, and how that changes as contacts begin and end to touch.
+use Rattle.std.specs.Prelude.{◌≡◌, ℕ, ◌<◌, ◌^◌, ◌==◌, ◌||◌, ◌&&◌, Bool, true, false, cond, nat_lt, List, [], ◌∷◌, All, Option, Some, None, is_some}
+use Rattle.graph_colours.specs.declared.member.Movers.{Movers}
+use Rattle.graph_colours.specs.declared.member.Member.{Member}
+use Rattle.graph_colours.specs.Colours.{all_members, colour_of, placed, released, IsColouring}
+use Rattle.contacts_base.specs.declared.key.ContactKey.{ContactKey}
+use Rattle.contacts_base.specs.declared.contact.ContactEntry.{ContactEntry}
+use Rattle.contacts_base.specs.Keys.{key_number}
+use Rattle.contacts_base.specs.Contacts.{lookup}
+use Rattle.contacts.specs.declared.constraint.Constraint.{Constraint}
+use Rattle.contacts.specs.declared.constraint.Constraint.TheVariants.{Joint, Contact}
+use Rattle.contacts.specs.Constraints.{constraint_number}
+use Rattle.contacts.specs.Changes.{is_touching}
+use Rattle.world_core_base.specs.declared.body.Body.{Body}
+use Rattle.world_core_base.specs.Gather.{moves}
+use Rattle.world_core.specs.Collide.{has_slot}
+
+-- the members of each colour, and of the overflow
+abbrev pub Lists : Type 0
+Lists = List (List (Member Constraint))
+
+-- ---- the movers of a contact
+
+abbrev pub movers_if : Bool → Bool → ℕ → ℕ → Option Movers
+movers_if true true a b = Some (record { first = a; second = Some b })
+movers_if true false a b = Some (record { first = a; second = None })
+movers_if false true a b = Some (record { first = b; second = None })
+movers_if false false a b = None
+
+abbrev pub movers_between : List (Option Body) → ContactKey → Option Movers
+movers_between bodies key = movers_if (moves bodies key.first.slot) (moves bodies key.second.slot) key.first.slot key.second.slot
+
+abbrev pub movers_of : List (Option Body) → Constraint → Option Movers
+movers_of bodies (Joint h) = None
+movers_of bodies (Contact key) = movers_between bodies key
+
+-- ---- contacts that begin and end
+
+abbrev pub begun_with : Lists → ContactKey → Option Movers → Lists
+begun_with lists key None = lists
+begun_with lists key (Some m) = placed constraint_number (record { id = Contact key; movers = m }) lists
+
+-- a contact that begins takes its colour
+unfoldable pub begun : List (Option Body) → Lists → ContactKey → Lists
+begun bodies lists key = begun_with lists key (movers_between bodies key)
+
+-- one that ends gives it up
+abbrev pub ended : Lists → ContactKey → Lists
+ended lists key = released constraint_number (Contact key) lists
+
+abbrev pub ended_all : Lists → List ContactKey → Lists
+ended_all lists [] = lists
+ended_all lists (e ∷ es) = ended_all (ended lists e) es
+
+-- those that end before the key do
+abbrev pub ended_until : ContactKey → Lists → List ContactKey → Lists
+ended_until key lists [] = lists
+ended_until key lists (e ∷ es) = cond (nat_lt (key_number e) (key_number key)) (ended_until key (ended lists e) es) lists
+
+-- and the rest of them
+abbrev pub left_from : ContactKey → List ContactKey → List ContactKey
+left_from key [] = []
+left_from key (e ∷ es) = cond (nat_lt (key_number e) (key_number key)) (left_from key es) (e ∷ es)
+
+-- begins and ends folded in ascending order
+abbrev pub turned : List (Option Body) → Lists → List ContactKey → List ContactKey → Lists
+turned bodies lists [] ends = ended_all lists ends
+turned bodies lists (b ∷ bs) ends = turned bodies (begun bodies (ended_until b lists ends) b) bs (left_from b ends)
+
+-- ---- a body that goes takes its contacts' colours along
+
+abbrev pub released_if : ℕ → Lists → ContactEntry → Lists
+released_if slot lists e = cond (e.contact.touching && has_slot slot e) (ended lists e.key) lists
+
+abbrev pub lists_without : ℕ → Lists → List ContactEntry → Lists
+lists_without slot lists [] = lists
+lists_without slot lists (e ∷ es) = lists_without slot (released_if slot lists e) es
+
+-- ---- what holds of the colours
+
+-- the names of a contact's shapes are within their ranges, so that no other contact has its number
+pub record IsNamed (key : ContactKey) : Type 0 where
+  pub first : key.first.index < 256
+  pub second : key.second.index < 256
+  pub slot : key.second.slot < 2 ^ 32
+
+abbrev pub AreNamed : List ContactEntry → Type 0
+AreNamed contacts = All (λ e. IsNamed e.key) contacts
+
+-- the constraint is a contact, and so named
+abbrev pub IsNamedContact : Constraint → Type 0
+IsNamedContact (Joint h) = ⊥
+IsNamedContact (Contact key) = IsNamed key
+
+-- The constraints that have a colour are just the contacts that touch, each with its movers; and it is a colouring: no two of one
+-- colour 0 to 11 share a mover, and none has two colours.
+pub record AreColoured (bodies : List (Option Body)) (contacts : List ContactEntry) (lists : Lists) : Type 0 where
+  pub colouring : IsColouring constraint_number lists
+  pub active : (key : ContactKey) → is_some (colour_of constraint_number (Contact key) lists) ≡ is_touching (lookup contacts key)
+  pub named : All (λ (m : Member Constraint). IsNamedContact m.id) (all_members lists)
+  pub movers : All (λ (m : Member Constraint). movers_of bodies m.id ≡ Some m.movers) (all_members lists)

@@ -1,0 +1,186 @@
+//! Which colours the contacts that begin take, and those that end give up.
+
+ghost use Rattle.std.specs.Prelude.{◌≡◌, ◌≤◌, ◌+◌, ◌&&◌, None, All, IfOk, length, drop};
+ghost use Rattle.std.specs.Option.{ForSome};
+ghost use Rattle.std.specs.Result.{IsOkUnless};
+ghost use Rattle.contacts.specs.declared.constraint.Constraint.TheVariants.{Contact};
+ghost use Rattle.contacts.specs.Constraints.{constraint_number};
+ghost use Rattle.contacts.specs.Changes.{AreRising};
+ghost use Rattle.graph_colours.specs.Movers.{AreBelow};
+ghost use Rattle.graph_colours.specs.Colours.{all_members, colour_of};
+ghost use Rattle.world_core_base.specs.Gather.{moves};
+ghost use Rattle.world_core.specs.Collide.{has_slot};
+ghost use Rattle.world_core.specs.Colouring.{movers_between, movers_if, begun, begun_with, ended_all, ended_until, left_from, turned, lists_without};
+
+use contacts::Constraint;
+use contacts_base::{ContactEntry, ContactKey};
+use fixed_geom::Refusal;
+use graph_colours::{Colours, Movers};
+use world_core_base::{Body, body_at};
+
+/// Whether the body in a slot is there and moves.
+fn moves(bodies: &[Option<Body>], slot: u32) -> bool
+    ensures { result ≡ moves bodies.now slot }
+{
+    match body_at(bodies, slot as usize) {
+        None => false,
+        Some(body) => body.is_mover(),
+    }
+}
+
+/// The movers of two bodies' contact, of which it is known whether they move; `None` where neither does.
+fn movers_if(first_moves: bool, second_moves: bool, first: u32, second: u32) -> Option<Movers>
+    ensures { result ≡ movers_if first_moves second_moves first second }
+{
+    match (first_moves, second_moves) {
+        (true, true) => Some(Movers {
+            first,
+            second: Some(second),
+        }),
+        (true, false) => Some(Movers {
+            first,
+            second: None,
+        }),
+        (false, true) => Some(Movers {
+            first: second,
+            second: None,
+        }),
+        (false, false) => None,
+    }
+}
+
+/// The movers of a contact, whose slots are those of bodies.
+fn movers_between(bodies: &[Option<Body>], key: ContactKey) -> Option<Movers>
+    ensures value { result ≡ movers_between bodies.now key }
+    ensures below { ForSome result (AreBelow (length bodies.now)) }
+{
+    let first = key.first.slot;
+    let second = key.second.slot;
+    movers_if(moves(bodies, first), moves(bodies, second), first, second)
+}
+
+/// A contact with these movers takes its colour; one with none takes no colour.
+fn begin_with(colours: &mut Colours<Constraint>, key: ContactKey, movers: Option<Movers>)
+    requires absent { colour_of constraint_number (Contact key) colours.old.lists ≡ None }
+    requires below { ForSome movers (AreBelow colours.old.slots) }
+    requires room { 1 ≤ colours.old.room }
+    ensures lists { colours.new.lists ≡ begun_with colours.old.lists key movers }
+    ensures room { colours.old.room ≤ colours.new.room + 1 }
+    ensures slots { colours.new.slots ≡ colours.old.slots }
+    ensures count { length (all_members colours.new.lists) ≤ length (all_members colours.old.lists) + 1 }
+{
+    if let Some(movers) = movers {
+        let _ = colours.place(Constraint::Contact(key), movers);
+    }
+}
+
+/// A contact that begins takes its colour.
+#[tactic(auto, unfolding(crate::specs::Colouring::begun))]
+fn begin(colours: &mut Colours<Constraint>, bodies: &[Option<Body>], key: ContactKey)
+    requires absent { colour_of constraint_number (Contact key) colours.old.lists ≡ None }
+    requires slots { length bodies.now ≤ colours.old.slots }
+    requires room { 1 ≤ colours.old.room }
+    ensures lists { colours.new.lists ≡ begun bodies.now colours.old.lists key }
+    ensures room { colours.old.room ≤ colours.new.room + 1 }
+    ensures slots { colours.new.slots ≡ colours.old.slots }
+    ensures count { length (all_members colours.new.lists) ≤ length (all_members colours.old.lists) + 1 }
+{
+    begin_with(colours, key, movers_between(bodies, key));
+}
+
+/// The contacts that end before `key`, from this place on, give up their colours. Answers the place of the next.
+fn end_before(
+    colours: &mut Colours<Constraint>,
+    ended: &[ContactKey],
+    from: usize,
+    key: ContactKey,
+) -> usize
+    requires from { from ≤ length ended.now }
+    ensures lists { colours.new.lists ≡ ended_until key colours.old.lists (drop from ended.now) }
+    ensures left { drop result ended.now ≡ left_from key (drop from ended.now) }
+    ensures within { result ≤ length ended.now }
+    ensures room { colours.new.room ≡ colours.old.room }
+    ensures slots { colours.new.slots ≡ colours.old.slots }
+    ensures count { length (all_members colours.new.lists) ≤ length (all_members colours.old.lists) }
+{
+    for place in from..ended.len() {
+        if key.number() <= ended[place].number() {
+            return place;
+        }
+        colours.release(Constraint::Contact(ended[place]));
+    }
+    ended.len()
+}
+
+/// The sum. Refused 1 where it is more than memory can hold.
+fn counted(a: usize, b: usize) -> Result<usize, Refusal>
+    ensures sum { IfOk result (λ sum. sum ≡ a + b) }
+    ensures memory_only { IsOkUnless result Refusal.NoMemory }
+{
+    match a.checked_add(b) {
+        Some(sum) => Ok(sum),
+        None => Err(Refusal::NoMemory),
+    }
+}
+
+/// How many constraints have a colour, and so many more. Refused 1 where that is more
+/// than memory can hold.
+pub fn count_with(colours: &Colours<Constraint>, more: usize) -> Result<usize, Refusal>
+    ensures count { IfOk result (λ count. count ≡ more + length (all_members colours.now.lists)) }
+    ensures memory_only { IsOkUnless result Refusal.NoMemory }
+{
+    let mut count = more;
+    for colour in 0..13 {
+        count = counted(count, colours.members(colour).len())?;
+    }
+    Ok(count)
+}
+
+fn end_all(colours: &mut Colours<Constraint>, ended: &[ContactKey])
+    ensures lists { colours.new.lists ≡ ended_all colours.old.lists ended.now }
+    ensures count { length (all_members colours.new.lists) ≤ length (all_members colours.old.lists) }
+{
+    for key in ended {
+        colours.release(Constraint::Contact(*key));
+    }
+}
+
+/// Folds what began and what ended to touch, ascending by key: who begins takes a colour, and who ends gives it up.
+pub fn turn_colours(
+    colours: &mut Colours<Constraint>,
+    bodies: &[Option<Body>],
+    begun: &[ContactKey],
+    ended: &[ContactKey],
+)
+    requires absent { All (λ key. colour_of constraint_number (Contact key) colours.old.lists ≡ None) begun.now }
+    requires rising { AreRising begun.now }
+    requires slots { length bodies.now ≤ colours.old.slots }
+    requires room { length begun.now ≤ colours.old.room }
+    ensures lists { colours.new.lists ≡ turned bodies.now colours.old.lists begun.now ended.now }
+    ensures count { length (all_members colours.new.lists) ≤ length (all_members colours.old.lists) + length begun.now }
+{
+    let mut place = 0;
+    for key in begun {
+        place = end_before(colours, ended, place, *key);
+        begin(colours, bodies, *key);
+    }
+    end_all(colours, &ended[place..]);
+}
+
+/// Whether the entry touches and is of the body in the slot.
+fn has_touching(slot: u32, entry: &ContactEntry) -> bool
+    ensures { result ≡ (entry.now.contact.touching && has_slot slot entry.now) }
+{
+    entry.contact.touching && (entry.key.first.slot == slot || entry.key.second.slot == slot)
+}
+
+/// The contacts of the body in a slot give up their colours.
+pub fn drop_colours(colours: &mut Colours<Constraint>, contacts: &[ContactEntry], slot: u32)
+    ensures lists { colours.new.lists ≡ lists_without slot colours.old.lists contacts.now }
+{
+    for entry in contacts {
+        if has_touching(slot, entry) {
+            colours.release(Constraint::Contact(entry.key));
+        }
+    }
+}

@@ -1,0 +1,208 @@
+-- What a step gathers from bodies and contacts, and what it writes back to the bodies.
+use Rattle.std.proofs.Common.{◌≡◌, inl, inr, ◌⊎◌, ℕ, zero, suc, ◌+◌, ◌*◌, ◌^◌, ◌<◌, ◌≤◌, List, [], ◌∷◌, ◌++◌, length, get_or, take, drop, map, Option, Some, None, Bool, true, false, cond, ℤ, pos, ◌+ℤ◌, ◌≤ℤ◌, unsigned_abs, arith, refl, sym, ap, ◌∙◌, subst, is_some, slice_set, slice_index_or, add-one}
+use Rattle.std.specs.Prelude.{option_map}
+use Rattle.std.specs.List.{slice_get}
+use Rattle.std.specs.Int.{int_max}
+use Rattle.std.proofs.lemmas.Bool.{cases_Bool}
+use Rattle.std.proofs.lemmas.Int.{ints}
+use Rattle.std.proofs.lemmas.Option.{slice_get-get_or}
+use Rattle.fixed_geom.specs.Vectors.{IsWithin}
+use Rattle.momenta.specs.Motions.{IsMass, IsMotion}
+use Rattle.momenta.specs.Impulses.{AreStates, IsState}
+use Rattle.momenta.specs.declared.mass.MassData.{MassData}
+use Rattle.momenta.specs.declared.motion.Motion.{Motion}
+use Rattle.momenta.specs.declared.state.BodyState.{BodyState}
+use Rattle.contacts_base.specs.declared.key.ContactKey.{ContactKey}
+use Rattle.colour_solver.specs.States as step
+use Rattle.colour_solver.specs.States.{nobody, AreAllStates, AreSameStates, total_x, total_y}
+use Rattle.world_core_base.specs.declared.body.Body.{Body}
+use Rattle.world_core_base.specs.declared.body.Kind.{Kind}
+use Rattle.world_core_base.specs.declared.body.Kind.TheVariants.{Static, Dynamic}
+use Rattle.world_core_base.specs.Bodies.{AreBodies, IsAtRest, IsBody, IsMassOf, is_dynamic, is_mover, momentum_x, momentum_y, p_x, p_y}
+use Rattle.world_core_base.specs.Slots.{HaveSameSlots, body_at}
+use Rattle.world_core_base.specs.Gather.{ends_at, moves, state_of, states_of, with_motion, with_motions}
+
+-- ---- the bodies as states
+
+mass_at : (kind : Kind) (enabled : Bool) (m : MassData) → cond enabled (is_dynamic kind) false ≡ true → IsMassOf kind m → IsMass m
+mass_at Static true m e h = cc
+mass_at Static false m e h = cc
+mass_at Dynamic enabled m e h = h
+
+pub is_nobody : IsState nobody
+is_nobody = record {
+  mass = λ e. cc;
+  motion = record {
+    p = record { x = omega arith; y = omega arith };
+    l = omega arith;
+    still = λ e. refl;
+    x = record { x = omega arith; y = omega arith };
+    facing = record { c = omega arith; s = omega arith; long = omega arith; short = omega arith };
+  };
+  start = record { x = omega arith; y = omega arith };
+}
+
+is_state : (o : Option Body) → ((b : Body) → o ≡ Some b → IsBody b) → IsState (state_of o)
+is_state None is = is_nobody
+is_state (Some b) is =
+    let body : IsBody b = is b refl in
+    record { mass = λ moves. mass_at b.kind b.enabled b.mass moves body.mass; motion = body.motion; start = body.motion.x }
+
+pub states-all : (bodies : List (Option Body)) → AreBodies bodies → AreAllStates (states_of bodies)
+states-all [] all slot s e = cc
+states-all (o ∷ os) all zero s e = let same : state_of o ≡ s = cc in subst IsState same (is_state o (λ b f. all zero b (ap Some f)))
+states-all (o ∷ os) all (suc slot) s e = states-all os (λ k b f. all (suc k) b f) slot s e
+
+x_of : (o : Option Body) → step.p_x (state_of o) ≡ p_x o
+x_of None = refl
+x_of (Some b) = refl
+
+y_of : (o : Option Body) → step.p_y (state_of o) ≡ p_y o
+y_of None = refl
+y_of (Some b) = refl
+
+pub total_x-gathered : (bodies : List (Option Body)) → total_x (states_of bodies) ≡ momentum_x bodies
+total_x-gathered [] = refl
+total_x-gathered (o ∷ os) = let first = x_of o in let rest = total_x-gathered os in omega (arith, ints, first, rest)
+
+pub total_y-gathered : (bodies : List (Option Body)) → total_y (states_of bodies) ≡ momentum_y bodies
+total_y-gathered [] = refl
+total_y-gathered (o ∷ os) = let first = y_of o in let rest = total_y-gathered os in omega (arith, ints, first, rest)
+
+-- ---- the bodies of a contact
+
+state_at : (states : List BodyState) (slot : ℕ) → AreAllStates states → slot < length states → IsState (slice_index_or states slot nobody)
+state_at states slot all h = all slot (slice_index_or states slot nobody) (slice_get-get_or states slot nobody h)
+
+pub are_states : (states : List BodyState) (key : ContactKey) → AreAllStates states → key.first.slot < length states → key.second.slot < length states → AreStates (ends_at states key)
+are_states states key all first second = record { a = state_at states key.first.slot all first; b = state_at states key.second.slot all second }
+
+movable_at : (bodies : List (Option Body)) (slot : ℕ) → moves bodies slot ≡ true → (slice_index_or (states_of bodies) slot nobody).movable ≡ true
+movable_at [] slot e = e
+movable_at (None ∷ os) zero e = e
+movable_at (Some b ∷ os) zero e = e
+movable_at (o ∷ os) (suc slot) e = movable_at os slot e
+
+pub one_movable : (bodies : List (Option Body)) (states : List BodyState) (key : ContactKey) → states ≡ states_of bodies → (moves bodies key.first.slot ≡ true) ⊎ (moves bodies key.second.slot ≡ true)
+    → ((ends_at states key).a.movable ≡ true) ⊎ ((ends_at states key).b.movable ≡ true)
+one_movable bodies states key same (inl e) = inl (rw same (movable_at bodies key.first.slot e))
+one_movable bodies states key same (inr e) = inr (rw same (movable_at bodies key.second.slot e))
+
+pub length-states : (bodies : List (Option Body)) → length (states_of bodies) ≡ length bodies
+length-states [] = refl
+length-states (o ∷ os) = ap suc (length-states os)
+
+-- ---- the motions given back
+
+next_motion : (all : List (Option Body)) (states : List BodyState) (i : ℕ) (d : Option Body) (e : BodyState) → i < length all → length states ≡ length all
+    → slice_set (with_motions (take i all) (take i states) ++ drop i all) i (option_map (with_motion (get_or states i e)) (get_or all i d)) ≡ with_motions (take (suc i) all) (take (suc i) states) ++ drop (suc i) all
+next_motion [] states i d e h k = absurd (omega arith)
+next_motion (o ∷ os) [] i d e h k = absurd (omega arith)
+next_motion (o ∷ os) (s ∷ ss) zero d e h k = refl
+next_motion (o ∷ os) (s ∷ ss) (suc i) d e h k = ap (λ (l : List (Option Body)). option_map (with_motion s) o ∷ l) (next_motion os ss i d e (omega arith) (omega arith))
+
+still_there : (all : List (Option Body)) (states : List BodyState) (i : ℕ) (d : Option Body) → i < length all → length states ≡ length all
+    → get_or (with_motions (take i all) (take i states) ++ drop i all) i d ≡ get_or all i d
+still_there [] states i d h k = absurd (omega arith)
+still_there (o ∷ os) [] i d h k = absurd (omega arith)
+still_there (o ∷ os) (s ∷ ss) zero d h k = refl
+still_there (o ∷ os) (s ∷ ss) (suc i) d h k = still_there os ss i d (omega arith) (omega arith)
+
+pub motion_more : (all items : List (Option Body)) (states : List BodyState) (i : ℕ) (now after : Option Body) (d : BodyState) → i < length all → length states ≡ length all
+    → items ≡ with_motions (take i all) (take i states) ++ drop i all → now ≡ get_or items i now → after ≡ option_map (with_motion (get_or states i d)) now
+    → slice_set items i after ≡ with_motions (take (i + 1) all) (take (i + 1) states) ++ drop (i + 1) all
+motion_more all items states i now after d h k is here made =
+    let there : now ≡ get_or all i now = here ∙ ap (λ (l : List (Option Body)). get_or l i now) is ∙ still_there all states i now h k in
+    let value : after ≡ option_map (with_motion (get_or states i d)) (get_or all i now) = made ∙ ap (option_map (with_motion (get_or states i d))) there in
+    rw (is, value, add-one) (next_motion all states i now d h k)
+
+-- once all slots were seen
+pub motion_whole : (all : List (Option Body)) (states : List BodyState) (i : ℕ) → length all ≤ i → length states ≡ length all → with_motions (take i all) (take i states) ++ drop i all ≡ with_motions all states
+motion_whole [] states zero h k = refl
+motion_whole [] states (suc i) h k = refl
+motion_whole (o ∷ os) states zero h k = absurd (omega arith)
+motion_whole (o ∷ os) [] (suc i) h k = absurd (omega arith)
+motion_whole (o ∷ os) (s ∷ ss) (suc i) h k = ap (λ (l : List (Option Body)). option_map (with_motion s) o ∷ l) (motion_whole os ss i (omega arith) (omega arith))
+
+-- ---- what stays a body
+
+-- of the body b, as its state s has left it
+moved_if : (m : Bool) (b : Body) (s : BodyState) → is_mover b ≡ m → IsBody b → IsState s → s.mass ≡ b.mass → IsBody (cond m (record b { motion = s.motion }) b)
+moved_if true b s e is state same = record {
+  mass = is.mass;
+  motion = rw same at state.motion;
+  rest = λ still. absurd (let both : true ≡ false = sym e ∙ still in cc both);
+  shapes = is.shapes;
+  forms = is.forms;
+  fats = is.fats;
+}
+moved_if false b s e is state same = is
+
+entry_moved : (o : Option Body) (s : BodyState) (b : Body) → ((a : Body) → o ≡ Some a → IsBody a) → IsState s → s.mass ≡ (state_of o).mass → option_map (with_motion s) o ≡ Some b → IsBody b
+entry_moved None s b is state same e = cc
+entry_moved (Some a) s b is state same e = let now : with_motion s a ≡ b = cc in subst IsBody now (moved_if (is_mover a) a s refl (is a refl) state same)
+
+tail_same : (o : Option Body) (os : List (Option Body)) (s : BodyState) (ss : List BodyState) → AreSameStates (states_of (o ∷ os)) (s ∷ ss) → AreSameStates (states_of os) ss
+tail_same o os s ss h = record { long = let whole = h.long in omega (arith, whole); movable = λ slot. h.movable (suc slot); mass = λ slot. h.mass (suc slot) }
+
+pub bodies-moved : (bodies : List (Option Body)) (states : List BodyState) → AreBodies bodies → AreAllStates states → AreSameStates (states_of bodies) states → AreBodies (with_motions bodies states)
+bodies-moved [] states all given same slot b e = cc
+bodies-moved (o ∷ os) [] all given same slot b e = all slot b e
+bodies-moved (o ∷ os) (s ∷ ss) all given same zero b e = entry_moved o s b (λ a f. all zero a (ap Some f)) (given zero s refl) (same.mass zero) (cc)
+bodies-moved (o ∷ os) (s ∷ ss) all given same (suc slot) b e = bodies-moved os ss (λ k c f. all (suc k) c f) (λ k t f. given (suc k) t f) (tail_same o os s ss same) slot b e
+
+-- ---- the slots stay
+
+length-moved : (bodies : List (Option Body)) (states : List BodyState) → length (with_motions bodies states) ≡ length bodies
+length-moved [] states = refl
+length-moved (o ∷ os) [] = refl
+length-moved (o ∷ os) (s ∷ ss) = ap suc (length-moved os ss)
+
+same_presence : (o : Option Body) (s : BodyState) → is_some (option_map (with_motion s) o) ≡ is_some o
+same_presence None s = refl
+same_presence (Some b) s = refl
+
+taken-moved : (bodies : List (Option Body)) (states : List BodyState) (slot : ℕ) → is_some (body_at (with_motions bodies states) slot) ≡ is_some (body_at bodies slot)
+taken-moved [] states slot = refl
+taken-moved (o ∷ os) [] slot = refl
+taken-moved (o ∷ os) (s ∷ ss) zero = same_presence o s
+taken-moved (o ∷ os) (s ∷ ss) (suc slot) = taken-moved os ss slot
+
+pub slots-moved : (bodies : List (Option Body)) (states : List BodyState) → HaveSameSlots bodies (with_motions bodies states)
+slots-moved bodies states = record { slots = length-moved bodies states; taken = taken-moved bodies states }
+
+-- ---- the momentum is that of the states
+
+x_if : (m : Bool) (b : Body) (s : BodyState) → is_mover b ≡ m → s.movable ≡ m → p_x (Some (cond m (record b { motion = s.motion }) b)) ≡ step.p_x s
+x_if true b s e f = rw (e, f)
+x_if false b s e f = rw (e, f)
+
+y_if : (m : Bool) (b : Body) (s : BodyState) → is_mover b ≡ m → s.movable ≡ m → p_y (Some (cond m (record b { motion = s.motion }) b)) ≡ step.p_y s
+y_if true b s e f = rw (e, f)
+y_if false b s e f = rw (e, f)
+
+x_moved : (o : Option Body) (s : BodyState) → s.movable ≡ (state_of o).movable → p_x (option_map (with_motion s) o) ≡ step.p_x s
+x_moved None s e = rw e
+x_moved (Some b) s e = x_if (is_mover b) b s refl e
+
+y_moved : (o : Option Body) (s : BodyState) → s.movable ≡ (state_of o).movable → p_y (option_map (with_motion s) o) ≡ step.p_y s
+y_moved None s e = rw e
+y_moved (Some b) s e = y_if (is_mover b) b s refl e
+
+pub momentum_x-moved : (bodies : List (Option Body)) (states : List BodyState) → AreSameStates (states_of bodies) states → momentum_x (with_motions bodies states) ≡ total_x states
+momentum_x-moved [] [] same = refl
+momentum_x-moved [] (s ∷ ss) same = let whole = same.long in absurd (omega (arith, whole))
+momentum_x-moved (o ∷ os) [] same = let whole = same.long in absurd (omega (arith, whole))
+momentum_x-moved (o ∷ os) (s ∷ ss) same =
+    let first = x_moved o s (same.movable zero) in
+    let rest = momentum_x-moved os ss (tail_same o os s ss same) in
+    omega (arith, ints, first, rest)
+
+pub momentum_y-moved : (bodies : List (Option Body)) (states : List BodyState) → AreSameStates (states_of bodies) states → momentum_y (with_motions bodies states) ≡ total_y states
+momentum_y-moved [] [] same = refl
+momentum_y-moved [] (s ∷ ss) same = let whole = same.long in absurd (omega (arith, whole))
+momentum_y-moved (o ∷ os) [] same = let whole = same.long in absurd (omega (arith, whole))
+momentum_y-moved (o ∷ os) (s ∷ ss) same =
+    let first = y_moved o s (same.movable zero) in
+    let rest = momentum_y-moved os ss (tail_same o os s ss same) in
+    omega (arith, ints, first, rest)

@@ -1,0 +1,19 @@
+use Rattle.std.proofs.Common.{◌≡◌, ◌++◌, ◌∙◌, length, sym, ap, subst, arith}
+use Rattle.std.specs.Option.{option_to_list}
+use Rattle.colour_solver.specs.Turns.{AreRowsBelow, IsRowBelow}
+use Rattle.graph_colours.specs.declared.member.Member.{Member}
+use Rattle.contacts.specs.declared.constraint.Constraint.{Constraint}
+use Rattle.world_core_base.specs.Gather.{row_of}
+use Rattle.world_core_base.proofs.ContactLaws.{all_more, row_more}
+use Rattle.world_core_base.proofs.gather.gather_colour.Goals as goal
+
+pub loop-member-preserved : goal.loop-member-preserved
+loop-member-preserved c =
+    let find = λ (m : Member Constraint). row_of c.args.states.now c.args.bodies.now c.args.contacts.now m.id in
+    let pushed = c.push_row.ensures.value in
+    record {
+      value = rw (pushed, c.row_of.ensures.value) (row_more find c.loop-member.rows.items _ c.args.members.now c.loop-member.member-index _ c.loop-member-test.true c.loop-member.invariant.value);
+      rows = subst (AreRowsBelow (length c.args.states.now)) (sym pushed) (all_more (IsRowBelow (length c.args.states.now)) c.loop-member.rows.items c.row_of.result c.loop-member.invariant.rows c.row_of.ensures.row);
+      room = omega (arith, c.push_row.ensures.room, c.loop-member.invariant.room);
+      capacity = omega (arith, c.push_row.ensures.capacity, c.loop-member.invariant.capacity);
+    }
