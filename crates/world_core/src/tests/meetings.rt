@@ -198,18 +198,21 @@ fn gravity_and_the_floor_are_booked(rt: HostRuntime) -> Result<(), Fail> {
     Ok(())
 }
 
+/// How many slots the hub and its small circles take.
+const HUB_SLOTS: u32 = 16;
+
 /// A great circle, as slot 0, that fifteen small ones lie in.
 fn add_hub(alloc: Global, world: &mut WorldCore) -> Result<(), Refusal> {
     add(alloc, world, 1000, ORIGIN, circle(100_000))?;
-    for number in 1..16 {
-        add_circle(alloc, world, 100, 10_000 * number - 60_000, 0)?;
+    for number in 1..HUB_SLOTS {
+        add_circle(alloc, world, 100, i64::from(number) * 10_000 - 60_000, 0)?;
     }
     Ok(())
 }
 
 /// Whether the hub's contacts have the colours in their order, the last three the overflow, and no other contact touches.
 fn has_all_colours(world: &WorldCore) -> Result<bool, Refusal> {
-    for number in 1..16 {
+    for number in 1..HUB_SLOTS {
         let colour = colour(world, contact_of(0, number));
         if colour != Some((number - 1).min(12) as u8) {
             return Ok(false);
