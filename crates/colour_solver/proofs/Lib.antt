@@ -1,5 +1,6 @@
 pub mod PassLaws
 pub mod TurnLaws
+pub mod IdleLaws
 pub mod TickLaws
 pub mod SameLaws
 pub mod ColourLaw

@@ -9,7 +9,9 @@ ghost use Rattle.colour_solver.specs.Turns.{AreRowsBelow};
 ghost use Rattle.colour_solver.specs.Ticks.{AreSums, CanLimit, CanMove, CanPull, added_x, added_y, ran, run_of, start, tick, ticks};
 
 use crate::{Change, Turn, pass_rows, pass_two};
-use colour_solver_base::{ContactRow, RowTurn, bounce_row, solve_row, warm_row};
+use colour_solver_base::{
+    ContactRow, bounce_row, is_row_unpushed, never_bounces, solve_row, warm_row,
+};
 use fixed_geom::Vec2;
 use momenta::{BodyState, Ends, Gain, MassData, Motion, NOTHING, advance, clamp_speed, plus, pull};
 
@@ -82,7 +84,11 @@ pub struct Warm;
 impl Turn for Warm {
     ghost turn = { λ _ r e. row_warmed r e };
 
-    fn turn(&self, row: &ContactRow, ends: &Ends) -> RowTurn {
+    fn is_idle(&self, row: &ContactRow) -> bool {
+        is_row_unpushed(row)
+    }
+
+    fn turn(&self, row: &mut ContactRow, ends: &mut Ends) {
         warm_row(row, ends)
     }
 }
@@ -94,7 +100,11 @@ pub struct Solve;
 impl Turn for Solve {
     ghost turn = { λ _ r e. row_solved r e };
 
-    fn turn(&self, row: &ContactRow, ends: &Ends) -> RowTurn {
+    fn is_idle(&self, row: &ContactRow) -> bool {
+        false
+    }
+
+    fn turn(&self, row: &mut ContactRow, ends: &mut Ends) {
         solve_row(row, ends)
     }
 }
@@ -106,7 +116,11 @@ pub struct Bounce;
 impl Turn for Bounce {
     ghost turn = { λ _ r e. row_bounced r e };
 
-    fn turn(&self, row: &ContactRow, ends: &Ends) -> RowTurn {
+    fn is_idle(&self, row: &ContactRow) -> bool {
+        never_bounces(row)
+    }
+
+    fn turn(&self, row: &mut ContactRow, ends: &mut Ends) {
         bounce_row(row, ends)
     }
 }

@@ -33,23 +33,30 @@ slip_line p = record { direction = tangent p.normal; ra = p.ra; rb = p.rb; inver
 abbrev pub line_of : ContactPoint → Ends → Line
 line_of c e = record { direction = c.normal; ra = c.ra; rb = c.rb; inverse_mass = inverse_mass c.normal c.ra c.rb e }
 
+-- the speed along the line, which only restitution asks for
+abbrev pub start_speed : Bool → Line → Ends → ℤ
+start_speed springy line e = cond springy (speed_along line e) (pos 0)
+
+abbrev pub is_springy : Bodies → Bool
+is_springy bodies = int_lt (pos 0) bodies.restitution
+
 -- the row of a contact's point, its bodies standing as they do when the step begins
-unfoldable pub point_row : Ends → ContactPoint → PointRow
-point_row e c = record {
+unfoldable pub point_row : Bool → Ends → ContactPoint → PointRow
+point_row springy e c = record {
   normal = c.normal;
   ra = c.ra;
   rb = c.rb;
   push_inverse = inverse_mass c.normal c.ra c.rb e;
   slip_inverse = inverse_mass (tangent c.normal) c.ra c.rb e;
   separation = c.separation;
-  start_speed = speed_along (line_of c e) e;
+  start_speed = start_speed springy (line_of c e) e;
   push = c.push;
   slip = c.slip;
 }
 
 abbrev pub row_from : Bodies → Ends → Option ContactPoint → Option ContactPoint → Option ContactRow
 row_from bodies e None second = None
-row_from bodies e (Some first) second = Some (record { bodies = bodies; first = point_row e first; second = option_map (point_row e) second })
+row_from bodies e (Some first) second = Some (record { bodies = bodies; first = point_row (is_springy bodies) e first; second = option_map (point_row (is_springy bodies) e) second })
 
 -- the row of a contact; one that doesn't touch has none
 abbrev pub contact_row : Bodies → Ends → Contact → Option ContactRow

@@ -11,4 +11,6 @@ pub mod solve;
 mod tests;
 
 pub use row::{Bodies, ContactRow, PointRow, contact_row};
-pub use solve::{PointTurn, RowTurn, bounce_row, solve_row, warm_row};
+pub use solve::{
+    PointTurn, RowTurn, bounce_row, is_row_unpushed, never_bounces, solve_row, warm_row,
+};

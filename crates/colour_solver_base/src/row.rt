@@ -1,20 +1,20 @@
 //! What stays for a whole step: offsets, normals, inverse masses, and the speed at which it began.
 
-ghost use Rattle.std.specs.Prelude.{◌≡◌, ◌^◌, ◌⊎◌, true, neg_ℤ};
+ghost use Rattle.std.specs.Prelude.{◌≡◌, ◌^◌, ◌≤◌, ◌+◌, ◌⊎◌, true, neg_ℤ, unsigned_abs};
 ghost use Rattle.std.specs.Option.{ForSome};
 ghost use Rattle.fixed_geom.specs.Vectors.{IsWithin};
 ghost use Rattle.momenta.specs.Impulses.{AreStates, IsLine};
 ghost use Rattle.contacts_base.specs.Limits.{IsContact, IsContactPoint};
-ghost use Rattle.colour_solver_base.specs.Rows.{AreSurfaces, IsPointRow, IsRow, contact_row, point_row, push_line, slip_line, tangent};
+ghost use Rattle.colour_solver_base.specs.Rows.{AreSurfaces, IsPointRow, IsRow, contact_row, point_row, push_line, slip_line, start_speed, is_springy, tangent};
 
 use contacts_base::{Contact, ContactPoint};
 use fixed_geom::Vec2;
 use momenta::{Ends, Line, inverse_mass, speed_along};
 
 /// A point of a contact in a step: the normal from the first body to the second (times 2^30), the offsets from the two
-/// centres (u), the inverse masses along the normal and across it (times 2^40), the separation (u) and the
-/// speed along the normal (u/tick) when the step began, and the accumulated impulses along the normal and across it
-/// (mass·u/tick).
+/// centres (u), the inverse masses along the normal and across it (times 2^40), the separation (u) and, where there is
+/// restitution, the speed along the normal (u/tick) when the step began, and the accumulated impulses along the normal and
+/// across it (mass·u/tick).
 #[derive(Clone, Copy, Debug, PartialEq, Eq)]
 pub struct PointRow {
     pub normal: Vec2,
@@ -85,13 +85,32 @@ impl PointRow {
     }
 }
 
+/// Whether the surfaces that meet have restitution.
+#[inline(always)]
+fn is_springy(bodies: &Bodies) -> bool
+    ensures { result ≡ is_springy bodies.now }
+{
+    bodies.restitution > 0
+}
+
+/// The speed along the line when the step begins, which only restitution asks for; 0 without.
+#[inline(always)]
+fn start_speed(springy: bool, line: &Line, ends: &Ends) -> i64
+    requires line { IsLine line.now }
+    requires states { AreStates ends.now }
+    ensures value { result ≡ start_speed springy line.now ends.now }
+    ensures within { unsigned_abs result ≤ 2 ^ 62 + 2 ^ 28 }
+{
+    if springy { speed_along(line, ends) } else { 0 }
+}
+
 /// The row of a contact's point.
 #[tactic(auto, unfolding(crate::specs::Rows::point_row))]
-fn point_row(point: &ContactPoint, ends: &Ends) -> PointRow
+fn point_row(springy: bool, point: &ContactPoint, ends: &Ends) -> PointRow
     requires point { IsContactPoint point.now }
     requires states { AreStates ends.now }
     requires mover { (ends.now.a.movable ≡ true) ⊎ (ends.now.b.movable ≡ true) }
-    ensures value { result ≡ point_row ends.now point.now }
+    ensures value { result ≡ point_row springy ends.now point.now }
     ensures row { IsPointRow result }
 {
     let across = tangent(point.normal);
@@ -108,7 +127,7 @@ fn point_row(point: &ContactPoint, ends: &Ends) -> PointRow
         push_inverse: line.inverse_mass,
         slip_inverse: inverse_mass(across, point.ra, point.rb, ends),
         separation: point.separation,
-        start_speed: speed_along(&line, ends),
+        start_speed: start_speed(springy, &line, ends),
         push: point.push,
         slip: point.slip,
     }
@@ -124,17 +143,21 @@ pub fn contact_row(bodies: Bodies, contact: &Contact, ends: &Ends) -> Option<Con
     ensures value { result ≡ contact_row bodies ends.now contact.now }
     ensures row { ForSome result IsRow }
 {
+    let springy = is_springy(&bodies);
     let first = match &contact.first {
         None => return None,
-        Some(point) => point_row(point, ends),
+        Some(point) => point,
     };
-    let second = match &contact.second {
-        None => None,
-        Some(point) => Some(point_row(point, ends)),
-    };
-    Some(ContactRow {
-        bodies,
-        first,
-        second,
-    })
+    match &contact.second {
+        None => Some(ContactRow {
+            bodies,
+            first: point_row(springy, first, ends),
+            second: None,
+        }),
+        Some(second) => Some(ContactRow {
+            bodies,
+            first: point_row(springy, first, ends),
+            second: Some(point_row(springy, second, ends)),
+        }),
+    }
 }

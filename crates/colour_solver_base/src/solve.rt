@@ -1,14 +1,15 @@
 //! The impulses of one contact: point by point, at each the normal one and then friction.
 
-ghost use Rattle.std.specs.Prelude.{◌≡◌, ◌^◌, ◌<◌, ◌≤◌, ◌+◌, pos, neg_ℤ, ◌*ℤ◌, ◌≤ℤ◌, unsigned_abs};
+ghost use Rattle.std.specs.Prelude.{◌≡◌, ◌^◌, ◌<◌, ◌≤◌, ◌+◌, true, pos, neg_ℤ, ◌*ℤ◌, ◌≤ℤ◌, unsigned_abs};
 ghost use Rattle.fixed_geom.specs.Numbers.{IsFloor, fdiv, rdiv};
 ghost use Rattle.fixed_geom.specs.Vectors.{IsWithin, dot, unit_length};
-ghost use Rattle.momenta.specs.Impulses.{AreStates, AreSameBodies, IsMomentumKept};
+ghost use Rattle.momenta.specs.declared.state.Ends.{Ends};
+ghost use Rattle.momenta.specs.Impulses.{AreStates, AreSameBodies, IsMomentumKept, parting};
 ghost use Rattle.colour_solver_base.specs.Rows.{IsPointRow, IsRow, bias_of, bounces, most_slip, push_solved, slip_solved, point_bounced, point_solved, point_warmed, row_bounced, row_solved, row_warmed, separation_now};
 
 use crate::{ContactRow, PointRow};
-use fixed_geom::{Vec2, dot, minus, product, rdiv, rdiv_unit};
-use momenta::{Ends, solve_line, warm_line};
+use fixed_geom::{Vec2, minus, product, rdiv};
+use momenta::{Ends, part_along, parting, solve_line, warm_line};
 
 /// An overlap up to this many u is left alone.
 const SLOP: i64 = 5243;
@@ -36,18 +37,9 @@ pub struct RowTurn {
     pub ends: Ends,
 }
 
-/// How far a way goes along the normal, in u.
-fn along(way: Vec2, normal: Vec2) -> i64
-    requires way { IsWithin (2 ^ 38) way }
-    requires normal { IsWithin (2 ^ 30) normal }
-    ensures value { result ≡ rdiv (dot way normal) unit_length }
-    ensures within { unsigned_abs result ≤ 2 ^ 39 }
-{
-    rdiv_unit(dot(way, normal))
-}
-
 /// The separation now, in u: that of the step's start, and how far the centres have parted along the normal since.
 #[tactic(auto, unfolding(crate::specs::Rows::separation_now))]
+#[inline(always)]
 fn separation_now(point: &PointRow, ends: &Ends) -> i64
     requires point { IsPointRow point.now }
     requires states { AreStates ends.now }
@@ -55,10 +47,11 @@ fn separation_now(point: &PointRow, ends: &Ends) -> i64
     ensures within { unsigned_abs result ≤ 2 ^ 40 }
 {
     let parted = minus(ends.b.travelled(), ends.a.travelled());
-    point.separation + along(parted, point.normal)
+    point.separation + part_along(parted, point.normal)
 }
 
 /// The greatest whole number at most `n / d`, of a number that isn't below zero, in 64-bit arithmetic.
+#[inline(always)]
 fn floor_64(n: i64, d: u64) -> i64
     requires nonnegative { pos 0 ≤ℤ n }
     requires positive { 0 < d }
@@ -69,6 +62,7 @@ fn floor_64(n: i64, d: u64) -> i64
 }
 
 /// An eighth of an overlap, rounded down.
+#[inline(always)]
 fn eighth_of(overlap: i64) -> i64
     requires nonnegative { pos 0 ≤ℤ overlap }
     requires overlap { unsigned_abs overlap ≤ 2 ^ 41 }
@@ -82,6 +76,7 @@ fn eighth_of(overlap: i64) -> i64
 /// The speed that takes an overlap beyond the slop away, in u/tick: an eighth of it in a tick, and at most
 /// `MAX_BIAS` (as Box2D's bias velocity).
 #[tactic(auto, unfolding(crate::specs::Rows::bias_of))]
+#[inline(always)]
 fn bias_of(separation: i64) -> i64
     requires { unsigned_abs separation ≤ 2 ^ 40 }
     ensures value { result ≡ bias_of separation }
@@ -94,28 +89,66 @@ fn bias_of(separation: i64) -> i64
     if MAX_BIAS < eighth { MAX_BIAS } else { eighth }
 }
 
-/// One impulse along the normal.
-fn solve_push(bias: i64, point: &PointRow, ends: &Ends) -> PointTurn
-    requires bias { unsigned_abs bias ≤ 2 ^ 62 + 2 ^ 28 }
+/// The velocity at which the second body's point leaves the first's, in u/tick.
+#[inline(always)]
+fn parting_at(point: &PointRow, ends: &Ends) -> Vec2
     requires point { IsPointRow point.now }
     requires states { AreStates ends.now }
-    ensures value { result ≡ push_solved bias point.now ends.now }
-    ensures point { IsPointRow result.point }
-    ensures states { AreStates result.ends }
-    ensures same { AreSameBodies ends.now result.ends }
-    ensures kept { IsMomentumKept ends.now result.ends }
+    ensures value { result ≡ parting point.now.ra point.now.rb ends.now }
+    ensures within { IsWithin (2 ^ 61 + 2 ^ 26) result }
 {
-    let exerted = solve_line(&point.push_line(), bias, 0, MAX_PUSH, point.push, ends);
-    PointTurn {
-        point: PointRow {
-            push: exerted.total,
-            ..*point
-        },
-        ends: exerted.ends,
+    parting(point.ra, point.rb, ends)
+}
+
+/// The same after an impulse along the normal, which had brought the accumulated one to `push` (mass·u/tick) before: where it
+/// gave nothing, the velocity is still `apart`.
+#[inline(always)]
+fn parting_after(push: i64, apart: Vec2, point: &PointRow, ends: &Ends) -> Vec2
+    requires point { IsPointRow point.now }
+    requires states { AreStates ends.now }
+    requires apart { point.now.push ≡ push → apart ≡ parting point.now.ra point.now.rb ends.now }
+    requires apart_size { IsWithin (2 ^ 61 + 2 ^ 26) apart }
+    ensures value { result ≡ parting point.now.ra point.now.rb ends.now }
+    ensures within { IsWithin (2 ^ 61 + 2 ^ 26) result }
+{
+    if point.push == push {
+        apart
+    } else {
+        parting_at(point, ends)
     }
 }
 
+/// One impulse along the normal, where the bodies' points part with the velocity `apart`.
+#[inline(always)]
+fn solve_push(bias: i64, apart: Vec2, point: &mut PointRow, ends: &mut Ends)
+    requires bias { unsigned_abs bias ≤ 2 ^ 62 + 2 ^ 28 }
+    requires apart { apart ≡ parting point.old.ra point.old.rb ends.old }
+    requires apart_size { IsWithin (2 ^ 61 + 2 ^ 26) apart }
+    requires point { IsPointRow point.old }
+    requires states { AreStates ends.old }
+    ensures value { record { point = point.new; ends = ends.new } ≡ push_solved bias point.old ends.old }
+    ensures first_offset { point.new.ra ≡ point.old.ra }
+    ensures second_offset { point.new.rb ≡ point.old.rb }
+    ensures still { point.new.push ≡ point.old.push → ends.new ≡ ends.old }
+    ensures point { IsPointRow point.new }
+    ensures states { AreStates ends.new }
+    ensures same { AreSameBodies ends.old ends.new }
+    ensures kept { IsMomentumKept ends.old ends.new }
+{
+    let total = solve_line(
+        &point.push_line(),
+        apart,
+        bias,
+        0,
+        MAX_PUSH,
+        point.push,
+        ends,
+    );
+    point.push = total;
+}
+
 /// The most friction that a normal impulse allows.
+#[inline(always)]
 fn most_slip(friction: i64, push: i64) -> i64
     requires friction_low { pos 0 ≤ℤ friction }
     requires friction_high { unsigned_abs friction ≤ 512 }
@@ -128,58 +161,98 @@ fn most_slip(friction: i64, push: i64) -> i64
     floor_64(friction * push, 256)
 }
 
-/// One impulse of friction.
-fn solve_slip(friction: i64, point: &PointRow, ends: &Ends) -> PointTurn
+/// Whether a point neither has friction nor may get any: its friction then leaves any two bodies as they are.
+#[inline(always)]
+fn is_loose(friction: i64, point: &PointRow) -> bool
     requires friction_low { pos 0 ≤ℤ friction }
     requires friction_high { unsigned_abs friction ≤ 512 }
     requires point { IsPointRow point.now }
-    requires states { AreStates ends.now }
-    ensures value { result ≡ slip_solved friction point.now ends.now }
-    ensures point { IsPointRow result.point }
-    ensures states { AreStates result.ends }
-    ensures same { AreSameBodies ends.now result.ends }
-    ensures kept { IsMomentumKept ends.now result.ends }
+    ensures { result ≡ true → (e : Ends) → AreStates e → slip_solved friction point.now e ≡ record { point = point.now; ends = e } }
+{
+    if most_slip(friction, point.push) != 0 {
+        false
+    } else if point.slip != 0 {
+        false
+    } else {
+        true
+    }
+}
+
+/// One impulse of friction at a point that isn't loose, where the bodies' points part with the velocity `apart`.
+#[inline(always)]
+fn slide(friction: i64, apart: Vec2, point: &mut PointRow, ends: &mut Ends)
+    requires apart { apart ≡ parting point.old.ra point.old.rb ends.old }
+    requires apart_size { IsWithin (2 ^ 61 + 2 ^ 26) apart }
+    requires friction_low { pos 0 ≤ℤ friction }
+    requires friction_high { unsigned_abs friction ≤ 512 }
+    requires point { IsPointRow point.old }
+    requires states { AreStates ends.old }
+    ensures value { record { point = point.new; ends = ends.new } ≡ slip_solved friction point.old ends.old }
+    ensures point { IsPointRow point.new }
+    ensures states { AreStates ends.new }
+    ensures same { AreSameBodies ends.old ends.new }
+    ensures kept { IsMomentumKept ends.old ends.new }
 {
     let most = most_slip(friction, point.push);
-    let exerted = solve_line(&point.slip_line(), 0, -most, most, point.slip, ends);
-    PointTurn {
-        point: PointRow {
-            slip: exerted.total,
-            ..*point
-        },
-        ends: exerted.ends,
+    let total = solve_line(&point.slip_line(), apart, 0, -most, most, point.slip, ends);
+    point.slip = total;
+}
+
+/// One impulse of friction, where the bodies' points part with the velocity `apart`.
+#[inline(always)]
+fn solve_slip(friction: i64, apart: Vec2, point: &mut PointRow, ends: &mut Ends)
+    requires apart { apart ≡ parting point.old.ra point.old.rb ends.old }
+    requires apart_size { IsWithin (2 ^ 61 + 2 ^ 26) apart }
+    requires friction_low { pos 0 ≤ℤ friction }
+    requires friction_high { unsigned_abs friction ≤ 512 }
+    requires point { IsPointRow point.old }
+    requires states { AreStates ends.old }
+    ensures value { record { point = point.new; ends = ends.new } ≡ slip_solved friction point.old ends.old }
+    ensures point { IsPointRow point.new }
+    ensures states { AreStates ends.new }
+    ensures same { AreSameBodies ends.old ends.new }
+    ensures kept { IsMomentumKept ends.old ends.new }
+{
+    if !is_loose(friction, point) {
+        slide(friction, apart, point, ends);
     }
 }
 
 /// The normal impulse of a point, then its friction.
 #[tactic(auto, unfolding(crate::specs::Rows::point_solved))]
-fn solve_point(friction: i64, point: &PointRow, ends: &Ends) -> PointTurn
+#[inline(always)]
+fn solve_point(friction: i64, point: &mut PointRow, ends: &mut Ends)
     requires friction_low { pos 0 ≤ℤ friction }
     requires friction_high { unsigned_abs friction ≤ 512 }
-    requires point { IsPointRow point.now }
-    requires states { AreStates ends.now }
-    ensures value { result ≡ point_solved friction point.now ends.now }
-    ensures point { IsPointRow result.point }
-    ensures states { AreStates result.ends }
-    ensures same { AreSameBodies ends.now result.ends }
-    ensures kept { IsMomentumKept ends.now result.ends }
+    requires point { IsPointRow point.old }
+    requires states { AreStates ends.old }
+    ensures value { record { point = point.new; ends = ends.new } ≡ point_solved friction point.old ends.old }
+    ensures point { IsPointRow point.new }
+    ensures states { AreStates ends.new }
+    ensures same { AreSameBodies ends.old ends.new }
+    ensures kept { IsMomentumKept ends.old ends.new }
 {
-    let pushed = solve_push(bias_of(separation_now(point, ends)), point, ends);
-    solve_slip(friction, &pushed.point, &pushed.ends)
+    let bias = bias_of(separation_now(point, ends));
+    let push = point.push;
+    let apart = parting_at(point, ends);
+    solve_push(bias, apart, point, ends);
+    let apart = parting_after(push, apart, point, ends);
+    solve_slip(friction, apart, point, ends);
 }
 
 /// The kept impulses of a point given once more.
 #[tactic(auto, unfolding(crate::specs::Rows::point_warmed))]
-fn warm_point(point: &PointRow, ends: &Ends) -> Ends
+#[inline(always)]
+fn warm_point(point: &PointRow, ends: &mut Ends)
     requires point { IsPointRow point.now }
-    requires states { AreStates ends.now }
-    ensures value { result ≡ point_warmed point.now ends.now }
-    ensures states { AreStates result }
-    ensures same { AreSameBodies ends.now result }
-    ensures kept { IsMomentumKept ends.now result }
+    requires states { AreStates ends.old }
+    ensures value { ends.new ≡ point_warmed point.now ends.old }
+    ensures states { AreStates ends.new }
+    ensures same { AreSameBodies ends.old ends.new }
+    ensures kept { IsMomentumKept ends.old ends.new }
 {
-    let pushed = warm_line(&point.push_line(), point.push, ends);
-    warm_line(&point.slip_line(), point.slip, &pushed)
+    warm_line(&point.push_line(), point.push, ends);
+    warm_line(&point.slip_line(), point.slip, ends);
 }
 
 /// Whether a point bounces.
@@ -201,118 +274,119 @@ fn bounce_speed(restitution: i64, start: i64) -> i64
 
 /// The impulse of restitution at a point, where it bounces.
 #[tactic(auto, unfolding(crate::specs::Rows::point_bounced))]
-fn bounce_point(restitution: i64, point: &PointRow, ends: &Ends) -> PointTurn
+fn bounce_point(restitution: i64, point: &mut PointRow, ends: &mut Ends)
     requires restitution_low { pos 0 ≤ℤ restitution }
     requires restitution_high { unsigned_abs restitution ≤ 256 }
-    requires point { IsPointRow point.now }
-    requires states { AreStates ends.now }
-    ensures value { result ≡ point_bounced restitution point.now ends.now }
-    ensures point { IsPointRow result.point }
-    ensures states { AreStates result.ends }
-    ensures same { AreSameBodies ends.now result.ends }
-    ensures kept { IsMomentumKept ends.now result.ends }
+    requires point { IsPointRow point.old }
+    requires states { AreStates ends.old }
+    ensures value { record { point = point.new; ends = ends.new } ≡ point_bounced restitution point.old ends.old }
+    ensures point { IsPointRow point.new }
+    ensures states { AreStates ends.new }
+    ensures same { AreSameBodies ends.old ends.new }
+    ensures kept { IsMomentumKept ends.old ends.new }
 {
     if !bounces(restitution, point) {
-        return PointTurn {
-            point: *point,
-            ends: *ends,
-        };
+        return;
     }
     let bias = bounce_speed(restitution, point.start_speed);
-    solve_push(bias, point, ends)
+    let apart = parting_at(point, ends);
+    solve_push(bias, apart, point, ends);
+}
+
+/// Whether a point has kept no impulses.
+#[inline(always)]
+fn is_unpushed(point: &PointRow) -> bool
+    ensures { result ≡ true → (e : Ends) → AreStates e → point_warmed point.now e ≡ e }
+{
+    if point.push != 0 {
+        false
+    } else if point.slip != 0 {
+        false
+    } else {
+        true
+    }
+}
+
+/// Whether a contact has kept no impulses: its warm start then leaves any two bodies as they are.
+#[tactic(auto, unfolding(crate::specs::Rows::row_warmed))]
+#[inline(always)]
+pub fn is_row_unpushed(row: &ContactRow) -> bool
+    ensures { result ≡ true → (e : Ends) → AreStates e → row_warmed row.now e ≡ record { row = row.now; ends = e } }
+{
+    if !is_unpushed(&row.first) {
+        return false;
+    }
+    match &row.second {
+        None => true,
+        Some(point) => is_unpushed(point),
+    }
+}
+
+/// Whether a contact never bounces, having no restitution: that leaves any two bodies as they are.
+#[tactic(auto, unfolding(crate::specs::Rows::row_bounced, crate::specs::Rows::point_bounced))]
+#[inline(always)]
+pub fn never_bounces(row: &ContactRow) -> bool
+    ensures { result ≡ true → (e : Ends) → row_bounced row.now e ≡ record { row = row.now; ends = e } }
+{
+    row.bodies.restitution == 0
 }
 
 /// The warm start of a contact: the impulses that it has kept, given once more.
 #[tactic(auto, unfolding(crate::specs::Rows::row_warmed))]
-pub fn warm_row(row: &ContactRow, ends: &Ends) -> RowTurn
+#[inline(always)]
+pub fn warm_row(row: &ContactRow, ends: &mut Ends)
     requires row { IsRow row.now }
-    requires states { AreStates ends.now }
-    ensures value { result ≡ row_warmed row.now ends.now }
-    ensures row { IsRow result.row }
-    ensures bodies { result.row.bodies ≡ row.now.bodies }
-    ensures states { AreStates result.ends }
-    ensures same { AreSameBodies ends.now result.ends }
-    ensures kept { IsMomentumKept ends.now result.ends }
+    requires states { AreStates ends.old }
+    ensures value { record { row = row.now; ends = ends.new } ≡ row_warmed row.now ends.old }
+    ensures states { AreStates ends.new }
+    ensures same { AreSameBodies ends.old ends.new }
+    ensures kept { IsMomentumKept ends.old ends.new }
 {
-    let after = warm_point(&row.first, ends);
-    let last = match &row.second {
-        None => after,
-        Some(point) => warm_point(point, &after),
-    };
-    RowTurn {
-        row: *row,
-        ends: last,
+    warm_point(&row.first, ends);
+    match &row.second {
+        None => {}
+        Some(point) => warm_point(point, ends),
     }
 }
 
 /// One turn of a contact in a solver pass.
 #[tactic(auto, unfolding(crate::specs::Rows::row_solved))]
-pub fn solve_row(row: &ContactRow, ends: &Ends) -> RowTurn
-    requires row { IsRow row.now }
-    requires states { AreStates ends.now }
-    ensures value { result ≡ row_solved row.now ends.now }
-    ensures row { IsRow result.row }
-    ensures bodies { result.row.bodies ≡ row.now.bodies }
-    ensures states { AreStates result.ends }
-    ensures same { AreSameBodies ends.now result.ends }
-    ensures kept { IsMomentumKept ends.now result.ends }
+#[inline(always)]
+pub fn solve_row(row: &mut ContactRow, ends: &mut Ends)
+    requires row { IsRow row.old }
+    requires states { AreStates ends.old }
+    ensures value { record { row = row.new; ends = ends.new } ≡ row_solved row.old ends.old }
+    ensures row { IsRow row.new }
+    ensures bodies { row.new.bodies ≡ row.old.bodies }
+    ensures states { AreStates ends.new }
+    ensures same { AreSameBodies ends.old ends.new }
+    ensures kept { IsMomentumKept ends.old ends.new }
 {
     let friction = row.bodies.friction;
-    let first = solve_point(friction, &row.first, ends);
-    match &row.second {
-        None => RowTurn {
-            row: ContactRow {
-                first: first.point,
-                ..*row
-            },
-            ends: first.ends,
-        },
-        Some(point) => {
-            let second = solve_point(friction, point, &first.ends);
-            RowTurn {
-                row: ContactRow {
-                    first: first.point,
-                    second: Some(second.point),
-                    ..*row
-                },
-                ends: second.ends,
-            }
-        }
+    solve_point(friction, &mut row.first, ends);
+    match &mut row.second {
+        None => {}
+        Some(point) => solve_point(friction, point, ends),
     }
 }
 
 /// The restitution of a contact.
 #[tactic(auto, unfolding(crate::specs::Rows::row_bounced))]
-pub fn bounce_row(row: &ContactRow, ends: &Ends) -> RowTurn
-    requires row { IsRow row.now }
-    requires states { AreStates ends.now }
-    ensures value { result ≡ row_bounced row.now ends.now }
-    ensures row { IsRow result.row }
-    ensures bodies { result.row.bodies ≡ row.now.bodies }
-    ensures states { AreStates result.ends }
-    ensures same { AreSameBodies ends.now result.ends }
-    ensures kept { IsMomentumKept ends.now result.ends }
+#[inline(always)]
+pub fn bounce_row(row: &mut ContactRow, ends: &mut Ends)
+    requires row { IsRow row.old }
+    requires states { AreStates ends.old }
+    ensures value { record { row = row.new; ends = ends.new } ≡ row_bounced row.old ends.old }
+    ensures row { IsRow row.new }
+    ensures bodies { row.new.bodies ≡ row.old.bodies }
+    ensures states { AreStates ends.new }
+    ensures same { AreSameBodies ends.old ends.new }
+    ensures kept { IsMomentumKept ends.old ends.new }
 {
     let restitution = row.bodies.restitution;
-    let first = bounce_point(restitution, &row.first, ends);
-    match &row.second {
-        None => RowTurn {
-            row: ContactRow {
-                first: first.point,
-                ..*row
-            },
-            ends: first.ends,
-        },
-        Some(point) => {
-            let second = bounce_point(restitution, point, &first.ends);
-            RowTurn {
-                row: ContactRow {
-                    first: first.point,
-                    second: Some(second.point),
-                    ..*row
-                },
-                ends: second.ends,
-            }
-        }
+    bounce_point(restitution, &mut row.first, ends);
+    match &mut row.second {
+        None => {}
+        Some(point) => bounce_point(restitution, point, ends),
     }
 }

@@ -86,16 +86,31 @@ fn contact(separation: i64, start_speed: i64, push: i64) -> ContactRow
 fn push_out(separation: i64) -> i64
     requires { unsigned_abs separation ≤ 2 ^ 27 }
 {
-    solve_row(&contact(separation, 0, 0), &on_ground(ORIGIN))
-        .row
-        .first
-        .push
+    let mut row = contact(separation, 0, 0);
+    let mut ends = on_ground(ORIGIN);
+    solve_row(&mut row, &mut ends);
+    row.first.push
+}
+
+/// A contact and its two bodies after a solver pass, the second body having had the momentum `p`.
+fn solved(push: i64, p: Vec2) -> RowTurn
+    requires push_low { pos 0 ≤ℤ push }
+    requires push_high { unsigned_abs push ≤ 2 ^ 42 }
+    requires momentum { IsWithin (2 ^ 60) p }
+{
+    let mut row = contact(0, 0, push);
+    let mut ends = on_ground(p);
+    solve_row(&mut row, &mut ends);
+    RowTurn { row, ends }
 }
 
 fn bounce(start_speed: i64) -> RowTurn
     requires { unsigned_abs start_speed ≤ 2 ^ 62 }
 {
-    bounce_row(&contact(0, start_speed, 1), &on_ground(ORIGIN))
+    let mut row = contact(0, start_speed, 1);
+    let mut ends = on_ground(ORIGIN);
+    bounce_row(&mut row, &mut ends);
+    RowTurn { row, ends }
 }
 
 #[test]
@@ -108,7 +123,7 @@ fn an_overlap_beyond_the_slop_is_pushed_out(rt: HostRuntime) {
 
 #[test]
 fn friction_is_at_most_its_share_of_the_push(rt: HostRuntime) {
-    let after = solve_row(&contact(0, 0, 1000), &on_ground(Vec2 { x: 600, y: 0 }));
+    let after = solved(1000, Vec2 { x: 600, y: 0 });
     assert_eq!(rt; after.row.first.push, 1000);
     assert_eq!(rt; after.row.first.slip, -500);
     assert_eq!(rt; after.ends.b.motion.p, at(100, 0));
@@ -117,7 +132,7 @@ fn friction_is_at_most_its_share_of_the_push(rt: HostRuntime) {
 
 #[test]
 fn the_normal_impulse_comes_before_friction(rt: HostRuntime) {
-    let after = solve_row(&contact(0, 0, 0), &on_ground(Vec2 { x: 600, y: -1000 }));
+    let after = solved(0, Vec2 { x: 600, y: -1000 });
     assert_eq!(rt; after.row.first.push, 1000);
     assert_eq!(rt; after.row.first.slip, -500);
     assert_eq!(rt; after.ends.b.motion.p, at(100, 0));
@@ -139,7 +154,9 @@ fn a_slow_meeting_does_not_bounce(rt: HostRuntime) {
 
 #[test]
 fn a_warm_start_gives_the_kept_impulses(rt: HostRuntime) {
-    let after = warm_row(&contact(0, 0, 1000), &on_ground(ORIGIN));
-    assert_eq!(rt; after.row.first.push, 1000);
-    assert_eq!(rt; after.ends.b.motion.p, at(0, 1000));
+    let row = contact(0, 0, 1000);
+    let mut ends = on_ground(ORIGIN);
+    warm_row(&row, &mut ends);
+    assert_eq!(rt; row.first.push, 1000);
+    assert_eq!(rt; ends.b.motion.p, at(0, 1000));
 }

@@ -8,6 +8,7 @@ ghost use Rattle.fixed_geom.specs.Vectors.{unit_length};
 use crate::rdiv_unit;
 
 /// `a·b`
+#[inline(always)]
 pub fn product(a: i64, b: i64) -> i128
     ensures value { result ≡ a *ℤ b }
     ensures size { unsigned_abs result ≡ unsigned_abs a * unsigned_abs b }
@@ -16,6 +17,7 @@ pub fn product(a: i64, b: i64) -> i128
 }
 
 /// `a·b + c·d`, each product at most 2^125 in size.
+#[inline(always)]
 pub fn sum_of_products(a: i64, b: i64, c: i64, d: i64) -> i128
     requires first { unsigned_abs a * unsigned_abs b ≤ 2 ^ 125 }
     requires second { unsigned_abs c * unsigned_abs d ≤ 2 ^ 125 }
@@ -26,6 +28,7 @@ pub fn sum_of_products(a: i64, b: i64, c: i64, d: i64) -> i128
 }
 
 /// `a·b - c·d`, each product at most 2^125 in size.
+#[inline(always)]
 pub fn difference_of_products(a: i64, b: i64, c: i64, d: i64) -> i128
     requires first { unsigned_abs a * unsigned_abs b ≤ 2 ^ 125 }
     requires second { unsigned_abs c * unsigned_abs d ≤ 2 ^ 125 }
@@ -37,6 +40,7 @@ pub fn difference_of_products(a: i64, b: i64, c: i64, d: i64) -> i128
 
 /// `a·b / 2^30` to the nearest, the product at most 2^92 in size: a number by one that is times
 /// 2^30, as a spin, a share or a part of a unit vector.
+#[inline(always)]
 pub fn scaled(a: i64, b: i64) -> i64
     requires { unsigned_abs a * unsigned_abs b ≤ 2 ^ 92 }
     ensures value { result ≡ rdiv (a *ℤ b) unit_length }

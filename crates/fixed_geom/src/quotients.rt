@@ -35,6 +35,7 @@ pub fn rdiv(a: i128, b: i128) -> i128
 }
 
 /// `nearest_quotient` in 64 bits.
+#[inline(always)]
 fn nearest_quotient_64(n: u64, d: u64) -> u64
     requires { 0 < d }
     ensures value { result ≡ nearest n d }
@@ -50,6 +51,7 @@ fn nearest_quotient_64(n: u64, d: u64) -> u64
 }
 
 /// `rdiv` in 64-bit arithmetic, which is several times faster: any `a` but the least i64.
+#[inline(always)]
 pub fn rdiv_64(a: i64, b: i64) -> i64
     requires fits { unsigned_abs a < 2 ^ 63 }
     requires positive { pos 0 <ℤ b }
@@ -62,6 +64,7 @@ pub fn rdiv_64(a: i64, b: i64) -> i64
 }
 
 /// The nearest natural number to `n / 2^30`, the greater where two are as near.
+#[inline(always)]
 fn nearest_unit(n: u128) -> u128
     requires { n ≤ 2 ^ 92 }
     ensures value { result ≡ nearest n (2 ^ 30) }
@@ -72,6 +75,7 @@ fn nearest_unit(n: u128) -> u128
 
 /// `x / 2^30` to the nearest, ties away from zero; `x` is at most 2^92 in size, and no quotient
 /// is computed. It takes a product with a unit vector or a facing back to plain lengths.
+#[inline(always)]
 pub fn rdiv_unit(x: i128) -> i64
     requires { unsigned_abs x ≤ 2 ^ 92 }
     ensures value { result ≡ rdiv x unit_length }

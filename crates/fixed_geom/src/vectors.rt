@@ -19,6 +19,7 @@ pub struct Vec2 {
 }
 
 /// Both components are at most `limit` in size.
+#[inline(always)]
 pub fn is_within(v: Vec2, limit: u64) -> bool
     ensures value { result ≡ is_within limit v }
     ensures within { IsTrue result ↔ IsWithin limit v }
@@ -27,6 +28,7 @@ pub fn is_within(v: Vec2, limit: u64) -> bool
 }
 
 /// `a - b`, of components up to 2^61.
+#[inline(always)]
 pub fn minus(a: Vec2, b: Vec2) -> Vec2
     requires first { IsWithin (2 ^ 61) a }
     requires second { IsWithin (2 ^ 61) b }
@@ -40,6 +42,7 @@ pub fn minus(a: Vec2, b: Vec2) -> Vec2
 }
 
 /// The scalar product `a.x·b.x + a.y·b.y`, exact, of components up to 2^62.
+#[inline(always)]
 pub fn dot(a: Vec2, b: Vec2) -> i128
     requires first { IsWithin (2 ^ 62) a }
     requires second { IsWithin (2 ^ 62) b }
@@ -51,6 +54,7 @@ pub fn dot(a: Vec2, b: Vec2) -> i128
 
 /// The cross product `a.x·b.y - a.y·b.x`, exact, of components up to 2^62: above zero where `b`
 /// lies to the left of `a`.
+#[inline(always)]
 pub fn cross(a: Vec2, b: Vec2) -> i128
     requires first { IsWithin (2 ^ 62) a }
     requires second { IsWithin (2 ^ 62) b }

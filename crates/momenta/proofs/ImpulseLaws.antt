@@ -1,5 +1,5 @@
 -- Laws of an impulse: which states it leaves, what it leaves alone, and that two movers' momenta have the same sum after it.
-use Rattle.std.proofs.Common.{◌≡◌, ◌^◌, ◌≤◌, Bool, true, false, cond, Some, None, ℤ, pos, neg_ℤ, ◌+ℤ◌, unsigned_abs, arith, refl}
+use Rattle.std.proofs.Common.{◌≡◌, ◌^◌, ◌≤◌, Bool, true, false, cond, Option, Some, None, is_some, ℤ, pos, neg_ℤ, ◌+ℤ◌, unsigned_abs, arith, refl}
 use Rattle.std.proofs.lemmas.Bool.Decides.{nat_tests}
 use Rattle.std.proofs.lemmas.Int.{ints}
 use Rattle.fixed_geom.specs.Vectors.{IsWithin, cross}
@@ -7,7 +7,7 @@ use Rattle.fixed_geom.specs.declared.vectors.Vec2.{Vec2}
 use Rattle.momenta.specs.declared.motion.Motion.{Motion}
 use Rattle.momenta.specs.declared.state.BodyState.{BodyState}
 use Rattle.momenta.specs.declared.state.Ends.{Ends}
-use Rattle.momenta.specs.Impulses.{IsState, IsSameBody, IsMomentumKept, fits, given, negated, plus, taken, turned_by}
+use Rattle.momenta.specs.Impulses.{AreStates, AreSameBodies, IsState, IsSameBody, IsMomentumKept, fits, given, impulse_pair, negated, or_dropped, or_kept, plus, taken, turned_by}
 
 -- ---- the state after it
 
@@ -65,14 +65,45 @@ given_momentum j ra rb e = record {
   y = λ h k. rw (given_y (negated j) ra e.a h, given_y j rb e.b k) (sum_kept e.a.motion.p.y e.b.motion.p.y j.y);
 }
 
-some_by : (t : Bool) (a s : BodyState) → Some a ≡ cond t (Some s) None → a ≡ s
-some_by true a s h = cc
-some_by false a s h = cc
+-- ---- given to both, or to neither
 
--- what is taken is what is given
-taken_is : (j r : Vec2) (s a : BodyState) → Some a ≡ taken j r s → a ≡ given j r s
-unfolding taken
-taken_is j r s a h = some_by (fits (given j r s).motion) a (given j r s) h
+-- the bodies a and b are what the impulse makes of the two
+pub record IsPairGiven (j ra rb : Vec2) (e : Ends) (a b : BodyState) : Type 0 where
+  pub value : impulse_pair j ra rb e ≡ Some (record { a = a; b = b })
+  pub states : AreStates (record { a = a; b = b })
+  pub same : AreSameBodies e (record { a = a; b = b })
+  pub kept : IsMomentumKept e (record { a = a; b = b })
 
-pub taken_momentum : (j ra rb : Vec2) (e : Ends) (a b : BodyState) → Some a ≡ taken (negated j) ra e.a → Some b ≡ taken j rb e.b → IsMomentumKept e (record { a = a; b = b })
-taken_momentum j ra rb e a b h k = rw (taken_is (negated j) ra e.a a h, taken_is j rb e.b b k) (given_momentum j ra rb e)
+pair_is : (j ra rb : Vec2) (e : Ends) (a b : BodyState) → a ≡ given (negated j) ra e.a → b ≡ given j rb e.b → fits a.motion ≡ true → fits b.motion ≡ true → impulse_pair j ra rb e ≡ Some (record { a = a; b = b })
+unfolding impulse_pair taken
+pair_is j ra rb e a b first second h k = rw (← first, ← second, h, k) refl
+
+pub pair_given : (j ra rb : Vec2) (e : Ends) (a b : BodyState) → AreStates e → a ≡ given (negated j) ra e.a → b ≡ given j rb e.b → fits a.motion ≡ true → fits b.motion ≡ true → IsPairGiven j ra rb e a b
+pair_given j ra rb e a b known first second h k = record {
+  value = pair_is j ra rb e a b first second h k;
+  states = record { a = given_state (negated j) ra e.a a first known.a h; b = given_state j rb e.b b second known.b k };
+  same = record { a = rw first (given_same (negated j) ra e.a); b = rw second (given_same j rb e.b) };
+  kept = rw (first, second) (given_momentum j ra rb e);
+}
+
+pub pair_first : (j ra rb : Vec2) (e : Ends) (a : BodyState) → a ≡ given (negated j) ra e.a → fits a.motion ≡ false → impulse_pair j ra rb e ≡ None
+unfolding impulse_pair taken
+pair_first j ra rb e a first h = rw (← first, h) refl
+
+pub pair_second : (j ra rb : Vec2) (e : Ends) (a b : BodyState) → a ≡ given (negated j) ra e.a → b ≡ given j rb e.b → fits a.motion ≡ true → fits b.motion ≡ false → impulse_pair j ra rb e ≡ None
+unfolding impulse_pair taken
+pair_second j ra rb e a b first second h k = rw (← first, ← second, h, k) refl
+
+-- ---- the accumulated impulse with it
+
+pub total_given : (old new : ℤ) (e after : Ends) (o : Option Ends) → after ≡ or_kept e o → true ≡ is_some o → record { ends = after; total = new } ≡ or_dropped old e new o
+total_given old new e after (Some x) h k = rw h refl
+total_given old new e after None h k = cc
+
+pub total_dropped : (old new : ℤ) (e after : Ends) (o : Option Ends) → after ≡ or_kept e o → false ≡ is_some o → record { ends = after; total = old } ≡ or_dropped old e new o
+total_dropped old new e after (Some x) h k = cc
+total_dropped old new e after None h k = rw h refl
+
+pub kept_dropped : (e after : Ends) (o : Option Ends) → after ≡ or_kept e o → false ≡ is_some o → after ≡ e
+kept_dropped e after (Some x) h k = cc
+kept_dropped e after None h k = h

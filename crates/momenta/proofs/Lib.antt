@@ -1,6 +1,9 @@
 pub mod Rounding
 pub mod Spins
+pub mod Standing
+pub mod Totals
 pub mod MotionLaws
 pub mod ImpulseLaws
 pub mod Shares
+pub mod Shifts
 pub mod NoImpulse

@@ -12,7 +12,7 @@ use Rattle.momenta.specs.declared.state.Ends.{Ends}
 use Rattle.momenta.specs.declared.line.Line.{Line}
 use Rattle.momenta.specs.declared.mass.MassData.{MassData}
 use Rattle.momenta.specs.Motions.{IsMotion}
-use Rattle.momenta.specs.Impulses.{AreStates, IsMomentumKept, IsSameBody, AreSameBodies, IsState, along, exerted, fits, given, impulse_pair, plus, taken, turned_by, zero_vector}
+use Rattle.momenta.specs.Impulses.{AreStates, IsMomentumKept, IsSameBody, AreSameBodies, IsState, along, exerted, fits, given, impulse_pair, plus, taken, turned_by, warmed, zero_vector}
 
 cross_none : (r : Vec2) → cross r zero_vector ≡ pos 0
 unfolding cross
@@ -59,6 +59,11 @@ nothing z = omega (arith, ints)
 pub exerted_none : (line : Line) (total : ℤ) (e : Ends) → AreStates e → exerted line total total e ≡ record { ends = e; total = total }
 unfolding exerted
 exerted_none line total e h = rw (nothing total, along_none line.direction, pair_none line.ra line.rb e h) refl
+
+-- an accumulated impulse of zero is none to give
+pub warmed_none : (line : Line) (e : Ends) → AreStates e → warmed line (pos 0) e ≡ e
+unfolding warmed
+warmed_none line e h = rw (along_none line.direction, pair_none line.ra line.rb e h) refl
 
 same_body : (s : BodyState) → IsSameBody s s
 same_body s = record { movable = refl; mass = refl; start = refl; place = refl; facing = refl; immovable = λ h. refl }

@@ -6,6 +6,7 @@ use Rattle.fixed_geom.specs.Numbers.{nearest, rdiv}
 use Rattle.fixed_geom.proofs.QuotientLemmas.{rdiv_le}
 use Rattle.fixed_geom.proofs.Sizes.{product_le}
 use Rattle.momenta.specs.Impulses.{turning_share}
+use Rattle.momenta.proofs.Spins.{rdiv_none}
 
 nearest_least : (n d k : ℕ) → 0 < d → k * d ≤ n → k ≤ nearest n d
 nearest_least n d k p h =
@@ -49,3 +50,8 @@ turning_small inertia g h k =
     let squared : unsigned_abs (g *ℤ g) ≤ 2 ^ 56 = product_le g g (2 ^ 28) (2 ^ 28) k k in
     let size : unsigned_abs (pos (2 ^ 40) *ℤ (g *ℤ g)) ≤ 2 ^ 96 = product_le (pos (2 ^ 40)) (g *ℤ g) (2 ^ 40) (2 ^ 56) (omega arith) squared in
     rw (turning_some inertia g h) (rdiv_le (pos (2 ^ 40) *ℤ (g *ℤ g)) inertia (2 ^ 96) (omega arith) (omega (arith, size, some)))
+
+pub turning_none : (inertia : ℤ) → pos 0 ≤ℤ inertia → turning_share inertia (pos 0) ≡ pos 0
+turning_none (pos zero) h = refl
+turning_none (pos (suc n)) h = rdiv_none (pos (suc n)) (omega (arith, ints))
+turning_none (negsuc n) h = absurd (omega (arith, ints))

@@ -17,7 +17,7 @@ pub spin_fixed : (l : ℤ) → spin (pos 0) l ≡ pos 0
 unfolding spin
 spin_fixed l = refl
 
-rdiv_none : (b : ℤ) → pos 1 ≤ℤ b → rdiv (pos 0) b ≡ pos 0
+pub rdiv_none : (b : ℤ) → pos 1 ≤ℤ b → rdiv (pos 0) b ≡ pos 0
 rdiv_none b h =
     let none : unsigned_abs (rdiv (pos 0) b) ≤ 0 = rdiv_slow (pos 0) b 0 h (omega (arith, ints)) in
     omega (arith, ints)

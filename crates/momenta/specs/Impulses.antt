@@ -90,9 +90,13 @@ pub record IsMomentumKept (before after : Ends) : Type 0 where
 
 -- ---- along a line
 
+-- the velocity at which the second body's point at rb leaves the first's at ra
+unfoldable pub parting : Vec2 → Vec2 → Ends → Vec2
+parting ra rb e = minus (velocity_at rb e.b) (velocity_at ra e.a)
+
 -- the speed along the line at which the second body's point leaves the first's
 unfoldable pub speed_along : Line → Ends → ℤ
-speed_along line e = rdiv (dot (minus (velocity_at line.rb e.b) (velocity_at line.ra e.a)) line.direction) unit_length
+speed_along line e = rdiv (dot (parting line.ra line.rb e) line.direction) unit_length
 
 -- what turning adds to a body's share, g being the lever of the line
 abbrev pub turning_share : ℤ → ℤ → ℤ

@@ -7,6 +7,7 @@
 
 pub mod gain;
 pub mod gravity;
+pub mod inverse;
 pub mod line;
 pub mod mass;
 pub mod motion;
@@ -19,7 +20,8 @@ pub mod travel;
 
 pub use gain::{Gain, NOTHING, gain_between, plus};
 pub use gravity::pull;
-pub use line::{Exerted, Line, inverse_mass, solve_line, speed_along, warm_line};
+pub use inverse::inverse_mass;
+pub use line::{Exerted, Line, part_along, parting, solve_line, speed_along, warm_line};
 pub use mass::MassData;
 pub use motion::{Motion, spin, velocity};
 pub use speed_limit::clamp_speed;

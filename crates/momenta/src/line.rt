@@ -1,17 +1,14 @@
 //! One impulse along a line between two bodies: the accumulated and clamped impulses of Erin Catto's sequential impulses
 //! (GDC 2006), in whole numbers.
 
-ghost use Rattle.std.specs.Prelude.{◌≡◌, ◌^◌, ◌<◌, ◌≤◌, ◌+◌, ◌⊎◌, true, pos, neg_ℤ, ◌+ℤ◌, ◌-ℤ◌, ◌*ℤ◌, ◌≤ℤ◌, unsigned_abs};
+ghost use Rattle.std.specs.Prelude.{◌≡◌, ◌^◌, ◌<◌, ◌≤◌, ◌+◌, ◌⊎◌, true, pos, neg_ℤ, ◌+ℤ◌, ◌-ℤ◌, ◌*ℤ◌, ◌≤ℤ◌, ◌<ℤ◌, unsigned_abs};
 ghost use Rattle.fixed_geom.specs.Numbers.{rdiv};
-ghost use Rattle.fixed_geom.specs.Vectors.{IsWithin, cross, dot, unit_length};
-ghost use Rattle.momenta.specs.Motions.{IsMass};
-ghost use Rattle.momenta.specs.Impulses.{IsState, AreStates, AreSameBodies, IsMomentumKept, IsLine, speed_along, turning_share, inverse_share, inverse_mass, wanted, between, along, exerted, solved, warmed};
+ghost use Rattle.fixed_geom.specs.Vectors.{IsWithin, dot, unit_length};
+ghost use Rattle.momenta.specs.Impulses.{AreStates, AreSameBodies, IsMomentumKept, IsLine, parting, speed_along, wanted, between, along, exerted, solved, warmed};
 
 use crate::narrow::{narrow_dot, narrow_scaled, rdiv_unit_64};
-use crate::{BodyState, Ends, MassData, impulse_pair};
-use fixed_geom::{
-    UNIT, Vec2, cross, dot, is_within, minus, product, rdiv, rdiv_64, rdiv_unit, scaled,
-};
+use crate::{Ends, impulse_pair};
+use fixed_geom::{UNIT, Vec2, dot, is_within, minus, rdiv, rdiv_64, scaled};
 
 /// An inverse mass is times 2^40.
 const INVERSE_UNIT: i128 = 1 << 40;
@@ -22,8 +19,8 @@ const NARROW_INVERSE_UNIT: i64 = 1 << 40;
 /// A velocity whose components are at most this many u/tick has a product with a direction that has room in 64 bits.
 const SLOW: u64 = 1 << 31;
 
-/// A change of speed below this has room in 64 bits once it is multiplied by 2^40.
-const SMALL_CHANGE: u128 = 1 << 22;
+/// A speed up to this, in u/tick, is small: the difference of two has room in 64 bits once it is multiplied by 2^40.
+const SLOW_CHANGE: u64 = 1 << 20;
 
 /// An inverse mass below this has room in 64 bits.
 const SMALL_INVERSE: i128 = 1 << 62;
@@ -48,25 +45,39 @@ pub struct Exerted {
     pub total: i64,
 }
 
+/// The velocity at which the second body's point at the offset `rb` leaves the first's at `ra` (u), in u/tick.
+#[tactic(auto, unfolding(crate::specs::Impulses::parting))]
+#[inline(always)]
+pub fn parting(ra: Vec2, rb: Vec2, ends: &Ends) -> Vec2
+    requires first { IsWithin (2 ^ 27) ra }
+    requires second { IsWithin (2 ^ 27) rb }
+    requires states { AreStates ends.now }
+    ensures value { result ≡ parting ra rb ends.now }
+    ensures within { IsWithin (2 ^ 61 + 2 ^ 26) result }
+{
+    minus(ends.b.velocity_at(rb), ends.a.velocity_at(ra))
+}
+
 /// The speed along the line at which the second body's point leaves the first's, in u/tick.
 #[tactic(auto, unfolding(crate::specs::Impulses::speed_along))]
+#[inline(always)]
 pub fn speed_along(line: &Line, ends: &Ends) -> i64
     requires line { IsLine line.now }
     requires states { AreStates ends.now }
     ensures value { result ≡ speed_along line.now ends.now }
     ensures within { unsigned_abs result ≤ 2 ^ 62 + 2 ^ 28 }
 {
-    let a = ends.a.velocity_at(line.ra);
-    let b = ends.b.velocity_at(line.rb);
-    part_along(minus(b, a), line.direction)
+    part_along(parting(line.ra, line.rb, ends), line.direction)
 }
 
-/// The part of a velocity along a direction.
-fn part_along(v: Vec2, direction: Vec2) -> i64
+/// The part of a velocity (u/tick) or of a way (u) along a direction (times 2^30), to the nearest.
+#[inline(always)]
+pub fn part_along(v: Vec2, direction: Vec2) -> i64
     requires v { IsWithin (2 ^ 61 + 2 ^ 26) v }
     requires direction { IsWithin (2 ^ 30) direction }
     ensures value { result ≡ rdiv (dot v direction) unit_length }
     ensures within { unsigned_abs result ≤ 2 ^ 62 + 2 ^ 28 }
+    ensures near { IsWithin (2 ^ 38) v → unsigned_abs result ≤ 2 ^ 39 }
 {
     if is_within(v, SLOW) {
         slow_part_along(v, direction)
@@ -76,11 +87,12 @@ fn part_along(v: Vec2, direction: Vec2) -> i64
 }
 
 /// The part of a slow velocity, in 64 bits.
+#[inline(always)]
 fn slow_part_along(v: Vec2, direction: Vec2) -> i64
     requires v { IsWithin (2 ^ 31) v }
     requires direction { IsWithin (2 ^ 30) direction }
     ensures value { result ≡ rdiv (dot v direction) unit_length }
-    ensures within { unsigned_abs result ≤ 2 ^ 62 + 2 ^ 28 }
+    ensures within { unsigned_abs result ≤ 2 ^ 32 }
 {
     rdiv_unit_64(narrow_dot(v, direction))
 }
@@ -91,103 +103,13 @@ fn fast_part_along(v: Vec2, direction: Vec2) -> i64
     requires direction { IsWithin (2 ^ 30) direction }
     ensures value { result ≡ rdiv (dot v direction) unit_length }
     ensures within { unsigned_abs result ≤ 2 ^ 62 + 2 ^ 28 }
+    ensures near { IsWithin (2 ^ 38) v → unsigned_abs result ≤ 2 ^ 39 }
 {
     rdiv(dot(v, direction), i128::from(UNIT)) as i64
 }
 
-/// What turning adds to a body's share of the inverse mass: nothing at inertia 0.
-fn turning_share(inertia: i64, lever: i64) -> i128
-    requires inertia { pos 0 ≤ℤ inertia }
-    requires lever { unsigned_abs lever ≤ 2 ^ 28 }
-    ensures value { result ≡ turning_share inertia lever }
-    ensures nonnegative { pos 0 ≤ℤ result }
-    ensures within { unsigned_abs result ≤ 2 ^ 96 }
-{
-    if inertia == 0 {
-        0
-    } else {
-        share_of_inertia(inertia, lever)
-    }
-}
-
-/// What turning adds, of a body that turns.
-fn share_of_inertia(inertia: i64, lever: i64) -> i128
-    requires inertia { pos 1 ≤ℤ inertia }
-    requires lever { unsigned_abs lever ≤ 2 ^ 28 }
-    ensures value { result ≡ turning_share inertia lever }
-    ensures nonnegative { pos 0 ≤ℤ result }
-    ensures within { unsigned_abs result ≤ 2 ^ 96 }
-{
-    rdiv(INVERSE_UNIT * product(lever, lever), i128::from(inertia))
-}
-
-/// The share of a mass without turning.
-fn share_of_mass(mass: i64) -> i64
-    requires positive { pos 1 ≤ℤ mass }
-    requires mass { unsigned_abs mass ≤ 2 ^ 20 }
-    ensures value { result ≡ rdiv (pos (2 ^ 40)) mass }
-    ensures some { pos (2 ^ 20) ≤ℤ result }
-    ensures within { unsigned_abs result ≤ 2 ^ 40 }
-{
-    rdiv_64(NARROW_INVERSE_UNIT, mass)
-}
-
-/// The lever of a line through the point at the offset `r`, in u.
-fn lever(r: Vec2, direction: Vec2) -> i64
-    requires offset { IsWithin (2 ^ 27) r }
-    requires direction { IsWithin (2 ^ 30) direction }
-    ensures value { result ≡ rdiv (cross r direction) unit_length }
-    ensures within { unsigned_abs result ≤ 2 ^ 28 }
-{
-    rdiv_unit(cross(r, direction))
-}
-
-/// A mover's share of the inverse mass.
-fn share_of_mover(direction: Vec2, r: Vec2, mass: MassData) -> i128
-    requires direction { IsWithin (2 ^ 30) direction }
-    requires offset { IsWithin (2 ^ 27) r }
-    requires mass { IsMass mass }
-    ensures value { result ≡ rdiv (pos (2 ^ 40)) mass.mass +ℤ turning_share mass.inertia (rdiv (cross r direction) unit_length) }
-    ensures some { pos (2 ^ 20) ≤ℤ result }
-    ensures within { unsigned_abs result ≤ 2 ^ 97 }
-{
-    i128::from(share_of_mass(mass.mass)) + turning_share(mass.inertia, lever(r, direction))
-}
-
-/// A body's share of the inverse mass.
-fn inverse_share(direction: Vec2, r: Vec2, body: &BodyState) -> i128
-    requires direction { IsWithin (2 ^ 30) direction }
-    requires offset { IsWithin (2 ^ 27) r }
-    requires state { IsState body.now }
-    ensures value { result ≡ inverse_share direction r body.now }
-    ensures nonnegative { pos 0 ≤ℤ result }
-    ensures within { unsigned_abs result ≤ 2 ^ 97 }
-    ensures some { body.now.movable ≡ true → pos (2 ^ 20) ≤ℤ result }
-{
-    if body.movable {
-        share_of_mover(direction, r, body.mass)
-    } else {
-        0
-    }
-}
-
-/// The inverse of the mass that two bodies show along `direction` (times 2^30) at these offsets (u), times 2^40: for each
-/// mover `1/m + (r × n)²/I`, as in Erin Catto's sequential impulses.
-#[tactic(auto, unfolding(crate::specs::Impulses::inverse_mass))]
-pub fn inverse_mass(direction: Vec2, ra: Vec2, rb: Vec2, ends: &Ends) -> i128
-    requires direction { IsWithin (2 ^ 30) direction }
-    requires first { IsWithin (2 ^ 27) ra }
-    requires second { IsWithin (2 ^ 27) rb }
-    requires states { AreStates ends.now }
-    requires mover { (ends.now.a.movable ≡ true) ⊎ (ends.now.b.movable ≡ true) }
-    ensures value { result ≡ inverse_mass direction ra rb ends.now }
-    ensures low { pos (2 ^ 20) ≤ℤ result }
-    ensures high { unsigned_abs result ≤ 2 ^ 98 }
-{
-    inverse_share(direction, ra, &ends.a) + inverse_share(direction, rb, &ends.b)
-}
-
 /// What the speed lacks of the bias.
+#[inline(always)]
 fn missing(speed: i64, bias: i64) -> i128
     requires speed { unsigned_abs speed ≤ 2 ^ 62 + 2 ^ 28 }
     requires bias { unsigned_abs bias ≤ 2 ^ 62 + 2 ^ 28 }
@@ -199,6 +121,7 @@ fn missing(speed: i64, bias: i64) -> i128
 
 /// The impulse that brings the speed to the bias, to the nearest.
 #[tactic(auto, unfolding(crate::specs::Impulses::wanted))]
+#[inline(always)]
 fn wanted(speed: i64, bias: i64, inverse: i128) -> i128
     requires speed { unsigned_abs speed ≤ 2 ^ 62 + 2 ^ 28 }
     requires bias { unsigned_abs bias ≤ 2 ^ 62 + 2 ^ 28 }
@@ -206,38 +129,11 @@ fn wanted(speed: i64, bias: i64, inverse: i128) -> i128
     ensures value { result ≡ wanted speed bias inverse }
     ensures within { unsigned_abs result ≤ 2 ^ 84 }
 {
-    impulse_for(missing(speed, bias), inverse)
-}
-
-/// The impulse that changes the speed by `change`.
-fn impulse_for(change: i128, inverse: i128) -> i128
-    requires change { unsigned_abs change ≤ 2 ^ 63 + 2 ^ 29 }
-    requires low { pos (2 ^ 20) ≤ℤ inverse }
-    ensures value { result ≡ rdiv (change *ℤ pos (2 ^ 40)) inverse }
-    ensures within { unsigned_abs result ≤ 2 ^ 84 }
-{
-    if change.unsigned_abs() < SMALL_CHANGE {
-        impulse_for_little(change as i64, inverse)
-    } else {
-        wide_impulse_for(change, inverse)
-    }
-}
-
-/// The impulse for a small change: in 64 bits where the inverse mass has room there too.
-fn impulse_for_little(change: i64, inverse: i128) -> i128
-    requires change { unsigned_abs change < 2 ^ 22 }
-    requires low { pos (2 ^ 20) ≤ℤ inverse }
-    ensures value { result ≡ rdiv (change *ℤ pos (2 ^ 40)) inverse }
-    ensures within { unsigned_abs result ≤ 2 ^ 84 }
-{
-    if inverse < SMALL_INVERSE {
-        i128::from(narrow_impulse_for(change, inverse as i64))
-    } else {
-        wide_impulse_for(i128::from(change), inverse)
-    }
+    wide_impulse_for(missing(speed, bias), inverse)
 }
 
 /// The impulse for a small change, in 64 bits.
+#[inline(always)]
 fn narrow_impulse_for(change: i64, inverse: i64) -> i64
     requires change { unsigned_abs change < 2 ^ 22 }
     requires low { pos (2 ^ 20) ≤ℤ inverse }
@@ -258,6 +154,7 @@ fn wide_impulse_for(change: i128, inverse: i128) -> i128
 }
 
 /// `value`, or the limit that it passes.
+#[inline(always)]
 fn between(low: i64, high: i64, value: i128) -> i64
     requires order { low ≤ℤ high }
     ensures value { result ≡ between low high value }
@@ -274,6 +171,7 @@ fn between(low: i64, high: i64, value: i128) -> i64
 }
 
 /// The impulse of this size along a direction.
+#[inline(always)]
 fn along(direction: Vec2, size: i64) -> Vec2
     requires direction { IsWithin (2 ^ 30) direction }
     requires size { unsigned_abs size ≤ 2 ^ 44 }
@@ -289,6 +187,7 @@ fn along(direction: Vec2, size: i64) -> Vec2
 
 /// A small impulse along a direction, in 64 bits.
 #[tactic(auto, unfolding(crate::specs::Impulses::along))]
+#[inline(always)]
 fn narrow_along(direction: Vec2, size: i64) -> Vec2
     requires direction { IsWithin (2 ^ 30) direction }
     requires size { unsigned_abs size < 2 ^ 32 }
@@ -325,104 +224,208 @@ fn component_along(size: i64, part: i64) -> i64
     scaled(size, part)
 }
 
-/// Brings the accumulated impulse from `old` to `new`: where they are the same, nothing is given.
-fn exert(line: &Line, old: i64, new: i64, ends: &Ends) -> Exerted
+/// Brings the accumulated impulse from `old` to `new` and answers it: where they are the same, nothing is given.
+#[inline(always)]
+fn exert(line: &Line, old: i64, new: i64, ends: &mut Ends) -> i64
     requires line { IsLine line.now }
-    requires states { AreStates ends.now }
+    requires states { AreStates ends.old }
     requires old { unsigned_abs old ≤ 2 ^ 43 }
     requires new { unsigned_abs new ≤ 2 ^ 43 }
-    ensures value { result ≡ exerted line.now old new ends.now }
-    ensures states { AreStates result.ends }
-    ensures total { (result.total ≡ new) ⊎ (result.total ≡ old) }
-    ensures same { AreSameBodies ends.now result.ends }
-    ensures kept { IsMomentumKept ends.now result.ends }
+    ensures value { record { ends = ends.new; total = result } ≡ exerted line.now old new ends.old }
+    ensures states { AreStates ends.new }
+    ensures total { (result ≡ new) ⊎ (result ≡ old) }
+    ensures still { result ≡ old → ends.new ≡ ends.old }
+    ensures same { AreSameBodies ends.old ends.new }
+    ensures kept { IsMomentumKept ends.old ends.new }
 {
     if new == old {
-        Exerted {
-            ends: *ends,
-            total: new,
-        }
+        new
     } else {
         exert_difference(line, old, new, ends)
     }
 }
 
-/// Gives the difference of two accumulated impulses; where that is dropped, all stays.
+/// Gives the difference of two accumulated impulses, and answers the one that is reached; where the difference is dropped,
+/// all stays.
 #[tactic(auto, unfolding(crate::specs::Impulses::exerted))]
-fn exert_difference(line: &Line, old: i64, new: i64, ends: &Ends) -> Exerted
+#[inline(always)]
+fn exert_difference(line: &Line, old: i64, new: i64, ends: &mut Ends) -> i64
     requires line { IsLine line.now }
-    requires states { AreStates ends.now }
+    requires states { AreStates ends.old }
     requires old { unsigned_abs old ≤ 2 ^ 43 }
     requires new { unsigned_abs new ≤ 2 ^ 43 }
-    ensures value { result ≡ exerted line.now old new ends.now }
-    ensures states { AreStates result.ends }
-    ensures total { (result.total ≡ new) ⊎ (result.total ≡ old) }
-    ensures same { AreSameBodies ends.now result.ends }
-    ensures kept { IsMomentumKept ends.now result.ends }
+    requires other { new ≡ old → ⊥ }
+    ensures value { record { ends = ends.new; total = result } ≡ exerted line.now old new ends.old }
+    ensures states { AreStates ends.new }
+    ensures total { (result ≡ new) ⊎ (result ≡ old) }
+    ensures still { result ≡ old → ends.new ≡ ends.old }
+    ensures same { AreSameBodies ends.old ends.new }
+    ensures kept { IsMomentumKept ends.old ends.new }
 {
     let j = along(line.direction, new - old);
-    match impulse_pair(ends, j, line.ra, line.rb) {
-        Some(after) => Exerted {
-            ends: after,
-            total: new,
-        },
-        None => Exerted {
-            ends: *ends,
-            total: old,
-        },
+    if impulse_pair(ends, j, line.ra, line.rb) {
+        new
+    } else {
+        old
     }
 }
 
-/// The accumulated impulse with what is wanted, within its range.
-fn next_total(low: i64, high: i64, total: i64, wanted: i128) -> i64
+/// `between` of a number of 64 bits.
+#[inline(always)]
+fn narrow_between(low: i64, high: i64, value: i64) -> i64
     requires order { low ≤ℤ high }
-    requires total { unsigned_abs total ≤ 2 ^ 43 }
-    requires wanted { unsigned_abs wanted ≤ 2 ^ 84 }
-    ensures value { result ≡ between low high (total +ℤ wanted) }
+    ensures value { result ≡ between low high value }
     ensures low { low ≤ℤ result }
     ensures high { result ≤ℤ high }
 {
+    if value < low {
+        low
+    } else if high < value {
+        high
+    } else {
+        value
+    }
+}
+
+/// The accumulated impulse with what is wanted, within its range, for a small change and an inverse mass that have room in
+/// 64 bits.
+#[tactic(auto, unfolding(crate::specs::Impulses::wanted))]
+#[inline(always)]
+fn narrow_next_total(speed: i64, bias: i64, inverse: i64, low: i64, high: i64, total: i64) -> i64
+    requires speed { unsigned_abs speed ≤ 2 ^ 20 }
+    requires bias { unsigned_abs bias ≤ 2 ^ 20 }
+    requires inverse { pos (2 ^ 20) ≤ℤ inverse }
+    requires order { low ≤ℤ high }
+    requires total { unsigned_abs total ≤ 2 ^ 43 }
+    ensures value { result ≡ between low high (total +ℤ wanted speed bias inverse) }
+    ensures low { low ≤ℤ result }
+    ensures high { result ≤ℤ high }
+{
+    if speed >= bias && total == low {
+        return low;
+    }
+    let wanted = narrow_impulse_for(bias - speed, inverse);
+    narrow_between(low, high, total + wanted)
+}
+
+/// The same for any other, in 128 bits.
+fn wide_next_total(speed: i64, bias: i64, inverse: i128, low: i64, high: i64, total: i64) -> i64
+    requires speed { unsigned_abs speed ≤ 2 ^ 62 + 2 ^ 28 }
+    requires bias { unsigned_abs bias ≤ 2 ^ 62 + 2 ^ 28 }
+    requires inverse { pos (2 ^ 20) ≤ℤ inverse }
+    requires order { low ≤ℤ high }
+    requires total { unsigned_abs total ≤ 2 ^ 43 }
+    ensures value { result ≡ between low high (total +ℤ wanted speed bias inverse) }
+    ensures low { low ≤ℤ result }
+    ensures high { result ≤ℤ high }
+{
+    let wanted = wanted(speed, bias, inverse);
     between(low, high, i128::from(total) + wanted)
 }
 
+/// Whether these speeds and this inverse mass have room in 64 bits for the impulse between them.
+#[inline(always)]
+fn is_narrow(speed: i64, bias: i64, inverse: i128) -> bool
+    ensures speed { result ≡ true → unsigned_abs speed ≤ 2 ^ 20 }
+    ensures bias { result ≡ true → unsigned_abs bias ≤ 2 ^ 20 }
+    ensures inverse { result ≡ true → inverse <ℤ pos (2 ^ 62) }
+{
+    if speed.unsigned_abs() > SLOW_CHANGE {
+        false
+    } else if bias.unsigned_abs() > SLOW_CHANGE {
+        false
+    } else {
+        inverse < SMALL_INVERSE
+    }
+}
+
+/// The accumulated impulse with what brings the speed to the bias, within its range.
+#[inline(always)]
+fn next_total(speed: i64, bias: i64, inverse: i128, low: i64, high: i64, total: i64) -> i64
+    requires speed { unsigned_abs speed ≤ 2 ^ 62 + 2 ^ 28 }
+    requires bias { unsigned_abs bias ≤ 2 ^ 62 + 2 ^ 28 }
+    requires inverse { pos (2 ^ 20) ≤ℤ inverse }
+    requires order { low ≤ℤ high }
+    requires total { unsigned_abs total ≤ 2 ^ 43 }
+    ensures value { result ≡ between low high (total +ℤ wanted speed bias inverse) }
+    ensures low { low ≤ℤ result }
+    ensures high { result ≤ℤ high }
+{
+    if is_narrow(speed, bias, inverse) {
+        narrow_next_total(speed, bias, inverse as i64, low, high, total)
+    } else {
+        wide_next_total(speed, bias, inverse, low, high, total)
+    }
+}
+
 /// One impulse of the solver: what brings the speed along the line to `bias` (u/tick), with the accumulated impulse
-/// `total` (mass·u/tick) kept within `low` to `high`. It is dropped where a momentum would leave its limits.
-#[tactic(auto, unfolding(crate::specs::Impulses::solved))]
-pub fn solve_line(line: &Line, bias: i64, low: i64, high: i64, total: i64, ends: &Ends) -> Exerted
+/// `total` (mass·u/tick) kept within `low` to `high`. It is dropped where a momentum would leave its limits. Answers the
+/// accumulated impulse after it: where that is as before, so are the bodies.
+///
+/// `apart` is the velocity at which the line's point on the second body leaves that on the first, as `parting` has it.
+#[tactic(auto, unfolding(crate::specs::Impulses::solved, crate::specs::Impulses::speed_along))]
+#[inline(always)]
+pub fn solve_line(
+    line: &Line,
+    apart: Vec2,
+    bias: i64,
+    low: i64,
+    high: i64,
+    total: i64,
+    ends: &mut Ends,
+) -> i64
     requires line { IsLine line.now }
-    requires states { AreStates ends.now }
+    requires states { AreStates ends.old }
+    requires apart { apart ≡ parting line.now.ra line.now.rb ends.old }
+    requires apart_size { IsWithin (2 ^ 61 + 2 ^ 26) apart }
     requires bias { unsigned_abs bias ≤ 2 ^ 62 + 2 ^ 28 }
     requires order { low ≤ℤ high }
     requires low { unsigned_abs low ≤ 2 ^ 43 }
     requires high { unsigned_abs high ≤ 2 ^ 43 }
     requires total { unsigned_abs total ≤ 2 ^ 43 }
-    ensures value { result ≡ solved line.now bias low high total ends.now }
-    ensures states { AreStates result.ends }
-    ensures small { unsigned_abs result.total ≤ 2 ^ 43 }
-    ensures low { low ≤ℤ total → low ≤ℤ result.total }
-    ensures high { total ≤ℤ high → result.total ≤ℤ high }
-    ensures same { AreSameBodies ends.now result.ends }
-    ensures kept { IsMomentumKept ends.now result.ends }
+    ensures value { record { ends = ends.new; total = result } ≡ solved line.now bias low high total ends.old }
+    ensures states { AreStates ends.new }
+    ensures small { unsigned_abs result ≤ 2 ^ 43 }
+    ensures low { low ≤ℤ total → low ≤ℤ result }
+    ensures high { total ≤ℤ high → result ≤ℤ high }
+    ensures still { result ≡ total → ends.new ≡ ends.old }
+    ensures same { AreSameBodies ends.old ends.new }
+    ensures kept { IsMomentumKept ends.old ends.new }
 {
-    let wanted = wanted(speed_along(line, ends), bias, line.inverse_mass);
-    exert(line, total, next_total(low, high, total, wanted), ends)
+    let speed = part_along(apart, line.direction);
+    let next = next_total(speed, bias, line.inverse_mass, low, high, total);
+    exert(line, total, next, ends)
 }
 
 /// The warm start of a tick: the accumulated impulse `total` (mass·u/tick) given once more; dropped where a momentum would
 /// leave its limits.
-#[tactic(auto, unfolding(crate::specs::Impulses::warmed))]
-pub fn warm_line(line: &Line, total: i64, ends: &Ends) -> Ends
+#[inline(always)]
+pub fn warm_line(line: &Line, total: i64, ends: &mut Ends)
     requires line { IsLine line.now }
-    requires states { AreStates ends.now }
+    requires states { AreStates ends.old }
     requires total { unsigned_abs total ≤ 2 ^ 43 }
-    ensures value { result ≡ warmed line.now total ends.now }
-    ensures states { AreStates result }
-    ensures same { AreSameBodies ends.now result }
-    ensures kept { IsMomentumKept ends.now result }
+    ensures value { ends.new ≡ warmed line.now total ends.old }
+    ensures states { AreStates ends.new }
+    ensures same { AreSameBodies ends.old ends.new }
+    ensures kept { IsMomentumKept ends.old ends.new }
+{
+    if total != 0 {
+        warm(line, total, ends);
+    }
+}
+
+/// The same, of an impulse that isn't zero.
+#[tactic(auto, unfolding(crate::specs::Impulses::warmed))]
+#[inline(always)]
+fn warm(line: &Line, total: i64, ends: &mut Ends)
+    requires line { IsLine line.now }
+    requires states { AreStates ends.old }
+    requires total { unsigned_abs total ≤ 2 ^ 43 }
+    ensures value { ends.new ≡ warmed line.now total ends.old }
+    ensures states { AreStates ends.new }
+    ensures same { AreSameBodies ends.old ends.new }
+    ensures kept { IsMomentumKept ends.old ends.new }
 {
     let j = along(line.direction, total);
-    match impulse_pair(ends, j, line.ra, line.rb) {
-        Some(after) => after,
-        None => *ends,
-    }
+    let _ = impulse_pair(ends, j, line.ra, line.rb);
 }

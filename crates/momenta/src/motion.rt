@@ -1,10 +1,11 @@
-ghost use Rattle.std.specs.Prelude.{◌≡◌, ℕ, ◌*◌, ◌^◌, ◌≤◌, pos, ◌≤ℤ◌, unsigned_abs};
+ghost use Rattle.std.specs.Prelude.{◌≡◌, ℕ, ◌*◌, ◌^◌, ◌<◌, ◌≤◌, pos, ◌≤ℤ◌, ◌*ℤ◌, unsigned_abs};
 ghost use Rattle.fixed_geom.specs.Facings.{IsFacing};
+ghost use Rattle.fixed_geom.specs.Numbers.{nearest, rdiv};
 ghost use Rattle.fixed_geom.specs.Vectors.{IsWithin};
 ghost use Rattle.momenta.specs.declared.mass.MassData.{MassData};
 ghost use Rattle.momenta.specs.Motions.{IsMotion, limited, spin, velocity};
 
-use fixed_geom::{Rot, UNIT, Vec2, rdiv, rdiv_64};
+use fixed_geom::{Rot, UNIT, Vec2, rdiv_64};
 
 /// How a body stands and moves.
 ///
@@ -37,6 +38,7 @@ impl Motion {
 
 /// The velocity of a momentum, in u/tick: `p / mass` by component, rounded to the nearest, ties away
 /// from zero.
+#[inline(always)]
 pub fn velocity(p: Vec2, mass: i64) -> Vec2
     requires momentum { IsWithin (2 ^ 62) p }
     requires positive { pos 1 ≤ℤ mass }
@@ -58,6 +60,7 @@ const NARROW: u128 = 1 << 32;
 
 /// The spin of an angular momentum, in radians a tick times 2^30: `l / inertia`, rounded to the nearest,
 /// ties away from zero, and then brought within `MAX_SPIN`. A body of inertia 0 has none.
+#[inline(always)]
 pub fn spin(l: i128, inertia: i64) -> i64
     requires momentum { unsigned_abs l ≤ 2 ^ 90 }
     requires nonnegative { pos 0 ≤ℤ inertia }
@@ -74,6 +77,7 @@ pub fn spin(l: i128, inertia: i64) -> i64
 }
 
 /// The spin of a small angular momentum, in 64 bits.
+#[inline(always)]
 fn narrow_spin(l: i64, inertia: i64) -> i64
     requires momentum { unsigned_abs l ≤ 2 ^ 32 }
     requires positive { pos 1 ≤ℤ inertia }
@@ -90,10 +94,33 @@ fn wide_spin(l: i128, inertia: i64) -> i64
     ensures value { result ≡ spin inertia l }
     ensures small { unsigned_abs result ≤ 2 ^ 28 }
 {
-    limit_spin(rdiv(l * i128::from(UNIT), i128::from(inertia)))
+    limit_spin(wide_turn(l, inertia))
+}
+
+/// The turn of a tick before it is limited.
+#[inline(always)]
+fn wide_turn(l: i128, inertia: i64) -> i128
+    requires momentum { unsigned_abs l ≤ 2 ^ 90 }
+    requires positive { pos 1 ≤ℤ inertia }
+    ensures { result ≡ rdiv (l *ℤ pos (2 ^ 30)) inertia }
+{
+    let nearest = nearest_turn(l.unsigned_abs(), inertia.unsigned_abs()) as i128;
+    if l < 0 { -nearest } else { nearest }
+}
+
+/// Its size, by one quotient.
+#[inline(always)]
+fn nearest_turn(n: u128, d: u64) -> u128
+    requires n { n ≤ 2 ^ 90 }
+    requires d { 0 < d }
+    ensures value { result ≡ nearest (n * 2 ^ 30) d }
+    ensures small { result < 2 ^ 123 }
+{
+    (n * (1 << 31) + u128::from(d)) / (u128::from(d) * 2)
 }
 
 /// A spin beyond `MAX_SPIN` is put on it.
+#[inline(always)]
 fn limit_spin(w: i128) -> i64
     ensures value { result ≡ limited (2 ^ 28) w }
     ensures small { unsigned_abs result ≤ 2 ^ 28 }

@@ -1,12 +1,14 @@
 //! A body within a step: how it moves, and how an impulse changes it.
 
-ghost use Rattle.std.specs.Prelude.{◌≡◌, ◌^◌, ◌≤◌, ◌+◌, ◌+ℤ◌, ◌-ℤ◌, ◌*ℤ◌, true, unsigned_abs, IfSome};
+ghost use Rattle.std.specs.Prelude.{◌≡◌, ◌^◌, ◌≤◌, ◌+◌, ◌+ℤ◌, ◌-ℤ◌, ◌*ℤ◌, true, unsigned_abs, is_some};
 ghost use Rattle.fixed_geom.specs.Numbers.{rdiv};
 ghost use Rattle.fixed_geom.specs.Vectors.{IsWithin, unit_length};
-ghost use Rattle.momenta.specs.Impulses.{IsState, IsSameBody, AreStates, AreSameBodies, velocity_at, travelled, given, plus, turned_by, fits, taken, impulse_pair, negated};
+ghost use Rattle.momenta.specs.declared.motion.Motion.{Motion};
+ghost use Rattle.momenta.specs.Impulses.{IsState, AreStates, AreSameBodies, velocity_at, travelled, given, plus, turned_by, fits, impulse_pair, negated, or_kept};
 
+use crate::narrow::narrow_scaled;
 use crate::{MassData, Motion, spin, velocity};
-use fixed_geom::{Vec2, cross, is_within, minus, scaled};
+use fixed_geom::{Vec2, cross, is_within, minus};
 
 /// The greatest size of a component of a momentum, in mass·u/tick.
 const MAX_MOMENTUM: u64 = 1 << 60;
@@ -24,6 +26,13 @@ pub struct BodyState {
     pub start: Vec2,
 }
 
+/// The momentum of a body (mass·u/tick) and its angular momentum (mass·u²/tick).
+#[derive(Clone, Copy)]
+struct Momenta {
+    p: Vec2,
+    l: i128,
+}
+
 /// The two bodies of a constraint.
 #[derive(Clone, Copy, Debug, PartialEq, Eq)]
 pub struct Ends {
@@ -37,6 +46,7 @@ impl BodyState {
     /// The velocity of its point at the offset `r` (u) from the centre, in u/tick: `v + w × r`, as in Erin Catto's
     /// sequential impulses, with the spin `w` times 2^30. Zero for an immovable body.
     #[tactic(auto, unfolding(crate::specs::Impulses::velocity_at))]
+    #[inline(always)]
     pub fn velocity_at(&self, r: Vec2) -> Vec2
         requires state { IsState self.now }
         requires offset { IsWithin (2 ^ 27) r }
@@ -47,6 +57,9 @@ impl BodyState {
             return NO_MOVE;
         }
         let v = velocity(self.motion.p, self.mass.mass);
+        if self.motion.l == 0 {
+            return v;
+        }
         let w = spin(self.motion.l, self.mass.inertia);
         Vec2 {
             x: carried_back(v.x, w, r.y),
@@ -55,6 +68,7 @@ impl BodyState {
     }
 
     /// How far its centre has come since the step began, in u. Zero for an immovable body.
+    #[inline(always)]
     pub fn travelled(&self) -> Vec2
         requires { IsState self.now }
         ensures value { result ≡ travelled self.now }
@@ -67,50 +81,40 @@ impl BodyState {
         }
     }
 
-    /// The body with the impulse `j` (mass·u/tick) given at the offset `r` (u): its momentum grows by `j`, and
-    /// its angular momentum, if it turns, by `r × j`. An immovable body stays as it is.
+    /// Its momenta with the impulse `j` (mass·u/tick) given at the offset `r` (u): the momentum grows by `j`, and the angular
+    /// momentum, if the body turns, by `r × j`. Those of an immovable body stay as they are.
     #[tactic(auto, unfolding(crate::specs::Impulses::given))]
-    fn given(&self, j: Vec2, r: Vec2) -> BodyState
+    #[inline(always)]
+    fn momenta_with(&self, j: Vec2, r: Vec2) -> Momenta
         requires state { IsState self.now }
         requires impulse { IsWithin (2 ^ 45) j }
         requires offset { IsWithin (2 ^ 27) r }
-        ensures value { result ≡ given j r self.now }
+        ensures value { record self.now { motion = record self.now.motion { p = result.p; l = result.l } } ≡ given j r self.now }
     {
         if !self.movable {
-            return *self;
+            return Momenta {
+                p: self.motion.p,
+                l: self.motion.l,
+            };
         }
-        let p = grown(self.motion.p, j);
-        let l = turned_by(self.mass.inertia, self.motion.l, cross(r, j));
-        BodyState {
-            motion: Motion {
-                p,
-                l,
-                ..self.motion
-            },
-            ..*self
+        Momenta {
+            p: grown(self.motion.p, j),
+            l: turned_by(self.mass.inertia, self.motion.l, cross(r, j)),
         }
     }
 
-    /// The same, or `None` where one of its momenta would leave its limits.
-    #[tactic(auto, unfolding(crate::specs::Impulses::taken))]
-    pub fn take(&self, j: Vec2, r: Vec2) -> Option<BodyState>
-        requires state { IsState self.now }
-        requires impulse { IsWithin (2 ^ 45) j }
-        requires offset { IsWithin (2 ^ 27) r }
-        ensures value { result ≡ taken j r self.now }
-        ensures state { IfSome result IsState }
-        ensures same { IfSome result (IsSameBody self.now) }
+    /// Puts these momenta in place of its own.
+    #[inline(always)]
+    fn put(&mut self, momenta: Momenta)
+        ensures { self.new ≡ record self.old { motion = record self.old.motion { p = momenta.p; l = momenta.l } } }
     {
-        let after = self.given(j, r);
-        if fits(&after.motion) {
-            Some(after)
-        } else {
-            None
-        }
+        self.motion.p = momenta.p;
+        self.motion.l = momenta.l;
     }
 }
 
 /// `v - w·r / 2^30`
+#[inline(always)]
 fn carried_back(v: i64, w: i64, r: i64) -> i64
     requires v { unsigned_abs v ≤ 2 ^ 60 }
     requires w { unsigned_abs w ≤ 2 ^ 28 }
@@ -118,10 +122,11 @@ fn carried_back(v: i64, w: i64, r: i64) -> i64
     ensures value { result ≡ v -ℤ rdiv (w *ℤ r) unit_length }
     ensures within { unsigned_abs result ≤ 2 ^ 60 + 2 ^ 25 }
 {
-    v - scaled(w, r)
+    v - narrow_scaled(w, r)
 }
 
 /// `v + w·r / 2^30`
+#[inline(always)]
 fn carried_on(v: i64, w: i64, r: i64) -> i64
     requires v { unsigned_abs v ≤ 2 ^ 60 }
     requires w { unsigned_abs w ≤ 2 ^ 28 }
@@ -129,10 +134,11 @@ fn carried_on(v: i64, w: i64, r: i64) -> i64
     ensures value { result ≡ v +ℤ rdiv (w *ℤ r) unit_length }
     ensures within { unsigned_abs result ≤ 2 ^ 60 + 2 ^ 25 }
 {
-    v + scaled(w, r)
+    v + narrow_scaled(w, r)
 }
 
 /// A momentum with an impulse.
+#[inline(always)]
 fn grown(p: Vec2, j: Vec2) -> Vec2
     requires momentum { IsWithin (2 ^ 60) p }
     requires impulse { IsWithin (2 ^ 45) j }
@@ -145,6 +151,7 @@ fn grown(p: Vec2, j: Vec2) -> Vec2
 }
 
 /// What the other body gets of an impulse.
+#[inline(always)]
 fn opposite(j: Vec2) -> Vec2
     requires { IsWithin (2 ^ 45) j }
     ensures value { result ≡ negated j }
@@ -154,6 +161,7 @@ fn opposite(j: Vec2) -> Vec2
 }
 
 /// An angular momentum with the moment of an impulse, of a body that turns.
+#[inline(always)]
 fn turned_by(inertia: i64, l: i128, moment: i128) -> i128
     requires l { unsigned_abs l ≤ 2 ^ 90 }
     requires moment { unsigned_abs moment ≤ 2 ^ 90 }
@@ -163,32 +171,43 @@ fn turned_by(inertia: i64, l: i128, moment: i128) -> i128
 }
 
 /// Whether the momenta are within their limits.
-fn fits(motion: &Motion) -> bool
-    ensures value { result ≡ fits motion.now }
+#[inline(always)]
+fn fits(momenta: Momenta) -> bool
+    ensures value { (s : Motion) → result ≡ fits (record s { p = momenta.p; l = momenta.l }) }
 {
-    if is_within(motion.p, MAX_MOMENTUM) {
-        motion.l.unsigned_abs() <= MAX_ANGULAR
+    if is_within(momenta.p, MAX_MOMENTUM) {
+        momenta.l.unsigned_abs() <= MAX_ANGULAR
     } else {
         false
     }
 }
 
-/// The impulse `j` (mass·u/tick) given to the second body at its offset `rb` and taken from the first at `ra` (u).
-/// `None` where a momentum would leave ±2^60 or an angular momentum ±2^90: then neither gets anything. The
-/// sum of two movers' momenta is as before.
+/// The impulse `j` (mass·u/tick) given to the second body at its offset `rb` and taken from the first at `ra` (u): whether
+/// it was. Where a momentum would leave ±2^60 or an angular momentum ±2^90, neither gets anything. The sum of two movers'
+/// momenta is as before.
 #[tactic(auto, unfolding(crate::specs::Impulses::impulse_pair))]
-pub fn impulse_pair(ends: &Ends, j: Vec2, ra: Vec2, rb: Vec2) -> Option<Ends>
-    requires states { AreStates ends.now }
+#[inline(always)]
+pub fn impulse_pair(ends: &mut Ends, j: Vec2, ra: Vec2, rb: Vec2) -> bool
+    requires states { AreStates ends.old }
     requires impulse { IsWithin (2 ^ 45) j }
     requires first { IsWithin (2 ^ 27) ra }
     requires second { IsWithin (2 ^ 27) rb }
-    ensures value { result ≡ impulse_pair j ra rb ends.now }
-    ensures states { IfSome result AreStates }
-    ensures same { IfSome result (AreSameBodies ends.now) }
-    ensures sum_x { IfSome result (λ after. ends.now.a.movable ≡ true → ends.now.b.movable ≡ true → after.a.motion.p.x +ℤ after.b.motion.p.x ≡ ends.now.a.motion.p.x +ℤ ends.now.b.motion.p.x) }
-    ensures sum_y { IfSome result (λ after. ends.now.a.movable ≡ true → ends.now.b.movable ≡ true → after.a.motion.p.y +ℤ after.b.motion.p.y ≡ ends.now.a.motion.p.y +ℤ ends.now.b.motion.p.y) }
+    ensures value { ends.new ≡ or_kept ends.old (impulse_pair j ra rb ends.old) }
+    ensures given { result ≡ is_some (impulse_pair j ra rb ends.old) }
+    ensures states { AreStates ends.new }
+    ensures same { AreSameBodies ends.old ends.new }
+    ensures sum_x { ends.old.a.movable ≡ true → ends.old.b.movable ≡ true → ends.new.a.motion.p.x +ℤ ends.new.b.motion.p.x ≡ ends.old.a.motion.p.x +ℤ ends.old.b.motion.p.x }
+    ensures sum_y { ends.old.a.movable ≡ true → ends.old.b.movable ≡ true → ends.new.a.motion.p.y +ℤ ends.new.b.motion.p.y ≡ ends.old.a.motion.p.y +ℤ ends.old.b.motion.p.y }
 {
-    let a = ends.a.take(opposite(j), ra)?;
-    let b = ends.b.take(j, rb)?;
-    Some(Ends { a, b })
+    let a = ends.a.momenta_with(opposite(j), ra);
+    if !fits(a) {
+        return false;
+    }
+    let b = ends.b.momenta_with(j, rb);
+    if !fits(b) {
+        return false;
+    }
+    ends.a.put(a);
+    ends.b.put(b);
+    true
 }

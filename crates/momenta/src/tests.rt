@@ -4,8 +4,7 @@ ghost use Rattle.momenta.specs.Impulses.{AreStates, IsLine, IsState};
 ghost use Rattle.momenta.specs.Motions.{IsMass, IsMotion};
 
 use crate::{
-    BodyState, Ends, Exerted, Line, MassData, Motion, advance, clamp_speed, inverse_mass, pull,
-    solve_line,
+    BodyState, Ends, Line, MassData, Motion, advance, clamp_speed, inverse_mass, pull, solve_line,
 };
 use fixed_geom::{Rot, Vec2};
 
@@ -149,10 +148,10 @@ fn line(direction: Vec2, inverse_mass: i128) -> Line
 }
 
 /// One impulse of the solver towards the speed `bias`, which never pulls.
-fn push(line: &Line, bias: i64, ends: &Ends) -> Exerted
+fn push(line: &Line, bias: i64, ends: &mut Ends) -> i64
     requires line { IsLine line.now }
     requires bias { unsigned_abs bias ≤ 2 ^ 62 }
-    requires states { AreStates ends.now }
+    requires states { AreStates ends.old }
 {
     solve_line(line, bias, 0, 4398046511104, 0, ends)
 }
@@ -165,12 +164,12 @@ fn two_masses_that_meet_stop_one_another(rt: HostRuntime) {
         x: 1073741824,
         y: 0,
     };
-    let ends = Ends { a, b };
+    let mut ends = Ends { a, b };
     assert_eq!(rt; inverse_mass(ahead, ORIGIN, ORIGIN, &ends), 916259689813);
-    let after = push(&line(ahead, 916259689813), 0, &ends);
-    assert_eq!(rt; after.total, 24);
-    assert_eq!(rt; after.ends.a.motion.p, at(6, 0));
-    assert_eq!(rt; after.ends.b.motion.p, at(4, 0));
+    let total = push(&line(ahead, 916259689813), 0, &mut ends);
+    assert_eq!(rt; total, 24);
+    assert_eq!(rt; ends.a.motion.p, at(6, 0));
+    assert_eq!(rt; ends.b.motion.p, at(4, 0));
 }
 
 #[test]
@@ -181,10 +180,11 @@ fn an_impulse_is_rounded_once_for_both(rt: HostRuntime) {
         x: 644245094,
         y: 858993459,
     };
-    let after = push(&line(slanted, 2199023255552), 0, &Ends { a, b });
-    assert_eq!(rt; after.total, 3);
-    assert_eq!(rt; after.ends.a.motion.p, at(8, -2));
-    assert_eq!(rt; after.ends.b.motion.p, at(2, 2));
+    let mut ends = Ends { a, b };
+    let total = push(&line(slanted, 2199023255552), 0, &mut ends);
+    assert_eq!(rt; total, 3);
+    assert_eq!(rt; ends.a.motion.p, at(8, -2));
+    assert_eq!(rt; ends.b.motion.p, at(2, 2));
 }
 
 #[test]
@@ -196,8 +196,9 @@ fn an_impulse_beyond_the_limit_is_dropped(rt: HostRuntime) {
         x: 1073741824,
         y: 0,
     };
-    let after = push(&line(ahead, 2199023255552), limit + 5, &Ends { a, b });
-    assert_eq!(rt; after.total, 0);
-    assert_eq!(rt; after.ends.a.motion.p, ORIGIN);
-    assert_eq!(rt; after.ends.b.motion.p, at(limit, 0));
+    let mut ends = Ends { a, b };
+    let total = push(&line(ahead, 2199023255552), limit + 5, &mut ends);
+    assert_eq!(rt; total, 0);
+    assert_eq!(rt; ends.a.motion.p, ORIGIN);
+    assert_eq!(rt; ends.b.motion.p, at(limit, 0));
 }

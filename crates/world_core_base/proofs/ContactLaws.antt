@@ -25,7 +25,7 @@ use Rattle.contacts.specs.declared.constraint.Constraint.TheVariants as constrai
 use Rattle.colour_solver_base.specs.declared.row.Bodies as pairs
 use Rattle.colour_solver_base.specs.declared.row.ContactRow.{ContactRow}
 use Rattle.colour_solver_base.specs.declared.row.PointRow.{PointRow}
-use Rattle.colour_solver_base.specs.Rows.{IsPointRow, IsRow, contact_row, point_row, row_from}
+use Rattle.colour_solver_base.specs.Rows.{IsPointRow, IsRow, contact_row, is_springy, point_row, row_from}
 use Rattle.colour_solver.specs.Turns.{AreRowsBelow, IsRowBelow}
 use Rattle.world_core_base.specs.declared.body.Body.{Body}
 use Rattle.world_core_base.specs.Bodies.{AreBodies, IsBody}
@@ -129,7 +129,7 @@ number_at es key i f is at = let same : i ≡ 0 + i = omega arith in found 0 i e
 from_bodies : (bodies : pairs.Bodies) (ends : Ends) (first second : Option ContactPoint) (x : ContactRow) → row_from bodies ends first second ≡ Some x → x.bodies ≡ bodies
 from_bodies bodies ends None second x e = cc
 from_bodies bodies ends (Some p) second x e =
-    let same : row_with bodies (point_row ends p) (option_map (point_row ends) second) ≡ x = cc in
+    let same : row_with bodies (point_row (is_springy bodies) ends p) (option_map (point_row (is_springy bodies) ends) second) ≡ x = cc in
     ap (λ (r : ContactRow). r.bodies) (sym same)
 
 row_bodies : (bodies : pairs.Bodies) (ends : Ends) (c : Contact) (x : ContactRow) → contact_row bodies ends c ≡ Some x → x.bodies ≡ bodies

@@ -1,31 +1,16 @@
-use Rattle.colour_solver.proofs.TurnLaws.{state_at, states-set, total_x-after, total_y-after}
-use Rattle.colour_solver.proofs.SameLaws.{same_turned}
+use Rattle.std.proofs.Common.{ap, sym}
+use Rattle.colour_solver_base.specs.declared.solve.RowTurn.{RowTurn}
+use Rattle.colour_solver.proofs.IdleLaws.{idle_after, idle_turn, idle_x, idle_y}
 use Rattle.colour_solver.proofs.turns.turn_row.Goals as goal
 
-pub turn-turned-requires-clause-states : goal.turn-turned-requires-clause-states
-turn-turned-requires-clause-states g c = record {
-  a = state_at c.args.states.now.items c.args.row.now.bodies.a c.index.result.now c.index.result.now c.requires.states c.requires.row.a c.index.ensures;
-  b = state_at c.args.states.now.items c.args.row.now.bodies.b c.index-2.result.now c.index-2.result.now c.requires.states c.requires.row.b c.index-2.ensures;
-}
+pub returns-then-is_idle-clause-states : goal.returns-then-is_idle-clause-states
+returns-then-is_idle-clause-states g c = idle_after (g.T.Turn.turn c.args.turn.now) c.args.states.now.items c.args.row.now c.requires.states c.requires.row (c.is_idle.ensures c.if-is_idle.true)
 
-pub got-requires-clause-before : goal.got-requires-clause-before
-got-requires-clause-before g c = record {
-  a = state_at c.args.states.now.items c.args.row.now.bodies.a c.index.result.now c.index.result.now c.requires.states c.requires.row.a c.index.ensures;
-  b = state_at c.args.states.now.items c.args.row.now.bodies.b c.index-2.result.now c.index-2.result.now c.requires.states c.requires.row.b c.index-2.ensures;
-}
+pub returns-then-is_idle-clause-row : goal.returns-then-is_idle-clause-row
+returns-then-is_idle-clause-row g c = sym (ap (λ (t : RowTurn). t.row) (idle_turn (g.T.Turn.turn c.args.turn.now) c.args.states.now.items c.args.row.now c.requires.states c.requires.row (c.is_idle.ensures c.if-is_idle.true)))
 
-pub returns-clause-all_states : goal.returns-clause-all_states
-returns-clause-all_states g c =
-    states-set _ c.args.row.now.bodies.b c.turn-turned.result.ends.b (states-set c.args.states.now.items c.args.row.now.bodies.a c.turn-turned.result.ends.a c.requires.states c.turn-turned.ensures.states.a) c.turn-turned.ensures.states.b
+pub returns-then-is_idle-clause-x : goal.returns-then-is_idle-clause-x
+returns-then-is_idle-clause-x g c = idle_x (g.T.Turn.turn c.args.turn.now) c.args.states.now.items c.args.row.now c.requires.states c.requires.row (c.is_idle.ensures c.if-is_idle.true)
 
-pub returns-clause-momentum_x : goal.returns-clause-momentum_x
-returns-clause-momentum_x g c =
-    rw c.got.ensures.x (total_x-after c.args.states.now.items c.args.row.now.bodies.a c.args.row.now.bodies.b (record { a = c.index.result.now; b = c.index-2.result.now }) c.turn-turned.result.ends c.requires.row.a c.requires.row.b c.requires.row.apart c.index.ensures c.index-2.ensures c.turn-turned.ensures.same c.turn-turned.ensures.kept)
-
-pub returns-clause-momentum_y : goal.returns-clause-momentum_y
-returns-clause-momentum_y g c =
-    rw c.got.ensures.y (total_y-after c.args.states.now.items c.args.row.now.bodies.a c.args.row.now.bodies.b (record { a = c.index.result.now; b = c.index-2.result.now }) c.turn-turned.result.ends c.requires.row.a c.requires.row.b c.requires.row.apart c.index.ensures c.index-2.ensures c.turn-turned.ensures.same c.turn-turned.ensures.kept)
-
-pub returns-clause-same : goal.returns-clause-same
-returns-clause-same g c =
-    same_turned c.args.states.now.items c.args.row.now.bodies.a c.args.row.now.bodies.b (record { a = c.index.result.now; b = c.index-2.result.now }) c.turn-turned.result.ends c.requires.row.a c.requires.row.b c.index.ensures c.index-2.ensures c.turn-turned.ensures.same
+pub returns-then-is_idle-clause-y : goal.returns-then-is_idle-clause-y
+returns-then-is_idle-clause-y g c = idle_y (g.T.Turn.turn c.args.turn.now) c.args.states.now.items c.args.row.now c.requires.states c.requires.row (c.is_idle.ensures c.if-is_idle.true)

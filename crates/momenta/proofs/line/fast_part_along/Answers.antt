@@ -31,3 +31,10 @@ returns-clause-value c =
 
 pub returns-clause-within : goal.returns-clause-within
 returns-clause-within c = rw (narrowed c.rdiv.result (omega (arith, small c))) (small c)
+
+pub returns-clause-near : goal.returns-clause-near
+returns-clause-near c = λ h.
+    let d : SFits w128 c.dot.result = record { sfits = c.dot.type_inv } in
+    let unit : c.from.result ≡ pos (2 ^ 30) = c.from.ensures in
+    let size = c.dot.ensures.size (2 ^ 38) (2 ^ 30) h c.requires.direction in
+    rw (narrowed c.rdiv.result (omega (arith, small c))) (c.rdiv.ensures.within (2 ^ 39) (rw unit (simp to_z-of_z (omega (arith, size)))))

@@ -1,19 +1,18 @@
-use Rattle.std.proofs.Common.{◌≡◌, ◌^◌, ◌+ℤ◌, arith}
-use Rattle.std.proofs.lemmas.Int.{to_z-of_z}
+use Rattle.std.proofs.Common.{arith}
+use Rattle.std.proofs.lemmas.Int.{to_z-of_z, ints}
 use Rattle.std.specs.Int.{w64, w128}
 use mir.Val.{SFits}
-use Rattle.fixed_geom.proofs.Sizes.{sum_le}
-use Rattle.momenta.proofs.Spins.{fits_128}
+use Rattle.momenta.proofs.Spins.{fits_64}
 use Rattle.momenta.proofs.line.next_total.Goals as goal
 
-pub returns-clause-value : goal.returns-clause-value
-returns-clause-value c =
+pub returns-then-is_narrow-clause-value : goal.returns-then-is_narrow-clause-value
+returns-then-is_narrow-clause-value c =
+    let speed : SFits w64 c.args.speed = c.ranges.speed in
+    let bias : SFits w64 c.args.bias = c.ranges.bias in
+    let wide : SFits w128 c.args.inverse = c.ranges.inverse in
+    let inverse : SFits w64 c.args.inverse = fits_64 _ (omega (arith, ints, c.requires.inverse, simp to_z-of_z at (c.is_narrow.ensures.inverse c.if-is_narrow.true))) in
     let low : SFits w64 c.args.low = c.ranges.low in
     let high : SFits w64 c.args.high = c.ranges.high in
     let total : SFits w64 c.args.total = c.ranges.total in
-    let wanted : SFits w128 c.args.wanted = c.ranges.wanted in
-    let wide : SFits w128 c.from.result = record { sfits = c.from.type_inv } in
-    let result : SFits w64 c.between.result = record { sfits = c.between.type_inv } in
-    let from : c.from.result ≡ c.args.total = simp to_z-of_z at c.from.ensures in
-    let whole : SFits w128 (c.from.result +ℤ c.args.wanted) = fits_128 _ (rw from (omega (arith, sum_le c.args.total c.args.wanted (2 ^ 43) (2 ^ 84) c.requires.total c.requires.wanted))) in
-    simp to_z-of_z (rw from at (simp to_z-of_z at c.between.ensures.value))
+    let result : SFits w64 c.narrow_next_total.result = record { sfits = c.narrow_next_total.type_inv } in
+    simp to_z-of_z (simp to_z-of_z at c.narrow_next_total.ensures.value)

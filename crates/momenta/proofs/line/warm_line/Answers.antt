@@ -1,14 +1,11 @@
-use Rattle.std.proofs.Common.{refl}
+use Rattle.std.proofs.Common.{◌≡◌, ◌∙◌, ap, sym, pos}
 use Rattle.std.proofs.lemmas.Int.{to_z-of_z}
 use Rattle.std.specs.Int.{w64}
-use mir.Val.{SFits}
-use Rattle.momenta.specs.Impulses.{warmed}
+use mir.Val.{to_z}
+use Rattle.momenta.proofs.NoImpulse.{warmed_none}
 use Rattle.momenta.proofs.line.warm_line.Goals as goal
 
-pub returns-in-Some-clause-value : goal.returns-in-Some-clause-value
-unfolding warmed
-returns-in-Some-clause-value c =
-    let total : SFits w64 c.args.total = c.ranges.total in
-    let impulse = simp to_z-of_z at c.along-j.ensures.value in
-    let value = rw impulse at c.in-Some.ensures.value in
-    rw (← value) refl
+pub returns-else-total-ne0-clause-value : goal.returns-else-total-ne0-clause-value
+returns-else-total-ne0-clause-value c =
+    let none : c.args.total ≡ pos 0 = sym (to_z-of_z w64 c.args.total c.ranges.total) ∙ ap (to_z w64) c.if-total-ne0.false in
+    rw none (sym (warmed_none c.args.line.now c.args.ends.now c.requires.states))

@@ -1,0 +1,31 @@
+use Rattle.colour_solver.proofs.TurnLaws.{state_at, states-set, total_x-after, total_y-after}
+use Rattle.colour_solver.proofs.SameLaws.{same_turned}
+use Rattle.colour_solver.proofs.turns.turn_bodies.Goals as goal
+
+pub turn-requires-clause-states : goal.turn-requires-clause-states
+turn-requires-clause-states g c = record {
+  a = state_at c.args.states.now.items c.args.row.now.bodies.a c.index.result.now c.index.result.now c.requires.states c.requires.row.a c.index.ensures;
+  b = state_at c.args.states.now.items c.args.row.now.bodies.b c.index-2.result.now c.index-2.result.now c.requires.states c.requires.row.b c.index-2.ensures;
+}
+
+pub got-requires-clause-before : goal.got-requires-clause-before
+got-requires-clause-before g c = record {
+  a = state_at c.args.states.now.items c.args.row.now.bodies.a c.index.result.now c.index.result.now c.requires.states c.requires.row.a c.index.ensures;
+  b = state_at c.args.states.now.items c.args.row.now.bodies.b c.index-2.result.now c.index-2.result.now c.requires.states c.requires.row.b c.index-2.ensures;
+}
+
+pub returns-clause-all_states : goal.returns-clause-all_states
+returns-clause-all_states g c =
+    rw (c.put_momenta.ensures, c.put_momenta-2.ensures) (states-set _ c.args.row.now.bodies.b c.turn.new.ends.b (states-set c.args.states.now.items c.args.row.now.bodies.a c.turn.new.ends.a c.requires.states c.turn.ensures.states.a) c.turn.ensures.states.b)
+
+pub returns-clause-same : goal.returns-clause-same
+returns-clause-same g c =
+    rw (c.put_momenta.ensures, c.put_momenta-2.ensures) (same_turned c.args.states.now.items c.args.row.now.bodies.a c.args.row.now.bodies.b (record { a = c.index.result.now; b = c.index-2.result.now }) c.turn.new.ends c.requires.row.a c.requires.row.b c.index.ensures c.index-2.ensures c.turn.ensures.same)
+
+pub returns-clause-momentum_x : goal.returns-clause-momentum_x
+returns-clause-momentum_x g c =
+    rw (c.put_momenta.ensures, c.put_momenta-2.ensures, c.got.ensures.x) (total_x-after c.args.states.now.items c.args.row.now.bodies.a c.args.row.now.bodies.b (record { a = c.index.result.now; b = c.index-2.result.now }) c.turn.new.ends c.requires.row.a c.requires.row.b c.requires.row.apart c.index.ensures c.index-2.ensures c.turn.ensures.same c.turn.ensures.kept)
+
+pub returns-clause-momentum_y : goal.returns-clause-momentum_y
+returns-clause-momentum_y g c =
+    rw (c.put_momenta.ensures, c.put_momenta-2.ensures, c.got.ensures.y) (total_y-after c.args.states.now.items c.args.row.now.bodies.a c.args.row.now.bodies.b (record { a = c.index.result.now; b = c.index-2.result.now }) c.turn.new.ends c.requires.row.a c.requires.row.b c.requires.row.apart c.index.ensures c.index-2.ensures c.turn.ensures.same c.turn.ensures.kept)

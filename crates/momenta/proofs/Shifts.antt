@@ -1,0 +1,45 @@
+-- Rounding by a shift that rounds down.
+use Rattle.std.proofs.Common.{◌≡◌, ℕ, suc, zero, ◌+◌, ◌*◌, ◌/◌, ◌<◌, ◌≤◌, ℤ, pos, negsuc, neg_ℤ, ◌+ℤ◌, ◌<ℤ◌, ◌≤ℤ◌, ◌^◌, unsigned_abs, refl, ap, arith, to_z, of_z}
+use Rattle.std.proofs.lemmas.Int.{ints}
+use Rattle.std.specs.Int.Signed.{shr_z}
+use Rattle.fixed_geom.specs.Numbers.{nearest, rdiv}
+use Rattle.fixed_geom.specs.Vectors.{unit_length}
+use Rattle.fixed_geom.proofs.Sizes.{passed_64, sum_le}
+use Rattle.fixed_geom.proofs.QuotientLemmas.{rdiv_le}
+use Rattle.std.specs.Int.{w64}
+
+-- from zero on: a half is added
+pub shifted_up : (x z : ℤ) → pos 0 ≤ℤ x → z ≡ x +ℤ pos 536870912 → shr_z z 1073741824 ≡ rdiv x unit_length
+unfolding rdiv
+shifted_up (pos n) (pos a) h is =
+    let same : a / 1073741824 ≡ nearest n 1073741824 = omega (arith, ints, is) in
+    ap pos same
+shifted_up (pos n) (negsuc a) h is = absurd (omega (arith, ints, is))
+shifted_up (negsuc n) z h is = absurd (omega (arith, ints, h))
+
+-- below zero: just below a half
+pub shifted_down : (x z : ℤ) → x <ℤ pos 0 → z ≡ x +ℤ pos 536870911 → shr_z z 1073741824 ≡ rdiv x unit_length
+unfolding rdiv
+shifted_down (negsuc n) (pos a) h is =
+    let none : a / 1073741824 ≡ 0 = omega (arith, ints, is) in
+    let near : nearest (suc n) 1073741824 ≡ 0 = omega (arith, ints, is) in
+    rw (none, near) refl
+shifted_down (negsuc n) (negsuc a) h is =
+    let near : nearest (suc n) 1073741824 ≡ suc (a / 1073741824) = omega (arith, ints, is) in
+    rw near refl
+shifted_down (pos n) z h is = absurd (omega (arith, ints, h))
+
+-- ---- the code's sums and shifts, of a number with room for the half
+
+size : (x : ℤ) → unsigned_abs x ≤ 2 ^ 62 → unsigned_abs (rdiv x unit_length) ≤ 2 ^ 32
+size x h = rdiv_le x unit_length (2 ^ 32) (omega (arith, ints)) (omega (arith, ints, h))
+
+pub shift_down_64 : (x : ℤ) → x <ℤ pos 0 → unsigned_abs x ≤ 2 ^ 62 → to_z w64 (of_z w64 (shr_z (to_z w64 (of_z w64 (to_z w64 (of_z w64 x) +ℤ pos 536870911))) 1073741824)) ≡ rdiv x unit_length
+shift_down_64 x negative h =
+    let s : unsigned_abs (x +ℤ pos 536870911) ≤ 2 ^ 62 + 536870911 = sum_le x (pos 536870911) (2 ^ 62) 536870911 h (omega (arith, ints)) in
+    rw (passed_64 x (omega (arith, h)), passed_64 (x +ℤ pos 536870911) (omega (arith, s)), shifted_down x (x +ℤ pos 536870911) negative refl) (passed_64 (rdiv x unit_length) (omega (arith, size x h)))
+
+pub shift_up_64 : (x : ℤ) → pos 0 ≤ℤ x → unsigned_abs x ≤ 2 ^ 62 → to_z w64 (of_z w64 (shr_z (to_z w64 (of_z w64 (to_z w64 (of_z w64 x) +ℤ pos 536870912))) 1073741824)) ≡ rdiv x unit_length
+shift_up_64 x nonnegative h =
+    let s : unsigned_abs (x +ℤ pos 536870912) ≤ 2 ^ 62 + 536870912 = sum_le x (pos 536870912) (2 ^ 62) 536870912 h (omega (arith, ints)) in
+    rw (passed_64 x (omega (arith, h)), passed_64 (x +ℤ pos 536870912) (omega (arith, s)), shifted_up x (x +ℤ pos 536870912) nonnegative refl) (passed_64 (rdiv x unit_length) (omega (arith, size x h)))

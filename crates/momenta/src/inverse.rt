@@ -1,0 +1,115 @@
+//! The inverse of the mass that two bodies show along a line.
+
+ghost use Rattle.std.specs.Prelude.{◌≡◌, ◌^◌, ◌≤◌, ◌⊎◌, true, pos, ◌+ℤ◌, ◌≤ℤ◌, unsigned_abs};
+ghost use Rattle.fixed_geom.specs.Numbers.{rdiv};
+ghost use Rattle.fixed_geom.specs.Vectors.{IsWithin, cross, unit_length};
+ghost use Rattle.momenta.specs.Motions.{IsMass};
+ghost use Rattle.momenta.specs.Impulses.{IsState, AreStates, turning_share, inverse_share, inverse_mass};
+
+use crate::narrow::{narrow_cross, rdiv_unit_64};
+use crate::{BodyState, Ends, MassData};
+use fixed_geom::{Vec2, product, rdiv, rdiv_64};
+
+/// An inverse mass is times 2^40.
+const INVERSE_UNIT: i128 = 1 << 40;
+
+/// The same in 64 bits.
+const NARROW_INVERSE_UNIT: i64 = 1 << 40;
+
+/// What turning adds to a body's share of the inverse mass: nothing at inertia 0, or where the line goes through the centre.
+#[inline(always)]
+fn turning_share(inertia: i64, lever: i64) -> i128
+    requires inertia { pos 0 ≤ℤ inertia }
+    requires lever { unsigned_abs lever ≤ 2 ^ 28 }
+    ensures value { result ≡ turning_share inertia lever }
+    ensures nonnegative { pos 0 ≤ℤ result }
+    ensures within { unsigned_abs result ≤ 2 ^ 96 }
+{
+    if inertia == 0 || lever == 0 {
+        0
+    } else {
+        share_of_inertia(inertia, lever)
+    }
+}
+
+/// What turning adds, of a body that turns.
+fn share_of_inertia(inertia: i64, lever: i64) -> i128
+    requires inertia { pos 1 ≤ℤ inertia }
+    requires lever { unsigned_abs lever ≤ 2 ^ 28 }
+    ensures value { result ≡ turning_share inertia lever }
+    ensures nonnegative { pos 0 ≤ℤ result }
+    ensures within { unsigned_abs result ≤ 2 ^ 96 }
+{
+    rdiv(INVERSE_UNIT * product(lever, lever), i128::from(inertia))
+}
+
+/// The share of a mass without turning.
+#[inline(always)]
+fn share_of_mass(mass: i64) -> i64
+    requires positive { pos 1 ≤ℤ mass }
+    requires mass { unsigned_abs mass ≤ 2 ^ 20 }
+    ensures value { result ≡ rdiv (pos (2 ^ 40)) mass }
+    ensures some { pos (2 ^ 20) ≤ℤ result }
+    ensures within { unsigned_abs result ≤ 2 ^ 40 }
+{
+    rdiv_64(NARROW_INVERSE_UNIT, mass)
+}
+
+/// The lever of a line through the point at the offset `r`, in u.
+#[inline(always)]
+fn lever(r: Vec2, direction: Vec2) -> i64
+    requires offset { IsWithin (2 ^ 27) r }
+    requires direction { IsWithin (2 ^ 30) direction }
+    ensures value { result ≡ rdiv (cross r direction) unit_length }
+    ensures within { unsigned_abs result ≤ 2 ^ 28 }
+{
+    rdiv_unit_64(narrow_cross(r, direction))
+}
+
+/// A mover's share of the inverse mass.
+#[inline(always)]
+fn share_of_mover(direction: Vec2, r: Vec2, mass: MassData) -> i128
+    requires direction { IsWithin (2 ^ 30) direction }
+    requires offset { IsWithin (2 ^ 27) r }
+    requires mass { IsMass mass }
+    ensures value { result ≡ rdiv (pos (2 ^ 40)) mass.mass +ℤ turning_share mass.inertia (rdiv (cross r direction) unit_length) }
+    ensures some { pos (2 ^ 20) ≤ℤ result }
+    ensures within { unsigned_abs result ≤ 2 ^ 97 }
+{
+    i128::from(share_of_mass(mass.mass)) + turning_share(mass.inertia, lever(r, direction))
+}
+
+/// A body's share of the inverse mass.
+#[inline(always)]
+fn inverse_share(direction: Vec2, r: Vec2, body: &BodyState) -> i128
+    requires direction { IsWithin (2 ^ 30) direction }
+    requires offset { IsWithin (2 ^ 27) r }
+    requires state { IsState body.now }
+    ensures value { result ≡ inverse_share direction r body.now }
+    ensures nonnegative { pos 0 ≤ℤ result }
+    ensures within { unsigned_abs result ≤ 2 ^ 97 }
+    ensures some { body.now.movable ≡ true → pos (2 ^ 20) ≤ℤ result }
+{
+    if body.movable {
+        share_of_mover(direction, r, body.mass)
+    } else {
+        0
+    }
+}
+
+/// The inverse of the mass that two bodies show along `direction` (times 2^30) at these offsets (u), times 2^40: for each
+/// mover `1/m + (r × n)²/I`, as in Erin Catto's sequential impulses.
+#[tactic(auto, unfolding(crate::specs::Impulses::inverse_mass))]
+#[inline(always)]
+pub fn inverse_mass(direction: Vec2, ra: Vec2, rb: Vec2, ends: &Ends) -> i128
+    requires direction { IsWithin (2 ^ 30) direction }
+    requires first { IsWithin (2 ^ 27) ra }
+    requires second { IsWithin (2 ^ 27) rb }
+    requires states { AreStates ends.now }
+    requires mover { (ends.now.a.movable ≡ true) ⊎ (ends.now.b.movable ≡ true) }
+    ensures value { result ≡ inverse_mass direction ra rb ends.now }
+    ensures low { pos (2 ^ 20) ≤ℤ result }
+    ensures high { unsigned_abs result ≤ 2 ^ 98 }
+{
+    inverse_share(direction, ra, &ends.a) + inverse_share(direction, rb, &ends.b)
+}
