@@ -143,18 +143,3 @@ touching_step others es fs e found keys more p h a b = b ∙ ap (λ (ks : List C
 pub contacts_step : (old : List ContactEntry) (ps : List Proxy) (codes : List ℕ) (k : ℕ) (found : Option Contact) (now more : List ContactEntry) → k < length codes → found ≡ lookup old (pair_key ps (get_or codes k 0)) → now ≡ contacts_of old ps (take k codes) → more ≡ now ++ pair_entry found ps (get_or codes k 0) ∷ [] → more ≡ contacts_of old ps (take (k + 1) codes)
 contacts_step old ps codes k found now more lt h a b =
     b ∙ ap (λ (es : List ContactEntry). es ++ pair_entry found ps (get_or codes k 0) ∷ []) a ∙ sym (contacts_more old ps (take k codes) (get_or codes k 0) found h) ∙ ap (contacts_of old ps) (sym (take_more codes k 0 lt))
-
--- ---- searches go on
-
-pub below_more : (es : List ContactEntry) (n m place : ℕ) → n < m → IsAllBelow es n place → IsAllBelow es m place
-below_more es n m place lt h = record { within = h.within; before = λ k d low high. let b : number_of (get_or es k d) < n = h.before k d low high in omega arith }
-
--- from the pair at one place to the next
-pub below_next_pair : (old : List ContactEntry) (ps : List Proxy) (codes : List ℕ) (k place : ℕ) → IsProxyList ps → ArePairs ps codes → k + 1 < length codes → IsAllBelow old (key_number (pair_key ps (get_or codes k 0))) place → IsAllBelow old (key_number (pair_key ps (get_or codes (k + 1) 0))) place
-unfolding entry_of
-below_next_pair old ps codes k place list pairs lt h =
-    let rises : number_of (entry_at old ps (get_or codes k 0)) < number_of (entry_at old ps (get_or codes (k + 1) 0)) = entry_rises old ps (get_or codes k 0) (get_or codes (k + 1) 0) list (pairs.each k 0 (omega arith)) (pairs.each (k + 1) 0 lt) (pairs.rising k lt) in
-    below_more old _ _ place rises h
-
-pub below_next : (others es : List ContactEntry) (k place : ℕ) (d e : ContactEntry) → AreKeysRising es → k + 1 < length es → IsAllBelow others (number_of (get_or es k d)) place → IsAllBelow others (number_of (get_or es (k + 1) e)) place
-below_next others es k place d e rising lt h = rw (get_or_default es (k + 1) e d lt) (below_more others _ _ place (keys_later es rising k (k + 1) d (omega arith) lt) h)

@@ -3,11 +3,11 @@
 ghost use Rattle.std.specs.Prelude.{◌≡◌, ◌++◌, All, OnOk, IfOk};
 ghost use Rattle.std.specs.Result.{IsOkUnless};
 ghost use Rattle.contacts_base.specs.Near.{IsProxy, IsProxyList};
-ghost use Rattle.std.specs.Option.{option_to_list};
+ghost use Rattle.std.specs.Option.{option_copied, option_to_list};
 ghost use Rattle.contacts_base.specs.Contacts.{AreKeysRising};
 ghost use Rattle.contacts.specs.Changes.{IsPair, ArePairs, is_touching, pair_key, entry_with, pair_entry, contacts_of, key_unless, key_if_new, keys_not_in, keys_touching_only_in, AreRising};
 
-use contacts_base::{Contact, ContactEntry, ContactKey, Proxy, contact_of, find_from};
+use contacts_base::{Contact, ContactEntry, ContactKey, Proxy, contact_at, contact_of, seek};
 use fixed_geom::Refusal;
 use std::alloc::Global;
 
@@ -35,10 +35,10 @@ fn key_at(proxies: &[Proxy], code: u64) -> ContactKey
 
 /// The contact of two shapes, whose contact until now was `old`.
 #[tactic(auto, unfolding(crate::specs::Changes::entry_with))]
-fn entry_with(old: Option<Contact>, p: &Proxy, q: &Proxy) -> ContactEntry
+fn entry_with(old: Option<&Contact>, p: &Proxy, q: &Proxy) -> ContactEntry
     requires first { IsProxy p.now }
     requires second { IsProxy q.now }
-    ensures { result ≡ entry_with old p.now q.now }
+    ensures { result ≡ entry_with (option_copied old.entry) p.now q.now }
 {
     ContactEntry {
         key: ContactKey {
@@ -50,10 +50,10 @@ fn entry_with(old: Option<Contact>, p: &Proxy, q: &Proxy) -> ContactEntry
 }
 
 /// The contact of the pair with this number, whose contact until now was `old`.
-fn pair_entry(old: Option<Contact>, proxies: &[Proxy], code: u64) -> ContactEntry
+fn pair_entry(old: Option<&Contact>, proxies: &[Proxy], code: u64) -> ContactEntry
     requires proxies { All IsProxy proxies.now }
     requires pair { IsPair proxies.now code }
-    ensures { result ≡ pair_entry old proxies.now code }
+    ensures { result ≡ pair_entry (option_copied old.entry) proxies.now code }
 {
     let first = (code / (1 << 32)) as usize;
     let second = (code % (1 << 32)) as usize;
@@ -62,8 +62,8 @@ fn pair_entry(old: Option<Contact>, proxies: &[Proxy], code: u64) -> ContactEntr
 
 /// The entry's key, unless there is another contact with it.
 #[tactic(auto, unfolding(crate::specs::Changes::key_unless))]
-fn key_unless(other: Option<Contact>, entry: &ContactEntry) -> Option<ContactKey>
-    ensures { result ≡ key_unless other entry.now }
+fn key_unless(other: Option<&Contact>, entry: &ContactEntry) -> Option<ContactKey>
+    ensures { result ≡ key_unless (option_copied other.entry) entry.now }
 {
     match other {
         Some(_) => None,
@@ -71,8 +71,8 @@ fn key_unless(other: Option<Contact>, entry: &ContactEntry) -> Option<ContactKey
     }
 }
 
-fn is_touching(contact: Option<Contact>) -> bool
-    ensures { result ≡ is_touching contact }
+fn is_touching(contact: Option<&Contact>) -> bool
+    ensures { result ≡ is_touching (option_copied contact.entry) }
 {
     match contact {
         None => false,
@@ -82,8 +82,8 @@ fn is_touching(contact: Option<Contact>) -> bool
 
 /// The entry's key, if it touches and the other contact with its key, if there is one, doesn't.
 #[tactic(auto, unfolding(crate::specs::Changes::key_if_new))]
-fn key_if_new(other: Option<Contact>, entry: &ContactEntry) -> Option<ContactKey>
-    ensures { result ≡ key_if_new other entry.now }
+fn key_if_new(other: Option<&Contact>, entry: &ContactEntry) -> Option<ContactKey>
+    ensures { result ≡ key_if_new (option_copied other.entry) entry.now }
 {
     if !entry.contact.touching {
         return None;
@@ -144,12 +144,13 @@ fn contacts_of_pairs(
     let mut begin = Vec::new(alloc);
     let mut place = 0;
     for code in near {
-        let found = find_from(old, place, key_at(proxies, *code));
-        let entry = pair_entry(found.contact, proxies, *code);
-        push_key(&mut made, key_unless(found.contact, &entry))?;
-        push_key(&mut begin, key_if_new(found.contact, &entry))?;
+        let key = key_at(proxies, *code);
+        place = seek(old, place, key);
+        let before = contact_at(old, place, key);
+        let entry = pair_entry(before, proxies, *code);
+        push_key(&mut made, key_unless(before, &entry))?;
+        push_key(&mut begin, key_if_new(before, &entry))?;
         now.push(entry)?;
-        place = found.place;
     }
     Ok(Present { now, made, begin })
 }
@@ -166,10 +167,10 @@ fn lost_keys(alloc: Global, now: &[ContactEntry], old: &[ContactEntry]) -> Resul
     let mut end = Vec::new(alloc);
     let mut place = 0;
     for entry in old {
-        let found = find_from(now, place, entry.key);
-        push_key(&mut gone, key_unless(found.contact, entry))?;
-        push_key(&mut end, key_if_new(found.contact, entry))?;
-        place = found.place;
+        place = seek(now, place, entry.key);
+        let after = contact_at(now, place, entry.key);
+        push_key(&mut gone, key_unless(after, entry))?;
+        push_key(&mut end, key_if_new(after, entry))?;
     }
     Ok(Past { gone, end })
 }

@@ -1,3 +1,4 @@
 pub mod LookupLemmas
 pub mod CircleLemmas
 pub mod PlaceLemmas
+pub mod SeekLemmas

@@ -24,7 +24,12 @@ pub record IsAllBelow (entries : List ContactEntry) (number place : ℕ) : Type 
   pub within : place ≤ length entries
   pub before : AllWithin (λ e. number_of e < number) entries 0 place
 
--- so they have, and the contact at the place, if there is one, has not
+-- the contacts from the place on have no lesser numbers
+pub record IsNoneBelow (entries : List ContactEntry) (number place : ℕ) : Type 0 where
+  pub within : place ≤ length entries
+  pub after : AllWithin (λ e. number ≤ number_of e) entries place (length entries)
+
+-- those before the place have lesser numbers, and the contact at the place, if there is one, has not
 pub record IsFirstFrom (entries : List ContactEntry) (number place : ℕ) : Type 0 where
   pub below : IsAllBelow entries number place
   pub there : (d : ContactEntry) → place < length entries → number ≤ number_of (slice_index_or entries place d)

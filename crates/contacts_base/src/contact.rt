@@ -1,8 +1,9 @@
 //! Contacts, and how one is found by its key.
 
-ghost use Rattle.std.specs.Prelude.{◌≡◌};
+ghost use Rattle.std.specs.Prelude.{◌≡◌, ◌≤◌, ◌+◌, true};
+ghost use Rattle.std.specs.Option.{option_copied};
 ghost use Rattle.contacts_base.specs.Keys.{key_number};
-ghost use Rattle.contacts_base.specs.Contacts.{number_of, lookup, found_place, AreKeysRising, IsAllBelow, IsFirstFrom};
+ghost use Rattle.contacts_base.specs.Contacts.{lookup, found_place, AreKeysRising, IsAllBelow, IsNoneBelow, IsFirstFrom};
 
 use crate::ContactKey;
 use fixed_geom::Vec2;
@@ -36,31 +37,114 @@ pub struct ContactEntry {
     pub contact: Contact,
 }
 
-/// The place of the first contact whose key's number is at least `wanted`, or the list's length.
-fn place_of(entries: &[ContactEntry], wanted: u128) -> usize
-    requires { AreKeysRising entries.now }
+/// The place of the first contact whose key's number is at least `wanted`, by halving: those before `low` have lesser ones,
+/// and those from `high` on have not.
+fn place_between(entries: &[ContactEntry], low: usize, high: usize, wanted: u128) -> usize
+    requires rising { AreKeysRising entries.now }
+    requires low { IsAllBelow entries.now wanted low }
+    requires high { IsNoneBelow entries.now wanted high }
+    requires order { low ≤ high }
     ensures { IsFirstFrom entries.now wanted result }
 {
-    entries.partition_point(|entry| entry.key.number() < wanted)
+    let mut low = low;
+    let mut high = high;
+    while low < high {
+        let middle = low + (high - low) / 2;
+        if entries[middle].key.number() < wanted {
+            low = middle + 1;
+        } else {
+            high = middle;
+        }
+    }
+    low
 }
 
-/// The contact with this key, where `place` is that of the first contact whose key isn't below it.
-fn contact_at(entries: &[ContactEntry], place: usize, key: ContactKey) -> Option<Contact>
+/// The place of the first contact, from the place `from` on, whose key's number is at least `wanted`, or the list's length:
+/// it looks near `from` first, and each time twice as far (Bentley and Yao, 'An almost optimal algorithm for unbounded
+/// searching', 1976).
+fn place_from(entries: &[ContactEntry], from: usize, wanted: u128) -> usize
+    requires rising { AreKeysRising entries.now }
+    requires from { IsAllBelow entries.now wanted from }
+    ensures { IsFirstFrom entries.now wanted result }
+{
+    let mut low = from;
+    let mut width = 1;
+    while width <= entries.len() - low {
+        let last = low + width - 1;
+        if entries[last].key.number() >= wanted {
+            return place_between(entries, low, last, wanted);
+        }
+        low = last + 1;
+        width *= 2;
+    }
+    place_between(entries, low, entries.len(), wanted)
+}
+
+/// Whether there is a contact at a place, and its key has a lesser number.
+#[inline(always)]
+fn is_passed(entries: &[ContactEntry], place: usize, wanted: u128) -> bool
+    requires { AreKeysRising entries.now }
+    ensures { result ≡ true → IsAllBelow entries.now wanted (place + 1) }
+{
+    if place < entries.len() {
+        entries[place].key.number() < wanted
+    } else {
+        false
+    }
+}
+
+/// The place from which a search may go on: beyond the one where the last search ended, if the key is beyond that, or
+/// that one, if the key is beyond those before it; else the first.
+#[inline(always)]
+fn start_of(entries: &[ContactEntry], hint: usize, wanted: u128) -> usize
+    requires { AreKeysRising entries.now }
+    ensures { IsAllBelow entries.now wanted result }
+{
+    if is_passed(entries, hint, wanted) {
+        return hint + 1;
+    }
+    if hint == 0 {
+        return 0;
+    }
+    if is_passed(entries, hint - 1, wanted) {
+        hint
+    } else {
+        0
+    }
+}
+
+/// The place of the first contact whose key isn't below this one, in a list whose keys ascend, or the list's length.
+///
+/// The search begins at `hint` if that place isn't beyond it, and costs the less the nearer that is: one search after another,
+/// each from where the one before it ended, goes through the list once.
+#[inline(always)]
+pub fn seek(entries: &[ContactEntry], hint: usize, key: ContactKey) -> usize
+    requires { AreKeysRising entries.now }
+    ensures { IsFirstFrom entries.now (key_number key) result }
+{
+    let wanted = key.number();
+    place_from(entries, start_of(entries, hint, wanted), wanted)
+}
+
+/// The contact with this key, where `place` is that of the first contact whose key isn't below it; `None` where there is
+/// none.
+#[inline(always)]
+pub fn contact_at(entries: &[ContactEntry], place: usize, key: ContactKey) -> Option<&Contact>
     requires rising { AreKeysRising entries.now }
     requires place { IsFirstFrom entries.now (key_number key) place }
-    ensures { result ≡ lookup entries.now key }
+    ensures { option_copied result ≡ lookup entries.now key }
 {
     let wanted = key.number();
     let entry = entries.get(place)?;
     if entry.key.number() == wanted {
-        Some(entry.contact)
+        Some(&entry.contact)
     } else {
         None
     }
 }
 
-/// The place of the contact with this key, where `place` is that of the first whose key isn't below it.
-fn place_at(entries: &[ContactEntry], place: usize, key: ContactKey) -> Option<usize>
+/// Whether the contact with this key is at `place`, where that is the place of the first contact whose key isn't below it.
+pub fn place_at(entries: &[ContactEntry], place: usize, key: ContactKey) -> Option<usize>
     requires rising { AreKeysRising entries.now }
     requires place { IsFirstFrom entries.now (key_number key) place }
     ensures { result ≡ found_place entries.now key }
@@ -71,61 +155,5 @@ fn place_at(entries: &[ContactEntry], place: usize, key: ContactKey) -> Option<u
         Some(place)
     } else {
         None
-    }
-}
-
-/// The place of the contact with this key, in a list whose keys ascend; `None` where there is none.
-pub fn find_place(entries: &[ContactEntry], key: ContactKey) -> Option<usize>
-    requires { AreKeysRising entries.now }
-    ensures { result ≡ found_place entries.now key }
-{
-    place_at(entries, place_of(entries, key.number()), key)
-}
-
-/// The contact with this key, in a list whose keys ascend; `None` where there is none.
-pub fn find(entries: &[ContactEntry], key: ContactKey) -> Option<Contact>
-    requires { AreKeysRising entries.now }
-    ensures { result ≡ lookup entries.now key }
-{
-    contact_at(entries, place_of(entries, key.number()), key)
-}
-
-/// What a search found: the contact with the key, if there is one, and where the search for a
-/// greater key may go on.
-#[derive(Clone, Copy, Debug, PartialEq, Eq)]
-pub struct Found {
-    pub place: usize,
-    pub contact: Option<Contact>,
-}
-
-/// The place of the first contact, from the place `from` on, whose key's number is at least
-/// `wanted`, or the list's length.
-fn place_from(entries: &[ContactEntry], from: usize, wanted: u128) -> usize
-    requires from { IsAllBelow entries.now wanted from }
-    ensures { IsFirstFrom entries.now wanted result }
-{
-    for place in from..entries.len() {
-        if entries[place].key.number() >= wanted {
-            return place;
-        }
-    }
-    entries.len()
-}
-
-/// The contact with this key, in a list whose keys ascend, where all contacts before the place
-/// `from` have lesser keys.
-///
-/// A search for one key after the other, ascending, each from the place where the one before it
-/// ended, goes through the list once.
-pub fn find_from(entries: &[ContactEntry], from: usize, key: ContactKey) -> Found
-    requires rising { AreKeysRising entries.now }
-    requires from { IsAllBelow entries.now (key_number key) from }
-    ensures contact { result.contact ≡ lookup entries.now key }
-    ensures place { IsAllBelow entries.now (key_number key) result.place }
-{
-    let place = place_from(entries, from, key.number());
-    Found {
-        place,
-        contact: contact_at(entries, place, key),
     }
 }

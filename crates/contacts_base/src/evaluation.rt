@@ -1,6 +1,7 @@
 //! What a contact becomes when its two shapes are evaluated anew.
 
 ghost use Rattle.std.specs.Prelude.{◌≡◌};
+ghost use Rattle.std.specs.Option.{option_copied};
 ghost use Rattle.shapes.specs.Manifolds.{manifold_of};
 ghost use Rattle.contacts_base.specs.Near.{IsProxy};
 ghost use Rattle.contacts_base.specs.Evaluate.{impulses_at, kept, kept_point, evaluated};
@@ -27,8 +28,8 @@ const APART: Contact = Contact {
 };
 
 /// The impulses of a point if it is this candidate's.
-fn impulses_at(point: Option<ContactPoint>, candidate: u8) -> Option<Impulses>
-    ensures { result ≡ impulses_at point candidate }
+fn impulses_at(point: &Option<ContactPoint>, candidate: u8) -> Option<Impulses>
+    ensures { result ≡ impulses_at point.now candidate }
 {
     match point {
         None => None,
@@ -46,21 +47,21 @@ fn impulses_at(point: Option<ContactPoint>, candidate: u8) -> Option<Impulses>
 }
 
 /// The impulses that a contact kept at this candidate, zero where it has no such point.
-fn kept(old: Option<Contact>, candidate: u8) -> Impulses
-    ensures { result ≡ kept old candidate }
+fn kept(old: Option<&Contact>, candidate: u8) -> Impulses
+    ensures { result ≡ kept (option_copied old.entry) candidate }
 {
     match old {
         None => NO_IMPULSES,
-        Some(contact) => match impulses_at(contact.first, candidate) {
+        Some(contact) => match impulses_at(&contact.first, candidate) {
             Some(impulses) => impulses,
-            None => impulses_at(contact.second, candidate).unwrap_or(NO_IMPULSES),
+            None => impulses_at(&contact.second, candidate).unwrap_or(NO_IMPULSES),
         },
     }
 }
 
 /// A point of the manifold with the impulses kept at its candidate.
-fn kept_point(old: Option<Contact>, point: &Point) -> ContactPoint
-    ensures { result ≡ kept_point old point.now }
+fn kept_point(old: Option<&Contact>, point: &Point) -> ContactPoint
+    ensures { result ≡ kept_point (option_copied old.entry) point.now }
 {
     let impulses = kept(old, point.candidate);
     ContactPoint {
@@ -80,30 +81,33 @@ fn kept_point(old: Option<Contact>, point: &Point) -> ContactPoint
 /// manifold's points, each with the impulses that the old contact kept at the same candidate (as
 /// Box2D carries them over by feature id), or 0. One that doesn't touch has no points.
 #[tactic(auto, unfolding(crate::specs::Evaluate::evaluated))]
-pub fn evaluate(old: Option<Contact>, manifold: &Manifold) -> Contact
-    ensures { result ≡ evaluated old manifold.now }
+pub fn evaluate(old: Option<&Contact>, manifold: &Manifold) -> Contact
+    ensures { result ≡ evaluated (option_copied old.entry) manifold.now }
 {
     if manifold.first.separation > 0 {
         return APART;
     }
-    let second = match &manifold.second {
-        None => None,
-        Some(point) => Some(kept_point(old, point)),
-    };
-    Contact {
-        touching: true,
-        first: Some(kept_point(old, &manifold.first)),
-        second,
+    match &manifold.second {
+        None => Contact {
+            touching: true,
+            first: Some(kept_point(old, &manifold.first)),
+            second: None,
+        },
+        Some(point) => Contact {
+            touching: true,
+            first: Some(kept_point(old, &manifold.first)),
+            second: Some(kept_point(old, point)),
+        },
     }
 }
 
 /// What the contact of two shapes becomes, where `old` is what it was before: `evaluate` of their
 /// manifold, which isn't computed where a quick look shows that they are apart.
 #[tactic(auto, unfolding(crate::specs::Evaluate::evaluated))]
-pub fn contact_of(old: Option<Contact>, p: &Proxy, q: &Proxy) -> Contact
+pub fn contact_of(old: Option<&Contact>, p: &Proxy, q: &Proxy) -> Contact
     requires first { IsProxy p.now }
     requires second { IsProxy q.now }
-    ensures { result ≡ evaluated old (manifold_of p.now.shape p.now.pose q.now.shape q.now.pose) }
+    ensures { result ≡ evaluated (option_copied old.entry) (manifold_of p.now.shape p.now.pose q.now.shape q.now.pose) }
 {
     if are_circles_apart(p, q) {
         return APART;

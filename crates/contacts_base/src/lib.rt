@@ -8,7 +8,7 @@ pub mod evaluation;
 pub mod key;
 pub mod near;
 
-pub use contact::{Contact, ContactEntry, ContactPoint, Found, find, find_from, find_place};
+pub use contact::{Contact, ContactEntry, ContactPoint, contact_at, place_at, seek};
 pub use evaluation::{contact_of, evaluate};
 pub use key::{ContactKey, ShapeId};
 pub use near::{Proxy, code_of, is_near};

@@ -1,7 +1,7 @@
 -- The twelve colours and the overflow as the lists of a colouring.
 use Rattle.std.proofs.Common.{◌≡◌, ℕ, ◌+◌, ◌<◌, ◌≤◌, ◌==◌, ◌++◌, Bool, true, false, cond, List, [], ◌∷◌, length, get_or, take, map, slice_set, subst, Some, None, refl, sym, ap, ◌∙◌, arith, max}
 use Rattle.std.specs.List.{All, position_or_len}
-use Rattle.std.proofs.lemmas.List.{length-map, length-set, map-append, get_or-take}
+use Rattle.std.proofs.lemmas.List.{length-map, length-set, get_or-take}
 use Rattle.std.proofs.lemmas.List.Elements.{All-nil, All-head, All-tail, All-cons}
 use Rattle.std.proofs.lemmas.List.Folds.{position_or_len_push}
 use Rattle.graph_colours.specs.declared.member.Member.{Member}
@@ -54,14 +54,13 @@ pub length_from : {C : Type 0} (bs : List (Bucket C)) (overflow : List (Member C
 length_from [] overflow = omega arith
 length_from (b ∷ bs) overflow = let r : length (lists_of bs overflow) ≡ length bs + 1 = length_from bs overflow in omega arith
 
-pub released_is : {C : Type 0} (number : C → ℕ) (id : C) (bs cs : List (Bucket C)) (overflow over : List (Member C)) → map members_in cs ≡ map (without number id) (map members_in bs) → over ≡ without number id overflow → lists_of cs over ≡ released number id (lists_of bs overflow)
+pub released_twelve : {C : Type 0} (number : C → ℕ) (id : C) (bs cs : List (Bucket C)) (overflow over : List (Member C)) → length bs ≡ 12 → lists_of cs over ≡ released number id (lists_of bs overflow) → length cs ≡ 12
 unfolding released
-released_is {C} number id bs cs overflow over same is =
-    let lists : List (List (Member C)) → List (Member C) → List (List (Member C)) = λ ls o. ls ++ o ∷ [] in
-    ap (λ ls. lists ls over) same ∙ ap (λ o. lists (map (without number id) (map members_in bs)) o) is ∙ sym (map-append (without number id) (map members_in bs) (overflow ∷ []))
-
-pub cleared_twelve : {C : Type 0} (number : C → ℕ) (id : C) (bs cs : List (Bucket C)) → map members_in cs ≡ map (without number id) (map members_in bs) → length bs ≡ 12 → length cs ≡ 12
-cleared_twelve number id bs cs same n = sym (length-map cs members_in) ∙ ap length same ∙ length-map (map members_in bs) (without number id) ∙ length-map bs members_in ∙ n
+released_twelve number id bs cs overflow over n is =
+    let a : length (lists_of cs over) ≡ length (lists_of bs overflow) = ap length is ∙ length-map (lists_of bs overflow) (without number id) in
+    let b : length (lists_of cs over) ≡ length cs + 1 = length_from cs over in
+    let d : length (lists_of bs overflow) ≡ length bs + 1 = length_from bs overflow in
+    omega arith
 
 -- where an id stands
 pub place_in_lists : {C : Type 0} (number : C → ℕ) (id : C) (bs : List (Bucket C)) (overflow : List (Member C)) → let q : Bucket C → Bool = λ b. has_id number id b.members in position_or_len (has_id number id) (lists_of bs overflow) ≡ cond (position_or_len q bs == length bs) (length bs + cond (has_id number id overflow) 0 1) (position_or_len q bs)

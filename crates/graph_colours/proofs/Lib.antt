@@ -5,5 +5,6 @@ pub mod ListLemmas
 pub mod MarkLemmas
 pub mod SearchLemmas
 pub mod StepLemmas
+pub mod OnceLemmas
 pub mod ColouringLemmas
 pub mod GraphLemmas

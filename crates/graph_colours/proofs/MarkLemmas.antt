@@ -121,19 +121,6 @@ below_by number id ms used first (Some s) marks is =
 pub taken_below : {C : Type 0} (number : C → ℕ) (id : C) (ms : List (Member C)) (used : List Bool) (v : Movers) → AreMarks ms used → Some v ≡ movers_of number id ms → AreBelow (length used) v
 taken_below number id ms used v marks is = below_by number id ms used v.first v.second marks (sym is)
 
--- where no member has the id
-pub without_absent : {C : Type 0} (number : C → ℕ) (id : C) (ms : List (Member C)) → None ≡ movers_of number id ms → without number id ms ≡ ms
-unfolding without
-without_absent number id [] is = refl
-without_absent number id (x ∷ xs) is =
-    let here : number x.id ≡ number id → without number id (x ∷ xs) ≡ x ∷ xs = λ q.
-    let at : None ≡ Some x.movers = rw (is_same (number x.id) (number id) q) at is in
-    absurd (let wrong : None ≡ Some x.movers = at in cc) in
-    let there : (number x.id ≡ number id → ⊥) → without number id (x ∷ xs) ≡ x ∷ xs = λ h.
-    let rest : None ≡ movers_of number id xs = rw (not_same (number x.id) (number id) h) at is in
-    rw (not_same (number x.id) (number id) h) (ap (λ ys. x ∷ ys) (without_absent number id xs rest)) in
-    elim (cases_eq (number x.id) (number id)) [ inl q ↦ here q | inr h ↦ there h ]
-
 pub head_gone : (t u : Bool) → (t ≡ true → u ≡ false) → u ≡ (not t && (t || u))
 head_gone true u h = h refl
 head_gone false u h = refl

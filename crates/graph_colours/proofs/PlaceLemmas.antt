@@ -1,6 +1,7 @@
 -- The place of an id in a list that rises.
-use Rattle.std.proofs.Common.{◌≡◌, ℕ, zero, suc, ◌<◌, ◌≤◌, ◌==◌, Bool, true, false, List, [], ◌∷◌, length, get_or, refl, sym, ap, ◌∙◌, Option, Some, None, subst, nat_lt, arith, inl, inr}
-use Rattle.std.specs.List.{AllWithin, insert, remove}
+use Rattle.std.proofs.Common.{◌≡◌, ℕ, zero, suc, ◌<◌, ◌≤◌, ◌==◌, ◌||◌, Bool, true, false, List, [], ◌∷◌, length, get_or, refl, sym, ap, ◌∙◌, Option, Some, None, subst, nat_lt, arith, inl, inr}
+use Rattle.std.specs.List.{AllWithin, list_any, insert, remove}
+use Rattle.std.specs.Option.{is_some}
 use Rattle.std.specs.List.Sorted.{IsNonDecreasingBy}
 use Rattle.std.proofs.lemmas.Bool.{cases_eq}
 use Rattle.std.proofs.lemmas.List.{get_or_default}
@@ -9,6 +10,7 @@ use Rattle.std.proofs.lemmas.List.Folds.{list_any_at, list_any_none}
 use Rattle.graph_colours.specs.declared.member.Movers.{Movers}
 use Rattle.graph_colours.specs.declared.member.Member.{Member}
 use Rattle.graph_colours.specs.Members.{AreRising, has_id, inserted, without, movers_of}
+use Rattle.graph_colours.proofs.Cases.{by_test, or_left, or_right}
 
 pub not_before : {C : Type 0} (number : C → ℕ) (ms : List (Member C)) → AreRising number ms → IsNonDecreasingBy (λ m. number m.id) ms
 not_before number ms rising i j d le lj = grind (arith, rising i j d)
@@ -97,6 +99,14 @@ without_none number id (x ∷ xs) h =
     let n : (number x.id == number id) ≡ false = not_same (number x.id) (number id) (h 0 x (omega arith)) in
     rw n (ap (λ ys. x ∷ ys) (without_none number id xs (λ k d lt. h (suc k) d (omega arith))))
 
+pub without_same : {C : Type 0} (number : C → ℕ) (id : C) (ms : List (Member C)) → has_id number id ms ≡ false → without number id ms ≡ ms
+unfolding has_id without
+without_same number id [] none = refl
+without_same number id (x ∷ xs) none =
+    let here : (number x.id == number id) ≡ false = or_left (number x.id == number id) (list_any (λ m. number m.id == number id) xs) none in
+    let rest : list_any (λ m. number m.id == number id) xs ≡ false = or_right (number x.id == number id) (list_any (λ m. number m.id == number id) xs) none in
+    rw here (ap (λ ys. x ∷ ys) (without_same number id xs rest))
+
 pub remove_is : {C : Type 0} (number : C → ℕ) (id : C) (ms : List (Member C)) (i : ℕ) (d : Member C) → i < length ms → number (get_or ms i d).id ≡ number id → ((k : ℕ) (d : Member C) → k < length ms → (k ≡ i → ⊥) → number (get_or ms k d).id ≡ number id → ⊥) → remove ms i ≡ without number id ms
 unfolding without
 remove_is number id [] i d lt here apart = absurd (omega arith)
@@ -112,6 +122,13 @@ movers_none number id [] h = refl
 movers_none number id (x ∷ xs) h =
     let n : (number x.id == number id) ≡ false = not_same (number x.id) (number id) (h 0 x (omega arith)) in
     rw n (movers_none number id xs (λ k d lt. h (suc k) d (omega arith)))
+
+pub has_movers : {C : Type 0} (number : C → ℕ) (id : C) (ms : List (Member C)) → is_some (movers_of number id ms) ≡ has_id number id ms
+unfolding has_id
+has_movers number id [] = refl
+has_movers {C} number id (x ∷ xs) = by_test (λ o. is_some o ≡ ((number x.id == number id) || list_any (λ m. number m.id == number id) xs)) (number x.id == number id) (Some x.movers) (movers_of number id xs)
+    (λ q. rw q refl)
+    (λ q. rw q (has_movers number id xs))
 
 pub movers_at : {C : Type 0} (number : C → ℕ) (id : C) (ms : List (Member C)) (i : ℕ) (d : Member C) → i < length ms → number (get_or ms i d).id ≡ number id → ((k : ℕ) (d : Member C) → k < length ms → (k ≡ i → ⊥) → number (get_or ms k d).id ≡ number id → ⊥) → Some (get_or ms i d).movers ≡ movers_of number id ms
 movers_at number id [] i d lt here apart = absurd (omega arith)

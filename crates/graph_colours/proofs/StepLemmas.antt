@@ -1,37 +1,17 @@
 -- One more colour done.
-use Rattle.std.proofs.Common.{◌≡◌, ℕ, zero, suc, ◌+◌, ◌<◌, ◌≤◌, ◌++◌, List, [], ◌∷◌, length, get_or, take, drop, map, slice_set, subst, refl, sym, ap, ◌∙◌, arith}
+use Rattle.std.proofs.Common.{◌≡◌, ℕ, zero, suc, ◌+◌, ◌<◌, ◌≤◌, List, [], ◌∷◌, length, get_or, map, slice_set, subst, refl, sym, ap, ◌∙◌, arith}
 use Rattle.std.specs.List.{All}
-use Rattle.std.proofs.lemmas.List.{get_or-map}
-use Rattle.std.proofs.lemmas.List.Edits.{map_over_more}
 use Rattle.std.proofs.lemmas.List.Elements.{All-set, All-weaker}
 use Rattle.graph_colours.specs.declared.member.Member.{Member}
 use Rattle.graph_colours.specs.Members.{inserted}
 use Rattle.graph_colours.specs.Marks.{Bucket, HasRoom, lists_of}
 use Rattle.graph_colours.specs.Colours.{list_at}
 
-pub map_set : {X Y : Type 0} (f : X → Y) (xs : List X) (i : ℕ) (y : X) → map f (slice_set xs i y) ≡ slice_set (map f xs) i (f y)
-map_set f [] i y = refl
-map_set f (x ∷ xs) zero y = refl
-map_set f (x ∷ xs) (suc i) y = ap (λ ys. f x ∷ ys) (map_set f xs i y)
-
 -- an image that stays
 pub map_kept : {X Y : Type 0} (f : X → Y) (xs : List X) (i : ℕ) (y d : X) → f y ≡ f (get_or xs i d) → map f (slice_set xs i y) ≡ map f xs
 map_kept f [] i y d h = refl
 map_kept f (x ∷ xs) zero y d h = ap (λ z. z ∷ map f xs) h
 map_kept f (x ∷ xs) (suc i) y d h = ap (λ ys. f x ∷ ys) (map_kept f xs i y d h)
-
-pub half_length : {Y : Type 0} (g : Y → Y) (xs : List Y) (i : ℕ) → length (map g (take i xs) ++ drop i xs) ≡ length xs
-half_length g [] zero = refl
-half_length g [] (suc i) = refl
-half_length g (x ∷ xs) zero = refl
-half_length g (x ∷ xs) (suc i) = let r : length (map g (take i xs) ++ drop i xs) ≡ length xs = half_length g xs i in omega arith
-
--- the members of one more colour changed by g
-pub map_step : {X Y : Type 0} (f : X → Y) (g : Y → Y) (old : List Y) (xs : List X) (i : ℕ) (x y : X) → length xs ≡ length old → i < length old → map f xs ≡ map g (take i old) ++ drop i old → x ≡ get_or xs i x → f y ≡ g (f x) → map f (slice_set xs i y) ≡ map g (take (i + 1) old) ++ drop (i + 1) old
-map_step {X} {Y} f g old xs i x y n lt now is h =
-    let lt' : i < length xs = omega (arith, n) in
-    let at : f x ≡ get_or (map f xs) i (f x) = ap f is ∙ sym (get_or-map f xs i x (f x) lt') in
-    rw (map_set f xs i y, h) (map_over_more g old (map f xs) i (f x) lt now at)
 
 pub rooms_set : {C : Type 0} (room below : ℕ) (bs : List (Bucket C)) (i : ℕ) (x y : Bucket C) → i < length bs → x ≡ get_or bs i x → x.room ≤ y.room → x.slots ≤ y.slots → All (HasRoom room below) bs → All (HasRoom room below) (slice_set bs i y)
 rooms_set {C} room below bs i x y lt is more wider each =

@@ -98,15 +98,18 @@ impl<C: Id> Colour<C> {
         set_marks(&mut self.used, member.movers, true);
     }
 
-    /// Takes out the member that has the id, if there is one.
-    pub(crate) fn remove(&mut self, id: C)
+    /// Takes out the member that has the id, and answers whether there was one.
+    pub(crate) fn remove(&mut self, id: C) -> bool
+        ensures value { result ≡ has_id C.number id self.old.members }
         ensures members { self.new.members ≡ without C.number id self.old.members }
         ensures room { self.old.room ≤ self.new.room }
         ensures slots { self.new.slots ≡ self.old.slots }
     {
-        if let Some(movers) = member::remove(&mut self.members, id) {
-            set_marks(&mut self.used, movers, false);
-        }
+        let Some(movers) = member::remove(&mut self.members, id) else {
+            return false;
+        };
+        set_marks(&mut self.used, movers, false);
+        true
     }
 
     /// The members, ascending by id.

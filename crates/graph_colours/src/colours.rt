@@ -108,14 +108,20 @@ fn first_with<C: Id>(colours: &[Colour<C>], id: C) -> usize
     colours.len()
 }
 
-/// Takes the id out of each colour.
-fn remove_from_all<C: Id>(colours: &mut Vec<Colour<C>>, id: C)
+/// Takes the id out of the first list that has it, and touches no other: an id stands in one at most.
+fn remove_from_first<C: Id>(colours: &mut Vec<Colour<C>>, overflow: &mut Vec<Member<C>>, id: C)
+    requires { IsColouring C.number (lists_of colours.old.items overflow.old.items) }
+    ensures lists { lists_of colours.new.items overflow.new.items ≡ released C.number id (lists_of colours.old.items overflow.old.items) }
     ensures kept { (room below : ℕ) → All (HasRoom room below) colours.old.items → All (HasRoom room below) colours.new.items }
-    ensures lists { map members_in colours.new.items ≡ map (without C.number id) (map members_in colours.old.items) }
+    ensures len { vec_len overflow.new ≤ vec_len overflow.old }
+    ensures capacity { vec_capacity overflow.new ≡ vec_capacity overflow.old }
 {
-    for place in 0..colours.len() {
-        colours[place].remove(id);
+    for colour in 0..colours.len() {
+        if colours[colour].remove(id) {
+            return;
+        }
     }
+    let _ = member::remove(overflow, id);
 }
 
 /// Adds a member to the colour at this place, or to the overflow where there is none.
@@ -236,8 +242,7 @@ impl<C: Id> Colours<C> {
         ensures others { (other : C) → C.number other ≢ C.number id → colour_of C.number other self.new.lists ≡ colour_of C.number other self.old.lists }
         ensures members { all_members self.new.lists ≡ without C.number id (all_members self.old.lists) }
     {
-        remove_from_all(&mut self.colours, id);
-        let _ = member::remove(&mut self.overflow, id);
+        remove_from_first(&mut self.colours, &mut self.overflow, id);
     }
 
     /// The colour of the constraint, 0 to 12; `None` where it has none.

@@ -19,7 +19,7 @@ use crate::body::Body;
 use crate::slots::body_at;
 use colour_solver_base::{Bodies, ContactRow, PointRow, contact_row};
 use contacts::Constraint;
-use contacts_base::{Contact, ContactEntry, ContactKey, ContactPoint, ShapeId, find_place};
+use contacts_base::{Contact, ContactEntry, ContactKey, ContactPoint, ShapeId, place_at, seek};
 use fixed_geom::{Refusal, Rot, UNIT, Vec2};
 use graph_colours::{Colours, Member};
 use momenta::{BodyState, Ends, MassData, Motion};
@@ -148,32 +148,34 @@ fn ends_at(states: &[BodyState], key: ContactKey) -> Ends
     }
 }
 
-/// The row of the contact with this key at a place, if it touches.
+/// The row of the contact with this key at a place, if it touches; `own` is the key that it has there.
 fn row_in(
     states: &[BodyState],
     bodies: &[Option<Body>],
     key: ContactKey,
     place: usize,
-    entry: ContactEntry,
+    own: ContactKey,
+    contact: &Contact,
 ) -> Option<ContactRow>
     requires states { states.now ≡ states_of bodies.now }
     requires all_states { AreAllStates states.now }
     requires bodies { AreBodies bodies.now }
-    requires contact { IsContactOf bodies.now entry }
-    requires same { number_of entry ≡ key_number key }
-    ensures value { result ≡ row_in states.now bodies.now key place (Some entry) }
+    requires contact { IsContactOf bodies.now (record { key = own; contact = contact.now }) }
+    requires same { key_number own ≡ key_number key }
+    ensures value { result ≡ row_in states.now bodies.now key place (Some (record { key = own; contact = contact.now })) }
     ensures row { ForSome result (IsRowBelow (length states.now)) }
 {
     let ends = ends_at(states, key);
-    contact_row(bodies_of(bodies, key, place), &entry.contact, &ends)
+    contact_row(bodies_of(bodies, key, place), contact, &ends)
 }
 
-/// The row of a constraint, if it is a contact that touches.
+/// The row of a constraint, if it is a contact that touches. The contact is looked for from `hint` on, which becomes its place.
 #[tactic(auto, unfolding(crate::specs::Gather::row_of))]
 fn row_of(
     states: &[BodyState],
     bodies: &[Option<Body>],
     contacts: &[ContactEntry],
+    hint: &mut usize,
     id: Constraint,
 ) -> Option<ContactRow>
     requires states { states.now ≡ states_of bodies.now }
@@ -187,9 +189,10 @@ fn row_of(
     match id {
         Constraint::Joint(_) => None,
         Constraint::Contact(key) => {
-            let place = find_place(contacts, key)?;
+            *hint = seek(contacts, *hint, key);
+            let place = place_at(contacts, *hint, key)?;
             let entry = contacts.get(place)?;
-            row_in(states, bodies, key, place, *entry)
+            row_in(states, bodies, key, place, entry.key, &entry.contact)
         }
     }
 }
@@ -226,8 +229,9 @@ fn gather_colour(
     ensures room { vec_len rows.new ≤ vec_len rows.old + length members.now }
     ensures capacity { vec_capacity rows.old ≤ vec_capacity rows.new }
 {
+    let mut hint = 0;
     for member in members {
-        push_row(rows, row_of(states, bodies, contacts, member.id));
+        push_row(rows, row_of(states, bodies, contacts, &mut hint, member.id));
     }
 }
 

@@ -1,29 +1,28 @@
 use Rattle.std.proofs.Common.{arith, ◌≡◌, ◌∙◌, ap, sym, subst, get_or}
 use Rattle.std.proofs.lemmas.Grind.{common_steps}
+use Rattle.std.specs.Option.{option_copied}
 use Rattle.contacts_base.specs.Contacts.{lookup, AreKeysRising}
 use Rattle.contacts.specs.Changes.{pair_key}
-use Rattle.contacts.proofs.ChangeLemmas.{contacts_rise, contacts_step, not_in_step, touching_step, pair_entry_key, below_next_pair}
+use Rattle.contacts.proofs.ChangeLemmas.{contacts_rise, contacts_step, not_in_step, touching_step, pair_entry_key}
 use Rattle.contacts.proofs.changes.contacts_of_pairs.Goals as goal
 
 pub loop-code-preserved : goal.loop-code-preserved
 loop-code-preserved c =
     let old = c.args.old.now in
     let ps = c.args.proxies.now in
-    let found = c.find_from-found.result.contact in
+    let before = option_copied c.contact_at-before.result in
     let e = c.pair_entry-entry.result in
     let code = get_or c.args.near.now c.loop-code.code-index 0 in
-    let key : e.key ≡ pair_key ps code = ap (λ x. x.key) c.pair_entry-entry.ensures ∙ pair_entry_key ps code found in
-    let there : found ≡ lookup old (pair_key ps code) = rw c.key_at.ensures at c.find_from-found.ensures.contact in
-    let same : found ≡ lookup old e.key = there ∙ ap (lookup old) (sym key) in
+    let key : e.key ≡ pair_key ps code = ap (λ x. x.key) c.pair_entry-entry.ensures ∙ pair_entry_key ps code before in
+    let there : before ≡ lookup old (pair_key ps code) = rw c.key_at-key.ensures at c.contact_at-before.ensures in
+    let same : before ≡ lookup old e.key = there ∙ ap (lookup old) (sym key) in
     let now = rw c.pair_entry-entry.ensures at c.in_ok-push.ensures.items in
     let pushed = rw c.key_unless.ensures at c.in_ok-push_key.ensures.pushed in
     let begun = rw c.key_if_new.ensures at c.in_ok-push_key-2.ensures.pushed in
-    let place = rw c.key_at.ensures at c.find_from-found.ensures.place in
     record {
-      now = contacts_step old ps c.args.near.now c.loop-code.code-index found _ _ c.loop-code-test.true there c.loop-code.invariant.now now;
-      made = not_in_step old c.loop-code.now.items _ e found _ _ c.in_ok-push.ensures.items same c.loop-code.invariant.made pushed;
-      begin = touching_step old c.loop-code.now.items _ e found _ _ c.in_ok-push.ensures.items same c.loop-code.invariant.begin begun;
-      below = λ lt. below_next_pair old ps c.args.near.now c.loop-code.code-index _ c.requires.proxies c.requires.near lt place;
+      now = contacts_step old ps c.args.near.now c.loop-code.code-index before _ _ c.loop-code-test.true there c.loop-code.invariant.now now;
+      made = not_in_step old c.loop-code.now.items _ e before _ _ c.in_ok-push.ensures.items same c.loop-code.invariant.made pushed;
+      begin = touching_step old c.loop-code.now.items _ e before _ _ c.in_ok-push.ensures.items same c.loop-code.invariant.begin begun;
     }
 
 pub returns-clause-now : goal.returns-clause-now

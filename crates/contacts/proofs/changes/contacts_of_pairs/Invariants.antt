@@ -1,7 +1,5 @@
-use Rattle.std.proofs.Common.{◌≡◌, ◌<◌, length, take, get_or}
-use Rattle.contacts_base.specs.Keys.{key_number}
-use Rattle.contacts_base.specs.Contacts.{IsAllBelow}
-use Rattle.contacts.specs.Changes.{contacts_of, keys_not_in, keys_touching_only_in, pair_key}
+use Rattle.std.proofs.Common.{◌≡◌, take}
+use Rattle.contacts.specs.Changes.{contacts_of, keys_not_in, keys_touching_only_in}
 use Rattle.contacts.proofs.changes.contacts_of_pairs.Given as goal
 
 abbrev pub invariant-loop-code : goal.invariant-loop-code
@@ -9,5 +7,4 @@ invariant-loop-code l = record {
   now : l.now.items ≡ contacts_of l.old l.proxies (take l.code-index l.near);
   made : l.made.items ≡ keys_not_in l.old l.now.items;
   begin : l.begin.items ≡ keys_touching_only_in l.old l.now.items;
-  below : l.code-index < length l.near → IsAllBelow l.old (key_number (pair_key l.proxies (get_or l.near l.code-index 0))) l.place;
 }

@@ -1,4 +1,5 @@
-use Rattle.std.proofs.Common.{◌≡◌, arith, sym, refl, ltb-true, ltb-false}
+use Rattle.std.proofs.Common.{◌≡◌, arith, sym, refl, ap, ◌∙◌, ltb-true, ltb-false}
+use Rattle.std.specs.Option.{option_copied}
 use Rattle.contacts_base.specs.Keys.{key_number}
 use Rattle.contacts_base.specs.Contacts.{number_of}
 use Rattle.contacts_base.proofs.LookupLemmas.{lookup-found, lookup-missed, lookup-beyond}
@@ -6,7 +7,7 @@ use Rattle.contacts_base.proofs.contact.contact_at.Goals as goal
 
 pub returns-in_err-entry : goal.returns-in_err-entry
 returns-in_err-entry c =
-    rw (lookup-beyond c.args.entries.now c.args.key c.args.place c.requires.place.below.before (ltb-false _ _ (sym c.in_err-entry.ensures.lookup.0))) c.from_residual.ensures
+    rw (lookup-beyond c.args.entries.now c.args.key c.args.place c.requires.place.below.before (ltb-false _ _ (sym c.in_err-entry.ensures.lookup.0))) (ap option_copied c.from_residual.ensures)
 
 pub returns-then-number-wanted : goal.returns-then-number-wanted
 returns-then-number-wanted c =

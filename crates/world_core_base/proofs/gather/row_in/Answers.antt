@@ -11,7 +11,7 @@ use Rattle.world_core_base.proofs.gather.row_in.Goals as goal
 pub ends_at-ends-requires-clause-first : goal.ends_at-ends-requires-clause-first
 ends_at-ends-requires-clause-first c =
     let key = c.args.key in
-    let own = c.args.entry.key in
+    let own = c.args.own in
     let a : Fits w8 own.first.index = search rules in
     let b : Fits w8 own.second.index = search rules in
     let s : Fits w32 own.second.slot = search rules in
@@ -25,7 +25,7 @@ ends_at-ends-requires-clause-first c =
 pub ends_at-ends-requires-clause-second : goal.ends_at-ends-requires-clause-second
 ends_at-ends-requires-clause-second c =
     let key = c.args.key in
-    let own = c.args.entry.key in
+    let own = c.args.own in
     let a : Fits w8 own.first.index = search rules in
     let b : Fits w8 own.second.index = search rules in
     let s : Fits w32 own.second.slot = search rules in
@@ -39,7 +39,7 @@ ends_at-ends-requires-clause-second c =
 pub contact_row-requires-clause-mover : goal.contact_row-requires-clause-mover
 contact_row-requires-clause-mover c =
     let key = c.args.key in
-    let own = c.args.entry.key in
+    let own = c.args.own in
     let a : Fits w8 own.first.index = search rules in
     let b : Fits w8 own.second.index = search rules in
     let s : Fits w32 own.second.slot = search rules in
@@ -53,7 +53,7 @@ contact_row-requires-clause-mover c =
 pub returns-clause-row : goal.returns-clause-row
 returns-clause-row c = λ x e.
     let key = c.args.key in
-    let own = c.args.entry.key in
+    let own = c.args.own in
     let a : Fits w8 own.first.index = search rules in
     let b : Fits w8 own.second.index = search rules in
     let s : Fits w32 own.second.slot = search rules in
@@ -61,5 +61,5 @@ returns-clause-row c = λ x e.
     let g : Fits w8 key.second.index = search rules in
     let t : Fits w32 key.second.slot = search rules in
     let same : own ≡ key = same_keys own key c.requires.same a.fits b.fits s.fits f.fits g.fits t.fits in
-    let made = sym (ap (λ (p : pairs.Bodies). contact_row p c.ends_at-ends.result c.args.entry.contact) c.bodies_of.ensures.value) ∙ (sym c.contact_row.ensures.value ∙ e) in
-    row_below c.args.bodies.now c.args.states.now key c.args.place c.args.entry c.ends_at-ends.result x c.requires.states c.requires.contact same made (c.contact_row.ensures.row x e)
+    let made = sym (ap (λ (p : pairs.Bodies). contact_row p c.ends_at-ends.result c.args.contact.now) c.bodies_of.ensures.value) ∙ (sym c.contact_row.ensures.value ∙ e) in
+    row_below c.args.bodies.now c.args.states.now key c.args.place (record { key = c.args.own; contact = c.args.contact.now }) c.ends_at-ends.result x c.requires.states c.requires.contact same made (c.contact_row.ensures.row x e)
