@@ -35,6 +35,8 @@ const ORIGIN: Vec2 = Vec2 { x: 0, y: 0 };
 
 const NO_GRAVITY: Vec2 = ORIGIN;
 
+const PULL: Vec2 = Vec2 { x: 0, y: -157 };
+
 const CIRCLE: ShapeDef = ShapeDef {
     shape: Shape::Circle {
         center: ORIGIN,
@@ -48,11 +50,6 @@ const CIRCLE: ShapeDef = ShapeDef {
         group: 0,
     },
 };
-
-/// A dynamic circle, or a static one where the mass is 0.
-fn create(alloc: Global, mass: i64, x: Vec2) -> Result<Command, Refusal> {
-    create_of(alloc, mass, x, CIRCLE)
-}
 
 /// A dynamic body of one shape, or a static one where the mass is 0.
 fn create_of(alloc: Global, mass: i64, x: Vec2, shape: ShapeDef) -> Result<Command, Refusal> {
@@ -138,158 +135,367 @@ fn awake(at: Vec2, p: Vec2) -> Option<BodyView> {
     })
 }
 
+// A world is made in a function of its own and changed through a reference, so that few exits have to drop it: a proof
+// of a function that owns a world takes longer with each exit.
+
+/// What a command answers.
+type Answer = Result<Reply, Refusal>;
+
+/// Adds a body of one shape; a static one where the mass is 0.
+fn add(alloc: Global, world: &mut WorldCore, mass: i64, x: Vec2, shape: ShapeDef) -> Answer {
+    let command = create_of(alloc, mass, x, shape)?;
+    answer(world, &command)
+}
+
+fn push(world: &mut WorldCore, handle: Handle, x: i64, y: i64) -> Answer {
+    answer(world, &Command::Push(handle, Vec2 { x, y }))
+}
+
+fn destroy(world: &mut WorldCore, handle: Handle) -> Answer {
+    answer(world, &Command::DestroyBody(handle))
+}
+
+fn pull(world: &mut WorldCore, gravity: Vec2) -> Answer {
+    answer(world, &Command::SetGravity(gravity))
+}
+
+/// The first three entries of the book.
+fn first_entries(world: &WorldCore) -> [Option<Entry>; 3] {
+    let entries = entries_of(world);
+    [
+        entries.get(0).copied(),
+        entries.get(1).copied(),
+        entries.get(2).copied(),
+    ]
+}
+
+/// What a step answers, how many entries the book has after it, and whether it tells of nothing.
+fn take_a_step(world: &mut WorldCore) -> (Answer, usize, bool) {
+    let answer = step(world, 4);
+    (answer, entries_of(world).len(), has_no_events(world))
+}
+
+fn step_of_nothing(alloc: Global) -> Result<(Answer, usize, bool), Refusal> {
+    let mut world = new_world(alloc, NO_GRAVITY)?;
+    Ok(take_a_step(&mut world))
+}
+
 #[test]
 fn an_empty_world_steps(rt: HostRuntime) -> Result<(), Fail> {
-    let mut world = new_world(rt.alloc(), NO_GRAVITY)?;
-    assert_eq!(rt; step(&mut world, 4), Ok(Reply::Stepped(1)));
-    assert!(rt; entries_of(&world).is_empty());
-    assert!(rt; has_no_events(&world));
+    let told = step_of_nothing(rt.alloc())?;
+    assert_eq!(rt; told, (Ok(Reply::Stepped(1)), 0, true));
     Ok(())
+}
+
+/// What three commands answer, and what is seen of the first body after them.
+#[derive(Clone, Copy, Debug, PartialEq, Eq)]
+struct Outcome {
+    answers: [Answer; 3],
+    seen: Option<BodyView>,
+}
+
+fn let_fall(alloc: Global, world: &mut WorldCore) -> Outcome {
+    Outcome {
+        answers: [
+            pull(world, PULL),
+            add(alloc, world, 256, ORIGIN, CIRCLE),
+            step(world, 4),
+        ],
+        seen: seen(world),
+    }
+}
+
+/// What comes of a fall, and the first entries of the book after it.
+fn outcome_of_a_fall(alloc: Global) -> Result<(Outcome, [Option<Entry>; 3]), Refusal> {
+    let mut world = new_world(alloc, NO_GRAVITY)?;
+    let outcome = let_fall(alloc, &mut world);
+    Ok((outcome, first_entries(&world)))
 }
 
 #[test]
 fn a_circle_falls(rt: HostRuntime) -> Result<(), Fail> {
-    let mut world = new_world(rt.alloc(), NO_GRAVITY)?;
-    let pull = Command::SetGravity(Vec2 { x: 0, y: -157 });
-    assert_eq!(rt; answer(&mut world, &pull), Ok(Reply::Done));
-    let circle = create(rt.alloc(), 256, ORIGIN)?;
-    assert_eq!(rt; answer(&mut world, &circle), Ok(Reply::Body(FIRST)));
-    assert_eq!(rt; step(&mut world, 4), Ok(Reply::Stepped(1)));
-    let fallen = awake(Vec2 { x: 0, y: -1570 }, Vec2 { x: 0, y: -160_768 });
-    assert_eq!(rt; seen(&world), fallen);
+    let (outcome, entries) = outcome_of_a_fall(rt.alloc())?;
+    let fallen = Outcome {
+        answers: [
+            Ok(Reply::Done),
+            Ok(Reply::Body(FIRST)),
+            Ok(Reply::Stepped(1)),
+        ],
+        seen: awake(Vec2 { x: 0, y: -1570 }, Vec2 { x: 0, y: -160_768 }),
+    };
+    assert_eq!(rt; outcome, fallen);
     let pulled = Entry {
         call: 3,
         cause: Cause::Gravity,
         x: 0,
         y: -160_768,
     };
-    assert_eq!(rt; entries_of(&world), [pulled].as_slice());
+    assert_eq!(rt; entries, [Some(pulled), None, None]);
     Ok(())
+}
+
+/// Adds a circle of mass 1, pushes it to the right and lets a tick pass.
+fn let_fly(alloc: Global, world: &mut WorldCore, x: Vec2, by: i64) -> Outcome {
+    Outcome {
+        answers: [
+            add(alloc, world, 1, x, CIRCLE),
+            push(world, FIRST, by, 0),
+            step(world, 1),
+        ],
+        seen: seen(world),
+    }
+}
+
+/// What is seen of a circle that flew.
+fn flown(at: Vec2, p: Vec2) -> Outcome {
+    Outcome {
+        answers: [
+            Ok(Reply::Body(FIRST)),
+            Ok(Reply::Done),
+            Ok(Reply::Stepped(1)),
+        ],
+        seen: awake(at, p),
+    }
+}
+
+/// What it answers to destroy the first body, the sum booked as clamped before, and those booked as departed and by all
+/// causes after.
+#[derive(Clone, Copy, Debug, PartialEq, Eq)]
+struct Departure {
+    clamped: Total,
+    answer: Answer,
+    departed: Total,
+    total: Total,
+}
+
+fn let_depart(world: &mut WorldCore) -> Departure {
+    Departure {
+        clamped: total_of(world, Cause::Clamp),
+        answer: destroy(world, FIRST),
+        departed: total_of(world, Cause::Departed),
+        total: total(world),
+    }
+}
+
+fn outcome_of_a_flight(alloc: Global) -> Result<(Outcome, Departure), Refusal> {
+    let mut world = new_world(alloc, NO_GRAVITY)?;
+    let outcome = let_fly(alloc, &mut world, ORIGIN, 2_097_152);
+    Ok((outcome, let_depart(&mut world)))
 }
 
 #[test]
 fn a_fast_circle_is_limited_and_departs(rt: HostRuntime) -> Result<(), Fail> {
-    let mut world = new_world(rt.alloc(), NO_GRAVITY)?;
-    let circle = create(rt.alloc(), 1, ORIGIN)?;
-    assert_eq!(rt; answer(&mut world, &circle), Ok(Reply::Body(FIRST)));
-    let push = Command::Push(FIRST, Vec2 { x: 2_097_152, y: 0 });
-    assert_eq!(rt; answer(&mut world, &push), Ok(Reply::Done));
-    assert_eq!(rt; step(&mut world, 1), Ok(Reply::Stepped(1)));
+    let (outcome, departure) = outcome_of_a_flight(rt.alloc())?;
     let limited = Vec2 { x: 1_048_576, y: 0 };
-    assert_eq!(rt; seen(&world), awake(limited, limited));
+    assert_eq!(rt; outcome, flown(limited, limited));
     let lost = Total {
         x: -1_048_576,
         y: 0,
     };
-    assert_eq!(rt; total_of(&world, Cause::Clamp), lost);
-    assert_eq!(rt;
-        answer(&mut world, &Command::DestroyBody(FIRST)),
-        Ok(Reply::Done)
-    );
-    assert_eq!(rt; total_of(&world, Cause::Departed), lost);
-    assert_eq!(rt; total(&world), Total { x: 0, y: 0 });
+    let expected = Departure {
+        clamped: lost,
+        answer: Ok(Reply::Done),
+        departed: lost,
+        total: Total { x: 0, y: 0 },
+    };
+    assert_eq!(rt; departure, expected);
     Ok(())
 }
 
-#[test]
-fn a_circle_stops_at_the_edge(rt: HostRuntime) -> Result<(), Fail> {
-    let mut world = new_world(rt.alloc(), NO_GRAVITY)?;
+/// What comes of a flight beyond the edge, and the sum that is booked as clamped.
+fn outcome_at_the_edge(alloc: Global) -> Result<(Outcome, Total), Refusal> {
+    let mut world = new_world(alloc, NO_GRAVITY)?;
     let near = Vec2 {
         x: 68_719_476_735,
         y: 0,
     };
-    let circle = create(rt.alloc(), 1, near)?;
-    assert_eq!(rt; answer(&mut world, &circle), Ok(Reply::Body(FIRST)));
-    let push = Command::Push(FIRST, Vec2 { x: 10, y: 0 });
-    assert_eq!(rt; answer(&mut world, &push), Ok(Reply::Done));
-    assert_eq!(rt; step(&mut world, 1), Ok(Reply::Stepped(1)));
+    let outcome = let_fly(alloc, &mut world, near, 10);
+    Ok((outcome, total_of(&world, Cause::Clamp)))
+}
+
+#[test]
+fn a_circle_stops_at_the_edge(rt: HostRuntime) -> Result<(), Fail> {
+    let (outcome, clamped) = outcome_at_the_edge(rt.alloc())?;
     let edge = Vec2 {
         x: 68_719_476_736,
         y: 0,
     };
-    assert_eq!(rt; seen(&world), awake(edge, ORIGIN));
-    assert_eq!(rt; total_of(&world, Cause::Clamp), Total { x: -10, y: 0 });
+    assert_eq!(rt; outcome, flown(edge, ORIGIN));
+    assert_eq!(rt; clamped, Total { x: -10, y: 0 });
     Ok(())
 }
 
-#[test]
-fn a_push_is_refused(rt: HostRuntime) -> Result<(), Fail> {
-    let mut world = new_world(rt.alloc(), NO_GRAVITY)?;
-    let circle = create(rt.alloc(), 1, ORIGIN)?;
-    assert_eq!(rt; answer(&mut world, &circle), Ok(Reply::Body(FIRST)));
-    let ground = create(rt.alloc(), 0, ORIGIN)?;
-    assert_eq!(rt; answer(&mut world, &ground), Ok(Reply::Body(SECOND)));
-    let far = Vec2 {
-        x: 1_099_511_627_777,
-        y: 0,
-    };
-    assert_eq!(rt;
-        answer(&mut world, &Command::Push(FIRST, far)),
-        Err(Refusal::OutOfRange)
-    );
-    assert_eq!(rt;
-        answer(&mut world, &Command::Push(SECOND, far)),
-        Err(Refusal::NotAMover)
-    );
+/// What it answers to add a circle and a static one.
+fn add_circle_and_ground(alloc: Global, world: &mut WorldCore) -> [Answer; 2] {
+    [
+        add(alloc, world, 1, ORIGIN, CIRCLE),
+        add(alloc, world, 0, ORIGIN, CIRCLE),
+    ]
+}
+
+/// What pushes that are too far answer: of a circle, of a static one, and of a handle that was never given out.
+fn push_too_far(world: &mut WorldCore) -> [Answer; 3] {
     let stale = Handle {
         slot: 0,
         generation: 2,
     };
-    assert_eq!(rt;
-        answer(&mut world, &Command::Push(stale, far)),
-        Err(Refusal::StaleHandle)
-    );
+    let far = 1_099_511_627_777;
+    [
+        push(world, FIRST, far, 0),
+        push(world, SECOND, far, 0),
+        push(world, stale, far, 0),
+    ]
+}
+
+fn answers_to_pushes(alloc: Global) -> Result<([Answer; 2], [Answer; 3]), Refusal> {
+    let mut world = new_world(alloc, NO_GRAVITY)?;
+    let added = add_circle_and_ground(alloc, &mut world);
+    Ok((added, push_too_far(&mut world)))
+}
+
+#[test]
+fn a_push_is_refused(rt: HostRuntime) -> Result<(), Fail> {
+    let (added, pushed) = answers_to_pushes(rt.alloc())?;
+    assert_eq!(rt; added, [Ok(Reply::Body(FIRST)), Ok(Reply::Body(SECOND))]);
+    let refused = [
+        Err(Refusal::OutOfRange),
+        Err(Refusal::NotAMover),
+        Err(Refusal::StaleHandle),
+    ];
+    assert_eq!(rt; pushed, refused);
     Ok(())
+}
+
+/// What an empty world answers to a step of no tick, to one of nine, to a mass beyond the limit, and to the end of a body
+/// that isn't there.
+fn go_beyond_limits(alloc: Global, world: &mut WorldCore) -> [Answer; 4] {
+    [
+        step(world, 0),
+        step(world, 9),
+        add(alloc, world, (1 << 20) + 1, ORIGIN, CIRCLE),
+        destroy(world, FIRST),
+    ]
+}
+
+fn answers_beyond_limits(alloc: Global) -> Result<[Answer; 4], Refusal> {
+    let mut world = new_world(alloc, NO_GRAVITY)?;
+    Ok(go_beyond_limits(alloc, &mut world))
 }
 
 #[test]
 fn steps_and_masses_have_limits(rt: HostRuntime) -> Result<(), Fail> {
-    let mut world = new_world(rt.alloc(), NO_GRAVITY)?;
-    assert_eq!(rt; step(&mut world, 0), Err(Refusal::OutOfRange));
-    assert_eq!(rt; step(&mut world, 9), Err(Refusal::OutOfRange));
-    let heavy = create(rt.alloc(), (1 << 20) + 1, ORIGIN)?;
-    assert_eq!(rt; answer(&mut world, &heavy), Err(Refusal::OutOfRange));
-    assert_eq!(rt;
-        answer(&mut world, &Command::DestroyBody(FIRST)),
-        Err(Refusal::StaleHandle)
-    );
+    let answers = answers_beyond_limits(rt.alloc())?;
+    let refused = [
+        Err(Refusal::OutOfRange),
+        Err(Refusal::OutOfRange),
+        Err(Refusal::OutOfRange),
+        Err(Refusal::StaleHandle),
+    ];
+    assert_eq!(rt; answers, refused);
     Ok(())
+}
+
+fn answers_of_a_replay(alloc: Global) -> Result<Vec<Answer>, Refusal> {
+    let mut world = new_world(alloc, NO_GRAVITY)?;
+    answers_to_steps(alloc, &mut world, [0, 2])
 }
 
 #[test]
 fn a_replay_answers_each_command(rt: HostRuntime) -> Result<(), Fail> {
-    let mut world = new_world(rt.alloc(), NO_GRAVITY)?;
-    let answers = answers_to_steps(rt.alloc(), &mut world, [0, 2])?;
+    let answers = answers_of_a_replay(rt.alloc())?;
     let expected = [Err(Refusal::OutOfRange), Ok(Reply::Stepped(1))];
     assert_eq!(rt; answers.as_slice(), expected.as_slice());
     Ok(())
 }
 
+/// What it answers to add a circle of mass 1 and to push it.
+fn add_and_push(alloc: Global, world: &mut WorldCore) -> [Answer; 2] {
+    [
+        add(alloc, world, 1, ORIGIN, CIRCLE),
+        push(world, FIRST, 5, 0),
+    ]
+}
+
+/// What a copy shows of the first body, and whether its entries are those of the world.
+#[derive(Clone, Copy, Debug, PartialEq, Eq)]
+struct Copied {
+    seen: Option<BodyView>,
+    has_entries: bool,
+}
+
+fn look_at_a_copy(world: &WorldCore) -> Result<Copied, Refusal> {
+    let copy = copy_of(world)?;
+    Ok(Copied {
+        seen: seen(&copy),
+        has_entries: entries_of(&copy) == entries_of(world),
+    })
+}
+
+/// What it answers to add a circle and to push it, and what a copy shows then.
+fn copy_a_push(alloc: Global, world: &mut WorldCore) -> Result<([Answer; 2], Copied), Refusal> {
+    let answers = add_and_push(alloc, world);
+    Ok((answers, look_at_a_copy(world)?))
+}
+
+fn copy_after_a_push(alloc: Global) -> Result<([Answer; 2], Copied), Refusal> {
+    let mut world = new_world(alloc, NO_GRAVITY)?;
+    copy_a_push(alloc, &mut world)
+}
+
 #[test]
 fn a_copy_is_the_world(rt: HostRuntime) -> Result<(), Fail> {
-    let mut world = new_world(rt.alloc(), NO_GRAVITY)?;
-    let circle = create(rt.alloc(), 1, ORIGIN)?;
-    assert_eq!(rt; answer(&mut world, &circle), Ok(Reply::Body(FIRST)));
-    let push = Vec2 { x: 5, y: 0 };
-    assert_eq!(rt;
-        answer(&mut world, &Command::Push(FIRST, push)),
-        Ok(Reply::Done)
-    );
-    let copy = copy_of(&world)?;
-    assert_eq!(rt; seen(&copy), awake(ORIGIN, push));
-    assert_eq!(rt; entries_of(&copy), entries_of(&world));
+    let (answers, copied) = copy_after_a_push(rt.alloc())?;
+    assert_eq!(rt; answers, [Ok(Reply::Body(FIRST)), Ok(Reply::Done)]);
+    let expected = Copied {
+        seen: awake(ORIGIN, Vec2 { x: 5, y: 0 }),
+        has_entries: true,
+    };
+    assert_eq!(rt; copied, expected);
     Ok(())
+}
+
+/// How much stands in the lists of a world.
+#[derive(Clone, Copy, Debug, PartialEq, Eq)]
+struct Counts {
+    places: usize,
+    bodies: usize,
+    steps: u64,
+    calls: u64,
+}
+
+fn counts_of_lists(world: &WorldCore) -> Result<Counts, Refusal> {
+    let plain = lists_of(world)?;
+    Ok(Counts {
+        places: plain.places().len(),
+        bodies: plain.bodies().len(),
+        steps: plain.steps(),
+        calls: plain.calls(),
+    })
+}
+
+/// What it answers to add a static circle, what stands in the lists then, and the census.
+fn add_and_count(alloc: Global, world: &mut WorldCore) -> Result<(Reply, Counts, Census), Refusal> {
+    let answer = add(alloc, world, 0, ORIGIN, CIRCLE)?;
+    let counts = counts_of_lists(world)?;
+    Ok((answer, counts, census_of(world)?))
+}
+
+fn lists_with_ground(alloc: Global) -> Result<(Reply, Counts, Census), Refusal> {
+    let mut world = new_world(alloc, NO_GRAVITY)?;
+    add_and_count(alloc, &mut world)
 }
 
 #[test]
 fn lists_and_census_are_the_world(rt: HostRuntime) -> Result<(), Fail> {
-    let mut world = new_world(rt.alloc(), NO_GRAVITY)?;
-    let ground = create(rt.alloc(), 0, ORIGIN)?;
-    assert_eq!(rt; answer(&mut world, &ground), Ok(Reply::Body(FIRST)));
-    let plain = lists_of(&world)?;
-    assert_eq!(rt; (plain.places().len(), plain.bodies().len()), (1, 1));
-    assert_eq!(rt; (plain.steps(), plain.calls()), (0, 1));
-    let census = census_of(&world)?;
+    let (answer, counts, census) = lists_with_ground(rt.alloc())?;
+    assert_eq!(rt; answer, Reply::Body(FIRST));
+    let expected = Counts {
+        places: 1,
+        bodies: 1,
+        steps: 0,
+        calls: 1,
+    };
+    assert_eq!(rt; counts, expected);
     assert_eq!(rt; census.static_set(), [FIRST].as_slice());
     assert!(rt; census.awake().is_empty() && census.disabled().is_empty());
     Ok(())

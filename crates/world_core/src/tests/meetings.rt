@@ -1,7 +1,5 @@
 //! Shapes that meet: which colours their contacts have, and what is told and booked of them. The places and momenta that
 //! meetings leave are shown by the stored scripts of the repository.
-//!
-//! A world is made in a function of its own and changed through a reference, so that few exits have to drop it.
 
 use super::*;
 
@@ -70,8 +68,6 @@ fn touching(world: &WorldCore) -> Result<usize, Refusal> {
     )
 }
 
-const PULL: Vec2 = Vec2 { x: 0, y: -157 };
-
 fn circle(radius: i64) -> ShapeDef {
     ShapeDef {
         shape: Shape::Circle {
@@ -82,37 +78,13 @@ fn circle(radius: i64) -> ShapeDef {
     }
 }
 
-/// Adds a body of one shape; a static one where the mass is 0.
-fn add(
-    alloc: Global,
-    world: &mut WorldCore,
-    mass: i64,
-    x: Vec2,
-    shape: ShapeDef,
-) -> Result<(), Refusal> {
-    let command = create_of(alloc, mass, x, shape)?;
-    answer(world, &command)?;
-    Ok(())
-}
-
 /// Adds a circle of mass 1.
-fn add_circle(
-    alloc: Global,
-    world: &mut WorldCore,
-    radius: i64,
-    x: i64,
-    y: i64,
-) -> Result<(), Refusal> {
+fn add_circle(alloc: Global, world: &mut WorldCore, radius: i64, x: i64, y: i64) -> Answer {
     add(alloc, world, 1, Vec2 { x, y }, circle(radius))
 }
 
-fn push(world: &mut WorldCore, handle: Handle, x: i64, y: i64) -> Result<(), Refusal> {
-    answer(world, &Command::Push(handle, Vec2 { x, y }))?;
-    Ok(())
-}
-
 /// A static segment of two metres through the origin, as slot 0.
-fn add_floor(alloc: Global, world: &mut WorldCore) -> Result<(), Refusal> {
+fn add_floor(alloc: Global, world: &mut WorldCore) -> Answer {
     let floor = ShapeDef {
         shape: Shape::Segment {
             first: Vec2 {
@@ -127,14 +99,15 @@ fn add_floor(alloc: Global, world: &mut WorldCore) -> Result<(), Refusal> {
 }
 
 /// A floor with two circles on it.
-fn add_two_on_a_floor(alloc: Global, world: &mut WorldCore) -> Result<(), Refusal> {
+fn add_two_on_a_floor(alloc: Global, world: &mut WorldCore) -> Answer {
     add_floor(alloc, world)?;
     add_circle(alloc, world, 65_536, 0, 65_536)?;
     add_circle(alloc, world, 65_536, 600_000, 65_536)
 }
 
-/// The colour of the first contact before a step, and of both after it.
-fn colours_around_a_step(world: &mut WorldCore) -> Result<[Option<u8>; 3], Refusal> {
+/// Of two circles on a floor: the colour of the first contact before a step, and of both after it.
+fn colours_around_a_step(alloc: Global, world: &mut WorldCore) -> Result<[Option<u8>; 3], Refusal> {
+    add_two_on_a_floor(alloc, world)?;
     let before = colour(world, MEETING);
     step(world, 1)?;
     Ok([
@@ -146,8 +119,7 @@ fn colours_around_a_step(world: &mut WorldCore) -> Result<[Option<u8>; 3], Refus
 
 fn colours_on_a_floor(alloc: Global) -> Result<[Option<u8>; 3], Refusal> {
     let mut world = new_world(alloc, PULL)?;
-    add_two_on_a_floor(alloc, &mut world)?;
-    colours_around_a_step(&mut world)
+    colours_around_a_step(alloc, &mut world)
 }
 
 #[test]
@@ -157,26 +129,21 @@ fn two_circles_on_a_floor_have_one_colour(rt: HostRuntime) -> Result<(), Fail> {
     Ok(())
 }
 
-fn add_one_on_a_floor(alloc: Global, world: &mut WorldCore) -> Result<(), Refusal> {
+fn add_one_on_a_floor(alloc: Global, world: &mut WorldCore) -> Answer {
     add_floor(alloc, world)?;
     add(alloc, world, 256, Vec2 { x: 0, y: 65_536 }, CIRCLE)
 }
 
-/// The first three entries after a step of four ticks.
-fn entries_of_a_step(world: &mut WorldCore) -> Result<[Option<Entry>; 3], Refusal> {
+/// The first three entries after a circle lay on a floor for a step of four ticks.
+fn entries_of_a_step(alloc: Global, world: &mut WorldCore) -> Result<[Option<Entry>; 3], Refusal> {
+    add_one_on_a_floor(alloc, world)?;
     step(world, 4)?;
-    let entries = entries_of(world);
-    Ok([
-        entries.get(0).copied(),
-        entries.get(1).copied(),
-        entries.get(2).copied(),
-    ])
+    Ok(first_entries(world))
 }
 
 fn entries_on_a_floor(alloc: Global) -> Result<[Option<Entry>; 3], Refusal> {
     let mut world = new_world(alloc, PULL)?;
-    add_one_on_a_floor(alloc, &mut world)?;
-    entries_of_a_step(&mut world)
+    entries_of_a_step(alloc, &mut world)
 }
 
 #[test]
@@ -221,11 +188,15 @@ fn has_all_colours(world: &WorldCore) -> Result<bool, Refusal> {
     Ok(touching(world)? == 15)
 }
 
+fn let_touch_a_hub(alloc: Global, world: &mut WorldCore) -> Result<bool, Refusal> {
+    add_hub(alloc, world)?;
+    step(world, 1)?;
+    has_all_colours(world)
+}
+
 fn hub_has_all_colours(alloc: Global) -> Result<bool, Refusal> {
     let mut world = new_world(alloc, NO_GRAVITY)?;
-    add_hub(alloc, &mut world)?;
-    step(&mut world, 1)?;
-    has_all_colours(&world)
+    let_touch_a_hub(alloc, &mut world)
 }
 
 #[test]
@@ -235,14 +206,15 @@ fn a_hub_takes_all_colours(rt: HostRuntime) -> Result<(), Fail> {
 }
 
 /// A circle that comes from the left to one that stays, and meets it in the second step of one tick.
-fn add_approach(alloc: Global, world: &mut WorldCore) -> Result<(), Refusal> {
+fn add_approach(alloc: Global, world: &mut WorldCore) -> Answer {
     add_circle(alloc, world, 65_536, 0, 0)?;
     add_circle(alloc, world, 65_536, 200_000, 0)?;
     push(world, FIRST, 100_000, 0)
 }
 
 /// What is told of four steps of a tick, the first circle being pushed away after the second.
-fn let_meet_and_part(world: &mut WorldCore) -> Result<[Told; 4], Refusal> {
+fn let_meet_and_part(alloc: Global, world: &mut WorldCore) -> Result<[Told; 4], Refusal> {
+    add_approach(alloc, world)?;
     let near = told_after_a_tick(world)?;
     let meeting = told_after_a_tick(world)?;
     push(world, FIRST, -200_000, 0)?;
@@ -253,8 +225,7 @@ fn let_meet_and_part(world: &mut WorldCore) -> Result<[Told; 4], Refusal> {
 
 fn told_of_a_meeting(alloc: Global) -> Result<[Told; 4], Refusal> {
     let mut world = new_world(alloc, NO_GRAVITY)?;
-    add_approach(alloc, &mut world)?;
-    let_meet_and_part(&mut world)
+    let_meet_and_part(alloc, &mut world)
 }
 
 const NOTHING_TOLD: Told = Told {
@@ -289,8 +260,12 @@ fn contacts_and_colour(world: &WorldCore) -> Result<(usize, Option<u8>), Refusal
     Ok((plain.contacts().len(), colour(world, MEETING)))
 }
 
-/// The same before and after the second body is destroyed, and what the next step tells.
-fn let_vanish(world: &mut WorldCore) -> Result<([(usize, Option<u8>); 2], Told), Refusal> {
+/// The same after a meeting, before and after the second body is destroyed, and what the next step tells.
+fn let_vanish(
+    alloc: Global,
+    world: &mut WorldCore,
+) -> Result<([(usize, Option<u8>); 2], Told), Refusal> {
+    add_approach(alloc, world)?;
     step(world, 1)?;
     step(world, 1)?;
     let before = contacts_and_colour(world)?;
@@ -301,8 +276,7 @@ fn let_vanish(world: &mut WorldCore) -> Result<([(usize, Option<u8>); 2], Told),
 
 fn told_of_a_vanishing(alloc: Global) -> Result<([(usize, Option<u8>); 2], Told), Refusal> {
     let mut world = new_world(alloc, NO_GRAVITY)?;
-    add_approach(alloc, &mut world)?;
-    let_vanish(&mut world)
+    let_vanish(alloc, &mut world)
 }
 
 #[test]
