@@ -4,7 +4,8 @@ ghost use Rattle.momenta.specs.Impulses.{AreStates, IsLine, IsState};
 ghost use Rattle.momenta.specs.Motions.{IsMass, IsMotion};
 
 use crate::{
-    BodyState, Ends, Line, MassData, Motion, advance, clamp_speed, inverse_mass, pull, solve_line,
+    BodyState, Ends, Line, MassData, Motion, advance, clamp_speed, inverse_mass, parting, pull,
+    solve_line,
 };
 use fixed_geom::{Rot, Vec2};
 
@@ -153,7 +154,8 @@ fn push(line: &Line, bias: i64, ends: &mut Ends) -> i64
     requires bias { unsigned_abs bias ≤ 2 ^ 62 }
     requires states { AreStates ends.old }
 {
-    solve_line(line, bias, 0, 4398046511104, 0, ends)
+    let apart = parting(line.ra, line.rb, ends);
+    solve_line(line, apart, bias, 0, 4398046511104, 0, ends)
 }
 
 #[test]
