@@ -23,8 +23,5 @@ none_below es rising w i e lt high = record {
       rw (get_or_default es k d e to) (omega arith);
 }
 
-pub none_after_all : (es : List ContactEntry) (w : ℕ) → IsNoneBelow es w (length es)
-none_after_all es w = record { within = omega arith; after = λ k d from to. absurd (omega arith) }
-
 pub first_from : (es : List ContactEntry) (w i : ℕ) → IsAllBelow es w i → IsNoneBelow es w i → IsFirstFrom es w i
 first_from es w i below above = record { below = below; there = λ d lt. above.after i d (omega arith) lt }

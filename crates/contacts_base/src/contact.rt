@@ -143,7 +143,8 @@ pub fn contact_at(entries: &[ContactEntry], place: usize, key: ContactKey) -> Op
     }
 }
 
-/// Whether the contact with this key is at `place`, where that is the place of the first contact whose key isn't below it.
+/// The place of the contact with this key, where `place` is that of the first contact whose key isn't below it; `None` where
+/// there is none.
 pub fn place_at(entries: &[ContactEntry], place: usize, key: ContactKey) -> Option<usize>
     requires rising { AreKeysRising entries.now }
     requires place { IsFirstFrom entries.now (key_number key) place }

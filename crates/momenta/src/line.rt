@@ -6,15 +6,10 @@ ghost use Rattle.fixed_geom.specs.Numbers.{rdiv};
 ghost use Rattle.fixed_geom.specs.Vectors.{IsWithin, dot, unit_length};
 ghost use Rattle.momenta.specs.Impulses.{AreStates, AreSameBodies, IsMomentumKept, IsLine, parting, speed_along, wanted, between, along, exerted, solved, warmed};
 
+use crate::inverse::{INVERSE_UNIT, NARROW_INVERSE_UNIT};
 use crate::narrow::{narrow_dot, narrow_scaled, rdiv_unit_64};
 use crate::{Ends, impulse_pair};
 use fixed_geom::{UNIT, Vec2, dot, is_within, minus, rdiv, rdiv_64, scaled};
-
-/// An inverse mass is times 2^40.
-const INVERSE_UNIT: i128 = 1 << 40;
-
-/// The same in 64 bits.
-const NARROW_INVERSE_UNIT: i64 = 1 << 40;
 
 /// A velocity whose components are at most this many u/tick has a product with a direction that has room in 64 bits.
 const SLOW: u64 = 1 << 31;
