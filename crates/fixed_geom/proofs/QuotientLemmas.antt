@@ -22,11 +22,17 @@ nearest_down n d p h =
     ap (λ x. x / (2 * d)) sum ∙ div-mul-add (n / d) (2 * d) (2 * (n % d) + d) rest
 
 -- a guess a, between the bounds of the quotient, is the quotient
-pub nearest_guessed : (n d q a b : ℕ) → 0 < d → a ≡ q → b ≡ 2 * d → a * b ≤ n * 2 ^ 31 + d → n * 2 ^ 31 + d < a * b + 2 * d → q ≡ nearest (n * 2 ^ 30) d
-nearest_guessed n d q a b p e f h l =
+pub nearest_at : (n d q a b s : ℕ) → 0 < d → a ≡ q → b ≡ 2 * d → s ≡ 2 * n + d → a * b ≤ s → s < a * b + 2 * d → q ≡ nearest n d
+nearest_at n d q a b s p e f g h l =
     let same : a * b ≡ q * (2 * d) = rw (e, f) refl in
-    let sum : 2 * (n * 2 ^ 30) + d ≡ q * (2 * d) + (n * 2 ^ 31 + d - q * (2 * d)) = omega arith in
-    sym (ap (λ x. x / (2 * d)) sum ∙ div-mul-add q (2 * d) (n * 2 ^ 31 + d - q * (2 * d)) (omega arith))
+    let sum : 2 * n + d ≡ q * (2 * d) + (s - q * (2 * d)) = omega arith in
+    sym (ap (λ x. x / (2 * d)) sum ∙ div-mul-add q (2 * d) (s - q * (2 * d)) (omega arith))
+
+pub nearest_guessed : (n d q a b : ℕ) → 0 < d → a ≡ q → b ≡ 2 * d → a * b ≤ n * 2 ^ 31 + d → n * 2 ^ 31 + d < a * b + 2 * d → q ≡ nearest (n * 2 ^ 30) d
+nearest_guessed n d q a b p e f h l = nearest_at (n * 2 ^ 30) d q a b (n * 2 ^ 31 + d) p e f (omega arith) h l
+
+pub inverse_guessed : (n d q a b : ℕ) → 0 < d → a ≡ q → b ≡ 2 * d → a * b ≤ n * 2 ^ 41 + d → n * 2 ^ 41 + d < a * b + 2 * d → q ≡ nearest (n * 2 ^ 40) d
+inverse_guessed n d q a b p e f h l = nearest_at (n * 2 ^ 40) d q a b (n * 2 ^ 41 + d) p e f (omega arith) h l
 
 pub nearest_le : (n d k : ℕ) → 0 < d → n ≤ k * d → nearest n d ≤ k
 nearest_le n d k p h =

@@ -36,7 +36,7 @@ pub fn rdiv(a: i128, b: i128) -> i128
 
 /// `nearest_quotient` in 64 bits.
 #[inline(always)]
-fn nearest_quotient_64(n: u64, d: u64) -> u64
+pub(crate) fn nearest_quotient_64(n: u64, d: u64) -> u64
     requires { 0 < d }
     ensures value { result ≡ nearest n d }
     ensures small { result ≤ n }

@@ -25,6 +25,13 @@ pub(crate) fn low_bits(x: f64) -> u64
     f64_to_bits_with_nan(x + 4_503_599_627_370_496.0) & 0x1_ffff_ffff
 }
 
+/// The whole number nearest to `x`, if that is from 0 to below 2^52; of another `x` any number.
+pub(crate) fn low_52_bits(x: f64) -> u64
+    ensures small { result < 2 ^ 52 }
+{
+    f64_to_bits_with_nan(x + 4_503_599_627_370_496.0) & 0xf_ffff_ffff_ffff
+}
+
 /// A guess at the root: the processor's root of the nearest float, rounded down but for a hair.
 /// Nothing is promised of it, since what follows puts any guess right; but that takes as many steps
 /// as the guess is off, so that it is right, or one off, from 0 to the greatest number.

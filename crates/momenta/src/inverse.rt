@@ -14,7 +14,7 @@ use fixed_geom::{Vec2, product, rdiv, rdiv_64};
 pub(crate) const INVERSE_UNIT: i128 = 1 << 40;
 
 /// The same in 64 bits.
-pub(crate) const NARROW_INVERSE_UNIT: i64 = 1 << 40;
+const NARROW_INVERSE_UNIT: i64 = 1 << 40;
 
 /// What turning adds to a body's share of the inverse mass: nothing at inertia 0, or where the line goes through the centre.
 #[inline(always)]

@@ -6,10 +6,10 @@ ghost use Rattle.fixed_geom.specs.Numbers.{rdiv};
 ghost use Rattle.fixed_geom.specs.Vectors.{IsWithin, dot, unit_length};
 ghost use Rattle.momenta.specs.Impulses.{AreStates, AreSameBodies, IsMomentumKept, IsLine, parting, speed_along, wanted, between, along, exerted, solved, warmed};
 
-use crate::inverse::{INVERSE_UNIT, NARROW_INVERSE_UNIT};
+use crate::inverse::INVERSE_UNIT;
 use crate::narrow::{narrow_dot, narrow_scaled, rdiv_unit_64};
 use crate::{Ends, impulse_pair};
-use fixed_geom::{UNIT, Vec2, dot, is_within, minus, rdiv, rdiv_64, scaled};
+use fixed_geom::{UNIT, Vec2, dot, is_within, minus, over_inverse, rdiv, scaled};
 
 /// A velocity whose components are at most this many u/tick has a product with a direction that has room in 64 bits.
 const SLOW: u64 = 1 << 31;
@@ -125,17 +125,6 @@ fn wanted(speed: i64, bias: i64, inverse: i128) -> i128
     ensures within { unsigned_abs result ≤ 2 ^ 84 }
 {
     wide_impulse_for(missing(speed, bias), inverse)
-}
-
-/// The impulse for a small change, in 64 bits.
-#[inline(always)]
-fn narrow_impulse_for(change: i64, inverse: i64) -> i64
-    requires change { unsigned_abs change < 2 ^ 22 }
-    requires low { pos (2 ^ 20) ≤ℤ inverse }
-    ensures value { result ≡ rdiv (change *ℤ pos (2 ^ 40)) inverse }
-    ensures within { unsigned_abs result ≤ 2 ^ 62 }
-{
-    rdiv_64(change * NARROW_INVERSE_UNIT, inverse)
 }
 
 /// The impulse for any other, in 128 bits.
@@ -290,6 +279,7 @@ fn narrow_next_total(speed: i64, bias: i64, inverse: i64, low: i64, high: i64, t
     requires speed { unsigned_abs speed ≤ 2 ^ 20 }
     requires bias { unsigned_abs bias ≤ 2 ^ 20 }
     requires inverse { pos (2 ^ 20) ≤ℤ inverse }
+    requires inverse_size { unsigned_abs inverse < 2 ^ 62 }
     requires order { low ≤ℤ high }
     requires total { unsigned_abs total ≤ 2 ^ 43 }
     ensures value { result ≡ between low high (total +ℤ wanted speed bias inverse) }
@@ -299,7 +289,7 @@ fn narrow_next_total(speed: i64, bias: i64, inverse: i64, low: i64, high: i64, t
     if speed >= bias && total == low {
         return low;
     }
-    let wanted = narrow_impulse_for(bias - speed, inverse);
+    let wanted = over_inverse(bias - speed, inverse);
     narrow_between(low, high, total + wanted)
 }
 

@@ -1,11 +1,11 @@
 ghost use Rattle.std.specs.Prelude.{◌≡◌, ℕ, ◌*◌, ◌^◌, ◌<◌, ◌≤◌, pos, ◌≤ℤ◌, ◌*ℤ◌, unsigned_abs};
 ghost use Rattle.fixed_geom.specs.Facings.{IsFacing};
-ghost use Rattle.fixed_geom.specs.Numbers.{nearest, rdiv};
+ghost use Rattle.fixed_geom.specs.Numbers.{rdiv};
 ghost use Rattle.fixed_geom.specs.Vectors.{IsWithin};
 ghost use Rattle.momenta.specs.declared.mass.MassData.{MassData};
 ghost use Rattle.momenta.specs.Motions.{IsMotion, limited, spin, velocity};
 
-use fixed_geom::{Rot, UNIT, Vec2, rdiv_64};
+use fixed_geom::{Rot, Vec2, rdiv_64, share};
 
 /// How a body stands and moves.
 ///
@@ -55,9 +55,6 @@ pub fn velocity(p: Vec2, mass: i64) -> Vec2
 /// project's own rule.
 pub const MAX_SPIN: i64 = 1 << 28;
 
-/// An angular momentum up to this size still has room in 64 bits once it is multiplied by 2^30.
-const NARROW: u128 = 1 << 32;
-
 /// The spin of an angular momentum, in radians a tick times 2^30: `l / inertia`, rounded to the nearest,
 /// ties away from zero, and then brought within `MAX_SPIN`. A body of inertia 0 has none.
 #[inline(always)]
@@ -69,67 +66,45 @@ pub fn spin(l: i128, inertia: i64) -> i64
 {
     if l == 0 || inertia == 0 {
         0
-    } else if l.unsigned_abs() <= NARROW {
-        narrow_spin(l as i64, inertia)
+    } else if l.unsigned_abs() <= u128::from(inertia.unsigned_abs()) {
+        part_spin(l as i64, inertia)
     } else {
-        wide_spin(l, inertia)
+        greatest_spin(l, inertia)
     }
 }
 
-/// The spin of a small angular momentum, in 64 bits.
+/// The spin of an angular momentum that isn't greater than the inertia.
 #[inline(always)]
-fn narrow_spin(l: i64, inertia: i64) -> i64
-    requires momentum { unsigned_abs l ≤ 2 ^ 32 }
+fn part_spin(l: i64, inertia: i64) -> i64
+    requires part { unsigned_abs l ≤ unsigned_abs inertia }
     requires positive { pos 1 ≤ℤ inertia }
     ensures value { result ≡ spin inertia l }
     ensures small { unsigned_abs result ≤ 2 ^ 28 }
 {
-    limit_spin(i128::from(rdiv_64(l * UNIT, inertia)))
+    limit_spin(share(l, inertia))
 }
 
-/// The spin of any other, in 128 bits.
-fn wide_spin(l: i128, inertia: i64) -> i64
-    requires momentum { unsigned_abs l ≤ 2 ^ 90 }
+/// The spin of one that is greater, which would be more than a radian: the limit, with its sign.
+fn greatest_spin(l: i128, inertia: i64) -> i64
     requires positive { pos 1 ≤ℤ inertia }
+    requires greater { unsigned_abs inertia < unsigned_abs l }
     ensures value { result ≡ spin inertia l }
     ensures small { unsigned_abs result ≤ 2 ^ 28 }
 {
-    limit_spin(wide_turn(l, inertia))
-}
-
-/// The turn of a tick before it is limited.
-#[inline(always)]
-fn wide_turn(l: i128, inertia: i64) -> i128
-    requires momentum { unsigned_abs l ≤ 2 ^ 90 }
-    requires positive { pos 1 ≤ℤ inertia }
-    ensures { result ≡ rdiv (l *ℤ pos (2 ^ 30)) inertia }
-{
-    let nearest = nearest_turn(l.unsigned_abs(), inertia.unsigned_abs()) as i128;
-    if l < 0 { -nearest } else { nearest }
-}
-
-/// Its size, by one quotient.
-#[inline(always)]
-fn nearest_turn(n: u128, d: u64) -> u128
-    requires n { n ≤ 2 ^ 90 }
-    requires d { 0 < d }
-    ensures value { result ≡ nearest (n * 2 ^ 30) d }
-    ensures small { result < 2 ^ 123 }
-{
-    (n * (1 << 31) + u128::from(d)) / (u128::from(d) * 2)
+    if l < 0 { -MAX_SPIN } else { MAX_SPIN }
 }
 
 /// A spin beyond `MAX_SPIN` is put on it.
 #[inline(always)]
-fn limit_spin(w: i128) -> i64
+fn limit_spin(w: i64) -> i64
     ensures value { result ≡ limited (2 ^ 28) w }
     ensures small { unsigned_abs result ≤ 2 ^ 28 }
 {
-    if w > i128::from(MAX_SPIN) {
+    if w > MAX_SPIN {
         MAX_SPIN
-    } else if w < -i128::from(MAX_SPIN) {
+    } else if w < -MAX_SPIN {
         -MAX_SPIN
     } else {
-        w as i64
+        w
     }
 }

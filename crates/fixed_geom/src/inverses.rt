@@ -1,0 +1,51 @@
+//! Quotients by an inverse that is times 2^40, as that of a mass is.
+
+ghost use Rattle.std.specs.Prelude.{◌≡◌, ℕ, ◌*◌, ◌^◌, ◌<◌, ◌≤◌, pos, ◌≤ℤ◌, ◌*ℤ◌, unsigned_abs};
+ghost use Rattle.fixed_geom.specs.Numbers.{nearest, rdiv};
+
+use crate::quotients::nearest_quotient_64;
+use crate::roots::{float_of, low_52_bits};
+
+/// A guess at `n·2^40 / d` to the nearest, by a quotient of floats. Nothing else is promised of it, since what follows puts
+/// any guess right.
+#[inline(always)]
+fn guess_40(n: u64, d: u64) -> u64
+    ensures small { result < 2 ^ 52 }
+{
+    let quotient = float_of(n) / float_of(d);
+    low_52_bits(quotient * 1_099_511_627_776.0)
+}
+
+/// The nearest natural number to `n·2^40 / d`, the greater where two are as near: the guess if that is it, as it nearly always
+/// is, which spares a division.
+#[inline(always)]
+fn over_size(n: u64, d: u64) -> u64
+    requires n { n < 2 ^ 22 }
+    requires least { 2 ^ 20 ≤ d }
+    requires most { d < 2 ^ 62 }
+    ensures value { result ≡ nearest (n * 2 ^ 40) d }
+    ensures small { result ≤ 2 ^ 42 }
+{
+    let guess = guess_40(n, d);
+    let least = u128::from(guess) * u128::from(2 * d);
+    let sum = u128::from((n << 41) + d);
+    if least <= sum {
+        if sum - least < u128::from(2 * d) {
+            return guess;
+        }
+    }
+    nearest_quotient_64(n << 40, d)
+}
+
+/// `x·2^40 / inverse` to the nearest, ties away from zero: what is multiplied by a number whose inverse, times 2^40, is given.
+#[inline(always)]
+pub fn over_inverse(x: i64, inverse: i64) -> i64
+    requires x { unsigned_abs x < 2 ^ 22 }
+    requires least { pos (2 ^ 20) ≤ℤ inverse }
+    requires most { unsigned_abs inverse < 2 ^ 62 }
+    ensures value { result ≡ rdiv (x *ℤ pos (2 ^ 40)) inverse }
+    ensures within { unsigned_abs result ≤ 2 ^ 42 }
+{
+    let size = over_size(x.unsigned_abs(), inverse.unsigned_abs()) as i64;
+    if x < 0 { -size } else { size }
+}
