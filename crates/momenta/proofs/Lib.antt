@@ -5,5 +5,4 @@ pub mod Totals
 pub mod MotionLaws
 pub mod ImpulseLaws
 pub mod Shares
-pub mod Shifts
 pub mod NoImpulse

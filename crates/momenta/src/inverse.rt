@@ -6,9 +6,8 @@ ghost use Rattle.fixed_geom.specs.Vectors.{IsWithin, cross, unit_length};
 ghost use Rattle.momenta.specs.Motions.{IsMass};
 ghost use Rattle.momenta.specs.Impulses.{IsState, AreStates, turning_share, inverse_share, inverse_mass};
 
-use crate::narrow::{narrow_cross, rdiv_unit_64};
 use crate::{BodyState, Ends, MassData};
-use fixed_geom::{Vec2, product, rdiv, rdiv_64};
+use fixed_geom::{Vec2, narrow_cross, product, rdiv, rdiv_64, rdiv_unit_64};
 
 /// An inverse mass is times 2^40.
 pub(crate) const INVERSE_UNIT: i128 = 1 << 40;

@@ -11,7 +11,6 @@ pub mod inverse;
 pub mod line;
 pub mod mass;
 pub mod motion;
-mod narrow;
 pub mod speed_limit;
 pub mod state;
 #[cfg(test)]

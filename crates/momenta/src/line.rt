@@ -7,9 +7,11 @@ ghost use Rattle.fixed_geom.specs.Vectors.{IsWithin, dot, unit_length};
 ghost use Rattle.momenta.specs.Impulses.{AreStates, AreSameBodies, IsMomentumKept, IsLine, parting, speed_along, wanted, between, along, exerted, solved, warmed};
 
 use crate::inverse::INVERSE_UNIT;
-use crate::narrow::{narrow_dot, narrow_scaled, rdiv_unit_64};
 use crate::{Ends, impulse_pair};
-use fixed_geom::{UNIT, Vec2, dot, is_within, minus, over_inverse, rdiv, scaled};
+use fixed_geom::{
+    UNIT, Vec2, dot, is_within, minus, narrow_dot, narrow_scaled, over_inverse, rdiv, rdiv_unit_64,
+    scaled,
+};
 
 /// A velocity whose components are at most this many u/tick has a product with a direction that has room in 64 bits.
 const SLOW: u64 = 1 << 31;

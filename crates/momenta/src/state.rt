@@ -6,9 +6,8 @@ ghost use Rattle.fixed_geom.specs.Vectors.{IsWithin, unit_length};
 ghost use Rattle.momenta.specs.declared.motion.Motion.{Motion};
 ghost use Rattle.momenta.specs.Impulses.{IsState, AreStates, AreSameBodies, velocity_at, travelled, given, plus, turned_by, fits, impulse_pair, negated, or_kept};
 
-use crate::narrow::narrow_scaled;
 use crate::{MassData, Motion, spin, velocity};
-use fixed_geom::{Vec2, cross, is_within, minus};
+use fixed_geom::{Vec2, cross, is_within, minus, narrow_scaled};
 
 /// The greatest size of a component of a momentum, in mass·u/tick.
 const MAX_MOMENTUM: u64 = 1 << 60;

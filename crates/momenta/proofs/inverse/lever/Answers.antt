@@ -23,4 +23,4 @@ returns-clause-within c =
     let product : SFits w64 c.narrow_cross.result = record { sfits = c.narrow_cross.type_inv } in
     let quotient : SFits w64 c.rdiv_unit_64.result = record { sfits = c.rdiv_unit_64.type_inv } in
     let value = simp to_z-of_z at c.rdiv_unit_64.ensures.value in
-    simp to_z-of_z (rw value (rdiv_le c.narrow_cross.result unit_length (2 ^ 28) (omega (arith, ints)) (omega (arith, ints, c.narrow_cross.ensures.within))))
+    simp to_z-of_z (rw value (rdiv_le c.narrow_cross.result unit_length (2 ^ 28) (omega (arith, ints)) (omega (arith, ints, c.narrow_cross.ensures.size (2 ^ 27) (2 ^ 30) c.requires.offset c.requires.direction))))

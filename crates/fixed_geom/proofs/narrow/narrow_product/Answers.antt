@@ -3,7 +3,7 @@ use Rattle.std.proofs.lemmas.Int.{to_z-of_z, unsigned_abs-mul}
 use Rattle.std.specs.Int.{w64}
 use mir.Val.{SFits}
 use Rattle.fixed_geom.proofs.Sizes.{passed_64, product_le}
-use Rattle.momenta.proofs.narrow.narrow_product.Goals as goal
+use Rattle.fixed_geom.proofs.narrow.narrow_product.Goals as goal
 
 pub returns-clause-value : goal.returns-clause-value
 returns-clause-value c =

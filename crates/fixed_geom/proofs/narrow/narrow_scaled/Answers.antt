@@ -3,7 +3,7 @@ use Rattle.std.proofs.lemmas.Int.{to_z-of_z}
 use Rattle.std.proofs.lemmas.Nat.{mul-le}
 use Rattle.std.specs.Int.{w64}
 use mir.Val.{SFits}
-use Rattle.momenta.proofs.narrow.narrow_scaled.Goals as goal
+use Rattle.fixed_geom.proofs.narrow.narrow_scaled.Goals as goal
 
 pub rdiv_unit_64-requires : goal.rdiv_unit_64-requires
 rdiv_unit_64-requires c =

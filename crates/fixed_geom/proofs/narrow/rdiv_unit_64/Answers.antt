@@ -1,7 +1,7 @@
 use Rattle.std.proofs.Common.{pos, ◌<ℤ◌, ◌≤ℤ◌, arith}
 use Rattle.std.proofs.lemmas.Int.{ints}
-use Rattle.momenta.proofs.Shifts.{shift_down_64, shift_up_64}
-use Rattle.momenta.proofs.narrow.rdiv_unit_64.Goals as goal
+use Rattle.fixed_geom.proofs.Shifts.{shift_down_64, shift_up_64}
+use Rattle.fixed_geom.proofs.narrow.rdiv_unit_64.Goals as goal
 
 pub returns-then-x-lt0-clause-value : goal.returns-then-x-lt0-clause-value
 returns-then-x-lt0-clause-value c =
