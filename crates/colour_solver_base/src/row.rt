@@ -106,6 +106,7 @@ fn start_speed(springy: bool, line: &Line, ends: &Ends) -> i64
 
 /// The row of a contact's point.
 #[tactic(auto, unfolding(crate::specs::Rows::point_row))]
+#[inline(always)]
 fn point_row(springy: bool, point: &ContactPoint, ends: &Ends) -> PointRow
     requires point { IsContactPoint point.now }
     requires states { AreStates ends.now }
@@ -135,6 +136,7 @@ fn point_row(springy: bool, point: &ContactPoint, ends: &Ends) -> PointRow
 
 /// The row of a contact between two bodies, one of them movable at least, which stand as they do when the step
 /// begins. `None` where it doesn't touch.
+#[inline(always)]
 pub fn contact_row(bodies: Bodies, contact: &Contact, ends: &Ends) -> Option<ContactRow>
     requires surfaces { AreSurfaces bodies }
     requires contact { IsContact contact.now }

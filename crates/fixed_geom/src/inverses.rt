@@ -1,9 +1,9 @@
-//! Quotients by an inverse that is times 2^40, as that of a mass is.
+//! Quotients that are times 2^40, as the inverse of a mass is.
 
-ghost use Rattle.std.specs.Prelude.{◌≡◌, ℕ, ◌*◌, ◌^◌, ◌<◌, ◌≤◌, pos, ◌≤ℤ◌, ◌*ℤ◌, unsigned_abs};
+ghost use Rattle.std.specs.Prelude.{◌≡◌, ℕ, ◌*◌, ◌^◌, ◌<◌, ◌≤◌, pos, ◌<ℤ◌, ◌≤ℤ◌, ◌*ℤ◌, unsigned_abs};
 ghost use Rattle.fixed_geom.specs.Numbers.{nearest, rdiv};
 
-use crate::quotients::nearest_quotient_64;
+use crate::quotients::{nearest_quotient, nearest_quotient_64};
 use crate::roots::{float_of, low_52_bits};
 
 /// A guess at `n·2^40 / d` to the nearest, by a quotient of floats. Nothing else is promised of it, since what follows puts
@@ -48,4 +48,35 @@ pub fn over_inverse(x: i64, inverse: i64) -> i64
 {
     let size = over_size(x.unsigned_abs(), inverse.unsigned_abs()) as i64;
     if x < 0 { -size } else { size }
+}
+
+/// The nearest natural number to `n·2^40 / d`, the greater where two are as near, of any quotient.
+fn quotient_40_of_sizes(n: u64, d: u64) -> u128
+    requires n { n ≤ 2 ^ 56 }
+    requires positive { 0 < d }
+    requires most { d < 2 ^ 62 }
+    ensures value { result ≡ nearest (n * 2 ^ 40) d }
+    ensures small { result ≤ 2 ^ 96 }
+{
+    let guess = guess_40(n, d);
+    let least = u128::from(guess) * u128::from(2 * d);
+    let sum = (u128::from(n) << 41) + u128::from(d);
+    if least <= sum {
+        if sum - least < u128::from(2 * d) {
+            return u128::from(guess);
+        }
+    }
+    nearest_quotient(u128::from(n) << 40, u128::from(d))
+}
+
+/// `x·2^40 / k` to the nearest, ties away from zero.
+#[inline(always)]
+pub fn quotient_40(x: i64, k: i64) -> i128
+    requires nonnegative { pos 0 ≤ℤ x }
+    requires x { unsigned_abs x ≤ 2 ^ 56 }
+    requires positive { pos 0 <ℤ k }
+    requires most { unsigned_abs k < 2 ^ 62 }
+    ensures value { result ≡ rdiv (x *ℤ pos (2 ^ 40)) k }
+{
+    quotient_40_of_sizes(x.unsigned_abs(), k.unsigned_abs()) as i128
 }

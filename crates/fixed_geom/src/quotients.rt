@@ -8,7 +8,7 @@ use crate::product;
 use crate::roots::{float_of, low_bits};
 
 /// The nearest natural number to `n / d`, the greater where two are as near.
-fn nearest_quotient(n: u128, d: u128) -> u128
+pub(crate) fn nearest_quotient(n: u128, d: u128) -> u128
     requires { 0 < d }
     ensures value { result ≡ nearest n d }
     ensures small { result ≤ n }

@@ -1,5 +1,6 @@
 -- A body's share of the inverse mass: how large it is.
-use Rattle.std.proofs.Common.{◌≡◌, ℕ, zero, suc, ◌+◌, ◌*◌, ◌^◌, ◌<◌, ◌≤◌, ℤ, pos, negsuc, ◌*ℤ◌, ◌≤ℤ◌, unsigned_abs, arith, refl}
+use Rattle.std.proofs.Common.{◌≡◌, ℕ, zero, suc, ◌+◌, ◌*◌, ◌^◌, ◌<◌, ◌≤◌, ℤ, pos, negsuc, ◌*ℤ◌, ◌≤ℤ◌, unsigned_abs, arith, refl, ap}
+use Rattle.std.proofs.Math.IntN.{*ℤ_comm}
 use Rattle.std.proofs.lemmas.Int.{ints}
 use Rattle.std.proofs.lemmas.Nat.{le-div}
 use Rattle.fixed_geom.specs.Numbers.{nearest, rdiv}
@@ -31,6 +32,9 @@ share_of_mass mass h k =
 square : (g : ℤ) → g *ℤ g ≡ pos (unsigned_abs g * unsigned_abs g)
 square (pos n) = refl
 square (negsuc n) = refl
+
+pub by_product : (inertia g : ℤ) → rdiv (g *ℤ g *ℤ pos (2 ^ 40)) inertia ≡ rdiv (pos (2 ^ 40) *ℤ (g *ℤ g)) inertia
+by_product inertia g = ap (λ z. rdiv z inertia) (*ℤ_comm (g *ℤ g) (pos (2 ^ 40)))
 
 rdiv_nonnegative : (n : ℕ) (b : ℤ) → pos 0 ≤ℤ rdiv (pos n) b
 unfolding rdiv

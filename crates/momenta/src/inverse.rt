@@ -7,18 +7,13 @@ ghost use Rattle.momenta.specs.Motions.{IsMass};
 ghost use Rattle.momenta.specs.Impulses.{IsState, AreStates, turning_share, inverse_share, inverse_mass};
 
 use crate::{BodyState, Ends, MassData};
-use fixed_geom::{Vec2, narrow_cross, product, rdiv, rdiv_64, rdiv_unit_64};
-
-/// An inverse mass is times 2^40.
-pub(crate) const INVERSE_UNIT: i128 = 1 << 40;
-
-/// The same in 64 bits.
-const NARROW_INVERSE_UNIT: i64 = 1 << 40;
+use fixed_geom::{Vec2, narrow_cross, quotient_40, rdiv_unit_64};
 
 /// What turning adds to a body's share of the inverse mass: nothing at inertia 0, or where the line goes through the centre.
 #[inline(always)]
 fn turning_share(inertia: i64, lever: i64) -> i128
     requires inertia { pos 0 ≤ℤ inertia }
+    requires inertia_size { unsigned_abs inertia ≤ 2 ^ 60 }
     requires lever { unsigned_abs lever ≤ 2 ^ 28 }
     ensures value { result ≡ turning_share inertia lever }
     ensures nonnegative { pos 0 ≤ℤ result }
@@ -32,14 +27,16 @@ fn turning_share(inertia: i64, lever: i64) -> i128
 }
 
 /// What turning adds, of a body that turns.
+#[inline(always)]
 fn share_of_inertia(inertia: i64, lever: i64) -> i128
     requires inertia { pos 1 ≤ℤ inertia }
+    requires inertia_size { unsigned_abs inertia ≤ 2 ^ 60 }
     requires lever { unsigned_abs lever ≤ 2 ^ 28 }
     ensures value { result ≡ turning_share inertia lever }
     ensures nonnegative { pos 0 ≤ℤ result }
     ensures within { unsigned_abs result ≤ 2 ^ 96 }
 {
-    rdiv(INVERSE_UNIT * product(lever, lever), i128::from(inertia))
+    quotient_40(lever * lever, inertia)
 }
 
 /// The share of a mass without turning.
@@ -51,7 +48,7 @@ fn share_of_mass(mass: i64) -> i64
     ensures some { pos (2 ^ 20) ≤ℤ result }
     ensures within { unsigned_abs result ≤ 2 ^ 40 }
 {
-    rdiv_64(NARROW_INVERSE_UNIT, mass)
+    quotient_40(1, mass) as i64
 }
 
 /// The lever of a line through the point at the offset `r`, in u.

@@ -6,7 +6,6 @@ ghost use Rattle.fixed_geom.specs.Numbers.{rdiv};
 ghost use Rattle.fixed_geom.specs.Vectors.{IsWithin, dot, unit_length};
 ghost use Rattle.momenta.specs.Impulses.{AreStates, AreSameBodies, IsMomentumKept, IsLine, parting, speed_along, wanted, between, along, exerted, solved, warmed};
 
-use crate::inverse::INVERSE_UNIT;
 use crate::{Ends, impulse_pair};
 use fixed_geom::{
     UNIT, Vec2, dot, is_within, minus, narrow_dot, narrow_scaled, over_inverse, rdiv, rdiv_unit_64,
@@ -24,6 +23,9 @@ const SMALL_INVERSE: i128 = 1 << 62;
 
 /// An impulse below this has a product with a direction that has room in 64 bits.
 const SMALL_IMPULSE: u64 = 1 << 32;
+
+/// An inverse mass is times 2^40.
+const INVERSE_UNIT: i128 = 1 << 40;
 
 /// A line along which impulses pass between two bodies: its direction (times 2^30), the offsets from the two centres at which
 /// it meets them (u), and the inverse of the mass that they show along it, times 2^40.

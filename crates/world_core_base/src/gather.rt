@@ -42,6 +42,7 @@ const NOBODY: BodyState = BodyState {
 };
 
 /// A body as the solver works on it.
+#[inline(always)]
 fn state_of(entry: &Option<Body>) -> BodyState
     ensures { result ≡ state_of entry.now }
 {
@@ -85,6 +86,7 @@ const SMOOTH: Surface = Surface {
 };
 
 /// The surface of one of a body's shapes.
+#[inline(always)]
 fn surface_of(def: Option<&ShapeDef>) -> Surface
     ensures { result ≡ surface_of (option_copied def.entry) }
 {
@@ -98,6 +100,7 @@ fn surface_of(def: Option<&ShapeDef>) -> Surface
 }
 
 /// The surface of a body's shape by its place among them.
+#[inline(always)]
 fn surface_in(body: Option<&Body>, index: usize) -> Surface
     ensures { result ≡ surface_in (option_copied body.entry) index }
 {
@@ -108,6 +111,7 @@ fn surface_in(body: Option<&Body>, index: usize) -> Surface
 }
 
 /// The surface of a shape.
+#[inline(always)]
 fn surface_at(bodies: &[Option<Body>], id: ShapeId) -> Surface
     requires bodies { AreBodies bodies.now }
     ensures value { result ≡ surface_at bodies.now id }
@@ -118,6 +122,7 @@ fn surface_at(bodies: &[Option<Body>], id: ShapeId) -> Surface
 
 /// Which contact it is, and the bodies and surfaces that meet there.
 #[tactic(auto, unfolding(crate::specs::Gather::bodies_of))]
+#[inline(always)]
 fn bodies_of(bodies: &[Option<Body>], key: ContactKey, place: usize) -> Bodies
     requires bodies { AreBodies bodies.now }
     ensures value { result ≡ bodies_of bodies.now key place }
@@ -135,6 +140,7 @@ fn bodies_of(bodies: &[Option<Body>], key: ContactKey, place: usize) -> Bodies
 }
 
 /// The two bodies of a contact.
+#[inline(always)]
 fn ends_at(states: &[BodyState], key: ContactKey) -> Ends
     requires all_states { AreAllStates states.now }
     requires first { key.first.slot < length states.now }
@@ -149,6 +155,7 @@ fn ends_at(states: &[BodyState], key: ContactKey) -> Ends
 }
 
 /// The row of the contact with this key at a place, if it touches; `own` is the key that it has there.
+#[inline(always)]
 fn row_in(
     states: &[BodyState],
     bodies: &[Option<Body>],
@@ -171,6 +178,7 @@ fn row_in(
 
 /// The row of a constraint, if it is a contact that touches. The contact is looked for from `hint` on, which becomes its place.
 #[tactic(auto, unfolding(crate::specs::Gather::row_of))]
+#[inline(always)]
 fn row_of(
     states: &[BodyState],
     bodies: &[Option<Body>],
@@ -198,6 +206,7 @@ fn row_of(
 }
 
 /// Adds a row, if there is one, for which there is room.
+#[inline(always)]
 fn push_row(rows: &mut Vec<ContactRow>, row: Option<ContactRow>)
     requires { 1 ≤ vec_capacity rows.old - vec_len rows.old }
     ensures value { rows.new.items ≡ rows.old.items ++ option_to_list row }
@@ -288,45 +297,33 @@ pub fn put_motions(bodies: &mut Vec<Option<Body>>, states: &[BodyState])
     }
 }
 
-fn with_impulses(point: &ContactPoint, row: &PointRow) -> ContactPoint
-    ensures { result ≡ with_impulses row.now point.now }
-{
-    ContactPoint {
-        push: row.push,
-        slip: row.slip,
-        ..*point
-    }
-}
-
-fn first_with(point: &Option<ContactPoint>, row: &PointRow) -> Option<ContactPoint>
-    ensures { result ≡ option_map (with_impulses row.now) point.now }
+/// Gives a point, if there is one, the impulses that its row has accumulated.
+fn put_point(point: &mut Option<ContactPoint>, row: &PointRow)
+    ensures { point.new ≡ option_map (with_impulses row.now) point.old }
 {
     match point {
-        None => None,
-        Some(point) => Some(with_impulses(point, row)),
+        None => {}
+        Some(point) => {
+            point.push = row.push;
+            point.slip = row.slip;
+        }
     }
 }
 
-fn second_with(point: &Option<ContactPoint>, row: &Option<PointRow>) -> Option<ContactPoint>
-    ensures { result ≡ second_with row.now point.now }
+fn put_second(point: &mut Option<ContactPoint>, row: &Option<PointRow>)
+    ensures { point.new ≡ second_with row.now point.old }
 {
     match row {
-        None => *point,
-        Some(row) => first_with(point, row),
+        None => {}
+        Some(row) => put_point(point, row),
     }
 }
 
-fn with_row(entry: &ContactEntry, row: &ContactRow) -> ContactEntry
-    ensures { result ≡ with_row row.now entry.now }
+fn put_points(entry: &mut ContactEntry, row: &ContactRow)
+    ensures { entry.new ≡ with_row row.now entry.old }
 {
-    ContactEntry {
-        key: entry.key,
-        contact: Contact {
-            touching: entry.contact.touching,
-            first: first_with(&entry.contact.first, &row.first),
-            second: second_with(&entry.contact.second, &row.second),
-        },
-    }
+    put_point(&mut entry.contact.first, &row.first);
+    put_second(&mut entry.contact.second, &row.second);
 }
 
 fn put_row(contacts: &mut Vec<ContactEntry>, row: &ContactRow)
@@ -334,7 +331,7 @@ fn put_row(contacts: &mut Vec<ContactEntry>, row: &ContactRow)
 {
     let place = row.bodies.place;
     if place < contacts.len() {
-        contacts[place] = with_row(&contacts[place], row);
+        put_points(&mut contacts[place], row);
     }
 }
 
