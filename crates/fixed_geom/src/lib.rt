@@ -17,7 +17,7 @@ mod tests;
 pub mod vectors;
 
 pub use boxes::{Box2, contains, grow, overlaps};
-pub use facings::{Rot, is_facing, rotate, turn};
+pub use facings::{Rot, is_facing, narrow_rotate, rotate, turn};
 pub use narrow::{narrow_cross, narrow_dot, narrow_scaled, rdiv_unit_64};
 pub use products::{difference_of_products, product, scaled, sum_of_products};
 pub use quotients::{fdiv, rdiv, rdiv_64, rdiv_unit, share};
