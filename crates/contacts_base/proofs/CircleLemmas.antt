@@ -1,13 +1,13 @@
 -- Two circles have one contact point, and how far apart they are.
-use Rattle.std.proofs.Common.{◌≡◌, ℕ, ◌+◌, ◌*◌, ◌<◌, ◌≤◌, negsuc, true, false, ◌&&◌, ℤ, pos, ◌+ℤ◌, ◌-ℤ◌, ◌*ℤ◌, ◌≤ℤ◌, ◌<ℤ◌, ◌∷◌, [], Option, Some, None, arith, refl, sym, ap, ◌∙◌}
+use Rattle.std.proofs.Common.{◌≡◌, ℕ, ◌+◌, ◌*◌, ◌<◌, ◌≤◌, negsuc, true, false, ◌&&◌, ℤ, pos, ◌+ℤ◌, ◌-ℤ◌, ◌*ℤ◌, ◌≤ℤ◌, ◌<ℤ◌, ◌∷◌, [], Option, Some, None, unsigned_abs, arith, refl, sym, ap, ◌∙◌}
 use Rattle.std.specs.Prelude.{int_lt, int_le}
 use Rattle.std.specs.Ordering.{int_eq}
 use Rattle.std.proofs.lemmas.Int.{ints}
 use Rattle.std.proofs.lemmas.Nat.{mul-le}
 use Rattle.fixed_geom.specs.Numbers.{IsRoot}
-use Rattle.fixed_geom.specs.Vectors.{dot, minus, span}
+use Rattle.fixed_geom.specs.Vectors.{IsWithin, dot, minus, span}
 use Rattle.fixed_geom.specs.declared.vectors.Vec2.{Vec2}
-use Rattle.fixed_geom.proofs.VectorLemmas.{span_root}
+use Rattle.fixed_geom.proofs.VectorLemmas.{dot_self, span_root}
 use Rattle.shapes.specs.declared.pose.Pose.{Pose}
 use Rattle.shapes.specs.declared.pose.Core.{Core}
 use Rattle.shapes.specs.declared.shape.Shape.{Shape}
@@ -20,7 +20,7 @@ use Rattle.shapes.specs.Cores.{is_point, cores_cross}
 use Rattle.shapes.specs.Spots.{of_a, of_b, others, separation_of, spot_of}
 use Rattle.shapes.specs.Choice.{chosen_from}
 use Rattle.shapes.specs.Manifolds.{chosen_spots, placed_pair, manifold_of}
-use Rattle.shapes.proofs.PointLemmas.{closest_point, points_are}
+use Rattle.shapes.proofs.PointLemmas.{closest_point, points_are, outside}
 use Rattle.shapes.proofs.ChoiceLemmas.{chosen_are}
 use Rattle.contacts_base.specs.declared.circles.Disc.{Disc}
 use Rattle.contacts_base.specs.Circles.{disc_of}
@@ -102,3 +102,14 @@ le_from a b h = grind (arith, ints)
 
 pub longer_by : (way : Vec2) (k square length : ℤ) → pos 0 ≤ℤ k → length ≡ dot way way → square ≡ dot (record { x = k +ℤ pos 1; y = pos 0 }) (record { x = k +ℤ pos 1; y = pos 0 }) → square ≤ℤ length → k <ℤ span way
 longer_by way k square length h l s le = longer way k h (rw (l, s, next_square (k +ℤ pos 1)) at le)
+
+square_le : (k n d : ℕ) → n ≡ k → (n + 1) * (n + 1) ≤ d → ((pos k +ℤ pos 1) *ℤ (pos k +ℤ pos 1)) ≤ℤ pos d
+square_le k n d e h = let square : (k + 1) * (k + 1) ≤ d = rw (← e) h in omega (arith, ints, square)
+
+-- a way with a part beyond k is longer than k
+pub longer_outside : (way : Vec2) (k : ℤ) (n : ℕ) → pos 0 ≤ℤ k → n ≡ unsigned_abs k → (IsWithin n way → ⊥) → k <ℤ span way
+longer_outside way (pos k) n h e l =
+    let square = outside way n l in
+    let le : ((pos k +ℤ pos 1) *ℤ (pos k +ℤ pos 1)) ≤ℤ dot way way = rw (dot_self way) (square_le k n _ e square) in
+    longer way (pos k) h le
+longer_outside way (negsuc k) n h e l = absurd (omega (arith, ints, h))

@@ -9,7 +9,7 @@ ghost use Rattle.contacts_base.specs.Near.{IsProxy};
 ghost use Rattle.contacts_base.specs.Circles.{IsDisc, disc_of};
 
 use crate::Proxy;
-use fixed_geom::{Vec2, dot, minus};
+use fixed_geom::{Vec2, is_within, minus, narrow_dot};
 use shapes::{Pose, Shape, placed};
 
 /// A circle in the world: its centre and its radius, in u.
@@ -52,15 +52,19 @@ fn next_way(reach: i64) -> Vec2
     Vec2 { x: reach + 1, y: 0 }
 }
 
-/// Whether `way` is longer than `reach`, told by the squares.
+/// Whether `way` is longer than `reach`: told by a coordinate, or else by the squares, for which 64
+/// bits have room then.
 fn is_longer(way: Vec2, reach: i64) -> bool
     requires way { IsWithin (2 ^ 38) way }
     requires nonnegative { pos 0 ≤ℤ reach }
     requires small { unsigned_abs reach ≤ 2 ^ 25 }
     ensures { result ≡ true → reach <ℤ span way }
 {
+    if !is_within(way, reach.unsigned_abs()) {
+        return true;
+    }
     let next = next_way(reach);
-    dot(way, way) >= dot(next, next)
+    narrow_dot(way, way) >= narrow_dot(next, next)
 }
 
 /// Whether two circles are apart.

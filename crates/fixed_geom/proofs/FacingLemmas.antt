@@ -1,16 +1,17 @@
-use Rattle.std.proofs.Common.{◌≡◌, ℕ, ◌+◌, ◌-◌, ◌*◌, ◌^◌, ◌<◌, ◌≤◌, ◌&&◌, nat_le, nat_lt, ℤ, pos, negsuc, suc, ◌*ℤ◌, unsigned_abs, arith, refl, ap, ◌∙◌, false, true, ◌⊎◌, inl, inr}
+use Rattle.std.proofs.Common.{◌≡◌, ℕ, ◌+◌, ◌-◌, ◌*◌, ◌^◌, ◌<◌, ◌≤◌, ◌&&◌, nat_le, nat_lt, ℤ, pos, negsuc, suc, ◌+ℤ◌, ◌-ℤ◌, ◌*ℤ◌, unsigned_abs, arith, refl, ap, ◌∙◌, false, true, ◌⊎◌, inl, inr}
 use Rattle.std.proofs.lemmas.Nat.{mul-le}
-use Rattle.std.proofs.lemmas.Int.{unsigned_abs-mul}
+use Rattle.std.proofs.lemmas.Int.{ints, unsigned_abs-mul}
 use Rattle.std.proofs.lemmas.Bool.{cases_lt}
 use Rattle.std.proofs.lemmas.Bool.Decides.{nat_tests, same_from_decides, Decides-int_eq}
 use Rattle.std.specs.Ordering.{int_eq}
 use Rattle.fixed_geom.specs.Numbers.{rdiv, nearest}
-use Rattle.fixed_geom.specs.Facings.{is_facing, IsFacing, IsLong, direction, facing_along, swung, turn}
-use Rattle.fixed_geom.specs.Vectors.{IsWithin, unit_length, unit, span}
+use Rattle.fixed_geom.specs.Facings.{is_facing, IsFacing, IsLong, direction, rotate, facing_along, swung, turn}
+use Rattle.fixed_geom.specs.Vectors.{IsWithin, unit_length, unit, span, dot, cross}
 use Rattle.fixed_geom.specs.declared.vectors.Vec2.{Vec2}
 use Rattle.fixed_geom.specs.declared.facings.Rot.{Rot}
 use Rattle.fixed_geom.proofs.RootLemmas.{root_at_least, root_at_most, square_of_sum}
-use Rattle.fixed_geom.proofs.QuotientLemmas.{abs_neg}
+use Rattle.fixed_geom.proofs.QuotientLemmas.{abs_neg, rdiv_le}
+use Rattle.fixed_geom.proofs.Sizes.{sum_le, difference_le}
 use Rattle.fixed_geom.proofs.TurnLemmas.{AreSizes, sizes_of}
 use Rattle.fixed_geom.proofs.VectorLemmas.{span_is}
 
@@ -70,6 +71,27 @@ pub rotated_y_le : (q : Rot) (v : Vec2) (k : ℕ) (sum : ℤ) → IsFacing q →
 rotated_y_le q v k sum h w l =
     let together : unsigned_abs q.s + unsigned_abs q.c ≤ 2 ^ 31 = omega (arith, facing_sum q h) in
     part_le (unsigned_abs q.s) (unsigned_abs q.c) (unsigned_abs v.x) (unsigned_abs v.y) k (unsigned_abs sum) together w.x w.y l
+
+sum_size : (a b x y : ℤ) → unsigned_abs (a *ℤ x +ℤ b *ℤ y) ≤ unsigned_abs a * unsigned_abs x + unsigned_abs b * unsigned_abs y
+sum_size a b x y = rw (← unsigned_abs-mul a x, ← unsigned_abs-mul b y) (sum_le (a *ℤ x) (b *ℤ y) _ _ (omega arith) (omega arith))
+
+difference_size : (a b x y : ℤ) → unsigned_abs (a *ℤ x -ℤ b *ℤ y) ≤ unsigned_abs a * unsigned_abs x + unsigned_abs b * unsigned_abs y
+difference_size a b x y = rw (← unsigned_abs-mul a x, ← unsigned_abs-mul b y) (difference_le (a *ℤ x) (b *ℤ y) _ _ (omega arith) (omega arith))
+
+-- a turned vector at most doubles
+pub rotate_within : (q : Rot) (v : Vec2) (k : ℕ) → IsFacing q → IsWithin k v → IsWithin (2 * k) (rotate q v)
+rotate_within q v k h w = record {
+  x = rdiv_le (q.c *ℤ v.x -ℤ q.s *ℤ v.y) unit_length (2 * k) (omega (arith, ints)) (rotated_x_le q v k (q.c *ℤ v.x -ℤ q.s *ℤ v.y) h w (difference_size q.c q.s v.x v.y));
+  y = rdiv_le (q.s *ℤ v.x +ℤ q.c *ℤ v.y) unit_length (2 * k) (omega (arith, ints)) (rotated_y_le q v k (q.s *ℤ v.x +ℤ q.c *ℤ v.y) h w (sum_size q.s q.c v.x v.y));
+}
+
+exchanged : (a b : ℤ) → a +ℤ b ≡ b +ℤ a
+exchanged a b = omega (arith, ints)
+
+-- the two parts, as the products of a direction and a mirrored vector
+pub rotate_by_products : (q : Rot) (v : Vec2) → record { x = rdiv (cross (record { x = q.c; y = q.s }) (record { x = v.y; y = v.x })) unit_length; y = rdiv (dot (record { x = q.c; y = q.s }) (record { x = v.y; y = v.x })) unit_length } ≡ rotate q v
+unfolding cross dot
+rotate_by_products q v = rw (exchanged (q.c *ℤ v.y) (q.s *ℤ v.x)) refl
 
 -- ---- the facing along a vector
 

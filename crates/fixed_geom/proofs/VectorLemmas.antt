@@ -1,11 +1,11 @@
 -- The length of a vector.
-use Rattle.std.proofs.Common.{◌≡◌, ℕ, zero, suc, ◌+◌, ◌*◌, ◌<◌, ◌≤◌, ℤ, pos, negsuc, ◌*ℤ◌, ◌<ℤ◌, ◌≤ℤ◌, unsigned_abs, arith, refl}
+use Rattle.std.proofs.Common.{◌≡◌, ℕ, zero, suc, ◌+◌, ◌*◌, ◌<◌, ◌≤◌, ℤ, pos, negsuc, ◌*ℤ◌, ◌<ℤ◌, ◌≤ℤ◌, unsigned_abs, arith, refl, ap}
 use Rattle.std.proofs.lemmas.Nat.{mul-le}
 use Rattle.std.proofs.lemmas.Int.{ints}
 use Rattle.fixed_geom.specs.Numbers.{root, isqrt, IsRoot}
 use Rattle.fixed_geom.specs.Vectors.{dot, span, IsWithin}
 use Rattle.fixed_geom.specs.declared.vectors.Vec2.{Vec2}
-use Rattle.fixed_geom.proofs.RootLemmas.{root_is, root_below, IsRootOf}
+use Rattle.fixed_geom.proofs.RootLemmas.{root_is, root_below, is_root, IsRootOf}
 
 square : (x : ℤ) → x *ℤ x ≡ pos (unsigned_abs x * unsigned_abs x)
 square (pos n) = refl
@@ -61,3 +61,17 @@ pub span_root : (d : Vec2) → IsRoot (dot d d) (span d)
 span_root d =
     let is : IsRootOf (squares d) (root (squares d)) = root_is (squares d) in
     rw (span_is d, dot_self d) (record { nonnegative = omega (arith, ints); below = omega (arith, ints); above = omega (arith, ints) })
+
+-- the root of the square of a length
+pub span_from : (d : Vec2) (n k : ℕ) → n ≡ unsigned_abs d.x * unsigned_abs d.x + unsigned_abs d.y * unsigned_abs d.y → k * k ≤ n → n < (k + 1) * (k + 1) → pos k ≡ span d
+span_from d n k e h l = rw (span_is d, ← e) (ap pos (is_root n k h l))
+
+-- what `span` ensures, of a result that is the length
+pub spanned : (d : Vec2) (k : ℤ) → k ≡ span d → record { value : k ≡ span d; root : IsRoot (dot d d) k; nonnegative : pos 0 ≤ℤ k; covers : IsWithin (unsigned_abs k) d; within : (n : ℕ) → IsWithin n d → unsigned_abs k ≤ 2 * n }
+spanned d k e = record {
+  value = e;
+  root = rw e (span_root d);
+  nonnegative = rw e (span_spans d).nonnegative;
+  covers = rw e (span_spans d).covers;
+  within = λ n h. rw e ((span_spans d).within n h);
+}

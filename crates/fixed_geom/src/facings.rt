@@ -4,6 +4,7 @@ ghost use Rattle.std.specs.Prelude.{◌≡◌, ℕ, ◌+◌, ◌*◌, ◌^◌, �
 ghost use Rattle.fixed_geom.specs.Vectors.{IsWithin};
 ghost use Rattle.fixed_geom.specs.Facings.{IsFacing, is_facing, rotate, IsLong, swung, facing_along, turn};
 
+use crate::narrow::{narrow_cross, narrow_dot, rdiv_unit_64};
 use crate::products::{difference_of_products, scaled, sum_of_products};
 use crate::{Vec2, rdiv_unit, unit};
 
@@ -46,6 +47,22 @@ pub fn rotate(q: Rot, v: Vec2) -> Vec2
     Vec2 {
         x: rdiv_unit(difference_of_products(q.c, v.x, q.s, v.y)),
         y: rdiv_unit(sum_of_products(q.s, v.x, q.c, v.y)),
+    }
+}
+
+/// `rotate` in 64 bits, of components up to 2^30: the cross and the scalar product of the facing
+/// with `v` mirrored.
+pub fn narrow_rotate(q: Rot, v: Vec2) -> Vec2
+    requires facing { IsFacing q }
+    requires place { IsWithin (2 ^ 30) v }
+    ensures value { result ≡ rotate q v }
+    ensures within { (k : ℕ) → IsWithin k v → IsWithin (2 * k) result }
+{
+    let direction = Vec2 { x: q.c, y: q.s };
+    let mirrored = Vec2 { x: v.y, y: v.x };
+    Vec2 {
+        x: rdiv_unit_64(narrow_cross(direction, mirrored)),
+        y: rdiv_unit_64(narrow_dot(direction, mirrored)),
     }
 }
 

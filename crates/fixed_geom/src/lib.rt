@@ -18,7 +18,7 @@ mod tests;
 pub mod vectors;
 
 pub use boxes::{Box2, contains, grow, overlaps};
-pub use facings::{Rot, is_facing, rotate, turn};
+pub use facings::{Rot, is_facing, narrow_rotate, rotate, turn};
 pub use inverses::{over_inverse, quotient_40};
 pub use narrow::{narrow_cross, narrow_dot, narrow_scaled, rdiv_unit_64};
 pub use products::{difference_of_products, product, scaled, sum_of_products};

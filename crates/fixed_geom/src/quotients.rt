@@ -63,26 +63,24 @@ pub fn rdiv_64(a: i64, b: i64) -> i64
     if a < 0 { -nearest } else { nearest }
 }
 
-/// The nearest natural number to `n / 2^30`, the greater where two are as near.
-#[inline(always)]
-fn nearest_unit(n: u128) -> u128
-    requires { n ≤ 2 ^ 92 }
-    ensures value { result ≡ nearest n (2 ^ 30) }
-    ensures small { result ≤ 2 ^ 62 }
-{
-    (n + (1 << 29)) >> 30
-}
+/// Half of what `rdiv_unit` divides by.
+const HALF: i128 = 1 << 29;
 
 /// `x / 2^30` to the nearest, ties away from zero; `x` is at most 2^92 in size, and no quotient
-/// is computed. It takes a product with a unit vector or a facing back to plain lengths.
+/// is computed. It takes a product with a unit vector or a facing back to plain lengths. A shift
+/// rounds down, so what is added to `x` before it is a half, or just below one where `x` is
+/// negative.
 #[inline(always)]
 pub fn rdiv_unit(x: i128) -> i64
     requires { unsigned_abs x ≤ 2 ^ 92 }
     ensures value { result ≡ rdiv x unit_length }
     ensures within { (k : ℕ) → unsigned_abs x ≤ k * 2 ^ 30 → unsigned_abs result ≤ k }
 {
-    let nearest = nearest_unit(x.unsigned_abs()) as i64;
-    if x < 0 { -nearest } else { nearest }
+    if x < 0 {
+        ((x + (HALF - 1)) >> 30) as i64
+    } else {
+        ((x + HALF) >> 30) as i64
+    }
 }
 
 /// A guess at `n·2^30 / d` to the nearest, by a quotient of floats. Nothing else is promised of it,

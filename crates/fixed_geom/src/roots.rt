@@ -70,7 +70,7 @@ fn raised_64(a: u64, mut x: u64) -> u64
 }
 
 /// The root of `a`, rounded down.
-fn root_64(a: u64) -> u64
+pub(crate) fn root_64(a: u64) -> u64
     ensures below { result * result ≤ a }
     ensures above { a < (result + 1) * (result + 1) }
     ensures small { result < 2 ^ 32 }

@@ -5,6 +5,7 @@ ghost use Rattle.fixed_geom.specs.Numbers.{rdiv, IsRoot};
 ghost use Rattle.fixed_geom.specs.Vectors.{IsWithin, is_within, unit_length, dot, cross, minus, moved, span, unit};
 
 use crate::products::{difference_of_products, scaled, sum_of_products};
+use crate::roots::root_64;
 use crate::{isqrt, share};
 
 /// One, for a unit vector and a facing.
@@ -64,6 +65,36 @@ pub fn cross(a: Vec2, b: Vec2) -> i128
     difference_of_products(a.x, b.y, a.y, b.x)
 }
 
+/// Up to this size of the components, the square of a length has room in 64 bits.
+const NEAR: u64 = 1 << 31;
+
+/// The square of a length, in 64 bits.
+#[inline(always)]
+fn near_square(d: Vec2) -> u64
+    requires { IsWithin (2 ^ 31) d }
+    ensures { result ≡ unsigned_abs d.x * unsigned_abs d.x + unsigned_abs d.y * unsigned_abs d.y }
+{
+    let x = d.x.unsigned_abs();
+    let y = d.y.unsigned_abs();
+    x * x + y * y
+}
+
+/// `span` of a near way, in 64 bits.
+fn near_span(d: Vec2) -> i64
+    requires { IsWithin (2 ^ 31) d }
+    ensures value { result ≡ span d }
+{
+    root_64(near_square(d)) as i64
+}
+
+/// `span` of any other.
+fn far_span(d: Vec2) -> i64
+    requires { IsWithin (2 ^ 61) d }
+    ensures value { result ≡ span d }
+{
+    isqrt(dot(d, d)) as i64
+}
+
 /// The length of `d`, rounded down, of components up to 2^61. No component is longer.
 pub fn span(d: Vec2) -> i64
     requires { IsWithin (2 ^ 61) d }
@@ -73,7 +104,11 @@ pub fn span(d: Vec2) -> i64
     ensures covers { IsWithin (unsigned_abs result) d }
     ensures within { (k : ℕ) → IsWithin k d → unsigned_abs result ≤ 2 * k }
 {
-    isqrt(dot(d, d)) as i64
+    if is_within(d, NEAR) {
+        near_span(d)
+    } else {
+        far_span(d)
+    }
 }
 
 /// The unit vector along `d`, where its length `k` is known and not zero.

@@ -1,12 +1,13 @@
 -- Two cores that are points have one contact point.
-use Rattle.std.proofs.Common.{◌≡◌, ℕ, ◌+◌, ◌*◌, ◌≤◌, Bool, true, false, cond, ℤ, pos, negsuc, int_lt, unsigned_abs, ◌≤ℤ◌, ◌+ℤ◌, ◌-ℤ◌, ◌*ℤ◌, ◌∷◌, [], Option, None, Some, arith, refl, sym, ◌∙◌, ap, subst}
+use Rattle.std.proofs.Common.{◌≡◌, ℕ, ◌+◌, ◌*◌, ◌≤◌, Bool, true, false, cond, ℤ, pos, negsuc, int_lt, unsigned_abs, ◌≤ℤ◌, ◌+ℤ◌, ◌-ℤ◌, ◌*ℤ◌, ◌∷◌, [], Option, None, Some, arith, refl, sym, ◌∙◌, ap, subst, inl, inr}
 use Rattle.std.proofs.lemmas.Int.{ints}
 use Rattle.std.proofs.lemmas.Bool.Decides.{nat_tests}
-use Rattle.std.proofs.lemmas.Bool.{false≢true}
+use Rattle.std.proofs.lemmas.Bool.{false≢true, cases_lt}
+use Rattle.std.proofs.lemmas.Nat.{mul-le}
 use Rattle.fixed_geom.specs.Numbers.{rdiv, root}
 use Rattle.fixed_geom.proofs.RootLemmas.{root_is, root_below}
 use Rattle.fixed_geom.proofs.VectorLemmas.{dot_self, span_is}
-use Rattle.fixed_geom.specs.Vectors.{unit_length, dot, minus, moved, span}
+use Rattle.fixed_geom.specs.Vectors.{IsWithin, unit_length, dot, minus, moved, span}
 use Rattle.fixed_geom.specs.declared.vectors.Vec2.{Vec2}
 use Rattle.shapes.specs.declared.pose.Pose.{Pose}
 use Rattle.shapes.specs.declared.pose.Core.{Core}
@@ -156,6 +157,22 @@ last_alone s c d e h l =
     sym (chosen_alone s c d e e (nearer_new (nearer c d) e (nearer_beyond e c d h l))
     (none_of (spot_of s e) (spot_of s c) (spot_of s d) (spot_of s e) (not_beyond s e c h) (not_beyond s e d l) (not_itself s e)))
 
+-- a way with a part beyond n is longer than n
+pub outside : (d : Vec2) (n : ℕ) → (IsWithin n d → ⊥) → (n + 1) * (n + 1) ≤ unsigned_abs d.x * unsigned_abs d.x + unsigned_abs d.y * unsigned_abs d.y
+outside d n h = elim (cases_lt n (unsigned_abs d.x)) [
+  | inl l ↦ (let squares : (n + 1) * (n + 1) ≤ unsigned_abs d.x * unsigned_abs d.x = mul-le (n + 1) (n + 1) (unsigned_abs d.x) (unsigned_abs d.x) (omega arith) (omega arith) in omega arith)
+  | inr l ↦ elim (cases_lt n (unsigned_abs d.y)) [
+    | inl m ↦ (let squares : (n + 1) * (n + 1) ≤ unsigned_abs d.y * unsigned_abs d.y = mul-le (n + 1) (n + 1) (unsigned_abs d.y) (unsigned_abs d.y) (omega arith) (omega arith) in omega arith)
+    | inr m ↦ absurd (h (record { x = l; y = m }))
+  ]
+]
+
+-- what `is_far` tests
+pub far_outside : (d : Vec2) → (IsWithin 20972 d → ⊥) → int_lt (pos 439824784) (dot d d) ≡ true
+far_outside d h =
+    let square = outside d 20972 h in
+    rw (dot_self d) (grind (arith, ints, nat_tests))
+
 -- what `is_beyond` tests
 pub beyond_square : (d : Vec2) (k m : ℤ) → pos 0 ≤ℤ k → m ≡ (k +ℤ pos 20973) *ℤ (k +ℤ pos 20973) → m ≤ℤ dot d d → int_lt (k +ℤ pos 20972) (span d) ≡ true
 beyond_square d (pos n) m h e l =
@@ -164,6 +181,15 @@ beyond_square d (pos n) m h e l =
     let root : n + 20973 ≤ root (unsigned_abs d.x * unsigned_abs d.x + unsigned_abs d.y * unsigned_abs d.y) = root_below _ (n + 20973) _ square (root_is _).above in
     rw (span_is d) (grind (arith, ints, nat_tests))
 beyond_square d (negsuc n) m h e l = absurd (omega (arith, ints, h))
+
+pub beyond_outside : (d : Vec2) (k : ℤ) (n : ℕ) → pos 0 ≤ℤ k → n ≡ unsigned_abs (k +ℤ pos 20973) → (IsWithin n d → ⊥) → int_lt (k +ℤ pos 20972) (span d) ≡ true
+beyond_outside d (pos k) n h e l =
+    let square = outside d n l in
+    let less : k + 20973 ≤ n + 1 = omega (arith, ints, e) in
+    let below : (k + 20973) * (k + 20973) ≤ (n + 1) * (n + 1) = mul-le _ _ _ _ less less in
+    let le : (pos (k + 20973) *ℤ pos (k + 20973)) ≤ℤ dot d d = rw (dot_self d) (omega (arith, ints, square, below)) in
+    beyond_square d (pos k) (pos (k + 20973) *ℤ pos (k + 20973)) h refl le
+beyond_outside d (negsuc k) n h e l = absurd (omega (arith, ints, h))
 
 pub alone_at : (s : Pair) {c d : Candidate} → c ≡ d → both (spot_of s c) None ≡ both (spot_of s d) None
 alone_at s e = ap (λ (m : Candidate). both (spot_of s m) None) e

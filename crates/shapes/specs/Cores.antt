@@ -29,9 +29,13 @@ closest c e = moved c.p (way_of c) (share_of c e)
 unfoldable pub side : Core → Vec2 → ℤ
 side c e = cross (way_of c) (minus e c.p)
 
+-- one is above zero and the other below
+abbrev pub are_opposite : ℤ → ℤ → Bool
+are_opposite a b = (int_lt (pos 0) a && int_lt b (pos 0)) || (int_lt a (pos 0) && int_lt (pos 0) b)
+
 -- the ends of d lie strictly on different sides of the line of c
 unfoldable pub is_parted : Core → Core → Bool
-is_parted c d = (int_lt (pos 0) (side c d.p) && int_lt (side c d.q) (pos 0)) || (int_lt (side c d.p) (pos 0) && int_lt (pos 0) (side c d.q))
+is_parted c d = are_opposite (side c d.p) (side c d.q)
 
 unfoldable pub cores_cross : Core → Core → Bool
 cores_cross c d = cond (is_point c) false (cond (is_point d) false (cond (is_parted c d) (is_parted d c) false))

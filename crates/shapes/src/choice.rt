@@ -11,11 +11,14 @@ ghost use Rattle.shapes.specs.Choice.{nearer, nearest, sooner_of, tried, second_
 use crate::Core;
 use crate::cores::{closest, is_point};
 use crate::spots::{Candidate, Pair, Spot, measured, separation_of, spot_of};
-use fixed_geom::{Vec2, dot, minus, product};
+use fixed_geom::{Vec2, dot, is_within, minus, narrow_dot, product};
 
 /// How much further than the first point the second may be, and how far the two have to be from
 /// one another, in u (2 hundredths of a metre).
 const TOLERANCE: i64 = 20_972;
+
+/// The same, as a size.
+const TOLERANCE_SIZE: u64 = 20_972;
 
 /// The spots of the first and the second point of a contact.
 #[derive(Clone, Copy, Debug, PartialEq, Eq)]
@@ -86,15 +89,19 @@ fn sooner_of(best: Option<Spot>, spot: Spot) -> Option<Spot>
     }
 }
 
-/// Two places are more than the tolerance apart.
-#[tactic(auto, unfolding(crate::specs::Manifolds::is_far))]
+/// Two places are more than the tolerance apart. Where a coordinate tells it, no square is needed;
+/// elsewhere 64 bits have room for it.
 fn is_far(a: Vec2, b: Vec2) -> bool
     requires first { IsWithin (2 ^ 44) a }
     requires second { IsWithin (2 ^ 44) b }
     ensures { result ≡ is_far a b }
 {
     let way = minus(a, b);
-    dot(way, way) > 439_824_784
+    if is_within(way, TOLERANCE_SIZE) {
+        narrow_dot(way, way) > 439_824_784
+    } else {
+        true
+    }
 }
 
 /// The shapes overlap or touch at a candidate.
@@ -196,8 +203,8 @@ fn limit_of(dist: i64) -> i64
     dist + (TOLERANCE + 1)
 }
 
-/// Two places are too far apart to count beside a candidate of this distance. Squares are compared,
-/// which spares most roots.
+/// Two places are too far apart to count beside a candidate of this distance. Where no coordinate
+/// tells it, squares are compared, which spares most roots.
 fn is_beyond(dist: i64, a: Vec2, b: Vec2) -> bool
     requires nonnegative { pos 0 ≤ℤ dist }
     requires small { unsigned_abs dist ≤ 2 ^ 41 }
@@ -207,6 +214,9 @@ fn is_beyond(dist: i64, a: Vec2, b: Vec2) -> bool
 {
     let way = minus(b, a);
     let limit = limit_of(dist);
+    if !is_within(way, limit.unsigned_abs()) {
+        return true;
+    }
     if dot(way, way) < product(limit, limit) {
         return false;
     }

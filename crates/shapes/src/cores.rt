@@ -1,13 +1,18 @@
 //! Cores in the world: the nearest point of one, and whether two of them cross.
 
-ghost use Rattle.std.specs.Prelude.{◌≡◌, ℕ, ◌+◌, ◌*◌, ◌^◌, ◌<◌, ◌≤◌, false, pos, ◌*ℤ◌, ◌<ℤ◌, ◌≤ℤ◌, unsigned_abs};
+ghost use Rattle.std.specs.Prelude.{◌≡◌, ℕ, ◌+◌, ◌*◌, ◌^◌, ◌<◌, ◌≤◌, true, false, pos, ◌*ℤ◌, ◌<ℤ◌, ◌≤ℤ◌, unsigned_abs};
 ghost use Rattle.fixed_geom.specs.Numbers.{rdiv};
-ghost use Rattle.fixed_geom.specs.Vectors.{IsWithin, unit_length};
+ghost use Rattle.fixed_geom.specs.Vectors.{IsWithin, unit_length, dot, cross};
 ghost use Rattle.shapes.specs.Poses.{IsPlaced};
-ghost use Rattle.shapes.specs.Cores.{is_point, way_of, clamped, share_of, closest, side, is_parted, cores_cross};
+ghost use Rattle.shapes.specs.Cores.{is_point, way_of, clamped, share_of, closest, side, are_opposite, is_parted, cores_cross};
 
 use crate::Core;
-use fixed_geom::{UNIT, Vec2, cross, dot, minus, moved, rdiv, share};
+use fixed_geom::{
+    UNIT, Vec2, cross, dot, is_within, minus, moved, narrow_cross, narrow_dot, rdiv, share,
+};
+
+/// Up to this size of the components of two ways, in u, their products have room in 64 bits.
+const NEAR: u64 = 1 << 30;
 
 /// Both ends are at one place.
 #[tactic(auto, unfolding(crate::specs::Cores::is_point))]
@@ -49,18 +54,6 @@ fn inner_fraction(part: i128, whole: i128) -> i64
     rdiv(times_unit(part), whole) as i64
 }
 
-/// `inner_fraction` of a whole that 64 bits hold, as that of two ends within 2^30 u is.
-fn near_fraction(part: i128, whole: i128) -> i64
-    requires nonnegative { pos 0 ≤ℤ part }
-    requires inside { part ≤ℤ whole }
-    requires positive { pos 0 <ℤ whole }
-    requires near { unsigned_abs whole ≤ 2 ^ 62 }
-    ensures value { result ≡ clamped (rdiv (part *ℤ unit_length) whole) }
-    ensures within { unsigned_abs result ≤ 2 ^ 30 }
-{
-    share(part as i64, whole as i64)
-}
-
 /// `part / whole`, times 2^30 and to the nearest, brought within 0 to 2^30. Only a part that is
 /// inside the whole has to be divided.
 fn fraction(part: i128, whole: i128) -> i64
@@ -75,10 +68,69 @@ fn fraction(part: i128, whole: i128) -> i64
     if part >= whole {
         return UNIT;
     }
-    if whole <= 1 << 62 {
-        return near_fraction(part, whole);
-    }
     inner_fraction(part, whole)
+}
+
+/// `share` of a part that is inside the whole.
+fn inner_share(part: i64, whole: i64) -> i64
+    requires nonnegative { pos 0 ≤ℤ part }
+    requires inside { part ≤ℤ whole }
+    requires positive { pos 0 <ℤ whole }
+    ensures value { result ≡ clamped (rdiv (part *ℤ unit_length) whole) }
+    ensures within { unsigned_abs result ≤ 2 ^ 30 }
+{
+    share(part, whole)
+}
+
+/// `fraction` in 64 bits.
+fn near_fraction(part: i64, whole: i64) -> i64
+    requires positive { pos 0 <ℤ whole }
+    ensures value { result ≡ clamped (rdiv (part *ℤ unit_length) whole) }
+    ensures within { unsigned_abs result ≤ 2 ^ 30 }
+{
+    if part <= 0 {
+        return 0;
+    }
+    if part >= whole {
+        return UNIT;
+    }
+    inner_share(part, whole)
+}
+
+/// The products of two ways have room in 64 bits.
+#[inline(always)]
+fn are_near(a: Vec2, b: Vec2) -> bool
+    ensures first { result ≡ true → IsWithin (2 ^ 30) a }
+    ensures second { result ≡ true → IsWithin (2 ^ 30) b }
+{
+    if is_within(a, NEAR) {
+        is_within(b, NEAR)
+    } else {
+        false
+    }
+}
+
+/// How far along a way its point nearest to the end of `from` lies, times 2^30; both begin at one
+/// place, and both are near.
+fn near_share_along(way: Vec2, from: Vec2) -> i64
+    requires way { IsWithin (2 ^ 30) way }
+    requires place { IsWithin (2 ^ 30) from }
+    requires wide { 0 < unsigned_abs way.x + unsigned_abs way.y }
+    ensures value { result ≡ clamped (rdiv (dot from way *ℤ unit_length) (dot way way)) }
+    ensures within { unsigned_abs result ≤ 2 ^ 30 }
+{
+    near_fraction(narrow_dot(from, way), narrow_dot(way, way))
+}
+
+/// The same of any others.
+fn far_share_along(way: Vec2, from: Vec2) -> i64
+    requires way { IsWithin (2 ^ 38) way }
+    requires place { IsWithin (2 ^ 38) from }
+    requires wide { 0 < unsigned_abs way.x + unsigned_abs way.y }
+    ensures value { result ≡ clamped (rdiv (dot from way *ℤ unit_length) (dot way way)) }
+    ensures within { unsigned_abs result ≤ 2 ^ 30 }
+{
+    fraction(dot(from, way), dot(way, way))
 }
 
 /// How far along a core, that is no point, its point nearest to `e` lies, times 2^30.
@@ -90,7 +142,12 @@ fn share_of(core: &Core, e: Vec2) -> i64
     ensures within { unsigned_abs result ≤ 2 ^ 30 }
 {
     let way = way_of(core);
-    fraction(dot(minus(e, core.p), way), dot(way, way))
+    let from = minus(e, core.p);
+    if are_near(way, from) {
+        near_share_along(way, from)
+    } else {
+        far_share_along(way, from)
+    }
 }
 
 /// The core's point nearest to `e`, but for rounding.
@@ -117,7 +174,7 @@ fn side(core: &Core, e: Vec2) -> i128
 
 /// The ends of `other` lie strictly on different sides of the line of the first core.
 #[tactic(auto, unfolding(crate::specs::Cores::is_parted))]
-fn is_parted(line: &Core, other: &Core) -> bool
+fn are_sides_apart(line: &Core, other: &Core) -> bool
     requires line { IsPlaced line.now }
     requires other { IsPlaced other.now }
     ensures { result ≡ is_parted line.now other.now }
@@ -125,6 +182,41 @@ fn is_parted(line: &Core, other: &Core) -> bool
     let first = side(line, other.p);
     let second = side(line, other.q);
     (first > 0 && second < 0) || (first < 0 && second > 0)
+}
+
+/// One is above zero and the other below.
+fn are_opposite(a: i64, b: i64) -> bool
+    ensures { result ≡ are_opposite a b }
+{
+    (a > 0 && b < 0) || (a < 0 && b > 0)
+}
+
+/// The ends of two ways lie strictly on different sides of a third; all begin at one place, and all
+/// are near.
+fn are_near_sides_apart(way: Vec2, first: Vec2, second: Vec2) -> bool
+    requires way { IsWithin (2 ^ 30) way }
+    requires first { IsWithin (2 ^ 30) first }
+    requires second { IsWithin (2 ^ 30) second }
+    ensures { result ≡ are_opposite (cross way first) (cross way second) }
+{
+    are_opposite(narrow_cross(way, first), narrow_cross(way, second))
+}
+
+/// `are_sides_apart`, in 64 bits where the cores are near.
+fn is_parted(line: &Core, other: &Core) -> bool
+    requires line { IsPlaced line.now }
+    requires other { IsPlaced other.now }
+    ensures { result ≡ is_parted line.now other.now }
+{
+    let way = way_of(line);
+    let first = minus(other.p, line.p);
+    let second = minus(other.q, line.p);
+    if are_near(way, first) {
+        if is_within(second, NEAR) {
+            return are_near_sides_apart(way, first, second);
+        }
+    }
+    are_sides_apart(line, other)
 }
 
 /// Two cores cross where neither is a point and the ends of each lie strictly on different sides

@@ -6,7 +6,7 @@ ghost use Rattle.shapes.specs.Shapes.{IsShape};
 ghost use Rattle.shapes.specs.Poses.{IsPose, IsPlaced, plus, placed, core_of};
 
 use crate::Shape;
-use fixed_geom::{Rot, Vec2, rotate};
+use fixed_geom::{Rot, Vec2, narrow_rotate};
 
 /// Where a body is: its centre, in u, and its facing.
 #[derive(Clone, Copy, Debug, PartialEq, Eq)]
@@ -47,7 +47,7 @@ pub fn placed(pose: Pose, v: Vec2) -> Vec2
     if v.x == 0 && v.y == 0 {
         return pose.x;
     }
-    plus(pose.x, rotate(pose.rot, v))
+    plus(pose.x, narrow_rotate(pose.rot, v))
 }
 
 /// The core of a shape of a body with this pose.

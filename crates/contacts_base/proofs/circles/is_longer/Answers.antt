@@ -1,13 +1,22 @@
-use Rattle.std.proofs.Common.{◌*◌, ◌^◌, ◌≤◌, unsigned_abs, arith}
-use Rattle.fixed_geom.proofs.Sizes.{passed_64, passed_128}
-use Rattle.contacts_base.proofs.CircleLemmas.{le_from, longer_by}
+use Rattle.std.proofs.Common.{◌≡◌, sym, ◌∙◌, unsigned_abs, arith}
+use Rattle.std.proofs.lemmas.Bool.{false≢true}
+use Rattle.std.proofs.lemmas.Int.{to_z-of_z}
+use Rattle.std.specs.Int.{w64}
+use mir.Val.{SFits}
+use Rattle.contacts_base.proofs.CircleLemmas.{le_from, longer_by, longer_outside}
 use Rattle.contacts_base.proofs.circles.is_longer.Goals as goal
 
 pub returns : goal.returns
 returns c =
-    let value = rw (passed_64 c.args.reach (omega (arith, c.requires.small))) at c.next_way-next.ensures.value in
-    let next = rw value at c.dot-2.ensures.value in
-    let long : unsigned_abs c.dot.result ≤ 2 * (2 ^ 38 * 2 ^ 38) = c.dot.ensures.size (2 ^ 38) (2 ^ 38) c.requires.way c.requires.way in
-    let short : unsigned_abs c.dot-2.result ≤ 2 * (2 ^ 26 * 2 ^ 26) = c.dot-2.ensures.size (2 ^ 26) (2 ^ 26) c.next_way-next.ensures.within c.next_way-next.ensures.within in
-    rw (passed_128 c.dot.result (omega (arith, long)), passed_128 c.dot-2.result (omega (arith, short)))
-    (λ e. longer_by c.args.way c.args.reach c.dot-2.result c.dot.result c.requires.nonnegative c.dot.ensures.value next (le_from _ _ e))
+    let reach : SFits w64 c.args.reach = c.ranges.reach in
+    let long : SFits w64 c.narrow_dot.result = record { sfits = c.narrow_dot.type_inv } in
+    let short : SFits w64 c.narrow_dot-2.result = record { sfits = c.narrow_dot-2.type_inv } in
+    let value = simp to_z-of_z at c.next_way-next.ensures.value in
+    let next = rw value at c.narrow_dot-2.ensures.value in
+    simp to_z-of_z (λ e. longer_by c.args.way c.args.reach c.narrow_dot-2.result c.narrow_dot.result c.requires.nonnegative c.narrow_dot.ensures.value next (le_from _ _ e))
+
+pub returns-then-not-is_within : goal.returns-then-not-is_within
+returns-then-not-is_within c = λ t.
+    let reach : SFits w64 c.args.reach = c.ranges.reach in
+    let size : c.unsigned_abs.result ≡ unsigned_abs c.args.reach = grind (arith, to_z-of_z) in
+    longer_outside c.args.way c.args.reach c.unsigned_abs.result c.requires.nonnegative size (λ w. false≢true (sym c.if-not-is_within.true ∙ c.is_within.ensures.within.1 w))

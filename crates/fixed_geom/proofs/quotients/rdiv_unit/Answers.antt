@@ -1,19 +1,28 @@
-use Rattle.std.proofs.Common.{◌≡◌, pos, ◌<ℤ◌, ◌≤ℤ◌, unsigned_abs, arith, refl}
-use Rattle.std.proofs.lemmas.Int.{to_z-of_z, ints}
+use Rattle.std.proofs.Common.{pos, ◌<ℤ◌, ◌≤ℤ◌, arith}
+use Rattle.std.proofs.lemmas.Int.{ints}
 use Rattle.fixed_geom.specs.Vectors.{unit_length}
-use Rattle.fixed_geom.proofs.QuotientLemmas.{rdiv-negative, rdiv-nonnegative}
+use Rattle.fixed_geom.proofs.QuotientLemmas.{rdiv_le}
+use Rattle.fixed_geom.proofs.Shifts.{shift_down_128, shift_up_128}
 use Rattle.fixed_geom.proofs.quotients.rdiv_unit.Goals as goal
 
-pub returns-then-x-lt0-clause-value : goal.returns-then-x-lt0-clause-value
-returns-then-x-lt0-clause-value c =
+pub overflow_cast-result : goal.overflow_cast-result
+overflow_cast-result c =
     let negative : c.args.x <ℤ pos 0 = grind (arith, ints) in
-    let size : c.unsigned_abs.result ≡ unsigned_abs c.args.x = grind (arith, to_z-of_z) in
-    let value = rdiv-negative c.args.x unit_length _ _ _ negative size refl c.nearest_unit-nearest.ensures.value in
-    omega (arith, ints, value)
+    (shift_down_128 c.args.x negative c.requires).fits
 
-pub returns-else-x-lt0-clause-value : goal.returns-else-x-lt0-clause-value
-returns-else-x-lt0-clause-value c =
+pub overflow_cast-result-else-x-lt0 : goal.overflow_cast-result-else-x-lt0
+overflow_cast-result-else-x-lt0 c =
     let nonnegative : pos 0 ≤ℤ c.args.x = grind (arith, ints) in
-    let size : c.unsigned_abs.result ≡ unsigned_abs c.args.x = grind (arith, to_z-of_z) in
-    let value = rdiv-nonnegative c.args.x unit_length _ _ _ nonnegative size refl c.nearest_unit-nearest.ensures.value in
-    omega (arith, ints, value)
+    (shift_up_128 c.args.x nonnegative c.requires).fits
+
+pub returns-then-x-lt0 : goal.returns-then-x-lt0
+returns-then-x-lt0 c =
+    let negative : c.args.x <ℤ pos 0 = grind (arith, ints) in
+    let value = (shift_down_128 c.args.x negative c.requires).value in
+    record { value = value; within = λ k h. rw value (rdiv_le c.args.x unit_length k (omega (arith, ints)) h) }
+
+pub returns-else-x-lt0 : goal.returns-else-x-lt0
+returns-else-x-lt0 c =
+    let nonnegative : pos 0 ≤ℤ c.args.x = grind (arith, ints) in
+    let value = (shift_up_128 c.args.x nonnegative c.requires).value in
+    record { value = value; within = λ k h. rw value (rdiv_le c.args.x unit_length k (omega (arith, ints)) h) }

@@ -1,22 +1,10 @@
-use Rattle.std.proofs.Common.{◌≡◌, ◌*ℤ◌, arith, ◌∙◌, ap, sym}
-use Rattle.std.proofs.lemmas.Int.{to_z-of_z, ints}
-use Rattle.std.specs.Int.{w64, w128}
-use mir.Val.{SFits}
-use Rattle.fixed_geom.specs.Numbers.{rdiv}
-use Rattle.fixed_geom.specs.Vectors.{unit_length}
-use Rattle.fixed_geom.proofs.Sizes.{fits_64}
-use Rattle.shapes.specs.Cores.{clamped}
-use Rattle.shapes.proofs.CoreLemmas.{clamped_inside, rdiv_nonnegative}
+use Rattle.std.proofs.Common.{sym, arith}
+use Rattle.std.proofs.lemmas.Int.{ints}
+use Rattle.shapes.proofs.CoreLemmas.{share_low, share_high}
 use Rattle.shapes.proofs.cores.near_fraction.Goals as goal
 
-pub returns-clause-value : goal.returns-clause-value
-returns-clause-value c =
-    let wide_part : SFits w128 c.args.part = c.ranges.part in
-    let wide_whole : SFits w128 c.args.whole = c.ranges.whole in
-    let part : SFits w64 c.args.part = simp to_z-of_z at (fits_64 c.args.part (omega (arith, ints, c.requires.nonnegative, c.requires.inside, c.requires.near))) in
-    let whole : SFits w64 c.args.whole = simp to_z-of_z at (fits_64 c.args.whole (omega (arith, c.requires.near))) in
-    let fits : SFits w64 c.share.result = record { sfits = c.share.type_inv } in
-    let value : c.share.result ≡ rdiv (c.args.part *ℤ unit_length) c.args.whole = simp to_z-of_z at c.share.ensures.value in
-    let small = c.share.ensures.within in
-    let inside = clamped_inside c.share.result (rw value (rdiv_nonnegative (c.args.part *ℤ unit_length) c.args.whole (omega (arith, ints, c.requires.nonnegative)))) small in
-    simp to_z-of_z (sym inside ∙ ap clamped value)
+pub returns-then-part-le0-clause-value : goal.returns-then-part-le0-clause-value
+returns-then-part-le0-clause-value c = sym (share_low c.args.part c.args.whole (omega (arith, ints, c.if-part-le0.true)) c.requires.positive)
+
+pub returns-then-part-whole-clause-value : goal.returns-then-part-whole-clause-value
+returns-then-part-whole-clause-value c = sym (share_high c.args.part c.args.whole (omega (arith, ints, c.if-part-whole.true)) c.requires.positive)
