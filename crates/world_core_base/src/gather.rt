@@ -292,9 +292,9 @@ fn with_row(entry: &ContactEntry, row: &ContactRow) -> ContactEntry
     ContactEntry {
         key: entry.key,
         contact: Contact {
-            touching: entry.contact.touching,
             first: first_with(&entry.contact.first, &row.first),
             second: second_with(&entry.contact.second, &row.second),
+            touching: entry.contact.touching,
         },
     }
 }
