@@ -110,13 +110,13 @@ fn lying_at(alloc: Global, y: i64) -> Result<BroadPhase, Refusal> {
 
 fn point(candidate: u8, x: i64, push: i64, slip: i64) -> ContactPoint {
     ContactPoint {
-        candidate,
         normal: Vec2 { x: 0, y: UNIT },
         separation: 0,
         ra: Vec2 { x, y: 0 },
         rb: Vec2 { x, y: -20_000 },
         push,
         slip,
+        candidate,
     }
 }
 
@@ -126,9 +126,9 @@ fn a_capsule_comes_to_lie_on_a_segment(rt: HostRuntime) -> Result<(), Fail> {
     let mut lying = lying_at(rt.alloc(), 20_000)?;
     let laid = collide(rt.alloc(), &none, &mut lying)?;
     let contact = Contact {
-        touching: true,
         first: Some(point(2, -50_000, 0, 0)),
         second: Some(point(3, 50_000, 0, 0)),
+        touching: true,
     };
     let entry = ContactEntry { key: KEY, contact };
     assert_eq!(rt; laid.now.as_slice(), [entry].as_slice());
@@ -145,9 +145,9 @@ fn resting() -> [ContactEntry; 1]
     ensures { AreKeysRising result }
 {
     let contact = Contact {
-        touching: true,
         first: Some(point(3, 50_000, 7, -2)),
         second: Some(point(2, -50_000, 5, 1)),
+        touching: true,
     };
     [ContactEntry { key: KEY, contact }]
 }
@@ -158,9 +158,9 @@ fn a_lifted_capsule_parts(rt: HostRuntime) -> Result<(), Fail> {
     assert_eq!(rt; lifted.end.as_slice(), [KEY].as_slice());
     assert!(rt; lifted.gone.is_empty());
     let apart = Contact {
-        touching: false,
         first: None,
         second: None,
+        touching: false,
     };
     let entry = ContactEntry {
         key: KEY,
@@ -187,9 +187,9 @@ fn a_capsule_far_above_is_gone(rt: HostRuntime) -> Result<(), Fail> {
 fn impulses_stay_with_their_candidates(rt: HostRuntime) -> Result<(), Fail> {
     let lies = collide(rt.alloc(), &resting(), &mut lying_at(rt.alloc(), 20_000)?)?;
     let contact = Contact {
-        touching: true,
         first: Some(point(2, -50_000, 5, 1)),
         second: Some(point(3, 50_000, 7, -2)),
+        touching: true,
     };
     let entry = ContactEntry { key: KEY, contact };
     assert_eq!(rt; lies.now.as_slice(), [entry].as_slice());

@@ -26,12 +26,12 @@ kept (Some c) candidate = first_of (impulses_at c.first candidate) (impulses_at 
 
 -- the point with the impulses kept at its candidate
 abbrev pub kept_point : Option Contact → Point → ContactPoint
-kept_point old p = record { candidate = p.candidate; normal = p.normal; separation = p.separation; ra = p.ra; rb = p.rb; push = (kept old p.candidate).push; slip = (kept old p.candidate).slip }
+kept_point old p = record { normal = p.normal; separation = p.separation; ra = p.ra; rb = p.rb; push = (kept old p.candidate).push; slip = (kept old p.candidate).slip; candidate = p.candidate }
 
 -- the shapes don't touch
 abbrev pub apart : Contact
-apart = record { touching = false; first = None; second = None }
+apart = record { first = None; second = None; touching = false }
 
 -- the contact of two shapes with the manifold, which was `old` before
 unfoldable pub evaluated : Option Contact → Manifold → Contact
-evaluated old m = cond (int_lt (pos 0) m.first.separation) apart (record { touching = true; first = Some (kept_point old m.first); second = option_map (kept_point old) m.second })
+evaluated old m = cond (int_lt (pos 0) m.first.separation) apart (record { first = Some (kept_point old m.first); second = option_map (kept_point old) m.second; touching = true })

@@ -8,26 +8,26 @@ ghost use Rattle.contacts_base.specs.Contacts.{lookup, found_place, AreKeysRisin
 use crate::ContactKey;
 use fixed_geom::Vec2;
 
-/// A point of a contact: the number of its candidate, 0 to 3, the normal from the first shape to
-/// the second, times 2^30, the separation in u, the point by its offsets from the two bodies'
-/// centres in u, and the kept impulses along the normal (push) and across it (slip), in mass·u/tick.
+/// A point of a contact: the normal from the first shape to the second, times 2^30, the separation in
+/// u, the point by its offsets from the two bodies' centres in u, the kept impulses along the normal
+/// (push) and across it (slip), in mass·u/tick, and the number of its candidate, 0 to 3.
 #[derive(Clone, Copy, Debug, PartialEq, Eq)]
 pub struct ContactPoint {
-    pub candidate: u8,
     pub normal: Vec2,
     pub separation: i64,
     pub ra: Vec2,
     pub rb: Vec2,
     pub push: i64,
     pub slip: i64,
+    pub candidate: u8,
 }
 
-/// What is kept of two shapes that are near: whether they touch, and the points if they do.
+/// What is kept of two shapes that are near: the points if they touch, and whether they do.
 #[derive(Clone, Copy, Debug, PartialEq, Eq)]
 pub struct Contact {
-    pub touching: bool,
     pub first: Option<ContactPoint>,
     pub second: Option<ContactPoint>,
+    pub touching: bool,
 }
 
 /// A contact with the names of its shapes.

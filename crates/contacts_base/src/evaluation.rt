@@ -22,9 +22,9 @@ const NO_IMPULSES: Impulses = Impulses { push: 0, slip: 0 };
 
 /// The two shapes don't touch.
 const APART: Contact = Contact {
-    touching: false,
     first: None,
     second: None,
+    touching: false,
 };
 
 /// The impulses of a point if it is this candidate's.
@@ -65,13 +65,13 @@ fn kept_point(old: Option<&Contact>, point: &Point) -> ContactPoint
 {
     let impulses = kept(old, point.candidate);
     ContactPoint {
-        candidate: point.candidate,
         normal: point.normal,
         separation: point.separation,
         ra: point.ra,
         rb: point.rb,
         push: impulses.push,
         slip: impulses.slip,
+        candidate: point.candidate,
     }
 }
 
@@ -89,14 +89,14 @@ pub fn evaluate(old: Option<&Contact>, manifold: &Manifold) -> Contact
     }
     match &manifold.second {
         None => Contact {
-            touching: true,
             first: Some(kept_point(old, &manifold.first)),
             second: None,
+            touching: true,
         },
         Some(point) => Contact {
-            touching: true,
             first: Some(kept_point(old, &manifold.first)),
             second: Some(kept_point(old, point)),
+            touching: true,
         },
     }
 }

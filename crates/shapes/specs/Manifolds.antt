@@ -73,7 +73,7 @@ is_allowed first t = cond (is_rival first t) (is_far t.at first.at) false
 
 -- a spot as the two bodies keep it: by its offsets from their centres
 abbrev pub point_of : Vec2 → Vec2 → Spot → Point
-point_of center_a center_b t = record { candidate = t.candidate; normal = t.normal; separation = t.separation; ra = minus t.at center_a; rb = minus t.at center_b }
+point_of center_a center_b t = record { normal = t.normal; separation = t.separation; ra = minus t.at center_a; rb = minus t.at center_b; candidate = t.candidate }
 
 -- the point is of one of four candidates, its normal is no longer than one in each part, and its
 -- other numbers are within k

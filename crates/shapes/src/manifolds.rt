@@ -20,11 +20,11 @@ fn point_of(center_a: Vec2, center_b: Vec2, spot: &Spot) -> Point
     ensures { result ≡ point_of center_a center_b spot.now }
 {
     Point {
-        candidate: spot.candidate,
         normal: spot.normal,
         separation: spot.separation,
         ra: minus(spot.at, center_a),
         rb: minus(spot.at, center_b),
+        candidate: spot.candidate,
     }
 }
 

@@ -75,11 +75,11 @@ fn touch(a: Shape, b: Shape, x: i64, y: i64) -> Manifold
 /// A point of this candidate, with its normal, its separation and its two offsets.
 fn point(candidate: u8, r: [i64; 7]) -> Point {
     Point {
-        candidate,
         normal: Vec2 { x: r[0], y: r[1] },
         separation: r[2],
         ra: Vec2 { x: r[3], y: r[4] },
         rb: Vec2 { x: r[5], y: r[6] },
+        candidate,
     }
 }
 

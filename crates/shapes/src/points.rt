@@ -2,16 +2,16 @@
 
 use fixed_geom::Vec2;
 
-/// A point of contact: the number of its candidate, 0 to 3, the normal from the first shape to the
-/// second, times 2^30, the separation in u (below zero where the shapes overlap), and the contact
-/// point by its offsets from the two bodies' centres, in u.
+/// A point of contact: the normal from the first shape to the second, times 2^30, the separation in u
+/// (below zero where the shapes overlap), the contact point by its offsets from the two bodies'
+/// centres, in u, and the number of its candidate, 0 to 3.
 #[derive(Clone, Copy, Debug, PartialEq, Eq)]
 pub struct Point {
-    pub candidate: u8,
     pub normal: Vec2,
     pub separation: i64,
     pub ra: Vec2,
     pub rb: Vec2,
+    pub candidate: u8,
 }
 
 /// The one or two points at which two shapes touch or are nearest.

@@ -181,7 +181,6 @@ fn a_capsule_rests_on_a_floor(rt: HostRuntime) {
     let bar = capsule(-50000, 0, 50000, 0, 20000);
     let up = Vec2 { x: 0, y: UNIT };
     let first = Point {
-        candidate: 2,
         normal: up,
         separation: 0,
         ra: Vec2 { x: -50000, y: 0 },
@@ -189,9 +188,9 @@ fn a_capsule_rests_on_a_floor(rt: HostRuntime) {
             x: -50000,
             y: -20000,
         },
+        candidate: 2,
     };
     let second = Point {
-        candidate: 3,
         normal: up,
         separation: 0,
         ra: Vec2 { x: 50000, y: 0 },
@@ -199,6 +198,7 @@ fn a_capsule_rests_on_a_floor(rt: HostRuntime) {
             x: 50000,
             y: -20000,
         },
+        candidate: 3,
     };
     let found = manifold(&floor, at(0, 0), &bar, at(0, 20000));
     assert_eq!(rt; found.first, first);
@@ -212,11 +212,11 @@ fn crossing_cores_push_out(rt: HostRuntime) {
     let bar = capsule(0, -30, 0, 70, 5);
     let found = manifold(&line, at(0, 0), &bar, at(10, 0));
     let first = Point {
-        candidate: 2,
         normal: Vec2 { x: 0, y: UNIT },
         separation: -35,
         ra: Vec2 { x: 10, y: -18 },
         rb: Vec2 { x: 0, y: -18 },
+        candidate: 2,
     };
     assert_eq!(rt; found.first, first);
     assert_eq!(rt; found.second, None);
@@ -245,11 +245,11 @@ fn a_turned_core_becomes_a_point(rt: HostRuntime) {
         at(16, 1),
     );
     let first = Point {
-        candidate: 0,
         normal: Vec2 { x: UNIT, y: 0 },
         separation: -5,
         ra: Vec2 { x: 8, y: 1 },
         rb: Vec2 { x: -8, y: 0 },
+        candidate: 0,
     };
     assert_eq!(rt; found.first, first);
     assert_eq!(rt; found.second, None);

@@ -166,6 +166,3 @@ lowest-free places = elim (cases_lt (lowest places) (length places)) [
 pub none_if : (o : Option Body) → is_some o ≡ false → o ≡ None
 none_if None e = refl
 none_if (Some b) e = cc
-
-pub HaveSameSlots-trans : (old now new : List (Option Body)) → HaveSameSlots old now → HaveSameSlots now new → HaveSameSlots old new
-HaveSameSlots-trans old now new h k = record { slots = k.slots ∙ h.slots; taken = λ slot. k.taken slot ∙ h.taken slot }

@@ -27,7 +27,7 @@ use std::alloc::Global;
 use std::marker::Model;
 use world_core_base::{
     Body, BodyDef, BodyView, Census, body_of, clear_slot, copy_bodies, gather_rows, gather_states,
-    put_body, put_impulses, put_momentum, put_motions, renew_fats, take_census,
+    move_bodies, put_body, put_impulses, put_momentum, take_census,
 };
 
 /// How many calls a world accepts.
@@ -244,9 +244,8 @@ impl WorldCore {
             self.gravity,
             ticks.unsigned_abs(),
         );
-        put_motions(&mut self.bodies, &self.states);
+        move_bodies(&mut self.bodies, &self.states);
         put_impulses(&mut self.contacts, &self.rows);
-        renew_fats(&mut self.bodies);
         book_step(&mut self.ledger, self.calls + 1, sums);
         self.steps += 1;
         self.calls += 1;

@@ -1,16 +1,11 @@
 -- What a step gathers from bodies and contacts, and what it writes back to the bodies.
-use Rattle.std.proofs.Common.{◌≡◌, inl, inr, ◌⊎◌, ℕ, zero, suc, ◌+◌, ◌*◌, ◌^◌, ◌<◌, ◌≤◌, List, [], ◌∷◌, ◌++◌, length, get_or, take, drop, map, Option, Some, None, Bool, true, false, cond, ℤ, pos, ◌+ℤ◌, ◌≤ℤ◌, unsigned_abs, arith, refl, sym, ap, ◌∙◌, subst, is_some, slice_set, slice_index_or, add-one}
+use Rattle.std.proofs.Common.{◌≡◌, inl, inr, ◌⊎◌, ℕ, zero, suc, ◌<◌, List, [], ◌∷◌, length, Option, Some, None, Bool, true, false, cond, arith, refl, sym, ap, ◌∙◌, subst, is_some, slice_index_or}
 use Rattle.std.specs.Prelude.{option_map}
-use Rattle.std.specs.List.{slice_get}
-use Rattle.std.specs.Int.{int_max}
-use Rattle.std.proofs.lemmas.Bool.{cases_Bool}
 use Rattle.std.proofs.lemmas.Int.{ints}
 use Rattle.std.proofs.lemmas.Option.{slice_get-get_or}
-use Rattle.fixed_geom.specs.Vectors.{IsWithin}
-use Rattle.momenta.specs.Motions.{IsMass, IsMotion}
+use Rattle.momenta.specs.Motions.{IsMass}
 use Rattle.momenta.specs.Impulses.{AreStates, IsState}
 use Rattle.momenta.specs.declared.mass.MassData.{MassData}
-use Rattle.momenta.specs.declared.motion.Motion.{Motion}
 use Rattle.momenta.specs.declared.state.BodyState.{BodyState}
 use Rattle.contacts_base.specs.declared.key.ContactKey.{ContactKey}
 use Rattle.colour_solver.specs.States as step
@@ -18,7 +13,7 @@ use Rattle.colour_solver.specs.States.{nobody, AreAllStates, AreSameStates, tota
 use Rattle.world_core_base.specs.declared.body.Body.{Body}
 use Rattle.world_core_base.specs.declared.body.Kind.{Kind}
 use Rattle.world_core_base.specs.declared.body.Kind.TheVariants.{Static, Dynamic}
-use Rattle.world_core_base.specs.Bodies.{AreBodies, IsAtRest, IsBody, IsMassOf, is_dynamic, is_mover, momentum_x, momentum_y, p_x, p_y}
+use Rattle.world_core_base.specs.Bodies.{AreBodies, IsBody, IsMassOf, is_dynamic, is_mover, momentum_x, momentum_y, p_x, p_y}
 use Rattle.world_core_base.specs.Slots.{HaveSameSlots, body_at}
 use Rattle.world_core_base.specs.Gather.{ends_at, moves, state_of, states_of, with_motion, with_motions}
 
@@ -71,11 +66,11 @@ total_y-gathered (o ∷ os) = let first = y_of o in let rest = total_y-gathered 
 
 -- ---- the bodies of a contact
 
-state_at : (states : List BodyState) (slot : ℕ) → AreAllStates states → slot < length states → IsState (slice_index_or states slot nobody)
-state_at states slot all h = all slot (slice_index_or states slot nobody) (slice_get-get_or states slot nobody h)
+pub state_at : (states : List BodyState) (slot : ℕ) (d : BodyState) → AreAllStates states → slot < length states → IsState (slice_index_or states slot d)
+state_at states slot d all h = all slot (slice_index_or states slot d) (slice_get-get_or states slot d h)
 
 pub are_states : (states : List BodyState) (key : ContactKey) → AreAllStates states → key.first.slot < length states → key.second.slot < length states → AreStates (ends_at states key)
-are_states states key all first second = record { a = state_at states key.first.slot all first; b = state_at states key.second.slot all second }
+are_states states key all first second = record { a = state_at states key.first.slot nobody all first; b = state_at states key.second.slot nobody all second }
 
 movable_at : (bodies : List (Option Body)) (slot : ℕ) → moves bodies slot ≡ true → (slice_index_or (states_of bodies) slot nobody).movable ≡ true
 movable_at [] slot e = e
@@ -91,38 +86,6 @@ one_movable bodies states key same (inr e) = inr (rw same (movable_at bodies key
 pub length-states : (bodies : List (Option Body)) → length (states_of bodies) ≡ length bodies
 length-states [] = refl
 length-states (o ∷ os) = ap suc (length-states os)
-
--- ---- the motions given back
-
-next_motion : (all : List (Option Body)) (states : List BodyState) (i : ℕ) (d : Option Body) (e : BodyState) → i < length all → length states ≡ length all
-    → slice_set (with_motions (take i all) (take i states) ++ drop i all) i (option_map (with_motion (get_or states i e)) (get_or all i d)) ≡ with_motions (take (suc i) all) (take (suc i) states) ++ drop (suc i) all
-next_motion [] states i d e h k = absurd (omega arith)
-next_motion (o ∷ os) [] i d e h k = absurd (omega arith)
-next_motion (o ∷ os) (s ∷ ss) zero d e h k = refl
-next_motion (o ∷ os) (s ∷ ss) (suc i) d e h k = ap (λ (l : List (Option Body)). option_map (with_motion s) o ∷ l) (next_motion os ss i d e (omega arith) (omega arith))
-
-still_there : (all : List (Option Body)) (states : List BodyState) (i : ℕ) (d : Option Body) → i < length all → length states ≡ length all
-    → get_or (with_motions (take i all) (take i states) ++ drop i all) i d ≡ get_or all i d
-still_there [] states i d h k = absurd (omega arith)
-still_there (o ∷ os) [] i d h k = absurd (omega arith)
-still_there (o ∷ os) (s ∷ ss) zero d h k = refl
-still_there (o ∷ os) (s ∷ ss) (suc i) d h k = still_there os ss i d (omega arith) (omega arith)
-
-pub motion_more : (all items : List (Option Body)) (states : List BodyState) (i : ℕ) (now after : Option Body) (d : BodyState) → i < length all → length states ≡ length all
-    → items ≡ with_motions (take i all) (take i states) ++ drop i all → now ≡ get_or items i now → after ≡ option_map (with_motion (get_or states i d)) now
-    → slice_set items i after ≡ with_motions (take (i + 1) all) (take (i + 1) states) ++ drop (i + 1) all
-motion_more all items states i now after d h k is here made =
-    let there : now ≡ get_or all i now = here ∙ ap (λ (l : List (Option Body)). get_or l i now) is ∙ still_there all states i now h k in
-    let value : after ≡ option_map (with_motion (get_or states i d)) (get_or all i now) = made ∙ ap (option_map (with_motion (get_or states i d))) there in
-    rw (is, value, add-one) (next_motion all states i now d h k)
-
--- once all slots were seen
-pub motion_whole : (all : List (Option Body)) (states : List BodyState) (i : ℕ) → length all ≤ i → length states ≡ length all → with_motions (take i all) (take i states) ++ drop i all ≡ with_motions all states
-motion_whole [] states zero h k = refl
-motion_whole [] states (suc i) h k = refl
-motion_whole (o ∷ os) states zero h k = absurd (omega arith)
-motion_whole (o ∷ os) [] (suc i) h k = absurd (omega arith)
-motion_whole (o ∷ os) (s ∷ ss) (suc i) h k = ap (λ (l : List (Option Body)). option_map (with_motion s) o ∷ l) (motion_whole os ss i (omega arith) (omega arith))
 
 -- ---- what stays a body
 

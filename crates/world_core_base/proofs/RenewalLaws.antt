@@ -1,7 +1,6 @@
 -- Fat boxes made anew change nothing else of a body.
-use Rattle.std.proofs.Common.{◌≡◌, ℕ, zero, suc, ◌+◌, ◌<◌, ◌≤◌, List, [], ◌∷◌, ◌++◌, length, get_or, take, drop, map, Option, Some, None, Bool, true, false, cond, ◌+ℤ◌, refl, ap, sym, ◌∙◌, arith, is_some, subst}
+use Rattle.std.proofs.Common.{◌≡◌, ℕ, zero, suc, List, [], ◌∷◌, length, Option, Some, None, Bool, true, false, cond, refl, ap, arith, is_some, subst}
 use Rattle.std.specs.Prelude.{option_map}
-use Rattle.std.specs.List.{slice_get}
 use Rattle.std.proofs.lemmas.Int.{ints}
 use Rattle.world_core_base.specs.declared.body.Body.{Body}
 use Rattle.world_core_base.specs.Bodies.{is_mover, pose_of, IsBody, AreBodies, p_x, p_y, momentum_x, momentum_y}
@@ -11,15 +10,6 @@ use Rattle.world_core_base.specs.Slots.{body_at, HaveSameSlots}
 use Rattle.shapes.specs.declared.pose.Pose.{Pose}
 use Rattle.shapes.specs.declared.shape.ShapeDef.{ShapeDef}
 use Rattle.fixed_geom.specs.declared.boxes.Box2.{Box2}
-
-at_now : {X : Type 0} (g : X → X) (all : List X) (i : ℕ) (now : X) → i < length all → get_or (map g (take i all) ++ drop i all) i now ≡ get_or all i now
-at_now g [] i now h = absurd (omega arith)
-at_now g (x ∷ xs) zero now h = refl
-at_now g (x ∷ xs) (suc i) now h = at_now g xs i now (omega arith)
-
--- the slot that is next is as it was
-pub next_is : {X : Type 0} (g : X → X) (all items : List X) (i : ℕ) (now : X) → i < length all → items ≡ map g (take i all) ++ drop i all → now ≡ get_or items i now → now ≡ get_or all i now
-next_is {X} g all items i now h is here = here ∙ ap (λ (l : List X). get_or l i now) is ∙ at_now g all i now h
 
 length-renewed : (o : Pose) (defs : List ShapeDef) (fats : List Box2) → length fats ≡ length defs → length (renewed_boxes o defs fats) ≡ length defs
 length-renewed o [] fats e = e
@@ -81,10 +71,3 @@ momentum_x-renewed (o ∷ os) = let first = x_same o in let rest = momentum_x-re
 pub momentum_y-renewed : (bodies : List (Option Body)) → momentum_y (renewed_bodies bodies) ≡ momentum_y bodies
 momentum_y-renewed [] = refl
 momentum_y-renewed (o ∷ os) = let first = y_same o in let rest = momentum_y-renewed os in omega (arith, ints, first, rest)
-
--- once all slots were seen
-pub whole : (all : List (Option Body)) (i : ℕ) → length all ≤ i → renewed_bodies (take i all) ++ drop i all ≡ renewed_bodies all
-whole [] zero h = refl
-whole [] (suc i) h = refl
-whole (o ∷ os) zero h = absurd (omega arith)
-whole (o ∷ os) (suc i) h = ap (λ (l : List (Option Body)). option_map with_renewed o ∷ l) (whole os i (omega arith))

@@ -8,12 +8,11 @@ ghost use Rattle.contacts_base.specs.Contacts.{AreKeysRising, number_of};
 ghost use Rattle.contacts_base.specs.Keys.{key_number};
 ghost use Rattle.momenta.specs.Impulses.{AreStates};
 ghost use Rattle.colour_solver_base.specs.Rows.{AreSurfaces};
-ghost use Rattle.colour_solver.specs.States.{AreAllStates, AreSameStates, total_x, total_y};
+ghost use Rattle.colour_solver.specs.States.{AreAllStates, total_x, total_y};
 ghost use Rattle.colour_solver.specs.Turns.{AreRowsBelow, IsRowBelow};
 ghost use Rattle.graph_colours.specs.Colours.{all_members};
 ghost use Rattle.world_core_base.specs.Bodies.{AreBodies, momentum_x, momentum_y};
-ghost use Rattle.world_core_base.specs.Slots.{HaveSameSlots};
-ghost use Rattle.world_core_base.specs.Gather.{AreContactsOf, IsContactOf, IsSurface, bodies_of, ends_at, put_row, row_in, row_of, rows_in, rows_of, second_with, state_of, states_of, surface_at, surface_in, surface_of, with_impulses, with_motion, with_motions, with_row, with_rows};
+ghost use Rattle.world_core_base.specs.Gather.{AreContactsOf, IsContactOf, IsSurface, bodies_of, ends_at, put_row, row_in, row_of, rows_in, rows_of, second_with, state_of, states_of, surface_at, surface_in, surface_of, with_impulses, with_row, with_rows};
 
 use crate::body::Body;
 use crate::slots::body_at;
@@ -265,35 +264,6 @@ pub fn gather_rows(
     rows.clear();
     for colour in 0..13 {
         gather_colour(rows, states, bodies, contacts, colours.members(colour));
-    }
-}
-
-fn put_motion(entry: &mut Option<Body>, state: &BodyState)
-    ensures { entry.new ≡ option_map (with_motion state.now) entry.old }
-{
-    match entry {
-        None => {}
-        Some(body) => {
-            if body.is_mover() {
-                body.motion = state.motion;
-            }
-        }
-    }
-}
-
-/// Gives each mover the motion that the step has left it.
-pub fn put_motions(bodies: &mut Vec<Option<Body>>, states: &[BodyState])
-    requires bodies { AreBodies bodies.old.items }
-    requires states { AreAllStates states.now }
-    requires same { AreSameStates (states_of bodies.old.items) states.now }
-    ensures value { bodies.new.items ≡ with_motions bodies.old.items states.now }
-    ensures bodies { AreBodies bodies.new.items }
-    ensures slots { HaveSameSlots bodies.old.items bodies.new.items }
-    ensures momentum_x { momentum_x bodies.new.items ≡ total_x states.now }
-    ensures momentum_y { momentum_y bodies.new.items ≡ total_y states.now }
-{
-    for slot in 0..bodies.len() {
-        put_motion(&mut bodies[slot], &states[slot]);
     }
 }
 
