@@ -17,6 +17,7 @@ fn quotients_round(rt: HostRuntime) {
     assert_eq!(rt; rdiv_64(-1099511627776, 3), -366503875925);
     assert_eq!(rt; rdiv_unit(-(1 << 29)), -1);
     assert_eq!(rt; rdiv_unit((1 << 29) - 1), 0);
+    assert_eq!(rt; rdiv_unit(-(1 << 92)), -(1 << 62));
     assert_eq!(rt; fdiv(-20000, 3), -6667);
     assert_eq!(rt; fdiv(20000, 3), 6666);
 }
@@ -52,6 +53,38 @@ fn vectors_have_products_and_lengths(rt: HostRuntime) {
     assert_eq!(rt; unit(Vec2 { x: 1, y: 1 }), Vec2 { x: UNIT, y: UNIT });
     assert_eq!(rt; moved(a, b, UNIT / 2), Vec2 { x: 585, y: 804 });
     assert!(rt; is_within(b, 30) && !is_within(b, 29));
+}
+
+/// At the last size for which 64 bits have room, and beyond.
+#[test]
+fn near_and_far_lengths(rt: HostRuntime) {
+    let near = 1 << 31;
+    assert_eq!(rt; span(Vec2 { x: near, y: -near }), 3037000499);
+    let far = (1 << 31) + 1;
+    assert_eq!(rt; span(Vec2 { x: far, y: -far }), 3037000501);
+    assert_eq!(rt;
+        span(Vec2 {
+            x: 3000000001,
+            y: -4000000002
+        }),
+        5000000002
+    );
+}
+
+#[test]
+fn narrow_products(rt: HostRuntime) {
+    let a = Vec2 { x: 600, y: 800 };
+    let b = Vec2 { x: -30, y: 7 };
+    assert_eq!(rt; narrow_dot(a, b), -12400);
+    assert_eq!(rt; narrow_cross(a, b), 28200);
+    assert_eq!(rt; narrow_scaled(-3, UNIT / 2), -2);
+    assert_eq!(rt; rdiv_unit_64(-(1 << 29)), -1);
+    assert_eq!(rt; rdiv_unit_64(1 - (1 << 29)), 0);
+    let quarter = Rot { c: 0, s: UNIT };
+    assert_eq!(rt;
+        narrow_rotate(quarter, Vec2 { x: UNIT, y: 7 }),
+        Vec2 { x: -7, y: UNIT }
+    );
 }
 
 #[test]

@@ -347,3 +347,40 @@ fn ends_at_one_distance(rt: HostRuntime) {
         one(point(2, [0, UNIT, 12000, -30000, 6000, -30000, -6000]))
     );
 }
+
+fn slope() -> Shape
+    ensures { IsShape result }
+{
+    segment(-16777216, -7000001, 16777215, 9000002)
+}
+
+/// Ways of up to 2^30 u, the last whose products 64 bits hold, and of one more.
+#[test]
+fn cores_near_and_far(rt: HostRuntime) {
+    assert_eq!(rt;
+        touch(ball(), slope(), 521777216, -1066741823),
+        one(point(
+            0,
+            [
+                462148594, -969195637, 1186542392, 255353815, -535515646, -266423401, 531226177
+            ]
+        ))
+    );
+    assert_eq!(rt;
+        touch(ball(), slope(), 521777216, -1066741824),
+        one(point(
+            0,
+            [
+                462148594, -969195637, 1186542393, 255353815, -535515646, -266423401, 531226178
+            ]
+        ))
+    );
+    assert_eq!(rt;
+        touch(line(), wall(), 1073711824, -15000),
+        one(point(1, [UNIT, 0, 1073681824, 536870912, 0, -536840912, 15000]))
+    );
+    assert_eq!(rt;
+        touch(line(), wall(), 1073711825, -15000),
+        one(point(1, [UNIT, 0, 1073681825, 536870912, 0, -536840913, 15000]))
+    );
+}

@@ -3,7 +3,7 @@ use Rattle.std.proofs.lemmas.Bool.{false≢true}
 use Rattle.std.proofs.lemmas.Int.{to_z-of_z}
 use Rattle.std.specs.Int.{w64}
 use mir.Val.{SFits}
-use Rattle.fixed_geom.specs.Vectors.{dot, minus}
+use Rattle.fixed_geom.specs.Vectors.{dot}
 use Rattle.fixed_geom.specs.declared.vectors.Vec2.{Vec2}
 use Rattle.shapes.specs.Manifolds.{is_far}
 use Rattle.shapes.proofs.PointLemmas.{far_outside}
