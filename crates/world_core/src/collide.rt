@@ -3,15 +3,18 @@ ghost use Rattle.std.specs.Result.{IsOkUnless};
 ghost use Rattle.contacts_base.specs.Contacts.{AreKeysRising};
 ghost use Rattle.contacts_base.specs.Near.{number_of};
 ghost use Rattle.contacts.specs.Changes.{keys_touching_only_in, AreRising};
-ghost use Rattle.world_core_base.specs.Bodies.{AreBodies, IsBody};
+ghost use Rattle.colour_solver.specs.States.{AreAllStates, total_x, total_y};
+ghost use Rattle.world_core_base.specs.Bodies.{AreBodies, IsBody, momentum_x, momentum_y};
+ghost use Rattle.world_core_base.specs.Gather.{states_of};
 ghost use Rattle.world_core.specs.Collide.{body_proxies, proxies_of, contacts_after, has_slot, contacts_without};
 
 use contacts::{BroadPhase, Changes};
 use contacts_base::{ContactEntry, ContactKey, Proxy, ShapeId};
 use event_feed::Events;
 use fixed_geom::Refusal;
+use momenta::BodyState;
 use std::alloc::Global;
-use world_core_base::Body;
+use world_core_base::{Body, state_of};
 
 /// Adds the shapes of an enabled body, in their order.
 fn gather_body(broad: &mut BroadPhase, slot: usize, body: &Body) -> Result<(), Refusal>
@@ -45,33 +48,49 @@ fn gather_body(broad: &mut BroadPhase, slot: usize, body: &Body) -> Result<(), R
     Ok(())
 }
 
-/// Fills the broad phase with the shapes of all enabled bodies.
-fn gather(broad: &mut BroadPhase, bodies: &[Option<Body>]) -> Result<(), Refusal>
+/// Fills the broad phase with the shapes of all enabled bodies, and the states with the bodies of all slots.
+fn gather(
+    broad: &mut BroadPhase,
+    states: &mut Vec<BodyState>,
+    bodies: &[Option<Body>],
+) -> Result<(), Refusal>
     requires few { length bodies.now ≤ 16384 }
     requires bodies { AreBodies bodies.now }
     ensures gathered { OnOk result (broad.new ≡ proxies_of bodies.now) }
+    ensures states { OnOk result (states.new.items ≡ states_of bodies.now) }
+    ensures all_states { OnOk result (AreAllStates states.new.items) }
+    ensures momentum_x { OnOk result (total_x states.new.items ≡ momentum_x bodies.now) }
+    ensures momentum_y { OnOk result (total_y states.new.items ≡ momentum_y bodies.now) }
     ensures memory_only { IsOkUnless result Refusal.NoMemory }
 {
     broad.clear();
+    states.clear();
     for (slot, entry) in bodies.iter().enumerate() {
         if let Some(body) = entry {
             gather_body(broad, slot, body)?;
         }
+        states.push(state_of(entry))?;
     }
     Ok(())
 }
 
-/// Finds the near pairs of shapes and evaluates a contact for each. Refused 1 where memory is wanting.
+/// Gathers shapes and states from the bodies, finds the near pairs of shapes and evaluates a contact for each. Refused 1
+/// where memory is wanting.
 #[tactic(auto, unfolding(crate::specs::Collide::contacts_after))]
 pub fn collide(
     alloc: Global,
     broad: &mut BroadPhase,
+    states: &mut Vec<BodyState>,
     bodies: &[Option<Body>],
     old: &[ContactEntry],
 ) -> Result<Changes, Refusal>
     requires few { length bodies.now ≤ 16384 }
     requires bodies { AreBodies bodies.now }
     requires old { AreKeysRising old.now }
+    ensures states { OnOk result (states.new.items ≡ states_of bodies.now) }
+    ensures all_states { OnOk result (AreAllStates states.new.items) }
+    ensures momentum_x { OnOk result (total_x states.new.items ≡ momentum_x bodies.now) }
+    ensures momentum_y { OnOk result (total_y states.new.items ≡ momentum_y bodies.now) }
     ensures now { IfOk result (λ changes. changes.now.items ≡ contacts_after bodies.now old.now) }
     ensures rising { IfOk result (λ changes. AreKeysRising changes.now.items) }
     ensures begin { IfOk result (λ changes. changes.begin.items ≡ keys_touching_only_in old.now (contacts_after bodies.now old.now)) }
@@ -80,7 +99,7 @@ pub fn collide(
     ensures end_rises { IfOk result (λ changes. AreRising changes.end.items) }
     ensures memory_only { IsOkUnless result Refusal.NoMemory }
 {
-    gather(broad, bodies)?;
+    gather(broad, states, bodies)?;
     broad.update_contacts(alloc, old)
 }
 

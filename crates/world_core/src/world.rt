@@ -26,8 +26,8 @@ use momenta::BodyState;
 use std::alloc::Global;
 use std::marker::Model;
 use world_core_base::{
-    Body, BodyDef, BodyView, Census, body_of, clear_slot, copy_bodies, gather_rows, gather_states,
-    move_bodies, put_body, put_impulses, put_momentum, take_census,
+    Body, BodyDef, BodyView, Census, body_of, clear_slot, copy_bodies, gather_rows, move_bodies,
+    put_body, put_impulses, put_momentum, take_census,
 };
 
 /// How many calls a world accepts.
@@ -217,10 +217,15 @@ impl WorldCore {
         }
         let alloc = *self.bodies.allocator();
         self.ledger.reserve(3)?;
-        let changes = collide(alloc, &mut self.broad, &self.bodies, &self.contacts)?;
+        let changes = collide(
+            alloc,
+            &mut self.broad,
+            &mut self.states,
+            &self.bodies,
+            &self.contacts,
+        )?;
         self.colours
             .reserve(changes.begin.len(), self.bodies.len())?;
-        gather_states(&mut self.states, &self.bodies)?;
         let most = count_with(&self.colours, changes.begin.len())?;
         self.rows.reserve(most)?;
         turn_colours(

@@ -1,17 +1,16 @@
 //! What a step works on: the bodies by slot and the touching contacts in solve order, gathered when it begins and
 //! written back when it ends.
 
-ghost use Rattle.std.specs.Prelude.{◌≡◌, ◌<◌, ◌≤◌, ◌≢◌, ◌⊎◌, ◌+◌, ◌-◌, ◌++◌, ℕ, List, Option, Some, true, length, map, OnOk, vec_len, vec_capacity, option_map, slice_get};
+ghost use Rattle.std.specs.Prelude.{◌≡◌, ◌<◌, ◌≤◌, ◌≢◌, ◌⊎◌, ◌+◌, ◌-◌, ◌++◌, ℕ, List, Option, Some, true, length, map, vec_len, vec_capacity, option_map, slice_get};
 ghost use Rattle.std.specs.Option.{ForSome, option_copied, option_to_list};
-ghost use Rattle.std.specs.Result.{IsOkUnless};
 ghost use Rattle.contacts_base.specs.Contacts.{AreKeysRising, number_of};
 ghost use Rattle.contacts_base.specs.Keys.{key_number};
 ghost use Rattle.momenta.specs.Impulses.{AreStates};
 ghost use Rattle.colour_solver_base.specs.Rows.{AreSurfaces};
-ghost use Rattle.colour_solver.specs.States.{AreAllStates, total_x, total_y};
+ghost use Rattle.colour_solver.specs.States.{AreAllStates};
 ghost use Rattle.colour_solver.specs.Turns.{AreRowsBelow, IsRowBelow};
 ghost use Rattle.graph_colours.specs.Colours.{all_members};
-ghost use Rattle.world_core_base.specs.Bodies.{AreBodies, momentum_x, momentum_y};
+ghost use Rattle.world_core_base.specs.Bodies.{AreBodies};
 ghost use Rattle.world_core_base.specs.Gather.{AreContactsOf, IsContactOf, IsSurface, bodies_of, ends_at, put_row, row_in, row_of, rows_in, rows_of, second_with, state_of, states_of, surface_at, surface_in, surface_of, with_impulses, with_row, with_rows};
 
 use crate::body::Body;
@@ -19,7 +18,7 @@ use crate::slots::body_at;
 use colour_solver_base::{Bodies, ContactRow, PointRow, contact_row};
 use contacts::Constraint;
 use contacts_base::{Contact, ContactEntry, ContactKey, ContactPoint, ShapeId, place_at, seek};
-use fixed_geom::{Refusal, Rot, UNIT, Vec2};
+use fixed_geom::{Rot, UNIT, Vec2};
 use graph_colours::{Colours, Member};
 use momenta::{BodyState, Ends, MassData, Motion};
 use shapes::{ShapeDef, mixed_friction, mixed_restitution};
@@ -40,9 +39,9 @@ const NOBODY: BodyState = BodyState {
     start: Vec2 { x: 0, y: 0 },
 };
 
-/// A body as the solver works on it.
+/// The body of a slot as the solver works on it; in an empty one, what nothing moves.
 #[inline(always)]
-fn state_of(entry: &Option<Body>) -> BodyState
+pub fn state_of(entry: &Option<Body>) -> BodyState
     ensures { result ≡ state_of entry.now }
 {
     match entry {
@@ -54,22 +53,6 @@ fn state_of(entry: &Option<Body>) -> BodyState
             start: body.motion.x,
         },
     }
-}
-
-/// Gathers the bodies of all slots. Refused 1 where memory is wanting.
-pub fn gather_states(states: &mut Vec<BodyState>, bodies: &[Option<Body>]) -> Result<(), Refusal>
-    requires bodies { AreBodies bodies.now }
-    ensures value { OnOk result (states.new.items ≡ states_of bodies.now) }
-    ensures states { OnOk result (AreAllStates states.new.items) }
-    ensures momentum_x { OnOk result (total_x states.new.items ≡ momentum_x bodies.now) }
-    ensures momentum_y { OnOk result (total_y states.new.items ≡ momentum_y bodies.now) }
-    ensures memory_only { IsOkUnless result Refusal.NoMemory }
-{
-    states.clear();
-    for entry in bodies {
-        states.push(state_of(entry))?;
-    }
-    Ok(())
 }
 
 /// The friction and the restitution of a shape, in 256ths.
