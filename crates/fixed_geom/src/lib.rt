@@ -25,4 +25,6 @@ pub use products::{difference_of_products, product, scaled, sum_of_products};
 pub use quotients::{fdiv, rdiv, rdiv_64, rdiv_unit, share};
 pub use refusal::Refusal;
 pub use roots::isqrt;
-pub use vectors::{UNIT, Vec2, cross, dot, is_within, minus, moved, span, unit, unit_along};
+pub use vectors::{
+    UNIT, Vec2, cross, dot, is_within, minus, moved, near_moved, span, unit, unit_along,
+};

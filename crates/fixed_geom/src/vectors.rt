@@ -4,6 +4,7 @@ ghost use Rattle.std.specs.Prelude.{◌≡◌, ℕ, ◌+◌, ◌*◌, ◌^◌, �
 ghost use Rattle.fixed_geom.specs.Numbers.{rdiv, IsRoot};
 ghost use Rattle.fixed_geom.specs.Vectors.{IsWithin, is_within, unit_length, dot, cross, minus, moved, span, unit};
 
+use crate::narrow::narrow_scaled;
 use crate::products::{difference_of_products, scaled, sum_of_products};
 use crate::roots::root_64;
 use crate::{isqrt, share};
@@ -161,5 +162,30 @@ pub fn moved(p: Vec2, d: Vec2, t: i64) -> Vec2
     Vec2 {
         x: shifted(p.x, d.x, t),
         y: shifted(p.y, d.y, t),
+    }
+}
+
+/// `x + d·t / 2^30` in 64 bits.
+fn near_shifted(x: i64, d: i64, t: i64) -> i64
+    requires place { unsigned_abs x ≤ 2 ^ 60 }
+    requires way { unsigned_abs d ≤ 2 ^ 30 }
+    requires times { unsigned_abs t ≤ 2 ^ 32 }
+    ensures value { result ≡ x +ℤ rdiv (d *ℤ t) unit_length }
+    ensures within { unsigned_abs result ≤ unsigned_abs x + 2 ^ 32 }
+{
+    x + narrow_scaled(t, d)
+}
+
+/// `moved` in 64 bits: by a share of a way up to 2^30 in each part, or by a length up to 2^32 along a unit vector.
+pub fn near_moved(p: Vec2, d: Vec2, t: i64) -> Vec2
+    requires place { IsWithin (2 ^ 60) p }
+    requires way { IsWithin (2 ^ 30) d }
+    requires times { unsigned_abs t ≤ 2 ^ 32 }
+    ensures value { result ≡ moved p d t }
+    ensures within { (m : ℕ) → IsWithin m p → IsWithin (m + 2 ^ 32) result }
+{
+    Vec2 {
+        x: near_shifted(p.x, d.x, t),
+        y: near_shifted(p.y, d.y, t),
     }
 }

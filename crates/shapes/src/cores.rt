@@ -4,11 +4,12 @@ ghost use Rattle.std.specs.Prelude.{◌≡◌, ℕ, ◌+◌, ◌*◌, ◌^◌, �
 ghost use Rattle.fixed_geom.specs.Numbers.{rdiv};
 ghost use Rattle.fixed_geom.specs.Vectors.{IsWithin, unit_length, dot, cross};
 ghost use Rattle.shapes.specs.Poses.{IsPlaced};
-ghost use Rattle.shapes.specs.Cores.{is_point, way_of, clamped, share_of, closest, side, are_opposite, is_parted, cores_cross};
+ghost use Rattle.shapes.specs.Cores.{is_point, way_of, clamped, closest, side, are_opposite, is_parted, cores_cross};
 
 use crate::Core;
 use fixed_geom::{
-    UNIT, Vec2, cross, dot, is_within, minus, moved, narrow_cross, narrow_dot, rdiv, share,
+    UNIT, Vec2, cross, dot, is_within, minus, moved, narrow_cross, narrow_dot, near_moved, rdiv,
+    share,
 };
 
 /// Up to this size of the components of two ways, in u, their products have room in 64 bits.
@@ -133,20 +134,20 @@ fn far_share_along(way: Vec2, from: Vec2) -> i64
     fraction(dot(from, way), dot(way, way))
 }
 
-/// How far along a core, that is no point, its point nearest to `e` lies, times 2^30.
-fn share_of(core: &Core, e: Vec2) -> i64
+/// The nearest point of a core that is no point, by the way along it and the way from its first end to `e`.
+fn closest_along(core: &Core, e: Vec2) -> Vec2
     requires wide { is_point core.now ≡ false }
     requires core { IsPlaced core.now }
     requires place { IsWithin (2 ^ 37) e }
-    ensures value { result ≡ share_of core.now e }
-    ensures within { unsigned_abs result ≤ 2 ^ 30 }
+    ensures value { result ≡ closest core.now e }
+    ensures within { IsWithin (2 ^ 39) result }
 {
     let way = way_of(core);
     let from = minus(e, core.p);
     if are_near(way, from) {
-        near_share_along(way, from)
+        near_moved(core.p, way, near_share_along(way, from))
     } else {
-        far_share_along(way, from)
+        moved(core.p, way, far_share_along(way, from))
     }
 }
 
@@ -160,7 +161,7 @@ pub fn closest(core: &Core, e: Vec2) -> Vec2
     if is_point(core) {
         return core.p;
     }
-    moved(core.p, way_of(core), share_of(core, e))
+    closest_along(core, e)
 }
 
 /// On which side of the core's line `e` lies: above zero to the left, zero on the line.

@@ -3,14 +3,17 @@
 
 ghost use Rattle.std.specs.Prelude.{◌≡◌, ℕ, ◌+◌, ◌*◌, ◌^◌, ◌<◌, ◌≤◌, false, pos, neg_ℤ, ◌≤ℤ◌, ◌-ℤ◌, ◌+ℤ◌, unsigned_abs};
 ghost use Rattle.fixed_geom.specs.Numbers.{fdiv};
-ghost use Rattle.fixed_geom.specs.Vectors.{IsWithin};
+ghost use Rattle.fixed_geom.specs.Vectors.{IsWithin, moved};
 ghost use Rattle.shapes.specs.Poses.{IsPlaced};
 ghost use Rattle.shapes.specs.Cores.{is_point};
 ghost use Rattle.shapes.specs.Spots.{IsPair, IsCandidate, IsSpot, measured, opposite, square_to, across, flat_normal, normal_of, turned, separation_of, spot_of};
 
 use crate::Core;
 use crate::cores::{is_point, way_of};
-use fixed_geom::{UNIT, Vec2, minus, moved, span, unit, unit_along};
+use fixed_geom::{UNIT, Vec2, minus, moved, near_moved, span, unit, unit_along};
+
+/// A distance up to this has a product with a unit vector that has room in 64 bits.
+const SHORT: u64 = 1 << 32;
 
 /// Two shapes in the world: their cores and radii, in u, and whether the cores cross.
 #[derive(Clone, Copy, Debug, PartialEq, Eq)]
@@ -177,6 +180,21 @@ fn reach(radius: i64, separation: i64) -> i64
     radius + half(separation)
 }
 
+/// The place at this distance from another along a normal, in 64 bits where the distance leaves room.
+fn place_along(from: Vec2, normal: Vec2, distance: i64) -> Vec2
+    requires from { IsWithin (2 ^ 39) from }
+    requires normal { IsWithin (2 ^ 30) normal }
+    requires distance { unsigned_abs distance ≤ 2 ^ 43 }
+    ensures value { result ≡ moved from normal distance }
+    ensures within { IsWithin (2 ^ 44) result }
+{
+    if distance.unsigned_abs() <= SHORT {
+        near_moved(from, normal, distance)
+    } else {
+        moved(from, normal, distance)
+    }
+}
+
 /// The contact point of a candidate.
 pub fn spot_of(pair: &Pair, candidate: &Candidate) -> Spot
     requires pair { IsPair pair.now }
@@ -186,7 +204,7 @@ pub fn spot_of(pair: &Pair, candidate: &Candidate) -> Spot
 {
     let normal = normal_of(pair, candidate);
     let separation = separation_of(pair, candidate);
-    let at = moved(candidate.a, normal, reach(pair.radius_a, separation));
+    let at = place_along(candidate.a, normal, reach(pair.radius_a, separation));
     Spot {
         candidate: candidate.number,
         dist: candidate.dist,

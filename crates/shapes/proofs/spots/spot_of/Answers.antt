@@ -1,4 +1,4 @@
-use Rattle.std.proofs.Common.{◌≤◌, ◌*◌, ◌^◌, arith, refl, unsigned_abs, rules}
+use Rattle.std.proofs.Common.{refl, rules}
 use Rattle.std.proofs.lemmas.Int.{to_z-of_z}
 use Rattle.std.specs.Int.{w64}
 use mir.Val.{SFits}
@@ -13,13 +13,10 @@ returns-clause-value c =
     let separation : SFits w64 c.separation_of-separation.result = record { sfits = c.separation_of-separation.type_inv } in
     let far : SFits w64 c.reach.result = record { sfits = c.reach.type_inv } in
     let reach = simp to_z-of_z at c.reach.ensures.value in
-    let at = simp to_z-of_z at c.moved-at.ensures.value in
+    let at = simp to_z-of_z at c.place_along-at.ensures.value in
     simp to_z-of_z (rw (at, reach, c.normal_of-normal.ensures.value, c.separation_of-separation.ensures.value) refl)
 
 pub returns-clause-spot : goal.returns-clause-spot
 returns-clause-spot c =
-    let far : SFits w64 c.reach.result = record { sfits = c.reach.type_inv } in
-    let times : (2 ^ 30 * unsigned_abs c.reach.result) ≤ 2 ^ 43 * 2 ^ 30 = omega (arith, c.reach.ensures.small) in
-    let near = c.moved-at.ensures.within (2 ^ 39) (2 ^ 30) (2 ^ 43) c.requires.candidate.a c.normal_of-normal.ensures.within (simp to_z-of_z times) in
     let dist : SFits w64 c.args.candidate.now.dist = search rules in
-    record { at = record { x = omega (arith, near.x); y = omega (arith, near.y) }; dist = simp to_z-of_z c.requires.candidate.small }
+    record { at = c.place_along-at.ensures.within; dist = simp to_z-of_z c.requires.candidate.small }
