@@ -4,7 +4,7 @@ ghost use Rattle.std.specs.Prelude.{◌≡◌, ℕ, ◌*◌, ◌^◌, ◌<◌, �
 ghost use Rattle.fixed_geom.specs.Numbers.{nearest, rdiv};
 
 use crate::quotients::{nearest_quotient, nearest_quotient_64};
-use crate::roots::{float_of, low_52_bits};
+use crate::roots::{low_52_bits, short_float_of};
 
 /// A guess at `n·2^40 / d` to the nearest, by a quotient of floats. Nothing else is promised of it, since what follows puts
 /// any guess right.
@@ -12,8 +12,32 @@ use crate::roots::{float_of, low_52_bits};
 fn guess_40(n: u64, d: u64) -> u64
     ensures small { result < 2 ^ 52 }
 {
-    let quotient = float_of(n) / float_of(d);
+    let quotient = short_float_of(n) / short_float_of(d);
     low_52_bits(quotient * 1_099_511_627_776.0)
+}
+
+/// The nearest natural number to `n·2^40 / d`, the greater where two are as near, by a division.
+#[cold]
+#[inline(never)]
+fn divided_40(n: u64, d: u64) -> u128
+    requires n { n ≤ 2 ^ 56 }
+    requires positive { 0 < d }
+    ensures value { result ≡ nearest (n * 2 ^ 40) d }
+    ensures small { result ≤ 2 ^ 96 }
+{
+    nearest_quotient(u128::from(n) << 40, u128::from(d))
+}
+
+/// The same in 64 bits.
+#[cold]
+#[inline(never)]
+fn divided_40_64(n: u64, d: u64) -> u64
+    requires n { n < 2 ^ 22 }
+    requires least { 2 ^ 20 ≤ d }
+    ensures value { result ≡ nearest (n * 2 ^ 40) d }
+    ensures small { result ≤ 2 ^ 42 }
+{
+    nearest_quotient_64(n << 40, d)
 }
 
 /// The nearest natural number to `n·2^40 / d`, the greater where two are as near: the guess if that is it, as it nearly always
@@ -34,7 +58,7 @@ fn over_size(n: u64, d: u64) -> u64
             return guess;
         }
     }
-    nearest_quotient_64(n << 40, d)
+    divided_40_64(n, d)
 }
 
 /// `x·2^40 / inverse` to the nearest, ties away from zero: what is multiplied by a number whose inverse, times 2^40, is given.
@@ -46,7 +70,7 @@ pub fn over_inverse(x: i64, inverse: i64) -> i64
     ensures value { result ≡ rdiv (x *ℤ pos (2 ^ 40)) inverse }
     ensures within { unsigned_abs result ≤ 2 ^ 42 }
 {
-    let size = over_size(x.unsigned_abs(), inverse.unsigned_abs()) as i64;
+    let size = over_size(x.unsigned_abs(), inverse as u64) as i64;
     if x < 0 { -size } else { size }
 }
 
@@ -66,7 +90,7 @@ fn quotient_40_of_sizes(n: u64, d: u64) -> u128
             return u128::from(guess);
         }
     }
-    nearest_quotient(u128::from(n) << 40, u128::from(d))
+    divided_40(n, d)
 }
 
 /// `x·2^40 / k` to the nearest, ties away from zero.
@@ -78,5 +102,5 @@ pub fn quotient_40(x: i64, k: i64) -> i128
     requires most { unsigned_abs k < 2 ^ 62 }
     ensures value { result ≡ rdiv (x *ℤ pos (2 ^ 40)) k }
 {
-    quotient_40_of_sizes(x.unsigned_abs(), k.unsigned_abs()) as i128
+    quotient_40_of_sizes(x as u64, k as u64) as i128
 }

@@ -5,7 +5,7 @@ ghost use Rattle.fixed_geom.specs.Numbers.{nearest, rdiv, fdiv, IsNearest, IsFlo
 ghost use Rattle.fixed_geom.specs.Vectors.{unit_length};
 
 use crate::product;
-use crate::roots::{float_of, low_bits};
+use crate::roots::{low_bits, short_float_of};
 
 /// The nearest natural number to `n / d`, the greater where two are as near.
 pub(crate) fn nearest_quotient(n: u128, d: u128) -> u128
@@ -59,7 +59,7 @@ pub fn rdiv_64(a: i64, b: i64) -> i64
     ensures nearest { IsNearest a b result }
     ensures within { (k : ℕ) → unsigned_abs a ≤ k * unsigned_abs b → unsigned_abs result ≤ k }
 {
-    let nearest = nearest_quotient_64(a.unsigned_abs(), b.unsigned_abs()) as i64;
+    let nearest = nearest_quotient_64(a.unsigned_abs(), b as u64) as i64;
     if a < 0 { -nearest } else { nearest }
 }
 
@@ -85,15 +85,28 @@ pub fn rdiv_unit(x: i128) -> i64
 
 /// A guess at `n·2^30 / d` to the nearest, by a quotient of floats. Nothing else is promised of it,
 /// since what follows puts any guess right.
+#[inline(always)]
 fn guess_share(n: u64, d: u64) -> u64
     ensures small { result < 2 ^ 33 }
 {
-    let quotient = float_of(n) / float_of(d);
+    let quotient = short_float_of(n) / short_float_of(d);
     low_bits(quotient * 1_073_741_824.0)
 }
 
-/// The nearest natural number to `n·2^30 / d`, the greater where two are as near: the guess if that
-/// is it, as it nearly always is, which spares a division of 128 bits.
+/// The nearest natural number to `n·2^30 / d`, the greater where two are as near, by a division.
+#[cold]
+#[inline(never)]
+fn divided_share(n: u64, d: u64) -> u64
+    requires positive { 0 < d }
+    requires part { n ≤ d }
+    ensures value { result ≡ nearest (n * 2 ^ 30) d }
+    ensures small { result ≤ 2 ^ 30 }
+{
+    nearest_quotient(u128::from(n) << 30, u128::from(d)) as u64
+}
+
+/// The same: the guess if that is it, as it nearly always is, which spares a division of 128 bits.
+#[inline(always)]
 fn share_of_sizes(n: u64, d: u64) -> u64
     requires positive { 0 < d }
     requires part { n ≤ d }
@@ -109,10 +122,11 @@ fn share_of_sizes(n: u64, d: u64) -> u64
             return guess;
         }
     }
-    nearest_quotient(u128::from(n) << 30, u128::from(d)) as u64
+    divided_share(n, d)
 }
 
 /// `share` of a whole below 2^62.
+#[inline(always)]
 fn near_share(x: i64, k: i64) -> i64
     requires positive { pos 0 <ℤ k }
     requires part { unsigned_abs x ≤ unsigned_abs k }
@@ -120,11 +134,13 @@ fn near_share(x: i64, k: i64) -> i64
     ensures value { result ≡ rdiv (x *ℤ unit_length) k }
     ensures within { unsigned_abs result ≤ 2 ^ 30 }
 {
-    let size = share_of_sizes(x.unsigned_abs(), k.unsigned_abs()) as i64;
+    let size = share_of_sizes(x.unsigned_abs(), k as u64) as i64;
     if x < 0 { -size } else { size }
 }
 
 /// `share` of any whole.
+#[cold]
+#[inline(never)]
 fn far_share(x: i64, k: i64) -> i64
     requires positive { pos 0 <ℤ k }
     requires part { unsigned_abs x ≤ unsigned_abs k }
@@ -136,6 +152,7 @@ fn far_share(x: i64, k: i64) -> i64
 
 /// `x·2^30 / k` to the nearest, ties away from zero, of an `x` that is no greater in size than `k`:
 /// which part of a whole it is, times 2^30. Fast where `k` is below 2^62.
+#[inline(always)]
 pub fn share(x: i64, k: i64) -> i64
     requires positive { pos 0 <ℤ k }
     requires part { unsigned_abs x ≤ unsigned_abs k }

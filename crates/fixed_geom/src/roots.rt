@@ -7,13 +7,37 @@ ghost use Rattle.fixed_geom.specs.Numbers.{IsRoot, isqrt};
 
 use std::num::{f64_from_bits_with_nan, f64_to_bits_with_nan, nearest_u64_to_f64};
 
+/// The float of an `n` below 2^52, put together from its bits: they are those of `2^52 + n`.
+#[inline(always)]
+fn joined_float(n: u64) -> f64 {
+    f64_from_bits_with_nan(0x4330_0000_0000_0000 | n) - 4_503_599_627_370_496.0
+}
+
 /// The float nearest to `n`. Below 2^52 its bits are put together, which is faster than a
-/// conversion: they are those of `2^52 + n`.
-pub(crate) fn float_of(n: u64) -> f64 {
+/// conversion.
+#[inline(always)]
+fn float_of(n: u64) -> f64 {
     if n < 1 << 52 {
-        f64_from_bits_with_nan(0x4330_0000_0000_0000 | n) - 4_503_599_627_370_496.0
+        joined_float(n)
     } else {
         nearest_u64_to_f64(n)
+    }
+}
+
+/// The float nearest to `n`, by a conversion.
+#[cold]
+#[inline(never)]
+fn converted_float(n: u64) -> f64 {
+    nearest_u64_to_f64(n)
+}
+
+/// `float_of` where an `n` below 2^52 is expected: the conversion stands apart, out of the way.
+#[inline(always)]
+pub(crate) fn short_float_of(n: u64) -> f64 {
+    if n < 1 << 52 {
+        joined_float(n)
+    } else {
+        converted_float(n)
     }
 }
 

@@ -8,21 +8,20 @@ ghost use Rattle.momenta.specs.Impulses.{AreStates, AreSameBodies, IsMomentumKep
 
 use crate::{Ends, impulse_pair};
 use fixed_geom::{
-    UNIT, Vec2, dot, is_within, minus, narrow_dot, narrow_scaled, over_inverse, rdiv, rdiv_unit_64,
-    scaled,
+    UNIT, Vec2, dot, minus, narrow_dot, narrow_scaled, over_inverse, rdiv, rdiv_unit_64, scaled,
 };
 
 /// A velocity whose components are at most this many u/tick has a product with a direction that has room in 64 bits.
-const SLOW: u64 = 1 << 31;
+const SLOW: i64 = 1 << 31;
 
 /// A speed up to this, in u/tick, is small: the difference of two has room in 64 bits once it is multiplied by 2^40.
-const SLOW_CHANGE: u64 = 1 << 20;
+const SLOW_CHANGE: i64 = 1 << 20;
 
 /// An inverse mass below this has room in 64 bits.
 const SMALL_INVERSE: i128 = 1 << 62;
 
 /// An impulse below this has a product with a direction that has room in 64 bits.
-const SMALL_IMPULSE: u64 = 1 << 32;
+const SMALL_IMPULSE: i64 = 1 << 32;
 
 /// An inverse mass is times 2^40.
 const INVERSE_UNIT: i128 = 1 << 40;
@@ -69,6 +68,15 @@ pub fn speed_along(line: &Line, ends: &Ends) -> i64
     part_along(parting(line.ra, line.rb, ends), line.direction)
 }
 
+/// Whether `x` is from `-limit` to `limit`: two comparisons, with no size taken.
+#[inline(always)]
+fn is_in(x: i64, limit: i64) -> bool
+    requires { unsigned_abs limit < 2 ^ 63 }
+    ensures { result ≡ true → unsigned_abs x ≤ unsigned_abs limit }
+{
+    -limit <= x && x <= limit
+}
+
 /// The part of a velocity (u/tick) or of a way (u) along a direction (times 2^30), to the nearest.
 #[inline(always)]
 pub fn part_along(v: Vec2, direction: Vec2) -> i64
@@ -78,7 +86,7 @@ pub fn part_along(v: Vec2, direction: Vec2) -> i64
     ensures within { unsigned_abs result ≤ 2 ^ 62 + 2 ^ 28 }
     ensures near { IsWithin (2 ^ 38) v → unsigned_abs result ≤ 2 ^ 39 }
 {
-    if is_within(v, SLOW) {
+    if is_in(v.x, SLOW) && is_in(v.y, SLOW) {
         slow_part_along(v, direction)
     } else {
         fast_part_along(v, direction)
@@ -97,6 +105,8 @@ fn slow_part_along(v: Vec2, direction: Vec2) -> i64
 }
 
 /// The part of any other, in 128 bits.
+#[cold]
+#[inline(never)]
 fn fast_part_along(v: Vec2, direction: Vec2) -> i64
     requires v { IsWithin (2 ^ 61 + 2 ^ 26) v }
     requires direction { IsWithin (2 ^ 30) direction }
@@ -166,7 +176,7 @@ fn along(direction: Vec2, size: i64) -> Vec2
     ensures value { result ≡ along direction size }
     ensures within { IsWithin (2 ^ 44) result }
 {
-    if size.unsigned_abs() < SMALL_IMPULSE {
+    if -SMALL_IMPULSE < size && size < SMALL_IMPULSE {
         narrow_along(direction, size)
     } else {
         wide_along(direction, size)
@@ -190,6 +200,8 @@ fn narrow_along(direction: Vec2, size: i64) -> Vec2
 
 /// Any other, in 128 bits.
 #[tactic(auto, unfolding(crate::specs::Impulses::along))]
+#[cold]
+#[inline(never)]
 fn wide_along(direction: Vec2, size: i64) -> Vec2
     requires direction { IsWithin (2 ^ 30) direction }
     requires size { unsigned_abs size ≤ 2 ^ 44 }
@@ -298,6 +310,8 @@ fn narrow_next_total(speed: i64, bias: i64, inverse: i64, low: i64, high: i64, t
 }
 
 /// The same for any other, in 128 bits.
+#[cold]
+#[inline(never)]
 fn wide_next_total(speed: i64, bias: i64, inverse: i128, low: i64, high: i64, total: i64) -> i64
     requires speed { unsigned_abs speed ≤ 2 ^ 62 + 2 ^ 28 }
     requires bias { unsigned_abs bias ≤ 2 ^ 62 + 2 ^ 28 }
@@ -319,12 +333,10 @@ fn is_narrow(speed: i64, bias: i64, inverse: i128) -> bool
     ensures bias { result ≡ true → unsigned_abs bias ≤ 2 ^ 20 }
     ensures inverse { result ≡ true → inverse <ℤ pos (2 ^ 62) }
 {
-    if speed.unsigned_abs() > SLOW_CHANGE {
-        false
-    } else if bias.unsigned_abs() > SLOW_CHANGE {
-        false
-    } else {
+    if is_in(speed, SLOW_CHANGE) && is_in(bias, SLOW_CHANGE) {
         inverse < SMALL_INVERSE
+    } else {
+        false
     }
 }
 

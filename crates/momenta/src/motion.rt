@@ -64,9 +64,10 @@ pub fn spin(l: i128, inertia: i64) -> i64
     ensures value { result ≡ spin inertia l }
     ensures small { unsigned_abs result ≤ 2 ^ 28 }
 {
+    let most = i128::from(inertia);
     if l == 0 || inertia == 0 {
         0
-    } else if l.unsigned_abs() <= u128::from(inertia.unsigned_abs()) {
+    } else if -most <= l && l <= most {
         part_spin(l as i64, inertia)
     } else {
         greatest_spin(l, inertia)
@@ -85,6 +86,8 @@ fn part_spin(l: i64, inertia: i64) -> i64
 }
 
 /// The spin of one that is greater, which would be more than a radian: the limit, with its sign.
+#[cold]
+#[inline(never)]
 fn greatest_spin(l: i128, inertia: i64) -> i64
     requires positive { pos 1 ≤ℤ inertia }
     requires greater { unsigned_abs inertia < unsigned_abs l }

@@ -1,19 +1,19 @@
 //! A body within a step: how it moves, and how an impulse changes it.
 
-ghost use Rattle.std.specs.Prelude.{◌≡◌, ◌^◌, ◌≤◌, ◌+◌, ◌+ℤ◌, ◌-ℤ◌, ◌*ℤ◌, true, unsigned_abs, is_some};
+ghost use Rattle.std.specs.Prelude.{◌≡◌, ◌^◌, ◌≤◌, ◌+◌, ◌+ℤ◌, ◌-ℤ◌, ◌*ℤ◌, true, unsigned_abs, is_some, nat_le};
 ghost use Rattle.fixed_geom.specs.Numbers.{rdiv};
 ghost use Rattle.fixed_geom.specs.Vectors.{IsWithin, unit_length};
 ghost use Rattle.momenta.specs.declared.motion.Motion.{Motion};
 ghost use Rattle.momenta.specs.Impulses.{IsState, AreStates, AreSameBodies, velocity_at, travelled, given, plus, turned_by, fits, impulse_pair, negated, or_kept};
 
 use crate::{MassData, Motion, spin, velocity};
-use fixed_geom::{Vec2, cross, is_within, minus, narrow_scaled};
+use fixed_geom::{Vec2, cross, minus, narrow_scaled};
 
 /// The greatest size of a component of a momentum, in mass·u/tick.
-const MAX_MOMENTUM: u64 = 1 << 60;
+const MAX_MOMENTUM: i64 = 1 << 60;
 
 /// The greatest size of an angular momentum, in mass·u²/tick.
-const MAX_ANGULAR: u128 = 1 << 90;
+const MAX_ANGULAR: i128 = 1 << 90;
 
 /// A body as the solver works on it: whether impulses move it, its mass, its motion, and where its
 /// centre was when the step began (u).
@@ -169,13 +169,29 @@ fn turned_by(inertia: i64, l: i128, moment: i128) -> i128
     if inertia == 0 { l } else { l + moment }
 }
 
+/// Whether a component of a momentum is within its limits.
+#[inline(always)]
+fn is_momentum(p: i64) -> bool
+    ensures { result ≡ nat_le (unsigned_abs p) (2 ^ 60) }
+{
+    -MAX_MOMENTUM <= p && p <= MAX_MOMENTUM
+}
+
+/// Whether an angular momentum is within its limits.
+#[inline(always)]
+fn is_angular_momentum(l: i128) -> bool
+    ensures { result ≡ nat_le (unsigned_abs l) (2 ^ 90) }
+{
+    -MAX_ANGULAR <= l && l <= MAX_ANGULAR
+}
+
 /// Whether the momenta are within their limits.
 #[inline(always)]
 fn fits(momenta: Momenta) -> bool
     ensures value { (s : Motion) → result ≡ fits (record s { p = momenta.p; l = momenta.l }) }
 {
-    if is_within(momenta.p, MAX_MOMENTUM) {
-        momenta.l.unsigned_abs() <= MAX_ANGULAR
+    if is_momentum(momenta.p.x) && is_momentum(momenta.p.y) {
+        is_angular_momentum(momenta.l)
     } else {
         false
     }

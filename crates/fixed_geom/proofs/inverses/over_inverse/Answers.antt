@@ -7,14 +7,12 @@ pub returns-then-x-lt0-clause-value : goal.returns-then-x-lt0-clause-value
 returns-then-x-lt0-clause-value c =
     let negative : (c.args.x *ℤ pos (2 ^ 40)) <ℤ pos 0 = grind (arith, ints) in
     let size : c.unsigned_abs.result * 2 ^ 40 ≡ unsigned_abs (c.args.x *ℤ pos (2 ^ 40)) = grind (arith, ints, to_z-of_z) in
-    let by : c.unsigned_abs-2.result ≡ unsigned_abs c.args.inverse = grind (arith, to_z-of_z) in
-    let value = rdiv-negative (c.args.x *ℤ pos (2 ^ 40)) c.args.inverse _ _ _ negative size by c.over_size-size.ensures.value in
+    let value = rdiv-negative (c.args.x *ℤ pos (2 ^ 40)) c.args.inverse _ _ _ negative size (grind (arith, ints, to_z-of_z)) c.over_size-size.ensures.value in
     omega (arith, ints, value)
 
 pub returns-else-x-lt0-clause-value : goal.returns-else-x-lt0-clause-value
 returns-else-x-lt0-clause-value c =
     let nonnegative : pos 0 ≤ℤ (c.args.x *ℤ pos (2 ^ 40)) = grind (arith, ints) in
     let size : c.unsigned_abs.result * 2 ^ 40 ≡ unsigned_abs (c.args.x *ℤ pos (2 ^ 40)) = grind (arith, ints, to_z-of_z) in
-    let by : c.unsigned_abs-2.result ≡ unsigned_abs c.args.inverse = grind (arith, to_z-of_z) in
-    let value = rdiv-nonnegative (c.args.x *ℤ pos (2 ^ 40)) c.args.inverse _ _ _ nonnegative size by c.over_size-size.ensures.value in
+    let value = rdiv-nonnegative (c.args.x *ℤ pos (2 ^ 40)) c.args.inverse _ _ _ nonnegative size (grind (arith, ints, to_z-of_z)) c.over_size-size.ensures.value in
     omega (arith, ints, value)

@@ -8,14 +8,12 @@ pub returns-then-x-lt0-clause-value : goal.returns-then-x-lt0-clause-value
 returns-then-x-lt0-clause-value c =
     let negative : (c.args.x *ℤ unit_length) <ℤ pos 0 = grind (arith, ints) in
     let size : c.unsigned_abs.result * 2 ^ 30 ≡ unsigned_abs (c.args.x *ℤ unit_length) = grind (arith, ints, to_z-of_z) in
-    let by : c.unsigned_abs-2.result ≡ unsigned_abs c.args.k = grind (arith, to_z-of_z) in
-    let value = rdiv-negative (c.args.x *ℤ unit_length) c.args.k _ _ _ negative size by c.share_of_sizes-size.ensures.value in
+    let value = rdiv-negative (c.args.x *ℤ unit_length) c.args.k _ _ _ negative size (grind (arith, ints, to_z-of_z)) c.share_of_sizes-size.ensures.value in
     omega (arith, ints, value)
 
 pub returns-else-x-lt0-clause-value : goal.returns-else-x-lt0-clause-value
 returns-else-x-lt0-clause-value c =
     let nonnegative : pos 0 ≤ℤ (c.args.x *ℤ unit_length) = grind (arith, ints) in
     let size : c.unsigned_abs.result * 2 ^ 30 ≡ unsigned_abs (c.args.x *ℤ unit_length) = grind (arith, ints, to_z-of_z) in
-    let by : c.unsigned_abs-2.result ≡ unsigned_abs c.args.k = grind (arith, to_z-of_z) in
-    let value = rdiv-nonnegative (c.args.x *ℤ unit_length) c.args.k _ _ _ nonnegative size by c.share_of_sizes-size.ensures.value in
+    let value = rdiv-nonnegative (c.args.x *ℤ unit_length) c.args.k _ _ _ nonnegative size (grind (arith, ints, to_z-of_z)) c.share_of_sizes-size.ensures.value in
     omega (arith, ints, value)

@@ -7,14 +7,12 @@ pub returns-then-a-lt0 : goal.returns-then-a-lt0
 returns-then-a-lt0 c =
     let negative : c.args.a <ℤ pos 0 = grind (arith, ints) in
     let size : c.unsigned_abs.result ≡ unsigned_abs c.args.a = grind (arith, to_z-of_z) in
-    let by : c.unsigned_abs-2.result ≡ unsigned_abs c.args.b = grind (arith, to_z-of_z) in
-    let value = rdiv-negative c.args.a c.args.b _ _ _ negative size by c.nearest_quotient_64-nearest.ensures.value in
+    let value = rdiv-negative c.args.a c.args.b _ _ _ negative size (grind (arith, ints, to_z-of_z)) c.nearest_quotient_64-nearest.ensures.value in
     finished c.args.a c.args.b _ c.requires.positive (omega (arith, ints, value))
 
 pub returns-else-a-lt0 : goal.returns-else-a-lt0
 returns-else-a-lt0 c =
     let nonnegative : pos 0 ≤ℤ c.args.a = grind (arith, ints) in
     let size : c.unsigned_abs.result ≡ unsigned_abs c.args.a = grind (arith, to_z-of_z) in
-    let by : c.unsigned_abs-2.result ≡ unsigned_abs c.args.b = grind (arith, to_z-of_z) in
-    let value = rdiv-nonnegative c.args.a c.args.b _ _ _ nonnegative size by c.nearest_quotient_64-nearest.ensures.value in
+    let value = rdiv-nonnegative c.args.a c.args.b _ _ _ nonnegative size (grind (arith, ints, to_z-of_z)) c.nearest_quotient_64-nearest.ensures.value in
     finished c.args.a c.args.b _ c.requires.positive (omega (arith, ints, value))
