@@ -3,15 +3,14 @@ use Rattle.std.proofs.Common.{◌≡◌, ℕ, ◌+◌, ◌*◌, ◌^◌, ◌<◌
 use Rattle.std.specs.List.{filter_map, cons_option}
 use Rattle.std.specs.Option.{option_to_list}
 use Rattle.std.proofs.lemmas.List.Elements.{filter_map-append}
-use Rattle.std.proofs.lemmas.List.{get_or-map, length-map, map-append, take_more, get_or_default}
+use Rattle.std.proofs.lemmas.List.{get_or-map, length-map, map-append, take_more}
 use Rattle.contacts_base.specs.declared.near.Proxy.{Proxy}
 use Rattle.contacts_base.specs.declared.key.ContactKey.{ContactKey}
 use Rattle.contacts_base.specs.declared.contact.Contact.{Contact}
 use Rattle.contacts_base.specs.declared.contact.ContactEntry.{ContactEntry}
 use Rattle.contacts_base.specs.Keys.{id_number, key_number}
 use Rattle.contacts_base.specs.Near.{IsProxy, IsProxyList}
-use Rattle.contacts_base.specs.Contacts.{number_of, lookup, AreKeysRising, IsAllBelow}
-use Rattle.contacts_base.proofs.LookupLemmas.{keys_later}
+use Rattle.contacts_base.specs.Contacts.{number_of, lookup, AreKeysRising}
 use Rattle.contacts.specs.Sweep.{proxy_at}
 use Rattle.contacts.specs.Changes.{IsPair, ArePairs, first_place, second_place, entry_of, entry_with, entry_at, pair_key, pair_entry, contacts_of, key_unless_in, key_if_touching, key_unless, key_if_new, keys_not_in, keys_touching_only_in, AreRising}
 use Rattle.contacts.proofs.Members.{Each}

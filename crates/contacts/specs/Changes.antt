@@ -9,7 +9,7 @@ use Rattle.contacts_base.specs.declared.contact.Contact.{Contact}
 use Rattle.contacts_base.specs.declared.contact.ContactEntry.{ContactEntry}
 use Rattle.contacts_base.specs.Keys.{key_number}
 use Rattle.contacts_base.specs.Contacts.{lookup}
-use Rattle.contacts_base.specs.Evaluate.{evaluated}
+use Rattle.contacts_base.specs.Evaluate.{evaluated, touches}
 use Rattle.contacts.specs.Sweep.{proxy_at}
 
 -- the places that a pair's code names
@@ -56,7 +56,7 @@ contacts_of old ps codes = map (entry_at old ps) codes
 
 abbrev pub is_touching : Option Contact → Bool
 is_touching None = false
-is_touching (Some contact) = contact.touching
+is_touching (Some contact) = touches contact
 
 -- the entry's key, unless the others have it
 unfoldable pub key_unless_in : List ContactEntry → ContactEntry → Option ContactKey
@@ -64,14 +64,14 @@ key_unless_in others e = cond (is_some (lookup others e.key)) None (Some e.key)
 
 -- the entry's key, if it touches and doesn't touch in the others
 unfoldable pub key_if_touching : List ContactEntry → ContactEntry → Option ContactKey
-key_if_touching others e = cond e.contact.touching (cond (is_touching (lookup others e.key)) None (Some e.key)) None
+key_if_touching others e = cond (touches e.contact) (cond (is_touching (lookup others e.key)) None (Some e.key)) None
 
 -- the same two of an entry, where the others' contact with its key is given
 unfoldable pub key_unless : Option Contact → ContactEntry → Option ContactKey
 key_unless other e = cond (is_some other) None (Some e.key)
 
 unfoldable pub key_if_new : Option Contact → ContactEntry → Option ContactKey
-key_if_new other e = cond e.contact.touching (cond (is_touching other) None (Some e.key)) None
+key_if_new other e = cond (touches e.contact) (cond (is_touching other) None (Some e.key)) None
 
 -- the keys of entries that the others lack
 abbrev pub keys_not_in : List ContactEntry → List ContactEntry → List ContactKey

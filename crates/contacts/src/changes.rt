@@ -76,7 +76,7 @@ fn is_touching(contact: Option<&Contact>) -> bool
 {
     match contact {
         None => false,
-        Some(contact) => contact.touching,
+        Some(contact) => contact.is_touching(),
     }
 }
 
@@ -85,7 +85,7 @@ fn is_touching(contact: Option<&Contact>) -> bool
 fn key_if_new(other: Option<&Contact>, entry: &ContactEntry) -> Option<ContactKey>
     ensures { result ≡ key_if_new (option_copied other.entry) entry.now }
 {
-    if !entry.contact.touching {
+    if !entry.contact.is_touching() {
         return None;
     }
     if is_touching(other) {

@@ -108,7 +108,7 @@ fn lying_at(alloc: Global, y: i64) -> Result<BroadPhase, Refusal> {
     Ok(broad)
 }
 
-fn point(candidate: u8, x: i64, push: i64, slip: i64) -> ContactPoint {
+fn point(candidate: u64, x: i64, push: i64, slip: i64) -> ContactPoint {
     ContactPoint {
         normal: Vec2 { x: 0, y: UNIT },
         separation: 0,
@@ -128,7 +128,6 @@ fn a_capsule_comes_to_lie_on_a_segment(rt: HostRuntime) -> Result<(), Fail> {
     let contact = Contact {
         first: Some(point(2, -50_000, 0, 0)),
         second: Some(point(3, 50_000, 0, 0)),
-        touching: true,
     };
     let entry = ContactEntry { key: KEY, contact };
     assert_eq!(rt; laid.now.as_slice(), [entry].as_slice());
@@ -147,7 +146,6 @@ fn resting() -> [ContactEntry; 1]
     let contact = Contact {
         first: Some(point(3, 50_000, 7, -2)),
         second: Some(point(2, -50_000, 5, 1)),
-        touching: true,
     };
     [ContactEntry { key: KEY, contact }]
 }
@@ -160,7 +158,6 @@ fn a_lifted_capsule_parts(rt: HostRuntime) -> Result<(), Fail> {
     let apart = Contact {
         first: None,
         second: None,
-        touching: false,
     };
     let entry = ContactEntry {
         key: KEY,
@@ -189,7 +186,6 @@ fn impulses_stay_with_their_candidates(rt: HostRuntime) -> Result<(), Fail> {
     let contact = Contact {
         first: Some(point(2, -50_000, 5, 1)),
         second: Some(point(3, 50_000, 7, -2)),
-        touching: true,
     };
     let entry = ContactEntry { key: KEY, contact };
     assert_eq!(rt; lies.now.as_slice(), [entry].as_slice());

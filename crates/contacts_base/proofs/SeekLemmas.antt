@@ -3,7 +3,7 @@ use Rattle.std.proofs.Common.{ℕ, ◌+◌, ◌<◌, ◌≤◌, List, length, ge
 use Rattle.std.proofs.lemmas.List.{get_or_default}
 use Rattle.contacts_base.specs.declared.contact.ContactEntry.{ContactEntry}
 use Rattle.contacts_base.specs.Contacts.{number_of, AreKeysRising, IsAllBelow, IsNoneBelow, IsFirstFrom}
-use Rattle.contacts_base.proofs.LookupLemmas.{keys_later, keys_not_before}
+use Rattle.contacts_base.proofs.LookupLemmas.{keys_not_before}
 
 -- all up to a contact that is below are below
 pub all_below : (es : List ContactEntry) → AreKeysRising es → (w i : ℕ) (e : ContactEntry) → i < length es → number_of (get_or es i e) < w → IsAllBelow es w (i + 1)

@@ -1,5 +1,5 @@
 -- What a contact becomes when its shapes are evaluated.
-use Rattle.std.specs.Prelude.{ℕ, ◌==◌, true, false, cond, pos, int_lt, Option, Some, None, option_map}
+use Rattle.std.specs.Prelude.{ℕ, ◌==◌, Bool, cond, pos, int_lt, Option, Some, None, option_map, is_some}
 use Rattle.shapes.specs.declared.points.Point.{Point}
 use Rattle.shapes.specs.declared.points.Manifold.{Manifold}
 use Rattle.contacts_base.specs.declared.contact.ContactPoint.{ContactPoint}
@@ -30,8 +30,12 @@ kept_point old p = record { normal = p.normal; separation = p.separation; ra = p
 
 -- the shapes don't touch
 abbrev pub apart : Contact
-apart = record { first = None; second = None; touching = false }
+apart = record { first = None; second = None }
+
+-- the shapes touch: a contact that doesn't has no points
+abbrev pub touches : Contact → Bool
+touches c = is_some c.first
 
 -- the contact of two shapes with the manifold, which was `old` before
 unfoldable pub evaluated : Option Contact → Manifold → Contact
-evaluated old m = cond (int_lt (pos 0) m.first.separation) apart (record { first = Some (kept_point old m.first); second = option_map (kept_point old) m.second; touching = true })
+evaluated old m = cond (int_lt (pos 0) m.first.separation) apart (record { first = Some (kept_point old m.first); second = option_map (kept_point old) m.second })

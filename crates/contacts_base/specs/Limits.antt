@@ -1,5 +1,5 @@
 -- The limits of a contact's numbers.
-use Rattle.std.specs.Prelude.{◌≡◌, ◌≤◌, ◌^◌, true, false, Option, Some, None, ℤ, pos, ◌≤ℤ◌, unsigned_abs}
+use Rattle.std.specs.Prelude.{◌≤◌, ◌^◌, pos, ◌≤ℤ◌, unsigned_abs}
 use Rattle.std.specs.Option.{ForSome}
 use Rattle.fixed_geom.specs.Vectors.{IsWithin}
 use Rattle.contacts_base.specs.declared.contact.ContactPoint.{ContactPoint}

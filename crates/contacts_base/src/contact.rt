@@ -3,6 +3,7 @@
 ghost use Rattle.std.specs.Prelude.{◌≡◌, ◌≤◌, ◌+◌, true};
 ghost use Rattle.std.specs.Option.{option_copied};
 ghost use Rattle.contacts_base.specs.Keys.{key_number};
+ghost use Rattle.contacts_base.specs.Evaluate.{touches};
 ghost use Rattle.contacts_base.specs.Contacts.{lookup, found_place, AreKeysRising, IsAllBelow, IsNoneBelow, IsFirstFrom};
 
 use crate::ContactKey;
@@ -10,7 +11,8 @@ use fixed_geom::Vec2;
 
 /// A point of a contact: the normal from the first shape to the second, times 2^30, the separation in
 /// u, the point by its offsets from the two bodies' centres in u, the kept impulses along the normal
-/// (push) and across it (slip), in mass·u/tick, and the number of its candidate, 0 to 3.
+/// (push) and across it (slip), in mass·u/tick, and the number of its candidate, 0 to 3: a whole word, so that a point
+/// has no gaps, which would be copied piece by piece.
 #[derive(Clone, Copy, Debug, PartialEq, Eq)]
 pub struct ContactPoint {
     pub normal: Vec2,
@@ -19,15 +21,24 @@ pub struct ContactPoint {
     pub rb: Vec2,
     pub push: i64,
     pub slip: i64,
-    pub candidate: u8,
+    pub candidate: u64,
 }
 
-/// What is kept of two shapes that are near: the points if they touch, and whether they do.
+/// What is kept of two shapes that are near: the points if they touch.
 #[derive(Clone, Copy, Debug, PartialEq, Eq)]
 pub struct Contact {
     pub first: Option<ContactPoint>,
     pub second: Option<ContactPoint>,
-    pub touching: bool,
+}
+
+impl Contact {
+    /// Whether the shapes touch: then there is a first point.
+    #[inline(always)]
+    pub fn is_touching(&self) -> bool
+        ensures { result ≡ touches self.now }
+    {
+        self.first.is_some()
+    }
 }
 
 /// A contact with the names of its shapes.

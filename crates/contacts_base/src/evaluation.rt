@@ -24,11 +24,10 @@ const NO_IMPULSES: Impulses = Impulses { push: 0, slip: 0 };
 const APART: Contact = Contact {
     first: None,
     second: None,
-    touching: false,
 };
 
 /// The impulses of a point if it is this candidate's.
-fn impulses_at(point: &Option<ContactPoint>, candidate: u8) -> Option<Impulses>
+fn impulses_at(point: &Option<ContactPoint>, candidate: u64) -> Option<Impulses>
     ensures { result ≡ impulses_at point.now candidate }
 {
     match point {
@@ -47,7 +46,7 @@ fn impulses_at(point: &Option<ContactPoint>, candidate: u8) -> Option<Impulses>
 }
 
 /// The impulses that a contact kept at this candidate, zero where it has no such point.
-fn kept(old: Option<&Contact>, candidate: u8) -> Impulses
+fn kept(old: Option<&Contact>, candidate: u64) -> Impulses
     ensures { result ≡ kept (option_copied old.entry) candidate }
 {
     match old {
@@ -91,12 +90,10 @@ pub fn evaluate(old: Option<&Contact>, manifold: &Manifold) -> Contact
         None => Contact {
             first: Some(kept_point(old, &manifold.first)),
             second: None,
-            touching: true,
         },
         Some(point) => Contact {
             first: Some(kept_point(old, &manifold.first)),
             second: Some(kept_point(old, point)),
-            touching: true,
         },
     }
 }

@@ -29,7 +29,7 @@ pub struct Chosen {
 
 /// Whether one distance comes before the other; the lesser number does at the same distance.
 #[tactic(auto, unfolding(crate::specs::Manifolds::is_before))]
-fn is_before(dist: i64, number: u8, other_dist: i64, other_number: u8) -> bool
+fn is_before(dist: i64, number: u64, other_dist: i64, other_number: u64) -> bool
     ensures { result ≡ is_before dist number other_dist other_number }
 {
     dist < other_dist || (dist == other_dist && number < other_number)
@@ -240,7 +240,7 @@ fn are_beyond(dist: i64, a: &Core, b: &Core) -> bool
 }
 
 /// An end of the first core against the second.
-fn of_a(pair: &Pair, number: u8, e: Vec2) -> Candidate
+fn of_a(pair: &Pair, number: u64, e: Vec2) -> Candidate
     requires pair { IsPair pair.now }
     requires place { IsWithin (2 ^ 37) e }
     ensures value { result ≡ of_a pair.now number e }
@@ -250,7 +250,7 @@ fn of_a(pair: &Pair, number: u8, e: Vec2) -> Candidate
 }
 
 /// An end of the second core against the first.
-fn of_b(pair: &Pair, number: u8, e: Vec2) -> Candidate
+fn of_b(pair: &Pair, number: u64, e: Vec2) -> Candidate
     requires pair { IsPair pair.now }
     requires place { IsWithin (2 ^ 37) e }
     ensures value { result ≡ of_b pair.now number e }

@@ -73,7 +73,7 @@ fn touch(a: Shape, b: Shape, x: i64, y: i64) -> Manifold
 }
 
 /// A point of this candidate, with its normal, its separation and its two offsets.
-fn point(candidate: u8, r: [i64; 7]) -> Point {
+fn point(candidate: u64, r: [i64; 7]) -> Point {
     Point {
         normal: Vec2 { x: r[0], y: r[1] },
         separation: r[2],

@@ -11,7 +11,7 @@ pub struct Point {
     pub separation: i64,
     pub ra: Vec2,
     pub rb: Vec2,
-    pub candidate: u8,
+    pub candidate: u64,
 }
 
 /// The one or two points at which two shapes touch or are nearest.

@@ -29,7 +29,7 @@ pub struct Pair {
 /// second, and the distance between them, in u.
 #[derive(Clone, Copy, Debug, PartialEq, Eq)]
 pub struct Candidate {
-    pub number: u8,
+    pub number: u64,
     pub a: Vec2,
     pub b: Vec2,
     pub dist: i64,
@@ -39,7 +39,7 @@ pub struct Candidate {
 /// 2^30, the separation (below zero where the shapes overlap) and the contact point, in u.
 #[derive(Clone, Copy, Debug, PartialEq, Eq)]
 pub struct Spot {
-    pub candidate: u8,
+    pub candidate: u64,
     pub dist: i64,
     pub normal: Vec2,
     pub separation: i64,
@@ -47,7 +47,7 @@ pub struct Spot {
 }
 
 /// The candidate of these two points.
-pub fn measured(number: u8, a: Vec2, b: Vec2) -> Candidate
+pub fn measured(number: u64, a: Vec2, b: Vec2) -> Candidate
     requires first { IsWithin (2 ^ 39) a }
     requires second { IsWithin (2 ^ 39) b }
     ensures value { result ≡ measured number a b }

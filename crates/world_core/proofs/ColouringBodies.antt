@@ -14,6 +14,7 @@ use Rattle.contacts_base.specs.declared.key.ContactKey.{ContactKey}
 use Rattle.contacts_base.specs.declared.contact.ContactEntry.{ContactEntry}
 use Rattle.contacts_base.specs.Keys.{key_number}
 use Rattle.contacts_base.specs.Contacts.{number_of, lookup, AreKeysRising}
+use Rattle.contacts_base.specs.Evaluate.{touches}
 use Rattle.contacts_base.proofs.LookupLemmas.{lookup-here, lookup-later}
 use Rattle.contacts.specs.declared.constraint.Constraint.{Constraint}
 use Rattle.contacts.specs.declared.constraint.Constraint.TheVariants as constraints
@@ -35,15 +36,15 @@ use Rattle.world_core.proofs.ColouringLaws.{none_from}
 keeps_without : (slot : ℕ) (lists : Lists) (es : List ContactEntry) → IsColouring constraint_number lists → IsColouring constraint_number (lists_without slot lists es)
 keeps_without slot lists [] h = h
 keeps_without slot lists (e ∷ es) h = keeps_without slot (released_if slot lists e) es
-    (by_test (λ (l : Lists). IsColouring constraint_number l) (e.contact.touching && has_slot slot e) (ended lists e.key) lists (λ q. released_keeps constraint_number (constraints.Contact e.key) lists h) (λ q. h))
+    (by_test (λ (l : Lists). IsColouring constraint_number l) (touches e.contact && has_slot slot e) (ended lists e.key) lists (λ q. released_keeps constraint_number (constraints.Contact e.key) lists h) (λ q. h))
 
 all_list : (P : Member Constraint → Type 0) (slot : ℕ) (lists : Lists) (es : List ContactEntry) → All P (all_members lists) → All P (all_members (lists_without slot lists es))
 all_list P slot lists [] h = h
 all_list P slot lists (e ∷ es) h = all_list P slot (released_if slot lists e) es
-    (by_test (λ (l : Lists). All P (all_members l)) (e.contact.touching && has_slot slot e) (ended lists e.key) lists (λ q. all_ended P lists e.key h) (λ q. h))
+    (by_test (λ (l : Lists). All P (all_members l)) (touches e.contact && has_slot slot e) (ended lists e.key) lists (λ q. all_ended P lists e.key h) (λ q. h))
 
 released_far : (slot : ℕ) (key : ContactKey) (lists : Lists) (e : ContactEntry) → (number_of e ≡ key_number key → ⊥) → colour key (released_if slot lists e) ≡ colour key lists
-released_far slot key lists e far = by_test (λ (l : Lists). colour key l ≡ colour key lists) (e.contact.touching && has_slot slot e) (ended lists e.key) lists (λ q. far_ended key e.key lists (λ s. far (sym s))) (λ q. refl)
+released_far slot key lists e far = by_test (λ (l : Lists). colour key l ≡ colour key lists) (touches e.contact && has_slot slot e) (ended lists e.key) lists (λ q. far_ended key e.key lists (λ s. far (sym s))) (λ q. refl)
 
 far_without : (slot : ℕ) (key : ContactKey) (lists : Lists) (es : List ContactEntry) (n : ℕ) → n ≡ key_number key → Each (λ m. n < m) (map number_of es) → colour key (lists_without slot lists es) ≡ colour key lists
 far_without slot key lists [] n is h = refl
@@ -54,7 +55,7 @@ far_without slot key lists (e ∷ es) n is h =
 absent_without : (slot : ℕ) (key : ContactKey) (lists : Lists) (es : List ContactEntry) → colour key lists ≡ None → colour key (lists_without slot lists es) ≡ None
 absent_without slot key lists [] h = h
 absent_without slot key lists (e ∷ es) h = absent_without slot key (released_if slot lists e) es
-    (by_test (λ (l : Lists). colour key l ≡ None) (e.contact.touching && has_slot slot e) (ended lists e.key) lists (λ q. absent_ended (constraints.Contact key) e.key lists h) (λ q. h))
+    (by_test (λ (l : Lists). colour key l ≡ None) (touches e.contact && has_slot slot e) (ended lists e.key) lists (λ q. absent_ended (constraints.Contact key) e.key lists h) (λ q. h))
 
 lookup_above : (slot : ℕ) (key : ContactKey) (es : List ContactEntry) (n : ℕ) → n ≡ key_number key → Each (λ m. n < m) (map number_of es) → lookup (contacts_without slot es) key ≡ None
 lookup_above slot key [] n is h = refl
@@ -84,15 +85,15 @@ bool_cases : (b : Bool) → (b ≡ true) ⊎ (b ≡ false)
 bool_cases true = inl refl
 bool_cases false = inr refl
 
-active_here : (slot : ℕ) (key : ContactKey) (lists : Lists) (e : ContactEntry) (es : List ContactEntry) → number_of e ≡ key_number key → Each (λ m. number_of e < m) (map number_of es) → is_some (colour key lists) ≡ e.contact.touching
+active_here : (slot : ℕ) (key : ContactKey) (lists : Lists) (e : ContactEntry) (es : List ContactEntry) → number_of e ≡ key_number key → Each (λ m. number_of e < m) (map number_of es) → is_some (colour key lists) ≡ touches e.contact
     → is_some (colour key (lists_without slot (released_if slot lists e) es)) ≡ is_touching (lookup (contacts_without slot (e ∷ es)) key)
 active_here slot key lists e es same above h =
     let rest : List ContactEntry = contacts_without slot es in
     let f : Bool → List ContactEntry = λ b. cond (not b) (e ∷ rest) rest in
     elim (bool_cases (has_slot slot e)) [
-      | inl q ↦ ap is_some (absent_without slot key (released_if slot lists e) es (gone_here key e.key lists e.contact.touching (has_slot slot e) q (sym same) h))
+      | inl q ↦ ap is_some (absent_without slot key (released_if slot lists e) es (gone_here key e.key lists (touches e.contact) (has_slot slot e) q (sym same) h))
           ∙ sym (ap (λ l. is_touching (lookup l key)) (ap f q) ∙ ap is_touching (lookup_above slot key es (number_of e) same above))
-      | inr q ↦ ap is_some (far_without slot key (released_if slot lists e) es (number_of e) same above ∙ kept_here key e.key lists e.contact.touching (has_slot slot e) q)
+      | inr q ↦ ap is_some (far_without slot key (released_if slot lists e) es (number_of e) same above ∙ kept_here key e.key lists (touches e.contact) (has_slot slot e) q)
           ∙ h ∙ sym (ap (λ l. is_touching (lookup l key)) (ap f q) ∙ ap is_touching (lookup-here e rest key same))
     ]
 

@@ -1,5 +1,5 @@
 -- Which contacts have a colour: what a step, a body that goes and a body that comes leave of that.
-use Rattle.std.proofs.Common.{◌≡◌, ◌≢◌, ◌⊎◌, ℕ, zero, suc, ◌<◌, Bool, true, false, not, cond, is_some, List, [], ◌∷◌, map, Option, Some, None, option_map, slice_get, slice_set, subst, refl, sym, ap, ◌∙◌, arith, inl, inr}
+use Rattle.std.proofs.Common.{◌≡◌, ◌≢◌, ◌⊎◌, ℕ, zero, suc, ◌<◌, Bool, true, false, cond, is_some, List, [], ◌∷◌, map, Option, Some, None, option_map, slice_get, slice_set, subst, refl, sym, ap, ◌∙◌, arith, inl, inr}
 use Rattle.std.specs.List.{filter_map, cons_option}
 use Rattle.std.proofs.lemmas.Bool.{cases_eq}
 use Rattle.std.proofs.lemmas.Option.{none-some, same_Some}
@@ -12,6 +12,7 @@ use Rattle.contacts_base.specs.declared.key.ContactKey.{ContactKey}
 use Rattle.contacts_base.specs.declared.contact.ContactEntry.{ContactEntry}
 use Rattle.contacts_base.specs.Keys.{key_number}
 use Rattle.contacts_base.specs.Contacts.{number_of, lookup, AreKeysRising}
+use Rattle.contacts_base.specs.Evaluate.{touches}
 use Rattle.contacts_base.proofs.LookupLemmas.{lookup-here, lookup-later}
 use Rattle.contacts.specs.declared.constraint.Constraint.{Constraint}
 use Rattle.contacts.specs.declared.constraint.Constraint.TheVariants as constraints
@@ -24,6 +25,7 @@ use Rattle.momenta.specs.declared.state.BodyState.{BodyState}
 use Rattle.world_core_base.specs.declared.body.Body.{Body}
 use Rattle.world_core_base.specs.Bodies.{is_mover}
 use Rattle.world_core_base.specs.Gather.{moves, moves_in, IsContactOf, AreContactsOf, with_motion, with_motions, with_row, with_rows, put_row}
+use Rattle.world_core_base.proofs.ContactLaws.{touches_with_row}
 use Rattle.world_core.specs.Colouring.{Lists, movers_if, movers_between, movers_of, turned, IsNamed, AreNamed, IsNamedContact, AreColoured}
 use Rattle.world_core.proofs.ColouringSteps.{AreAbsent, EachAbsent, each_from_all}
 use Rattle.world_core.proofs.ColouringTurns.{Far, Has, colour, lookup_by_number, far_turned, absent_turned, gone_turned, keeps_turned, all_turned, taken_turned}
@@ -67,7 +69,7 @@ moves-with_motions (o ∷ bodies) (s ∷ states) zero = moves_with s o
 moves-with_motions (o ∷ bodies) (s ∷ states) (suc slot) = moves-with_motions bodies states slot
 
 -- an entry put in the place of another with the same key, which touches if that does
-touching_here : (e f : ContactEntry) (es : List ContactEntry) (key : ContactKey) → f.key ≡ e.key → f.contact.touching ≡ e.contact.touching → is_touching (lookup (f ∷ es) key) ≡ is_touching (lookup (e ∷ es) key)
+touching_here : (e f : ContactEntry) (es : List ContactEntry) (key : ContactKey) → f.key ≡ e.key → touches f.contact ≡ touches e.contact → is_touching (lookup (f ∷ es) key) ≡ is_touching (lookup (e ∷ es) key)
 touching_here e f es key same touch =
     let n : number_of f ≡ number_of e = ap key_number same in
     elim (cases_eq (number_of e) (key_number key)) [
@@ -81,16 +83,16 @@ touching_later e es fs key h = elim (cases_eq (number_of e) (key_number key)) [
   | inr q ↦ rw (lookup-later e es key q, lookup-later e fs key q) h
 ]
 
-pub touching-set : (es : List ContactEntry) (i : ℕ) (e f : ContactEntry) (key : ContactKey) → slice_get es i ≡ Some e → f.key ≡ e.key → f.contact.touching ≡ e.contact.touching → is_touching (lookup (slice_set es i f) key) ≡ is_touching (lookup es key)
+pub touching-set : (es : List ContactEntry) (i : ℕ) (e f : ContactEntry) (key : ContactKey) → slice_get es i ≡ Some e → f.key ≡ e.key → touches f.contact ≡ touches e.contact → is_touching (lookup (slice_set es i f) key) ≡ is_touching (lookup es key)
 touching-set [] i e f key at same touch = refl
 touching-set (x ∷ es) zero e f key at same touch =
     let is : x ≡ e = same_Some x e at in
-    touching_here x f es key (same ∙ ap (λ (y : ContactEntry). y.key) (sym is)) (touch ∙ ap (λ (y : ContactEntry). y.contact.touching) (sym is))
+    touching_here x f es key (same ∙ ap (λ (y : ContactEntry). y.key) (sym is)) (touch ∙ ap (λ (y : ContactEntry). touches y.contact) (sym is))
 touching-set (x ∷ es) (suc i) e f key at same touch = touching_later x es (slice_set es i f) key (touching-set es i e f key at same touch)
 
 touching_put : (r : ContactRow) (es : List ContactEntry) (o : Option ContactEntry) (key : ContactKey) → slice_get es r.bodies.place ≡ o → is_touching (lookup (put_row r es o) key) ≡ is_touching (lookup es key)
 touching_put r es None key at = refl
-touching_put r es (Some e) key at = touching-set es r.bodies.place e (with_row r e) key at refl refl
+touching_put r es (Some e) key at = touching-set es r.bodies.place e (with_row r e) key at refl (touches_with_row r e)
 
 pub touching-with_rows : (es : List ContactEntry) (rs : List ContactRow) (key : ContactKey) → is_touching (lookup (with_rows es rs) key) ≡ is_touching (lookup es key)
 touching-with_rows es [] key = refl
@@ -110,9 +112,9 @@ if_touching true false key k h = (refl, refl, same_Some key k h)
 if_touching false u key k h = absurd (none-some k h)
 
 -- an entry that is picked touches, and doesn't touch in the others
-pub only_in : (others : List ContactEntry) (e : ContactEntry) (k : ContactKey) → key_if_touching others e ≡ Some k → (e.contact.touching ≡ true) × (is_touching (lookup others e.key) ≡ false) × (e.key ≡ k)
+pub only_in : (others : List ContactEntry) (e : ContactEntry) (k : ContactKey) → key_if_touching others e ≡ Some k → (touches e.contact ≡ true) × (is_touching (lookup others e.key) ≡ false) × (e.key ≡ k)
 unfolding key_if_touching
-only_in others e k h = if_touching e.contact.touching (is_touching (lookup others e.key)) e.key k h
+only_in others e k h = if_touching (touches e.contact) (is_touching (lookup others e.key)) e.key k h
 
 each_cons : (P : ContactKey → Type 0) (o : Option ContactKey) (ks : List ContactKey) → ((k : ContactKey) → o ≡ Some k → P k) → Each P ks → Each P (cons_option o ks)
 each_cons P None ks f h = h
@@ -165,7 +167,7 @@ far_untouched : (others es : List ContactEntry) (key : ContactKey) → IsRising 
 far_untouched others [] key r h = tt
 far_untouched others (e ∷ es) key r h = elim (cases_eq (number_of e) (key_number key)) [
   | inl q ↦ each_cons (λ k. key_number key ≢ key_number k) (key_if_touching others e) (keys_touching_only_in others es)
-      (λ k p s. true_or_false e.contact.touching (only_in others e k p).0 (ap is_touching (sym (lookup-here e es key q)) ∙ h))
+      (λ k p s. true_or_false (touches e.contact) (only_in others e k p).0 (ap is_touching (sym (lookup-here e es key q)) ∙ h))
       (far_beyond others es (key_number key) (each_less (key_number key) (number_of e) (map number_of es) q r.0))
   | inr q ↦ each_cons (λ k. key_number key ≢ key_number k) (key_if_touching others e) (keys_touching_only_in others es)
       (λ k p s. q (ap key_number (only_in others e k p).2 ∙ sym s))
@@ -181,9 +183,9 @@ has_first n true true k ks p q h = absurd (true_or_false true refl q)
 has_first n true false k ks p q h = inl h
 has_first n false u k ks p q h = absurd (true_or_false false p refl)
 
-has_here : (others es : List ContactEntry) (e : ContactEntry) (n : ℕ) → e.contact.touching ≡ true → is_touching (lookup others e.key) ≡ false → n ≡ number_of e → Has n (keys_touching_only_in others (e ∷ es))
+has_here : (others es : List ContactEntry) (e : ContactEntry) (n : ℕ) → touches e.contact ≡ true → is_touching (lookup others e.key) ≡ false → n ≡ number_of e → Has n (keys_touching_only_in others (e ∷ es))
 unfolding key_if_touching
-has_here others es e n p q h = has_first n e.contact.touching (is_touching (lookup others e.key)) e.key (keys_touching_only_in others es) p q h
+has_here others es e n p q h = has_first n (touches e.contact) (is_touching (lookup others e.key)) e.key (keys_touching_only_in others es) p q h
 
 -- one that touches here and not in the others is among those that do
 has_touching : (others es : List ContactEntry) (key : ContactKey) → is_touching (lookup es key) ≡ true → is_touching (lookup others key) ≡ false → Has (key_number key) (keys_touching_only_in others es)

@@ -1,5 +1,5 @@
 -- Each command keeps a world sound.
-use Rattle.std.proofs.Common.{◌≡◌, ℕ, ◌+◌, ◌*◌, ◌<◌, ◌≤◌, ◌^◌, List, [], ◌∷◌, ◌++◌, length, Option, Some, None, Ok, Err, Bool, true, false, cond, ℤ, pos, neg_ℤ, ◌+ℤ◌, unsigned_abs, arith, refl, sym, ap, ◌∙◌, subst, is_some, nat_lt, append_assoc}
+use Rattle.std.proofs.Common.{◌≡◌, ℕ, ◌+◌, ◌*◌, ◌<◌, ◌≤◌, ◌^◌, List, [], ◌∷◌, ◌++◌, length, Option, Some, None, Ok, Err, Bool, true, false, cond, ℤ, pos, neg_ℤ, ◌+ℤ◌, unsigned_abs, arith, refl, sym, ap, ◌∙◌, subst, is_some, nat_lt}
 use Rattle.std.specs.Prelude.{slice_set, option_map, if◌then◌else◌}
 use Rattle.std.proofs.lemmas.Int.{ints}
 use Rattle.std.proofs.lemmas.Grind.{common_steps}

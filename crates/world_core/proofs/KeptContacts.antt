@@ -17,6 +17,7 @@ use Rattle.contacts_base.specs.declared.contact.ContactPoint.{ContactPoint}
 use Rattle.contacts_base.specs.declared.contact.ContactEntry.{ContactEntry}
 use Rattle.contacts_base.specs.Keys.{key_number}
 use Rattle.contacts_base.specs.Contacts.{number_of, lookup, AreKeysRising}
+use Rattle.contacts_base.specs.Evaluate.{touches}
 use Rattle.contacts_base.specs.Limits.{IsContactPoint}
 use Rattle.contacts.specs.declared.constraint.Constraint.{Constraint}
 use Rattle.contacts.specs.declared.constraint.Constraint.TheVariants.{Joint, Contact}
@@ -29,6 +30,7 @@ use Rattle.world_core_base.specs.Bodies.{is_mover}
 use Rattle.world_core_base.specs.Slots.{body_at, with_body, with_momentum, put_p, HaveSameSlots}
 use Rattle.world_core_base.specs.Renewal.{with_renewed, renewed_bodies}
 use Rattle.world_core_base.specs.Gather.{with_motion, with_motions, with_impulses, second_with, with_row, put_row, with_rows, moves_in, moves, IsContactOf, AreContactsOf}
+use Rattle.world_core_base.proofs.ContactLaws.{touches_with_row}
 use Rattle.world_core.specs.Collide.{has_slot, contacts_without}
 use Rattle.world_core.specs.Colouring.{movers_between, movers_of}
 use Rattle.world_core.specs.Sound.{HasBodies}
@@ -285,20 +287,20 @@ with_rows_same f h contacts (r ∷ rs) =
 pub with_rows_keys : (contacts : List ContactEntry) (rows : List ContactRow) → map (λ e. e.key) (with_rows contacts rows) ≡ map (λ e. e.key) contacts
 with_rows_keys contacts rows = with_rows_same (λ e. e.key) (λ r e. refl) contacts rows
 
-pub with_rows_touching : (contacts : List ContactEntry) (rows : List ContactRow) → map (λ e. e.contact.touching) (with_rows contacts rows) ≡ map (λ e. e.contact.touching) contacts
-with_rows_touching contacts rows = with_rows_same (λ e. e.contact.touching) (λ r e. refl) contacts rows
+pub with_rows_touching : (contacts : List ContactEntry) (rows : List ContactRow) → map (λ e. touches e.contact) (with_rows contacts rows) ≡ map (λ e. touches e.contact) contacts
+with_rows_touching contacts rows = with_rows_same (λ e. touches e.contact) touches_with_row contacts rows
 
 pub keys_rise_rows : (contacts : List ContactEntry) (rows : List ContactRow) → AreKeysRising contacts → AreKeysRising (with_rows contacts rows)
 keys_rise_rows contacts rows h = subst IsStrictlyIncreasing (sym (with_rows_same number_of (λ r e. refl) contacts rows)) h
 
-touching_step : (m n k : ℕ) (c d : contact.Contact) (o u : Option contact.Contact) → m ≡ n → c.touching ≡ d.touching → is_touching o ≡ is_touching u → is_touching (cond (m == k) (Some c) o) ≡ is_touching (cond (n == k) (Some d) u)
+touching_step : (m n k : ℕ) (c d : contact.Contact) (o u : Option contact.Contact) → m ≡ n → touches c ≡ touches d → is_touching o ≡ is_touching u → is_touching (cond (m == k) (Some c) o) ≡ is_touching (cond (n == k) (Some d) u)
 touching_step m n k c d o u e touch rest = rw e (by_test (n == k))
   where
     by_test : (t : Bool) → is_touching (cond t (Some c) o) ≡ is_touching (cond t (Some d) u)
     by_test true = touch
     by_test false = rest
 
-lookup_touching : (xs ys : List ContactEntry) (key : ContactKey) → map number_of xs ≡ map number_of ys → map (λ (e : ContactEntry). e.contact.touching) xs ≡ map (λ (e : ContactEntry). e.contact.touching) ys → is_touching (lookup xs key) ≡ is_touching (lookup ys key)
+lookup_touching : (xs ys : List ContactEntry) (key : ContactKey) → map number_of xs ≡ map number_of ys → map (λ (e : ContactEntry). touches e.contact) xs ≡ map (λ (e : ContactEntry). touches e.contact) ys → is_touching (lookup xs key) ≡ is_touching (lookup ys key)
 lookup_touching [] [] key e f = refl
 lookup_touching [] (y ∷ ys) key e f = cc
 lookup_touching (x ∷ xs) [] key e f = cc
@@ -307,7 +309,7 @@ lookup_touching (x ∷ xs) (y ∷ ys) key e f =
 
 -- the same contacts touch
 pub with_rows_lookup : (contacts : List ContactEntry) (rows : List ContactRow) (key : ContactKey) → is_touching (lookup (with_rows contacts rows) key) ≡ is_touching (lookup contacts key)
-with_rows_lookup contacts rows key = lookup_touching (with_rows contacts rows) contacts key (with_rows_same number_of (λ r e. refl) contacts rows) (with_rows_same (λ e. e.contact.touching) (λ r e. refl) contacts rows)
+with_rows_lookup contacts rows key = lookup_touching (with_rows contacts rows) contacts key (with_rows_same number_of (λ r e. refl) contacts rows) (with_rows_touching contacts rows)
 
 -- ---- the bodies of both shapes stay there
 

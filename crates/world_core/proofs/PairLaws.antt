@@ -213,7 +213,7 @@ apart_within : IsContact apart
 apart_within = record { first = λ x e. cc; second = λ x e. cc }
 
 touching_within : (old : Option Contact) (m : Manifold) → ForSome old IsContact → IsPointWithin (2 ^ 27) m.first → IfSome m.second (λ p. IsPointWithin (2 ^ 27) p)
-    → IsContact (record { first = Some (kept_point old m.first); second = option_map (kept_point old) m.second; touching = true })
+    → IsContact (record { first = Some (kept_point old m.first); second = option_map (kept_point old) m.second })
 touching_within old m h first second = record {
   first = λ x e. let same : kept_point old m.first ≡ x = cc in subst IsContactPoint same (point_within old m.first h first);
   second = second_within old m.second h second;
@@ -231,7 +231,7 @@ pub evaluated_within : (old : Option Contact) (m : Manifold) → ForSome old IsC
     → IsContact (evaluated old m)
 unfolding evaluated
 evaluated_within old m h first second =
-    either_within (int_lt (pos 0) m.first.separation) apart (record { first = Some (kept_point old m.first); second = option_map (kept_point old) m.second; touching = true }) apart_within
+    either_within (int_lt (pos 0) m.first.separation) apart (record { first = Some (kept_point old m.first); second = option_map (kept_point old) m.second }) apart_within
     (λ e. touching_within old m h (first (not_above m.first.separation e)) second)
 
 -- ---- all contacts

@@ -1,5 +1,5 @@
 -- Which contacts have a colour, and how that changes as contacts begin and end to touch.
-use Rattle.std.specs.Prelude.{◌≡◌, ℕ, ◌<◌, ◌^◌, ◌==◌, ◌||◌, ◌&&◌, Bool, true, false, cond, nat_lt, List, [], ◌∷◌, All, Option, Some, None, is_some}
+use Rattle.std.specs.Prelude.{◌≡◌, ℕ, ◌<◌, ◌^◌, ◌&&◌, Bool, true, false, cond, nat_lt, List, [], ◌∷◌, All, Option, Some, None, is_some}
 use Rattle.graph_colours.specs.declared.member.Movers.{Movers}
 use Rattle.graph_colours.specs.declared.member.Member.{Member}
 use Rattle.graph_colours.specs.Colours.{all_members, colour_of, placed, released, IsColouring}
@@ -7,6 +7,7 @@ use Rattle.contacts_base.specs.declared.key.ContactKey.{ContactKey}
 use Rattle.contacts_base.specs.declared.contact.ContactEntry.{ContactEntry}
 use Rattle.contacts_base.specs.Keys.{key_number}
 use Rattle.contacts_base.specs.Contacts.{lookup}
+use Rattle.contacts_base.specs.Evaluate.{touches}
 use Rattle.contacts.specs.declared.constraint.Constraint.{Constraint}
 use Rattle.contacts.specs.declared.constraint.Constraint.TheVariants.{Joint, Contact}
 use Rattle.contacts.specs.Constraints.{constraint_number}
@@ -70,7 +71,7 @@ turned bodies lists (b ∷ bs) ends = turned bodies (begun bodies (ended_until b
 -- ---- a body that goes takes its contacts' colours along
 
 abbrev pub released_if : ℕ → Lists → ContactEntry → Lists
-released_if slot lists e = cond (e.contact.touching && has_slot slot e) (ended lists e.key) lists
+released_if slot lists e = cond (touches e.contact && has_slot slot e) (ended lists e.key) lists
 
 abbrev pub lists_without : ℕ → Lists → List ContactEntry → Lists
 lists_without slot lists [] = lists

@@ -4,6 +4,7 @@ ghost use Rattle.std.specs.Prelude.{◌≡◌, ◌≤◌, ◌+◌, ◌&&◌, Non
 ghost use Rattle.std.specs.Option.{ForSome};
 ghost use Rattle.std.specs.Result.{IsOkUnless};
 ghost use Rattle.contacts.specs.declared.constraint.Constraint.TheVariants.{Contact};
+ghost use Rattle.contacts_base.specs.Evaluate.{touches};
 ghost use Rattle.contacts.specs.Constraints.{constraint_number};
 ghost use Rattle.contacts.specs.Changes.{AreRising};
 ghost use Rattle.graph_colours.specs.Movers.{AreBelow};
@@ -169,9 +170,9 @@ pub fn turn_colours(
 
 /// Whether the entry touches and is of the body in the slot.
 fn has_touching(slot: u32, entry: &ContactEntry) -> bool
-    ensures { result ≡ (entry.now.contact.touching && has_slot slot entry.now) }
+    ensures { result ≡ (touches entry.now.contact && has_slot slot entry.now) }
 {
-    entry.contact.touching && (entry.key.first.slot == slot || entry.key.second.slot == slot)
+    entry.contact.is_touching() && (entry.key.first.slot == slot || entry.key.second.slot == slot)
 }
 
 /// The contacts of the body in a slot give up their colours.

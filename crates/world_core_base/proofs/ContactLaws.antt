@@ -1,5 +1,5 @@
 -- The rows of a step's contacts, and the impulses given back to the contacts.
-use Rattle.std.proofs.Common.{◌≡◌, append_assoc, ℕ, zero, suc, ◌+◌, ◌*◌, ◌^◌, ◌<◌, ◌≤◌, ◌==◌, List, [], ◌∷◌, ◌++◌, length, get_or, take, drop, map, Option, Some, None, Bool, true, false, cond, ℤ, pos, ◌≤ℤ◌, unsigned_abs, arith, refl, sym, ap, ◌∙◌, subst, All, slice_set, slice_index_or, add-one}
+use Rattle.std.proofs.Common.{◌≡◌, append_assoc, ℕ, zero, suc, ◌+◌, ◌*◌, ◌^◌, ◌<◌, ◌≤◌, ◌==◌, List, [], ◌∷◌, ◌++◌, length, get_or, drop, map, is_some, Option, Some, None, Bool, true, false, cond, ℤ, pos, ◌≤ℤ◌, unsigned_abs, arith, refl, sym, ap, ◌∙◌, subst, All, add-one}
 use Rattle.std.specs.Prelude.{option_map}
 use Rattle.std.specs.Option.{ForSome, option_to_list}
 use Rattle.std.specs.Int.{int_max}
@@ -15,7 +15,8 @@ use Rattle.shapes.specs.Shapes.{IsShapeDef}
 use Rattle.shapes.specs.declared.shape.ShapeDef.{ShapeDef}
 use Rattle.contacts_base.specs.Keys.{key_number}
 use Rattle.contacts_base.specs.Contacts.{number_of, found_in, found_place}
-use Rattle.contacts_base.specs.Limits.{IsContact, IsContactPoint}
+use Rattle.contacts_base.specs.Evaluate.{touches}
+use Rattle.contacts_base.specs.Limits.{IsContactPoint}
 use Rattle.contacts_base.specs.declared.key.ShapeId.{ShapeId}
 use Rattle.contacts_base.specs.declared.key.ContactKey.{ContactKey}
 use Rattle.contacts_base.specs.declared.contact.Contact.{Contact}
@@ -216,3 +217,13 @@ contacts_stay bodies n contacts [] below all = all
 contacts_stay bodies n contacts (r ∷ rs) below all =
     let first : IsRowBelow n r = below 0 r (omega arith) in
     contacts_stay bodies n (put_row r contacts (slice_get contacts r.bodies.place)) rs (λ k d lt. below (suc k) d (omega arith)) (contacts_put bodies r contacts (slice_get contacts r.bodies.place) refl first.row all)
+
+-- ---- which contacts touch
+
+some_mapped : (f : ContactPoint → ContactPoint) (o : Option ContactPoint) → is_some (option_map f o) ≡ is_some o
+some_mapped f (Some p) = refl
+some_mapped f None = refl
+
+-- a contact touches as before when it has got the impulses of a row
+pub touches_with_row : (r : ContactRow) (e : ContactEntry) → touches (with_row r e).contact ≡ touches e.contact
+touches_with_row r e = some_mapped (with_impulses r.first) e.contact.first

@@ -1,5 +1,5 @@
 -- Fat boxes: for each shape of a body a box with room to move in.
-use Rattle.std.specs.Prelude.{◌≡◌, cond, List, [], ◌∷◌, map}
+use Rattle.std.specs.Prelude.{cond, List, [], ◌∷◌, map}
 use Rattle.fixed_geom.specs.Boxes.{contains}
 use Rattle.fixed_geom.specs.declared.boxes.Box2.{Box2}
 use Rattle.shapes.specs.Bounds.{tight_box, fat_box}

@@ -1,5 +1,5 @@
 -- What a step works on, gathered from the bodies, the contacts and their colours, and written back to them.
-use Rattle.std.specs.Prelude.{◌≡◌, ℕ, ◌<◌, ◌≤◌, ◌≤ℤ◌, unsigned_abs, ◌⊎◌, ◌≢◌, Bool, true, false, cond, List, [], ◌∷◌, length, map, All, Option, Some, None, option_map, ℤ, pos, slice_get, slice_set, slice_index_or}
+use Rattle.std.specs.Prelude.{◌≡◌, ℕ, ◌<◌, ◌≤◌, ◌≤ℤ◌, unsigned_abs, ◌⊎◌, ◌≢◌, Bool, true, false, cond, List, [], ◌∷◌, length, map, All, Option, Some, None, option_map, pos, slice_get, slice_set, slice_index_or}
 use Rattle.std.specs.List.{filter_map, flat_map}
 use Rattle.shapes.specs.declared.shape.ShapeDef.{ShapeDef}
 use Rattle.shapes.specs.Mixing.{mixed_friction, mixed_restitution}
@@ -8,7 +8,6 @@ use Rattle.momenta.specs.declared.state.Ends.{Ends}
 use Rattle.contacts_base.specs.declared.key.ShapeId.{ShapeId}
 use Rattle.contacts_base.specs.declared.key.ContactKey.{ContactKey}
 use Rattle.contacts_base.specs.declared.contact.ContactPoint.{ContactPoint}
-use Rattle.contacts_base.specs.declared.contact.Contact.{Contact}
 use Rattle.contacts_base.specs.declared.contact.ContactEntry.{ContactEntry}
 use Rattle.contacts_base.specs.Contacts.{found_place}
 use Rattle.contacts_base.specs.Limits.{IsContact}

@@ -1,4 +1,4 @@
-use Rattle.std.proofs.Common.{◌<◌, subst, ltb-true, arith}
+use Rattle.std.proofs.Common.{◌<◌, subst, ltb-true}
 use Rattle.contacts_base.proofs.SeekLemmas.{all_below}
 use Rattle.contacts_base.proofs.contact.is_passed.Goals as goal
 

@@ -1,4 +1,4 @@
-use Rattle.std.proofs.Common.{◌≡◌, ◌++◌, List, arith, ap, ◌∙◌}
+use Rattle.std.proofs.Common.{◌≡◌, ◌++◌, List, ap, ◌∙◌}
 use Rattle.impulse_ledger.specs.declared.entry.Cause.TheVariants.{Gravity, Immovable}
 use Rattle.impulse_ledger.specs.declared.entry.Entry.{Entry}
 use Rattle.world_core.specs.Apply.{booked}

@@ -1,6 +1,5 @@
 use Rattle.std.proofs.Common.{length}
 use Rattle.world_core.proofs.ColouringSteps.{below_more}
-use Rattle.world_core.proofs.ColouringLaws.{coloured_turned, coloured_stepped, absent}
 use Rattle.world_core.proofs.colouring.begin.Goals as goal
 
 pub begin_with-requires-clause-below : goal.begin_with-requires-clause-below

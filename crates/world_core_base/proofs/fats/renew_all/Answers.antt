@@ -1,4 +1,3 @@
-use Rattle.std.proofs.Common.{◌<◌, length}
 use Rattle.world_core_base.proofs.FatLaws.{renewed_more}
 use Rattle.world_core_base.proofs.fats.renew_all.Goals as goal
 

@@ -1,5 +1,4 @@
-use Rattle.std.proofs.Common.{◌≡◌, ◌++◌, ◌∙◌, length, sym, ap, subst, arith}
-use Rattle.std.specs.Option.{option_to_list}
+use Rattle.std.proofs.Common.{length, sym, subst, arith}
 use Rattle.colour_solver.specs.Turns.{AreRowsBelow, IsRowBelow}
 use Rattle.graph_colours.specs.declared.member.Member.{Member}
 use Rattle.contacts.specs.declared.constraint.Constraint.{Constraint}

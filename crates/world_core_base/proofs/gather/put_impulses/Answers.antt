@@ -1,7 +1,6 @@
-use Rattle.std.proofs.Common.{◌≡◌, ◌∙◌, ℕ, List, map, length, sym, ap, subst, arith}
+use Rattle.std.proofs.Common.{sym, subst, arith}
 use Rattle.std.specs.List.Sorted.{IsStrictlyIncreasing}
 use Rattle.std.proofs.lemmas.Grind.{common_steps}
-use Rattle.contacts_base.specs.Contacts.{number_of}
 use Rattle.world_core_base.specs.Gather.{AreContactsOf}
 use Rattle.world_core_base.proofs.ContactLaws.{contacts_stay, keys_stay}
 use Rattle.world_core_base.proofs.gather.put_impulses.Goals as goal

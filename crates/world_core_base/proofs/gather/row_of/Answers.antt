@@ -1,5 +1,4 @@
 use Rattle.std.proofs.Common.{rules, ◌≡◌, ◌<◌, ◌∙◌, length, Some}
-use Rattle.std.specs.List.{slice_get}
 use Rattle.contacts_base.specs.Contacts.{found_place}
 use Rattle.world_core_base.proofs.SlotLaws.{slice_get-get}
 use Rattle.world_core_base.proofs.ContactLaws.{number_at, row_of_is}
