@@ -17,6 +17,7 @@ use std::alloc::Global;
 use std::test::Fail;
 use world_core_base::{BodyDef, BodyView, Kind, SetName};
 
+mod fat_boxes;
 mod meetings;
 
 const FIRST: Handle = Handle {
@@ -50,6 +51,16 @@ const CIRCLE: ShapeDef = ShapeDef {
         group: 0,
     },
 };
+
+fn circle(radius: i64) -> ShapeDef {
+    ShapeDef {
+        shape: Shape::Circle {
+            center: ORIGIN,
+            radius,
+        },
+        ..CIRCLE
+    }
+}
 
 /// A dynamic body of one shape, or a static one where the mass is 0.
 fn create_of(alloc: Global, mass: i64, x: Vec2, shape: ShapeDef) -> Result<Command, Refusal> {

@@ -63,19 +63,9 @@ fn touching(world: &WorldCore) -> Result<usize, Refusal> {
         plain
             .contacts()
             .iter()
-            .filter(|entry| entry.contact.touching)
+            .filter(|entry| entry.contact.is_touching())
             .count(),
     )
-}
-
-fn circle(radius: i64) -> ShapeDef {
-    ShapeDef {
-        shape: Shape::Circle {
-            center: ORIGIN,
-            radius,
-        },
-        ..CIRCLE
-    }
 }
 
 /// Adds a circle of mass 1.
