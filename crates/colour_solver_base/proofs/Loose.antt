@@ -1,13 +1,11 @@
 -- Friction that has no room leaves a point and its bodies as they are.
-use Rattle.std.proofs.Common.{◌≡◌, ◌∙◌, ℤ, pos, neg_ℤ, ◌+ℤ◌, arith, refl, ap, sym}
+use Rattle.std.proofs.Common.{◌≡◌, ◌∙◌, ℤ, pos, neg_ℤ, ◌+ℤ◌, arith, refl, ap}
 use Rattle.std.proofs.lemmas.Int.{ints}
 use Rattle.momenta.specs.declared.state.Ends.{Ends}
-use Rattle.momenta.specs.declared.line.Exerted.{Exerted}
 use Rattle.momenta.specs.declared.line.Line.{Line}
-use Rattle.momenta.specs.Impulses.{AreStates, between, exerted, solved, speed_along, wanted}
+use Rattle.momenta.specs.Impulses.{AreStates, between, solved, speed_along, wanted}
 use Rattle.momenta.proofs.NoImpulse.{exerted_none}
 use Rattle.colour_solver_base.specs.declared.row.PointRow.{PointRow}
-use Rattle.colour_solver_base.specs.declared.solve.PointTurn.{PointTurn}
 use Rattle.colour_solver_base.specs.Rows.{most_slip, slip_line, slip_solved, with_slip}
 
 no_room : (z : ℤ) → between (pos 0) (pos 0) z ≡ pos 0

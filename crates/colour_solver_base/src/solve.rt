@@ -9,7 +9,7 @@ ghost use Rattle.colour_solver_base.specs.Rows.{IsPointRow, IsRow, bias_of, boun
 
 use crate::{ContactRow, PointRow};
 use fixed_geom::{Vec2, minus, product, rdiv};
-use momenta::{Ends, part_along, parting, solve_line, warm_line};
+use momenta::{Ends, part_along, parting, solve_line, warm_at_once, warm_line};
 
 /// An overlap up to this many u is left alone.
 const SLOP: i64 = 5243;
@@ -240,7 +240,25 @@ fn solve_point(friction: i64, point: &mut PointRow, ends: &mut Ends)
     solve_slip(friction, apart, point, ends);
 }
 
-/// The kept impulses of a point given once more.
+/// The kept impulses of a point given once more, the one along the normal and then friction.
+#[tactic(auto, unfolding(crate::specs::Rows::point_warmed))]
+#[cold]
+#[inline(never)]
+fn warm_in_turn(point: &PointRow, ends: Ends) -> Ends
+    requires point { IsPointRow point.now }
+    requires states { AreStates ends }
+    ensures value { result ≡ point_warmed point.now ends }
+    ensures states { AreStates result }
+    ensures same { AreSameBodies ends result }
+    ensures kept { IsMomentumKept ends result }
+{
+    let mut warmed = ends;
+    warm_line(&point.push_line(), point.push, &mut warmed);
+    warm_line(&point.slip_line(), point.slip, &mut warmed);
+    warmed
+}
+
+/// The same, both at once where that is the same.
 #[tactic(auto, unfolding(crate::specs::Rows::point_warmed))]
 #[inline(always)]
 fn warm_point(point: &PointRow, ends: &mut Ends)
@@ -251,8 +269,16 @@ fn warm_point(point: &PointRow, ends: &mut Ends)
     ensures same { AreSameBodies ends.old ends.new }
     ensures kept { IsMomentumKept ends.old ends.new }
 {
-    warm_line(&point.push_line(), point.push, ends);
-    warm_line(&point.slip_line(), point.slip, ends);
+    let at_once = warm_at_once(
+        &point.push_line(),
+        point.push,
+        &point.slip_line(),
+        point.slip,
+        ends,
+    );
+    if !at_once {
+        *ends = warm_in_turn(point, *ends);
+    }
 }
 
 /// Whether a point bounces.

@@ -6,3 +6,4 @@ pub mod Shifts
 pub mod Sizes
 pub mod TurnLemmas
 pub mod VectorLemmas
+pub mod Multiples

@@ -22,7 +22,7 @@ turned_still : (inertia l moment : ℤ) → (inertia ≡ pos 0 → l ≡ pos 0) 
 turned_still inertia l moment still h = rw h (still h)
 
 -- what the impulse makes of a mover
-abbrev moved_by : Vec2 → Vec2 → BodyState → BodyState
+abbrev pub moved_by : Vec2 → Vec2 → BodyState → BodyState
 moved_by j r s = record s { motion = record s.motion { p = plus s.motion.p j; l = turned_by s.mass.inertia s.motion.l (cross r j) } }
 
 state_by : (t : Bool) (j r : Vec2) (s : BodyState) → IsState s → fits (cond t (moved_by j r s) s).motion ≡ true → IsState (cond t (moved_by j r s) s)
@@ -74,7 +74,7 @@ pub record IsPairGiven (j ra rb : Vec2) (e : Ends) (a b : BodyState) : Type 0 wh
   pub same : AreSameBodies e (record { a = a; b = b })
   pub kept : IsMomentumKept e (record { a = a; b = b })
 
-pair_is : (j ra rb : Vec2) (e : Ends) (a b : BodyState) → a ≡ given (negated j) ra e.a → b ≡ given j rb e.b → fits a.motion ≡ true → fits b.motion ≡ true → impulse_pair j ra rb e ≡ Some (record { a = a; b = b })
+pub pair_is : (j ra rb : Vec2) (e : Ends) (a b : BodyState) → a ≡ given (negated j) ra e.a → b ≡ given j rb e.b → fits a.motion ≡ true → fits b.motion ≡ true → impulse_pair j ra rb e ≡ Some (record { a = a; b = b })
 unfolding impulse_pair taken
 pair_is j ra rb e a b first second h k = rw (← first, ← second, h, k) refl
 

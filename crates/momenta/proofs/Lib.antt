@@ -6,3 +6,4 @@ pub mod MotionLaws
 pub mod ImpulseLaws
 pub mod Shares
 pub mod NoImpulse
+mod WarmLaws

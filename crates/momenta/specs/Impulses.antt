@@ -143,6 +143,11 @@ or_kept e None = e
 unfoldable pub warmed : Line → ℤ → Ends → Ends
 warmed line total e = or_kept e (impulse_pair (along line.direction total) line.ra line.rb e)
 
+-- the momenta are so far within their limits that two impulses can't take them out
+pub record IsRoomy (m : Motion) : Type 0 where
+  pub p : IsWithin (2 ^ 59) m.p
+  pub l : unsigned_abs m.l ≤ 2 ^ 89
+
 -- ---- what must hold of a line
 
 pub record IsLine (line : Line) : Type 0 where

@@ -20,7 +20,9 @@ pub mod travel;
 pub use gain::{Gain, NOTHING, gain_between, plus};
 pub use gravity::pull;
 pub use inverse::inverse_mass;
-pub use line::{Exerted, Line, part_along, parting, solve_line, speed_along, warm_line};
+pub use line::{
+    Exerted, Line, part_along, parting, solve_line, speed_along, warm_at_once, warm_line,
+};
 pub use mass::MassData;
 pub use motion::{Motion, spin, velocity};
 pub use speed_limit::clamp_speed;

@@ -1,11 +1,12 @@
 //! One impulse along a line between two bodies: the accumulated and clamped impulses of Erin Catto's sequential impulses
 //! (GDC 2006), in whole numbers.
 
-ghost use Rattle.std.specs.Prelude.{◌≡◌, ◌^◌, ◌<◌, ◌≤◌, ◌+◌, ◌⊎◌, true, pos, neg_ℤ, ◌+ℤ◌, ◌-ℤ◌, ◌*ℤ◌, ◌≤ℤ◌, ◌<ℤ◌, unsigned_abs};
+ghost use Rattle.std.specs.Prelude.{◌≡◌, ◌^◌, ◌<◌, ◌≤◌, ◌+◌, ◌⊎◌, true, false, pos, neg_ℤ, ◌+ℤ◌, ◌-ℤ◌, ◌*ℤ◌, ◌≤ℤ◌, ◌<ℤ◌, unsigned_abs};
 ghost use Rattle.fixed_geom.specs.Numbers.{rdiv};
 ghost use Rattle.fixed_geom.specs.Vectors.{IsWithin, dot, unit_length};
 ghost use Rattle.momenta.specs.Impulses.{AreStates, AreSameBodies, IsMomentumKept, IsLine, parting, speed_along, wanted, between, along, exerted, solved, warmed};
 
+use crate::state::grown;
 use crate::{Ends, impulse_pair};
 use fixed_geom::{
     UNIT, Vec2, dot, minus, narrow_dot, narrow_scaled, over_inverse, rdiv, rdiv_unit_64, scaled,
@@ -70,7 +71,7 @@ pub fn speed_along(line: &Line, ends: &Ends) -> i64
 
 /// Whether `x` is from `-limit` to `limit`: two comparisons, with no size taken.
 #[inline(always)]
-fn is_in(x: i64, limit: i64) -> bool
+pub(crate) fn is_in(x: i64, limit: i64) -> bool
     requires { unsigned_abs limit < 2 ^ 63 }
     ensures { result ≡ true → unsigned_abs x ≤ unsigned_abs limit }
 {
@@ -429,4 +430,32 @@ fn warm(line: &Line, total: i64, ends: &mut Ends)
 {
     let j = along(line.direction, total);
     let _ = impulse_pair(ends, j, line.ra, line.rb);
+}
+
+/// `warm_line` along two lines through the same points, one after the other, if no momentum is near its limit: both
+/// impulses are then given as one. Answers whether they were; if not, nothing has changed.
+#[inline(always)]
+pub fn warm_at_once(first: &Line, one: i64, second: &Line, other: i64, ends: &mut Ends) -> bool
+    requires first { IsLine first.now }
+    requires second { IsLine second.now }
+    requires ra { second.now.ra ≡ first.now.ra }
+    requires rb { second.now.rb ≡ first.now.rb }
+    requires states { AreStates ends.old }
+    requires one { unsigned_abs one ≤ 2 ^ 43 }
+    requires other { unsigned_abs other ≤ 2 ^ 43 }
+    ensures given { result ≡ true → ends.new ≡ warmed second.now other (warmed first.now one ends.old) }
+    ensures left { result ≡ false → ends.new ≡ ends.old }
+    ensures states { AreStates ends.new }
+    ensures same { AreSameBodies ends.old ends.new }
+    ensures kept { IsMomentumKept ends.old ends.new }
+{
+    if !ends.a.is_roomy() {
+        return false;
+    }
+    if !ends.b.is_roomy() {
+        return false;
+    }
+    let j = grown(along(first.direction, one), along(second.direction, other));
+    let _ = impulse_pair(ends, j, first.ra, first.rb);
+    true
 }

@@ -4,8 +4,9 @@ ghost use Rattle.std.specs.Prelude.{◌≡◌, ◌^◌, ◌≤◌, ◌+◌, ◌+
 ghost use Rattle.fixed_geom.specs.Numbers.{rdiv};
 ghost use Rattle.fixed_geom.specs.Vectors.{IsWithin, unit_length};
 ghost use Rattle.momenta.specs.declared.motion.Motion.{Motion};
-ghost use Rattle.momenta.specs.Impulses.{IsState, AreStates, AreSameBodies, velocity_at, travelled, given, plus, turned_by, fits, impulse_pair, negated, or_kept};
+ghost use Rattle.momenta.specs.Impulses.{IsRoomy, IsState, AreStates, AreSameBodies, velocity_at, travelled, given, plus, turned_by, fits, impulse_pair, negated, or_kept};
 
+use crate::line::is_in;
 use crate::{MassData, Motion, spin, velocity};
 use fixed_geom::{Vec2, cross, minus, narrow_scaled};
 
@@ -14,6 +15,12 @@ const MAX_MOMENTUM: i64 = 1 << 60;
 
 /// The greatest size of an angular momentum, in mass·u²/tick.
 const MAX_ANGULAR: i128 = 1 << 90;
+
+/// A component of a momentum up to this has room for two impulses.
+const ROOMY_MOMENTUM: i64 = 1 << 59;
+
+/// An angular momentum up to this has room for the moments of two impulses.
+const ROOMY_ANGULAR: i128 = 1 << 89;
 
 /// A body as the solver works on it: whether impulses move it, its mass, its motion, and where its
 /// centre was when the step began (u).
@@ -102,6 +109,17 @@ impl BodyState {
         }
     }
 
+    /// Whether its momenta are so far within their limits that two impulses can't take them out.
+    #[inline(always)]
+    pub(crate) fn is_roomy(&self) -> bool
+        ensures { result ≡ true → IsRoomy self.now.motion }
+    {
+        is_in(self.motion.p.x, ROOMY_MOMENTUM)
+            && is_in(self.motion.p.y, ROOMY_MOMENTUM)
+            && -ROOMY_ANGULAR <= self.motion.l
+            && self.motion.l <= ROOMY_ANGULAR
+    }
+
     /// Puts these momenta in place of its own.
     #[inline(always)]
     fn put(&mut self, momenta: Momenta)
@@ -138,7 +156,7 @@ fn carried_on(v: i64, w: i64, r: i64) -> i64
 
 /// A momentum with an impulse.
 #[inline(always)]
-fn grown(p: Vec2, j: Vec2) -> Vec2
+pub(crate) fn grown(p: Vec2, j: Vec2) -> Vec2
     requires momentum { IsWithin (2 ^ 60) p }
     requires impulse { IsWithin (2 ^ 45) j }
     ensures { result ≡ plus p j }

@@ -6,26 +6,12 @@ use Rattle.std.proofs.lemmas.Int.{ints}
 use Rattle.std.proofs.lemmas.Bool.Decides.{nat_tests}
 use Rattle.std.proofs.lemmas.Bool.{cases_lt, false≢true}
 use borrow.Author.Differences.{up, down}
+use Rattle.fixed_geom.proofs.Multiples.{times_difference, times_sum}
 use Rattle.fixed_geom.specs.Vectors.{cross}
 use Rattle.shapes.specs.declared.pose.Core.{Core}
 use Rattle.shapes.specs.Cores.{is_point, side, is_parted, cores_cross}
 
 -- ---- products
-
--- a number times a difference
-pub times_difference : (a b c f : ℤ) → f ≡ b -ℤ c → a *ℤ f ≡ a *ℤ b -ℤ a *ℤ c
-times_difference a b c f h =
-    let e : up f + (down b + up c) ≡ down f + (up b + down c) = omega (arith, ints) in
-    let g : up a * (up f + (down b + up c)) ≡ up a * (down f + (up b + down c)) = ap (λ n. up a * n) e in
-    let k : down a * (up f + (down b + up c)) ≡ down a * (down f + (up b + down c)) = ap (λ n. down a * n) e in
-    omega (arith, ints, g, k)
-
-pub times_sum : (a b c f : ℤ) → f ≡ b +ℤ c → a *ℤ f ≡ a *ℤ b +ℤ a *ℤ c
-times_sum a b c f h =
-    let e : up f + (down b + down c) ≡ down f + (up b + up c) = omega (arith, ints) in
-    let g : up a * (up f + (down b + down c)) ≡ up a * (down f + (up b + up c)) = ap (λ n. up a * n) e in
-    let k : down a * (up f + (down b + down c)) ≡ down a * (down f + (up b + up c)) = ap (λ n. down a * n) e in
-    omega (arith, ints, g, k)
 
 times_opposite : (a b f : ℤ) → f ≡ neg_ℤ b → a *ℤ f ≡ neg_ℤ (a *ℤ b)
 times_opposite a b f h =

@@ -1,8 +1,25 @@
-use Rattle.colour_solver_base.proofs.Kept.{kept_then, same_then}
+use Rattle.std.proofs.Common.{◌≡◌, refl, rules}
+use Rattle.std.proofs.lemmas.Int.{to_z-of_z}
+use Rattle.std.specs.Int.{w64}
+use mir.Val.{SFits}
+use Rattle.colour_solver_base.specs.Rows.{point_warmed}
 use Rattle.colour_solver_base.proofs.solve.warm_point.Goals as goal
 
-pub returns-clause-same : goal.returns-clause-same
-returns-clause-same c = same_then c.args.ends.now c.warm_line.new.ends c.warm_line-2.new.ends c.warm_line.ensures.same c.warm_line-2.ensures.same
+left : (c : goal.After-warm_in_turn) → c.warm_at_once-at_once.new.ends ≡ c.args.ends.now
+left c = c.if-not-at_once.ensures.left refl
 
-pub returns-clause-kept : goal.returns-clause-kept
-returns-clause-kept c = kept_then c.args.ends.now c.warm_line.new.ends c.warm_line-2.new.ends c.warm_line.ensures.same c.warm_line.ensures.kept c.warm_line-2.ensures.kept
+pub returns-then-not-at_once-clause-value : goal.returns-then-not-at_once-clause-value
+returns-then-not-at_once-clause-value c = rw (left c) at c.warm_in_turn.ensures.value
+
+pub returns-then-not-at_once-clause-same : goal.returns-then-not-at_once-clause-same
+returns-then-not-at_once-clause-same c = rw (left c) at c.warm_in_turn.ensures.same
+
+pub returns-then-not-at_once-clause-kept : goal.returns-then-not-at_once-clause-kept
+returns-then-not-at_once-clause-kept c = rw (left c) at c.warm_in_turn.ensures.kept
+
+pub returns-else-not-at_once-clause-value : goal.returns-else-not-at_once-clause-value
+unfolding point_warmed
+returns-else-not-at_once-clause-value c =
+    let push : SFits w64 c.args.point.now.push = search rules in
+    let slip : SFits w64 c.args.point.now.slip = search rules in
+    simp to_z-of_z at (rw (c.push_line.ensures, c.slip_line.ensures) at c.if-not-at_once.ensures.given refl)
