@@ -432,8 +432,9 @@ fn warm(line: &Line, total: i64, ends: &mut Ends)
     let _ = impulse_pair(ends, j, line.ra, line.rb);
 }
 
-/// `warm_line` along two lines through the same points, one after the other, if no momentum is near its limit: both
-/// impulses are then given as one. Answers whether they were; if not, nothing has changed.
+/// `warm_line` along two lines through the same points, of the accumulated impulses `one` and `other` (mass·u/tick), one
+/// after the other, if no momentum is near its limit: both are then given as one impulse. Answers whether they were; if
+/// not, nothing has changed.
 #[inline(always)]
 pub fn warm_at_once(first: &Line, one: i64, second: &Line, other: i64, ends: &mut Ends) -> bool
     requires first { IsLine first.now }
