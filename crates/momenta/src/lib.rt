@@ -11,6 +11,7 @@ pub mod inverse;
 pub mod line;
 pub mod mass;
 pub mod motion;
+pub mod ranges;
 pub mod speed_limit;
 pub mod state;
 #[cfg(test)]

@@ -6,6 +6,7 @@ ghost use Rattle.fixed_geom.specs.Numbers.{rdiv};
 ghost use Rattle.fixed_geom.specs.Vectors.{IsWithin, dot, unit_length};
 ghost use Rattle.momenta.specs.Impulses.{AreStates, AreSameBodies, IsMomentumKept, IsLine, parting, speed_along, wanted, between, along, exerted, solved, warmed};
 
+use crate::ranges::is_in;
 use crate::state::grown;
 use crate::{Ends, impulse_pair};
 use fixed_geom::{
@@ -67,15 +68,6 @@ pub fn speed_along(line: &Line, ends: &Ends) -> i64
     ensures within { unsigned_abs result ≤ 2 ^ 62 + 2 ^ 28 }
 {
     part_along(parting(line.ra, line.rb, ends), line.direction)
-}
-
-/// Whether `x` is from `-limit` to `limit`: two comparisons, with no size taken.
-#[inline(always)]
-pub(crate) fn is_in(x: i64, limit: i64) -> bool
-    requires { unsigned_abs limit < 2 ^ 63 }
-    ensures { result ≡ true → unsigned_abs x ≤ unsigned_abs limit }
-{
-    -limit <= x && x <= limit
 }
 
 /// The part of a velocity (u/tick) or of a way (u) along a direction (times 2^30), to the nearest.

@@ -6,7 +6,7 @@ ghost use Rattle.fixed_geom.specs.Vectors.{IsWithin, unit_length};
 ghost use Rattle.momenta.specs.declared.motion.Motion.{Motion};
 ghost use Rattle.momenta.specs.Impulses.{IsRoomy, IsState, AreStates, AreSameBodies, velocity_at, travelled, given, plus, turned_by, fits, impulse_pair, negated, or_kept};
 
-use crate::line::is_in;
+use crate::ranges::is_in;
 use crate::{MassData, Motion, spin, velocity};
 use fixed_geom::{Vec2, cross, minus, narrow_scaled};
 
