@@ -1,9 +1,10 @@
 -- The sweep finds the near pairs and no others.
-use Rattle.std.proofs.Common.{◌≡◌, ℕ, suc, ◌^◌, ◌<◌, ◌≤◌, List, [], ◌∷◌, length, get_or, subst, Bool, true, false, cond, ◌&&◌, ◌||◌, Option, None, Some, inl, inr, refl, sym, ap, ◌∙◌, arith, ltb-true, ltb-false, eqb, nat_lt, ℤ, ◌≤ℤ◌, is_lt}
+use Rattle.std.proofs.Common.{◌≡◌, ℕ, suc, ◌+◌, ◌^◌, ◌<◌, ◌≤◌, List, [], ◌∷◌, length, get_or, subst, Bool, true, false, cond, ◌&&◌, ◌||◌, Option, None, Some, inl, inr, refl, sym, ap, ◌∙◌, arith, ltb-true, ltb-false, eqb, nat_lt, ℤ, ◌≤ℤ◌, is_lt}
 use Rattle.std.specs.Prelude.{int_lt, int_le, ◌==◌}
 use Rattle.std.specs.Option.{option_to_list}
 use Rattle.std.specs.List.{All, dedup}
-use Rattle.std.specs.List.Sorted.{IsPermutation, IsSorted, IsSortedByKey}
+use Rattle.std.specs.Int.{int_max}
+use Rattle.std.specs.List.Sorted.{IsPermutation, IsSorted}
 use Rattle.std.specs.Ordering.{nat_cmp}
 use Rattle.std.proofs.lemmas.Int.{ints}
 use Rattle.std.proofs.lemmas.Bool.Decides.{nat_tests}
@@ -14,10 +15,10 @@ use Rattle.std.proofs.lemmas.Cmp.{nat_cmp_total}
 use Rattle.fixed_geom.specs.Boxes.{Overlaps, meets}
 use Rattle.contacts_base.specs.declared.near.Proxy.{Proxy}
 use Rattle.contacts_base.specs.Near.{is_near, pair_code, near_codes}
-use Rattle.contacts.specs.declared.sweep.Start.{Start}
-use Rattle.contacts.specs.Sweep.{proxy_at, pair_at, near_pair, low_of, strip_of, start_in, starts_of, IsPlaceIn, may_meet, pair_of, met, swept}
+use Rattle.fixed_geom.specs.declared.boxes.Box2.{Box2}
+use Rattle.contacts.specs.Sweep.{proxy_at, pair_at, near_pair, strip_of, spot, start_in, strip_at, place_at, starts_of, IsPlaceIn, box_at, end_of, may_meet, pair_of, met, swept}
 use Rattle.contacts.proofs.Members.{Each, IsIn, each_in, in_append, in_left, in_right, in_from_contains, contains_from_in}
-use Rattle.contacts.proofs.StripLemmas.{IsListed, spot_rises, listed_first, listed_from, places_in}
+use Rattle.contacts.proofs.StripLemmas.{strip_is, place_is, start_rises, listed_first, listed_from, places_in}
 use Rattle.contacts.proofs.NearLemmas.{IsNearFrom, from_has, from_is, from_rises}
 use Rattle.contacts.proofs.Rising.{IsRising, same_rising, rising_from_increasing}
 
@@ -110,17 +111,17 @@ pair_is_near ps i j c u v h = either ps i j c (nat_lt i j) refl u v h
 
 -- ---- what the sweep finds
 
-record IsMet (ps : List Proxy) (s : Start) (ts : List Start) (c : ℕ) : Type 0 where
-  pub other : Start
+record IsMet (bits : ℕ) (ps : List Proxy) (s : ℕ) (ts : List ℕ) (c : ℕ) : Type 0 where
+  pub other : ℕ
   pub among : IsIn other ts
-  pub pair : pair_of ps s other ≡ Some c
+  pub pair : pair_of bits ps s other ≡ Some c
 
-record IsSwept (ps : List Proxy) (ss : List Start) (c : ℕ) : Type 0 where
-  pub first : Start
-  pub second : Start
+record IsSwept (bits : ℕ) (ps : List Proxy) (ss : List ℕ) (c : ℕ) : Type 0 where
+  pub first : ℕ
+  pub second : ℕ
   pub first_among : IsIn first ss
   pub second_among : IsIn second ss
-  pub pair : pair_of ps first second ≡ Some c
+  pub pair : pair_of bits ps first second ≡ Some c
 
 not_ended : (c : ℕ) (t : Bool) (xs : List ℕ) → IsIn c (cond t [] xs) → IsIn c xs
 not_ended c true xs h = absurd h
@@ -130,155 +131,176 @@ in_option : (c : ℕ) (o : Option ℕ) → IsIn c (option_to_list o) → o ≡ S
 in_option c None h = absurd h
 in_option c (Some x) h = elim h [ inl p ↦ ap Some (sym p) | inr q ↦ absurd q ]
 
-met_later : (ps : List Proxy) (s t : Start) (ts : List Start) (c : ℕ) → IsMet ps s ts c → IsMet ps s (t ∷ ts) c
-met_later ps s t ts c h = record { other = h.other; among = inr h.among; pair = h.pair }
+met_later : (bits : ℕ) (ps : List Proxy) (s t : ℕ) (ts : List ℕ) (c : ℕ) → IsMet bits ps s ts c → IsMet bits ps s (t ∷ ts) c
+met_later bits ps s t ts c h = record { other = h.other; among = inr h.among; pair = h.pair }
 
-met_is : (ps : List Proxy) (s : Start) (ts : List Start) (c : ℕ) → IsIn c (met ps s ts) → IsMet ps s ts c
-met_is ps s [] c h = absurd h
-met_is ps s (t ∷ ts) c h =
-    elim (in_append c (option_to_list (pair_of ps s t)) (met ps s ts) (not_ended c (nat_lt s.high t.low) _ h)) [
-      | inl a ↦ record { other = t; among = inl refl; pair = in_option c (pair_of ps s t) a }
-      | inr b ↦ met_later ps s t ts c (met_is ps s ts c b)
+met_is : (bits : ℕ) (ps : List Proxy) (s : ℕ) (ts : List ℕ) (c : ℕ) → IsIn c (met bits ps s ts) → IsMet bits ps s ts c
+met_is bits ps s [] c h = absurd h
+met_is bits ps s (t ∷ ts) c h =
+    elim (in_append c (option_to_list (pair_of bits ps s t)) (met bits ps s ts) (not_ended c (nat_lt (end_of ps s) t) _ h)) [
+      | inl a ↦ record { other = t; among = inl refl; pair = in_option c (pair_of bits ps s t) a }
+      | inr b ↦ met_later bits ps s t ts c (met_is bits ps s ts c b)
     ]
 
-swept_first : (ps : List Proxy) (s : Start) (ss : List Start) (c : ℕ) → IsMet ps s ss c → IsSwept ps (s ∷ ss) c
-swept_first ps s ss c h = record { first = s; second = h.other; first_among = inl refl; second_among = inr h.among; pair = h.pair }
+swept_first : (bits : ℕ) (ps : List Proxy) (s : ℕ) (ss : List ℕ) (c : ℕ) → IsMet bits ps s ss c → IsSwept bits ps (s ∷ ss) c
+swept_first bits ps s ss c h = record { first = s; second = h.other; first_among = inl refl; second_among = inr h.among; pair = h.pair }
 
-swept_later : (ps : List Proxy) (s : Start) (ss : List Start) (c : ℕ) → IsSwept ps ss c → IsSwept ps (s ∷ ss) c
-swept_later ps s ss c h = record { first = h.first; second = h.second; first_among = inr h.first_among; second_among = inr h.second_among; pair = h.pair }
+swept_later : (bits : ℕ) (ps : List Proxy) (s : ℕ) (ss : List ℕ) (c : ℕ) → IsSwept bits ps ss c → IsSwept bits ps (s ∷ ss) c
+swept_later bits ps s ss c h = record { first = h.first; second = h.second; first_among = inr h.first_among; second_among = inr h.second_among; pair = h.pair }
 
-swept_is : (ps : List Proxy) (ss : List Start) (c : ℕ) → IsIn c (swept ps ss) → IsSwept ps ss c
-swept_is ps [] c h = absurd h
-swept_is ps (s ∷ ss) c h =
-    elim (in_append c (met ps s ss) (swept ps ss) h) [
-      | inl a ↦ swept_first ps s ss c (met_is ps s ss c a)
-      | inr b ↦ swept_later ps s ss c (swept_is ps ss c b)
+swept_is : (bits : ℕ) (ps : List Proxy) (ss : List ℕ) (c : ℕ) → IsIn c (swept bits ps ss) → IsSwept bits ps ss c
+swept_is bits ps [] c h = absurd h
+swept_is bits ps (s ∷ ss) c h =
+    elim (in_append c (met bits ps s ss) (swept bits ps ss) h) [
+      | inl a ↦ swept_first bits ps s ss c (met_is bits ps s ss c a)
+      | inr b ↦ swept_later bits ps s ss c (swept_is bits ps ss c b)
     ]
 
 -- ---- what the sweep doesn't miss
 
--- each start begins no further than the later ones
-abbrev IsByLow : List Start → Type 0
-IsByLow [] = Unit {0}
-IsByLow (s ∷ ss) = Each (λ t. s.low ≤ t.low) ss × IsByLow ss
+-- each start is no greater than the later ones
+abbrev IsInOrder : List ℕ → Type 0
+IsInOrder [] = Unit {0}
+IsInOrder (s ∷ ss) = Each (λ t. s ≤ t) ss × IsInOrder ss
 
-no_further : (s t : Start) (ss : List Start) → Each (λ u. s.low ≤ u.low) ss → IsIn t (s ∷ ss) → s.low ≤ t.low
-no_further s t ss a h = elim h [ inl p ↦ rw p (omega arith) | inr q ↦ each_in (λ u. s.low ≤ u.low) t ss a q ]
+no_further : (s t : ℕ) (ss : List ℕ) → Each (λ u. s ≤ u) ss → IsIn t (s ∷ ss) → s ≤ t
+no_further s t ss a h = elim h [ inl p ↦ rw p (omega arith) | inr q ↦ each_in (λ u. s ≤ u) t ss a q ]
 
-goes_on : (high low : ℕ) → low ≤ high → nat_lt high low ≡ false
-goes_on high low h = grind (arith, nat_tests)
+goes_on : (end start : ℕ) → start ≤ end → nat_lt end start ≡ false
+goes_on end start h = grind (arith, nat_tests)
 
-met_has : (ps : List Proxy) (s : Start) (ts : List Start) (t : Start) (c : ℕ) → IsIn t ts → IsByLow ts → t.low ≤ s.high → pair_of ps s t ≡ Some c → IsIn c (met ps s ts)
-met_has ps s [] t c h low le pair = absurd h
-met_has ps s (u ∷ us) t c h low le pair =
-    let first : u.low ≤ t.low = no_further u t us low.0 h in
-    rw (goes_on s.high u.low (omega arith)) (elim h [
-      | inl p ↦ in_left c (option_to_list (pair_of ps s u)) (met ps s us) (rw (ap (λ (v : Start). pair_of ps s v) (sym p) ∙ pair) (inl refl))
-      | inr q ↦ in_right c (option_to_list (pair_of ps s u)) (met ps s us) (met_has ps s us t c q low.1 le pair)
+met_has : (bits : ℕ) (ps : List Proxy) (s : ℕ) (ts : List ℕ) (t c : ℕ) → IsIn t ts → IsInOrder ts → t ≤ end_of ps s → pair_of bits ps s t ≡ Some c → IsIn c (met bits ps s ts)
+met_has bits ps s [] t c h low le pair = absurd h
+met_has bits ps s (u ∷ us) t c h low le pair =
+    let first : u ≤ t = no_further u t us low.0 h in
+    rw (goes_on (end_of ps s) u (omega (arith, first, le))) (elim h [
+      | inl p ↦ in_left c (option_to_list (pair_of bits ps s u)) (met bits ps s us) (rw (ap (λ (v : ℕ). pair_of bits ps s v) (sym p) ∙ pair) (inl refl))
+      | inr q ↦ in_right c (option_to_list (pair_of bits ps s u)) (met bits ps s us) (met_has bits ps s us t c q low.1 le pair)
     ])
 
 -- two starts of near shapes in one strip: neither begins further than the other ends
-record AreMet (ps : List Proxy) (s t : Start) (c : ℕ) : Type 0 where
-  pub other : s.place ≡ t.place → ⊥
-  pub first_low : s.low ≤ t.high
-  pub second_low : t.low ≤ s.high
-  pub pair : pair_of ps s t ≡ Some c
-  pub pair_back : pair_of ps t s ≡ Some c
+record AreMet (bits : ℕ) (ps : List Proxy) (s t c : ℕ) : Type 0 where
+  pub other : place_at s ≡ place_at t → ⊥
+  pub first_low : s ≤ end_of ps t
+  pub second_low : t ≤ end_of ps s
+  pub pair : pair_of bits ps s t ≡ Some c
+  pub pair_back : pair_of bits ps t s ≡ Some c
 
-swept_has : (ps : List Proxy) (ss : List Start) (s t : Start) (c : ℕ) → IsIn s ss → IsIn t ss → IsByLow ss → AreMet ps s t c → IsIn c (swept ps ss)
-swept_has ps [] s t c hs ht low m = absurd hs
-swept_has ps (u ∷ us) s t c hs ht low m =
+swept_has : (bits : ℕ) (ps : List Proxy) (ss : List ℕ) (s t c : ℕ) → IsIn s ss → IsIn t ss → IsInOrder ss → AreMet bits ps s t c → IsIn c (swept bits ps ss)
+swept_has bits ps [] s t c hs ht low m = absurd hs
+swept_has bits ps (u ∷ us) s t c hs ht low m =
     elim hs [
       | inl p ↦ elim ht [
-        | inl q ↦ absurd (m.other (ap (λ (x : Start). x.place) (p ∙ sym q)))
-        | inr q ↦ in_left c (met ps u us) (swept ps us) (subst (λ (x : Start). IsIn c (met ps x us)) p (met_has ps s us t c q low.1 m.second_low m.pair))
+        | inl q ↦ absurd (m.other (ap (λ (x : ℕ). place_at x) (p ∙ sym q)))
+        | inr q ↦ in_left c (met bits ps u us) (swept bits ps us) (subst (λ (x : ℕ). IsIn c (met bits ps x us)) p (met_has bits ps s us t c q low.1 m.second_low m.pair))
       ]
       | inr p ↦ elim ht [
-        | inl q ↦ in_left c (met ps u us) (swept ps us) (subst (λ (x : Start). IsIn c (met ps x us)) q (met_has ps t us s c p low.1 m.first_low m.pair_back))
-        | inr q ↦ in_right c (met ps u us) (swept ps us) (swept_has ps us s t c p q low.1 m)
+        | inl q ↦ in_left c (met bits ps u us) (swept bits ps us) (subst (λ (x : ℕ). IsIn c (met bits ps x us)) q (met_has bits ps t us s c p low.1 m.first_low m.pair_back))
+        | inr q ↦ in_right c (met bits ps u us) (swept bits ps us) (swept_has bits ps us s t c p q low.1 m)
       ]
     ]
 
-above_from : (s : Start) (ss : List Start) → ((k : ℕ) (d : Start) → k < length ss → s.low ≤ (get_or ss k d).low) → Each (λ t. s.low ≤ t.low) ss
+above_from : (s : ℕ) (ss : List ℕ) → ((k d : ℕ) → k < length ss → s ≤ get_or ss k d) → Each (λ t. s ≤ t) ss
 above_from s [] h = tt
 above_from s (t ∷ ts) h = (h 0 t (omega arith), above_from s ts (λ k d lt. h (suc k) d (omega arith)))
 
-by_low_from : (ss : List Start) → ((i j : ℕ) (d : Start) → i ≤ j → j < length ss → (get_or ss i d).low ≤ (get_or ss j d).low) → IsByLow ss
-by_low_from [] h = tt
-by_low_from (s ∷ ss) h = (
+in_order_from : (ss : List ℕ) → ((i j d : ℕ) → i ≤ j → j < length ss → get_or ss i d ≤ get_or ss j d) → IsInOrder ss
+in_order_from [] h = tt
+in_order_from (s ∷ ss) h = (
   above_from s ss (λ k d lt. h 0 (suc k) d (omega arith) (omega arith)),
-  by_low_from ss (λ i j d le lt. h (suc i) (suc j) d (omega arith) (omega arith)),
+  in_order_from ss (λ i j d le lt. h (suc i) (suc j) d (omega arith) (omega arith)),
 )
 
 le_from_cmp : (a b : ℕ) → is_lt (nat_cmp b a) ≡ false → a ≤ b
 le_from_cmp a b h = grind (arith, nat_tests)
 
-by_low : (ss : List Start) → IsSortedByKey low_of nat_cmp ss → IsByLow ss
-by_low ss h = by_low_from ss (λ i j d le lt. le_from_cmp _ _ (sorted_far _ (ranks_by nat_cmp_total low_of) ss h i j d le lt))
+sorted_in_order : (ss : List ℕ) → IsSorted nat_cmp ss → IsInOrder ss
+sorted_in_order ss h = in_order_from ss (λ i j d le lt. le_from_cmp _ _ (sorted_far _ (ranks_by nat_cmp_total (λ (x : ℕ). x)) ss h i j d le lt))
 
 -- ---- near shapes meet in the strip where the higher of their boxes begins
 
-meet_if : (s t : Start) → s.bottom ≤ℤ t.top → t.bottom ≤ℤ s.top → (s.first || t.first) ≡ true → may_meet s t ≡ true
-unfolding may_meet
-meet_if s t h k first = rw (not_past s.top t.bottom k, not_past t.top s.bottom h) first
+same_strip : (n : ℕ) → (n == n) ≡ true
+same_strip n = grind (arith, nat_tests)
 
-pair_if : (ps : List Proxy) (s t : Start) (c : ℕ) → may_meet s t ≡ true → near_pair ps s.place t.place ≡ Some c → pair_of ps s t ≡ Some c
+higher : (a b : ℤ) → a ≤ℤ b → int_max a b ≡ b
+higher a b h = rw (not_past b a h) refl
+
+higher_turned : (a b : ℤ) → a ≤ℤ b → int_max b a ≡ b
+higher_turned a b h = grind (arith, ints)
+
+meet_at : (bits : ℕ) (b c : Box2) (y : ℤ) → Overlaps b c → int_max b.lo.y c.lo.y ≡ y → may_meet bits (strip_of bits y) b c ≡ true
+unfolding may_meet
+meet_at bits b c y o e = rw (not_past b.hi.y c.lo.y o.up, not_past c.hi.y b.lo.y o.down, e) (same_strip (strip_of bits y))
+
+-- the pair of the shapes at places i and j, if m is the lowest strip that both are in
+abbrev pair_in : ℕ → List Proxy → ℕ → ℕ → ℕ → Option ℕ
+pair_in bits ps m i j = cond (may_meet bits m (proxy_at ps i).fat (proxy_at ps j).fat) (near_pair ps i j) None
+
+pair_if : (bits : ℕ) (ps : List Proxy) (s t m i j c : ℕ) → strip_at s ≡ m → place_at s ≡ i → place_at t ≡ j → may_meet bits m (proxy_at ps i).fat (proxy_at ps j).fat ≡ true → near_pair ps i j ≡ Some c → pair_of bits ps s t ≡ Some c
 unfolding pair_of
-pair_if ps s t c h pair = rw h pair
+pair_if bits ps s t m i j c strip first second h pair =
+    let found : pair_in bits ps m i j ≡ Some c = rw h pair in
+    subst (λ (x : ℕ). pair_in bits ps x (place_at s) (place_at t) ≡ Some c) (sym strip)
+    (subst (λ (x : ℕ). pair_in bits ps m x (place_at t) ≡ Some c) (sym first)
+    (subst (λ (x : ℕ). pair_in bits ps m i x ≡ Some c) (sym second) found))
+
+no_further_than : (ps : List Proxy) (s t m j : ℕ) → strip_at t ≡ m → place_at t ≡ j → s ≤ spot m (proxy_at ps j).fat.hi.x + 131071 → s ≤ end_of ps t
+no_further_than ps s t m j strip place h =
+    subst (λ (x : ℕ). s ≤ spot x (box_at ps t).hi.x + 131071) (sym strip)
+    (subst (λ (x : ℕ). s ≤ spot m (proxy_at ps x).fat.hi.x + 131071) (sym place) h)
 
 pair_step_of : (t : Bool) (o : Option ℕ) (c : ℕ) → cond t o None ≡ Some c → o ≡ Some c
 pair_step_of true o c h = h
 pair_step_of false o c h = cc
 
-near_of : (ps : List Proxy) (s t : Start) (c : ℕ) → pair_of ps s t ≡ Some c → near_pair ps s.place t.place ≡ Some c
+near_of : (bits : ℕ) (ps : List Proxy) (s t c : ℕ) → pair_of bits ps s t ≡ Some c → near_pair ps (place_at s) (place_at t) ≡ Some c
 unfolding pair_of
-near_of ps s t c h = pair_step_of (may_meet s t) (near_pair ps s.place t.place) c h
-
--- the shape p is in the strip m, and q begins there
-in_strip : (ps : List Proxy) (i j m : ℕ) (p q : Proxy) (f : Bool) (c : ℕ) → (i ≡ j → ⊥) → Overlaps p.fat q.fat → near_pair ps i j ≡ Some c → near_pair ps j i ≡ Some c → AreMet ps (start_in i p m f) (start_in j q m true) c
-in_strip ps i j m p q f c other o pair back =
-    let s = start_in i p m f in
-    let t = start_in j q m true in
-    let either : (f || true) ≡ true = or_true f in
-    record {
-      other = other;
-      first_low = spot_rises m p.fat.lo.x q.fat.hi.x o.left;
-      second_low = spot_rises m q.fat.lo.x p.fat.hi.x o.right;
-      pair = pair_if ps s t c (meet_if s t o.down o.up either) pair;
-      pair_back = pair_if ps t s c (meet_if t s o.up o.down refl) back;
-    }
+near_of bits ps s t c h = pair_step_of (may_meet bits (strip_at s) (box_at ps s) (box_at ps t)) (near_pair ps (place_at s) (place_at t)) c h
 
 -- ---- the sweep's codes are the scan's
 
 turned : (p q : Proxy) → Overlaps p.fat q.fat → Overlaps q.fat p.fat
 turned p q o = record { left = o.right; right = o.left; down = o.up; up = o.down }
 
--- the later box of the two begins in a strip where the other is
-pair_listed : (bits : ℕ) (ps : List Proxy) (i j c : ℕ) (t : Bool) → int_le (proxy_at ps i).fat.lo.y (proxy_at ps j).fat.lo.y ≡ t → i < length ps → j < length ps → (i ≡ j → ⊥) → Overlaps (proxy_at ps i).fat (proxy_at ps j).fat → near_pair ps i j ≡ Some c → near_pair ps j i ≡ Some c → (ss : List Start) → IsPermutation (starts_of bits ps) ss → IsByLow ss → IsIn c (swept ps ss)
-pair_listed bits ps i j c true e wi wj other o pair back ss perm low =
+-- the box at j begins no lower than the one at i, and so in a strip where that one is
+pair_listed : (bits : ℕ) (ps : List Proxy) (i j c : ℕ) → (proxy_at ps i).fat.lo.y ≤ℤ (proxy_at ps j).fat.lo.y → length ps ≤ 2 ^ 17 → i < length ps → j < length ps → (i ≡ j → ⊥) → Overlaps (proxy_at ps i).fat (proxy_at ps j).fat → near_pair ps i j ≡ Some c → near_pair ps j i ≡ Some c → (ss : List ℕ) → IsPermutation (starts_of bits ps) ss → IsInOrder ss → IsIn c (swept bits ps ss)
+pair_listed bits ps i j c le few wi wj other o pair back ss perm low =
     let p = proxy_at ps i in
     let q = proxy_at ps j in
-    let m = strip_of bits q.fat.lo.y in
-    let l : IsListed bits ps ss i m = listed_from bits ps i ss q.fat.lo.y wi perm (le_from _ _ e) o.up in
-    swept_has ps ss (start_in i p m l.first) (start_in j q m true) c l.among (listed_first bits ps j ss wj perm) low (in_strip ps i j m p q l.first c other o pair back)
-pair_listed bits ps i j c false e wi wj other o pair back ss perm low =
-    let p = proxy_at ps i in
-    let q = proxy_at ps j in
-    let m = strip_of bits p.fat.lo.y in
-    let l : IsListed bits ps ss j m = listed_from bits ps j ss p.fat.lo.y wj perm (le_if_not _ _ e) o.down in
-    swept_has ps ss (start_in j q m l.first) (start_in i p m true) c l.among (listed_first bits ps i ss wi perm) low (in_strip ps j i m q p l.first c (λ r. other (sym r)) (turned p q o) back pair)
+    let y : ℤ = q.fat.lo.y in
+    let m : ℕ = strip_of bits y in
+    let s : ℕ = start_in i p m in
+    let t : ℕ = start_in j q m in
+    let si : i < 2 ^ 17 = omega (arith, wi, few) in
+    let sj : j < 2 ^ 17 = omega (arith, wj, few) in
+    let strip_s : strip_at s ≡ m = strip_is i m p si in
+    let strip_t : strip_at t ≡ m = strip_is j m q sj in
+    let place_s : place_at s ≡ i = place_is i m p si in
+    let place_t : place_at t ≡ j = place_is j m q sj in
+    let met : AreMet bits ps s t c = record {
+      other = λ r. other (sym place_s ∙ r ∙ place_t);
+      first_low = no_further_than ps s t m j strip_t place_t (start_rises m i p.fat.lo.x q.fat.hi.x si o.left);
+      second_low = no_further_than ps t s m i strip_s place_s (start_rises m j q.fat.lo.x p.fat.hi.x sj o.right);
+      pair = pair_if bits ps s t m i j c strip_s place_s place_t (meet_at bits p.fat q.fat y o (higher p.fat.lo.y y le)) pair;
+      pair_back = pair_if bits ps t s m j i c strip_t place_t place_s (meet_at bits q.fat p.fat y (turned p q o) (higher_turned p.fat.lo.y y le)) back;
+    } in
+    swept_has bits ps ss s t c (listed_from bits ps i ss y wi perm le o.up) (listed_first bits ps j ss wj perm) low met
 
-scan_in_sweep : (bits : ℕ) (ps : List Proxy) (ss : List Start) (c : ℕ) → IsPermutation (starts_of bits ps) ss → IsSortedByKey low_of nat_cmp ss → IsNearFrom 0 ps c → IsIn c (swept ps ss)
-scan_in_sweep bits ps ss c perm sorted h =
+pair_either : (bits : ℕ) (ps : List Proxy) (i j c : ℕ) (t : Bool) → int_le (proxy_at ps i).fat.lo.y (proxy_at ps j).fat.lo.y ≡ t → length ps ≤ 2 ^ 17 → i < length ps → j < length ps → (i ≡ j → ⊥) → Overlaps (proxy_at ps i).fat (proxy_at ps j).fat → near_pair ps i j ≡ Some c → near_pair ps j i ≡ Some c → (ss : List ℕ) → IsPermutation (starts_of bits ps) ss → IsInOrder ss → IsIn c (swept bits ps ss)
+pair_either bits ps i j c true e few wi wj other o pair back ss perm low = pair_listed bits ps i j c (le_from _ _ e) few wi wj other o pair back ss perm low
+pair_either bits ps i j c false e few wi wj other o pair back ss perm low = pair_listed bits ps j i c (le_if_not _ _ e) few wj wi (λ r. other (sym r)) (turned (proxy_at ps i) (proxy_at ps j) o) back pair ss perm low
+
+scan_in_sweep : (bits : ℕ) (ps : List Proxy) (ss : List ℕ) (c : ℕ) → length ps ≤ 2 ^ 17 → IsPermutation (starts_of bits ps) ss → IsSorted nat_cmp ss → IsNearFrom 0 ps c → IsIn c (swept bits ps ss)
+scan_in_sweep bits ps ss c few perm sorted h =
     let within : h.i < length ps = omega (arith, h.before, h.within) in
     let e : c ≡ pair_code h.i h.j = omega (arith, h.is) in
     let pair : pair_at ps h.i h.j ≡ Some c = pair_true ps h.i h.j h.near ∙ ap Some (sym e) in
     let o : Overlaps (proxy_at ps h.i).fat (proxy_at ps h.j).fat = near_overlap (proxy_at ps h.i) (proxy_at ps h.j) h.near in
     let other : h.i ≡ h.j → ⊥ = λ r. absurd (omega (arith, r, h.before)) in
-    pair_listed bits ps h.i h.j c (int_le (proxy_at ps h.i).fat.lo.y (proxy_at ps h.j).fat.lo.y) refl within h.within other o (in_order ps h.i h.j h.before ∙ pair) (out_of_order ps h.i h.j h.before ∙ pair) ss perm (by_low ss sorted)
+    pair_either bits ps h.i h.j c (int_le (proxy_at ps h.i).fat.lo.y (proxy_at ps h.j).fat.lo.y) refl few within h.within other o (in_order ps h.i h.j h.before ∙ pair) (out_of_order ps h.i h.j h.before ∙ pair) ss perm (sorted_in_order ss sorted)
 
-sweep_in_scan : (ps : List Proxy) (ss : List Start) (c : ℕ) → Each (IsPlaceIn ps) ss → IsSwept ps ss c → IsNearFrom 0 ps c
-sweep_in_scan ps ss c places h = pair_is_near ps h.first.place h.second.place c (each_in (IsPlaceIn ps) h.first ss places h.first_among) (each_in (IsPlaceIn ps) h.second ss places h.second_among) (near_of ps h.first h.second c h.pair)
+sweep_in_scan : (bits : ℕ) (ps : List Proxy) (ss : List ℕ) (c : ℕ) → Each (IsPlaceIn ps) ss → IsSwept bits ps ss c → IsNearFrom 0 ps c
+sweep_in_scan bits ps ss c places h = pair_is_near ps (place_at h.first) (place_at h.second) c (each_in (IsPlaceIn ps) h.first ss places h.first_among) (each_in (IsPlaceIn ps) h.second ss places h.second_among) (near_of bits ps h.first h.second c h.pair)
 
 near_in_scan : (ps : List Proxy) (c : ℕ) → IsNearFrom 0 ps c → IsIn c (near_codes ps)
 unfolding near_codes
@@ -288,18 +310,18 @@ scan_is_near : (ps : List Proxy) (c : ℕ) → IsIn c (near_codes ps) → IsNear
 unfolding near_codes
 scan_is_near ps c h = from_is 0 ps c h
 
-each_from_all : (ps : List Proxy) (ss : List Start) → All (IsPlaceIn ps) ss → Each (IsPlaceIn ps) ss
+each_from_all : (ps : List Proxy) (ss : List ℕ) → All (IsPlaceIn ps) ss → Each (IsPlaceIn ps) ss
 each_from_all ps [] h = tt
 each_from_all ps (s ∷ ss) h = (h 0 s (omega arith), each_from_all ps ss (λ k d lt. h (suc k) d (omega arith)))
 
-scan_rises : (ps : List Proxy) → length ps ≤ 2 ^ 32 → IsRising (near_codes ps)
+scan_rises : (ps : List Proxy) → length ps ≤ 2 ^ 17 → IsRising (near_codes ps)
 unfolding near_codes
 scan_rises ps few = from_rises 0 ps (omega arith)
 
 -- the sweep's codes, sorted, each once
-pub sweep_is_scan : (bits : ℕ) (ps : List Proxy) (ss : List Start) (ys zs : List ℕ) → length ps ≤ 2 ^ 32 → IsPermutation (starts_of bits ps) ss → IsSortedByKey low_of nat_cmp ss → IsPermutation (swept ps ss) ys → IsSorted nat_cmp ys → zs ≡ dedup eqb ys → zs ≡ near_codes ps
-sweep_is_scan bits ps ss ys zs few perm by_x moved sorted kept =
-    let places = each_from_all ps ss (places_in bits ps ss perm) in
+pub sweep_is_scan : (bits : ℕ) (ps : List Proxy) (ss ys zs : List ℕ) → length ps ≤ 2 ^ 17 → IsPermutation (starts_of bits ps) ss → IsSorted nat_cmp ss → IsPermutation (swept bits ps ss) ys → IsSorted nat_cmp ys → zs ≡ dedup eqb ys → zs ≡ near_codes ps
+sweep_is_scan bits ps ss ys zs few perm in_line moved sorted kept =
+    let places = each_from_all ps ss (places_in bits ps ss few perm) in
     same_rising zs (near_codes ps) (rw kept (rising_from_increasing (dedup eqb ys) (IsStrictlyIncreasing-dedup ys sorted))) (scan_rises ps few)
-    (λ c i. near_in_scan ps c (sweep_in_scan ps ss c places (swept_is ps ss c (in_from_contains (swept ps ss) c (Contains-permutation ys (swept ps ss) c (IsPermutation-sym (swept ps ss) ys moved) (Contains-from_dedup eqb ys c (contains_from_in (dedup eqb ys) c (rw kept at i))))))))
-    (λ c i. rw kept (in_from_contains (dedup eqb ys) c (Contains-dedup_nat ys c (Contains-permutation (swept ps ss) ys c moved (contains_from_in (swept ps ss) c (scan_in_sweep bits ps ss c perm by_x (scan_is_near ps c i)))))))
+    (λ c i. near_in_scan ps c (sweep_in_scan bits ps ss c places (swept_is bits ps ss c (in_from_contains (swept bits ps ss) c (Contains-permutation ys (swept bits ps ss) c (IsPermutation-sym (swept bits ps ss) ys moved) (Contains-from_dedup eqb ys c (contains_from_in (dedup eqb ys) c (rw kept at i))))))))
+    (λ c i. rw kept (in_from_contains (dedup eqb ys) c (Contains-dedup_nat ys c (Contains-permutation (swept bits ps ss) ys c moved (contains_from_in (swept bits ps ss) c (scan_in_sweep bits ps ss c few perm in_line (scan_is_near ps c i)))))))

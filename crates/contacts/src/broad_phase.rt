@@ -7,7 +7,7 @@ ghost use Rattle.contacts_base.specs.Contacts.{AreKeysRising};
 ghost use Rattle.contacts.specs.Changes.{ArePairs, AreRising, contacts_of, keys_not_in, keys_touching_only_in};
 
 use crate::changes::{Changes, update};
-use crate::sweep::{Start, near_pairs};
+use crate::sweep::near_pairs;
 use contacts_base::{ContactEntry, Proxy};
 use fixed_geom::Refusal;
 use std::alloc::Global;
@@ -17,8 +17,10 @@ use std::marker::Model;
 #[derive(Drop)]
 pub struct BroadPhase {
     proxies: Vec<Proxy>,
+    // The sum of the fat boxes' heights, in u, or 2^64 - 1 if it is beyond.
+    heights: u64,
     // Room that the sweep works in, kept from one to the next.
-    starts: Vec<Start>,
+    starts: Vec<u64>,
     near: Vec<u64>,
 }
 
@@ -42,6 +44,7 @@ impl BroadPhase {
     {
         BroadPhase {
             proxies: Vec::new(alloc),
+            heights: 0,
             starts: Vec::new(alloc),
             near: Vec::new(alloc),
         }
@@ -52,6 +55,7 @@ impl BroadPhase {
         ensures { self.new ≡ [] }
     {
         self.proxies.clear();
+        self.heights = 0;
     }
 
     /// Adds a shape after those that are there, all of them lower. Refused 1 where memory is
@@ -64,6 +68,9 @@ impl BroadPhase {
         ensures memory_only { IsOkUnless result Refusal.NoMemory }
     {
         self.proxies.push(proxy)?;
+        self.heights = self
+            .heights
+            .saturating_add(proxy.fat.lo.y.abs_diff(proxy.fat.hi.y));
         Ok(())
     }
 
@@ -77,6 +84,7 @@ impl BroadPhase {
         proxies.extend_from_slice(&self.proxies)?;
         Ok(BroadPhase {
             proxies,
+            heights: self.heights,
             starts: Vec::new(alloc),
             near: Vec::new(alloc),
         })
@@ -101,7 +109,12 @@ impl BroadPhase {
         ensures pairs { IfOk result (λ near. ArePairs self.old near.items) }
         ensures memory_only { IsOkUnless result Refusal.NoMemory }
     {
-        near_pairs(&mut self.starts, &mut self.near, &self.proxies)?;
+        near_pairs(
+            &mut self.starts,
+            &mut self.near,
+            self.heights,
+            &self.proxies,
+        )?;
         let mut near = Vec::new(alloc);
         near.extend_from_slice(&self.near)?;
         Ok(near)
@@ -132,7 +145,12 @@ impl BroadPhase {
         ensures end_rising { IfOk result (λ changes. AreRising changes.end.items) }
         ensures memory_only { IsOkUnless result Refusal.NoMemory }
     {
-        near_pairs(&mut self.starts, &mut self.near, &self.proxies)?;
+        near_pairs(
+            &mut self.starts,
+            &mut self.near,
+            self.heights,
+            &self.proxies,
+        )?;
         update(alloc, old, &self.proxies, &self.near)
     }
 }

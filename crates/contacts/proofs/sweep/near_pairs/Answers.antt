@@ -12,9 +12,9 @@ pub sweep-requires-clause-few : goal.sweep-requires-clause-few
 sweep-requires-clause-few c = few _ c.requires
 
 pub sweep-requires-clause-starts : goal.sweep-requires-clause-starts
-sweep-requires-clause-starts c = rw c.deref.ensures.value (places_in c.strip_bits.result _ _ c.in_ok-list_starts.ensures.permutation)
+sweep-requires-clause-starts c = rw c.deref.ensures.value (places_in c.strip_bits-bits.result _ _ (few _ c.requires) c.in_ok-list_starts.ensures.permutation)
 
 pub returns-clause-value : goal.returns-clause-value
 returns-clause-value c =
     let moved = rw (c.in_ok-sweep.ensures.pushed, c.clear.ensures.items, c.deref.ensures.value) at c.sort_unstable.ensures.permutation in
-    sweep_is_scan c.strip_bits.result c.args.proxies.now c.list_starts.new.starts.items _ _ (few _ c.requires) c.in_ok-list_starts.ensures.permutation c.in_ok-list_starts.ensures.sorted moved c.sort_unstable.ensures.sorted (dedup_is eqb _ _ c.dedup.ensures.filtered)
+    sweep_is_scan c.strip_bits-bits.result c.args.proxies.now c.list_starts.new.starts.items _ _ (few _ c.requires) c.in_ok-list_starts.ensures.permutation c.in_ok-list_starts.ensures.sorted moved c.sort_unstable.ensures.sorted (dedup_is eqb _ _ c.dedup.ensures.filtered)
