@@ -1,5 +1,5 @@
 -- A turn that leaves a contact and its bodies as they are leaves all bodies so, and gives nothing.
-use Rattle.std.proofs.Common.{◌≡◌, ◌∙◌, sym, ap, ℕ, zero, suc, ◌<◌, ◌≢◌, Bool, true, false, cond, List, [], ◌∷◌, length, get_or, set, ℤ, pos, ◌-ℤ◌, ◌+ℤ◌, refl, arith}
+use Rattle.std.proofs.Common.{◌≡◌, sym, Bool, true, false, cond, List, length, get_or, ℤ, pos, ◌-ℤ◌, refl, arith}
 use Rattle.std.proofs.lemmas.Int.{ints}
 use Rattle.std.proofs.lemmas.List.{set-get_or}
 use Rattle.momenta.specs.declared.state.BodyState.{BodyState}

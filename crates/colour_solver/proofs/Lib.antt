@@ -4,3 +4,4 @@ pub mod IdleLaws
 pub mod TickLaws
 pub mod SameLaws
 pub mod ColourLaw
+mod NarrowLaws

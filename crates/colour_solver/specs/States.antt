@@ -10,6 +10,7 @@ nobody = record {
   mass = record { mass = pos 0; inertia = pos 0 };
   motion = record { p = zero_vector; l = pos 0; x = zero_vector; rot = record { c = pos (2 ^ 30); s = pos 0 } };
   start = zero_vector;
+  reciprocals = record { mass = 0; inertia = 0 };
 }
 
 abbrev pub AreAllStates : List BodyState → Type 0

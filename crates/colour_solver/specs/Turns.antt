@@ -1,7 +1,9 @@
 -- A pass over the contacts in solve order: the left fold of one turn, and what the immovable bodies have given.
-use Rattle.std.specs.Prelude.{ℕ, ◌<◌, ◌≢◌, cond, List, [], ◌∷◌, ℤ, pos, ◌+ℤ◌, ◌-ℤ◌, All, slice_set, slice_index_or}
+use Rattle.std.specs.Prelude.{ℕ, Bool, ◌<◌, ◌≢◌, cond, List, [], ◌∷◌, ℤ, pos, ◌+ℤ◌, ◌-ℤ◌, All, slice_set, slice_index_or}
 use Rattle.momenta.specs.declared.state.BodyState.{BodyState}
 use Rattle.momenta.specs.declared.state.Ends.{Ends}
+use Rattle.momenta.specs.declared.narrow.NarrowPair.{NarrowPair}
+use Rattle.momenta.specs.Narrow.{ends_with}
 use Rattle.colour_solver_base.specs.declared.row.ContactRow.{ContactRow}
 use Rattle.colour_solver_base.specs.declared.solve.RowTurn.{RowTurn}
 use Rattle.colour_solver_base.specs.Rows.{IsRow}
@@ -13,6 +15,10 @@ ends_of states r = record { a = slice_index_or states r.bodies.a nobody; b = sli
 
 abbrev pub with_ends : List BodyState → ContactRow → Ends → List BodyState
 with_ends states r e = slice_set (slice_set states r.bodies.a e.a) r.bodies.b e.b
+
+-- the two bodies with these momenta
+abbrev pub narrow_ends : List BodyState → ContactRow → NarrowPair → Ends
+narrow_ends states r n = ends_with (slice_index_or states r.bodies.a nobody) (slice_index_or states r.bodies.b nobody) n
 
 -- the turn of one contact, the bodies standing so
 abbrev pub turn_of : (ContactRow → Ends → RowTurn) → List BodyState → ContactRow → RowTurn
@@ -33,11 +39,15 @@ rows_passed f states (r ∷ rs) = (turn_of f states r).row ∷ rows_passed f (af
 
 -- ---- what the movers got where the other body is immovable
 
+-- what the first has gained where it alone moves, or the second where that does
+abbrev pub got_by : Bool → Bool → ℤ → ℤ → ℤ
+got_by first second a b = cond first (cond second (pos 0) a) (cond second b (pos 0))
+
 abbrev pub got_x : Ends → Ends → ℤ
-got_x e after = cond e.a.movable (cond e.b.movable (pos 0) (after.a.motion.p.x -ℤ e.a.motion.p.x)) (cond e.b.movable (after.b.motion.p.x -ℤ e.b.motion.p.x) (pos 0))
+got_x e after = got_by e.a.movable e.b.movable (after.a.motion.p.x -ℤ e.a.motion.p.x) (after.b.motion.p.x -ℤ e.b.motion.p.x)
 
 abbrev pub got_y : Ends → Ends → ℤ
-got_y e after = cond e.a.movable (cond e.b.movable (pos 0) (after.a.motion.p.y -ℤ e.a.motion.p.y)) (cond e.b.movable (after.b.motion.p.y -ℤ e.b.motion.p.y) (pos 0))
+got_y e after = got_by e.a.movable e.b.movable (after.a.motion.p.y -ℤ e.a.motion.p.y) (after.b.motion.p.y -ℤ e.b.motion.p.y)
 
 abbrev pub share_x : (ContactRow → Ends → RowTurn) → List BodyState → List ContactRow → ℤ
 share_x f states [] = pos 0

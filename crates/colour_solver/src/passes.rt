@@ -8,7 +8,7 @@ ghost use Rattle.momenta.specs.Gains.{IsGain};
 ghost use Rattle.colour_solver.specs.States.{AreSameStates, total_x, total_y};
 ghost use Rattle.colour_solver.specs.Passes.{OnMover, OnMovers, changed, gain_x, gain_y, one_gain_x, one_gain_y, pass};
 
-use momenta::{BodyState, Gain, MassData, Motion, NOTHING, gain_between, plus};
+use momenta::{BodyState, Gain, MassData, Motion, NOTHING, Reciprocals, gain_between, plus};
 
 /// A change of a mover's motion.
 pub trait Change {
@@ -20,7 +20,7 @@ pub trait Change {
     /// What is known of the motions that it makes.
     ghost gives: { Self → MassData → Motion → Type 0 };
 
-    fn change(&self, mass: MassData, motion: Motion) -> Motion
+    fn change(&self, mass: MassData, reciprocals: Reciprocals, motion: Motion) -> Motion
         requires { fits self.now mass motion }
         ensures value { result ≡ after self.now mass motion }
         ensures gives { gives self.now mass result }
@@ -54,8 +54,8 @@ fn change_body<A: Change, B: Change>(body: &mut BodyState, first: &A, second: &B
             second: NOTHING,
         };
     }
-    let between = first.change(body.mass, body.motion);
-    let last = second.change(body.mass, between);
+    let between = first.change(body.mass, body.reciprocals, body.motion);
+    let last = second.change(body.mass, body.reciprocals, between);
     let gains = Gains {
         first: gain_between(body.motion.p, between.p),
         second: gain_between(between.p, last.p),

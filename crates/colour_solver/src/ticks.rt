@@ -10,10 +10,13 @@ ghost use Rattle.colour_solver.specs.Ticks.{AreSums, CanLimit, CanMove, CanPull,
 
 use crate::{Change, Turn, pass_rows, pass_two};
 use colour_solver_base::{
-    ContactRow, bounce_row, is_row_unpushed, never_bounces, solve_row, warm_row,
+    ContactRow, NarrowRow, bounce_row, is_row_unpushed, narrow_solve_row, narrow_warm_row,
+    never_bounces, solve_row, warm_row,
 };
 use fixed_geom::Vec2;
-use momenta::{BodyState, Ends, Gain, MassData, Motion, NOTHING, advance, clamp_speed, plus, pull};
+use momenta::{
+    BodyState, Ends, Gain, MassData, Motion, NOTHING, Reciprocals, advance, clamp_speed, plus, pull,
+};
 
 /// What a step has added to the movers' momentum, by cause.
 #[derive(Clone, Copy, Debug, PartialEq, Eq)]
@@ -38,7 +41,7 @@ impl Change for Pull {
 
     ghost gives = { λ _ m s. CanLimit m s };
 
-    fn change(&self, mass: MassData, motion: Motion) -> Motion {
+    fn change(&self, mass: MassData, reciprocals: Reciprocals, motion: Motion) -> Motion {
         pull(motion, mass, self.gravity)
     }
 }
@@ -54,7 +57,7 @@ impl Change for Limit {
 
     ghost gives = { λ _ m s. CanMove m s };
 
-    fn change(&self, mass: MassData, motion: Motion) -> Motion {
+    fn change(&self, mass: MassData, reciprocals: Reciprocals, motion: Motion) -> Motion {
         let (limited, _) = clamp_speed(motion, mass);
         limited
     }
@@ -71,8 +74,8 @@ impl Change for Move {
 
     ghost gives = { λ _ m s. IsMotion m s };
 
-    fn change(&self, mass: MassData, motion: Motion) -> Motion {
-        let (moved, _) = advance(motion, mass);
+    fn change(&self, mass: MassData, reciprocals: Reciprocals, motion: Motion) -> Motion {
+        let (moved, _) = advance(motion, mass, reciprocals);
         moved
     }
 }
@@ -86,6 +89,10 @@ impl Turn for Warm {
 
     fn is_idle(&self, row: &ContactRow) -> bool {
         is_row_unpushed(row)
+    }
+
+    fn narrow(&self, row: &ContactRow, a: &BodyState, b: &BodyState) -> Option<NarrowRow> {
+        narrow_warm_row(row, a, b)
     }
 
     fn turn(&self, row: &mut ContactRow, ends: &mut Ends) {
@@ -104,6 +111,10 @@ impl Turn for Solve {
         false
     }
 
+    fn narrow(&self, row: &ContactRow, a: &BodyState, b: &BodyState) -> Option<NarrowRow> {
+        narrow_solve_row(row, a, b)
+    }
+
     fn turn(&self, row: &mut ContactRow, ends: &mut Ends) {
         solve_row(row, ends)
     }
@@ -118,6 +129,10 @@ impl Turn for Bounce {
 
     fn is_idle(&self, row: &ContactRow) -> bool {
         never_bounces(row)
+    }
+
+    fn narrow(&self, row: &ContactRow, a: &BodyState, b: &BodyState) -> Option<NarrowRow> {
+        None
     }
 
     fn turn(&self, row: &mut ContactRow, ends: &mut Ends) {

@@ -1,18 +1,22 @@
 //! Passes over the contacts in solve order: each contact's two bodies take its turn, one contact after another.
 
-ghost use Rattle.std.specs.Prelude.{◌≡◌, ◌^◌, ◌≤◌, true, length, ◌+ℤ◌, ◌-ℤ◌};
+ghost use Rattle.std.specs.Prelude.{◌≡◌, ◌^◌, ◌≤◌, true, length, ◌+ℤ◌, ◌-ℤ◌, IfSome};
 ghost use Rattle.momenta.specs.declared.state.Ends.{Ends};
-ghost use Rattle.momenta.specs.Impulses.{AreStates, AreSameBodies, IsMomentumKept, IsSameBody};
+ghost use Rattle.momenta.specs.Impulses.{AreStates, AreSameBodies, IsMomentumKept, IsSameBody, IsState};
+ghost use Rattle.momenta.specs.Narrow.{with_momenta};
 ghost use Rattle.momenta.specs.Gains.{IsGain};
 ghost use Rattle.colour_solver_base.specs.declared.row.ContactRow.{ContactRow};
 ghost use Rattle.colour_solver_base.specs.declared.solve.RowTurn.{RowTurn};
 ghost use Rattle.colour_solver_base.specs.Rows.{IsRow};
+ghost use Rattle.colour_solver_base.specs.Narrow.{IsNarrowTurn, both_ends, with_first};
+ghost use Rattle.fixed_geom.specs.Vectors.{IsWithin};
 ghost use Rattle.colour_solver.specs.Colour.{ColoursAreAtOnce};
 ghost use Rattle.colour_solver.specs.States.{AreAllStates, AreSameStates, total_x, total_y};
-ghost use Rattle.colour_solver.specs.Turns.{AreRowsBelow, IsRowBelow, after, ends_of, got_x, got_y, passed, rows_passed, share_x, share_y, turn_of};
+ghost use Rattle.colour_solver.specs.Turns.{AreRowsBelow, IsRowBelow, after, ends_of, got_by, got_x, got_y, narrow_ends, passed, rows_passed, share_x, share_y, turn_of, with_ends};
 
-use colour_solver_base::ContactRow;
-use momenta::{BodyState, Ends, Gain, NOTHING, gain_between, plus};
+use colour_solver_base::{ContactRow, NarrowRow};
+use fixed_geom::Vec2;
+use momenta::{BodyState, Ends, Gain, NOTHING, Narrow, gain_between, plus};
 
 /// What a pass does with one contact and its two bodies.
 pub trait Turn {
@@ -22,6 +26,13 @@ pub trait Turn {
     /// Whether it leaves the contact and any two bodies as they are.
     fn is_idle(&self, row: &ContactRow) -> bool
         ensures { result ≡ true → (e : Ends) → AreStates e → turn self.now row.now e ≡ record { row = row.now; ends = e } };
+
+    /// The same turn in 64 bits, where there is room.
+    fn narrow(&self, row: &ContactRow, a: &BodyState, b: &BodyState) -> Option<NarrowRow>
+        requires row { IsRow row.now }
+        requires first { IsState a.now }
+        requires second { IsState b.now }
+        ensures { IfSome result (IsNarrowTurn (turn self.now row.now (both_ends a.now b.now)) row.now a.now b.now) };
 
     fn turn(&self, row: &mut ContactRow, ends: &mut Ends)
         requires row { IsRow row.old }
@@ -34,23 +45,25 @@ pub trait Turn {
         ensures kept { IsMomentumKept ends.old ends.new };
 }
 
-/// What a mover got where the other body is immovable.
+/// What a mover got where the other body is immovable: the momenta of the two are now `p` and `q`.
 #[inline(always)]
-fn got(before: &Ends, after: &Ends) -> Gain
-    requires before { AreStates before.now }
-    requires after { AreStates after.now }
-    ensures x { result.x ≡ got_x before.now after.now }
-    ensures y { result.y ≡ got_y before.now after.now }
+fn got(a: &BodyState, b: &BodyState, p: Vec2, q: Vec2) -> Gain
+    requires first { IsState a.now }
+    requires second { IsState b.now }
+    requires p { IsWithin (2 ^ 60) p }
+    requires q { IsWithin (2 ^ 60) q }
+    ensures x { result.x ≡ got_by a.now.movable b.now.movable (p.x -ℤ a.now.motion.p.x) (q.x -ℤ b.now.motion.p.x) }
+    ensures y { result.y ≡ got_by a.now.movable b.now.movable (p.y -ℤ a.now.motion.p.y) (q.y -ℤ b.now.motion.p.y) }
     ensures small { IsGain (2 ^ 62) result }
 {
-    if before.a.movable {
-        if before.b.movable {
+    if a.movable {
+        if b.movable {
             NOTHING
         } else {
-            gain_between(before.a.motion.p, after.a.motion.p)
+            gain_between(a.motion.p, p)
         }
-    } else if before.b.movable {
-        gain_between(before.b.motion.p, after.b.motion.p)
+    } else if b.movable {
+        gain_between(b.motion.p, q)
     } else {
         NOTHING
     }
@@ -68,7 +81,8 @@ fn put_momenta(body: &mut BodyState, after: &BodyState)
 
 /// The turn of one contact that has something to do, with its two bodies as they stand. Answers what the immovable one has
 /// given, if one is.
-#[inline(always)]
+#[cold]
+#[inline(never)]
 fn turn_bodies<T: Turn>(states: &mut Vec<BodyState>, row: &mut ContactRow, turn: &T) -> Gain
     requires states { AreAllStates states.old.items }
     requires row { IsRowBelow (length states.old.items) row.old }
@@ -94,7 +108,50 @@ fn turn_bodies<T: Turn>(states: &mut Vec<BodyState>, row: &mut ContactRow, turn:
     turn.turn(row, &mut ends);
     put_momenta(&mut states[a], &ends.a);
     put_momenta(&mut states[b], &ends.b);
-    got(&before, &ends)
+    got(&before.a, &before.b, ends.a.motion.p, ends.b.motion.p)
+}
+
+/// Puts these momenta into a body.
+#[inline(always)]
+fn put_narrow(body: &mut BodyState, now: Narrow)
+    ensures { body.new ≡ with_momenta body.old now }
+{
+    body.motion.p = now.p;
+    body.motion.l = i128::from(now.l);
+}
+
+/// Puts what a turn has made of a contact and of its two bodies in their places. Answers what the immovable one has given, if one is.
+#[inline(always)]
+fn put_turn(states: &mut Vec<BodyState>, row: &mut ContactRow, turned: NarrowRow) -> Gain
+    requires states { AreAllStates states.old.items }
+    requires row { IsRowBelow (length states.old.items) row.old }
+    requires after { AreStates (narrow_ends states.old.items row.old turned.now) }
+    ensures states { states.new.items ≡ with_ends states.old.items row.old (narrow_ends states.old.items row.old turned.now) }
+    ensures row { row.new ≡ with_first row.old turned.push turned.slip }
+    ensures x { result.x ≡ got_x (ends_of states.old.items row.old) (narrow_ends states.old.items row.old turned.now) }
+    ensures y { result.y ≡ got_y (ends_of states.old.items row.old) (narrow_ends states.old.items row.old turned.now) }
+    ensures small { IsGain (2 ^ 62) result }
+{
+    let a = row.bodies.a as usize;
+    let b = row.bodies.b as usize;
+    let given = got(&states[a], &states[b], turned.now.a.p, turned.now.b.p);
+    put_narrow(&mut states[a], turned.now.a);
+    put_narrow(&mut states[b], turned.now.b);
+    row.first.push = turned.push;
+    row.first.slip = turned.slip;
+    given
+}
+
+/// The turn of one contact in 64 bits, where there is room.
+#[inline(always)]
+fn narrow_turn<T: Turn>(states: &[BodyState], row: &ContactRow, turn: &T) -> Option<NarrowRow>
+    requires states { AreAllStates states.now }
+    requires row { IsRowBelow (length states.now) row.now }
+    ensures { IfSome result (IsNarrowTurn (turn_of (T.turn turn.now) states.now row.now) row.now (ends_of states.now row.now).a (ends_of states.now row.now).b) }
+{
+    let a = row.bodies.a as usize;
+    let b = row.bodies.b as usize;
+    turn.narrow(row, &states[a], &states[b])
 }
 
 /// The turn of one contact. Answers what an immovable body has given.
@@ -115,9 +172,11 @@ fn turn_row<T: Turn>(states: &mut Vec<BodyState>, row: &mut ContactRow, turn: &T
     ensures small { IsGain (2 ^ 62) result }
 {
     if turn.is_idle(row) {
-        NOTHING
-    } else {
-        turn_bodies(states, row, turn)
+        return NOTHING;
+    }
+    match narrow_turn(states, row, turn) {
+        None => turn_bodies(states, row, turn),
+        Some(turned) => put_turn(states, row, turned),
     }
 }
 

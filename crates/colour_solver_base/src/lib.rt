@@ -5,11 +5,13 @@
 //! bias velocity beyond a slop, and sub-steps, here with whole numbers.
 #![tactic(auto)]
 
+pub mod narrow;
 pub mod row;
 pub mod solve;
 #[cfg(test)]
 mod tests;
 
+pub use narrow::{NarrowRow, narrow_solve_row, narrow_warm_row};
 pub use row::{Bodies, ContactRow, PointRow, contact_row};
 pub use solve::{
     PointTurn, RowTurn, bounce_row, is_row_unpushed, never_bounces, solve_row, warm_row,

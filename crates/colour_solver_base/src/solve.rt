@@ -4,12 +4,12 @@ ghost use Rattle.std.specs.Prelude.{◌≡◌, ◌^◌, ◌<◌, ◌≤◌, ◌+
 ghost use Rattle.fixed_geom.specs.Numbers.{IsFloor, fdiv, rdiv};
 ghost use Rattle.fixed_geom.specs.Vectors.{IsWithin, dot, unit_length};
 ghost use Rattle.momenta.specs.declared.state.Ends.{Ends};
-ghost use Rattle.momenta.specs.Impulses.{AreStates, AreSameBodies, IsMomentumKept, parting};
+ghost use Rattle.momenta.specs.Impulses.{AreStates, AreSameBodies, IsMomentumKept, IsState, parting};
 ghost use Rattle.colour_solver_base.specs.Rows.{IsPointRow, IsRow, bias_of, bounces, most_slip, push_solved, slip_solved, point_bounced, point_solved, point_warmed, row_bounced, row_solved, row_warmed, separation_now};
 
 use crate::{ContactRow, PointRow};
 use fixed_geom::{Vec2, minus, product, rdiv};
-use momenta::{Ends, part_along, parting, solve_line, warm_at_once, warm_line};
+use momenta::{BodyState, Ends, part_along, parting, solve_line, warm_at_once, warm_line};
 
 /// An overlap up to this many u is left alone.
 const SLOP: i64 = 5243;
@@ -18,7 +18,7 @@ const SLOP: i64 = 5243;
 const MAX_BIAS: i64 = 16384;
 
 /// The greatest accumulated normal impulse, in mass·u/tick.
-const MAX_PUSH: i64 = 1 << 42;
+pub(crate) const MAX_PUSH: i64 = 1 << 42;
 
 /// Bodies that come together no faster than this, in u/tick, don't bounce.
 const REST_SPEED: i64 = 4096;
@@ -40,14 +40,26 @@ pub struct RowTurn {
 /// The separation now, in u: that of the step's start, and how far the centres have parted along the normal since.
 #[tactic(auto, unfolding(crate::specs::Rows::separation_now))]
 #[inline(always)]
+pub(crate) fn separation_between(point: &PointRow, a: &BodyState, b: &BodyState) -> i64
+    requires point { IsPointRow point.now }
+    requires first { IsState a.now }
+    requires second { IsState b.now }
+    ensures value { result ≡ separation_now point.now (record { a = a.now; b = b.now }) }
+    ensures within { unsigned_abs result ≤ 2 ^ 40 }
+{
+    let parted = minus(b.travelled(), a.travelled());
+    point.separation + part_along(parted, point.normal)
+}
+
+/// The same of the two bodies of a constraint.
+#[inline(always)]
 fn separation_now(point: &PointRow, ends: &Ends) -> i64
     requires point { IsPointRow point.now }
     requires states { AreStates ends.now }
     ensures value { result ≡ separation_now point.now ends.now }
     ensures within { unsigned_abs result ≤ 2 ^ 40 }
 {
-    let parted = minus(ends.b.travelled(), ends.a.travelled());
-    point.separation + part_along(parted, point.normal)
+    separation_between(point, &ends.a, &ends.b)
 }
 
 /// The greatest whole number at most `n / d`, of a number that isn't below zero, in 64-bit arithmetic.
@@ -77,7 +89,7 @@ fn eighth_of(overlap: i64) -> i64
 /// `MAX_BIAS` (as Box2D's bias velocity).
 #[tactic(auto, unfolding(crate::specs::Rows::bias_of))]
 #[inline(always)]
-fn bias_of(separation: i64) -> i64
+pub(crate) fn bias_of(separation: i64) -> i64
     requires { unsigned_abs separation ≤ 2 ^ 40 }
     ensures value { result ≡ bias_of separation }
     ensures within { unsigned_abs result ≤ 2 ^ 14 }
@@ -149,7 +161,7 @@ fn solve_push(bias: i64, apart: Vec2, point: &mut PointRow, ends: &mut Ends)
 
 /// The most friction that a normal impulse allows.
 #[inline(always)]
-fn most_slip(friction: i64, push: i64) -> i64
+pub(crate) fn most_slip(friction: i64, push: i64) -> i64
     requires friction_low { pos 0 ≤ℤ friction }
     requires friction_high { unsigned_abs friction ≤ 512 }
     requires push_low { pos 0 ≤ℤ push }

@@ -5,7 +5,7 @@ ghost use Rattle.colour_solver_base.specs.Rows.{IsRow};
 
 use crate::{Bodies, ContactRow, PointRow, RowTurn, bounce_row, solve_row, warm_row};
 use fixed_geom::{Rot, Vec2};
-use momenta::{BodyState, Ends, MassData, Motion};
+use momenta::{BodyState, Ends, MassData, Motion, reciprocals_of};
 
 const ORIGIN: Vec2 = Vec2 { x: 0, y: 0 };
 
@@ -17,6 +17,11 @@ fn at(x: i64, y: i64) -> Vec2 {
     Vec2 { x, y }
 }
 
+const UNIT_MASS: MassData = MassData {
+    mass: 1,
+    inertia: 0,
+};
+
 /// A body of mass 1 that never turns, at the origin.
 fn body(movable: bool, p: Vec2) -> BodyState
     requires { IsWithin (2 ^ 60) p }
@@ -24,10 +29,7 @@ fn body(movable: bool, p: Vec2) -> BodyState
 {
     BodyState {
         movable,
-        mass: MassData {
-            mass: 1,
-            inertia: 0,
-        },
+        mass: UNIT_MASS,
         motion: Motion {
             p,
             l: 0,
@@ -35,6 +37,7 @@ fn body(movable: bool, p: Vec2) -> BodyState
             rot: AHEAD,
         },
         start: ORIGIN,
+        reciprocals: reciprocals_of(UNIT_MASS, 0),
     }
 }
 

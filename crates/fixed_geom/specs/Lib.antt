@@ -1,5 +1,6 @@
 pub mod Boxes
 pub mod Facings
 pub mod Numbers
+pub mod Reciprocals
 pub mod Refusals
 pub mod Vectors

@@ -75,7 +75,8 @@ pub fn over_inverse(x: i64, inverse: i64) -> i64
 }
 
 /// The nearest natural number to `n·2^40 / d`, the greater where two are as near, of any quotient.
-fn quotient_40_of_sizes(n: u64, d: u64) -> u128
+#[inline(always)]
+pub(crate) fn quotient_40_of_sizes(n: u64, d: u64) -> u128
     requires n { n ≤ 2 ^ 56 }
     requires positive { 0 < d }
     requires most { d < 2 ^ 62 }

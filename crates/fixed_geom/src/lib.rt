@@ -11,8 +11,10 @@ pub mod inverses;
 pub mod narrow;
 pub mod products;
 pub mod quotients;
+pub mod reciprocals;
 pub mod refusal;
 pub mod roots;
+pub mod short_shares;
 #[cfg(test)]
 mod tests;
 pub mod vectors;
@@ -23,6 +25,7 @@ pub use inverses::{over_inverse, quotient_40};
 pub use narrow::{narrow_cross, narrow_dot, narrow_scaled, rdiv_unit_64};
 pub use products::{difference_of_products, product, scaled, sum_of_products};
 pub use quotients::{fdiv, rdiv, rdiv_64, rdiv_unit, share};
+pub use reciprocals::{rdiv_by, reciprocal, share_by, share_reciprocal};
 pub use refusal::Refusal;
 pub use roots::isqrt;
 pub use vectors::{

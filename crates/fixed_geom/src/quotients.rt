@@ -96,7 +96,7 @@ fn guess_share(n: u64, d: u64) -> u64
 /// The nearest natural number to `n·2^30 / d`, the greater where two are as near, by a division.
 #[cold]
 #[inline(never)]
-fn divided_share(n: u64, d: u64) -> u64
+pub(crate) fn divided_share(n: u64, d: u64) -> u64
     requires positive { 0 < d }
     requires part { n ≤ d }
     ensures value { result ≡ nearest (n * 2 ^ 30) d }
@@ -107,7 +107,7 @@ fn divided_share(n: u64, d: u64) -> u64
 
 /// The same: the guess if that is it, as it nearly always is, which spares a division of 128 bits.
 #[inline(always)]
-fn share_of_sizes(n: u64, d: u64) -> u64
+pub(crate) fn share_of_sizes(n: u64, d: u64) -> u64
     requires positive { 0 < d }
     requires part { n ≤ d }
     requires whole { d < 2 ^ 62 }

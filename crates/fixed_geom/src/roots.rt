@@ -9,7 +9,7 @@ use std::num::{f64_from_bits_with_nan, f64_to_bits_with_nan, nearest_u64_to_f64}
 
 /// The float of an `n` below 2^52, put together from its bits: they are those of `2^52 + n`.
 #[inline(always)]
-fn joined_float(n: u64) -> f64 {
+pub(crate) fn joined_float(n: u64) -> f64 {
     f64_from_bits_with_nan(0x4330_0000_0000_0000 | n) - 4_503_599_627_370_496.0
 }
 

@@ -7,6 +7,7 @@ ghost use Rattle.fixed_geom.specs.Vectors.{IsWithin, is_within, unit_length, dot
 use crate::narrow::narrow_scaled;
 use crate::products::{difference_of_products, scaled, sum_of_products};
 use crate::roots::root_64;
+use crate::short_shares::{inverse_of, short_share};
 use crate::{isqrt, share};
 
 /// One, for a unit vector and a facing.
@@ -112,8 +113,27 @@ pub fn span(d: Vec2) -> i64
     }
 }
 
-/// The unit vector along `d`, where its length `k` is known and not zero.
-pub fn unit_along(d: Vec2, k: i64) -> Vec2
+/// The unit vector along `d`, where its length `k` is below 2^31.
+#[inline(always)]
+fn short_unit_along(d: Vec2, k: i64) -> Vec2
+    requires length { k ≡ span d }
+    requires positive { pos 0 <ℤ k }
+    requires short { unsigned_abs k < 2 ^ 31 }
+    requires covers { IsWithin (unsigned_abs k) d }
+    ensures value { result ≡ unit d }
+    ensures within { IsWithin (2 ^ 30) result }
+{
+    let inverse = inverse_of(k as u64);
+    Vec2 {
+        x: short_share(d.x, k, inverse),
+        y: short_share(d.y, k, inverse),
+    }
+}
+
+/// The same of any length.
+#[cold]
+#[inline(never)]
+fn long_unit_along(d: Vec2, k: i64) -> Vec2
     requires length { k ≡ span d }
     requires positive { pos 0 <ℤ k }
     requires covers { IsWithin (unsigned_abs k) d }
@@ -123,6 +143,22 @@ pub fn unit_along(d: Vec2, k: i64) -> Vec2
     Vec2 {
         x: share(d.x, k),
         y: share(d.y, k),
+    }
+}
+
+/// The unit vector along `d`, where its length `k` is known and not zero.
+#[inline(always)]
+pub fn unit_along(d: Vec2, k: i64) -> Vec2
+    requires length { k ≡ span d }
+    requires positive { pos 0 <ℤ k }
+    requires covers { IsWithin (unsigned_abs k) d }
+    ensures value { result ≡ unit d }
+    ensures within { IsWithin (2 ^ 30) result }
+{
+    if k < 1 << 31 {
+        short_unit_along(d, k)
+    } else {
+        long_unit_along(d, k)
     }
 }
 

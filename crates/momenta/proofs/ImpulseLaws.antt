@@ -39,8 +39,8 @@ given_state j r s m e h k = rw e (state_by s.movable j r s h (rw e at k))
 -- ---- what it leaves alone
 
 same_body_by : (t : Bool) (j r : Vec2) (s : BodyState) → s.movable ≡ t → IsSameBody s (cond t (moved_by j r s) s)
-same_body_by true j r s e = record { movable = refl; mass = refl; start = refl; place = refl; facing = refl; immovable = λ h. cc }
-same_body_by false j r s e = record { movable = refl; mass = refl; start = refl; place = refl; facing = refl; immovable = λ h. refl }
+same_body_by true j r s e = record { movable = refl; mass = refl; start = refl; reciprocals = refl; place = refl; facing = refl; immovable = λ h. cc }
+same_body_by false j r s e = record { movable = refl; mass = refl; start = refl; reciprocals = refl; place = refl; facing = refl; immovable = λ h. refl }
 
 pub given_same : (j r : Vec2) (s : BodyState) → IsSameBody s (given j r s)
 unfolding given

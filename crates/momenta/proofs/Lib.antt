@@ -7,3 +7,4 @@ pub mod ImpulseLaws
 pub mod Shares
 pub mod NoImpulse
 mod WarmLaws
+pub mod NarrowLaws

@@ -66,7 +66,7 @@ unfolding warmed
 warmed_none line e h = rw (along_none line.direction, pair_none line.ra line.rb e h) refl
 
 same_body : (s : BodyState) → IsSameBody s s
-same_body s = record { movable = refl; mass = refl; start = refl; place = refl; facing = refl; immovable = λ h. refl }
+same_body s = record { movable = refl; mass = refl; start = refl; reciprocals = refl; place = refl; facing = refl; immovable = λ h. refl }
 
 pub same_bodies : (e : Ends) → AreSameBodies e e
 same_bodies e = record { a = same_body e.a; b = same_body e.b }

@@ -30,11 +30,11 @@ plus_twice p j k = rw (+ℤ_assoc p.x j.x k.x, +ℤ_assoc p.y j.y k.y) refl
 
 -- ---- what two impulses give a body
 
-given_mover : (j r : Vec2) (s : BodyState) → s.movable ≡ true → given j r s ≡ moved_by j r s
+pub given_mover : (j r : Vec2) (s : BodyState) → s.movable ≡ true → given j r s ≡ moved_by j r s
 unfolding given
 given_mover j r s h = rw h refl
 
-given_fixed : (j r : Vec2) (s : BodyState) → s.movable ≡ false → given j r s ≡ s
+pub given_fixed : (j r : Vec2) (s : BodyState) → s.movable ≡ false → given j r s ≡ s
 unfolding given
 given_fixed j r s h = rw h refl
 
@@ -86,7 +86,7 @@ given_fits j r s room h k = by s.movable refl
     by true t = rw (given_mover j r s t) (moved_fits j r s room h k)
     by false t = rw (given_fixed j r s t) (still_fits s room)
 
-negated_within : (n : ℕ) (j : Vec2) → IsWithin n j → IsWithin n (negated j)
+pub negated_within : (n : ℕ) (j : Vec2) → IsWithin n j → IsWithin n (negated j)
 negated_within n j h = record { x = omega (arith, ints, h.x); y = omega (arith, ints, h.y) }
 
 -- ---- two impulses between two bodies

@@ -75,6 +75,7 @@ pub record IsSameBody (before after : BodyState) : Type 0 where
   pub movable : after.movable ≡ before.movable
   pub mass : after.mass ≡ before.mass
   pub start : after.start ≡ before.start
+  pub reciprocals : after.reciprocals ≡ before.reciprocals
   pub place : after.motion.x ≡ before.motion.x
   pub facing : after.motion.rot ≡ before.motion.rot
   pub immovable : before.movable ≡ false → after ≡ before

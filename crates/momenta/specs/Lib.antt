@@ -1,3 +1,5 @@
 pub mod Motions
 pub mod Impulses
 pub mod Gains
+pub mod Narrow
+pub mod Reciprocals

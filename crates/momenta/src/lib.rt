@@ -11,7 +11,9 @@ pub mod inverse;
 pub mod line;
 pub mod mass;
 pub mod motion;
+pub mod narrow;
 pub mod ranges;
+pub mod reciprocals;
 pub mod speed_limit;
 pub mod state;
 #[cfg(test)]
@@ -26,6 +28,10 @@ pub use line::{
 };
 pub use mass::MassData;
 pub use motion::{Motion, spin, velocity};
+pub use narrow::{
+    Narrow, NarrowPair, NarrowTurn, narrow_pair, narrow_parting, narrow_solve_line, narrow_warm,
+};
+pub use reciprocals::{Reciprocals, reciprocals_of};
 pub use speed_limit::clamp_speed;
 pub use state::{BodyState, Ends, impulse_pair};
 pub use travel::advance;

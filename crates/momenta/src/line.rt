@@ -6,7 +6,7 @@ ghost use Rattle.fixed_geom.specs.Numbers.{rdiv};
 ghost use Rattle.fixed_geom.specs.Vectors.{IsWithin, dot, unit_length};
 ghost use Rattle.momenta.specs.Impulses.{AreStates, AreSameBodies, IsMomentumKept, IsLine, parting, speed_along, wanted, between, along, exerted, solved, warmed};
 
-use crate::ranges::is_in;
+use crate::ranges::are_in;
 use crate::state::grown;
 use crate::{Ends, impulse_pair};
 use fixed_geom::{
@@ -14,7 +14,7 @@ use fixed_geom::{
 };
 
 /// A velocity whose components are at most this many u/tick has a product with a direction that has room in 64 bits.
-const SLOW: i64 = 1 << 31;
+pub(crate) const SLOW: i64 = 1 << 31;
 
 /// A speed up to this, in u/tick, is small: the difference of two has room in 64 bits once it is multiplied by 2^40.
 const SLOW_CHANGE: i64 = 1 << 20;
@@ -79,7 +79,7 @@ pub fn part_along(v: Vec2, direction: Vec2) -> i64
     ensures within { unsigned_abs result ≤ 2 ^ 62 + 2 ^ 28 }
     ensures near { IsWithin (2 ^ 38) v → unsigned_abs result ≤ 2 ^ 39 }
 {
-    if is_in(v.x, SLOW) && is_in(v.y, SLOW) {
+    if are_in(v.x, v.y, SLOW) {
         slow_part_along(v, direction)
     } else {
         fast_part_along(v, direction)
@@ -88,7 +88,7 @@ pub fn part_along(v: Vec2, direction: Vec2) -> i64
 
 /// The part of a slow velocity, in 64 bits.
 #[inline(always)]
-fn slow_part_along(v: Vec2, direction: Vec2) -> i64
+pub(crate) fn slow_part_along(v: Vec2, direction: Vec2) -> i64
     requires v { IsWithin (2 ^ 31) v }
     requires direction { IsWithin (2 ^ 30) direction }
     ensures value { result ≡ rdiv (dot v direction) unit_length }
@@ -179,7 +179,7 @@ fn along(direction: Vec2, size: i64) -> Vec2
 /// A small impulse along a direction, in 64 bits.
 #[tactic(auto, unfolding(crate::specs::Impulses::along))]
 #[inline(always)]
-fn narrow_along(direction: Vec2, size: i64) -> Vec2
+pub(crate) fn narrow_along(direction: Vec2, size: i64) -> Vec2
     requires direction { IsWithin (2 ^ 30) direction }
     requires size { unsigned_abs size < 2 ^ 32 }
     ensures value { result ≡ along direction size }
@@ -284,7 +284,14 @@ fn narrow_between(low: i64, high: i64, value: i64) -> i64
 /// 64 bits.
 #[tactic(auto, unfolding(crate::specs::Impulses::wanted))]
 #[inline(always)]
-fn narrow_next_total(speed: i64, bias: i64, inverse: i64, low: i64, high: i64, total: i64) -> i64
+pub(crate) fn narrow_next_total(
+    speed: i64,
+    bias: i64,
+    inverse: i64,
+    low: i64,
+    high: i64,
+    total: i64,
+) -> i64
     requires speed { unsigned_abs speed ≤ 2 ^ 20 }
     requires bias { unsigned_abs bias ≤ 2 ^ 20 }
     requires inverse { pos (2 ^ 20) ≤ℤ inverse }
@@ -321,16 +328,12 @@ fn wide_next_total(speed: i64, bias: i64, inverse: i128, low: i64, high: i64, to
 
 /// Whether these speeds and this inverse mass have room in 64 bits for the impulse between them.
 #[inline(always)]
-fn is_narrow(speed: i64, bias: i64, inverse: i128) -> bool
+pub(crate) fn is_narrow(speed: i64, bias: i64, inverse: i128) -> bool
     ensures speed { result ≡ true → unsigned_abs speed ≤ 2 ^ 20 }
     ensures bias { result ≡ true → unsigned_abs bias ≤ 2 ^ 20 }
     ensures inverse { result ≡ true → inverse <ℤ pos (2 ^ 62) }
 {
-    if is_in(speed, SLOW_CHANGE) && is_in(bias, SLOW_CHANGE) {
-        inverse < SMALL_INVERSE
-    } else {
-        false
-    }
+    are_in(speed, bias, SLOW_CHANGE) & (inverse < SMALL_INVERSE)
 }
 
 /// The accumulated impulse with what brings the speed to the bias, within its range.

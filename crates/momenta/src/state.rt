@@ -7,7 +7,7 @@ ghost use Rattle.momenta.specs.declared.motion.Motion.{Motion};
 ghost use Rattle.momenta.specs.Impulses.{IsRoomy, IsState, AreStates, AreSameBodies, velocity_at, travelled, given, plus, turned_by, fits, impulse_pair, negated, or_kept};
 
 use crate::ranges::is_in;
-use crate::{MassData, Motion, spin, velocity};
+use crate::{MassData, Motion, Reciprocals, spin, velocity};
 use fixed_geom::{Vec2, cross, minus, narrow_scaled};
 
 /// The greatest size of a component of a momentum, in mass·u/tick.
@@ -22,14 +22,15 @@ const ROOMY_MOMENTUM: i64 = 1 << 59;
 /// An angular momentum up to this has room for the moments of two impulses.
 const ROOMY_ANGULAR: i128 = 1 << 89;
 
-/// A body as the solver works on it: whether impulses move it, its mass, its motion, and where its
-/// centre was when the step began (u).
+/// A body as the solver works on it: whether impulses move it, its mass, its motion, where its
+/// centre was when the step began (u), and what its quotients are guessed with.
 #[derive(Clone, Copy, Debug, PartialEq, Eq)]
 pub struct BodyState {
     pub movable: bool,
     pub mass: MassData,
     pub motion: Motion,
     pub start: Vec2,
+    pub reciprocals: Reciprocals,
 }
 
 /// The momentum of a body (mass·u/tick) and its angular momentum (mass·u²/tick).
@@ -46,7 +47,8 @@ pub struct Ends {
     pub b: BodyState,
 }
 
-const NO_MOVE: Vec2 = Vec2 { x: 0, y: 0 };
+/// The velocity of what impulses don't move.
+pub(crate) const NO_MOVE: Vec2 = Vec2 { x: 0, y: 0 };
 
 impl BodyState {
     /// The velocity of its point at the offset `r` (u) from the centre, in u/tick: `v + w × r`, as in Erin Catto's
@@ -132,7 +134,7 @@ impl BodyState {
 
 /// `v - w·r / 2^30`
 #[inline(always)]
-fn carried_back(v: i64, w: i64, r: i64) -> i64
+pub(crate) fn carried_back(v: i64, w: i64, r: i64) -> i64
     requires v { unsigned_abs v ≤ 2 ^ 60 }
     requires w { unsigned_abs w ≤ 2 ^ 28 }
     requires r { unsigned_abs r ≤ 2 ^ 27 }
@@ -144,7 +146,7 @@ fn carried_back(v: i64, w: i64, r: i64) -> i64
 
 /// `v + w·r / 2^30`
 #[inline(always)]
-fn carried_on(v: i64, w: i64, r: i64) -> i64
+pub(crate) fn carried_on(v: i64, w: i64, r: i64) -> i64
     requires v { unsigned_abs v ≤ 2 ^ 60 }
     requires w { unsigned_abs w ≤ 2 ^ 28 }
     requires r { unsigned_abs r ≤ 2 ^ 27 }
@@ -169,7 +171,7 @@ pub(crate) fn grown(p: Vec2, j: Vec2) -> Vec2
 
 /// What the other body gets of an impulse.
 #[inline(always)]
-fn opposite(j: Vec2) -> Vec2
+pub(crate) fn opposite(j: Vec2) -> Vec2
     requires { IsWithin (2 ^ 45) j }
     ensures value { result ≡ negated j }
     ensures within { IsWithin (2 ^ 45) result }

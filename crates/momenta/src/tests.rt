@@ -5,7 +5,7 @@ ghost use Rattle.momenta.specs.Motions.{IsMass, IsMotion};
 
 use crate::{
     BodyState, Ends, Line, MassData, Motion, advance, clamp_speed, inverse_mass, parting, pull,
-    solve_line,
+    reciprocals_of, solve_line,
 };
 use fixed_geom::{Rot, Vec2};
 
@@ -24,7 +24,7 @@ fn tick(motion: Motion, mass: MassData, gravity: Vec2) -> Motion
 {
     let pulled = pull(motion, mass, gravity);
     let (limited, _) = clamp_speed(pulled, mass);
-    let (moved, _) = advance(limited, mass);
+    let (moved, _) = advance(limited, mass, reciprocals_of(mass, limited.l));
     moved
 }
 
@@ -43,7 +43,7 @@ fn a_push_beyond_the_speed_limit_is_cut(rt: HostRuntime) {
     let (limited, change) = clamp_speed(pushed, mass);
     assert_eq!(rt; limited.p, at(1048576, 0));
     assert_eq!(rt; change, at(-1048576, 0));
-    let (moved, lost) = advance(limited, mass);
+    let (moved, lost) = advance(limited, mass, reciprocals_of(mass, limited.l));
     assert_eq!(rt; moved.x, at(1048576, 0));
     assert_eq!(rt; moved.p, at(1048576, 0));
     assert_eq!(rt; lost, at(0, 0));
@@ -66,7 +66,7 @@ fn the_edge_stops_a_body(rt: HostRuntime) {
     };
     let (slow, kept) = clamp_speed(near, mass);
     assert_eq!(rt; kept, at(0, 0));
-    let (stopped, change) = advance(slow, mass);
+    let (stopped, change) = advance(slow, mass, reciprocals_of(mass, slow.l));
     assert_eq!(rt; stopped.x, at(68719476736, 0));
     assert_eq!(rt; stopped.p, at(0, 0));
     assert_eq!(rt; change, at(-10, 0));
@@ -102,7 +102,7 @@ fn a_fast_spin_turns_by_its_limit(rt: HostRuntime) {
         rot: AHEAD,
     };
     let (limited, _) = clamp_speed(start, mass);
-    let (moved, change) = advance(limited, mass);
+    let (moved, change) = advance(limited, mass, reciprocals_of(mass, limited.l));
     assert_eq!(rt; moved.x, at(0, 150));
     assert_eq!(rt; moved.rot.c, 1041682578);
     assert_eq!(rt; moved.rot.s, 260420645);
@@ -120,9 +120,10 @@ fn mover(mass: i64, p: Vec2) -> BodyState
     ensures state { IsState result }
     ensures movable { result.movable ≡ true }
 {
+    let weight = MassData { mass, inertia: 0 };
     BodyState {
         movable: true,
-        mass: MassData { mass, inertia: 0 },
+        mass: weight,
         motion: Motion {
             p,
             l: 0,
@@ -130,6 +131,7 @@ fn mover(mass: i64, p: Vec2) -> BodyState
             rot: AHEAD,
         },
         start: ORIGIN,
+        reciprocals: reciprocals_of(weight, 0),
     }
 }
 

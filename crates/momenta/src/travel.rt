@@ -2,7 +2,8 @@ ghost use Rattle.std.specs.Prelude.{◌≡◌, ◌^◌, ◌≤◌, unsigned_abs}
 ghost use Rattle.fixed_geom.specs.Vectors.{IsWithin, minus};
 ghost use Rattle.momenta.specs.Motions.{IsMass, IsMotion, advanced, aim, kept_part, limited, velocity};
 
-use crate::{MassData, Motion, spin, velocity};
+use crate::narrow::{narrow_velocity, spin_by};
+use crate::{MassData, Motion, Reciprocals};
 use fixed_geom::{Vec2, minus, turn};
 
 /// The edge of the world: a centre's coordinates are within this many u of 0. This project's own rule.
@@ -12,7 +13,7 @@ pub const EDGE: i64 = 1 << 36;
 ///
 /// A coordinate that would pass `EDGE` stops there, and that component of the momentum becomes 0; one
 /// that comes to stand on it just so keeps its momentum. Answers the motion and the change of its momentum.
-pub fn advance(motion: Motion, mass: MassData) -> (Motion, Vec2)
+pub fn advance(motion: Motion, mass: MassData, reciprocals: Reciprocals) -> (Motion, Vec2)
     requires mass { IsMass mass }
     requires motion { IsMotion mass motion }
     requires slow { IsWithin (2 ^ 20) (velocity mass.mass motion.p) }
@@ -21,7 +22,7 @@ pub fn advance(motion: Motion, mass: MassData) -> (Motion, Vec2)
     ensures motion { IsMotion mass result.0 }
     ensures kept { result.0.l ≡ motion.l }
 {
-    let to = aim(motion, mass);
+    let to = aim(motion, mass, reciprocals.mass);
     let p = Vec2 {
         x: keep_part(to.x, motion.p.x),
         y: keep_part(to.y, motion.p.y),
@@ -30,7 +31,8 @@ pub fn advance(motion: Motion, mass: MassData) -> (Motion, Vec2)
         x: stop_at_edge(to.x),
         y: stop_at_edge(to.y),
     };
-    let rot = turn(motion.rot, spin(motion.l, mass.inertia));
+    let spin = spin_by(motion.l, mass.inertia, reciprocals.inertia);
+    let rot = turn(motion.rot, spin);
     (
         Motion {
             p,
@@ -43,13 +45,13 @@ pub fn advance(motion: Motion, mass: MassData) -> (Motion, Vec2)
 }
 
 /// Where the velocity leads, were there no edge.
-fn aim(motion: Motion, mass: MassData) -> Vec2
+fn aim(motion: Motion, mass: MassData, reciprocal: u64) -> Vec2
     requires mass { IsMass mass }
     requires motion { IsMotion mass motion }
     requires slow { IsWithin (2 ^ 20) (velocity mass.mass motion.p) }
     ensures value { result ≡ aim mass motion }
 {
-    let velocity = velocity(motion.p, mass.mass);
+    let velocity = narrow_velocity(motion.p, mass.mass, reciprocal);
     Vec2 {
         x: motion.x.x + velocity.x,
         y: motion.x.y + velocity.y,

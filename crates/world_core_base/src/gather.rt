@@ -20,7 +20,7 @@ use contacts::Constraint;
 use contacts_base::{Contact, ContactEntry, ContactKey, ContactPoint, ShapeId, place_at, seek};
 use fixed_geom::{Rot, UNIT, Vec2};
 use graph_colours::{Colours, Member};
-use momenta::{BodyState, Ends, MassData, Motion};
+use momenta::{BodyState, Ends, MassData, Motion, Reciprocals, reciprocals_of};
 use shapes::{ShapeDef, mixed_friction, mixed_restitution};
 
 /// What stands for the body in an empty slot: nothing moves it.
@@ -37,6 +37,10 @@ const NOBODY: BodyState = BodyState {
         rot: Rot { c: UNIT, s: 0 },
     },
     start: Vec2 { x: 0, y: 0 },
+    reciprocals: Reciprocals {
+        mass: 0,
+        inertia: 0,
+    },
 };
 
 /// The body of a slot as the solver works on it; in an empty one, what nothing moves.
@@ -51,6 +55,7 @@ pub fn state_of(entry: &Option<Body>) -> BodyState
             mass: body.mass,
             motion: body.motion,
             start: body.motion.x,
+            reciprocals: reciprocals_of(body.mass, body.motion.l),
         },
     }
 }

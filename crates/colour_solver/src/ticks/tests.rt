@@ -9,7 +9,7 @@ ghost use Rattle.colour_solver.specs.Ticks.{start, ticks};
 use super::run_step;
 use colour_solver_base::{Bodies, ContactRow, PointRow};
 use fixed_geom::{Refusal, Rot, Vec2};
-use momenta::{BodyState, Gain, MassData, Motion};
+use momenta::{BodyState, Gain, MassData, Motion, reciprocals_of};
 use std::alloc::Global;
 use std::test::Fail;
 
@@ -30,9 +30,10 @@ fn point(movable: bool, mass: i64, p: Vec2) -> BodyState
     requires slow { IsWithin (2 ^ 60) p }
     ensures { IsState result }
 {
+    let weight = MassData { mass, inertia: 0 };
     BodyState {
         movable,
-        mass: MassData { mass, inertia: 0 },
+        mass: weight,
         motion: Motion {
             p,
             l: 0,
@@ -40,6 +41,7 @@ fn point(movable: bool, mass: i64, p: Vec2) -> BodyState
             rot: AHEAD,
         },
         start: ORIGIN,
+        reciprocals: reciprocals_of(weight, 0),
     }
 }
 

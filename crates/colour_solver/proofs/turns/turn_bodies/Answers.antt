@@ -8,11 +8,11 @@ turn-requires-clause-states g c = record {
   b = state_at c.args.states.now.items c.args.row.now.bodies.b c.index-2.result.now c.index-2.result.now c.requires.states c.requires.row.b c.index-2.ensures;
 }
 
-pub got-requires-clause-before : goal.got-requires-clause-before
-got-requires-clause-before g c = record {
-  a = state_at c.args.states.now.items c.args.row.now.bodies.a c.index.result.now c.index.result.now c.requires.states c.requires.row.a c.index.ensures;
-  b = state_at c.args.states.now.items c.args.row.now.bodies.b c.index-2.result.now c.index-2.result.now c.requires.states c.requires.row.b c.index-2.ensures;
-}
+pub got-requires-clause-first : goal.got-requires-clause-first
+got-requires-clause-first g c = state_at c.args.states.now.items c.args.row.now.bodies.a c.index.result.now c.index.result.now c.requires.states c.requires.row.a c.index.ensures
+
+pub got-requires-clause-second : goal.got-requires-clause-second
+got-requires-clause-second g c = state_at c.args.states.now.items c.args.row.now.bodies.b c.index-2.result.now c.index-2.result.now c.requires.states c.requires.row.b c.index-2.ensures
 
 pub returns-clause-all_states : goal.returns-clause-all_states
 returns-clause-all_states g c =

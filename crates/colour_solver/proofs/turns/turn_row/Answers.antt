@@ -1,6 +1,8 @@
 use Rattle.std.proofs.Common.{ap, sym}
 use Rattle.colour_solver_base.specs.declared.solve.RowTurn.{RowTurn}
 use Rattle.colour_solver.proofs.IdleLaws.{idle_after, idle_turn, idle_x, idle_y}
+use Rattle.colour_solver.specs.Turns.{narrow_ends}
+use Rattle.colour_solver.proofs.NarrowLaws.{all_after, same_after, total_x_after, total_y_after}
 use Rattle.colour_solver.proofs.turns.turn_row.Goals as goal
 
 pub returns-then-is_idle-clause-states : goal.returns-then-is_idle-clause-states
@@ -14,3 +16,34 @@ returns-then-is_idle-clause-x g c = idle_x (g.T.Turn.turn c.args.turn.now) c.arg
 
 pub returns-then-is_idle-clause-y : goal.returns-then-is_idle-clause-y
 returns-then-is_idle-clause-y g c = idle_y (g.T.Turn.turn c.args.turn.now) c.args.states.now.items c.args.row.now c.requires.states c.requires.row (c.is_idle.ensures c.if-is_idle.true)
+
+pub narrow_turn-requires-clause-states : goal.narrow_turn-requires-clause-states
+narrow_turn-requires-clause-states g c = rw c.deref.ensures.value c.requires.states
+
+pub returns-in-Some-clause-all_states : goal.returns-in-Some-clause-all_states
+returns-in-Some-clause-all_states g c =
+    let ss = c.args.states.now.items in
+    let r = c.args.row.now in
+    let turned = rw c.deref.ensures.value at c.in-Some.ensures in
+    rw c.put_turn.ensures.states (all_after ss r (narrow_ends ss r c.in-Some.turned.now) c.requires.states turned.states)
+
+pub returns-in-Some-clause-same : goal.returns-in-Some-clause-same
+returns-in-Some-clause-same g c =
+    let ss = c.args.states.now.items in
+    let r = c.args.row.now in
+    let turned = rw c.deref.ensures.value at c.in-Some.ensures in
+    rw c.put_turn.ensures.states (same_after ss r (narrow_ends ss r c.in-Some.turned.now) c.requires.row turned.same)
+
+pub returns-in-Some-clause-momentum_x : goal.returns-in-Some-clause-momentum_x
+returns-in-Some-clause-momentum_x g c =
+    let ss = c.args.states.now.items in
+    let r = c.args.row.now in
+    let turned = rw c.deref.ensures.value at c.in-Some.ensures in
+    rw (c.put_turn.ensures.states, c.put_turn.ensures.x) (total_x_after ss r (narrow_ends ss r c.in-Some.turned.now) c.requires.row turned.same turned.kept)
+
+pub returns-in-Some-clause-momentum_y : goal.returns-in-Some-clause-momentum_y
+returns-in-Some-clause-momentum_y g c =
+    let ss = c.args.states.now.items in
+    let r = c.args.row.now in
+    let turned = rw c.deref.ensures.value at c.in-Some.ensures in
+    rw (c.put_turn.ensures.states, c.put_turn.ensures.y) (total_y_after ss r (narrow_ends ss r c.in-Some.turned.now) c.requires.row turned.same turned.kept)

@@ -5,7 +5,7 @@ use Rattle.fixed_geom.specs.declared.vectors.Vec2.{Vec2}
 use Rattle.fixed_geom.proofs.Sizes.{IsSum64, sum_64}
 use Rattle.momenta.specs.Impulses.{travelled}
 use Rattle.colour_solver_base.specs.Rows.{separation_now}
-use Rattle.colour_solver_base.proofs.solve.separation_now.Goals as goal
+use Rattle.colour_solver_base.proofs.solve.separation_between.Goals as goal
 
 near : (c : goal.After-part_along) → unsigned_abs c.part_along.result ≤ 2 ^ 39
 near c = c.part_along.ensures.near (c.minus-parted.ensures.within (2 ^ 37) c.travelled.ensures.within c.travelled-2.ensures.within)
@@ -13,7 +13,7 @@ near c = c.part_along.ensures.near (c.minus-parted.ensures.within (2 ^ 37) c.tra
 exact : (c : goal.After-part_along) → IsSum64 c.args.point.now.separation c.part_along.result
 exact c = sum_64 c.args.point.now.separation c.part_along.result (omega (arith, c.requires.point.separation)) (omega (arith, near c))
 
-parted : (c : goal.After-part_along) → c.part_along.result ≡ rdiv (dot (minus (travelled c.args.ends.now.b) (travelled c.args.ends.now.a)) c.args.point.now.normal) unit_length
+parted : (c : goal.After-part_along) → c.part_along.result ≡ rdiv (dot (minus (travelled c.args.b.now) (travelled c.args.a.now)) c.args.point.now.normal) unit_length
 parted c = rw (c.minus-parted.ensures.value, c.travelled.ensures.value, c.travelled-2.ensures.value) at c.part_along.ensures.value
 
 wide : (v : Vec2) → IsWithin (2 * 2 ^ 37) v → IsWithin (2 ^ 61 + 2 ^ 26) v

@@ -1,0 +1,119 @@
+-- Momenta in 64 bits: sizes of what is given to them, and that it is what the definitions give.
+use Rattle.std.proofs.Common.{◌≡◌, ℕ, zero, suc, ◌*◌, ◌+◌, ◌^◌, ◌≤◌, true, false, Option, Some, None, IfSome, ℤ, pos, negsuc, ◌+ℤ◌, ◌-ℤ◌, ◌*ℤ◌, ◌≤ℤ◌, unsigned_abs, arith, refl, sym, subst, inl, inr}
+use Rattle.std.proofs.lemmas.Bool.{cases_lt}
+use Rattle.std.proofs.lemmas.Int.{ints}
+use Rattle.fixed_geom.specs.Numbers.{rdiv}
+use Rattle.fixed_geom.specs.Vectors.{IsWithin, unit_length}
+use Rattle.fixed_geom.specs.declared.vectors.Vec2.{Vec2}
+use Rattle.fixed_geom.proofs.QuotientLemmas.{rdiv_le}
+use Rattle.fixed_geom.proofs.Sizes.{product_le}
+use Rattle.momenta.specs.declared.mass.MassData.{MassData}
+use Rattle.momenta.specs.Motions.{IsMass, velocity, spin}
+use Rattle.momenta.proofs.Rounding.{rdiv_fast}
+use Rattle.momenta.specs.declared.state.BodyState.{BodyState}
+use Rattle.momenta.specs.declared.narrow.Narrow.{Narrow}
+use Rattle.momenta.specs.declared.narrow.NarrowPair.{NarrowPair}
+use Rattle.momenta.specs.Impulses.{AreStates, IsRoomy, carried, fits, given, negated, plus, velocity_at, zero_vector}
+use Rattle.momenta.specs.Narrow.{AreNarrow, IsImpulse, IsNarrow, ends_with, with_momenta}
+use Rattle.momenta.proofs.ImpulseLaws.{IsPairGiven, pair_given}
+use Rattle.momenta.proofs.NoImpulse.{same_bodies, same_momentum}
+use Rattle.momenta.proofs.WarmLaws.{AreRoomy, given_fits, negated_within}
+
+-- ---- sizes
+
+pub scaled_within : (a b q : ℤ) (k : ℕ) → q ≡ rdiv (a *ℤ b) unit_length → unsigned_abs a ≤ k → unsigned_abs b ≤ 2 ^ 30 → unsigned_abs q ≤ k
+scaled_within a b q k e h l =
+    let size : unsigned_abs (a *ℤ b) ≤ k * 2 ^ 30 = product_le a b k (2 ^ 30) h l in
+    rw e (rdiv_le (a *ℤ b) unit_length k (omega arith) size)
+
+pub part_narrow : (k : ℕ) (p : ℤ) → k ≤ 4 → unsigned_abs p ≤ 2 ^ 40 + k * 2 ^ 30 → unsigned_abs p ≤ 2 ^ 41
+part_narrow k p h l = omega (arith, h, l)
+
+pub quotient_room : (p mass : ℤ) → pos 1 ≤ℤ mass → unsigned_abs p ≤ 2 ^ 41 → unsigned_abs p ≤ 2 ^ 41 * unsigned_abs mass
+quotient_room p mass h l =
+    let some : 1 ≤ unsigned_abs mass = omega (arith, ints) in
+    omega (arith, l, some)
+
+-- what moves no faster than the speed limit
+slow_part : (p mass : ℤ) → pos 1 ≤ℤ mass → unsigned_abs mass ≤ 2 ^ 20 → unsigned_abs (rdiv p mass) ≤ 2 ^ 20 → unsigned_abs p ≤ 2 ^ 41
+slow_part p mass h few slow = elim (cases_lt (2 ^ 41) (unsigned_abs p)) [
+  | inl more ↦ absurd (let fast = rdiv_fast p mass (2 ^ 20) h (omega (arith, few, more)) in omega (arith, fast, slow))
+  | inr less ↦ omega (arith, less)
+]
+
+pub slow_small : (p : Vec2) (m : MassData) → IsMass m → IsWithin (2 ^ 20) (velocity m.mass p) → IsWithin (2 ^ 41) p
+unfolding velocity
+slow_small p m h slow = record { x = slow_part p.x m.mass h.positive h.mass slow.x; y = slow_part p.y m.mass h.positive h.mass slow.y }
+
+-- ---- the velocity of a point
+
+pub velocity_fixed : (r : Vec2) (s : BodyState) → s.movable ≡ false → velocity_at r s ≡ zero_vector
+unfolding velocity_at
+velocity_fixed r s h = rw h refl
+
+pub velocity_moving : (r : Vec2) (s : BodyState) → s.movable ≡ true → velocity_at r s ≡ carried r (velocity s.mass.mass s.motion.p) (spin s.mass.inertia s.motion.l)
+unfolding velocity_at
+velocity_moving r s h = rw h refl
+
+pub moving_is : (r v : Vec2) (s : BodyState) (w x y : ℤ) → s.movable ≡ true → v ≡ velocity s.mass.mass s.motion.p → w ≡ spin s.mass.inertia s.motion.l
+    → x ≡ v.x -ℤ rdiv (w *ℤ r.y) unit_length → y ≡ v.y +ℤ rdiv (w *ℤ r.x) unit_length → record { x = x; y = y } ≡ velocity_at r s
+moving_is r v s w x y h e f g k = rw (velocity_moving r s h, ← e, ← f, g, k) refl
+
+-- a body that turns has an inertia
+pub turning : (inertia l : ℤ) → pos 0 ≤ℤ inertia → (inertia ≡ pos 0 → l ≡ pos 0) → (l ≡ pos 0 → ⊥) → pos 1 ≤ℤ inertia
+turning (pos zero) l h still moves = absurd (moves (still refl))
+turning (pos (suc n)) l h still moves = omega (arith, ints)
+turning (negsuc n) l h still moves = absurd (omega (arith, ints))
+
+-- ---- an impulse given
+
+pub grown_narrow : (k : ℕ) (p j : ℤ) → unsigned_abs p ≤ 2 ^ 40 + k * 2 ^ 30 → unsigned_abs j ≤ 2 ^ 30 → unsigned_abs (p +ℤ j) ≤ 2 ^ 40 + (k + 1) * 2 ^ 30
+grown_narrow k p j h l = omega (arith, ints, h, l)
+
+pub turned_narrow : (k n m : ℕ) (l : ℕ) → l ≤ n + m → n ≤ 2 ^ 60 + k * 2 ^ 58 → m ≤ 2 ^ 58 → l ≤ 2 ^ 60 + (k + 1) * 2 ^ 58
+turned_narrow k n m l h i j = omega (arith, h, i, j)
+
+pub still_narrow : (k : ℕ) (n : Narrow) → IsNarrow k n → IsNarrow (k + 1) n
+still_narrow k n h = record { p = record { x = omega (arith, h.p.x); y = omega (arith, h.p.y) }; l = omega (arith, h.l) }
+
+pub both_still : (a b : BodyState) (n : NarrowPair) → AreStates (ends_with a b n) → IsImpulse a b n n
+both_still a b n h = record {
+  states = h;
+  same = same_bodies (ends_with a b n);
+  kept = same_momentum (ends_with a b n);
+  narrow = λ k m. record { a = still_narrow k n.a m.a; b = still_narrow k n.b m.b };
+}
+
+wider : (j : Vec2) → IsWithin (2 ^ 30) j → IsWithin (2 ^ 45) j
+wider j h = record { x = omega (arith, h.x); y = omega (arith, h.y) }
+
+roomy : (s : BodyState) (n : Narrow) → IsNarrow 4 n → IsRoomy (with_momenta s n).motion
+roomy s n h = record { p = record { x = omega (arith, h.p.x); y = omega (arith, h.p.y) }; l = omega (arith, h.l) }
+
+-- what the small impulse makes of the two bodies
+pub pair_narrow : (j ra rb : Vec2) (a b : BodyState) (old n : NarrowPair) → AreStates (ends_with a b old) → AreNarrow 4 old → IsWithin (2 ^ 30) j → IsWithin (2 ^ 27) ra → IsWithin (2 ^ 27) rb
+    → with_momenta a n.a ≡ given (negated j) ra (with_momenta a old.a) → with_momenta b n.b ≡ given j rb (with_momenta b old.b)
+    → IsPairGiven j ra rb (ends_with a b old) (with_momenta a n.a) (with_momenta b n.b)
+pair_narrow j ra rb a b old n states narrow small first second ea eb =
+    pair_given j ra rb (ends_with a b old) (with_momenta a n.a) (with_momenta b n.b) states ea eb
+    (subst (λ (s : BodyState). fits s.motion ≡ true) (sym ea) (given_fits (negated j) ra (with_momenta a old.a) (roomy a old.a narrow.a) (negated_within (2 ^ 45) j (wider j small)) first))
+    (subst (λ (s : BodyState). fits s.motion ≡ true) (sym eb) (given_fits j rb (with_momenta b old.b) (roomy b old.b narrow.b) (wider j small) second))
+
+-- two small impulses and their sum
+pub sum_small : (j k : Vec2) → IsWithin (2 ^ 29) j → IsWithin (2 ^ 29) k → IsWithin (2 ^ 30) (plus j k)
+sum_small j k h i = record { x = omega (arith, ints, h.x, i.x); y = omega (arith, ints, h.y, i.y) }
+
+pub half_wider : (n : ℕ) (j : Vec2) → 2 ^ 29 ≤ n → IsWithin (2 ^ 29) j → IsWithin n j
+half_wider n j l h = record { x = omega (arith, l, h.x); y = omega (arith, l, h.y) }
+
+pub both_roomy : (a b : BodyState) (n : NarrowPair) → AreNarrow 4 n → AreRoomy (ends_with a b n)
+both_roomy a b n h = record { a = roomy a n.a h.a; b = roomy b n.b h.b }
+
+-- what holds of an answer, if there is one, of each that there may be
+pub some_then : {X : Type 0} (P Q : X → Type 0) (o : Option X) → ((x : X) → P x → Q x) → IfSome o P → IfSome o Q
+some_then P Q None f h = tt
+some_then P Q (Some x) f h = f x h
+
+pub some_both : {X : Type 0} (P Q : X → Type 0) (o : Option X) → IfSome o P → IfSome o Q → IfSome o (λ x. P x × Q x)
+some_both P Q None h k = tt
+some_both P Q (Some x) h k = (h, k)
