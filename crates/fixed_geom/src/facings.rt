@@ -4,8 +4,8 @@ ghost use Rattle.std.specs.Prelude.{◌≡◌, ℕ, ◌+◌, ◌*◌, ◌^◌, �
 ghost use Rattle.fixed_geom.specs.Vectors.{IsWithin};
 ghost use Rattle.fixed_geom.specs.Facings.{IsFacing, is_facing, rotate, IsLong, swung, facing_along, turn};
 
-use crate::narrow::{narrow_cross, narrow_dot, rdiv_unit_64};
-use crate::products::{difference_of_products, scaled, sum_of_products};
+use crate::narrow::{narrow_cross, narrow_dot, rdiv_unit_64, short_scaled};
+use crate::products::{difference_of_products, sum_of_products};
 use crate::{Vec2, rdiv_unit, unit};
 
 /// A facing: the cosine and the sine of an angle, times 2^30. Its length as a vector is within 2
@@ -76,8 +76,8 @@ fn swung(q: Rot, w: i64) -> Vec2
     ensures long { IsLong result }
 {
     Vec2 {
-        x: q.c - scaled(w, q.s),
-        y: q.s + scaled(w, q.c),
+        x: q.c - short_scaled(w, q.s),
+        y: q.s + short_scaled(w, q.c),
     }
 }
 

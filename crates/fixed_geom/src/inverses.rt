@@ -4,7 +4,7 @@ ghost use Rattle.std.specs.Prelude.{◌≡◌, ℕ, ◌*◌, ◌^◌, ◌<◌, �
 ghost use Rattle.fixed_geom.specs.Numbers.{nearest, rdiv};
 
 use crate::quotients::{nearest_quotient, nearest_quotient_64};
-use crate::roots::{low_52_bits, short_float_of};
+use crate::roots::{joined_float, low_52_bits, short_float_of};
 
 /// A guess at `n·2^40 / d` to the nearest, by a quotient of floats. Nothing else is promised of it, since what follows puts
 /// any guess right.
@@ -40,8 +40,16 @@ fn divided_40_64(n: u64, d: u64) -> u64
     nearest_quotient_64(n << 40, d)
 }
 
+/// The same of an `n` and a `d` below 2^52, for which no test is made: of others it is no good guess.
+#[inline(always)]
+fn short_guess_40(n: u64, d: u64) -> u64
+    ensures small { result < 2 ^ 52 }
+{
+    low_52_bits(joined_float(n) / joined_float(d) * 1_099_511_627_776.0)
+}
+
 /// The nearest natural number to `n·2^40 / d`, the greater where two are as near: the guess if that is it, as it nearly always
-/// is, which spares a division.
+/// is of a `d` below 2^52, which spares a division.
 #[inline(always)]
 fn over_size(n: u64, d: u64) -> u64
     requires n { n < 2 ^ 22 }
@@ -50,7 +58,7 @@ fn over_size(n: u64, d: u64) -> u64
     ensures value { result ≡ nearest (n * 2 ^ 40) d }
     ensures small { result ≤ 2 ^ 42 }
 {
-    let guess = guess_40(n, d);
+    let guess = short_guess_40(n, d);
     let least = u128::from(guess) * u128::from(2 * d);
     let sum = u128::from((n << 41) + d);
     if least <= sum {

@@ -48,6 +48,28 @@ pub fn narrow_scaled(a: i64, b: i64) -> i64
     rdiv_unit_64(narrow_product(a, b))
 }
 
+/// `a·b`, of a short `a`.
+#[inline(always)]
+fn short_product(a: i64, b: i64) -> i64
+    requires a { unsigned_abs a ≤ 2 ^ 28 }
+    requires b { unsigned_abs b ≤ 2 ^ 31 }
+    ensures value { result ≡ a *ℤ b }
+    ensures size { unsigned_abs result ≡ unsigned_abs a * unsigned_abs b }
+{
+    a * b
+}
+
+/// `scaled` in 64 bits, of an `a` up to 2^28 and a `b` up to 2^31: a spin by a part of a facing.
+#[inline(always)]
+pub(crate) fn short_scaled(a: i64, b: i64) -> i64
+    requires a { unsigned_abs a ≤ 2 ^ 28 }
+    requires b { unsigned_abs b ≤ 2 ^ 31 }
+    ensures value { result ≡ rdiv (a *ℤ b) unit_length }
+    ensures within { (k : ℕ) → unsigned_abs a * unsigned_abs b ≤ k * 2 ^ 30 → unsigned_abs result ≤ k }
+{
+    rdiv_unit_64(short_product(a, b))
+}
+
 /// `dot` in 64 bits, of components up to 2^31 and 2^30.
 #[inline(always)]
 pub fn narrow_dot(a: Vec2, b: Vec2) -> i64

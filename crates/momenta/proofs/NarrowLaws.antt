@@ -29,10 +29,10 @@ scaled_within a b q k e h l =
 pub part_narrow : (k : ℕ) (p : ℤ) → k ≤ 4 → unsigned_abs p ≤ 2 ^ 40 + k * 2 ^ 30 → unsigned_abs p ≤ 2 ^ 41
 part_narrow k p h l = omega (arith, h, l)
 
-pub quotient_room : (p mass : ℤ) → pos 1 ≤ℤ mass → unsigned_abs p ≤ 2 ^ 41 → unsigned_abs p ≤ 2 ^ 41 * unsigned_abs mass
-quotient_room p mass h l =
+pub quotient_within : (p mass q : ℤ) → q ≡ rdiv p mass → pos 1 ≤ℤ mass → unsigned_abs p ≤ 2 ^ 41 → unsigned_abs q ≤ 2 ^ 41
+quotient_within p mass q e h l =
     let some : 1 ≤ unsigned_abs mass = omega (arith, ints) in
-    omega (arith, l, some)
+    rw e (rdiv_le p mass (2 ^ 41) (omega (arith, some)) (omega (arith, l, some)))
 
 -- what moves no faster than the speed limit
 slow_part : (p mass : ℤ) → pos 1 ≤ℤ mass → unsigned_abs mass ≤ 2 ^ 20 → unsigned_abs (rdiv p mass) ≤ 2 ^ 20 → unsigned_abs p ≤ 2 ^ 41

@@ -7,7 +7,7 @@ ghost use Rattle.momenta.specs.Motions.{IsMass};
 ghost use Rattle.momenta.specs.Impulses.{IsState, AreStates, turning_share, inverse_share, inverse_mass};
 
 use crate::{BodyState, Ends, MassData};
-use fixed_geom::{Vec2, narrow_cross, quotient_40, rdiv_unit_64};
+use fixed_geom::{Vec2, inverse_by, narrow_cross, quotient_40, rdiv_unit_64};
 
 /// What turning adds to a body's share of the inverse mass: nothing at inertia 0, or where the line goes through the centre.
 #[inline(always)]
@@ -39,16 +39,16 @@ fn share_of_inertia(inertia: i64, lever: i64) -> i128
     quotient_40(lever * lever, inertia)
 }
 
-/// The share of a mass without turning.
+/// The share of a mass without turning, with its reciprocal.
 #[inline(always)]
-fn share_of_mass(mass: i64) -> i64
+fn share_of_mass(mass: i64, reciprocal: u64) -> i64
     requires positive { pos 1 ≤ℤ mass }
     requires mass { unsigned_abs mass ≤ 2 ^ 20 }
     ensures value { result ≡ rdiv (pos (2 ^ 40)) mass }
     ensures some { pos (2 ^ 20) ≤ℤ result }
     ensures within { unsigned_abs result ≤ 2 ^ 40 }
 {
-    quotient_40(1, mass) as i64
+    inverse_by(mass, reciprocal)
 }
 
 /// The lever of a line through the point at the offset `r`, in u.
@@ -62,9 +62,9 @@ fn lever(r: Vec2, direction: Vec2) -> i64
     rdiv_unit_64(narrow_cross(r, direction))
 }
 
-/// A mover's share of the inverse mass.
+/// A mover's share of the inverse mass, with the reciprocal of its mass.
 #[inline(always)]
-fn share_of_mover(direction: Vec2, r: Vec2, mass: MassData) -> i128
+fn share_of_mover(direction: Vec2, r: Vec2, mass: MassData, reciprocal: u64) -> i128
     requires direction { IsWithin (2 ^ 30) direction }
     requires offset { IsWithin (2 ^ 27) r }
     requires mass { IsMass mass }
@@ -72,7 +72,8 @@ fn share_of_mover(direction: Vec2, r: Vec2, mass: MassData) -> i128
     ensures some { pos (2 ^ 20) ≤ℤ result }
     ensures within { unsigned_abs result ≤ 2 ^ 97 }
 {
-    i128::from(share_of_mass(mass.mass)) + turning_share(mass.inertia, lever(r, direction))
+    i128::from(share_of_mass(mass.mass, reciprocal))
+        + turning_share(mass.inertia, lever(r, direction))
 }
 
 /// A body's share of the inverse mass.
@@ -87,7 +88,7 @@ fn inverse_share(direction: Vec2, r: Vec2, body: &BodyState) -> i128
     ensures some { body.now.movable ≡ true → pos (2 ^ 20) ≤ℤ result }
 {
     if body.movable {
-        share_of_mover(direction, r, body.mass)
+        share_of_mover(direction, r, body.mass, body.reciprocals.mass)
     } else {
         0
     }

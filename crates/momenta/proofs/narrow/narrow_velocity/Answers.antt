@@ -1,9 +1,9 @@
-use Rattle.std.proofs.Common.{◌^◌, rules}
+use Rattle.std.proofs.Common.{rules}
 use Rattle.std.proofs.lemmas.Int.{to_z-of_z}
 use Rattle.std.specs.Int.{w64}
 use mir.Val.{SFits}
 use Rattle.momenta.specs.Motions.{velocity}
-use Rattle.momenta.proofs.NarrowLaws.{quotient_room}
+use Rattle.momenta.proofs.NarrowLaws.{quotient_within}
 use Rattle.momenta.proofs.narrow.narrow_velocity.Goals as goal
 
 pub returns-clause-value : goal.returns-clause-value
@@ -18,6 +18,6 @@ returns-clause-within c =
     let vx : SFits w64 c.rdiv_by.result = record { sfits = c.rdiv_by.type_inv } in
     let vy : SFits w64 c.rdiv_by-2.result = record { sfits = c.rdiv_by-2.type_inv } in
     record {
-      x = simp to_z-of_z (c.rdiv_by.ensures.within (2 ^ 41) (simp to_z-of_z (quotient_room c.args.p.x c.args.mass c.requires.positive c.requires.momentum.x)));
-      y = simp to_z-of_z (c.rdiv_by-2.ensures.within (2 ^ 41) (simp to_z-of_z (quotient_room c.args.p.y c.args.mass c.requires.positive c.requires.momentum.y)));
+      x = simp to_z-of_z (quotient_within c.args.p.x c.args.mass c.rdiv_by.result (simp to_z-of_z at c.rdiv_by.ensures) c.requires.positive c.requires.momentum.x);
+      y = simp to_z-of_z (quotient_within c.args.p.y c.args.mass c.rdiv_by-2.result (simp to_z-of_z at c.rdiv_by-2.ensures) c.requires.positive c.requires.momentum.y);
     }
