@@ -179,7 +179,7 @@ fn along(direction: Vec2, size: i64) -> Vec2
 /// A small impulse along a direction, in 64 bits.
 #[tactic(auto, unfolding(crate::specs::Impulses::along))]
 #[inline(always)]
-pub(crate) fn narrow_along(direction: Vec2, size: i64) -> Vec2
+fn narrow_along(direction: Vec2, size: i64) -> Vec2
     requires direction { IsWithin (2 ^ 30) direction }
     requires size { unsigned_abs size < 2 ^ 32 }
     ensures value { result ≡ along direction size }

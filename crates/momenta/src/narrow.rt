@@ -7,7 +7,7 @@ ghost use Rattle.momenta.specs.Motions.{spin, velocity};
 ghost use Rattle.momenta.specs.Impulses.{AreStates, IsLine, IsState, along, between, exerted, given, impulse_pair, parting, solved, turned_by, velocity_at, wanted, warmed};
 ghost use Rattle.momenta.specs.Narrow.{AreNarrow, IsImpulse, IsNarrow, ends_with, with_momenta};
 
-use crate::line::{SLOW, is_narrow, narrow_along, narrow_next_total, slow_part_along};
+use crate::line::{SLOW, is_narrow, narrow_next_total, slow_part_along};
 use crate::motion::{greatest_spin, limit_spin};
 use crate::ranges::{are_in, is_in};
 use crate::state::{NO_MOVE, carried_back, carried_on, grown, opposite};
