@@ -27,7 +27,7 @@ state_kept f g s is moved = elim (cases_Bool s.movable) [
       let first : changed f s ≡ record s { motion = f s.mass s.motion } = changed_mover f s h in
       let both : changed g (changed f s) ≡ record s { motion = g s.mass (f s.mass s.motion) } = ap (changed g) first ∙ changed_mover g (record s { motion = f s.mass s.motion }) h in
       let now : OnMover IsMotion (record s { motion = g s.mass (f s.mass s.motion) }) = subst (OnMover IsMotion) both moved in
-      subst IsState (sym both) (record { mass = is.mass; motion = now h; start = is.start })
+      subst IsState (sym both) (record { mass = is.mass; reciprocals = is.reciprocals; motion = now h; start = is.start })
   | inr h ↦ subst IsState (sym (ap (changed g) (changed_other f s h) ∙ changed_other g s h)) is
 ]
 

@@ -2,6 +2,7 @@
 use Rattle.std.specs.Prelude.{◌≡◌, ℕ, ◌^◌, false, cond, List, [], ◌∷◌, Some, ℤ, pos, ◌+ℤ◌, length, slice_get, slice_index_or}
 use Rattle.momenta.specs.declared.state.BodyState.{BodyState}
 use Rattle.momenta.specs.Impulses.{IsState, zero_vector}
+use Rattle.momenta.specs.Reciprocals.{reciprocals_of}
 
 -- what stands for the body in an empty slot: nothing moves it
 abbrev pub nobody : BodyState
@@ -10,11 +11,14 @@ nobody = record {
   mass = record { mass = pos 0; inertia = pos 0 };
   motion = record { p = zero_vector; l = pos 0; x = zero_vector; rot = record { c = pos (2 ^ 30); s = pos 0 } };
   start = zero_vector;
-  reciprocals = record { mass = 0; inertia = 0 };
+  reciprocals = record { mass = pos 0; inertia = pos 0 };
 }
 
 abbrev pub AreAllStates : List BodyState → Type 0
 AreAllStates states = (slot : ℕ) (s : BodyState) → slice_get states slot ≡ Some s → IsState s
+
+abbrev pub HaveReciprocals : List BodyState → Type 0
+HaveReciprocals states = (slot : ℕ) (s : BodyState) → slice_get states slot ≡ Some s → s.reciprocals ≡ reciprocals_of s.mass
 
 -- ---- the movers' momentum
 

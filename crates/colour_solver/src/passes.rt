@@ -5,10 +5,13 @@ ghost use Rattle.fixed_geom.specs.Vectors.{IsWithin};
 ghost use Rattle.momenta.specs.declared.mass.MassData.{MassData};
 ghost use Rattle.momenta.specs.declared.motion.Motion.{Motion};
 ghost use Rattle.momenta.specs.Gains.{IsGain};
-ghost use Rattle.colour_solver.specs.States.{AreSameStates, total_x, total_y};
+ghost use Rattle.momenta.specs.Reciprocals.{reciprocals_of};
+ghost use Rattle.colour_solver.specs.States.{AreSameStates, HaveReciprocals, total_x, total_y};
 ghost use Rattle.colour_solver.specs.Passes.{OnMover, OnMovers, changed, gain_x, gain_y, one_gain_x, one_gain_y, pass};
 
-use momenta::{BodyState, Gain, MassData, Motion, NOTHING, Reciprocals, gain_between, plus};
+use momenta::{
+    BodyState, Gain, MassData, Motion, NOTHING, Reciprocals, gain_between, plus, plus_rare,
+};
 
 /// A change of a mover's motion.
 pub trait Change {
@@ -21,7 +24,8 @@ pub trait Change {
     ghost gives: { Self → MassData → Motion → Type 0 };
 
     fn change(&self, mass: MassData, reciprocals: Reciprocals, motion: Motion) -> Motion
-        requires { fits self.now mass motion }
+        requires fits { fits self.now mass motion }
+        requires reciprocals { reciprocals ≡ reciprocals_of mass }
         ensures value { result ≡ after self.now mass motion }
         ensures gives { gives self.now mass result }
         ensures small { IsWithin (2 ^ 61) result.p };
@@ -36,6 +40,7 @@ pub struct Gains {
 
 /// Makes two changes to a mover, and none to another body.
 fn change_body<A: Change, B: Change>(body: &mut BodyState, first: &A, second: &B) -> Gains
+    requires reciprocals { body.old.reciprocals ≡ reciprocals_of body.old.mass }
     requires fits { OnMover (A.fits first.now) body.old }
     requires meets { (m : MassData) (s : Motion) → A.gives first.now m s → B.fits second.now m s }
     requires small { OnMover (λ m s. IsWithin (2 ^ 61) s.p) body.old }
@@ -67,6 +72,7 @@ fn change_body<A: Change, B: Change>(body: &mut BodyState, first: &A, second: &B
 /// Makes two changes to each mover, one after the other, in one pass.
 pub fn pass_two<A: Change, B: Change>(states: &mut Vec<BodyState>, first: &A, second: &B) -> Gains
     requires few { length states.old.items ≤ 16384 }
+    requires reciprocals { HaveReciprocals states.old.items }
     requires fits { OnMovers (A.fits first.now) states.old.items }
     requires meets { (m : MassData) (s : Motion) → A.gives first.now m s → B.fits second.now m s }
     requires small { OnMovers (λ m s. IsWithin (2 ^ 61) s.p) states.old.items }
@@ -88,7 +94,7 @@ pub fn pass_two<A: Change, B: Change>(states: &mut Vec<BodyState>, first: &A, se
         let gains = change_body(&mut states[slot], first, second);
         sums = Gains {
             first: plus(sums.first, gains.first),
-            second: plus(sums.second, gains.second),
+            second: plus_rare(sums.second, gains.second),
         };
     }
     sums

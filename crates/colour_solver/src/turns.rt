@@ -16,7 +16,7 @@ ghost use Rattle.colour_solver.specs.Turns.{AreRowsBelow, IsRowBelow, after, end
 
 use colour_solver_base::{ContactRow, NarrowRow};
 use fixed_geom::Vec2;
-use momenta::{BodyState, Ends, Gain, NOTHING, Narrow, gain_between, plus};
+use momenta::{BodyState, Ends, Gain, NOTHING, Narrow, gain_between, plus_rare};
 
 /// What a pass does with one contact and its two bodies.
 pub trait Turn {
@@ -201,7 +201,7 @@ pub fn pass_rows<T: Turn>(states: &mut Vec<BodyState>, rows: &mut Vec<ContactRow
     let mut given = NOTHING;
     for index in 0..rows.len() {
         let got = turn_row(states, &mut rows[index], turn);
-        given = plus(given, got);
+        given = plus_rare(given, got);
     }
     given
 }

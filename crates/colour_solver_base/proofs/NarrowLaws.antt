@@ -1,11 +1,10 @@
 -- The turn of a point in 64 bits from its two impulses, and that of a contact with one point from that.
-use Rattle.std.proofs.Common.{◌≡◌, ℕ, ◌^◌, ◌≤◌, None, ℤ, pos, ◌≤ℤ◌, unsigned_abs, arith, refl, ◌∙◌, ap}
+use Rattle.std.proofs.Common.{◌≡◌, ◌^◌, ◌≤◌, None, ℤ, pos, ◌≤ℤ◌, unsigned_abs, refl, ◌∙◌, ap}
 use Rattle.momenta.specs.declared.state.BodyState.{BodyState}
 use Rattle.momenta.specs.declared.state.Ends.{Ends}
-use Rattle.momenta.specs.declared.narrow.Narrow.{Narrow}
 use Rattle.momenta.specs.declared.narrow.NarrowPair.{NarrowPair}
 use Rattle.momenta.specs.declared.narrow.NarrowTurn.{NarrowTurn}
-use Rattle.momenta.specs.Narrow.{AreNarrow, IsImpulse, IsNarrow, ends_with}
+use Rattle.momenta.specs.Narrow.{IsImpulse, ends_with}
 use Rattle.colour_solver_base.specs.declared.row.PointRow.{PointRow}
 use Rattle.colour_solver_base.specs.declared.row.ContactRow.{ContactRow}
 use Rattle.colour_solver_base.specs.declared.solve.PointTurn.{PointTurn}
@@ -20,12 +19,6 @@ unfolding separation_now
 same_separation p a b n = refl
 
 -- ---- sizes
-
-looser_one : (k m : ℕ) (n : Narrow) → k ≤ m → IsNarrow k n → IsNarrow m n
-looser_one k m n l h = record { p = record { x = omega (arith, l, h.p.x); y = omega (arith, l, h.p.y) }; l = omega (arith, l, h.l) }
-
-pub looser : (k m : ℕ) (n : NarrowPair) → k ≤ m → AreNarrow k n → AreNarrow m n
-looser k m n l h = record { a = looser_one k m n.a l h.a; b = looser_one k m n.b l h.b }
 
 pub point_with : (p : PointRow) (push slip : ℤ) → IsPointRow p → pos 0 ≤ℤ push → unsigned_abs push ≤ 2 ^ 42 → unsigned_abs slip ≤ 2 ^ 43 → IsPointRow (with_impulses p push slip)
 point_with p push slip h low high small = record {

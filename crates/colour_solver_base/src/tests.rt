@@ -3,9 +3,12 @@ ghost use Rattle.fixed_geom.specs.Vectors.{IsWithin};
 ghost use Rattle.momenta.specs.Impulses.{AreStates, IsState};
 ghost use Rattle.colour_solver_base.specs.Rows.{IsRow};
 
-use crate::{Bodies, ContactRow, PointRow, RowTurn, bounce_row, solve_row, warm_row};
+use crate::{
+    Bodies, ContactRow, NarrowRow, PointRow, RowTurn, bounce_row, narrow_solve_row,
+    narrow_warm_row, solve_row, warm_row,
+};
 use fixed_geom::{Rot, Vec2};
-use momenta::{BodyState, Ends, MassData, Motion, reciprocals_of};
+use momenta::{BodyState, Ends, MassData, Motion, Narrow, NarrowPair, reciprocals_of};
 
 const ORIGIN: Vec2 = Vec2 { x: 0, y: 0 };
 
@@ -37,7 +40,7 @@ fn body(movable: bool, p: Vec2) -> BodyState
             rot: AHEAD,
         },
         start: ORIGIN,
-        reciprocals: reciprocals_of(UNIT_MASS, 0),
+        reciprocals: reciprocals_of(UNIT_MASS),
     }
 }
 
@@ -162,4 +165,48 @@ fn a_warm_start_gives_the_kept_impulses(rt: HostRuntime) {
     warm_row(&row, &mut ends);
     assert_eq!(rt; row.first.push, 1000);
     assert_eq!(rt; ends.b.motion.p, at(0, 1000));
+}
+
+/// What a turn in 64 bits leaves where the first body stands and the second has the momentum `p`.
+fn turned(push: i64, slip: i64, p: Vec2) -> NarrowRow {
+    NarrowRow {
+        push,
+        slip,
+        now: NarrowPair {
+            a: Narrow { p: ORIGIN, l: 0 },
+            b: Narrow { p, l: 0 },
+        },
+    }
+}
+
+/// A turn in 64 bits of a mover with the momentum `p` on ground that doesn't move.
+fn narrow_solved(p: Vec2) -> Option<NarrowRow>
+    requires { IsWithin (2 ^ 60) p }
+{
+    let ends = on_ground(p);
+    narrow_solve_row(&contact(0, 0, 0), &ends.a, &ends.b)
+}
+
+#[test]
+fn a_turn_in_64_bits_is_the_turn(rt: HostRuntime) {
+    let after = solved(0, Vec2 { x: 600, y: -1000 });
+    let expected = turned(
+        after.row.first.push,
+        after.row.first.slip,
+        after.ends.b.motion.p,
+    );
+    assert_eq!(rt; expected, turned(1000, -500, at(100, 0)));
+    assert_eq!(rt; narrow_solved(Vec2 { x: 600, y: -1000 }), Some(expected));
+}
+
+#[test]
+fn great_momenta_have_no_turn_in_64_bits(rt: HostRuntime) {
+    assert_eq!(rt; narrow_solved(Vec2 { x: 1 << 50, y: 0 }), None);
+}
+
+#[test]
+fn a_warm_start_in_64_bits_gives_the_kept_impulses(rt: HostRuntime) {
+    let ends = on_ground(ORIGIN);
+    let warmed = narrow_warm_row(&contact(0, 0, 1000), &ends.a, &ends.b);
+    assert_eq!(rt; warmed, Some(turned(1000, 0, at(0, 1000))));
 }

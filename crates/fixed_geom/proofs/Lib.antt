@@ -1,6 +1,7 @@
 pub mod FacingLemmas
 pub mod ListLemmas
 pub mod QuotientLemmas
+pub mod ReciprocalLemmas
 pub mod RootLemmas
 pub mod Shifts
 pub mod Sizes

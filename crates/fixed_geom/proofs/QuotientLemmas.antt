@@ -1,5 +1,5 @@
 -- Quotients to the nearest and down.
-use Rattle.std.proofs.Common.{◌≡◌, ℕ, zero, suc, ◌+◌, ◌-◌, ◌*◌, ◌/◌, ◌%◌, ◌^◌, ◌<◌, ◌≤◌, ℤ, pos, negsuc, ◌+ℤ◌, ◌-ℤ◌, ◌*ℤ◌, neg_ℤ, ◌<ℤ◌, ◌≤ℤ◌, unsigned_abs, arith, refl, sym, ◌∙◌, ap}
+use Rattle.std.proofs.Common.{◌≡◌, ℕ, zero, suc, ◌+◌, ◌-◌, ◌*◌, ◌/◌, ◌%◌, ◌^◌, ◌<◌, ◌≤◌, ℤ, pos, negsuc, ◌-ℤ◌, neg_ℤ, ◌<ℤ◌, ◌≤ℤ◌, unsigned_abs, arith, refl, sym, ◌∙◌, ap}
 use Rattle.std.proofs.lemmas.Nat.{div_below, div-mul-add, div-add-mod', mod_below}
 use Rattle.std.proofs.lemmas.Int.{ints}
 use Rattle.std.specs.Int.{int_div_euclid}
@@ -34,24 +34,11 @@ nearest_guessed n d q a b p e f h l = nearest_at (n * 2 ^ 30) d q a b (n * 2 ^ 3
 pub inverse_guessed : (n d q a b : ℕ) → 0 < d → a ≡ q → b ≡ 2 * d → a * b ≤ n * 2 ^ 41 + d → n * 2 ^ 41 + d < a * b + 2 * d → q ≡ nearest (n * 2 ^ 40) d
 inverse_guessed n d q a b p e f h l = nearest_at (n * 2 ^ 40) d q a b (n * 2 ^ 41 + d) p e f (omega arith) h l
 
--- the quotient of a sum that holds the divisor 2^20 times more often
-quotient_is : (s m g : ℕ) → g * m ≤ s → s < g * m + m → s / m ≡ g
+-- a quotient lies between its neighbours
+pub quotient_is : (s m g : ℕ) → g * m ≤ s → s < g * m + m → s / m ≡ g
 quotient_is s m g h k =
     let sum : s ≡ g * m + (s - g * m) = omega arith in
     ap (λ x. x / m) sum ∙ div-mul-add g m (s - g * m) (omega arith)
-
-pub lifted_up : (n d g s : ℕ) → 0 < d → s ≡ 2 * n + d * 2097153 → g * (2 * d) ≤ s → s < g * (2 * d) + 2 * d → g ≡ nearest n d + 1048576
-lifted_up n d g s p e h k =
-    let whole : nearest n d * (2 * d) + (2 * n + d) % (2 * d) ≡ 2 * n + d = div-add-mod' (2 * n + d) (2 * d) in
-    let rest : (2 * n + d) % (2 * d) < 2 * d = mod_below (2 * n + d) (2 * d) (omega arith) in
-    sym (quotient_is s (2 * d) g h k) ∙ quotient_is s (2 * d) (nearest n d + 1048576) (omega arith) (omega arith)
-
-pub lifted_down : (n d g s : ℕ) → 0 < d → s + 2 * n + 1 ≡ d * 2097153 → g * (2 * d) ≤ s → s < g * (2 * d) + 2 * d → g + nearest n d ≡ 1048576
-lifted_down n d g s p e h k =
-    let q = nearest n d in
-    let whole : nearest n d * (2 * d) + (2 * n + d) % (2 * d) ≡ 2 * n + d = div-add-mod' (2 * n + d) (2 * d) in
-    let rest : (2 * n + d) % (2 * d) < 2 * d = mod_below (2 * n + d) (2 * d) (omega arith) in
-    sym (quotient_is (s + nearest n d * (2 * d)) (2 * d) (g + nearest n d) (omega arith) (omega arith)) ∙ quotient_is (s + nearest n d * (2 * d)) (2 * d) 1048576 (omega arith) (omega arith)
 
 pub nearest_le : (n d k : ℕ) → 0 < d → n ≤ k * d → nearest n d ≤ k
 nearest_le n d k p h =
@@ -140,35 +127,3 @@ finished a b q p e = record {
   nearest = rw e (rdiv-nearest a b p);
   within = λ k h. rw e (rdiv_le a b k (omega (arith, ints)) h);
 }
-
--- ---- by a sum that is lifted above zero
-
-pub rdiv_lifted_up : (a b : ℤ) (g s : ℕ) → pos 0 <ℤ b → pos 0 ≤ℤ a → pos s ≡ (pos 2 *ℤ a) +ℤ (b *ℤ pos 2097153) → g * (2 * unsigned_abs b) ≤ s → s < g * (2 * unsigned_abs b) + 2 * unsigned_abs b → pos g -ℤ pos 1048576 ≡ rdiv a b
-unfolding rdiv
-rdiv_lifted_up (pos n) (pos d) g s p h e k l =
-    let is : g ≡ nearest n d + 1048576 = lifted_up n d g s (omega (arith, ints)) (omega (arith, ints, e)) k l in
-    omega (arith, ints, is)
-rdiv_lifted_up (negsuc n) b g s p h e k l = absurd (omega (arith, ints))
-rdiv_lifted_up a (negsuc d) g s p h e k l = absurd p.lt
-
-pub rdiv_lifted_down : (a b : ℤ) (g s : ℕ) → pos 0 <ℤ b → a <ℤ pos 0 → pos s ≡ ((pos 2 *ℤ a) -ℤ pos 1) +ℤ (b *ℤ pos 2097153) → g * (2 * unsigned_abs b) ≤ s → s < g * (2 * unsigned_abs b) + 2 * unsigned_abs b → pos g -ℤ pos 1048576 ≡ rdiv a b
-unfolding rdiv
-rdiv_lifted_down (pos n) b g s p h e k l = absurd (omega (arith, ints))
-rdiv_lifted_down (negsuc n) (pos d) g s p h e k l =
-    let is : g + nearest (suc n) d ≡ 1048576 = lifted_down (suc n) d g s (omega (arith, ints)) (omega (arith, ints, e)) k l in
-    negated_difference g (nearest (suc n) d) is
-  where
-    negated_difference : (g q : ℕ) → g + q ≡ 1048576 → pos g -ℤ pos 1048576 ≡ neg_ℤ (pos q)
-    negated_difference g zero i = omega (arith, ints, i)
-    negated_difference g (suc q) i = omega (arith, ints, i)
-rdiv_lifted_down a (negsuc d) g s p h e k l = absurd p.lt
-
-pub rdiv_lifted : (a b sum : ℤ) (g : ℕ) → pos 0 <ℤ b → pos 0 ≤ℤ sum → (pos 0 ≤ℤ a → sum ≡ (pos 2 *ℤ a) +ℤ (b *ℤ pos 2097153)) → (a <ℤ pos 0 → sum ≡ ((pos 2 *ℤ a) -ℤ pos 1) +ℤ (b *ℤ pos 2097153))
-    → g * (2 * unsigned_abs b) ≤ unsigned_abs sum → unsigned_abs sum - g * (2 * unsigned_abs b) < 2 * unsigned_abs b → pos g -ℤ pos 1048576 ≡ rdiv a b
-rdiv_lifted (pos n) b (pos s) g p some up down k l =
-    let whole : pos 0 ≤ℤ pos n = omega (arith, ints) in
-    rdiv_lifted_up (pos n) b g s p whole (up whole) k (omega (arith, k, l))
-rdiv_lifted (negsuc n) b (pos s) g p some up down k l =
-    let less : negsuc n <ℤ pos 0 = omega (arith, ints) in
-    rdiv_lifted_down (negsuc n) b g s p less (down less) k (omega (arith, k, l))
-rdiv_lifted a b (negsuc s) g p some up down k l = absurd (omega (arith, ints, some))

@@ -16,6 +16,14 @@ fn guess_40(n: u64, d: u64) -> u64
     low_52_bits(quotient * 1_099_511_627_776.0)
 }
 
+/// The same of an `n` and a `d` below 2^52, for which no test is made: of others it is no good guess.
+#[inline(always)]
+fn short_guess_40(n: u64, d: u64) -> u64
+    ensures small { result < 2 ^ 52 }
+{
+    low_52_bits(joined_float(n) / joined_float(d) * 1_099_511_627_776.0)
+}
+
 /// The nearest natural number to `n·2^40 / d`, the greater where two are as near, by a division.
 #[cold]
 #[inline(never)]
@@ -38,14 +46,6 @@ fn divided_40_64(n: u64, d: u64) -> u64
     ensures small { result ≤ 2 ^ 42 }
 {
     nearest_quotient_64(n << 40, d)
-}
-
-/// The same of an `n` and a `d` below 2^52, for which no test is made: of others it is no good guess.
-#[inline(always)]
-fn short_guess_40(n: u64, d: u64) -> u64
-    ensures small { result < 2 ^ 52 }
-{
-    low_52_bits(joined_float(n) / joined_float(d) * 1_099_511_627_776.0)
 }
 
 /// The nearest natural number to `n·2^40 / d`, the greater where two are as near: the guess if that is it, as it nearly always

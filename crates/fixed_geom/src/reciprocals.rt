@@ -1,68 +1,49 @@
-//! Quotients by a number that is divided by often: a product with its reciprocal guesses the quotient, and what follows puts
-//! any guess right, which spares a division (as for divisors that don't change, Granlund and Montgomery, 'Division by
-//! invariant integers using multiplication', 1994).
+//! Quotients by a number that is divided by often: a product with its reciprocal, which spares a division (as for divisors that
+//! don't change, Granlund and Montgomery, 'Division by invariant integers using multiplication', 1994).
 
-ghost use Rattle.std.specs.Prelude.{◌≡◌, ℕ, ◌+◌, ◌*◌, ◌^◌, ◌<◌, ◌≤◌, pos, neg_ℤ, ◌+ℤ◌, ◌-ℤ◌, ◌*ℤ◌, ◌≤ℤ◌, ◌<ℤ◌, unsigned_abs};
-ghost use Rattle.fixed_geom.specs.Numbers.{nearest, rdiv};
-ghost use Rattle.fixed_geom.specs.Reciprocals.{reciprocal, share_reciprocal};
+ghost use Rattle.std.specs.Prelude.{◌≡◌, ◌*◌, ◌^◌, ◌<◌, ◌≤◌, pos, neg_ℤ, ◌+ℤ◌, ◌-ℤ◌, ◌*ℤ◌, ◌≤ℤ◌, ◌<ℤ◌, unsigned_abs};
+ghost use Rattle.fixed_geom.specs.Numbers.{nearest, rdiv, fdiv};
+ghost use Rattle.fixed_geom.specs.Reciprocals.{rdiv_reciprocal, share_reciprocal};
 ghost use Rattle.fixed_geom.specs.Vectors.{unit_length};
 
 use crate::inverses::quotient_40_of_sizes;
-use crate::quotients::{nearest_quotient_64, rdiv_64, share_of_sizes};
+use crate::products::{difference_of_products, product};
+use crate::quotients::{nearest_quotient_64, rdiv_64, share};
 
-/// A whole up to this has no reciprocal for shares in 64 bits.
-const LEAST_WHOLE: i64 = 1 << 18;
+/// Shares are taken by a reciprocal of wholes from this.
+const LEAST_WHOLE: i64 = 1 << 20;
 
-/// Reciprocals are taken of numbers below this.
-const LIMIT: i64 = 1 << 62;
+/// Shares are taken by a reciprocal of wholes up to this.
+const MOST_WHOLE: i64 = 1 << 54;
 
-/// The reciprocal of a number below 2^62: the nearest to 2^51 / d, one more, and then times 2^12.
-#[inline(always)]
-fn reciprocal_of_size(d: u64) -> u64
-    requires positive { 0 < d }
-    requires most { d < 2 ^ 62 }
-    ensures { result ≡ (nearest (2 ^ 51) d + 1) * 2 ^ 12 }
+/// The reciprocal of `d` that `rdiv_by` and `inverse_by` take: the nearest whole number to 2^62 / d, and 0 where `d` isn't
+/// positive.
+#[tactic(auto, unfolding(crate::specs::Reciprocals::rdiv_reciprocal))]
+pub fn rdiv_reciprocal(d: i64) -> i64
+    ensures value { result ≡ rdiv_reciprocal d }
+    ensures nonnegative { pos 0 ≤ℤ result }
 {
-    (quotient_40_of_sizes(1 << 11, d) as u64 + 1) * (1 << 12)
-}
-
-/// The reciprocal of `d` that `rdiv_by` takes: a little more than 2^63 / d, so that it guesses right where the quotient is a whole
-/// number; 0 where `d` isn't positive, or 2^62 at least.
-#[tactic(auto, unfolding(crate::specs::Reciprocals::reciprocal))]
-#[inline(always)]
-pub fn reciprocal(d: i64) -> u64
-    ensures { result ≡ reciprocal d }
-{
-    if d > 0 {
-        if d < LIMIT {
-            reciprocal_of_size(d as u64)
-        } else {
-            0
-        }
-    } else {
-        0
-    }
+    if d > 0 { rdiv_64(1 << 62, d) } else { 0 }
 }
 
 /// The nearest whole number to 2^82 / k.
 #[inline(always)]
-fn share_reciprocal_of_size(k: u64) -> u64
-    requires least { 2 ^ 18 < k }
-    requires most { k < 2 ^ 62 }
-    ensures { result ≡ nearest (2 ^ 82) k }
+fn share_reciprocal_of_size(k: u64) -> i64
+    requires least { 2 ^ 20 ≤ k }
+    requires most { k ≤ 2 ^ 54 }
+    ensures { result ≡ pos (nearest (2 ^ 82) k) }
 {
-    quotient_40_of_sizes(1 << 42, k) as u64
+    quotient_40_of_sizes(1 << 42, k) as i64
 }
 
-/// The reciprocal of `k` that `share_by` takes: the nearest whole number to 2^82 / k; 0 where that has no room in 64 bits, or
-/// `k` is 2^62 at least.
+/// The reciprocal of `k` that `share_by` takes: the nearest whole number to 2^82 / k, and 0 where `k` is below 2^20 or above
+/// 2^54.
 #[tactic(auto, unfolding(crate::specs::Reciprocals::share_reciprocal))]
-#[inline(always)]
-pub fn share_reciprocal(k: i64) -> u64
+pub fn share_reciprocal(k: i64) -> i64
     ensures { result ≡ share_reciprocal k }
 {
-    if k > LEAST_WHOLE {
-        if k < LIMIT {
+    if LEAST_WHOLE <= k {
+        if k <= MOST_WHOLE {
             share_reciprocal_of_size(k as u64)
         } else {
             0
@@ -72,87 +53,54 @@ pub fn share_reciprocal(k: i64) -> u64
     }
 }
 
-/// A guess at `a / d` by the reciprocal of `d`, rounded down: the upper half of their product.
+/// 1 of what isn't below zero, else -1.
 #[inline(always)]
-fn guess_by(a: u64, reciprocal: u64) -> u64
-    ensures { result ≤ a }
-{
-    ((u128::from(a) * u128::from(reciprocal)) >> 64) as u64
-}
-
-/// -1 of what is below zero, else 0.
-#[inline(always)]
-fn below_zero(a: i64) -> i64
-    requires { unsigned_abs a ≤ 2 ^ 41 }
-    ensures up { pos 0 ≤ℤ a → result ≡ pos 0 }
+fn side(a: i64) -> i64
+    ensures up { pos 0 ≤ℤ a → result ≡ pos 1 }
     ensures down { a <ℤ pos 0 → result ≡ neg_ℤ (pos 1) }
     ensures small { unsigned_abs result ≤ 1 }
 {
-    a >> 63
+    2 * (a >> 63) + 1
 }
 
-/// Twice `a`, and one less where that is below zero.
-#[inline(always)]
-fn doubled(a: i64) -> i64
-    requires { unsigned_abs a ≤ 2 ^ 41 }
-    ensures up { pos 0 ≤ℤ a → result ≡ pos 2 *ℤ a }
-    ensures down { a <ℤ pos 0 → result ≡ (pos 2 *ℤ a) -ℤ pos 1 }
-    ensures small { unsigned_abs result ≤ 2 ^ 42 + 1 }
-{
-    2 * a + below_zero(a)
-}
-
-/// Twice `a` and once `b`, one less where `a` is below zero, so that a tie goes away from zero, and `2b` times 2^20: `2b` is in it 2^20
-/// times more often than the nearest whole number to `a / b`.
+/// Four times `a`, half of `4b`, and one to the side of `a`: an odd number, in which `4b` is as often as the nearest whole number to
+/// `a / b`, of two as near the one further from zero.
 #[inline(always)]
 fn lifted(a: i64, b: i64) -> i64
-    requires a { unsigned_abs a ≤ 2 ^ 41 }
+    requires a { unsigned_abs a ≤ 3 * 2 ^ 39 }
     requires positive { pos 0 <ℤ b }
     requires b { unsigned_abs b ≤ 2 ^ 20 }
-    ensures up { pos 0 ≤ℤ a → result ≡ (pos 2 *ℤ a) +ℤ (b *ℤ pos 2097153) }
-    ensures down { a <ℤ pos 0 → result ≡ ((pos 2 *ℤ a) -ℤ pos 1) +ℤ (b *ℤ pos 2097153) }
-    ensures small { unsigned_abs result ≤ 3 * 2 ^ 41 + 2 ^ 20 }
+    ensures up { pos 0 ≤ℤ a → result ≡ (pos 4 *ℤ a +ℤ pos 2 *ℤ b) +ℤ pos 1 }
+    ensures down { a <ℤ pos 0 → result ≡ (pos 4 *ℤ a +ℤ pos 2 *ℤ b) -ℤ pos 1 }
+    ensures small { unsigned_abs result < 2 ^ 43 }
 {
-    doubled(a) + b * 2_097_153
+    4 * a + 2 * b + side(a)
 }
 
-/// The nearest whole number to `a / b`, ties away from zero, by a division.
-#[cold]
-#[inline(never)]
-fn divided(a: i64, b: i64) -> i64
-    requires a { unsigned_abs a ≤ 2 ^ 41 }
-    requires positive { pos 0 <ℤ b }
-    ensures { result ≡ rdiv a b }
-{
-    rdiv_64(a, b)
-}
-
-/// The nearest whole number to `a / b`, ties away from zero, with the reciprocal of `b`: fast where it is at least -2^20. Another
-/// number in place of the reciprocal changes nothing but the time.
+/// `x·y / 2^64`, rounded down: the upper half of the product.
 #[inline(always)]
-pub fn rdiv_by(a: i64, b: i64, reciprocal: u64) -> i64
-    requires a { unsigned_abs a ≤ 2 ^ 41 }
-    requires positive { pos 0 <ℤ b }
-    requires b { unsigned_abs b ≤ 2 ^ 20 }
-    ensures { result ≡ rdiv a b }
+fn upper_half(x: i64, y: i64) -> i64
+    requires x { unsigned_abs x ≤ 2 ^ 62 }
+    requires y { unsigned_abs y ≤ 2 ^ 62 }
+    ensures { result ≡ fdiv (x *ℤ y) (pos (2 ^ 64)) }
 {
-    let sum = lifted(a, b);
-    if sum < 0 {
-        return divided(a, b);
-    }
-    let size = sum as u64;
-    let twice = 2 * b as u64;
-    let guess = guess_by(size, reciprocal);
-    let least = guess * twice;
-    if least <= size {
-        if size - least < twice {
-            return guess as i64 - (1 << 20);
-        }
-    }
-    divided(a, b)
+    (product(x, y) >> 64) as i64
 }
 
-/// The nearest natural number to 2^40 / d: the guess by a reciprocal if that is it, as it is by that of `d`.
+/// The nearest whole number to `a / b`, ties away from zero, with the reciprocal of `b`: of an `a` up to 3·2^39 in size and a `b` up
+/// to 2^20. What is divided is odd and so never a multiple of `4b`, and the reciprocal is so near that its error leads past none.
+#[inline(always)]
+pub fn rdiv_by(a: i64, b: i64, reciprocal: i64) -> i64
+    requires a { unsigned_abs a ≤ 3 * 2 ^ 39 }
+    requires positive { pos 0 <ℤ b }
+    requires b { unsigned_abs b ≤ 2 ^ 20 }
+    requires reciprocal { reciprocal ≡ rdiv_reciprocal b }
+    ensures { result ≡ rdiv a b }
+{
+    upper_half(lifted(a, b), reciprocal)
+}
+
+/// The nearest natural number to 2^40 / d: the guess by a reciprocal if that is it, as it nearly always is by that of `d`.
 #[inline(always)]
 fn inverse_of_size_by(d: u64, reciprocal: u64) -> u64
     requires positive { 0 < d }
@@ -160,7 +108,7 @@ fn inverse_of_size_by(d: u64, reciprocal: u64) -> u64
     ensures value { result ≡ nearest (2 ^ 40) d }
     ensures small { result ≤ 2 ^ 40 }
 {
-    let guess = ((reciprocal >> 22) + 1) >> 1;
+    let guess = ((reciprocal >> 21) + 1) >> 1;
     let least = guess * (2 * d);
     let sum = (1 << 41) + d;
     if least <= sum {
@@ -171,65 +119,82 @@ fn inverse_of_size_by(d: u64, reciprocal: u64) -> u64
     nearest_quotient_64(1 << 40, d)
 }
 
-/// The nearest whole number to 2^40 / k, with the reciprocal of `k`. Another number in its place changes nothing but the time.
+/// The nearest whole number to 2^40 / k, with the reciprocal of `k`.
 #[inline(always)]
-pub fn inverse_by(k: i64, reciprocal: u64) -> i64
+pub fn inverse_by(k: i64, reciprocal: i64) -> i64
     requires positive { pos 0 <ℤ k }
     requires k { unsigned_abs k ≤ 2 ^ 20 }
+    requires reciprocal { pos 0 ≤ℤ reciprocal }
     ensures value { result ≡ rdiv (pos (2 ^ 40)) k }
     ensures within { unsigned_abs result ≤ 2 ^ 40 }
 {
-    inverse_of_size_by(k as u64, reciprocal) as i64
+    inverse_of_size_by(k as u64, reciprocal as u64) as i64
 }
 
-/// A guess at `n·2^30 / d` to the nearest, by the reciprocal of `d`: a good one of an `n` below 2^52.
+/// `x·2^30 / k` to the nearest, or one beside it, by the reciprocal of `k`. That `x` is doubled before the product leads the backend
+/// to one product of 64 bits where `x` came from 128.
 #[inline(always)]
-fn guess_share_by(n: u64, reciprocal: u64) -> u64 {
-    ((u128::from(n << 12) * u128::from(reciprocal) + (1 << 63)) >> 64) as u64
+fn guess_share_by(x: i64, reciprocal: i64) -> i64
+    requires x { unsigned_abs x ≤ 2 ^ 52 }
+    requires reciprocal { unsigned_abs reciprocal ≤ 2 ^ 62 }
+    ensures { result ≡ fdiv (x *ℤ reciprocal +ℤ pos (2 ^ 51)) (pos (2 ^ 52)) }
+{
+    ((product(2 * x, reciprocal) + (1 << 52)) >> 53) as i64
 }
 
-/// The nearest natural number to `n·2^30 / d`, the greater where two are as near, without a reciprocal.
+/// What `x·2^31` is beyond `2k` times the guess: in 64 bits, since that is little.
+#[inline(always)]
+fn rest_of_share(x: i64, k: i64, guess: i64) -> i64
+    requires x { unsigned_abs x ≤ 2 ^ 52 }
+    requires k { unsigned_abs k ≤ 2 ^ 54 }
+    requires little { unsigned_abs ((x *ℤ pos (2 ^ 31)) -ℤ (guess *ℤ (pos 2 *ℤ k))) < 2 ^ 63 }
+    ensures { result ≡ (x *ℤ pos (2 ^ 31)) -ℤ (guess *ℤ (pos 2 *ℤ k)) }
+{
+    difference_of_products(x, 1 << 31, guess, 2 * k) as i64
+}
+
+/// `share` without a reciprocal.
 #[cold]
 #[inline(never)]
-fn share_without(n: u64, d: u64) -> u64
-    requires positive { 0 < d }
-    requires part { n ≤ d }
-    requires whole { d < 2 ^ 62 }
-    ensures value { result ≡ nearest (n * 2 ^ 30) d }
-    ensures small { result ≤ 2 ^ 30 }
-{
-    share_of_sizes(n, d)
-}
-
-/// The same: the guess by a reciprocal if that is it, as it nearly always is by that of `d`.
-#[inline(always)]
-fn share_of_sizes_by(n: u64, d: u64, reciprocal: u64) -> u64
-    requires positive { 0 < d }
-    requires part { n ≤ d }
-    requires whole { d < 2 ^ 62 }
-    ensures value { result ≡ nearest (n * 2 ^ 30) d }
-    ensures small { result ≤ 2 ^ 30 }
-{
-    let guess = guess_share_by(n, reciprocal);
-    let least = u128::from(guess) * u128::from(2 * d);
-    let sum = (u128::from(n) << 31) + u128::from(d);
-    if least <= sum {
-        if sum - least < u128::from(2 * d) {
-            return guess;
-        }
-    }
-    share_without(n, d)
-}
-
-/// `share` of a whole below 2^62, with the `share_reciprocal` of `k`. Another number in its place changes nothing but the time.
-#[inline(always)]
-pub fn share_by(x: i64, k: i64, reciprocal: u64) -> i64
+fn divided_share(x: i64, k: i64) -> i64
     requires positive { pos 0 <ℤ k }
-    requires part { unsigned_abs x ≤ unsigned_abs k }
-    requires whole { unsigned_abs k < 2 ^ 62 }
+    requires part { 4 * unsigned_abs x ≤ unsigned_abs k }
     ensures value { result ≡ rdiv (x *ℤ unit_length) k }
-    ensures within { unsigned_abs result ≤ 2 ^ 30 }
+    ensures within { unsigned_abs result ≤ 2 ^ 28 }
 {
-    let size = share_of_sizes_by(x.unsigned_abs(), k as u64, reciprocal) as i64;
-    if x < 0 { -size } else { size }
+    share(x, k)
+}
+
+/// The same of a whole that has a reciprocal: the guess by it if that is the nearest alone, as it nearly always is.
+#[inline(always)]
+fn share_of_whole(x: i64, k: i64, reciprocal: i64) -> i64
+    requires least { pos (2 ^ 20) ≤ℤ k }
+    requires most { k ≤ℤ pos (2 ^ 54) }
+    requires part { 4 * unsigned_abs x ≤ unsigned_abs k }
+    requires reciprocal { reciprocal ≡ rdiv (pos (2 ^ 82)) k }
+    ensures value { result ≡ rdiv (x *ℤ unit_length) k }
+    ensures within { unsigned_abs result ≤ 2 ^ 28 }
+{
+    let guess = guess_share_by(x, reciprocal);
+    if rest_of_share(x, k, guess).unsigned_abs() < k as u64 {
+        guess
+    } else {
+        divided_share(x, k)
+    }
+}
+
+/// `share` of an `x` that is at most a quarter of `k`, with the `share_reciprocal` of that.
+#[inline(always)]
+pub fn share_by(x: i64, k: i64, reciprocal: i64) -> i64
+    requires positive { pos 0 <ℤ k }
+    requires part { 4 * unsigned_abs x ≤ unsigned_abs k }
+    requires reciprocal { reciprocal ≡ share_reciprocal k }
+    ensures value { result ≡ rdiv (x *ℤ unit_length) k }
+    ensures within { unsigned_abs result ≤ 2 ^ 28 }
+{
+    if reciprocal == 0 {
+        divided_share(x, k)
+    } else {
+        share_of_whole(x, k, reciprocal)
+    }
 }

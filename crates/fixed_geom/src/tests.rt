@@ -1,6 +1,6 @@
 //! Values worked by hand, each public function once.
 
-ghost use Rattle.std.specs.Prelude.{◌≡◌, pos, neg_ℤ, true};
+ghost use Rattle.std.specs.Prelude.{◌≡◌, ◌*◌, ◌^◌, ◌≤◌, ◌<ℤ◌, pos, neg_ℤ, true, unsigned_abs};
 ghost use Rattle.fixed_geom.specs.Numbers.{rdiv, fdiv, isqrt};
 ghost use Rattle.fixed_geom.specs.Vectors.{cross, unit};
 ghost use Rattle.fixed_geom.specs.Facings.{is_facing, turn};
@@ -20,6 +20,40 @@ fn quotients_round(rt: HostRuntime) {
     assert_eq!(rt; rdiv_unit(-(1 << 92)), -(1 << 62));
     assert_eq!(rt; fdiv(-20000, 3), -6667);
     assert_eq!(rt; fdiv(20000, 3), 6666);
+}
+
+/// A quotient by the reciprocal of the divisor.
+fn quotient(a: i64, b: i64) -> i64
+    requires a { unsigned_abs a ≤ 3 * 2 ^ 39 }
+    requires positive { pos 0 <ℤ b }
+    requires b { unsigned_abs b ≤ 2 ^ 20 }
+{
+    rdiv_by(a, b, rdiv_reciprocal(b))
+}
+
+/// A share by the reciprocal of the whole.
+fn part(x: i64, k: i64) -> i64
+    requires positive { pos 0 <ℤ k }
+    requires part { 4 * unsigned_abs x ≤ unsigned_abs k }
+{
+    share_by(x, k, share_reciprocal(k))
+}
+
+#[test]
+fn quotients_by_reciprocals_round(rt: HostRuntime) {
+    assert_eq!(rt; quotient(7, 2), 4);
+    assert_eq!(rt; quotient(-7, 2), -4);
+    assert_eq!(rt; quotient(-5, 3), -2);
+    assert_eq!(rt; quotient(-1, 3), 0);
+    assert_eq!(rt; quotient(1649267441664, 1048576), 1572864);
+    assert_eq!(rt; quotient(-1649267441664, 1), -1649267441664);
+    assert_eq!(rt; inverse_by(3, rdiv_reciprocal(3)), 366503875925);
+    assert_eq!(rt; part(1, 4), 268435456);
+    assert_eq!(rt; part(-262144, 1048576), -268435456);
+    assert_eq!(rt; part(-1, 2147483648), -1);
+    assert_eq!(rt; part(-1, 2147483649), 0);
+    assert_eq!(rt; part(1 << 40, 1 << 54), 65536);
+    assert_eq!(rt; part(1 << 40, 1 << 58), 4096);
 }
 
 #[test]

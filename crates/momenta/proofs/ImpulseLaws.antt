@@ -28,7 +28,7 @@ moved_by j r s = record s { motion = record s.motion { p = plus s.motion.p j; l 
 state_by : (t : Bool) (j r : Vec2) (s : BodyState) → IsState s → fits (cond t (moved_by j r s) s).motion ≡ true → IsState (cond t (moved_by j r s) s)
 state_by true j r s h k =
     let f = fitting (moved_by j r s).motion k in
-    record { mass = h.mass; motion = record { p = f.p; l = f.l; still = λ e. turned_still s.mass.inertia s.motion.l (cross r j) h.motion.still e; x = h.motion.x; facing = h.motion.facing }; start = h.start }
+    record { mass = h.mass; reciprocals = h.reciprocals; motion = record { p = f.p; l = f.l; still = λ e. turned_still s.mass.inertia s.motion.l (cross r j) h.motion.still e; x = h.motion.x; facing = h.motion.facing }; start = h.start }
 state_by false j r s h k = h
 
 -- where the momenta are within their limits

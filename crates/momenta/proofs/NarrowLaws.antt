@@ -1,6 +1,6 @@
 -- Momenta in 64 bits: sizes of what is given to them, and that it is what the definitions give.
-use Rattle.std.proofs.Common.{◌≡◌, ℕ, zero, suc, ◌*◌, ◌+◌, ◌^◌, ◌≤◌, true, false, Option, Some, None, IfSome, ℤ, pos, negsuc, ◌+ℤ◌, ◌-ℤ◌, ◌*ℤ◌, ◌≤ℤ◌, unsigned_abs, arith, refl, sym, subst, inl, inr}
-use Rattle.std.proofs.lemmas.Bool.{cases_lt}
+use Rattle.std.proofs.Common.{◌≡◌, ℕ, zero, suc, ◌*◌, ◌+◌, ◌^◌, ◌≤◌, true, false, Option, Some, None, IfSome, ℤ, pos, negsuc, ◌+ℤ◌, ◌-ℤ◌, ◌*ℤ◌, ◌≤ℤ◌, unsigned_abs, arith, refl, sym, ap, ◌∙◌, subst, inl, inr}
+use Rattle.std.proofs.lemmas.Bool.{cases_lt, le-leb}
 use Rattle.std.proofs.lemmas.Int.{ints}
 use Rattle.fixed_geom.specs.Numbers.{rdiv}
 use Rattle.fixed_geom.specs.Vectors.{IsWithin, unit_length}
@@ -8,7 +8,11 @@ use Rattle.fixed_geom.specs.declared.vectors.Vec2.{Vec2}
 use Rattle.fixed_geom.proofs.QuotientLemmas.{rdiv_le}
 use Rattle.fixed_geom.proofs.Sizes.{product_le}
 use Rattle.momenta.specs.declared.mass.MassData.{MassData}
-use Rattle.momenta.specs.Motions.{IsMass, velocity, spin}
+use Rattle.momenta.specs.Motions.{IsMass, limited, velocity, spin}
+use Rattle.momenta.specs.Reciprocals.{reciprocals_of}
+use Rattle.momenta.specs.declared.reciprocals.Reciprocals.{Reciprocals}
+use Rattle.fixed_geom.specs.Reciprocals.{rdiv_reciprocal, share_reciprocal}
+use Rattle.momenta.proofs.Spins.{spin_turning}
 use Rattle.momenta.proofs.Rounding.{rdiv_fast}
 use Rattle.momenta.specs.declared.state.BodyState.{BodyState}
 use Rattle.momenta.specs.declared.narrow.Narrow.{Narrow}
@@ -26,24 +30,34 @@ scaled_within a b q k e h l =
     let size : unsigned_abs (a *ℤ b) ≤ k * 2 ^ 30 = product_le a b k (2 ^ 30) h l in
     rw e (rdiv_le (a *ℤ b) unit_length k (omega arith) size)
 
-pub part_narrow : (k : ℕ) (p : ℤ) → k ≤ 4 → unsigned_abs p ≤ 2 ^ 40 + k * 2 ^ 30 → unsigned_abs p ≤ 2 ^ 41
-part_narrow k p h l = omega (arith, h, l)
-
-pub quotient_within : (p mass q : ℤ) → q ≡ rdiv p mass → pos 1 ≤ℤ mass → unsigned_abs p ≤ 2 ^ 41 → unsigned_abs q ≤ 2 ^ 41
+pub quotient_within : (p mass q : ℤ) → q ≡ rdiv p mass → pos 1 ≤ℤ mass → unsigned_abs p ≤ 3 * 2 ^ 39 → unsigned_abs q ≤ 2 ^ 41
 quotient_within p mass q e h l =
     let some : 1 ≤ unsigned_abs mass = omega (arith, ints) in
     rw e (rdiv_le p mass (2 ^ 41) (omega (arith, some)) (omega (arith, l, some)))
 
 -- what moves no faster than the speed limit
-slow_part : (p mass : ℤ) → pos 1 ≤ℤ mass → unsigned_abs mass ≤ 2 ^ 20 → unsigned_abs (rdiv p mass) ≤ 2 ^ 20 → unsigned_abs p ≤ 2 ^ 41
-slow_part p mass h few slow = elim (cases_lt (2 ^ 41) (unsigned_abs p)) [
+slow_part : (p mass : ℤ) → pos 1 ≤ℤ mass → unsigned_abs mass ≤ 2 ^ 20 → unsigned_abs (rdiv p mass) ≤ 2 ^ 20 → unsigned_abs p ≤ 3 * 2 ^ 39
+slow_part p mass h few slow = elim (cases_lt (3 * 2 ^ 39) (unsigned_abs p)) [
   | inl more ↦ absurd (let fast = rdiv_fast p mass (2 ^ 20) h (omega (arith, few, more)) in omega (arith, fast, slow))
   | inr less ↦ omega (arith, less)
 ]
 
-pub slow_small : (p : Vec2) (m : MassData) → IsMass m → IsWithin (2 ^ 20) (velocity m.mass p) → IsWithin (2 ^ 41) p
+pub slow_small : (p : Vec2) (m : MassData) → IsMass m → IsWithin (2 ^ 20) (velocity m.mass p) → IsWithin (3 * 2 ^ 39) p
 unfolding velocity
 slow_small p m h slow = record { x = slow_part p.x m.mass h.positive h.mass slow.x; y = slow_part p.y m.mass h.positive h.mass slow.y }
+
+-- ---- with the reciprocals of a mass
+
+pub mass_reciprocal : (m : MassData) (r : Reciprocals) → r ≡ reciprocals_of m → r.mass ≡ rdiv_reciprocal m.mass
+unfolding reciprocals_of
+mass_reciprocal m r e = rw e refl
+
+pub inertia_reciprocal : (m : MassData) (r : Reciprocals) → r ≡ reciprocals_of m → r.inertia ≡ share_reciprocal m.inertia
+unfolding reciprocals_of
+inertia_reciprocal m r e = rw e refl
+
+pub quarter_turn : (inertia l w : ℤ) → pos 1 ≤ℤ inertia → w ≡ rdiv (l *ℤ unit_length) inertia → unsigned_abs w ≤ 2 ^ 28 → w ≡ spin inertia l
+quarter_turn inertia l w h e small = sym (spin_turning inertia l h ∙ ap (limited (2 ^ 28)) (sym e) ∙ rw (le-leb (unsigned_abs w) (2 ^ 28) small) refl)
 
 -- ---- the velocity of a point
 

@@ -9,6 +9,7 @@ use Rattle.momenta.specs.declared.state.Ends.{Ends}
 use Rattle.momenta.specs.declared.line.Line.{Line}
 use Rattle.momenta.specs.declared.line.Exerted.{Exerted}
 use Rattle.momenta.specs.Motions.{IsMass, IsMotion, velocity, spin}
+use Rattle.momenta.specs.Reciprocals.{reciprocals_of}
 
 abbrev pub zero_vector : Vec2
 zero_vector = record { x = pos 0; y = pos 0 }
@@ -21,9 +22,10 @@ negated v = record { x = neg_ℤ v.x; y = neg_ℤ v.y }
 
 -- ---- a body within a step
 
--- what is kept of it: a mover's mass is one, and its numbers are within their limits
+-- what is kept of it: a mover's mass is one, its numbers are within their limits, and the reciprocals are those of the mass
 pub record IsState (s : BodyState) : Type 0 where
   pub mass : s.movable ≡ true → IsMass s.mass
+  pub reciprocals : s.reciprocals ≡ reciprocals_of s.mass
   pub motion : IsMotion s.mass s.motion
   pub start : IsWithin (2 ^ 36) s.start
 

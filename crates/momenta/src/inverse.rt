@@ -41,9 +41,10 @@ fn share_of_inertia(inertia: i64, lever: i64) -> i128
 
 /// The share of a mass without turning, with its reciprocal.
 #[inline(always)]
-fn share_of_mass(mass: i64, reciprocal: u64) -> i64
+fn share_of_mass(mass: i64, reciprocal: i64) -> i64
     requires positive { pos 1 ≤ℤ mass }
     requires mass { unsigned_abs mass ≤ 2 ^ 20 }
+    requires reciprocal { pos 0 ≤ℤ reciprocal }
     ensures value { result ≡ rdiv (pos (2 ^ 40)) mass }
     ensures some { pos (2 ^ 20) ≤ℤ result }
     ensures within { unsigned_abs result ≤ 2 ^ 40 }
@@ -64,10 +65,11 @@ fn lever(r: Vec2, direction: Vec2) -> i64
 
 /// A mover's share of the inverse mass, with the reciprocal of its mass.
 #[inline(always)]
-fn share_of_mover(direction: Vec2, r: Vec2, mass: MassData, reciprocal: u64) -> i128
+fn share_of_mover(direction: Vec2, r: Vec2, mass: MassData, reciprocal: i64) -> i128
     requires direction { IsWithin (2 ^ 30) direction }
     requires offset { IsWithin (2 ^ 27) r }
     requires mass { IsMass mass }
+    requires reciprocal { pos 0 ≤ℤ reciprocal }
     ensures value { result ≡ rdiv (pos (2 ^ 40)) mass.mass +ℤ turning_share mass.inertia (rdiv (cross r direction) unit_length) }
     ensures some { pos (2 ^ 20) ≤ℤ result }
     ensures within { unsigned_abs result ≤ 2 ^ 97 }

@@ -88,7 +88,7 @@ fn part_spin(l: i64, inertia: i64) -> i64
 /// The spin of one that is greater, which would be more than a radian: the limit, with its sign.
 #[cold]
 #[inline(never)]
-pub(crate) fn greatest_spin(l: i128, inertia: i64) -> i64
+fn greatest_spin(l: i128, inertia: i64) -> i64
     requires positive { pos 1 ≤ℤ inertia }
     requires greater { unsigned_abs inertia < unsigned_abs l }
     ensures value { result ≡ spin inertia l }
@@ -99,7 +99,7 @@ pub(crate) fn greatest_spin(l: i128, inertia: i64) -> i64
 
 /// A spin beyond `MAX_SPIN` is put on it.
 #[inline(always)]
-pub(crate) fn limit_spin(w: i64) -> i64
+fn limit_spin(w: i64) -> i64
     ensures value { result ≡ limited (2 ^ 28) w }
     ensures small { unsigned_abs result ≤ 2 ^ 28 }
 {

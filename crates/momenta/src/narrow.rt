@@ -2,16 +2,16 @@
 //! copies of the momenta alone. Where there is no room, the answer is `None`, and the wide forms are to be used.
 
 ghost use Rattle.std.specs.Prelude.{◌≡◌, ℕ, ◌^◌, ◌<◌, ◌≤◌, ◌+◌, ◌*◌, Some, true, pos, ◌+ℤ◌, ◌≤ℤ◌, unsigned_abs, IfSome};
+ghost use Rattle.fixed_geom.specs.Reciprocals.{rdiv_reciprocal, share_reciprocal};
 ghost use Rattle.fixed_geom.specs.Vectors.{IsWithin};
 ghost use Rattle.momenta.specs.Motions.{spin, velocity};
 ghost use Rattle.momenta.specs.Impulses.{AreStates, IsLine, IsState, along, between, exerted, given, impulse_pair, parting, solved, turned_by, velocity_at, wanted, warmed};
 ghost use Rattle.momenta.specs.Narrow.{AreNarrow, IsImpulse, IsNarrow, ends_with, with_momenta};
 
 use crate::line::{SLOW, is_narrow, narrow_next_total, slow_part_along};
-use crate::motion::{greatest_spin, limit_spin};
 use crate::ranges::{are_in, is_in};
 use crate::state::{NO_MOVE, carried_back, carried_on, grown, opposite};
-use crate::{BodyState, Line};
+use crate::{BodyState, Line, spin};
 use fixed_geom::{Vec2, minus, narrow_cross, narrow_scaled, rdiv_by, share_by};
 
 /// A component of a momentum up to this has room for the quotient by a mass and for some impulses.
@@ -97,39 +97,60 @@ pub fn narrow_pair(a: &BodyState, b: &BodyState) -> Option<NarrowPair>
     }
 }
 
-/// The spin of an angular momentum that isn't greater than the inertia, with the reciprocal of that.
+/// Whether an angular momentum gives a spin within the limit: it is at most a quarter of the inertia.
 #[inline(always)]
-fn part_spin_by(l: i64, inertia: i64, reciprocal: u64) -> i64
-    requires part { unsigned_abs l ≤ unsigned_abs inertia }
+fn is_quarter(l: i64, inertia: i64) -> bool
+    requires { pos 0 ≤ℤ inertia }
+    ensures { result ≡ true → 4 * unsigned_abs l ≤ unsigned_abs inertia }
+{
+    l.unsigned_abs() <= inertia as u64 / 4
+}
+
+/// The spin of an angular momentum that is at most a quarter of the inertia, with the reciprocal of that.
+#[inline(always)]
+fn quarter_spin(l: i64, inertia: i64, reciprocal: i64) -> i64
+    requires quarter { 4 * unsigned_abs l ≤ unsigned_abs inertia }
     requires positive { pos 1 ≤ℤ inertia }
-    requires whole { unsigned_abs inertia ≤ 2 ^ 60 }
+    requires reciprocal { reciprocal ≡ share_reciprocal inertia }
     ensures value { result ≡ spin inertia l }
     ensures small { unsigned_abs result ≤ 2 ^ 28 }
 {
-    limit_spin(share_by(l, inertia, reciprocal))
+    share_by(l, inertia, reciprocal)
+}
+
+/// The spin of any angular momentum.
+#[cold]
+#[inline(never)]
+fn any_spin(l: i128, inertia: i64) -> i64
+    requires momentum { unsigned_abs l ≤ 2 ^ 90 }
+    requires nonnegative { pos 0 ≤ℤ inertia }
+    ensures value { result ≡ spin inertia l }
+    ensures small { unsigned_abs result ≤ 2 ^ 28 }
+{
+    spin(l, inertia)
 }
 
 /// The spin of an angular momentum, as `spin` has it, with the reciprocal of the inertia.
 #[inline(always)]
-fn narrow_spin(l: i64, inertia: i64, reciprocal: u64) -> i64
+fn narrow_spin(l: i64, inertia: i64, reciprocal: i64) -> i64
     requires inertia { pos 1 ≤ℤ inertia }
-    requires whole { unsigned_abs inertia ≤ 2 ^ 60 }
+    requires reciprocal { reciprocal ≡ share_reciprocal inertia }
     ensures value { result ≡ spin inertia l }
     ensures small { unsigned_abs result ≤ 2 ^ 28 }
 {
-    if l.unsigned_abs() <= inertia as u64 {
-        part_spin_by(l, inertia, reciprocal)
+    if is_quarter(l, inertia) {
+        quarter_spin(l, inertia, reciprocal)
     } else {
-        greatest_spin(i128::from(l), inertia)
+        any_spin(i128::from(l), inertia)
     }
 }
 
 /// `spin` with the reciprocal of the inertia.
 #[inline(always)]
-pub(crate) fn spin_by(l: i128, inertia: i64, reciprocal: u64) -> i64
+pub(crate) fn spin_by(l: i128, inertia: i64, reciprocal: i64) -> i64
     requires momentum { unsigned_abs l ≤ 2 ^ 90 }
     requires nonnegative { pos 0 ≤ℤ inertia }
-    requires whole { unsigned_abs inertia ≤ 2 ^ 60 }
+    requires reciprocal { reciprocal ≡ share_reciprocal inertia }
     ensures value { result ≡ spin inertia l }
     ensures small { unsigned_abs result ≤ 2 ^ 28 }
 {
@@ -137,19 +158,20 @@ pub(crate) fn spin_by(l: i128, inertia: i64, reciprocal: u64) -> i64
     if l == 0 || inertia == 0 {
         0
     } else if -most <= l && l <= most {
-        part_spin_by(l as i64, inertia, reciprocal)
+        narrow_spin(l as i64, inertia, reciprocal)
     } else {
-        greatest_spin(l, inertia)
+        any_spin(l, inertia)
     }
 }
 
 /// The velocity of a small momentum, as `velocity` has it, with the reciprocal of the mass.
 #[tactic(auto, unfolding(crate::specs::Motions::velocity))]
 #[inline(always)]
-pub(crate) fn narrow_velocity(p: Vec2, mass: i64, reciprocal: u64) -> Vec2
-    requires momentum { IsWithin (2 ^ 41) p }
+pub(crate) fn narrow_velocity(p: Vec2, mass: i64, reciprocal: i64) -> Vec2
+    requires momentum { IsWithin (3 * 2 ^ 39) p }
     requires positive { pos 1 ≤ℤ mass }
     requires mass { unsigned_abs mass ≤ 2 ^ 20 }
+    requires reciprocal { reciprocal ≡ rdiv_reciprocal mass }
     ensures value { result ≡ velocity mass p }
     ensures within { IsWithin (2 ^ 41) result }
 {

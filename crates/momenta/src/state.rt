@@ -23,7 +23,7 @@ const ROOMY_MOMENTUM: i64 = 1 << 59;
 const ROOMY_ANGULAR: i128 = 1 << 89;
 
 /// A body as the solver works on it: whether impulses move it, its mass, its motion, where its
-/// centre was when the step began (u), and what its quotients are guessed with.
+/// centre was when the step began (u), and what its quotients are taken with.
 #[derive(Clone, Copy, Debug, PartialEq, Eq)]
 pub struct BodyState {
     pub movable: bool,

@@ -4,8 +4,8 @@ ghost use Rattle.momenta.specs.Impulses.{AreStates, IsLine, IsState};
 ghost use Rattle.momenta.specs.Motions.{IsMass, IsMotion};
 
 use crate::{
-    BodyState, Ends, Line, MassData, Motion, advance, clamp_speed, inverse_mass, parting, pull,
-    reciprocals_of, solve_line,
+    BodyState, Ends, Line, MassData, Motion, Narrow, NarrowPair, advance, clamp_speed,
+    inverse_mass, narrow_pair, parting, pull, reciprocals_of, solve_line,
 };
 use fixed_geom::{Rot, Vec2};
 
@@ -24,7 +24,7 @@ fn tick(motion: Motion, mass: MassData, gravity: Vec2) -> Motion
 {
     let pulled = pull(motion, mass, gravity);
     let (limited, _) = clamp_speed(pulled, mass);
-    let (moved, _) = advance(limited, mass, reciprocals_of(mass, limited.l));
+    let (moved, _) = advance(limited, mass, reciprocals_of(mass));
     moved
 }
 
@@ -43,7 +43,7 @@ fn a_push_beyond_the_speed_limit_is_cut(rt: HostRuntime) {
     let (limited, change) = clamp_speed(pushed, mass);
     assert_eq!(rt; limited.p, at(1048576, 0));
     assert_eq!(rt; change, at(-1048576, 0));
-    let (moved, lost) = advance(limited, mass, reciprocals_of(mass, limited.l));
+    let (moved, lost) = advance(limited, mass, reciprocals_of(mass));
     assert_eq!(rt; moved.x, at(1048576, 0));
     assert_eq!(rt; moved.p, at(1048576, 0));
     assert_eq!(rt; lost, at(0, 0));
@@ -66,7 +66,7 @@ fn the_edge_stops_a_body(rt: HostRuntime) {
     };
     let (slow, kept) = clamp_speed(near, mass);
     assert_eq!(rt; kept, at(0, 0));
-    let (stopped, change) = advance(slow, mass, reciprocals_of(mass, slow.l));
+    let (stopped, change) = advance(slow, mass, reciprocals_of(mass));
     assert_eq!(rt; stopped.x, at(68719476736, 0));
     assert_eq!(rt; stopped.p, at(0, 0));
     assert_eq!(rt; change, at(-10, 0));
@@ -102,7 +102,7 @@ fn a_fast_spin_turns_by_its_limit(rt: HostRuntime) {
         rot: AHEAD,
     };
     let (limited, _) = clamp_speed(start, mass);
-    let (moved, change) = advance(limited, mass, reciprocals_of(mass, limited.l));
+    let (moved, change) = advance(limited, mass, reciprocals_of(mass));
     assert_eq!(rt; moved.x, at(0, 150));
     assert_eq!(rt; moved.rot.c, 1041682578);
     assert_eq!(rt; moved.rot.s, 260420645);
@@ -131,7 +131,7 @@ fn mover(mass: i64, p: Vec2) -> BodyState
             rot: AHEAD,
         },
         start: ORIGIN,
-        reciprocals: reciprocals_of(weight, 0),
+        reciprocals: reciprocals_of(weight),
     }
 }
 
@@ -205,4 +205,20 @@ fn an_impulse_beyond_the_limit_is_dropped(rt: HostRuntime) {
     assert_eq!(rt; total, 0);
     assert_eq!(rt; ends.a.motion.p, ORIGIN);
     assert_eq!(rt; ends.b.motion.p, at(limit, 0));
+}
+
+#[test]
+fn small_momenta_are_copied_and_great_ones_are_not(rt: HostRuntime) {
+    let small = mover(3, Vec2 { x: 30, y: -40 });
+    let still = mover(2, ORIGIN);
+    let great = mover(2, Vec2 { x: 1 << 50, y: 0 });
+    let copied = NarrowPair {
+        a: Narrow {
+            p: at(30, -40),
+            l: 0,
+        },
+        b: Narrow { p: ORIGIN, l: 0 },
+    };
+    assert_eq!(rt; narrow_pair(&small, &still), Some(copied));
+    assert_eq!(rt; narrow_pair(&still, &great), None);
 }

@@ -1,6 +1,8 @@
 ghost use Rattle.std.specs.Prelude.{◌≡◌, ◌^◌, ◌≤◌, unsigned_abs};
+ghost use Rattle.fixed_geom.specs.Reciprocals.{rdiv_reciprocal};
 ghost use Rattle.fixed_geom.specs.Vectors.{IsWithin, minus};
 ghost use Rattle.momenta.specs.Motions.{IsMass, IsMotion, advanced, aim, kept_part, limited, velocity};
+ghost use Rattle.momenta.specs.Reciprocals.{reciprocals_of};
 
 use crate::narrow::{narrow_velocity, spin_by};
 use crate::{MassData, Motion, Reciprocals};
@@ -17,6 +19,7 @@ pub fn advance(motion: Motion, mass: MassData, reciprocals: Reciprocals) -> (Mot
     requires mass { IsMass mass }
     requires motion { IsMotion mass motion }
     requires slow { IsWithin (2 ^ 20) (velocity mass.mass motion.p) }
+    requires reciprocals { reciprocals ≡ reciprocals_of mass }
     ensures value { result.0 ≡ advanced mass motion }
     ensures change { result.1 ≡ minus result.0.p motion.p }
     ensures motion { IsMotion mass result.0 }
@@ -45,10 +48,11 @@ pub fn advance(motion: Motion, mass: MassData, reciprocals: Reciprocals) -> (Mot
 }
 
 /// Where the velocity leads, were there no edge.
-fn aim(motion: Motion, mass: MassData, reciprocal: u64) -> Vec2
+fn aim(motion: Motion, mass: MassData, reciprocal: i64) -> Vec2
     requires mass { IsMass mass }
     requires motion { IsMotion mass motion }
     requires slow { IsWithin (2 ^ 20) (velocity mass.mass motion.p) }
+    requires reciprocal { reciprocal ≡ rdiv_reciprocal mass.mass }
     ensures value { result ≡ aim mass motion }
 {
     let velocity = narrow_velocity(motion.p, mass.mass, reciprocal);

@@ -153,6 +153,7 @@ true_false false e f = cc
 IsBody-put : (b : Body) (p : Vec2) → IsBody b → is_mover b ≡ true → IsWithin (2 ^ 60) p → IsBody (put_p p b)
 IsBody-put b p is mover small = record {
   mass = is.mass;
+  reciprocals = is.reciprocals;
   motion = record { p = small; l = is.motion.l; still = is.motion.still; x = is.motion.x; facing = is.motion.facing };
   rest = λ no. absurd (true_false (is_mover b) mover no);
   shapes = is.shapes;

@@ -3,7 +3,9 @@ use Rattle.std.proofs.Common.{◌≡◌, inl, inr, ◌⊎◌, ℕ, zero, suc, �
 use Rattle.std.specs.Prelude.{option_map}
 use Rattle.std.proofs.lemmas.Int.{ints}
 use Rattle.std.proofs.lemmas.Option.{slice_get-get_or}
+use Rattle.fixed_geom.specs.Reciprocals.{rdiv_reciprocal, share_reciprocal}
 use Rattle.momenta.specs.Motions.{IsMass}
+use Rattle.momenta.specs.Reciprocals.{reciprocals_of}
 use Rattle.momenta.specs.Impulses.{AreStates, IsState}
 use Rattle.momenta.specs.declared.mass.MassData.{MassData}
 use Rattle.momenta.specs.declared.state.BodyState.{BodyState}
@@ -24,9 +26,14 @@ mass_at Static true m e h = cc
 mass_at Static false m e h = cc
 mass_at Dynamic enabled m e h = h
 
+no_reciprocals : nobody.reciprocals ≡ reciprocals_of nobody.mass
+unfolding reciprocals_of rdiv_reciprocal share_reciprocal
+no_reciprocals = refl
+
 pub is_nobody : IsState nobody
 is_nobody = record {
   mass = λ e. cc;
+  reciprocals = no_reciprocals;
   motion = record {
     p = record { x = omega arith; y = omega arith };
     l = omega arith;
@@ -41,7 +48,7 @@ is_state : (o : Option Body) → ((b : Body) → o ≡ Some b → IsBody b) → 
 is_state None is = is_nobody
 is_state (Some b) is =
     let body : IsBody b = is b refl in
-    record { mass = λ moves. mass_at b.kind b.enabled b.mass moves body.mass; motion = body.motion; start = body.motion.x }
+    record { mass = λ moves. mass_at b.kind b.enabled b.mass moves body.mass; reciprocals = body.reciprocals; motion = body.motion; start = body.motion.x }
 
 pub states-all : (bodies : List (Option Body)) → AreBodies bodies → AreAllStates (states_of bodies)
 states-all [] all slot s e = cc
@@ -93,6 +100,7 @@ length-states (o ∷ os) = ap suc (length-states os)
 moved_if : (m : Bool) (b : Body) (s : BodyState) → is_mover b ≡ m → IsBody b → IsState s → s.mass ≡ b.mass → IsBody (cond m (record b { motion = s.motion }) b)
 moved_if true b s e is state same = record {
   mass = is.mass;
+  reciprocals = is.reciprocals;
   motion = rw same at state.motion;
   rest = λ still. absurd (let both : true ≡ false = sym e ∙ still in cc both);
   shapes = is.shapes;

@@ -17,7 +17,7 @@ length-renewed o (d ∷ defs) [] e = absurd (omega arith)
 length-renewed o (d ∷ defs) (f ∷ fats) e = let rest = length-renewed o defs fats (omega arith) in omega (arith, rest)
 
 kept_if : (m : Bool) (b : Body) → is_mover b ≡ m → IsBody b → IsBody (cond m (record b { fats = renewed_boxes (pose_of b) b.shapes b.fats }) b)
-kept_if true b e is = record { mass = is.mass; motion = is.motion; rest = is.rest; shapes = is.shapes; forms = is.forms; fats = length-renewed (pose_of b) b.shapes b.fats is.fats }
+kept_if true b e is = record { mass = is.mass; reciprocals = is.reciprocals; motion = is.motion; rest = is.rest; shapes = is.shapes; forms = is.forms; fats = length-renewed (pose_of b) b.shapes b.fats is.fats }
 kept_if false b e is = is
 
 is_body : (b : Body) → IsBody b → IsBody (with_renewed b)

@@ -8,6 +8,7 @@ use Rattle.fixed_geom.specs.declared.facings.Rot.{Rot}
 use Rattle.fixed_geom.specs.declared.refusal.Refusal.{Refusal}
 use Rattle.fixed_geom.specs.declared.refusal.Refusal.TheVariants.{OutOfRange}
 use Rattle.momenta.specs.Motions.{IsMass, IsMotion}
+use Rattle.momenta.specs.Reciprocals.{reciprocals_of}
 use Rattle.momenta.specs.declared.mass.MassData.{MassData}
 use Rattle.momenta.specs.declared.motion.Motion.{Motion}
 use Rattle.world_core_base.specs.declared.body.Kind.{Kind}
@@ -68,7 +69,7 @@ at_rest x rot = record { p = record { x = pos 0; y = pos 0 }; l = pos 0; x = x; 
 
 -- the body: at rest, enabled, its timer 0
 abbrev pub made : BodyDef → Body
-made d = record { kind = d.kind; mass = d.mass; motion = at_rest d.x d.rot; shapes = d.shapes; fats = fat_boxes d.shapes (record { x = d.x; rot = d.rot }); timer = 0; enabled = true }
+made d = record { kind = d.kind; mass = d.mass; reciprocals = reciprocals_of d.mass; motion = at_rest d.x d.rot; shapes = d.shapes; fats = fat_boxes d.shapes (record { x = d.x; rot = d.rot }); timer = 0; enabled = true }
 
 abbrev pub IsMassOf : Kind → MassData → Type 0
 IsMassOf Static m = (m.mass ≡ pos 0) × (m.inertia ≡ pos 0)
@@ -91,6 +92,7 @@ pub record IsAtRest (s : Motion) : Type 0 where
 
 pub record IsBody (b : Body) : Type 0 where
   pub mass : IsMassOf b.kind b.mass
+  pub reciprocals : b.reciprocals ≡ reciprocals_of b.mass
   pub motion : IsMotion b.mass b.motion
   pub rest : is_mover b ≡ false → IsAtRest b.motion
   pub shapes : shapes_refusal (not (is_dynamic b.kind)) b.shapes ≡ None

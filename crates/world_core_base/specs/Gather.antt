@@ -5,7 +5,6 @@ use Rattle.shapes.specs.declared.shape.ShapeDef.{ShapeDef}
 use Rattle.shapes.specs.Mixing.{mixed_friction, mixed_restitution}
 use Rattle.momenta.specs.declared.state.BodyState.{BodyState}
 use Rattle.momenta.specs.declared.state.Ends.{Ends}
-use Rattle.momenta.specs.Reciprocals.{reciprocals_of}
 use Rattle.contacts_base.specs.declared.key.ShapeId.{ShapeId}
 use Rattle.contacts_base.specs.declared.key.ContactKey.{ContactKey}
 use Rattle.contacts_base.specs.declared.contact.ContactPoint.{ContactPoint}
@@ -30,7 +29,7 @@ use Rattle.world_core_base.specs.Slots.{body_at}
 -- a body as the solver works on it
 abbrev pub state_of : Option Body → BodyState
 state_of None = nobody
-state_of (Some b) = record { movable = is_mover b; mass = b.mass; motion = b.motion; start = b.motion.x; reciprocals = reciprocals_of b.mass b.motion.l }
+state_of (Some b) = record { movable = is_mover b; mass = b.mass; motion = b.motion; start = b.motion.x; reciprocals = b.reciprocals }
 
 abbrev pub states_of : List (Option Body) → List BodyState
 states_of bodies = map state_of bodies

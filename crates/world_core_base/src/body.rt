@@ -5,7 +5,7 @@ ghost use Rattle.world_core_base.specs.Bodies.{is_dynamic, is_mover, pose_of, st
 
 use crate::fats::FatBoxes;
 use fixed_geom::{Refusal, Rot, Vec2, is_facing, is_within};
-use momenta::{MassData, Motion};
+use momenta::{MassData, Motion, Reciprocals, reciprocals_of};
 use shapes::{Pose, Shapes, check};
 use std::alloc::Global;
 
@@ -85,6 +85,7 @@ impl BodyDef {
         Ok(Body {
             kind: self.kind,
             mass: self.mass,
+            reciprocals: reciprocals_of(self.mass),
             motion: Motion::at_rest(self.x, self.rot),
             shapes,
             fats,
@@ -119,6 +120,8 @@ fn is_mass_allowed(kind: Kind, mass: MassData) -> bool
 pub struct Body {
     pub kind: Kind,
     pub mass: MassData,
+    /// Those of the mass, kept since each step takes quotients with them.
+    pub reciprocals: Reciprocals,
     pub motion: Motion,
     pub shapes: Shapes,
     /// For each shape, in their order, a box that holds it with room to move in.
@@ -182,6 +185,7 @@ impl Body {
         Ok(Body {
             kind: self.kind,
             mass: self.mass,
+            reciprocals: self.reciprocals,
             motion: self.motion,
             shapes,
             fats,

@@ -102,17 +102,20 @@ mod tests {
     use crate::body::Kind;
     use crate::fats::FatBoxes;
     use fixed_geom::{Rot, Vec2};
-    use momenta::{MassData, Motion};
+    use momenta::{MassData, Motion, reciprocals_of};
     use shapes::Shapes;
     use std::test::Fail;
+
+    const NO_MASS: MassData = MassData {
+        mass: 0,
+        inertia: 0,
+    };
 
     fn resting(alloc: Global, kind: Kind, enabled: bool) -> Body {
         Body {
             kind,
-            mass: MassData {
-                mass: 0,
-                inertia: 0,
-            },
+            mass: NO_MASS,
+            reciprocals: reciprocals_of(NO_MASS),
             motion: Motion::at_rest(Vec2 { x: 0, y: 0 }, Rot { c: 1 << 30, s: 0 }),
             shapes: Shapes::new(alloc),
             fats: FatBoxes::new(alloc),

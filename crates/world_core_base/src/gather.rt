@@ -20,7 +20,7 @@ use contacts::Constraint;
 use contacts_base::{Contact, ContactEntry, ContactKey, ContactPoint, ShapeId, place_at, seek};
 use fixed_geom::{Rot, UNIT, Vec2};
 use graph_colours::{Colours, Member};
-use momenta::{BodyState, Ends, MassData, Motion, Reciprocals, reciprocals_of};
+use momenta::{BodyState, Ends, MassData, Motion, Reciprocals};
 use shapes::{ShapeDef, mixed_friction, mixed_restitution};
 
 /// What stands for the body in an empty slot: nothing moves it.
@@ -55,7 +55,7 @@ pub fn state_of(entry: &Option<Body>) -> BodyState
             mass: body.mass,
             motion: body.motion,
             start: body.motion.x,
-            reciprocals: reciprocals_of(body.mass, body.motion.l),
+            reciprocals: body.reciprocals,
         },
     }
 }

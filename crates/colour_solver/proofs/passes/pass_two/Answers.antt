@@ -16,6 +16,17 @@ change_body-gains-requires-clause-small g c =
     let same = next_is f s all c.loop-slot.states.items slot now here c.loop-slot.invariant.items c.index_mut.ensures.value in
     c.requires.small slot now (slice_get-get all slot now now here same)
 
+pub change_body-gains-requires-clause-reciprocals : goal.change_body-gains-requires-clause-reciprocals
+change_body-gains-requires-clause-reciprocals g c =
+    let f = g.A.Change.after c.args.first.now in
+    let s = g.B.Change.after c.args.second.now in
+    let all = c.args.states.now.items in
+    let slot = c.loop-slot.slot in
+    let now = c.index_mut.result.now in
+    let here : slot < length all = omega (arith, c.loop-slot-test.true, c.len-slot-end.ensures, c.args.states.now.ok) in
+    let same = next_is f s all c.loop-slot.states.items slot now here c.loop-slot.invariant.items c.index_mut.ensures.value in
+    c.requires.reciprocals slot now (slice_get-get all slot now now here same)
+
 pub loop-slot-preserved : goal.loop-slot-preserved
 loop-slot-preserved g c =
     let f = g.A.Change.after c.args.first.now in
@@ -35,15 +46,15 @@ loop-slot-preserved g c =
       items = rw made.body (items_more f s all items slot now here known.items c.index_mut.ensures.value);
       first_x = rw (c.plus.ensures.x, add-one) (gain_x_more f all slot now sums.first.x gains.first.x here same known.first_x made.first_x);
       first_y = rw (c.plus.ensures.y, add-one) (gain_y_more f all slot now sums.first.y gains.first.y here same known.first_y made.first_y);
-      second_x = rw (c.plus-in-loop-slot.ensures.x, add-one) (gain_x_more_after f s all slot now sums.second.x gains.second.x here same known.second_x made.second_x);
-      second_y = rw (c.plus-in-loop-slot.ensures.y, add-one) (gain_y_more_after f s all slot now sums.second.y gains.second.y here same known.second_y made.second_y);
+      second_x = rw (c.plus_rare.ensures.x, add-one) (gain_x_more_after f s all slot now sums.second.x gains.second.x here same known.second_x made.second_x);
+      second_y = rw (c.plus_rare.ensures.y, add-one) (gain_y_more_after f s all slot now sums.second.y gains.second.y here same known.second_y made.second_y);
       small_first = record {
         x = rw c.plus.ensures.x (grown sums.first.x gains.first.x slot known.small_first.x made.small_first.x);
         y = rw c.plus.ensures.y (grown sums.first.y gains.first.y slot known.small_first.y made.small_first.y);
       };
       small_second = record {
-        x = rw c.plus-in-loop-slot.ensures.x (grown sums.second.x gains.second.x slot known.small_second.x made.small_second.x);
-        y = rw c.plus-in-loop-slot.ensures.y (grown sums.second.y gains.second.y slot known.small_second.y made.small_second.y);
+        x = rw c.plus_rare.ensures.x (grown sums.second.x gains.second.x slot known.small_second.x made.small_second.x);
+        y = rw c.plus_rare.ensures.y (grown sums.second.y gains.second.y slot known.small_second.y made.small_second.y);
       };
       made = made_more (OnMover (g.B.Change.gives c.args.second.now)) items slot c.change_body-gains.new.body within known.made made.gives;
     }

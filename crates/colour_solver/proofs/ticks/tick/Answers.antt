@@ -114,3 +114,9 @@ returns-clause-same c =
     let moved = c.pass_two-moved in
     same_on first solved.new.states.items moved.new.states.items
     (same_on first warm.new.states.items solved.new.states.items (same_on first fallen.new.states.items warm.new.states.items fallen.ensures.same warm.ensures.same) solved.ensures.same) moved.ensures.same
+
+pub pass_two-fallen-requires-clause-reciprocals : goal.pass_two-fallen-requires-clause-reciprocals
+pass_two-fallen-requires-clause-reciprocals c = λ slot s e. (c.requires.states slot s e).reciprocals
+
+pub pass_two-moved-requires-clause-reciprocals : goal.pass_two-moved-requires-clause-reciprocals
+pass_two-moved-requires-clause-reciprocals c = λ slot s e. (c.pass_rows-solved.ensures.all_states slot s e).reciprocals

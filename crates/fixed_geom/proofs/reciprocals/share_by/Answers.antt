@@ -1,19 +1,22 @@
-use Rattle.std.proofs.Common.{◌≡◌, ◌*◌, ◌^◌, pos, ◌*ℤ◌, ◌<ℤ◌, ◌≤ℤ◌, unsigned_abs, arith}
-use Rattle.std.proofs.lemmas.Int.{to_z-of_z, ints}
-use Rattle.fixed_geom.specs.Vectors.{unit_length}
-use Rattle.fixed_geom.proofs.QuotientLemmas.{rdiv-negative, rdiv-nonnegative}
+use Rattle.std.proofs.Common.{◌∙◌, ap}
+use Rattle.std.proofs.lemmas.Int.{to_z-of_z}
+use Rattle.std.specs.Int.{w64}
+use mir.Val.{SFits, of_z}
+use Rattle.fixed_geom.proofs.ReciprocalLemmas.{is_whole}
 use Rattle.fixed_geom.proofs.reciprocals.share_by.Goals as goal
 
-pub returns-then-x-lt0-clause-value : goal.returns-then-x-lt0-clause-value
-returns-then-x-lt0-clause-value c =
-    let negative : (c.args.x *ℤ unit_length) <ℤ pos 0 = grind (arith, ints) in
-    let size : c.unsigned_abs.result * 2 ^ 30 ≡ unsigned_abs (c.args.x *ℤ unit_length) = grind (arith, ints, to_z-of_z) in
-    let value = rdiv-negative (c.args.x *ℤ unit_length) c.args.k _ _ _ negative size (grind (arith, ints, to_z-of_z)) c.share_of_sizes_by-size.ensures.value in
-    omega (arith, ints, value)
+pub share_of_whole-requires-clause-least : goal.share_of_whole-requires-clause-least
+share_of_whole-requires-clause-least c =
+    let k : SFits w64 c.args.k = c.ranges.k in
+    simp to_z-of_z (is_whole c.args.k (λ e. c.if-reciprocal-eq0.false (ap (of_z w64) (c.requires.reciprocal ∙ e)))).least
 
-pub returns-else-x-lt0-clause-value : goal.returns-else-x-lt0-clause-value
-returns-else-x-lt0-clause-value c =
-    let nonnegative : pos 0 ≤ℤ (c.args.x *ℤ unit_length) = grind (arith, ints) in
-    let size : c.unsigned_abs.result * 2 ^ 30 ≡ unsigned_abs (c.args.x *ℤ unit_length) = grind (arith, ints, to_z-of_z) in
-    let value = rdiv-nonnegative (c.args.x *ℤ unit_length) c.args.k _ _ _ nonnegative size (grind (arith, ints, to_z-of_z)) c.share_of_sizes_by-size.ensures.value in
-    omega (arith, ints, value)
+pub share_of_whole-requires-clause-most : goal.share_of_whole-requires-clause-most
+share_of_whole-requires-clause-most c =
+    let k : SFits w64 c.args.k = c.ranges.k in
+    simp to_z-of_z (is_whole c.args.k (λ e. c.if-reciprocal-eq0.false (ap (of_z w64) (c.requires.reciprocal ∙ e)))).most
+
+pub share_of_whole-requires-clause-reciprocal : goal.share_of_whole-requires-clause-reciprocal
+share_of_whole-requires-clause-reciprocal c =
+    let k : SFits w64 c.args.k = c.ranges.k in
+    let r : SFits w64 c.args.reciprocal = c.ranges.reciprocal in
+    simp to_z-of_z (c.requires.reciprocal ∙ (is_whole c.args.k (λ e. c.if-reciprocal-eq0.false (ap (of_z w64) (c.requires.reciprocal ∙ e)))).value)

@@ -5,7 +5,7 @@ use mir.Val.{SFits, to_z, of_z}
 use Rattle.momenta.specs.Motions.{IsMass}
 use Rattle.momenta.specs.Narrow.{with_momenta}
 use Rattle.momenta.proofs.Standing.{standing_at}
-use Rattle.momenta.proofs.NarrowLaws.{moving_is, turning, velocity_fixed}
+use Rattle.momenta.proofs.NarrowLaws.{inertia_reciprocal, mass_reciprocal, moving_is, turning, velocity_fixed}
 use Rattle.momenta.proofs.narrow.narrow_velocity_at.Goals as goal
 
 pub returns-then-not-body-clause-value : goal.returns-then-not-body-clause-value
@@ -39,3 +39,15 @@ returns-clause-value c =
     let on : SFits w64 c.carried_on.result = record { sfits = c.carried_on.type_inv } in
     simp to_z-of_z (moving_is c.args.r c.narrow_velocity-v.result (with_momenta c.args.body.now c.args.now) c.narrow_spin-w.result c.carried_back.result c.carried_on.result c.if-not-body.false
     (simp to_z-of_z at c.narrow_velocity-v.ensures.value) (simp to_z-of_z at c.narrow_spin-w.ensures.value) (simp to_z-of_z at c.carried_back.ensures.value) (simp to_z-of_z at c.carried_on.ensures.value))
+
+pub narrow_velocity-v-requires-clause-reciprocal : goal.narrow_velocity-v-requires-clause-reciprocal
+narrow_velocity-v-requires-clause-reciprocal c =
+    let mass : SFits w64 c.args.body.now.mass.mass = search rules in
+    let reciprocal : SFits w64 c.args.body.now.reciprocals.mass = search rules in
+    simp to_z-of_z (mass_reciprocal c.args.body.now.mass c.args.body.now.reciprocals c.requires.state.reciprocals)
+
+pub narrow_spin-w-requires-clause-reciprocal : goal.narrow_spin-w-requires-clause-reciprocal
+narrow_spin-w-requires-clause-reciprocal c =
+    let inertia : SFits w64 c.args.body.now.mass.inertia = search rules in
+    let reciprocal : SFits w64 c.args.body.now.reciprocals.inertia = search rules in
+    simp to_z-of_z (inertia_reciprocal c.args.body.now.mass c.args.body.now.reciprocals c.requires.state.reciprocals)

@@ -10,4 +10,4 @@ returns-clause-long c =
 
 pub returns-clause-states : goal.returns-clause-states
 returns-clause-states c =
-    subst AreAllStates (sym c.in_ok-push.ensures.items) (states-push c.in_ok-states.states.items c.point-2.result c.in_ok-states.ensures.states (record { mass = c.point-2.ensures.mass; motion = c.point-2.ensures.motion; start = c.point-2.ensures.start }))
+    subst AreAllStates (sym c.in_ok-push.ensures.items) (states-push c.in_ok-states.states.items c.point-2.result c.in_ok-states.ensures.states (record { mass = c.point-2.ensures.mass; reciprocals = c.point-2.ensures.reciprocals; motion = c.point-2.ensures.motion; start = c.point-2.ensures.start }))
