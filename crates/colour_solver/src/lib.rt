@@ -11,4 +11,4 @@ pub mod turns;
 
 pub use passes::{Change, Gains, pass_two};
 pub use ticks::{StepSums, run_step};
-pub use turns::{Turn, colours_at_once, pass_rows};
+pub use turns::{Turn, colours_at_once, pass_single, solve_one};

@@ -8,7 +8,7 @@ ghost use Rattle.colour_solver.specs.States.{AreAllStates, AreSameStates, total_
 ghost use Rattle.colour_solver.specs.Turns.{AreRowsBelow};
 ghost use Rattle.colour_solver.specs.Ticks.{AreSums, CanLimit, CanMove, CanPull, added_x, added_y, ran, run_of, start, tick, ticks};
 
-use crate::{Change, Turn, pass_rows, pass_two};
+use crate::{Change, Turn, pass_single, pass_two};
 use colour_solver_base::{
     ContactRow, NarrowRow, bounce_row, is_row_unpushed, narrow_solve_row, narrow_warm_row,
     never_bounces, solve_row, warm_row,
@@ -164,8 +164,8 @@ fn tick(
     ensures momentum_y { total_y states.new.items +ℤ added_y sums ≡ total_y states.old.items +ℤ added_y result }
 {
     let fallen = pass_two(states, &Pull { gravity }, &Limit);
-    let warm = pass_rows(states, rows, &Warm);
-    let solved = pass_rows(states, rows, &Solve);
+    let warm = pass_single(states, rows, &Warm);
+    let solved = pass_single(states, rows, &Solve);
     let moved = pass_two(states, &Limit, &Move);
     StepSums {
         gravity: plus(sums.gravity, fallen.first),
@@ -212,7 +212,7 @@ pub fn run_step(
     for index in 0..count {
         sums = tick(states, rows, gravity, sums);
     }
-    let bounced = pass_rows(states, rows, &Bounce);
+    let bounced = pass_single(states, rows, &Bounce);
     StepSums {
         immovable: plus(sums.immovable, bounced),
         ..sums

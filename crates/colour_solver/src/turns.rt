@@ -154,9 +154,10 @@ fn narrow_turn<T: Turn>(states: &[BodyState], row: &ContactRow, turn: &T) -> Opt
     turn.narrow(row, &states[a], &states[b])
 }
 
-/// The turn of one contact. Answers what an immovable body has given.
+/// The turn of one contact with its two bodies among `states`, as the definition has it. Answers what an immovable body has given
+/// (mass·u/tick), by which the movers' momentum grows.
 #[inline(always)]
-fn turn_row<T: Turn>(states: &mut Vec<BodyState>, row: &mut ContactRow, turn: &T) -> Gain
+pub fn solve_one<T: Turn>(states: &mut Vec<BodyState>, row: &mut ContactRow, turn: &T) -> Gain
     requires states { AreAllStates states.old.items }
     requires row { IsRowBelow (length states.old.items) row.old }
     ensures states { states.new.items ≡ after (T.turn turn.now) states.old.items row.old }
@@ -182,7 +183,7 @@ fn turn_row<T: Turn>(states: &mut Vec<BodyState>, row: &mut ContactRow, turn: &T
 
 /// One pass over the contacts in their order, each with the bodies as those before it left them. Answers what immovable
 /// bodies have given to the movers (mass·u/tick); what two movers give one another leaves their sum alone.
-pub fn pass_rows<T: Turn>(states: &mut Vec<BodyState>, rows: &mut Vec<ContactRow>, turn: &T) -> Gain
+pub fn pass_single<T: Turn>(states: &mut Vec<BodyState>, rows: &mut Vec<ContactRow>, turn: &T) -> Gain
     requires few { length states.old.items ≤ 16384 }
     requires states { AreAllStates states.old.items }
     requires rows { AreRowsBelow (length states.old.items) rows.old.items }
@@ -200,7 +201,7 @@ pub fn pass_rows<T: Turn>(states: &mut Vec<BodyState>, rows: &mut Vec<ContactRow
 {
     let mut given = NOTHING;
     for index in 0..rows.len() {
-        let got = turn_row(states, &mut rows[index], turn);
+        let got = solve_one(states, &mut rows[index], turn);
         given = plus_rare(given, got);
     }
     given

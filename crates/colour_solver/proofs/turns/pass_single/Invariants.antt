@@ -2,7 +2,7 @@ use Rattle.std.proofs.Common.{◌≡◌, ◌^◌, ◌++◌, ◌+ℤ◌, length, 
 use Rattle.momenta.specs.Gains.{IsGain}
 use Rattle.colour_solver.specs.States.{AreAllStates, AreSameStates, total_x, total_y}
 use Rattle.colour_solver.specs.Turns.{AreRowsBelow, passed, rows_passed, share_x, share_y}
-use Rattle.colour_solver.proofs.turns.pass_rows.Given as goal
+use Rattle.colour_solver.proofs.turns.pass_single.Given as goal
 
 abbrev pub invariant-loop-index : goal.invariant-loop-index
 invariant-loop-index g l =

@@ -3,10 +3,10 @@ use Rattle.std.proofs.lemmas.List.{length-set}
 use Rattle.colour_solver.specs.States.{total_x, total_y}
 use Rattle.colour_solver.proofs.SameLaws.{same_on}
 use Rattle.colour_solver.proofs.TurnLaws.{added, given_x-small, given_y-small, passed_more, row_at, rows_below, rows_more, share_x_more, share_y_more}
-use Rattle.colour_solver.proofs.turns.pass_rows.Goals as goal
+use Rattle.colour_solver.proofs.turns.pass_single.Goals as goal
 
-pub turn_row-got-requires-clause-row : goal.turn_row-got-requires-clause-row
-turn_row-got-requires-clause-row g c =
+pub solve_one-got-requires-clause-row : goal.solve_one-got-requires-clause-row
+solve_one-got-requires-clause-row g c =
     let rows = c.loop-index.rows.items in
     let here : c.loop-index.index < length rows = omega (arith, c.loop-index-test.true, c.len-index-end.ensures, c.args.rows.now.ok, c.loop-index.invariant.as_many) in
     row_at (length c.loop-index.states.items) rows c.loop-index.index c.index_mut.result.now c.loop-index.invariant.all_rows here c.index_mut.ensures.value
@@ -16,15 +16,15 @@ loop-index-preserved g c =
     let f = g.T.Turn.turn c.args.turn.now in
     let all = c.args.states.now.items in
     let states = c.loop-index.states.items in
-    let new = c.turn_row-got.new.states.items in
+    let new = c.solve_one-got.new.states.items in
     let rows = c.loop-index.rows.items in
     let index = c.loop-index.index in
     let row = c.index_mut.result.now in
-    let turned = c.turn_row-got.new.row in
+    let turned = c.solve_one-got.new.row in
     let given = c.loop-index.given in
-    let got = c.turn_row-got.result in
+    let got = c.solve_one-got.result in
     let known = c.loop-index.invariant in
-    let made = c.turn_row-got.ensures in
+    let made = c.solve_one-got.ensures in
     let here : index < length rows = omega (arith, c.loop-index-test.true, c.len-index-end.ensures, c.args.rows.now.ok, known.as_many) in
     let few : length states ≤ 16384 = omega (arith, known.long, c.requires.few) in
     let long : length new ≡ length all = made.long ∙ known.long in

@@ -3,7 +3,7 @@ use Rattle.colour_solver_base.specs.declared.solve.RowTurn.{RowTurn}
 use Rattle.colour_solver.proofs.IdleLaws.{idle_after, idle_turn, idle_x, idle_y}
 use Rattle.colour_solver.specs.Turns.{narrow_ends}
 use Rattle.colour_solver.proofs.NarrowLaws.{all_after, same_after, total_x_after, total_y_after}
-use Rattle.colour_solver.proofs.turns.turn_row.Goals as goal
+use Rattle.colour_solver.proofs.turns.solve_one.Goals as goal
 
 pub returns-then-is_idle-clause-states : goal.returns-then-is_idle-clause-states
 returns-then-is_idle-clause-states g c = idle_after (g.T.Turn.turn c.args.turn.now) c.args.states.now.items c.args.row.now c.requires.states c.requires.row (c.is_idle.ensures c.if-is_idle.true)
