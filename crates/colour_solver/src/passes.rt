@@ -9,9 +9,7 @@ ghost use Rattle.momenta.specs.Reciprocals.{reciprocals_of};
 ghost use Rattle.colour_solver.specs.States.{AreSameStates, HaveReciprocals, total_x, total_y};
 ghost use Rattle.colour_solver.specs.Passes.{OnMover, OnMovers, changed, gain_x, gain_y, one_gain_x, one_gain_y, pass};
 
-use momenta::{
-    BodyState, Gain, MassData, Motion, NOTHING, Reciprocals, gain_between, plus, plus_rare,
-};
+use momenta::{BodyState, Gain, MassData, Motion, NOTHING, Reciprocals, gain_between, plus};
 
 /// A change of a mover's motion.
 pub trait Change {
@@ -94,7 +92,7 @@ pub fn pass_two<A: Change, B: Change>(states: &mut Vec<BodyState>, first: &A, se
         let gains = change_body(&mut states[slot], first, second);
         sums = Gains {
             first: plus(sums.first, gains.first),
-            second: plus_rare(sums.second, gains.second),
+            second: plus(sums.second, gains.second),
         };
     }
     sums

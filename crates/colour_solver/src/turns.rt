@@ -16,7 +16,7 @@ ghost use Rattle.colour_solver.specs.Turns.{AreRowsBelow, IsRowBelow, after, end
 
 use colour_solver_base::{ContactRow, NarrowRow};
 use fixed_geom::Vec2;
-use momenta::{BodyState, Ends, Gain, NOTHING, Narrow, gain_between, plus_rare};
+use momenta::{BodyState, Ends, Gain, NOTHING, Narrow, gain_between, plus};
 
 /// What a pass does with one contact and its two bodies.
 pub trait Turn {
@@ -183,7 +183,11 @@ pub fn solve_one<T: Turn>(states: &mut Vec<BodyState>, row: &mut ContactRow, tur
 
 /// One pass over the contacts in their order, each with the bodies as those before it left them. Answers what immovable
 /// bodies have given to the movers (mass·u/tick); what two movers give one another leaves their sum alone.
-pub fn pass_single<T: Turn>(states: &mut Vec<BodyState>, rows: &mut Vec<ContactRow>, turn: &T) -> Gain
+pub fn pass_single<T: Turn>(
+    states: &mut Vec<BodyState>,
+    rows: &mut Vec<ContactRow>,
+    turn: &T,
+) -> Gain
     requires few { length states.old.items ≤ 16384 }
     requires states { AreAllStates states.old.items }
     requires rows { AreRowsBelow (length states.old.items) rows.old.items }
@@ -202,7 +206,7 @@ pub fn pass_single<T: Turn>(states: &mut Vec<BodyState>, rows: &mut Vec<ContactR
     let mut given = NOTHING;
     for index in 0..rows.len() {
         let got = solve_one(states, &mut rows[index], turn);
-        given = plus_rare(given, got);
+        given = plus(given, got);
     }
     given
 }

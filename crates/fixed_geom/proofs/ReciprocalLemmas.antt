@@ -265,24 +265,9 @@ half_size (negsuc z) h = omega (arith, h)
 pub shifted_half : (z : ℤ) → unsigned_abs z ≤ 2 ^ 124 → IsShifted z (2 ^ 64)
 shifted_half z h = shifted z (shr_z z (2 ^ 64)) (2 ^ 64) refl (half_size z h)
 
-share_size : (z : ℤ) → unsigned_abs z ≤ 2 ^ 115 + 2 ^ 52 → unsigned_abs (shr_z z (2 ^ 53)) < 2 ^ 63
+share_size : (z : ℤ) → unsigned_abs z ≤ 2 ^ 114 + 2 ^ 51 → unsigned_abs (shr_z z (2 ^ 52)) < 2 ^ 63
 share_size (pos z) h = omega (arith, h)
 share_size (negsuc z) h = omega (arith, h)
 
-pub shifted_share : (z : ℤ) → unsigned_abs z ≤ 2 ^ 115 + 2 ^ 52 → IsShifted z (2 ^ 53)
-shifted_share z h = shifted z (shr_z z (2 ^ 53)) (2 ^ 53) refl (share_size z h)
-
--- twice as much divided by twice as much
-halved : (z w : ℤ) → w ≡ pos 2 *ℤ z → fdiv w (pos (2 ^ 53)) ≡ fdiv z (pos (2 ^ 52))
-unfolding fdiv
-halved (pos z) (pos w) e = ap pos (let same : w / 2 ^ 53 ≡ z / 2 ^ 52 = omega (arith, ints, e) in same)
-halved (negsuc z) (negsuc w) e = ap negsuc (let same : w / 2 ^ 53 ≡ z / 2 ^ 52 = omega (arith, ints, e) in same)
-halved (pos z) (negsuc w) e = absurd (omega (arith, ints, e))
-halved (negsuc z) (pos w) e = absurd (omega (arith, ints, e))
-
--- of an x that is doubled, d being that
-pub share_of_double : (x d r : ℤ) → d ≡ pos 2 *ℤ x → fdiv (d *ℤ r +ℤ pos (2 ^ 52)) (pos (2 ^ 53)) ≡ fdiv (x *ℤ r +ℤ pos (2 ^ 51)) (pos (2 ^ 52))
-share_of_double x d r e = halved (x *ℤ r +ℤ pos (2 ^ 51)) (d *ℤ r +ℤ pos (2 ^ 52)) (twice (x *ℤ r) (*ℤ_comm d r ∙ twice_factor r x d e ∙ ap (λ v. pos 2 *ℤ v) (*ℤ_comm r x)))
-  where
-    twice : (p : ℤ) → d *ℤ r ≡ pos 2 *ℤ p → d *ℤ r +ℤ pos (2 ^ 52) ≡ pos 2 *ℤ (p +ℤ pos (2 ^ 51))
-    twice p f = omega (arith, ints, f)
+pub shifted_share : (z : ℤ) → unsigned_abs z ≤ 2 ^ 114 + 2 ^ 51 → IsShifted z (2 ^ 52)
+shifted_share z h = shifted z (shr_z z (2 ^ 52)) (2 ^ 52) refl (share_size z h)

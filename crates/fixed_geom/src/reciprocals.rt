@@ -131,15 +131,14 @@ pub fn inverse_by(k: i64, reciprocal: i64) -> i64
     inverse_of_size_by(k as u64, reciprocal as u64) as i64
 }
 
-/// `x·2^30 / k` to the nearest, or one beside it, by the reciprocal of `k`. That `x` is doubled before the product leads the backend
-/// to one product of 64 bits where `x` came from 128.
+/// `x·2^30 / k` to the nearest, or one beside it, by the reciprocal of `k`.
 #[inline(always)]
 fn guess_share_by(x: i64, reciprocal: i64) -> i64
     requires x { unsigned_abs x ≤ 2 ^ 52 }
     requires reciprocal { unsigned_abs reciprocal ≤ 2 ^ 62 }
     ensures { result ≡ fdiv (x *ℤ reciprocal +ℤ pos (2 ^ 51)) (pos (2 ^ 52)) }
 {
-    ((product(2 * x, reciprocal) + (1 << 52)) >> 53) as i64
+    ((product(x, reciprocal) + (1 << 51)) >> 52) as i64
 }
 
 /// What `x·2^31` is beyond `2k` times the guess: in 64 bits, since that is little.

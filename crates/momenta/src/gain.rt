@@ -28,33 +28,6 @@ pub fn gain_between(old: Vec2, new: Vec2) -> Gain
     }
 }
 
-/// `plus` of what isn't nothing.
-#[cold]
-#[inline(never)]
-fn plus_some(a: Gain, b: Gain) -> Gain
-    requires first { IsGain (2 ^ 100) a }
-    requires second { IsGain (2 ^ 100) b }
-    ensures x { result.x ≡ a.x +ℤ b.x }
-    ensures y { result.y ≡ a.y +ℤ b.y }
-{
-    plus(a, b)
-}
-
-/// `plus` of a second that most often is nothing, of which no sum is taken then.
-#[inline(always)]
-pub fn plus_rare(a: Gain, b: Gain) -> Gain
-    requires first { IsGain (2 ^ 100) a }
-    requires second { IsGain (2 ^ 100) b }
-    ensures x { result.x ≡ a.x +ℤ b.x }
-    ensures y { result.y ≡ a.y +ℤ b.y }
-{
-    if b.x == 0 && b.y == 0 {
-        a
-    } else {
-        plus_some(a, b)
-    }
-}
-
 /// The sum of two changes of momentum.
 pub fn plus(a: Gain, b: Gain) -> Gain
     requires first { IsGain (2 ^ 100) a }

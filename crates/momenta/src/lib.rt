@@ -20,7 +20,7 @@ pub mod state;
 mod tests;
 pub mod travel;
 
-pub use gain::{Gain, NOTHING, gain_between, plus, plus_rare};
+pub use gain::{Gain, NOTHING, gain_between, plus};
 pub use gravity::pull;
 pub use inverse::inverse_mass;
 pub use line::{

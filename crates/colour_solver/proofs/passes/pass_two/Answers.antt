@@ -46,15 +46,15 @@ loop-slot-preserved g c =
       items = rw made.body (items_more f s all items slot now here known.items c.index_mut.ensures.value);
       first_x = rw (c.plus.ensures.x, add-one) (gain_x_more f all slot now sums.first.x gains.first.x here same known.first_x made.first_x);
       first_y = rw (c.plus.ensures.y, add-one) (gain_y_more f all slot now sums.first.y gains.first.y here same known.first_y made.first_y);
-      second_x = rw (c.plus_rare.ensures.x, add-one) (gain_x_more_after f s all slot now sums.second.x gains.second.x here same known.second_x made.second_x);
-      second_y = rw (c.plus_rare.ensures.y, add-one) (gain_y_more_after f s all slot now sums.second.y gains.second.y here same known.second_y made.second_y);
+      second_x = rw (c.plus-in-loop-slot.ensures.x, add-one) (gain_x_more_after f s all slot now sums.second.x gains.second.x here same known.second_x made.second_x);
+      second_y = rw (c.plus-in-loop-slot.ensures.y, add-one) (gain_y_more_after f s all slot now sums.second.y gains.second.y here same known.second_y made.second_y);
       small_first = record {
         x = rw c.plus.ensures.x (grown sums.first.x gains.first.x slot known.small_first.x made.small_first.x);
         y = rw c.plus.ensures.y (grown sums.first.y gains.first.y slot known.small_first.y made.small_first.y);
       };
       small_second = record {
-        x = rw c.plus_rare.ensures.x (grown sums.second.x gains.second.x slot known.small_second.x made.small_second.x);
-        y = rw c.plus_rare.ensures.y (grown sums.second.y gains.second.y slot known.small_second.y made.small_second.y);
+        x = rw c.plus-in-loop-slot.ensures.x (grown sums.second.x gains.second.x slot known.small_second.x made.small_second.x);
+        y = rw c.plus-in-loop-slot.ensures.y (grown sums.second.y gains.second.y slot known.small_second.y made.small_second.y);
       };
       made = made_more (OnMover (g.B.Change.gives c.args.second.now)) items slot c.change_body-gains.new.body within known.made made.gives;
     }

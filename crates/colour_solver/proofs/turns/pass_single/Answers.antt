@@ -33,17 +33,17 @@ loop-index-preserved g c =
     record {
       states = rw made.states (passed_more f states _ rows index row turned here c.index_mut.ensures.value known.states);
       rows = rw (made.states, made.row) (rows_more f states rows _ index row here c.index_mut.ensures.value known.rows);
-      share_x = rw (made.states, c.plus_rare-given.ensures.x, made.x) (share_x_more f states rows index row turned given.x _ here c.index_mut.ensures.value known.share_x);
-      share_y = rw (made.states, c.plus_rare-given.ensures.y, made.y) (share_y_more f states rows index row turned given.y _ here c.index_mut.ensures.value known.share_y);
+      share_x = rw (made.states, c.plus-given.ensures.x, made.x) (share_x_more f states rows index row turned given.x _ here c.index_mut.ensures.value known.share_x);
+      share_y = rw (made.states, c.plus-given.ensures.y, made.y) (share_y_more f states rows index row turned given.y _ here c.index_mut.ensures.value known.share_y);
       all_states = made.all_states;
       all_rows = rows_below (length new) (length states) rows index turned made.long known.all_rows made.below;
       long = long;
       same = same_on all states new known.same made.same;
       as_many = length-set rows index turned ∙ known.as_many;
-      momentum_x = rw c.plus_rare-given.ensures.x sum_x;
-      momentum_y = rw c.plus_rare-given.ensures.y sum_y;
+      momentum_x = rw c.plus-given.ensures.x sum_x;
+      momentum_y = rw c.plus-given.ensures.y sum_y;
       small = record {
-        x = rw c.plus_rare-given.ensures.x (given_x-small all new (given.x +ℤ got.x) c.requires.states made.all_states c.requires.few (omega (arith, long, c.requires.few)) sum_x);
-        y = rw c.plus_rare-given.ensures.y (given_y-small all new (given.y +ℤ got.y) c.requires.states made.all_states c.requires.few (omega (arith, long, c.requires.few)) sum_y);
+        x = rw c.plus-given.ensures.x (given_x-small all new (given.x +ℤ got.x) c.requires.states made.all_states c.requires.few (omega (arith, long, c.requires.few)) sum_x);
+        y = rw c.plus-given.ensures.y (given_y-small all new (given.y +ℤ got.y) c.requires.states made.all_states c.requires.few (omega (arith, long, c.requires.few)) sum_y);
       };
     }
