@@ -2,6 +2,7 @@
 use Rattle.std.specs.Prelude.{◌≤◌, ◌+◌, ◌^◌, Bool, false, cond, Option, Some, None, option_map, ℤ, pos, neg_ℤ, ◌+ℤ◌, ◌-ℤ◌, ◌*ℤ◌, ◌≤ℤ◌, unsigned_abs, int_lt}
 use Rattle.std.specs.Option.{ForSome}
 use Rattle.fixed_geom.specs.Numbers.{rdiv, fdiv}
+use Rattle.fixed_geom.specs.Reciprocals.{share_reciprocal}
 use Rattle.fixed_geom.specs.Vectors.{unit_length, dot, minus}
 use Rattle.fixed_geom.specs.declared.vectors.Vec2.{Vec2}
 use Rattle.momenta.specs.declared.state.Ends.{Ends}
@@ -23,15 +24,15 @@ abbrev pub tangent : Vec2 → Vec2
 tangent n = record { x = n.y; y = neg_ℤ n.x }
 
 abbrev pub push_line : PointRow → Line
-push_line p = record { direction = p.normal; ra = p.ra; rb = p.rb; inverse_mass = p.push_inverse }
+push_line p = record { direction = p.normal; ra = p.ra; rb = p.rb; inverse_mass = p.push_inverse; reciprocal = p.push_reciprocal }
 
 abbrev pub slip_line : PointRow → Line
-slip_line p = record { direction = tangent p.normal; ra = p.ra; rb = p.rb; inverse_mass = p.slip_inverse }
+slip_line p = record { direction = tangent p.normal; ra = p.ra; rb = p.rb; inverse_mass = p.slip_inverse; reciprocal = p.slip_reciprocal }
 
 -- ---- what stays for a whole step
 
 abbrev pub line_of : ContactPoint → Ends → Line
-line_of c e = record { direction = c.normal; ra = c.ra; rb = c.rb; inverse_mass = inverse_mass c.normal c.ra c.rb e }
+line_of c e = record { direction = c.normal; ra = c.ra; rb = c.rb; inverse_mass = inverse_mass c.normal c.ra c.rb e; reciprocal = share_reciprocal (inverse_mass c.normal c.ra c.rb e) }
 
 -- the speed along the line, which only restitution asks for
 abbrev pub start_speed : Bool → Line → Ends → ℤ
@@ -48,6 +49,8 @@ point_row springy e c = record {
   rb = c.rb;
   push_inverse = inverse_mass c.normal c.ra c.rb e;
   slip_inverse = inverse_mass (tangent c.normal) c.ra c.rb e;
+  push_reciprocal = share_reciprocal (inverse_mass c.normal c.ra c.rb e);
+  slip_reciprocal = share_reciprocal (inverse_mass (tangent c.normal) c.ra c.rb e);
   separation = c.separation;
   start_speed = start_speed springy (line_of c e) e;
   push = c.push;

@@ -1,10 +1,10 @@
 //! The impulses of a contact with one point in 64 bits, on copies of what they change: what `solve` does, where there is room.
 
-ghost use Rattle.std.specs.Prelude.{◌≡◌, ◌^◌, ◌≤◌, true, pos, ◌≤ℤ◌, unsigned_abs, IfSome};
+ghost use Rattle.std.specs.Prelude.{◌≡◌, ◌^◌, ◌<◌, ◌≤◌, true, pos, ◌≤ℤ◌, unsigned_abs, IfSome, is_some};
 ghost use Rattle.momenta.specs.Impulses.{AreStates, IsState, parting};
 ghost use Rattle.momenta.specs.Narrow.{AreNarrow, IsImpulse, ends_with};
 ghost use Rattle.colour_solver_base.specs.Rows.{IsPointRow, IsRow, bias_of, point_solved, point_warmed, push_solved, row_solved, row_warmed, separation_now, slip_solved};
-ghost use Rattle.colour_solver_base.specs.Narrow.{IsNarrowPoint, IsNarrowTurn, both_ends, with_impulses};
+ghost use Rattle.colour_solver_base.specs.Narrow.{HasPointRoom, HasPushRoom, HasSlipRoom, HasTurnRoom, HasWarmRoom, IsNarrowPoint, IsNarrowTurn, both_ends, with_impulses};
 
 use crate::solve::{MAX_PUSH, bias_of, most_slip, separation_between};
 use crate::{ContactRow, PointRow};
@@ -75,6 +75,7 @@ fn narrow_slide(
     ensures value { IfSome result (λ r. slip_solved friction (with_impulses point.now pushed.total point.now.slip) (ends_with a.now b.now pushed.now) ≡ record { point = with_impulses point.now pushed.total r.total; ends = ends_with a.now b.now r.now }) }
     ensures impulse { IfSome result (λ r. IsImpulse a.now b.now pushed.now r.now) }
     ensures small { IfSome result (λ r. unsigned_abs r.total ≤ 2 ^ 43) }
+    ensures room { HasSlipRoom friction (with_impulses point.now pushed.total point.now.slip) (ends_with a.now b.now pushed.now) → is_some result ≡ true }
 {
     let most = most_slip(friction, pushed.total);
     if is_slack(most, point.slip) {
@@ -117,6 +118,7 @@ fn narrow_push(
     ensures low { IfSome result (λ r. pos 0 ≤ℤ r.total) }
     ensures high { IfSome result (λ r. unsigned_abs r.total ≤ 2 ^ 42) }
     ensures still { IfSome result (λ r. r.total ≡ point.now.push → r.now ≡ now) }
+    ensures room { HasPushRoom point.now (ends_with a.now b.now now) → is_some result ≡ true }
 {
     let bias = bias_of(separation_between(point, a, b));
     narrow_solve_line(
@@ -148,7 +150,8 @@ fn narrow_solve_point(
     requires second { IsState b.now }
     requires states { AreStates (ends_with a.now b.now now) }
     requires narrow { AreNarrow 3 now }
-    ensures { IfSome result (IsNarrowPoint (point_solved friction point.now (ends_with a.now b.now now)) point.now a.now b.now now) }
+    ensures value { IfSome result (IsNarrowPoint (point_solved friction point.now (ends_with a.now b.now now)) point.now a.now b.now now) }
+    ensures room { HasPointRoom friction point.now (ends_with a.now b.now now) → is_some result ≡ true }
 {
     let apart = narrow_parting(a, b, now, point.ra, point.rb);
     let pushed = match narrow_push(apart, point, a, b, now) {
@@ -173,7 +176,8 @@ pub fn narrow_solve_row(row: &ContactRow, a: &BodyState, b: &BodyState) -> Optio
     requires row { IsRow row.now }
     requires first { IsState a.now }
     requires second { IsState b.now }
-    ensures { IfSome result (IsNarrowTurn (row_solved row.now (both_ends a.now b.now)) row.now a.now b.now) }
+    ensures value { IfSome result (IsNarrowTurn (row_solved row.now (both_ends a.now b.now)) row.now a.now b.now) }
+    ensures room { HasTurnRoom row.now a.now b.now → is_some result ≡ true }
 {
     match &row.second {
         Some(_) => None,
@@ -196,7 +200,8 @@ fn narrow_warm_point(
     requires point { IsPointRow point.now }
     requires states { AreStates (ends_with a.now b.now now) }
     requires narrow { AreNarrow 4 now }
-    ensures { IfSome result (IsNarrowPoint (record { point = point.now; ends = point_warmed point.now (ends_with a.now b.now now) }) point.now a.now b.now now) }
+    ensures value { IfSome result (IsNarrowPoint (record { point = point.now; ends = point_warmed point.now (ends_with a.now b.now now) }) point.now a.now b.now now) }
+    ensures room { unsigned_abs point.now.push < 2 ^ 29 → unsigned_abs point.now.slip < 2 ^ 29 → is_some result ≡ true }
 {
     match narrow_warm(
         &point.push_line(),
@@ -223,7 +228,8 @@ pub fn narrow_warm_row(row: &ContactRow, a: &BodyState, b: &BodyState) -> Option
     requires row { IsRow row.now }
     requires first { IsState a.now }
     requires second { IsState b.now }
-    ensures { IfSome result (IsNarrowTurn (row_warmed row.now (both_ends a.now b.now)) row.now a.now b.now) }
+    ensures value { IfSome result (IsNarrowTurn (row_warmed row.now (both_ends a.now b.now)) row.now a.now b.now) }
+    ensures room { HasWarmRoom row.now a.now b.now → is_some result ≡ true }
 {
     match &row.second {
         Some(_) => None,

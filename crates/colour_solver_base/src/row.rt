@@ -9,12 +9,12 @@ ghost use Rattle.colour_solver_base.specs.Rows.{AreSurfaces, IsPointRow, IsRow, 
 
 use contacts_base::{Contact, ContactPoint};
 use fixed_geom::Vec2;
-use momenta::{Ends, Line, inverse_mass, speed_along};
+use momenta::{Ends, Line, inverse_mass, inverse_reciprocal, speed_along};
 
 /// A point of a contact in a step: the normal from the first body to the second (times 2^30), the offsets from the two
-/// centres (u), the inverse masses along the normal and across it (times 2^40), the separation (u) and, where there is
-/// restitution, the speed along the normal (u/tick) when the step began, and the accumulated impulses along the normal and
-/// across it (mass·u/tick).
+/// centres (u), the inverse masses along the normal and across it (times 2^40) and their reciprocals, the separation (u) and,
+/// where there is restitution, the speed along the normal (u/tick) when the step began, and the accumulated impulses along the
+/// normal and across it (mass·u/tick).
 #[derive(Clone, Copy, Debug, PartialEq, Eq)]
 pub struct PointRow {
     pub normal: Vec2,
@@ -22,6 +22,8 @@ pub struct PointRow {
     pub rb: Vec2,
     pub push_inverse: i128,
     pub slip_inverse: i128,
+    pub push_reciprocal: i64,
+    pub slip_reciprocal: i64,
     pub separation: i64,
     pub start_speed: i64,
     pub push: i64,
@@ -68,6 +70,7 @@ impl PointRow {
             ra: self.ra,
             rb: self.rb,
             inverse_mass: self.push_inverse,
+            reciprocal: self.push_reciprocal,
         }
     }
 
@@ -81,6 +84,7 @@ impl PointRow {
             ra: self.ra,
             rb: self.rb,
             inverse_mass: self.slip_inverse,
+            reciprocal: self.slip_reciprocal,
         }
     }
 }
@@ -115,18 +119,23 @@ fn point_row(springy: bool, point: &ContactPoint, ends: &Ends) -> PointRow
     ensures row { IsPointRow result }
 {
     let across = tangent(point.normal);
+    let push_inverse = inverse_mass(point.normal, point.ra, point.rb, ends);
+    let slip_inverse = inverse_mass(across, point.ra, point.rb, ends);
     let line = Line {
         direction: point.normal,
         ra: point.ra,
         rb: point.rb,
-        inverse_mass: inverse_mass(point.normal, point.ra, point.rb, ends),
+        inverse_mass: push_inverse,
+        reciprocal: inverse_reciprocal(push_inverse),
     };
     PointRow {
         normal: point.normal,
         ra: point.ra,
         rb: point.rb,
-        push_inverse: line.inverse_mass,
-        slip_inverse: inverse_mass(across, point.ra, point.rb, ends),
+        push_inverse,
+        slip_inverse,
+        push_reciprocal: line.reciprocal,
+        slip_reciprocal: inverse_reciprocal(slip_inverse),
         separation: point.separation,
         start_speed: start_speed(springy, &line, ends),
         push: point.push,

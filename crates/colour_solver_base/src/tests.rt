@@ -8,7 +8,9 @@ use crate::{
     narrow_warm_row, solve_row, warm_row,
 };
 use fixed_geom::{Rot, Vec2};
-use momenta::{BodyState, Ends, MassData, Motion, Narrow, NarrowPair, reciprocals_of};
+use momenta::{
+    BodyState, Ends, MassData, Motion, Narrow, NarrowPair, inverse_reciprocal, reciprocals_of,
+};
 
 const ORIGIN: Vec2 = Vec2 { x: 0, y: 0 };
 
@@ -76,6 +78,8 @@ fn contact(separation: i64, start_speed: i64, push: i64) -> ContactRow
         rb: ORIGIN,
         push_inverse: 1 << 40,
         slip_inverse: 1 << 40,
+        push_reciprocal: inverse_reciprocal(1 << 40),
+        slip_reciprocal: inverse_reciprocal(1 << 40),
         separation,
         start_speed,
         push,

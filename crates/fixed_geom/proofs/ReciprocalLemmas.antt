@@ -218,6 +218,11 @@ pub is_whole : (k : ℤ) → (share_reciprocal k ≡ pos 0 → ⊥) → IsWhole 
 unfolding share_reciprocal
 is_whole k some = whole_by k _ (int_lt k (pos (2 ^ 20))) (int_lt (pos (2 ^ 54)) k) refl refl refl some
 
+-- one that is too great has none
+pub share_none : (k : ℤ) → pos (2 ^ 54) <ℤ k → share_reciprocal k ≡ pos 0
+unfolding share_reciprocal
+share_none k h = rw (isn't_below k (pos (2 ^ 20)) (omega (arith, ints, h)), is_below (pos (2 ^ 54)) k h) refl
+
 pub share_small : (k : ℤ) → pos (2 ^ 20) ≤ℤ k → unsigned_abs (rdiv (pos (2 ^ 82)) k) ≤ 2 ^ 62
 share_small (pos k) least =
     let size : 2 ^ 82 ≤ 2 ^ 62 * k = mul-le (2 ^ 62) (2 ^ 20) (2 ^ 62) k (omega arith) (omega (arith, ints, least)) in

@@ -25,7 +25,9 @@ pub use inverses::{over_inverse, quotient_40};
 pub use narrow::{narrow_cross, narrow_dot, narrow_scaled, rdiv_unit_64};
 pub use products::{difference_of_products, product, scaled, sum_of_products};
 pub use quotients::{fdiv, rdiv, rdiv_64, rdiv_unit, share};
-pub use reciprocals::{inverse_by, rdiv_by, rdiv_reciprocal, share_by, share_reciprocal};
+pub use reciprocals::{
+    inverse_by, over_inverse_by, rdiv_by, rdiv_reciprocal, share_by, share_reciprocal,
+};
 pub use refusal::Refusal;
 pub use roots::isqrt;
 pub use vectors::{

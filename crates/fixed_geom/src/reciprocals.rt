@@ -1,12 +1,12 @@
 //! Quotients by a number that is divided by often: a product with its reciprocal, which spares a division (as for divisors that
 //! don't change, Granlund and Montgomery, 'Division by invariant integers using multiplication', 1994).
 
-ghost use Rattle.std.specs.Prelude.{◌≡◌, ◌*◌, ◌^◌, ◌<◌, ◌≤◌, pos, neg_ℤ, ◌+ℤ◌, ◌-ℤ◌, ◌*ℤ◌, ◌≤ℤ◌, ◌<ℤ◌, unsigned_abs};
+ghost use Rattle.std.specs.Prelude.{◌≡◌, ◌*◌, ◌^◌, ◌<◌, ◌≤◌, true, pos, neg_ℤ, ◌+ℤ◌, ◌-ℤ◌, ◌*ℤ◌, ◌≤ℤ◌, ◌<ℤ◌, unsigned_abs};
 ghost use Rattle.fixed_geom.specs.Numbers.{nearest, rdiv, fdiv};
 ghost use Rattle.fixed_geom.specs.Reciprocals.{rdiv_reciprocal, share_reciprocal};
 ghost use Rattle.fixed_geom.specs.Vectors.{unit_length};
 
-use crate::inverses::quotient_40_of_sizes;
+use crate::inverses::{over_inverse, quotient_40_of_sizes};
 use crate::products::{difference_of_products, product};
 use crate::quotients::{nearest_quotient_64, rdiv_64, share};
 
@@ -195,5 +195,43 @@ pub fn share_by(x: i64, k: i64, reciprocal: i64) -> i64
         divided_share(x, k)
     } else {
         share_of_whole(x, k, reciprocal)
+    }
+}
+
+/// Whether `x` is so small beside an inverse that the quotient is at most 2^28.
+#[inline(always)]
+fn is_small_part(x: i64, inverse: i64) -> bool
+    requires { pos 0 ≤ℤ inverse }
+    ensures { result ≡ true → 4096 * unsigned_abs x ≤ unsigned_abs inverse }
+{
+    x.unsigned_abs() <= inverse as u64 / 4096
+}
+
+/// `over_inverse` of a quotient that may be greater than 2^28.
+#[inline(never)]
+fn over_small_inverse(x: i64, inverse: i64) -> i64
+    requires x { unsigned_abs x < 2 ^ 22 }
+    requires least { pos (2 ^ 20) ≤ℤ inverse }
+    requires most { unsigned_abs inverse < 2 ^ 62 }
+    ensures value { result ≡ rdiv (x *ℤ pos (2 ^ 40)) inverse }
+    ensures within { unsigned_abs result ≤ 2 ^ 42 }
+{
+    over_inverse(x, inverse)
+}
+
+/// `over_inverse` with the `share_reciprocal` of the inverse.
+#[inline(always)]
+pub fn over_inverse_by(x: i64, inverse: i64, reciprocal: i64) -> i64
+    requires x { unsigned_abs x < 2 ^ 22 }
+    requires least { pos (2 ^ 20) ≤ℤ inverse }
+    requires most { unsigned_abs inverse < 2 ^ 62 }
+    requires reciprocal { reciprocal ≡ share_reciprocal inverse }
+    ensures value { result ≡ rdiv (x *ℤ pos (2 ^ 40)) inverse }
+    ensures within { unsigned_abs result ≤ 2 ^ 42 }
+{
+    if is_small_part(x, inverse) {
+        share_by(1024 * x, inverse, reciprocal)
+    } else {
+        over_small_inverse(x, inverse)
     }
 }

@@ -1,6 +1,6 @@
 //! Values worked by hand, each public function once.
 
-ghost use Rattle.std.specs.Prelude.{◌≡◌, ◌*◌, ◌^◌, ◌≤◌, ◌<ℤ◌, pos, neg_ℤ, true, unsigned_abs};
+ghost use Rattle.std.specs.Prelude.{◌≡◌, ◌*◌, ◌^◌, ◌<◌, ◌≤◌, ◌<ℤ◌, ◌≤ℤ◌, pos, neg_ℤ, true, unsigned_abs};
 ghost use Rattle.fixed_geom.specs.Numbers.{rdiv, fdiv, isqrt};
 ghost use Rattle.fixed_geom.specs.Vectors.{cross, unit};
 ghost use Rattle.fixed_geom.specs.Facings.{is_facing, turn};
@@ -39,6 +39,15 @@ fn part(x: i64, k: i64) -> i64
     share_by(x, k, share_reciprocal(k))
 }
 
+/// An impulse by the reciprocal of the inverse mass.
+fn impulse(x: i64, inverse: i64) -> i64
+    requires x { unsigned_abs x < 2 ^ 22 }
+    requires least { pos (2 ^ 20) ≤ℤ inverse }
+    requires most { unsigned_abs inverse < 2 ^ 62 }
+{
+    over_inverse_by(x, inverse, share_reciprocal(inverse))
+}
+
 #[test]
 fn quotients_by_reciprocals_round(rt: HostRuntime) {
     assert_eq!(rt; quotient(7, 2), 4);
@@ -54,6 +63,13 @@ fn quotients_by_reciprocals_round(rt: HostRuntime) {
     assert_eq!(rt; part(-1, 2147483649), 0);
     assert_eq!(rt; part(1 << 40, 1 << 54), 65536);
     assert_eq!(rt; part(1 << 40, 1 << 58), 4096);
+    assert_eq!(rt; impulse(55, 916259689813), 66);
+    assert_eq!(rt; impulse(-10, 2199023255552), -5);
+    assert_eq!(rt; impulse(-1, 2199023255552), -1);
+    assert_eq!(rt; impulse(-3, 1048576), -3145728);
+    assert_eq!(rt; impulse(1000, 1048576), 1048576000);
+    assert_eq!(rt; impulse(1048575, 3298534883328), 349525);
+    assert_eq!(rt; impulse(7, 1 << 61), 0);
 }
 
 #[test]

@@ -1,6 +1,7 @@
 -- Impulses: what a body gets of one, what two bodies give one another, and one impulse of the sequential solver along a line.
 use Rattle.std.specs.Prelude.{◌≡◌, zero, ◌≤◌, ◌^◌, Bool, true, false, cond, nat_le, Option, Some, None, ℤ, pos, neg_ℤ, ◌+ℤ◌, ◌-ℤ◌, ◌*ℤ◌, ◌≤ℤ◌, unsigned_abs, int_lt}
 use Rattle.fixed_geom.specs.Numbers.{rdiv}
+use Rattle.fixed_geom.specs.Reciprocals.{share_reciprocal}
 use Rattle.fixed_geom.specs.Vectors.{IsWithin, is_within, unit_length, dot, cross, minus}
 use Rattle.fixed_geom.specs.declared.vectors.Vec2.{Vec2}
 use Rattle.momenta.specs.declared.motion.Motion.{Motion}
@@ -159,3 +160,4 @@ pub record IsLine (line : Line) : Type 0 where
   pub rb : IsWithin (2 ^ 27) line.rb
   pub inverse_low : pos (2 ^ 20) ≤ℤ line.inverse_mass
   pub inverse_high : unsigned_abs line.inverse_mass ≤ 2 ^ 98
+  pub reciprocal : line.reciprocal ≡ share_reciprocal line.inverse_mass

@@ -1,11 +1,13 @@
 -- The momenta of bodies in 64 bits.
-use Rattle.std.specs.Prelude.{ℕ, ◌≤◌, ◌+◌, ◌*◌, ◌^◌, unsigned_abs}
+use Rattle.std.specs.Prelude.{ℕ, ◌<◌, ◌≤◌, ◌+◌, ◌*◌, ◌^◌, ℤ, pos, ◌+ℤ◌, ◌-ℤ◌, ◌<ℤ◌, unsigned_abs}
 use Rattle.fixed_geom.specs.Vectors.{IsWithin}
 use Rattle.momenta.specs.declared.state.BodyState.{BodyState}
 use Rattle.momenta.specs.declared.state.Ends.{Ends}
 use Rattle.momenta.specs.declared.narrow.Narrow.{Narrow}
 use Rattle.momenta.specs.declared.narrow.NarrowPair.{NarrowPair}
-use Rattle.momenta.specs.Impulses.{AreStates, AreSameBodies, IsMomentumKept}
+use Rattle.momenta.specs.declared.motion.Motion.{Motion}
+use Rattle.momenta.specs.declared.line.Line.{Line}
+use Rattle.momenta.specs.Impulses.{AreStates, AreSameBodies, IsMomentumKept, between, parting, speed_along, wanted}
 
 -- the body with these momenta in place of its own
 abbrev pub with_momenta : BodyState → Narrow → BodyState
@@ -22,6 +24,21 @@ pub record IsNarrow (k : ℕ) (n : Narrow) : Type 0 where
 pub record AreNarrow (k : ℕ) (n : NarrowPair) : Type 0 where
   pub a : IsNarrow k n.a
   pub b : IsNarrow k n.b
+
+-- momenta so small that there is room for them in 64 bits
+pub record IsSmall (m : Motion) : Type 0 where
+  pub x : unsigned_abs m.p.x < 2 ^ 40
+  pub y : unsigned_abs m.p.y < 2 ^ 40
+  pub l : unsigned_abs m.l < 2 ^ 60
+
+-- a solver's impulse along the line for which there is room in 64 bits
+pub record HasRoom (line : Line) (bias low high total : ℤ) (e : Ends) : Type 0 where
+  pub x : unsigned_abs (parting line.ra line.rb e).x < 2 ^ 31
+  pub y : unsigned_abs (parting line.ra line.rb e).y < 2 ^ 31
+  pub speed : unsigned_abs (speed_along line e) < 2 ^ 20
+  pub towards : unsigned_abs bias < 2 ^ 20
+  pub inverse : line.inverse_mass <ℤ pos (2 ^ 62)
+  pub change : unsigned_abs (between low high (total +ℤ wanted (speed_along line e) bias line.inverse_mass) -ℤ total) < 2 ^ 30
 
 -- the two bodies with the momenta n have been left so by an impulse, which they had with `old` before it
 pub record IsImpulse (a b : BodyState) (old n : NarrowPair) : Type 0 where

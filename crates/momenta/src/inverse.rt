@@ -2,12 +2,14 @@
 
 ghost use Rattle.std.specs.Prelude.{◌≡◌, ◌^◌, ◌≤◌, ◌⊎◌, true, pos, ◌+ℤ◌, ◌≤ℤ◌, unsigned_abs};
 ghost use Rattle.fixed_geom.specs.Numbers.{rdiv};
+ghost use Rattle.fixed_geom.specs.Reciprocals.{share_reciprocal};
 ghost use Rattle.fixed_geom.specs.Vectors.{IsWithin, cross, unit_length};
 ghost use Rattle.momenta.specs.Motions.{IsMass};
 ghost use Rattle.momenta.specs.Impulses.{IsState, AreStates, turning_share, inverse_share, inverse_mass};
 
+use crate::line::SMALL_INVERSE;
 use crate::{BodyState, Ends, MassData};
-use fixed_geom::{Vec2, inverse_by, narrow_cross, quotient_40, rdiv_unit_64};
+use fixed_geom::{Vec2, inverse_by, narrow_cross, quotient_40, rdiv_unit_64, share_reciprocal};
 
 /// What turning adds to a body's share of the inverse mass: nothing at inertia 0, or where the line goes through the centre.
 #[inline(always)]
@@ -111,4 +113,17 @@ pub fn inverse_mass(direction: Vec2, ra: Vec2, rb: Vec2, ends: &Ends) -> i128
     ensures high { unsigned_abs result ≤ 2 ^ 98 }
 {
     inverse_share(direction, ra, &ends.a) + inverse_share(direction, rb, &ends.b)
+}
+
+/// The reciprocal of an inverse mass that a `Line` has its impulses taken with: 0 where the inverse is too great to have one.
+#[inline(always)]
+pub fn inverse_reciprocal(inverse: i128) -> i64
+    requires { pos 0 ≤ℤ inverse }
+    ensures { result ≡ share_reciprocal inverse }
+{
+    if inverse < SMALL_INVERSE {
+        share_reciprocal(inverse as i64)
+    } else {
+        0
+    }
 }

@@ -22,7 +22,7 @@ pub mod travel;
 
 pub use gain::{Gain, NOTHING, gain_between, plus};
 pub use gravity::pull;
-pub use inverse::inverse_mass;
+pub use inverse::{inverse_mass, inverse_reciprocal};
 pub use line::{
     Exerted, Line, part_along, parting, solve_line, speed_along, warm_at_once, warm_line,
 };

@@ -3,6 +3,7 @@
 
 ghost use Rattle.std.specs.Prelude.{◌≡◌, ◌^◌, ◌<◌, ◌≤◌, ◌+◌, ◌⊎◌, true, false, pos, neg_ℤ, ◌+ℤ◌, ◌-ℤ◌, ◌*ℤ◌, ◌≤ℤ◌, ◌<ℤ◌, unsigned_abs};
 ghost use Rattle.fixed_geom.specs.Numbers.{rdiv};
+ghost use Rattle.fixed_geom.specs.Reciprocals.{share_reciprocal};
 ghost use Rattle.fixed_geom.specs.Vectors.{IsWithin, dot, unit_length};
 ghost use Rattle.momenta.specs.Impulses.{AreStates, AreSameBodies, IsMomentumKept, IsLine, parting, speed_along, wanted, between, along, exerted, solved, warmed};
 
@@ -10,7 +11,7 @@ use crate::ranges::are_in;
 use crate::state::grown;
 use crate::{Ends, impulse_pair};
 use fixed_geom::{
-    UNIT, Vec2, dot, minus, narrow_dot, narrow_scaled, over_inverse, rdiv, rdiv_unit_64, scaled,
+    UNIT, Vec2, dot, minus, narrow_dot, narrow_scaled, over_inverse_by, rdiv, rdiv_unit_64, scaled,
 };
 
 /// A velocity whose components are at most this many u/tick has a product with a direction that has room in 64 bits.
@@ -20,7 +21,7 @@ pub(crate) const SLOW: i64 = 1 << 31;
 const SLOW_CHANGE: i64 = 1 << 20;
 
 /// An inverse mass below this has room in 64 bits.
-const SMALL_INVERSE: i128 = 1 << 62;
+pub(crate) const SMALL_INVERSE: i128 = 1 << 62;
 
 /// An impulse below this has a product with a direction that has room in 64 bits.
 const SMALL_IMPULSE: i64 = 1 << 32;
@@ -29,13 +30,15 @@ const SMALL_IMPULSE: i64 = 1 << 32;
 const INVERSE_UNIT: i128 = 1 << 40;
 
 /// A line along which impulses pass between two bodies: its direction (times 2^30), the offsets from the two centres at which
-/// it meets them (u), and the inverse of the mass that they show along it, times 2^40.
+/// it meets them (u), the inverse of the mass that they show along it, times 2^40, and the reciprocal of that inverse, with which
+/// impulses are taken.
 #[derive(Clone, Copy, Debug, PartialEq, Eq)]
 pub struct Line {
     pub direction: Vec2,
     pub ra: Vec2,
     pub rb: Vec2,
     pub inverse_mass: i128,
+    pub reciprocal: i64,
 }
 
 /// Two bodies after an impulse, and the accumulated impulse along the line (mass·u/tick).
@@ -288,6 +291,7 @@ pub(crate) fn narrow_next_total(
     speed: i64,
     bias: i64,
     inverse: i64,
+    reciprocal: i64,
     low: i64,
     high: i64,
     total: i64,
@@ -296,6 +300,7 @@ pub(crate) fn narrow_next_total(
     requires bias { unsigned_abs bias ≤ 2 ^ 20 }
     requires inverse { pos (2 ^ 20) ≤ℤ inverse }
     requires inverse_size { unsigned_abs inverse < 2 ^ 62 }
+    requires reciprocal { reciprocal ≡ share_reciprocal inverse }
     requires order { low ≤ℤ high }
     requires total { unsigned_abs total ≤ 2 ^ 43 }
     ensures value { result ≡ between low high (total +ℤ wanted speed bias inverse) }
@@ -305,7 +310,7 @@ pub(crate) fn narrow_next_total(
     if speed >= bias && total == low {
         return low;
     }
-    let wanted = over_inverse(bias - speed, inverse);
+    let wanted = over_inverse_by(bias - speed, inverse, reciprocal);
     narrow_between(low, high, total + wanted)
 }
 
@@ -332,16 +337,26 @@ pub(crate) fn is_narrow(speed: i64, bias: i64, inverse: i128) -> bool
     ensures speed { result ≡ true → unsigned_abs speed ≤ 2 ^ 20 }
     ensures bias { result ≡ true → unsigned_abs bias ≤ 2 ^ 20 }
     ensures inverse { result ≡ true → inverse <ℤ pos (2 ^ 62) }
+    ensures room { unsigned_abs speed < 2 ^ 20 → unsigned_abs bias < 2 ^ 20 → inverse <ℤ pos (2 ^ 62) → result ≡ true }
 {
     are_in(speed, bias, SLOW_CHANGE) & (inverse < SMALL_INVERSE)
 }
 
 /// The accumulated impulse with what brings the speed to the bias, within its range.
 #[inline(always)]
-fn next_total(speed: i64, bias: i64, inverse: i128, low: i64, high: i64, total: i64) -> i64
+fn next_total(
+    speed: i64,
+    bias: i64,
+    inverse: i128,
+    reciprocal: i64,
+    low: i64,
+    high: i64,
+    total: i64,
+) -> i64
     requires speed { unsigned_abs speed ≤ 2 ^ 62 + 2 ^ 28 }
     requires bias { unsigned_abs bias ≤ 2 ^ 62 + 2 ^ 28 }
     requires inverse { pos (2 ^ 20) ≤ℤ inverse }
+    requires reciprocal { reciprocal ≡ share_reciprocal inverse }
     requires order { low ≤ℤ high }
     requires total { unsigned_abs total ≤ 2 ^ 43 }
     ensures value { result ≡ between low high (total +ℤ wanted speed bias inverse) }
@@ -349,7 +364,7 @@ fn next_total(speed: i64, bias: i64, inverse: i128, low: i64, high: i64, total: 
     ensures high { result ≤ℤ high }
 {
     if is_narrow(speed, bias, inverse) {
-        narrow_next_total(speed, bias, inverse as i64, low, high, total)
+        narrow_next_total(speed, bias, inverse as i64, reciprocal, low, high, total)
     } else {
         wide_next_total(speed, bias, inverse, low, high, total)
     }
@@ -390,7 +405,15 @@ pub fn solve_line(
     ensures kept { IsMomentumKept ends.old ends.new }
 {
     let speed = part_along(apart, line.direction);
-    let next = next_total(speed, bias, line.inverse_mass, low, high, total);
+    let next = next_total(
+        speed,
+        bias,
+        line.inverse_mass,
+        line.reciprocal,
+        low,
+        high,
+        total,
+    );
     exert(line, total, next, ends)
 }
 

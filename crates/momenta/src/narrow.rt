@@ -1,12 +1,12 @@
 //! Impulses between two bodies whose momenta are so small that all is done in 64 bits: what `line` and `state` define, on
 //! copies of the momenta alone. Where there is no room, the answer is `None`, and the wide forms are to be used.
 
-ghost use Rattle.std.specs.Prelude.{◌≡◌, ℕ, ◌^◌, ◌<◌, ◌≤◌, ◌+◌, ◌*◌, Some, true, pos, ◌+ℤ◌, ◌≤ℤ◌, unsigned_abs, IfSome};
+ghost use Rattle.std.specs.Prelude.{◌≡◌, ℕ, ◌^◌, ◌<◌, ◌≤◌, ◌+◌, ◌*◌, Some, true, pos, ◌+ℤ◌, ◌-ℤ◌, ◌≤ℤ◌, ◌<ℤ◌, unsigned_abs, IfSome, is_some};
 ghost use Rattle.fixed_geom.specs.Reciprocals.{rdiv_reciprocal, share_reciprocal};
 ghost use Rattle.fixed_geom.specs.Vectors.{IsWithin};
 ghost use Rattle.momenta.specs.Motions.{spin, velocity};
 ghost use Rattle.momenta.specs.Impulses.{AreStates, IsLine, IsState, along, between, exerted, given, impulse_pair, parting, solved, turned_by, velocity_at, wanted, warmed};
-ghost use Rattle.momenta.specs.Narrow.{AreNarrow, IsImpulse, IsNarrow, ends_with, with_momenta};
+ghost use Rattle.momenta.specs.Narrow.{AreNarrow, HasRoom, IsImpulse, IsNarrow, IsSmall, ends_with, with_momenta};
 
 use crate::line::{SLOW, is_narrow, narrow_next_total, slow_part_along};
 use crate::ranges::{are_in, is_in};
@@ -53,6 +53,7 @@ fn is_small(body: &BodyState) -> bool
     ensures x { result ≡ true → unsigned_abs body.now.motion.p.x ≤ 2 ^ 40 }
     ensures y { result ≡ true → unsigned_abs body.now.motion.p.y ≤ 2 ^ 40 }
     ensures l { result ≡ true → unsigned_abs body.now.motion.l ≤ 2 ^ 60 }
+    ensures room { IsSmall body.now.motion → result ≡ true }
 {
     let l = body.motion.l;
     are_in(body.motion.p.x, body.motion.p.y, NARROW_MOMENTUM)
@@ -65,6 +66,7 @@ fn is_small(body: &BodyState) -> bool
 fn are_small(a: &BodyState, b: &BodyState) -> bool
     ensures a { result ≡ true → IsNarrow 0 (record { p = a.now.motion.p; l = a.now.motion.l }) }
     ensures b { result ≡ true → IsNarrow 0 (record { p = b.now.motion.p; l = b.now.motion.l }) }
+    ensures room { IsSmall a.now.motion → IsSmall b.now.motion → result ≡ true }
 {
     is_small(a) & is_small(b)
 }
@@ -86,6 +88,7 @@ fn narrow_of(body: &BodyState) -> Narrow
 pub fn narrow_pair(a: &BodyState, b: &BodyState) -> Option<NarrowPair>
     ensures same { IfSome result (λ n. ends_with a.now b.now n ≡ record { a = a.now; b = b.now }) }
     ensures narrow { IfSome result (AreNarrow 0) }
+    ensures room { IsSmall a.now.motion → IsSmall b.now.motion → is_some result ≡ true }
 {
     if are_small(a, b) {
         Some(NarrowPair {
@@ -307,6 +310,7 @@ fn narrow_exert(
     ensures impulse { IfSome result (λ r. IsImpulse a.now b.now now r.now) }
     ensures total { IfSome result (λ r. r.total ≡ new) }
     ensures still { IfSome result (λ r. r.total ≡ old → r.now ≡ now) }
+    ensures room { unsigned_abs (new -ℤ old) < 2 ^ 30 → is_some result ≡ true }
 {
     if new == old {
         return Some(NarrowTurn { now, total: new });
@@ -325,7 +329,8 @@ fn narrow_exert(
 /// Whether a velocity has a product with a direction that has room in 64 bits.
 #[inline(always)]
 fn is_slow(v: Vec2) -> bool
-    ensures { result ≡ true → IsWithin (2 ^ 31) v }
+    ensures within { result ≡ true → IsWithin (2 ^ 31) v }
+    ensures room { unsigned_abs v.x < 2 ^ 31 → unsigned_abs v.y < 2 ^ 31 → result ≡ true }
 {
     are_in(v.x, v.y, SLOW)
 }
@@ -336,19 +341,23 @@ fn narrow_total(
     speed: i64,
     bias: i64,
     inverse: i128,
+    reciprocal: i64,
     low: i64,
     high: i64,
     total: i64,
 ) -> Option<i64>
     requires inverse { pos (2 ^ 20) ≤ℤ inverse }
+    requires reciprocal { reciprocal ≡ share_reciprocal inverse }
     requires order { low ≤ℤ high }
     requires total { unsigned_abs total ≤ 2 ^ 43 }
     ensures value { IfSome result (λ next. next ≡ between low high (total +ℤ wanted speed bias inverse)) }
     ensures low { IfSome result (λ next. low ≤ℤ next) }
     ensures high { IfSome result (λ next. next ≤ℤ high) }
+    ensures room { unsigned_abs speed < 2 ^ 20 → unsigned_abs bias < 2 ^ 20 → inverse <ℤ pos (2 ^ 62) → is_some result ≡ true }
 {
     if is_narrow(speed, bias, inverse) {
-        Some(narrow_next_total(speed, bias, inverse as i64, low, high, total))
+        let inverse = inverse as i64;
+        Some(narrow_next_total(speed, bias, inverse, reciprocal, low, high, total))
     } else {
         None
     }
@@ -382,12 +391,21 @@ pub fn narrow_solve_line(
     ensures low { IfSome result (λ r. low ≤ℤ r.total) }
     ensures high { IfSome result (λ r. r.total ≤ℤ high) }
     ensures still { IfSome result (λ r. r.total ≡ total → r.now ≡ now) }
+    ensures room { HasRoom line.now bias low high total (ends_with a.now b.now now) → is_some result ≡ true }
 {
     if !is_slow(apart) {
         return None;
     }
     let speed = slow_part_along(apart, line.direction);
-    match narrow_total(speed, bias, line.inverse_mass, low, high, total) {
+    match narrow_total(
+        speed,
+        bias,
+        line.inverse_mass,
+        line.reciprocal,
+        low,
+        high,
+        total,
+    ) {
         None => None,
         Some(next) => narrow_exert(line, total, next, a, b, now),
     }
@@ -413,6 +431,7 @@ pub fn narrow_warm(
     requires narrow { AreNarrow 4 now }
     ensures value { IfSome result (λ n. ends_with a.now b.now n ≡ warmed second.now other (warmed first.now one (ends_with a.now b.now now))) }
     ensures impulse { IfSome result (λ n. IsImpulse a.now b.now now n) }
+    ensures room { unsigned_abs one < 2 ^ 29 → unsigned_abs other < 2 ^ 29 → is_some result ≡ true }
 {
     if !are_in(one, other, NARROW_HALF) {
         return None;

@@ -1,12 +1,13 @@
 //! Whether numbers are within a range, told with no size taken.
 
-ghost use Rattle.std.specs.Prelude.{◌≡◌, ◌^◌, ◌<◌, ◌≤◌, true, unsigned_abs};
+ghost use Rattle.std.specs.Prelude.{◌≡◌, ◌^◌, ◌<◌, ◌≤◌, ◌<ℤ◌, pos, true, unsigned_abs};
 
 /// Whether `x` is from `-limit` to below `limit`: no size is taken, and where the limit is a power of two one comparison does.
 #[inline(always)]
 pub(crate) fn is_in(x: i64, limit: i64) -> bool
     requires { unsigned_abs limit < 2 ^ 63 }
-    ensures { result ≡ true → unsigned_abs x ≤ unsigned_abs limit }
+    ensures within { result ≡ true → unsigned_abs x ≤ unsigned_abs limit }
+    ensures room { pos (unsigned_abs x) <ℤ limit → result ≡ true }
 {
     -limit <= x && x < limit
 }
@@ -17,6 +18,7 @@ pub(crate) fn are_in(x: i64, y: i64, limit: i64) -> bool
     requires { unsigned_abs limit < 2 ^ 63 }
     ensures x { result ≡ true → unsigned_abs x ≤ unsigned_abs limit }
     ensures y { result ≡ true → unsigned_abs y ≤ unsigned_abs limit }
+    ensures room { pos (unsigned_abs x) <ℤ limit → pos (unsigned_abs y) <ℤ limit → result ≡ true }
 {
     is_in(x, limit) & is_in(y, limit)
 }

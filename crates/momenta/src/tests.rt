@@ -5,7 +5,7 @@ ghost use Rattle.momenta.specs.Motions.{IsMass, IsMotion};
 
 use crate::{
     BodyState, Ends, Line, MassData, Motion, Narrow, NarrowPair, advance, clamp_speed,
-    inverse_mass, narrow_pair, parting, pull, reciprocals_of, solve_line,
+    inverse_mass, inverse_reciprocal, narrow_pair, parting, pull, reciprocals_of, solve_line,
 };
 use fixed_geom::{Rot, Vec2};
 
@@ -147,6 +147,7 @@ fn line(direction: Vec2, inverse_mass: i128) -> Line
         ra: ORIGIN,
         rb: ORIGIN,
         inverse_mass,
+        reciprocal: inverse_reciprocal(inverse_mass),
     }
 }
 

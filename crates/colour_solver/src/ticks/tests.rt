@@ -9,7 +9,7 @@ ghost use Rattle.colour_solver.specs.Ticks.{start, ticks};
 use super::run_step;
 use colour_solver_base::{Bodies, ContactRow, PointRow};
 use fixed_geom::{Refusal, Rot, Vec2};
-use momenta::{BodyState, Gain, MassData, Motion, reciprocals_of};
+use momenta::{BodyState, Gain, MassData, Motion, inverse_reciprocal, reciprocals_of};
 use std::alloc::Global;
 use std::test::Fail;
 
@@ -100,6 +100,8 @@ fn landing() -> ContactRow
         rb: ORIGIN,
         push_inverse: 1 << 40,
         slip_inverse: 1 << 40,
+        push_reciprocal: inverse_reciprocal(1 << 40),
+        slip_reciprocal: inverse_reciprocal(1 << 40),
         separation: 0,
         start_speed: -8192,
         push: 0,

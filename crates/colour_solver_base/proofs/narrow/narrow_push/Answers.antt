@@ -36,3 +36,9 @@ pub returns-clause-still : goal.returns-clause-still
 returns-clause-still c =
     let push : SFits w64 c.args.point.now.push = search rules in
     simp to_z-of_z at c.narrow_solve_line.ensures.still
+
+pub returns-clause-room : goal.returns-clause-room
+returns-clause-room c =
+    let bias : SFits w64 c.bias_of-bias.result = record { sfits = c.bias_of-bias.type_inv } in
+    let push : SFits w64 c.args.point.now.push = search rules in
+    rw (c.push_line.ensures, bias_is c) at (simp to_z-of_z at c.narrow_solve_line.ensures.room)

@@ -74,3 +74,13 @@ returns-clause-small c =
     let both = some_both (λ (r : NarrowTurn). neg_ℤ c.most_slip-most.result ≤ℤ r.total) (λ (r : NarrowTurn). r.total ≤ℤ c.most_slip-most.result) c.narrow_solve_line.result low high in
     some_then (λ (r : NarrowTurn). (neg_ℤ c.most_slip-most.result ≤ℤ r.total) × (r.total ≤ℤ c.most_slip-most.result)) (λ (r : NarrowTurn). unsigned_abs r.total ≤ 2 ^ 43) c.narrow_solve_line.result
     (λ r h. within_by c.most_slip-most.result r.total c.most_slip-most.ensures.within h.0 h.1) both
+
+pub returns-clause-room : goal.returns-clause-room
+returns-clause-room c =
+    let friction : SFits w64 c.args.friction = c.ranges.friction in
+    let push : SFits w64 c.args.pushed.total = search rules in
+    let slip : SFits w64 c.args.point.now.slip = search rules in
+    let most : SFits w64 c.most_slip-most.result = record { sfits = c.most_slip-most.type_inv } in
+    let least : SFits w64 (pos 0 -ℤ c.most_slip-most.result) = fits_signed_from_abs w64 (pos 0 -ℤ c.most_slip-most.result) (omega (arith, ints, c.most_slip-most.ensures.within)) in
+    let limit = simp to_z-of_z at c.most_slip-most.ensures.value in
+    rw (c.slip_line.ensures, negative c.most_slip-most.result, limit) at (simp to_z-of_z at c.narrow_solve_line.ensures.room)

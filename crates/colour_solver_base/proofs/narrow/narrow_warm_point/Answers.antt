@@ -12,9 +12,9 @@ use Rattle.colour_solver_base.proofs.narrow.narrow_warm_point.Goals as goal
 abbrev turned : PointRow → Ends → PointTurn
 turned p e = record { point = p; ends = e }
 
-pub returns-in-Some : goal.returns-in-Some
+pub returns-in-Some-clause-value : goal.returns-in-Some-clause-value
 unfolding point_warmed
-returns-in-Some c =
+returns-in-Some-clause-value c =
     let push : SFits w64 c.args.point.now.push = search rules in
     let slip : SFits w64 c.args.point.now.slip = search rules in
     let row = c.requires.point in

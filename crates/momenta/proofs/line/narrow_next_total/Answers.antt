@@ -18,11 +18,11 @@ returns-clause-value c =
     let high : SFits w64 c.args.high = c.ranges.high in
     let total : SFits w64 c.args.total = c.ranges.total in
     let change : SFits w64 (c.args.bias -ℤ c.args.speed) = fits_64 _ (omega (arith, difference_le c.args.bias c.args.speed (2 ^ 20) (2 ^ 20) c.requires.bias c.requires.speed)) in
-    let wanted : SFits w64 c.over_inverse-wanted.result = record { sfits = c.over_inverse-wanted.type_inv } in
-    let sum : SFits w64 (c.args.total +ℤ c.over_inverse-wanted.result) = fits_64 _ (omega (arith, sum_le c.args.total c.over_inverse-wanted.result (2 ^ 43) (2 ^ 42) c.requires.total c.over_inverse-wanted.ensures.within)) in
+    let wanted : SFits w64 c.over_inverse_by-wanted.result = record { sfits = c.over_inverse_by-wanted.type_inv } in
+    let sum : SFits w64 (c.args.total +ℤ c.over_inverse_by-wanted.result) = fits_64 _ (omega (arith, sum_le c.args.total c.over_inverse_by-wanted.result (2 ^ 43) (2 ^ 42) c.requires.total c.over_inverse_by-wanted.ensures.within)) in
     let result : SFits w64 c.narrow_between.result = record { sfits = c.narrow_between.type_inv } in
     let turned : neg_ℤ (c.args.speed -ℤ c.args.bias) ≡ c.args.bias -ℤ c.args.speed = omega (arith, ints) in
-    let lacks = simp to_z-of_z at c.over_inverse-wanted.ensures.value in
+    let lacks = simp to_z-of_z at c.over_inverse_by-wanted.ensures.value in
     simp to_z-of_z (rw turned (rw lacks at (simp to_z-of_z at c.narrow_between.ensures.value)))
 
 pub returns-then-total-low-clause-value : goal.returns-then-total-low-clause-value

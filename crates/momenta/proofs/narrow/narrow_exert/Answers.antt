@@ -1,5 +1,5 @@
 use Rattle.std.proofs.Common.{◌≡◌, ◌∙◌, ap, sym, ◌-ℤ◌, ◌^◌, refl, arith}
-use Rattle.std.proofs.lemmas.Int.{to_z-of_z}
+use Rattle.std.proofs.lemmas.Int.{to_z-of_z, ints}
 use Rattle.std.specs.Int.{w64}
 use mir.Val.{SFits, to_z, of_z}
 use Rattle.fixed_geom.proofs.Sizes.{difference_le}
@@ -20,7 +20,7 @@ pub returns-then-new-old-clause-impulse : goal.returns-then-new-old-clause-impul
 returns-then-new-old-clause-impulse c = both_still c.args.a.now c.args.b.now c.args.now c.requires.states
 
 pub exchanged-requires-clause-impulse : goal.exchanged-requires-clause-impulse
-exchanged-requires-clause-impulse c = c.small_along-j.ensures.within (2 ^ 30) (c.if-not-is_in.ensures refl)
+exchanged-requires-clause-impulse c = c.small_along-j.ensures.within (2 ^ 30) (c.if-not-is_in.ensures.within refl)
 
 pub returns-clause-value : goal.returns-clause-value
 unfolding exerted
@@ -36,3 +36,10 @@ pub returns-clause-still : goal.returns-clause-still
 returns-clause-still c =
     let new : SFits w64 c.args.new = c.ranges.new in
     λ e. absurd (c.if-new-old.false (ap (of_z w64) (sym (to_z-of_z w64 c.args.new c.ranges.new) ∙ e)))
+
+pub returns-then-not-is_in-clause-room : goal.returns-then-not-is_in-clause-room
+returns-then-not-is_in-clause-room c =
+    let new : SFits w64 c.args.new = c.ranges.new in
+    let old : SFits w64 c.args.old = c.ranges.old in
+    let more : SFits w64 (c.args.new -ℤ c.args.old) = fits_64 _ (omega (arith, difference_le c.args.new c.args.old (2 ^ 43) (2 ^ 43) c.requires.new c.requires.old)) in
+    λ small. c.if-not-is_in.ensures.room (simp to_z-of_z (omega (arith, ints, small)))

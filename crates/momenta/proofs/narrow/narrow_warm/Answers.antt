@@ -1,5 +1,5 @@
 use Rattle.std.proofs.Common.{◌≡◌, ◌∙◌, ap, sym, ◌^◌, Some, refl, arith}
-use Rattle.std.proofs.lemmas.Int.{to_z-of_z}
+use Rattle.std.proofs.lemmas.Int.{to_z-of_z, ints}
 use Rattle.std.specs.Int.{w64}
 use mir.Val.{SFits}
 use Rattle.fixed_geom.specs.Vectors.{IsWithin}
@@ -31,3 +31,9 @@ returns-clause-value c =
     let both : impulse_pair (plus c.small_along.result c.small_along-2.result) c.args.first.now.ra c.args.first.now.rb e ≡ Some (ends_with c.args.a.now c.args.b.now c.exchanged.result) = rw c.grown-j.ensures at c.exchanged.ensures.value in
     rw (c.requires.ra, c.requires.rb, ← j, ← k) (ap (or_kept e) (sym both) ∙ pairs_are_one c.small_along.result c.small_along-2.result c.args.first.now.ra c.args.first.now.rb e (both_roomy c.args.a.now c.args.b.now c.args.now c.requires.narrow)
     (half_wider (2 ^ 44) c.small_along.result (omega arith) first) (half_wider (2 ^ 44) c.small_along-2.result (omega arith) second) c.requires.first.ra c.requires.first.rb)
+
+pub returns-then-not-are_in-clause-room : goal.returns-then-not-are_in-clause-room
+returns-then-not-are_in-clause-room c =
+    let one : SFits w64 c.args.one = c.ranges.one in
+    let other : SFits w64 c.args.other = c.ranges.other in
+    λ first second. c.if-not-are_in.ensures.room (simp to_z-of_z (omega (arith, ints, first))) (simp to_z-of_z (omega (arith, ints, second)))
