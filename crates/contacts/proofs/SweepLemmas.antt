@@ -16,9 +16,9 @@ use Rattle.fixed_geom.specs.Boxes.{Overlaps, meets}
 use Rattle.contacts_base.specs.declared.near.Proxy.{Proxy}
 use Rattle.contacts_base.specs.Near.{is_near, pair_code, near_codes}
 use Rattle.fixed_geom.specs.declared.boxes.Box2.{Box2}
-use Rattle.contacts.specs.Sweep.{proxy_at, pair_at, near_pair, strip_of, spot, start_in, strip_at, place_at, starts_of, IsPlaceIn, box_at, end_of, may_meet, pair_of, met, swept}
+use Rattle.contacts.specs.Sweep.{proxy_at, boxes_of, pair_at, near_pair, strip_of, spot, start_in, strip_at, place_at, starts_of, IsPlaceIn, box_at, end_of, may_meet, pair_of, met, swept}
 use Rattle.contacts.proofs.Members.{Each, IsIn, each_in, in_append, in_left, in_right, in_from_contains, contains_from_in}
-use Rattle.contacts.proofs.StripLemmas.{strip_is, place_is, start_rises, listed_first, listed_from, places_in}
+use Rattle.contacts.proofs.StripLemmas.{box_there, strip_is, place_is, start_rises, listed_first, listed_from, places_in}
 use Rattle.contacts.proofs.NearLemmas.{IsNearFrom, from_has, from_is, from_rises}
 use Rattle.contacts.proofs.Rising.{IsRising, same_rising, rising_from_increasing}
 
@@ -137,7 +137,7 @@ met_later bits ps s t ts c h = record { other = h.other; among = inr h.among; pa
 met_is : (bits : ℕ) (ps : List Proxy) (s : ℕ) (ts : List ℕ) (c : ℕ) → IsIn c (met bits ps s ts) → IsMet bits ps s ts c
 met_is bits ps s [] c h = absurd h
 met_is bits ps s (t ∷ ts) c h =
-    elim (in_append c (option_to_list (pair_of bits ps s t)) (met bits ps s ts) (not_ended c (nat_lt (end_of ps s) t) _ h)) [
+    elim (in_append c (option_to_list (pair_of bits ps s t)) (met bits ps s ts) (not_ended c (nat_lt (end_of (boxes_of ps) s) t) _ h)) [
       | inl a ↦ record { other = t; among = inl refl; pair = in_option c (pair_of bits ps s t) a }
       | inr b ↦ met_later bits ps s t ts c (met_is bits ps s ts c b)
     ]
@@ -169,11 +169,11 @@ no_further s t ss a h = elim h [ inl p ↦ rw p (omega arith) | inr q ↦ each_i
 goes_on : (end start : ℕ) → start ≤ end → nat_lt end start ≡ false
 goes_on end start h = grind (arith, nat_tests)
 
-met_has : (bits : ℕ) (ps : List Proxy) (s : ℕ) (ts : List ℕ) (t c : ℕ) → IsIn t ts → IsInOrder ts → t ≤ end_of ps s → pair_of bits ps s t ≡ Some c → IsIn c (met bits ps s ts)
+met_has : (bits : ℕ) (ps : List Proxy) (s : ℕ) (ts : List ℕ) (t c : ℕ) → IsIn t ts → IsInOrder ts → t ≤ end_of (boxes_of ps) s → pair_of bits ps s t ≡ Some c → IsIn c (met bits ps s ts)
 met_has bits ps s [] t c h low le pair = absurd h
 met_has bits ps s (u ∷ us) t c h low le pair =
     let first : u ≤ t = no_further u t us low.0 h in
-    rw (goes_on (end_of ps s) u (omega (arith, first, le))) (elim h [
+    rw (goes_on (end_of (boxes_of ps) s) u (omega (arith, first, le))) (elim h [
       | inl p ↦ in_left c (option_to_list (pair_of bits ps s u)) (met bits ps s us) (rw (ap (λ (v : ℕ). pair_of bits ps s v) (sym p) ∙ pair) (inl refl))
       | inr q ↦ in_right c (option_to_list (pair_of bits ps s u)) (met bits ps s us) (met_has bits ps s us t c q low.1 le pair)
     ])
@@ -181,8 +181,8 @@ met_has bits ps s (u ∷ us) t c h low le pair =
 -- two starts of near shapes in one strip: neither begins further than the other ends
 record AreMet (bits : ℕ) (ps : List Proxy) (s t c : ℕ) : Type 0 where
   pub other : place_at s ≡ place_at t → ⊥
-  pub first_low : s ≤ end_of ps t
-  pub second_low : t ≤ end_of ps s
+  pub first_low : s ≤ end_of (boxes_of ps) t
+  pub second_low : t ≤ end_of (boxes_of ps) s
   pub pair : pair_of bits ps s t ≡ Some c
   pub pair_back : pair_of bits ps t s ≡ Some c
 
@@ -240,14 +240,16 @@ pair_if : (bits : ℕ) (ps : List Proxy) (s t m i j c : ℕ) → strip_at s ≡ 
 unfolding pair_of
 pair_if bits ps s t m i j c strip first second h pair =
     let found : pair_in bits ps m i j ≡ Some c = rw h pair in
-    subst (λ (x : ℕ). pair_in bits ps x (place_at s) (place_at t) ≡ Some c) (sym strip)
+    rw (box_there ps s, box_there ps t)
+    (subst (λ (x : ℕ). pair_in bits ps x (place_at s) (place_at t) ≡ Some c) (sym strip)
     (subst (λ (x : ℕ). pair_in bits ps m x (place_at t) ≡ Some c) (sym first)
-    (subst (λ (x : ℕ). pair_in bits ps m i x ≡ Some c) (sym second) found))
+    (subst (λ (x : ℕ). pair_in bits ps m i x ≡ Some c) (sym second) found)))
 
-no_further_than : (ps : List Proxy) (s t m j : ℕ) → strip_at t ≡ m → place_at t ≡ j → s ≤ spot m (proxy_at ps j).fat.hi.x + 131071 → s ≤ end_of ps t
+no_further_than : (ps : List Proxy) (s t m j : ℕ) → strip_at t ≡ m → place_at t ≡ j → s ≤ spot m (proxy_at ps j).fat.hi.x + 131071 → s ≤ end_of (boxes_of ps) t
 no_further_than ps s t m j strip place h =
-    subst (λ (x : ℕ). s ≤ spot x (box_at ps t).hi.x + 131071) (sym strip)
-    (subst (λ (x : ℕ). s ≤ spot m (proxy_at ps x).fat.hi.x + 131071) (sym place) h)
+    rw (box_there ps t)
+    (subst (λ (x : ℕ). s ≤ spot x (proxy_at ps (place_at t)).fat.hi.x + 131071) (sym strip)
+    (subst (λ (x : ℕ). s ≤ spot m (proxy_at ps x).fat.hi.x + 131071) (sym place) h))
 
 pair_step_of : (t : Bool) (o : Option ℕ) (c : ℕ) → cond t o None ≡ Some c → o ≡ Some c
 pair_step_of true o c h = h
@@ -255,7 +257,7 @@ pair_step_of false o c h = cc
 
 near_of : (bits : ℕ) (ps : List Proxy) (s t c : ℕ) → pair_of bits ps s t ≡ Some c → near_pair ps (place_at s) (place_at t) ≡ Some c
 unfolding pair_of
-near_of bits ps s t c h = pair_step_of (may_meet bits (strip_at s) (box_at ps s) (box_at ps t)) (near_pair ps (place_at s) (place_at t)) c h
+near_of bits ps s t c h = pair_step_of (may_meet bits (strip_at s) (box_at (boxes_of ps) s) (box_at (boxes_of ps) t)) (near_pair ps (place_at s) (place_at t)) c h
 
 -- ---- the sweep's codes are the scan's
 
@@ -263,20 +265,20 @@ turned : (p q : Proxy) → Overlaps p.fat q.fat → Overlaps q.fat p.fat
 turned p q o = record { left = o.right; right = o.left; down = o.up; up = o.down }
 
 -- the box at j begins no lower than the one at i, and so in a strip where that one is
-pair_listed : (bits : ℕ) (ps : List Proxy) (i j c : ℕ) → (proxy_at ps i).fat.lo.y ≤ℤ (proxy_at ps j).fat.lo.y → length ps ≤ 2 ^ 17 → i < length ps → j < length ps → (i ≡ j → ⊥) → Overlaps (proxy_at ps i).fat (proxy_at ps j).fat → near_pair ps i j ≡ Some c → near_pair ps j i ≡ Some c → (ss : List ℕ) → IsPermutation (starts_of bits ps) ss → IsInOrder ss → IsIn c (swept bits ps ss)
+pair_listed : (bits : ℕ) (ps : List Proxy) (i j c : ℕ) → (proxy_at ps i).fat.lo.y ≤ℤ (proxy_at ps j).fat.lo.y → length ps ≤ 2 ^ 17 → i < length ps → j < length ps → (i ≡ j → ⊥) → Overlaps (proxy_at ps i).fat (proxy_at ps j).fat → near_pair ps i j ≡ Some c → near_pair ps j i ≡ Some c → (ss : List ℕ) → IsPermutation (starts_of bits (boxes_of ps)) ss → IsInOrder ss → IsIn c (swept bits ps ss)
 pair_listed bits ps i j c le few wi wj other o pair back ss perm low =
     let p = proxy_at ps i in
     let q = proxy_at ps j in
     let y : ℤ = q.fat.lo.y in
     let m : ℕ = strip_of bits y in
-    let s : ℕ = start_in i p m in
-    let t : ℕ = start_in j q m in
+    let s : ℕ = start_in i p.fat m in
+    let t : ℕ = start_in j q.fat m in
     let si : i < 2 ^ 17 = omega (arith, wi, few) in
     let sj : j < 2 ^ 17 = omega (arith, wj, few) in
-    let strip_s : strip_at s ≡ m = strip_is i m p si in
-    let strip_t : strip_at t ≡ m = strip_is j m q sj in
-    let place_s : place_at s ≡ i = place_is i m p si in
-    let place_t : place_at t ≡ j = place_is j m q sj in
+    let strip_s : strip_at s ≡ m = strip_is i m p.fat si in
+    let strip_t : strip_at t ≡ m = strip_is j m q.fat sj in
+    let place_s : place_at s ≡ i = place_is i m p.fat si in
+    let place_t : place_at t ≡ j = place_is j m q.fat sj in
     let met : AreMet bits ps s t c = record {
       other = λ r. other (sym place_s ∙ r ∙ place_t);
       first_low = no_further_than ps s t m j strip_t place_t (start_rises m i p.fat.lo.x q.fat.hi.x si o.left);
@@ -286,11 +288,11 @@ pair_listed bits ps i j c le few wi wj other o pair back ss perm low =
     } in
     swept_has bits ps ss s t c (listed_from bits ps i ss y wi perm le o.up) (listed_first bits ps j ss wj perm) low met
 
-pair_either : (bits : ℕ) (ps : List Proxy) (i j c : ℕ) (t : Bool) → int_le (proxy_at ps i).fat.lo.y (proxy_at ps j).fat.lo.y ≡ t → length ps ≤ 2 ^ 17 → i < length ps → j < length ps → (i ≡ j → ⊥) → Overlaps (proxy_at ps i).fat (proxy_at ps j).fat → near_pair ps i j ≡ Some c → near_pair ps j i ≡ Some c → (ss : List ℕ) → IsPermutation (starts_of bits ps) ss → IsInOrder ss → IsIn c (swept bits ps ss)
+pair_either : (bits : ℕ) (ps : List Proxy) (i j c : ℕ) (t : Bool) → int_le (proxy_at ps i).fat.lo.y (proxy_at ps j).fat.lo.y ≡ t → length ps ≤ 2 ^ 17 → i < length ps → j < length ps → (i ≡ j → ⊥) → Overlaps (proxy_at ps i).fat (proxy_at ps j).fat → near_pair ps i j ≡ Some c → near_pair ps j i ≡ Some c → (ss : List ℕ) → IsPermutation (starts_of bits (boxes_of ps)) ss → IsInOrder ss → IsIn c (swept bits ps ss)
 pair_either bits ps i j c true e few wi wj other o pair back ss perm low = pair_listed bits ps i j c (le_from _ _ e) few wi wj other o pair back ss perm low
 pair_either bits ps i j c false e few wi wj other o pair back ss perm low = pair_listed bits ps j i c (le_if_not _ _ e) few wj wi (λ r. other (sym r)) (turned (proxy_at ps i) (proxy_at ps j) o) back pair ss perm low
 
-scan_in_sweep : (bits : ℕ) (ps : List Proxy) (ss : List ℕ) (c : ℕ) → length ps ≤ 2 ^ 17 → IsPermutation (starts_of bits ps) ss → IsSorted nat_cmp ss → IsNearFrom 0 ps c → IsIn c (swept bits ps ss)
+scan_in_sweep : (bits : ℕ) (ps : List Proxy) (ss : List ℕ) (c : ℕ) → length ps ≤ 2 ^ 17 → IsPermutation (starts_of bits (boxes_of ps)) ss → IsSorted nat_cmp ss → IsNearFrom 0 ps c → IsIn c (swept bits ps ss)
 scan_in_sweep bits ps ss c few perm sorted h =
     let within : h.i < length ps = omega (arith, h.before, h.within) in
     let e : c ≡ pair_code h.i h.j = omega (arith, h.is) in
@@ -319,7 +321,7 @@ unfolding near_codes
 scan_rises ps few = from_rises 0 ps (omega arith)
 
 -- the sweep's codes, sorted, each once
-pub sweep_is_scan : (bits : ℕ) (ps : List Proxy) (ss ys zs : List ℕ) → length ps ≤ 2 ^ 17 → IsPermutation (starts_of bits ps) ss → IsSorted nat_cmp ss → IsPermutation (swept bits ps ss) ys → IsSorted nat_cmp ys → zs ≡ dedup eqb ys → zs ≡ near_codes ps
+pub sweep_is_scan : (bits : ℕ) (ps : List Proxy) (ss ys zs : List ℕ) → length ps ≤ 2 ^ 17 → IsPermutation (starts_of bits (boxes_of ps)) ss → IsSorted nat_cmp ss → IsPermutation (swept bits ps ss) ys → IsSorted nat_cmp ys → zs ≡ dedup eqb ys → zs ≡ near_codes ps
 sweep_is_scan bits ps ss ys zs few perm in_line moved sorted kept =
     let places = each_from_all ps ss (places_in bits ps ss few perm) in
     same_rising zs (near_codes ps) (rw kept (rising_from_increasing (dedup eqb ys) (IsStrictlyIncreasing-dedup ys sorted))) (scan_rises ps few)

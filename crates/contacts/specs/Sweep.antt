@@ -1,5 +1,5 @@
 -- A sweep along x, strip by strip, over a list of shapes.
-use Rattle.std.specs.Prelude.{ℕ, zero, suc, ◌+◌, ◌-◌, ◌*◌, ◌/◌, ◌%◌, ◌^◌, ◌<◌, ◌==◌, Bool, false, cond, nat_lt, ℤ, pos, ◌+ℤ◌, neg_ℤ, int_lt, unsigned_abs, List, [], ◌∷◌, ◌++◌, length, slice_index_or, Option, Some, None}
+use Rattle.std.specs.Prelude.{ℕ, zero, suc, ◌+◌, ◌-◌, ◌*◌, ◌/◌, ◌%◌, ◌^◌, ◌<◌, ◌==◌, Bool, false, cond, nat_lt, ℤ, pos, ◌+ℤ◌, neg_ℤ, int_lt, unsigned_abs, List, [], ◌∷◌, ◌++◌, length, map, slice_index_or, Option, Some, None}
 use Rattle.std.specs.Int.{int_min, int_max}
 use Rattle.std.specs.Option.{option_to_list}
 use Rattle.fixed_geom.specs.declared.boxes.Box2.{Box2}
@@ -11,11 +11,15 @@ use Rattle.contacts_base.specs.Near.{is_near, pair_code}
 abbrev pub zero_vector : Vec2
 zero_vector = record { x = pos 0; y = pos 0 }
 
+-- what stands for a box beyond a list
+abbrev pub no_box : Box2
+no_box = record { lo = zero_vector; hi = zero_vector }
+
 -- what stands for the shape at a place beyond the list
 abbrev pub no_proxy : Proxy
 no_proxy = record {
   id = record { slot = 0; index = 0 };
-  fat = record { lo = zero_vector; hi = zero_vector };
+  fat = no_box;
   filter = record { category = 0; mask = 0; group = pos 0 };
   dynamic = false;
   shape = Circle zero_vector (pos 0);
@@ -24,6 +28,10 @@ no_proxy = record {
 
 abbrev pub proxy_at : List Proxy → ℕ → Proxy
 proxy_at ps k = slice_index_or ps k no_proxy
+
+-- the fat boxes of the shapes
+abbrev pub boxes_of : List Proxy → List Box2
+boxes_of ps = map (λ (p : Proxy). p.fat) ps
 
 -- the code of the pair of the shapes at two places, if they are near
 unfoldable pub pair_at : List Proxy → ℕ → ℕ → Option ℕ
@@ -50,9 +58,9 @@ strip_of bits y = column y / 2 ^ bits
 abbrev pub spot : ℕ → ℤ → ℕ
 spot strip x = strip * 2 ^ 44 + column x / 2 ^ 11 * 2 ^ 17
 
--- the shape p, at place i, in a strip
-abbrev pub start_in : ℕ → Proxy → ℕ → ℕ
-start_in i p strip = spot strip p.fat.lo.x + i
+-- the box b, at place i, in a strip
+abbrev pub start_in : ℕ → Box2 → ℕ → ℕ
+start_in i b strip = spot strip b.lo.x + i
 
 abbrev pub strip_at : ℕ → ℕ
 strip_at s = s / 2 ^ 44
@@ -61,33 +69,43 @@ abbrev pub place_at : ℕ → ℕ
 place_at s = s % 2 ^ 17
 
 -- how many further strips the box reaches up to
-abbrev pub reach : ℕ → Proxy → ℕ
-reach bits p = strip_of bits p.fat.hi.y - strip_of bits p.fat.lo.y
+abbrev pub reach : ℕ → Box2 → ℕ
+reach bits b = strip_of bits b.hi.y - strip_of bits b.lo.y
 
--- the shape in the strip where its box begins and in n further ones
-abbrev pub starts_up : ℕ → ℕ → Proxy → ℕ → List ℕ
-starts_up bits i p zero = start_in i p (strip_of bits p.fat.lo.y) ∷ []
-starts_up bits i p (suc n) = starts_up bits i p n ++ start_in i p (strip_of bits p.fat.lo.y + suc n) ∷ []
+-- the box in the strip where it begins
+abbrev pub first_start : ℕ → ℕ → Box2 → ℕ
+first_start bits i b = start_in i b (strip_of bits b.lo.y)
 
--- each shape in each strip that its box reaches, the first shape at place i
-abbrev pub starts_from : ℕ → ℕ → List Proxy → List ℕ
-starts_from bits i [] = []
-starts_from bits i (p ∷ ps) = starts_up bits i p (reach bits p) ++ starts_from bits (suc i) ps
+-- the box in n further strips
+abbrev pub starts_up : ℕ → ℕ → Box2 → ℕ → List ℕ
+starts_up bits i b zero = []
+starts_up bits i b (suc n) = starts_up bits i b n ++ start_in i b (strip_of bits b.lo.y + suc n) ∷ []
 
-abbrev pub starts_of : ℕ → List Proxy → List ℕ
-starts_of bits ps = starts_from bits 0 ps
+-- each box in the strip where it begins, the first box at place i
+abbrev pub firsts_from : ℕ → ℕ → List Box2 → List ℕ
+firsts_from bits i [] = []
+firsts_from bits i (b ∷ bs) = first_start bits i b ∷ firsts_from bits (suc i) bs
+
+-- each box in each further strip that it reaches
+abbrev pub furthers_from : ℕ → ℕ → List Box2 → List ℕ
+furthers_from bits i [] = []
+furthers_from bits i (b ∷ bs) = starts_up bits i b (reach bits b) ++ furthers_from bits (suc i) bs
+
+-- each box in each strip that it reaches
+abbrev pub starts_of : ℕ → List Box2 → List ℕ
+starts_of bits bs = firsts_from bits 0 bs ++ furthers_from bits 0 bs
 
 -- ---- the sweep
 
 abbrev pub IsPlaceIn : List Proxy → ℕ → Type 0
 IsPlaceIn ps s = place_at s < length ps
 
-abbrev pub box_at : List Proxy → ℕ → Box2
-box_at ps s = (proxy_at ps (place_at s)).fat
+abbrev pub box_at : List Box2 → ℕ → Box2
+box_at bs s = slice_index_or bs (place_at s) no_box
 
 -- the greatest number in the strip of a start that is no further right than its box ends
-abbrev pub end_of : List Proxy → ℕ → ℕ
-end_of ps s = spot (strip_at s) (box_at ps s).hi.x + 131071
+abbrev pub end_of : List Box2 → ℕ → ℕ
+end_of bs s = spot (strip_at s) (box_at bs s).hi.x + 131071
 
 -- two boxes overlap along y, and this is the lowest strip that both reach
 unfoldable pub may_meet : ℕ → ℕ → Box2 → Box2 → Bool
@@ -95,12 +113,12 @@ may_meet bits strip b c = cond (int_lt b.hi.y c.lo.y) false (cond (int_lt c.hi.y
 
 -- the pair of the shapes of two starts, if they are near, in the lowest strip that both are in
 unfoldable pub pair_of : ℕ → List Proxy → ℕ → ℕ → Option ℕ
-pair_of bits ps s t = cond (may_meet bits (strip_at s) (box_at ps s) (box_at ps t)) (near_pair ps (place_at s) (place_at t)) None
+pair_of bits ps s t = cond (may_meet bits (strip_at s) (box_at (boxes_of ps) s) (box_at (boxes_of ps) t)) (near_pair ps (place_at s) (place_at t)) None
 
 -- the pairs of the start s with the others, until one begins further than s ends
 abbrev pub met : ℕ → List Proxy → ℕ → List ℕ → List ℕ
 met bits ps s [] = []
-met bits ps s (t ∷ ts) = cond (nat_lt (end_of ps s) t) [] (option_to_list (pair_of bits ps s t) ++ met bits ps s ts)
+met bits ps s (t ∷ ts) = cond (nat_lt (end_of (boxes_of ps) s) t) [] (option_to_list (pair_of bits ps s t) ++ met bits ps s ts)
 
 -- the pairs that each start makes with the later ones
 abbrev pub swept : ℕ → List Proxy → List ℕ → List ℕ

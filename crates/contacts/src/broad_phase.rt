@@ -1,6 +1,6 @@
 //! The broad phase: the fat boxes of the enabled bodies' shapes, and which of them overlap.
 
-ghost use Rattle.std.specs.Prelude.{◌≡◌, ◌<◌, ◌∷◌, ◌++◌, [], All, OnOk, OnErr, IfOk};
+ghost use Rattle.std.specs.Prelude.{◌≡◌, ◌<◌, ◌≤◌, ◌-◌, ◌∷◌, ◌++◌, [], All, OnOk, OnErr, IfOk, vec_len, vec_capacity};
 ghost use Rattle.std.specs.Result.{IsOkUnless};
 ghost use Rattle.contacts_base.specs.Near.{IsProxy, IsProxyList, number_of, near_codes};
 ghost use Rattle.contacts_base.specs.Contacts.{AreKeysRising};
@@ -9,7 +9,7 @@ ghost use Rattle.contacts.specs.Changes.{ArePairs, AreRising, contacts_of, keys_
 use crate::changes::{Changes, update};
 use crate::sweep::near_pairs;
 use contacts_base::{ContactEntry, Proxy};
-use fixed_geom::Refusal;
+use fixed_geom::{Box2, Refusal};
 use std::alloc::Global;
 use std::marker::Model;
 
@@ -17,6 +17,8 @@ use std::marker::Model;
 #[derive(Drop)]
 pub struct BroadPhase {
     proxies: Vec<Proxy>,
+    // Their fat boxes again, side by side, which is all that the sweep reads of most shapes.
+    boxes: Vec<Box2>,
     // The sum of the fat boxes' heights, in u, or 2^64 - 1 if it is beyond.
     heights: u64,
     // Room that the sweep works in, kept from one to the next.
@@ -30,11 +32,19 @@ impl Model for BroadPhase {
 
     ghost Value = { List Proxy };
 
-    ghost use Rattle.contacts_base.specs.Near.{IsProxyList};
+    ghost use Rattle.contacts.specs.Inside.{IsInside};
 
     ghost view = { λ a. a.proxies.items };
 
-    ghost invariant = { λ a. IsProxyList a.proxies.items };
+    ghost invariant = { λ a. IsInside a };
+}
+
+/// Adds a box for which there is room.
+fn push_within(boxes: &mut Vec<Box2>, fat: Box2)
+    requires { 1 ≤ vec_capacity boxes.old - vec_len boxes.old }
+    ensures { boxes.new.items ≡ boxes.old.items ++ fat ∷ [] }
+{
+    let _ = boxes.push(fat);
 }
 
 impl BroadPhase {
@@ -44,6 +54,7 @@ impl BroadPhase {
     {
         BroadPhase {
             proxies: Vec::new(alloc),
+            boxes: Vec::new(alloc),
             heights: 0,
             starts: Vec::new(alloc),
             near: Vec::new(alloc),
@@ -55,6 +66,7 @@ impl BroadPhase {
         ensures { self.new ≡ [] }
     {
         self.proxies.clear();
+        self.boxes.clear();
         self.heights = 0;
     }
 
@@ -67,7 +79,9 @@ impl BroadPhase {
         ensures refused { OnErr result (self.new ≡ self.old) }
         ensures memory_only { IsOkUnless result Refusal.NoMemory }
     {
+        self.boxes.reserve(1)?;
         self.proxies.push(proxy)?;
+        push_within(&mut self.boxes, proxy.fat);
         self.heights = self
             .heights
             .saturating_add(proxy.fat.lo.y.abs_diff(proxy.fat.hi.y));
@@ -82,8 +96,11 @@ impl BroadPhase {
         let alloc = *self.proxies.allocator();
         let mut proxies = Vec::new(alloc);
         proxies.extend_from_slice(&self.proxies)?;
+        let mut boxes = Vec::new(alloc);
+        boxes.extend_from_slice(&self.boxes)?;
         Ok(BroadPhase {
             proxies,
+            boxes,
             heights: self.heights,
             starts: Vec::new(alloc),
             near: Vec::new(alloc),
@@ -114,6 +131,7 @@ impl BroadPhase {
             &mut self.near,
             self.heights,
             &self.proxies,
+            &self.boxes,
         )?;
         let mut near = Vec::new(alloc);
         near.extend_from_slice(&self.near)?;
@@ -150,6 +168,7 @@ impl BroadPhase {
             &mut self.near,
             self.heights,
             &self.proxies,
+            &self.boxes,
         )?;
         update(alloc, old, &self.proxies, &self.near)
     }

@@ -14,7 +14,7 @@ ghost use Rattle.std.specs.Result.{IsOkUnless};
 ghost use Rattle.std.specs.List.Sorted.{IsPermutation, IsSorted};
 ghost use Rattle.std.specs.Ordering.{nat_cmp};
 ghost use Rattle.std.specs.Option.{option_to_list};
-ghost use Rattle.contacts.specs.Sweep.{pair_at, near_pair, column, strip_of, spot, start_in, strip_at, place_at, reach, starts_up, starts_of, IsPlaceIn, box_at, end_of, may_meet, pair_of, met, swept};
+ghost use Rattle.contacts.specs.Sweep.{pair_at, near_pair, column, strip_of, spot, start_in, strip_at, place_at, reach, starts_up, firsts_from, furthers_from, starts_of, IsPlaceIn, boxes_of, end_of, may_meet, pair_of, met, swept};
 ghost use Rattle.contacts_base.specs.Near.{IsProxyList, near_codes};
 
 use contacts_base::{Proxy, code_of, is_near};
@@ -57,12 +57,12 @@ fn spot(strip: u64, x: i64) -> u64
 }
 
 /// The start of the shape at this place, in a strip.
-fn start_in(place: usize, proxy: &Proxy, strip: u64) -> u64
+fn start_in(place: usize, fat: &Box2, strip: u64) -> u64
     requires place { place < 2 ^ 17 }
     requires strip { strip < 2 ^ 20 }
-    ensures { result ≡ start_in place proxy.now strip }
+    ensures { result ≡ start_in place fat.now strip }
 {
-    spot(strip, proxy.fat.lo.x) + place as u64
+    spot(strip, fat.lo.x) + place as u64
 }
 
 /// The strip of a start.
@@ -80,50 +80,67 @@ fn place_at(start: u64) -> usize
     (start % PLACES) as usize
 }
 
-/// Adds a shape in each strip that its box reaches. Refused 1 where memory is wanting.
-fn push_starts(starts: &mut Vec<u64>, bits: u32, place: usize, proxy: &Proxy) -> Result<(), Refusal>
+/// Adds a shape in each strip that its box reaches above the one where it begins. Refused 1 where memory is wanting.
+fn push_starts(starts: &mut Vec<u64>, bits: u32, place: usize, fat: &Box2) -> Result<(), Refusal>
     requires least { 18 ≤ bits }
     requires most { bits < 64 }
     requires place { place < 2 ^ 17 }
-    ensures pushed { OnOk result (starts.new.items ≡ starts.old.items ++ starts_up bits place proxy.now (reach bits proxy.now)) }
+    ensures pushed { OnOk result (starts.new.items ≡ starts.old.items ++ starts_up bits place fat.now (reach bits fat.now)) }
     ensures memory_only { IsOkUnless result Refusal.NoMemory }
 {
-    let strip = strip_of(bits, proxy.fat.lo.y);
-    let further = strip_of(bits, proxy.fat.hi.y).saturating_sub(strip);
-    starts.push(start_in(place, proxy, strip))?;
+    let strip = strip_of(bits, fat.lo.y);
+    let further = strip_of(bits, fat.hi.y).saturating_sub(strip);
     for step in 0..further {
-        starts.push(start_in(place, proxy, strip + (step + 1)))?;
+        starts.push(start_in(place, fat, strip + (step + 1)))?;
     }
     Ok(())
 }
 
-/// Fills `starts` with all shapes, strip by strip for each. Refused 1 where memory is wanting.
-fn fill_starts(starts: &mut Vec<u64>, bits: u32, proxies: &[Proxy]) -> Result<(), Refusal>
+/// Fills `starts` with each shape in the strip where its box begins. Refused 1 where memory is wanting.
+fn fill_firsts(starts: &mut Vec<u64>, bits: u32, boxes: &[Box2]) -> Result<(), Refusal>
     requires least { 18 ≤ bits }
     requires most { bits < 64 }
-    requires few { length proxies.now ≤ 2 ^ 17 }
-    ensures filled { OnOk result (starts.new.items ≡ starts_of bits proxies.now) }
+    requires few { length boxes.now ≤ 2 ^ 17 }
+    ensures filled { OnOk result (starts.new.items ≡ firsts_from bits 0 boxes.now) }
     ensures memory_only { IsOkUnless result Refusal.NoMemory }
 {
     starts.clear();
-    for (place, proxy) in proxies.iter().enumerate() {
-        push_starts(starts, bits, place, proxy)?;
+    for (place, fat) in boxes.iter().enumerate() {
+        starts.push(start_in(place, fat, strip_of(bits, fat.lo.y)))?;
     }
     Ok(())
 }
 
-/// The same in the order of the strips, and in a strip the leftmost first. Refused 1 where memory
-/// is wanting.
-fn list_starts(starts: &mut Vec<u64>, bits: u32, proxies: &[Proxy]) -> Result<(), Refusal>
+/// Adds each shape in the further strips that its box reaches. Refused 1 where memory is wanting.
+fn push_furthers(starts: &mut Vec<u64>, bits: u32, boxes: &[Box2]) -> Result<(), Refusal>
     requires least { 18 ≤ bits }
     requires most { bits < 64 }
-    requires few { length proxies.now ≤ 2 ^ 17 }
-    ensures permutation { OnOk result (IsPermutation (starts_of bits proxies.now) starts.new.items) }
+    requires few { length boxes.now ≤ 2 ^ 17 }
+    ensures pushed { OnOk result (starts.new.items ≡ starts.old.items ++ furthers_from bits 0 boxes.now) }
+    ensures memory_only { IsOkUnless result Refusal.NoMemory }
+{
+    for (place, fat) in boxes.iter().enumerate() {
+        push_starts(starts, bits, place, fat)?;
+    }
+    Ok(())
+}
+
+/// Fills `starts` with all shapes in the order of the strips, and in a strip the leftmost first. Refused 1 where memory
+/// is wanting.
+///
+/// Where slots were given out from left to right and from below, the first strips of all shapes ascend already, and so do the further
+/// ones, and the sort only merges the two.
+fn list_starts(starts: &mut Vec<u64>, bits: u32, boxes: &[Box2]) -> Result<(), Refusal>
+    requires least { 18 ≤ bits }
+    requires most { bits < 64 }
+    requires few { length boxes.now ≤ 2 ^ 17 }
+    ensures permutation { OnOk result (IsPermutation (starts_of bits boxes.now) starts.new.items) }
     ensures sorted { OnOk result (IsSorted nat_cmp starts.new.items) }
     ensures memory_only { IsOkUnless result Refusal.NoMemory }
 {
-    fill_starts(starts, bits, proxies)?;
-    starts.sort_unstable();
+    fill_firsts(starts, bits, boxes)?;
+    push_furthers(starts, bits, boxes)?;
+    starts.sort()?;
     Ok(())
 }
 
@@ -182,21 +199,17 @@ fn may_meet(bits: u32, strip: u64, b: &Box2, c: &Box2) -> bool
 /// The number of the pair of the shapes of two starts in one strip, if they are near and are not in
 /// a lower strip together.
 #[tactic(auto, unfolding(crate::specs::Sweep::pair_of))]
-fn pair_of(bits: u32, proxies: &[Proxy], start: u64, other: u64) -> Option<u64>
+fn pair_of(bits: u32, proxies: &[Proxy], boxes: &[Box2], start: u64, other: u64) -> Option<u64>
     requires bits { bits < 64 }
     requires few { length proxies.now ≤ 2 ^ 17 }
+    requires boxes { boxes.now ≡ boxes_of proxies.now }
     requires first { IsPlaceIn proxies.now start }
     requires second { IsPlaceIn proxies.now other }
     ensures { result ≡ pair_of bits proxies.now start other }
 {
     let first = place_at(start);
     let second = place_at(other);
-    if may_meet(
-        bits,
-        strip_at(start),
-        &proxies[first].fat,
-        &proxies[second].fat,
-    ) {
+    if may_meet(bits, strip_at(start), &boxes[first], &boxes[second]) {
         near_pair(proxies, first, second)
     } else {
         None
@@ -204,11 +217,11 @@ fn pair_of(bits: u32, proxies: &[Proxy], start: u64, other: u64) -> Option<u64>
 }
 
 /// The greatest number in the strip of a start that is no further right than its shape's box ends.
-fn end_of(proxies: &[Proxy], start: u64) -> u64
-    requires { IsPlaceIn proxies.now start }
-    ensures { result ≡ end_of proxies.now start }
+fn end_of(boxes: &[Box2], start: u64) -> u64
+    requires { place_at start < length boxes.now }
+    ensures { result ≡ end_of boxes.now start }
 {
-    spot(strip_at(start), proxies[place_at(start)].fat.hi.x) + (PLACES - 1)
+    spot(strip_at(start), boxes[place_at(start)].hi.x) + (PLACES - 1)
 }
 
 /// Adds the pairs of a start with those of the others that are near it, until one begins further
@@ -217,36 +230,45 @@ fn push_met(
     near: &mut Vec<u64>,
     bits: u32,
     proxies: &[Proxy],
+    boxes: &[Box2],
     start: u64,
     others: &[u64],
 ) -> Result<(), Refusal>
     requires bits { bits < 64 }
     requires few { length proxies.now ≤ 2 ^ 17 }
+    requires boxes { boxes.now ≡ boxes_of proxies.now }
     requires start { IsPlaceIn proxies.now start }
     requires others { All (IsPlaceIn proxies.now) others.now }
     ensures pushed { OnOk result (near.new.items ≡ near.old.items ++ met bits proxies.now start others.now) }
     ensures memory_only { IsOkUnless result Refusal.NoMemory }
 {
-    let end = end_of(proxies, start);
+    let end = end_of(boxes, start);
     for &other in others {
         if end < other {
             return Ok(());
         }
-        push_found(near, pair_of(bits, proxies, start, other))?;
+        push_found(near, pair_of(bits, proxies, boxes, start, other))?;
     }
     Ok(())
 }
 
 /// Adds the pairs that each start makes with the later ones. Refused 1 where memory is wanting.
-fn sweep(near: &mut Vec<u64>, bits: u32, proxies: &[Proxy], starts: &[u64]) -> Result<(), Refusal>
+fn sweep(
+    near: &mut Vec<u64>,
+    bits: u32,
+    proxies: &[Proxy],
+    boxes: &[Box2],
+    starts: &[u64],
+) -> Result<(), Refusal>
     requires bits { bits < 64 }
     requires few { length proxies.now ≤ 2 ^ 17 }
+    requires boxes { boxes.now ≡ boxes_of proxies.now }
     requires starts { All (IsPlaceIn proxies.now) starts.now }
     ensures pushed { OnOk result (near.new.items ≡ near.old.items ++ swept bits proxies.now starts.now) }
     ensures memory_only { IsOkUnless result Refusal.NoMemory }
 {
     for (place, &start) in starts.iter().enumerate() {
-        push_met(near, bits, proxies, start, &starts[place + 1..])?;
+        push_met(near, bits, proxies, boxes, start, &starts[place + 1..])?;
     }
     Ok(())
 }
@@ -262,22 +284,24 @@ fn strip_bits(heights: u64, count: usize) -> u32
 }
 
 /// Fills `near` with the numbers of all near pairs, ascending, and uses `starts` as room to work in.
-/// `heights` is the sum of the boxes' heights, in u, and decides the time alone. Refused 1 where
-/// memory is wanting.
+/// `boxes` are the shapes' fat boxes by themselves, so that the sweep reads little. `heights` is the
+/// sum of their heights, in u, and decides the time alone. Refused 1 where memory is wanting.
 pub fn near_pairs(
     starts: &mut Vec<u64>,
     near: &mut Vec<u64>,
     heights: u64,
     proxies: &[Proxy],
+    boxes: &[Box2],
 ) -> Result<(), Refusal>
-    requires { IsProxyList proxies.now }
+    requires list { IsProxyList proxies.now }
+    requires boxes { boxes.now ≡ boxes_of proxies.now }
     ensures value { OnOk result (near.new.items ≡ near_codes proxies.now) }
     ensures memory_only { IsOkUnless result Refusal.NoMemory }
 {
     let bits = strip_bits(heights, proxies.len());
-    list_starts(starts, bits, proxies)?;
+    list_starts(starts, bits, boxes)?;
     near.clear();
-    sweep(near, bits, proxies, starts)?;
+    sweep(near, bits, proxies, boxes, starts)?;
     near.sort_unstable();
     near.dedup();
     Ok(())

@@ -3,4 +3,4 @@ use Rattle.contacts.specs.Sweep.{starts_up}
 use Rattle.contacts.proofs.sweep.push_starts.Given as goal
 
 abbrev pub invariant-loop-step : goal.invariant-loop-step
-invariant-loop-step l = l.starts.items ≡ l.fn.starts.items ++ starts_up l.bits l.place l.proxy l.step
+invariant-loop-step l = l.starts.items ≡ l.fn.starts.items ++ starts_up l.bits l.place l.fat l.step

@@ -11,5 +11,5 @@ returns-clause-value c = grind (arith, common_steps)
 pub returns-clause-pairs : goal.returns-clause-pairs
 returns-clause-pairs c =
     let now = c.args.self.now in
-    let list : IsProxyList now = rw (← c.self.view_is) c.self.invariant in
+    let list : IsProxyList now = rw (← c.self.view_is) c.self.invariant.list in
     subst (λ (codes : List ℕ). ArePairs now codes) (sym (returns-clause-value c)) (near_are_pairs now list)

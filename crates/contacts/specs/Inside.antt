@@ -1,0 +1,9 @@
+-- What the fields of a `BroadPhase` hold.
+use Rattle.std.specs.Prelude.{◌≡◌}
+use Rattle.contacts_base.specs.Near.{IsProxyList}
+use Rattle.contacts.specs.declared.broad_phase.BroadPhase.TheInside.{Inside}
+use Rattle.contacts.specs.Sweep.{boxes_of}
+
+pub record IsInside (a : Inside) : Type 0 where
+  pub list : IsProxyList a.proxies.items
+  pub boxes : a.boxes.items ≡ boxes_of a.proxies.items
