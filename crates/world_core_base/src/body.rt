@@ -118,17 +118,17 @@ fn is_mass_allowed(kind: Kind, mass: MassData) -> bool
 /// A body, as a slot contains it.
 #[derive(Drop)]
 pub struct Body {
-    pub kind: Kind,
+    pub motion: Motion,
     pub mass: MassData,
     /// Those of the mass, kept since each step takes quotients with them.
     pub reciprocals: Reciprocals,
-    pub motion: Motion,
-    pub shapes: Shapes,
-    /// For each shape, in their order, a box that holds it with room to move in.
-    pub fats: FatBoxes,
+    pub kind: Kind,
+    pub enabled: bool,
     /// For how many ticks it has been slow.
     pub timer: u64,
-    pub enabled: bool,
+    /// For each shape, in their order, a box that holds it with room to move in.
+    pub fats: FatBoxes,
+    pub shapes: Shapes,
 }
 
 impl Body {
