@@ -20,10 +20,6 @@ box_is [] k = refl
 box_is (p ∷ ps) zero = refl
 box_is (p ∷ ps) (suc k) = box_is ps k
 
-pub as_many : (ps : List Proxy) → length (boxes_of ps) ≡ length ps
-as_many [] = refl
-as_many (p ∷ ps) = ap suc (as_many ps)
-
 -- the box of a start's shape
 pub box_there : (ps : List Proxy) (s : ℕ) → box_at (boxes_of ps) s ≡ (proxy_at ps (place_at s)).fat
 box_there ps s = box_is ps (place_at s)

@@ -81,7 +81,7 @@ fn place_at(start: u64) -> usize
 }
 
 /// Adds a shape in each strip that its box reaches above the one where it begins. Refused 1 where memory is wanting.
-fn push_starts(starts: &mut Vec<u64>, bits: u32, place: usize, fat: &Box2) -> Result<(), Refusal>
+fn push_further(starts: &mut Vec<u64>, bits: u32, place: usize, fat: &Box2) -> Result<(), Refusal>
     requires least { 18 ≤ bits }
     requires most { bits < 64 }
     requires place { place < 2 ^ 17 }
@@ -120,7 +120,7 @@ fn push_furthers(starts: &mut Vec<u64>, bits: u32, boxes: &[Box2]) -> Result<(),
     ensures memory_only { IsOkUnless result Refusal.NoMemory }
 {
     for (place, fat) in boxes.iter().enumerate() {
-        push_starts(starts, bits, place, fat)?;
+        push_further(starts, bits, place, fat)?;
     }
     Ok(())
 }

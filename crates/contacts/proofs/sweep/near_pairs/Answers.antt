@@ -1,13 +1,15 @@
 use Rattle.std.proofs.Common.{eqb}
+use Rattle.std.proofs.lemmas.List.{length-map}
 use Rattle.std.proofs.lemmas.List.Filters.{dedup_is}
+use Rattle.contacts_base.specs.declared.near.Proxy.{Proxy}
 use Rattle.contacts.proofs.ProxyLemmas.{few}
-use Rattle.contacts.proofs.StripLemmas.{as_many, places_in}
+use Rattle.contacts.proofs.StripLemmas.{places_in}
 use Rattle.contacts.proofs.SweepLemmas.{sweep_is_scan}
 use Rattle.contacts.proofs.sweep.near_pairs.Goals as goal
 
 pub list_starts-requires-clause-few : goal.list_starts-requires-clause-few
 list_starts-requires-clause-few c =
-    let as_long = as_many c.args.proxies.now in
+    let as_long = length-map c.args.proxies.now (λ (p : Proxy). p.fat) in
     let most = few _ c.requires.list in
     rw (c.requires.boxes, as_long) most
 
