@@ -3,6 +3,7 @@ use Rattle.std.proofs.Common.{◌≡◌, ℕ, zero, suc, ◌+◌, ◌<◌, ◌�
 use Rattle.std.specs.Prelude.{IsSomeAnd, nat_lt}
 use Rattle.std.specs.List.{slice_get}
 use Rattle.std.proofs.lemmas.Grind.{common_steps}
+use Rattle.body_handles.specs.declared.places.TheConstants.{MAX_SLOTS}
 use Rattle.body_handles.specs.declared.places.Place.{Place}
 use Rattle.body_handles.specs.declared.handle.Handle.{Handle}
 use Rattle.body_handles.specs.Places.{lowest, generation_at, places_with, places_without, is_live, is_live_at, IsGone}
@@ -42,7 +43,7 @@ gone-remove true places k h live gone =
 gone-remove false places k h live gone = gone
 
 gone-after_call : (call : Call) (places : List Place) (h : Handle) → IsGone places h → IsGone (after_call call places) h
-gone-after_call Insert places h gone = gone-insert (nat_lt (lowest places) 16384) places h gone
+gone-after_call Insert places h gone = gone-insert (nat_lt (lowest places) MAX_SLOTS) places h gone
 gone-after_call (Remove k) places h gone = gone-remove (is_live places k) places k h refl gone
 
 gone-dead : (o : Option Place) (g : ℕ) → IsSomeAnd o (λ p. g < p.generation) → is_live_at o g ≡ false

@@ -7,6 +7,7 @@ use Rattle.std.proofs.lemmas.Bool.{cases_lt}
 use Rattle.std.proofs.lemmas.List.Elements.{All-set, All-push}
 use Rattle.std.proofs.lemmas.List.Sums.{passes_at_first}
 use Rattle.std.proofs.lemmas.Option.{slice_get_past, slice_get-get_or, slice_get_within, get_or_from_slice_get}
+use Rattle.body_handles.specs.declared.places.TheConstants.{MAX_SLOTS, WORN_OUT}
 use Rattle.body_handles.specs.declared.places.Place.{Place}
 use Rattle.body_handles.specs.declared.handle.Handle.{Handle}
 use Rattle.body_handles.specs.Places.{lowest, generation_at, places_with, places_without, IsLive, IsPlace, IsTable, is_open}
@@ -23,7 +24,7 @@ IsPlace-given places all = elim (cases_lt (lowest places) (length places)) [
 ]
 
 -- a table stays sound when its lowest open slot is given out
-pub IsTable-given : (places : List Place) → All IsPlace places → length places ≤ 16384 → lowest places < 16384 → IsTable (places_with places (lowest places)) (lowest places + 1)
+pub IsTable-given : (places : List Place) → All IsPlace places → length places ≤ MAX_SLOTS → lowest places < MAX_SLOTS → IsTable (places_with places (lowest places)) (lowest places + 1)
 IsTable-given places all few below =
     let within = lowest-le-length places in
     let given : Place = record { generation = generation_at places (lowest places); live = true } in
@@ -60,7 +61,7 @@ IsLive-given places slot within = elim (cases_lt slot (length places)) [
 ]
 
 IsPlace-freed : (g : ℕ) → IsPlace (record { generation = g; live = true }) → IsPlace (record { generation = g + 1; live = false })
-IsPlace-freed g ok = let grows : g < 4294967295 = ok.takes_back refl in record { positive = omega arith; bounded = omega arith; takes_back = λ e. cc }
+IsPlace-freed g ok = let grows : g < WORN_OUT = ok.takes_back refl in record { positive = omega arith; bounded = omega arith; takes_back = λ e. cc }
 
 -- a table stays sound when a live handle is taken back, if the next search begins no higher than its slot
 pub IsTable-taken : (places : List Place) (h : Handle) (first_open next : ℕ) → IsTable places first_open → IsLive places h → next ≤ first_open → next ≤ h.slot → IsTable (places_without places h) next

@@ -1,6 +1,7 @@
 -- Slots that are given out, with a generation each.
 use Rattle.std.specs.Prelude.{◌≡◌, ℕ, ◌+◌, ◌<◌, ◌≤◌, Bool, true, false, not, ◌&&◌, nat_lt, ◌==◌, List, [], ◌∷◌, ◌++◌, length, slice_get, slice_set, Some, None, Option, IsSomeAnd, All, if◌then◌else◌}
 use Rattle.std.specs.List.{position_or_len}
+use Rattle.body_handles.specs.declared.places.TheConstants.{MAX_SLOTS, WORN_OUT}
 use Rattle.body_handles.specs.declared.handle.Handle.{Handle}
 use Rattle.body_handles.specs.declared.places.Place.{Place}
 
@@ -11,7 +12,7 @@ pub record Table : Type 0 where
 
 -- a place that can be given out: it is free and isn't worn out
 abbrev pub is_open : Place → Bool
-is_open p = not p.live && nat_lt p.generation 4294967295
+is_open p = not p.live && nat_lt p.generation WORN_OUT
 
 -- the lowest slot that can be given out, which is a new one where no place is open
 abbrev pub lowest : List Place → ℕ
@@ -54,11 +55,11 @@ IsGone places h = IsSomeAnd (slice_get places h.slot) (λ p. h.generation < p.ge
 -- a generation is in its range, and that of a live place can grow
 pub record IsPlace (p : Place) : Type 0 where
   pub positive : 1 ≤ p.generation
-  pub bounded : p.generation ≤ 4294967295
-  pub takes_back : p.live ≡ true → p.generation < 4294967295
+  pub bounded : p.generation ≤ WORN_OUT
+  pub takes_back : p.live ≡ true → p.generation < WORN_OUT
 
 -- what is kept of the places and of the slot at which a search begins
 pub record IsTable (places : List Place) (first_open : ℕ) : Type 0 where
   pub each : All IsPlace places
-  pub few : length places ≤ 16384
+  pub few : length places ≤ MAX_SLOTS
   pub none_below : first_open ≤ lowest places

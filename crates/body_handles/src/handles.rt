@@ -6,7 +6,7 @@ ghost use Rattle.body_handles.specs.Places.{lowest, generation_at, places_with, 
 ghost use Rattle.body_handles.specs.Calls.{Insert, Remove, after_call};
 
 use crate::handle::Handle;
-use crate::places::{LIMIT, Place, generation_at, give_out, lowest_slot, take_back};
+use crate::places::{MAX_SLOTS, Place, generation_at, give_out, lowest_slot, take_back};
 use fixed_geom::Refusal;
 use std::alloc::Global;
 use std::marker::Model;
@@ -54,7 +54,7 @@ impl Handles {
         Ok(())
     }
 
-    /// Gives out the lowest slot that is free and not worn out. Refused as `TooMany` where there is none below 16,384.
+    /// Gives out the lowest slot that is free and not worn out. Refused as `TooMany` where there is none below `MAX_SLOTS`.
     pub fn insert(&mut self) -> Result<Handle, Refusal>
         requires { 1 ≤ self.old.room }
         ensures slot { IfOk result (λ h. h.slot ≡ lowest self.old.places) }
@@ -63,17 +63,17 @@ impl Handles {
         ensures call { self.new.places ≡ after_call Insert self.old.places }
 
         ensures live { IfOk result (λ h. IsLive self.new.places h) }
-        ensures slot_below { IfOk result (λ h. h.slot < 16384) }
+        ensures slot_below { IfOk result (λ h. h.slot < MAX_SLOTS) }
         ensures positive { IfOk result (λ h. 1 ≤ h.generation) }
-        ensures few { length self.new.places ≤ 16384 }
+        ensures few { length self.new.places ≤ MAX_SLOTS }
         ensures room { self.old.room ≤ self.new.room + 1 }
 
-        ensures full { (result ≡ Err Refusal.TooMany) ↔ (16384 ≤ lowest self.old.places) }
+        ensures full { (result ≡ Err Refusal.TooMany) ↔ (MAX_SLOTS ≤ lowest self.old.places) }
         ensures full_only { IsOkUnless result Refusal.TooMany }
         ensures err { OnErr result (self.new.places ≡ self.old.places) }
     {
         let slot = lowest_slot(&self.places, self.first_open);
-        if slot >= LIMIT {
+        if slot >= MAX_SLOTS {
             return Err(Refusal::TooMany);
         }
         let generation = generation_at(&self.places, slot);
@@ -111,9 +111,9 @@ impl Handles {
 
     /// Whether no slot can be given out.
     pub fn is_full(&self) -> bool
-        ensures { IsTrue result ↔ (16384 ≤ lowest self.now.places) }
+        ensures { IsTrue result ↔ (MAX_SLOTS ≤ lowest self.now.places) }
     {
-        lowest_slot(&self.places, self.first_open) >= LIMIT
+        lowest_slot(&self.places, self.first_open) >= MAX_SLOTS
     }
 
     /// How many slots were ever given out.
@@ -185,14 +185,28 @@ mod tests {
     #[test]
     fn gives_out_every_slot_below_the_limit(rt: HostRuntime) -> Result<(), Fail> {
         let mut handles = Handles::new(rt.alloc());
-        for _ in 0..LIMIT {
+        for _ in 0..MAX_SLOTS {
             assert!(rt; !handles.is_full());
             handles.reserve_one()?;
             handles.insert()?;
         }
         assert!(rt; handles.is_full());
+        let last = Handle {
+            slot: 65_535,
+            generation: 1,
+        };
+        assert!(rt; handles.is_live(last));
         handles.reserve_one()?;
         assert_eq!(rt; handles.insert(), Err(Refusal::TooMany));
+        handles.remove(last);
+        handles.reserve_one()?;
+        assert_eq!(rt;
+            handles.insert(),
+            Ok(Handle {
+                slot: 65_535,
+                generation: 2
+            })
+        );
         Ok(())
     }
 }

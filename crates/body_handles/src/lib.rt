@@ -3,7 +3,7 @@
 //! A [`Handle`] names a slot at one generation. [`Handles`] gives the lowest free slot out, and takes slots back.
 //! A slot's generation starts at 1 and adds one at each removal, so a handle that was taken back stays dead
 //! for ever, however often its slot is given out again ([`removed_stays_gone`]). A slot that reaches
-//! generation 4,294,967,295 is worn out: it is never given out again. There are at most 16,384 slots ([`LIMIT`]).
+//! generation [`WORN_OUT`] is worn out: it is never given out again. There are at most [`MAX_SLOTS`] slots.
 //!
 //! The scheme is that of Box2D's ids; to take always the lowest free slot is this project's own rule, which
 //! makes the answers of a world a function of its calls.
@@ -17,7 +17,7 @@ mod places;
 
 pub use handle::Handle;
 pub use handles::Handles;
-pub use places::{LIMIT, Place};
+pub use places::{MAX_SLOTS, Place, WORN_OUT};
 
 /// The law of generations: a handle that was taken back is never live again, whatever is given out and taken
 /// back afterwards. The function does nothing; its contract is the law.

@@ -6,12 +6,15 @@ ghost use Rattle.body_handles.specs.Places.{is_open, lowest, generation_at, plac
 use crate::handle::Handle;
 
 /// How many slots there are at most.
-pub const LIMIT: usize = 16_384;
+pub const MAX_SLOTS: usize = 65_536;
+
+/// The generation at which a slot is worn out.
+pub const WORN_OUT: u32 = u32::MAX;
 
 /// One slot: at which generation it is given out now, or will be next.
 #[derive(Clone, Copy, Debug, PartialEq, Eq)]
 pub struct Place {
-    /// 1 to 4,294,967,295; at the last one the slot is worn out.
+    /// 1 to `WORN_OUT`; at the last one the slot is worn out.
     pub generation: u32,
     /// Whether the slot is given out.
     pub live: bool,
@@ -22,7 +25,7 @@ impl Place {
     fn is_open(&self) -> bool
         ensures { result ≡ is_open self.now }
     {
-        !self.live && self.generation < u32::MAX
+        !self.live && self.generation < WORN_OUT
     }
 }
 

@@ -6,7 +6,7 @@ use Rattle.momenta.specs.declared.state.BodyState.{BodyState}
 use Rattle.momenta.specs.declared.state.Ends.{Ends}
 use Rattle.momenta.specs.Impulses.{AreSameBodies}
 use Rattle.colour_solver_base.specs.declared.row.ContactRow.{ContactRow}
-use Rattle.colour_solver_base.specs.declared.solve.RowTurn.{RowTurn}
+use Rattle.colour_solver_base.specs.declared.solve.RowAfter.{RowAfter}
 use Rattle.colour_solver.specs.States.{nobody}
 use Rattle.colour_solver.specs.Turns.{after, ends_of, got_x, got_y, passed, rows_passed, share_x, share_y, turn_of, with_ends}
 use Rattle.colour_solver.specs.Colour.{AreTurnsFair, ColoursAreAtOnce, IsColour, ShareNone, is_mover, results, scatter, share_at_once_x, share_at_once_y}
@@ -38,14 +38,14 @@ turn_else before now r made j fair ends apart_a apart_b =
 abbrev Same : List BodyState → List BodyState → List ContactRow → Type 0
 Same before now rows = (k : ℕ) (e : ContactRow) → slice_get rows k ≡ Some e → ends_of now e ≡ ends_of before e
 
-turn_same : (f : ContactRow → Ends → RowTurn) (before now : List BodyState) (r : ContactRow) (rs : List ContactRow) → Same before now (r ∷ rs) → turn_of f now r ≡ turn_of f before r
+turn_same : (f : ContactRow → Ends → RowAfter) (before now : List BodyState) (r : ContactRow) (rs : List ContactRow) → Same before now (r ∷ rs) → turn_of f now r ≡ turn_of f before r
 turn_same f before now r rs same = ap (f r) (same zero r refl)
 
-still_same : (f : ContactRow → Ends → RowTurn) (before now : List BodyState) (r : ContactRow) (rs : List ContactRow) → IsColour before (r ∷ rs) → AreTurnsFair f before (r ∷ rs) → Same before now (r ∷ rs) → Same before (after f now r) rs
+still_same : (f : ContactRow → Ends → RowAfter) (before now : List BodyState) (r : ContactRow) (rs : List ContactRow) → IsColour before (r ∷ rs) → AreTurnsFair f before (r ∷ rs) → Same before now (r ∷ rs) → Same before (after f now r) rs
 still_same f before now r rs colour fair same k e h =
     let ends : ends_of now r ≡ ends_of before r = same zero r refl in
     let at_first : AreSameBodies (ends_of before r) (turn_of f before r).ends = fair zero r (omega arith) in
-    let here : AreSameBodies (ends_of before r) (turn_of f now r).ends = subst (λ (t : RowTurn). AreSameBodies (ends_of before r) t.ends) (sym (turn_same f before now r rs same)) at_first in
+    let here : AreSameBodies (ends_of before r) (turn_of f now r).ends = subst (λ (t : RowAfter). AreSameBodies (ends_of before r) t.ends) (sym (turn_same f before now r rs same)) at_first in
     let none : ShareNone before r e = colour zero (suc k) r e (omega arith) refl h in
     let a = turn_else before now r (turn_of f now r).ends e.bodies.a here ends none.a_a none.b_a in
     let b = turn_else before now r (turn_of f now r).ends e.bodies.b here ends none.a_b none.b_b in
@@ -55,17 +55,17 @@ still_same f before now r rs colour fair same k e h =
 rest_colour : (before : List BodyState) (r : ContactRow) (rs : List ContactRow) → IsColour before (r ∷ rs) → IsColour before rs
 rest_colour before r rs colour i j x y lt at_i at_j = colour (suc i) (suc j) x y (omega arith) at_i at_j
 
-rest_fair : (f : ContactRow → Ends → RowTurn) (before : List BodyState) (r : ContactRow) (rs : List ContactRow) → AreTurnsFair f before (r ∷ rs) → AreTurnsFair f before rs
+rest_fair : (f : ContactRow → Ends → RowAfter) (before : List BodyState) (r : ContactRow) (rs : List ContactRow) → AreTurnsFair f before (r ∷ rs) → AreTurnsFair f before rs
 rest_fair f before r rs fair k d lt = fair (suc k) d (omega arith)
 
-results_from : (f : ContactRow → Ends → RowTurn) (rows : List ContactRow) (before now : List BodyState) → IsColour before rows → AreTurnsFair f before rows → Same before now rows → results f now rows ≡ map (turn_of f before) rows
+results_from : (f : ContactRow → Ends → RowAfter) (rows : List ContactRow) (before now : List BodyState) → IsColour before rows → AreTurnsFair f before rows → Same before now rows → results f now rows ≡ map (turn_of f before) rows
 results_from f [] before now colour fair same = refl
 results_from f (r ∷ rs) before now colour fair same =
     let here = turn_same f before now r rs same in
     let more = results_from f rs before (after f now r) (rest_colour before r rs colour) (rest_fair f before r rs fair) (still_same f before now r rs colour fair same) in
     cc (here, more)
 
-share_x_from : (f : ContactRow → Ends → RowTurn) (rows : List ContactRow) (before now : List BodyState) → IsColour before rows → AreTurnsFair f before rows → Same before now rows → share_at_once_x f before rows ≡ share_x f now rows
+share_x_from : (f : ContactRow → Ends → RowAfter) (rows : List ContactRow) (before now : List BodyState) → IsColour before rows → AreTurnsFair f before rows → Same before now rows → share_at_once_x f before rows ≡ share_x f now rows
 share_x_from f [] before now colour fair same = refl
 share_x_from f (r ∷ rs) before now colour fair same =
     let ends : ends_of now r ≡ ends_of before r = same zero r refl in
@@ -73,7 +73,7 @@ share_x_from f (r ∷ rs) before now colour fair same =
     let more = share_x_from f rs before (after f now r) (rest_colour before r rs colour) (rest_fair f before r rs fair) (still_same f before now r rs colour fair same) in
     ap (λ (z : ℤ). z +ℤ share_at_once_x f before rs) here ∙ ap (λ (z : ℤ). got_x (ends_of now r) (turn_of f now r).ends +ℤ z) more
 
-share_y_from : (f : ContactRow → Ends → RowTurn) (rows : List ContactRow) (before now : List BodyState) → IsColour before rows → AreTurnsFair f before rows → Same before now rows → share_at_once_y f before rows ≡ share_y f now rows
+share_y_from : (f : ContactRow → Ends → RowAfter) (rows : List ContactRow) (before now : List BodyState) → IsColour before rows → AreTurnsFair f before rows → Same before now rows → share_at_once_y f before rows ≡ share_y f now rows
 share_y_from f [] before now colour fair same = refl
 share_y_from f (r ∷ rs) before now colour fair same =
     let ends : ends_of now r ≡ ends_of before r = same zero r refl in
@@ -82,15 +82,15 @@ share_y_from f (r ∷ rs) before now colour fair same =
     ap (λ (z : ℤ). z +ℤ share_at_once_y f before rs) here ∙ ap (λ (z : ℤ). got_y (ends_of now r) (turn_of f now r).ends +ℤ z) more
 
 -- on a colour the turns one by one are those at the bodies before it
-pub results_mapped : (f : ContactRow → Ends → RowTurn) (states : List BodyState) (rows : List ContactRow) → IsColour states rows → AreTurnsFair f states rows → results f states rows ≡ map (turn_of f states) rows
+pub results_mapped : (f : ContactRow → Ends → RowAfter) (states : List BodyState) (rows : List ContactRow) → IsColour states rows → AreTurnsFair f states rows → results f states rows ≡ map (turn_of f states) rows
 results_mapped f states rows colour fair = results_from f rows states states colour fair (λ k e h. refl)
 
 -- with or without a colour: the turns one by one, written back, are the pass
-scatter_results : (f : ContactRow → Ends → RowTurn) (states : List BodyState) (rows : List ContactRow) → scatter states rows (results f states rows) ≡ passed f states rows
+scatter_results : (f : ContactRow → Ends → RowAfter) (states : List BodyState) (rows : List ContactRow) → scatter states rows (results f states rows) ≡ passed f states rows
 scatter_results f states [] = refl
 scatter_results f states (r ∷ rs) = scatter_results f (after f states r) rs
 
-rows_results : (f : ContactRow → Ends → RowTurn) (states : List BodyState) (rows : List ContactRow) → map (λ (t : RowTurn). t.row) (results f states rows) ≡ rows_passed f states rows
+rows_results : (f : ContactRow → Ends → RowAfter) (states : List BodyState) (rows : List ContactRow) → map (λ (t : RowAfter). t.row) (results f states rows) ≡ rows_passed f states rows
 rows_results f states [] = refl
 rows_results f states (r ∷ rs) = ap (λ (l : List ContactRow). (turn_of f states r).row ∷ l) (rows_results f (after f states r) rs)
 
@@ -101,7 +101,7 @@ colour_law f states rows colour fair =
     record {
       turns = mapped;
       bodies = ap (scatter states rows) (sym mapped) ∙ scatter_results f states rows;
-      contacts = ap (map (λ (t : RowTurn). t.row)) (sym mapped) ∙ rows_results f states rows;
+      contacts = ap (map (λ (t : RowAfter). t.row)) (sym mapped) ∙ rows_results f states rows;
       given_x = share_x_from f rows states states colour fair (λ k e h. refl);
       given_y = share_y_from f rows states states colour fair (λ k e h. refl);
     }

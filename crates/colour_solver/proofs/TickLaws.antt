@@ -1,5 +1,5 @@
 -- What two passes over the bodies keep, and what they add to the movers' momentum.
-use Rattle.std.proofs.Common.{◌≡◌, zero, suc, List, [], ◌∷◌, length, true, false, ℤ, ◌+ℤ◌, arith, refl, sym, ap, ◌∙◌, subst, inl, inr, ◌≤◌, ◌^◌, ◌+◌, ℕ, unsigned_abs}
+use Rattle.std.proofs.Common.{◌*◌, ◌≡◌, zero, suc, List, [], ◌∷◌, length, true, false, ℤ, ◌+ℤ◌, arith, refl, sym, ap, ◌∙◌, subst, inl, inr, ◌≤◌, ◌^◌, ◌+◌, ℕ, unsigned_abs}
 use Rattle.std.proofs.lemmas.Bool.{cases_Bool}
 use Rattle.std.proofs.lemmas.Int.{ints}
 use Rattle.momenta.specs.Impulses.{IsState}
@@ -82,11 +82,11 @@ last_added t before first g i c more h e = omega (arith, ints, h, e)
 
 -- ---- sizes
 
-pub one_more : (a b : ℤ) (n : ℕ) → unsigned_abs a ≤ n → unsigned_abs b ≤ 2 ^ 76 → unsigned_abs (a +ℤ b) ≤ n + 2 ^ 78
+pub one_more : (a b : ℤ) (n : ℕ) → unsigned_abs a ≤ n → unsigned_abs b ≤ 2 ^ 78 → unsigned_abs (a +ℤ b) ≤ n + 3 * 2 ^ 78
 one_more a b n h k = omega (arith, ints)
 
-pub two_more : (a b c : ℤ) (n : ℕ) → unsigned_abs a ≤ n → unsigned_abs b ≤ 2 ^ 76 → unsigned_abs c ≤ 2 ^ 76 → unsigned_abs ((a +ℤ b) +ℤ c) ≤ n + 2 ^ 78
+pub two_more : (a b c : ℤ) (n : ℕ) → unsigned_abs a ≤ n → unsigned_abs b ≤ 2 ^ 78 → unsigned_abs c ≤ 2 ^ 78 → unsigned_abs ((a +ℤ b) +ℤ c) ≤ n + 3 * 2 ^ 78
 two_more a b c n h k l = omega (arith, ints)
 
-pub three_more : (a b c d : ℤ) (n : ℕ) → unsigned_abs a ≤ n → unsigned_abs b ≤ 2 ^ 76 → unsigned_abs c ≤ 2 ^ 76 → unsigned_abs d ≤ 2 ^ 76 → unsigned_abs (((a +ℤ b) +ℤ c) +ℤ d) ≤ n + 2 ^ 78
+pub three_more : (a b c d : ℤ) (n : ℕ) → unsigned_abs a ≤ n → unsigned_abs b ≤ 2 ^ 78 → unsigned_abs c ≤ 2 ^ 78 → unsigned_abs d ≤ 2 ^ 78 → unsigned_abs (((a +ℤ b) +ℤ c) +ℤ d) ≤ n + 3 * 2 ^ 78
 three_more a b c d n h k l m = omega (arith, ints)

@@ -4,12 +4,13 @@ use Rattle.std.proofs.lemmas.Bool.{cases_Bool}
 use Rattle.std.proofs.lemmas.Int.{ints}
 use Rattle.std.proofs.lemmas.List.{append_assoc, drop-set-lt, drop_more, get_or-set_other, length-set, take_more_set}
 use Rattle.std.proofs.lemmas.List.Elements.{All-set}
+use Rattle.body_handles.specs.declared.places.TheConstants.{MAX_SLOTS}
 use Rattle.momenta.specs.declared.state.BodyState.{BodyState}
 use Rattle.momenta.specs.declared.state.Ends.{Ends}
 use Rattle.momenta.specs.Impulses.{AreSameBodies, IsMomentumKept, IsState}
 use Rattle.colour_solver.specs.States.{AreAllStates, p_x, p_y, total_x, total_y}
 use Rattle.colour_solver_base.specs.declared.row.ContactRow.{ContactRow}
-use Rattle.colour_solver_base.specs.declared.solve.RowTurn.{RowTurn}
+use Rattle.colour_solver_base.specs.declared.solve.RowAfter.{RowAfter}
 use Rattle.colour_solver.specs.Turns.{AreRowsBelow, IsRowBelow, after, ends_of, got_x, got_y, passed, rows_passed, share_x, share_y, turn_of}
 
 -- ---- a body put into its slot
@@ -165,14 +166,14 @@ total_y-small : (ss : List BodyState) → AreAllStates ss → unsigned_abs (tota
 total_y-small [] all = omega arith
 total_y-small (s ∷ ss) all = size_more (p_y s) (total_y ss) (length ss) (small_y s (all zero s refl)) (total_y-small ss (λ k x f. all (suc k) x f))
 
-difference : (old new given : ℤ) (n m : ℕ) → new ≡ old +ℤ given → unsigned_abs old ≤ n * 2 ^ 60 → unsigned_abs new ≤ m * 2 ^ 60 → n ≤ 16384 → m ≤ 16384 → unsigned_abs given ≤ 2 ^ 76
+difference : (old new given : ℤ) (n m : ℕ) → new ≡ old +ℤ given → unsigned_abs old ≤ n * 2 ^ 60 → unsigned_abs new ≤ m * 2 ^ 60 → n ≤ MAX_SLOTS → m ≤ MAX_SLOTS → unsigned_abs given ≤ 2 ^ 78
 difference old new given n m e h k few few2 = omega (arith, ints)
 
 -- what changes the total of so few bodies is small
-pub given_x-small : (old new : List BodyState) (given : ℤ) → AreAllStates old → AreAllStates new → length old ≤ 16384 → length new ≤ 16384 → total_x new ≡ total_x old +ℤ given → unsigned_abs given ≤ 2 ^ 76
+pub given_x-small : (old new : List BodyState) (given : ℤ) → AreAllStates old → AreAllStates new → length old ≤ MAX_SLOTS → length new ≤ MAX_SLOTS → total_x new ≡ total_x old +ℤ given → unsigned_abs given ≤ 2 ^ 78
 given_x-small old new given a b few few2 e = difference (total_x old) (total_x new) given (length old) (length new) e (total_x-small old a) (total_x-small new b) few few2
 
-pub given_y-small : (old new : List BodyState) (given : ℤ) → AreAllStates old → AreAllStates new → length old ≤ 16384 → length new ≤ 16384 → total_y new ≡ total_y old +ℤ given → unsigned_abs given ≤ 2 ^ 76
+pub given_y-small : (old new : List BodyState) (given : ℤ) → AreAllStates old → AreAllStates new → length old ≤ MAX_SLOTS → length new ≤ MAX_SLOTS → total_y new ≡ total_y old +ℤ given → unsigned_abs given ≤ 2 ^ 78
 given_y-small old new given a b few few2 e = difference (total_y old) (total_y new) given (length old) (length new) e (total_y-small old a) (total_y-small new b) few few2
 
 -- ---- one contact further
@@ -182,11 +183,11 @@ left rows i r new h e =
     let rest : drop (i + 1) (set rows i new) ≡ drop (i + 1) rows = drop-set-lt (i + 1) rows i new (omega arith) in
     ap (λ (l : List ContactRow). r ∷ l) rest ∙ ap (λ (x : ContactRow). x ∷ drop (i + 1) rows) e ∙ sym (drop_more rows i r h)
 
-pub passed_more : (f : ContactRow → Ends → RowTurn) (ss whole : List BodyState) (rows : List ContactRow) (i : ℕ) (r new : ContactRow) → i < length rows → r ≡ get_or rows i r → passed f ss (drop i rows) ≡ whole
+pub passed_more : (f : ContactRow → Ends → RowAfter) (ss whole : List BodyState) (rows : List ContactRow) (i : ℕ) (r new : ContactRow) → i < length rows → r ≡ get_or rows i r → passed f ss (drop i rows) ≡ whole
     → passed f (after f ss r) (drop (i + 1) (set rows i new)) ≡ whole
 passed_more f ss whole rows i r new h e known = ap (passed f ss) (left rows i r new h e) ∙ known
 
-pub rows_more : (f : ContactRow → Ends → RowTurn) (ss : List BodyState) (rows whole : List ContactRow) (i : ℕ) (r : ContactRow) → i < length rows → r ≡ get_or rows i r → (take i rows ++ rows_passed f ss (drop i rows)) ≡ whole
+pub rows_more : (f : ContactRow → Ends → RowAfter) (ss : List BodyState) (rows whole : List ContactRow) (i : ℕ) (r : ContactRow) → i < length rows → r ≡ get_or rows i r → (take i rows ++ rows_passed f ss (drop i rows)) ≡ whole
     → (take (i + 1) (set rows i (turn_of f ss r).row) ++ rows_passed f (after f ss r) (drop (i + 1) (set rows i (turn_of f ss r).row))) ≡ whole
 rows_more f ss rows whole i r h e known =
     let new = (turn_of f ss r).row in
@@ -198,12 +199,12 @@ rows_more f ss rows whole i r h e known =
 add : (given got share rest whole : ℤ) → (given +ℤ share) ≡ whole → (got +ℤ rest) ≡ share → ((given +ℤ got) +ℤ rest) ≡ whole
 add given got share rest whole h e = omega (arith, ints)
 
-pub share_x_more : (f : ContactRow → Ends → RowTurn) (ss : List BodyState) (rows : List ContactRow) (i : ℕ) (r new : ContactRow) (given whole : ℤ) → i < length rows → r ≡ get_or rows i r → (given +ℤ share_x f ss (drop i rows)) ≡ whole
+pub share_x_more : (f : ContactRow → Ends → RowAfter) (ss : List BodyState) (rows : List ContactRow) (i : ℕ) (r new : ContactRow) (given whole : ℤ) → i < length rows → r ≡ get_or rows i r → (given +ℤ share_x f ss (drop i rows)) ≡ whole
     → ((given +ℤ got_x (ends_of ss r) (turn_of f ss r).ends) +ℤ share_x f (after f ss r) (drop (i + 1) (set rows i new))) ≡ whole
 share_x_more f ss rows i r new given whole h e known =
     add given (got_x (ends_of ss r) (turn_of f ss r).ends) (share_x f ss (drop i rows)) (share_x f (after f ss r) (drop (i + 1) (set rows i new))) whole known (ap (share_x f ss) (left rows i r new h e))
 
-pub share_y_more : (f : ContactRow → Ends → RowTurn) (ss : List BodyState) (rows : List ContactRow) (i : ℕ) (r new : ContactRow) (given whole : ℤ) → i < length rows → r ≡ get_or rows i r → (given +ℤ share_y f ss (drop i rows)) ≡ whole
+pub share_y_more : (f : ContactRow → Ends → RowAfter) (ss : List BodyState) (rows : List ContactRow) (i : ℕ) (r new : ContactRow) (given whole : ℤ) → i < length rows → r ≡ get_or rows i r → (given +ℤ share_y f ss (drop i rows)) ≡ whole
     → ((given +ℤ got_y (ends_of ss r) (turn_of f ss r).ends) +ℤ share_y f (after f ss r) (drop (i + 1) (set rows i new))) ≡ whole
 share_y_more f ss rows i r new given whole h e known =
     add given (got_y (ends_of ss r) (turn_of f ss r).ends) (share_y f ss (drop i rows)) (share_y f (after f ss r) (drop (i + 1) (set rows i new))) whole known (ap (share_y f ss) (left rows i r new h e))

@@ -1,7 +1,8 @@
--- The bodies of a step by slot, and the movers' momentum.
-use Rattle.std.specs.Prelude.{◌≡◌, ℕ, ◌^◌, false, cond, List, [], ◌∷◌, Some, ℤ, pos, ◌+ℤ◌, length, slice_get, slice_index_or}
+-- The bodies of a step by slot, and the movers' momentum. A mover here is an awake one: of the others `movable` is false.
+use Rattle.std.specs.Prelude.{◌≡◌, ℕ, suc, ◌^◌, Bool, false, cond, List, [], ◌∷◌, Some, ℤ, pos, ◌+ℤ◌, length, slice_get, slice_index_or}
 use Rattle.momenta.specs.declared.state.BodyState.{BodyState}
-use Rattle.momenta.specs.Impulses.{IsState, zero_vector}
+use Rattle.momenta.specs.Impulses.{IsState}
+use Rattle.fixed_geom.specs.Vectors.{zero_vector}
 use Rattle.momenta.specs.Reciprocals.{reciprocals_of}
 
 -- what stands for the body in an empty slot: nothing moves it
@@ -19,6 +20,20 @@ AreAllStates states = (slot : ℕ) (s : BodyState) → slice_get states slot ≡
 
 abbrev pub HaveReciprocals : List BodyState → Type 0
 HaveReciprocals states = (slot : ℕ) (s : BodyState) → slice_get states slot ≡ Some s → s.reciprocals ≡ reciprocals_of s.mass
+
+-- ---- the movers' slots
+
+-- the places of those in a list that pass a test, ascending; the first place is n
+abbrev pub places_from : {X : Type 0} → (X → Bool) → ℕ → List X → List ℕ
+places_from is n [] = []
+places_from is n (x ∷ xs) = cond (is x) (n ∷ places_from is (suc n) xs) (places_from is (suc n) xs)
+
+abbrev pub moves : BodyState → Bool
+moves s = s.movable
+
+-- the slots of the movers, ascending
+abbrev pub movers_of : List BodyState → List ℕ
+movers_of states = places_from moves 0 states
 
 -- ---- the movers' momentum
 
@@ -38,8 +53,10 @@ total_y (s ∷ states) = p_y s +ℤ total_y states
 
 -- ---- what a step leaves alone
 
--- which bodies move, and their masses
+-- which bodies move, their masses with their reciprocals, and all of a body that doesn't move
 pub record AreSameStates (old new : List BodyState) : Type 0 where
   pub long : length new ≡ length old
+  pub immovable : (slot : ℕ) → (slice_index_or old slot nobody).movable ≡ false → slice_index_or new slot nobody ≡ slice_index_or old slot nobody
+  pub reciprocals : (slot : ℕ) → (slice_index_or new slot nobody).reciprocals ≡ (slice_index_or old slot nobody).reciprocals
   pub movable : (slot : ℕ) → (slice_index_or new slot nobody).movable ≡ (slice_index_or old slot nobody).movable
   pub mass : (slot : ℕ) → (slice_index_or new slot nobody).mass ≡ (slice_index_or old slot nobody).mass

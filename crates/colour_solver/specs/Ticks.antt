@@ -9,7 +9,7 @@ use Rattle.momenta.specs.declared.motion.Motion.{Motion}
 use Rattle.momenta.specs.declared.state.BodyState.{BodyState}
 use Rattle.momenta.specs.declared.state.Ends.{Ends}
 use Rattle.colour_solver_base.specs.declared.row.ContactRow.{ContactRow}
-use Rattle.colour_solver_base.specs.declared.solve.RowTurn.{RowTurn}
+use Rattle.colour_solver_base.specs.declared.solve.RowAfter.{RowAfter}
 use Rattle.colour_solver_base.specs.Rows.{row_warmed, row_solved, row_bounced}
 use Rattle.colour_solver.specs.declared.ticks.StepSums.{StepSums}
 use Rattle.colour_solver.specs.Passes.{pass, gain_x, gain_y}
@@ -44,7 +44,7 @@ clamp_all f r = record r {
 }
 
 -- a pass over the contacts; what immovable bodies give is booked as Immovable
-abbrev pub turn_all : (ContactRow → Ends → RowTurn) → Run → Run
+abbrev pub turn_all : (ContactRow → Ends → RowAfter) → Run → Run
 turn_all f r = record r {
   states = passed f r.states r.rows;
   rows = rows_passed f r.states r.rows;

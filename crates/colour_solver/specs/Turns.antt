@@ -2,10 +2,10 @@
 use Rattle.std.specs.Prelude.{ℕ, Bool, ◌<◌, ◌≢◌, cond, List, [], ◌∷◌, ℤ, pos, ◌+ℤ◌, ◌-ℤ◌, All, slice_set, slice_index_or}
 use Rattle.momenta.specs.declared.state.BodyState.{BodyState}
 use Rattle.momenta.specs.declared.state.Ends.{Ends}
-use Rattle.momenta.specs.declared.narrow.NarrowPair.{NarrowPair}
-use Rattle.momenta.specs.Narrow.{ends_with}
+use Rattle.momenta.specs.declared.line_64.MomentaPair64.{MomentaPair64}
+use Rattle.momenta.specs.Line64.{ends_with}
 use Rattle.colour_solver_base.specs.declared.row.ContactRow.{ContactRow}
-use Rattle.colour_solver_base.specs.declared.solve.RowTurn.{RowTurn}
+use Rattle.colour_solver_base.specs.declared.solve.RowAfter.{RowAfter}
 use Rattle.colour_solver_base.specs.Rows.{IsRow}
 use Rattle.colour_solver.specs.States.{nobody}
 
@@ -17,23 +17,23 @@ abbrev pub with_ends : List BodyState → ContactRow → Ends → List BodyState
 with_ends states r e = slice_set (slice_set states r.bodies.a e.a) r.bodies.b e.b
 
 -- the two bodies with these momenta
-abbrev pub narrow_ends : List BodyState → ContactRow → NarrowPair → Ends
+abbrev pub narrow_ends : List BodyState → ContactRow → MomentaPair64 → Ends
 narrow_ends states r n = ends_with (slice_index_or states r.bodies.a nobody) (slice_index_or states r.bodies.b nobody) n
 
 -- the turn of one contact, the bodies standing so
-abbrev pub turn_of : (ContactRow → Ends → RowTurn) → List BodyState → ContactRow → RowTurn
+abbrev pub turn_of : (ContactRow → Ends → RowAfter) → List BodyState → ContactRow → RowAfter
 turn_of f states r = f r (ends_of states r)
 
-abbrev pub after : (ContactRow → Ends → RowTurn) → List BodyState → ContactRow → List BodyState
+abbrev pub after : (ContactRow → Ends → RowAfter) → List BodyState → ContactRow → List BodyState
 after f states r = with_ends states r (turn_of f states r).ends
 
 -- the bodies after all turns, one after another
-abbrev pub passed : (ContactRow → Ends → RowTurn) → List BodyState → List ContactRow → List BodyState
+abbrev pub passed : (ContactRow → Ends → RowAfter) → List BodyState → List ContactRow → List BodyState
 passed f states [] = states
 passed f states (r ∷ rs) = passed f (after f states r) rs
 
 -- the contacts after their turns
-abbrev pub rows_passed : (ContactRow → Ends → RowTurn) → List BodyState → List ContactRow → List ContactRow
+abbrev pub rows_passed : (ContactRow → Ends → RowAfter) → List BodyState → List ContactRow → List ContactRow
 rows_passed f states [] = []
 rows_passed f states (r ∷ rs) = (turn_of f states r).row ∷ rows_passed f (after f states r) rs
 
@@ -49,11 +49,11 @@ got_x e after = got_by e.a.movable e.b.movable (after.a.motion.p.x -ℤ e.a.moti
 abbrev pub got_y : Ends → Ends → ℤ
 got_y e after = got_by e.a.movable e.b.movable (after.a.motion.p.y -ℤ e.a.motion.p.y) (after.b.motion.p.y -ℤ e.b.motion.p.y)
 
-abbrev pub share_x : (ContactRow → Ends → RowTurn) → List BodyState → List ContactRow → ℤ
+abbrev pub share_x : (ContactRow → Ends → RowAfter) → List BodyState → List ContactRow → ℤ
 share_x f states [] = pos 0
 share_x f states (r ∷ rs) = got_x (ends_of states r) (turn_of f states r).ends +ℤ share_x f (after f states r) rs
 
-abbrev pub share_y : (ContactRow → Ends → RowTurn) → List BodyState → List ContactRow → ℤ
+abbrev pub share_y : (ContactRow → Ends → RowAfter) → List BodyState → List ContactRow → ℤ
 share_y f states [] = pos 0
 share_y f states (r ∷ rs) = got_y (ends_of states r) (turn_of f states r).ends +ℤ share_y f (after f states r) rs
 

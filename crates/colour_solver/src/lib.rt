@@ -1,8 +1,9 @@
 //! A step on arrays: the bodies by slot and the touching contacts in solve order, with the passes of a tick over both.
 //!
-//! A step gathers what is awake into two dense arrays (`BodyState`, `ContactRow`), runs its ticks over them (`run_step`) and
-//! writes back what came of it, as Box2D v3 does with its body states and contact constraints. So the inner loops look nothing up, and
-//! a step that is refused before has changed nothing.
+//! A step works on two dense arrays (`BodyState`, `ContactRow`), runs its ticks over them (`run_step`) and writes back what came of it,
+//! as Box2D v3 does with its body states and contact constraints. So the inner loops look nothing up, and a step that is refused before
+//! has changed nothing. A `BodyState` that is `movable` is an awake mover; the others (immovable, asleep, disabled, or no body) stay as
+//! they are. A pass over the bodies goes over the slots of the awake movers alone.
 #![tactic(auto)]
 
 pub mod passes;

@@ -1,4 +1,4 @@
-//! Passes over the bodies: two changes of motion, made to each mover in one loop.
+//! Passes over the bodies: two changes of motion, made to each awake mover in one loop.
 
 ghost use Rattle.std.specs.Prelude.{◌≡◌, ◌^◌, ◌≤◌, length, ◌+ℤ◌};
 ghost use Rattle.fixed_geom.specs.Vectors.{IsWithin};
@@ -6,12 +6,13 @@ ghost use Rattle.momenta.specs.declared.mass.MassData.{MassData};
 ghost use Rattle.momenta.specs.declared.motion.Motion.{Motion};
 ghost use Rattle.momenta.specs.Gains.{IsGain};
 ghost use Rattle.momenta.specs.Reciprocals.{reciprocals_of};
-ghost use Rattle.colour_solver.specs.States.{AreSameStates, HaveReciprocals, total_x, total_y};
+ghost use Rattle.colour_solver.specs.States.{AreSameStates, HaveReciprocals, movers_of, total_x, total_y};
 ghost use Rattle.colour_solver.specs.Passes.{OnMover, OnMovers, changed, gain_x, gain_y, one_gain_x, one_gain_y, pass};
 
+use body_handles::MAX_SLOTS;
 use momenta::{BodyState, Gain, MassData, Motion, NOTHING, Reciprocals, gain_between, plus};
 
-/// A change of a mover's motion.
+/// A change of an awake mover's motion.
 pub trait Change {
     ghost after: { Self → MassData → Motion → Motion };
 
@@ -36,7 +37,7 @@ pub struct Gains {
     pub second: Gain,
 }
 
-/// Makes two changes to a mover, and none to another body.
+/// Makes two changes to an awake mover, and none to another body.
 fn change_body<A: Change, B: Change>(body: &mut BodyState, first: &A, second: &B) -> Gains
     requires reciprocals { body.old.reciprocals ≡ reciprocals_of body.old.mass }
     requires fits { OnMover (A.fits first.now) body.old }
@@ -67,9 +68,15 @@ fn change_body<A: Change, B: Change>(body: &mut BodyState, first: &A, second: &B
     gains
 }
 
-/// Makes two changes to each mover, one after the other, in one pass.
-pub fn pass_two<A: Change, B: Change>(states: &mut Vec<BodyState>, first: &A, second: &B) -> Gains
-    requires few { length states.old.items ≤ 16384 }
+/// Makes two changes to each awake mover, one after the other, in one pass over their slots, `awake`.
+pub fn pass_two<A: Change, B: Change>(
+    states: &mut Vec<BodyState>,
+    awake: &[u32],
+    first: &A,
+    second: &B,
+) -> Gains
+    requires few { length states.old.items ≤ MAX_SLOTS }
+    requires awake { awake.now ≡ movers_of states.old.items }
     requires reciprocals { HaveReciprocals states.old.items }
     requires fits { OnMovers (A.fits first.now) states.old.items }
     requires meets { (m : MassData) (s : Motion) → A.gives first.now m s → B.fits second.now m s }
@@ -79,16 +86,18 @@ pub fn pass_two<A: Change, B: Change>(states: &mut Vec<BodyState>, first: &A, se
     ensures first_y { result.first.y ≡ gain_y (A.after first.now) states.old.items }
     ensures second_x { result.second.x ≡ gain_x (B.after second.now) (pass (A.after first.now) states.old.items) }
     ensures second_y { result.second.y ≡ gain_y (B.after second.now) (pass (A.after first.now) states.old.items) }
-    ensures small_first { IsGain (2 ^ 76) result.first }
-    ensures small_second { IsGain (2 ^ 76) result.second }
+    ensures small_first { IsGain (2 ^ 78) result.first }
+    ensures small_second { IsGain (2 ^ 78) result.second }
     ensures gives { OnMovers (B.gives second.now) states.new.items }
     ensures same { AreSameStates states.old.items states.new.items }
+    ensures movers { movers_of states.new.items ≡ movers_of states.old.items }
 {
     let mut sums = Gains {
         first: NOTHING,
         second: NOTHING,
     };
-    for slot in 0..states.len() {
+    for place in 0..awake.len() {
+        let slot = awake[place] as usize;
         let gains = change_body(&mut states[slot], first, second);
         sums = Gains {
             first: plus(sums.first, gains.first),

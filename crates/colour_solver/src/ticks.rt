@@ -1,17 +1,18 @@
 //! The ticks of a step, and the restitution that ends it.
 
-ghost use Rattle.std.specs.Prelude.{◌≡◌, ℕ, ◌^◌, ◌+◌, ◌≤◌, ◌+ℤ◌, length};
+ghost use Rattle.std.specs.Prelude.{◌≡◌, ℕ, ◌^◌, ◌*◌, ◌+◌, ◌≤◌, ◌+ℤ◌, length};
 ghost use Rattle.fixed_geom.specs.Vectors.{IsWithin};
 ghost use Rattle.momenta.specs.Motions.{pulled, clamped, advanced, IsMotion};
 ghost use Rattle.colour_solver_base.specs.Rows.{row_warmed, row_solved, row_bounced};
-ghost use Rattle.colour_solver.specs.States.{AreAllStates, AreSameStates, total_x, total_y};
+ghost use Rattle.colour_solver.specs.States.{AreAllStates, AreSameStates, movers_of, total_x, total_y};
 ghost use Rattle.colour_solver.specs.Turns.{AreRowsBelow};
 ghost use Rattle.colour_solver.specs.Ticks.{AreSums, CanLimit, CanMove, CanPull, added_x, added_y, ran, run_of, start, tick, ticks};
 
 use crate::{Change, Turn, pass_single, pass_two};
+use body_handles::MAX_SLOTS;
 use colour_solver_base::{
-    ContactRow, NarrowRow, bounce_row, is_row_unpushed, narrow_solve_row, narrow_warm_row,
-    never_bounces, solve_row, warm_row,
+    ContactRow, RowAfter64, bounce_row, has_no_impulses, never_bounces, solve_row, solve_row_64,
+    warm_row, warm_row_64,
 };
 use fixed_geom::Vec2;
 use momenta::{
@@ -88,11 +89,11 @@ impl Turn for Warm {
     ghost turn = { λ _ r e. row_warmed r e };
 
     fn is_idle(&self, row: &ContactRow) -> bool {
-        is_row_unpushed(row)
+        has_no_impulses(row)
     }
 
-    fn narrow(&self, row: &ContactRow, a: &BodyState, b: &BodyState) -> Option<NarrowRow> {
-        narrow_warm_row(row, a, b)
+    fn narrow(&self, row: &ContactRow, a: &BodyState, b: &BodyState) -> Option<RowAfter64> {
+        warm_row_64(row, a, b)
     }
 
     fn turn(&self, row: &mut ContactRow, ends: &mut Ends) {
@@ -111,8 +112,8 @@ impl Turn for Solve {
         false
     }
 
-    fn narrow(&self, row: &ContactRow, a: &BodyState, b: &BodyState) -> Option<NarrowRow> {
-        narrow_solve_row(row, a, b)
+    fn narrow(&self, row: &ContactRow, a: &BodyState, b: &BodyState) -> Option<RowAfter64> {
+        solve_row_64(row, a, b)
     }
 
     fn turn(&self, row: &mut ContactRow, ends: &mut Ends) {
@@ -131,7 +132,7 @@ impl Turn for Bounce {
         never_bounces(row)
     }
 
-    fn narrow(&self, row: &ContactRow, a: &BodyState, b: &BodyState) -> Option<NarrowRow> {
+    fn narrow(&self, row: &ContactRow, a: &BodyState, b: &BodyState) -> Option<RowAfter64> {
         None
     }
 
@@ -140,33 +141,35 @@ impl Turn for Bounce {
     }
 }
 
-/// One tick: gravity, the speed limit, the warm start, the solver's pass, the speed limit again, the move. Adds to the
+/// One tick of the awake movers and the contacts: gravity, the speed limit, the warm start, the solver's pass, the speed limit again, the move. Adds to the
 /// sums so far.
 #[tactic(auto, unfolding(crate::specs::Ticks::tick))]
 fn tick(
     states: &mut Vec<BodyState>,
     rows: &mut Vec<ContactRow>,
+    awake: &[u32],
     gravity: Vec2,
     sums: StepSums,
 ) -> StepSums
-    requires few { length states.old.items ≤ 16384 }
+    requires few { length states.old.items ≤ MAX_SLOTS }
     requires gravity { IsWithin (2 ^ 16) gravity }
     requires states { AreAllStates states.old.items }
+    requires awake { awake.now ≡ movers_of states.old.items }
     requires rows { AreRowsBelow (length states.old.items) rows.old.items }
-    requires sums { AreSums (2 ^ 82) sums }
+    requires sums { AreSums (2 ^ 83) sums }
     ensures tick { run_of states.new.items rows.new.items result ≡ tick gravity (run_of states.old.items rows.old.items sums) }
     ensures states { AreAllStates states.new.items }
     ensures rows { AreRowsBelow (length states.new.items) rows.new.items }
     ensures long { length states.new.items ≡ length states.old.items }
     ensures same { AreSameStates states.old.items states.new.items }
-    ensures grown { (n : ℕ) → AreSums n sums → AreSums (n + 2 ^ 78) result }
+    ensures grown { (n : ℕ) → AreSums n sums → AreSums (n + 3 * 2 ^ 78) result }
     ensures momentum_x { total_x states.new.items +ℤ added_x sums ≡ total_x states.old.items +ℤ added_x result }
     ensures momentum_y { total_y states.new.items +ℤ added_y sums ≡ total_y states.old.items +ℤ added_y result }
 {
-    let fallen = pass_two(states, &Pull { gravity }, &Limit);
+    let fallen = pass_two(states, awake, &Pull { gravity }, &Limit);
     let warm = pass_single(states, rows, &Warm);
     let solved = pass_single(states, rows, &Solve);
-    let moved = pass_two(states, &Limit, &Move);
+    let moved = pass_two(states, awake, &Limit, &Move);
     StepSums {
         gravity: plus(sums.gravity, fallen.first),
         immovable: plus(plus(sums.immovable, warm), solved),
@@ -177,9 +180,9 @@ fn tick(
     }
 }
 
-/// Runs that many ticks, 0 to 8, over all bodies and contacts, and then the restitution: in each tick gravity (u/tick², each
-/// component within ±2^16), the speed limit, the warm start and the solver's pass over the contacts in their order, the speed limit
-/// again, and the move.
+/// Runs that many ticks, 0 to 8, over the awake movers, whose slots are `awake`, and the contacts, and then the restitution: in each
+/// tick gravity (u/tick², each component within ±2^16), the speed limit, the warm start and the solver's pass over the contacts in
+/// their order, the speed limit again, and the move. What isn't an awake mover stays as it is.
 ///
 /// Answers what gravity, what immovable bodies, and what the speed limit with the edge of the world have added to the movers'
 /// momentum (mass·u/tick).
@@ -187,12 +190,14 @@ fn tick(
 pub fn run_step(
     states: &mut Vec<BodyState>,
     rows: &mut Vec<ContactRow>,
+    awake: &[u32],
     gravity: Vec2,
     count: u64,
 ) -> StepSums
-    requires few { length states.old.items ≤ 16384 }
+    requires few { length states.old.items ≤ MAX_SLOTS }
     requires gravity { IsWithin (2 ^ 16) gravity }
     requires states { AreAllStates states.old.items }
+    requires awake { awake.now ≡ movers_of states.old.items }
     requires rows { AreRowsBelow (length states.old.items) rows.old.items }
     requires count { count ≤ 8 }
     ensures run { run_of states.new.items rows.new.items result ≡ ran count gravity (start states.old.items rows.old.items) }
@@ -200,7 +205,7 @@ pub fn run_step(
     ensures rows { AreRowsBelow (length states.new.items) rows.new.items }
     ensures long { length states.new.items ≡ length states.old.items }
     ensures same { AreSameStates states.old.items states.new.items }
-    ensures small { AreSums (2 ^ 82) result }
+    ensures small { AreSums (2 ^ 83) result }
     ensures momentum_x { total_x states.new.items ≡ total_x states.old.items +ℤ added_x result }
     ensures momentum_y { total_y states.new.items ≡ total_y states.old.items +ℤ added_y result }
 {
@@ -210,7 +215,7 @@ pub fn run_step(
         clamp: NOTHING,
     };
     for index in 0..count {
-        sums = tick(states, rows, gravity, sums);
+        sums = tick(states, rows, awake, gravity, sums);
     }
     let bounced = pass_single(states, rows, &Bounce);
     StepSums {

@@ -3,36 +3,37 @@
 ghost use Rattle.std.specs.Prelude.{◌≡◌, ◌^◌, ◌≤◌, true, length, ◌+ℤ◌, ◌-ℤ◌, IfSome};
 ghost use Rattle.momenta.specs.declared.state.Ends.{Ends};
 ghost use Rattle.momenta.specs.Impulses.{AreStates, AreSameBodies, IsMomentumKept, IsSameBody, IsState};
-ghost use Rattle.momenta.specs.Narrow.{with_momenta};
+ghost use Rattle.momenta.specs.Line64.{with_momenta};
 ghost use Rattle.momenta.specs.Gains.{IsGain};
 ghost use Rattle.colour_solver_base.specs.declared.row.ContactRow.{ContactRow};
-ghost use Rattle.colour_solver_base.specs.declared.solve.RowTurn.{RowTurn};
+ghost use Rattle.colour_solver_base.specs.declared.solve.RowAfter.{RowAfter};
 ghost use Rattle.colour_solver_base.specs.Rows.{IsRow};
-ghost use Rattle.colour_solver_base.specs.Narrow.{IsNarrowTurn, both_ends, with_first};
+ghost use Rattle.colour_solver_base.specs.Row64.{IsRowAfter64, both_ends, with_first};
 ghost use Rattle.fixed_geom.specs.Vectors.{IsWithin};
 ghost use Rattle.colour_solver.specs.Colour.{ColoursAreAtOnce};
 ghost use Rattle.colour_solver.specs.States.{AreAllStates, AreSameStates, total_x, total_y};
 ghost use Rattle.colour_solver.specs.Turns.{AreRowsBelow, IsRowBelow, after, ends_of, got_by, got_x, got_y, narrow_ends, passed, rows_passed, share_x, share_y, turn_of, with_ends};
 
-use colour_solver_base::{ContactRow, NarrowRow};
+use body_handles::MAX_SLOTS;
+use colour_solver_base::{ContactRow, RowAfter64};
 use fixed_geom::Vec2;
-use momenta::{BodyState, Ends, Gain, NOTHING, Narrow, gain_between, plus};
+use momenta::{BodyState, Ends, Gain, Momenta64, NOTHING, gain_between, plus};
 
 /// What a pass does with one contact and its two bodies.
 pub trait Turn {
     /// The contact and its two bodies after it.
-    ghost turn: { Self → ContactRow → Ends → RowTurn };
+    ghost turn: { Self → ContactRow → Ends → RowAfter };
 
     /// Whether it leaves the contact and any two bodies as they are.
     fn is_idle(&self, row: &ContactRow) -> bool
         ensures { result ≡ true → (e : Ends) → AreStates e → turn self.now row.now e ≡ record { row = row.now; ends = e } };
 
     /// The same turn in 64 bits, where there is room.
-    fn narrow(&self, row: &ContactRow, a: &BodyState, b: &BodyState) -> Option<NarrowRow>
+    fn narrow(&self, row: &ContactRow, a: &BodyState, b: &BodyState) -> Option<RowAfter64>
         requires row { IsRow row.now }
         requires first { IsState a.now }
         requires second { IsState b.now }
-        ensures { IfSome result (IsNarrowTurn (turn self.now row.now (both_ends a.now b.now)) row.now a.now b.now) };
+        ensures { IfSome result (IsRowAfter64 (turn self.now row.now (both_ends a.now b.now)) row.now a.now b.now) };
 
     fn turn(&self, row: &mut ContactRow, ends: &mut Ends)
         requires row { IsRow row.old }
@@ -113,7 +114,7 @@ fn turn_bodies<T: Turn>(states: &mut Vec<BodyState>, row: &mut ContactRow, turn:
 
 /// Puts these momenta into a body.
 #[inline(always)]
-fn put_narrow(body: &mut BodyState, now: Narrow)
+fn put_narrow(body: &mut BodyState, now: Momenta64)
     ensures { body.new ≡ with_momenta body.old now }
 {
     body.motion.p = now.p;
@@ -122,12 +123,12 @@ fn put_narrow(body: &mut BodyState, now: Narrow)
 
 /// Puts what a turn has made of a contact and of its two bodies in their places. Answers what the immovable one has given, if one is.
 #[inline(always)]
-fn put_turn(states: &mut Vec<BodyState>, row: &mut ContactRow, turned: NarrowRow) -> Gain
+fn put_turn(states: &mut Vec<BodyState>, row: &mut ContactRow, turned: RowAfter64) -> Gain
     requires states { AreAllStates states.old.items }
     requires row { IsRowBelow (length states.old.items) row.old }
     requires after { AreStates (narrow_ends states.old.items row.old turned.now) }
     ensures states { states.new.items ≡ with_ends states.old.items row.old (narrow_ends states.old.items row.old turned.now) }
-    ensures row { row.new ≡ with_first row.old turned.push turned.slip }
+    ensures row { row.new ≡ with_first row.old turned.normal_impulse turned.tangent_impulse }
     ensures x { result.x ≡ got_x (ends_of states.old.items row.old) (narrow_ends states.old.items row.old turned.now) }
     ensures y { result.y ≡ got_y (ends_of states.old.items row.old) (narrow_ends states.old.items row.old turned.now) }
     ensures small { IsGain (2 ^ 62) result }
@@ -137,17 +138,17 @@ fn put_turn(states: &mut Vec<BodyState>, row: &mut ContactRow, turned: NarrowRow
     let given = got(&states[a], &states[b], turned.now.a.p, turned.now.b.p);
     put_narrow(&mut states[a], turned.now.a);
     put_narrow(&mut states[b], turned.now.b);
-    row.first.push = turned.push;
-    row.first.slip = turned.slip;
+    row.first.normal_impulse = turned.normal_impulse;
+    row.first.tangent_impulse = turned.tangent_impulse;
     given
 }
 
 /// The turn of one contact in 64 bits, where there is room.
 #[inline(always)]
-fn narrow_turn<T: Turn>(states: &[BodyState], row: &ContactRow, turn: &T) -> Option<NarrowRow>
+fn narrow_turn<T: Turn>(states: &[BodyState], row: &ContactRow, turn: &T) -> Option<RowAfter64>
     requires states { AreAllStates states.now }
     requires row { IsRowBelow (length states.now) row.now }
-    ensures { IfSome result (IsNarrowTurn (turn_of (T.turn turn.now) states.now row.now) row.now (ends_of states.now row.now).a (ends_of states.now row.now).b) }
+    ensures { IfSome result (IsRowAfter64 (turn_of (T.turn turn.now) states.now row.now) row.now (ends_of states.now row.now).a (ends_of states.now row.now).b) }
 {
     let a = row.bodies.a as usize;
     let b = row.bodies.b as usize;
@@ -188,7 +189,7 @@ pub fn pass_single<T: Turn>(
     rows: &mut Vec<ContactRow>,
     turn: &T,
 ) -> Gain
-    requires few { length states.old.items ≤ 16384 }
+    requires few { length states.old.items ≤ MAX_SLOTS }
     requires states { AreAllStates states.old.items }
     requires rows { AreRowsBelow (length states.old.items) rows.old.items }
     ensures states { states.new.items ≡ passed (T.turn turn.now) states.old.items rows.old.items }
@@ -201,7 +202,7 @@ pub fn pass_single<T: Turn>(
     ensures same { AreSameStates states.old.items states.new.items }
     ensures momentum_x { total_x states.new.items ≡ total_x states.old.items +ℤ result.x }
     ensures momentum_y { total_y states.new.items ≡ total_y states.old.items +ℤ result.y }
-    ensures small { IsGain (2 ^ 76) result }
+    ensures small { IsGain (2 ^ 78) result }
 {
     let mut given = NOTHING;
     for index in 0..rows.len() {

@@ -10,7 +10,7 @@ same_body_then a b c h k = record {
   mass = k.mass ∙ h.mass;
   start = k.start ∙ h.start;
   reciprocals = k.reciprocals ∙ h.reciprocals;
-  place = k.place ∙ h.place;
+  position = k.position ∙ h.position;
   facing = k.facing ∙ h.facing;
   immovable = λ e. k.immovable (h.movable ∙ e) ∙ h.immovable e;
 }

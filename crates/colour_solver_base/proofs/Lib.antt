@@ -1,3 +1,4 @@
 pub mod Kept
-pub mod Loose
-pub mod NarrowLaws
+pub mod Frictionless
+pub mod Laws64
+pub mod ContactRows

@@ -5,14 +5,18 @@
 //! bias velocity beyond a slop, and sub-steps, here with whole numbers.
 #![tactic(auto)]
 
-pub mod narrow;
+pub mod laws;
+pub mod limits;
 pub mod row;
+pub mod row_64;
 pub mod solve;
 #[cfg(test)]
 mod tests;
 
-pub use narrow::{NarrowRow, narrow_solve_row, narrow_warm_row};
+pub use laws::rows_are_contacts;
+pub use limits::{BOUNCE_SPEED, MAX_BIAS, SLOP};
 pub use row::{Bodies, ContactRow, PointRow, contact_row};
+pub use row_64::{RowAfter64, solve_row_64, warm_row_64};
 pub use solve::{
-    PointTurn, RowTurn, bounce_row, is_row_unpushed, never_bounces, solve_row, warm_row,
+    PointAfter, RowAfter, bounce_row, has_no_impulses, never_bounces, solve_row, warm_row,
 };

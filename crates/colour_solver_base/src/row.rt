@@ -5,10 +5,10 @@ ghost use Rattle.std.specs.Option.{ForSome};
 ghost use Rattle.fixed_geom.specs.Vectors.{IsWithin};
 ghost use Rattle.momenta.specs.Impulses.{AreStates, IsLine};
 ghost use Rattle.contacts_base.specs.Limits.{IsContact, IsContactPoint};
-ghost use Rattle.colour_solver_base.specs.Rows.{AreSurfaces, IsPointRow, IsRow, contact_row, point_row, push_line, slip_line, start_speed, is_springy, tangent};
+ghost use Rattle.colour_solver_base.specs.Rows.{AreSurfaces, IsPointRow, IsRow, contact_row, point_row, normal_line, tangent_line, start_speed, is_springy, tangent};
 
 use contacts_base::{Contact, ContactPoint};
-use fixed_geom::Vec2;
+use fixed_geom::{UNIT, Vec2};
 use momenta::{Ends, Line, inverse_mass, inverse_reciprocal, speed_along};
 
 /// A point of a contact in a step: the normal from the first body to the second (times 2^30), the offsets from the two
@@ -20,20 +20,20 @@ pub struct PointRow {
     pub normal: Vec2,
     pub ra: Vec2,
     pub rb: Vec2,
-    pub push_inverse: i128,
-    pub slip_inverse: i128,
-    pub push_reciprocal: i64,
-    pub slip_reciprocal: i64,
+    pub normal_inverse: i128,
+    pub tangent_inverse: i128,
+    pub normal_reciprocal: i64,
+    pub tangent_reciprocal: i64,
     pub separation: i64,
     pub start_speed: i64,
-    pub push: i64,
-    pub slip: i64,
+    pub normal_impulse: i64,
+    pub tangent_impulse: i64,
 }
 
 /// Which contact of the list a row is of, the slots of its bodies, and its mixed friction and restitution in 256ths.
 #[derive(Clone, Copy, Debug, PartialEq, Eq)]
 pub struct Bodies {
-    pub place: usize,
+    pub index: usize,
     pub a: u32,
     pub b: u32,
     pub friction: i64,
@@ -50,9 +50,9 @@ pub struct ContactRow {
 
 /// The direction of friction: the normal turned to the right.
 fn tangent(normal: Vec2) -> Vec2
-    requires { IsWithin (2 ^ 30) normal }
+    requires { IsWithin (unsigned_abs UNIT) normal }
     ensures value { result ≡ tangent normal }
-    ensures within { IsWithin (2 ^ 30) result }
+    ensures within { IsWithin (unsigned_abs UNIT) result }
 {
     Vec2 {
         x: normal.y,
@@ -62,29 +62,29 @@ fn tangent(normal: Vec2) -> Vec2
 
 impl PointRow {
     /// The line of its normal impulse.
-    pub fn push_line(&self) -> Line
-        ensures { result ≡ push_line self.now }
+    pub fn normal_line(&self) -> Line
+        ensures { result ≡ normal_line self.now }
     {
         Line {
             direction: self.normal,
             ra: self.ra,
             rb: self.rb,
-            inverse_mass: self.push_inverse,
-            reciprocal: self.push_reciprocal,
+            inverse_mass: self.normal_inverse,
+            reciprocal: self.normal_reciprocal,
         }
     }
 
     /// The line of its friction.
-    pub fn slip_line(&self) -> Line
-        requires { IsWithin (2 ^ 30) self.now.normal }
-        ensures { result ≡ slip_line self.now }
+    pub fn tangent_line(&self) -> Line
+        requires { IsWithin (unsigned_abs UNIT) self.now.normal }
+        ensures { result ≡ tangent_line self.now }
     {
         Line {
             direction: tangent(self.normal),
             ra: self.ra,
             rb: self.rb,
-            inverse_mass: self.slip_inverse,
-            reciprocal: self.slip_reciprocal,
+            inverse_mass: self.tangent_inverse,
+            reciprocal: self.tangent_reciprocal,
         }
     }
 }
@@ -119,27 +119,27 @@ fn point_row(springy: bool, point: &ContactPoint, ends: &Ends) -> PointRow
     ensures row { IsPointRow result }
 {
     let across = tangent(point.normal);
-    let push_inverse = inverse_mass(point.normal, point.ra, point.rb, ends);
-    let slip_inverse = inverse_mass(across, point.ra, point.rb, ends);
+    let normal_inverse = inverse_mass(point.normal, point.ra, point.rb, ends);
+    let tangent_inverse = inverse_mass(across, point.ra, point.rb, ends);
     let line = Line {
         direction: point.normal,
         ra: point.ra,
         rb: point.rb,
-        inverse_mass: push_inverse,
-        reciprocal: inverse_reciprocal(push_inverse),
+        inverse_mass: normal_inverse,
+        reciprocal: inverse_reciprocal(normal_inverse),
     };
     PointRow {
         normal: point.normal,
         ra: point.ra,
         rb: point.rb,
-        push_inverse,
-        slip_inverse,
-        push_reciprocal: line.reciprocal,
-        slip_reciprocal: inverse_reciprocal(slip_inverse),
+        normal_inverse,
+        tangent_inverse,
+        normal_reciprocal: line.reciprocal,
+        tangent_reciprocal: inverse_reciprocal(tangent_inverse),
         separation: point.separation,
         start_speed: start_speed(springy, &line, ends),
-        push: point.push,
-        slip: point.slip,
+        normal_impulse: point.normal_impulse,
+        tangent_impulse: point.tangent_impulse,
     }
 }
 

@@ -5,34 +5,23 @@ ghost use Rattle.fixed_geom.specs.Numbers.{IsFloor, fdiv, rdiv};
 ghost use Rattle.fixed_geom.specs.Vectors.{IsWithin, dot, unit_length};
 ghost use Rattle.momenta.specs.declared.state.Ends.{Ends};
 ghost use Rattle.momenta.specs.Impulses.{AreStates, AreSameBodies, IsMomentumKept, IsState, parting};
-ghost use Rattle.colour_solver_base.specs.Rows.{IsPointRow, IsRow, bias_of, bounces, most_slip, push_solved, slip_solved, point_bounced, point_solved, point_warmed, row_bounced, row_solved, row_warmed, separation_now};
+ghost use Rattle.colour_solver_base.specs.Rows.{IsPointRow, IsRow, bias_of, bounces, most_friction, normal_solved, tangent_solved, point_bounced, point_solved, point_warmed, row_bounced, row_solved, row_warmed, separation_now};
 
-use crate::{ContactRow, PointRow};
-use fixed_geom::{Vec2, minus, product, rdiv};
+use crate::{BOUNCE_SPEED, ContactRow, MAX_BIAS, PointRow, SLOP};
+use fixed_geom::{MAX_IMPULSE, MAX_NORMAL_IMPULSE, Vec2, minus, product, rdiv};
 use momenta::{BodyState, Ends, part_along, parting, solve_line, warm_at_once, warm_line};
-
-/// An overlap up to this many u is left alone.
-const SLOP: i64 = 5243;
-
-/// The most of an overlap that is taken away in a tick, in u.
-const MAX_BIAS: i64 = 16384;
-
-/// The greatest accumulated normal impulse, in mass·u/tick.
-pub(crate) const MAX_PUSH: i64 = 1 << 42;
-
-/// Bodies that come together no faster than this, in u/tick, don't bounce.
-const REST_SPEED: i64 = 4096;
+use shapes::{MAX_FRICTION, MAX_RESTITUTION};
 
 /// A point after its impulses, with the two bodies.
 #[derive(Clone, Copy, Debug, PartialEq, Eq)]
-pub struct PointTurn {
+pub struct PointAfter {
     pub point: PointRow,
     pub ends: Ends,
 }
 
 /// A contact after its impulses, with the two bodies.
 #[derive(Clone, Copy, Debug, PartialEq, Eq)]
-pub struct RowTurn {
+pub struct RowAfter {
     pub row: ContactRow,
     pub ends: Ends,
 }
@@ -92,7 +81,7 @@ fn eighth_of(overlap: i64) -> i64
 pub(crate) fn bias_of(separation: i64) -> i64
     requires { unsigned_abs separation ≤ 2 ^ 40 }
     ensures value { result ≡ bias_of separation }
-    ensures within { unsigned_abs result ≤ 2 ^ 14 }
+    ensures within { unsigned_abs result ≤ unsigned_abs MAX_BIAS }
 {
     if -SLOP < separation {
         return 0;
@@ -112,18 +101,18 @@ fn parting_at(point: &PointRow, ends: &Ends) -> Vec2
     parting(point.ra, point.rb, ends)
 }
 
-/// The same after an impulse along the normal, which had brought the accumulated one to `push` (mass·u/tick) before: where it
+/// The same after an impulse along the normal, which had brought the accumulated one to `normal_impulse` (mass·u/tick) before: where it
 /// gave nothing, the velocity is still `apart`.
 #[inline(always)]
-fn parting_after(push: i64, apart: Vec2, point: &PointRow, ends: &Ends) -> Vec2
+fn parting_after(normal_impulse: i64, apart: Vec2, point: &PointRow, ends: &Ends) -> Vec2
     requires point { IsPointRow point.now }
     requires states { AreStates ends.now }
-    requires apart { point.now.push ≡ push → apart ≡ parting point.now.ra point.now.rb ends.now }
+    requires apart { point.now.normal_impulse ≡ normal_impulse → apart ≡ parting point.now.ra point.now.rb ends.now }
     requires apart_size { IsWithin (2 ^ 61 + 2 ^ 26) apart }
     ensures value { result ≡ parting point.now.ra point.now.rb ends.now }
     ensures within { IsWithin (2 ^ 61 + 2 ^ 26) result }
 {
-    if point.push == push {
+    if point.normal_impulse == normal_impulse {
         apart
     } else {
         parting_at(point, ends)
@@ -132,101 +121,109 @@ fn parting_after(push: i64, apart: Vec2, point: &PointRow, ends: &Ends) -> Vec2
 
 /// One impulse along the normal, where the bodies' points part with the velocity `apart`.
 #[inline(always)]
-fn solve_push(bias: i64, apart: Vec2, point: &mut PointRow, ends: &mut Ends)
+fn solve_normal(bias: i64, apart: Vec2, point: &mut PointRow, ends: &mut Ends)
     requires bias { unsigned_abs bias ≤ 2 ^ 62 + 2 ^ 28 }
     requires apart { apart ≡ parting point.old.ra point.old.rb ends.old }
     requires apart_size { IsWithin (2 ^ 61 + 2 ^ 26) apart }
     requires point { IsPointRow point.old }
     requires states { AreStates ends.old }
-    ensures value { record { point = point.new; ends = ends.new } ≡ push_solved bias point.old ends.old }
+    ensures value { record { point = point.new; ends = ends.new } ≡ normal_solved bias point.old ends.old }
     ensures first_offset { point.new.ra ≡ point.old.ra }
     ensures second_offset { point.new.rb ≡ point.old.rb }
-    ensures still { point.new.push ≡ point.old.push → ends.new ≡ ends.old }
+    ensures still { point.new.normal_impulse ≡ point.old.normal_impulse → ends.new ≡ ends.old }
     ensures point { IsPointRow point.new }
     ensures states { AreStates ends.new }
     ensures same { AreSameBodies ends.old ends.new }
     ensures kept { IsMomentumKept ends.old ends.new }
 {
     let total = solve_line(
-        &point.push_line(),
+        &point.normal_line(),
         apart,
         bias,
         0,
-        MAX_PUSH,
-        point.push,
+        MAX_NORMAL_IMPULSE,
+        point.normal_impulse,
         ends,
     );
-    point.push = total;
+    point.normal_impulse = total;
 }
 
 /// The most friction that a normal impulse allows.
 #[inline(always)]
-pub(crate) fn most_slip(friction: i64, push: i64) -> i64
+pub(crate) fn most_friction(friction: i64, normal_impulse: i64) -> i64
     requires friction_low { pos 0 ≤ℤ friction }
-    requires friction_high { unsigned_abs friction ≤ 512 }
-    requires push_low { pos 0 ≤ℤ push }
-    requires push_high { unsigned_abs push ≤ 2 ^ 42 }
-    ensures value { result ≡ most_slip friction push }
+    requires friction_high { unsigned_abs friction ≤ unsigned_abs MAX_FRICTION }
+    requires normal_low { pos 0 ≤ℤ normal_impulse }
+    requires normal_high { unsigned_abs normal_impulse ≤ unsigned_abs MAX_NORMAL_IMPULSE }
+    ensures value { result ≡ most_friction friction normal_impulse }
     ensures nonnegative { pos 0 ≤ℤ result }
-    ensures within { unsigned_abs result ≤ 2 ^ 43 }
+    ensures within { unsigned_abs result ≤ unsigned_abs MAX_IMPULSE }
 {
-    floor_64(friction * push, 256)
+    floor_64(friction * normal_impulse, 256)
 }
 
 /// Whether a point neither has friction nor may get any: its friction then leaves any two bodies as they are.
 #[inline(always)]
-fn is_loose(friction: i64, point: &PointRow) -> bool
+fn is_frictionless(friction: i64, point: &PointRow) -> bool
     requires friction_low { pos 0 ≤ℤ friction }
-    requires friction_high { unsigned_abs friction ≤ 512 }
+    requires friction_high { unsigned_abs friction ≤ unsigned_abs MAX_FRICTION }
     requires point { IsPointRow point.now }
-    ensures { result ≡ true → (e : Ends) → AreStates e → slip_solved friction point.now e ≡ record { point = point.now; ends = e } }
+    ensures { result ≡ true → (e : Ends) → AreStates e → tangent_solved friction point.now e ≡ record { point = point.now; ends = e } }
 {
-    if most_slip(friction, point.push) != 0 {
+    if most_friction(friction, point.normal_impulse) != 0 {
         false
-    } else if point.slip != 0 {
+    } else if point.tangent_impulse != 0 {
         false
     } else {
         true
     }
 }
 
-/// One impulse of friction at a point that isn't loose, where the bodies' points part with the velocity `apart`.
+/// One impulse of friction at a point that isn't frictionless, where the bodies' points part with the velocity `apart`.
 #[inline(always)]
-fn slide(friction: i64, apart: Vec2, point: &mut PointRow, ends: &mut Ends)
+fn apply_friction(friction: i64, apart: Vec2, point: &mut PointRow, ends: &mut Ends)
     requires apart { apart ≡ parting point.old.ra point.old.rb ends.old }
     requires apart_size { IsWithin (2 ^ 61 + 2 ^ 26) apart }
     requires friction_low { pos 0 ≤ℤ friction }
-    requires friction_high { unsigned_abs friction ≤ 512 }
+    requires friction_high { unsigned_abs friction ≤ unsigned_abs MAX_FRICTION }
     requires point { IsPointRow point.old }
     requires states { AreStates ends.old }
-    ensures value { record { point = point.new; ends = ends.new } ≡ slip_solved friction point.old ends.old }
+    ensures value { record { point = point.new; ends = ends.new } ≡ tangent_solved friction point.old ends.old }
     ensures point { IsPointRow point.new }
     ensures states { AreStates ends.new }
     ensures same { AreSameBodies ends.old ends.new }
     ensures kept { IsMomentumKept ends.old ends.new }
 {
-    let most = most_slip(friction, point.push);
-    let total = solve_line(&point.slip_line(), apart, 0, -most, most, point.slip, ends);
-    point.slip = total;
+    let most = most_friction(friction, point.normal_impulse);
+    let total = solve_line(
+        &point.tangent_line(),
+        apart,
+        0,
+        -most,
+        most,
+        point.tangent_impulse,
+        ends,
+    );
+    point.tangent_impulse = total;
 }
 
 /// One impulse of friction, where the bodies' points part with the velocity `apart`.
 #[inline(always)]
-fn solve_slip(friction: i64, apart: Vec2, point: &mut PointRow, ends: &mut Ends)
+fn solve_tangent(friction: i64, apart: Vec2, point: &mut PointRow, ends: &mut Ends)
     requires apart { apart ≡ parting point.old.ra point.old.rb ends.old }
     requires apart_size { IsWithin (2 ^ 61 + 2 ^ 26) apart }
     requires friction_low { pos 0 ≤ℤ friction }
-    requires friction_high { unsigned_abs friction ≤ 512 }
+    requires friction_high { unsigned_abs friction ≤ unsigned_abs MAX_FRICTION }
     requires point { IsPointRow point.old }
     requires states { AreStates ends.old }
-    ensures value { record { point = point.new; ends = ends.new } ≡ slip_solved friction point.old ends.old }
+    ensures value { record { point = point.new; ends = ends.new } ≡ tangent_solved friction point.old ends.old }
     ensures point { IsPointRow point.new }
     ensures states { AreStates ends.new }
     ensures same { AreSameBodies ends.old ends.new }
     ensures kept { IsMomentumKept ends.old ends.new }
 {
-    if !is_loose(friction, point) {
-        slide(friction, apart, point, ends);
+    if !is_frictionless(friction, point) {
+        apply_friction(friction, apart, point, ends);
     }
 }
 
@@ -235,7 +232,7 @@ fn solve_slip(friction: i64, apart: Vec2, point: &mut PointRow, ends: &mut Ends)
 #[inline(always)]
 fn solve_point(friction: i64, point: &mut PointRow, ends: &mut Ends)
     requires friction_low { pos 0 ≤ℤ friction }
-    requires friction_high { unsigned_abs friction ≤ 512 }
+    requires friction_high { unsigned_abs friction ≤ unsigned_abs MAX_FRICTION }
     requires point { IsPointRow point.old }
     requires states { AreStates ends.old }
     ensures value { record { point = point.new; ends = ends.new } ≡ point_solved friction point.old ends.old }
@@ -245,11 +242,11 @@ fn solve_point(friction: i64, point: &mut PointRow, ends: &mut Ends)
     ensures kept { IsMomentumKept ends.old ends.new }
 {
     let bias = bias_of(separation_now(point, ends));
-    let push = point.push;
+    let normal_impulse = point.normal_impulse;
     let apart = parting_at(point, ends);
-    solve_push(bias, apart, point, ends);
-    let apart = parting_after(push, apart, point, ends);
-    solve_slip(friction, apart, point, ends);
+    solve_normal(bias, apart, point, ends);
+    let apart = parting_after(normal_impulse, apart, point, ends);
+    solve_tangent(friction, apart, point, ends);
 }
 
 /// The kept impulses of a point given once more, the one along the normal and then friction.
@@ -265,8 +262,8 @@ fn warm_in_turn(point: &PointRow, ends: Ends) -> Ends
     ensures kept { IsMomentumKept ends result }
 {
     let mut warmed = ends;
-    warm_line(&point.push_line(), point.push, &mut warmed);
-    warm_line(&point.slip_line(), point.slip, &mut warmed);
+    warm_line(&point.normal_line(), point.normal_impulse, &mut warmed);
+    warm_line(&point.tangent_line(), point.tangent_impulse, &mut warmed);
     warmed
 }
 
@@ -282,10 +279,10 @@ fn warm_point(point: &PointRow, ends: &mut Ends)
     ensures kept { IsMomentumKept ends.old ends.new }
 {
     let at_once = warm_at_once(
-        &point.push_line(),
-        point.push,
-        &point.slip_line(),
-        point.slip,
+        &point.normal_line(),
+        point.normal_impulse,
+        &point.tangent_line(),
+        point.tangent_impulse,
         ends,
     );
     if !at_once {
@@ -297,12 +294,12 @@ fn warm_point(point: &PointRow, ends: &mut Ends)
 fn bounces(restitution: i64, point: &PointRow) -> bool
     ensures { result ≡ bounces restitution point.now }
 {
-    restitution > 0 && point.start_speed < -REST_SPEED && point.push > 0
+    restitution > 0 && point.start_speed < -BOUNCE_SPEED && point.normal_impulse > 0
 }
 
 /// The speed at which a point that came together at this one is to part, in u/tick.
 fn bounce_speed(restitution: i64, start: i64) -> i64
-    requires restitution { unsigned_abs restitution ≤ 256 }
+    requires restitution { unsigned_abs restitution ≤ unsigned_abs MAX_RESTITUTION }
     requires start { unsigned_abs start ≤ 2 ^ 62 + 2 ^ 28 }
     ensures value { result ≡ neg_ℤ (rdiv (restitution *ℤ start) (pos 256)) }
     ensures within { unsigned_abs result ≤ 2 ^ 62 + 2 ^ 28 }
@@ -314,7 +311,7 @@ fn bounce_speed(restitution: i64, start: i64) -> i64
 #[tactic(auto, unfolding(crate::specs::Rows::point_bounced))]
 fn bounce_point(restitution: i64, point: &mut PointRow, ends: &mut Ends)
     requires restitution_low { pos 0 ≤ℤ restitution }
-    requires restitution_high { unsigned_abs restitution ≤ 256 }
+    requires restitution_high { unsigned_abs restitution ≤ unsigned_abs MAX_RESTITUTION }
     requires point { IsPointRow point.old }
     requires states { AreStates ends.old }
     ensures value { record { point = point.new; ends = ends.new } ≡ point_bounced restitution point.old ends.old }
@@ -328,17 +325,17 @@ fn bounce_point(restitution: i64, point: &mut PointRow, ends: &mut Ends)
     }
     let bias = bounce_speed(restitution, point.start_speed);
     let apart = parting_at(point, ends);
-    solve_push(bias, apart, point, ends);
+    solve_normal(bias, apart, point, ends);
 }
 
 /// Whether a point has kept no impulses.
 #[inline(always)]
-fn is_unpushed(point: &PointRow) -> bool
+fn point_has_no_impulses(point: &PointRow) -> bool
     ensures { result ≡ true → (e : Ends) → AreStates e → point_warmed point.now e ≡ e }
 {
-    if point.push != 0 {
+    if point.normal_impulse != 0 {
         false
-    } else if point.slip != 0 {
+    } else if point.tangent_impulse != 0 {
         false
     } else {
         true
@@ -348,15 +345,15 @@ fn is_unpushed(point: &PointRow) -> bool
 /// Whether a contact has kept no impulses: its warm start then leaves any two bodies as they are.
 #[tactic(auto, unfolding(crate::specs::Rows::row_warmed))]
 #[inline(always)]
-pub fn is_row_unpushed(row: &ContactRow) -> bool
+pub fn has_no_impulses(row: &ContactRow) -> bool
     ensures { result ≡ true → (e : Ends) → AreStates e → row_warmed row.now e ≡ record { row = row.now; ends = e } }
 {
-    if !is_unpushed(&row.first) {
+    if !point_has_no_impulses(&row.first) {
         return false;
     }
     match &row.second {
         None => true,
-        Some(point) => is_unpushed(point),
+        Some(point) => point_has_no_impulses(point),
     }
 }
 
@@ -387,7 +384,7 @@ pub fn warm_row(row: &ContactRow, ends: &mut Ends)
     }
 }
 
-/// One turn of a contact in a solver pass.
+/// A contact in a solver pass: each point's normal impulse, and then its friction.
 #[tactic(auto, unfolding(crate::specs::Rows::row_solved))]
 #[inline(always)]
 pub fn solve_row(row: &mut ContactRow, ends: &mut Ends)

@@ -4,12 +4,12 @@ ghost use Rattle.momenta.specs.Impulses.{AreStates, IsState};
 ghost use Rattle.colour_solver_base.specs.Rows.{IsRow};
 
 use crate::{
-    Bodies, ContactRow, NarrowRow, PointRow, RowTurn, bounce_row, narrow_solve_row,
-    narrow_warm_row, solve_row, warm_row,
+    Bodies, ContactRow, PointRow, RowAfter, RowAfter64, bounce_row, solve_row, solve_row_64,
+    warm_row, warm_row_64,
 };
 use fixed_geom::{Rot, Vec2};
 use momenta::{
-    BodyState, Ends, MassData, Motion, Narrow, NarrowPair, inverse_reciprocal, reciprocals_of,
+    BodyState, Ends, MassData, Momenta64, MomentaPair64, Motion, inverse_reciprocal, reciprocals_of,
 };
 
 const ORIGIN: Vec2 = Vec2 { x: 0, y: 0 };
@@ -58,15 +58,15 @@ fn on_ground(p: Vec2) -> Ends
 }
 
 /// A contact of both on a level line, with half of the friction and of the restitution that there can be.
-fn contact(separation: i64, start_speed: i64, push: i64) -> ContactRow
+fn contact(separation: i64, start_speed: i64, normal_impulse: i64) -> ContactRow
     requires separation { unsigned_abs separation ≤ 2 ^ 27 }
     requires start_speed { unsigned_abs start_speed ≤ 2 ^ 62 }
-    requires push_low { pos 0 ≤ℤ push }
-    requires push_high { unsigned_abs push ≤ 2 ^ 42 }
+    requires normal_low { pos 0 ≤ℤ normal_impulse }
+    requires normal_high { unsigned_abs normal_impulse ≤ 2 ^ 42 }
     ensures { IsRow result }
 {
     let bodies = Bodies {
-        place: 0,
+        index: 0,
         a: 0,
         b: 1,
         friction: 128,
@@ -76,14 +76,14 @@ fn contact(separation: i64, start_speed: i64, push: i64) -> ContactRow
         normal: UPWARDS,
         ra: ORIGIN,
         rb: ORIGIN,
-        push_inverse: 1 << 40,
-        slip_inverse: 1 << 40,
-        push_reciprocal: inverse_reciprocal(1 << 40),
-        slip_reciprocal: inverse_reciprocal(1 << 40),
+        normal_inverse: 1 << 40,
+        tangent_inverse: 1 << 40,
+        normal_reciprocal: inverse_reciprocal(1 << 40),
+        tangent_reciprocal: inverse_reciprocal(1 << 40),
         separation,
         start_speed,
-        push,
-        slip: 0,
+        normal_impulse,
+        tangent_impulse: 0,
     };
     ContactRow {
         bodies,
@@ -99,28 +99,28 @@ fn push_out(separation: i64) -> i64
     let mut row = contact(separation, 0, 0);
     let mut ends = on_ground(ORIGIN);
     solve_row(&mut row, &mut ends);
-    row.first.push
+    row.first.normal_impulse
 }
 
 /// A contact and its two bodies after a solver pass, the second body having had the momentum `p`.
-fn solved(push: i64, p: Vec2) -> RowTurn
-    requires push_low { pos 0 ≤ℤ push }
-    requires push_high { unsigned_abs push ≤ 2 ^ 42 }
+fn solved(normal_impulse: i64, p: Vec2) -> RowAfter
+    requires normal_low { pos 0 ≤ℤ normal_impulse }
+    requires normal_high { unsigned_abs normal_impulse ≤ 2 ^ 42 }
     requires momentum { IsWithin (2 ^ 60) p }
 {
-    let mut row = contact(0, 0, push);
+    let mut row = contact(0, 0, normal_impulse);
     let mut ends = on_ground(p);
     solve_row(&mut row, &mut ends);
-    RowTurn { row, ends }
+    RowAfter { row, ends }
 }
 
-fn bounce(start_speed: i64) -> RowTurn
+fn bounce(start_speed: i64) -> RowAfter
     requires { unsigned_abs start_speed ≤ 2 ^ 62 }
 {
     let mut row = contact(0, start_speed, 1);
     let mut ends = on_ground(ORIGIN);
     bounce_row(&mut row, &mut ends);
-    RowTurn { row, ends }
+    RowAfter { row, ends }
 }
 
 #[test]
@@ -134,8 +134,8 @@ fn an_overlap_beyond_the_slop_is_pushed_out(rt: HostRuntime) {
 #[test]
 fn friction_is_at_most_its_share_of_the_push(rt: HostRuntime) {
     let after = solved(1000, Vec2 { x: 600, y: 0 });
-    assert_eq!(rt; after.row.first.push, 1000);
-    assert_eq!(rt; after.row.first.slip, -500);
+    assert_eq!(rt; after.row.first.normal_impulse, 1000);
+    assert_eq!(rt; after.row.first.tangent_impulse, -500);
     assert_eq!(rt; after.ends.b.motion.p, at(100, 0));
     assert_eq!(rt; after.ends.a.motion.p, ORIGIN);
 }
@@ -143,22 +143,22 @@ fn friction_is_at_most_its_share_of_the_push(rt: HostRuntime) {
 #[test]
 fn the_normal_impulse_comes_before_friction(rt: HostRuntime) {
     let after = solved(0, Vec2 { x: 600, y: -1000 });
-    assert_eq!(rt; after.row.first.push, 1000);
-    assert_eq!(rt; after.row.first.slip, -500);
+    assert_eq!(rt; after.row.first.normal_impulse, 1000);
+    assert_eq!(rt; after.row.first.tangent_impulse, -500);
     assert_eq!(rt; after.ends.b.motion.p, at(100, 0));
 }
 
 #[test]
 fn a_fast_meeting_bounces(rt: HostRuntime) {
     let after = bounce(-10000);
-    assert_eq!(rt; after.row.first.push, 5001);
+    assert_eq!(rt; after.row.first.normal_impulse, 5001);
     assert_eq!(rt; after.ends.b.motion.p, at(0, 5000));
 }
 
 #[test]
 fn a_slow_meeting_does_not_bounce(rt: HostRuntime) {
     let after = bounce(-4096);
-    assert_eq!(rt; after.row.first.push, 1);
+    assert_eq!(rt; after.row.first.normal_impulse, 1);
     assert_eq!(rt; after.ends.b.motion.p, ORIGIN);
 }
 
@@ -167,50 +167,50 @@ fn a_warm_start_gives_the_kept_impulses(rt: HostRuntime) {
     let row = contact(0, 0, 1000);
     let mut ends = on_ground(ORIGIN);
     warm_row(&row, &mut ends);
-    assert_eq!(rt; row.first.push, 1000);
+    assert_eq!(rt; row.first.normal_impulse, 1000);
     assert_eq!(rt; ends.b.motion.p, at(0, 1000));
 }
 
-/// What a turn in 64 bits leaves where the first body stands and the second has the momentum `p`.
-fn turned(push: i64, slip: i64, p: Vec2) -> NarrowRow {
-    NarrowRow {
-        push,
-        slip,
-        now: NarrowPair {
-            a: Narrow { p: ORIGIN, l: 0 },
-            b: Narrow { p, l: 0 },
+/// What a pass in 64 bits leaves where the first body stands and the second has the momentum `p`.
+fn after_64(normal_impulse: i64, tangent_impulse: i64, p: Vec2) -> RowAfter64 {
+    RowAfter64 {
+        normal_impulse,
+        tangent_impulse,
+        now: MomentaPair64 {
+            a: Momenta64 { p: ORIGIN, l: 0 },
+            b: Momenta64 { p, l: 0 },
         },
     }
 }
 
-/// A turn in 64 bits of a mover with the momentum `p` on ground that doesn't move.
-fn narrow_solved(p: Vec2) -> Option<NarrowRow>
+/// A pass in 64 bits over a mover with the momentum `p` on ground that doesn't move.
+fn solved_64(p: Vec2) -> Option<RowAfter64>
     requires { IsWithin (2 ^ 60) p }
 {
     let ends = on_ground(p);
-    narrow_solve_row(&contact(0, 0, 0), &ends.a, &ends.b)
+    solve_row_64(&contact(0, 0, 0), &ends.a, &ends.b)
 }
 
 #[test]
-fn a_turn_in_64_bits_is_the_turn(rt: HostRuntime) {
+fn a_pass_in_64_bits_is_the_pass(rt: HostRuntime) {
     let after = solved(0, Vec2 { x: 600, y: -1000 });
-    let expected = turned(
-        after.row.first.push,
-        after.row.first.slip,
+    let expected = after_64(
+        after.row.first.normal_impulse,
+        after.row.first.tangent_impulse,
         after.ends.b.motion.p,
     );
-    assert_eq!(rt; expected, turned(1000, -500, at(100, 0)));
-    assert_eq!(rt; narrow_solved(Vec2 { x: 600, y: -1000 }), Some(expected));
+    assert_eq!(rt; expected, after_64(1000, -500, at(100, 0)));
+    assert_eq!(rt; solved_64(Vec2 { x: 600, y: -1000 }), Some(expected));
 }
 
 #[test]
-fn great_momenta_have_no_turn_in_64_bits(rt: HostRuntime) {
-    assert_eq!(rt; narrow_solved(Vec2 { x: 1 << 50, y: 0 }), None);
+fn great_momenta_have_no_pass_in_64_bits(rt: HostRuntime) {
+    assert_eq!(rt; solved_64(Vec2 { x: 1 << 50, y: 0 }), None);
 }
 
 #[test]
 fn a_warm_start_in_64_bits_gives_the_kept_impulses(rt: HostRuntime) {
     let ends = on_ground(ORIGIN);
-    let warmed = narrow_warm_row(&contact(0, 0, 1000), &ends.a, &ends.b);
-    assert_eq!(rt; warmed, Some(turned(1000, 0, at(0, 1000))));
+    let warmed = warm_row_64(&contact(0, 0, 1000), &ends.a, &ends.b);
+    assert_eq!(rt; warmed, Some(after_64(1000, 0, at(0, 1000))));
 }

@@ -6,13 +6,12 @@ use Rattle.std.proofs.lemmas.List.Elements.{filter_map-append}
 use Rattle.std.proofs.lemmas.List.{get_or-map, length-map, map-append, take_more}
 use Rattle.contacts_base.specs.declared.near.Proxy.{Proxy}
 use Rattle.contacts_base.specs.declared.key.ContactKey.{ContactKey}
-use Rattle.contacts_base.specs.declared.contact.Contact.{Contact}
 use Rattle.contacts_base.specs.declared.contact.ContactEntry.{ContactEntry}
 use Rattle.contacts_base.specs.Keys.{id_number, key_number}
 use Rattle.contacts_base.specs.Near.{IsProxy, IsProxyList}
 use Rattle.contacts_base.specs.Contacts.{number_of, lookup, AreKeysRising}
-use Rattle.contacts.specs.Sweep.{proxy_at}
-use Rattle.contacts.specs.Changes.{IsPair, ArePairs, first_place, second_place, entry_of, entry_with, entry_at, pair_key, pair_entry, contacts_of, key_unless_in, key_if_touching, key_unless, key_if_new, keys_not_in, keys_touching_only_in, AreRising}
+use Rattle.contacts.specs.Pairs.{proxy_at, IsPair, ArePairs, first_place, second_place, pair_key}
+use Rattle.contacts.specs.Changes.{entry_of, entry_with, entry_at, contacts_of, key_unless_in, key_if_touching, key_unless, key_if_new, keys_not_in, keys_touching_only_in, AreRising}
 use Rattle.contacts.proofs.Members.{Each}
 use Rattle.contacts.proofs.Rising.{IsRising, increasing_from_rising, rising_from_increasing}
 use Rattle.contacts.proofs.ProxyLemmas.{numbers_later}
@@ -20,7 +19,7 @@ use Rattle.contacts.proofs.ProxyLemmas.{numbers_later}
 -- ---- the keys of the contacts rise
 
 entry_number : (old : List ContactEntry) (p q : Proxy) → number_of (entry_of old p q) ≡ id_number p.id * 2 ^ 40 + id_number q.id
-unfolding entry_of
+unfolding entry_of entry_with
 entry_number old p q = refl
 
 first_apart : (i k m n : ℕ) → i < k → m < 2 ^ 40 → i * 2 ^ 40 + m < k * 2 ^ 40 + n
@@ -96,11 +95,11 @@ if_step true o k j f h = f h
 if_step false o k j f h = cc
 
 pub keys_not_in_rise : (others es : List ContactEntry) → AreKeysRising es → AreRising (keys_not_in others es)
-unfolding key_unless_in
+unfolding key_unless_in key_unless
 keys_not_in_rise others es h = picked_rise (key_unless_in others) (λ e k q. unless_step _ k e.key q) es h
 
 pub keys_touching_rise : (others es : List ContactEntry) → AreKeysRising es → AreRising (keys_touching_only_in others es)
-unfolding key_if_touching
+unfolding key_if_touching key_if_new
 keys_touching_rise others es h = picked_rise (key_if_touching others) (λ e k q. if_step _ _ k e.key (unless_step _ k e.key) q) es h
 
 -- ---- one more entry
@@ -112,33 +111,37 @@ one_picked (Some k) = refl
 picked_more : (pick : ContactEntry → Option ContactKey) (es : List ContactEntry) (e : ContactEntry) (o : Option ContactKey) → pick e ≡ o → filter_map pick (es ++ e ∷ []) ≡ filter_map pick es ++ option_to_list o
 picked_more pick es e o h = filter_map-append pick es (e ∷ []) ∙ ap (λ (ks : List ContactKey). filter_map pick es ++ ks) (one_picked (pick e) ∙ ap (λ (p : Option ContactKey). option_to_list p) h)
 
-pub not_in_more : (others es : List ContactEntry) (e : ContactEntry) (found : Option Contact) → found ≡ lookup others e.key → keys_not_in others (es ++ e ∷ []) ≡ keys_not_in others es ++ option_to_list (key_unless found e)
-unfolding key_unless_in key_unless
+pub not_in_more : (others es : List ContactEntry) (e : ContactEntry) (found : Option ContactEntry) → found ≡ lookup others e.key → keys_not_in others (es ++ e ∷ []) ≡ keys_not_in others es ++ option_to_list (key_unless found e)
+unfolding key_unless_in
 not_in_more others es e found h = picked_more (key_unless_in others) es e (key_unless found e) (rw h refl)
 
-pub touching_more : (others es : List ContactEntry) (e : ContactEntry) (found : Option Contact) → found ≡ lookup others e.key → keys_touching_only_in others (es ++ e ∷ []) ≡ keys_touching_only_in others es ++ option_to_list (key_if_new found e)
-unfolding key_if_touching key_if_new
+pub touching_more : (others es : List ContactEntry) (e : ContactEntry) (found : Option ContactEntry) → found ≡ lookup others e.key → keys_touching_only_in others (es ++ e ∷ []) ≡ keys_touching_only_in others es ++ option_to_list (key_if_new found e)
+unfolding key_if_touching
 touching_more others es e found h = picked_more (key_if_touching others) es e (key_if_new found e) (rw h refl)
 
+-- the contact of a pair, whose contact until now is given
+abbrev pub pair_entry : Option ContactEntry → List Proxy → ℕ → ContactEntry
+pair_entry old ps code = entry_with old (proxy_at ps (first_place code)) (proxy_at ps (second_place code))
+
 -- the entry of a pair, of the contact that was found with its key
-pub pair_entry_is : (old : List ContactEntry) (ps : List Proxy) (code : ℕ) (found : Option Contact) → found ≡ lookup old (pair_key ps code) → pair_entry found ps code ≡ entry_at old ps code
-unfolding entry_of entry_with
+pub pair_entry_is : (old : List ContactEntry) (ps : List Proxy) (code : ℕ) (found : Option ContactEntry) → found ≡ lookup old (pair_key ps code) → pair_entry found ps code ≡ entry_at old ps code
+unfolding entry_of
 pair_entry_is old ps code found h = rw h refl
 
-pub pair_entry_key : (ps : List Proxy) (code : ℕ) (found : Option Contact) → (pair_entry found ps code).key ≡ pair_key ps code
+pub pair_entry_key : (ps : List Proxy) (code : ℕ) (found : Option ContactEntry) → (pair_entry found ps code).key ≡ pair_key ps code
 unfolding entry_with
 pair_entry_key ps code found = refl
 
-pub contacts_more : (old : List ContactEntry) (ps : List Proxy) (codes : List ℕ) (code : ℕ) (found : Option Contact) → found ≡ lookup old (pair_key ps code) → contacts_of old ps (codes ++ code ∷ []) ≡ contacts_of old ps codes ++ pair_entry found ps code ∷ []
+pub contacts_more : (old : List ContactEntry) (ps : List Proxy) (codes : List ℕ) (code : ℕ) (found : Option ContactEntry) → found ≡ lookup old (pair_key ps code) → contacts_of old ps (codes ++ code ∷ []) ≡ contacts_of old ps codes ++ pair_entry found ps code ∷ []
 contacts_more old ps codes code found h = map-append (entry_at old ps) codes (code ∷ []) ∙ ap (λ (e : ContactEntry). contacts_of old ps codes ++ e ∷ []) (sym (pair_entry_is old ps code found h))
 
 -- the keys of one more entry, of the contact that was found with its key
-pub not_in_step : (others es fs : List ContactEntry) (e : ContactEntry) (found : Option Contact) (keys more : List ContactKey) → fs ≡ es ++ e ∷ [] → found ≡ lookup others e.key → keys ≡ keys_not_in others es → more ≡ keys ++ option_to_list (key_unless found e) → more ≡ keys_not_in others fs
+pub not_in_step : (others es fs : List ContactEntry) (e : ContactEntry) (found : Option ContactEntry) (keys more : List ContactKey) → fs ≡ es ++ e ∷ [] → found ≡ lookup others e.key → keys ≡ keys_not_in others es → more ≡ keys ++ option_to_list (key_unless found e) → more ≡ keys_not_in others fs
 not_in_step others es fs e found keys more p h a b = b ∙ ap (λ (ks : List ContactKey). ks ++ option_to_list (key_unless found e)) a ∙ sym (not_in_more others es e found h) ∙ ap (keys_not_in others) (sym p)
 
-pub touching_step : (others es fs : List ContactEntry) (e : ContactEntry) (found : Option Contact) (keys more : List ContactKey) → fs ≡ es ++ e ∷ [] → found ≡ lookup others e.key → keys ≡ keys_touching_only_in others es → more ≡ keys ++ option_to_list (key_if_new found e) → more ≡ keys_touching_only_in others fs
+pub touching_step : (others es fs : List ContactEntry) (e : ContactEntry) (found : Option ContactEntry) (keys more : List ContactKey) → fs ≡ es ++ e ∷ [] → found ≡ lookup others e.key → keys ≡ keys_touching_only_in others es → more ≡ keys ++ option_to_list (key_if_new found e) → more ≡ keys_touching_only_in others fs
 touching_step others es fs e found keys more p h a b = b ∙ ap (λ (ks : List ContactKey). ks ++ option_to_list (key_if_new found e)) a ∙ sym (touching_more others es e found h) ∙ ap (keys_touching_only_in others) (sym p)
 
-pub contacts_step : (old : List ContactEntry) (ps : List Proxy) (codes : List ℕ) (k : ℕ) (found : Option Contact) (now more : List ContactEntry) → k < length codes → found ≡ lookup old (pair_key ps (get_or codes k 0)) → now ≡ contacts_of old ps (take k codes) → more ≡ now ++ pair_entry found ps (get_or codes k 0) ∷ [] → more ≡ contacts_of old ps (take (k + 1) codes)
+pub contacts_step : (old : List ContactEntry) (ps : List Proxy) (codes : List ℕ) (k : ℕ) (found : Option ContactEntry) (now more : List ContactEntry) → k < length codes → found ≡ lookup old (pair_key ps (get_or codes k 0)) → now ≡ contacts_of old ps (take k codes) → more ≡ now ++ pair_entry found ps (get_or codes k 0) ∷ [] → more ≡ contacts_of old ps (take (k + 1) codes)
 contacts_step old ps codes k found now more lt h a b =
     b ∙ ap (λ (es : List ContactEntry). es ++ pair_entry found ps (get_or codes k 0) ∷ []) a ∙ sym (contacts_more old ps (take k codes) (get_or codes k 0) found h) ∙ ap (contacts_of old ps) (sym (take_more codes k 0 lt))

@@ -5,4 +5,5 @@ pub mod ProxyLemmas
 pub mod PairLemmas
 pub mod StripLemmas
 pub mod SweepLemmas
+pub mod SurfaceLemmas
 pub mod ChangeLemmas

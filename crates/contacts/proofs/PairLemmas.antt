@@ -1,14 +1,15 @@
 -- The near pairs are pairs of the list.
-use Rattle.std.proofs.Common.{◌≡◌, ℕ, ◌+◌, ◌^◌, ◌<◌, ◌≤◌, List, length, arith}
+use Rattle.std.proofs.Common.{◌≡◌, ℕ, ◌+◌, ◌<◌, ◌≤◌, List, length, arith}
 use Rattle.contacts_base.specs.declared.near.Proxy.{Proxy}
 use Rattle.contacts_base.specs.Near.{IsProxyList, pair_code, near_from, near_codes}
-use Rattle.contacts.specs.Changes.{IsPair, ArePairs}
+use Rattle.contacts.specs.declared.sweep.TheConstants.{PLACES}
+use Rattle.contacts.specs.Pairs.{IsPair, ArePairs}
 use Rattle.contacts.proofs.Members.{each_from, all_from_each}
 use Rattle.contacts.proofs.Rising.{increasing_from_rising}
 use Rattle.contacts.proofs.NearLemmas.{IsNearFrom, from_is, from_rises}
 use Rattle.contacts.proofs.ProxyLemmas.{few}
 
-pair_from : (ps : List Proxy) (code : ℕ) → length ps ≤ 2 ^ 17 → IsNearFrom 0 ps code → IsPair ps code
+pair_from : (ps : List Proxy) (code : ℕ) → length ps ≤ PLACES → IsNearFrom 0 ps code → IsPair ps code
 pair_from ps code few h =
     let e : code ≡ pair_code (0 + h.i) (0 + h.j) = h.is in
     let b : h.i < h.j = h.before in
@@ -18,7 +19,7 @@ pair_from ps code few h =
 pub near_are_pairs : (ps : List Proxy) → IsProxyList ps → ArePairs ps (near_codes ps)
 unfolding near_codes
 near_are_pairs ps h =
-    let n : length ps ≤ 2 ^ 17 = few ps h in
+    let n : length ps ≤ PLACES = few ps h in
     record {
       each = all_from_each (IsPair ps) (near_from 0 ps) (each_from (IsPair ps) (near_from 0 ps) (λ c i. pair_from ps c n (from_is 0 ps c i)));
       rising = increasing_from_rising (near_from 0 ps) (from_rises 0 ps (omega arith));

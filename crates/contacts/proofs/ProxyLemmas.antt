@@ -1,12 +1,14 @@
 -- The numbers of a list of shapes: they rise, so there are not many.
-use Rattle.std.proofs.Common.{◌≡◌, ℕ, zero, suc, ◌+◌, ◌*◌, ◌^◌, ◌<◌, ◌≤◌, List, [], ◌∷◌, ◌++◌, length, map, get_or, arith}
+use Rattle.std.proofs.Common.{◌≡◌, ℕ, zero, suc, ◌+◌, ◌*◌, ◌<◌, ◌≤◌, List, [], ◌∷◌, ◌++◌, length, map, get_or, arith}
 use Rattle.std.specs.List.{All}
 use Rattle.std.specs.List.Sorted.{IsStrictlyIncreasing}
 use Rattle.std.proofs.lemmas.List.{get_or-map, length-map, map-append}
 use Rattle.std.proofs.lemmas.List.Kept.{AllPairs-from_increasing}
 use Rattle.std.proofs.lemmas.List.Elements.{All-push}
+use Rattle.shapes.specs.declared.limits.TheConstants.{MAX_SHAPES}
 use Rattle.contacts_base.specs.declared.near.Proxy.{Proxy}
 use Rattle.contacts_base.specs.Near.{IsProxy, IsProxyList, number_of}
+use Rattle.contacts.specs.declared.sweep.TheConstants.{PLACES}
 use Rattle.contacts.proofs.Members.{Each}
 use Rattle.contacts.proofs.Rising.{increasing_from_rising, rising_append, rising_from_increasing}
 
@@ -19,9 +21,9 @@ numbers_later ps h i j d lt lj =
     let b : get_or (map number_of ps) j 0 ≡ number_of (get_or ps j d) = get_or-map number_of ps j d 0 lj in
     omega arith
 
--- a shape's number without gaps: at most 8 shapes are a body's
+-- a shape's number without gaps
 abbrev close_number : Proxy → ℕ
-close_number p = p.id.slot * 8 + p.id.index
+close_number p = p.id.slot * MAX_SHAPES + p.id.index
 
 at_least : (ps : List Proxy) → IsProxyList ps → (k : ℕ) (d : Proxy) → k < length ps → k ≤ close_number (get_or ps k d)
 at_least ps h zero d lt = omega arith
@@ -32,13 +34,13 @@ at_least ps h (suc k) d lt =
     let q : IsProxy (get_or ps (suc k) d) = h.each (suc k) d lt in
     omega (arith, p.index, q.index)
 
-few_from : (ps : List Proxy) (k : ℕ) (d : Proxy) → IsProxyList ps → length ps ≡ suc k → length ps ≤ 2 ^ 17
+few_from : (ps : List Proxy) (k : ℕ) (d : Proxy) → IsProxyList ps → length ps ≡ suc k → length ps ≤ PLACES
 few_from ps k d h e =
     let a : k ≤ close_number (get_or ps k d) = at_least ps h k d (omega arith) in
     let p : IsProxy (get_or ps k d) = h.each k d (omega arith) in
     omega (arith, p.slot, p.index)
 
-pub few : (ps : List Proxy) → IsProxyList ps → length ps ≤ 2 ^ 17
+pub few : (ps : List Proxy) → IsProxyList ps → length ps ≤ PLACES
 few [] h = omega arith
 few (p ∷ ps) h = few_from (p ∷ ps) (length ps) p h (omega arith)
 

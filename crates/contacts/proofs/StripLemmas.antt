@@ -10,7 +10,9 @@ use Rattle.std.proofs.Math.Pow.{pow_mono}
 use Rattle.std.proofs.lemmas.List.Sorted.{Contains-permutation, All-permutation}
 use Rattle.fixed_geom.specs.declared.boxes.Box2.{Box2}
 use Rattle.contacts_base.specs.declared.near.Proxy.{Proxy}
-use Rattle.contacts.specs.Sweep.{proxy_at, boxes_of, no_box, box_at, column, strip_of, spot, start_in, strip_at, place_at, reach, first_start, firsts_from, furthers_from, starts_up, starts_of, IsPlaceIn}
+use Rattle.contacts.specs.declared.sweep.TheConstants.{LEAST_BITS, PLACES, SPOTS, STEP, STRIPS}
+use Rattle.contacts.specs.Pairs.{proxy_at, no_box}
+use Rattle.contacts.specs.Sweep.{boxes_of, box_at, column, strip_of, spot, start_in, strip_at, place_at, reach, first_start, firsts_from, furthers_from, starts_up, starts_of, IsPlaceIn}
 use Rattle.contacts.proofs.Members.{Each, IsIn, each_append, in_left, in_right, in_from_contains, contains_from_in, all_from_each}
 
 -- ---- the boxes by themselves
@@ -42,35 +44,35 @@ column_small x = grind (arith, ints)
 
 -- a step along x
 abbrev step_of : ℤ → ℕ
-step_of x = column x / 2 ^ 11
+step_of x = column x / STEP
 
 step_rises : (a b : ℤ) → a ≤ℤ b → step_of a ≤ step_of b
-step_rises a b h = over_rises (column a) (column b) (2 ^ 11) (pow_pos 11) (column_rises a b h)
+step_rises a b h = over_rises (column a) (column b) STEP (pow_pos 13) (column_rises a b h)
 
-step_small : (x : ℤ) → step_of x < 2 ^ 27
-step_small x = shr_below (column x) 27 11 (column_small x)
+step_small : (x : ℤ) → step_of x < 2 ^ 25
+step_small x = shr_below (column x) 25 13 (column_small x)
 
-pub few_strips : (bits c : ℕ) → 18 ≤ bits → c < 2 ^ 38 → c / 2 ^ bits < 2 ^ 20
+pub few_strips : (bits c : ℕ) → LEAST_BITS ≤ bits → c < 2 ^ 38 → c / 2 ^ bits < STRIPS
 few_strips bits c least small =
-    let wide : 2 ^ 18 ≤ 2 ^ bits = pow_mono least in
-    let bound : c < 2 ^ 20 * 2 ^ bits = omega arith in
+    let wide : 2 ^ LEAST_BITS ≤ 2 ^ bits = pow_mono least in
+    let bound : c < STRIPS * 2 ^ bits = omega arith in
     (div-lt_iff_lt-mul (pow_pos bits)).1 bound
 
 -- ---- a start's parts
 
-pub strip_is : (i m : ℕ) (b : Box2) → i < 2 ^ 17 → strip_at (start_in i b m) ≡ m
+pub strip_is : (i m : ℕ) (b : Box2) → i < PLACES → strip_at (start_in i b m) ≡ m
 strip_is i m b lt =
-    let small : step_of b.lo.x < 2 ^ 27 = step_small b.lo.x in
-    let e : start_in i b m ≡ m * 2 ^ 44 + (step_of b.lo.x * 2 ^ 17 + i) = omega arith in
-    rw e (shr_high m 44 (step_of b.lo.x * 2 ^ 17 + i) (omega arith))
+    let small : step_of b.lo.x < 2 ^ 25 = step_small b.lo.x in
+    let e : start_in i b m ≡ m * SPOTS + (step_of b.lo.x * PLACES + i) = omega arith in
+    rw e (shr_high m 44 (step_of b.lo.x * PLACES + i) (omega arith))
 
-pub place_is : (i m : ℕ) (b : Box2) → i < 2 ^ 17 → place_at (start_in i b m) ≡ i
+pub place_is : (i m : ℕ) (b : Box2) → i < PLACES → place_at (start_in i b m) ≡ i
 place_is i m b lt =
-    let e : start_in i b m ≡ (m * 2 ^ 27 + step_of b.lo.x) * 2 ^ 17 + i = omega arith in
-    rw e (mod_low (m * 2 ^ 27 + step_of b.lo.x) 17 i lt)
+    let e : start_in i b m ≡ (m * 2 ^ 25 + step_of b.lo.x) * PLACES + i = omega arith in
+    rw e (mod_low (m * 2 ^ 25 + step_of b.lo.x) 19 i lt)
 
 -- where the one box begins no further right than the other ends, so do the numbers
-pub start_rises : (m j : ℕ) (a b : ℤ) → j < 2 ^ 17 → a ≤ℤ b → spot m a + j ≤ spot m b + 131071
+pub start_rises : (m j : ℕ) (a b : ℤ) → j < PLACES → a ≤ℤ b → spot m a + j ≤ spot m b + (PLACES - 1)
 start_rises m j a b lt h = let s : step_of a ≤ step_of b = step_rises a b h in omega arith
 
 -- ---- the strips of one box
@@ -92,7 +94,7 @@ up_has bits i b (suc n) k lt = up_later bits i b n k (nat_lt n (suc k)) refl (om
 abbrev ArePlacesBelow : ℕ → List ℕ → Type 0
 ArePlacesBelow b = Each (λ (s : ℕ). place_at s < b)
 
-up_places : (bits i : ℕ) (b : Box2) (n top : ℕ) → i < 2 ^ 17 → i < top → ArePlacesBelow top (starts_up bits i b n)
+up_places : (bits i : ℕ) (b : Box2) (n top : ℕ) → i < PLACES → i < top → ArePlacesBelow top (starts_up bits i b n)
 up_places bits i b zero top small lt = tt
 up_places bits i b (suc n) top small lt = each_append (λ (s : ℕ). place_at s < top) (starts_up bits i b n) _ (up_places bits i b n top small lt) (rw (place_is i (strip_of bits b.lo.y + suc n) b small) lt, tt)
 
@@ -110,18 +112,18 @@ further_has bits n (p ∷ ps) zero m s lt e h =
     in_left s (starts_up bits n p.fat (reach bits p.fat)) (furthers_from bits (suc n) (boxes_of ps)) (rw f at h)
 further_has bits n (p ∷ ps) (suc k) m s lt e h = in_right s (starts_up bits n p.fat (reach bits p.fat)) (furthers_from bits (suc n) (boxes_of ps)) (further_has bits (suc n) ps k m s (omega arith) (omega arith) h)
 
-first_places : (bits n b : ℕ) (ps : List Proxy) → b ≤ 2 ^ 17 → n + length ps ≤ b → ArePlacesBelow b (firsts_from bits n (boxes_of ps))
+first_places : (bits n b : ℕ) (ps : List Proxy) → b ≤ PLACES → n + length ps ≤ b → ArePlacesBelow b (firsts_from bits n (boxes_of ps))
 first_places bits n b [] few h = tt
 first_places bits n b (p ∷ ps) few h = (rw (place_is n (strip_of bits p.fat.lo.y) p.fat (omega arith)) (omega arith), first_places bits (suc n) b ps few (omega arith))
 
-further_places : (bits n b : ℕ) (ps : List Proxy) → b ≤ 2 ^ 17 → n + length ps ≤ b → ArePlacesBelow b (furthers_from bits n (boxes_of ps))
+further_places : (bits n b : ℕ) (ps : List Proxy) → b ≤ PLACES → n + length ps ≤ b → ArePlacesBelow b (furthers_from bits n (boxes_of ps))
 further_places bits n b [] few h = tt
 further_places bits n b (p ∷ ps) few h = each_append (λ (s : ℕ). place_at s < b) (starts_up bits n p.fat (reach bits p.fat)) (furthers_from bits (suc n) (boxes_of ps)) (up_places bits n p.fat (reach bits p.fat) b (omega arith) (omega arith)) (further_places bits (suc n) b ps few (omega arith))
 
-places_below : (bits b : ℕ) (ps : List Proxy) → b ≤ 2 ^ 17 → length ps ≤ b → ArePlacesBelow b (starts_of bits (boxes_of ps))
+places_below : (bits b : ℕ) (ps : List Proxy) → b ≤ PLACES → length ps ≤ b → ArePlacesBelow b (starts_of bits (boxes_of ps))
 places_below bits b ps few h = each_append (λ (s : ℕ). place_at s < b) (firsts_from bits 0 (boxes_of ps)) (furthers_from bits 0 (boxes_of ps)) (first_places bits 0 b ps few (omega arith)) (further_places bits 0 b ps few (omega arith))
 
-pub places_in : (bits : ℕ) (ps : List Proxy) (ss : List ℕ) → length ps ≤ 2 ^ 17 → IsPermutation (starts_of bits (boxes_of ps)) ss → All (IsPlaceIn ps) ss
+pub places_in : (bits : ℕ) (ps : List Proxy) (ss : List ℕ) → length ps ≤ PLACES → IsPermutation (starts_of bits (boxes_of ps)) ss → All (IsPlaceIn ps) ss
 places_in bits ps ss few h = All-permutation (IsPlaceIn ps) (starts_of bits (boxes_of ps)) ss h (all_from_each (IsPlaceIn ps) (starts_of bits (boxes_of ps)) (places_below bits (length ps) ps few (omega arith)))
 
 moved : (bits : ℕ) (ps : List Proxy) (ss : List ℕ) (s : ℕ) → IsPermutation (starts_of bits (boxes_of ps)) ss → IsIn s (starts_of bits (boxes_of ps)) → IsIn s ss

@@ -1,5 +1,5 @@
 -- The sweep finds the near pairs and no others.
-use Rattle.std.proofs.Common.{◌≡◌, ℕ, suc, ◌+◌, ◌^◌, ◌<◌, ◌≤◌, List, [], ◌∷◌, length, get_or, subst, Bool, true, false, cond, ◌&&◌, ◌||◌, Option, None, Some, inl, inr, refl, sym, ap, ◌∙◌, arith, ltb-true, ltb-false, eqb, nat_lt, ℤ, ◌≤ℤ◌, is_lt}
+use Rattle.std.proofs.Common.{◌≡◌, ℕ, suc, ◌+◌, ◌-◌, ◌<◌, ◌≤◌, List, [], ◌∷◌, length, get_or, subst, Bool, true, false, cond, ◌&&◌, ◌||◌, Option, None, Some, inl, inr, refl, sym, ap, ◌∙◌, arith, ltb-true, ltb-false, eqb, nat_lt, ℤ, ◌≤ℤ◌, is_lt}
 use Rattle.std.specs.Prelude.{int_lt, int_le, ◌==◌}
 use Rattle.std.specs.Option.{option_to_list}
 use Rattle.std.specs.List.{All, dedup}
@@ -16,7 +16,9 @@ use Rattle.fixed_geom.specs.Boxes.{Overlaps, meets}
 use Rattle.contacts_base.specs.declared.near.Proxy.{Proxy}
 use Rattle.contacts_base.specs.Near.{is_near, pair_code, near_codes}
 use Rattle.fixed_geom.specs.declared.boxes.Box2.{Box2}
-use Rattle.contacts.specs.Sweep.{proxy_at, boxes_of, pair_at, near_pair, strip_of, spot, start_in, strip_at, place_at, starts_of, IsPlaceIn, box_at, end_of, may_meet, pair_of, met, swept}
+use Rattle.contacts.specs.declared.sweep.TheConstants.{PLACES}
+use Rattle.contacts.specs.Pairs.{proxy_at}
+use Rattle.contacts.specs.Sweep.{boxes_of, pair_at, near_pair, strip_of, spot, start_in, strip_at, place_at, starts_of, IsPlaceIn, box_at, end_of, may_meet, pair_of, met, swept}
 use Rattle.contacts.proofs.Members.{Each, IsIn, each_in, in_append, in_left, in_right, in_from_contains, contains_from_in}
 use Rattle.contacts.proofs.StripLemmas.{box_there, strip_is, place_is, start_rises, listed_first, listed_from, places_in}
 use Rattle.contacts.proofs.NearLemmas.{IsNearFrom, from_has, from_is, from_rises}
@@ -245,11 +247,11 @@ pair_if bits ps s t m i j c strip first second h pair =
     (subst (λ (x : ℕ). pair_in bits ps m x (place_at t) ≡ Some c) (sym first)
     (subst (λ (x : ℕ). pair_in bits ps m i x ≡ Some c) (sym second) found)))
 
-no_further_than : (ps : List Proxy) (s t m j : ℕ) → strip_at t ≡ m → place_at t ≡ j → s ≤ spot m (proxy_at ps j).fat.hi.x + 131071 → s ≤ end_of (boxes_of ps) t
+no_further_than : (ps : List Proxy) (s t m j : ℕ) → strip_at t ≡ m → place_at t ≡ j → s ≤ spot m (proxy_at ps j).fat.hi.x + (PLACES - 1) → s ≤ end_of (boxes_of ps) t
 no_further_than ps s t m j strip place h =
     rw (box_there ps t)
-    (subst (λ (x : ℕ). s ≤ spot x (proxy_at ps (place_at t)).fat.hi.x + 131071) (sym strip)
-    (subst (λ (x : ℕ). s ≤ spot m (proxy_at ps x).fat.hi.x + 131071) (sym place) h))
+    (subst (λ (x : ℕ). s ≤ spot x (proxy_at ps (place_at t)).fat.hi.x + (PLACES - 1)) (sym strip)
+    (subst (λ (x : ℕ). s ≤ spot m (proxy_at ps x).fat.hi.x + (PLACES - 1)) (sym place) h))
 
 pair_step_of : (t : Bool) (o : Option ℕ) (c : ℕ) → cond t o None ≡ Some c → o ≡ Some c
 pair_step_of true o c h = h
@@ -265,7 +267,7 @@ turned : (p q : Proxy) → Overlaps p.fat q.fat → Overlaps q.fat p.fat
 turned p q o = record { left = o.right; right = o.left; down = o.up; up = o.down }
 
 -- the box at j begins no lower than the one at i, and so in a strip where that one is
-pair_listed : (bits : ℕ) (ps : List Proxy) (i j c : ℕ) → (proxy_at ps i).fat.lo.y ≤ℤ (proxy_at ps j).fat.lo.y → length ps ≤ 2 ^ 17 → i < length ps → j < length ps → (i ≡ j → ⊥) → Overlaps (proxy_at ps i).fat (proxy_at ps j).fat → near_pair ps i j ≡ Some c → near_pair ps j i ≡ Some c → (ss : List ℕ) → IsPermutation (starts_of bits (boxes_of ps)) ss → IsInOrder ss → IsIn c (swept bits ps ss)
+pair_listed : (bits : ℕ) (ps : List Proxy) (i j c : ℕ) → (proxy_at ps i).fat.lo.y ≤ℤ (proxy_at ps j).fat.lo.y → length ps ≤ PLACES → i < length ps → j < length ps → (i ≡ j → ⊥) → Overlaps (proxy_at ps i).fat (proxy_at ps j).fat → near_pair ps i j ≡ Some c → near_pair ps j i ≡ Some c → (ss : List ℕ) → IsPermutation (starts_of bits (boxes_of ps)) ss → IsInOrder ss → IsIn c (swept bits ps ss)
 pair_listed bits ps i j c le few wi wj other o pair back ss perm low =
     let p = proxy_at ps i in
     let q = proxy_at ps j in
@@ -273,8 +275,8 @@ pair_listed bits ps i j c le few wi wj other o pair back ss perm low =
     let m : ℕ = strip_of bits y in
     let s : ℕ = start_in i p.fat m in
     let t : ℕ = start_in j q.fat m in
-    let si : i < 2 ^ 17 = omega (arith, wi, few) in
-    let sj : j < 2 ^ 17 = omega (arith, wj, few) in
+    let si : i < PLACES = omega (arith, wi, few) in
+    let sj : j < PLACES = omega (arith, wj, few) in
     let strip_s : strip_at s ≡ m = strip_is i m p.fat si in
     let strip_t : strip_at t ≡ m = strip_is j m q.fat sj in
     let place_s : place_at s ≡ i = place_is i m p.fat si in
@@ -288,11 +290,11 @@ pair_listed bits ps i j c le few wi wj other o pair back ss perm low =
     } in
     swept_has bits ps ss s t c (listed_from bits ps i ss y wi perm le o.up) (listed_first bits ps j ss wj perm) low met
 
-pair_either : (bits : ℕ) (ps : List Proxy) (i j c : ℕ) (t : Bool) → int_le (proxy_at ps i).fat.lo.y (proxy_at ps j).fat.lo.y ≡ t → length ps ≤ 2 ^ 17 → i < length ps → j < length ps → (i ≡ j → ⊥) → Overlaps (proxy_at ps i).fat (proxy_at ps j).fat → near_pair ps i j ≡ Some c → near_pair ps j i ≡ Some c → (ss : List ℕ) → IsPermutation (starts_of bits (boxes_of ps)) ss → IsInOrder ss → IsIn c (swept bits ps ss)
+pair_either : (bits : ℕ) (ps : List Proxy) (i j c : ℕ) (t : Bool) → int_le (proxy_at ps i).fat.lo.y (proxy_at ps j).fat.lo.y ≡ t → length ps ≤ PLACES → i < length ps → j < length ps → (i ≡ j → ⊥) → Overlaps (proxy_at ps i).fat (proxy_at ps j).fat → near_pair ps i j ≡ Some c → near_pair ps j i ≡ Some c → (ss : List ℕ) → IsPermutation (starts_of bits (boxes_of ps)) ss → IsInOrder ss → IsIn c (swept bits ps ss)
 pair_either bits ps i j c true e few wi wj other o pair back ss perm low = pair_listed bits ps i j c (le_from _ _ e) few wi wj other o pair back ss perm low
 pair_either bits ps i j c false e few wi wj other o pair back ss perm low = pair_listed bits ps j i c (le_if_not _ _ e) few wj wi (λ r. other (sym r)) (turned (proxy_at ps i) (proxy_at ps j) o) back pair ss perm low
 
-scan_in_sweep : (bits : ℕ) (ps : List Proxy) (ss : List ℕ) (c : ℕ) → length ps ≤ 2 ^ 17 → IsPermutation (starts_of bits (boxes_of ps)) ss → IsSorted nat_cmp ss → IsNearFrom 0 ps c → IsIn c (swept bits ps ss)
+scan_in_sweep : (bits : ℕ) (ps : List Proxy) (ss : List ℕ) (c : ℕ) → length ps ≤ PLACES → IsPermutation (starts_of bits (boxes_of ps)) ss → IsSorted nat_cmp ss → IsNearFrom 0 ps c → IsIn c (swept bits ps ss)
 scan_in_sweep bits ps ss c few perm sorted h =
     let within : h.i < length ps = omega (arith, h.before, h.within) in
     let e : c ≡ pair_code h.i h.j = omega (arith, h.is) in
@@ -316,12 +318,12 @@ each_from_all : (ps : List Proxy) (ss : List ℕ) → All (IsPlaceIn ps) ss → 
 each_from_all ps [] h = tt
 each_from_all ps (s ∷ ss) h = (h 0 s (omega arith), each_from_all ps ss (λ k d lt. h (suc k) d (omega arith)))
 
-scan_rises : (ps : List Proxy) → length ps ≤ 2 ^ 17 → IsRising (near_codes ps)
+scan_rises : (ps : List Proxy) → length ps ≤ PLACES → IsRising (near_codes ps)
 unfolding near_codes
 scan_rises ps few = from_rises 0 ps (omega arith)
 
 -- the sweep's codes, sorted, each once
-pub sweep_is_scan : (bits : ℕ) (ps : List Proxy) (ss ys zs : List ℕ) → length ps ≤ 2 ^ 17 → IsPermutation (starts_of bits (boxes_of ps)) ss → IsSorted nat_cmp ss → IsPermutation (swept bits ps ss) ys → IsSorted nat_cmp ys → zs ≡ dedup eqb ys → zs ≡ near_codes ps
+pub sweep_is_scan : (bits : ℕ) (ps : List Proxy) (ss ys zs : List ℕ) → length ps ≤ PLACES → IsPermutation (starts_of bits (boxes_of ps)) ss → IsSorted nat_cmp ss → IsPermutation (swept bits ps ss) ys → IsSorted nat_cmp ys → zs ≡ dedup eqb ys → zs ≡ near_codes ps
 sweep_is_scan bits ps ss ys zs few perm in_line moved sorted kept =
     let places = each_from_all ps ss (places_in bits ps ss few perm) in
     same_rising zs (near_codes ps) (rw kept (rising_from_increasing (dedup eqb ys) (IsStrictlyIncreasing-dedup ys sorted))) (scan_rises ps few)

@@ -1,4 +1,4 @@
--- What the fields of a `BroadPhase` hold.
+-- Inner forms of the code; no public contract rests on them. What the fields of a `BroadPhase` hold.
 use Rattle.std.specs.Prelude.{◌≡◌}
 use Rattle.contacts_base.specs.Near.{IsProxyList}
 use Rattle.contacts.specs.declared.broad_phase.BroadPhase.TheInside.{Inside}

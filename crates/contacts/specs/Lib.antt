@@ -1,3 +1,4 @@
+pub mod Pairs
 pub mod Sweep
 pub mod Changes
 pub mod Constraints

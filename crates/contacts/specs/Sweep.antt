@@ -1,33 +1,12 @@
--- A sweep along x, strip by strip, over a list of shapes.
-use Rattle.std.specs.Prelude.{ℕ, zero, suc, ◌+◌, ◌-◌, ◌*◌, ◌/◌, ◌%◌, ◌^◌, ◌<◌, ◌==◌, Bool, false, cond, nat_lt, ℤ, pos, ◌+ℤ◌, neg_ℤ, int_lt, unsigned_abs, List, [], ◌∷◌, ◌++◌, length, map, slice_index_or, Option, Some, None}
+-- Inner forms of the code; no public contract rests on them. A sweep along x, strip by strip, over a list of shapes.
+use Rattle.std.specs.Prelude.{ℕ, zero, suc, ◌+◌, ◌-◌, ◌*◌, ◌/◌, ◌%◌, ◌^◌, ◌<◌, ◌==◌, Bool, false, cond, nat_lt, ℤ, pos, ◌+ℤ◌, ◌-ℤ◌, neg_ℤ, int_lt, unsigned_abs, List, [], ◌∷◌, ◌++◌, length, map, slice_index_or, Option, Some, None}
 use Rattle.std.specs.Int.{int_min, int_max}
 use Rattle.std.specs.Option.{option_to_list}
 use Rattle.fixed_geom.specs.declared.boxes.Box2.{Box2}
-use Rattle.fixed_geom.specs.declared.vectors.Vec2.{Vec2}
-use Rattle.shapes.specs.declared.shape.Shape.TheVariants.{Circle}
 use Rattle.contacts_base.specs.declared.near.Proxy.{Proxy}
 use Rattle.contacts_base.specs.Near.{is_near, pair_code}
-
-abbrev pub zero_vector : Vec2
-zero_vector = record { x = pos 0; y = pos 0 }
-
--- what stands for a box beyond a list
-abbrev pub no_box : Box2
-no_box = record { lo = zero_vector; hi = zero_vector }
-
--- what stands for the shape at a place beyond the list
-abbrev pub no_proxy : Proxy
-no_proxy = record {
-  id = record { slot = 0; index = 0 };
-  fat = no_box;
-  filter = record { category = 0; mask = 0; group = pos 0 };
-  dynamic = false;
-  shape = Circle zero_vector (pos 0);
-  pose = record { x = zero_vector; rot = record { c = pos 0; s = pos 0 } };
-}
-
-abbrev pub proxy_at : List Proxy → ℕ → Proxy
-proxy_at ps k = slice_index_or ps k no_proxy
+use Rattle.contacts.specs.declared.sweep.TheConstants.{HALF, PLACES, SPOTS, STEP}
+use Rattle.contacts.specs.Pairs.{no_box, proxy_at}
 
 -- the fat boxes of the shapes
 abbrev pub boxes_of : List Proxy → List Box2
@@ -43,30 +22,30 @@ near_pair ps i j = cond (nat_lt i j) (pair_at ps i j) (pair_at ps j i)
 
 -- ---- the plane in strips along x
 
--- a coordinate as a number below 2^38; beyond 2^37 in size it is as if it were there
+-- a coordinate as a number below twice `HALF`; beyond `HALF` in size it is as if it were there
 unfoldable pub column : ℤ → ℕ
-column x = unsigned_abs (int_min (int_max x (neg_ℤ (pos 137438953472))) (pos 137438953471) +ℤ pos 137438953472)
+column x = unsigned_abs (int_min (int_max x (neg_ℤ HALF)) (HALF -ℤ pos 1) +ℤ HALF)
 
 -- the strip of a height, where a strip is 2^bits high
 abbrev pub strip_of : ℕ → ℤ → ℕ
 strip_of bits y = column y / 2 ^ bits
 
 -- ---- starts: a shape in a strip as one number, of which the strip decides first, then where the box
--- begins along x, in steps of 2^11, and last the shape's place, below 2^17
+-- begins along x, in steps, and last the shape's place
 
 -- the least number in a strip from x on
 abbrev pub spot : ℕ → ℤ → ℕ
-spot strip x = strip * 2 ^ 44 + column x / 2 ^ 11 * 2 ^ 17
+spot strip x = strip * SPOTS + column x / STEP * PLACES
 
 -- the box b, at place i, in a strip
 abbrev pub start_in : ℕ → Box2 → ℕ → ℕ
 start_in i b strip = spot strip b.lo.x + i
 
 abbrev pub strip_at : ℕ → ℕ
-strip_at s = s / 2 ^ 44
+strip_at s = s / SPOTS
 
 abbrev pub place_at : ℕ → ℕ
-place_at s = s % 2 ^ 17
+place_at s = s % PLACES
 
 -- how many further strips the box reaches up to
 abbrev pub reach : ℕ → Box2 → ℕ
@@ -105,7 +84,7 @@ box_at bs s = slice_index_or bs (place_at s) no_box
 
 -- the greatest number in the strip of a start that is no further right than its box ends
 abbrev pub end_of : List Box2 → ℕ → ℕ
-end_of bs s = spot (strip_at s) (box_at bs s).hi.x + 131071
+end_of bs s = spot (strip_at s) (box_at bs s).hi.x + (PLACES - 1)
 
 -- two boxes overlap along y, and this is the lowest strip that both reach
 unfoldable pub may_meet : ℕ → ℕ → Box2 → Box2 → Bool

@@ -3,12 +3,12 @@
 ghost use Rattle.std.specs.Prelude.{◌≡◌, ◌<◌, ◌≤◌, ◌-◌, ◌∷◌, ◌++◌, [], All, OnOk, OnErr, IfOk, vec_len, vec_capacity};
 ghost use Rattle.std.specs.Result.{IsOkUnless};
 ghost use Rattle.contacts_base.specs.Near.{IsProxy, IsProxyList, number_of, near_codes};
-ghost use Rattle.contacts_base.specs.Contacts.{AreKeysRising};
-ghost use Rattle.contacts.specs.Changes.{ArePairs, AreRising, contacts_of, keys_not_in, keys_touching_only_in};
+ghost use Rattle.contacts.specs.Pairs.{ArePairs};
+ghost use Rattle.contacts.specs.Changes.{AreRising, contacts_of, keys_not_in, keys_touching_only_in};
 
 use crate::changes::{Changes, update};
 use crate::sweep::near_pairs;
-use contacts_base::{ContactEntry, Proxy};
+use contacts_base::{Contacts, Proxy};
 use fixed_geom::{Box2, Refusal};
 use std::alloc::Global;
 use std::marker::Model;
@@ -139,24 +139,18 @@ impl BroadPhase {
     }
 
     /// The contacts of the near pairs, each evaluated anew, and what changed; `old` are the contacts
-    /// until now, with ascending keys. Refused 1 where memory is wanting.
+    /// until now. Refused 1 where memory is wanting.
     ///
-    /// A pair that had a contact keeps the impulses of its points by their candidates; a new pair gets
-    /// a contact. A contact ends that touched and doesn't any more, also where its shapes are no longer
+    /// A pair that had a contact keeps its surface, and the impulses of its points by their candidates; a
+    /// new pair gets a contact with what its shapes' surfaces mix to. A contact ends that touched and doesn't any more, also where its shapes are no longer
     /// near.
-    pub fn update_contacts(
-        &mut self,
-        alloc: Global,
-        old: &[ContactEntry],
-    ) -> Result<Changes, Refusal>
-        requires { AreKeysRising old.now }
+    pub fn update_contacts(&mut self, alloc: Global, old: &Contacts) -> Result<Changes, Refusal>
         ensures kept { self.new ≡ self.old }
-        ensures now { IfOk result (λ changes. changes.now.items ≡ contacts_of old.now self.old (near_codes self.old)) }
-        ensures rising { IfOk result (λ changes. AreKeysRising changes.now.items) }
-        ensures made { IfOk result (λ changes. changes.made.items ≡ keys_not_in old.now changes.now.items) }
-        ensures gone { IfOk result (λ changes. changes.gone.items ≡ keys_not_in changes.now.items old.now) }
-        ensures begin { IfOk result (λ changes. changes.begin.items ≡ keys_touching_only_in old.now changes.now.items) }
-        ensures end { IfOk result (λ changes. changes.end.items ≡ keys_touching_only_in changes.now.items old.now) }
+        ensures now { IfOk result (λ changes. changes.now ≡ contacts_of old.now self.old (near_codes self.old)) }
+        ensures made { IfOk result (λ changes. changes.made.items ≡ keys_not_in old.now changes.now) }
+        ensures gone { IfOk result (λ changes. changes.gone.items ≡ keys_not_in changes.now old.now) }
+        ensures begin { IfOk result (λ changes. changes.begin.items ≡ keys_touching_only_in old.now changes.now) }
+        ensures end { IfOk result (λ changes. changes.end.items ≡ keys_touching_only_in changes.now old.now) }
         ensures made_rising { IfOk result (λ changes. AreRising changes.made.items) }
         ensures gone_rising { IfOk result (λ changes. AreRising changes.gone.items) }
         ensures begin_rising { IfOk result (λ changes. AreRising changes.begin.items) }

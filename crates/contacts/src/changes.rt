@@ -4,10 +4,13 @@ ghost use Rattle.std.specs.Prelude.{◌≡◌, ◌++◌, All, OnOk, IfOk};
 ghost use Rattle.std.specs.Result.{IsOkUnless};
 ghost use Rattle.contacts_base.specs.Near.{IsProxy, IsProxyList};
 ghost use Rattle.std.specs.Option.{option_copied, option_to_list};
-ghost use Rattle.contacts_base.specs.Contacts.{AreKeysRising};
-ghost use Rattle.contacts.specs.Changes.{IsPair, ArePairs, is_touching, pair_key, entry_with, pair_entry, contacts_of, key_unless, key_if_new, keys_not_in, keys_touching_only_in, AreRising};
+ghost use Rattle.contacts_base.specs.Contacts.{AreContacts, AreKeysRising, is_touching};
+ghost use Rattle.contacts.specs.Pairs.{IsPair, ArePairs, proxy_at, first_place, second_place, pair_key};
+ghost use Rattle.contacts.specs.Changes.{surface_with, entry_with, contacts_of, key_unless, key_if_new, keys_not_in, keys_touching_only_in, AreRising};
 
-use contacts_base::{Contact, ContactEntry, ContactKey, Proxy, contact_at, contact_of, seek};
+use contacts_base::{
+    ContactEntry, ContactKey, Contacts, Proxy, Surface, contact_at, contact_of, seek,
+};
 use fixed_geom::Refusal;
 use std::alloc::Global;
 
@@ -15,7 +18,7 @@ use std::alloc::Global;
 /// ended. Each list ascends.
 #[derive(Drop)]
 pub struct Changes {
-    pub now: Vec<ContactEntry>,
+    pub now: Contacts,
     pub made: Vec<ContactKey>,
     pub gone: Vec<ContactKey>,
     pub begin: Vec<ContactKey>,
@@ -33,9 +36,21 @@ fn key_at(proxies: &[Proxy], code: u64) -> ContactKey
     }
 }
 
+/// The surface of the contact of two shapes, whose contact until now was `old`.
+fn surface_with(old: Option<&ContactEntry>, p: &Proxy, q: &Proxy) -> Surface
+    requires first { IsProxy p.now }
+    requires second { IsProxy q.now }
+    ensures { result ≡ surface_with (option_copied old.entry) p.now q.now }
+{
+    match old {
+        None => p.surface.mixed(q.surface),
+        Some(entry) => entry.surface,
+    }
+}
+
 /// The contact of two shapes, whose contact until now was `old`.
 #[tactic(auto, unfolding(crate::specs::Changes::entry_with))]
-fn entry_with(old: Option<&Contact>, p: &Proxy, q: &Proxy) -> ContactEntry
+fn entry_with(old: Option<&ContactEntry>, p: &Proxy, q: &Proxy) -> ContactEntry
     requires first { IsProxy p.now }
     requires second { IsProxy q.now }
     ensures { result ≡ entry_with (option_copied old.entry) p.now q.now }
@@ -45,15 +60,16 @@ fn entry_with(old: Option<&Contact>, p: &Proxy, q: &Proxy) -> ContactEntry
             first: p.id,
             second: q.id,
         },
+        surface: surface_with(old, p, q),
         contact: contact_of(old, p, q),
     }
 }
 
 /// The contact of the pair with this number, whose contact until now was `old`.
-fn pair_entry(old: Option<&Contact>, proxies: &[Proxy], code: u64) -> ContactEntry
+fn pair_entry(old: Option<&ContactEntry>, proxies: &[Proxy], code: u64) -> ContactEntry
     requires proxies { All IsProxy proxies.now }
     requires pair { IsPair proxies.now code }
-    ensures { result ≡ pair_entry (option_copied old.entry) proxies.now code }
+    ensures { result ≡ entry_with (option_copied old.entry) (proxy_at proxies.now (first_place code)) (proxy_at proxies.now (second_place code)) }
 {
     let first = (code / (1 << 32)) as usize;
     let second = (code % (1 << 32)) as usize;
@@ -62,7 +78,7 @@ fn pair_entry(old: Option<&Contact>, proxies: &[Proxy], code: u64) -> ContactEnt
 
 /// The entry's key, unless there is another contact with it.
 #[tactic(auto, unfolding(crate::specs::Changes::key_unless))]
-fn key_unless(other: Option<&Contact>, entry: &ContactEntry) -> Option<ContactKey>
+fn key_unless(other: Option<&ContactEntry>, entry: &ContactEntry) -> Option<ContactKey>
     ensures { result ≡ key_unless (option_copied other.entry) entry.now }
 {
     match other {
@@ -71,18 +87,18 @@ fn key_unless(other: Option<&Contact>, entry: &ContactEntry) -> Option<ContactKe
     }
 }
 
-fn is_touching(contact: Option<&Contact>) -> bool
-    ensures { result ≡ is_touching (option_copied contact.entry) }
+fn is_touching(entry: Option<&ContactEntry>) -> bool
+    ensures { result ≡ is_touching (option_copied entry.entry) }
 {
-    match contact {
+    match entry {
         None => false,
-        Some(contact) => contact.is_touching(),
+        Some(entry) => entry.contact.is_touching(),
     }
 }
 
 /// The entry's key, if it touches and the other contact with its key, if there is one, doesn't.
 #[tactic(auto, unfolding(crate::specs::Changes::key_if_new))]
-fn key_if_new(other: Option<&Contact>, entry: &ContactEntry) -> Option<ContactKey>
+fn key_if_new(other: Option<&ContactEntry>, entry: &ContactEntry) -> Option<ContactKey>
     ensures { result ≡ key_if_new (option_copied other.entry) entry.now }
 {
     if !entry.contact.is_touching() {
@@ -130,11 +146,11 @@ fn contacts_of_pairs(
     proxies: &[Proxy],
     near: &[u64],
 ) -> Result<Present, Refusal>
-    requires old { AreKeysRising old.now }
+    requires old { AreContacts old.now }
     requires proxies { IsProxyList proxies.now }
     requires near { ArePairs proxies.now near.now }
     ensures now { IfOk result (λ present. present.now.items ≡ contacts_of old.now proxies.now near.now) }
-    ensures rising { IfOk result (λ present. AreKeysRising present.now.items) }
+    ensures contacts { IfOk result (λ present. AreContacts present.now.items) }
     ensures made { IfOk result (λ present. present.made.items ≡ keys_not_in old.now present.now.items) }
     ensures begin { IfOk result (λ present. present.begin.items ≡ keys_touching_only_in old.now present.now.items) }
     ensures memory_only { IsOkUnless result Refusal.NoMemory }
@@ -176,32 +192,31 @@ fn lost_keys(alloc: Global, now: &[ContactEntry], old: &[ContactEntry]) -> Resul
 }
 
 /// The contacts of these pairs, each evaluated anew, and what changed. `old` are the contacts until
-/// now, with ascending keys. Refused 1 where memory is wanting.
+/// now. Refused 1 where memory is wanting.
 pub fn update(
     alloc: Global,
-    old: &[ContactEntry],
+    old: &Contacts,
     proxies: &[Proxy],
     near: &[u64],
 ) -> Result<Changes, Refusal>
-    requires old { AreKeysRising old.now }
     requires proxies { IsProxyList proxies.now }
     requires near { ArePairs proxies.now near.now }
-    ensures now { IfOk result (λ changes. changes.now.items ≡ contacts_of old.now proxies.now near.now) }
-    ensures rising { IfOk result (λ changes. AreKeysRising changes.now.items) }
-    ensures made { IfOk result (λ changes. changes.made.items ≡ keys_not_in old.now changes.now.items) }
-    ensures gone { IfOk result (λ changes. changes.gone.items ≡ keys_not_in changes.now.items old.now) }
-    ensures begin { IfOk result (λ changes. changes.begin.items ≡ keys_touching_only_in old.now changes.now.items) }
-    ensures end { IfOk result (λ changes. changes.end.items ≡ keys_touching_only_in changes.now.items old.now) }
+    ensures now { IfOk result (λ changes. changes.now ≡ contacts_of old.now proxies.now near.now) }
+    ensures made { IfOk result (λ changes. changes.made.items ≡ keys_not_in old.now changes.now) }
+    ensures gone { IfOk result (λ changes. changes.gone.items ≡ keys_not_in changes.now old.now) }
+    ensures begin { IfOk result (λ changes. changes.begin.items ≡ keys_touching_only_in old.now changes.now) }
+    ensures end { IfOk result (λ changes. changes.end.items ≡ keys_touching_only_in changes.now old.now) }
     ensures made_rising { IfOk result (λ changes. AreRising changes.made.items) }
     ensures gone_rising { IfOk result (λ changes. AreRising changes.gone.items) }
     ensures begin_rising { IfOk result (λ changes. AreRising changes.begin.items) }
     ensures end_rising { IfOk result (λ changes. AreRising changes.end.items) }
     ensures memory_only { IsOkUnless result Refusal.NoMemory }
 {
+    let old = old.as_slice();
     let present = contacts_of_pairs(alloc, old, proxies, near)?;
     let past = lost_keys(alloc, &present.now, old)?;
     Ok(Changes {
-        now: present.now,
+        now: Contacts::from_entries(present.now),
         made: present.made,
         gone: past.gone,
         begin: present.begin,

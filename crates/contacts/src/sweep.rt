@@ -6,8 +6,8 @@
 //! close, whether they are spread along x or along y.
 //!
 //! A start, which is a shape in a strip, is one number of 64 bits, so that the list of all starts is
-//! small and quickly sorted. Its highest 20 bits are the strip's, the next 27 tell where the shape's
-//! box begins along x, in steps of 2^11 u, and the lowest 17 are the shape's place.
+//! small and quickly sorted. Its highest 20 bits are the strip's, the next 25 tell where the shape's
+//! box begins along x, in steps of `STEP`, and the lowest 19 are the shape's place.
 
 ghost use Rattle.std.specs.Prelude.{◌≡◌, ◌+◌, ◌^◌, ◌<◌, ◌≤◌, ◌++◌, length, All, OnOk, IfOk, IsTrue};
 ghost use Rattle.std.specs.Result.{IsOkUnless};
@@ -17,19 +17,34 @@ ghost use Rattle.std.specs.Option.{option_to_list};
 ghost use Rattle.contacts.specs.Sweep.{pair_at, near_pair, column, strip_of, spot, start_in, strip_at, place_at, reach, starts_up, firsts_from, furthers_from, starts_of, IsPlaceIn, boxes_of, end_of, may_meet, pair_of, met, swept};
 ghost use Rattle.contacts_base.specs.Near.{IsProxyList, near_codes};
 
+use body_handles::MAX_SLOTS;
 use contacts_base::{Proxy, code_of, is_near};
 use fixed_geom::{Box2, Refusal};
+use shapes::MAX_SHAPES;
 
-/// A strip is 2^18 u high at least, so that there are at most 2^20 strips.
+/// A strip is 2^18 u high at least, so that there are at most `STRIPS`.
 const LEAST_BITS: u32 = 18;
 
-/// A shape's place is below this, since 16,384 bodies have 8 shapes at most.
-const PLACES: u64 = 1 << 17;
+/// A strip is 2^38 u high at most: then it is all that is seen of the plane.
+const MOST_BITS: u32 = 38;
+
+/// How many shapes there are at most, so that a shape's place is below this.
+const PLACES: u64 = (MAX_SLOTS * MAX_SHAPES) as u64;
+
+/// How far apart along x starts have to begin to be told from one another, in u: far less than a fat
+/// box is wide.
+const STEP: u64 = 1 << 13;
+
+/// How many numbers the starts in one strip may have: 2^25 steps along x, and a place.
+const SPOTS: u64 = 1 << 44;
+
+/// How many strips there are at most.
+const STRIPS: u64 = 1 << 20;
 
 /// Half of what is seen of the plane: coordinates beyond are as if they were here.
 const HALF: i64 = 1 << 37;
 
-/// A coordinate, in u, as a number below 2^38 that rises with it.
+/// A coordinate, in u, as a number below twice `HALF` that rises with it.
 #[tactic(auto, unfolding(crate::specs::Sweep::column))]
 fn column(x: i64) -> u64
     ensures value { result ≡ column x }
@@ -40,26 +55,26 @@ fn column(x: i64) -> u64
 
 /// The strip of a height in u, where a strip is 2^bits u high.
 fn strip_of(bits: u32, y: i64) -> u64
-    requires { bits < 64 }
+    requires { bits ≤ MOST_BITS }
     ensures value { result ≡ strip_of bits y }
-    ensures few { 18 ≤ bits → result < 2 ^ 20 }
+    ensures few { LEAST_BITS ≤ bits → result < STRIPS }
 {
     column(y) >> bits
 }
 
 /// The least number that a start has in a strip from x on, in u.
 fn spot(strip: u64, x: i64) -> u64
-    requires { strip < 2 ^ 20 }
+    requires { strip < STRIPS }
     ensures value { result ≡ spot strip x }
-    ensures room { result + 2 ^ 17 ≤ 2 ^ 64 }
+    ensures room { result + PLACES ≤ 2 ^ 64 }
 {
-    strip * (1 << 44) + (column(x) >> 11) * PLACES
+    strip * SPOTS + column(x) / STEP * PLACES
 }
 
 /// The start of the shape at this place, in a strip.
 fn start_in(place: usize, fat: &Box2, strip: u64) -> u64
-    requires place { place < 2 ^ 17 }
-    requires strip { strip < 2 ^ 20 }
+    requires place { place < PLACES }
+    requires strip { strip < STRIPS }
     ensures { result ≡ start_in place fat.now strip }
 {
     spot(strip, fat.lo.x) + place as u64
@@ -68,9 +83,9 @@ fn start_in(place: usize, fat: &Box2, strip: u64) -> u64
 /// The strip of a start.
 fn strip_at(start: u64) -> u64
     ensures value { result ≡ strip_at start }
-    ensures few { result < 2 ^ 20 }
+    ensures few { result < STRIPS }
 {
-    start >> 44
+    start / SPOTS
 }
 
 /// The place of a start's shape.
@@ -82,9 +97,9 @@ fn place_at(start: u64) -> usize
 
 /// Adds a shape in each strip that its box reaches above the one where it begins. Refused 1 where memory is wanting.
 fn push_further(starts: &mut Vec<u64>, bits: u32, place: usize, fat: &Box2) -> Result<(), Refusal>
-    requires least { 18 ≤ bits }
-    requires most { bits < 64 }
-    requires place { place < 2 ^ 17 }
+    requires least { LEAST_BITS ≤ bits }
+    requires most { bits ≤ MOST_BITS }
+    requires place { place < PLACES }
     ensures pushed { OnOk result (starts.new.items ≡ starts.old.items ++ starts_up bits place fat.now (reach bits fat.now)) }
     ensures memory_only { IsOkUnless result Refusal.NoMemory }
 {
@@ -98,9 +113,9 @@ fn push_further(starts: &mut Vec<u64>, bits: u32, place: usize, fat: &Box2) -> R
 
 /// Fills `starts` with each shape in the strip where its box begins. Refused 1 where memory is wanting.
 fn fill_firsts(starts: &mut Vec<u64>, bits: u32, boxes: &[Box2]) -> Result<(), Refusal>
-    requires least { 18 ≤ bits }
-    requires most { bits < 64 }
-    requires few { length boxes.now ≤ 2 ^ 17 }
+    requires least { LEAST_BITS ≤ bits }
+    requires most { bits ≤ MOST_BITS }
+    requires few { length boxes.now ≤ PLACES }
     ensures filled { OnOk result (starts.new.items ≡ firsts_from bits 0 boxes.now) }
     ensures memory_only { IsOkUnless result Refusal.NoMemory }
 {
@@ -113,9 +128,9 @@ fn fill_firsts(starts: &mut Vec<u64>, bits: u32, boxes: &[Box2]) -> Result<(), R
 
 /// Adds each shape in the further strips that its box reaches. Refused 1 where memory is wanting.
 fn push_furthers(starts: &mut Vec<u64>, bits: u32, boxes: &[Box2]) -> Result<(), Refusal>
-    requires least { 18 ≤ bits }
-    requires most { bits < 64 }
-    requires few { length boxes.now ≤ 2 ^ 17 }
+    requires least { LEAST_BITS ≤ bits }
+    requires most { bits ≤ MOST_BITS }
+    requires few { length boxes.now ≤ PLACES }
     ensures pushed { OnOk result (starts.new.items ≡ starts.old.items ++ furthers_from bits 0 boxes.now) }
     ensures memory_only { IsOkUnless result Refusal.NoMemory }
 {
@@ -131,9 +146,9 @@ fn push_furthers(starts: &mut Vec<u64>, bits: u32, boxes: &[Box2]) -> Result<(),
 /// Where slots were given out from left to right and from below, the first strips of all shapes ascend already, and so do the further
 /// ones, and the sort only merges the two.
 fn list_starts(starts: &mut Vec<u64>, bits: u32, boxes: &[Box2]) -> Result<(), Refusal>
-    requires least { 18 ≤ bits }
-    requires most { bits < 64 }
-    requires few { length boxes.now ≤ 2 ^ 17 }
+    requires least { LEAST_BITS ≤ bits }
+    requires most { bits ≤ MOST_BITS }
+    requires few { length boxes.now ≤ PLACES }
     ensures permutation { OnOk result (IsPermutation (starts_of bits boxes.now) starts.new.items) }
     ensures sorted { OnOk result (IsSorted nat_cmp starts.new.items) }
     ensures memory_only { IsOkUnless result Refusal.NoMemory }
@@ -147,7 +162,7 @@ fn list_starts(starts: &mut Vec<u64>, bits: u32, boxes: &[Box2]) -> Result<(), R
 /// The number of the pair of the shapes at two places, if they are near.
 #[tactic(auto, unfolding(crate::specs::Sweep::pair_at))]
 fn pair_at(proxies: &[Proxy], first: usize, second: usize) -> Option<u64>
-    requires few { length proxies.now ≤ 2 ^ 17 }
+    requires few { length proxies.now ≤ PLACES }
     requires first { first < length proxies.now }
     requires second { second < length proxies.now }
     ensures { result ≡ pair_at proxies.now first second }
@@ -162,7 +177,7 @@ fn pair_at(proxies: &[Proxy], first: usize, second: usize) -> Option<u64>
 /// The same of two places in either order.
 #[tactic(auto, unfolding(crate::specs::Sweep::near_pair))]
 fn near_pair(proxies: &[Proxy], place: usize, other: usize) -> Option<u64>
-    requires few { length proxies.now ≤ 2 ^ 17 }
+    requires few { length proxies.now ≤ PLACES }
     requires place { place < length proxies.now }
     requires other { other < length proxies.now }
     ensures { result ≡ near_pair proxies.now place other }
@@ -184,7 +199,7 @@ fn push_found(near: &mut Vec<u64>, found: Option<u64>) -> Result<(), Refusal>
 /// Whether two boxes overlap along y, and this is the lowest strip that both reach.
 #[tactic(auto, unfolding(crate::specs::Sweep::may_meet))]
 fn may_meet(bits: u32, strip: u64, b: &Box2, c: &Box2) -> bool
-    requires { bits < 64 }
+    requires { bits ≤ MOST_BITS }
     ensures { result ≡ may_meet bits strip b.now c.now }
 {
     if b.hi.y < c.lo.y {
@@ -200,8 +215,8 @@ fn may_meet(bits: u32, strip: u64, b: &Box2, c: &Box2) -> bool
 /// a lower strip together.
 #[tactic(auto, unfolding(crate::specs::Sweep::pair_of))]
 fn pair_of(bits: u32, proxies: &[Proxy], boxes: &[Box2], start: u64, other: u64) -> Option<u64>
-    requires bits { bits < 64 }
-    requires few { length proxies.now ≤ 2 ^ 17 }
+    requires bits { bits ≤ MOST_BITS }
+    requires few { length proxies.now ≤ PLACES }
     requires boxes { boxes.now ≡ boxes_of proxies.now }
     requires first { IsPlaceIn proxies.now start }
     requires second { IsPlaceIn proxies.now other }
@@ -234,8 +249,8 @@ fn push_met(
     start: u64,
     others: &[u64],
 ) -> Result<(), Refusal>
-    requires bits { bits < 64 }
-    requires few { length proxies.now ≤ 2 ^ 17 }
+    requires bits { bits ≤ MOST_BITS }
+    requires few { length proxies.now ≤ PLACES }
     requires boxes { boxes.now ≡ boxes_of proxies.now }
     requires start { IsPlaceIn proxies.now start }
     requires others { All (IsPlaceIn proxies.now) others.now }
@@ -260,8 +275,8 @@ fn sweep(
     boxes: &[Box2],
     starts: &[u64],
 ) -> Result<(), Refusal>
-    requires bits { bits < 64 }
-    requires few { length proxies.now ≤ 2 ^ 17 }
+    requires bits { bits ≤ MOST_BITS }
+    requires few { length proxies.now ≤ PLACES }
     requires boxes { boxes.now ≡ boxes_of proxies.now }
     requires starts { All (IsPlaceIn proxies.now) starts.now }
     ensures pushed { OnOk result (near.new.items ≡ near.old.items ++ swept bits proxies.now starts.now) }
@@ -276,11 +291,11 @@ fn sweep(
 /// How high strips should be, as a power of two: two to four times the mean of the boxes' heights,
 /// so that few boxes are listed often. `heights` is their sum, in u. Any height serves.
 fn strip_bits(heights: u64, count: usize) -> u32
-    ensures least { 18 ≤ result }
-    ensures most { result < 64 }
+    ensures least { LEAST_BITS ≤ result }
+    ensures most { result ≤ MOST_BITS }
 {
     let mean = heights / (count as u64).max(1);
-    (65 - mean.leading_zeros()).max(LEAST_BITS).min(38)
+    (65 - mean.leading_zeros()).max(LEAST_BITS).min(MOST_BITS)
 }
 
 /// Fills `near` with the numbers of all near pairs, ascending, and uses `starts` as room to work in.

@@ -1,16 +1,36 @@
 //! Scenes worked by hand, each public function on its happy path.
 
-ghost use Rattle.std.specs.Prelude.{IfOk};
+ghost use Rattle.std.specs.Prelude.{◌≡◌, IfOk};
 ghost use Rattle.contacts_base.specs.Near.{IsProxy};
-ghost use Rattle.contacts_base.specs.Contacts.{AreKeysRising};
 
 use super::*;
-use contacts_base::{Contact, ContactEntry, ContactKey, ContactPoint, Proxy, ShapeId};
+use body_handles::MAX_SLOTS;
+use contacts_base::{
+    Contact, ContactEntry, ContactKey, ContactPoint, Contacts, Impulses, Proxy, ShapeId, Surface,
+};
 use fixed_geom::{Refusal, Rot, UNIT, Vec2, is_facing, is_within};
 use shapes::{Filter, Pose, Shape, ShapeDef, check, fat_box, tight_box};
 use std::alloc::Global;
 use std::default::Default;
 use std::test::Fail;
+
+/// What the shapes below have.
+const ROUGH: Surface = Surface {
+    friction: 511,
+    restitution: 12,
+};
+
+/// What the floor has.
+const ICE: Surface = Surface {
+    friction: 128,
+    restitution: 7,
+};
+
+/// What the two mix to: the root of 65,408, and the greater.
+const TOGETHER: Surface = Surface {
+    friction: 255,
+    restitution: 12,
+};
 
 /// The one shape of the body in this slot, at (x, y) and unturned.
 fn proxy_of(slot: u32, shape: Shape, x: i64, y: i64, dynamic: bool) -> Result<Proxy, Refusal>
@@ -27,7 +47,7 @@ fn proxy_of(slot: u32, shape: Shape, x: i64, y: i64, dynamic: bool) -> Result<Pr
         x: Vec2 { x, y },
         rot: Rot { c: UNIT, s: 0 },
     };
-    if slot >= 16384 || !is_within(pose.x, 1 << 36) || !is_facing(pose.rot) {
+    if slot as usize >= MAX_SLOTS || !is_within(pose.x, 1 << 36) || !is_facing(pose.rot) {
         return Err(Refusal::OutOfRange);
     }
     Ok(Proxy {
@@ -35,6 +55,7 @@ fn proxy_of(slot: u32, shape: Shape, x: i64, y: i64, dynamic: bool) -> Result<Pr
         fat: fat_box(tight_box(&shape, pose)),
         filter: Filter::default(),
         dynamic,
+        surface: ROUGH,
         shape,
         pose,
     })
@@ -68,10 +89,7 @@ fn add_filtered(
     add(broad, Proxy { filter, ..proxy })
 }
 
-fn collide(alloc: Global, old: &[ContactEntry], broad: &mut BroadPhase) -> Result<Changes, Refusal>
-    requires { AreKeysRising old.now }
-    ensures { IfOk result (λ changes. AreKeysRising changes.now.items) }
-{
+fn collide(alloc: Global, old: &Contacts, broad: &mut BroadPhase) -> Result<Changes, Refusal> {
     broad.update_contacts(alloc, old)
 }
 
@@ -103,33 +121,43 @@ const KEY: ContactKey = ContactKey {
 /// A floor, and a capsule that lies at this height.
 fn lying_at(alloc: Global, y: i64) -> Result<BroadPhase, Refusal> {
     let mut broad = BroadPhase::new(alloc);
-    add(&mut broad, proxy_of(0, FLOOR, 0, 0, false)?)?;
+    let floor = proxy_of(0, FLOOR, 0, 0, false)?;
+    add(
+        &mut broad,
+        Proxy {
+            surface: ICE,
+            ..floor
+        },
+    )?;
     add(&mut broad, proxy_of(1, LYING, 0, y, true)?)?;
     Ok(broad)
 }
 
-fn point(candidate: u64, x: i64, push: i64, slip: i64) -> ContactPoint {
+fn point(candidate: u64, x: i64, normal_impulse: i64, tangent_impulse: i64) -> ContactPoint {
     ContactPoint {
         normal: Vec2 { x: 0, y: UNIT },
         separation: 0,
         ra: Vec2 { x, y: 0 },
         rb: Vec2 { x, y: -20_000 },
-        push,
-        slip,
+        normal_impulse,
+        tangent_impulse,
         candidate,
     }
 }
 
 #[test]
 fn a_capsule_comes_to_lie_on_a_segment(rt: HostRuntime) -> Result<(), Fail> {
-    let none: [ContactEntry; 0] = [];
     let mut lying = lying_at(rt.alloc(), 20_000)?;
-    let laid = collide(rt.alloc(), &none, &mut lying)?;
+    let laid = collide(rt.alloc(), &Contacts::new(rt.alloc()), &mut lying)?;
     let contact = Contact {
         first: Some(point(2, -50_000, 0, 0)),
         second: Some(point(3, 50_000, 0, 0)),
     };
-    let entry = ContactEntry { key: KEY, contact };
+    let entry = ContactEntry {
+        key: KEY,
+        surface: TOGETHER,
+        contact,
+    };
     assert_eq!(rt; laid.now.as_slice(), [entry].as_slice());
     assert_eq!(rt; laid.made.as_slice(), [KEY].as_slice());
     assert_eq!(rt; laid.begin.as_slice(), [KEY].as_slice());
@@ -139,20 +167,69 @@ fn a_capsule_comes_to_lie_on_a_segment(rt: HostRuntime) -> Result<(), Fail> {
     Ok(())
 }
 
-/// The contact of the capsule that lay on the floor, with kept impulses.
-fn resting() -> [ContactEntry; 1]
-    ensures { AreKeysRising result }
-{
+/// What the contact got when its shapes came near.
+const KEPT: Surface = Surface {
+    friction: 100,
+    restitution: 3,
+};
+
+/// The contact of the capsule that lay on the floor, with what it kept.
+fn resting(alloc: Global) -> Result<Contacts, Refusal> {
     let contact = Contact {
         first: Some(point(3, 50_000, 7, -2)),
         second: Some(point(2, -50_000, 5, 1)),
     };
-    [ContactEntry { key: KEY, contact }]
+    let mut entries = Vec::new(alloc);
+    entries.push(ContactEntry {
+        key: KEY,
+        surface: KEPT,
+        contact,
+    })?;
+    Ok(Contacts::from_entries(entries))
+}
+
+#[test]
+fn contacts_go_with_a_body(rt: HostRuntime) -> Result<(), Fail> {
+    let mut contacts = resting(rt.alloc())?;
+    assert!(rt; contacts.is_touching(KEY));
+    assert!(rt;
+        !contacts.is_touching(ContactKey {
+            first: SECOND,
+            second: FIRST
+        })
+    );
+    let first = Impulses {
+        normal_impulse: 40,
+        tangent_impulse: -30,
+    };
+    contacts.set_impulses(0, first, None);
+    contacts.set_impulses(1, first, None);
+    let copied = contacts.try_copy()?;
+    contacts.drop_of_body(2);
+    assert_eq!(rt; contacts.len(), 1);
+    contacts.drop_of_body(1);
+    assert_eq!(rt; contacts.len(), 0);
+    assert!(rt; !contacts.is_touching(KEY));
+    let contact = Contact {
+        first: Some(point(3, 50_000, 40, -30)),
+        second: Some(point(2, -50_000, 5, 1)),
+    };
+    let entry = ContactEntry {
+        key: KEY,
+        surface: KEPT,
+        contact,
+    };
+    assert_eq!(rt; copied.as_slice(), [entry].as_slice());
+    Ok(())
 }
 
 #[test]
 fn a_lifted_capsule_parts(rt: HostRuntime) -> Result<(), Fail> {
-    let lifted = collide(rt.alloc(), &resting(), &mut lying_at(rt.alloc(), 20_001)?)?;
+    let lifted = collide(
+        rt.alloc(),
+        &resting(rt.alloc())?,
+        &mut lying_at(rt.alloc(), 20_001)?,
+    )?;
     assert_eq!(rt; lifted.end.as_slice(), [KEY].as_slice());
     assert!(rt; lifted.gone.is_empty());
     let apart = Contact {
@@ -161,6 +238,7 @@ fn a_lifted_capsule_parts(rt: HostRuntime) -> Result<(), Fail> {
     };
     let entry = ContactEntry {
         key: KEY,
+        surface: KEPT,
         contact: apart,
     };
     assert_eq!(rt; lifted.now.as_slice(), [entry].as_slice());
@@ -171,23 +249,31 @@ fn a_lifted_capsule_parts(rt: HostRuntime) -> Result<(), Fail> {
 fn a_capsule_far_above_is_gone(rt: HostRuntime) -> Result<(), Fail> {
     let gone = collide(
         rt.alloc(),
-        &resting(),
+        &resting(rt.alloc())?,
         &mut lying_at(rt.alloc(), 1_000_000)?,
     )?;
     assert_eq!(rt; gone.end.as_slice(), [KEY].as_slice());
     assert_eq!(rt; gone.gone.as_slice(), [KEY].as_slice());
-    assert!(rt; gone.now.is_empty());
+    assert!(rt; gone.now.len() == 0);
     Ok(())
 }
 
 #[test]
 fn impulses_stay_with_their_candidates(rt: HostRuntime) -> Result<(), Fail> {
-    let lies = collide(rt.alloc(), &resting(), &mut lying_at(rt.alloc(), 20_000)?)?;
+    let lies = collide(
+        rt.alloc(),
+        &resting(rt.alloc())?,
+        &mut lying_at(rt.alloc(), 20_000)?,
+    )?;
     let contact = Contact {
         first: Some(point(2, -50_000, 5, 1)),
         second: Some(point(3, 50_000, 7, -2)),
     };
-    let entry = ContactEntry { key: KEY, contact };
+    let entry = ContactEntry {
+        key: KEY,
+        surface: KEPT,
+        contact,
+    };
     assert_eq!(rt; lies.now.as_slice(), [entry].as_slice());
     assert!(rt; lies.begin.is_empty() && lies.end.is_empty());
     Ok(())

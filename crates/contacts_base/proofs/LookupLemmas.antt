@@ -10,14 +10,14 @@ use Rattle.contacts_base.specs.declared.contact.ContactEntry.{ContactEntry}
 use Rattle.contacts_base.specs.Keys.{key_number}
 use Rattle.contacts_base.specs.Contacts.{number_of, lookup, AreKeysRising}
 
-pub lookup-here : (e : ContactEntry) (es : List ContactEntry) (key : ContactKey) → number_of e ≡ key_number key → lookup (e ∷ es) key ≡ Some e.contact
+pub lookup-here : (e : ContactEntry) (es : List ContactEntry) (key : ContactKey) → number_of e ≡ key_number key → lookup (e ∷ es) key ≡ Some e
 lookup-here e es key h = grind (arith, nat_tests)
 
 pub lookup-later : (e : ContactEntry) (es : List ContactEntry) (key : ContactKey) → (number_of e ≡ key_number key → ⊥) → lookup (e ∷ es) key ≡ lookup es key
 lookup-later e es key h = grind (arith, nat_tests)
 
 -- the first entry with the key's number
-pub lookup-at : (es : List ContactEntry) (key : ContactKey) (i : ℕ) (d : ContactEntry) → i < length es → ((k : ℕ) → k < i → number_of (get_or es k d) < key_number key) → number_of (get_or es i d) ≡ key_number key → lookup es key ≡ Some (get_or es i d).contact
+pub lookup-at : (es : List ContactEntry) (key : ContactKey) (i : ℕ) (d : ContactEntry) → i < length es → ((k : ℕ) → k < i → number_of (get_or es k d) < key_number key) → number_of (get_or es i d) ≡ key_number key → lookup es key ≡ Some (get_or es i d)
 lookup-at [] key i d lt below h = absurd (omega arith)
 lookup-at (e ∷ es) key zero d lt below h = lookup-here e es key h
 lookup-at (e ∷ es) key (suc i) d lt below h =
@@ -42,7 +42,7 @@ pub keys_not_before : (es : List ContactEntry) → AreKeysRising es → IsNonDec
 keys_not_before es h i j d le lj = grind (arith, keys_later es h i j d)
 
 -- the entry e at the first place whose number isn't below the key's
-pub lookup-found : (es : List ContactEntry) (key : ContactKey) (i : ℕ) (e : ContactEntry) → AllWithin (λ f. number_of f < key_number key) es 0 i → i < length es → e ≡ get_or es i e → number_of e ≡ key_number key → lookup es key ≡ Some e.contact
+pub lookup-found : (es : List ContactEntry) (key : ContactKey) (i : ℕ) (e : ContactEntry) → AllWithin (λ f. number_of f < key_number key) es 0 i → i < length es → e ≡ get_or es i e → number_of e ≡ key_number key → lookup es key ≡ Some e
 lookup-found es key i e before lt is same =
     let h : number_of (get_or es i e) ≡ key_number key = rw (← is) same in
     rw (lookup-at es key i e lt (λ k q. before k e (omega arith) q) h, ← is) refl

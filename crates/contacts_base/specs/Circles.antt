@@ -1,4 +1,4 @@
--- Circles in the world.
+-- Inner forms of the code; no public contract rests on them. Circles in the world.
 use Rattle.std.specs.Prelude.{◌^◌, ◌≤◌, pos, ◌≤ℤ◌, unsigned_abs, Option, Some, None}
 use Rattle.fixed_geom.specs.Vectors.{IsWithin}
 use Rattle.shapes.specs.declared.pose.Pose.{Pose}

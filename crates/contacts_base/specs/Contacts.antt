@@ -1,11 +1,14 @@
 -- Lists of contacts by key.
-use Rattle.std.specs.Prelude.{ℕ, suc, ◌<◌, ◌≤◌, ◌==◌, cond, List, [], ◌∷◌, length, map, slice_index_or, Option, Some, None}
+use Rattle.std.specs.Prelude.{ℕ, suc, ◌<◌, ◌≤◌, ◌==◌, ◌||◌, Bool, false, not, cond, List, [], ◌∷◌, length, map, filter, slice_index_or, slice_set, Option, Some, None, option_map, All}
 use Rattle.std.specs.List.{AllWithin}
 use Rattle.std.specs.List.Sorted.{IsStrictlyIncreasing}
 use Rattle.contacts_base.specs.declared.key.ContactKey.{ContactKey}
-use Rattle.contacts_base.specs.declared.contact.Contact.{Contact}
+use Rattle.contacts_base.specs.declared.contact.ContactPoint.{ContactPoint}
 use Rattle.contacts_base.specs.declared.contact.ContactEntry.{ContactEntry}
+use Rattle.contacts_base.specs.declared.evaluation.Impulses.{Impulses}
 use Rattle.contacts_base.specs.Keys.{key_number}
+use Rattle.contacts_base.specs.Evaluate.{touches}
+use Rattle.contacts_base.specs.Surfaces.{IsSurface}
 
 abbrev pub number_of : ContactEntry → ℕ
 number_of e = key_number e.key
@@ -14,10 +17,19 @@ number_of e = key_number e.key
 abbrev pub AreKeysRising : List ContactEntry → Type 0
 AreKeysRising entries = IsStrictlyIncreasing (map number_of entries)
 
+-- what is kept of the contacts of near shapes
+pub record AreContacts (entries : List ContactEntry) : Type 0 where
+  pub rising : AreKeysRising entries
+  pub surfaces : All (λ e. IsSurface e.surface) entries
+
 -- the contact with the key
-abbrev pub lookup : List ContactEntry → ContactKey → Option Contact
+abbrev pub lookup : List ContactEntry → ContactKey → Option ContactEntry
 lookup [] key = None
-lookup (e ∷ es) key = cond (number_of e == key_number key) (Some e.contact) (lookup es key)
+lookup (e ∷ es) key = cond (number_of e == key_number key) (Some e) (lookup es key)
+
+abbrev pub is_touching : Option ContactEntry → Bool
+is_touching None = false
+is_touching (Some e) = touches e.contact
 
 -- the contacts before the place have lesser numbers
 pub record IsAllBelow (entries : List ContactEntry) (number place : ℕ) : Type 0 where
@@ -41,3 +53,30 @@ found_in n (e ∷ es) key = cond (number_of e == key_number key) (Some n) (found
 
 abbrev pub found_place : List ContactEntry → ContactKey → Option ℕ
 found_place entries key = found_in 0 entries key
+
+-- ---- what becomes of the list
+
+-- the contact is one of the body in the slot
+abbrev pub has_slot : ℕ → ContactEntry → Bool
+has_slot slot e = (e.key.first.slot == slot) || (e.key.second.slot == slot)
+
+abbrev pub contacts_without : ℕ → List ContactEntry → List ContactEntry
+contacts_without slot entries = filter (λ e. not (has_slot slot e)) entries
+
+-- the point has these impulses
+abbrev pub with_impulses : Impulses → ContactPoint → ContactPoint
+with_impulses i p = record p { normal_impulse = i.normal_impulse; tangent_impulse = i.tangent_impulse }
+
+-- the second point stays as it is where nothing is given for it
+abbrev pub with_second : Option Impulses → Option ContactPoint → Option ContactPoint
+with_second None point = point
+with_second (Some i) point = option_map (with_impulses i) point
+
+-- the contact's points have these impulses
+abbrev pub with_points : Impulses → Option Impulses → ContactEntry → ContactEntry
+with_points first second e = record e { contact = record e.contact { first = option_map (with_impulses first) e.contact.first; second = with_second second e.contact.second } }
+
+-- the contact at the index, if there is one, has these impulses
+abbrev pub impulses_set : ℕ → Impulses → Option Impulses → List ContactEntry → Option ContactEntry → List ContactEntry
+impulses_set index first second entries None = entries
+impulses_set index first second entries (Some e) = slice_set entries index (with_points first second e)

@@ -1,4 +1,5 @@
 pub mod Keys
+pub mod Surfaces
 pub mod Contacts
 pub mod Evaluate
 pub mod Near

@@ -5,15 +5,19 @@ use Rattle.fixed_geom.specs.Boxes.{overlaps}
 use Rattle.shapes.specs.Shapes.{IsShape}
 use Rattle.shapes.specs.Poses.{IsPose}
 use Rattle.shapes.specs.Filters.{should_collide}
+use Rattle.shapes.specs.declared.limits.TheConstants.{MAX_SHAPES}
+use Rattle.body_handles.specs.declared.places.TheConstants.{MAX_SLOTS}
 use Rattle.contacts_base.specs.declared.near.Proxy.{Proxy}
 use Rattle.contacts_base.specs.Keys.{id_number}
+use Rattle.contacts_base.specs.Surfaces.{IsSurface}
 
--- a shape of a body: 16,384 bodies have 8 shapes at most
+-- a shape of a body
 pub record IsProxy (p : Proxy) : Type 0 where
   pub shape : IsShape p.shape
   pub pose : IsPose p.pose
-  pub slot : p.id.slot < 16384
-  pub index : p.id.index < 8
+  pub surface : IsSurface p.surface
+  pub slot : p.id.slot < MAX_SLOTS
+  pub index : p.id.index < MAX_SHAPES
 
 abbrev pub number_of : Proxy → ℕ
 number_of p = id_number p.id

@@ -9,7 +9,7 @@ ghost use Rattle.contacts_base.specs.Near.{IsProxy};
 ghost use Rattle.contacts_base.specs.Circles.{IsDisc, disc_of};
 
 use crate::Proxy;
-use fixed_geom::{Vec2, is_within, minus, narrow_dot};
+use fixed_geom::{Vec2, dot_64, is_within, minus};
 use shapes::{Pose, Shape, placed};
 
 /// A circle in the world: its centre and its radius, in u.
@@ -64,7 +64,7 @@ fn is_longer(way: Vec2, reach: i64) -> bool
         return true;
     }
     let next = next_way(reach);
-    narrow_dot(way, way) >= narrow_dot(next, next)
+    dot_64(way, way) >= dot_64(next, next)
 }
 
 /// Whether two circles are apart.

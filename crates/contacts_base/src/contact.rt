@@ -6,12 +6,12 @@ ghost use Rattle.contacts_base.specs.Keys.{key_number};
 ghost use Rattle.contacts_base.specs.Evaluate.{touches};
 ghost use Rattle.contacts_base.specs.Contacts.{lookup, found_place, AreKeysRising, IsAllBelow, IsNoneBelow, IsFirstFrom};
 
-use crate::ContactKey;
+use crate::{ContactKey, Surface};
 use fixed_geom::Vec2;
 
 /// A point of a contact: the normal from the first shape to the second, times 2^30, the separation in
 /// u, the point by its offsets from the two bodies' centres in u, the kept impulses along the normal
-/// (push) and across it (slip), in mass·u/tick, and the number of its candidate, 0 to 3: a whole word, so that a point
+/// and across it, in mass·u/tick, and the number of its candidate, 0 to 3: a whole word, so that a point
 /// has no gaps, which would be copied piece by piece.
 #[derive(Clone, Copy, Debug, PartialEq, Eq)]
 pub struct ContactPoint {
@@ -19,8 +19,8 @@ pub struct ContactPoint {
     pub separation: i64,
     pub ra: Vec2,
     pub rb: Vec2,
-    pub push: i64,
-    pub slip: i64,
+    pub normal_impulse: i64,
+    pub tangent_impulse: i64,
     pub candidate: u64,
 }
 
@@ -41,10 +41,12 @@ impl Contact {
     }
 }
 
-/// A contact with the names of its shapes.
+/// A contact with the names of its shapes, and the friction and restitution of the two together,
+/// which stay what they were when the shapes came near.
 #[derive(Clone, Copy, Debug, PartialEq, Eq)]
 pub struct ContactEntry {
     pub key: ContactKey,
+    pub surface: Surface,
     pub contact: Contact,
 }
 
@@ -140,7 +142,7 @@ pub fn seek(entries: &[ContactEntry], hint: usize, key: ContactKey) -> usize
 /// The contact with this key, where `place` is that of the first contact whose key isn't below it; `None` where there is
 /// none.
 #[inline(always)]
-pub fn contact_at(entries: &[ContactEntry], place: usize, key: ContactKey) -> Option<&Contact>
+pub fn contact_at(entries: &[ContactEntry], place: usize, key: ContactKey) -> Option<&ContactEntry>
     requires rising { AreKeysRising entries.now }
     requires place { IsFirstFrom entries.now (key_number key) place }
     ensures { option_copied result ≡ lookup entries.now key }
@@ -148,7 +150,7 @@ pub fn contact_at(entries: &[ContactEntry], place: usize, key: ContactKey) -> Op
     let wanted = key.number();
     let entry = entries.get(place)?;
     if entry.key.number() == wanted {
-        Some(&entry.contact)
+        Some(entry)
     } else {
         None
     }

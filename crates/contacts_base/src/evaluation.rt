@@ -7,18 +7,21 @@ ghost use Rattle.contacts_base.specs.Near.{IsProxy};
 ghost use Rattle.contacts_base.specs.Evaluate.{impulses_at, kept, kept_point, evaluated};
 
 use crate::circles::are_circles_apart;
-use crate::{Contact, ContactPoint, Proxy};
+use crate::{Contact, ContactEntry, ContactPoint, Proxy};
 use shapes::{Manifold, Point, manifold};
 
-/// The impulses that a point keeps from one step to the next, along the normal (push) and across it
-/// (slip), in mass·u/tick.
+/// The impulses that a point keeps from one step to the next, along the normal and across it, in
+/// mass·u/tick.
 #[derive(Clone, Copy, Debug, PartialEq, Eq)]
 pub struct Impulses {
-    pub push: i64,
-    pub slip: i64,
+    pub normal_impulse: i64,
+    pub tangent_impulse: i64,
 }
 
-const NO_IMPULSES: Impulses = Impulses { push: 0, slip: 0 };
+const NO_IMPULSES: Impulses = Impulses {
+    normal_impulse: 0,
+    tangent_impulse: 0,
+};
 
 /// The two shapes don't touch.
 const APART: Contact = Contact {
@@ -35,8 +38,8 @@ fn impulses_at(point: &Option<ContactPoint>, candidate: u64) -> Option<Impulses>
         Some(point) => {
             if point.candidate == candidate {
                 Some(Impulses {
-                    push: point.push,
-                    slip: point.slip,
+                    normal_impulse: point.normal_impulse,
+                    tangent_impulse: point.tangent_impulse,
                 })
             } else {
                 None
@@ -46,20 +49,20 @@ fn impulses_at(point: &Option<ContactPoint>, candidate: u64) -> Option<Impulses>
 }
 
 /// The impulses that a contact kept at this candidate, zero where it has no such point.
-fn kept(old: Option<&Contact>, candidate: u64) -> Impulses
+fn kept(old: Option<&ContactEntry>, candidate: u64) -> Impulses
     ensures { result ≡ kept (option_copied old.entry) candidate }
 {
     match old {
         None => NO_IMPULSES,
-        Some(contact) => match impulses_at(&contact.first, candidate) {
+        Some(entry) => match impulses_at(&entry.contact.first, candidate) {
             Some(impulses) => impulses,
-            None => impulses_at(&contact.second, candidate).unwrap_or(NO_IMPULSES),
+            None => impulses_at(&entry.contact.second, candidate).unwrap_or(NO_IMPULSES),
         },
     }
 }
 
 /// A point of the manifold with the impulses kept at its candidate.
-fn kept_point(old: Option<&Contact>, point: &Point) -> ContactPoint
+fn kept_point(old: Option<&ContactEntry>, point: &Point) -> ContactPoint
     ensures { result ≡ kept_point (option_copied old.entry) point.now }
 {
     let impulses = kept(old, point.candidate);
@@ -68,8 +71,8 @@ fn kept_point(old: Option<&Contact>, point: &Point) -> ContactPoint
         separation: point.separation,
         ra: point.ra,
         rb: point.rb,
-        push: impulses.push,
-        slip: impulses.slip,
+        normal_impulse: impulses.normal_impulse,
+        tangent_impulse: impulses.tangent_impulse,
         candidate: point.candidate,
     }
 }
@@ -80,7 +83,7 @@ fn kept_point(old: Option<&Contact>, point: &Point) -> ContactPoint
 /// manifold's points, each with the impulses that the old contact kept at the same candidate (as
 /// Box2D carries them over by feature id), or 0. One that doesn't touch has no points.
 #[tactic(auto, unfolding(crate::specs::Evaluate::evaluated))]
-pub fn evaluate(old: Option<&Contact>, manifold: &Manifold) -> Contact
+pub fn evaluate(old: Option<&ContactEntry>, manifold: &Manifold) -> Contact
     ensures { result ≡ evaluated (option_copied old.entry) manifold.now }
 {
     if manifold.first.separation > 0 {
@@ -101,7 +104,7 @@ pub fn evaluate(old: Option<&Contact>, manifold: &Manifold) -> Contact
 /// What the contact of two shapes becomes, where `old` is what it was before: `evaluate` of their
 /// manifold, which isn't computed where a quick look shows that they are apart.
 #[tactic(auto, unfolding(crate::specs::Evaluate::evaluated))]
-pub fn contact_of(old: Option<&Contact>, p: &Proxy, q: &Proxy) -> Contact
+pub fn contact_of(old: Option<&ContactEntry>, p: &Proxy, q: &Proxy) -> Contact
     requires first { IsProxy p.now }
     requires second { IsProxy q.now }
     ensures { result ≡ evaluated (option_copied old.entry) (manifold_of p.now.shape p.now.pose q.now.shape q.now.pose) }

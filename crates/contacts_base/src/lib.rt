@@ -4,11 +4,16 @@
 
 pub mod circles;
 pub mod contact;
+pub mod contacts;
 pub mod evaluation;
 pub mod key;
+pub mod limits;
 pub mod near;
+pub mod surface;
 
 pub use contact::{Contact, ContactEntry, ContactPoint, contact_at, place_at, seek};
-pub use evaluation::{contact_of, evaluate};
+pub use contacts::Contacts;
+pub use evaluation::{Impulses, contact_of, evaluate};
 pub use key::{ContactKey, ShapeId};
 pub use near::{Proxy, code_of, is_near};
+pub use surface::Surface;

@@ -3,18 +3,19 @@
 ghost use Rattle.std.specs.Prelude.{◌≡◌, ◌^◌, ◌<◌};
 ghost use Rattle.contacts_base.specs.Near.{is_near, pair_code};
 
-use crate::ShapeId;
+use crate::{ShapeId, Surface};
 use fixed_geom::{Box2, overlaps};
 use shapes::{Filter, Pose, Shape, should_collide};
 
 /// A shape of an enabled body as the collide reads it: its name, its fat box, its filter, whether
-/// its body is dynamic, and the shape with its body's pose.
+/// its body is dynamic, its friction and restitution, and the shape with its body's pose.
 #[derive(Clone, Copy, Debug, PartialEq, Eq)]
 pub struct Proxy {
     pub id: ShapeId,
     pub fat: Box2,
     pub filter: Filter,
     pub dynamic: bool,
+    pub surface: Surface,
     pub shape: Shape,
     pub pose: Pose,
 }

@@ -31,7 +31,7 @@ fn tells_each_list_ascending(rt: HostRuntime) -> Result<(), Fail> {
     ]?;
     let end = vec![in alloc; key(0, 7, 1), key(1, 0, 2)]?;
     let slept = vec![in alloc; body(5, 1), body(3, 2), body(3, 1)]?;
-    let woke = vec![in alloc; body(16_383, 1), body(0, 4_294_967_294)]?;
+    let woke = vec![in alloc; body(65_535, 1), body(0, 4_294_967_294)]?;
     let mut events = Events::from_lists(begin, end, slept, woke);
     let told = [
         key(0, 0, 4),
@@ -48,7 +48,7 @@ fn tells_each_list_ascending(rt: HostRuntime) -> Result<(), Fail> {
     );
     assert_eq!(rt;
         events.woke(),
-        [body(0, 4_294_967_294), body(16_383, 1)].as_slice()
+        [body(0, 4_294_967_294), body(65_535, 1)].as_slice()
     );
 
     let copy = events.try_copy()?;
@@ -58,7 +58,7 @@ fn tells_each_list_ascending(rt: HostRuntime) -> Result<(), Fail> {
     assert_eq!(rt; copy.begin(), told.as_slice());
     assert_eq!(rt;
         copy.woke(),
-        [body(0, 4_294_967_294), body(16_383, 1)].as_slice()
+        [body(0, 4_294_967_294), body(65_535, 1)].as_slice()
     );
     assert_eq!(rt; Events::new(alloc).slept().len(), 0);
     Ok(())

@@ -4,6 +4,7 @@ use Rattle.std.specs.Ordering.{int_eq}
 use Rattle.fixed_geom.specs.Numbers.{rdiv}
 use Rattle.fixed_geom.specs.Vectors.{unit_length, span, unit}
 use Rattle.fixed_geom.specs.declared.vectors.Vec2.{Vec2}
+use Rattle.fixed_geom.specs.declared.facings.TheConstants.{MAX_FACING, MIN_FACING}
 use Rattle.fixed_geom.specs.declared.facings.Rot.{Rot}
 
 -- the unit vector that a facing faces along
@@ -12,14 +13,14 @@ direction q = record { x = q.c; y = q.s }
 
 -- the length is within 2 of 2^30
 unfoldable pub is_facing : Rot → Bool
-is_facing q = int_le (pos (2 ^ 30 - 2)) (span (direction q)) && int_le (span (direction q)) (pos (2 ^ 30 + 2))
+is_facing q = int_le (pos MIN_FACING) (span (direction q)) && int_le (span (direction q)) (pos MAX_FACING)
 
 -- the length is within 2 of 2^30, said of its square
 pub record IsFacing (q : Rot) : Type 0 where
-  pub c : unsigned_abs q.c ≤ 2 ^ 30 + 2
-  pub s : unsigned_abs q.s ≤ 2 ^ 30 + 2
-  pub long : (2 ^ 30 - 2) * (2 ^ 30 - 2) ≤ unsigned_abs q.c * unsigned_abs q.c + unsigned_abs q.s * unsigned_abs q.s
-  pub short : unsigned_abs q.c * unsigned_abs q.c + unsigned_abs q.s * unsigned_abs q.s < (2 ^ 30 + 3) * (2 ^ 30 + 3)
+  pub c : unsigned_abs q.c ≤ MAX_FACING
+  pub s : unsigned_abs q.s ≤ MAX_FACING
+  pub long : MIN_FACING * MIN_FACING ≤ unsigned_abs q.c * unsigned_abs q.c + unsigned_abs q.s * unsigned_abs q.s
+  pub short : unsigned_abs q.c * unsigned_abs q.c + unsigned_abs q.s * unsigned_abs q.s < (MAX_FACING + 1) * (MAX_FACING + 1)
 
 -- v turned by the facing q
 abbrev pub rotate : Rot → Vec2 → Vec2

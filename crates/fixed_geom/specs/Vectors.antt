@@ -1,11 +1,12 @@
 -- Vectors of whole numbers; a unit vector is times 2^30.
-use Rattle.std.specs.Prelude.{ℕ, Bool, ◌&&◌, ◌≤◌, ◌^◌, ℤ, pos, ◌+ℤ◌, ◌-ℤ◌, ◌*ℤ◌, unsigned_abs, nat_le}
+use Rattle.std.specs.Prelude.{ℕ, Bool, ◌&&◌, ◌≤◌, ◌^◌, ℤ, pos, ◌+ℤ◌, ◌-ℤ◌, ◌*ℤ◌, neg_ℤ, unsigned_abs, nat_le}
 use Rattle.fixed_geom.specs.Numbers.{rdiv, isqrt}
+use Rattle.fixed_geom.specs.declared.vectors.TheConstants.{UNIT}
 use Rattle.fixed_geom.specs.declared.vectors.Vec2.{Vec2}
 
 -- one, for a unit vector and a facing
 abbrev pub unit_length : ℤ
-unit_length = pos (2 ^ 30)
+unit_length = UNIT
 
 -- both components are at most n in size
 pub record IsWithin (n : ℕ) (v : Vec2) : Type 0 where
@@ -21,8 +22,17 @@ dot a b = a.x *ℤ b.x +ℤ a.y *ℤ b.y
 unfoldable pub cross : Vec2 → Vec2 → ℤ
 cross a b = a.x *ℤ b.y -ℤ a.y *ℤ b.x
 
+abbrev pub zero_vector : Vec2
+zero_vector = record { x = pos 0; y = pos 0 }
+
+abbrev pub plus : Vec2 → Vec2 → Vec2
+plus a b = record { x = a.x +ℤ b.x; y = a.y +ℤ b.y }
+
 abbrev pub minus : Vec2 → Vec2 → Vec2
 minus a b = record { x = a.x -ℤ b.x; y = a.y -ℤ b.y }
+
+abbrev pub opposite : Vec2 → Vec2
+opposite v = record { x = neg_ℤ v.x; y = neg_ℤ v.y }
 
 -- the length of d, rounded down
 unfoldable pub span : Vec2 → ℤ

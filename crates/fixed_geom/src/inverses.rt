@@ -4,7 +4,7 @@ ghost use Rattle.std.specs.Prelude.{◌≡◌, ℕ, ◌*◌, ◌^◌, ◌<◌, �
 ghost use Rattle.fixed_geom.specs.Numbers.{nearest, rdiv};
 
 use crate::quotients::{nearest_quotient, nearest_quotient_64};
-use crate::roots::{joined_float, low_52_bits, short_float_of};
+use crate::roots::{joined_float, low_52_bits, mostly_joined_float};
 
 /// A guess at `n·2^40 / d` to the nearest, by a quotient of floats. Nothing else is promised of it, since what follows puts
 /// any guess right.
@@ -12,13 +12,13 @@ use crate::roots::{joined_float, low_52_bits, short_float_of};
 fn guess_40(n: u64, d: u64) -> u64
     ensures small { result < 2 ^ 52 }
 {
-    let quotient = short_float_of(n) / short_float_of(d);
+    let quotient = mostly_joined_float(n) / mostly_joined_float(d);
     low_52_bits(quotient * 1_099_511_627_776.0)
 }
 
 /// The same of an `n` and a `d` below 2^52, for which no test is made: of others it is no good guess.
 #[inline(always)]
-fn short_guess_40(n: u64, d: u64) -> u64
+fn joined_guess_40(n: u64, d: u64) -> u64
     ensures small { result < 2 ^ 52 }
 {
     low_52_bits(joined_float(n) / joined_float(d) * 1_099_511_627_776.0)
@@ -58,7 +58,7 @@ fn over_size(n: u64, d: u64) -> u64
     ensures value { result ≡ nearest (n * 2 ^ 40) d }
     ensures small { result ≤ 2 ^ 42 }
 {
-    let guess = short_guess_40(n, d);
+    let guess = joined_guess_40(n, d);
     let least = u128::from(guess) * u128::from(2 * d);
     let sum = u128::from((n << 41) + d);
     if least <= sum {

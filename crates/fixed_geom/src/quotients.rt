@@ -5,7 +5,7 @@ ghost use Rattle.fixed_geom.specs.Numbers.{nearest, rdiv, fdiv, IsNearest, IsFlo
 ghost use Rattle.fixed_geom.specs.Vectors.{unit_length};
 
 use crate::product;
-use crate::roots::{low_bits, short_float_of};
+use crate::roots::{low_bits, mostly_joined_float};
 
 /// The nearest natural number to `n / d`, the greater where two are as near.
 pub(crate) fn nearest_quotient(n: u128, d: u128) -> u128
@@ -89,7 +89,7 @@ pub fn rdiv_unit(x: i128) -> i64
 fn guess_share(n: u64, d: u64) -> u64
     ensures small { result < 2 ^ 33 }
 {
-    let quotient = short_float_of(n) / short_float_of(d);
+    let quotient = mostly_joined_float(n) / mostly_joined_float(d);
     low_bits(quotient * 1_073_741_824.0)
 }
 
@@ -127,7 +127,7 @@ pub(crate) fn share_of_sizes(n: u64, d: u64) -> u64
 
 /// `share` of a whole below 2^62.
 #[inline(always)]
-fn near_share(x: i64, k: i64) -> i64
+fn share_by_guess(x: i64, k: i64) -> i64
     requires positive { pos 0 <ℤ k }
     requires part { unsigned_abs x ≤ unsigned_abs k }
     requires whole { unsigned_abs k < 2 ^ 62 }
@@ -141,7 +141,7 @@ fn near_share(x: i64, k: i64) -> i64
 /// `share` of any whole.
 #[cold]
 #[inline(never)]
-fn far_share(x: i64, k: i64) -> i64
+fn share_by_division(x: i64, k: i64) -> i64
     requires positive { pos 0 <ℤ k }
     requires part { unsigned_abs x ≤ unsigned_abs k }
     ensures value { result ≡ rdiv (x *ℤ unit_length) k }
@@ -160,9 +160,9 @@ pub fn share(x: i64, k: i64) -> i64
     ensures within { unsigned_abs result ≤ 2 ^ 30 }
 {
     if k < 1 << 62 {
-        near_share(x, k)
+        share_by_guess(x, k)
     } else {
-        far_share(x, k)
+        share_by_division(x, k)
     }
 }
 

@@ -209,7 +209,7 @@ fn is_small_part(x: i64, inverse: i64) -> bool
 
 /// `over_inverse` of a quotient that may be greater than 2^28.
 #[inline(never)]
-fn over_small_inverse(x: i64, inverse: i64) -> i64
+fn divided_over_inverse(x: i64, inverse: i64) -> i64
     requires x { unsigned_abs x < 2 ^ 22 }
     requires least { pos (2 ^ 20) ≤ℤ inverse }
     requires most { unsigned_abs inverse < 2 ^ 62 }
@@ -232,6 +232,6 @@ pub fn over_inverse_by(x: i64, inverse: i64, reciprocal: i64) -> i64
     if is_small_part(x, inverse) {
         share_by(1024 * x, inverse, reciprocal)
     } else {
-        over_small_inverse(x, inverse)
+        divided_over_inverse(x, inverse)
     }
 }

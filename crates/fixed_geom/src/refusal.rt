@@ -19,7 +19,7 @@ pub enum Refusal {
     /// Each slot is taken or worn out.
     #[error("no slot can be given out")]
     TooMany,
-    /// No shape or more than eight, or a shape of a form, a radius or a place that isn't allowed.
+    /// No shape or more than eight, or a shape of a form, a radius or a position that isn't allowed.
     #[error("a shape that is not allowed")]
     BadShape,
     /// A number is outside its limit.

@@ -33,7 +33,7 @@ fn converted_float(n: u64) -> f64 {
 
 /// `float_of` where an `n` below 2^52 is expected: the conversion stands apart, out of the way.
 #[inline(always)]
-pub(crate) fn short_float_of(n: u64) -> f64 {
+pub(crate) fn mostly_joined_float(n: u64) -> f64 {
     if n < 1 << 52 {
         joined_float(n)
     } else {

@@ -122,17 +122,17 @@ fn near_and_far_lengths(rt: HostRuntime) {
 }
 
 #[test]
-fn narrow_products(rt: HostRuntime) {
+fn products_in_64_bits(rt: HostRuntime) {
     let a = Vec2 { x: 600, y: 800 };
     let b = Vec2 { x: -30, y: 7 };
-    assert_eq!(rt; narrow_dot(a, b), -12400);
-    assert_eq!(rt; narrow_cross(a, b), 28200);
-    assert_eq!(rt; narrow_scaled(-3, UNIT / 2), -2);
+    assert_eq!(rt; dot_64(a, b), -12400);
+    assert_eq!(rt; cross_64(a, b), 28200);
+    assert_eq!(rt; scaled_64(-3, UNIT / 2), -2);
     assert_eq!(rt; rdiv_unit_64(-(1 << 29)), -1);
     assert_eq!(rt; rdiv_unit_64(1 - (1 << 29)), 0);
     let quarter = Rot { c: 0, s: UNIT };
     assert_eq!(rt;
-        narrow_rotate(quarter, Vec2 { x: UNIT, y: 7 }),
+        rotate_64(quarter, Vec2 { x: UNIT, y: 7 }),
         Vec2 { x: -7, y: UNIT }
     );
 }

@@ -8,6 +8,7 @@ use Rattle.std.proofs.lemmas.List.Elements.{All-set, All-map, All-weaker, filter
 use Rattle.std.proofs.lemmas.List.Folds.{position_or_len-set, list_any-append}
 use Rattle.std.proofs.lemmas.List.Sums.{position_or_len_is, passes_at_first, sum_by-cons}
 use Rattle.std.proofs.lemmas.List.Sorted.{IsPermutation-trans, IsPermutation-append_left, IsPermutation-append_right, sum_by-IsPermutation}
+use Rattle.graph_colours.specs.declared.limits.TheConstants.{COLOURS}
 use Rattle.graph_colours.specs.declared.member.Movers.{Movers}
 use Rattle.graph_colours.specs.declared.member.Member.{Member}
 use Rattle.graph_colours.specs.Members.{AreRising, AreApart, is_free, has_id, inserted, without}
@@ -17,7 +18,7 @@ use Rattle.graph_colours.proofs.PlaceLemmas.{is_same, not_same}
 use Rattle.graph_colours.proofs.ListLemmas.{moved_behind, same_inserted, rising_inserted, apart_inserted, rising_without, apart_without}
 use Rattle.graph_colours.proofs.SearchLemmas.{position_some, none_passes, none_passing, found_in_map, has_inserted, has_without, has_other}
 
--- the colour is one of the thirteen
+-- the colour is one of those or the overflow
 pub first_at_most : {X : Type 0} (p : X → Bool) (xs : List X) → position_or_len p xs ≤ length xs
 first_at_most p [] = omega arith
 first_at_most p (x ∷ xs) = let r : position_or_len p xs ≤ length xs = first_at_most p xs in
@@ -28,11 +29,11 @@ short_enough zero xs = omega arith
 short_enough (suc n) [] = omega arith
 short_enough (suc n) (x ∷ xs) = let r : length (take n xs) ≤ n = short_enough n xs in omega arith
 
-pub least_at_most : {C : Type 0} (lists : List (List (Member C))) (movers : Movers) → least_colour lists movers ≤ 12
+pub least_at_most : {C : Type 0} (lists : List (List (Member C))) (movers : Movers) → least_colour lists movers ≤ COLOURS
 unfolding least_colour
 least_at_most lists movers =
-    let a : position_or_len (λ ms. is_free ms movers) (take 12 lists) ≤ length (take 12 lists) = first_at_most (λ ms. is_free ms movers) (take 12 lists) in
-    let b : length (take 12 lists) ≤ 12 = short_enough 12 lists in
+    let a : position_or_len (λ ms. is_free ms movers) (take COLOURS lists) ≤ length (take COLOURS lists) = first_at_most (λ ms. is_free ms movers) (take COLOURS lists) in
+    let b : length (take COLOURS lists) ≤ COLOURS = short_enough COLOURS lists in
     omega arith
 
 pub enough : {X : Type 0} (n : ℕ) (xs : List X) → n ≤ length xs → length (take n xs) ≡ n
@@ -40,14 +41,14 @@ enough zero xs le = refl
 enough (suc n) [] le = absurd (omega arith)
 enough (suc n) (x ∷ xs) le = let r : length (take n xs) ≡ n = enough n xs (omega arith) in omega arith
 
-pub free_at_least : {C : Type 0} (lists : List (List (Member C))) (movers : Movers) → length lists ≡ 13 → least_colour lists movers < 12 → is_free (list_at lists (least_colour lists movers)) movers ≡ true
+pub free_at_least : {C : Type 0} (lists : List (List (Member C))) (movers : Movers) → length lists ≡ COLOURS + 1 → least_colour lists movers < COLOURS → is_free (list_at lists (least_colour lists movers)) movers ≡ true
 unfolding least_colour
 free_at_least {C} lists movers n lt =
     let p : List (Member C) → Bool = λ ms. is_free ms movers in
-    let c : ℕ = position_or_len p (take 12 lists) in
-    let len : length (take 12 lists) ≡ 12 = enough 12 lists (omega arith) in
-    let at : p (get_or (take 12 lists) c []) ≡ true = passes_at_first p (take 12 lists) [] (omega arith) in
-    let same : get_or (take 12 lists) c [] ≡ get_or lists c [] = get_or-take 12 lists c [] lt in
+    let c : ℕ = position_or_len p (take COLOURS lists) in
+    let len : length (take COLOURS lists) ≡ COLOURS = enough COLOURS lists (omega arith) in
+    let at : p (get_or (take COLOURS lists) c []) ≡ true = passes_at_first p (take COLOURS lists) [] (omega arith) in
+    let same : get_or (take COLOURS lists) c [] ≡ get_or lists c [] = get_or-take COLOURS lists c [] lt in
     ap p (sym same) ∙ at
 
 -- the members of all lists, one list changed
@@ -111,41 +112,41 @@ once_placed {C} number m old new same absent once n =
     omega (arith, e, o) in
     elim (cases_eq (number m.id) n) [ inl q ↦ here q | inr h ↦ there h ]
 
-pub apart_placed : {C : Type 0} (lists : List (List (Member C))) (c : ℕ) (ms : List (Member C)) → length lists ≡ 13 → All AreApart (take 12 lists) → (c < 12 → AreApart ms) → All AreApart (take 12 (slice_set lists c ms))
+pub apart_placed : {C : Type 0} (lists : List (List (Member C))) (c : ℕ) (ms : List (Member C)) → length lists ≡ COLOURS + 1 → All AreApart (take COLOURS lists) → (c < COLOURS → AreApart ms) → All AreApart (take COLOURS (slice_set lists c ms))
 apart_placed {C} lists c ms n apart h =
-    let len : length (take 12 (slice_set lists c ms)) ≤ 12 = short_enough 12 (slice_set lists c ms) in
-    let len' : length (take 12 lists) ≡ 12 = enough 12 lists (omega arith) in
+    let len : length (take COLOURS (slice_set lists c ms)) ≤ COLOURS = short_enough COLOURS (slice_set lists c ms) in
+    let len' : length (take COLOURS lists) ≡ COLOURS = enough COLOURS lists (omega arith) in
     let P : List (Member C) → Type 0 = AreApart in
-    All-from_get_or P (take 12 (slice_set lists c ms)) [] (λ k lt.
-    let below : k < 12 = omega arith in
-    let at : get_or (take 12 (slice_set lists c ms)) k [] ≡ get_or (slice_set lists c ms) k [] = get_or-take 12 (slice_set lists c ms) k [] below in
+    All-from_get_or P (take COLOURS (slice_set lists c ms)) [] (λ k lt.
+    let below : k < COLOURS = omega arith in
+    let at : get_or (take COLOURS (slice_set lists c ms)) k [] ≡ get_or (slice_set lists c ms) k [] = get_or-take COLOURS (slice_set lists c ms) k [] below in
     let here : k ≡ c → P (get_or (slice_set lists c ms) k []) = λ q.
     let Q : ℕ → Type 0 = λ j. P (get_or (slice_set lists c ms) j []) in
     subst Q (sym q) (subst P (sym (get_or-set_same lists c ms [] (omega arith))) (h (omega arith))) in
     let there : (k ≡ c → ⊥) → P (get_or (slice_set lists c ms) k []) = λ o.
-    subst P (get_or-take 12 lists k [] below ∙ sym (get_or-set_other lists c k ms [] o)) (apart k [] (omega arith)) in
+    subst P (get_or-take COLOURS lists k [] below ∙ sym (get_or-set_other lists c k ms [] o)) (apart k [] (omega arith)) in
     subst P (sym at) (elim (cases_eq k c) [ inl q ↦ here q | inr o ↦ there o ]))
 
 -- a constraint placed
 pub placed_members : {C : Type 0} (number : C → ℕ) (m : Member C) (lists : List (List (Member C))) → IsColouring number lists → IsPermutation (m ∷ all_members lists) (all_members (placed number m lists))
 unfolding placed
-placed_members number m lists keeps = all_set number m lists (least_colour lists m.movers) (let c : least_colour lists m.movers ≤ 12 = least_at_most lists m.movers in let n : length lists ≡ 13 = keeps.thirteen in omega arith)
+placed_members number m lists keeps = all_set number m lists (least_colour lists m.movers) (let c : least_colour lists m.movers ≤ COLOURS = least_at_most lists m.movers in let n : length lists ≡ COLOURS + 1 = keeps.count in omega arith)
 
 pub placed_keeps : {C : Type 0} (number : C → ℕ) (m : Member C) (lists : List (List (Member C))) → IsColouring number lists → colour_of number m.id lists ≡ None → IsColouring number (placed number m lists)
 unfolding placed
 placed_keeps {C} number m lists keeps absent =
     let c : ℕ = least_colour lists m.movers in
-    let most : c ≤ 12 = least_at_most lists m.movers in
-    let n : length lists ≡ 13 = keeps.thirteen in
+    let most : c ≤ COLOURS = least_at_most lists m.movers in
+    let n : length lists ≡ COLOURS + 1 = keeps.count in
     let lt : c < length lists = omega arith in
     let none : All (λ ms. has_id number m.id ms ≡ false) lists = absent_in_each number m.id lists absent in
     let rising : AreRising number (list_at lists c) = keeps.rising c [] lt in
     record {
-      thirteen = length-set lists c (inserted number m (list_at lists c)) ∙ n;
+      count = length-set lists c (inserted number m (list_at lists c)) ∙ n;
       rising = All-set (AreRising number) lists c (inserted number m (list_at lists c)) (rising_inserted number m (list_at lists c) rising (none c [] lt)) keeps.rising;
       apart = apart_placed lists c (inserted number m (list_at lists c)) n keeps.apart (λ h.
-          let at : get_or (take 12 lists) c [] ≡ list_at lists c = get_or-take 12 lists c [] h in
-          let len : length (take 12 lists) ≡ 12 = enough 12 lists (omega arith) in
+          let at : get_or (take COLOURS lists) c [] ≡ list_at lists c = get_or-take COLOURS lists c [] h in
+          let len : length (take COLOURS lists) ≡ COLOURS = enough COLOURS lists (omega arith) in
           let P : List (Member C) → Type 0 = AreApart in
           let apart : AreApart (list_at lists c) = subst P at (keeps.apart c [] (omega arith)) in
           apart_inserted number m (list_at lists c) rising apart (free_at_least lists m.movers n h));
@@ -158,8 +159,8 @@ placed_own {C} number m lists keeps absent =
     let p : List (Member C) → Bool = has_id number m.id in
     let c : ℕ = least_colour lists m.movers in
     let new : List (List (Member C)) = slice_set lists c (inserted number m (list_at lists c)) in
-    let most : c ≤ 12 = least_at_most lists m.movers in
-    let n : length lists ≡ 13 = keeps.thirteen in
+    let most : c ≤ COLOURS = least_at_most lists m.movers in
+    let n : length lists ≡ COLOURS + 1 = keeps.count in
     let len : length new ≡ length lists = length-set lists c (inserted number m (list_at lists c)) in
     let at : p (get_or new c []) ≡ true = ap p (get_or-set_same lists c (inserted number m (list_at lists c)) [] (omega arith)) ∙ has_inserted number m.id m (list_at lists c) ∙ ap (λ t. t || p (list_at lists c)) (is_same (number m.id) (number m.id) refl) in
     let first : position_or_len p new ≡ c = position_or_len_is p new c [] (omega arith) (λ k lt. ap p (get_or-set_other lists c k (inserted number m (list_at lists c)) [] (λ q. omega arith)) ∙ none_passes p lists absent k [] (omega arith)) (λ lt. at) in
@@ -188,10 +189,10 @@ count_released number id ms n = count_fewer (λ m. number m.id == n) (λ m. not 
 pub released_keeps : {C : Type 0} (number : C → ℕ) (id : C) (lists : List (List (Member C))) → IsColouring number lists → IsColouring number (released number id lists)
 unfolding released
 released_keeps {C} number id lists keeps = record {
-  thirteen = length-map lists (without number id) ∙ keeps.thirteen;
+  count = length-map lists (without number id) ∙ keeps.count;
   rising = All-map (AreRising number) (without number id) lists (All-weaker (AreRising number) (λ ms. AreRising number (without number id ms)) (rising_without number id) lists keeps.rising);
   apart = let P : List (Member C) → Type 0 = AreApart in
-      rw (take-map (without number id) 12 lists) (All-map P (without number id) (take 12 lists) (All-weaker P (λ ms. P (without number id ms)) (apart_without number id) (take 12 lists) keeps.apart));
+      rw (take-map (without number id) COLOURS lists) (All-map P (without number id) (take COLOURS lists) (All-weaker P (λ ms. P (without number id ms)) (apart_without number id) (take COLOURS lists) keeps.apart));
   once = λ n. rw (all_without number id lists) (let a : count_by (λ m. number m.id == n) (without number id (all_members lists)) ≤ count_by (λ m. number m.id == n) (all_members lists) = count_released number id (all_members lists) n in let b : count_by (λ m. number m.id == n) (all_members lists) ≤ 1 = keeps.once n in omega arith);
 }
 

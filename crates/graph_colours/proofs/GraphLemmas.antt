@@ -1,9 +1,10 @@
--- The twelve colours and the overflow as the lists of a colouring.
+-- The colours and the overflow as the lists of a colouring.
 use Rattle.std.proofs.Common.{◌≡◌, ℕ, ◌+◌, ◌<◌, ◌≤◌, ◌==◌, ◌++◌, Bool, true, false, cond, List, [], ◌∷◌, length, get_or, take, map, slice_set, subst, Some, None, refl, sym, ap, ◌∙◌, arith, max}
 use Rattle.std.specs.List.{All, position_or_len}
 use Rattle.std.proofs.lemmas.List.{length-map, length-set, get_or-take}
 use Rattle.std.proofs.lemmas.List.Elements.{All-nil, All-head, All-tail, All-cons}
 use Rattle.std.proofs.lemmas.List.Folds.{position_or_len_push}
+use Rattle.graph_colours.specs.declared.limits.TheConstants.{COLOURS}
 use Rattle.graph_colours.specs.declared.member.Member.{Member}
 use Rattle.graph_colours.specs.Members.{AreRising, AreApart, is_free, has_id, inserted, without}
 use Rattle.graph_colours.specs.Marks.{Bucket, HasRoom, members_in, lists_of, IsGraph}
@@ -28,7 +29,7 @@ graph_same {C} number bs cs overflow over spare room slots left more below graph
     let P : List (List (Member C)) → Type 0 = λ l. IsColouring number l in
     record {
       colouring = subst P (sym e) graph.colouring;
-      twelve = sym (length-map cs members_in) ∙ ap length same ∙ length-map bs members_in ∙ graph.twelve;
+      count = sym (length-map cs members_in) ∙ ap length same ∙ length-map bs members_in ∙ graph.count;
       rooms = rooms;
       overflow_room = le;
     }
@@ -43,7 +44,7 @@ rooms_both {C} a b s t bs first second k d lt =
     }
 
 -- a member put into its place is the constraint placed
-pub placed_is : {C : Type 0} (number : C → ℕ) (m : Member C) (bs cs : List (Bucket C)) (overflow over : List (Member C)) (place : ℕ) → length bs ≡ 12 → place ≡ position_or_len (λ b. is_free b.members m.movers) bs → lists_of cs over ≡ slice_set (lists_of bs overflow) place (inserted number m (list_at (lists_of bs overflow) place)) → lists_of cs over ≡ placed number m (lists_of bs overflow)
+pub placed_is : {C : Type 0} (number : C → ℕ) (m : Member C) (bs cs : List (Bucket C)) (overflow over : List (Member C)) (place : ℕ) → length bs ≡ COLOURS → place ≡ position_or_len (λ b. is_free b.members m.movers) bs → lists_of cs over ≡ slice_set (lists_of bs overflow) place (inserted number m (list_at (lists_of bs overflow) place)) → lists_of cs over ≡ placed number m (lists_of bs overflow)
 unfolding placed
 placed_is {C} number m bs cs overflow over place n at is =
     let e : place ≡ least_colour (lists_of bs overflow) m.movers = at ∙ least_is_first bs overflow m.movers n in
@@ -54,9 +55,9 @@ pub length_from : {C : Type 0} (bs : List (Bucket C)) (overflow : List (Member C
 length_from [] overflow = omega arith
 length_from (b ∷ bs) overflow = let r : length (lists_of bs overflow) ≡ length bs + 1 = length_from bs overflow in omega arith
 
-pub released_twelve : {C : Type 0} (number : C → ℕ) (id : C) (bs cs : List (Bucket C)) (overflow over : List (Member C)) → length bs ≡ 12 → lists_of cs over ≡ released number id (lists_of bs overflow) → length cs ≡ 12
+pub released_count : {C : Type 0} (number : C → ℕ) (id : C) (bs cs : List (Bucket C)) (overflow over : List (Member C)) → length bs ≡ COLOURS → lists_of cs over ≡ released number id (lists_of bs overflow) → length cs ≡ COLOURS
 unfolding released
-released_twelve number id bs cs overflow over n is =
+released_count number id bs cs overflow over n is =
     let a : length (lists_of cs over) ≡ length (lists_of bs overflow) = ap length is ∙ length-map (lists_of bs overflow) (without number id) in
     let b : length (lists_of cs over) ≡ length cs + 1 = length_from cs over in
     let d : length (lists_of bs overflow) ≡ length bs + 1 = length_from bs overflow in
@@ -99,21 +100,21 @@ in_none {C} number id bs overflow le has =
     sym (position_none (has_id number id) (lists_of bs overflow) (omega (arith, at, n)))
 
 -- what is known of one list of a colouring
-pub rising_at : {C : Type 0} (number : C → ℕ) (lists : List (List (Member C))) (c : ℕ) (ms : List (Member C)) → IsColouring number lists → c ≤ 12 → ms ≡ list_at lists c → AreRising number ms
+pub rising_at : {C : Type 0} (number : C → ℕ) (lists : List (List (Member C))) (c : ℕ) (ms : List (Member C)) → IsColouring number lists → c ≤ COLOURS → ms ≡ list_at lists c → AreRising number ms
 rising_at {C} number lists c ms keeps le is =
-    let n : length lists ≡ 13 = keeps.thirteen in
+    let n : length lists ≡ COLOURS + 1 = keeps.count in
     subst (λ (l : List (Member C)). AreRising number l) (sym is) (keeps.rising c [] (omega arith))
 
-pub apart_at : {C : Type 0} (number : C → ℕ) (lists : List (List (Member C))) (c : ℕ) (ms : List (Member C)) → IsColouring number lists → c < 12 → ms ≡ list_at lists c → AreApart ms
+pub apart_at : {C : Type 0} (number : C → ℕ) (lists : List (List (Member C))) (c : ℕ) (ms : List (Member C)) → IsColouring number lists → c < COLOURS → ms ≡ list_at lists c → AreApart ms
 apart_at {C} number lists c ms keeps lt is =
-    let n : length lists ≡ 13 = keeps.thirteen in
-    let len : length (take 12 lists) ≡ 12 = enough 12 lists (omega arith) in
+    let n : length lists ≡ COLOURS + 1 = keeps.count in
+    let len : length (take COLOURS lists) ≡ COLOURS = enough COLOURS lists (omega arith) in
     let P : List (Member C) → Type 0 = AreApart in
-    subst P (get_or-take 12 lists c [] lt ∙ sym is) (keeps.apart c [] (omega arith))
+    subst P (get_or-take COLOURS lists c [] lt ∙ sym is) (keeps.apart c [] (omega arith))
 
-pub placed_twelve : {C : Type 0} (number : C → ℕ) (m : Member C) (bs cs : List (Bucket C)) (overflow over : List (Member C)) → length bs ≡ 12 → lists_of cs over ≡ placed number m (lists_of bs overflow) → length cs ≡ 12
+pub placed_count : {C : Type 0} (number : C → ℕ) (m : Member C) (bs cs : List (Bucket C)) (overflow over : List (Member C)) → length bs ≡ COLOURS → lists_of cs over ≡ placed number m (lists_of bs overflow) → length cs ≡ COLOURS
 unfolding placed
-placed_twelve {C} number m bs cs overflow over n is =
+placed_count {C} number m bs cs overflow over n is =
     let c : ℕ = least_colour (lists_of bs overflow) m.movers in
     let a : length (lists_of cs over) ≡ length (slice_set (lists_of bs overflow) c (inserted number m (list_at (lists_of bs overflow) c))) = ap length is in
     let b : length (slice_set (lists_of bs overflow) c (inserted number m (list_at (lists_of bs overflow) c))) ≡ length (lists_of bs overflow) = length-set (lists_of bs overflow) c (inserted number m (list_at (lists_of bs overflow) c)) in

@@ -7,4 +7,5 @@ pub mod SearchLemmas
 pub mod StepLemmas
 pub mod OnceLemmas
 pub mod ColouringLemmas
+pub mod EmptyLemmas
 pub mod GraphLemmas

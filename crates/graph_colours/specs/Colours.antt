@@ -1,6 +1,7 @@
--- The colours of the active constraints: lists 0 to 11, in none of which two share a mover, and list 12, the overflow.
-use Rattle.std.specs.Prelude.{◌≡◌, ℕ, ◌≤◌, ◌==◌, List, [], length, map, take, slice_index_or, slice_set, All, Option}
+-- The colours of the active constraints: a list for each, in none of which two share a mover, and after them the overflow.
+use Rattle.std.specs.Prelude.{◌≡◌, ℕ, ◌≤◌, ◌+◌, ◌==◌, List, [], length, map, take, slice_index_or, slice_set, All, Option}
 use Rattle.std.specs.List.{flat_map, count_by, position, position_or_len}
+use Rattle.graph_colours.specs.declared.limits.TheConstants.{COLOURS}
 use Rattle.graph_colours.specs.declared.member.Movers.{Movers}
 use Rattle.graph_colours.specs.declared.member.Member.{Member}
 use Rattle.graph_colours.specs.Members.{AreRising, AreApart, is_free, has_id, inserted, without}
@@ -15,13 +16,17 @@ pub record Coloured (C : Type 0) : Type 0 where
 abbrev pub list_at : {C : Type 0} → List (List (Member C)) → ℕ → List (Member C)
 list_at lists colour = slice_index_or lists colour []
 
+-- the ids in each colour
+abbrev pub ids_of : {C : Type 0} → List (List (Member C)) → List (List C)
+ids_of lists = map (λ ms. map (λ m. m.id) ms) lists
+
 -- the members of all colours
 abbrev pub all_members : {C : Type 0} → List (List (Member C)) → List (Member C)
 all_members lists = flat_map (λ ms. ms) lists
 
--- the first of the twelve colours none of whose members shares a mover with the constraint; 12, the overflow, if there is none
+-- the first of the colours none of whose members shares a mover with the constraint; the overflow if there is none
 unfoldable pub least_colour : {C : Type 0} → List (List (Member C)) → Movers → ℕ
-least_colour lists movers = position_or_len (λ ms. is_free ms movers) (take 12 lists)
+least_colour lists movers = position_or_len (λ ms. is_free ms movers) (take COLOURS lists)
 
 -- the constraint is put into its colour
 unfoldable pub placed : {C : Type 0} → (C → ℕ) → Member C → List (List (Member C)) → List (List (Member C))
@@ -35,9 +40,9 @@ released number id lists = map (without number id) lists
 unfoldable pub colour_of : {C : Type 0} → (C → ℕ) → C → List (List (Member C)) → Option ℕ
 colour_of number id lists = position (has_id number id) lists
 
--- what every colouring keeps: thirteen lists that ascend, no two of one colour 0 to 11 share a mover, and no id stands twice
+-- what every colouring keeps: a list for each colour and one for the overflow; each ascends, no two of one colour share a mover, and no id stands twice
 pub record IsColouring {C : Type 0} (number : C → ℕ) (lists : List (List (Member C))) : Type 0 where
-  pub thirteen : length lists ≡ 13
+  pub count : length lists ≡ COLOURS + 1
   pub rising : All (AreRising number) lists
-  pub apart : All AreApart (take 12 lists)
+  pub apart : All AreApart (take COLOURS lists)
   pub once : (n : ℕ) → count_by (λ m. number m.id == n) (all_members lists) ≤ 1

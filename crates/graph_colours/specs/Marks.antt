@@ -1,6 +1,7 @@
 -- How one colour is kept: its members, and for each slot whether one of them has the mover there.
 use Rattle.std.specs.Prelude.{◌≡◌, ℕ, ◌≤◌, ◌||◌, Bool, false, List, ◌∷◌, [], ◌++◌, length, map, slice_index_or, slice_set, All, Option, Some, None}
 use Rattle.std.specs.List.{list_any}
+use Rattle.graph_colours.specs.declared.limits.TheConstants.{COLOURS}
 use Rattle.graph_colours.specs.declared.member.Movers.{Movers}
 use Rattle.graph_colours.specs.declared.member.Member.{Member}
 use Rattle.graph_colours.specs.Movers.{has_mover}
@@ -45,7 +46,7 @@ pub record HasRoom {C : Type 0} (constraints slots : ℕ) (b : Bucket C) : Type 
   pub enough : constraints ≤ b.room
   pub below : slots ≤ b.slots
 
--- the members of the twelve colours and of the overflow
+-- the members of the colours and of the overflow
 abbrev pub members_in : {C : Type 0} → Bucket C → List (Member C)
 members_in b = b.members
 
@@ -55,6 +56,6 @@ lists_of colours overflow = map members_in colours ++ overflow ∷ []
 -- what the whole graph keeps: a colouring, with room for that many more in each colour and in the overflow
 pub record IsGraph {C : Type 0} (number : C → ℕ) (colours : List (Bucket C)) (overflow : List (Member C)) (spare room slots : ℕ) : Type 0 where
   pub colouring : IsColouring number (lists_of colours overflow)
-  pub twelve : length colours ≡ 12
+  pub count : length colours ≡ COLOURS
   pub rooms : All (HasRoom room slots) colours
   pub overflow_room : room ≤ spare

@@ -1,4 +1,4 @@
-//! The twelve colours and the overflow.
+//! The colours and the overflow.
 
 ghost use Rattle.std.specs.Prelude.{◌≡◌, ◌≢◌, ◌<◌, ◌≤◌, ◌+◌, ◌∷◌, ℕ, length, map, replicate, slice_set, slice_index_or, vec_len, vec_capacity, [], All, false, OnOk, OnErr, IfOk};
 ghost use Rattle.std.specs.Result.{IsOkUnless};
@@ -10,13 +10,11 @@ ghost use Rattle.graph_colours.specs.Marks.{HasRoom, members_in, lists_of};
 ghost use Rattle.graph_colours.specs.Colours.{list_at, all_members, least_colour, placed, released, colour_of, IsColouring};
 
 use crate::colour::Colour;
+use crate::limits::{COLOURS, OVERFLOW};
 use crate::{Id, Member, Movers, member};
 use fixed_geom::Refusal;
 use std::alloc::Global;
 use std::marker::Model;
-
-// How many colours there are before the overflow.
-const OVERFLOW: u8 = 12;
 
 /// The active constraints by colour. Contracts see the members of each colour, ascending by id
 /// (`lists`), how many more constraints may be placed with no memory (`room`), and the bound below
@@ -42,13 +40,13 @@ impl<C: Id> Model for Colours<C> {
     ghost invariant = { λ a. IsGraph C.number a.colours.items a.overflow.items (vec_capacity a.overflow - vec_len a.overflow) a.room a.slots };
 }
 
-/// Twelve colours with no members. Refused 1 where memory is wanting.
+/// As many colours as there are, with no members. Refused 1 where memory is wanting.
 fn no_colours<C: Id>(alloc: Global) -> Result<Vec<Colour<C>>, Refusal>
-    ensures lists { IfOk result (λ colours. map members_in colours.items ≡ replicate 12 []) }
+    ensures lists { IfOk result (λ colours. map members_in colours.items ≡ replicate COLOURS []) }
     ensures memory_only { IsOkUnless result Refusal.NoMemory }
 {
     let mut colours = Vec::new(alloc);
-    for _made in 0..OVERFLOW {
+    for _made in 0..COLOURS {
         colours.push(Colour::new(alloc))?;
     }
     Ok(colours)
@@ -150,15 +148,9 @@ fn put<C: Id>(
 }
 
 impl<C: Id> Colours<C> {
-    /// The number of lists: twelve colours and the overflow.
-    pub const COUNT: usize = 13;
-
-    /// The colour of those that are free in none of the twelve.
-    pub const OVERFLOW: u8 = OVERFLOW;
-
     /// No constraints. Refused 1 where memory is wanting.
     pub fn new(alloc: Global) -> Result<Colours<C>, Refusal>
-        ensures lists { IfOk result (λ made. made.lists ≡ replicate 13 []) }
+        ensures lists { IfOk result (λ made. made.lists ≡ replicate (COLOURS + 1) []) }
         ensures room { IfOk result (λ made. made.room ≡ 0) }
         ensures slots { IfOk result (λ made. made.slots ≡ 0) }
         ensures memory_only { IsOkUnless result Refusal.NoMemory }
@@ -205,8 +197,8 @@ impl<C: Id> Colours<C> {
         Ok(())
     }
 
-    /// Gives the constraint the least colour of 0 to 11 none of whose members shares a mover with it,
-    /// else the overflow, 12, and answers that colour. No other constraint's colour changes.
+    /// Gives the constraint the least colour none of whose members shares a mover with it, else
+    /// `OVERFLOW`, and answers that colour. No other constraint's colour changes.
     pub fn place(&mut self, id: C, movers: Movers) -> u8
         requires absent { colour_of C.number id self.old.lists ≡ None }
         requires below { AreBelow self.old.slots movers }
@@ -245,7 +237,7 @@ impl<C: Id> Colours<C> {
         remove_from_first(&mut self.colours, &mut self.overflow, id);
     }
 
-    /// The colour of the constraint, 0 to 12; `None` where it has none.
+    /// The colour of the constraint, 0 to `OVERFLOW`; `None` where it has none.
     pub fn colour_of(&self, id: C) -> Option<u8>
         ensures { result ≡ colour_of C.number id self.now.lists }
     {
@@ -259,12 +251,12 @@ impl<C: Id> Colours<C> {
         None
     }
 
-    /// The members of a colour, 0 to 12, ascending by id.
+    /// The members of a colour, 0 to `OVERFLOW`, ascending by id.
     pub fn members(&self, colour: u8) -> &[Member<C>]
-        requires { colour ≤ 12 }
+        requires { colour ≤ OVERFLOW }
         ensures value { result.now ≡ list_at self.now.lists colour }
         ensures rising { AreRising C.number result.now }
-        ensures apart { colour < 12 → AreApart result.now }
+        ensures apart { colour < OVERFLOW → AreApart result.now }
         ensures colouring { IsColouring C.number self.now.lists }
     {
         match self.colours.get(colour as usize) {

@@ -1,17 +1,19 @@
 //! The graph colouring of the active constraints, after Box2D's `constraint_graph.c`.
 //!
 //! Constraints of one colour share no mover, so that a step may solve them in any order, or side by
-//! side. There are twelve colours, 0 to 11, and the overflow, 12. A constraint takes the least colour
-//! that none of its movers has yet, keeps it until it is released, and never moves another. A static
+//! side. There are `COLOURS` colours and, after them, the overflow. A constraint takes the least
+//! colour that none of its movers has yet, keeps it until it is released, and never moves another. A static
 //! body is no mover and doesn't count.
 #![tactic(auto)]
 
 mod colour;
 mod colours;
+mod limits;
 mod marks;
 mod member;
 #[cfg(test)]
 mod tests;
 
 pub use colours::Colours;
+pub use limits::{COLOURS, OVERFLOW};
 pub use member::{Id, Member, Movers};

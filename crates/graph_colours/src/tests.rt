@@ -1,8 +1,8 @@
 //! Worked by hand: a hub, what a release leaves, and what doesn't move.
 
-ghost use Rattle.std.specs.Prelude.{◌≡◌, ℕ, Some, None, true, replicate, [], ◌∷◌, ◌++◌};
+ghost use Rattle.std.specs.Prelude.{◌≡◌, ◌+◌, ℕ, Some, None, true, replicate, [], ◌∷◌, ◌++◌};
 ghost use Rattle.graph_colours.specs.Movers.{shares};
-ghost use Rattle.graph_colours.specs.Colours.{least_colour, placed, released, colour_of};
+ghost use Rattle.graph_colours.specs.Colours.{ids_of, least_colour, placed, released, colour_of};
 
 use super::*;
 use fixed_geom::Refusal;
@@ -41,10 +41,10 @@ fn between(first: u32, second: u32) -> Movers {
     }
 }
 
-/// Fifteen constraints between the mover in slot 0 and another one each.
+/// Constraints between the mover in slot 0 and another one each, three more than there are colours.
 fn hub(alloc: Global) -> Result<Colours<Joint>, Refusal> {
     let mut colours = Colours::new(alloc)?;
-    for spoke in 1..16 {
+    for spoke in 1..28 {
         place(&mut colours, spoke, between(0, spoke))?;
     }
     Ok(colours)
@@ -53,13 +53,13 @@ fn hub(alloc: Global) -> Result<Colours<Joint>, Refusal> {
 #[test]
 fn a_hub_takes_all_colours(rt: HostRuntime) -> Result<(), Fail> {
     let colours = hub(rt.alloc())?;
-    for spoke in 1..13u8 {
+    for spoke in 1..25u8 {
         assert_eq!(rt; colours.colour_of(Joint(spoke as u32)), Some(spoke - 1));
     }
-    let over = colours.members(12);
+    let over = colours.members(OVERFLOW);
     assert_eq!(rt; over.len(), 3);
-    assert_eq!(rt; over[0].id, Joint(13));
-    assert_eq!(rt; over[2].id, Joint(15));
+    assert_eq!(rt; over[0].id, Joint(25));
+    assert_eq!(rt; over[2].id, Joint(27));
     Ok(())
 }
 
@@ -70,10 +70,10 @@ fn a_released_colour_is_taken_next(rt: HostRuntime) -> Result<(), Fail> {
     colours.release(Joint(4));
     assert_eq!(rt; colours.colour_of(Joint(4)), None);
     assert_eq!(rt; colours.colour_of(Joint(5)), Some(4));
-    assert_eq!(rt; colours.colour_of(Joint(13)), Some(12));
-    assert_eq!(rt; place(&mut colours, 20, between(20, 0))?, 3);
+    assert_eq!(rt; colours.colour_of(Joint(25)), Some(OVERFLOW));
+    assert_eq!(rt; place(&mut colours, 40, between(40, 0))?, 3);
     assert_eq!(rt; before.colour_of(Joint(4)), Some(3));
-    assert_eq!(rt; before.colour_of(Joint(20)), None);
+    assert_eq!(rt; before.colour_of(Joint(40)), None);
     Ok(())
 }
 
@@ -97,10 +97,11 @@ fn a_static_floor_does_not_count(rt: HostRuntime) -> Result<(), Fail> {
 #[tactic(auto, unfolding(crate::specs::Members::is_free, crate::specs::Members::has_id, crate::specs::Members::without, crate::specs::Colours::least_colour, crate::specs::Colours::placed, crate::specs::Colours::released, crate::specs::Colours::colour_of,))]
 fn definitions_compute()
     ensures second_of_one { shares (record { first = 7; second = Some 2 }) (record { first = 2; second = None }) ≡ true }
-    ensures taken { least_colour {C = ℕ} ((record { id = 5; movers = record { first = 0; second = None } } ∷ []) ∷ replicate 12 []) (record { first = 3; second = Some 0 }) ≡ 1 }
-    ensures free { least_colour {C = ℕ} ((record { id = 5; movers = record { first = 0; second = None } } ∷ []) ∷ replicate 12 []) (record { first = 3; second = None }) ≡ 0 }
-    ensures full { least_colour {C = ℕ} (replicate 12 (record { id = 5; movers = record { first = 0; second = None } } ∷ []) ++ [] ∷ []) (record { first = 3; second = Some 0 }) ≡ 12 }
-    ensures before { placed (λ id. id) (record { id = 4; movers = record { first = 1; second = None } }) ((record { id = 5; movers = record { first = 0; second = None } } ∷ []) ∷ replicate 12 []) ≡ (record { id = 4; movers = record { first = 1; second = None } } ∷ record { id = 5; movers = record { first = 0; second = None } } ∷ []) ∷ replicate 12 [] }
-    ensures gone { released (λ id. id) 5 ((record { id = 5; movers = record { first = 0; second = None } } ∷ []) ∷ replicate 12 []) ≡ replicate 13 [] }
-    ensures there { colour_of (λ id. id) 5 ((record { id = 5; movers = record { first = 0; second = None } } ∷ []) ∷ replicate 12 []) ≡ Some 0 }
+    ensures taken { least_colour {C = ℕ} ((record { id = 5; movers = record { first = 0; second = None } } ∷ []) ∷ replicate COLOURS []) (record { first = 3; second = Some 0 }) ≡ 1 }
+    ensures free { least_colour {C = ℕ} ((record { id = 5; movers = record { first = 0; second = None } } ∷ []) ∷ replicate COLOURS []) (record { first = 3; second = None }) ≡ 0 }
+    ensures full { least_colour {C = ℕ} (replicate COLOURS (record { id = 5; movers = record { first = 0; second = None } } ∷ []) ++ [] ∷ []) (record { first = 3; second = Some 0 }) ≡ OVERFLOW }
+    ensures before { placed (λ id. id) (record { id = 4; movers = record { first = 1; second = None } }) ((record { id = 5; movers = record { first = 0; second = None } } ∷ []) ∷ replicate COLOURS []) ≡ (record { id = 4; movers = record { first = 1; second = None } } ∷ record { id = 5; movers = record { first = 0; second = None } } ∷ []) ∷ replicate COLOURS [] }
+    ensures gone { released (λ id. id) 5 ((record { id = 5; movers = record { first = 0; second = None } } ∷ []) ∷ replicate COLOURS []) ≡ replicate (COLOURS + 1) [] }
+    ensures ids { ids_of {C = ℕ} ((record { id = 5; movers = record { first = 0; second = None } } ∷ []) ∷ [] ∷ []) ≡ (5 ∷ []) ∷ [] ∷ [] }
+    ensures there { colour_of (λ id. id) 5 ((record { id = 5; movers = record { first = 0; second = None } } ∷ []) ∷ replicate COLOURS []) ≡ Some 0 }
 {}

@@ -1,6 +1,7 @@
 -- The kept sums with one more entry.
-use Rattle.std.proofs.Common.{◌≡◌, ◌+◌, ◌^◌, ◌+ℤ◌, [], ◌∷◌, ◌++◌, Bool, true, false, arith, refl, ap}
+use Rattle.std.proofs.Common.{◌≡◌, ◌+ℤ◌, [], ◌∷◌, ◌++◌, Bool, true, false, arith, refl, ap}
 use Rattle.std.proofs.lemmas.Int.{ints}
+use Rattle.impulse_ledger.specs.declared.limits.TheConstants.{MAX_TOTAL_OF_CAUSE}
 use Rattle.impulse_ledger.specs.declared.entry.Cause.{Cause}
 use Rattle.impulse_ledger.specs.declared.entry.Entry.{Entry}
 use Rattle.impulse_ledger.specs.declared.totals.Total.{Total}
@@ -16,9 +17,9 @@ posted t e = put_total t e.cause (sum_of (total_in e.cause t) (impulse_of e))
 
 -- a cause has what it had, and its share of the entry
 abbrev pub IsOfCause : Cause → Book → Entry → Total → Type 0
-IsOfCause c b e t = IsTotal (total_of_x c b +ℤ share c e.cause e.x) (total_of_y c b +ℤ share c e.cause e.y) (2 ^ 126 + 2 ^ 124) t
+IsOfCause c b e t = IsTotal (total_of_x c b +ℤ share c e.cause e.x) (total_of_y c b +ℤ share c e.cause e.y) MAX_TOTAL_OF_CAUSE t
 
-of_own_cause : (b : Book) (e : Entry) (t : Totals) → IsTotal (total_of_x e.cause b) (total_of_y e.cause b) (2 ^ 126 + 2 ^ 124) (total_in e.cause t) → Fits b e → IsOfCause e.cause b e (total_in e.cause (posted t e))
+of_own_cause : (b : Book) (e : Entry) (t : Totals) → IsTotal (total_of_x e.cause b) (total_of_y e.cause b) MAX_TOTAL_OF_CAUSE (total_in e.cause t) → Fits b e → IsOfCause e.cause b e (total_in e.cause (posted t e))
 of_own_cause b e t was fits = rw (total_in-put_same e.cause t _, is_cause-same e.cause) (record {
   x_is = ap (λ z. z +ℤ e.x) was.x_is;
   y_is = ap (λ z. z +ℤ e.y) was.y_is;
@@ -26,7 +27,7 @@ of_own_cause b e t was fits = rw (total_in-put_same e.cause t _, is_cause-same e
   y_small = rw was.y_is fits.of_cause_y;
 })
 
-of_other_cause : (c : Cause) (b : Book) (e : Entry) (t : Totals) → is_cause c e.cause ≡ false → IsTotal (total_of_x c b) (total_of_y c b) (2 ^ 126 + 2 ^ 124) (total_in c t) → IsOfCause c b e (total_in c (posted t e))
+of_other_cause : (c : Cause) (b : Book) (e : Entry) (t : Totals) → is_cause c e.cause ≡ false → IsTotal (total_of_x c b) (total_of_y c b) MAX_TOTAL_OF_CAUSE (total_in c t) → IsOfCause c b e (total_in c (posted t e))
 of_other_cause c b e t other was = rw (total_in-put_other c e.cause t _ other, other) (record {
   x_is = let is = was.x_is in omega (arith, ints);
   y_is = let is = was.y_is in omega (arith, ints);

@@ -1,5 +1,6 @@
 -- The book, and sums of its entries: over all of them and by cause.
-use Rattle.std.specs.Prelude.{◌≡◌, ℕ, ◌+◌, ◌≤◌, ◌^◌, ℤ, pos, ◌+ℤ◌, unsigned_abs, List, [], ◌∷◌, Bool, true, false, if◌then◌else◌}
+use Rattle.std.specs.Prelude.{◌≡◌, ℕ, ◌≤◌, ℤ, pos, ◌+ℤ◌, unsigned_abs, List, [], ◌∷◌, Bool, true, false, if◌then◌else◌}
+use Rattle.impulse_ledger.specs.declared.limits.TheConstants.{MAX_TOTAL, MAX_TOTAL_OF_CAUSE}
 use Rattle.impulse_ledger.specs.declared.entry.Cause.{Cause}
 use Rattle.impulse_ledger.specs.declared.entry.Cause.TheVariants.{Command, Gravity, Immovable, Clamp, Rest, Departed}
 use Rattle.impulse_ledger.specs.declared.entry.Entry.{Entry}
@@ -65,10 +66,10 @@ total_of_y cause b = sum_of_y cause b.entries +ℤ (total_in cause b.settled).y
 
 -- the sums stay in their ranges with one more entry
 pub record Fits (b : Book) (e : Entry) : Type 0 where
-  pub x : unsigned_abs (total_x b +ℤ e.x) ≤ 2 ^ 126
-  pub y : unsigned_abs (total_y b +ℤ e.y) ≤ 2 ^ 126
-  pub of_cause_x : unsigned_abs (total_of_x e.cause b +ℤ e.x) ≤ 2 ^ 126 + 2 ^ 124
-  pub of_cause_y : unsigned_abs (total_of_y e.cause b +ℤ e.y) ≤ 2 ^ 126 + 2 ^ 124
+  pub x : unsigned_abs (total_x b +ℤ e.x) ≤ MAX_TOTAL
+  pub y : unsigned_abs (total_y b +ℤ e.y) ≤ MAX_TOTAL
+  pub of_cause_x : unsigned_abs (total_of_x e.cause b +ℤ e.x) ≤ MAX_TOTAL_OF_CAUSE
+  pub of_cause_y : unsigned_abs (total_of_y e.cause b +ℤ e.y) ≤ MAX_TOTAL_OF_CAUSE
 
 -- a total has these components, each of this size at most
 pub record IsTotal (x y : ℤ) (size : ℕ) (t : Total) : Type 0 where
@@ -79,5 +80,5 @@ pub record IsTotal (x y : ℤ) (size : ℕ) (t : Total) : Type 0 where
 
 -- the kept sums are those of the book, and in their ranges
 pub record IsKept (b : Book) (by_cause : Totals) (all : Total) : Type 0 where
-  pub whole : IsTotal (total_x b) (total_y b) (2 ^ 126) all
-  pub each : (cause : Cause) → IsTotal (total_of_x cause b) (total_of_y cause b) (2 ^ 126 + 2 ^ 124) (total_in cause by_cause)
+  pub whole : IsTotal (total_x b) (total_y b) MAX_TOTAL all
+  pub each : (cause : Cause) → IsTotal (total_of_x cause b) (total_of_y cause b) MAX_TOTAL_OF_CAUSE (total_in cause by_cause)

@@ -6,6 +6,7 @@ ghost use Rattle.impulse_ledger.specs.Totals.{zero_totals};
 ghost use Rattle.impulse_ledger.specs.Sums.{total_x, total_y, total_of_x, total_of_y, Fits};
 
 use crate::entry::{Cause, Entry};
+use crate::limits::{MAX_TOTAL, MAX_TOTAL_OF_CAUSE};
 use crate::totals::{Total, Totals};
 use fixed_geom::Refusal;
 use std::alloc::Global;
@@ -14,7 +15,7 @@ use std::marker::Model;
 /// The book of impulses. Contracts see its entries, oldest first (`entries`), the sums of entries that were settled and
 /// dropped (`settled`, all zero so far), and how many more entries may be added with no memory (`room`).
 ///
-/// A sum by cause stays within ±(2^126 + 2^124), and the sum of all within ±2^126.
+/// A component of a sum by cause is at most `MAX_TOTAL_OF_CAUSE` in size, and one of the sum of all at most `MAX_TOTAL`.
 #[derive(Drop)]
 pub struct Ledger {
     entries: Vec<Entry>,
@@ -94,8 +95,8 @@ impl Ledger {
     pub fn total(&self) -> Total
         ensures x { result.x ≡ total_x self.now }
         ensures y { result.y ≡ total_y self.now }
-        ensures x_small { unsigned_abs result.x ≤ 2 ^ 126 }
-        ensures y_small { unsigned_abs result.y ≤ 2 ^ 126 }
+        ensures x_small { unsigned_abs result.x ≤ MAX_TOTAL }
+        ensures y_small { unsigned_abs result.y ≤ MAX_TOTAL }
     {
         self.all
     }
@@ -104,8 +105,8 @@ impl Ledger {
     pub fn total_of(&self, cause: Cause) -> Total
         ensures x { result.x ≡ total_of_x cause self.now }
         ensures y { result.y ≡ total_of_y cause self.now }
-        ensures x_small { unsigned_abs result.x ≤ 2 ^ 126 + 2 ^ 124 }
-        ensures y_small { unsigned_abs result.y ≤ 2 ^ 126 + 2 ^ 124 }
+        ensures x_small { unsigned_abs result.x ≤ MAX_TOTAL_OF_CAUSE }
+        ensures y_small { unsigned_abs result.y ≤ MAX_TOTAL_OF_CAUSE }
     {
         self.by_cause.of(cause)
     }

@@ -10,8 +10,10 @@
 
 mod entry;
 mod ledger;
+mod limits;
 mod totals;
 
 pub use entry::{Cause, Entry};
 pub use ledger::Ledger;
+pub use limits::{MAX_IMPULSE, MAX_TOTAL, MAX_TOTAL_OF_CAUSE};
 pub use totals::{Total, Totals};

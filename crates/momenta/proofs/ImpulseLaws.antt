@@ -2,12 +2,12 @@
 use Rattle.std.proofs.Common.{◌≡◌, ◌^◌, ◌≤◌, Bool, true, false, cond, Option, Some, None, is_some, ℤ, pos, neg_ℤ, ◌+ℤ◌, unsigned_abs, arith, refl}
 use Rattle.std.proofs.lemmas.Bool.Decides.{nat_tests}
 use Rattle.std.proofs.lemmas.Int.{ints}
-use Rattle.fixed_geom.specs.Vectors.{IsWithin, cross}
+use Rattle.fixed_geom.specs.Vectors.{IsWithin, cross, opposite, plus}
 use Rattle.fixed_geom.specs.declared.vectors.Vec2.{Vec2}
 use Rattle.momenta.specs.declared.motion.Motion.{Motion}
 use Rattle.momenta.specs.declared.state.BodyState.{BodyState}
 use Rattle.momenta.specs.declared.state.Ends.{Ends}
-use Rattle.momenta.specs.Impulses.{AreStates, AreSameBodies, IsState, IsSameBody, IsMomentumKept, fits, given, impulse_pair, negated, or_dropped, or_kept, plus, taken, turned_by}
+use Rattle.momenta.specs.Impulses.{AreStates, AreSameBodies, IsState, IsSameBody, IsMomentumKept, fits, given, impulse_pair, or_dropped, or_kept, taken, turned_by}
 
 -- ---- the state after it
 
@@ -39,8 +39,8 @@ given_state j r s m e h k = rw e (state_by s.movable j r s h (rw e at k))
 -- ---- what it leaves alone
 
 same_body_by : (t : Bool) (j r : Vec2) (s : BodyState) → s.movable ≡ t → IsSameBody s (cond t (moved_by j r s) s)
-same_body_by true j r s e = record { movable = refl; mass = refl; start = refl; reciprocals = refl; place = refl; facing = refl; immovable = λ h. cc }
-same_body_by false j r s e = record { movable = refl; mass = refl; start = refl; reciprocals = refl; place = refl; facing = refl; immovable = λ h. refl }
+same_body_by true j r s e = record { movable = refl; mass = refl; start = refl; reciprocals = refl; position = refl; facing = refl; immovable = λ h. cc }
+same_body_by false j r s e = record { movable = refl; mass = refl; start = refl; reciprocals = refl; position = refl; facing = refl; immovable = λ h. refl }
 
 pub given_same : (j r : Vec2) (s : BodyState) → IsSameBody s (given j r s)
 unfolding given
@@ -59,10 +59,10 @@ given_y j r s h = rw h refl
 sum_kept : (p q j : ℤ) → (p +ℤ neg_ℤ j) +ℤ (q +ℤ j) ≡ p +ℤ q
 sum_kept p q j = omega (arith, ints)
 
-given_momentum : (j ra rb : Vec2) (e : Ends) → IsMomentumKept e (record { a = given (negated j) ra e.a; b = given j rb e.b })
+given_momentum : (j ra rb : Vec2) (e : Ends) → IsMomentumKept e (record { a = given (opposite j) ra e.a; b = given j rb e.b })
 given_momentum j ra rb e = record {
-  x = λ h k. rw (given_x (negated j) ra e.a h, given_x j rb e.b k) (sum_kept e.a.motion.p.x e.b.motion.p.x j.x);
-  y = λ h k. rw (given_y (negated j) ra e.a h, given_y j rb e.b k) (sum_kept e.a.motion.p.y e.b.motion.p.y j.y);
+  x = λ h k. rw (given_x (opposite j) ra e.a h, given_x j rb e.b k) (sum_kept e.a.motion.p.x e.b.motion.p.x j.x);
+  y = λ h k. rw (given_y (opposite j) ra e.a h, given_y j rb e.b k) (sum_kept e.a.motion.p.y e.b.motion.p.y j.y);
 }
 
 -- ---- given to both, or to neither
@@ -74,23 +74,23 @@ pub record IsPairGiven (j ra rb : Vec2) (e : Ends) (a b : BodyState) : Type 0 wh
   pub same : AreSameBodies e (record { a = a; b = b })
   pub kept : IsMomentumKept e (record { a = a; b = b })
 
-pub pair_is : (j ra rb : Vec2) (e : Ends) (a b : BodyState) → a ≡ given (negated j) ra e.a → b ≡ given j rb e.b → fits a.motion ≡ true → fits b.motion ≡ true → impulse_pair j ra rb e ≡ Some (record { a = a; b = b })
+pub pair_is : (j ra rb : Vec2) (e : Ends) (a b : BodyState) → a ≡ given (opposite j) ra e.a → b ≡ given j rb e.b → fits a.motion ≡ true → fits b.motion ≡ true → impulse_pair j ra rb e ≡ Some (record { a = a; b = b })
 unfolding impulse_pair taken
 pair_is j ra rb e a b first second h k = rw (← first, ← second, h, k) refl
 
-pub pair_given : (j ra rb : Vec2) (e : Ends) (a b : BodyState) → AreStates e → a ≡ given (negated j) ra e.a → b ≡ given j rb e.b → fits a.motion ≡ true → fits b.motion ≡ true → IsPairGiven j ra rb e a b
+pub pair_given : (j ra rb : Vec2) (e : Ends) (a b : BodyState) → AreStates e → a ≡ given (opposite j) ra e.a → b ≡ given j rb e.b → fits a.motion ≡ true → fits b.motion ≡ true → IsPairGiven j ra rb e a b
 pair_given j ra rb e a b known first second h k = record {
   value = pair_is j ra rb e a b first second h k;
-  states = record { a = given_state (negated j) ra e.a a first known.a h; b = given_state j rb e.b b second known.b k };
-  same = record { a = rw first (given_same (negated j) ra e.a); b = rw second (given_same j rb e.b) };
+  states = record { a = given_state (opposite j) ra e.a a first known.a h; b = given_state j rb e.b b second known.b k };
+  same = record { a = rw first (given_same (opposite j) ra e.a); b = rw second (given_same j rb e.b) };
   kept = rw (first, second) (given_momentum j ra rb e);
 }
 
-pub pair_first : (j ra rb : Vec2) (e : Ends) (a : BodyState) → a ≡ given (negated j) ra e.a → fits a.motion ≡ false → impulse_pair j ra rb e ≡ None
+pub pair_first : (j ra rb : Vec2) (e : Ends) (a : BodyState) → a ≡ given (opposite j) ra e.a → fits a.motion ≡ false → impulse_pair j ra rb e ≡ None
 unfolding impulse_pair taken
 pair_first j ra rb e a first h = rw (← first, h) refl
 
-pub pair_second : (j ra rb : Vec2) (e : Ends) (a b : BodyState) → a ≡ given (negated j) ra e.a → b ≡ given j rb e.b → fits a.motion ≡ true → fits b.motion ≡ false → impulse_pair j ra rb e ≡ None
+pub pair_second : (j ra rb : Vec2) (e : Ends) (a b : BodyState) → a ≡ given (opposite j) ra e.a → b ≡ given j rb e.b → fits a.motion ≡ true → fits b.motion ≡ false → impulse_pair j ra rb e ≡ None
 unfolding impulse_pair taken
 pair_second j ra rb e a b first second h k = rw (← first, ← second, h, k) refl
 

@@ -7,4 +7,4 @@ pub mod ImpulseLaws
 pub mod Shares
 pub mod NoImpulse
 mod WarmLaws
-pub mod NarrowLaws
+pub mod Laws64

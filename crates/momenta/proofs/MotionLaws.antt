@@ -7,7 +7,7 @@ use Rattle.fixed_geom.specs.Vectors.{IsWithin}
 use Rattle.fixed_geom.specs.declared.vectors.Vec2.{Vec2}
 use Rattle.momenta.specs.declared.mass.MassData.{MassData}
 use Rattle.momenta.specs.declared.motion.Motion.{Motion}
-use Rattle.momenta.specs.Motions.{advanced, clamped, clamped_part, pulled, signed_as, velocity}
+use Rattle.momenta.specs.Motions.{advanced, clamped, clamped_component, pulled, signed_as, velocity}
 use Rattle.momenta.proofs.Rounding.{rdiv_at}
 
 -- ---- the speed limit
@@ -19,7 +19,7 @@ signed_size (negsuc n) k = refl
 limit_size : (mass p : ℤ) (k : ℕ) → unsigned_abs (mass *ℤ signed_as p (suc k)) ≡ unsigned_abs mass * suc k
 limit_size mass p k = unsigned_abs-mul mass (signed_as p (suc k)) ∙ ap (λ n. unsigned_abs mass * n) (signed_size p k)
 
-part_slow : (mass p : ℤ) → pos 1 ≤ℤ mass → unsigned_abs (rdiv (clamped_part mass p) mass) ≤ 2 ^ 20
+part_slow : (mass p : ℤ) → pos 1 ≤ℤ mass → unsigned_abs (rdiv (clamped_component mass p) mass) ≤ 2 ^ 20
 part_slow mass p h =
     elim (cases_lt (2 ^ 20) (unsigned_abs (rdiv p mass))) [
       | inl fast ↦ rw (lt-leb (unsigned_abs (rdiv p mass)) (2 ^ 20) fast) (rdiv_at (mass *ℤ signed_as p (2 ^ 20)) mass (2 ^ 20) h (limit_size mass p 1048575))

@@ -4,7 +4,7 @@ use Rattle.std.proofs.lemmas.Bool.{le-leb}
 use Rattle.std.proofs.lemmas.Int.{ints}
 use lib.IntN.{zero-*ℤ, *ℤ-zero, +ℤ_idr}
 use Rattle.fixed_geom.specs.Numbers.{rdiv}
-use Rattle.fixed_geom.specs.Vectors.{cross}
+use Rattle.fixed_geom.specs.Vectors.{cross, plus, zero_vector}
 use Rattle.fixed_geom.specs.declared.vectors.Vec2.{Vec2}
 use Rattle.momenta.specs.declared.motion.Motion.{Motion}
 use Rattle.momenta.specs.declared.state.BodyState.{BodyState}
@@ -12,7 +12,7 @@ use Rattle.momenta.specs.declared.state.Ends.{Ends}
 use Rattle.momenta.specs.declared.line.Line.{Line}
 use Rattle.momenta.specs.declared.mass.MassData.{MassData}
 use Rattle.momenta.specs.Motions.{IsMotion}
-use Rattle.momenta.specs.Impulses.{AreStates, IsMomentumKept, IsSameBody, AreSameBodies, IsState, along, exerted, fits, given, impulse_pair, plus, taken, turned_by, warmed, zero_vector}
+use Rattle.momenta.specs.Impulses.{AreStates, IsMomentumKept, IsSameBody, AreSameBodies, IsState, along, exerted, fits, given, impulse_pair, taken, turned_by, warmed}
 
 cross_none : (r : Vec2) → cross r zero_vector ≡ pos 0
 unfolding cross
@@ -66,7 +66,7 @@ unfolding warmed
 warmed_none line e h = rw (along_none line.direction, pair_none line.ra line.rb e h) refl
 
 same_body : (s : BodyState) → IsSameBody s s
-same_body s = record { movable = refl; mass = refl; start = refl; reciprocals = refl; place = refl; facing = refl; immovable = λ h. refl }
+same_body s = record { movable = refl; mass = refl; start = refl; reciprocals = refl; position = refl; facing = refl; immovable = λ h. refl }
 
 pub same_bodies : (e : Ends) → AreSameBodies e e
 same_bodies e = record { a = same_body e.a; b = same_body e.b }

@@ -5,12 +5,12 @@ use Rattle.std.proofs.lemmas.Int.{ints}
 use Rattle.std.proofs.Math.IntN.{+ℤ_assoc}
 use Rattle.fixed_geom.proofs.Multiples.{times_sum}
 use Rattle.fixed_geom.proofs.Sizes.{difference_le, product_le}
-use Rattle.fixed_geom.specs.Vectors.{IsWithin, cross}
+use Rattle.fixed_geom.specs.Vectors.{IsWithin, cross, opposite, plus}
 use Rattle.fixed_geom.specs.declared.vectors.Vec2.{Vec2}
 use Rattle.momenta.specs.declared.motion.Motion.{Motion}
 use Rattle.momenta.specs.declared.state.BodyState.{BodyState}
 use Rattle.momenta.specs.declared.state.Ends.{Ends}
-use Rattle.momenta.specs.Impulses.{IsRoomy, fits, given, impulse_pair, negated, or_kept, plus, turned_by}
+use Rattle.momenta.specs.Impulses.{IsRoomy, fits, given, impulse_pair, or_kept, turned_by}
 use Rattle.momenta.proofs.ImpulseLaws.{moved_by, pair_is}
 
 regrouped : (a b c d : ℤ) → (a +ℤ b) -ℤ (c +ℤ d) ≡ (a -ℤ c) +ℤ (b -ℤ d)
@@ -48,7 +48,7 @@ given_twice j k r s = by s.movable refl
     by true h = rw (given_mover j r s h, given_mover (plus j k) r s h, given_mover k r (moved_by j r s) h) (moved_twice j k r s)
     by false h = rw (given_fixed j r s h, given_fixed (plus j k) r s h, given_fixed k r s h) refl
 
-negated_plus : (j k : Vec2) → plus (negated j) (negated k) ≡ negated (plus j k)
+negated_plus : (j k : Vec2) → plus (opposite j) (opposite k) ≡ opposite (plus j k)
 negated_plus j k = rw (negated_sum j.x k.x, negated_sum j.y k.y) refl
   where
     negated_sum : (a b : ℤ) → neg_ℤ a +ℤ neg_ℤ b ≡ neg_ℤ (a +ℤ b)
@@ -86,7 +86,7 @@ given_fits j r s room h k = by s.movable refl
     by true t = rw (given_mover j r s t) (moved_fits j r s room h k)
     by false t = rw (given_fixed j r s t) (still_fits s room)
 
-pub negated_within : (n : ℕ) (j : Vec2) → IsWithin n j → IsWithin n (negated j)
+pub negated_within : (n : ℕ) (j : Vec2) → IsWithin n j → IsWithin n (opposite j)
 negated_within n j h = record { x = omega (arith, ints, h.x); y = omega (arith, ints, h.y) }
 
 -- ---- two impulses between two bodies
@@ -95,10 +95,10 @@ pub record AreRoomy (e : Ends) : Type 0 where
   pub a : IsRoomy e.a.motion
   pub b : IsRoomy e.b.motion
 
-pair_fits : (j ra rb : Vec2) (e : Ends) → AreRoomy e → IsWithin (2 ^ 45) j → IsWithin (2 ^ 27) ra → IsWithin (2 ^ 27) rb → impulse_pair j ra rb e ≡ Some (record { a = given (negated j) ra e.a; b = given j rb e.b })
+pair_fits : (j ra rb : Vec2) (e : Ends) → AreRoomy e → IsWithin (2 ^ 45) j → IsWithin (2 ^ 27) ra → IsWithin (2 ^ 27) rb → impulse_pair j ra rb e ≡ Some (record { a = given (opposite j) ra e.a; b = given j rb e.b })
 pair_fits j ra rb e room h first second =
-    pair_is j ra rb e (given (negated j) ra e.a) (given j rb e.b) refl refl
-    (given_fits (negated j) ra e.a room.a (negated_within (2 ^ 45) j h) first)
+    pair_is j ra rb e (given (opposite j) ra e.a) (given j rb e.b) refl refl
+    (given_fits (opposite j) ra e.a room.a (negated_within (2 ^ 45) j h) first)
     (given_fits j rb e.b room.b h second)
 
 sum_within : (j k : Vec2) → IsWithin (2 ^ 44) j → IsWithin (2 ^ 44) k → IsWithin (2 ^ 45) (plus j k)
@@ -109,12 +109,12 @@ wider j h = record { x = omega (arith, h.x); y = omega (arith, h.y) }
 
 -- the second of the two, with the bodies as the first has left them
 second_fits : (j k ra rb : Vec2) (e : Ends) → AreRoomy e → IsWithin (2 ^ 44) j → IsWithin (2 ^ 44) k → IsWithin (2 ^ 27) ra → IsWithin (2 ^ 27) rb
-    → impulse_pair k ra rb (record { a = given (negated j) ra e.a; b = given j rb e.b }) ≡ Some (record { a = given (negated (plus j k)) ra e.a; b = given (plus j k) rb e.b })
+    → impulse_pair k ra rb (record { a = given (opposite j) ra e.a; b = given j rb e.b }) ≡ Some (record { a = given (opposite (plus j k)) ra e.a; b = given (plus j k) rb e.b })
 second_fits j k ra rb e room h i first second =
     let within = sum_within j k h i in
-    let a : given (negated k) ra (given (negated j) ra e.a) ≡ given (negated (plus j k)) ra e.a = given_twice (negated j) (negated k) ra e.a ∙ ap (λ v. given v ra e.a) (negated_plus j k) in
-    pair_is k ra rb (record { a = given (negated j) ra e.a; b = given j rb e.b }) (given (negated (plus j k)) ra e.a) (given (plus j k) rb e.b) (sym a) (sym (given_twice j k rb e.b))
-    (given_fits (negated (plus j k)) ra e.a room.a (negated_within (2 ^ 45) (plus j k) within) first)
+    let a : given (opposite k) ra (given (opposite j) ra e.a) ≡ given (opposite (plus j k)) ra e.a = given_twice (opposite j) (opposite k) ra e.a ∙ ap (λ v. given v ra e.a) (negated_plus j k) in
+    pair_is k ra rb (record { a = given (opposite j) ra e.a; b = given j rb e.b }) (given (opposite (plus j k)) ra e.a) (given (plus j k) rb e.b) (sym a) (sym (given_twice j k rb e.b))
+    (given_fits (opposite (plus j k)) ra e.a room.a (negated_within (2 ^ 45) (plus j k) within) first)
     (given_fits (plus j k) rb e.b room.b within second)
 
 pub pairs_are_one : (j k ra rb : Vec2) (e : Ends) → AreRoomy e → IsWithin (2 ^ 44) j → IsWithin (2 ^ 44) k → IsWithin (2 ^ 27) ra → IsWithin (2 ^ 27) rb

@@ -2,8 +2,11 @@
 use Rattle.std.specs.Prelude.{◌≡◌, zero, ◌≤◌, ◌^◌, Bool, true, false, cond, nat_le, Option, Some, None, ℤ, pos, neg_ℤ, ◌+ℤ◌, ◌-ℤ◌, ◌*ℤ◌, ◌≤ℤ◌, unsigned_abs, int_lt}
 use Rattle.fixed_geom.specs.Numbers.{rdiv}
 use Rattle.fixed_geom.specs.Reciprocals.{share_reciprocal}
-use Rattle.fixed_geom.specs.Vectors.{IsWithin, is_within, unit_length, dot, cross, minus}
+use Rattle.fixed_geom.specs.Vectors.{IsWithin, is_within, unit_length, zero_vector, dot, cross, plus, minus, opposite}
 use Rattle.fixed_geom.specs.declared.vectors.Vec2.{Vec2}
+use Rattle.fixed_geom.specs.declared.vectors.TheConstants.{UNIT}
+use Rattle.fixed_geom.specs.declared.limits.TheConstants.{MAX_OFFSET, MAX_POSITION}
+use Rattle.momenta.specs.declared.limits.TheConstants.{MAX_ANGULAR_MOMENTUM, MAX_INVERSE_MASS, MAX_MOMENTUM, MIN_INVERSE_MASS}
 use Rattle.momenta.specs.declared.motion.Motion.{Motion}
 use Rattle.momenta.specs.declared.state.BodyState.{BodyState}
 use Rattle.momenta.specs.declared.state.Ends.{Ends}
@@ -12,15 +15,6 @@ use Rattle.momenta.specs.declared.line.Exerted.{Exerted}
 use Rattle.momenta.specs.Motions.{IsMass, IsMotion, velocity, spin}
 use Rattle.momenta.specs.Reciprocals.{reciprocals_of}
 
-abbrev pub zero_vector : Vec2
-zero_vector = record { x = pos 0; y = pos 0 }
-
-abbrev pub plus : Vec2 → Vec2 → Vec2
-plus a b = record { x = a.x +ℤ b.x; y = a.y +ℤ b.y }
-
-abbrev pub negated : Vec2 → Vec2
-negated v = record { x = neg_ℤ v.x; y = neg_ℤ v.y }
-
 -- ---- a body within a step
 
 -- what is kept of it: a mover's mass is one, its numbers are within their limits, and the reciprocals are those of the mass
@@ -28,7 +22,7 @@ pub record IsState (s : BodyState) : Type 0 where
   pub mass : s.movable ≡ true → IsMass s.mass
   pub reciprocals : s.reciprocals ≡ reciprocals_of s.mass
   pub motion : IsMotion s.mass s.motion
-  pub start : IsWithin (2 ^ 36) s.start
+  pub start : IsWithin (unsigned_abs MAX_POSITION) s.start
 
 pub record AreStates (e : Ends) : Type 0 where
   pub a : IsState e.a
@@ -59,7 +53,7 @@ given j r s = cond s.movable (record s { motion = record s.motion { p = plus s.m
 
 -- its momenta are within their limits
 abbrev pub fits : Motion → Bool
-fits m = cond (is_within (2 ^ 60) m.p) (nat_le (unsigned_abs m.l) (2 ^ 90)) false
+fits m = cond (is_within (unsigned_abs MAX_MOMENTUM) m.p) (nat_le (unsigned_abs m.l) (unsigned_abs MAX_ANGULAR_MOMENTUM)) false
 
 unfoldable pub taken : Vec2 → Vec2 → BodyState → Option BodyState
 taken j r s = cond (fits (given j r s).motion) (Some (given j r s)) None
@@ -71,7 +65,7 @@ both None b = None
 
 -- the impulse j given to the second body and taken from the first; neither where a momentum would leave its limits
 unfoldable pub impulse_pair : Vec2 → Vec2 → Vec2 → Ends → Option Ends
-impulse_pair j ra rb e = both (taken (negated j) ra e.a) (taken j rb e.b)
+impulse_pair j ra rb e = both (taken (opposite j) ra e.a) (taken j rb e.b)
 
 -- what an impulse leaves alone of a body: all but its momenta, and all of one that doesn't move
 pub record IsSameBody (before after : BodyState) : Type 0 where
@@ -79,7 +73,7 @@ pub record IsSameBody (before after : BodyState) : Type 0 where
   pub mass : after.mass ≡ before.mass
   pub start : after.start ≡ before.start
   pub reciprocals : after.reciprocals ≡ before.reciprocals
-  pub place : after.motion.x ≡ before.motion.x
+  pub position : after.motion.x ≡ before.motion.x
   pub facing : after.motion.rot ≡ before.motion.rot
   pub immovable : before.movable ≡ false → after ≡ before
 
@@ -155,9 +149,9 @@ pub record IsRoomy (m : Motion) : Type 0 where
 -- ---- what must hold of a line
 
 pub record IsLine (line : Line) : Type 0 where
-  pub direction : IsWithin (2 ^ 30) line.direction
-  pub ra : IsWithin (2 ^ 27) line.ra
-  pub rb : IsWithin (2 ^ 27) line.rb
-  pub inverse_low : pos (2 ^ 20) ≤ℤ line.inverse_mass
-  pub inverse_high : unsigned_abs line.inverse_mass ≤ 2 ^ 98
+  pub direction : IsWithin (unsigned_abs UNIT) line.direction
+  pub ra : IsWithin (unsigned_abs MAX_OFFSET) line.ra
+  pub rb : IsWithin (unsigned_abs MAX_OFFSET) line.rb
+  pub inverse_low : MIN_INVERSE_MASS ≤ℤ line.inverse_mass
+  pub inverse_high : unsigned_abs line.inverse_mass ≤ unsigned_abs MAX_INVERSE_MASS
   pub reciprocal : line.reciprocal ≡ share_reciprocal line.inverse_mass

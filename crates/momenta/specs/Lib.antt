@@ -1,5 +1,5 @@
 pub mod Motions
 pub mod Impulses
 pub mod Gains
-pub mod Narrow
+pub mod Line64
 pub mod Reciprocals

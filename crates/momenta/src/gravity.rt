@@ -2,18 +2,18 @@ ghost use Rattle.std.specs.Prelude.{◌≡◌, ◌^◌, ◌≤◌, ◌+ℤ◌, �
 ghost use Rattle.fixed_geom.specs.Vectors.{IsWithin};
 ghost use Rattle.momenta.specs.Motions.{IsMass, IsMotion, IsPulled, pulled};
 
-use crate::{MassData, Motion};
+use crate::{MAX_GRAVITY, MAX_MASS, MAX_MOMENTUM, MassData, Motion};
 use fixed_geom::Vec2;
 
 /// A tick of gravity: `mass·gravity` is added to the momentum, before the body moves (semi-implicit
 /// Euler, as in Box2D).
 ///
-/// Gravity is in u/tick², each component within ±2^16. The momentum may leave ±2^60 until the speed
+/// Gravity is in u/tick², each component within ±`MAX_GRAVITY`. The momentum may leave ±`MAX_MOMENTUM` until the speed
 /// limit brings it back.
 pub fn pull(motion: Motion, mass: MassData, gravity: Vec2) -> Motion
     requires mass { IsMass mass }
     requires motion { IsMotion mass motion }
-    requires gravity { IsWithin (2 ^ 16) gravity }
+    requires gravity { IsWithin (unsigned_abs MAX_GRAVITY) gravity }
     ensures value { result ≡ pulled gravity mass motion }
     ensures pulled { IsPulled mass result }
     ensures kept { result ≡ record motion { p = result.p } }
@@ -29,9 +29,9 @@ pub fn pull(motion: Motion, mass: MassData, gravity: Vec2) -> Motion
 
 /// `p + mass·g`
 fn add_product(p: i64, mass: i64, g: i64) -> i64
-    requires p { unsigned_abs p ≤ 2 ^ 60 }
-    requires mass { unsigned_abs mass ≤ 2 ^ 20 }
-    requires g { unsigned_abs g ≤ 2 ^ 16 }
+    requires p { unsigned_abs p ≤ unsigned_abs MAX_MOMENTUM }
+    requires mass { unsigned_abs mass ≤ unsigned_abs MAX_MASS }
+    requires g { unsigned_abs g ≤ unsigned_abs MAX_GRAVITY }
     ensures value { result ≡ p +ℤ mass *ℤ g }
     ensures small { unsigned_abs result ≤ 2 ^ 61 }
 {

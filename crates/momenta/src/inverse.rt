@@ -7,15 +7,17 @@ ghost use Rattle.fixed_geom.specs.Vectors.{IsWithin, cross, unit_length};
 ghost use Rattle.momenta.specs.Motions.{IsMass};
 ghost use Rattle.momenta.specs.Impulses.{IsState, AreStates, turning_share, inverse_share, inverse_mass};
 
-use crate::line::SMALL_INVERSE;
-use crate::{BodyState, Ends, MassData};
-use fixed_geom::{Vec2, inverse_by, narrow_cross, quotient_40, rdiv_unit_64, share_reciprocal};
+use crate::line::INVERSE_LIMIT_64;
+use crate::{BodyState, Ends, MAX_INERTIA, MAX_INVERSE_MASS, MAX_MASS, MIN_INVERSE_MASS, MassData};
+use fixed_geom::{
+    MAX_OFFSET, UNIT, Vec2, cross_64, inverse_by, quotient_40, rdiv_unit_64, share_reciprocal,
+};
 
 /// What turning adds to a body's share of the inverse mass: nothing at inertia 0, or where the line goes through the centre.
 #[inline(always)]
 fn turning_share(inertia: i64, lever: i64) -> i128
     requires inertia { pos 0 ≤ℤ inertia }
-    requires inertia_size { unsigned_abs inertia ≤ 2 ^ 60 }
+    requires inertia_size { unsigned_abs inertia ≤ unsigned_abs MAX_INERTIA }
     requires lever { unsigned_abs lever ≤ 2 ^ 28 }
     ensures value { result ≡ turning_share inertia lever }
     ensures nonnegative { pos 0 ≤ℤ result }
@@ -32,7 +34,7 @@ fn turning_share(inertia: i64, lever: i64) -> i128
 #[inline(always)]
 fn share_of_inertia(inertia: i64, lever: i64) -> i128
     requires inertia { pos 1 ≤ℤ inertia }
-    requires inertia_size { unsigned_abs inertia ≤ 2 ^ 60 }
+    requires inertia_size { unsigned_abs inertia ≤ unsigned_abs MAX_INERTIA }
     requires lever { unsigned_abs lever ≤ 2 ^ 28 }
     ensures value { result ≡ turning_share inertia lever }
     ensures nonnegative { pos 0 ≤ℤ result }
@@ -45,10 +47,10 @@ fn share_of_inertia(inertia: i64, lever: i64) -> i128
 #[inline(always)]
 fn share_of_mass(mass: i64, reciprocal: i64) -> i64
     requires positive { pos 1 ≤ℤ mass }
-    requires mass { unsigned_abs mass ≤ 2 ^ 20 }
+    requires mass { unsigned_abs mass ≤ unsigned_abs MAX_MASS }
     requires reciprocal { pos 0 ≤ℤ reciprocal }
     ensures value { result ≡ rdiv (pos (2 ^ 40)) mass }
-    ensures some { pos (2 ^ 20) ≤ℤ result }
+    ensures some { MIN_INVERSE_MASS ≤ℤ result }
     ensures within { unsigned_abs result ≤ 2 ^ 40 }
 {
     inverse_by(mass, reciprocal)
@@ -57,23 +59,23 @@ fn share_of_mass(mass: i64, reciprocal: i64) -> i64
 /// The lever of a line through the point at the offset `r`, in u.
 #[inline(always)]
 fn lever(r: Vec2, direction: Vec2) -> i64
-    requires offset { IsWithin (2 ^ 27) r }
-    requires direction { IsWithin (2 ^ 30) direction }
+    requires offset { IsWithin (unsigned_abs MAX_OFFSET) r }
+    requires direction { IsWithin (unsigned_abs UNIT) direction }
     ensures value { result ≡ rdiv (cross r direction) unit_length }
     ensures within { unsigned_abs result ≤ 2 ^ 28 }
 {
-    rdiv_unit_64(narrow_cross(r, direction))
+    rdiv_unit_64(cross_64(r, direction))
 }
 
 /// A mover's share of the inverse mass, with the reciprocal of its mass.
 #[inline(always)]
 fn share_of_mover(direction: Vec2, r: Vec2, mass: MassData, reciprocal: i64) -> i128
-    requires direction { IsWithin (2 ^ 30) direction }
-    requires offset { IsWithin (2 ^ 27) r }
+    requires direction { IsWithin (unsigned_abs UNIT) direction }
+    requires offset { IsWithin (unsigned_abs MAX_OFFSET) r }
     requires mass { IsMass mass }
     requires reciprocal { pos 0 ≤ℤ reciprocal }
     ensures value { result ≡ rdiv (pos (2 ^ 40)) mass.mass +ℤ turning_share mass.inertia (rdiv (cross r direction) unit_length) }
-    ensures some { pos (2 ^ 20) ≤ℤ result }
+    ensures some { MIN_INVERSE_MASS ≤ℤ result }
     ensures within { unsigned_abs result ≤ 2 ^ 97 }
 {
     i128::from(share_of_mass(mass.mass, reciprocal))
@@ -83,13 +85,13 @@ fn share_of_mover(direction: Vec2, r: Vec2, mass: MassData, reciprocal: i64) -> 
 /// A body's share of the inverse mass.
 #[inline(always)]
 fn inverse_share(direction: Vec2, r: Vec2, body: &BodyState) -> i128
-    requires direction { IsWithin (2 ^ 30) direction }
-    requires offset { IsWithin (2 ^ 27) r }
+    requires direction { IsWithin (unsigned_abs UNIT) direction }
+    requires offset { IsWithin (unsigned_abs MAX_OFFSET) r }
     requires state { IsState body.now }
     ensures value { result ≡ inverse_share direction r body.now }
     ensures nonnegative { pos 0 ≤ℤ result }
     ensures within { unsigned_abs result ≤ 2 ^ 97 }
-    ensures some { body.now.movable ≡ true → pos (2 ^ 20) ≤ℤ result }
+    ensures some { body.now.movable ≡ true → MIN_INVERSE_MASS ≤ℤ result }
 {
     if body.movable {
         share_of_mover(direction, r, body.mass, body.reciprocals.mass)
@@ -103,14 +105,14 @@ fn inverse_share(direction: Vec2, r: Vec2, body: &BodyState) -> i128
 #[tactic(auto, unfolding(crate::specs::Impulses::inverse_mass))]
 #[inline(always)]
 pub fn inverse_mass(direction: Vec2, ra: Vec2, rb: Vec2, ends: &Ends) -> i128
-    requires direction { IsWithin (2 ^ 30) direction }
-    requires first { IsWithin (2 ^ 27) ra }
-    requires second { IsWithin (2 ^ 27) rb }
+    requires direction { IsWithin (unsigned_abs UNIT) direction }
+    requires first { IsWithin (unsigned_abs MAX_OFFSET) ra }
+    requires second { IsWithin (unsigned_abs MAX_OFFSET) rb }
     requires states { AreStates ends.now }
     requires mover { (ends.now.a.movable ≡ true) ⊎ (ends.now.b.movable ≡ true) }
     ensures value { result ≡ inverse_mass direction ra rb ends.now }
-    ensures low { pos (2 ^ 20) ≤ℤ result }
-    ensures high { unsigned_abs result ≤ 2 ^ 98 }
+    ensures low { MIN_INVERSE_MASS ≤ℤ result }
+    ensures high { unsigned_abs result ≤ unsigned_abs MAX_INVERSE_MASS }
 {
     inverse_share(direction, ra, &ends.a) + inverse_share(direction, rb, &ends.b)
 }
@@ -121,7 +123,7 @@ pub fn inverse_reciprocal(inverse: i128) -> i64
     requires { pos 0 ≤ℤ inverse }
     ensures { result ≡ share_reciprocal inverse }
 {
-    if inverse < SMALL_INVERSE {
+    if inverse < INVERSE_LIMIT_64 {
         share_reciprocal(inverse as i64)
     } else {
         0

@@ -8,10 +8,11 @@
 pub mod gain;
 pub mod gravity;
 pub mod inverse;
+pub mod limits;
 pub mod line;
+pub mod line_64;
 pub mod mass;
 pub mod motion;
-pub mod narrow;
 pub mod ranges;
 pub mod reciprocals;
 pub mod speed_limit;
@@ -23,14 +24,19 @@ pub mod travel;
 pub use gain::{Gain, NOTHING, gain_between, plus};
 pub use gravity::pull;
 pub use inverse::{inverse_mass, inverse_reciprocal};
+pub use limits::{
+    MAX_ANGULAR_MOMENTUM, MAX_GRAVITY, MAX_INERTIA, MAX_INVERSE_MASS, MAX_MASS, MAX_MOMENTUM,
+    MAX_SPEED, MIN_INVERSE_MASS,
+};
 pub use line::{
     Exerted, Line, part_along, parting, solve_line, speed_along, warm_at_once, warm_line,
 };
+pub use line_64::{
+    Exerted64, Momenta64, MomentaPair64, momenta_pair_64, parting_64, solve_line_64,
+    warm_at_once_64,
+};
 pub use mass::MassData;
 pub use motion::{Motion, spin, velocity};
-pub use narrow::{
-    Narrow, NarrowPair, NarrowTurn, narrow_pair, narrow_parting, narrow_solve_line, narrow_warm,
-};
 pub use reciprocals::{Reciprocals, reciprocals_of};
 pub use speed_limit::clamp_speed;
 pub use state::{BodyState, Ends, impulse_pair};

@@ -1,30 +1,30 @@
 //! One impulse along a line between two bodies: the accumulated and clamped impulses of Erin Catto's sequential impulses
 //! (GDC 2006), in whole numbers.
 
-ghost use Rattle.std.specs.Prelude.{◌≡◌, ◌^◌, ◌<◌, ◌≤◌, ◌+◌, ◌⊎◌, true, false, pos, neg_ℤ, ◌+ℤ◌, ◌-ℤ◌, ◌*ℤ◌, ◌≤ℤ◌, ◌<ℤ◌, unsigned_abs};
+ghost use Rattle.std.specs.Prelude.{◌≡◌, ℕ, ◌^◌, ◌<◌, ◌≤◌, ◌+◌, ◌⊎◌, true, false, pos, neg_ℤ, ◌+ℤ◌, ◌-ℤ◌, ◌*ℤ◌, ◌≤ℤ◌, ◌<ℤ◌, unsigned_abs};
 ghost use Rattle.fixed_geom.specs.Numbers.{rdiv};
 ghost use Rattle.fixed_geom.specs.Reciprocals.{share_reciprocal};
 ghost use Rattle.fixed_geom.specs.Vectors.{IsWithin, dot, unit_length};
 ghost use Rattle.momenta.specs.Impulses.{AreStates, AreSameBodies, IsMomentumKept, IsLine, parting, speed_along, wanted, between, along, exerted, solved, warmed};
 
 use crate::ranges::are_in;
-use crate::state::grown;
-use crate::{Ends, impulse_pair};
+use crate::{Ends, MIN_INVERSE_MASS, impulse_pair};
 use fixed_geom::{
-    UNIT, Vec2, dot, minus, narrow_dot, narrow_scaled, over_inverse_by, rdiv, rdiv_unit_64, scaled,
+    MAX_IMPULSE, MAX_OFFSET, UNIT, Vec2, dot, dot_64, minus, over_inverse_by, plus, rdiv,
+    rdiv_unit_64, scaled, scaled_64,
 };
 
 /// A velocity whose components are at most this many u/tick has a product with a direction that has room in 64 bits.
-pub(crate) const SLOW: i64 = 1 << 31;
+pub(crate) const VELOCITY_LIMIT_64: i64 = 1 << 31;
 
 /// A speed up to this, in u/tick, is small: the difference of two has room in 64 bits once it is multiplied by 2^40.
-const SLOW_CHANGE: i64 = 1 << 20;
+const SPEED_LIMIT_64: i64 = 1 << 20;
 
 /// An inverse mass below this has room in 64 bits.
-pub(crate) const SMALL_INVERSE: i128 = 1 << 62;
+pub(crate) const INVERSE_LIMIT_64: i128 = 1 << 62;
 
 /// An impulse below this has a product with a direction that has room in 64 bits.
-const SMALL_IMPULSE: i64 = 1 << 32;
+const SIZE_LIMIT_64: i64 = 1 << 32;
 
 /// An inverse mass is times 2^40.
 const INVERSE_UNIT: i128 = 1 << 40;
@@ -52,8 +52,8 @@ pub struct Exerted {
 #[tactic(auto, unfolding(crate::specs::Impulses::parting))]
 #[inline(always)]
 pub fn parting(ra: Vec2, rb: Vec2, ends: &Ends) -> Vec2
-    requires first { IsWithin (2 ^ 27) ra }
-    requires second { IsWithin (2 ^ 27) rb }
+    requires first { IsWithin (unsigned_abs MAX_OFFSET) ra }
+    requires second { IsWithin (unsigned_abs MAX_OFFSET) rb }
     requires states { AreStates ends.now }
     ensures value { result ≡ parting ra rb ends.now }
     ensures within { IsWithin (2 ^ 61 + 2 ^ 26) result }
@@ -77,35 +77,35 @@ pub fn speed_along(line: &Line, ends: &Ends) -> i64
 #[inline(always)]
 pub fn part_along(v: Vec2, direction: Vec2) -> i64
     requires v { IsWithin (2 ^ 61 + 2 ^ 26) v }
-    requires direction { IsWithin (2 ^ 30) direction }
+    requires direction { IsWithin (unsigned_abs UNIT) direction }
     ensures value { result ≡ rdiv (dot v direction) unit_length }
     ensures within { unsigned_abs result ≤ 2 ^ 62 + 2 ^ 28 }
     ensures near { IsWithin (2 ^ 38) v → unsigned_abs result ≤ 2 ^ 39 }
 {
-    if are_in(v.x, v.y, SLOW) {
-        slow_part_along(v, direction)
+    if are_in(v.x, v.y, VELOCITY_LIMIT_64) {
+        part_along_64(v, direction)
     } else {
-        fast_part_along(v, direction)
+        part_along_128(v, direction)
     }
 }
 
-/// The part of a slow velocity, in 64 bits.
+/// `part_along` in 64 bits.
 #[inline(always)]
-pub(crate) fn slow_part_along(v: Vec2, direction: Vec2) -> i64
+pub(crate) fn part_along_64(v: Vec2, direction: Vec2) -> i64
     requires v { IsWithin (2 ^ 31) v }
-    requires direction { IsWithin (2 ^ 30) direction }
+    requires direction { IsWithin (unsigned_abs UNIT) direction }
     ensures value { result ≡ rdiv (dot v direction) unit_length }
     ensures within { unsigned_abs result ≤ 2 ^ 32 }
 {
-    rdiv_unit_64(narrow_dot(v, direction))
+    rdiv_unit_64(dot_64(v, direction))
 }
 
-/// The part of any other, in 128 bits.
+/// `part_along` in 128 bits.
 #[cold]
 #[inline(never)]
-fn fast_part_along(v: Vec2, direction: Vec2) -> i64
+fn part_along_128(v: Vec2, direction: Vec2) -> i64
     requires v { IsWithin (2 ^ 61 + 2 ^ 26) v }
-    requires direction { IsWithin (2 ^ 30) direction }
+    requires direction { IsWithin (unsigned_abs UNIT) direction }
     ensures value { result ≡ rdiv (dot v direction) unit_length }
     ensures within { unsigned_abs result ≤ 2 ^ 62 + 2 ^ 28 }
     ensures near { IsWithin (2 ^ 38) v → unsigned_abs result ≤ 2 ^ 39 }
@@ -130,17 +130,17 @@ fn missing(speed: i64, bias: i64) -> i128
 fn wanted(speed: i64, bias: i64, inverse: i128) -> i128
     requires speed { unsigned_abs speed ≤ 2 ^ 62 + 2 ^ 28 }
     requires bias { unsigned_abs bias ≤ 2 ^ 62 + 2 ^ 28 }
-    requires low { pos (2 ^ 20) ≤ℤ inverse }
+    requires low { MIN_INVERSE_MASS ≤ℤ inverse }
     ensures value { result ≡ wanted speed bias inverse }
     ensures within { unsigned_abs result ≤ 2 ^ 84 }
 {
-    wide_impulse_for(missing(speed, bias), inverse)
+    impulse_for(missing(speed, bias), inverse)
 }
 
 /// The impulse for any other, in 128 bits.
-fn wide_impulse_for(change: i128, inverse: i128) -> i128
+fn impulse_for(change: i128, inverse: i128) -> i128
     requires change { unsigned_abs change ≤ 2 ^ 63 + 2 ^ 29 }
-    requires low { pos (2 ^ 20) ≤ℤ inverse }
+    requires low { MIN_INVERSE_MASS ≤ℤ inverse }
     ensures value { result ≡ rdiv (change *ℤ pos (2 ^ 40)) inverse }
     ensures within { unsigned_abs result ≤ 2 ^ 84 }
 {
@@ -167,39 +167,39 @@ fn between(low: i64, high: i64, value: i128) -> i64
 /// The impulse of this size along a direction.
 #[inline(always)]
 fn along(direction: Vec2, size: i64) -> Vec2
-    requires direction { IsWithin (2 ^ 30) direction }
+    requires direction { IsWithin (unsigned_abs UNIT) direction }
     requires size { unsigned_abs size ≤ 2 ^ 44 }
     ensures value { result ≡ along direction size }
     ensures within { IsWithin (2 ^ 44) result }
 {
-    if -SMALL_IMPULSE < size && size < SMALL_IMPULSE {
-        narrow_along(direction, size)
+    if -SIZE_LIMIT_64 < size && size < SIZE_LIMIT_64 {
+        along_64(direction, size)
     } else {
-        wide_along(direction, size)
+        along_128(direction, size)
     }
 }
 
-/// A small impulse along a direction, in 64 bits.
+/// `along` in 64 bits.
 #[tactic(auto, unfolding(crate::specs::Impulses::along))]
 #[inline(always)]
-fn narrow_along(direction: Vec2, size: i64) -> Vec2
-    requires direction { IsWithin (2 ^ 30) direction }
-    requires size { unsigned_abs size < 2 ^ 32 }
+pub(crate) fn along_64(direction: Vec2, size: i64) -> Vec2
+    requires direction { IsWithin (unsigned_abs UNIT) direction }
+    requires size { unsigned_abs size ≤ 2 ^ 32 }
     ensures value { result ≡ along direction size }
-    ensures within { IsWithin (2 ^ 44) result }
+    ensures within { (k : ℕ) → unsigned_abs size ≤ k → IsWithin k result }
 {
     Vec2 {
-        x: narrow_scaled(size, direction.x),
-        y: narrow_scaled(size, direction.y),
+        x: scaled_64(size, direction.x),
+        y: scaled_64(size, direction.y),
     }
 }
 
-/// Any other, in 128 bits.
+/// `along` in 128 bits.
 #[tactic(auto, unfolding(crate::specs::Impulses::along))]
 #[cold]
 #[inline(never)]
-fn wide_along(direction: Vec2, size: i64) -> Vec2
-    requires direction { IsWithin (2 ^ 30) direction }
+fn along_128(direction: Vec2, size: i64) -> Vec2
+    requires direction { IsWithin (unsigned_abs UNIT) direction }
     requires size { unsigned_abs size ≤ 2 ^ 44 }
     ensures value { result ≡ along direction size }
     ensures within { IsWithin (2 ^ 44) result }
@@ -225,8 +225,8 @@ fn component_along(size: i64, part: i64) -> i64
 fn exert(line: &Line, old: i64, new: i64, ends: &mut Ends) -> i64
     requires line { IsLine line.now }
     requires states { AreStates ends.old }
-    requires old { unsigned_abs old ≤ 2 ^ 43 }
-    requires new { unsigned_abs new ≤ 2 ^ 43 }
+    requires old { unsigned_abs old ≤ unsigned_abs MAX_IMPULSE }
+    requires new { unsigned_abs new ≤ unsigned_abs MAX_IMPULSE }
     ensures value { record { ends = ends.new; total = result } ≡ exerted line.now old new ends.old }
     ensures states { AreStates ends.new }
     ensures total { (result ≡ new) ⊎ (result ≡ old) }
@@ -248,8 +248,8 @@ fn exert(line: &Line, old: i64, new: i64, ends: &mut Ends) -> i64
 fn exert_difference(line: &Line, old: i64, new: i64, ends: &mut Ends) -> i64
     requires line { IsLine line.now }
     requires states { AreStates ends.old }
-    requires old { unsigned_abs old ≤ 2 ^ 43 }
-    requires new { unsigned_abs new ≤ 2 ^ 43 }
+    requires old { unsigned_abs old ≤ unsigned_abs MAX_IMPULSE }
+    requires new { unsigned_abs new ≤ unsigned_abs MAX_IMPULSE }
     requires other { new ≡ old → ⊥ }
     ensures value { record { ends = ends.new; total = result } ≡ exerted line.now old new ends.old }
     ensures states { AreStates ends.new }
@@ -268,7 +268,7 @@ fn exert_difference(line: &Line, old: i64, new: i64, ends: &mut Ends) -> i64
 
 /// `between` of a number of 64 bits.
 #[inline(always)]
-fn narrow_between(low: i64, high: i64, value: i64) -> i64
+fn between_64(low: i64, high: i64, value: i64) -> i64
     requires order { low ≤ℤ high }
     ensures value { result ≡ between low high value }
     ensures low { low ≤ℤ result }
@@ -287,7 +287,7 @@ fn narrow_between(low: i64, high: i64, value: i64) -> i64
 /// 64 bits.
 #[tactic(auto, unfolding(crate::specs::Impulses::wanted))]
 #[inline(always)]
-pub(crate) fn narrow_next_total(
+pub(crate) fn next_total_64(
     speed: i64,
     bias: i64,
     inverse: i64,
@@ -298,11 +298,11 @@ pub(crate) fn narrow_next_total(
 ) -> i64
     requires speed { unsigned_abs speed ≤ 2 ^ 20 }
     requires bias { unsigned_abs bias ≤ 2 ^ 20 }
-    requires inverse { pos (2 ^ 20) ≤ℤ inverse }
+    requires inverse { MIN_INVERSE_MASS ≤ℤ inverse }
     requires inverse_size { unsigned_abs inverse < 2 ^ 62 }
     requires reciprocal { reciprocal ≡ share_reciprocal inverse }
     requires order { low ≤ℤ high }
-    requires total { unsigned_abs total ≤ 2 ^ 43 }
+    requires total { unsigned_abs total ≤ unsigned_abs MAX_IMPULSE }
     ensures value { result ≡ between low high (total +ℤ wanted speed bias inverse) }
     ensures low { low ≤ℤ result }
     ensures high { result ≤ℤ high }
@@ -311,18 +311,18 @@ pub(crate) fn narrow_next_total(
         return low;
     }
     let wanted = over_inverse_by(bias - speed, inverse, reciprocal);
-    narrow_between(low, high, total + wanted)
+    between_64(low, high, total + wanted)
 }
 
 /// The same for any other, in 128 bits.
 #[cold]
 #[inline(never)]
-fn wide_next_total(speed: i64, bias: i64, inverse: i128, low: i64, high: i64, total: i64) -> i64
+fn next_total_128(speed: i64, bias: i64, inverse: i128, low: i64, high: i64, total: i64) -> i64
     requires speed { unsigned_abs speed ≤ 2 ^ 62 + 2 ^ 28 }
     requires bias { unsigned_abs bias ≤ 2 ^ 62 + 2 ^ 28 }
-    requires inverse { pos (2 ^ 20) ≤ℤ inverse }
+    requires inverse { MIN_INVERSE_MASS ≤ℤ inverse }
     requires order { low ≤ℤ high }
-    requires total { unsigned_abs total ≤ 2 ^ 43 }
+    requires total { unsigned_abs total ≤ unsigned_abs MAX_IMPULSE }
     ensures value { result ≡ between low high (total +ℤ wanted speed bias inverse) }
     ensures low { low ≤ℤ result }
     ensures high { result ≤ℤ high }
@@ -333,13 +333,13 @@ fn wide_next_total(speed: i64, bias: i64, inverse: i128, low: i64, high: i64, to
 
 /// Whether these speeds and this inverse mass have room in 64 bits for the impulse between them.
 #[inline(always)]
-pub(crate) fn is_narrow(speed: i64, bias: i64, inverse: i128) -> bool
+pub(crate) fn has_room_64(speed: i64, bias: i64, inverse: i128) -> bool
     ensures speed { result ≡ true → unsigned_abs speed ≤ 2 ^ 20 }
     ensures bias { result ≡ true → unsigned_abs bias ≤ 2 ^ 20 }
     ensures inverse { result ≡ true → inverse <ℤ pos (2 ^ 62) }
     ensures room { unsigned_abs speed < 2 ^ 20 → unsigned_abs bias < 2 ^ 20 → inverse <ℤ pos (2 ^ 62) → result ≡ true }
 {
-    are_in(speed, bias, SLOW_CHANGE) & (inverse < SMALL_INVERSE)
+    are_in(speed, bias, SPEED_LIMIT_64) & (inverse < INVERSE_LIMIT_64)
 }
 
 /// The accumulated impulse with what brings the speed to the bias, within its range.
@@ -355,18 +355,18 @@ fn next_total(
 ) -> i64
     requires speed { unsigned_abs speed ≤ 2 ^ 62 + 2 ^ 28 }
     requires bias { unsigned_abs bias ≤ 2 ^ 62 + 2 ^ 28 }
-    requires inverse { pos (2 ^ 20) ≤ℤ inverse }
+    requires inverse { MIN_INVERSE_MASS ≤ℤ inverse }
     requires reciprocal { reciprocal ≡ share_reciprocal inverse }
     requires order { low ≤ℤ high }
-    requires total { unsigned_abs total ≤ 2 ^ 43 }
+    requires total { unsigned_abs total ≤ unsigned_abs MAX_IMPULSE }
     ensures value { result ≡ between low high (total +ℤ wanted speed bias inverse) }
     ensures low { low ≤ℤ result }
     ensures high { result ≤ℤ high }
 {
-    if is_narrow(speed, bias, inverse) {
-        narrow_next_total(speed, bias, inverse as i64, reciprocal, low, high, total)
+    if has_room_64(speed, bias, inverse) {
+        next_total_64(speed, bias, inverse as i64, reciprocal, low, high, total)
     } else {
-        wide_next_total(speed, bias, inverse, low, high, total)
+        next_total_128(speed, bias, inverse, low, high, total)
     }
 }
 
@@ -392,12 +392,12 @@ pub fn solve_line(
     requires apart_size { IsWithin (2 ^ 61 + 2 ^ 26) apart }
     requires bias { unsigned_abs bias ≤ 2 ^ 62 + 2 ^ 28 }
     requires order { low ≤ℤ high }
-    requires low { unsigned_abs low ≤ 2 ^ 43 }
-    requires high { unsigned_abs high ≤ 2 ^ 43 }
-    requires total { unsigned_abs total ≤ 2 ^ 43 }
+    requires low { unsigned_abs low ≤ unsigned_abs MAX_IMPULSE }
+    requires high { unsigned_abs high ≤ unsigned_abs MAX_IMPULSE }
+    requires total { unsigned_abs total ≤ unsigned_abs MAX_IMPULSE }
     ensures value { record { ends = ends.new; total = result } ≡ solved line.now bias low high total ends.old }
     ensures states { AreStates ends.new }
-    ensures small { unsigned_abs result ≤ 2 ^ 43 }
+    ensures small { unsigned_abs result ≤ unsigned_abs MAX_IMPULSE }
     ensures low { low ≤ℤ total → low ≤ℤ result }
     ensures high { total ≤ℤ high → result ≤ℤ high }
     ensures still { result ≡ total → ends.new ≡ ends.old }
@@ -423,7 +423,7 @@ pub fn solve_line(
 pub fn warm_line(line: &Line, total: i64, ends: &mut Ends)
     requires line { IsLine line.now }
     requires states { AreStates ends.old }
-    requires total { unsigned_abs total ≤ 2 ^ 43 }
+    requires total { unsigned_abs total ≤ unsigned_abs MAX_IMPULSE }
     ensures value { ends.new ≡ warmed line.now total ends.old }
     ensures states { AreStates ends.new }
     ensures same { AreSameBodies ends.old ends.new }
@@ -440,7 +440,7 @@ pub fn warm_line(line: &Line, total: i64, ends: &mut Ends)
 fn warm(line: &Line, total: i64, ends: &mut Ends)
     requires line { IsLine line.now }
     requires states { AreStates ends.old }
-    requires total { unsigned_abs total ≤ 2 ^ 43 }
+    requires total { unsigned_abs total ≤ unsigned_abs MAX_IMPULSE }
     ensures value { ends.new ≡ warmed line.now total ends.old }
     ensures states { AreStates ends.new }
     ensures same { AreSameBodies ends.old ends.new }
@@ -460,8 +460,8 @@ pub fn warm_at_once(first: &Line, one: i64, second: &Line, other: i64, ends: &mu
     requires ra { second.now.ra ≡ first.now.ra }
     requires rb { second.now.rb ≡ first.now.rb }
     requires states { AreStates ends.old }
-    requires one { unsigned_abs one ≤ 2 ^ 43 }
-    requires other { unsigned_abs other ≤ 2 ^ 43 }
+    requires one { unsigned_abs one ≤ unsigned_abs MAX_IMPULSE }
+    requires other { unsigned_abs other ≤ unsigned_abs MAX_IMPULSE }
     ensures given { result ≡ true → ends.new ≡ warmed second.now other (warmed first.now one ends.old) }
     ensures left { result ≡ false → ends.new ≡ ends.old }
     ensures states { AreStates ends.new }
@@ -474,7 +474,7 @@ pub fn warm_at_once(first: &Line, one: i64, second: &Line, other: i64, ends: &mu
     if !ends.b.is_roomy() {
         return false;
     }
-    let j = grown(along(first.direction, one), along(second.direction, other));
+    let j = plus(along(first.direction, one), along(second.direction, other));
     let _ = impulse_pair(ends, j, first.ra, first.rb);
     true
 }

@@ -5,7 +5,8 @@ ghost use Rattle.fixed_geom.specs.Vectors.{IsWithin};
 ghost use Rattle.momenta.specs.declared.mass.MassData.{MassData};
 ghost use Rattle.momenta.specs.Motions.{IsMotion, limited, spin, velocity};
 
-use fixed_geom::{Rot, Vec2, rdiv_64, share};
+use crate::MAX_ANGULAR_MOMENTUM;
+use fixed_geom::{MAX_POSITION, MAX_SPIN, Rot, Vec2, rdiv_64, share};
 
 /// How a body stands and moves.
 ///
@@ -22,7 +23,7 @@ pub struct Motion {
 impl Motion {
     /// A body at rest, of any mass: no momentum of either kind.
     pub fn at_rest(x: Vec2, rot: Rot) -> Motion
-        requires place { IsWithin (2 ^ 36) x }
+        requires position { IsWithin (unsigned_abs MAX_POSITION) x }
         requires facing { IsFacing rot }
         ensures value { result ≡ record { p = record { x = pos 0; y = pos 0 }; l = pos 0; x = x; rot = rot } }
         ensures motion { (m : MassData) → IsMotion m result }
@@ -51,24 +52,20 @@ pub fn velocity(p: Vec2, mass: i64) -> Vec2
     }
 }
 
-/// The most that a body turns in a tick, to either side: a quarter of a radian, times 2^30. This
-/// project's own rule.
-pub const MAX_SPIN: i64 = 1 << 28;
-
 /// The spin of an angular momentum, in radians a tick times 2^30: `l / inertia`, rounded to the nearest,
 /// ties away from zero, and then brought within `MAX_SPIN`. A body of inertia 0 has none.
 #[inline(always)]
 pub fn spin(l: i128, inertia: i64) -> i64
-    requires momentum { unsigned_abs l ≤ 2 ^ 90 }
+    requires momentum { unsigned_abs l ≤ unsigned_abs MAX_ANGULAR_MOMENTUM }
     requires nonnegative { pos 0 ≤ℤ inertia }
     ensures value { result ≡ spin inertia l }
-    ensures small { unsigned_abs result ≤ 2 ^ 28 }
+    ensures small { unsigned_abs result ≤ unsigned_abs MAX_SPIN }
 {
     let most = i128::from(inertia);
     if l == 0 || inertia == 0 {
         0
     } else if -most <= l && l <= most {
-        part_spin(l as i64, inertia)
+        spin_64(l as i64, inertia)
     } else {
         greatest_spin(l, inertia)
     }
@@ -76,11 +73,11 @@ pub fn spin(l: i128, inertia: i64) -> i64
 
 /// The spin of an angular momentum that isn't greater than the inertia.
 #[inline(always)]
-fn part_spin(l: i64, inertia: i64) -> i64
+fn spin_64(l: i64, inertia: i64) -> i64
     requires part { unsigned_abs l ≤ unsigned_abs inertia }
     requires positive { pos 1 ≤ℤ inertia }
     ensures value { result ≡ spin inertia l }
-    ensures small { unsigned_abs result ≤ 2 ^ 28 }
+    ensures small { unsigned_abs result ≤ unsigned_abs MAX_SPIN }
 {
     limit_spin(share(l, inertia))
 }
@@ -92,7 +89,7 @@ fn greatest_spin(l: i128, inertia: i64) -> i64
     requires positive { pos 1 ≤ℤ inertia }
     requires greater { unsigned_abs inertia < unsigned_abs l }
     ensures value { result ≡ spin inertia l }
-    ensures small { unsigned_abs result ≤ 2 ^ 28 }
+    ensures small { unsigned_abs result ≤ unsigned_abs MAX_SPIN }
 {
     if l < 0 { -MAX_SPIN } else { MAX_SPIN }
 }
@@ -100,8 +97,8 @@ fn greatest_spin(l: i128, inertia: i64) -> i64
 /// A spin beyond `MAX_SPIN` is put on it.
 #[inline(always)]
 fn limit_spin(w: i64) -> i64
-    ensures value { result ≡ limited (2 ^ 28) w }
-    ensures small { unsigned_abs result ≤ 2 ^ 28 }
+    ensures value { result ≡ limited (unsigned_abs MAX_SPIN) w }
+    ensures small { unsigned_abs result ≤ unsigned_abs MAX_SPIN }
 {
     if w > MAX_SPIN {
         MAX_SPIN

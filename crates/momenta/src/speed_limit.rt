@@ -1,13 +1,10 @@
 ghost use Rattle.std.specs.Prelude.{◌≡◌, ℕ, ◌*◌, ◌^◌, ◌≤◌, pos, ◌≤ℤ◌, ◌*ℤ◌, unsigned_abs};
 ghost use Rattle.fixed_geom.specs.Numbers.{rdiv};
 ghost use Rattle.fixed_geom.specs.Vectors.{IsWithin, minus};
-ghost use Rattle.momenta.specs.Motions.{IsMass, IsMotion, IsPulled, clamped, clamped_part, signed_as, velocity};
+ghost use Rattle.momenta.specs.Motions.{IsMass, IsMotion, IsPulled, clamped, clamped_component, signed_as, velocity};
 
-use crate::{MassData, Motion};
+use crate::{MAX_MASS, MAX_SPEED, MassData, Motion};
 use fixed_geom::{Vec2, minus};
-
-/// The most that a body moves in a tick, in u, along each axis to either side. This project's own rule.
-pub const MAX_SPEED: i64 = 1 << 20;
 
 /// The speed limit: where a component of the velocity is beyond `MAX_SPEED`, that component of the
 /// momentum becomes the mass times the limit, with its sign. Answers the motion and the change of its
@@ -20,24 +17,24 @@ pub fn clamp_speed(motion: Motion, mass: MassData) -> (Motion, Vec2)
     ensures settled { clamped mass result.0 ≡ result.0 }
     ensures kept { result.0 ≡ record motion { p = result.0.p } }
     ensures motion { IsMotion mass result.0 }
-    ensures slow { IsWithin (2 ^ 20) (velocity mass.mass result.0.p) }
+    ensures slow { IsWithin (unsigned_abs MAX_SPEED) (velocity mass.mass result.0.p) }
     ensures small { IsWithin (2 ^ 41) result.0.p }
 {
     let p = Vec2 {
-        x: clamp_part(motion.p.x, mass.mass),
-        y: clamp_part(motion.p.y, mass.mass),
+        x: clamp_component(motion.p.x, mass.mass),
+        y: clamp_component(motion.p.y, mass.mass),
     };
     (Motion { p, ..motion }, minus(p, motion.p))
 }
 
 /// One component of the momentum. The velocity `p / mass`, rounded, is within the limit exactly where
 /// `2·|p|` is below `mass·(2·MAX_SPEED + 1)`, which takes no division.
-fn clamp_part(p: i64, mass: i64) -> i64
+fn clamp_component(p: i64, mass: i64) -> i64
     requires momentum { unsigned_abs p ≤ 2 ^ 61 }
     requires positive { pos 1 ≤ℤ mass }
-    requires mass { unsigned_abs mass ≤ 2 ^ 20 }
-    ensures value { result ≡ clamped_part mass p }
-    ensures slow { unsigned_abs (rdiv result mass) ≤ 2 ^ 20 }
+    requires mass { unsigned_abs mass ≤ unsigned_abs MAX_MASS }
+    ensures value { result ≡ clamped_component mass p }
+    ensures slow { unsigned_abs (rdiv result mass) ≤ unsigned_abs MAX_SPEED }
     ensures small { unsigned_abs result ≤ 2 ^ 41 }
 {
     if 2 * p.unsigned_abs() < mass.unsigned_abs() * (2 * MAX_SPEED.unsigned_abs() + 1) {
@@ -49,9 +46,9 @@ fn clamp_part(p: i64, mass: i64) -> i64
 
 /// The momentum at the speed limit, with the sign of `p`.
 fn limit_of(p: i64, mass: i64) -> i64
-    requires mass { unsigned_abs mass ≤ 2 ^ 20 }
-    ensures value { result ≡ mass *ℤ signed_as p (2 ^ 20) }
-    ensures size { unsigned_abs result ≡ unsigned_abs mass * 2 ^ 20 }
+    requires mass { unsigned_abs mass ≤ unsigned_abs MAX_MASS }
+    ensures value { result ≡ mass *ℤ signed_as p (unsigned_abs MAX_SPEED) }
+    ensures size { unsigned_abs result ≡ unsigned_abs mass * unsigned_abs MAX_SPEED }
 {
     if p >= 0 {
         mass * MAX_SPEED

@@ -4,17 +4,13 @@ ghost use Rattle.std.specs.Prelude.{◌≡◌, ◌^◌, ◌≤◌, ◌+◌, ◌+
 ghost use Rattle.fixed_geom.specs.Numbers.{rdiv};
 ghost use Rattle.fixed_geom.specs.Vectors.{IsWithin, unit_length};
 ghost use Rattle.momenta.specs.declared.motion.Motion.{Motion};
-ghost use Rattle.momenta.specs.Impulses.{IsRoomy, IsState, AreStates, AreSameBodies, velocity_at, travelled, given, plus, turned_by, fits, impulse_pair, negated, or_kept};
+ghost use Rattle.momenta.specs.Impulses.{IsRoomy, IsState, AreStates, AreSameBodies, velocity_at, travelled, given, turned_by, fits, impulse_pair, or_kept};
 
 use crate::ranges::is_in;
-use crate::{MassData, Motion, Reciprocals, spin, velocity};
-use fixed_geom::{Vec2, cross, minus, narrow_scaled};
-
-/// The greatest size of a component of a momentum, in mass·u/tick.
-const MAX_MOMENTUM: i64 = 1 << 60;
-
-/// The greatest size of an angular momentum, in mass·u²/tick.
-const MAX_ANGULAR: i128 = 1 << 90;
+use crate::{MAX_ANGULAR_MOMENTUM, MAX_MOMENTUM, MassData, Motion, Reciprocals, spin, velocity};
+use fixed_geom::{
+    MAX_OFFSET, MAX_SPIN, Vec2, ZERO_VECTOR, cross, minus, opposite, plus, scaled_64,
+};
 
 /// A component of a momentum up to this has room for two impulses.
 const ROOMY_MOMENTUM: i64 = 1 << 59;
@@ -47,9 +43,6 @@ pub struct Ends {
     pub b: BodyState,
 }
 
-/// The velocity of what impulses don't move.
-pub(crate) const NO_MOVE: Vec2 = Vec2 { x: 0, y: 0 };
-
 impl BodyState {
     /// The velocity of its point at the offset `r` (u) from the centre, in u/tick: `v + w × r`, as in Erin Catto's
     /// sequential impulses, with the spin `w` times 2^30. Zero for an immovable body.
@@ -57,12 +50,12 @@ impl BodyState {
     #[inline(always)]
     pub fn velocity_at(&self, r: Vec2) -> Vec2
         requires state { IsState self.now }
-        requires offset { IsWithin (2 ^ 27) r }
+        requires offset { IsWithin (unsigned_abs MAX_OFFSET) r }
         ensures value { result ≡ velocity_at r self.now }
         ensures within { IsWithin (2 ^ 60 + 2 ^ 25) result }
     {
         if !self.movable {
-            return NO_MOVE;
+            return ZERO_VECTOR;
         }
         let v = velocity(self.motion.p, self.mass.mass);
         if self.motion.l == 0 {
@@ -85,7 +78,7 @@ impl BodyState {
         if self.movable {
             minus(self.motion.x, self.start)
         } else {
-            NO_MOVE
+            ZERO_VECTOR
         }
     }
 
@@ -96,7 +89,7 @@ impl BodyState {
     fn momenta_with(&self, j: Vec2, r: Vec2) -> Momenta
         requires state { IsState self.now }
         requires impulse { IsWithin (2 ^ 45) j }
-        requires offset { IsWithin (2 ^ 27) r }
+        requires offset { IsWithin (unsigned_abs MAX_OFFSET) r }
         ensures value { record self.now { motion = record self.now.motion { p = result.p; l = result.l } } ≡ given j r self.now }
     {
         if !self.movable {
@@ -106,7 +99,7 @@ impl BodyState {
             };
         }
         Momenta {
-            p: grown(self.motion.p, j),
+            p: plus(self.motion.p, j),
             l: turned_by(self.mass.inertia, self.motion.l, cross(r, j)),
         }
     }
@@ -136,47 +129,24 @@ impl BodyState {
 #[inline(always)]
 pub(crate) fn carried_back(v: i64, w: i64, r: i64) -> i64
     requires v { unsigned_abs v ≤ 2 ^ 60 }
-    requires w { unsigned_abs w ≤ 2 ^ 28 }
-    requires r { unsigned_abs r ≤ 2 ^ 27 }
+    requires w { unsigned_abs w ≤ unsigned_abs MAX_SPIN }
+    requires r { unsigned_abs r ≤ unsigned_abs MAX_OFFSET }
     ensures value { result ≡ v -ℤ rdiv (w *ℤ r) unit_length }
     ensures within { unsigned_abs result ≤ 2 ^ 60 + 2 ^ 25 }
 {
-    v - narrow_scaled(w, r)
+    v - scaled_64(w, r)
 }
 
 /// `v + w·r / 2^30`
 #[inline(always)]
 pub(crate) fn carried_on(v: i64, w: i64, r: i64) -> i64
     requires v { unsigned_abs v ≤ 2 ^ 60 }
-    requires w { unsigned_abs w ≤ 2 ^ 28 }
-    requires r { unsigned_abs r ≤ 2 ^ 27 }
+    requires w { unsigned_abs w ≤ unsigned_abs MAX_SPIN }
+    requires r { unsigned_abs r ≤ unsigned_abs MAX_OFFSET }
     ensures value { result ≡ v +ℤ rdiv (w *ℤ r) unit_length }
     ensures within { unsigned_abs result ≤ 2 ^ 60 + 2 ^ 25 }
 {
-    v + narrow_scaled(w, r)
-}
-
-/// A momentum with an impulse.
-#[inline(always)]
-pub(crate) fn grown(p: Vec2, j: Vec2) -> Vec2
-    requires momentum { IsWithin (2 ^ 60) p }
-    requires impulse { IsWithin (2 ^ 45) j }
-    ensures { result ≡ plus p j }
-{
-    Vec2 {
-        x: p.x + j.x,
-        y: p.y + j.y,
-    }
-}
-
-/// What the other body gets of an impulse.
-#[inline(always)]
-pub(crate) fn opposite(j: Vec2) -> Vec2
-    requires { IsWithin (2 ^ 45) j }
-    ensures value { result ≡ negated j }
-    ensures within { IsWithin (2 ^ 45) result }
-{
-    Vec2 { x: -j.x, y: -j.y }
+    v + scaled_64(w, r)
 }
 
 /// An angular momentum with the moment of an impulse, of a body that turns.
@@ -192,7 +162,7 @@ fn turned_by(inertia: i64, l: i128, moment: i128) -> i128
 /// Whether a component of a momentum is within its limits.
 #[inline(always)]
 fn is_momentum(p: i64) -> bool
-    ensures { result ≡ nat_le (unsigned_abs p) (2 ^ 60) }
+    ensures { result ≡ nat_le (unsigned_abs p) (unsigned_abs MAX_MOMENTUM) }
 {
     -MAX_MOMENTUM <= p && p <= MAX_MOMENTUM
 }
@@ -200,9 +170,9 @@ fn is_momentum(p: i64) -> bool
 /// Whether an angular momentum is within its limits.
 #[inline(always)]
 fn is_angular_momentum(l: i128) -> bool
-    ensures { result ≡ nat_le (unsigned_abs l) (2 ^ 90) }
+    ensures { result ≡ nat_le (unsigned_abs l) (unsigned_abs MAX_ANGULAR_MOMENTUM) }
 {
-    -MAX_ANGULAR <= l && l <= MAX_ANGULAR
+    -MAX_ANGULAR_MOMENTUM <= l && l <= MAX_ANGULAR_MOMENTUM
 }
 
 /// Whether the momenta are within their limits.
@@ -225,8 +195,8 @@ fn fits(momenta: Momenta) -> bool
 pub fn impulse_pair(ends: &mut Ends, j: Vec2, ra: Vec2, rb: Vec2) -> bool
     requires states { AreStates ends.old }
     requires impulse { IsWithin (2 ^ 45) j }
-    requires first { IsWithin (2 ^ 27) ra }
-    requires second { IsWithin (2 ^ 27) rb }
+    requires first { IsWithin (unsigned_abs MAX_OFFSET) ra }
+    requires second { IsWithin (unsigned_abs MAX_OFFSET) rb }
     ensures value { ends.new ≡ or_kept ends.old (impulse_pair j ra rb ends.old) }
     ensures given { result ≡ is_some (impulse_pair j ra rb ends.old) }
     ensures states { AreStates ends.new }

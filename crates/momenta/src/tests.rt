@@ -4,8 +4,8 @@ ghost use Rattle.momenta.specs.Impulses.{AreStates, IsLine, IsState};
 ghost use Rattle.momenta.specs.Motions.{IsMass, IsMotion};
 
 use crate::{
-    BodyState, Ends, Line, MassData, Motion, Narrow, NarrowPair, advance, clamp_speed,
-    inverse_mass, inverse_reciprocal, narrow_pair, parting, pull, reciprocals_of, solve_line,
+    BodyState, Ends, Line, MassData, Momenta64, MomentaPair64, Motion, advance, clamp_speed,
+    inverse_mass, inverse_reciprocal, momenta_pair_64, parting, pull, reciprocals_of, solve_line,
 };
 use fixed_geom::{Rot, Vec2};
 
@@ -213,13 +213,13 @@ fn small_momenta_are_copied_and_great_ones_are_not(rt: HostRuntime) {
     let small = mover(3, Vec2 { x: 30, y: -40 });
     let still = mover(2, ORIGIN);
     let great = mover(2, Vec2 { x: 1 << 50, y: 0 });
-    let copied = NarrowPair {
-        a: Narrow {
+    let copied = MomentaPair64 {
+        a: Momenta64 {
             p: at(30, -40),
             l: 0,
         },
-        b: Narrow { p: ORIGIN, l: 0 },
+        b: Momenta64 { p: ORIGIN, l: 0 },
     };
-    assert_eq!(rt; narrow_pair(&small, &still), Some(copied));
-    assert_eq!(rt; narrow_pair(&still, &great), None);
+    assert_eq!(rt; momenta_pair_64(&small, &still), Some(copied));
+    assert_eq!(rt; momenta_pair_64(&still, &great), None);
 }

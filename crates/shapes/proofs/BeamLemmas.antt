@@ -6,14 +6,13 @@ use Rattle.std.proofs.lemmas.Bool.{cases_lt, false≢true}
 use Rattle.std.proofs.lemmas.Bool.Decides.{nat_tests}
 use Rattle.std.proofs.Math.Nat.{div-le_of_le-mul}
 use Rattle.fixed_geom.specs.Numbers.{fdiv}
-use Rattle.fixed_geom.specs.Vectors.{dot}
+use Rattle.fixed_geom.specs.Vectors.{dot, opposite}
 use Rattle.fixed_geom.specs.declared.vectors.Vec2.{Vec2}
 use Rattle.fixed_geom.proofs.VectorLemmas.{dot_positive}
 use Rattle.fixed_geom.proofs.Sizes.{product_le}
 use Rattle.std.specs.Ordering.{int_eq}
 use Rattle.shapes.specs.declared.pose.Core.{Core}
 use Rattle.shapes.specs.declared.beam.Beam.{Beam}
-use Rattle.shapes.specs.Spots.{opposite}
 use Rattle.shapes.specs.Rays.{room_of, entered, circle_hit, earlier, earliest, side_hit, side_hits, shifted, to_side}
 
 square_is : (x : ℤ) → x *ℤ x ≡ pos (unsigned_abs x * unsigned_abs x)

@@ -7,7 +7,7 @@ use Rattle.std.proofs.lemmas.Bool.Decides.{nat_tests}
 use Rattle.std.proofs.Math.Nat.{div-le_self}
 use Rattle.std.proofs.lemmas.List.Elements.{All-nil, All-cons, All-head, All-tail}
 use Rattle.fixed_geom.specs.Numbers.{rdiv, fdiv}
-use Rattle.fixed_geom.specs.Vectors.{IsWithin, unit_length, minus, span, unit}
+use Rattle.fixed_geom.specs.Vectors.{IsWithin, unit_length, minus, span, unit, opposite}
 use Rattle.fixed_geom.specs.declared.vectors.Vec2.{Vec2}
 use Rattle.fixed_geom.proofs.FacingLemmas.{rotated_x_le, rotated_y_le}
 use Rattle.fixed_geom.proofs.QuotientLemmas.{rdiv_le}
@@ -22,7 +22,7 @@ use Rattle.shapes.specs.declared.spots.Spot.{Spot}
 use Rattle.shapes.specs.Shapes.{IsShape, first_end, second_end}
 use Rattle.shapes.specs.Poses.{IsPose, placed}
 use Rattle.shapes.specs.Cores.{is_point, way_of, clamped, share_of, closest}
-use Rattle.shapes.specs.Spots.{of_a, of_b, others, opposite, square_to, across, up, flat_normal, normal_of, turned, separation_of, place_of, spot_of}
+use Rattle.shapes.specs.Spots.{of_a, of_b, others, square_to, across, up, flat_normal, normal_of, flipped, separation_of, position_of, spot_of}
 use Rattle.shapes.specs.declared.points.Manifold.{Manifold}
 use Rattle.shapes.specs.Manifolds.{soonest, least_of, is_allowed, nearest_spot, chosen_spots, spots, first_spot, other_spots, allowed_spots, point_of, placed_pair, manifold_of, IsPointWithin}
 use Rattle.shapes.proofs.SpotLists.{soonest_all, filter_all}
@@ -196,7 +196,7 @@ dist_le k x y c w h =
     } in
     rw h.dist (s.within (k + 2 ^ 26) way)
 
-gap_le : (flip : Bool) (d r q : ℤ) (n : ℕ) → unsigned_abs d ≤ n → unsigned_abs r ≤ 2 ^ 24 → unsigned_abs q ≤ 2 ^ 24 → unsigned_abs (turned flip d -ℤ r -ℤ q) ≤ n + 2 ^ 25
+gap_le : (flip : Bool) (d r q : ℤ) (n : ℕ) → unsigned_abs d ≤ n → unsigned_abs r ≤ 2 ^ 24 → unsigned_abs q ≤ 2 ^ 24 → unsigned_abs (flipped flip d -ℤ r -ℤ q) ≤ n + 2 ^ 25
 gap_le true d r q n h l m = omega (arith, ints)
 gap_le false d r q n h l m = omega (arith, ints)
 
@@ -230,11 +230,11 @@ abbrev far : ℕ → ℕ
 far k = 2 * (k + 2 ^ 26) + 2 ^ 25 + 2 ^ 24
 
 spot_near : (s : Pair) (k : ℕ) (x y : Vec2) (c : Candidate) → unsigned_abs s.radius_a ≤ 2 ^ 24 → unsigned_abs s.radius_b ≤ 2 ^ 24 → IsWithin k (minus y x) → IsNearCandidate k x y c → IsNearSpot k x y (spot_of s c)
-unfolding spot_of place_of separation_of
+unfolding spot_of position_of separation_of
 spot_near s k x y c ra rb w h =
     let n = normal_of s c in
     let normal = normal_within s c h.dist in
-    let sep = turned s.crossing c.dist -ℤ s.radius_a -ℤ s.radius_b in
+    let sep = flipped s.crossing c.dist -ℤ s.radius_a -ℤ s.radius_b in
     let separation = gap_le s.crossing c.dist s.radius_a s.radius_b (2 * (k + 2 ^ 26)) (dist_le k x y c w h) ra rb in
     let m = s.radius_a +ℤ fdiv sep (pos 2) in
     let reach = reach_le s.radius_a sep (2 * (k + 2 ^ 26) + 2 ^ 25) ra separation in

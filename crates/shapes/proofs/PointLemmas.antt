@@ -17,7 +17,7 @@ use Rattle.shapes.specs.declared.spots.Pair.{Pair}
 use Rattle.shapes.specs.declared.spots.Candidate.{Candidate}
 use Rattle.shapes.specs.declared.spots.Spot.{Spot}
 use Rattle.shapes.specs.Cores.{is_point, way_of, share_of, closest}
-use Rattle.shapes.specs.Spots.{measured, of_a, of_b, normal_of, separation_of, place_of, spot_of}
+use Rattle.shapes.specs.Spots.{measured, of_a, of_b, normal_of, separation_of, position_of, spot_of}
 use Rattle.shapes.specs.Manifolds.{is_before, is_far, is_rival, is_allowed}
 use Rattle.shapes.specs.Choice.{nearer, nearest, tried, second_from, chosen_from}
 
@@ -69,7 +69,7 @@ unfolding tried is_allowed
 no_second first t e = never_there (is_rival first t) t.at first.at (Some t) e
 
 same_place : (s : Pair) (a b : Vec2) → (spot_of s (measured 2 a b)).at ≡ (spot_of s (measured 0 a b)).at
-unfolding spot_of place_of normal_of separation_of
+unfolding spot_of position_of normal_of separation_of
 same_place s a b = refl
 
 nearer_twin : (a b : Vec2) → nearer (measured 0 a b) (measured 2 a b) ≡ measured 0 a b

@@ -8,10 +8,10 @@ use Rattle.std.proofs.lemmas.Bool.Decides.{nat_tests}
 use Rattle.std.proofs.lemmas.List.Elements.{All-nil, All-cons, All-head, All-tail}
 use Rattle.fixed_geom.specs.Numbers.{fdiv, isqrt}
 use Rattle.fixed_geom.specs.declared.vectors.Vec2.{Vec2}
+use Rattle.fixed_geom.specs.Vectors.{opposite}
 use Rattle.shapes.specs.declared.pose.Core.{Core}
 use Rattle.shapes.specs.declared.beam.Beam.{Beam}
 use Rattle.shapes.specs.Cores.{is_point}
-use Rattle.shapes.specs.Spots.{opposite}
 use Rattle.shapes.specs.Rays.{whole, fraction, room_of, entered, circle_hit, end_hit, crossed, crossed_from_either_side, side_hit, shifted, to_side, side_hits, earlier, earliest, other_hits, hits, is_inside, core_ray, is_earlier, IsAmongHits, IsEarliest}
 use Rattle.shapes.proofs.BeamLemmas.{IsInside, fdiv_inside}
 

@@ -22,7 +22,7 @@ use Rattle.shapes.specs.declared.points.Manifold.{Manifold}
 use Rattle.shapes.specs.Shapes.{IsShape, first_end, second_end}
 use Rattle.shapes.specs.Poses.{IsPose}
 use Rattle.shapes.specs.Cores.{is_point, share_of, closest, cores_cross}
-use Rattle.shapes.specs.Spots.{of_a, of_b, others, normal_of, separation_of, place_of, spot_of}
+use Rattle.shapes.specs.Spots.{of_a, of_b, others, normal_of, separation_of, position_of, spot_of}
 use Rattle.shapes.specs.Manifolds.{soonest, least_of, is_allowed, nearest_spot, chosen_spots, spots, first_spot, other_spots, allowed_spots, point_of, placed_pair, manifold_of, IsPointWithin, IsSecond}
 use Rattle.shapes.proofs.CrossLemmas.{IsMet, AreMet, are_met}
 use Rattle.shapes.proofs.DiscLemmas.{disc, IsInDisc, disc_across, disc_along, placed_in_disc}
@@ -249,7 +249,7 @@ abbrev IsTouchingSpot : Vec2 → Vec2 → Spot → Type 0
 IsTouchingSpot x y t = t.separation ≤ℤ pos 0 → IsPointWithin (2 ^ 27) (point_of x y t)
 
 spot_touching : (s : Pair) (x y : Vec2) (c : Candidate) → IsAround s x y → IsCoreCandidate s c → IsTouchingSpot x y (spot_of s c)
-unfolding spot_of place_of
+unfolding spot_of position_of
 spot_touching s x y c h k = λ t.
     let r = reached s x y c h k t in
     let n = normal_of s c in

@@ -1,8 +1,8 @@
 -- Boxes round shapes.
-use Rattle.std.specs.Prelude.{pos}
 use Rattle.std.specs.Int.{int_min, int_max}
 use Rattle.fixed_geom.specs.Boxes.{grow}
 use Rattle.fixed_geom.specs.declared.boxes.Box2.{Box2}
+use Rattle.shapes.specs.declared.limits.TheConstants.{MARGIN}
 use Rattle.shapes.specs.declared.pose.Pose.{Pose}
 use Rattle.shapes.specs.declared.pose.Core.{Core}
 use Rattle.shapes.specs.declared.shape.Shape.{Shape}
@@ -22,4 +22,4 @@ tight_box s o = grow (box_of_ends (core_of s o)) (radius_of s)
 
 -- a tight box with room to move in
 abbrev pub fat_box : Box2 → Box2
-fat_box tight = grow tight (pos 131072)
+fat_box tight = grow tight MARGIN

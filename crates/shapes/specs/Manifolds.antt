@@ -1,8 +1,10 @@
 -- The first and the second point of a contact.
-use Rattle.std.specs.Prelude.{◌≡◌, ℕ, ◌==◌, nat_lt, Bool, false, ◌&&◌, ◌||◌, cond, ℤ, pos, int_lt, int_le, ◌≤ℤ◌, ◌+ℤ◌, unsigned_abs, ◌^◌, ◌≤◌, List, [], ◌∷◌, Option, None, Some, All, ◌⊎◌, option_map, map, filter}
+use Rattle.std.specs.Prelude.{◌≡◌, ℕ, ◌==◌, nat_lt, Bool, false, ◌&&◌, ◌||◌, cond, ℤ, pos, int_lt, int_le, ◌≤ℤ◌, ◌+ℤ◌, ◌*ℤ◌, unsigned_abs, ◌^◌, ◌≤◌, List, [], ◌∷◌, Option, None, Some, All, ◌⊎◌, option_map, map, filter}
 use Rattle.std.specs.Ordering.{int_eq}
 use Rattle.fixed_geom.specs.Vectors.{IsWithin, dot, minus}
+use Rattle.fixed_geom.specs.declared.vectors.TheConstants.{UNIT}
 use Rattle.fixed_geom.specs.declared.vectors.Vec2.{Vec2}
+use Rattle.shapes.specs.declared.limits.TheConstants.{TOLERANCE}
 use Rattle.shapes.specs.declared.pose.Pose.{Pose}
 use Rattle.shapes.specs.declared.shape.Shape.{Shape}
 use Rattle.shapes.specs.declared.spots.Pair.{Pair}
@@ -57,13 +59,13 @@ pub record IsLeast (t : Spot) (ts : List Spot) : Type 0 where
 
 -- ---- the second point
 
--- two places are more than 20,972 apart
+-- two positions are more than the tolerance apart
 unfoldable pub is_far : Vec2 → Vec2 → Bool
-is_far a b = int_lt (pos 439824784) (dot (minus a b) (minus a b))
+is_far a b = int_lt (TOLERANCE *ℤ TOLERANCE) (dot (minus a b) (minus a b))
 
 -- t is another candidate than the first, about as near, and overlaps
 unfoldable pub is_rival : Spot → Spot → Bool
-is_rival first t = cond (t.candidate == first.candidate) false (cond (int_lt (first.dist +ℤ pos 20972) t.dist) false (int_le t.separation (pos 0)))
+is_rival first t = cond (t.candidate == first.candidate) false (cond (int_lt (first.dist +ℤ TOLERANCE) t.dist) false (int_le t.separation (pos 0)))
 
 -- t may be the second point beside the first
 unfoldable pub is_allowed : Spot → Spot → Bool
@@ -79,7 +81,7 @@ point_of center_a center_b t = record { normal = t.normal; separation = t.separa
 -- other numbers are within k
 pub record IsPointWithin (k : ℕ) (p : Point) : Type 0 where
   pub candidate : p.candidate ≤ 3
-  pub normal : IsWithin (2 ^ 30) p.normal
+  pub normal : IsWithin (unsigned_abs UNIT) p.normal
   pub separation : unsigned_abs p.separation ≤ k
   pub ra : IsWithin k p.ra
   pub rb : IsWithin k p.rb

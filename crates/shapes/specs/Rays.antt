@@ -3,25 +3,28 @@ use Rattle.std.specs.Prelude.{◌≡◌, ℕ, ◌^◌, Bool, true, false, cond, 
 use Rattle.std.specs.Ordering.{int_eq}
 use Rattle.std.specs.Int.{int_max}
 use Rattle.fixed_geom.specs.Numbers.{rdiv, fdiv, isqrt}
-use Rattle.fixed_geom.specs.Vectors.{IsWithin, unit_length, dot, cross, minus, span}
+use Rattle.fixed_geom.specs.Vectors.{IsWithin, unit_length, dot, cross, plus, minus, opposite, span}
+use Rattle.fixed_geom.specs.declared.limits.TheConstants.{MAX_POSITION}
 use Rattle.fixed_geom.specs.declared.vectors.Vec2.{Vec2}
 use Rattle.shapes.specs.declared.pose.Pose.{Pose}
 use Rattle.shapes.specs.declared.pose.Core.{Core}
 use Rattle.shapes.specs.declared.shape.Shape.{Shape}
 use Rattle.shapes.specs.declared.beam.Beam.{Beam}
+use Rattle.shapes.specs.declared.beam.TheConstants.{WHOLE}
+use Rattle.shapes.specs.declared.limits.TheConstants.{MAX_RAY}
 use Rattle.shapes.specs.Shapes.{radius_of}
-use Rattle.shapes.specs.Poses.{plus, core_of}
+use Rattle.shapes.specs.Poses.{core_of}
 use Rattle.shapes.specs.Cores.{is_point, closest}
-use Rattle.shapes.specs.Spots.{opposite, across}
+use Rattle.shapes.specs.Spots.{across}
 
--- a ray's place in the world
+-- where a ray is in the world
 pub record IsBeam (r : Beam) : Type 0 where
-  pub from : IsWithin (2 ^ 36) r.from
-  pub along : IsWithin (2 ^ 28) r.along
+  pub from : IsWithin (unsigned_abs MAX_POSITION) r.from
+  pub along : IsWithin (unsigned_abs MAX_RAY) r.along
 
 -- the whole way
 abbrev pub whole : ℤ
-whole = pos (2 ^ 24)
+whole = WHOLE
 
 -- a hit at t, unless that is beyond the way's end
 abbrev pub fraction : ℤ → Option ℕ

@@ -6,6 +6,7 @@ use Rattle.fixed_geom.specs.Vectors.{IsWithin, is_within}
 use Rattle.fixed_geom.specs.declared.vectors.Vec2.{Vec2}
 use Rattle.fixed_geom.specs.declared.refusal.Refusal.{Refusal}
 use Rattle.fixed_geom.specs.declared.refusal.Refusal.TheVariants.{BadShape, OutOfRange}
+use Rattle.shapes.specs.declared.limits.TheConstants.{MAX_CORE, MAX_FRICTION, MAX_RADIUS, MAX_RESTITUTION, MAX_SHAPES}
 use Rattle.shapes.specs.declared.shape.Shape.{Shape}
 use Rattle.shapes.specs.declared.shape.Shape.TheVariants.{Circle, Capsule, Segment}
 use Rattle.shapes.specs.declared.shape.ShapeDef.{ShapeDef}
@@ -28,10 +29,10 @@ radius_of (Segment first second) = pos 0
 
 -- a shape whose numbers are within their limits, in u
 pub record IsShape (s : Shape) : Type 0 where
-  pub first : IsWithin (2 ^ 24) (first_end s)
-  pub second : IsWithin (2 ^ 24) (second_end s)
+  pub first : IsWithin MAX_CORE (first_end s)
+  pub second : IsWithin MAX_CORE (second_end s)
   pub nonnegative : pos 0 ≤ℤ radius_of s
-  pub radius : unsigned_abs (radius_of s) ≤ 2 ^ 24
+  pub radius : unsigned_abs (radius_of s) ≤ unsigned_abs MAX_RADIUS
 
 -- a shape without friction and restitution that collides with all
 abbrev pub default_def : ShapeDef
@@ -41,9 +42,9 @@ default_def = record { shape = Circle (record { x = pos 0; y = pos 0 }) (pos 0);
 pub record IsShapeDef (d : ShapeDef) : Type 0 where
   pub shape : IsShape d.shape
   pub friction : pos 0 ≤ℤ d.friction
-  pub friction_small : unsigned_abs d.friction ≤ 512
+  pub friction_small : unsigned_abs d.friction ≤ unsigned_abs MAX_FRICTION
   pub restitution : pos 0 ≤ℤ d.restitution
-  pub restitution_small : unsigned_abs d.restitution ≤ 256
+  pub restitution_small : unsigned_abs d.restitution ≤ unsigned_abs MAX_RESTITUTION
 
 abbrev pub is_between : ℤ → ℤ → ℤ → Bool
 is_between low high z = int_le low z && int_le z high
@@ -52,24 +53,24 @@ is_between low high z = int_le low z && int_le z high
 abbrev pub are_apart : Vec2 → Vec2 → Bool
 are_apart p q = not (int_eq p.x q.x && int_eq p.y q.y)
 
--- a form that a body may have: a circle of radius 0 to 2^24, a capsule of radius 1 to 2^24 and
+-- a form that a body may have: a circle of any radius up to the greatest, a capsule of radius 1 or more and
 -- different ends, or, where segments are allowed, a segment of different ends
 abbrev pub is_form_allowed : Bool → Shape → Bool
-is_form_allowed segments (Circle center radius) = is_between (pos 0) (pos (2 ^ 24)) radius
-is_form_allowed segments (Capsule first second radius) = cond (are_apart first second) (is_between (pos 1) (pos (2 ^ 24)) radius) false
+is_form_allowed segments (Circle center radius) = is_between (pos 0) MAX_RADIUS radius
+is_form_allowed segments (Capsule first second radius) = cond (are_apart first second) (is_between (pos 1) MAX_RADIUS radius) false
 is_form_allowed segments (Segment first second) = cond segments (are_apart first second) false
 
--- each end of the core is within 2^24 of the body's centre in each coordinate
+-- each end of the core is near the body's centre in each coordinate
 abbrev pub is_core_near : Shape → Bool
-is_core_near s = cond (is_within (2 ^ 24) (first_end s)) (is_within (2 ^ 24) (second_end s)) false
+is_core_near s = cond (is_within MAX_CORE (first_end s)) (is_within MAX_CORE (second_end s)) false
 
 -- each number is within its limit
 abbrev pub is_in_range : ShapeDef → Bool
-is_in_range d = cond (is_core_near d.shape) (cond (is_between (pos 0) (pos 512) d.friction) (is_between (pos 0) (pos 256) d.restitution) false) false
+is_in_range d = cond (is_core_near d.shape) (cond (is_between (pos 0) MAX_FRICTION d.friction) (is_between (pos 0) MAX_RESTITUTION d.restitution) false) false
 
 -- 1 to 8 shapes, each of a form that is allowed
 abbrev pub are_forms_allowed : Bool → List ShapeDef → Bool
-are_forms_allowed segments defs = cond (nat_le 1 (length defs)) (cond (nat_le (length defs) 8) (list_all (λ d. is_form_allowed segments d.shape) defs) false) false
+are_forms_allowed segments defs = cond (nat_le 1 (length defs)) (cond (nat_le (length defs) MAX_SHAPES) (list_all (λ d. is_form_allowed segments d.shape) defs) false) false
 
 -- why a body may not have these shapes: first for a form or their number, then for a number
 -- outside its limit

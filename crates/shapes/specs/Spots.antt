@@ -2,8 +2,9 @@
 use Rattle.std.specs.Prelude.{◌≡◌, ℕ, ◌^◌, ◌≤◌, Bool, cond, ℤ, pos, neg_ℤ, ◌+ℤ◌, ◌-ℤ◌, unsigned_abs, ◌≤ℤ◌, List, [], ◌∷◌}
 use Rattle.std.specs.Ordering.{int_eq}
 use Rattle.fixed_geom.specs.Numbers.{fdiv}
-use Rattle.fixed_geom.specs.Vectors.{IsWithin, unit_length, minus, moved, span, unit}
+use Rattle.fixed_geom.specs.Vectors.{IsWithin, unit_length, minus, moved, opposite, span, unit}
 use Rattle.fixed_geom.specs.declared.vectors.Vec2.{Vec2}
+use Rattle.shapes.specs.declared.limits.TheConstants.{MAX_RADIUS}
 use Rattle.shapes.specs.declared.pose.Core.{Core}
 use Rattle.shapes.specs.declared.spots.Pair.{Pair}
 use Rattle.shapes.specs.declared.spots.Candidate.{Candidate}
@@ -14,8 +15,8 @@ use Rattle.shapes.specs.Cores.{is_point, way_of, closest, cores_cross}
 pub record IsPair (s : Pair) : Type 0 where
   pub a : IsPlaced s.a
   pub b : IsPlaced s.b
-  pub radius_a : unsigned_abs s.radius_a ≤ 2 ^ 24
-  pub radius_b : unsigned_abs s.radius_b ≤ 2 ^ 24
+  pub radius_a : unsigned_abs s.radius_a ≤ unsigned_abs MAX_RADIUS
+  pub radius_b : unsigned_abs s.radius_b ≤ unsigned_abs MAX_RADIUS
 
 pub record IsCandidate (c : Candidate) : Type 0 where
   pub a : IsWithin (2 ^ 39) c.a
@@ -53,9 +54,6 @@ others s = cond (is_point s.a)
 
 -- ---- the contact point of a candidate
 
-abbrev pub opposite : Vec2 → Vec2
-opposite v = record { x = neg_ℤ v.x; y = neg_ℤ v.y }
-
 -- v turned to the left by a quarter
 abbrev pub square_to : Vec2 → Vec2
 square_to v = record { x = neg_ℤ v.y; y = v.x }
@@ -75,15 +73,15 @@ unfoldable pub normal_of : Pair → Candidate → Vec2
 normal_of s c = cond (int_eq c.dist (pos 0)) (flat_normal s.a s.b)
     (cond s.crossing (opposite (unit (minus c.b c.a))) (unit (minus c.b c.a)))
 
-abbrev pub turned : Bool → ℤ → ℤ
-turned flip x = cond flip (neg_ℤ x) x
+abbrev pub flipped : Bool → ℤ → ℤ
+flipped flip x = cond flip (neg_ℤ x) x
 
 unfoldable pub separation_of : Pair → Candidate → ℤ
-separation_of s c = turned s.crossing c.dist -ℤ s.radius_a -ℤ s.radius_b
+separation_of s c = flipped s.crossing c.dist -ℤ s.radius_a -ℤ s.radius_b
 
 -- halfway between the two surfaces
-unfoldable pub place_of : Pair → Candidate → Vec2
-place_of s c = moved c.a (normal_of s c) (s.radius_a +ℤ fdiv (separation_of s c) (pos 2))
+unfoldable pub position_of : Pair → Candidate → Vec2
+position_of s c = moved c.a (normal_of s c) (s.radius_a +ℤ fdiv (separation_of s c) (pos 2))
 
 unfoldable pub spot_of : Pair → Candidate → Spot
-spot_of s c = record { candidate = c.number; dist = c.dist; normal = normal_of s c; separation = separation_of s c; at = place_of s c }
+spot_of s c = record { candidate = c.number; dist = c.dist; normal = normal_of s c; separation = separation_of s c; at = position_of s c }

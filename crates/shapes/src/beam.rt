@@ -5,7 +5,7 @@ ghost use Rattle.fixed_geom.specs.Numbers.{fdiv};
 ghost use Rattle.fixed_geom.specs.Vectors.{IsWithin};
 ghost use Rattle.shapes.specs.Rays.{IsBeam, whole, fraction, room_of, entered, circle_hit, end_hit, crossed, crossed_from_either_side, side_hit, earlier};
 
-use crate::Core;
+use crate::{Core, MAX_RADIUS};
 use fixed_geom::{Vec2, cross, dot, fdiv, isqrt, minus, product};
 
 /// A ray: its start and its way, in u.
@@ -16,7 +16,7 @@ pub struct Beam {
 }
 
 /// The whole way of a ray, in the units of its hits.
-const WHOLE: i128 = 1 << 24;
+pub const WHOLE: i128 = 1 << 24;
 
 /// A line that passes a centre further off than this, times the length of the ray's way, misses
 /// each circle of a radius up to 2^24 u.
@@ -66,7 +66,7 @@ fn area(square: i128, way: i128) -> i128
 
 /// How far inside the circle the ray's line passes, squared; below zero where it misses.
 fn room_of(radius: i64, square: i128, off: i128) -> i128
-    requires radius { unsigned_abs radius ≤ 2 ^ 24 }
+    requires radius { unsigned_abs radius ≤ unsigned_abs MAX_RADIUS }
     requires square { unsigned_abs square ≤ 2 ^ 57 }
     requires off { unsigned_abs off ≤ 2 ^ 53 }
     ensures value { result ≡ room_of radius square off }
@@ -92,7 +92,7 @@ fn entered(ahead: i128, room: i128, square: i128) -> Option<u32>
 #[tactic(auto, unfolding(crate::specs::Rays::circle_hit))]
 fn circle_hit(ahead: i128, off: i128, radius: i64, square: i128) -> Option<u32>
     requires ahead { unsigned_abs ahead ≤ 2 ^ 67 }
-    requires radius { unsigned_abs radius ≤ 2 ^ 24 }
+    requires radius { unsigned_abs radius ≤ unsigned_abs MAX_RADIUS }
     requires square { unsigned_abs square ≤ 2 ^ 57 }
     requires positive { pos 0 <ℤ ahead → pos 0 <ℤ square }
     ensures { result ≡ circle_hit ahead off radius square }
@@ -113,7 +113,7 @@ fn circle_hit(ahead: i128, off: i128, radius: i64, square: i128) -> Option<u32>
 /// The hit on the circle round an end of a core, ahead of the start.
 pub fn end_hit(beam: &Beam, radius: i64, end: Vec2) -> Option<u32>
     requires beam { IsBeam beam.now }
-    requires radius { unsigned_abs radius ≤ 2 ^ 24 }
+    requires radius { unsigned_abs radius ≤ unsigned_abs MAX_RADIUS }
     requires end { IsWithin (2 ^ 37) end }
     ensures { result ≡ end_hit beam.now radius end }
 {
@@ -178,7 +178,7 @@ fn inner_fraction(part: i128, whole: i128) -> u32
     requires inside { part ≤ℤ whole }
     requires small { unsigned_abs part ≤ 2 ^ 90 }
     requires positive { pos 0 <ℤ whole }
-    ensures { result ≡ unsigned_abs (fdiv (part *ℤ pos (2 ^ 24)) whole) }
+    ensures { result ≡ unsigned_abs (fdiv (part *ℤ WHOLE) whole) }
 {
     fdiv(times_whole(part), whole).unsigned_abs() as u32
 }

@@ -1,17 +1,14 @@
 //! Boxes round shapes.
 
-ghost use Rattle.std.specs.Prelude.{◌≡◌, ℕ, ◌+◌, ◌^◌};
+ghost use Rattle.std.specs.Prelude.{◌≡◌, ℕ, ◌+◌, ◌^◌, unsigned_abs};
 ghost use Rattle.fixed_geom.specs.Boxes.{IsBoxWithin, Contains};
 ghost use Rattle.fixed_geom.specs.Vectors.{IsWithin};
 ghost use Rattle.shapes.specs.Shapes.{IsShape};
 ghost use Rattle.shapes.specs.Poses.{IsPose};
 ghost use Rattle.shapes.specs.Bounds.{box_of_ends, tight_box, fat_box};
 
-use crate::{Core, Pose, Shape, core_of};
+use crate::{Core, MARGIN, Pose, Shape, core_of};
 use fixed_geom::{Box2, Vec2, grow};
-
-/// By how much a fat box is larger than the tight box on each side, in u.
-pub const MARGIN: i64 = 131_072;
 
 /// The least box that holds both ends of a core.
 fn box_of_ends(core: &Core) -> Box2
@@ -40,11 +37,11 @@ pub fn tight_box(shape: &Shape, pose: Pose) -> Box2
     grow(box_of_ends(&core_of(shape, pose)), shape.radius())
 }
 
-/// The tight box grown by 131,072 u, which a shape may move in before its box is made anew.
+/// The tight box grown by `MARGIN`, which a shape may move in before its box is made anew.
 pub fn fat_box(tight: Box2) -> Box2
     requires { IsBoxWithin (2 ^ 60) tight }
     ensures value { result ≡ fat_box tight }
-    ensures within { (k : ℕ) → IsBoxWithin k tight → IsBoxWithin (k + 131072) result }
+    ensures within { (k : ℕ) → IsBoxWithin k tight → IsBoxWithin (k + unsigned_abs MARGIN) result }
     ensures contains { Contains result tight }
 {
     grow(tight, MARGIN)

@@ -8,16 +8,12 @@ ghost use Rattle.shapes.specs.Spots.{IsPair, IsCandidate, IsSpot, separation_of,
 ghost use Rattle.shapes.specs.Manifolds.{is_before, sooner, is_far, is_rival, chosen_spots};
 ghost use Rattle.shapes.specs.Choice.{nearer, nearest, sooner_of, tried, second_from, chosen_from, alone};
 
-use crate::Core;
 use crate::cores::{closest, is_point};
 use crate::spots::{Candidate, Pair, Spot, measured, separation_of, spot_of};
-use fixed_geom::{Vec2, dot, is_within, minus, narrow_dot, product};
+use crate::{Core, TOLERANCE};
+use fixed_geom::{Vec2, dot, dot_64, is_within, minus, product};
 
-/// How much further than the first point the second may be, and how far the two have to be from
-/// one another, in u (2 hundredths of a metre).
-const TOLERANCE: i64 = 20_972;
-
-/// The same, as a size.
+/// The tolerance as a size.
 const TOLERANCE_SIZE: u64 = 20_972;
 
 /// The spots of the first and the second point of a contact.
@@ -98,7 +94,7 @@ fn is_far(a: Vec2, b: Vec2) -> bool
 {
     let way = minus(a, b);
     if is_within(way, TOLERANCE_SIZE) {
-        narrow_dot(way, way) > 439_824_784
+        dot_64(way, way) > 439_824_784
     } else {
         true
     }
@@ -210,7 +206,7 @@ fn is_beyond(dist: i64, a: Vec2, b: Vec2) -> bool
     requires small { unsigned_abs dist ≤ 2 ^ 41 }
     requires first { IsWithin (2 ^ 37) a }
     requires second { IsWithin (2 ^ 37) b }
-    ensures { result ≡ true → int_lt (dist +ℤ pos 20972) (span (minus b a)) ≡ true }
+    ensures { result ≡ true → int_lt (dist +ℤ TOLERANCE) (span (minus b a)) ≡ true }
 {
     let way = minus(b, a);
     let limit = limit_of(dist);
@@ -230,8 +226,8 @@ fn are_beyond(dist: i64, a: &Core, b: &Core) -> bool
     requires small { unsigned_abs dist ≤ 2 ^ 41 }
     requires first { IsPlaced a.now }
     requires second { IsPlaced b.now }
-    ensures first { result ≡ true → int_lt (dist +ℤ pos 20972) (span (minus b.now.p a.now.p)) ≡ true }
-    ensures second { result ≡ true → int_lt (dist +ℤ pos 20972) (span (minus b.now.q a.now.q)) ≡ true }
+    ensures first { result ≡ true → int_lt (dist +ℤ TOLERANCE) (span (minus b.now.p a.now.p)) ≡ true }
+    ensures second { result ≡ true → int_lt (dist +ℤ TOLERANCE) (span (minus b.now.q a.now.q)) ≡ true }
 {
     if !is_beyond(dist, a.p, b.p) {
         return false;
@@ -242,7 +238,7 @@ fn are_beyond(dist: i64, a: &Core, b: &Core) -> bool
 /// An end of the first core against the second.
 fn of_a(pair: &Pair, number: u64, e: Vec2) -> Candidate
     requires pair { IsPair pair.now }
-    requires place { IsWithin (2 ^ 37) e }
+    requires position { IsWithin (2 ^ 37) e }
     ensures value { result ≡ of_a pair.now number e }
     ensures candidate { IsCandidate result }
 {
@@ -252,7 +248,7 @@ fn of_a(pair: &Pair, number: u64, e: Vec2) -> Candidate
 /// An end of the second core against the first.
 fn of_b(pair: &Pair, number: u64, e: Vec2) -> Candidate
     requires pair { IsPair pair.now }
-    requires place { IsWithin (2 ^ 37) e }
+    requires position { IsWithin (2 ^ 37) e }
     ensures value { result ≡ of_b pair.now number e }
     ensures candidate { IsCandidate result }
 {

@@ -8,12 +8,11 @@ ghost use Rattle.shapes.specs.Cores.{is_point, way_of, clamped, closest, side, a
 
 use crate::Core;
 use fixed_geom::{
-    UNIT, Vec2, cross, dot, is_within, minus, moved, narrow_cross, narrow_dot, near_moved, rdiv,
-    share,
+    UNIT, Vec2, cross, cross_64, dot, dot_64, is_within, minus, moved, moved_64, rdiv, share,
 };
 
 /// Up to this size of the components of two ways, in u, their products have room in 64 bits.
-const NEAR: u64 = 1 << 30;
+const MAX_WAY_64: u64 = 1 << 30;
 
 /// Both ends are at one place.
 #[tactic(auto, unfolding(crate::specs::Cores::is_point))]
@@ -84,7 +83,7 @@ fn inner_share(part: i64, whole: i64) -> i64
 }
 
 /// `fraction` in 64 bits.
-fn near_fraction(part: i64, whole: i64) -> i64
+fn fraction_64(part: i64, whole: i64) -> i64
     requires positive { pos 0 <ℤ whole }
     ensures value { result ≡ clamped (rdiv (part *ℤ unit_length) whole) }
     ensures within { unsigned_abs result ≤ 2 ^ 30 }
@@ -100,12 +99,12 @@ fn near_fraction(part: i64, whole: i64) -> i64
 
 /// The products of two ways have room in 64 bits.
 #[inline(always)]
-fn are_near(a: Vec2, b: Vec2) -> bool
+fn have_products_64(a: Vec2, b: Vec2) -> bool
     ensures first { result ≡ true → IsWithin (2 ^ 30) a }
     ensures second { result ≡ true → IsWithin (2 ^ 30) b }
 {
-    if is_within(a, NEAR) {
-        is_within(b, NEAR)
+    if is_within(a, MAX_WAY_64) {
+        is_within(b, MAX_WAY_64)
     } else {
         false
     }
@@ -113,20 +112,20 @@ fn are_near(a: Vec2, b: Vec2) -> bool
 
 /// How far along a way its point nearest to the end of `from` lies, times 2^30; both begin at one
 /// place, and both are near.
-fn near_share_along(way: Vec2, from: Vec2) -> i64
+fn share_along_64(way: Vec2, from: Vec2) -> i64
     requires way { IsWithin (2 ^ 30) way }
-    requires place { IsWithin (2 ^ 30) from }
+    requires position { IsWithin (2 ^ 30) from }
     requires wide { 0 < unsigned_abs way.x + unsigned_abs way.y }
     ensures value { result ≡ clamped (rdiv (dot from way *ℤ unit_length) (dot way way)) }
     ensures within { unsigned_abs result ≤ 2 ^ 30 }
 {
-    near_fraction(narrow_dot(from, way), narrow_dot(way, way))
+    fraction_64(dot_64(from, way), dot_64(way, way))
 }
 
 /// The same of any others.
-fn far_share_along(way: Vec2, from: Vec2) -> i64
+fn share_along(way: Vec2, from: Vec2) -> i64
     requires way { IsWithin (2 ^ 38) way }
-    requires place { IsWithin (2 ^ 38) from }
+    requires position { IsWithin (2 ^ 38) from }
     requires wide { 0 < unsigned_abs way.x + unsigned_abs way.y }
     ensures value { result ≡ clamped (rdiv (dot from way *ℤ unit_length) (dot way way)) }
     ensures within { unsigned_abs result ≤ 2 ^ 30 }
@@ -138,23 +137,23 @@ fn far_share_along(way: Vec2, from: Vec2) -> i64
 fn closest_along(core: &Core, e: Vec2) -> Vec2
     requires wide { is_point core.now ≡ false }
     requires core { IsPlaced core.now }
-    requires place { IsWithin (2 ^ 37) e }
+    requires position { IsWithin (2 ^ 37) e }
     ensures value { result ≡ closest core.now e }
     ensures within { IsWithin (2 ^ 39) result }
 {
     let way = way_of(core);
     let from = minus(e, core.p);
-    if are_near(way, from) {
-        near_moved(core.p, way, near_share_along(way, from))
+    if have_products_64(way, from) {
+        moved_64(core.p, way, share_along_64(way, from))
     } else {
-        moved(core.p, way, far_share_along(way, from))
+        moved(core.p, way, share_along(way, from))
     }
 }
 
 /// The core's point nearest to `e`, but for rounding.
 pub fn closest(core: &Core, e: Vec2) -> Vec2
     requires core { IsPlaced core.now }
-    requires place { IsWithin (2 ^ 37) e }
+    requires position { IsWithin (2 ^ 37) e }
     ensures value { result ≡ closest core.now e }
     ensures within { IsWithin (2 ^ 39) result }
 {
@@ -167,7 +166,7 @@ pub fn closest(core: &Core, e: Vec2) -> Vec2
 /// On which side of the core's line `e` lies: above zero to the left, zero on the line.
 fn side(core: &Core, e: Vec2) -> i128
     requires core { IsPlaced core.now }
-    requires place { IsWithin (2 ^ 37) e }
+    requires position { IsWithin (2 ^ 37) e }
     ensures value { result ≡ side core.now e }
 {
     cross(way_of(core), minus(e, core.p))
@@ -194,13 +193,13 @@ fn are_opposite(a: i64, b: i64) -> bool
 
 /// The ends of two ways lie strictly on different sides of a third; all begin at one place, and all
 /// are near.
-fn are_near_sides_apart(way: Vec2, first: Vec2, second: Vec2) -> bool
+fn are_sides_apart_64(way: Vec2, first: Vec2, second: Vec2) -> bool
     requires way { IsWithin (2 ^ 30) way }
     requires first { IsWithin (2 ^ 30) first }
     requires second { IsWithin (2 ^ 30) second }
     ensures { result ≡ are_opposite (cross way first) (cross way second) }
 {
-    are_opposite(narrow_cross(way, first), narrow_cross(way, second))
+    are_opposite(cross_64(way, first), cross_64(way, second))
 }
 
 /// `are_sides_apart`, in 64 bits where the cores are near.
@@ -212,9 +211,9 @@ fn is_parted(line: &Core, other: &Core) -> bool
     let way = way_of(line);
     let first = minus(other.p, line.p);
     let second = minus(other.q, line.p);
-    if are_near(way, first) {
-        if is_within(second, NEAR) {
-            return are_near_sides_apart(way, first, second);
+    if have_products_64(way, first) {
+        if is_within(second, MAX_WAY_64) {
+            return are_sides_apart_64(way, first, second);
         }
     }
     are_sides_apart(line, other)

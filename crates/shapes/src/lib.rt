@@ -24,9 +24,12 @@ mod spots;
 #[cfg(test)]
 mod tests;
 
-pub use bounds::{MARGIN, fat_box, tight_box};
+pub use bounds::{fat_box, tight_box};
 pub use filter::{Filter, should_collide};
-pub use limits::{MAX_SHAPES, check};
+pub use limits::{
+    MARGIN, MAX_CORE, MAX_FRICTION, MAX_RADIUS, MAX_RAY, MAX_RESTITUTION, MAX_SHAPES, TOLERANCE,
+    check,
+};
 pub use manifolds::manifold;
 pub use mixing::{mixed_friction, mixed_restitution};
 pub use points::{Manifold, Point};

@@ -12,16 +12,26 @@ use fixed_geom::{Refusal, Vec2, is_within};
 pub const MAX_SHAPES: usize = 8;
 
 /// The greatest size of a coordinate of a core, in u.
-const MAX_CORE: u64 = 1 << 24;
+pub const MAX_CORE: u64 = 1 << 24;
 
 /// The greatest radius, in u.
-const MAX_RADIUS: i64 = 1 << 24;
+pub const MAX_RADIUS: i64 = 1 << 24;
 
 /// The greatest friction, in 256ths.
-const MAX_FRICTION: i64 = 512;
+pub const MAX_FRICTION: i64 = 512;
 
 /// The greatest restitution, in 256ths.
-const MAX_RESTITUTION: i64 = 256;
+pub const MAX_RESTITUTION: i64 = 256;
+
+/// The greatest size of a component of a ray's way, in u.
+pub const MAX_RAY: i64 = 1 << 28;
+
+/// By how much a fat box is larger than the tight box on each side, in u.
+pub const MARGIN: i64 = 131_072;
+
+/// How much further than the first point of a contact the second may be, and how far the two have to be from one another, in u
+/// (2 hundredths of a metre).
+pub const TOLERANCE: i64 = 20_972;
 
 fn is_between(low: i64, high: i64, value: i64) -> bool
     ensures { result ≡ is_between low high value }

@@ -10,12 +10,12 @@ ghost use Rattle.shapes.specs.Manifolds.{point_of, IsPointWithin, IsSecond, IsLe
 use crate::choice::chosen_spots;
 use crate::cores::cores_cross;
 use crate::spots::{Pair, Spot};
-use crate::{Core, Manifold, Point, Pose, Shape, core_of};
-use fixed_geom::{Vec2, minus};
+use crate::{Core, MAX_RADIUS, Manifold, Point, Pose, Shape, core_of};
+use fixed_geom::{MAX_OFFSET, MAX_POSITION, Vec2, minus};
 
 fn point_of(center_a: Vec2, center_b: Vec2, spot: &Spot) -> Point
-    requires first { IsWithin (2 ^ 36) center_a }
-    requires second { IsWithin (2 ^ 36) center_b }
+    requires first { IsWithin (unsigned_abs MAX_POSITION) center_a }
+    requires second { IsWithin (unsigned_abs MAX_POSITION) center_b }
     requires spot { IsSpot spot.now }
     ensures { result ≡ point_of center_a center_b spot.now }
 {
@@ -30,8 +30,8 @@ fn point_of(center_a: Vec2, center_b: Vec2, spot: &Spot) -> Point
 
 fn manifold_between(pair: &Pair, center_a: Vec2, center_b: Vec2) -> Manifold
     requires pair { IsPair pair.now }
-    requires first { IsWithin (2 ^ 36) center_a }
-    requires second { IsWithin (2 ^ 36) center_b }
+    requires first { IsWithin (unsigned_abs MAX_POSITION) center_a }
+    requires second { IsWithin (unsigned_abs MAX_POSITION) center_b }
     ensures { result ≡ manifold_between pair.now center_a center_b }
 {
     let chosen = chosen_spots(pair);
@@ -52,8 +52,8 @@ fn manifold_between(pair: &Pair, center_a: Vec2, center_b: Vec2) -> Manifold
 fn pair_of(a: Core, radius_a: i64, b: Core, radius_b: i64) -> Pair
     requires first { IsPlaced a }
     requires second { IsPlaced b }
-    requires radius_a { unsigned_abs radius_a ≤ 2 ^ 24 }
-    requires radius_b { unsigned_abs radius_b ≤ 2 ^ 24 }
+    requires radius_a { unsigned_abs radius_a ≤ unsigned_abs MAX_RADIUS }
+    requires radius_b { unsigned_abs radius_b ≤ unsigned_abs MAX_RADIUS }
     ensures value { result ≡ pair_of a radius_a b radius_b }
     ensures pair { IsPair result }
 {
@@ -70,8 +70,8 @@ fn pair_of(a: Core, radius_a: i64, b: Core, radius_b: i64) -> Pair
 ///
 /// Each end of a core and the point of the other core nearest to it are a candidate. The first
 /// point is the nearest candidate's, the lesser number's at the same distance; the second is the
-/// next such one that lies at most 20,972 u further, where the shapes overlap, and more than
-/// 20,972 u from the first. (Two points as in Box2D's manifolds; the candidates are this project's
+/// next such one that lies at most `TOLERANCE` further, where the shapes overlap, and more than
+/// that from the first. (Two points as in Box2D's manifolds; the candidates are this project's
 /// own rule.) Where the bodies' centres are at most `k` u apart in each coordinate, no offset and no
 /// separation is beyond `4·k + 2^28` u in size. Where the shapes touch, none is beyond 2^27 u, and
 /// no centres need be near: a core's ends are within 1.5·2^24 u of its body's centre, and cores that
@@ -88,8 +88,8 @@ pub fn manifold(a: &Shape, pose_a: Pose, b: &Shape, pose_b: Pose) -> Manifold
     ensures alone { IfNone result.second (allowed_spots (placed_pair a.now pose_a b.now pose_b) ≡ []) }
     ensures first_near { (k : ℕ) → IsWithin k (minus pose_b.x pose_a.x) → IsPointWithin (4 * k + 2 ^ 28) result.first }
     ensures second_near { (k : ℕ) → IsWithin k (minus pose_b.x pose_a.x) → IfSome result.second (λ p. IsPointWithin (4 * k + 2 ^ 28) p) }
-    ensures first_touching { result.first.separation ≤ℤ pos 0 → IsPointWithin (2 ^ 27) result.first }
-    ensures second_touching { IfSome result.second (λ p. IsPointWithin (2 ^ 27) p) }
+    ensures first_touching { result.first.separation ≤ℤ pos 0 → IsPointWithin (unsigned_abs MAX_OFFSET) result.first }
+    ensures second_touching { IfSome result.second (λ p. IsPointWithin (unsigned_abs MAX_OFFSET) p) }
 {
     let pair = pair_of(
         core_of(a, pose_a),

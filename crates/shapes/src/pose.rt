@@ -3,10 +3,10 @@
 ghost use Rattle.std.specs.Prelude.{◌≡◌, ℕ, ◌+◌, ◌*◌, ◌^◌, ◌≤◌};
 ghost use Rattle.fixed_geom.specs.Vectors.{IsWithin};
 ghost use Rattle.shapes.specs.Shapes.{IsShape};
-ghost use Rattle.shapes.specs.Poses.{IsPose, IsPlaced, plus, placed, core_of};
+ghost use Rattle.shapes.specs.Poses.{IsPose, IsPlaced, placed, core_of};
 
-use crate::Shape;
-use fixed_geom::{Rot, Vec2, narrow_rotate};
+use crate::{MAX_CORE, Shape};
+use fixed_geom::{Rot, Vec2, plus, rotate_64};
 
 /// Where a body is: its centre, in u, and its facing.
 #[derive(Clone, Copy, Debug, PartialEq, Eq)]
@@ -22,24 +22,11 @@ pub struct Core {
     pub q: Vec2,
 }
 
-/// `a + b`, of components up to 2^61.
-pub fn plus(a: Vec2, b: Vec2) -> Vec2
-    requires first { IsWithin (2 ^ 61) a }
-    requires second { IsWithin (2 ^ 61) b }
-    ensures value { result ≡ plus a b }
-    ensures within { (j k : ℕ) → IsWithin j a → IsWithin k b → IsWithin (j + k) result }
-{
-    Vec2 {
-        x: a.x + b.x,
-        y: a.y + b.y,
-    }
-}
-
 /// Where in the world a point of a body is, given from the body's centre and at most 2^24 u from
 /// it in each coordinate.
 pub fn placed(pose: Pose, v: Vec2) -> Vec2
     requires pose { IsPose pose }
-    requires near { IsWithin (2 ^ 24) v }
+    requires near { IsWithin MAX_CORE v }
     ensures value { result ≡ placed pose v }
     ensures within { IsWithin (2 ^ 36 + 2 ^ 25) result }
 {
@@ -47,7 +34,7 @@ pub fn placed(pose: Pose, v: Vec2) -> Vec2
     if v.x == 0 && v.y == 0 {
         return pose.x;
     }
-    plus(pose.x, narrow_rotate(pose.rot, v))
+    plus(pose.x, rotate_64(pose.rot, v))
 }
 
 /// The core of a shape of a body with this pose.

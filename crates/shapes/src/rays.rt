@@ -9,15 +9,14 @@ ghost use Rattle.shapes.specs.Rays.{IsBeam, to_side, shifted, is_inside, earlies
 
 use crate::beam::{Beam, earlier, end_hit, side_hit};
 use crate::cores::{closest, is_point};
-use crate::pose::plus;
-use crate::spots::{across, opposite};
-use crate::{Core, Pose, Shape, core_of};
-use fixed_geom::{Vec2, minus, scaled, span};
+use crate::spots::across;
+use crate::{Core, MAX_RADIUS, MAX_RAY, Pose, Shape, core_of};
+use fixed_geom::{MAX_POSITION, Vec2, minus, opposite, plus, scaled, span};
 
 /// From the core to the left side of the shape.
 fn to_side(core: &Core, radius: i64) -> Vec2
     requires core { IsPlaced core.now }
-    requires radius { unsigned_abs radius ≤ 2 ^ 24 }
+    requires radius { unsigned_abs radius ≤ unsigned_abs MAX_RADIUS }
     requires wide { is_point core.now ≡ false }
     ensures value { result ≡ to_side core.now radius }
     ensures within { IsWithin (2 ^ 24) result }
@@ -43,21 +42,21 @@ fn shifted(core: &Core, by: Vec2) -> Core
     }
 }
 
-/// The place is no further from the core's nearest point than the radius.
+/// The position is no further from the core's nearest point than the radius.
 #[tactic(auto, unfolding(crate::specs::Rays::is_inside))]
-fn is_inside(core: &Core, radius: i64, place: Vec2) -> bool
+fn is_inside(core: &Core, radius: i64, position: Vec2) -> bool
     requires core { IsPlaced core.now }
-    requires place { IsWithin (2 ^ 36) place }
-    ensures { result ≡ is_inside core.now radius place }
+    requires position { IsWithin (unsigned_abs MAX_POSITION) position }
+    ensures { result ≡ is_inside core.now radius position }
 {
-    span(minus(closest(core, place), place)) <= radius
+    span(minus(closest(core, position), position)) <= radius
 }
 
 /// The least of a hit and those on the two sides of a core that is no point.
 fn earliest_with_sides(best: Option<u32>, beam: &Beam, core: &Core, radius: i64) -> Option<u32>
     requires beam { IsBeam beam.now }
     requires core { IsPlaced core.now }
-    requires radius { unsigned_abs radius ≤ 2 ^ 24 }
+    requires radius { unsigned_abs radius ≤ unsigned_abs MAX_RADIUS }
     requires wide { is_point core.now ≡ false }
     ensures { result ≡ earliest best (side_hits beam.now core.now radius) }
 {
@@ -74,7 +73,7 @@ fn earliest_with_sides(best: Option<u32>, beam: &Beam, core: &Core, radius: i64)
 fn core_ray(beam: &Beam, core: &Core, radius: i64) -> Option<u32>
     requires beam { IsBeam beam.now }
     requires core { IsPlaced core.now }
-    requires radius { unsigned_abs radius ≤ 2 ^ 24 }
+    requires radius { unsigned_abs radius ≤ unsigned_abs MAX_RADIUS }
     ensures { result ≡ core_ray beam.now core.now radius }
 {
     if is_inside(core, radius, beam.from) {
@@ -97,8 +96,8 @@ fn core_ray(beam: &Beam, core: &Core, radius: i64) -> Option<u32>
 pub fn ray(shape: &Shape, pose: Pose, from: Vec2, along: Vec2) -> Option<u32>
     requires shape { IsShape shape.now }
     requires pose { IsPose pose }
-    requires from { IsWithin (2 ^ 36) from }
-    requires along { IsWithin (2 ^ 28) along }
+    requires from { IsWithin (unsigned_abs MAX_POSITION) from }
+    requires along { IsWithin (unsigned_abs MAX_RAY) along }
     ensures value { result ≡ ray_of shape.now pose from along }
     ensures within { IfSome result (λ t. t ≤ 2 ^ 24) }
     ensures start { is_inside (core_of shape.now pose) (radius_of shape.now) from ≡ true → result ≡ Some 0 }

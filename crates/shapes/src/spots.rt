@@ -6,14 +6,14 @@ ghost use Rattle.fixed_geom.specs.Numbers.{fdiv};
 ghost use Rattle.fixed_geom.specs.Vectors.{IsWithin, moved};
 ghost use Rattle.shapes.specs.Poses.{IsPlaced};
 ghost use Rattle.shapes.specs.Cores.{is_point};
-ghost use Rattle.shapes.specs.Spots.{IsPair, IsCandidate, IsSpot, measured, opposite, square_to, across, flat_normal, normal_of, turned, separation_of, spot_of};
+ghost use Rattle.shapes.specs.Spots.{IsPair, IsCandidate, IsSpot, measured, square_to, across, flat_normal, normal_of, flipped, separation_of, spot_of};
 
-use crate::Core;
 use crate::cores::{is_point, way_of};
-use fixed_geom::{UNIT, Vec2, minus, moved, near_moved, span, unit, unit_along};
+use crate::{Core, MAX_RADIUS};
+use fixed_geom::{UNIT, Vec2, minus, moved, moved_64, opposite, span, unit, unit_along};
 
 /// A distance up to this has a product with a unit vector that has room in 64 bits.
-const SHORT: u64 = 1 << 32;
+const MAX_DISTANCE_64: u64 = 1 << 32;
 
 /// Two shapes in the world: their cores and radii, in u, and whether the cores cross.
 #[derive(Clone, Copy, Debug, PartialEq, Eq)]
@@ -61,15 +61,6 @@ pub fn measured(number: u64, a: Vec2, b: Vec2) -> Candidate
     }
 }
 
-/// `v` turned round.
-pub fn opposite(v: Vec2) -> Vec2
-    requires { IsWithin (2 ^ 40) v }
-    ensures value { result ≡ opposite v }
-    ensures within { (k : ℕ) → IsWithin k v → IsWithin k result }
-{
-    Vec2 { x: -v.x, y: -v.y }
-}
-
 /// `v` turned to the left by a quarter.
 pub fn square_to(v: Vec2) -> Vec2
     requires { IsWithin (2 ^ 40) v }
@@ -85,7 +76,7 @@ pub fn across(core: &Core) -> Vec2
     requires core { IsPlaced core.now }
     requires wide { is_point core.now ≡ false }
     ensures value { result ≡ across core.now }
-    ensures within { IsWithin (2 ^ 30) result }
+    ensures within { IsWithin (unsigned_abs UNIT) result }
 {
     unit(square_to(way_of(core)))
 }
@@ -97,7 +88,7 @@ fn flat_normal(a: &Core, b: &Core) -> Vec2
     requires first { IsPlaced a.now }
     requires second { IsPlaced b.now }
     ensures value { result ≡ flat_normal a.now b.now }
-    ensures within { IsWithin (2 ^ 30) result }
+    ensures within { IsWithin (unsigned_abs UNIT) result }
 {
     if is_point(b) {
         if is_point(a) {
@@ -116,7 +107,7 @@ fn normal_of(pair: &Pair, candidate: &Candidate) -> Vec2
     requires pair { IsPair pair.now }
     requires candidate { IsCandidate candidate.now }
     ensures value { result ≡ normal_of pair.now candidate.now }
-    ensures within { IsWithin (2 ^ 30) result }
+    ensures within { IsWithin (unsigned_abs UNIT) result }
 {
     if candidate.dist == 0 {
         return flat_normal(&pair.a, &pair.b);
@@ -129,9 +120,9 @@ fn normal_of(pair: &Pair, candidate: &Candidate) -> Vec2
     }
 }
 
-fn turned(flip: bool, x: i64) -> i64
+fn flipped(flip: bool, x: i64) -> i64
     requires { unsigned_abs x ≤ 2 ^ 41 }
-    ensures value { result ≡ turned flip x }
+    ensures value { result ≡ flipped flip x }
     ensures small { unsigned_abs result ≤ 2 ^ 41 }
 {
     if flip { -x } else { x }
@@ -139,8 +130,8 @@ fn turned(flip: bool, x: i64) -> i64
 
 fn gap(dist: i64, radius_a: i64, radius_b: i64) -> i64
     requires dist { unsigned_abs dist ≤ 2 ^ 41 }
-    requires first { unsigned_abs radius_a ≤ 2 ^ 24 }
-    requires second { unsigned_abs radius_b ≤ 2 ^ 24 }
+    requires first { unsigned_abs radius_a ≤ unsigned_abs MAX_RADIUS }
+    requires second { unsigned_abs radius_b ≤ unsigned_abs MAX_RADIUS }
     ensures value { result ≡ dist -ℤ radius_a -ℤ radius_b }
     ensures small { unsigned_abs result ≤ 2 ^ 42 }
 {
@@ -156,7 +147,7 @@ pub fn separation_of(pair: &Pair, candidate: &Candidate) -> i64
     ensures small { unsigned_abs result ≤ 2 ^ 42 }
 {
     gap(
-        turned(pair.crossing, candidate.dist),
+        flipped(pair.crossing, candidate.dist),
         pair.radius_a,
         pair.radius_b,
     )
@@ -172,7 +163,7 @@ fn half(x: i64) -> i64
 
 /// How far from `a` along the normal the contact point lies: halfway between the two surfaces.
 fn reach(radius: i64, separation: i64) -> i64
-    requires first { unsigned_abs radius ≤ 2 ^ 24 }
+    requires first { unsigned_abs radius ≤ unsigned_abs MAX_RADIUS }
     requires second { unsigned_abs separation ≤ 2 ^ 42 }
     ensures value { result ≡ radius +ℤ fdiv separation (pos 2) }
     ensures small { unsigned_abs result ≤ 2 ^ 43 }
@@ -181,15 +172,15 @@ fn reach(radius: i64, separation: i64) -> i64
 }
 
 /// The place at this distance from another along a normal, in 64 bits where the distance leaves room.
-fn place_along(from: Vec2, normal: Vec2, distance: i64) -> Vec2
+fn position_along(from: Vec2, normal: Vec2, distance: i64) -> Vec2
     requires from { IsWithin (2 ^ 39) from }
-    requires normal { IsWithin (2 ^ 30) normal }
+    requires normal { IsWithin (unsigned_abs UNIT) normal }
     requires distance { unsigned_abs distance ≤ 2 ^ 43 }
     ensures value { result ≡ moved from normal distance }
     ensures within { IsWithin (2 ^ 44) result }
 {
-    if distance.unsigned_abs() <= SHORT {
-        near_moved(from, normal, distance)
+    if distance.unsigned_abs() <= MAX_DISTANCE_64 {
+        moved_64(from, normal, distance)
     } else {
         moved(from, normal, distance)
     }
@@ -204,7 +195,7 @@ pub fn spot_of(pair: &Pair, candidate: &Candidate) -> Spot
 {
     let normal = normal_of(pair, candidate);
     let separation = separation_of(pair, candidate);
-    let at = place_along(candidate.a, normal, reach(pair.radius_a, separation));
+    let at = position_along(candidate.a, normal, reach(pair.radius_a, separation));
     Spot {
         candidate: candidate.number,
         dist: candidate.dist,

@@ -75,7 +75,7 @@ AreSmall-weaker n m b h small = record { x = λ cause. omega (arith, small.x cau
 near : (a b : ℤ) (n m : ℕ) → unsigned_abs a ≤ n → unsigned_abs b ≤ m → unsigned_abs (a +ℤ b) ≤ n + m
 near a b n m h k = omega (arith, ints)
 
-pub Fits-roomy : (b : Book) (e : Entry) → IsRoomy b → unsigned_abs e.x ≤ 2 ^ 82 → unsigned_abs e.y ≤ 2 ^ 82 → Fits b e
+pub Fits-roomy : (b : Book) (e : Entry) → IsRoomy b → unsigned_abs e.x ≤ 2 ^ 83 → unsigned_abs e.y ≤ 2 ^ 83 → Fits b e
 Fits-roomy b e r hx hy = record {
   x = let n = near (total_x b) e.x _ _ r.x hx in omega (arith, n);
   y = let n = near (total_y b) e.y _ _ r.y hy in omega (arith, n);
@@ -85,29 +85,29 @@ Fits-roomy b e r hx hy = record {
 
 -- and those after a first one, and after a second
 pub Fits-after : (b new : Book) (e : Entry) (call : ℕ) (why : Cause) (x y : ℤ) → IsRoomy b → new.entries ≡ b.entries ++ booked call why x y → new.settled ≡ b.settled
-    → unsigned_abs x ≤ 2 ^ 82 → unsigned_abs y ≤ 2 ^ 82 → unsigned_abs e.x ≤ 2 ^ 82 → unsigned_abs e.y ≤ 2 ^ 82 → Fits new e
+    → unsigned_abs x ≤ 2 ^ 83 → unsigned_abs y ≤ 2 ^ 83 → unsigned_abs e.x ≤ 2 ^ 83 → unsigned_abs e.y ≤ 2 ^ 83 → Fits new e
 Fits-after b new e call why x y r entries settled hx hy ex ey =
     let after : Book = record { entries = b.entries ++ booked call why x y; settled = b.settled; room = 0 } in
-    let small : AreSmall (2 ^ 126 + 2 ^ 123 + 2 ^ 82) after = AreSmall-booked (2 ^ 126 + 2 ^ 123) (2 ^ 82) b.room 0 b.entries b.settled call why x y r.causes hx hy in
+    let small : AreSmall (2 ^ 126 + 2 ^ 123 + 2 ^ 83) after = AreSmall-booked (2 ^ 126 + 2 ^ 123) (2 ^ 83) b.room 0 b.entries b.settled call why x y r.causes hx hy in
     record {
       x = rw (entries, settled, sum_x-booked b.entries call why x y) (let r_x = r.x in omega (arith, ints));
       y = rw (entries, settled, sum_y-booked b.entries call why x y) (let r_y = r.y in omega (arith, ints));
-      of_cause_x = rw (entries, settled) (let n = near (total_of_x e.cause after) e.x (2 ^ 126 + 2 ^ 123 + 2 ^ 82) (2 ^ 82) (small.x e.cause) ex in omega (arith, n));
-      of_cause_y = rw (entries, settled) (let n = near (total_of_y e.cause after) e.y (2 ^ 126 + 2 ^ 123 + 2 ^ 82) (2 ^ 82) (small.y e.cause) ey in omega (arith, n));
+      of_cause_x = rw (entries, settled) (let n = near (total_of_x e.cause after) e.x (2 ^ 126 + 2 ^ 123 + 2 ^ 83) (2 ^ 83) (small.x e.cause) ex in omega (arith, n));
+      of_cause_y = rw (entries, settled) (let n = near (total_of_y e.cause after) e.y (2 ^ 126 + 2 ^ 123 + 2 ^ 83) (2 ^ 83) (small.y e.cause) ey in omega (arith, n));
     }
 
 pub Fits-last : (b new : Book) (e : Entry) (call : ℕ) (a c : Cause) (x y u v : ℤ) → IsRoomy b → new.entries ≡ (b.entries ++ booked call a x y) ++ booked call c u v → new.settled ≡ b.settled
-    → unsigned_abs x ≤ 2 ^ 82 → unsigned_abs y ≤ 2 ^ 82 → unsigned_abs u ≤ 2 ^ 82 → unsigned_abs v ≤ 2 ^ 82 → unsigned_abs e.x ≤ 2 ^ 82 → unsigned_abs e.y ≤ 2 ^ 82 → Fits new e
+    → unsigned_abs x ≤ 2 ^ 83 → unsigned_abs y ≤ 2 ^ 83 → unsigned_abs u ≤ 2 ^ 83 → unsigned_abs v ≤ 2 ^ 83 → unsigned_abs e.x ≤ 2 ^ 83 → unsigned_abs e.y ≤ 2 ^ 83 → Fits new e
 Fits-last b new e call a c x y u v r entries settled hx hy hu hv ex ey =
     let es : List Entry = b.entries ++ booked call a x y in
     let after : Book = record { entries = es ++ booked call c u v; settled = b.settled; room = 0 } in
-    let first : AreSmall (2 ^ 126 + 2 ^ 123 + 2 ^ 82) (record { entries = es; settled = b.settled; room = 0 }) = AreSmall-booked (2 ^ 126 + 2 ^ 123) (2 ^ 82) b.room 0 b.entries b.settled call a x y r.causes hx hy in
-    let small : AreSmall (2 ^ 126 + 2 ^ 123 + 2 ^ 82 + 2 ^ 82) after = AreSmall-booked (2 ^ 126 + 2 ^ 123 + 2 ^ 82) (2 ^ 82) 0 0 es b.settled call c u v first hu hv in
+    let first : AreSmall (2 ^ 126 + 2 ^ 123 + 2 ^ 83) (record { entries = es; settled = b.settled; room = 0 }) = AreSmall-booked (2 ^ 126 + 2 ^ 123) (2 ^ 83) b.room 0 b.entries b.settled call a x y r.causes hx hy in
+    let small : AreSmall (2 ^ 126 + 2 ^ 123 + 2 ^ 83 + 2 ^ 83) after = AreSmall-booked (2 ^ 126 + 2 ^ 123 + 2 ^ 83) (2 ^ 83) 0 0 es b.settled call c u v first hu hv in
     record {
       x = rw (entries, settled, sum_x-booked es call c u v, sum_x-booked b.entries call a x y) (let r_x = r.x in omega (arith, ints));
       y = rw (entries, settled, sum_y-booked es call c u v, sum_y-booked b.entries call a x y) (let r_y = r.y in omega (arith, ints));
-      of_cause_x = rw (entries, settled) (let n = near (total_of_x e.cause after) e.x (2 ^ 126 + 2 ^ 123 + 2 ^ 82 + 2 ^ 82) (2 ^ 82) (small.x e.cause) ex in omega (arith, n));
-      of_cause_y = rw (entries, settled) (let n = near (total_of_y e.cause after) e.y (2 ^ 126 + 2 ^ 123 + 2 ^ 82 + 2 ^ 82) (2 ^ 82) (small.y e.cause) ey in omega (arith, n));
+      of_cause_x = rw (entries, settled) (let n = near (total_of_x e.cause after) e.x (2 ^ 126 + 2 ^ 123 + 2 ^ 83 + 2 ^ 83) (2 ^ 83) (small.x e.cause) ex in omega (arith, n));
+      of_cause_y = rw (entries, settled) (let n = near (total_of_y e.cause after) e.y (2 ^ 126 + 2 ^ 123 + 2 ^ 83 + 2 ^ 83) (2 ^ 83) (small.y e.cause) ey in omega (arith, n));
     }
 
 -- ---- the entries of a step: each cause has one at most, and grows by no more than that

@@ -19,13 +19,13 @@ use Rattle.contacts_base.proofs.LookupLemmas.{lookup-here, lookup-later}
 use Rattle.contacts.specs.declared.constraint.Constraint.{Constraint}
 use Rattle.contacts.specs.declared.constraint.Constraint.TheVariants as constraints
 use Rattle.contacts.specs.Constraints.{constraint_number}
-use Rattle.contacts.specs.Changes.{is_touching}
+use Rattle.contacts_base.specs.Contacts.{is_touching}
 use Rattle.contacts.proofs.Members.{Each, IsIn, each_in}
 use Rattle.contacts.proofs.Rising.{IsRising, rising_from_increasing}
-use Rattle.world_core_base.specs.declared.body.Body.{Body}
-use Rattle.world_core_base.specs.Slots.{with_body}
+use Rattle.plain_world.specs.declared.body.Body.{Body}
+use Rattle.plain_world.specs.Slots.{with_body}
 use Rattle.world_core_base.specs.Gather.{moves, IsContactOf, AreContactsOf}
-use Rattle.world_core.specs.Collide.{has_slot, contacts_without}
+use Rattle.contacts_base.specs.Contacts.{has_slot, contacts_without}
 use Rattle.world_core.specs.Colouring.{Lists, movers_of, ended, released_if, lists_without, IsNamed, AreNamed, IsNamedContact, AreColoured}
 use Rattle.world_core.proofs.ColouringSteps.{each_from_all, absent_ended}
 use Rattle.world_core.proofs.ColouringTurns.{colour, all_ended, far_ended, ended_own}

@@ -16,14 +16,15 @@ use Rattle.contacts_base.specs.Evaluate.{touches}
 use Rattle.contacts_base.proofs.LookupLemmas.{lookup-here, lookup-later}
 use Rattle.contacts.specs.declared.constraint.Constraint.{Constraint}
 use Rattle.contacts.specs.declared.constraint.Constraint.TheVariants as constraints
-use Rattle.contacts.specs.Changes.{is_touching, key_if_touching, keys_touching_only_in}
+use Rattle.contacts_base.specs.Contacts.{is_touching}
+use Rattle.contacts.specs.Changes.{key_if_new, key_if_touching, keys_touching_only_in}
 use Rattle.contacts.proofs.Members.{Each, all_from_each}
 use Rattle.contacts.proofs.Rising.{IsRising, rising_from_increasing}
 use Rattle.contacts.proofs.ChangeLemmas.{keys_touching_rise}
 use Rattle.colour_solver_base.specs.declared.row.ContactRow.{ContactRow}
 use Rattle.momenta.specs.declared.state.BodyState.{BodyState}
-use Rattle.world_core_base.specs.declared.body.Body.{Body}
-use Rattle.world_core_base.specs.Bodies.{is_mover}
+use Rattle.plain_world.specs.declared.body.Body.{Body}
+use Rattle.plain_world.specs.Bodies.{is_mover}
 use Rattle.world_core_base.specs.Gather.{moves, moves_in, IsContactOf, AreContactsOf, with_motion, with_motions, with_row, with_rows, put_row}
 use Rattle.world_core_base.proofs.ContactLaws.{touches_with_row}
 use Rattle.world_core.specs.Colouring.{Lists, movers_if, movers_between, movers_of, turned, IsNamed, AreNamed, IsNamedContact, AreColoured}
@@ -32,7 +33,7 @@ use Rattle.world_core.proofs.ColouringTurns.{Far, Has, colour, lookup_by_number,
 
 -- ---- what changes no colour
 
-movers_same : (old new : List (Option Body)) → ((slot : ℕ) → moves new slot ≡ moves old slot) → (c : Constraint) → movers_of new c ≡ movers_of old c
+pub movers_same : (old new : List (Option Body)) → ((slot : ℕ) → moves new slot ≡ moves old slot) → (c : Constraint) → movers_of new c ≡ movers_of old c
 movers_same old new same (constraints.Joint h) = refl
 movers_same old new same (constraints.Contact key) = rw (same key.first.slot, same key.second.slot) refl
 
@@ -90,13 +91,13 @@ touching-set (x ∷ es) zero e f key at same touch =
     touching_here x f es key (same ∙ ap (λ (y : ContactEntry). y.key) (sym is)) (touch ∙ ap (λ (y : ContactEntry). touches y.contact) (sym is))
 touching-set (x ∷ es) (suc i) e f key at same touch = touching_later x es (slice_set es i f) key (touching-set es i e f key at same touch)
 
-touching_put : (r : ContactRow) (es : List ContactEntry) (o : Option ContactEntry) (key : ContactKey) → slice_get es r.bodies.place ≡ o → is_touching (lookup (put_row r es o) key) ≡ is_touching (lookup es key)
+touching_put : (r : ContactRow) (es : List ContactEntry) (o : Option ContactEntry) (key : ContactKey) → slice_get es r.bodies.index ≡ o → is_touching (lookup (put_row r es o) key) ≡ is_touching (lookup es key)
 touching_put r es None key at = refl
-touching_put r es (Some e) key at = touching-set es r.bodies.place e (with_row r e) key at refl (touches_with_row r e)
+touching_put r es (Some e) key at = touching-set es r.bodies.index e (with_row r e) key at refl (touches_with_row r e)
 
 pub touching-with_rows : (es : List ContactEntry) (rs : List ContactRow) (key : ContactKey) → is_touching (lookup (with_rows es rs) key) ≡ is_touching (lookup es key)
 touching-with_rows es [] key = refl
-touching-with_rows es (r ∷ rs) key = touching-with_rows (put_row r es (slice_get es r.bodies.place)) rs key ∙ touching_put r es (slice_get es r.bodies.place) key refl
+touching-with_rows es (r ∷ rs) key = touching-with_rows (put_row r es (slice_get es r.bodies.index)) rs key ∙ touching_put r es (slice_get es r.bodies.index) key refl
 
 -- what a step leaves of the bodies and the contacts
 pub coloured_stepped : (bodies : List (Option Body)) (states : List BodyState) (contacts : List ContactEntry) (rows : List ContactRow) (lists : Lists) → AreColoured bodies contacts lists → AreColoured (with_motions bodies states) (with_rows contacts rows) lists
@@ -113,7 +114,7 @@ if_touching false u key k h = absurd (none-some k h)
 
 -- an entry that is picked touches, and doesn't touch in the others
 pub only_in : (others : List ContactEntry) (e : ContactEntry) (k : ContactKey) → key_if_touching others e ≡ Some k → (touches e.contact ≡ true) × (is_touching (lookup others e.key) ≡ false) × (e.key ≡ k)
-unfolding key_if_touching
+unfolding key_if_touching key_if_new
 only_in others e k h = if_touching (touches e.contact) (is_touching (lookup others e.key)) e.key k h
 
 each_cons : (P : ContactKey → Type 0) (o : Option ContactKey) (ks : List ContactKey) → ((k : ContactKey) → o ≡ Some k → P k) → Each P ks → Each P (cons_option o ks)
@@ -184,7 +185,7 @@ has_first n true false k ks p q h = inl h
 has_first n false u k ks p q h = absurd (true_or_false false p refl)
 
 has_here : (others es : List ContactEntry) (e : ContactEntry) (n : ℕ) → touches e.contact ≡ true → is_touching (lookup others e.key) ≡ false → n ≡ number_of e → Has n (keys_touching_only_in others (e ∷ es))
-unfolding key_if_touching
+unfolding key_if_touching key_if_new
 has_here others es e n p q h = has_first n (touches e.contact) (is_touching (lookup others e.key)) e.key (keys_touching_only_in others es) p q h
 
 -- one that touches here and not in the others is among those that do

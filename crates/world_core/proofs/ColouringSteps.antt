@@ -21,7 +21,7 @@ use Rattle.contacts.specs.Constraints.{constraint_number}
 use Rattle.contacts.specs.Changes.{AreRising}
 use Rattle.contacts.proofs.Members.{Each, all_from_each}
 use Rattle.contacts.proofs.Rising.{IsRising, rising_from_increasing}
-use Rattle.world_core_base.specs.declared.body.Body.{Body}
+use Rattle.plain_world.specs.declared.body.Body.{Body}
 use Rattle.world_core.specs.Colouring.{Lists, movers_between, begun, begun_with, ended, ended_all, ended_until, left_from, turned}
 
 -- ---- movers

@@ -17,7 +17,7 @@ use Rattle.contacts.specs.declared.constraint.Constraint.TheVariants.{Contact}
 use Rattle.contacts.specs.Constraints.{constraint_number}
 use Rattle.contacts.proofs.Members.{Each}
 use Rattle.contacts.proofs.Rising.{IsRising}
-use Rattle.world_core_base.specs.declared.body.Body.{Body}
+use Rattle.plain_world.specs.declared.body.Body.{Body}
 use Rattle.world_core.specs.Colouring.{Lists, movers_between, begun, begun_with, ended, ended_all, ended_until, left_from, turned}
 use Rattle.world_core.proofs.ColouringSteps.{EachAbsent, colour_by_number, absent_ended, absent_until, others_begun, next_absent}
 
@@ -48,7 +48,7 @@ far_above n m (k ∷ ks) is h = let lt : m < key_number k = h.0 in ((λ q. omega
 
 pub lookup_by_number : (es : List ContactEntry) (a b : ContactKey) → key_number a ≡ key_number b → lookup es a ≡ lookup es b
 lookup_by_number [] a b h = refl
-lookup_by_number (e ∷ es) a b h = ap₂ (λ n r. cond (number_of e == n) (Some e.contact) r) h (lookup_by_number es a b h)
+lookup_by_number (e ∷ es) a b h = ap₂ (λ n r. cond (number_of e == n) (Some e) r) h (lookup_by_number es a b h)
 
 -- ---- those that end
 

@@ -1,5 +1,5 @@
 -- Each command keeps a world sound.
-use Rattle.std.proofs.Common.{◌≡◌, ℕ, ◌+◌, ◌*◌, ◌<◌, ◌≤◌, ◌^◌, List, [], ◌∷◌, ◌++◌, length, Option, Some, None, Ok, Err, Bool, true, false, cond, ℤ, pos, neg_ℤ, ◌+ℤ◌, unsigned_abs, arith, refl, sym, ap, ◌∙◌, subst, is_some, nat_lt}
+use Rattle.std.proofs.Common.{◌≡◌, ℕ, ◌+◌, ◌*◌, ◌<◌, ◌≤◌, ◌^◌, List, [], ◌∷◌, ◌++◌, length, Option, Some, None, Ok, Err, Bool, true, false, cond, ℤ, pos, neg_ℤ, ◌+ℤ◌, unsigned_abs, arith, refl, sym, ap, ◌∙◌, subst, is_some, nat_lt, replicate}
 use Rattle.std.specs.Prelude.{slice_set, option_map, if◌then◌else◌}
 use Rattle.std.proofs.lemmas.Int.{ints}
 use Rattle.std.proofs.lemmas.Grind.{common_steps}
@@ -7,6 +7,9 @@ use Rattle.fixed_geom.specs.Vectors.{IsWithin, is_within}
 use Rattle.fixed_geom.specs.declared.vectors.Vec2.{Vec2}
 use Rattle.fixed_geom.specs.declared.refusal.Refusal.TheVariants.{OutOfRange, NotAMover, BodyDisabled, TooFast}
 use Rattle.body_handles.specs.declared.handle.Handle.{Handle}
+use Rattle.body_handles.specs.declared.places.TheConstants.{MAX_SLOTS}
+use Rattle.graph_colours.specs.declared.limits.TheConstants.{COLOURS}
+use Rattle.graph_colours.specs.Colours.{ids_of}
 use Rattle.body_handles.specs.declared.places.Place.{Place}
 use Rattle.body_handles.specs.Places.{lowest, generation_at, places_with, places_without, is_live}
 use Rattle.impulse_ledger.specs.declared.entry.Cause.{Cause}
@@ -15,18 +18,22 @@ use Rattle.impulse_ledger.specs.Sums.{Book, total_of_x, total_of_y}
 use Rattle.contacts_base.specs.declared.contact.ContactEntry.{ContactEntry}
 use Rattle.colour_solver.specs.declared.ticks.StepSums.{StepSums}
 use Rattle.colour_solver.specs.Ticks.{AreSums, added_x, added_y}
-use Rattle.world_core_base.specs.declared.body.Body.{Body}
-use Rattle.world_core_base.specs.declared.body.BodyDef.{BodyDef}
-use Rattle.world_core_base.specs.Bodies.{is_mover, is_dynamic, IsBody, AreBodies, p_x, p_y, momentum_x, momentum_y, made}
-use Rattle.world_core_base.specs.Slots.{body_at, HaveSameSlots, with_body, with_momentum, put_p}
+use Rattle.plain_world.specs.declared.body.Body.{Body}
+use Rattle.plain_world.specs.declared.body.BodyDef.{BodyDef}
+use Rattle.plain_world.specs.Bodies.{is_mover, is_dynamic, IsBody, AreBodies, p_x, p_y, momentum_x, momentum_y, made}
+use Rattle.plain_world.specs.Slots.{body_at, HaveSameSlots, with_body, with_momentum, put_p}
 use Rattle.event_feed.specs.Events.{EventLists}
 use Rattle.world_core.specs.World.{World, body_of, book_of}
-use Rattle.world_core.specs.Colouring.{Lists}
-use Rattle.world_core.specs.Apply.{booked, sum_of, pushed, departing, empty_world}
+use Rattle.contacts_base.specs.Contacts.{contacts_without}
+use Rattle.world_core.specs.Colouring.{AreColoured, Lists, lists_without, members_of}
+use Rattle.world_core.specs.Inside.{IsWhole}
+use Rattle.world_core.proofs.MembersLaws.{listed, moved_members}
+use Rattle.world_core.specs.Apply.{Answers, apply_destroy, booked, sum_of, pushed, departing, empty_world}
+use Rattle.world_core.specs.declared.command.Reply.TheVariants as replies
 use Rattle.world_core.specs.Sound.{IsRoomy, IsSound}
 use Rattle.world_core.proofs.BookLemmas.{sum_x-booked, sum_y-booked, AreSmall-booked, AreSmall-weaker, step_booked, AreSmall-step, sum_x-step, sum_y-step}
 use Rattle.world_core.proofs.KeptContacts.{MovesSame-momentum}
-use Rattle.world_core.proofs.TiedLaws.{AreTied, tied_sound, tied_bodies, tied_empty}
+use Rattle.world_core.proofs.TiedLaws.{AreTied, tied_sound, tied_bodies, tied_empty, tied_with, tied_without}
 use Rattle.world_core.proofs.SlotLemmas.{momentum_x-set, momentum_y-set, momentum_x-push, momentum_y-push, momentum_x_le, momentum_y_le, AreBodies-set, AreBodies-push, AreMatched-set, AreMatched-push, HaveSameSlots-set, AreMatched-same, below_length, body_at-in, lowest-free, none_if}
 
 -- ---- a sound world has room in its ledger's numbers
@@ -77,7 +84,8 @@ new_sound g h = record {
   contacts = tied_empty.rising;
   pairs = tied_empty.pairs;
   there = tied_empty.there;
-  colours = tied_empty.colours;
+  colours = (listed [] [] (replicate (COLOURS + 1) []) (replicate (COLOURS + 1) []) refl tied_empty.colours).colours;
+  moved = (listed [] [] (replicate (COLOURS + 1) []) (replicate (COLOURS + 1) []) refl tied_empty.colours).moved;
   gravity = h;
   steps = omega arith;
   calls = omega arith;
@@ -96,6 +104,7 @@ gravity_kept w g s few h = record {
   pairs = s.pairs;
   there = s.there;
   colours = s.colours;
+  moved = s.moved;
   gravity = h;
   steps = omega (arith, s.steps);
   calls = omega arith;
@@ -153,7 +162,6 @@ true_false false e f = cc
 IsBody-put : (b : Body) (p : Vec2) → IsBody b → is_mover b ≡ true → IsWithin (2 ^ 60) p → IsBody (put_p p b)
 IsBody-put b p is mover small = record {
   mass = is.mass;
-  reciprocals = is.reciprocals;
   motion = record { p = small; l = is.motion.l; still = is.motion.still; x = is.motion.x; facing = is.motion.facing };
   rest = λ no. absurd (true_false (is_mover b) mover no);
   shapes = is.shapes;
@@ -183,7 +191,8 @@ push_kept w h j p call why s few e =
     let x : p.x ≡ got.body.motion.p.x +ℤ j.x = ap (λ (v : Vec2). v.x) got.sum in
     let y : p.y ≡ got.body.motion.p.y +ℤ j.y = ap (λ (v : Vec2). v.y) got.sum in
     let slots : HaveSameSlots bodies (with_momentum bodies h.slot p) = HaveSameSlots-set bodies h.slot _ (ap is_some put ∙ sym (ap is_some at)) in
-    let tied = tied_bodies bodies (with_momentum bodies h.slot p) w.plain.contacts w.plain.colours (MovesSame-momentum bodies h.slot p) slots (tied_sound w s) in
+    let tied = tied_bodies bodies (with_momentum bodies h.slot p) w.plain.contacts (members_of bodies w.plain.colours) (MovesSame-momentum bodies h.slot p) slots (tied_sound w s) in
+    let kept = listed (with_momentum bodies h.slot p) w.plain.contacts (members_of bodies w.plain.colours) w.plain.colours (sym s.moved) tied.colours in
     record {
       total_x = let t = s.total_x in rw (sum_x-booked w.entries call why j.x j.y) (omega (arith, ints, mx, old_x, new_x, x, t));
       total_y = let t = s.total_y in rw (sum_y-booked w.entries call why j.x j.y) (omega (arith, ints, my, old_y, new_y, y, t));
@@ -194,7 +203,8 @@ push_kept w h j p call why s few e =
       contacts = tied.rising;
       pairs = tied.pairs;
       there = tied.there;
-      colours = tied.colours;
+      colours = kept.colours;
+      moved = kept.moved;
       gravity = s.gravity;
       steps = omega (arith, s.steps);
       calls = omega arith;
@@ -229,7 +239,7 @@ pub named : (live : Bool) (bodies : List (Option Body)) (slot : ℕ) (b : Body) 
 named live bodies slot b all e = all slot b (body_at-in bodies slot b (found_at live (body_at bodies slot) b e))
 
 pub destroy_kept : (w : World) (h : Handle) (p : Vec2) (call : ℕ) (why : Cause) (x y : ℤ) (contacts : List ContactEntry) (lists : Lists) → IsSound w → w.plain.calls < 2 ^ 40 → departing (body_of w.plain h) ≡ Ok p → x ≡ neg_ℤ p.x → y ≡ neg_ℤ p.y → AreTied (slice_set w.plain.bodies h.slot None) contacts lists
-    → IsSound (record w { plain = record w.plain { places = places_without w.plain.places h; bodies = slice_set w.plain.bodies h.slot None; contacts = contacts; colours = lists; calls = w.plain.calls + 1 }; entries = w.entries ++ booked call why x y })
+    → IsSound (record w { plain = record w.plain { places = places_without w.plain.places h; bodies = slice_set w.plain.bodies h.slot None; contacts = contacts; colours = ids_of lists; calls = w.plain.calls + 1 }; entries = w.entries ++ booked call why x y })
 destroy_kept w h p call why x y contacts lists s few e is_x is_y tied =
     let small = departing_small (body_of w.plain h) p (λ b f. named (is_live w.plain.places h) w.plain.bodies h.slot b s.bodies f) e in
     let got = departing_from (body_of w.plain h) p e in
@@ -240,6 +250,7 @@ destroy_kept w h p call why x y contacts lists s few e is_x is_y tied =
     let my = momentum_y-set bodies h.slot None here in
     let old_x : p_x (body_at bodies h.slot) ≡ p.x = ap p_x at ∙ sym got.x in
     let old_y : p_y (body_at bodies h.slot) ≡ p.y = ap p_y at ∙ sym got.y in
+    let kept = listed (slice_set bodies h.slot None) contacts lists (ids_of lists) refl tied.colours in
     record {
       total_x = let t = s.total_x in rw (sum_x-booked w.entries call why x y) (omega (arith, ints, mx, old_x, is_x, t));
       total_y = let t = s.total_y in rw (sum_y-booked w.entries call why x y) (omega (arith, ints, my, old_y, is_y, t));
@@ -250,7 +261,8 @@ destroy_kept w h p call why x y contacts lists s few e is_x is_y tied =
       contacts = tied.rising;
       pairs = tied.pairs;
       there = tied.there;
-      colours = tied.colours;
+      colours = kept.colours;
+      moved = kept.moved;
       gravity = s.gravity;
       steps = omega (arith, s.steps);
       calls = omega arith;
@@ -258,14 +270,15 @@ destroy_kept w h p call why x y contacts lists s few e is_x is_y tied =
 
 -- ---- CreateBody
 
-kept_with : (t : Bool) (w : World) (slot : ℕ) (place : Place) (b : Body) → IsSound w → w.plain.calls < 2 ^ 40 → (t ≡ true → slot < length w.plain.bodies) → (t ≡ false → length w.plain.bodies < 16384)
-    → place.live ≡ true → IsBody b → p_x (Some b) ≡ pos 0 → p_y (Some b) ≡ pos 0 → body_at w.plain.bodies slot ≡ None → AreTied (cond t (slice_set w.plain.bodies slot (Some b)) (w.plain.bodies ++ Some b ∷ [])) w.plain.contacts w.plain.colours
+kept_with : (t : Bool) (w : World) (slot : ℕ) (place : Place) (b : Body) → IsSound w → w.plain.calls < 2 ^ 40 → (t ≡ true → slot < length w.plain.bodies) → (t ≡ false → length w.plain.bodies < MAX_SLOTS)
+    → place.live ≡ true → IsBody b → p_x (Some b) ≡ pos 0 → p_y (Some b) ≡ pos 0 → body_at w.plain.bodies slot ≡ None → AreTied (cond t (slice_set w.plain.bodies slot (Some b)) (w.plain.bodies ++ Some b ∷ [])) w.plain.contacts (members_of w.plain.bodies w.plain.colours)
     → IsSound (record w { plain = record w.plain { places = (if t then slice_set w.plain.places slot place else w.plain.places ++ place ∷ []); bodies = cond t (slice_set w.plain.bodies slot (Some b)) (w.plain.bodies ++ Some b ∷ []); calls = w.plain.calls + 1 } })
 kept_with true w slot place b s few below past live is px py none tied =
     let mx = momentum_x-set w.plain.bodies slot (Some b) (below refl) in
     let my = momentum_y-set w.plain.bodies slot (Some b) (below refl) in
     let old_x : p_x (body_at w.plain.bodies slot) ≡ pos 0 = ap p_x none in
     let old_y : p_y (body_at w.plain.bodies slot) ≡ pos 0 = ap p_y none in
+    let kept = listed (slice_set w.plain.bodies slot (Some b)) w.plain.contacts (members_of w.plain.bodies w.plain.colours) w.plain.colours (sym s.moved) tied.colours in
     record {
       total_x = let t = s.total_x in omega (arith, ints, mx, old_x, px, t);
       total_y = let t = s.total_y in omega (arith, ints, my, old_y, py, t);
@@ -275,7 +288,8 @@ kept_with true w slot place b s few below past live is px py none tied =
       contacts = tied.rising;
       pairs = tied.pairs;
       there = tied.there;
-      colours = tied.colours;
+      colours = kept.colours;
+      moved = kept.moved;
       gravity = s.gravity;
       steps = omega (arith, s.steps);
       calls = omega arith;
@@ -283,6 +297,7 @@ kept_with true w slot place b s few below past live is px py none tied =
 kept_with false w slot place b s few below past live is px py none tied =
     let mx = momentum_x-push w.plain.bodies (Some b) in
     let my = momentum_y-push w.plain.bodies (Some b) in
+    let kept = listed (w.plain.bodies ++ Some b ∷ []) w.plain.contacts (members_of w.plain.bodies w.plain.colours) w.plain.colours (sym s.moved) tied.colours in
     record {
       total_x = let t = s.total_x in omega (arith, ints, mx, px, t);
       total_y = let t = s.total_y in omega (arith, ints, my, py, t);
@@ -292,7 +307,8 @@ kept_with false w slot place b s few below past live is px py none tied =
       contacts = tied.rising;
       pairs = tied.pairs;
       there = tied.there;
-      colours = tied.colours;
+      colours = kept.colours;
+      moved = kept.moved;
       gravity = s.gravity;
       steps = omega (arith, s.steps);
       calls = omega arith;
@@ -302,7 +318,7 @@ kept_with false w slot place b s few below past live is px py none tied =
 pub free_slot : (w : World) → IsSound w → body_at w.plain.bodies (lowest w.plain.places) ≡ None
 free_slot w s = none_if _ (s.matched.taken (lowest w.plain.places) ∙ lowest-free w.plain.places)
 
-pub create_kept : (w : World) (d : BodyDef) → IsSound w → w.plain.calls < 2 ^ 40 → lowest w.plain.places < 16384 → IsBody (made d) → AreTied (with_body w.plain.bodies (lowest w.plain.places) (made d)) w.plain.contacts w.plain.colours
+pub create_kept : (w : World) (d : BodyDef) → IsSound w → w.plain.calls < 2 ^ 40 → lowest w.plain.places < MAX_SLOTS → IsBody (made d) → AreTied (with_body w.plain.bodies (lowest w.plain.places) (made d)) w.plain.contacts (members_of w.plain.bodies w.plain.colours)
     → IsSound (record w { plain = record w.plain { places = places_with w.plain.places (lowest w.plain.places); bodies = with_body w.plain.bodies (lowest w.plain.places) (made d); calls = w.plain.calls + 1 } })
 create_kept w d s few free is tied =
     let slot = lowest w.plain.places in
@@ -317,28 +333,63 @@ create_kept w d s few free is tied =
 pub record IsStep (old new : List (Option Body)) (sums : StepSums) : Type 0 where
   pub bodies : AreBodies new
   pub slots : HaveSameSlots old new
-  pub small : AreSums (2 ^ 82) sums
+  pub small : AreSums (2 ^ 83) sums
   pub momentum_x : momentum_x new ≡ momentum_x old +ℤ added_x sums
   pub momentum_y : momentum_y new ≡ momentum_y old +ℤ added_y sums
 
 pub step_kept : (w : World) (bodies : List (Option Body)) (sums : StepSums) (events : EventLists) (contacts : List ContactEntry) (lists : Lists) → IsSound w → w.plain.calls < 2 ^ 40 → IsStep w.plain.bodies bodies sums → AreTied bodies contacts lists
-    → IsSound (record w { plain = record w.plain { bodies = bodies; contacts = contacts; colours = lists; steps = w.plain.steps + 1; calls = w.plain.calls + 1 }; entries = w.entries ++ step_booked (w.plain.calls + 1) sums; events = events })
+    → IsSound (record w { plain = record w.plain { bodies = bodies; contacts = contacts; colours = ids_of lists; steps = w.plain.steps + 1; calls = w.plain.calls + 1 }; entries = w.entries ++ step_booked (w.plain.calls + 1) sums; events = events })
 step_kept w bodies sums events contacts lists s few step tied =
     let call = w.plain.calls + 1 in
     let mx = step.momentum_x in
     let my = step.momentum_y in
+    let kept = listed bodies contacts lists (ids_of lists) refl tied.colours in
     record {
       total_x = let t = s.total_x in rw (sum_x-step w.entries call sums) (omega (arith, ints, mx, t));
       total_y = let t = s.total_y in rw (sum_y-step w.entries call sums) (omega (arith, ints, my, t));
-      causes = AreSmall-weaker (2 ^ 126 + w.plain.calls * 2 ^ 83 + 2 ^ 82) (2 ^ 126 + (w.plain.calls + 1) * 2 ^ 83) _ (omega arith)
-          (AreSmall-step (2 ^ 126 + w.plain.calls * 2 ^ 83) (2 ^ 82) w.entries w.settled call sums step.small s.causes);
+      causes = AreSmall-weaker (2 ^ 126 + w.plain.calls * 2 ^ 83 + 2 ^ 83) (2 ^ 126 + (w.plain.calls + 1) * 2 ^ 83) _ (omega arith)
+          (AreSmall-step (2 ^ 126 + w.plain.calls * 2 ^ 83) (2 ^ 83) w.entries w.settled call sums step.small s.causes);
       bodies = step.bodies;
       matched = AreMatched-same w.plain.places w.plain.bodies bodies step.slots s.matched;
       contacts = tied.rising;
       pairs = tied.pairs;
       there = tied.there;
-      colours = tied.colours;
+      colours = kept.colours;
+      moved = kept.moved;
       gravity = s.gravity;
       steps = omega (arith, s.steps);
       calls = omega arith;
     }
+
+-- ---- the world, and its colours with their movers
+
+-- what is kept of a sound world whose colours are the ids of these lists
+pub whole : (w : World) (lists : Lists) → IsSound w → w.plain.colours ≡ ids_of lists → AreColoured w.plain.bodies w.plain.contacts lists → IsWhole w lists
+whole w lists s is h = record { sound = s; members = (listed w.plain.bodies w.plain.contacts lists w.plain.colours is h).members }
+
+pub push_whole : (w : World) (lists : Lists) (h : Handle) (j p : Vec2) (call : ℕ) (why : Cause) → IsWhole w lists → w.plain.calls < 2 ^ 40 → pushed (body_of w.plain h) j ≡ Ok p
+    → IsWhole (record w { plain = record w.plain { bodies = with_momentum w.plain.bodies h.slot p; calls = w.plain.calls + 1 }; entries = w.entries ++ booked call why j.x j.y }) lists
+push_whole w lists h j p call why is few e =
+    let s = push_kept w h j p call why is.sound few e in
+    record { sound = s; members = is.members ∙ moved_members w.plain.bodies (with_momentum w.plain.bodies h.slot p) w.plain.colours (MovesSame-momentum w.plain.bodies h.slot p).same }
+
+pub destroy_whole : (w : World) (lists : Lists) (h : Handle) (p : Vec2) (call : ℕ) (why : Cause) (x y : ℤ) → IsWhole w lists → w.plain.calls < 2 ^ 40 → departing (body_of w.plain h) ≡ Ok p → x ≡ neg_ℤ p.x → y ≡ neg_ℤ p.y
+    → IsWhole (record w { plain = record w.plain { places = places_without w.plain.places h; bodies = slice_set w.plain.bodies h.slot None; contacts = contacts_without h.slot w.plain.contacts; colours = ids_of (lists_without h.slot lists w.plain.contacts); calls = w.plain.calls + 1 }; entries = w.entries ++ booked call why x y })
+    (lists_without h.slot lists w.plain.contacts)
+destroy_whole w lists h p call why x y is few e is_x is_y =
+    let tied : AreTied (slice_set w.plain.bodies h.slot None) (contacts_without h.slot w.plain.contacts) (lists_without h.slot lists w.plain.contacts) =
+    tied_without w.plain.bodies h.slot w.plain.contacts lists (subst (AreTied w.plain.bodies w.plain.contacts) (sym is.members) (tied_sound w is.sound)) in
+    whole _ (lists_without h.slot lists w.plain.contacts) (destroy_kept w h p call why x y (contacts_without h.slot w.plain.contacts) (lists_without h.slot lists w.plain.contacts) is.sound few e is_x is_y tied) refl tied.colours
+
+pub create_whole : (w : World) (lists : Lists) (d : BodyDef) → IsWhole w lists → w.plain.calls < 2 ^ 40 → lowest w.plain.places < MAX_SLOTS → IsBody (made d)
+    → IsWhole (record w { plain = record w.plain { places = places_with w.plain.places (lowest w.plain.places); bodies = with_body w.plain.bodies (lowest w.plain.places) (made d); calls = w.plain.calls + 1 } }) lists
+create_whole w lists d is few free body =
+    let tied : AreTied (with_body w.plain.bodies (lowest w.plain.places) (made d)) w.plain.contacts (members_of w.plain.bodies w.plain.colours) =
+    tied_with w.plain.bodies (lowest w.plain.places) (made d) w.plain.contacts (members_of w.plain.bodies w.plain.colours) (free_slot w is.sound) (tied_sound w is.sound) in
+    whole _ lists (create_kept w d is.sound few free body tied) (sym is.sound.moved ∙ ap ids_of (sym is.members)) (subst (AreColoured (with_body w.plain.bodies (lowest w.plain.places) (made d)) w.plain.contacts) (sym is.members) tied.colours)
+
+-- what the destroying of a body answers and leaves, its colours taken from these lists
+pub destroy_answers : (w : World) (lists : Lists) (h : Handle) (p : Vec2) (x y : ℤ) → lists ≡ members_of w.plain.bodies w.plain.colours → departing (body_of w.plain h) ≡ Ok p → x ≡ neg_ℤ p.x → y ≡ neg_ℤ p.y
+    → Answers (apply_destroy w.plain h) w (Ok replies.Done)
+    (record w { plain = record w.plain { places = places_without w.plain.places h; bodies = slice_set w.plain.bodies h.slot None; contacts = contacts_without h.slot w.plain.contacts; colours = ids_of (lists_without h.slot lists w.plain.contacts); calls = w.plain.calls + 1 }; entries = w.entries ++ booked (w.plain.calls + 1) causes.Departed x y })
+destroy_answers w lists h p x y members due is_x is_y = rw (due, members, is_x, is_y) (refl, refl)

@@ -12,26 +12,25 @@ use Rattle.std.proofs.lemmas.Option.{slice_get_within, get_or_from_slice_get}
 use Rattle.fixed_geom.specs.declared.vectors.Vec2.{Vec2}
 use Rattle.momenta.specs.declared.state.BodyState.{BodyState}
 use Rattle.contacts_base.specs.declared.key.ContactKey.{ContactKey}
-use Rattle.contacts_base.specs.declared.contact.Contact as contact
 use Rattle.contacts_base.specs.declared.contact.ContactPoint.{ContactPoint}
 use Rattle.contacts_base.specs.declared.contact.ContactEntry.{ContactEntry}
 use Rattle.contacts_base.specs.Keys.{key_number}
-use Rattle.contacts_base.specs.Contacts.{number_of, lookup, AreKeysRising}
+use Rattle.contacts_base.specs.Contacts.{number_of, lookup, AreKeysRising, with_impulses, with_second}
 use Rattle.contacts_base.specs.Evaluate.{touches}
 use Rattle.contacts_base.specs.Limits.{IsContactPoint}
 use Rattle.contacts.specs.declared.constraint.Constraint.{Constraint}
 use Rattle.contacts.specs.declared.constraint.Constraint.TheVariants.{Joint, Contact}
-use Rattle.contacts.specs.Changes.{is_touching}
+use Rattle.contacts_base.specs.Contacts.{is_touching}
 use Rattle.colour_solver_base.specs.declared.row.PointRow.{PointRow}
 use Rattle.colour_solver_base.specs.declared.row.ContactRow.{ContactRow}
 use Rattle.colour_solver_base.specs.Rows.{IsPointRow, IsRow}
-use Rattle.world_core_base.specs.declared.body.Body.{Body}
-use Rattle.world_core_base.specs.Bodies.{is_mover}
-use Rattle.world_core_base.specs.Slots.{body_at, with_body, with_momentum, put_p, HaveSameSlots}
+use Rattle.plain_world.specs.declared.body.Body.{Body}
+use Rattle.plain_world.specs.Bodies.{is_mover}
+use Rattle.plain_world.specs.Slots.{body_at, with_body, with_momentum, put_p, HaveSameSlots}
 use Rattle.world_core_base.specs.Renewal.{with_renewed, renewed_bodies}
-use Rattle.world_core_base.specs.Gather.{with_motion, with_motions, with_impulses, second_with, with_row, put_row, with_rows, moves_in, moves, IsContactOf, AreContactsOf}
+use Rattle.world_core_base.specs.Gather.{with_motion, with_motions, impulses_of, with_row, put_row, with_rows, moves_in, moves, IsContactOf, AreContactsOf}
 use Rattle.world_core_base.proofs.ContactLaws.{touches_with_row}
-use Rattle.world_core.specs.Collide.{has_slot, contacts_without}
+use Rattle.contacts_base.specs.Contacts.{has_slot, contacts_without}
 use Rattle.world_core.specs.Colouring.{movers_between, movers_of}
 use Rattle.world_core.specs.Sound.{HasBodies}
 use Rattle.world_core.proofs.CollideLaws.{AreKeysRising-filter}
@@ -232,15 +231,15 @@ keys_rise_without slot contacts h = AreKeysRising-filter (λ e. not (has_slot sl
 
 -- ---- the impulses that the solver has left
 
-impulses_within : (r : PointRow) (o : Option ContactPoint) → IsPointRow r → ForSome o IsContactPoint → ForSome (option_map (with_impulses r) o) IsContactPoint
+impulses_within : (r : PointRow) (o : Option ContactPoint) → IsPointRow r → ForSome o IsContactPoint → ForSome (option_map (with_impulses (impulses_of r)) o) IsContactPoint
 impulses_within r None row h = λ x e. cc
 impulses_within r (Some p) row h =
     let is : IsContactPoint p = h p refl in
     λ x e.
-    let same : with_impulses r p ≡ x = cc in
-    subst IsContactPoint same (record { normal = is.normal; separation = is.separation; ra = is.ra; rb = is.rb; push_low = row.push_low; push_high = row.push_high; slip = row.slip })
+    let same : with_impulses (impulses_of r) p ≡ x = cc in
+    subst IsContactPoint same (record { normal = is.normal; separation = is.separation; ra = is.ra; rb = is.rb; normal_impulse_low = row.normal_low; normal_impulse_high = row.normal_high; tangent_impulse = row.tangent_impulse })
 
-second_within : (r : Option PointRow) (o : Option ContactPoint) → ForSome r IsPointRow → ForSome o IsContactPoint → ForSome (second_with r o) IsContactPoint
+second_within : (r : Option PointRow) (o : Option ContactPoint) → ForSome r IsPointRow → ForSome o IsContactPoint → ForSome (with_second (option_map impulses_of r) o) IsContactPoint
 second_within None o row h = h
 second_within (Some r) o row h = impulses_within r o (row r refl) h
 
@@ -253,36 +252,36 @@ with_row_within bodies r e row is = record {
   contact = record { first = impulses_within r.first e.contact.first row.first is.contact.first; second = second_within r.second e.contact.second row.second is.contact.second };
 }
 
-put_row_all : (R : ContactRow → Type 0) (P : ContactEntry → Type 0) → ((r : ContactRow) (e : ContactEntry) → R r → P e → P (with_row r e)) → (r : ContactRow) (contacts : List ContactEntry) (o : Option ContactEntry) → slice_get contacts r.bodies.place ≡ o → R r
+put_row_all : (R : ContactRow → Type 0) (P : ContactEntry → Type 0) → ((r : ContactRow) (e : ContactEntry) → R r → P e → P (with_row r e)) → (r : ContactRow) (contacts : List ContactEntry) (o : Option ContactEntry) → slice_get contacts r.bodies.index ≡ o → R r
     → All P contacts → All P (put_row r contacts o)
 put_row_all R P f r contacts None got row all = all
 put_row_all R P f r contacts (Some e) got row all =
-    let here : r.bodies.place < length contacts = slice_get_within contacts r.bodies.place e got in
-    let is : P e = subst P (get_or_from_slice_get contacts r.bodies.place e e got) (all r.bodies.place e here) in
-    All-set P contacts r.bodies.place (with_row r e) (f r e row is) all
+    let here : r.bodies.index < length contacts = slice_get_within contacts r.bodies.index e got in
+    let is : P e = subst P (get_or_from_slice_get contacts r.bodies.index e e got) (all r.bodies.index e here) in
+    All-set P contacts r.bodies.index (with_row r e) (f r e row is) all
 
 -- what each row keeps, all rows keep
 pub all_rows : (R : ContactRow → Type 0) (P : ContactEntry → Type 0) → ((r : ContactRow) (e : ContactEntry) → R r → P e → P (with_row r e)) → (contacts : List ContactEntry) (rows : List ContactRow) → All R rows
     → All P contacts → All P (with_rows contacts rows)
 all_rows R P f contacts [] are all = all
 all_rows R P f contacts (r ∷ rs) are all =
-    all_rows R P f (put_row r contacts (slice_get contacts r.bodies.place)) rs (All-tail R r rs are) (put_row_all R P f r contacts (slice_get contacts r.bodies.place) refl (All-head R r rs are) all)
+    all_rows R P f (put_row r contacts (slice_get contacts r.bodies.index)) rs (All-tail R r rs are) (put_row_all R P f r contacts (slice_get contacts r.bodies.index) refl (All-head R r rs are) all)
 
 pub contacts_of_rows : (bodies : List (Option Body)) (contacts : List ContactEntry) (rows : List ContactRow) → All IsRow rows → AreContactsOf bodies contacts → AreContactsOf bodies (with_rows contacts rows)
 contacts_of_rows bodies contacts rows are all = all_rows IsRow (IsContactOf bodies) (with_row_within bodies) contacts rows are all
 
 -- ---- all else stays
 
-put_row_same : {B : Type 0} (f : ContactEntry → B) → ((r : ContactRow) (e : ContactEntry) → f (with_row r e) ≡ f e) → (r : ContactRow) (contacts : List ContactEntry) (o : Option ContactEntry) → slice_get contacts r.bodies.place ≡ o → map f (put_row r contacts o) ≡ map f contacts
+put_row_same : {B : Type 0} (f : ContactEntry → B) → ((r : ContactRow) (e : ContactEntry) → f (with_row r e) ≡ f e) → (r : ContactRow) (contacts : List ContactEntry) (o : Option ContactEntry) → slice_get contacts r.bodies.index ≡ o → map f (put_row r contacts o) ≡ map f contacts
 put_row_same f h r contacts None got = refl
 put_row_same f h r contacts (Some e) got =
-    map-set_same f contacts r.bodies.place (with_row r e) e (h r e ∙ ap f (sym (get_or_from_slice_get contacts r.bodies.place e e got)))
+    map-set_same f contacts r.bodies.index (with_row r e) e (h r e ∙ ap f (sym (get_or_from_slice_get contacts r.bodies.index e e got)))
 
 -- what no row changes is as it was
 pub with_rows_same : {B : Type 0} (f : ContactEntry → B) → ((r : ContactRow) (e : ContactEntry) → f (with_row r e) ≡ f e) → (contacts : List ContactEntry) (rows : List ContactRow) → map f (with_rows contacts rows) ≡ map f contacts
 with_rows_same f h contacts [] = refl
 with_rows_same f h contacts (r ∷ rs) =
-    with_rows_same f h (put_row r contacts (slice_get contacts r.bodies.place)) rs ∙ put_row_same f h r contacts (slice_get contacts r.bodies.place) refl
+    with_rows_same f h (put_row r contacts (slice_get contacts r.bodies.index)) rs ∙ put_row_same f h r contacts (slice_get contacts r.bodies.index) refl
 
 pub with_rows_keys : (contacts : List ContactEntry) (rows : List ContactRow) → map (λ e. e.key) (with_rows contacts rows) ≡ map (λ e. e.key) contacts
 with_rows_keys contacts rows = with_rows_same (λ e. e.key) (λ r e. refl) contacts rows
@@ -293,7 +292,7 @@ with_rows_touching contacts rows = with_rows_same (λ e. touches e.contact) touc
 pub keys_rise_rows : (contacts : List ContactEntry) (rows : List ContactRow) → AreKeysRising contacts → AreKeysRising (with_rows contacts rows)
 keys_rise_rows contacts rows h = subst IsStrictlyIncreasing (sym (with_rows_same number_of (λ r e. refl) contacts rows)) h
 
-touching_step : (m n k : ℕ) (c d : contact.Contact) (o u : Option contact.Contact) → m ≡ n → touches c ≡ touches d → is_touching o ≡ is_touching u → is_touching (cond (m == k) (Some c) o) ≡ is_touching (cond (n == k) (Some d) u)
+touching_step : (m n k : ℕ) (c d : ContactEntry) (o u : Option ContactEntry) → m ≡ n → touches c.contact ≡ touches d.contact → is_touching o ≡ is_touching u → is_touching (cond (m == k) (Some c) o) ≡ is_touching (cond (n == k) (Some d) u)
 touching_step m n k c d o u e touch rest = rw e (by_test (n == k))
   where
     by_test : (t : Bool) → is_touching (cond t (Some c) o) ≡ is_touching (cond t (Some d) u)
@@ -305,7 +304,7 @@ lookup_touching [] [] key e f = refl
 lookup_touching [] (y ∷ ys) key e f = cc
 lookup_touching (x ∷ xs) [] key e f = cc
 lookup_touching (x ∷ xs) (y ∷ ys) key e f =
-    touching_step (number_of x) (number_of y) (key_number key) x.contact y.contact (lookup xs key) (lookup ys key) (cc) (cc) (lookup_touching xs ys key (cc) (cc))
+    touching_step (number_of x) (number_of y) (key_number key) x y (lookup xs key) (lookup ys key) (cc) (cc) (lookup_touching xs ys key (cc) (cc))
 
 -- the same contacts touch
 pub with_rows_lookup : (contacts : List ContactEntry) (rows : List ContactRow) (key : ContactKey) → is_touching (lookup (with_rows contacts rows) key) ≡ is_touching (lookup contacts key)

@@ -1,9 +1,5 @@
 pub mod BookLemmas
 pub mod SlotLemmas
-pub mod Kept
-pub mod ReplayLemmas
-pub mod CollideLaws
-pub mod StepLemmas
 pub mod PairLaws
 pub mod KeptContacts
 pub mod ColouringSteps
@@ -11,3 +7,8 @@ pub mod ColouringTurns
 pub mod ColouringLaws
 pub mod ColouringBodies
 pub mod TiedLaws
+pub mod MembersLaws
+pub mod Kept
+pub mod ReplayLemmas
+pub mod CollideLaws
+pub mod StepLemmas

@@ -26,13 +26,15 @@ use Rattle.contacts_base.specs.Contacts.{number_of, lookup}
 use Rattle.contacts_base.specs.Evaluate.{apart, impulses_at, first_of, kept, kept_point, evaluated}
 use Rattle.contacts_base.specs.Limits.{IsContactPoint, IsContact}
 use Rattle.contacts_base.specs.Near.{is_near, pair_code, near_from, near_codes}
-use Rattle.contacts.specs.Sweep.{no_proxy, proxy_at}
-use Rattle.contacts.specs.Changes.{first_place, second_place, key_of, entry_of, entry_at}
+use Rattle.contacts.specs.Pairs.{no_proxy, proxy_at}
+use Rattle.contacts.specs.Pairs.{first_place, second_place, key_of}
+use Rattle.contacts.specs.Changes.{entry_with, entry_of, entry_at}
 use Rattle.contacts.proofs.Members.{Each, each_in, each_from, each_append, all_from_each}
 use Rattle.contacts.proofs.NearLemmas.{IsNearFrom, from_is}
-use Rattle.world_core_base.specs.declared.body.Body.{Body}
-use Rattle.world_core_base.specs.Bodies.{is_dynamic, is_mover, pose_of, IsBody, AreBodies}
-use Rattle.world_core_base.specs.Slots.{body_at}
+use Rattle.body_handles.specs.declared.places.TheConstants.{MAX_SLOTS}
+use Rattle.plain_world.specs.declared.body.Body.{Body}
+use Rattle.plain_world.specs.Bodies.{is_dynamic, is_mover, pose_of, IsBody, AreBodies}
+use Rattle.plain_world.specs.Slots.{body_at}
 use Rattle.world_core_base.specs.Gather.{moves_in, moves, IsContactOf, AreContactsOf}
 use Rattle.world_core.specs.Collide.{shape_proxies, body_proxies, entry_proxies, proxies_from, proxies_of, contacts_after}
 use Rattle.world_core.specs.Sound.{HasBodies}
@@ -163,21 +165,24 @@ near_apart p q e = let t = near_if (p.id.slot == q.id.slot) p.dynamic q.dynamic 
 
 -- ---- the contact that is found by its key
 
-found_within : (t : Bool) (c : Contact) (o : Option Contact) → IsContact c → ForSome o IsContact → ForSome (cond t (Some c) o) IsContact
-found_within true c o is rest = λ x e. let same : c ≡ x = cc in subst IsContact same is
-found_within false c o is rest = rest
+abbrev HasContact : ContactEntry → Type 0
+HasContact e = IsContact e.contact
 
-pub lookup_within : (bodies : List (Option Body)) (old : List ContactEntry) (key : ContactKey) → AreContactsOf bodies old → ForSome (lookup old key) IsContact
+found_within : (t : Bool) (e : ContactEntry) (o : Option ContactEntry) → HasContact e → ForSome o HasContact → ForSome (cond t (Some e) o) HasContact
+found_within true e o is rest = λ x h. let same : e ≡ x = cc in subst HasContact same is
+found_within false e o is rest = rest
+
+pub lookup_within : (bodies : List (Option Body)) (old : List ContactEntry) (key : ContactKey) → AreContactsOf bodies old → ForSome (lookup old key) HasContact
 lookup_within bodies [] key all = λ x e. cc
 lookup_within bodies (e ∷ es) key all =
-    found_within (number_of e == key_number key) e.contact (lookup es key) (All-head (IsContactOf bodies) e es all).contact (lookup_within bodies es key (All-tail (IsContactOf bodies) e es all))
+    found_within (number_of e == key_number key) e (lookup es key) (All-head (IsContactOf bodies) e es all).contact (lookup_within bodies es key (All-tail (IsContactOf bodies) e es all))
 
 -- ---- the contact that is evaluated
 
 record AreImpulses (i : Impulses) : Type 0 where
-  push_low : pos 0 ≤ℤ i.push
-  push_high : unsigned_abs i.push ≤ 2 ^ 42
-  slip : unsigned_abs i.slip ≤ 2 ^ 43
+  normal_impulse_low : pos 0 ≤ℤ i.normal_impulse
+  normal_impulse_high : unsigned_abs i.normal_impulse ≤ 2 ^ 42
+  tangent_impulse : unsigned_abs i.tangent_impulse ≤ 2 ^ 43
 
 chosen_within : (t : Bool) (i : Impulses) → AreImpulses i → ForSome (cond t (Some i) None) AreImpulses
 chosen_within true i is = λ x e. let same : i ≡ x = cc in subst AreImpulses same is
@@ -187,32 +192,32 @@ impulses_within : (o : Option ContactPoint) (candidate : ℕ) → ForSome o IsCo
 impulses_within None candidate h = λ x e. cc
 impulses_within (Some p) candidate h =
     let is : IsContactPoint p = h p refl in
-    chosen_within (p.candidate == candidate) (record { push = p.push; slip = p.slip }) (record { push_low = is.push_low; push_high = is.push_high; slip = is.slip })
+    chosen_within (p.candidate == candidate) (record { normal_impulse = p.normal_impulse; tangent_impulse = p.tangent_impulse }) (record { normal_impulse_low = is.normal_impulse_low; normal_impulse_high = is.normal_impulse_high; tangent_impulse = is.tangent_impulse })
 
 first_within : (o other : Option Impulses) → ForSome o AreImpulses → ForSome other AreImpulses → AreImpulses (first_of o other)
 first_within (Some i) other h l = h i refl
 first_within None (Some i) h l = l i refl
-first_within None None h l = record { push_low = omega arith; push_high = omega arith; slip = omega arith }
+first_within None None h l = record { normal_impulse_low = omega arith; normal_impulse_high = omega arith; tangent_impulse = omega arith }
 
-kept_within : (old : Option Contact) (candidate : ℕ) → ForSome old IsContact → AreImpulses (kept old candidate)
-kept_within None candidate h = record { push_low = omega arith; push_high = omega arith; slip = omega arith }
-kept_within (Some c) candidate h =
-    let is : IsContact c = h c refl in
-    first_within (impulses_at c.first candidate) (impulses_at c.second candidate) (impulses_within c.first candidate is.first) (impulses_within c.second candidate is.second)
+kept_within : (old : Option ContactEntry) (candidate : ℕ) → ForSome old HasContact → AreImpulses (kept old candidate)
+kept_within None candidate h = record { normal_impulse_low = omega arith; normal_impulse_high = omega arith; tangent_impulse = omega arith }
+kept_within (Some e) candidate h =
+    let is : IsContact e.contact = h e refl in
+    first_within (impulses_at e.contact.first candidate) (impulses_at e.contact.second candidate) (impulses_within e.contact.first candidate is.first) (impulses_within e.contact.second candidate is.second)
 
-point_within : (old : Option Contact) (p : Point) → ForSome old IsContact → IsPointWithin (2 ^ 27) p → IsContactPoint (kept_point old p)
+point_within : (old : Option ContactEntry) (p : Point) → ForSome old HasContact → IsPointWithin (2 ^ 27) p → IsContactPoint (kept_point old p)
 point_within old p h is =
     let i = kept_within old p.candidate h in
-    record { normal = is.normal; separation = is.separation; ra = is.ra; rb = is.rb; push_low = i.push_low; push_high = i.push_high; slip = i.slip }
+    record { normal = is.normal; separation = is.separation; ra = is.ra; rb = is.rb; normal_impulse_low = i.normal_impulse_low; normal_impulse_high = i.normal_impulse_high; tangent_impulse = i.tangent_impulse }
 
-second_within : (old : Option Contact) (o : Option Point) → ForSome old IsContact → IfSome o (λ p. IsPointWithin (2 ^ 27) p) → ForSome (option_map (kept_point old) o) IsContactPoint
+second_within : (old : Option ContactEntry) (o : Option Point) → ForSome old HasContact → IfSome o (λ p. IsPointWithin (2 ^ 27) p) → ForSome (option_map (kept_point old) o) IsContactPoint
 second_within old None h is = λ x e. cc
 second_within old (Some p) h is = λ x e. let same : kept_point old p ≡ x = cc in subst IsContactPoint same (point_within old p h is)
 
 apart_within : IsContact apart
 apart_within = record { first = λ x e. cc; second = λ x e. cc }
 
-touching_within : (old : Option Contact) (m : Manifold) → ForSome old IsContact → IsPointWithin (2 ^ 27) m.first → IfSome m.second (λ p. IsPointWithin (2 ^ 27) p)
+touching_within : (old : Option ContactEntry) (m : Manifold) → ForSome old HasContact → IsPointWithin (2 ^ 27) m.first → IfSome m.second (λ p. IsPointWithin (2 ^ 27) p)
     → IsContact (record { first = Some (kept_point old m.first); second = option_map (kept_point old) m.second })
 touching_within old m h first second = record {
   first = λ x e. let same : kept_point old m.first ≡ x = cc in subst IsContactPoint same (point_within old m.first h first);
@@ -227,7 +232,7 @@ not_above : (z : ℤ) → int_lt (pos 0) z ≡ false → z ≤ℤ pos 0
 not_above z e = grind (arith, common_steps)
 
 -- its numbers are within their limits, where those of the manifold's points are, and those of the old contact
-pub evaluated_within : (old : Option Contact) (m : Manifold) → ForSome old IsContact → (m.first.separation ≤ℤ pos 0 → IsPointWithin (2 ^ 27) m.first) → IfSome m.second (λ p. IsPointWithin (2 ^ 27) p)
+pub evaluated_within : (old : Option ContactEntry) (m : Manifold) → ForSome old HasContact → (m.first.separation ≤ℤ pos 0 → IsPointWithin (2 ^ 27) m.first) → IfSome m.second (λ p. IsPointWithin (2 ^ 27) p)
     → IsContact (evaluated old m)
 unfolding evaluated
 evaluated_within old m h first second =
@@ -246,7 +251,7 @@ dynamic_moves : (bodies : List (Option Body)) (p : Proxy) → IsProxyIn 0 bodies
 dynamic_moves bodies p h d = ap moves_in (body_there bodies p h) ∙ mover_if h.body h.is.enabled (sym h.is.dynamic ∙ d)
 
 pub entry_within : (bodies : List (Option Body)) (old : List ContactEntry) (p q : Proxy) → IsProxyIn 0 bodies p → IsProxyIn 0 bodies q → is_near p q ≡ true → AreContactsOf bodies old → IsContactOf bodies (entry_of old p q)
-unfolding entry_of
+unfolding entry_of entry_with
 entry_within bodies old p q hp hq near all =
     let apart = near_apart p q near in
     let touching = has_touching p.shape p.pose q.shape q.pose hp.is.shape hp.is.pose hq.is.shape hq.is.pose in
@@ -259,8 +264,8 @@ entry_within bodies old p q hp hq near all =
     }
 
 -- the bodies of both its shapes are there
-pub entry_has_bodies : (bodies : List (Option Body)) (old : List ContactEntry) (p q : Proxy) → length bodies ≤ 16384 → IsProxyIn 0 bodies p → IsProxyIn 0 bodies q → HasBodies bodies (entry_of old p q)
-unfolding entry_of
+pub entry_has_bodies : (bodies : List (Option Body)) (old : List ContactEntry) (p q : Proxy) → length bodies ≤ MAX_SLOTS → IsProxyIn 0 bodies p → IsProxyIn 0 bodies q → HasBodies bodies (entry_of old p q)
+unfolding entry_of entry_with
 entry_has_bodies bodies old p q few hp hq =
     let a = hp.is.index in
     let b = hq.is.index in
@@ -272,7 +277,7 @@ entry_has_bodies bodies old p q few hp hq =
     }
 
 -- what holds of the contact of each two near shapes of bodies holds of all contacts
-pub all_after : (P : ContactEntry → Type 0) (bodies : List (Option Body)) (old : List ContactEntry) → AreBodies bodies → length bodies ≤ 16384
+pub all_after : (P : ContactEntry → Type 0) (bodies : List (Option Body)) (old : List ContactEntry) → AreBodies bodies → length bodies ≤ MAX_SLOTS
     → ((p q : Proxy) → IsProxyIn 0 bodies p → IsProxyIn 0 bodies q → is_near p q ≡ true → P (entry_of old p q)) → All P (contacts_after bodies old)
 unfolding contacts_after
 all_after P bodies old all few each =
@@ -286,9 +291,9 @@ all_after P bodies old all few each =
     All-map P (entry_at old ps) (near_codes ps)
     (all_from_each (λ c. P (entry_at old ps c)) (near_codes ps) (each_weaker (IsNearPair ps) (λ c. P (entry_at old ps c)) pair (near_codes ps) (near_codes_are ps short)))
 
-pub contacts_of_after : (bodies : List (Option Body)) (old : List ContactEntry) → AreBodies bodies → length bodies ≤ 16384 → AreContactsOf bodies old → AreContactsOf bodies (contacts_after bodies old)
+pub contacts_of_after : (bodies : List (Option Body)) (old : List ContactEntry) → AreBodies bodies → length bodies ≤ MAX_SLOTS → AreContactsOf bodies old → AreContactsOf bodies (contacts_after bodies old)
 contacts_of_after bodies old all few pairs =
     all_after (IsContactOf bodies) bodies old all few (λ p q hp hq near. entry_within bodies old p q hp hq near pairs)
 
-pub has_bodies_after : (bodies : List (Option Body)) (old : List ContactEntry) → AreBodies bodies → length bodies ≤ 16384 → All (HasBodies bodies) (contacts_after bodies old)
+pub has_bodies_after : (bodies : List (Option Body)) (old : List ContactEntry) → AreBodies bodies → length bodies ≤ MAX_SLOTS → All (HasBodies bodies) (contacts_after bodies old)
 has_bodies_after bodies old all few = all_after (HasBodies bodies) bodies old all few (λ p q hp hq near. entry_has_bodies bodies old p q few hp hq)

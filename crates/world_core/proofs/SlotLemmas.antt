@@ -9,9 +9,10 @@ use Rattle.std.proofs.lemmas.Grind.{common_steps}
 use Rattle.body_handles.specs.declared.places.Place.{Place}
 use Rattle.body_handles.specs.Places.{is_open, lowest}
 use Rattle.body_handles.proofs.LowestLemmas.{no_place}
-use Rattle.world_core_base.specs.declared.body.Body.{Body}
-use Rattle.world_core_base.specs.Bodies.{is_mover, IsBody, AreBodies, p_x, p_y, momentum_x, momentum_y}
-use Rattle.world_core_base.specs.Slots.{body_at, is_taken, AreMatched, HaveSameSlots}
+use Rattle.body_handles.specs.declared.places.TheConstants.{MAX_SLOTS}
+use Rattle.plain_world.specs.declared.body.Body.{Body}
+use Rattle.plain_world.specs.Bodies.{is_mover, IsBody, AreBodies, p_x, p_y, momentum_x, momentum_y}
+use Rattle.plain_world.specs.Slots.{body_at, is_taken, AreMatched, HaveSameSlots}
 
 -- ---- the momentum
 
@@ -102,7 +103,7 @@ AreMatched-set places bodies slot p o e m = record {
   taken = matched_set places bodies slot p o m.slots e m.taken;
 }
 
-pub AreMatched-push : (places : List Place) (bodies : List (Option Body)) (p : Place) (o : Option Body) → is_some o ≡ p.live → length bodies < 16384 → AreMatched places bodies → AreMatched (places ++ p ∷ []) (bodies ++ o ∷ [])
+pub AreMatched-push : (places : List Place) (bodies : List (Option Body)) (p : Place) (o : Option Body) → is_some o ≡ p.live → length bodies < MAX_SLOTS → AreMatched places bodies → AreMatched (places ++ p ∷ []) (bodies ++ o ∷ [])
 AreMatched-push places bodies p o e few m = record {
   slots = let s = m.slots in grind (arith, common_steps);
   few = grind (arith, common_steps);

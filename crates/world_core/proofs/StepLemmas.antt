@@ -12,19 +12,21 @@ use Rattle.colour_solver.specs.declared.ticks.StepSums.{StepSums}
 use Rattle.colour_solver.specs.Ticks.{run_of}
 use Rattle.colour_solver.specs.Turns.{IsRowBelow, AreRowsBelow}
 use Rattle.event_feed.specs.Events.{EventLists}
-use Rattle.world_core_base.specs.declared.body.Body.{Body}
-use Rattle.world_core_base.specs.Slots.{HaveSameSlots}
+use Rattle.plain_world.specs.declared.body.Body.{Body}
+use Rattle.plain_world.specs.Slots.{HaveSameSlots}
 use Rattle.world_core_base.specs.Gather.{with_motions, with_rows}
 use Rattle.world_core_base.specs.Renewal.{renewed_bodies}
 use Rattle.world_core.specs.declared.command.Reply.{Reply}
 use Rattle.world_core.specs.declared.command.Reply.TheVariants as replies
 use Rattle.world_core.specs.Collide.{Collided, collided, contacts_after}
-use Rattle.world_core.specs.Colouring.{Lists}
+use Rattle.graph_colours.specs.Colours.{ids_of}
+use Rattle.world_core.specs.Colouring.{Lists, members_of}
 use Rattle.world_core.specs.World.{World}
 use Rattle.world_core.specs.Apply.{Answers, Applied, apply_step, stepped, colours_after, run_after, events_of, world_with}
+use Rattle.world_core.specs.Inside.{IsWhole}
 use Rattle.world_core.specs.Sound.{IsSound}
 use Rattle.world_core.proofs.BookLemmas.{step_booked}
-use Rattle.world_core.proofs.Kept.{IsStep, step_kept}
+use Rattle.world_core.proofs.Kept.{IsStep, step_kept, whole}
 use Rattle.world_core.proofs.KeptContacts.{MovesSame, MovesSame-trans, MovesSame-motions, MovesSame-renewed}
 use Rattle.world_core.proofs.TiedLaws.{AreTied, tied_sound, tied_bodies, tied_rows, tied_after}
 
@@ -42,7 +44,7 @@ lists_in w = colours_after w.plain (collided_in w)
 -- the world after a step, from the bodies and contacts that the ticks left, and the sums that they booked
 abbrev pub after_step : World → List BodyState → List ContactRow → StepSums → World
 after_step old states rows sums = record {
-  plain = record old.plain { bodies = renewed_bodies (with_motions old.plain.bodies states); contacts = with_rows (contacts_after old.plain.bodies old.plain.contacts) rows; colours = lists_in old; steps = old.plain.steps + 1; calls = old.plain.calls + 1 };
+  plain = record old.plain { bodies = renewed_bodies (with_motions old.plain.bodies states); contacts = with_rows (contacts_after old.plain.bodies old.plain.contacts) rows; colours = ids_of (lists_in old); steps = old.plain.steps + 1; calls = old.plain.calls + 1 };
   entries = old.entries ++ step_booked (old.plain.calls + 1) sums;
   settled = old.settled;
   events = events_of (collided_in old);
@@ -62,12 +64,12 @@ tied_step w bodies states rows n is slots s rises below =
     let moved : MovesSame w.plain.bodies bodies = rw is (MovesSame-trans w.plain.bodies (with_motions w.plain.bodies states) (renewed_bodies (with_motions w.plain.bodies states)) (MovesSame-motions w.plain.bodies states) (MovesSame-renewed (with_motions w.plain.bodies states))) in
     tied_rows bodies now rows (lists_in w) (All-weaker (IsRowBelow n) IsRow (λ r h. h.row) rows below)
     (tied_bodies w.plain.bodies bodies now (lists_in w) moved slots
-    (tied_after w.plain.bodies w.plain.contacts w.plain.colours s.bodies s.matched.few rises (tied_sound w s)))
+    (tied_after w.plain.bodies w.plain.contacts (members_of w.plain.bodies w.plain.colours) s.bodies s.matched.few rises (tied_sound w s)))
 
-pub step_sound : (w : World) (bodies : List (Option Body)) (contacts : List ContactEntry) (lists : Lists) (states : List BodyState) (rows : List ContactRow) (sums : StepSums) (events : EventLists) (n : ℕ)
+pub step_whole : (w : World) (old : Lists) (bodies : List (Option Body)) (contacts : List ContactEntry) (lists : Lists) (states : List BodyState) (rows : List ContactRow) (sums : StepSums) (events : EventLists) (n : ℕ)
     → bodies ≡ renewed_bodies (with_motions w.plain.bodies states) → contacts ≡ with_rows (contacts_after w.plain.bodies w.plain.contacts) rows → lists ≡ lists_in w
-    → IsSound w → w.plain.calls < 2 ^ 40 → IsStep w.plain.bodies bodies sums → AreKeysRising (contacts_after w.plain.bodies w.plain.contacts) → AreRowsBelow n rows
-    → IsSound (record w { plain = record w.plain { bodies = bodies; contacts = contacts; colours = lists; steps = w.plain.steps + 1; calls = w.plain.calls + 1 }; entries = w.entries ++ step_booked (w.plain.calls + 1) sums; events = events })
-step_sound w bodies contacts lists states rows sums events n is_bodies is_contacts is_lists s few step rises below =
-    let tied : AreTied bodies contacts lists = rw (is_contacts, is_lists) (tied_step w bodies states rows n is_bodies step.slots s rises below) in
-    step_kept w bodies sums events contacts lists s few step tied
+    → IsWhole w old → w.plain.calls < 2 ^ 40 → IsStep w.plain.bodies bodies sums → AreKeysRising (contacts_after w.plain.bodies w.plain.contacts) → AreRowsBelow n rows
+    → IsWhole (record w { plain = record w.plain { bodies = bodies; contacts = contacts; colours = ids_of lists; steps = w.plain.steps + 1; calls = w.plain.calls + 1 }; entries = w.entries ++ step_booked (w.plain.calls + 1) sums; events = events }) lists
+step_whole w old bodies contacts lists states rows sums events n is_bodies is_contacts is_lists is few step rises below =
+    let tied : AreTied bodies contacts lists = rw (is_contacts, is_lists) (tied_step w bodies states rows n is_bodies step.slots is.sound rises below) in
+    whole _ lists (step_kept w bodies sums events contacts lists is.sound few step tied) refl tied.colours

@@ -1,9 +1,10 @@
 -- The contacts and the colours stay tied to the bodies: under a push, a body that comes or goes, and a step.
-use Rattle.std.proofs.Common.{◌≡◌, ℕ, ◌≤◌, true, false, List, [], Option, Some, None, All, length, inl, inr, refl, ap, is_some, ne_eqb, replicate, arith, rules}
+use Rattle.std.proofs.Common.{◌≡◌, ℕ, ◌+◌, ◌≤◌, true, false, List, [], Option, Some, None, All, length, inl, inr, refl, ap, is_some, ne_eqb, replicate, arith, rules}
 use Rattle.std.specs.Prelude.{◌==◌, slice_set}
 use Rattle.std.proofs.lemmas.Bool.{cases_eq}
 use Rattle.std.proofs.lemmas.List.Elements.{All-nil, All-replicate, All-weaker}
 use Rattle.graph_colours.specs.declared.member.Member.{Member}
+use Rattle.graph_colours.specs.declared.limits.TheConstants.{COLOURS}
 use Rattle.graph_colours.specs.Members.{AreRising, AreApart}
 use Rattle.graph_colours.specs.Members as members
 use Rattle.graph_colours.specs.Colours.{colour_of}
@@ -16,13 +17,15 @@ use Rattle.contacts.specs.Constraints.{constraint_number}
 use Rattle.contacts.specs.Changes.{keys_touching_only_in}
 use Rattle.colour_solver_base.specs.declared.row.ContactRow.{ContactRow}
 use Rattle.colour_solver_base.specs.Rows.{IsRow}
-use Rattle.world_core_base.specs.declared.body.Body.{Body}
-use Rattle.world_core_base.specs.Bodies.{AreBodies}
-use Rattle.world_core_base.specs.Slots.{body_at, with_body, HaveSameSlots}
+use Rattle.body_handles.specs.declared.places.TheConstants.{MAX_SLOTS}
+use Rattle.plain_world.specs.declared.body.Body.{Body}
+use Rattle.plain_world.specs.Bodies.{AreBodies}
+use Rattle.plain_world.specs.Slots.{body_at, with_body, HaveSameSlots}
 use Rattle.world_core_base.specs.Gather.{IsContactOf, AreContactsOf, with_rows}
 use Rattle.world_core.specs.World.{World}
-use Rattle.world_core.specs.Collide.{contacts_after, contacts_without, has_slot}
-use Rattle.world_core.specs.Colouring.{Lists, turned, AreColoured, IsNamed, AreNamed, IsNamedContact, movers_of, lists_without}
+use Rattle.contacts_base.specs.Contacts.{contacts_without, has_slot}
+use Rattle.world_core.specs.Collide.{contacts_after}
+use Rattle.world_core.specs.Colouring.{Lists, turned, AreColoured, IsNamed, AreNamed, IsNamedContact, members_of, movers_of, lists_without}
 use Rattle.world_core.specs.Sound.{HasBodies, IsSound}
 use Rattle.world_core.proofs.PairLaws.{contacts_of_after, has_bodies_after}
 use Rattle.world_core.proofs.KeptContacts.{MovesSame, contacts_of_more, contacts_of_same, contacts_of_without, contacts_of_rows, MovesMore-with_body, has_bodies_same, has_bodies_with, has_bodies_without, has_bodies_rows, keys_rise_rows, keys_rise_without, with_rows_lookup}
@@ -36,7 +39,7 @@ pub record AreTied (bodies : List (Option Body)) (contacts : List ContactEntry) 
   pub there : All (HasBodies bodies) contacts
   pub colours : AreColoured bodies contacts lists
 
-pub tied_sound : (w : World) → IsSound w → AreTied w.plain.bodies w.plain.contacts w.plain.colours
+pub tied_sound : (w : World) → IsSound w → AreTied w.plain.bodies w.plain.contacts (members_of w.plain.bodies w.plain.colours)
 tied_sound w s = record { rising = s.contacts; pairs = s.pairs; there = s.there; colours = s.colours }
 
 -- bodies in the same slots, the same of them moving
@@ -58,7 +61,7 @@ tied_rows bodies contacts rows lists are t = record {
 }
 
 -- the collide
-pub tied_after : (bodies : List (Option Body)) (old : List ContactEntry) (lists : Lists) → AreBodies bodies → length bodies ≤ 16384 → AreKeysRising (contacts_after bodies old) → AreTied bodies old lists
+pub tied_after : (bodies : List (Option Body)) (old : List ContactEntry) (lists : Lists) → AreBodies bodies → length bodies ≤ MAX_SLOTS → AreKeysRising (contacts_after bodies old) → AreTied bodies old lists
     → AreTied bodies (contacts_after bodies old) (turned bodies lists (keys_touching_only_in old (contacts_after bodies old)) (keys_touching_only_in (contacts_after bodies old) old))
 tied_after bodies old lists all few rises t =
     let now : List ContactEntry = contacts_after bodies old in
@@ -108,20 +111,20 @@ tied_without bodies slot contacts lists t = record {
 
 -- ---- an empty world
 
-no_active : (key : ContactKey) → is_some (colour_of constraint_number (Contact key) (replicate 13 [])) ≡ false
+no_active : (key : ContactKey) → is_some (colour_of constraint_number (Contact key) (replicate (COLOURS + 1) [])) ≡ false
 unfolding colour_of members.has_id
 no_active key = refl
 
-pub tied_empty : AreTied [] [] (replicate 13 [])
+pub tied_empty : AreTied [] [] (replicate (COLOURS + 1) [])
 tied_empty = record {
   rising = search rules;
   pairs = All-nil (IsContactOf []);
   there = All-nil (HasBodies []);
   colours = record {
     colouring = record {
-      thirteen = refl;
-      rising = All-replicate (AreRising constraint_number) 13 [] (search rules);
-      apart = All-replicate AreApart 12 [] (search rules);
+      count = refl;
+      rising = All-replicate (AreRising constraint_number) (COLOURS + 1) [] (search rules);
+      apart = All-replicate AreApart COLOURS [] (search rules);
       once = λ n. omega arith;
     };
     active = no_active;

@@ -5,28 +5,33 @@ use Rattle.fixed_geom.specs.declared.vectors.Vec2.{Vec2}
 use Rattle.fixed_geom.specs.declared.refusal.Refusal.{Refusal}
 use Rattle.fixed_geom.specs.declared.refusal.Refusal.TheVariants.{NoMemory, StaleHandle, TooMany, OutOfRange, NotAMover, BodyDisabled, TooFast, WornOut}
 use Rattle.body_handles.specs.declared.handle.Handle.{Handle}
+use Rattle.body_handles.specs.declared.places.TheConstants.{MAX_SLOTS}
+use Rattle.graph_colours.specs.declared.limits.TheConstants.{COLOURS}
+use Rattle.graph_colours.specs.Colours.{ids_of}
 use Rattle.body_handles.specs.Places.{lowest, generation_at, places_with, places_without}
 use Rattle.impulse_ledger.specs.declared.entry.Entry.{Entry}
 use Rattle.impulse_ledger.specs.declared.entry.Cause as cause
 use Rattle.impulse_ledger.specs.declared.entry.Cause.TheVariants as causes
 use Rattle.impulse_ledger.specs.Totals.{zero_totals}
-use Rattle.world_core_base.specs.Bodies.{is_dynamic, def_refusal, made, p_x, p_y}
+use Rattle.plain_world.specs.Bodies.{is_dynamic, def_refusal, made, p_x, p_y}
 use Rattle.shapes.specs.Shapes.{is_between}
-use Rattle.world_core_base.specs.Slots.{with_body, with_momentum}
+use Rattle.plain_world.specs.Slots.{with_body, with_momentum}
 use Rattle.world_core_base.specs.Gather.{states_of, rows_of, with_motions, with_rows}
 use Rattle.colour_solver.specs.Ticks.{Run, ran, start}
 use Rattle.world_core_base.specs.Renewal.{renewed_bodies}
-use Rattle.world_core_base.specs.declared.body.Body.{Body}
-use Rattle.world_core_base.specs.declared.body.BodyDef.{BodyDef}
+use Rattle.plain_world.specs.declared.body.Body.{Body}
+use Rattle.plain_world.specs.declared.body.BodyDef.{BodyDef}
 use Rattle.world_core.specs.declared.command.Command.{Command}
 use Rattle.world_core.specs.declared.command.Command.TheVariants.{CreateBody, DestroyBody, Push, SetGravity, Step}
 use Rattle.world_core.specs.declared.command.Reply.{Reply}
 use Rattle.world_core.specs.declared.command.Reply.TheVariants as replies
-use Rattle.world_core.specs.Collide.{Collided, collided, contacts_without}
-use Rattle.world_core.specs.Colouring.{Lists, turned, lists_without}
+use Rattle.contacts_base.specs.Contacts.{contacts_without}
+use Rattle.world_core.specs.Collide.{Collided, collided}
+use Rattle.world_core.specs.Colouring.{Lists, turned, lists_without, members_of}
 use Rattle.contacts_base.specs.declared.contact.ContactEntry.{ContactEntry}
 use Rattle.event_feed.specs.Events.{EventLists, no_events}
-use Rattle.world_core.specs.World.{Plain, World, body_of}
+use Rattle.plain_world.specs.Plain.{Plain}
+use Rattle.world_core.specs.World.{World, body_of}
 
 -- what an accepted command leaves: the plain world, the reply, the ledger's new entries, and the events where it is a step
 pub record Applied : Type 0 where
@@ -53,7 +58,7 @@ created w d =
 
 abbrev pub create_due : Plain → BodyDef → Option Refusal → Result Applied Refusal
 create_due w d (Some e) = Err e
-create_due w d None = cond (nat_lt (lowest w.places) 16384) (Ok (created w d)) (Err TooMany)
+create_due w d None = cond (nat_lt (lowest w.places) MAX_SLOTS) (Ok (created w d)) (Err TooMany)
 
 abbrev pub apply_create : Plain → BodyDef → Result Applied Refusal
 apply_create w d = create_due w d (def_refusal d)
@@ -69,7 +74,7 @@ departing (Some b) = Ok (record { x = p_x (Some b); y = p_y (Some b) })
 abbrev pub destroy_due : Plain → Handle → Result Vec2 Refusal → Result Applied Refusal
 destroy_due w h (Err e) = Err e
 destroy_due w h (Ok p) = Ok (record {
-  plain = record w { places = places_without w.places h; bodies = slice_set w.bodies h.slot None; contacts = contacts_without h.slot w.contacts; colours = lists_without h.slot w.colours w.contacts; calls = w.calls + 1 };
+  plain = record w { places = places_without w.places h; bodies = slice_set w.bodies h.slot None; contacts = contacts_without h.slot w.contacts; colours = ids_of (lists_without h.slot (members_of w.bodies w.colours) w.contacts); calls = w.calls + 1 };
   reply = replies.Done;
   entries = booked (w.calls + 1) causes.Departed (neg_ℤ p.x) (neg_ℤ p.y);
   events = None;
@@ -113,11 +118,11 @@ events_of c = record { begin = c.begin; end = c.end; slept = []; woke = [] }
 
 -- the colours after the collide: who begins takes one, who ends gives it up
 abbrev pub colours_after : Plain → Collided → Lists
-colours_after w c = turned w.bodies w.colours c.begin c.end
+colours_after w c = turned w.bodies (members_of w.bodies w.colours) c.begin c.end
 
 -- the ticks and the restitution, over the bodies and over the contacts in solve order
 abbrev pub run_after : Plain → ℕ → List ContactEntry → Lists → Run
-run_after w n contacts lists = ran n w.gravity (start (states_of w.bodies) (rows_of (states_of w.bodies) w.bodies contacts lists))
+run_after w n contacts lists = ran n w.gravity (start (states_of w.bodies) (rows_of (states_of w.bodies) contacts lists))
 
 -- what the step has added to the movers' momentum
 abbrev pub step_entries : ℕ → Run → List Entry
@@ -126,7 +131,7 @@ step_entries call r = booked call causes.Gravity r.gravity_x r.gravity_y ++ (boo
 -- the bodies and contacts that the ticks have left, and then the fat boxes
 abbrev pub stepped : Plain → Collided → Lists → Run → Applied
 stepped w c lists r = record {
-  plain = record w { bodies = renewed_bodies (with_motions w.bodies r.states); contacts = with_rows c.now r.rows; colours = lists; steps = w.steps + 1; calls = w.calls + 1 };
+  plain = record w { bodies = renewed_bodies (with_motions w.bodies r.states); contacts = with_rows c.now r.rows; colours = ids_of lists; steps = w.steps + 1; calls = w.calls + 1 };
   reply = replies.Stepped (w.steps + 1);
   entries = step_entries (w.calls + 1) r;
   events = Some (events_of c);
@@ -145,7 +150,7 @@ abbrev pub gravity_refusal : Vec2 → Option Refusal
 gravity_refusal g = cond (is_within (2 ^ 16) g) None (Some OutOfRange)
 
 abbrev pub empty_world : Vec2 → World
-empty_world g = record { plain = record { places = []; bodies = []; contacts = []; colours = replicate 13 []; gravity = g; steps = 0; calls = 0 }; entries = []; settled = zero_totals; events = no_events }
+empty_world g = record { plain = record { places = []; bodies = []; contacts = []; colours = replicate (COLOURS + 1) []; gravity = g; steps = 0; calls = 0 }; entries = []; settled = zero_totals; events = no_events }
 
 -- just what is due; or, where nothing keeps the world from being made, want of memory
 abbrev pub IsMade : Option Refusal → World → Result World Refusal → Type 0

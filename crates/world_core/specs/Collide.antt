@@ -1,5 +1,5 @@
 -- The collide: which shapes touch, and what begins and ends.
-use Rattle.std.specs.Prelude.{ℕ, suc, ◌==◌, ◌||◌, Bool, not, cond, List, [], ◌∷◌, ◌++◌, filter, Option, Some, None}
+use Rattle.std.specs.Prelude.{ℕ, suc, Bool, cond, List, [], ◌∷◌, ◌++◌, Option, Some, None}
 use Rattle.fixed_geom.specs.declared.boxes.Box2.{Box2}
 use Rattle.shapes.specs.declared.pose.Pose.{Pose}
 use Rattle.shapes.specs.declared.shape.ShapeDef.{ShapeDef}
@@ -8,8 +8,8 @@ use Rattle.contacts_base.specs.declared.contact.ContactEntry.{ContactEntry}
 use Rattle.contacts_base.specs.declared.near.Proxy.{Proxy}
 use Rattle.contacts_base.specs.Near.{near_codes}
 use Rattle.contacts.specs.Changes.{contacts_of, keys_touching_only_in}
-use Rattle.world_core_base.specs.declared.body.Body.{Body}
-use Rattle.world_core_base.specs.Bodies.{is_dynamic, pose_of}
+use Rattle.plain_world.specs.declared.body.Body.{Body}
+use Rattle.plain_world.specs.Bodies.{is_dynamic, pose_of}
 
 -- ---- the shapes that the collide reads: those of enabled bodies, ascending
 
@@ -18,7 +18,7 @@ abbrev pub shape_proxies : ℕ → Bool → Pose → ℕ → List ShapeDef → L
 shape_proxies slot dynamic pose index [] fats = []
 shape_proxies slot dynamic pose index (d ∷ defs) [] = []
 shape_proxies slot dynamic pose index (d ∷ defs) (fat ∷ fats) =
-    record { id = record { slot = slot; index = index }; fat = fat; filter = d.filter; dynamic = dynamic; shape = d.shape; pose = pose } ∷ shape_proxies slot dynamic pose (suc index) defs fats
+    record { id = record { slot = slot; index = index }; fat = fat; filter = d.filter; dynamic = dynamic; surface = record { friction = d.friction; restitution = d.restitution }; shape = d.shape; pose = pose } ∷ shape_proxies slot dynamic pose (suc index) defs fats
 
 abbrev pub body_proxies : ℕ → Body → List Proxy
 body_proxies slot b = cond b.enabled (shape_proxies slot (is_dynamic b.kind) (pose_of b) 0 b.shapes b.fats) []
@@ -53,11 +53,3 @@ collided bodies old = record {
   begin = keys_touching_only_in old (contacts_after bodies old);
   end = keys_touching_only_in (contacts_after bodies old) old;
 }
-
--- ---- a body that goes takes its contacts along
-
-abbrev pub has_slot : ℕ → ContactEntry → Bool
-has_slot slot e = (e.key.first.slot == slot) || (e.key.second.slot == slot)
-
-abbrev pub contacts_without : ℕ → List ContactEntry → List ContactEntry
-contacts_without slot entries = filter (λ e. not (has_slot slot e)) entries

@@ -1,5 +1,6 @@
 -- Which contacts have a colour, and how that changes as contacts begin and end to touch.
-use Rattle.std.specs.Prelude.{◌≡◌, ℕ, ◌<◌, ◌^◌, ◌&&◌, Bool, true, false, cond, nat_lt, List, [], ◌∷◌, All, Option, Some, None, is_some}
+use Rattle.std.specs.Prelude.{◌≡◌, ℕ, ◌<◌, ◌^◌, ◌&&◌, Bool, true, false, cond, nat_lt, List, [], ◌∷◌, All, map, Option, Some, None, is_some, option_map}
+use Rattle.std.specs.List.{filter_map}
 use Rattle.graph_colours.specs.declared.member.Movers.{Movers}
 use Rattle.graph_colours.specs.declared.member.Member.{Member}
 use Rattle.graph_colours.specs.Colours.{all_members, colour_of, placed, released, IsColouring}
@@ -11,10 +12,10 @@ use Rattle.contacts_base.specs.Evaluate.{touches}
 use Rattle.contacts.specs.declared.constraint.Constraint.{Constraint}
 use Rattle.contacts.specs.declared.constraint.Constraint.TheVariants.{Joint, Contact}
 use Rattle.contacts.specs.Constraints.{constraint_number}
-use Rattle.contacts.specs.Changes.{is_touching}
-use Rattle.world_core_base.specs.declared.body.Body.{Body}
+use Rattle.contacts_base.specs.Contacts.{is_touching}
+use Rattle.plain_world.specs.declared.body.Body.{Body}
 use Rattle.world_core_base.specs.Gather.{moves}
-use Rattle.world_core.specs.Collide.{has_slot}
+use Rattle.contacts_base.specs.Contacts.{has_slot}
 
 -- the members of each colour, and of the overflow
 abbrev pub Lists : Type 0
@@ -34,6 +35,14 @@ movers_between bodies key = movers_if (moves bodies key.first.slot) (moves bodie
 abbrev pub movers_of : List (Option Body) → Constraint → Option Movers
 movers_of bodies (Joint h) = None
 movers_of bodies (Contact key) = movers_between bodies key
+
+-- a constraint with its movers
+abbrev pub member_of : List (Option Body) → Constraint → Option (Member Constraint)
+member_of bodies id = option_map (λ (m : Movers). record { id = id; movers = m }) (movers_of bodies id)
+
+-- the constraints of each colour, each with its movers
+abbrev pub members_of : List (Option Body) → List (List Constraint) → Lists
+members_of bodies colours = map (filter_map (member_of bodies)) colours
 
 -- ---- contacts that begin and end
 
@@ -94,7 +103,7 @@ IsNamedContact (Joint h) = ⊥
 IsNamedContact (Contact key) = IsNamed key
 
 -- The constraints that have a colour are just the contacts that touch, each with its movers; and it is a colouring: no two of one
--- colour 0 to 11 share a mover, and none has two colours.
+-- colour share a mover, and none has two colours.
 pub record AreColoured (bodies : List (Option Body)) (contacts : List ContactEntry) (lists : Lists) : Type 0 where
   pub colouring : IsColouring constraint_number lists
   pub active : (key : ContactKey) → is_some (colour_of constraint_number (Contact key) lists) ≡ is_touching (lookup contacts key)

@@ -5,11 +5,12 @@ use Rattle.impulse_ledger.specs.declared.entry.Cause.{Cause}
 use Rattle.impulse_ledger.specs.Sums.{Book, total_x, total_y, total_of_x, total_of_y}
 use Rattle.contacts_base.specs.declared.contact.ContactEntry.{ContactEntry}
 use Rattle.contacts_base.specs.Contacts.{AreKeysRising}
-use Rattle.world_core_base.specs.declared.body.Body.{Body}
-use Rattle.world_core_base.specs.Bodies.{AreBodies, momentum_x, momentum_y}
-use Rattle.world_core_base.specs.Slots.{AreMatched, body_at}
+use Rattle.plain_world.specs.declared.body.Body.{Body}
+use Rattle.plain_world.specs.Bodies.{AreBodies, momentum_x, momentum_y}
+use Rattle.plain_world.specs.Slots.{AreMatched, body_at}
 use Rattle.world_core_base.specs.Gather.{AreContactsOf}
-use Rattle.world_core.specs.Colouring.{AreColoured, IsNamed}
+use Rattle.graph_colours.specs.Colours.{ids_of}
+use Rattle.world_core.specs.Colouring.{AreColoured, IsNamed, members_of}
 use Rattle.world_core.specs.World.{World, book_of}
 
 -- no cause's total is beyond n
@@ -25,7 +26,7 @@ pub record HasBodies (bodies : List (Option Body)) (e : ContactEntry) : Type 0 w
 
 -- The movers' momentum is the ledger's total; there is a body just in the slots that are taken; a body that isn't a mover is
 -- at rest, and a mover's numbers are within their limits; the contacts' keys ascend, and each is of two bodies that are there, one of them a mover;
--- those that touch are just those with a colour, and no two of one colour 0 to 11 share a mover.
+-- those that touch are just those with a colour, each with a mover, and no two of one colour share a mover.
 pub record IsSound (w : World) : Type 0 where
   pub total_x : momentum_x w.plain.bodies ≡ total_x (book_of w)
   pub total_y : momentum_y w.plain.bodies ≡ total_y (book_of w)
@@ -35,7 +36,8 @@ pub record IsSound (w : World) : Type 0 where
   pub contacts : AreKeysRising w.plain.contacts
   pub pairs : AreContactsOf w.plain.bodies w.plain.contacts
   pub there : All (HasBodies w.plain.bodies) w.plain.contacts
-  pub colours : AreColoured w.plain.bodies w.plain.contacts w.plain.colours
+  pub colours : AreColoured w.plain.bodies w.plain.contacts (members_of w.plain.bodies w.plain.colours)
+  pub moved : ids_of (members_of w.plain.bodies w.plain.colours) ≡ w.plain.colours
   pub gravity : IsWithin (2 ^ 16) w.plain.gravity
   pub steps : w.plain.steps ≤ w.plain.calls
   pub calls : w.plain.calls ≤ 2 ^ 40

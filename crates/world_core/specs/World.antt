@@ -1,30 +1,13 @@
--- The plain world: what a world is, as lists, however it is kept.
-use Rattle.std.specs.Prelude.{ℕ, List, Option}
-use Rattle.fixed_geom.specs.declared.vectors.Vec2.{Vec2}
+-- What contracts see of a world.
+use Rattle.std.specs.Prelude.{List, Option}
 use Rattle.body_handles.specs.declared.handle.Handle.{Handle}
-use Rattle.body_handles.specs.declared.places.Place.{Place}
 use Rattle.impulse_ledger.specs.declared.entry.Entry.{Entry}
 use Rattle.impulse_ledger.specs.declared.totals.Totals.{Totals}
 use Rattle.impulse_ledger.specs.Sums.{Book}
-use Rattle.contacts_base.specs.declared.contact.ContactEntry.{ContactEntry}
-use Rattle.world_core_base.specs.Slots as slots
-use Rattle.world_core_base.specs.declared.body.Body.{Body}
+use Rattle.plain_world.specs.Plain.{Plain}
+use Rattle.plain_world.specs.Slots as slots
+use Rattle.plain_world.specs.declared.body.Body.{Body}
 use Rattle.event_feed.specs.Events.{EventLists}
-use Rattle.world_core.specs.Colouring.{Lists}
-
-pub record Plain : Type 0 where
-  -- each body slot that was ever used, and the body in it
-  pub places : List Place
-  pub bodies : List (Option Body)
-  -- ascending by key
-  pub contacts : List ContactEntry
-  -- the contacts that touch, by colour
-  pub colours : Lists
-  -- u/tick²
-  pub gravity : Vec2
-  -- how many steps and how many calls were accepted
-  pub steps : ℕ
-  pub calls : ℕ
 
 -- what contracts see of a world: its plain lists, its ledger, and the events of its last step
 pub record World : Type 0 where

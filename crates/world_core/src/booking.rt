@@ -55,7 +55,7 @@ pub fn loss_of(v: Vec2) -> Gain
 pub fn book_step(ledger: &mut Ledger, call: u64, sums: StepSums)
     requires room { 3 ≤ ledger.old.room }
     requires roomy { IsRoomy ledger.old }
-    requires small { AreSums (2 ^ 82) sums }
+    requires small { AreSums (2 ^ 83) sums }
     ensures entries { ledger.new.entries ≡ ledger.old.entries ++ (booked call Cause.Gravity sums.gravity.x sums.gravity.y ++ (booked call Cause.Immovable sums.immovable.x sums.immovable.y ++ booked call Cause.Clamp sums.clamp.x sums.clamp.y)) }
     ensures settled { ledger.new.settled ≡ ledger.old.settled }
 {

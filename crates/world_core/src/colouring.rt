@@ -1,6 +1,6 @@
 //! Which colours the contacts that begin take, and those that end give up.
 
-ghost use Rattle.std.specs.Prelude.{◌≡◌, ◌≤◌, ◌+◌, ◌&&◌, None, All, IfOk, length, drop};
+ghost use Rattle.std.specs.Prelude.{◌≡◌, ◌≤◌, ◌+◌, ◌&&◌, None, All, IfOk, length, drop, map};
 ghost use Rattle.std.specs.Option.{ForSome};
 ghost use Rattle.std.specs.Result.{IsOkUnless};
 ghost use Rattle.contacts.specs.declared.constraint.Constraint.TheVariants.{Contact};
@@ -8,16 +8,18 @@ ghost use Rattle.contacts_base.specs.Evaluate.{touches};
 ghost use Rattle.contacts.specs.Constraints.{constraint_number};
 ghost use Rattle.contacts.specs.Changes.{AreRising};
 ghost use Rattle.graph_colours.specs.Movers.{AreBelow};
-ghost use Rattle.graph_colours.specs.Colours.{all_members, colour_of};
+ghost use Rattle.graph_colours.specs.Colours.{all_members, colour_of, ids_of};
+ghost use Rattle.plain_world.specs.Plain.{constraints_of};
 ghost use Rattle.world_core_base.specs.Gather.{moves};
-ghost use Rattle.world_core.specs.Collide.{has_slot};
+ghost use Rattle.contacts_base.specs.Contacts.{has_slot};
 ghost use Rattle.world_core.specs.Colouring.{movers_between, movers_if, begun, begun_with, ended_all, ended_until, left_from, turned, lists_without};
 
 use contacts::Constraint;
 use contacts_base::{ContactEntry, ContactKey};
 use fixed_geom::Refusal;
-use graph_colours::{Colours, Movers};
-use world_core_base::{Body, body_at};
+use graph_colours::{Colours, Member, Movers, OVERFLOW};
+use plain_world::{Body, body_at};
+use std::alloc::Global;
 
 /// Whether the body in a slot is there and moves.
 fn moves(bodies: &[Option<Body>], slot: u32) -> bool
@@ -131,7 +133,7 @@ pub fn count_with(colours: &Colours<Constraint>, more: usize) -> Result<usize, R
     ensures memory_only { IsOkUnless result Refusal.NoMemory }
 {
     let mut count = more;
-    for colour in 0..13 {
+    for colour in 0..OVERFLOW + 1 {
         count = counted(count, colours.members(colour).len())?;
     }
     Ok(count)
@@ -184,4 +186,31 @@ pub fn drop_colours(colours: &mut Colours<Constraint>, contacts: &[ContactEntry]
             colours.release(Constraint::Contact(entry.key));
         }
     }
+}
+
+/// The ids of a colour's members. Refused 1 where memory is wanting.
+fn copy_colour(alloc: Global, members: &[Member<Constraint>]) -> Result<Vec<Constraint>, Refusal>
+    ensures ids { IfOk result (λ ids. ids.items ≡ map (λ m. m.id) members.now) }
+    ensures memory_only { IsOkUnless result Refusal.NoMemory }
+{
+    let mut ids = Vec::with_capacity(alloc, members.len())?;
+    for member in members {
+        ids.push(member.id)?;
+    }
+    Ok(ids)
+}
+
+/// The constraints of each colour, those in the overflow last. Refused 1 where memory is wanting.
+pub fn copy_ids(
+    alloc: Global,
+    colours: &Colours<Constraint>,
+) -> Result<Vec<Vec<Constraint>>, Refusal>
+    ensures ids { IfOk result (λ copied. constraints_of copied.items ≡ ids_of colours.now.lists) }
+    ensures memory_only { IsOkUnless result Refusal.NoMemory }
+{
+    let mut copied = Vec::new(alloc);
+    for colour in 0..OVERFLOW + 1 {
+        copied.push(copy_colour(alloc, colours.members(colour))?)?;
+    }
+    Ok(copied)
 }

@@ -1,6 +1,6 @@
 use body_handles::Handle;
 use fixed_geom::Vec2;
-use world_core_base::BodyDef;
+use plain_world::BodyDef;
 
 /// What can be asked of a world. Each accepted command is one call, and takes the next call number.
 ///

@@ -5,18 +5,17 @@ mod booking;
 mod collide;
 mod colouring;
 mod command;
-mod plain;
 mod pushes;
 mod replay;
 mod world;
 
 pub use command::{Command, Reply};
-pub use contacts::Constraint;
-pub use contacts_base::{ContactKey, ShapeId};
 pub use event_feed::Events;
-pub use plain::Plain;
+pub use plain_world::{
+    Body, BodyDef, BodyView, Census, Constraint, ContactEntry, ContactKey, FatBoxes, Kind, Plain,
+    SetName, ShapeId,
+};
 pub use world::WorldCore;
-pub use world_core_base::Census;
 
 #[cfg(test)]
 mod tests;

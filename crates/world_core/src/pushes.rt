@@ -1,13 +1,13 @@
 ghost use Rattle.std.specs.Prelude.{◌≡◌, ◌<◌, ◌^◌, OnOk, length};
 ghost use Rattle.std.specs.Option.{option_copied};
 ghost use Rattle.fixed_geom.specs.Vectors.{IsWithin};
-ghost use Rattle.world_core_base.specs.Bodies.{IsBody, AreBodies, p_x, p_y};
-ghost use Rattle.world_core_base.specs.Slots.{body_of};
+ghost use Rattle.plain_world.specs.Bodies.{IsBody, AreBodies, p_x, p_y};
+ghost use Rattle.plain_world.specs.Slots.{body_of};
 ghost use Rattle.world_core.specs.Apply.{pushed, departing, sum_of};
 
 use body_handles::{Handle, Handles};
 use fixed_geom::{Refusal, Vec2, is_within};
-use world_core_base::{Body, body_of};
+use plain_world::{Body, body_of};
 
 /// The greatest size of a component of a push, in mass·u/tick.
 const MAX_PUSH: u64 = 1 << 40;

@@ -1,8 +1,9 @@
-ghost use Rattle.std.specs.Prelude.{◌≡◌, [], ◌∷◌, Some, Ok, Err, true, pos, neg_ℤ, replicate};
+ghost use Rattle.std.specs.Prelude.{◌≡◌, ◌+◌, [], ◌∷◌, Some, Ok, Err, true, pos, neg_ℤ, replicate};
 ghost use Rattle.fixed_geom.specs.declared.refusal.Refusal.TheVariants.{OutOfRange, NotAMover};
 ghost use Rattle.impulse_ledger.specs.declared.entry.Cause.TheVariants.{Gravity};
-ghost use Rattle.world_core_base.specs.declared.body.Kind.TheVariants.{Static, Dynamic};
+ghost use Rattle.plain_world.specs.declared.body.Kind.TheVariants.{Static, Dynamic};
 ghost use Rattle.event_feed.specs.Events.{no_events};
+ghost use Rattle.graph_colours.specs.declared.limits.TheConstants.{COLOURS};
 ghost use Rattle.world_core.specs.declared.command.Command.TheVariants.{Step};
 ghost use Rattle.world_core.specs.declared.command.Reply.TheVariants.{Stepped};
 ghost use Rattle.world_core.specs.Apply.{apply, empty_world, pushed, departing, booked};
@@ -12,13 +13,14 @@ use body_handles::Handle;
 use fixed_geom::{Refusal, Rot, Vec2};
 use impulse_ledger::{Cause, Entry, Total};
 use momenta::MassData;
+use plain_world::{BodyDef, BodyView, Kind, SetName};
 use shapes::{Filter, Shape, ShapeDef, Shapes};
 use std::alloc::Global;
 use std::test::Fail;
-use world_core_base::{BodyDef, BodyView, Kind, SetName};
 
 mod fat_boxes;
 mod meetings;
+mod readme;
 
 const FIRST: Handle = Handle {
     slot: 0,
@@ -515,13 +517,13 @@ fn lists_and_census_are_the_world(rt: HostRuntime) -> Result<(), Fail> {
 /// The definitions give the same values, computed by themselves: the empty step, refused steps and pushes.
 #[tactic(auto, unfolding(contacts_base::specs::Near::near_codes, world_core_base::specs::Gather::rows_of, colour_solver::specs::Ticks::tick, colour_solver::specs::Ticks::ran, crate::specs::Collide::contacts_after))]
 fn definitions_compute()
-    ensures stepped { apply (empty_world (record { x = pos 0; y = pos 0 })).plain (Step (pos 4)) ≡ Ok (record { plain = record { places = []; bodies = []; contacts = []; colours = replicate 13 []; gravity = record { x = pos 0; y = pos 0 }; steps = 1; calls = 1 }; reply = Stepped 1; entries = []; events = Some no_events }) }
+    ensures stepped { apply (empty_world (record { x = pos 0; y = pos 0 })).plain (Step (pos 4)) ≡ Ok (record { plain = record { places = []; bodies = []; contacts = []; colours = replicate (COLOURS + 1) []; gravity = record { x = pos 0; y = pos 0 }; steps = 1; calls = 1 }; reply = Stepped 1; entries = []; events = Some no_events }) }
     ensures no_ticks { apply (empty_world (record { x = pos 0; y = pos 0 })).plain (Step (pos 0)) ≡ Err OutOfRange }
     ensures nine_ticks { apply (empty_world (record { x = pos 0; y = pos 0 })).plain (Step (pos 9)) ≡ Err OutOfRange }
-    ensures pushed { pushed (Some (record { kind = Dynamic; mass = record { mass = pos 1; inertia = pos 0 }; reciprocals = record { mass = pos 4611686018427387904; inertia = pos 0 }; motion = record { p = record { x = pos 5; y = pos 0 }; l = pos 0; x = record { x = pos 0; y = pos 0 }; rot = record { c = pos 1073741824; s = pos 0 } }; shapes = []; fats = []; timer = 0; enabled = true })) (record { x = pos 7; y = neg_ℤ (pos 3) }) ≡ Ok (record { x = pos 12; y = neg_ℤ (pos 3) }) }
-    ensures far { pushed (Some (record { kind = Dynamic; mass = record { mass = pos 1; inertia = pos 0 }; reciprocals = record { mass = pos 4611686018427387904; inertia = pos 0 }; motion = record { p = record { x = pos 5; y = pos 0 }; l = pos 0; x = record { x = pos 0; y = pos 0 }; rot = record { c = pos 1073741824; s = pos 0 } }; shapes = []; fats = []; timer = 0; enabled = true })) (record { x = pos 1099511627777; y = pos 0 }) ≡ Err OutOfRange }
-    ensures standing { pushed (Some (record { kind = Static; mass = record { mass = pos 1; inertia = pos 0 }; reciprocals = record { mass = pos 4611686018427387904; inertia = pos 0 }; motion = record { p = record { x = pos 5; y = pos 0 }; l = pos 0; x = record { x = pos 0; y = pos 0 }; rot = record { c = pos 1073741824; s = pos 0 } }; shapes = []; fats = []; timer = 0; enabled = true })) (record { x = pos 1099511627777; y = pos 0 }) ≡ Err NotAMover }
-    ensures departing { departing (Some (record { kind = Dynamic; mass = record { mass = pos 1; inertia = pos 0 }; reciprocals = record { mass = pos 4611686018427387904; inertia = pos 0 }; motion = record { p = record { x = pos 5; y = pos 0 }; l = pos 0; x = record { x = pos 0; y = pos 0 }; rot = record { c = pos 1073741824; s = pos 0 } }; shapes = []; fats = []; timer = 0; enabled = true })) ≡ Ok (record { x = pos 5; y = pos 0 }) }
+    ensures pushed { pushed (Some (record { kind = Dynamic; mass = record { mass = pos 1; inertia = pos 0 }; motion = record { p = record { x = pos 5; y = pos 0 }; l = pos 0; x = record { x = pos 0; y = pos 0 }; rot = record { c = pos 1073741824; s = pos 0 } }; shapes = []; fats = []; timer = 0; enabled = true })) (record { x = pos 7; y = neg_ℤ (pos 3) }) ≡ Ok (record { x = pos 12; y = neg_ℤ (pos 3) }) }
+    ensures far { pushed (Some (record { kind = Dynamic; mass = record { mass = pos 1; inertia = pos 0 }; motion = record { p = record { x = pos 5; y = pos 0 }; l = pos 0; x = record { x = pos 0; y = pos 0 }; rot = record { c = pos 1073741824; s = pos 0 } }; shapes = []; fats = []; timer = 0; enabled = true })) (record { x = pos 1099511627777; y = pos 0 }) ≡ Err OutOfRange }
+    ensures standing { pushed (Some (record { kind = Static; mass = record { mass = pos 1; inertia = pos 0 }; motion = record { p = record { x = pos 5; y = pos 0 }; l = pos 0; x = record { x = pos 0; y = pos 0 }; rot = record { c = pos 1073741824; s = pos 0 } }; shapes = []; fats = []; timer = 0; enabled = true })) (record { x = pos 1099511627777; y = pos 0 }) ≡ Err NotAMover }
+    ensures departing { departing (Some (record { kind = Dynamic; mass = record { mass = pos 1; inertia = pos 0 }; motion = record { p = record { x = pos 5; y = pos 0 }; l = pos 0; x = record { x = pos 0; y = pos 0 }; rot = record { c = pos 1073741824; s = pos 0 } }; shapes = []; fats = []; timer = 0; enabled = true })) ≡ Ok (record { x = pos 5; y = pos 0 }) }
     ensures booked { booked 3 Gravity (pos 0) (neg_ℤ (pos 160768)) ≡ record { call = 3; cause = Gravity; x = pos 0; y = neg_ℤ (pos 160768) } ∷ [] }
     ensures left_out { booked 3 Gravity (pos 0) (pos 0) ≡ [] }
 {}

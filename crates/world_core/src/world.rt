@@ -1,34 +1,29 @@
 ghost use Rattle.std.specs.Prelude.{◌≡◌, ◌+◌, ◌<◌, ◌≤◌, ◌^◌, [], IfOk, OnErr, option_map};
 ghost use Rattle.std.specs.Result.{IsOkUnless};
-ghost use Rattle.world_core_base.specs.Bodies.{view_of};
-ghost use Rattle.world_core_base.specs.Census.{IsCensus, census_of};
-ghost use Rattle.contacts.specs.Constraints.{constraint_number};
-ghost use Rattle.graph_colours.specs.Colours.{colour_of};
+ghost use Rattle.plain_world.specs.Bodies.{view_of};
+ghost use Rattle.plain_world.specs.Census.{IsCensus, census_of};
+ghost use Rattle.plain_world.specs.Plain.{colour_of};
 ghost use Rattle.world_core.specs.World.{body_of};
 ghost use Rattle.world_core.specs.Sound.{IsSound};
 ghost use Rattle.world_core.specs.Apply.{Answers, IsMade, empty_world, gravity_refusal, apply, apply_create, apply_destroy, apply_push, apply_gravity, apply_step};
 
 use crate::booking::{book, book_step, gain_of, loss_of};
-use crate::collide::{collide, copy_contacts, drop_contacts, events_of};
-use crate::colouring::{count_with, drop_colours, turn_colours};
+use crate::collide::{collide, events_of};
+use crate::colouring::{copy_ids, count_with, drop_colours, turn_colours};
 use crate::pushes::{departing, momentum_after};
-use crate::{Command, Plain, Reply};
+use crate::{Command, Reply};
 use body_handles::{Handle, Handles};
-use colour_solver::run_step;
 use colour_solver_base::ContactRow;
 use contacts::{BroadPhase, Constraint};
-use contacts_base::ContactEntry;
+use contacts_base::Contacts;
 use event_feed::Events;
 use fixed_geom::{Refusal, Vec2, is_within};
 use graph_colours::Colours;
 use impulse_ledger::{Cause, Ledger};
-use momenta::BodyState;
+use plain_world::{BodyDef, BodyView, Census, Plain, body_of, copy_bodies, take_census};
 use std::alloc::Global;
 use std::marker::Model;
-use world_core_base::{
-    Body, BodyDef, BodyView, Census, body_of, clear_slot, copy_bodies, gather_rows, move_bodies,
-    put_body, put_impulses, put_momentum, take_census,
-};
+use world_core_base::{BodyTable, gather_rows, put_impulses};
 
 /// How many calls a world accepts.
 const MAX_CALLS: u64 = 1 << 40;
@@ -43,14 +38,13 @@ const MAX_TICKS: i64 = 8;
 #[derive(Drop)]
 pub struct WorldCore {
     handles: Handles,
-    bodies: Vec<Option<Body>>,
-    contacts: Vec<ContactEntry>,
+    bodies: BodyTable,
+    contacts: Contacts,
     // Room that a collide works in, kept from step to step.
     broad: BroadPhase,
     // The colours of the active constraints.
     colours: Colours<Constraint>,
     // Room that a step works in, kept from step to step.
-    states: Vec<BodyState>,
     rows: Vec<ContactRow>,
     gravity: Vec2,
     steps: u64,
@@ -61,15 +55,14 @@ pub struct WorldCore {
 
 impl Model for WorldCore {
     ghost use Rattle.world_core.specs.World.{World};
-    ghost use Rattle.world_core.specs.Sound.{IsSound};
 
     ghost Value = { World };
 
-    ghost use Rattle.world_core.specs.Inside.{world_of};
+    ghost use Rattle.world_core.specs.Inside.{IsWhole, world_of};
 
     ghost view = { λ a. world_of a };
 
-    ghost invariant = { λ a. IsSound (world_of a) };
+    ghost invariant = { λ a. IsWhole (world_of a) a.colours.lists };
 }
 
 impl WorldCore {
@@ -84,11 +77,10 @@ impl WorldCore {
         }
         Ok(WorldCore {
             handles: Handles::new(alloc),
-            bodies: Vec::new(alloc),
-            contacts: Vec::new(alloc),
+            bodies: BodyTable::new(alloc),
+            contacts: Contacts::new(alloc),
             broad: BroadPhase::new(alloc),
             colours: Colours::new(alloc)?,
-            states: Vec::new(alloc),
             rows: Vec::new(alloc),
             gravity,
             steps: 0,
@@ -105,12 +97,11 @@ impl WorldCore {
     {
         Ok(WorldCore {
             handles: self.handles.try_copy()?,
-            bodies: copy_bodies(*self.bodies.allocator(), &self.bodies)?,
-            contacts: copy_contacts(&self.contacts)?,
-            broad: BroadPhase::new(*self.bodies.allocator()),
+            bodies: self.bodies.try_copy()?,
+            contacts: self.contacts.try_copy()?,
+            broad: BroadPhase::new(self.bodies.allocator()),
             colours: self.colours.try_copy()?,
-            states: Vec::new(*self.bodies.allocator()),
-            rows: Vec::new(*self.bodies.allocator()),
+            rows: Vec::new(self.bodies.allocator()),
             gravity: self.gravity,
             steps: self.steps,
             calls: self.calls,
@@ -150,11 +141,11 @@ impl WorldCore {
         if self.handles.is_full() {
             return Err(Refusal::TooMany);
         }
-        let body = def.make(*self.bodies.allocator())?;
+        let body = def.make(self.bodies.allocator())?;
         self.handles.reserve_one()?;
-        self.bodies.reserve(1)?;
+        self.bodies.reserve_one()?;
         let handle = self.handles.insert()?;
-        put_body(&mut self.bodies, handle.slot as usize, body);
+        self.bodies.put(handle.slot, body);
         self.calls += 1;
         Ok(Reply::Body(handle))
     }
@@ -163,7 +154,7 @@ impl WorldCore {
         requires { self.old.plain.calls < 2 ^ 40 }
         ensures { Answers (apply_destroy self.old.plain handle) self.old result self.new }
     {
-        let p = departing(&self.handles, &self.bodies, handle)?;
+        let p = departing(&self.handles, self.bodies.bodies(), handle)?;
         self.ledger.reserve(1)?;
         book(
             &mut self.ledger,
@@ -171,9 +162,9 @@ impl WorldCore {
             Cause::Departed,
             loss_of(p),
         );
-        clear_slot(&mut self.bodies, handle.slot as usize);
-        drop_colours(&mut self.colours, &self.contacts, handle.slot);
-        drop_contacts(&mut self.contacts, handle.slot);
+        self.bodies.clear(handle.slot);
+        drop_colours(&mut self.colours, self.contacts.as_slice(), handle.slot);
+        self.contacts.drop_of_body(handle.slot);
         self.handles.remove(handle);
         self.calls += 1;
         Ok(Reply::Done)
@@ -183,7 +174,7 @@ impl WorldCore {
         requires { self.old.plain.calls < 2 ^ 40 }
         ensures { Answers (apply_push self.old.plain handle by) self.old result self.new }
     {
-        let p = momentum_after(&self.handles, &self.bodies, handle, by)?;
+        let p = momentum_after(&self.handles, self.bodies.bodies(), handle, by)?;
         self.ledger.reserve(1)?;
         book(
             &mut self.ledger,
@@ -191,7 +182,7 @@ impl WorldCore {
             Cause::Command,
             gain_of(by),
         );
-        put_momentum(&mut self.bodies, handle.slot as usize, p);
+        self.bodies.put_momentum(handle.slot, p);
         self.calls += 1;
         Ok(Reply::Done)
     }
@@ -215,22 +206,16 @@ impl WorldCore {
         if ticks < 1 || ticks > MAX_TICKS {
             return Err(Refusal::OutOfRange);
         }
-        let alloc = *self.bodies.allocator();
+        let alloc = self.bodies.allocator();
         self.ledger.reserve(3)?;
-        let changes = collide(
-            alloc,
-            &mut self.broad,
-            &mut self.states,
-            &self.bodies,
-            &self.contacts,
-        )?;
+        let changes = collide(alloc, &mut self.broad, self.bodies.bodies(), &self.contacts)?;
         self.colours
-            .reserve(changes.begin.len(), self.bodies.len())?;
+            .reserve(changes.begin.len(), self.bodies.bodies().len())?;
         let most = count_with(&self.colours, changes.begin.len())?;
         self.rows.reserve(most)?;
         turn_colours(
             &mut self.colours,
-            &self.bodies,
+            self.bodies.bodies(),
             &changes.begin,
             &changes.end,
         );
@@ -238,18 +223,13 @@ impl WorldCore {
         self.contacts = changes.now;
         gather_rows(
             &mut self.rows,
-            &self.states,
-            &self.bodies,
-            &self.contacts,
+            self.bodies.states(),
+            self.contacts.as_slice(),
             &self.colours,
         );
-        let sums = run_step(
-            &mut self.states,
-            &mut self.rows,
-            self.gravity,
-            ticks.unsigned_abs(),
-        );
-        move_bodies(&mut self.bodies, &self.states);
+        let sums = self
+            .bodies
+            .run(&mut self.rows, self.gravity, ticks.unsigned_abs());
         put_impulses(&mut self.contacts, &self.rows);
         book_step(&mut self.ledger, self.calls + 1, sums);
         self.steps += 1;
@@ -261,15 +241,15 @@ impl WorldCore {
     pub fn body(&self, handle: Handle) -> Option<BodyView>
         ensures { result ≡ option_map view_of (body_of self.now.plain handle) }
     {
-        match body_of(&self.handles, &self.bodies, handle) {
+        match body_of(&self.handles, self.bodies.bodies(), handle) {
             Some(body) => Some(body.view()),
             None => None,
         }
     }
 
-    /// The colour of an active constraint, 0 to 11, or 12 in the overflow; `None` of one that isn't active.
+    /// The colour of an active constraint, 0 to 23, or 24 in the overflow; `None` of one that isn't active.
     pub fn colour_of(&self, constraint: Constraint) -> Option<u8>
-        ensures { result ≡ colour_of constraint_number constraint self.now.plain.colours }
+        ensures { result ≡ colour_of constraint self.now.plain.colours }
     {
         self.colours.colour_of(constraint)
     }
@@ -296,16 +276,22 @@ impl WorldCore {
         ensures sound { IsSound self.now }
         ensures memory_only { IsOkUnless result Refusal.NoMemory }
     {
-        Plain::copied(
-            *self.bodies.allocator(),
-            &self.handles,
-            &self.bodies,
-            &self.contacts,
-            &self.colours,
+        let alloc = self.bodies.allocator();
+        let mut places = Vec::new(alloc);
+        places.extend_from_slice(self.handles.places())?;
+        let bodies = copy_bodies(alloc, self.bodies.bodies())?;
+        let mut contacts = Vec::new(alloc);
+        contacts.extend_from_slice(self.contacts.as_slice())?;
+        let colours = copy_ids(alloc, &self.colours)?;
+        Ok(Plain::new(
+            places,
+            bodies,
+            contacts,
+            colours,
             self.gravity,
             self.steps,
             self.calls,
-        )
+        ))
     }
 
     /// What stands in each solver set: each live body once, where it stands. Refused 1 where memory is
@@ -316,9 +302,9 @@ impl WorldCore {
         ensures memory_only { IsOkUnless result Refusal.NoMemory }
     {
         take_census(
-            *self.bodies.allocator(),
+            self.bodies.allocator(),
             self.handles.places(),
-            &self.bodies,
+            self.bodies.bodies(),
         )
     }
 }

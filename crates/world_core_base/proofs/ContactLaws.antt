@@ -1,5 +1,5 @@
 -- The rows of a step's contacts, and the impulses given back to the contacts.
-use Rattle.std.proofs.Common.{◌≡◌, append_assoc, ℕ, zero, suc, ◌+◌, ◌*◌, ◌^◌, ◌<◌, ◌≤◌, ◌==◌, List, [], ◌∷◌, ◌++◌, length, get_or, drop, map, is_some, Option, Some, None, Bool, true, false, cond, ℤ, pos, ◌≤ℤ◌, unsigned_abs, arith, refl, sym, ap, ◌∙◌, subst, All, add-one}
+use Rattle.std.proofs.Common.{◌≡◌, append_assoc, ℕ, zero, suc, ◌+◌, ◌*◌, ◌^◌, ◌<◌, ◌≤◌, ◌==◌, List, [], ◌∷◌, ◌++◌, length, get_or, drop, map, is_some, Option, Some, None, Bool, true, false, cond, ℤ, pos, ◌≤ℤ◌, unsigned_abs, arith, refl, sym, ap, ◌∙◌, subst, All, add-one, inl, inr, ◌⊎◌, slice_index_or}
 use Rattle.std.specs.Prelude.{option_map}
 use Rattle.std.specs.Option.{ForSome, option_to_list}
 use Rattle.std.specs.Int.{int_max}
@@ -14,7 +14,7 @@ use Rattle.momenta.specs.declared.state.Ends.{Ends}
 use Rattle.shapes.specs.Shapes.{IsShapeDef}
 use Rattle.shapes.specs.declared.shape.ShapeDef.{ShapeDef}
 use Rattle.contacts_base.specs.Keys.{key_number}
-use Rattle.contacts_base.specs.Contacts.{number_of, found_in, found_place}
+use Rattle.contacts_base.specs.Contacts.{AreContacts, number_of, found_in, found_place, with_impulses, with_second}
 use Rattle.contacts_base.specs.Evaluate.{touches}
 use Rattle.contacts_base.specs.Limits.{IsContactPoint}
 use Rattle.contacts_base.specs.declared.key.ShapeId.{ShapeId}
@@ -28,49 +28,12 @@ use Rattle.colour_solver_base.specs.declared.row.ContactRow.{ContactRow}
 use Rattle.colour_solver_base.specs.declared.row.PointRow.{PointRow}
 use Rattle.colour_solver_base.specs.Rows.{IsPointRow, IsRow, contact_row, is_springy, point_row, row_from}
 use Rattle.colour_solver.specs.Turns.{AreRowsBelow, IsRowBelow}
-use Rattle.world_core_base.specs.declared.body.Body.{Body}
-use Rattle.world_core_base.specs.Bodies.{AreBodies, IsBody}
-use Rattle.world_core_base.specs.Slots.{body_at, body_in}
-use Rattle.world_core_base.specs.Gather.{AreContactsOf, IsContactOf, IsSurface, bodies_of, put_row, row_in, row_of, second_with, states_of, surface_at, surface_in, surface_of, with_impulses, with_row, with_rows}
-use Rattle.world_core_base.proofs.GatherLaws.{length-states}
-
--- ---- surfaces
-
-is_smooth : IsSurface (surface_of None)
-is_smooth = record { friction = omega (arith, ints); friction_small = omega arith; restitution = omega (arith, ints); restitution_small = omega arith }
-
-surface_of_def : (o : Option ShapeDef) → ((d : ShapeDef) → o ≡ Some d → IsShapeDef d) → IsSurface (surface_of o)
-surface_of_def None is = is_smooth
-surface_of_def (Some d) is = let def : IsShapeDef d = is d refl in record { friction = def.friction; friction_small = def.friction_small; restitution = def.restitution; restitution_small = def.restitution_small }
-
-def_at : (defs : List ShapeDef) (i : ℕ) → All IsShapeDef defs → (d : ShapeDef) → slice_get defs i ≡ Some d → IsShapeDef d
-def_at defs i all d e = subst IsShapeDef (get_or_from_slice_get defs i d d e) (All-get_or IsShapeDef defs i d (slice_get_within defs i d e) all)
-
-surface_in_body : (o : Option Body) (i : ℕ) → ((b : Body) → o ≡ Some b → IsBody b) → IsSurface (surface_in o i)
-surface_in_body None i is = is_smooth
-surface_in_body (Some b) i is = surface_of_def (slice_get b.shapes i) (def_at b.shapes i (is b refl).forms)
-
-body_in_slot : (o : Option (Option Body)) → ((b : Body) → o ≡ Some (Some b) → IsBody b) → (b : Body) → body_in o ≡ Some b → IsBody b
-body_in_slot None is b e = cc
-body_in_slot (Some None) is b e = cc
-body_in_slot (Some (Some a)) is b e = is b (ap Some e)
-
-pub is_surface : (bodies : List (Option Body)) (id : ShapeId) → AreBodies bodies → IsSurface (surface_at bodies id)
-is_surface bodies id all = surface_in_body (body_at bodies id.slot) id.index (body_in_slot (slice_get bodies id.slot) (all id.slot))
-
-either_low : (b : Bool) (x y : ℤ) → pos 0 ≤ℤ x → pos 0 ≤ℤ y → pos 0 ≤ℤ cond b x y
-either_low true x y h k = h
-either_low false x y h k = k
-
-either_small : (b : Bool) (x y : ℤ) (n : ℕ) → unsigned_abs x ≤ n → unsigned_abs y ≤ n → unsigned_abs (cond b x y) ≤ n
-either_small true x y n h k = h
-either_small false x y n h k = k
-
-pub max_low : (x y : ℤ) → pos 0 ≤ℤ x → pos 0 ≤ℤ y → pos 0 ≤ℤ int_max x y
-max_low x y h k = either_low _ x y h k
-
-pub max_small : (x y : ℤ) (n : ℕ) → unsigned_abs x ≤ n → unsigned_abs y ≤ n → unsigned_abs (int_max x y) ≤ n
-max_small x y n h k = either_small _ x y n h k
+use Rattle.colour_solver.specs.States.{nobody}
+use Rattle.plain_world.specs.declared.body.Body.{Body}
+use Rattle.plain_world.specs.Bodies.{AreBodies, IsBody}
+use Rattle.plain_world.specs.Slots.{body_at, body_in}
+use Rattle.world_core_base.specs.Gather.{AreContactsOf, AreContactsOn, IsContactOf, IsContactOn, bodies_of, impulses_of, moves, put_row, row_in, row_of, states_of, with_row, with_rows}
+use Rattle.world_core_base.proofs.GatherLaws.{length-states, movable_at}
 
 -- ---- the place of a key
 
@@ -136,20 +99,18 @@ from_bodies bodies ends (Some p) second x e =
 row_bodies : (bodies : pairs.Bodies) (ends : Ends) (c : Contact) (x : ContactRow) → contact_row bodies ends c ≡ Some x → x.bodies ≡ bodies
 row_bodies bodies ends c x e = from_bodies bodies ends c.first c.second x e
 
-pub row_below : (bodies : List (Option Body)) (states : List BodyState) (key : ContactKey) (place : ℕ) (e : ContactEntry) (ends : Ends) (x : ContactRow) → states ≡ states_of bodies → IsContactOf bodies e → e.key ≡ key
-    → contact_row (bodies_of bodies key place) ends e.contact ≡ Some x → IsRow x → IsRowBelow (length states) x
-unfolding bodies_of
-row_below bodies states key place e ends x same of keys is row =
-    let here : x.bodies ≡ bodies_of bodies key place = row_bodies (bodies_of bodies key place) ends e.contact x is in
+pub row_below : (states : List BodyState) (key : ContactKey) (index : ℕ) (e : ContactEntry) (ends : Ends) (x : ContactRow) → IsContactOn states e → e.key ≡ key
+    → contact_row (bodies_of key e.surface index) ends e.contact ≡ Some x → IsRow x → IsRowBelow (length states) x
+row_below states key index e ends x of keys is row =
+    let here : x.bodies ≡ bodies_of key e.surface index = row_bodies (bodies_of key e.surface index) ends e.contact x is in
     let a : x.bodies.a ≡ e.key.first.slot = ap (λ (p : pairs.Bodies). p.a) here ∙ sym (ap (λ (k : ContactKey). k.first.slot) keys) in
     let b : x.bodies.b ≡ e.key.second.slot = ap (λ (p : pairs.Bodies). p.b) here ∙ sym (ap (λ (k : ContactKey). k.second.slot) keys) in
-    let long : length states ≡ length bodies = ap length same ∙ length-states bodies in
-    record { row = row; a = rw (a, long) of.first; b = rw (b, long) of.second; apart = rw (a, b) of.apart }
+    record { row = row; a = rw a of.first; b = rw b of.second; apart = rw (a, b) of.apart }
 
-pub row_of_is : (states : List BodyState) (bodies : List (Option Body)) (contacts : List ContactEntry) (key : ContactKey) (place : ℕ) (e : ContactEntry) → found_place contacts key ≡ Some place → slice_get contacts place ≡ Some e
-    → row_in states bodies key place (Some e) ≡ row_of states bodies contacts (constraints.Contact key)
+pub row_of_is : (states : List BodyState) (contacts : List ContactEntry) (key : ContactKey) (index : ℕ) (e : ContactEntry) → found_place contacts key ≡ Some index → slice_get contacts index ≡ Some e
+    → row_in states key index (Some e) ≡ row_of states contacts (constraints.Contact key)
 unfolding row_of
-row_of_is states bodies contacts key place e is at = rw (is, at)
+row_of_is states contacts key index e is at = rw (is, at)
 
 -- ---- rows one after another
 
@@ -177,22 +138,22 @@ all_more P xs o all h = All-append P xs (option_to_list o) all (one_all P o h)
 
 -- ---- the impulses given back
 
-keys_put : (r : ContactRow) (contacts : List ContactEntry) (o : Option ContactEntry) → slice_get contacts r.bodies.place ≡ o → map number_of (put_row r contacts o) ≡ map number_of contacts
+keys_put : (r : ContactRow) (contacts : List ContactEntry) (o : Option ContactEntry) → slice_get contacts r.bodies.index ≡ o → map number_of (put_row r contacts o) ≡ map number_of contacts
 keys_put r contacts None e = refl
-keys_put r contacts (Some f) e = map-set_same number_of contacts r.bodies.place (with_row r f) f (sym (ap number_of (get_or_from_slice_get contacts r.bodies.place f f e)))
+keys_put r contacts (Some f) e = map-set_same number_of contacts r.bodies.index (with_row r f) f (sym (ap number_of (get_or_from_slice_get contacts r.bodies.index f f e)))
 
 pub keys_stay : (contacts : List ContactEntry) (rows : List ContactRow) → map number_of (with_rows contacts rows) ≡ map number_of contacts
 keys_stay contacts [] = refl
-keys_stay contacts (r ∷ rs) = keys_stay (put_row r contacts (slice_get contacts r.bodies.place)) rs ∙ keys_put r contacts (slice_get contacts r.bodies.place) refl
+keys_stay contacts (r ∷ rs) = keys_stay (put_row r contacts (slice_get contacts r.bodies.index)) rs ∙ keys_put r contacts (slice_get contacts r.bodies.index) refl
 
-point_kept : (o : Option ContactPoint) (r : PointRow) → IsPointRow r → ForSome o IsContactPoint → ForSome (option_map (with_impulses r) o) IsContactPoint
+point_kept : (o : Option ContactPoint) (r : PointRow) → IsPointRow r → ForSome o IsContactPoint → ForSome (option_map (with_impulses (impulses_of r)) o) IsContactPoint
 point_kept None r row h p e = cc
 point_kept (Some q) r row h p e =
-    let same : with_impulses r q ≡ p = cc in
+    let same : with_impulses (impulses_of r) q ≡ p = cc in
     let is : IsContactPoint q = h q refl in
-    subst IsContactPoint same (record { normal = is.normal; separation = is.separation; ra = is.ra; rb = is.rb; push_low = row.push_low; push_high = row.push_high; slip = row.slip })
+    subst IsContactPoint same (record { normal = is.normal; separation = is.separation; ra = is.ra; rb = is.rb; normal_impulse_low = row.normal_low; normal_impulse_high = row.normal_high; tangent_impulse = row.tangent_impulse })
 
-second_kept : (o : Option ContactPoint) (r : Option PointRow) → ForSome r IsPointRow → ForSome o IsContactPoint → ForSome (second_with r o) IsContactPoint
+second_kept : (o : Option ContactPoint) (r : Option PointRow) → ForSome r IsPointRow → ForSome o IsContactPoint → ForSome (with_second (option_map impulses_of r) o) IsContactPoint
 second_kept o None row h = h
 second_kept o (Some r) row h = point_kept o r (row r refl) h
 
@@ -205,10 +166,10 @@ contact_kept bodies r e row of = record {
   contact = record { first = point_kept e.contact.first r.first row.first of.contact.first; second = second_kept e.contact.second r.second row.second of.contact.second };
 }
 
-contacts_put : (bodies : List (Option Body)) (r : ContactRow) (contacts : List ContactEntry) (o : Option ContactEntry) → slice_get contacts r.bodies.place ≡ o → IsRow r → AreContactsOf bodies contacts → AreContactsOf bodies (put_row r contacts o)
+contacts_put : (bodies : List (Option Body)) (r : ContactRow) (contacts : List ContactEntry) (o : Option ContactEntry) → slice_get contacts r.bodies.index ≡ o → IsRow r → AreContactsOf bodies contacts → AreContactsOf bodies (put_row r contacts o)
 contacts_put bodies r contacts None e row all = all
 contacts_put bodies r contacts (Some f) e row all =
-    let place = r.bodies.place in
+    let place = r.bodies.index in
     let there : IsContactOf bodies f = subst (IsContactOf bodies) (get_or_from_slice_get contacts place f f e) (All-get_or (IsContactOf bodies) contacts place f (slice_get_within contacts place f e) all) in
     All-set (IsContactOf bodies) contacts place (with_row r f) (contact_kept bodies r f row there) all
 
@@ -216,7 +177,7 @@ pub contacts_stay : (bodies : List (Option Body)) (n : ℕ) (contacts : List Con
 contacts_stay bodies n contacts [] below all = all
 contacts_stay bodies n contacts (r ∷ rs) below all =
     let first : IsRowBelow n r = below 0 r (omega arith) in
-    contacts_stay bodies n (put_row r contacts (slice_get contacts r.bodies.place)) rs (λ k d lt. below (suc k) d (omega arith)) (contacts_put bodies r contacts (slice_get contacts r.bodies.place) refl first.row all)
+    contacts_stay bodies n (put_row r contacts (slice_get contacts r.bodies.index)) rs (λ k d lt. below (suc k) d (omega arith)) (contacts_put bodies r contacts (slice_get contacts r.bodies.index) refl first.row all)
 
 -- ---- which contacts touch
 
@@ -226,4 +187,24 @@ some_mapped f None = refl
 
 -- a contact touches as before when it has got the impulses of a row
 pub touches_with_row : (r : ContactRow) (e : ContactEntry) → touches (with_row r e).contact ≡ touches e.contact
-touches_with_row r e = some_mapped (with_impulses r.first) e.contact.first
+touches_with_row r e = some_mapped (with_impulses (impulses_of r.first)) e.contact.first
+
+-- ---- the contacts as a step finds them
+
+mover_on : (bodies : List (Option Body)) (a b : ℕ) → (moves bodies a ≡ true) ⊎ (moves bodies b ≡ true) → ((slice_index_or (states_of bodies) a nobody).movable ≡ true) ⊎ ((slice_index_or (states_of bodies) b nobody).movable ≡ true)
+mover_on bodies a b (inl e) = inl (movable_at bodies a e)
+mover_on bodies a b (inr e) = inr (movable_at bodies b e)
+
+pub contacts_on : (bodies : List (Option Body)) (contacts : List ContactEntry) → AreContacts contacts → AreContactsOf bodies contacts → AreContactsOn (states_of bodies) contacts
+contacts_on bodies contacts is all = λ k d lt.
+    let e = get_or contacts k d in
+    let of : IsContactOf bodies e = all k d lt in
+    let long = length-states bodies in
+    record {
+      first = omega (arith, of.first, long);
+      second = omega (arith, of.second, long);
+      apart = of.apart;
+      mover = mover_on bodies e.key.first.slot e.key.second.slot of.mover;
+      surface = is.surfaces k d lt;
+      contact = of.contact;
+    }

@@ -12,11 +12,11 @@ use Rattle.momenta.specs.declared.state.BodyState.{BodyState}
 use Rattle.contacts_base.specs.declared.key.ContactKey.{ContactKey}
 use Rattle.colour_solver.specs.States as step
 use Rattle.colour_solver.specs.States.{nobody, AreAllStates, AreSameStates, total_x, total_y}
-use Rattle.world_core_base.specs.declared.body.Body.{Body}
-use Rattle.world_core_base.specs.declared.body.Kind.{Kind}
-use Rattle.world_core_base.specs.declared.body.Kind.TheVariants.{Static, Dynamic}
-use Rattle.world_core_base.specs.Bodies.{AreBodies, IsBody, IsMassOf, is_dynamic, is_mover, momentum_x, momentum_y, p_x, p_y}
-use Rattle.world_core_base.specs.Slots.{HaveSameSlots, body_at}
+use Rattle.plain_world.specs.declared.body.Body.{Body}
+use Rattle.plain_world.specs.declared.body.Kind.{Kind}
+use Rattle.plain_world.specs.declared.body.Kind.TheVariants.{Static, Dynamic}
+use Rattle.plain_world.specs.Bodies.{AreBodies, IsBody, IsMassOf, is_dynamic, is_mover, momentum_x, momentum_y, p_x, p_y}
+use Rattle.plain_world.specs.Slots.{HaveSameSlots, body_at}
 use Rattle.world_core_base.specs.Gather.{ends_at, moves, state_of, states_of, with_motion, with_motions}
 
 -- ---- the bodies as states
@@ -48,7 +48,7 @@ is_state : (o : Option Body) → ((b : Body) → o ≡ Some b → IsBody b) → 
 is_state None is = is_nobody
 is_state (Some b) is =
     let body : IsBody b = is b refl in
-    record { mass = λ moves. mass_at b.kind b.enabled b.mass moves body.mass; reciprocals = body.reciprocals; motion = body.motion; start = body.motion.x }
+    record { mass = λ moves. mass_at b.kind b.enabled b.mass moves body.mass; reciprocals = refl; motion = body.motion; start = body.motion.x }
 
 pub states-all : (bodies : List (Option Body)) → AreBodies bodies → AreAllStates (states_of bodies)
 states-all [] all slot s e = cc
@@ -79,7 +79,7 @@ state_at states slot d all h = all slot (slice_index_or states slot d) (slice_ge
 pub are_states : (states : List BodyState) (key : ContactKey) → AreAllStates states → key.first.slot < length states → key.second.slot < length states → AreStates (ends_at states key)
 are_states states key all first second = record { a = state_at states key.first.slot nobody all first; b = state_at states key.second.slot nobody all second }
 
-movable_at : (bodies : List (Option Body)) (slot : ℕ) → moves bodies slot ≡ true → (slice_index_or (states_of bodies) slot nobody).movable ≡ true
+pub movable_at : (bodies : List (Option Body)) (slot : ℕ) → moves bodies slot ≡ true → (slice_index_or (states_of bodies) slot nobody).movable ≡ true
 movable_at [] slot e = e
 movable_at (None ∷ os) zero e = e
 movable_at (Some b ∷ os) zero e = e
@@ -100,7 +100,6 @@ length-states (o ∷ os) = ap suc (length-states os)
 moved_if : (m : Bool) (b : Body) (s : BodyState) → is_mover b ≡ m → IsBody b → IsState s → s.mass ≡ b.mass → IsBody (cond m (record b { motion = s.motion }) b)
 moved_if true b s e is state same = record {
   mass = is.mass;
-  reciprocals = is.reciprocals;
   motion = rw same at state.motion;
   rest = λ still. absurd (let both : true ≡ false = sym e ∙ still in cc both);
   shapes = is.shapes;
@@ -113,8 +112,8 @@ entry_moved : (o : Option Body) (s : BodyState) (b : Body) → ((a : Body) → o
 entry_moved None s b is state same e = cc
 entry_moved (Some a) s b is state same e = let now : with_motion s a ≡ b = cc in subst IsBody now (moved_if (is_mover a) a s refl (is a refl) state same)
 
-tail_same : (o : Option Body) (os : List (Option Body)) (s : BodyState) (ss : List BodyState) → AreSameStates (states_of (o ∷ os)) (s ∷ ss) → AreSameStates (states_of os) ss
-tail_same o os s ss h = record { long = let whole = h.long in omega (arith, whole); movable = λ slot. h.movable (suc slot); mass = λ slot. h.mass (suc slot) }
+pub tail_same : (o : Option Body) (os : List (Option Body)) (s : BodyState) (ss : List BodyState) → AreSameStates (states_of (o ∷ os)) (s ∷ ss) → AreSameStates (states_of os) ss
+tail_same o os s ss h = record { long = let whole = h.long in omega (arith, whole); immovable = λ slot. h.immovable (suc slot); reciprocals = λ slot. h.reciprocals (suc slot); movable = λ slot. h.movable (suc slot); mass = λ slot. h.mass (suc slot) }
 
 pub bodies-moved : (bodies : List (Option Body)) (states : List BodyState) → AreBodies bodies → AreAllStates states → AreSameStates (states_of bodies) states → AreBodies (with_motions bodies states)
 bodies-moved [] states all given same slot b e = cc

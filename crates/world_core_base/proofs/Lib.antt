@@ -1,7 +1,8 @@
 pub mod SlotLaws
-pub mod CensusLemmas
-pub mod FatLaws
 pub mod RenewalLaws
 pub mod GatherLaws
 pub mod MovingLaws
 pub mod ContactLaws
+pub mod AwakeLaws
+pub mod SlotsRising
+pub mod TableLaws

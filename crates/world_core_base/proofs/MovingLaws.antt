@@ -3,9 +3,9 @@ use Rattle.std.proofs.Common.{◌≡◌, ℕ, zero, suc, ◌+◌, ◌<◌, ◌�
 use Rattle.std.specs.Prelude.{option_map}
 use Rattle.momenta.specs.declared.state.BodyState.{BodyState}
 use Rattle.colour_solver.specs.States.{AreAllStates, AreSameStates, total_x, total_y}
-use Rattle.world_core_base.specs.declared.body.Body.{Body}
-use Rattle.world_core_base.specs.Bodies.{AreBodies, momentum_x, momentum_y}
-use Rattle.world_core_base.specs.Slots.{HaveSameSlots}
+use Rattle.plain_world.specs.declared.body.Body.{Body}
+use Rattle.plain_world.specs.Bodies.{AreBodies, momentum_x, momentum_y}
+use Rattle.plain_world.specs.Slots.{HaveSameSlots}
 use Rattle.world_core_base.specs.Gather.{states_of, with_motion, with_motions}
 use Rattle.world_core_base.specs.Renewal.{with_renewed, renewed_bodies}
 use Rattle.world_core_base.proofs.GatherLaws.{bodies-moved, momentum_x-moved, momentum_y-moved, slots-moved}

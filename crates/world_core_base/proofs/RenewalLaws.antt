@@ -2,11 +2,11 @@
 use Rattle.std.proofs.Common.{◌≡◌, ℕ, zero, suc, List, [], ◌∷◌, length, Option, Some, None, Bool, true, false, cond, refl, ap, arith, is_some, subst}
 use Rattle.std.specs.Prelude.{option_map}
 use Rattle.std.proofs.lemmas.Int.{ints}
-use Rattle.world_core_base.specs.declared.body.Body.{Body}
-use Rattle.world_core_base.specs.Bodies.{is_mover, pose_of, IsBody, AreBodies, p_x, p_y, momentum_x, momentum_y}
-use Rattle.world_core_base.specs.Fats.{renewed_boxes}
+use Rattle.plain_world.specs.declared.body.Body.{Body}
+use Rattle.plain_world.specs.Bodies.{is_mover, pose_of, IsBody, AreBodies, p_x, p_y, momentum_x, momentum_y}
+use Rattle.plain_world.specs.Fats.{renewed_boxes}
 use Rattle.world_core_base.specs.Renewal.{with_renewed, renewed_bodies}
-use Rattle.world_core_base.specs.Slots.{body_at, HaveSameSlots}
+use Rattle.plain_world.specs.Slots.{body_at, HaveSameSlots}
 use Rattle.shapes.specs.declared.pose.Pose.{Pose}
 use Rattle.shapes.specs.declared.shape.ShapeDef.{ShapeDef}
 use Rattle.fixed_geom.specs.declared.boxes.Box2.{Box2}
@@ -17,7 +17,7 @@ length-renewed o (d ∷ defs) [] e = absurd (omega arith)
 length-renewed o (d ∷ defs) (f ∷ fats) e = let rest = length-renewed o defs fats (omega arith) in omega (arith, rest)
 
 kept_if : (m : Bool) (b : Body) → is_mover b ≡ m → IsBody b → IsBody (cond m (record b { fats = renewed_boxes (pose_of b) b.shapes b.fats }) b)
-kept_if true b e is = record { mass = is.mass; reciprocals = is.reciprocals; motion = is.motion; rest = is.rest; shapes = is.shapes; forms = is.forms; fats = length-renewed (pose_of b) b.shapes b.fats is.fats }
+kept_if true b e is = record { mass = is.mass; motion = is.motion; rest = is.rest; shapes = is.shapes; forms = is.forms; fats = length-renewed (pose_of b) b.shapes b.fats is.fats }
 kept_if false b e is = is
 
 is_body : (b : Body) → IsBody b → IsBody (with_renewed b)

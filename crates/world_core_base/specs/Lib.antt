@@ -1,6 +1,3 @@
-pub mod Bodies
-pub mod Slots
-pub mod Census
-pub mod Fats
 pub mod Renewal
 pub mod Gather
+pub mod Awake

@@ -3,9 +3,9 @@
 use event_feed::Events;
 use fixed_geom::{Refusal, Vec2};
 use impulse_ledger::Ledger;
+use plain_world::Census;
 use std::alloc::Global;
 use world_core::{Command, Plain, Reply, WorldCore};
-use world_core_base::Census;
 
 /// What a world answers to a command.
 pub type Answer = Result<Reply, Refusal>;

@@ -1,8 +1,9 @@
 use crate::calls::{events_of, ledger_of, lists_of};
 use crate::stop::{Moment, Part, Stop};
+use graph_colours::COLOURS;
 use impulse_ledger::{Cause, Ledger};
+use plain_world::{Body, Census};
 use world_core::{Events, Plain, WorldCore};
-use world_core_base::{Body, Census};
 
 const CAUSES: [Cause; 6] = [
     Cause::Command,
@@ -111,7 +112,7 @@ fn have_same_shapes(first: &Body, second: &Body) -> bool {
 }
 
 fn are_same_colours(first: &Plain, second: &Plain) -> bool {
-    for colour in 0..13 {
+    for colour in 0..COLOURS + 1 {
         if first.members(colour) != second.members(colour) {
             return false;
         }

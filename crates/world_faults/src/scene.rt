@@ -2,10 +2,10 @@ use crate::calls::{apply, copy_of, new_world, step};
 use body_handles::Handle;
 use fixed_geom::{Refusal, Rot, UNIT, Vec2};
 use momenta::MassData;
+use plain_world::{BodyDef, Kind};
 use shapes::{MAX_SHAPES, Shape, ShapeDef, Shapes};
 use std::alloc::Global;
 use world_core::{Command, WorldCore};
-use world_core_base::{BodyDef, Kind};
 
 const METRE: i64 = 1 << 20;
 

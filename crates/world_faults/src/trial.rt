@@ -5,9 +5,9 @@ use crate::scene;
 use crate::stop::{Moment, Part, Stop};
 use crate::worlds::Worlds;
 use fixed_geom::Refusal;
+use plain_world::Census;
 use std::alloc::Global;
 use world_core::{Command, Plain, Reply};
-use world_core_base::Census;
 
 /// How a call went that did what it should.
 #[derive(Clone, Copy, Debug, PartialEq, Eq)]

@@ -2,9 +2,9 @@ use crate::ids::Id;
 use body_handles::Handle;
 use fixed_geom::{Refusal, Rot, Vec2};
 use impulse_ledger::{Cause, Ledger, Total};
+use plain_world::{BodyView, SetName};
 use std::fmt;
 use world_core::{ContactKey, Events, ShapeId};
-use world_core_base::{BodyView, SetName};
 
 /// The answer to a line. Its text is compact JSON, the keys of each object ascending.
 #[derive(Clone, Copy)]

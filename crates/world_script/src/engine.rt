@@ -7,7 +7,7 @@ use std::io::{BufRead, ErrorKind, Read, Write};
 use world_core::{Reply, WorldCore};
 
 /// How many bytes the longest line has, without its end.
-const LONGEST: usize = 67_108_864;
+const LONGEST: usize = 268_435_456;
 
 /// How the program was asked to run. This edition has nothing to choose.
 #[derive(Clone, Copy, Debug, PartialEq, Eq)]

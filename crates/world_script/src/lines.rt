@@ -2,11 +2,11 @@ use crate::ids::handle_of;
 use body_handles::Handle;
 use fixed_geom::{Rot, Vec2};
 use momenta::MassData;
+use plain_world::{BodyDef, Kind};
 use serde_json::{Map, Value};
 use shapes::{Filter, Shape, ShapeDef, Shapes};
 use std::alloc::Global;
 use world_core::Command;
-use world_core_base::{BodyDef, Kind};
 
 /// What a line asks for.
 #[derive(Drop)]

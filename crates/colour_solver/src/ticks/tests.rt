@@ -1,8 +1,8 @@
-ghost use Rattle.std.specs.Prelude.{◌≡◌, ◌^◌, ◌≤◌, [], ◌∷◌, length, IfOk, true, pos, neg_ℤ, ◌≤ℤ◌, unsigned_abs};
+ghost use Rattle.std.specs.Prelude.{◌≡◌, ◌^◌, ◌≤◌, [], ◌∷◌, length, IfOk, true, false, pos, neg_ℤ, ◌≤ℤ◌, unsigned_abs};
 ghost use Rattle.fixed_geom.specs.Vectors.{IsWithin};
 ghost use Rattle.momenta.specs.Impulses.{IsState};
 ghost use Rattle.colour_solver_base.specs.Rows.{IsRow};
-ghost use Rattle.colour_solver.specs.States.{AreAllStates};
+ghost use Rattle.colour_solver.specs.States.{AreAllStates, movers_of};
 ghost use Rattle.colour_solver.specs.Turns.{AreRowsBelow, IsRowBelow};
 ghost use Rattle.colour_solver.specs.Ticks.{start, ticks};
 
@@ -28,7 +28,8 @@ fn point(movable: bool, mass: i64, p: Vec2) -> BodyState
     requires positive { pos 1 ≤ℤ mass }
     requires mass { unsigned_abs mass ≤ 2 ^ 20 }
     requires slow { IsWithin (2 ^ 60) p }
-    ensures { IsState result }
+    ensures state { IsState result }
+    ensures movable { result.movable ≡ movable }
 {
     let weight = MassData { mass, inertia: 0 };
     BodyState {
@@ -47,7 +48,7 @@ fn point(movable: bool, mass: i64, p: Vec2) -> BodyState
 
 fn one_body(alloc: Global, state: BodyState) -> Result<Vec<BodyState>, Refusal>
     requires { IsState state }
-    ensures long { IfOk result (λ states. length states.items ≡ 1) }
+    ensures items { IfOk result (λ states. states.items ≡ state ∷ []) }
     ensures states { IfOk result (λ states. AreAllStates states.items) }
 {
     let mut states = Vec::with_capacity(alloc, 1)?;
@@ -65,7 +66,7 @@ fn no_rows(alloc: Global) -> Vec<ContactRow>
 fn a_point_falls_for_four_ticks(rt: HostRuntime) -> Result<(), Fail> {
     let mut states = one_body(rt.alloc(), point(true, 256, ORIGIN))?;
     let mut rows = no_rows(rt.alloc());
-    let sums = run_step(&mut states, &mut rows, at(0, -157), 4);
+    let sums = run_step(&mut states, &mut rows, &[0], at(0, -157), 4);
     assert_eq!(rt; sums.gravity, Gain { x: 0, y: -160768 });
     assert_eq!(rt; sums.immovable, Gain { x: 0, y: 0 });
     assert_eq!(rt; sums.clamp, Gain { x: 0, y: 0 });
@@ -80,7 +81,7 @@ fn a_point_falls_for_four_ticks(rt: HostRuntime) -> Result<(), Fail> {
 fn the_speed_limit_is_booked_as_clamp(rt: HostRuntime) -> Result<(), Fail> {
     let mut states = one_body(rt.alloc(), point(true, 1, at(2097152, 0)))?;
     let mut rows = no_rows(rt.alloc());
-    let sums = run_step(&mut states, &mut rows, ORIGIN, 1);
+    let sums = run_step(&mut states, &mut rows, &[0], ORIGIN, 1);
     assert_eq!(rt; sums.gravity, Gain { x: 0, y: 0 });
     assert_eq!(rt; sums.clamp, Gain { x: -1048576, y: 0 });
     for state in &states {
@@ -98,18 +99,18 @@ fn landing() -> ContactRow
         normal: Vec2 { x: 0, y: 1 << 30 },
         ra: ORIGIN,
         rb: ORIGIN,
-        push_inverse: 1 << 40,
-        slip_inverse: 1 << 40,
-        push_reciprocal: inverse_reciprocal(1 << 40),
-        slip_reciprocal: inverse_reciprocal(1 << 40),
+        normal_inverse: 1 << 40,
+        tangent_inverse: 1 << 40,
+        normal_reciprocal: inverse_reciprocal(1 << 40),
+        tangent_reciprocal: inverse_reciprocal(1 << 40),
         separation: 0,
         start_speed: -8192,
-        push: 0,
-        slip: 0,
+        normal_impulse: 0,
+        tangent_impulse: 0,
     };
     ContactRow {
         bodies: Bodies {
-            place: 0,
+            index: 0,
             a: 0,
             b: 1,
             friction: 0,
@@ -123,6 +124,7 @@ fn landing() -> ContactRow
 fn two_bodies(alloc: Global) -> Result<Vec<BodyState>, Refusal>
     ensures long { IfOk result (λ states. length states.items ≡ 2) }
     ensures states { IfOk result (λ states. AreAllStates states.items) }
+    ensures movers { IfOk result (λ states. movers_of states.items ≡ 1 ∷ []) }
 {
     let mut states = one_body(alloc, point(false, 1, ORIGIN))?;
     states.push(point(true, 1, at(0, -8192)))?;
@@ -141,7 +143,7 @@ fn one_row(alloc: Global) -> Result<Vec<ContactRow>, Refusal>
 fn a_point_bounces_off_an_immovable_body(rt: HostRuntime) -> Result<(), Fail> {
     let mut states = two_bodies(rt.alloc())?;
     let mut rows = one_row(rt.alloc())?;
-    let sums = run_step(&mut states, &mut rows, ORIGIN, 1);
+    let sums = run_step(&mut states, &mut rows, &[1], ORIGIN, 1);
     assert_eq!(rt; sums.immovable, Gain { x: 0, y: 16384 });
     assert_eq!(rt; sums.gravity, Gain { x: 0, y: 0 });
     assert_eq!(rt; sums.clamp, Gain { x: 0, y: 0 });
@@ -152,7 +154,7 @@ fn a_point_bounces_off_an_immovable_body(rt: HostRuntime) -> Result<(), Fail> {
         }
     }
     for row in &rows {
-        assert_eq!(rt; row.first.push, 16384);
+        assert_eq!(rt; row.first.normal_impulse, 16384);
     }
     Ok(())
 }

@@ -2,7 +2,7 @@
 
 use super::*;
 use fixed_geom::Box2;
-use world_core_base::Body;
+use plain_world::Body;
 
 /// The fat box of the first body's first shape.
 fn first_box(bodies: &[Option<Body>]) -> Option<Box2> {

@@ -156,13 +156,13 @@ fn gravity_and_the_floor_are_booked(rt: HostRuntime) -> Result<(), Fail> {
 }
 
 /// How many slots the hub and its small circles take.
-const HUB_SLOTS: u32 = 16;
+const HUB_SLOTS: u32 = 28;
 
-/// A great circle, as slot 0, that fifteen small ones lie in.
+/// A great circle, as slot 0, that twenty-seven small ones lie in.
 fn add_hub(alloc: Global, world: &mut WorldCore) -> Result<(), Refusal> {
     add(alloc, world, 1000, ORIGIN, circle(100_000))?;
     for number in 1..HUB_SLOTS {
-        add_circle(alloc, world, 100, i64::from(number) * 10_000 - 60_000, 0)?;
+        add_circle(alloc, world, 100, i64::from(number) * 6_000 - 80_000, 0)?;
     }
     Ok(())
 }
@@ -171,11 +171,11 @@ fn add_hub(alloc: Global, world: &mut WorldCore) -> Result<(), Refusal> {
 fn has_all_colours(world: &WorldCore) -> Result<bool, Refusal> {
     for number in 1..HUB_SLOTS {
         let colour = colour(world, contact_of(0, number));
-        if colour != Some((number - 1).min(12) as u8) {
+        if colour != Some((number - 1).min(24) as u8) {
             return Ok(false);
         }
     }
-    Ok(touching(world)? == 15)
+    Ok(touching(world)? == 27)
 }
 
 fn let_touch_a_hub(alloc: Global, world: &mut WorldCore) -> Result<bool, Refusal> {

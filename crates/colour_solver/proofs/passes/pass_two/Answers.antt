@@ -1,76 +1,68 @@
-use Rattle.std.proofs.Common.{◌≡◌, ◌<◌, ◌≤◌, length, get_or, arith, add-one}
-use Rattle.std.proofs.lemmas.Option.{slice_get_within}
-use Rattle.colour_solver.specs.Passes.{OnMover}
-use Rattle.colour_solver.proofs.PassLaws.{next_is, length_is, items_more, slice_get-get, made_more, gain_x_more, gain_y_more, gain_x_more_after, gain_y_more_after, grown}
-use Rattle.colour_solver.proofs.SameLaws.{same_at_last}
+use Rattle.std.proofs.Common.{◌≤◌, length, slice_index_or, refl, arith, add-one}
+use Rattle.colour_solver.proofs.PassLaws.{grown}
+use Rattle.colour_solver.proofs.AwakeLaws.{here_at, few_movers, walked_first, walked_last, walked_more}
 use Rattle.colour_solver.proofs.passes.pass_two.Goals as goal
+
+pub loop-place-init : goal.loop-place-init
+loop-place-init g c = record {
+  walked = walked_first (g.A.Change.after c.args.first.now) (g.B.Change.after c.args.second.now) (g.B.Change.gives c.args.second.now) c.args.states.now.items c.args.awake.now c.requires.awake;
+  few = few_movers c.args.states.now.items c.args.awake.now c.requires.awake c.requires.few;
+  small_first = record { x = omega arith; y = omega arith };
+  small_second = record { x = omega arith; y = omega arith };
+}
 
 pub change_body-gains-requires-clause-small : goal.change_body-gains-requires-clause-small
 change_body-gains-requires-clause-small g c =
-    let f = g.A.Change.after c.args.first.now in
-    let s = g.B.Change.after c.args.second.now in
-    let all = c.args.states.now.items in
-    let slot = c.loop-slot.slot in
-    let now = c.index_mut.result.now in
-    let here : slot < length all = omega (arith, c.loop-slot-test.true, c.len-slot-end.ensures, c.args.states.now.ok) in
-    let same = next_is f s all c.loop-slot.states.items slot now here c.loop-slot.invariant.items c.index_mut.ensures.value in
-    c.requires.small slot now (slice_get-get all slot now now here same)
+    c.requires.small (slice_index_or c.args.awake.now c.loop-place.place 0) c.index_mut.result.now
+    (here_at (g.A.Change.after c.args.first.now) (g.B.Change.after c.args.second.now) (g.B.Change.gives c.args.second.now) c.args.states.now.items c.args.awake.now c.loop-place.place (slice_index_or c.args.awake.now c.loop-place.place 0) c.loop-place.states.items _ _ _ _ c.index_mut.result.now c.loop-place.invariant.walked c.loop-place-test.true refl c.index_mut.ensures.value).there
+
+pub change_body-gains-requires-clause-fits : goal.change_body-gains-requires-clause-fits
+change_body-gains-requires-clause-fits g c =
+    c.requires.fits (slice_index_or c.args.awake.now c.loop-place.place 0) c.index_mut.result.now
+    (here_at (g.A.Change.after c.args.first.now) (g.B.Change.after c.args.second.now) (g.B.Change.gives c.args.second.now) c.args.states.now.items c.args.awake.now c.loop-place.place (slice_index_or c.args.awake.now c.loop-place.place 0) c.loop-place.states.items _ _ _ _ c.index_mut.result.now c.loop-place.invariant.walked c.loop-place-test.true refl c.index_mut.ensures.value).there
 
 pub change_body-gains-requires-clause-reciprocals : goal.change_body-gains-requires-clause-reciprocals
 change_body-gains-requires-clause-reciprocals g c =
-    let f = g.A.Change.after c.args.first.now in
-    let s = g.B.Change.after c.args.second.now in
-    let all = c.args.states.now.items in
-    let slot = c.loop-slot.slot in
-    let now = c.index_mut.result.now in
-    let here : slot < length all = omega (arith, c.loop-slot-test.true, c.len-slot-end.ensures, c.args.states.now.ok) in
-    let same = next_is f s all c.loop-slot.states.items slot now here c.loop-slot.invariant.items c.index_mut.ensures.value in
-    c.requires.reciprocals slot now (slice_get-get all slot now now here same)
+    c.requires.reciprocals (slice_index_or c.args.awake.now c.loop-place.place 0) c.index_mut.result.now
+    (here_at (g.A.Change.after c.args.first.now) (g.B.Change.after c.args.second.now) (g.B.Change.gives c.args.second.now) c.args.states.now.items c.args.awake.now c.loop-place.place (slice_index_or c.args.awake.now c.loop-place.place 0) c.loop-place.states.items _ _ _ _ c.index_mut.result.now c.loop-place.invariant.walked c.loop-place-test.true refl c.index_mut.ensures.value).there
 
-pub loop-slot-preserved : goal.loop-slot-preserved
-loop-slot-preserved g c =
+pub loop-place-preserved : goal.loop-place-preserved
+loop-place-preserved g c =
     let f = g.A.Change.after c.args.first.now in
     let s = g.B.Change.after c.args.second.now in
     let all = c.args.states.now.items in
-    let items = c.loop-slot.states.items in
-    let slot = c.loop-slot.slot in
-    let now = c.index_mut.result.now in
-    let known = c.loop-slot.invariant in
-    let sums = c.loop-slot.sums in
+    let place = c.loop-place.place in
+    let slot = slice_index_or c.args.awake.now place 0 in
+    let known = c.loop-place.invariant in
+    let sums = c.loop-place.sums in
     let gains = c.change_body-gains.result in
     let made = c.change_body-gains.ensures in
-    let here : slot < length all = omega (arith, c.loop-slot-test.true, c.len-slot-end.ensures, c.args.states.now.ok) in
-    let same : now ≡ get_or all slot now = next_is f s all items slot now here known.items c.index_mut.ensures.value in
-    let within : slot < length items = omega (arith, here, length_is f s all items slot known.items) in
     record {
-      items = rw made.body (items_more f s all items slot now here known.items c.index_mut.ensures.value);
-      first_x = rw (c.plus.ensures.x, add-one) (gain_x_more f all slot now sums.first.x gains.first.x here same known.first_x made.first_x);
-      first_y = rw (c.plus.ensures.y, add-one) (gain_y_more f all slot now sums.first.y gains.first.y here same known.first_y made.first_y);
-      second_x = rw (c.plus-in-loop-slot.ensures.x, add-one) (gain_x_more_after f s all slot now sums.second.x gains.second.x here same known.second_x made.second_x);
-      second_y = rw (c.plus-in-loop-slot.ensures.y, add-one) (gain_y_more_after f s all slot now sums.second.y gains.second.y here same known.second_y made.second_y);
+      walked = rw (c.plus.ensures.x, c.plus.ensures.y, c.plus-in-loop-place.ensures.x, c.plus-in-loop-place.ensures.y, add-one)
+          (walked_more f s (g.B.Change.gives c.args.second.now) all c.args.awake.now place slot c.loop-place.states.items sums.first.x sums.first.y sums.second.x sums.second.y gains.first.x gains.first.y gains.second.x gains.second.y c.index_mut.result.now c.change_body-gains.new.body
+          known.walked c.loop-place-test.true refl c.index_mut.ensures.value made.body made.gives made.first_x made.first_y made.second_x made.second_y);
+      few = known.few;
       small_first = record {
-        x = rw c.plus.ensures.x (grown sums.first.x gains.first.x slot known.small_first.x made.small_first.x);
-        y = rw c.plus.ensures.y (grown sums.first.y gains.first.y slot known.small_first.y made.small_first.y);
+        x = rw c.plus.ensures.x (grown sums.first.x gains.first.x place known.small_first.x made.small_first.x);
+        y = rw c.plus.ensures.y (grown sums.first.y gains.first.y place known.small_first.y made.small_first.y);
       };
       small_second = record {
-        x = rw c.plus-in-loop-slot.ensures.x (grown sums.second.x gains.second.x slot known.small_second.x made.small_second.x);
-        y = rw c.plus-in-loop-slot.ensures.y (grown sums.second.y gains.second.y slot known.small_second.y made.small_second.y);
+        x = rw c.plus-in-loop-place.ensures.x (grown sums.second.x gains.second.x place known.small_second.x made.small_second.x);
+        y = rw c.plus-in-loop-place.ensures.y (grown sums.second.y gains.second.y place known.small_second.y made.small_second.y);
       };
-      made = made_more (OnMover (g.B.Change.gives c.args.second.now)) items slot c.change_body-gains.new.body within known.made made.gives;
     }
 
 pub returns-clause-gives : goal.returns-clause-gives
 returns-clause-gives g c =
-    let f = g.A.Change.after c.args.first.now in
-    let s = g.B.Change.after c.args.second.now in
-    let items = c.loop-slot.states.items in
-    let as_long = length_is f s c.args.states.now.items items c.loop-slot.slot c.loop-slot.invariant.items in
-    λ k b e.
-    let within = slice_get_within items k b e in
-    c.loop-slot.invariant.made k b (omega (arith, within, as_long, c.loop-slot-test.false, c.len-slot-end.ensures, c.args.states.now.ok)) e
+    let ended : length c.args.awake.now ≤ c.loop-place.place = omega (arith, c.loop-place-test.false) in
+    (walked_last (g.A.Change.after c.args.first.now) (g.B.Change.after c.args.second.now) (g.B.Change.gives c.args.second.now) c.args.states.now.items c.args.awake.now c.loop-place.place c.loop-place.states.items _ _ _ _ c.loop-place.invariant.walked ended).made
 
 pub returns-clause-same : goal.returns-clause-same
 returns-clause-same g c =
-    let all = c.args.states.now.items in
-    let ended : length all ≤ c.loop-slot.slot = omega (arith, c.loop-slot-test.false, c.len-slot-end.ensures, c.args.states.now.ok) in
-    same_at_last (g.A.Change.after c.args.first.now) (g.B.Change.after c.args.second.now) all c.loop-slot.states.items c.loop-slot.slot ended c.loop-slot.invariant.items
+    let ended : length c.args.awake.now ≤ c.loop-place.place = omega (arith, c.loop-place-test.false) in
+    (walked_last (g.A.Change.after c.args.first.now) (g.B.Change.after c.args.second.now) (g.B.Change.gives c.args.second.now) c.args.states.now.items c.args.awake.now c.loop-place.place c.loop-place.states.items _ _ _ _ c.loop-place.invariant.walked ended).same
+
+pub returns-clause-movers : goal.returns-clause-movers
+returns-clause-movers g c =
+    let ended : length c.args.awake.now ≤ c.loop-place.place = omega (arith, c.loop-place-test.false) in
+    (walked_last (g.A.Change.after c.args.first.now) (g.B.Change.after c.args.second.now) (g.B.Change.gives c.args.second.now) c.args.states.now.items c.args.awake.now c.loop-place.place c.loop-place.states.items _ _ _ _ c.loop-place.invariant.walked ended).movers

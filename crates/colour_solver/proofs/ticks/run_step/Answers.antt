@@ -1,14 +1,18 @@
-use Rattle.std.proofs.Common.{◌*◌, ◌^◌, arith, ap, ◌∙◌, add-one}
+use Rattle.std.proofs.Common.{◌*◌, ◌^◌, arith, ap, sym, ◌∙◌, add-one}
 use Rattle.colour_solver.specs.Ticks.{tick}
 use Rattle.colour_solver.proofs.SameLaws.{same_on}
+use Rattle.colour_solver.proofs.AwakeLaws.{movers_same}
 use Rattle.colour_solver.proofs.TickLaws.{carried_on, last_added}
 use Rattle.colour_solver.proofs.ticks.run_step.Goals as goal
+
+pub tick-sums-requires-clause-awake : goal.tick-sums-requires-clause-awake
+tick-sums-requires-clause-awake c = c.requires.awake ∙ sym (movers_same c.args.states.now.items c.loop-index.states.items c.loop-index.invariant.same)
 
 pub loop-index-preserved : goal.loop-index-preserved
 loop-index-preserved c =
     let known = c.loop-index.invariant in
     let made = c.tick-sums.ensures in
-    let grown = made.grown (c.loop-index.index * 2 ^ 78) known.small in
+    let grown = made.grown (c.loop-index.index * (3 * 2 ^ 78)) known.small in
     record {
       run = rw add-one (made.tick ∙ ap (tick c.args.gravity) known.run);
       all_states = made.states;

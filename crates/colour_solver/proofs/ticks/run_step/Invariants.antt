@@ -11,7 +11,7 @@ invariant-loop-index l = record {
   all_rows : AreRowsBelow (length l.states.items) l.rows.items;
   long : length l.states.items ≡ length l.fn.states.items;
   same : AreSameStates l.fn.states.items l.states.items;
-  small : AreSums (l.index * 2 ^ 78) l.sums;
+  small : AreSums (l.index * (3 * 2 ^ 78)) l.sums;
   momentum_x : total_x l.states.items ≡ total_x l.fn.states.items +ℤ added_x l.sums;
   momentum_y : total_y l.states.items ≡ total_y l.fn.states.items +ℤ added_y l.sums;
 }

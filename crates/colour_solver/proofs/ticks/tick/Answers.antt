@@ -1,8 +1,9 @@
-use Rattle.std.proofs.Common.{◌^◌, length, arith}
+use Rattle.std.proofs.Common.{◌^◌, ◌∙◌, sym, length, arith}
 use Rattle.momenta.specs.Motions.{pulled, clamped, advanced}
 use Rattle.colour_solver.specs.States.{total_x, total_y}
 use Rattle.colour_solver.specs.Ticks.{tick}
 use Rattle.colour_solver.proofs.SameLaws.{same_on}
+use Rattle.colour_solver.proofs.AwakeLaws.{movers_same}
 use Rattle.colour_solver.proofs.TickLaws.{long_after, one_more, rows_as_long, states_after, three_more, tick_adds, total_x-after, total_y-after, two_more}
 use Rattle.colour_solver.proofs.ticks.tick.Goals as goal
 
@@ -37,8 +38,8 @@ pass_two-moved-requires-clause-small c = λ slot s e moves.
 
 pub plus-requires-6-clause-first : goal.plus-requires-6-clause-first
 plus-requires-6-clause-first c = record {
-  x = rw (c.plus-5.ensures.x, c.plus-4.ensures.x) (let small = two_more c.args.sums.clamp.x c.pass_two-fallen.result.second.x c.pass_two-moved.result.first.x (2 ^ 82) c.requires.sums.clamp.x c.pass_two-fallen.ensures.small_second.x c.pass_two-moved.ensures.small_first.x in omega (arith, small));
-  y = rw (c.plus-5.ensures.y, c.plus-4.ensures.y) (let small = two_more c.args.sums.clamp.y c.pass_two-fallen.result.second.y c.pass_two-moved.result.first.y (2 ^ 82) c.requires.sums.clamp.y c.pass_two-fallen.ensures.small_second.y c.pass_two-moved.ensures.small_first.y in omega (arith, small));
+  x = rw (c.plus-5.ensures.x, c.plus-4.ensures.x) (let small = two_more c.args.sums.clamp.x c.pass_two-fallen.result.second.x c.pass_two-moved.result.first.x (2 ^ 83) c.requires.sums.clamp.x c.pass_two-fallen.ensures.small_second.x c.pass_two-moved.ensures.small_first.x in omega (arith, small));
+  y = rw (c.plus-5.ensures.y, c.plus-4.ensures.y) (let small = two_more c.args.sums.clamp.y c.pass_two-fallen.result.second.y c.pass_two-moved.result.first.y (2 ^ 83) c.requires.sums.clamp.y c.pass_two-fallen.ensures.small_second.y c.pass_two-moved.ensures.small_first.y in omega (arith, small));
 }
 
 pub returns-clause-tick : goal.returns-clause-tick
@@ -120,3 +121,9 @@ pass_two-fallen-requires-clause-reciprocals c = λ slot s e. (c.requires.states 
 
 pub pass_two-moved-requires-clause-reciprocals : goal.pass_two-moved-requires-clause-reciprocals
 pass_two-moved-requires-clause-reciprocals c = λ slot s e. (c.pass_single-solved.ensures.all_states slot s e).reciprocals
+
+pub pass_two-moved-requires-clause-awake : goal.pass_two-moved-requires-clause-awake
+pass_two-moved-requires-clause-awake c =
+    let fallen = c.pass_two-fallen.new.states.items in
+    let warm = c.pass_single-warm.new.states.items in
+    c.requires.awake ∙ sym c.pass_two-fallen.ensures.movers ∙ sym (movers_same fallen warm c.pass_single-warm.ensures.same) ∙ sym (movers_same warm c.pass_single-solved.new.states.items c.pass_single-solved.ensures.same)

@@ -3,6 +3,7 @@ use Rattle.std.proofs.lemmas.List.{length-set}
 use Rattle.colour_solver.specs.States.{total_x, total_y}
 use Rattle.colour_solver.proofs.SameLaws.{same_on}
 use Rattle.colour_solver.proofs.TurnLaws.{added, given_x-small, given_y-small, passed_more, row_at, rows_below, rows_more, share_x_more, share_y_more}
+use Rattle.body_handles.specs.declared.places.TheConstants.{MAX_SLOTS}
 use Rattle.colour_solver.proofs.turns.pass_single.Goals as goal
 
 pub solve_one-got-requires-clause-row : goal.solve_one-got-requires-clause-row
@@ -26,7 +27,7 @@ loop-index-preserved g c =
     let known = c.loop-index.invariant in
     let made = c.solve_one-got.ensures in
     let here : index < length rows = omega (arith, c.loop-index-test.true, c.len-index-end.ensures, c.args.rows.now.ok, known.as_many) in
-    let few : length states ≤ 16384 = omega (arith, known.long, c.requires.few) in
+    let few : length states ≤ MAX_SLOTS = omega (arith, known.long, c.requires.few) in
     let long : length new ≡ length all = made.long ∙ known.long in
     let sum_x : total_x new ≡ total_x all +ℤ (given.x +ℤ got.x) = added (total_x all) (total_x states) (total_x new) given.x got.x known.momentum_x made.momentum_x in
     let sum_y : total_y new ≡ total_y all +ℤ (given.y +ℤ got.y) = added (total_y all) (total_y states) (total_y new) given.y got.y known.momentum_y made.momentum_y in

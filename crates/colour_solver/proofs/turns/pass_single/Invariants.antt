@@ -22,5 +22,5 @@ invariant-loop-index g l =
       as_many : length l.rows.items ≡ length contacts;
       momentum_x : total_x l.states.items ≡ total_x before +ℤ l.given.x;
       momentum_y : total_y l.states.items ≡ total_y before +ℤ l.given.y;
-      small : IsGain (2 ^ 76) l.given;
+      small : IsGain (2 ^ 78) l.given;
     }

@@ -4,8 +4,8 @@ use Rattle.std.specs.Int.{w64}
 use mir.Val.{SFits, to_z}
 use Rattle.colour_solver_base.proofs.solve.parting_after.Goals as goal
 
-pub returns-then-point-push-clause-value : goal.returns-then-point-push-clause-value
-returns-then-point-push-clause-value c =
-    let now : SFits w64 c.args.point.now.push = search rules in
-    let same : c.args.point.now.push ≡ c.args.push = sym (to_z-of_z w64 c.args.point.now.push now) ∙ ap (to_z w64) c.if-point-push.true ∙ to_z-of_z w64 c.args.push c.ranges.push in
+pub returns-then-point-normal_impulse-clause-value : goal.returns-then-point-normal_impulse-clause-value
+returns-then-point-normal_impulse-clause-value c =
+    let now : SFits w64 c.args.point.now.normal_impulse = search rules in
+    let same : c.args.point.now.normal_impulse ≡ c.args.normal_impulse = sym (to_z-of_z w64 c.args.point.now.normal_impulse now) ∙ ap (to_z w64) c.if-point-normal_impulse.true ∙ to_z-of_z w64 c.args.normal_impulse c.ranges.normal_impulse in
     c.requires.apart same

@@ -20,6 +20,6 @@ returns-then-not-at_once-clause-kept c = rw (left c) at c.warm_in_turn.ensures.k
 pub returns-else-not-at_once-clause-value : goal.returns-else-not-at_once-clause-value
 unfolding point_warmed
 returns-else-not-at_once-clause-value c =
-    let push : SFits w64 c.args.point.now.push = search rules in
-    let slip : SFits w64 c.args.point.now.slip = search rules in
-    simp to_z-of_z at (rw (c.push_line.ensures, c.slip_line.ensures) at c.if-not-at_once.ensures.given refl)
+    let normal_impulse : SFits w64 c.args.point.now.normal_impulse = search rules in
+    let tangent_impulse : SFits w64 c.args.point.now.tangent_impulse = search rules in
+    simp to_z-of_z at (rw (c.normal_line.ensures, c.tangent_line.ensures) at c.if-not-at_once.ensures.given refl)

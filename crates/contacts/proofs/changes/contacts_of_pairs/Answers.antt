@@ -1,9 +1,10 @@
-use Rattle.std.proofs.Common.{arith, ◌≡◌, ◌∙◌, ap, sym, subst, get_or}
+use Rattle.std.proofs.Common.{arith, ◌≡◌, ◌∙◌, ap, sym, get_or}
 use Rattle.std.proofs.lemmas.Grind.{common_steps}
 use Rattle.std.specs.Option.{option_copied}
-use Rattle.contacts_base.specs.Contacts.{lookup, AreKeysRising}
-use Rattle.contacts.specs.Changes.{pair_key}
+use Rattle.contacts_base.specs.Contacts.{lookup}
+use Rattle.contacts.specs.Pairs.{pair_key}
 use Rattle.contacts.proofs.ChangeLemmas.{contacts_rise, contacts_step, not_in_step, touching_step, pair_entry_key}
+use Rattle.contacts.proofs.SurfaceLemmas.{surfaces_of}
 use Rattle.contacts.proofs.changes.contacts_of_pairs.Goals as goal
 
 pub loop-code-preserved : goal.loop-code-preserved
@@ -28,5 +29,8 @@ loop-code-preserved c =
 pub returns-clause-now : goal.returns-clause-now
 returns-clause-now c = grind (arith, common_steps)
 
-pub returns-clause-rising : goal.returns-clause-rising
-returns-clause-rising c = subst AreKeysRising (sym (returns-clause-now c)) (contacts_rise c.args.old.now c.args.proxies.now c.args.near.now c.requires.proxies c.requires.near)
+pub returns-clause-contacts : goal.returns-clause-contacts
+returns-clause-contacts c = rw (returns-clause-now c) (record {
+  rising = contacts_rise c.args.old.now c.args.proxies.now c.args.near.now c.requires.proxies c.requires.near;
+  surfaces = surfaces_of c.args.old.now c.args.proxies.now c.args.near.now c.requires.old.surfaces c.requires.proxies c.requires.near;
+})

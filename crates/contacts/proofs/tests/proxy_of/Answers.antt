@@ -10,4 +10,4 @@ tight_box-requires-clause-shape c =
 pub returns : goal.returns
 returns c =
     let def : ShapeDef = record { shape = c.args.shape; friction = pos 0; restitution = pos 0; filter = c.default.result } in
-    record { shape = (c.in_ok-check.ensures.allowed 0 def (omega arith)).shape; pose = search rules; slot = omega arith; index = omega arith }
+    record { shape = (c.in_ok-check.ensures.allowed 0 def (omega arith)).shape; pose = search rules; surface = search rules; slot = omega arith; index = omega arith }

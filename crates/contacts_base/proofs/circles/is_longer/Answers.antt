@@ -9,11 +9,11 @@ use Rattle.contacts_base.proofs.circles.is_longer.Goals as goal
 pub returns : goal.returns
 returns c =
     let reach : SFits w64 c.args.reach = c.ranges.reach in
-    let long : SFits w64 c.narrow_dot.result = record { sfits = c.narrow_dot.type_inv } in
-    let short : SFits w64 c.narrow_dot-2.result = record { sfits = c.narrow_dot-2.type_inv } in
+    let long : SFits w64 c.dot_64.result = record { sfits = c.dot_64.type_inv } in
+    let short : SFits w64 c.dot_64-2.result = record { sfits = c.dot_64-2.type_inv } in
     let value = simp to_z-of_z at c.next_way-next.ensures.value in
-    let next = rw value at c.narrow_dot-2.ensures.value in
-    simp to_z-of_z (λ e. longer_by c.args.way c.args.reach c.narrow_dot-2.result c.narrow_dot.result c.requires.nonnegative c.narrow_dot.ensures.value next (le_from _ _ e))
+    let next = rw value at c.dot_64-2.ensures.value in
+    simp to_z-of_z (λ e. longer_by c.args.way c.args.reach c.dot_64-2.result c.dot_64.result c.requires.nonnegative c.dot_64.ensures.value next (le_from _ _ e))
 
 pub returns-then-not-is_within : goal.returns-then-not-is_within
 returns-then-not-is_within c = λ t.

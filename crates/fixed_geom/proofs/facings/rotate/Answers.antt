@@ -13,7 +13,7 @@ rdiv_unit-requires c =
     let vy : SFits w64 c.args.v.y = search rules in
     let fits : SFits w128 c.difference_of_products.result = record { sfits = c.difference_of_products.type_inv } in
     let size = simp to_z-of_z at c.difference_of_products.ensures.size in
-    let small = rotated_x_le c.args.q c.args.v (2 ^ 60) c.difference_of_products.result c.requires.facing c.requires.place (omega (arith, size)) in
+    let small = rotated_x_le c.args.q c.args.v (2 ^ 60) c.difference_of_products.result c.requires.facing c.requires.position (omega (arith, size)) in
     simp to_z-of_z (omega (arith, small))
 
 pub rdiv_unit-requires-2 : goal.rdiv_unit-requires-2
@@ -24,7 +24,7 @@ rdiv_unit-requires-2 c =
     let vy : SFits w64 c.args.v.y = search rules in
     let fits : SFits w128 c.sum_of_products.result = record { sfits = c.sum_of_products.type_inv } in
     let size = simp to_z-of_z at c.sum_of_products.ensures.size in
-    let small = rotated_y_le c.args.q c.args.v (2 ^ 60) c.sum_of_products.result c.requires.facing c.requires.place (omega (arith, size)) in
+    let small = rotated_y_le c.args.q c.args.v (2 ^ 60) c.sum_of_products.result c.requires.facing c.requires.position (omega (arith, size)) in
     simp to_z-of_z (omega (arith, small))
 
 pub returns-clause-within : goal.returns-clause-within

@@ -25,7 +25,7 @@ scaled c =
     }
 
 exact : (c : goal.After-scaled) → IsSum64 c.args.x c.scaled.result
-exact c = sum_64 c.args.x c.scaled.result (omega (arith, c.requires.place)) (omega (arith, (scaled c).small))
+exact c = sum_64 c.args.x c.scaled.result (omega (arith, c.requires.position)) (omega (arith, (scaled c).small))
 
 pub overflow_add-result : goal.overflow_add-result
 overflow_add-result c = (exact c).fits

@@ -6,10 +6,10 @@ use Rattle.fixed_geom.proofs.vectors.span.Goals as goal
 
 pub returns-then-is_within : goal.returns-then-is_within
 returns-then-is_within c =
-    let fits : SFits w64 c.near_span.result = record { sfits = c.near_span.type_inv } in
-    simp to_z-of_z (spanned c.args.d c.near_span.result c.near_span.ensures.value)
+    let fits : SFits w64 c.span_64.result = record { sfits = c.span_64.type_inv } in
+    simp to_z-of_z (spanned c.args.d c.span_64.result c.span_64.ensures.value)
 
 pub returns-else-is_within : goal.returns-else-is_within
 returns-else-is_within c =
-    let fits : SFits w64 c.far_span.result = record { sfits = c.far_span.type_inv } in
-    simp to_z-of_z (spanned c.args.d c.far_span.result c.far_span.ensures.value)
+    let fits : SFits w64 c.span_128.result = record { sfits = c.span_128.type_inv } in
+    simp to_z-of_z (spanned c.args.d c.span_128.result c.span_128.ensures.value)

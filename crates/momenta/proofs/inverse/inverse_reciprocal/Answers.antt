@@ -5,8 +5,8 @@ use mir.Val.{SFits}
 use Rattle.fixed_geom.proofs.ReciprocalLemmas.{share_none}
 use Rattle.momenta.proofs.inverse.inverse_reciprocal.Goals as goal
 
-pub returns-else-inverse-lt-SMALL_INVERSE : goal.returns-else-inverse-lt-SMALL_INVERSE
-returns-else-inverse-lt-SMALL_INVERSE c =
+pub returns-else-inverse-lt-INVERSE_LIMIT_64 : goal.returns-else-inverse-lt-INVERSE_LIMIT_64
+returns-else-inverse-lt-INVERSE_LIMIT_64 c =
     let inverse : SFits w128 c.args.inverse = c.ranges.inverse in
-    let great : pos (2 ^ 54) <ℤ c.args.inverse = grind (arith, ints, to_z-of_z, c.if-inverse-lt-SMALL_INVERSE.false) in
+    let great : pos (2 ^ 54) <ℤ c.args.inverse = grind (arith, ints, to_z-of_z, c.if-inverse-lt-INVERSE_LIMIT_64.false) in
     sym (share_none c.args.inverse great)

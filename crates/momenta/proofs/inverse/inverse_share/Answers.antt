@@ -4,7 +4,7 @@ use Rattle.std.specs.Int.{w64}
 use mir.Val.{SFits}
 use Rattle.fixed_geom.proofs.ReciprocalLemmas.{reciprocal_nonnegative}
 use Rattle.momenta.specs.Motions.{IsMass}
-use Rattle.momenta.proofs.NarrowLaws.{mass_reciprocal}
+use Rattle.momenta.proofs.Laws64.{mass_reciprocal}
 use Rattle.momenta.proofs.inverse.inverse_share.Goals as goal
 
 pub share_of_mover-requires-clause-reciprocal : goal.share_of_mover-requires-clause-reciprocal

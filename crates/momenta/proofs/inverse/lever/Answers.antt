@@ -8,19 +8,19 @@ use Rattle.momenta.proofs.inverse.lever.Goals as goal
 
 pub rdiv_unit_64-requires : goal.rdiv_unit_64-requires
 rdiv_unit_64-requires c =
-    let crossed : SFits w64 c.narrow_cross.result = record { sfits = c.narrow_cross.type_inv } in
-    simp to_z-of_z (omega (arith, c.narrow_cross.ensures.within))
+    let crossed : SFits w64 c.cross_64.result = record { sfits = c.cross_64.type_inv } in
+    simp to_z-of_z (omega (arith, c.cross_64.ensures.within))
 
 pub returns-clause-value : goal.returns-clause-value
 returns-clause-value c =
-    let product : SFits w64 c.narrow_cross.result = record { sfits = c.narrow_cross.type_inv } in
+    let product : SFits w64 c.cross_64.result = record { sfits = c.cross_64.type_inv } in
     let quotient : SFits w64 c.rdiv_unit_64.result = record { sfits = c.rdiv_unit_64.type_inv } in
-    let crossed : c.narrow_cross.result ≡ cross c.args.r c.args.direction = c.narrow_cross.ensures.value in
+    let crossed : c.cross_64.result ≡ cross c.args.r c.args.direction = c.cross_64.ensures.value in
     simp to_z-of_z (rw crossed at (simp to_z-of_z at c.rdiv_unit_64.ensures.value))
 
 pub returns-clause-within : goal.returns-clause-within
 returns-clause-within c =
-    let product : SFits w64 c.narrow_cross.result = record { sfits = c.narrow_cross.type_inv } in
+    let product : SFits w64 c.cross_64.result = record { sfits = c.cross_64.type_inv } in
     let quotient : SFits w64 c.rdiv_unit_64.result = record { sfits = c.rdiv_unit_64.type_inv } in
     let value = simp to_z-of_z at c.rdiv_unit_64.ensures.value in
-    simp to_z-of_z (rw value (rdiv_le c.narrow_cross.result unit_length (2 ^ 28) (omega (arith, ints)) (omega (arith, ints, c.narrow_cross.ensures.size (2 ^ 27) (2 ^ 30) c.requires.offset c.requires.direction))))
+    simp to_z-of_z (rw value (rdiv_le c.cross_64.result unit_length (2 ^ 28) (omega (arith, ints)) (omega (arith, ints, c.cross_64.ensures.size (2 ^ 27) (2 ^ 30) c.requires.offset c.requires.direction))))

@@ -5,14 +5,14 @@ use mir.Val.{SFits}
 use Rattle.momenta.proofs.Spins.{fits_64}
 use Rattle.momenta.proofs.line.next_total.Goals as goal
 
-pub returns-then-is_narrow-clause-value : goal.returns-then-is_narrow-clause-value
-returns-then-is_narrow-clause-value c =
+pub returns-then-has_room_64-clause-value : goal.returns-then-has_room_64-clause-value
+returns-then-has_room_64-clause-value c =
     let speed : SFits w64 c.args.speed = c.ranges.speed in
     let bias : SFits w64 c.args.bias = c.ranges.bias in
     let wide : SFits w128 c.args.inverse = c.ranges.inverse in
-    let inverse : SFits w64 c.args.inverse = fits_64 _ (omega (arith, ints, c.requires.inverse, simp to_z-of_z at (c.is_narrow.ensures.inverse c.if-is_narrow.true))) in
+    let inverse : SFits w64 c.args.inverse = fits_64 _ (omega (arith, ints, c.requires.inverse, simp to_z-of_z at (c.has_room_64.ensures.inverse c.if-has_room_64.true))) in
     let low : SFits w64 c.args.low = c.ranges.low in
     let high : SFits w64 c.args.high = c.ranges.high in
     let total : SFits w64 c.args.total = c.ranges.total in
-    let result : SFits w64 c.narrow_next_total.result = record { sfits = c.narrow_next_total.type_inv } in
-    simp to_z-of_z (simp to_z-of_z at c.narrow_next_total.ensures.value)
+    let result : SFits w64 c.next_total_64.result = record { sfits = c.next_total_64.type_inv } in
+    simp to_z-of_z (simp to_z-of_z at c.next_total_64.ensures.value)

@@ -11,6 +11,6 @@ returns-clause-value c =
     let bias : SFits w64 c.args.bias = c.ranges.bias in
     let inverse : SFits w128 c.args.inverse = c.ranges.inverse in
     let lacks : SFits w128 c.missing.result = record { sfits = c.missing.type_inv } in
-    let impulse : SFits w128 c.wide_impulse_for.result = record { sfits = c.wide_impulse_for.type_inv } in
+    let impulse : SFits w128 c.impulse_for.result = record { sfits = c.impulse_for.type_inv } in
     let missing = simp to_z-of_z at c.missing.ensures.value in
-    simp to_z-of_z (rw missing at (simp to_z-of_z at c.wide_impulse_for.ensures.value))
+    simp to_z-of_z (rw missing at (simp to_z-of_z at c.impulse_for.ensures.value))

@@ -8,20 +8,20 @@ use Rattle.fixed_geom.proofs.QuotientLemmas.{rdiv_le}
 use Rattle.fixed_geom.proofs.Sizes.{IsSum64, product_le, sum_64}
 use Rattle.momenta.proofs.state.carried_on.Goals as goal
 
-record Scaled (c : goal.After-narrow_scaled) : Type 0 where
-  value : c.narrow_scaled.result ≡ rdiv (c.args.w *ℤ c.args.r) unit_length
-  small : unsigned_abs c.narrow_scaled.result ≤ 2 ^ 25
+record Scaled (c : goal.After-scaled_64) : Type 0 where
+  value : c.scaled_64.result ≡ rdiv (c.args.w *ℤ c.args.r) unit_length
+  small : unsigned_abs c.scaled_64.result ≤ 2 ^ 25
 
-scaled : (c : goal.After-narrow_scaled) → Scaled c
+scaled : (c : goal.After-scaled_64) → Scaled c
 scaled c =
     let w : SFits w64 c.args.w = c.ranges.w in
     let r : SFits w64 c.args.r = c.ranges.r in
     let size : unsigned_abs (c.args.w *ℤ c.args.r) ≤ 2 ^ 55 = product_le c.args.w c.args.r (2 ^ 28) (2 ^ 27) c.requires.w c.requires.r in
-    let value : c.narrow_scaled.result ≡ rdiv (c.args.w *ℤ c.args.r) unit_length = simp to_z-of_z at c.narrow_scaled.ensures.value in
+    let value : c.scaled_64.result ≡ rdiv (c.args.w *ℤ c.args.r) unit_length = simp to_z-of_z at c.scaled_64.ensures.value in
     record { value = value; small = rw value (rdiv_le (c.args.w *ℤ c.args.r) unit_length (2 ^ 25) (omega arith) (omega (arith, size))) }
 
-exact : (c : goal.After-narrow_scaled) → IsSum64 c.args.v c.narrow_scaled.result
-exact c = sum_64 c.args.v c.narrow_scaled.result (omega (arith, c.requires.v)) (omega (arith, (scaled c).small))
+exact : (c : goal.After-scaled_64) → IsSum64 c.args.v c.scaled_64.result
+exact c = sum_64 c.args.v c.scaled_64.result (omega (arith, c.requires.v)) (omega (arith, (scaled c).small))
 
 pub overflow_add-result : goal.overflow_add-result
 overflow_add-result c = (exact c).fits

@@ -3,7 +3,7 @@ use Rattle.std.proofs.lemmas.Int.{to_z-of_z}
 use Rattle.std.specs.Int.{w64}
 use mir.Val.{SFits}
 use Rattle.momenta.specs.Motions.{advanced}
-use Rattle.momenta.proofs.NarrowLaws.{inertia_reciprocal, mass_reciprocal}
+use Rattle.momenta.proofs.Laws64.{inertia_reciprocal, mass_reciprocal}
 use Rattle.momenta.proofs.travel.advance.Goals as goal
 
 pub returns-clause-value : goal.returns-clause-value

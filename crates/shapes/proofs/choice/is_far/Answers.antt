@@ -12,8 +12,8 @@ use Rattle.shapes.proofs.choice.is_far.Goals as goal
 pub returns-then-is_within : goal.returns-then-is_within
 unfolding is_far
 returns-then-is_within c =
-    let fits : SFits w64 c.narrow_dot.result = record { sfits = c.narrow_dot.type_inv } in
-    simp to_z-of_z (rw (c.narrow_dot.ensures.value, c.minus-way.ensures.value) refl)
+    let fits : SFits w64 c.dot_64.result = record { sfits = c.dot_64.type_inv } in
+    simp to_z-of_z (rw (c.dot_64.ensures.value, c.minus-way.ensures.value) refl)
 
 pub returns-else-is_within : goal.returns-else-is_within
 unfolding is_far

@@ -6,11 +6,11 @@ use Rattle.shapes.proofs.pose.placed.Goals as goal
 
 pub returns-clause-value : goal.returns-clause-value
 unfolding placed
-returns-clause-value c = rw (c.plus.ensures.value, c.narrow_rotate.ensures.value) refl
+returns-clause-value c = rw (c.plus.ensures.value, c.rotate_64.ensures.value) refl
 
 pub returns-clause-within : goal.returns-clause-within
 returns-clause-within c =
-    let near = c.plus.ensures.within (2 ^ 36) (2 * 2 ^ 24) c.requires.pose.x (c.narrow_rotate.ensures.within (2 ^ 24) c.requires.near) in
+    let near = c.plus.ensures.within (2 ^ 36) (2 * 2 ^ 24) c.requires.pose.x (c.rotate_64.ensures.within (2 ^ 24) c.requires.near) in
     record { x = omega (arith, near.x); y = omega (arith, near.y) }
 
 pub returns-then-v-eq0-2-clause-value : goal.returns-then-v-eq0-2-clause-value
@@ -21,5 +21,5 @@ returns-then-v-eq0-2-clause-value c =
 
 pub plus-requires-clause-second : goal.plus-requires-clause-second
 plus-requires-clause-second c =
-    let near = c.narrow_rotate.ensures.within (2 ^ 24) c.requires.near in
+    let near = c.rotate_64.ensures.within (2 ^ 24) c.requires.near in
     record { x = omega (arith, near.x); y = omega (arith, near.y) }

@@ -8,7 +8,7 @@ use Rattle.world_core_base.proofs.gather.gather_colour.Goals as goal
 
 pub loop-member-preserved : goal.loop-member-preserved
 loop-member-preserved c =
-    let find = λ (m : Member Constraint). row_of c.args.states.now c.args.bodies.now c.args.contacts.now m.id in
+    let find = λ (m : Member Constraint). row_of c.args.states.now c.args.contacts.now m.id in
     let pushed = c.push_row.ensures.value in
     record {
       value = rw (pushed, c.row_of.ensures.value) (row_more find c.loop-member.rows.items _ c.args.members.now c.loop-member.member-index _ c.loop-member-test.true c.loop-member.invariant.value);

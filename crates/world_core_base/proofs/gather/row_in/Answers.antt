@@ -3,8 +3,7 @@ use Rattle.momenta.specs.declared.state.Ends.{Ends}
 use Rattle.contacts_base.specs.declared.key.ContactKey.{ContactKey}
 use Rattle.colour_solver_base.specs.declared.row.Bodies as pairs
 use Rattle.colour_solver_base.specs.Rows.{contact_row}
-use Rattle.world_core_base.specs.Gather.{moves}
-use Rattle.world_core_base.proofs.GatherLaws.{length-states, one_movable}
+use Rattle.world_core_base.specs.Gather.{ends_at}
 use Rattle.world_core_base.proofs.ContactLaws.{row_below, same_keys}
 use Rattle.world_core_base.proofs.gather.row_in.Goals as goal
 
@@ -19,8 +18,7 @@ ends_at-ends-requires-clause-first c =
     let g : Fits w8 key.second.index = search rules in
     let t : Fits w32 key.second.slot = search rules in
     let same : own ≡ key = same_keys own key c.requires.same a.fits b.fits s.fits f.fits g.fits t.fits in
-    let long = ap length c.requires.states ∙ length-states c.args.bodies.now in
-    subst (λ (k : ContactKey). k.first.slot < length c.args.states.now) same (rw long c.requires.contact.first)
+    subst (λ (k : ContactKey). k.first.slot < length c.args.states.now) same c.requires.contact.first
 
 pub ends_at-ends-requires-clause-second : goal.ends_at-ends-requires-clause-second
 ends_at-ends-requires-clause-second c =
@@ -33,8 +31,7 @@ ends_at-ends-requires-clause-second c =
     let g : Fits w8 key.second.index = search rules in
     let t : Fits w32 key.second.slot = search rules in
     let same : own ≡ key = same_keys own key c.requires.same a.fits b.fits s.fits f.fits g.fits t.fits in
-    let long = ap length c.requires.states ∙ length-states c.args.bodies.now in
-    subst (λ (k : ContactKey). k.second.slot < length c.args.states.now) same (rw long c.requires.contact.second)
+    subst (λ (k : ContactKey). k.second.slot < length c.args.states.now) same c.requires.contact.second
 
 pub contact_row-requires-clause-mover : goal.contact_row-requires-clause-mover
 contact_row-requires-clause-mover c =
@@ -47,8 +44,8 @@ contact_row-requires-clause-mover c =
     let g : Fits w8 key.second.index = search rules in
     let t : Fits w32 key.second.slot = search rules in
     let same : own ≡ key = same_keys own key c.requires.same a.fits b.fits s.fits f.fits g.fits t.fits in
-    let mover = subst (λ (k : ContactKey). (moves c.args.bodies.now k.first.slot ≡ true) ⊎ (moves c.args.bodies.now k.second.slot ≡ true)) same c.requires.contact.mover in
-    subst (λ (e : Ends). (e.a.movable ≡ true) ⊎ (e.b.movable ≡ true)) (sym c.ends_at-ends.ensures.value) (one_movable c.args.bodies.now c.args.states.now key c.requires.states mover)
+    let mover = subst (λ (k : ContactKey). ((ends_at c.args.states.now k).a.movable ≡ true) ⊎ ((ends_at c.args.states.now k).b.movable ≡ true)) same c.requires.contact.mover in
+    subst (λ (e : Ends). (e.a.movable ≡ true) ⊎ (e.b.movable ≡ true)) (sym c.ends_at-ends.ensures.value) mover
 
 pub returns-clause-row : goal.returns-clause-row
 returns-clause-row c = λ x e.
@@ -62,4 +59,4 @@ returns-clause-row c = λ x e.
     let t : Fits w32 key.second.slot = search rules in
     let same : own ≡ key = same_keys own key c.requires.same a.fits b.fits s.fits f.fits g.fits t.fits in
     let made = sym (ap (λ (p : pairs.Bodies). contact_row p c.ends_at-ends.result c.args.contact.now) c.bodies_of.ensures.value) ∙ (sym c.contact_row.ensures.value ∙ e) in
-    row_below c.args.bodies.now c.args.states.now key c.args.place (record { key = c.args.own; contact = c.args.contact.now }) c.ends_at-ends.result x c.requires.states c.requires.contact same made (c.contact_row.ensures.row x e)
+    row_below c.args.states.now key c.args.index (record { key = c.args.own; surface = c.args.surface; contact = c.args.contact.now }) c.ends_at-ends.result x c.requires.contact same made (c.contact_row.ensures.row x e)

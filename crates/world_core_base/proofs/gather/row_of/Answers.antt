@@ -8,7 +8,7 @@ pub row_in-requires-clause-same : goal.row_in-requires-clause-same
 row_in-requires-clause-same c =
     let contacts = c.args.contacts.now in
     let entry = c.in_ok-entry-in-Contact.entry.now in
-    let place = c.in_ok-place-in-Contact.place in
+    let place = c.in_ok-index-in-Contact.index in
     let found = c.in_ok-entry-in-Contact.ensures.lookup in
     let inside : place < length contacts = search rules in
     let is : found_place contacts c.in-Contact.key ≡ Some place = search rules in
@@ -18,8 +18,8 @@ pub returns-in_ok-entry-in-Contact-clause-value : goal.returns-in_ok-entry-in-Co
 returns-in_ok-entry-in-Contact-clause-value c =
     let contacts = c.args.contacts.now in
     let entry = c.in_ok-entry-in-Contact.entry.now in
-    let place = c.in_ok-place-in-Contact.place in
+    let place = c.in_ok-index-in-Contact.index in
     let found = c.in_ok-entry-in-Contact.ensures.lookup in
     let inside : place < length contacts = search rules in
     let is : found_place contacts c.in-Contact.key ≡ Some place = search rules in
-    rw c.in-Contact.is (c.row_in.ensures.value ∙ row_of_is c.args.states.now c.args.bodies.now contacts c.in-Contact.key place entry is (slice_get-get contacts place entry entry inside found.1))
+    rw c.in-Contact.is (c.row_in.ensures.value ∙ row_of_is c.args.states.now contacts c.in-Contact.key place entry is (slice_get-get contacts place entry entry inside found.1))

@@ -1,4 +1,5 @@
 use Rattle.std.proofs.Common.{◌≡◌, ◌<◌, arith}
+use Rattle.body_handles.specs.declared.places.TheConstants.{MAX_SLOTS}
 use Rattle.body_handles.specs.Places.{lowest, generation_at}
 use Rattle.body_handles.proofs.LowestLemmas.{lowest-le-length}
 use Rattle.body_handles.proofs.TableLemmas.{IsTable-given, IsLive-given, IsPlace-given}
@@ -8,7 +9,7 @@ pub invariant_of-self : goal.invariant_of-self
 invariant_of-self c =
     let places = c.self.inside.places.items in
     let slot : c.lowest_slot-slot.result ≡ lowest places = cc in
-    let below : lowest places < 16384 = omega arith in
+    let below : lowest places < MAX_SLOTS = omega arith in
     rw (c.give_out.ensures.places, slot) (IsTable-given places c.self.invariant.each c.self.invariant.few below)
 
 pub returns-clause-live : goal.returns-clause-live

@@ -1,7 +1,7 @@
 use Rattle.std.proofs.Common.{ℕ, List, sym, subst, arith}
 use Rattle.std.proofs.lemmas.Grind.{common_steps}
 use Rattle.contacts_base.specs.Near.{IsProxyList}
-use Rattle.contacts.specs.Changes.{ArePairs}
+use Rattle.contacts.specs.Pairs.{ArePairs}
 use Rattle.contacts.proofs.PairLemmas.{near_are_pairs}
 use Rattle.contacts.proofs.broad_phase.BroadPhase.near_pairs.Goals as goal
 

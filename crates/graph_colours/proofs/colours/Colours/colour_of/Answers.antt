@@ -23,7 +23,7 @@ returns-then-has_id g c =
     let e = rw c.deref.ensures.value at c.first_with-colour.ensures in
     let has = rw c.deref-2.ensures.value at c.has_id.ensures in
     let le : length bs ≤ position_or_len q bs = omega (arith, e, c.if-colour-len.false, c.len.ensures, c.self.inside.colours.ok.0) in
-    rw (← c.self.view_is) (ap (λ i. Some i) (sym c.self.invariant.twelve) ∙ in_overflow g.C.Id.number c.args.id bs c.self.inside.overflow.items le (sym has ∙ c.if-has_id.true))
+    rw (← c.self.view_is) (ap (λ i. Some i) (sym c.self.invariant.count) ∙ in_overflow g.C.Id.number c.args.id bs c.self.inside.overflow.items le (sym has ∙ c.if-has_id.true))
 
 pub returns : goal.returns
 returns g c =

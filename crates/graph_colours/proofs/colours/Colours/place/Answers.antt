@@ -1,12 +1,13 @@
 use Rattle.std.proofs.Common.{◌≡◌, ◌≤◌, ◌-◌, ◌+◌, ◌∙◌, false, arith, rules, subst, List, length, Bool}
 use Rattle.std.specs.Vec.{vec_len, vec_capacity}
 use Rattle.std.specs.List.{All, position_or_len}
+use Rattle.graph_colours.specs.declared.limits.TheConstants.{COLOURS}
 use Rattle.graph_colours.specs.declared.member.Member.{Member}
 use Rattle.graph_colours.specs.Members.{AreRising, is_free, has_id}
 use Rattle.graph_colours.specs.Marks.{Bucket, HasRoom, lists_of}
 use Rattle.graph_colours.specs.Colours.{IsColouring}
 use Rattle.graph_colours.proofs.SearchLemmas.{least_is_first}
-use Rattle.graph_colours.proofs.GraphLemmas.{placed_is, placed_twelve, lists_left, lists_right}
+use Rattle.graph_colours.proofs.GraphLemmas.{placed_is, placed_count, lists_left, lists_right}
 use Rattle.graph_colours.proofs.ColouringLemmas.{absent_in_each, first_at_most, placed_keeps, placed_own, placed_others, placed_members}
 use Rattle.graph_colours.proofs.colours.Colours.place.Goals as goal
 
@@ -23,7 +24,7 @@ pub returns-clause-colour : goal.returns-clause-colour
 returns-clause-colour g c =
     let a = c.self.inside in
     let e = rw c.deref.ensures.value at c.first_free-colour.ensures in
-    rw (← c.self.view_is) (e ∙ least_is_first a.colours.items a.overflow.items c.args.movers c.self.invariant.twelve)
+    rw (← c.self.view_is) (e ∙ least_is_first a.colours.items a.overflow.items c.args.movers c.self.invariant.count)
 
 pub overflow_cast-result : goal.overflow_cast-result
 overflow_cast-result g c =
@@ -31,7 +32,7 @@ overflow_cast-result g c =
     let bs = c.self.inside.colours.items in
     let e = rw c.deref.ensures.value at c.first_free-colour.ensures in
     let most : position_or_len p bs ≤ length bs = first_at_most p bs in
-    let le : c.first_free-colour.result ≤ 12 = omega (arith, e, most, c.self.invariant.twelve) in
+    let le : c.first_free-colour.result ≤ COLOURS = omega (arith, e, most, c.self.invariant.count) in
     search (rules, le)
 
 pub invariant_of-self : goal.invariant_of-self
@@ -40,7 +41,7 @@ invariant_of-self g c =
     let over = c.put.new.overflow in
     let m : Member g.row.C.Denot = record { id = c.args.id; movers = c.args.movers } in
     let e = rw c.deref.ensures.value at c.first_free-colour.ensures in
-    let is = placed_is g.C.Id.number m a.colours.items c.put.new.colours.items a.overflow.items over.items c.first_free-colour.result c.self.invariant.twelve e c.put.ensures.lists in
+    let is = placed_is g.C.Id.number m a.colours.items c.put.new.colours.items a.overflow.items over.items c.first_free-colour.result c.self.invariant.count e c.put.ensures.lists in
     let absent = rw (← c.self.view_is) at c.requires.absent in
     let one = rw (← c.self.view_is) at c.requires.room in
     let more : a.room ≡ a.room - 1 + 1 = omega (arith, one) in
@@ -48,7 +49,7 @@ invariant_of-self g c =
     let le : a.room - 1 ≤ vec_capacity over - vec_len over = omega (arith, one, c.self.invariant.overflow_room, c.put.ensures.len, c.put.ensures.capacity) in
     record {
       colouring = rw is (placed_keeps g.C.Id.number m (lists_of a.colours.items a.overflow.items) c.self.invariant.colouring absent);
-      twelve = placed_twelve g.C.Id.number m a.colours.items c.put.new.colours.items a.overflow.items over.items c.self.invariant.twelve is;
+      count = placed_count g.C.Id.number m a.colours.items c.put.new.colours.items a.overflow.items over.items c.self.invariant.count is;
       rooms = c.put.ensures.kept (a.room - 1) a.slots rooms;
       overflow_room = le;
     }
@@ -58,7 +59,7 @@ returns-clause-lists g c =
     let a = c.self.inside in
     let m : Member g.row.C.Denot = record { id = c.args.id; movers = c.args.movers } in
     let e = rw c.deref.ensures.value at c.first_free-colour.ensures in
-    rw (← c.self.view_is) (placed_is g.C.Id.number m a.colours.items c.put.new.colours.items a.overflow.items c.put.new.overflow.items c.first_free-colour.result c.self.invariant.twelve e c.put.ensures.lists)
+    rw (← c.self.view_is) (placed_is g.C.Id.number m a.colours.items c.put.new.colours.items a.overflow.items c.put.new.overflow.items c.first_free-colour.result c.self.invariant.count e c.put.ensures.lists)
 
 pub returns-clause-keeps : goal.returns-clause-keeps
 returns-clause-keeps g c = (invariant_of-self g c).colouring

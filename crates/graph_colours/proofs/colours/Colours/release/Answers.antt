@@ -1,7 +1,7 @@
 use Rattle.std.proofs.Common.{◌≤◌, ◌-◌, arith}
 use Rattle.std.specs.Vec.{vec_len, vec_capacity}
 use Rattle.graph_colours.specs.Marks.{lists_of}
-use Rattle.graph_colours.proofs.GraphLemmas.{released_twelve}
+use Rattle.graph_colours.proofs.GraphLemmas.{released_count}
 use Rattle.graph_colours.proofs.ColouringLemmas.{released_keeps, released_own, released_others, released_members}
 use Rattle.graph_colours.proofs.colours.Colours.release.Goals as goal
 
@@ -13,7 +13,7 @@ invariant_of-self g c =
     let le : a.room ≤ vec_capacity over - vec_len over = omega (arith, c.self.invariant.overflow_room, c.remove_from_first.ensures.len, c.remove_from_first.ensures.capacity) in
     record {
       colouring = rw is (released_keeps g.C.Id.number c.args.id (lists_of a.colours.items a.overflow.items) c.self.invariant.colouring);
-      twelve = released_twelve g.C.Id.number c.args.id a.colours.items c.remove_from_first.new.colours.items a.overflow.items over.items c.self.invariant.twelve is;
+      count = released_count g.C.Id.number c.args.id a.colours.items c.remove_from_first.new.colours.items a.overflow.items over.items c.self.invariant.count is;
       rooms = c.remove_from_first.ensures.kept a.room a.slots c.self.invariant.rooms;
       overflow_room = le;
     }

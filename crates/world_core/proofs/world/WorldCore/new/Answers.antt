@@ -1,9 +1,13 @@
-use Rattle.std.proofs.Common.{◌^◌, rules, tests}
+use Rattle.std.proofs.Common.{◌^◌, ◌+◌, [], replicate, refl, rules, tests}
 use Rattle.fixed_geom.specs.Vectors.{IsWithin}
-use Rattle.world_core.proofs.Kept.{new_sound}
+use Rattle.graph_colours.specs.declared.limits.TheConstants.{COLOURS}
+use Rattle.world_core.specs.Apply.{empty_world}
+use Rattle.world_core.proofs.Kept.{new_sound, whole}
+use Rattle.world_core.proofs.TiedLaws.{tied_empty}
 use Rattle.world_core.proofs.world.WorldCore.new.Goals as goal
 
 pub invariant_of-result : goal.invariant_of-result
 invariant_of-result c =
     let within : IsWithin (2 ^ 16) c.args.gravity = search (rules, tests) in
-    rw (c.new.ensures, c.new-2.ensures.items, c.new-3.ensures.items, c.in_ok-new.ensures.lists, c.new-8.ensures.entries, c.new-8.ensures.settled, c.new-9.ensures) (new_sound c.args.gravity within)
+    rw (c.new.ensures, c.new-2.ensures, c.new-3.ensures, c.in_ok-new.ensures.lists, c.new-7.ensures.entries, c.new-7.ensures.settled, c.new-8.ensures)
+    (whole (empty_world c.args.gravity) (replicate (COLOURS + 1) []) (new_sound c.args.gravity within) refl tied_empty.colours)

@@ -1,0 +1,10 @@
+//! What the solver leaves alone, and how fast it takes an overlap away.
+
+/// An overlap up to this is left alone, in u (half a hundredth of a metre).
+pub const SLOP: i64 = 5243;
+
+/// The most of an overlap that is taken away in a tick, in u.
+pub const MAX_BIAS: i64 = 16_384;
+
+/// Bodies that come together no faster than this, in u/tick, don't bounce.
+pub const BOUNCE_SPEED: i64 = 4096;

@@ -1,0 +1,12 @@
+//! The sizes of what the book holds.
+
+/// The size of a component of an entry: what one call does to the momentum by one cause. So 2^40 calls change no sum by
+/// more than 2^123.
+pub const MAX_IMPULSE: u128 = 1 << 83;
+
+/// The size of a component of the sum of all: it is the momentum that the movers have.
+pub const MAX_TOTAL: u128 = 1 << 126;
+
+/// The size of a component of the sum of one cause. Causes may add up to the sum of all and still be greater, by what
+/// another takes back.
+pub const MAX_TOTAL_OF_CAUSE: u128 = MAX_TOTAL + (1 << 124);

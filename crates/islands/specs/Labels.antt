@@ -1,0 +1,122 @@
+-- Islands as labels: by slot the island of the mover there, and what each call makes of them.
+use Rattle.std.specs.Prelude.{◌≡◌, ℕ, suc, ◌+◌, ◌-◌, List, [], ◌∷◌, ◌++◌, length, Some, None, Option, map, replicate, slice_set, ◌==◌, ◌||◌, Bool, true, false, cond, min, nat_lt}
+use Rattle.std.specs.List.{slice_index_or, position_or_len}
+use Rattle.islands.specs.declared.label.IslandState.{IslandState}
+use Rattle.islands.specs.declared.label.IslandState.TheVariants.{Whole, Loose, Asleep}
+use Rattle.islands.specs.declared.label.Label.{Label}
+use Rattle.islands.specs.Links.{Edges}
+
+-- by slot the label of the mover there, if there is one
+abbrev pub Labels : Type 0
+Labels = List (Option Label)
+
+-- None where there is no mover, past the end too
+abbrev pub label_at : Labels → ℕ → Option Label
+label_at labels slot = slice_index_or labels slot None
+
+-- the label is that of the island of this name
+abbrev pub is_in : Option Label → ℕ → Bool
+is_in None name = false
+is_in (Some l) name = l.name == name
+
+-- the mover in the slot is in the island of this name
+abbrev pub IsIn : Labels → ℕ → ℕ → Type 0
+IsIn labels name slot = is_in (label_at labels slot) name ≡ true
+
+abbrev pub is_loose : IslandState → Bool
+is_loose Whole = false
+is_loose Loose = true
+is_loose Asleep = false
+
+abbrev pub is_asleep : IslandState → Bool
+is_asleep Whole = false
+is_asleep Loose = false
+is_asleep Asleep = true
+
+-- ---- islands get another label
+
+-- the movers of the islands a and b get one label
+abbrev pub relabel : ℕ → ℕ → Label → Option Label → Option Label
+relabel a b to o = cond (is_in o a || is_in o b) (Some to) o
+
+abbrev pub relabelled : ℕ → ℕ → Label → Labels → Labels
+relabelled a b to labels = map (relabel a b to) labels
+
+-- the island of this name gets another state
+abbrev pub with_state : ℕ → IslandState → Labels → Labels
+with_state name state labels = relabelled name name (record { name = name; state = state }) labels
+
+-- ---- a mover comes: an island of its own
+
+abbrev pub own_label : ℕ → Label
+own_label slot = record { name = slot; state = Whole }
+
+-- at least n slots
+abbrev pub padded : Labels → ℕ → Labels
+padded labels n = labels ++ replicate (n - length labels) None
+
+abbrev pub added : Labels → ℕ → Labels
+added labels slot = slice_set (padded labels (slot + 1)) slot (Some (own_label slot))
+
+-- ---- the islands of two movers become one, under the lesser name, and loose if either was
+
+abbrev pub union_label : Label → Label → Label
+union_label x y = record { name = min x.name y.name; state = cond (is_loose x.state || is_loose y.state) Loose Whole }
+
+abbrev pub merged_by : Option Label → Option Label → Labels → Labels
+merged_by None y labels = labels
+merged_by (Some x) None labels = labels
+merged_by (Some x) (Some y) labels = relabelled x.name y.name (union_label x y) labels
+
+unfoldable pub merged : Labels → ℕ → ℕ → Labels
+merged labels a b = merged_by (label_at labels a) (label_at labels b) labels
+
+-- ---- the island of a mover has lost a link: it may have come apart
+
+abbrev pub loosened_by : Option Label → Labels → Labels
+loosened_by None labels = labels
+loosened_by (Some l) labels = with_state l.name Loose labels
+
+unfoldable pub loosened : Labels → ℕ → Labels
+loosened labels slot = loosened_by (label_at labels slot) labels
+
+-- ---- a mover goes: those that it leaves behind are loose, under their lowest slot
+
+-- the lowest slot of an island, or the number of slots where it has no mover
+abbrev pub lowest : ℕ → Labels → ℕ
+lowest name labels = position_or_len (λ o. is_in o name) labels
+
+abbrev pub left_behind : ℕ → ℕ → Labels → Labels
+left_behind low name labels = cond (nat_lt low (length labels)) (relabelled name name (record { name = low; state = Loose }) labels) labels
+
+abbrev pub without : Option Label → ℕ → Labels → Labels
+without None slot labels = labels
+without (Some l) slot labels = left_behind (lowest l.name (slice_set labels slot None)) l.name (slice_set labels slot None)
+
+unfoldable pub taken_out : Labels → ℕ → Labels
+taken_out labels slot = without (label_at labels slot) slot labels
+
+-- ---- an island falls asleep, or wakes
+
+unfoldable pub rested : Labels → ℕ → Labels
+rested labels name = with_state name Asleep labels
+
+unfoldable pub woken : Labels → ℕ → Labels
+woken labels name = with_state name Whole labels
+
+-- ---- an island is split: each of its movers stands alone, and then the ends of each link are merged
+
+abbrev pub alone : ℕ → ℕ → Option Label → Option Label
+alone name slot o = cond (is_in o name) (Some (own_label slot)) o
+
+-- where the list begins with this slot
+abbrev pub scattered_from : ℕ → ℕ → Labels → Labels
+scattered_from slot name [] = []
+scattered_from slot name (o ∷ labels) = alone name slot o ∷ scattered_from (suc slot) name labels
+
+abbrev pub merged_all : Labels → Edges → Labels
+merged_all labels [] = labels
+merged_all labels (e ∷ edges) = merged_all (merged labels e.0 e.1) edges
+
+unfoldable pub split_by : Labels → ℕ → Edges → Labels
+split_by labels name edges = merged_all (scattered_from 0 name labels) edges

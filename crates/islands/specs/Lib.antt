@@ -1,0 +1,7 @@
+pub mod Links
+pub mod Labels
+pub mod Partition
+pub mod Laws
+pub mod Walk
+pub mod Threads
+pub mod Kept

@@ -1,0 +1,234 @@
+//! The islands of a world.
+
+ghost use Rattle.std.specs.Prelude.{◌≡◌, ℕ, ◌<◌, ◌≤◌, ◌^◌, ◌↔◌, [], None, length, vec_capacity, IfOk, OnOk, OnErr, IsSome, IfSome, Contains, option_map};
+ghost use Rattle.std.specs.Result.{IsOkUnless};
+ghost use Rattle.std.specs.List.Sorted.{IsStrictlyIncreasing};
+ghost use Rattle.islands.specs.Labels.{label_at, IsIn, is_loose, is_asleep, lowest, left_behind, added, merged, loosened, taken_out, rested, woken, split_by};
+ghost use Rattle.islands.specs.Partition.{IsPartition, Inside, IsSplit};
+
+use crate::components::rename;
+use crate::label::{IslandState, Label, label_of, lowest, members_of, pad, relabel, union};
+use crate::room::reserve_in_all;
+use crate::scratch::SplitScratch;
+use fixed_geom::Refusal;
+use std::alloc::Global;
+use std::marker::Model;
+
+/// The islands of the movers. Contracts see the label of each mover's island by slot (`labels`), and
+/// the bound below which a mover's slot must be so that it may be added (`room`).
+#[derive(Drop)]
+pub struct Islands {
+    labels: Vec<Option<Label>>,
+    room: usize,
+}
+
+impl Model for Islands {
+    ghost use Rattle.std.specs.Prelude.{vec_capacity};
+    ghost use Rattle.islands.specs.Kept.{Grouped, IsGrouped};
+
+    ghost Value = { Grouped };
+
+    ghost view = { λ a. record { labels = a.labels.items; room = a.room } };
+
+    ghost invariant = { λ a. IsGrouped a.labels.items (vec_capacity a.labels) a.room };
+}
+
+impl Islands {
+    /// No movers, and room for none.
+    pub fn new(alloc: Global) -> Islands
+        ensures labels { result.labels ≡ [] }
+        ensures room { result.room ≡ 0 }
+    {
+        Islands {
+            labels: Vec::new(alloc),
+            room: 0,
+        }
+    }
+
+    /// A copy of its own, with no room. Refused 1 where memory is wanting.
+    pub fn try_copy(&self) -> Result<Islands, Refusal>
+        ensures labels { IfOk result (λ copied. copied.labels ≡ self.now.labels) }
+        ensures room { IfOk result (λ copied. copied.room ≡ 0) }
+        ensures memory_only { IsOkUnless result Refusal.NoMemory }
+    {
+        let alloc = *self.labels.allocator();
+        Ok(Islands {
+            labels: Vec::from_slice(alloc, self.labels.as_slice())?,
+            room: 0,
+        })
+    }
+
+    /// Makes room for movers in slots below `slots`. Refused 1 where memory is wanting.
+    pub fn reserve(&mut self, slots: usize) -> Result<(), Refusal>
+        ensures made { OnOk result (slots ≤ self.new.room) }
+        ensures room { self.old.room ≤ self.new.room }
+        ensures labels { self.new.labels ≡ self.old.labels }
+        ensures refused { OnErr result (self.new ≡ self.old) }
+        ensures memory_only { IsOkUnless result Refusal.NoMemory }
+    {
+        reserve_in_all(&mut self.labels, slots)?;
+        self.room = self.room.max(slots);
+        Ok(())
+    }
+
+    /// Makes a mover an island of its own.
+    pub fn add(&mut self, slot: u32)
+        requires fresh { label_at self.old.labels slot ≡ None }
+        requires room { slot < self.old.room }
+        ensures labels { self.new.labels ≡ added self.old.labels slot }
+        ensures room { self.new.room ≡ self.old.room }
+    {
+        let place = slot as usize;
+        pad(&mut self.labels, place + 1);
+        self.labels[place] = Some(Label {
+            name: slot,
+            state: IslandState::Whole,
+        });
+    }
+
+    /// Makes the islands of two movers one, under the lesser name, and loose if either was. It is
+    /// awake then. Takes no memory.
+    #[tactic(auto, unfolding(crate::specs::Labels::merged))]
+    pub fn merge(&mut self, a: u32, b: u32)
+        requires first { IsSome (label_at self.old.labels a) }
+        requires second { IsSome (label_at self.old.labels b) }
+        ensures labels { self.new.labels ≡ merged self.old.labels a b }
+        ensures room { self.new.room ≡ self.old.room }
+    {
+        let x = label_of(&self.labels, a);
+        let y = label_of(&self.labels, b);
+        relabel(&mut self.labels, x.name, y.name, union(x, y));
+    }
+
+    /// Makes the island of a mover loose: it has lost a link.
+    #[tactic(auto, unfolding(crate::specs::Labels::loosened))]
+    pub fn loosen(&mut self, slot: u32)
+        requires mover { IsSome (label_at self.old.labels slot) }
+        ensures labels { self.new.labels ≡ loosened self.old.labels slot }
+        ensures room { self.new.room ≡ self.old.room }
+    {
+        let name = label_of(&self.labels, slot).name;
+        let state = IslandState::Loose;
+        relabel(&mut self.labels, name, name, Label { name, state });
+    }
+
+    /// Takes a mover out of its island. Those that it leaves behind are loose, under their lowest slot.
+    #[tactic(auto, unfolding(crate::specs::Labels::taken_out))]
+    pub fn take_out(&mut self, slot: u32)
+        requires mover { IsSome (label_at self.old.labels slot) }
+        ensures labels { self.new.labels ≡ taken_out self.old.labels slot }
+        ensures room { self.new.room ≡ self.old.room }
+    {
+        let name = label_of(&self.labels, slot).name;
+        self.labels[slot as usize] = None;
+        leave_behind(&mut self.labels, name);
+    }
+
+    /// Puts an island to rest.
+    #[tactic(auto, unfolding(crate::specs::Labels::rested))]
+    pub fn rest(&mut self, name: u32)
+        requires island { IsIn self.old.labels name name }
+        ensures labels { self.new.labels ≡ rested self.old.labels name }
+        ensures room { self.new.room ≡ self.old.room }
+    {
+        let state = IslandState::Asleep;
+        relabel(&mut self.labels, name, name, Label { name, state });
+    }
+
+    /// Wakes an island.
+    #[tactic(auto, unfolding(crate::specs::Labels::woken))]
+    pub fn wake(&mut self, name: u32)
+        requires island { IsIn self.old.labels name name }
+        ensures labels { self.new.labels ≡ woken self.old.labels name }
+        ensures room { self.new.room ≡ self.old.room }
+    {
+        let state = IslandState::Whole;
+        relabel(&mut self.labels, name, name, Label { name, state });
+    }
+
+    /// Replaces an island by its connected components over the links that are given, none of them
+    /// loose. Takes no memory: there is room in the scratch.
+    pub fn split(&mut self, name: u32, edges: &[(u32, u32)], scratch: &mut SplitScratch)
+        requires inside { Inside self.old.labels name edges.now }
+        requires slots { length self.old.labels ≤ scratch.old.slots }
+        requires links { length edges.now ≤ scratch.old.links }
+        ensures labels { self.new.labels ≡ split_by self.old.labels name edges.now }
+        ensures components { IsSplit self.old.labels name edges.now self.new.labels }
+        ensures room { self.new.room ≡ self.old.room }
+        ensures scratch_slots { scratch.new.slots ≡ scratch.old.slots }
+        ensures scratch_links { scratch.new.links ≡ scratch.old.links }
+    {
+        scratch.name_components(&self.labels, name, edges);
+        rename(&mut self.labels, name, scratch.names());
+    }
+
+    /// How many slots there are, with a mover or without.
+    pub fn slots(&self) -> usize
+        ensures value { result ≡ length self.now.labels }
+        ensures few { length self.now.labels ≤ 2 ^ 32 }
+    {
+        self.labels.len()
+    }
+
+    /// The label of a mover's island; `None` where there is no mover.
+    pub fn label_of(&self, slot: u32) -> Option<Label>
+        ensures value { result ≡ label_at self.now.labels slot }
+        ensures partition { IsPartition self.now.labels }
+    {
+        match self.labels.get(slot as usize) {
+            Some(label) => *label,
+            None => None,
+        }
+    }
+
+    /// The name of a mover's island, which is its lowest slot; `None` where there is no mover.
+    pub fn name_of(&self, slot: u32) -> Option<u32>
+        ensures { result ≡ option_map (λ l. l.name) (label_at self.now.labels slot) }
+    {
+        match self.label_of(slot) {
+            Some(label) => Some(label.name),
+            None => None,
+        }
+    }
+
+    /// Whether the island of a mover may have come apart.
+    pub fn is_loose(&self, slot: u32) -> bool
+        requires { IsSome (label_at self.now.labels slot) }
+        ensures { IfSome (label_at self.now.labels slot) (λ l. result ≡ is_loose l.state) }
+    {
+        label_of(&self.labels, slot).state.is_loose()
+    }
+
+    /// Whether a mover sleeps.
+    pub fn is_asleep(&self, slot: u32) -> bool
+        requires { IsSome (label_at self.now.labels slot) }
+        ensures { IfSome (label_at self.now.labels slot) (λ l. result ≡ is_asleep l.state) }
+    {
+        label_of(&self.labels, slot).state.is_asleep()
+    }
+
+    /// The movers of an island, ascending. Refused 1 where memory is wanting.
+    pub fn members(&self, name: u32) -> Result<Vec<u32>, Refusal>
+        ensures ascending { IfOk result (λ v. IsStrictlyIncreasing v.items) }
+        ensures members { IfOk result (λ v. (slot : ℕ) → Contains v.items slot ↔ IsIn self.now.labels name slot) }
+        ensures memory_only { IsOkUnless result Refusal.NoMemory }
+    {
+        members_of(*self.labels.allocator(), &self.labels, name)
+    }
+}
+
+/// Makes the movers that are left of an island loose, under their lowest slot.
+fn leave_behind(labels: &mut Vec<Option<Label>>, name: u32)
+    requires { length labels.old.items ≤ 2 ^ 32 }
+    ensures labels { labels.new.items ≡ left_behind (lowest name labels.old.items) name labels.old.items }
+    ensures capacity { vec_capacity labels.old ≤ vec_capacity labels.new }
+{
+    let low = lowest(labels, name);
+    if low < labels.len() {
+        let to = Label {
+            name: low as u32,
+            state: IslandState::Loose,
+        };
+        relabel(labels, name, name, to);
+    }
+}

@@ -1,0 +1,429 @@
+//! Impulses between two bodies whose momenta are so small that all is done in 64 bits: what `line` and `state` define, on
+//! copies of the momenta alone. Where there is no room, the answer is `None`, and the wide forms are to be used.
+
+ghost use Rattle.std.specs.Prelude.{◌≡◌, ℕ, ◌^◌, ◌<◌, ◌≤◌, ◌+◌, ◌*◌, Some, true, pos, ◌+ℤ◌, ◌-ℤ◌, ◌≤ℤ◌, ◌<ℤ◌, unsigned_abs, IfSome, is_some};
+ghost use Rattle.fixed_geom.specs.Reciprocals.{rdiv_reciprocal, share_reciprocal};
+ghost use Rattle.fixed_geom.specs.Vectors.{IsWithin};
+ghost use Rattle.momenta.specs.Motions.{spin, velocity};
+ghost use Rattle.momenta.specs.Impulses.{AreStates, IsLine, IsState, along, between, exerted, given, impulse_pair, parting, solved, turned_by, velocity_at, wanted, warmed};
+ghost use Rattle.momenta.specs.Line64.{LeaveRoom64, HasRoom64, IsImpulse, LeavesRoom64, FitsIn64, ends_with, with_momenta};
+
+use crate::line::{VELOCITY_LIMIT_64, along_64, has_room_64, next_total_64, part_along_64};
+use crate::ranges::{are_in, is_in};
+use crate::state::{carried_back, carried_on};
+use crate::{BodyState, Line, MAX_ANGULAR_MOMENTUM, MAX_MASS, MIN_INVERSE_MASS, spin};
+use fixed_geom::{
+    MAX_IMPULSE, MAX_OFFSET, MAX_SPIN, Vec2, ZERO_VECTOR, cross_64, minus, opposite, plus, rdiv_by,
+    share_by,
+};
+
+/// A component of a momentum up to this has room for the quotient by a mass and for some impulses.
+const MOMENTUM_LIMIT_64: i64 = 1 << 40;
+
+/// An angular momentum up to this has room for the moments of some impulses.
+const ANGULAR_LIMIT_64: i128 = 1 << 60;
+
+/// An impulse up to this has a moment that has room.
+const IMPULSE_LIMIT_64: i64 = 1 << 30;
+
+/// Each of two impulses up to this has room for the other.
+const HALF_IMPULSE_LIMIT_64: i64 = 1 << 29;
+
+/// The momentum of a body (mass·u/tick) and its angular momentum (mass·u²/tick), in 64 bits.
+#[derive(Clone, Copy, Debug, PartialEq, Eq)]
+pub struct Momenta64 {
+    pub p: Vec2,
+    pub l: i64,
+}
+
+/// Those of the two bodies of a constraint.
+#[derive(Clone, Copy, Debug, PartialEq, Eq)]
+pub struct MomentaPair64 {
+    pub a: Momenta64,
+    pub b: Momenta64,
+}
+
+/// Those after an impulse, and the accumulated impulse along the line (mass·u/tick).
+#[derive(Clone, Copy, Debug, PartialEq, Eq)]
+pub struct Exerted64 {
+    pub now: MomentaPair64,
+    pub total: i64,
+}
+
+/// Whether a body's momenta are small.
+#[inline(always)]
+fn fits_in_64(body: &BodyState) -> bool
+    ensures x { result ≡ true → unsigned_abs body.now.motion.p.x ≤ 2 ^ 40 }
+    ensures y { result ≡ true → unsigned_abs body.now.motion.p.y ≤ 2 ^ 40 }
+    ensures l { result ≡ true → unsigned_abs body.now.motion.l ≤ 2 ^ 60 }
+    ensures room { FitsIn64 body.now.motion → result ≡ true }
+{
+    let l = body.motion.l;
+    are_in(body.motion.p.x, body.motion.p.y, MOMENTUM_LIMIT_64)
+        & (-ANGULAR_LIMIT_64 <= l)
+        & (l < ANGULAR_LIMIT_64)
+}
+
+/// Whether the momenta of two bodies are small: told with no branch before the end.
+#[inline(always)]
+fn fit_in_64(a: &BodyState, b: &BodyState) -> bool
+    ensures a { result ≡ true → LeavesRoom64 0 (record { p = a.now.motion.p; l = a.now.motion.l }) }
+    ensures b { result ≡ true → LeavesRoom64 0 (record { p = b.now.motion.p; l = b.now.motion.l }) }
+    ensures room { FitsIn64 a.now.motion → FitsIn64 b.now.motion → result ≡ true }
+{
+    fits_in_64(a) & fits_in_64(b)
+}
+
+/// The momenta of a body, which are small.
+#[inline(always)]
+fn momenta_of_64(body: &BodyState) -> Momenta64
+    requires { LeavesRoom64 0 (record { p = body.now.motion.p; l = body.now.motion.l }) }
+    ensures { result ≡ record { p = body.now.motion.p; l = body.now.motion.l } }
+{
+    Momenta64 {
+        p: body.motion.p,
+        l: body.motion.l as i64,
+    }
+}
+
+/// The momenta of two bodies, if they are small.
+#[inline(always)]
+pub fn momenta_pair_64(a: &BodyState, b: &BodyState) -> Option<MomentaPair64>
+    ensures same { IfSome result (λ n. ends_with a.now b.now n ≡ record { a = a.now; b = b.now }) }
+    ensures leaves_room { IfSome result (LeaveRoom64 0) }
+    ensures room { FitsIn64 a.now.motion → FitsIn64 b.now.motion → is_some result ≡ true }
+{
+    if fit_in_64(a, b) {
+        Some(MomentaPair64 {
+            a: momenta_of_64(a),
+            b: momenta_of_64(b),
+        })
+    } else {
+        None
+    }
+}
+
+/// Whether an angular momentum gives a spin within the limit: it is at most a quarter of the inertia.
+#[inline(always)]
+fn is_quarter(l: i64, inertia: i64) -> bool
+    requires { pos 0 ≤ℤ inertia }
+    ensures { result ≡ true → 4 * unsigned_abs l ≤ unsigned_abs inertia }
+{
+    l.unsigned_abs() <= inertia as u64 / 4
+}
+
+/// The spin of an angular momentum that is at most a quarter of the inertia, with the reciprocal of that.
+#[inline(always)]
+fn quarter_spin(l: i64, inertia: i64, reciprocal: i64) -> i64
+    requires quarter { 4 * unsigned_abs l ≤ unsigned_abs inertia }
+    requires positive { pos 1 ≤ℤ inertia }
+    requires reciprocal { reciprocal ≡ share_reciprocal inertia }
+    ensures value { result ≡ spin inertia l }
+    ensures small { unsigned_abs result ≤ unsigned_abs MAX_SPIN }
+{
+    share_by(l, inertia, reciprocal)
+}
+
+/// The spin of any angular momentum.
+#[cold]
+#[inline(never)]
+fn divided_spin(l: i128, inertia: i64) -> i64
+    requires momentum { unsigned_abs l ≤ unsigned_abs MAX_ANGULAR_MOMENTUM }
+    requires nonnegative { pos 0 ≤ℤ inertia }
+    ensures value { result ≡ spin inertia l }
+    ensures small { unsigned_abs result ≤ unsigned_abs MAX_SPIN }
+{
+    spin(l, inertia)
+}
+
+/// The spin of an angular momentum, as `spin` has it, with the reciprocal of the inertia.
+#[inline(always)]
+fn spin_by_64(l: i64, inertia: i64, reciprocal: i64) -> i64
+    requires inertia { pos 1 ≤ℤ inertia }
+    requires reciprocal { reciprocal ≡ share_reciprocal inertia }
+    ensures value { result ≡ spin inertia l }
+    ensures small { unsigned_abs result ≤ unsigned_abs MAX_SPIN }
+{
+    if is_quarter(l, inertia) {
+        quarter_spin(l, inertia, reciprocal)
+    } else {
+        divided_spin(i128::from(l), inertia)
+    }
+}
+
+/// `spin` with the reciprocal of the inertia.
+#[inline(always)]
+pub(crate) fn spin_by(l: i128, inertia: i64, reciprocal: i64) -> i64
+    requires momentum { unsigned_abs l ≤ unsigned_abs MAX_ANGULAR_MOMENTUM }
+    requires nonnegative { pos 0 ≤ℤ inertia }
+    requires reciprocal { reciprocal ≡ share_reciprocal inertia }
+    ensures value { result ≡ spin inertia l }
+    ensures small { unsigned_abs result ≤ unsigned_abs MAX_SPIN }
+{
+    let most = i128::from(inertia);
+    if l == 0 || inertia == 0 {
+        0
+    } else if -most <= l && l <= most {
+        spin_by_64(l as i64, inertia, reciprocal)
+    } else {
+        divided_spin(l, inertia)
+    }
+}
+
+/// The velocity of a small momentum, as `velocity` has it, with the reciprocal of the mass.
+#[tactic(auto, unfolding(crate::specs::Motions::velocity))]
+#[inline(always)]
+pub(crate) fn velocity_64(p: Vec2, mass: i64, reciprocal: i64) -> Vec2
+    requires momentum { IsWithin (3 * 2 ^ 39) p }
+    requires positive { pos 1 ≤ℤ mass }
+    requires mass { unsigned_abs mass ≤ unsigned_abs MAX_MASS }
+    requires reciprocal { reciprocal ≡ rdiv_reciprocal mass }
+    ensures value { result ≡ velocity mass p }
+    ensures within { IsWithin (2 ^ 41) result }
+{
+    Vec2 {
+        x: rdiv_by(p.x, mass, reciprocal),
+        y: rdiv_by(p.y, mass, reciprocal),
+    }
+}
+
+/// The velocity of a body's point at the offset `r` (u), in u/tick, with these momenta.
+#[inline(always)]
+fn velocity_at_64(body: &BodyState, now: Momenta64, r: Vec2) -> Vec2
+    requires state { IsState (with_momenta body.now now) }
+    requires leaves_room { LeavesRoom64 4 now }
+    requires offset { IsWithin (unsigned_abs MAX_OFFSET) r }
+    ensures value { result ≡ velocity_at r (with_momenta body.now now) }
+    ensures within { IsWithin (2 ^ 61) result }
+{
+    if !body.movable {
+        return ZERO_VECTOR;
+    }
+    let v = velocity_64(now.p, body.mass.mass, body.reciprocals.mass);
+    if now.l == 0 {
+        return v;
+    }
+    let w = spin_by_64(now.l, body.mass.inertia, body.reciprocals.inertia);
+    Vec2 {
+        x: carried_back(v.x, w, r.y),
+        y: carried_on(v.y, w, r.x),
+    }
+}
+
+/// The velocity at which the second body's point at the offset `rb` leaves the first's at `ra` (u), in u/tick, with these momenta.
+#[tactic(auto, unfolding(crate::specs::Impulses::parting))]
+#[inline(always)]
+pub fn parting_64(a: &BodyState, b: &BodyState, now: MomentaPair64, ra: Vec2, rb: Vec2) -> Vec2
+    requires states { AreStates (ends_with a.now b.now now) }
+    requires leaves_room { LeaveRoom64 4 now }
+    requires first { IsWithin (unsigned_abs MAX_OFFSET) ra }
+    requires second { IsWithin (unsigned_abs MAX_OFFSET) rb }
+    ensures value { result ≡ parting ra rb (ends_with a.now b.now now) }
+{
+    minus(velocity_at_64(b, now.b, rb), velocity_at_64(a, now.a, ra))
+}
+
+/// An angular momentum with the moment of an impulse, of a body that turns.
+#[inline(always)]
+fn turned_by_64(inertia: i64, l: i64, moment: i64) -> i64
+    requires l { unsigned_abs l ≤ 2 ^ 61 }
+    requires moment { unsigned_abs moment ≤ 2 ^ 61 }
+    ensures value { result ≡ turned_by inertia l moment }
+    ensures size { unsigned_abs result ≤ unsigned_abs l + unsigned_abs moment }
+{
+    if inertia == 0 { l } else { l + moment }
+}
+
+/// The momenta with a small impulse given at the offset `r`.
+#[inline(always)]
+fn given_64(body: &BodyState, now: Momenta64, j: Vec2, r: Vec2) -> Momenta64
+    requires leaves_room { LeavesRoom64 4 now }
+    requires impulse { IsWithin (2 ^ 30) j }
+    requires offset { IsWithin (unsigned_abs MAX_OFFSET) r }
+    ensures value { with_momenta body.now result ≡ given j r (with_momenta body.now now) }
+    ensures leaves_room { (k : ℕ) → LeavesRoom64 k now → LeavesRoom64 (k + 1) result }
+{
+    if !body.movable {
+        return now;
+    }
+    Momenta64 {
+        p: plus(now.p, j),
+        l: turned_by_64(body.mass.inertia, now.l, cross_64(r, j)),
+    }
+}
+
+/// A small impulse given to the second body at `rb` and taken from the first at `ra`.
+#[inline(always)]
+fn impulse_pair_64(
+    a: &BodyState,
+    b: &BodyState,
+    now: MomentaPair64,
+    j: Vec2,
+    ra: Vec2,
+    rb: Vec2,
+) -> MomentaPair64
+    requires states { AreStates (ends_with a.now b.now now) }
+    requires leaves_room { LeaveRoom64 4 now }
+    requires impulse { IsWithin (2 ^ 30) j }
+    requires first { IsWithin (unsigned_abs MAX_OFFSET) ra }
+    requires second { IsWithin (unsigned_abs MAX_OFFSET) rb }
+    ensures value { impulse_pair j ra rb (ends_with a.now b.now now) ≡ Some (ends_with a.now b.now result) }
+    ensures impulse { IsImpulse a.now b.now now result }
+{
+    MomentaPair64 {
+        a: given_64(a, now.a, opposite(j), ra),
+        b: given_64(b, now.b, j, rb),
+    }
+}
+
+/// Brings the accumulated impulse from `old` to `new`, if the difference is small.
+#[inline(always)]
+fn exert_64(
+    line: &Line,
+    old: i64,
+    new: i64,
+    a: &BodyState,
+    b: &BodyState,
+    now: MomentaPair64,
+) -> Option<Exerted64>
+    requires line { IsLine line.now }
+    requires states { AreStates (ends_with a.now b.now now) }
+    requires leaves_room { LeaveRoom64 4 now }
+    requires old { unsigned_abs old ≤ unsigned_abs MAX_IMPULSE }
+    requires new { unsigned_abs new ≤ unsigned_abs MAX_IMPULSE }
+    ensures value { IfSome result (λ r. exerted line.now old new (ends_with a.now b.now now) ≡ record { ends = ends_with a.now b.now r.now; total = r.total }) }
+    ensures impulse { IfSome result (λ r. IsImpulse a.now b.now now r.now) }
+    ensures total { IfSome result (λ r. r.total ≡ new) }
+    ensures still { IfSome result (λ r. r.total ≡ old → r.now ≡ now) }
+    ensures room { unsigned_abs (new -ℤ old) < 2 ^ 30 → is_some result ≡ true }
+{
+    if new == old {
+        return Some(Exerted64 { now, total: new });
+    }
+    let size = new - old;
+    if !is_in(size, IMPULSE_LIMIT_64) {
+        return None;
+    }
+    let j = along_64(line.direction, size);
+    Some(Exerted64 {
+        now: impulse_pair_64(a, b, now, j, line.ra, line.rb),
+        total: new,
+    })
+}
+
+/// Whether a velocity has a product with a direction that has room in 64 bits.
+#[inline(always)]
+fn has_product_64(v: Vec2) -> bool
+    ensures within { result ≡ true → IsWithin (2 ^ 31) v }
+    ensures room { unsigned_abs v.x < 2 ^ 31 → unsigned_abs v.y < 2 ^ 31 → result ≡ true }
+{
+    are_in(v.x, v.y, VELOCITY_LIMIT_64)
+}
+
+/// The accumulated impulse with what brings the speed to the bias, within its range, if there is room.
+#[inline(always)]
+fn checked_total_64(
+    speed: i64,
+    bias: i64,
+    inverse: i128,
+    reciprocal: i64,
+    low: i64,
+    high: i64,
+    total: i64,
+) -> Option<i64>
+    requires inverse { MIN_INVERSE_MASS ≤ℤ inverse }
+    requires reciprocal { reciprocal ≡ share_reciprocal inverse }
+    requires order { low ≤ℤ high }
+    requires total { unsigned_abs total ≤ unsigned_abs MAX_IMPULSE }
+    ensures value { IfSome result (λ next. next ≡ between low high (total +ℤ wanted speed bias inverse)) }
+    ensures low { IfSome result (λ next. low ≤ℤ next) }
+    ensures high { IfSome result (λ next. next ≤ℤ high) }
+    ensures room { unsigned_abs speed < 2 ^ 20 → unsigned_abs bias < 2 ^ 20 → inverse <ℤ pos (2 ^ 62) → is_some result ≡ true }
+{
+    if has_room_64(speed, bias, inverse) {
+        let inverse = inverse as i64;
+        Some(next_total_64(speed, bias, inverse, reciprocal, low, high, total))
+    } else {
+        None
+    }
+}
+
+/// One impulse of the solver, as `solve_line` gives it to the two bodies with the momenta `now`: `None` where something is too
+/// large for 64 bits.
+#[tactic(auto, unfolding(crate::specs::Impulses::solved, crate::specs::Impulses::speed_along))]
+#[inline(always)]
+pub fn solve_line_64(
+    line: &Line,
+    apart: Vec2,
+    bias: i64,
+    low: i64,
+    high: i64,
+    total: i64,
+    a: &BodyState,
+    b: &BodyState,
+    now: MomentaPair64,
+) -> Option<Exerted64>
+    requires line { IsLine line.now }
+    requires states { AreStates (ends_with a.now b.now now) }
+    requires leaves_room { LeaveRoom64 4 now }
+    requires apart { apart ≡ parting line.now.ra line.now.rb (ends_with a.now b.now now) }
+    requires order { low ≤ℤ high }
+    requires low { unsigned_abs low ≤ unsigned_abs MAX_IMPULSE }
+    requires high { unsigned_abs high ≤ unsigned_abs MAX_IMPULSE }
+    requires total { unsigned_abs total ≤ unsigned_abs MAX_IMPULSE }
+    ensures value { IfSome result (λ r. solved line.now bias low high total (ends_with a.now b.now now) ≡ record { ends = ends_with a.now b.now r.now; total = r.total }) }
+    ensures impulse { IfSome result (λ r. IsImpulse a.now b.now now r.now) }
+    ensures low { IfSome result (λ r. low ≤ℤ r.total) }
+    ensures high { IfSome result (λ r. r.total ≤ℤ high) }
+    ensures still { IfSome result (λ r. r.total ≡ total → r.now ≡ now) }
+    ensures room { HasRoom64 line.now bias low high total (ends_with a.now b.now now) → is_some result ≡ true }
+{
+    if !has_product_64(apart) {
+        return None;
+    }
+    let speed = part_along_64(apart, line.direction);
+    match checked_total_64(
+        speed,
+        bias,
+        line.inverse_mass,
+        line.reciprocal,
+        low,
+        high,
+        total,
+    ) {
+        None => None,
+        Some(next) => exert_64(line, total, next, a, b, now),
+    }
+}
+
+/// The accumulated impulses `one` and `other` (mass·u/tick) given once more along two lines through the same points, one after
+/// the other, to the two bodies with the momenta `now`: `None` where something is too large for 64 bits.
+#[inline(always)]
+pub fn warm_at_once_64(
+    first: &Line,
+    one: i64,
+    second: &Line,
+    other: i64,
+    a: &BodyState,
+    b: &BodyState,
+    now: MomentaPair64,
+) -> Option<MomentaPair64>
+    requires first { IsLine first.now }
+    requires second { IsLine second.now }
+    requires ra { second.now.ra ≡ first.now.ra }
+    requires rb { second.now.rb ≡ first.now.rb }
+    requires states { AreStates (ends_with a.now b.now now) }
+    requires leaves_room { LeaveRoom64 4 now }
+    ensures value { IfSome result (λ n. ends_with a.now b.now n ≡ warmed second.now other (warmed first.now one (ends_with a.now b.now now))) }
+    ensures impulse { IfSome result (λ n. IsImpulse a.now b.now now n) }
+    ensures room { unsigned_abs one < 2 ^ 29 → unsigned_abs other < 2 ^ 29 → is_some result ≡ true }
+{
+    if !are_in(one, other, HALF_IMPULSE_LIMIT_64) {
+        return None;
+    }
+    let j = plus(
+        along_64(first.direction, one),
+        along_64(second.direction, other),
+    );
+    Some(impulse_pair_64(a, b, now, j, first.ra, first.rb))
+}

@@ -1,0 +1,2 @@
+pub mod CensusLemmas
+pub mod FatLaws

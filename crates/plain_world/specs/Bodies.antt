@@ -1,0 +1,123 @@
+-- Bodies: which are movers, where each stands, what may be made, and the movers' momentum.
+use Rattle.std.specs.Prelude.{◌≡◌, ℕ, ◌^◌, Bool, true, false, not, ◌&&◌, cond, All, length, List, [], ◌∷◌, Option, Some, None, ℤ, pos, ◌+ℤ◌, slice_get}
+use Rattle.std.specs.Ordering.{int_eq}
+use Rattle.fixed_geom.specs.Vectors.{IsWithin, is_within}
+use Rattle.fixed_geom.specs.Facings.{IsFacing, is_facing}
+use Rattle.fixed_geom.specs.declared.vectors.Vec2.{Vec2}
+use Rattle.fixed_geom.specs.declared.facings.Rot.{Rot}
+use Rattle.fixed_geom.specs.declared.refusal.Refusal.{Refusal}
+use Rattle.fixed_geom.specs.declared.refusal.Refusal.TheVariants.{OutOfRange}
+use Rattle.momenta.specs.Motions.{IsMass, IsMotion}
+use Rattle.momenta.specs.declared.mass.MassData.{MassData}
+use Rattle.momenta.specs.declared.motion.Motion.{Motion}
+use Rattle.plain_world.specs.declared.body.Kind.{Kind}
+use Rattle.plain_world.specs.declared.body.Kind.TheVariants.{Static, Dynamic}
+use Rattle.plain_world.specs.declared.body.SetName.{SetName}
+use Rattle.plain_world.specs.declared.body.SetName.TheVariants as sets
+use Rattle.plain_world.specs.declared.body.Body.{Body}
+use Rattle.plain_world.specs.declared.body.BodyDef.{BodyDef}
+use Rattle.plain_world.specs.declared.body.BodyView.{BodyView}
+use Rattle.shapes.specs.Shapes.{is_between, shapes_refusal, IsShapeDef}
+use Rattle.shapes.specs.declared.pose.Pose.{Pose}
+use Rattle.plain_world.specs.Fats.{fat_boxes}
+
+-- ---- where a body stands
+
+abbrev pub is_dynamic : Kind → Bool
+is_dynamic Static = false
+is_dynamic Dynamic = true
+
+-- a mover: an enabled dynamic body
+abbrev pub is_mover : Body → Bool
+is_mover b = cond b.enabled (is_dynamic b.kind) false
+
+-- a mover that is awake: what the collide, the colours and the solver take. All movers are.
+abbrev pub is_awake : Body → Bool
+is_awake b = is_mover b
+
+abbrev pub set_of : Kind → SetName
+set_of Static = sets.Static
+set_of Dynamic = sets.Awake
+
+abbrev pub standing_of : Body → SetName
+standing_of b = cond b.enabled (set_of b.kind) sets.Disabled
+
+-- where its shapes are in the world
+abbrev pub pose_of : Body → Pose
+pose_of b = record { x = b.motion.x; rot = b.motion.rot }
+
+-- what can be seen of a body
+abbrev pub view_of : Body → BodyView
+view_of b = record { at = b.motion.x; facing = b.motion.rot; p = b.motion.p; l = b.motion.l; set = standing_of b }
+
+-- ---- a body that is made
+
+abbrev pub is_mass_allowed : Kind → MassData → Bool
+is_mass_allowed Static m = int_eq m.mass (pos 0) && int_eq m.inertia (pos 0)
+is_mass_allowed Dynamic m = is_between (pos 1) (pos (2 ^ 20)) m.mass && is_between (pos 0) (pos (2 ^ 60)) m.inertia
+
+abbrev pub numbers_refusal : BodyDef → Option Refusal
+numbers_refusal d = cond (is_mass_allowed d.kind d.mass) (cond (is_within (2 ^ 36) d.x) (cond (is_facing d.rot) None (Some OutOfRange)) (Some OutOfRange)) (Some OutOfRange)
+
+abbrev pub first_of : Option Refusal → Option Refusal → Option Refusal
+first_of (Some e) later = Some e
+first_of None later = later
+
+-- why a body can't be made: first its shapes, of which segments are for static bodies alone, then its numbers
+unfoldable pub def_refusal : BodyDef → Option Refusal
+def_refusal d = first_of (shapes_refusal (not (is_dynamic d.kind)) d.shapes) (numbers_refusal d)
+
+abbrev pub at_rest : Vec2 → Rot → Motion
+at_rest x rot = record { p = record { x = pos 0; y = pos 0 }; l = pos 0; x = x; rot = rot }
+
+-- the body: at rest, enabled, its timer 0
+abbrev pub made : BodyDef → Body
+made d = record { kind = d.kind; mass = d.mass; motion = at_rest d.x d.rot; shapes = d.shapes; fats = fat_boxes d.shapes (record { x = d.x; rot = d.rot }); timer = 0; enabled = true }
+
+abbrev pub IsMassOf : Kind → MassData → Type 0
+IsMassOf Static m = (m.mass ≡ pos 0) × (m.inertia ≡ pos 0)
+IsMassOf Dynamic m = IsMass m
+
+-- nothing keeps the body from being made
+pub record IsAllowed (d : BodyDef) : Type 0 where
+  pub shapes : shapes_refusal (not (is_dynamic d.kind)) d.shapes ≡ None
+  pub forms : All IsShapeDef d.shapes
+  pub mass : IsMassOf d.kind d.mass
+  pub place : IsWithin (2 ^ 36) d.x
+  pub facing : IsFacing d.rot
+
+-- ---- a body as it stands between calls
+
+pub record IsAtRest (s : Motion) : Type 0 where
+  pub x : s.p.x ≡ pos 0
+  pub y : s.p.y ≡ pos 0
+  pub l : s.l ≡ pos 0
+
+pub record IsBody (b : Body) : Type 0 where
+  pub mass : IsMassOf b.kind b.mass
+  pub motion : IsMotion b.mass b.motion
+  pub rest : is_mover b ≡ false → IsAtRest b.motion
+  pub shapes : shapes_refusal (not (is_dynamic b.kind)) b.shapes ≡ None
+  pub forms : All IsShapeDef b.shapes
+  pub fats : length b.fats ≡ length b.shapes
+
+abbrev pub AreBodies : List (Option Body) → Type 0
+AreBodies bodies = (slot : ℕ) (b : Body) → slice_get bodies slot ≡ Some (Some b) → IsBody b
+
+-- ---- the movers' momentum
+
+abbrev pub p_x : Option Body → ℤ
+p_x None = pos 0
+p_x (Some b) = cond (is_mover b) b.motion.p.x (pos 0)
+
+abbrev pub p_y : Option Body → ℤ
+p_y None = pos 0
+p_y (Some b) = cond (is_mover b) b.motion.p.y (pos 0)
+
+abbrev pub momentum_x : List (Option Body) → ℤ
+momentum_x [] = pos 0
+momentum_x (o ∷ bodies) = p_x o +ℤ momentum_x bodies
+
+abbrev pub momentum_y : List (Option Body) → ℤ
+momentum_y [] = pos 0
+momentum_y (o ∷ bodies) = p_y o +ℤ momentum_y bodies

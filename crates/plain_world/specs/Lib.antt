@@ -1,0 +1,5 @@
+pub mod Bodies
+pub mod Slots
+pub mod Census
+pub mod Fats
+pub mod Plain

@@ -1,0 +1,40 @@
+-- The plain world: what a world is, as lists, however it is kept.
+use Rattle.std.specs.List.{list_any, position}
+use Rattle.std.specs.Prelude.{ℕ, ◌==◌, Bool, List, [], map, Option, slice_index_or, Vec, vec_items}
+use Rattle.std.specs.declared.alloc.Global.{Global}
+use Rattle.fixed_geom.specs.declared.vectors.Vec2.{Vec2}
+use Rattle.body_handles.specs.declared.places.Place.{Place}
+use Rattle.contacts_base.specs.declared.contact.ContactEntry.{ContactEntry}
+use Rattle.contacts.specs.Constraints.{constraint_number}
+use Rattle.contacts.specs.declared.constraint.Constraint.{Constraint}
+use Rattle.plain_world.specs.declared.body.Body.{Body}
+
+pub record Plain : Type 0 where
+  -- each body slot that was ever used, and the body in it
+  pub places : List Place
+  pub bodies : List (Option Body)
+  -- ascending by key
+  pub contacts : List ContactEntry
+  -- for each colour the active constraints that have it, ascending, and last those in the overflow
+  pub colours : List (List Constraint)
+  -- u/tick²
+  pub gravity : Vec2
+  -- how many steps and how many calls were accepted
+  pub steps : ℕ
+  pub calls : ℕ
+
+-- the constraints of a colour: none where there is no such colour
+abbrev pub members_at : List (List Constraint) → ℕ → List Constraint
+members_at colours colour = slice_index_or colours colour []
+
+-- the same as they are kept
+abbrev pub constraints_of : List (Vec Constraint Global) → List (List Constraint)
+constraints_of colours = map vec_items colours
+
+-- whether a constraint is among these
+abbrev pub has_constraint : Constraint → List Constraint → Bool
+has_constraint id ids = list_any (λ other. constraint_number other == constraint_number id) ids
+
+-- the colour of an active constraint
+unfoldable pub colour_of : Constraint → List (List Constraint) → Option ℕ
+colour_of id colours = position (has_constraint id) colours

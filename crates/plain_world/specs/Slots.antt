@@ -1,0 +1,50 @@
+-- The bodies by slot, beside the places that say which slots are taken.
+use Rattle.std.specs.Prelude.{◌≡◌, ℕ, ◌≤◌, Bool, false, cond, List, [], ◌∷◌, ◌++◌, length, nat_lt, Option, Some, None, is_some, option_map, slice_get, slice_set}
+use Rattle.fixed_geom.specs.declared.vectors.Vec2.{Vec2}
+use Rattle.body_handles.specs.declared.handle.Handle.{Handle}
+use Rattle.body_handles.specs.declared.places.Place.{Place}
+use Rattle.body_handles.specs.declared.places.TheConstants.{MAX_SLOTS}
+use Rattle.body_handles.specs.Places.{is_live}
+use Rattle.plain_world.specs.declared.body.Body.{Body}
+
+abbrev pub body_in : Option (Option Body) → Option Body
+body_in None = None
+body_in (Some o) = o
+
+-- the body in a slot
+abbrev pub body_at : List (Option Body) → ℕ → Option Body
+body_at bodies slot = body_in (slice_get bodies slot)
+
+-- the body that a handle names
+abbrev pub body_of : List Place → List (Option Body) → Handle → Option Body
+body_of places bodies h = cond (is_live places h) (body_at bodies h.slot) None
+
+-- a body put into a slot, or into a new one at the end
+abbrev pub with_body : List (Option Body) → ℕ → Body → List (Option Body)
+with_body bodies slot b = cond (nat_lt slot (length bodies)) (slice_set bodies slot (Some b)) (bodies ++ Some b ∷ [])
+
+abbrev pub put_p : Vec2 → Body → Body
+put_p p b = record b { motion = record b.motion { p = p } }
+
+-- the momentum of the body in a slot set to p
+abbrev pub with_momentum : List (Option Body) → ℕ → Vec2 → List (Option Body)
+with_momentum bodies slot p = slice_set bodies slot (option_map (put_p p) (body_at bodies slot))
+
+-- whether the slot is taken
+abbrev pub is_taken_place : Option Place → Bool
+is_taken_place None = false
+is_taken_place (Some p) = p.live
+
+abbrev pub is_taken : List Place → ℕ → Bool
+is_taken places slot = is_taken_place (slice_get places slot)
+
+-- there is a body just in the slots that are taken
+pub record AreMatched (places : List Place) (bodies : List (Option Body)) : Type 0 where
+  pub slots : length places ≡ length bodies
+  pub few : length bodies ≤ MAX_SLOTS
+  pub taken : (slot : ℕ) → is_some (body_at bodies slot) ≡ is_taken places slot
+
+-- there are bodies in the same slots as before
+pub record HaveSameSlots (old new : List (Option Body)) : Type 0 where
+  pub slots : length new ≡ length old
+  pub taken : (slot : ℕ) → is_some (body_at new slot) ≡ is_some (body_at old slot)

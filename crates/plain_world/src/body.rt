@@ -1,0 +1,220 @@
+ghost use Rattle.std.specs.Prelude.{◌≡◌, IfOk, OnOk, IsTrue};
+ghost use Rattle.std.specs.Result.{IsOkUnless, result_err};
+ghost use Rattle.shapes.specs.Shapes.{is_between};
+ghost use Rattle.plain_world.specs.Bodies.{is_awake, is_dynamic, is_mover, pose_of, standing_of, view_of, is_mass_allowed, def_refusal, made, IsMassOf, IsAllowed, IsBody};
+
+use crate::fats::FatBoxes;
+use fixed_geom::{Refusal, Rot, Vec2, is_facing, is_within};
+use momenta::{MassData, Motion};
+use shapes::{Pose, Shapes, check};
+use std::alloc::Global;
+
+/// The greatest size of a coordinate of a place, in u.
+const MAX_PLACE: u64 = 1 << 36;
+
+const MAX_MASS: i64 = 1 << 20;
+
+/// The greatest inertia, in mass·u².
+const MAX_INERTIA: i64 = 1 << 60;
+
+/// Whether a body moves.
+#[derive(Clone, Copy, Debug, PartialEq, Eq)]
+pub enum Kind {
+    /// It stands, and nothing moves it.
+    Static,
+    /// It has a mass, and impulses move it.
+    Dynamic,
+}
+
+impl Kind {
+    pub fn is_dynamic(self) -> bool
+        ensures { result ≡ is_dynamic self }
+    {
+        match self {
+            Kind::Static => false,
+            Kind::Dynamic => true,
+        }
+    }
+}
+
+/// A body to be made: at the place `x` (u) with the facing `rot` (times 2^30), at rest.
+#[derive(Drop)]
+pub struct BodyDef {
+    pub kind: Kind,
+    /// Of a dynamic body; zero in both parts for a static one.
+    pub mass: MassData,
+    pub x: Vec2,
+    pub rot: Rot,
+    pub shapes: Shapes,
+}
+
+impl BodyDef {
+    /// Tests it: refused 4 for its shapes (none, more than eight, or one of a form that isn't allowed), and
+    /// else 5 for a number outside its limit.
+    #[tactic(auto, unfolding(crate::specs::Bodies::def_refusal))]
+    pub fn check(&self) -> Result<(), Refusal>
+        ensures refusal { result_err result ≡ def_refusal self.now }
+        ensures allowed { OnOk result (IsAllowed self.now) }
+    {
+        check(self.shapes.as_slice(), !self.kind.is_dynamic())?;
+        if !is_mass_allowed(self.kind, self.mass) {
+            return Err(Refusal::OutOfRange);
+        }
+        if !is_within(self.x, MAX_PLACE) {
+            return Err(Refusal::OutOfRange);
+        }
+        if !is_facing(self.rot) {
+            return Err(Refusal::OutOfRange);
+        }
+        Ok(())
+    }
+
+    /// The body: at rest, enabled, its timer 0. Refused 1 where memory is wanting.
+    pub fn make(&self, alloc: Global) -> Result<Body, Refusal>
+        requires { IsAllowed self.now }
+        ensures made { IfOk result (λ body. body ≡ made self.now) }
+        ensures body { IfOk result (λ body. IsBody body) }
+        ensures memory_only { IsOkUnless result Refusal.NoMemory }
+    {
+        let shapes = self.shapes.try_copy()?;
+        let pose = Pose {
+            x: self.x,
+            rot: self.rot,
+        };
+        let fats = FatBoxes::around(alloc, self.shapes.as_slice(), pose)?;
+        Ok(Body {
+            kind: self.kind,
+            mass: self.mass,
+            motion: Motion::at_rest(self.x, self.rot),
+            shapes,
+            fats,
+            timer: 0,
+            enabled: true,
+        })
+    }
+}
+
+fn is_between(low: i64, high: i64, value: i64) -> bool
+    ensures { result ≡ is_between low high value }
+{
+    low <= value && value <= high
+}
+
+/// Whether a body of this kind may have this mass: none for a static one, and for a dynamic one a mass of
+/// 1 to 2^20 with an inertia of 0 to 2^60.
+fn is_mass_allowed(kind: Kind, mass: MassData) -> bool
+    ensures value { result ≡ is_mass_allowed kind mass }
+    ensures mass { IsTrue result → IsMassOf kind mass }
+{
+    match kind {
+        Kind::Static => mass.mass == 0 && mass.inertia == 0,
+        Kind::Dynamic => {
+            is_between(1, MAX_MASS, mass.mass) && is_between(0, MAX_INERTIA, mass.inertia)
+        }
+    }
+}
+
+/// A body, as a slot contains it.
+#[derive(Drop)]
+pub struct Body {
+    pub motion: Motion,
+    pub mass: MassData,
+    pub kind: Kind,
+    pub enabled: bool,
+    /// For how many ticks it has been slow.
+    pub timer: u64,
+    /// For each shape, in their order, a box that holds it with room to move in.
+    pub fats: FatBoxes,
+    pub shapes: Shapes,
+}
+
+impl Body {
+    /// Whether it is a mover: an enabled dynamic body.
+    pub fn is_mover(&self) -> bool
+        ensures { result ≡ is_mover self.now }
+    {
+        self.enabled && self.kind.is_dynamic()
+    }
+
+    /// Whether it is a mover that is awake. All movers are.
+    pub fn is_awake(&self) -> bool
+        ensures { result ≡ is_awake self.now }
+    {
+        self.is_mover()
+    }
+
+    /// Where its shapes are in the world.
+    pub fn pose(&self) -> Pose
+        ensures { result ≡ pose_of self.now }
+    {
+        Pose {
+            x: self.motion.x,
+            rot: self.motion.rot,
+        }
+    }
+
+    /// Where it stands.
+    pub fn standing(&self) -> SetName
+        ensures { result ≡ standing_of self.now }
+    {
+        if !self.enabled {
+            return SetName::Disabled;
+        }
+        match self.kind {
+            Kind::Static => SetName::Static,
+            Kind::Dynamic => SetName::Awake,
+        }
+    }
+
+    /// What a caller may see of it.
+    pub fn view(&self) -> BodyView
+        ensures { result ≡ view_of self.now }
+    {
+        BodyView {
+            at: self.motion.x,
+            facing: self.motion.rot,
+            p: self.motion.p,
+            l: self.motion.l,
+            set: self.standing(),
+        }
+    }
+
+    /// A copy. Refused 1 where memory is wanting.
+    pub fn try_copy(&self) -> Result<Body, Refusal>
+        ensures copy { IfOk result (λ copied. copied ≡ self.now) }
+        ensures memory_only { IsOkUnless result Refusal.NoMemory }
+    {
+        let shapes = self.shapes.try_copy()?;
+        let fats = self.fats.try_copy()?;
+        Ok(Body {
+            kind: self.kind,
+            mass: self.mass,
+            motion: self.motion,
+            shapes,
+            fats,
+            timer: self.timer,
+            enabled: self.enabled,
+        })
+    }
+}
+
+/// A solver set: where a body stands.
+#[derive(Clone, Copy, Debug, PartialEq, Eq)]
+pub enum SetName {
+    Static,
+    Disabled,
+    Awake,
+    /// The sleeping set of the island with this name, its lowest slot.
+    Sleeping(u32),
+}
+
+/// What can be seen of a body: its place (u), its facing (times 2^30), its momentum (mass·u/tick) and
+/// angular momentum (mass·u²/tick), and the set in which it stands.
+#[derive(Clone, Copy, Debug, PartialEq, Eq)]
+pub struct BodyView {
+    pub at: Vec2,
+    pub facing: Rot,
+    pub p: Vec2,
+    pub l: i128,
+    pub set: SetName,
+}

@@ -1,0 +1,109 @@
+ghost use Rattle.std.specs.Prelude.{◌≡◌, ◌<◌, length, map};
+ghost use Rattle.plain_world.specs.Plain.{constraints_of, members_at};
+
+use crate::body::Body;
+use body_handles::Place;
+use contacts::Constraint;
+use contacts_base::ContactEntry;
+use fixed_geom::Vec2;
+use std::marker::Model;
+
+/// A world as plain lists: what a world is, however it is kept.
+#[derive(Drop)]
+pub struct Plain {
+    places: Vec<Place>,
+    bodies: Vec<Option<Body>>,
+    contacts: Vec<ContactEntry>,
+    colours: Vec<Vec<Constraint>>,
+    gravity: Vec2,
+    steps: u64,
+    calls: u64,
+}
+
+impl Model for Plain {
+    ghost use Rattle.std.specs.Prelude.{map};
+    ghost use Rattle.plain_world.specs.Plain.{Plain as PlainWorld, constraints_of};
+
+    ghost Value = { PlainWorld };
+
+    ghost view = { λ a. record { places = a.places.items; bodies = a.bodies.items; contacts = a.contacts.items; colours = constraints_of a.colours.items; gravity = a.gravity; steps = a.steps; calls = a.calls } };
+}
+
+impl Plain {
+    /// The world of these lists, of which nothing is asked: each body slot that was ever used, the body in it, the
+    /// contacts by key, and for each colour the active constraints that have it, those in the overflow last; the gravity in
+    /// u/tick², and how many steps and calls were accepted.
+    pub fn new(
+        places: Vec<Place>,
+        bodies: Vec<Option<Body>>,
+        contacts: Vec<ContactEntry>,
+        colours: Vec<Vec<Constraint>>,
+        gravity: Vec2,
+        steps: u64,
+        calls: u64,
+    ) -> Plain
+        ensures { result ≡ record { places = places.items; bodies = bodies.items; contacts = contacts.items; colours = constraints_of colours.items; gravity = gravity; steps = steps; calls = calls } }
+    {
+        Plain {
+            places,
+            bodies,
+            contacts,
+            colours,
+            gravity,
+            steps,
+            calls,
+        }
+    }
+
+    /// Each body slot that was ever used: its generation, and whether it is taken.
+    pub fn places(&self) -> &[Place]
+        ensures { result.now ≡ self.now.places }
+    {
+        self.places.as_slice()
+    }
+
+    /// The body in each slot.
+    pub fn bodies(&self) -> &[Option<Body>]
+        ensures { result.now ≡ self.now.bodies }
+    {
+        self.bodies.as_slice()
+    }
+
+    /// The contacts of near shapes, ascending by key.
+    pub fn contacts(&self) -> &[ContactEntry]
+        ensures { result.now ≡ self.now.contacts }
+    {
+        self.contacts.as_slice()
+    }
+
+    /// The active constraints of a colour, ascending: 0 to 23, and 24 for the overflow; none of a greater number.
+    pub fn members(&self, colour: usize) -> &[Constraint]
+        ensures { result.now ≡ members_at self.now.colours colour }
+    {
+        match self.colours.get(colour) {
+            Some(members) => members.as_slice(),
+            None => &[],
+        }
+    }
+
+    /// The gravity, in u/tick².
+    pub fn gravity(&self) -> Vec2
+        ensures { result ≡ self.now.gravity }
+    {
+        self.gravity
+    }
+
+    /// How many steps were accepted.
+    pub fn steps(&self) -> u64
+        ensures { result ≡ self.now.steps }
+    {
+        self.steps
+    }
+
+    /// How many calls were accepted.
+    pub fn calls(&self) -> u64
+        ensures { result ≡ self.now.calls }
+    {
+        self.calls
+    }
+}

@@ -1,0 +1,10 @@
+pub mod ListLemmas
+pub mod AwakeLemmas
+pub mod KeptLemmas
+pub mod PhaseLemmas
+pub mod TurnLemmas
+pub mod BetweenLemmas
+pub mod SetLemmas
+pub mod PickLemmas
+pub mod CountLemmas
+pub mod EdgeLemmas

@@ -1,0 +1,5 @@
+use Rattle.sleep_wake.proofs.TurnLemmas.{one_order}
+use Rattle.sleep_wake.proofs.laws.one_order.Goals as goal
+
+pub returns : goal.returns
+returns g c = one_order g.C.Id.number

@@ -1,0 +1,94 @@
+-- What keeps a world settled, and what being settled means.
+use Rattle.std.specs.Prelude.{◌≡◌, ℕ, ◌↔◌, ◌⊎◌, Bool, true, false, List, [], Some, None, Contains}
+use Rattle.graph_colours.specs.declared.member.Member.{Member}
+use Rattle.graph_colours.specs.Members.{AreRising, has_id}
+use Rattle.graph_colours.specs.Colours.{all_members, IsColouring}
+use Rattle.islands.specs.declared.label.Label.{Label}
+use Rattle.islands.specs.Links.{Linked, Joined}
+use Rattle.islands.specs.Labels.{Labels, label_at, is_asleep, is_loose}
+use Rattle.sleep_wake.specs.Acting.{Acting, AreMovers, IsSettled, links_of, is_awake, are_awake}
+use Rattle.sleep_wake.specs.Waking.{woken_at, put_to_rest}
+use Rattle.sleep_wake.specs.Changes.{Change, Begin, End, ended, begun, turned, AreChanges, AreChangesOf, changes_between}
+use Rattle.sleep_wake.specs.Bodies.{dropped, mover_gone, mover_made}
+use Rattle.sleep_wake.specs.SleepPhase.{split_at, sleep_phase}
+
+-- ---- what being settled means
+
+-- The island of a sleeping mover isn't loose, and its members are all that are joined to the mover.
+abbrev pub SleepersAreOneComponent : {C : Type 0} → (C → ℕ) → Type 0
+SleepersAreOneComponent {C} number = (s : Acting C) (slot : ℕ) (l : Label) → IsSettled number s → label_at s.labels slot ≡ Some l → is_asleep l.state ≡ true
+    → (is_loose l.state ≡ false) × ((other : ℕ) → (label_at s.labels other ≡ Some l) ↔ Joined (Linked (links_of s.ties)) slot other)
+
+-- Linked movers are in one island, both awake or both asleep.
+abbrev pub LinkedStandTogether : {C : Type 0} → (C → ℕ) → Type 0
+LinkedStandTogether {C} number = (s : Acting C) (a b : ℕ) → IsSettled number s → Linked (links_of s.ties) a b
+    → (label_at s.labels a ≡ label_at s.labels b) × (is_awake s.labels a ≡ is_awake s.labels b)
+
+-- ---- what keeps it
+
+abbrev pub WakingKeeps : {C : Type 0} → (C → ℕ) → Type 0
+WakingKeeps {C} number = (s : Acting C) (slot : ℕ) → IsSettled number s → IsSettled number (woken_at number slot s)
+
+-- an island that isn't loose may be put to rest
+abbrev pub RestingKeeps : {C : Type 0} → (C → ℕ) → Type 0
+RestingKeeps {C} number = (s : Acting C) (name : ℕ) (l : Label) → IsSettled number s → label_at s.labels name ≡ Some l → l.name ≡ name → is_loose l.state ≡ false → IsSettled number (put_to_rest number name s)
+
+-- a constraint may end while its movers are awake
+abbrev pub EndingKeeps : {C : Type 0} → (C → ℕ) → Type 0
+EndingKeeps {C} number = (s : Acting C) (m : Member C) → IsSettled number s → Contains s.ties m → is_awake s.labels m.movers.first ≡ true → IsSettled number (ended number m s)
+
+-- a constraint may begin while its movers are awake
+abbrev pub BeginningKeeps : {C : Type 0} → (C → ℕ) → Type 0
+BeginningKeeps {C} number = (s : Acting C) (m : Member C) → IsSettled number s → has_id number m.id s.ties ≡ false → are_awake s.labels m.movers ≡ true → IsSettled number (begun number m s)
+
+abbrev pub TurningKeeps : {C : Type 0} → (C → ℕ) → Type 0
+TurningKeeps {C} number = (s : Acting C) (changes : List (Change C)) → IsSettled number s → AreChanges number s.labels s.ties changes → IsSettled number (turned number changes s)
+
+-- ---- which constraints there are after changes
+
+-- changes of constraints that are all different may come in any order
+abbrev pub ChangesFold : {C : Type 0} → (C → ℕ) → Type 0
+ChangesFold {C} number = (labels : Labels) (ties : List (Member C)) (changes : List (Change C)) → AreChangesOf number labels ties changes → AreChanges number labels ties changes
+
+-- those that were there and don't end, and those that begin, whoever wakes
+abbrev pub TiesAfter : {C : Type 0} → (C → ℕ) → Type 0
+TiesAfter {C} number = (s : Acting C) (labels : Labels) (changes : List (Change C)) (x : Member C) → AreRising number s.ties → AreChangesOf number labels s.ties changes
+    → Contains (turned number changes s).ties x ↔ ((Contains s.ties x × (Contains changes (End x) → ⊥)) ⊎ Contains changes (Begin x))
+
+-- constraints that ascend are one list if they are the same
+abbrev pub OneOrder : {C : Type 0} → (C → ℕ) → Type 0
+OneOrder {C} number = (old new : List (Member C)) → AreRising number old → AreRising number new → ((x : Member C) → Contains old x ↔ Contains new x) → old ≡ new
+
+-- the changes between the constraints and others lead to those: each that stays has the movers it had, and all have movers
+abbrev pub TurnsInto : {C : Type 0} → (C → ℕ) → Type 0
+TurnsInto {C} number = (s : Acting C) (new : List (Member C)) → IsSettled number s → AreRising number new
+    → ((x y : Member C) → Contains s.ties x → Contains new y → number x.id ≡ number y.id → x ≡ y)
+    → ((m : Member C) → Contains new m → AreMovers s.labels m.movers)
+    → IsSettled number (turned number (changes_between number s.ties new) s) × ((turned number (changes_between number s.ties new) s).ties ≡ new)
+
+-- ---- bodies
+
+-- constraints of one mover may go with a body that is no mover
+abbrev pub DroppingKeeps : {C : Type 0} → (C → ℕ) → Type 0
+DroppingKeeps {C} number = (s : Acting C) (goes : Member C → Bool) → IsSettled number s → ((m : Member C) → Contains s.ties m → goes m ≡ true → m.movers.second ≡ None) → IsSettled number (dropped number goes s)
+
+-- an awake mover may go
+abbrev pub GoingKeeps : {C : Type 0} → (C → ℕ) → Type 0
+GoingKeeps {C} number = (s : Acting C) (slot : ℕ) → IsSettled number s → is_awake s.labels slot ≡ true → IsSettled number (mover_gone number slot s)
+
+-- a mover may come where there is none
+abbrev pub MakingKeeps : {C : Type 0} → (C → ℕ) → Type 0
+MakingKeeps {C} number = (s : Acting C) (slot : ℕ) → IsSettled number s → label_at s.labels slot ≡ None → IsSettled number (mover_made slot s)
+
+-- nothing at all is settled
+abbrev pub EmptyIsSettled : {C : Type 0} → (C → ℕ) → Type 0
+EmptyIsSettled {C} number = (lists : List (List (Member C))) → IsColouring number lists → all_members lists ≡ [] → let empty : Acting C = record { ties = []; labels = []; lists = lists } in IsSettled number empty
+
+-- ---- the sleep phase
+
+-- an awake island may be split
+abbrev pub SplittingKeeps : {C : Type 0} → (C → ℕ) → Type 0
+SplittingKeeps {C} number = (s : Acting C) (name : ℕ) (l : Label) → IsSettled number s → label_at s.labels name ≡ Some l → l.name ≡ name → is_asleep l.state ≡ false → IsSettled number (split_at name s)
+
+abbrev pub SleepPhaseKeeps : {C : Type 0} → (C → ℕ) → Type 0
+SleepPhaseKeeps {C} number = (s : Acting C) (timers : List ℕ) → IsSettled number s → IsSettled number (sleep_phase number timers s)

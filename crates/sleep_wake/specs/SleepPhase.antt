@@ -1,0 +1,105 @@
+-- The sleep phase: which islands are ready to sleep, by the timers of their movers, and what becomes of them.
+use Rattle.std.specs.Prelude.{ℕ, suc, ◌&&◌, ◌==◌, Bool, true, false, not, cond, nat_lt, nat_le, min, List, [], ◌∷◌, Option, Some, None, filter}
+use Rattle.graph_colours.specs.declared.member.Movers.{Movers}
+use Rattle.graph_colours.specs.declared.member.Member.{Member}
+use Rattle.islands.specs.declared.label.Label.{Label}
+use Rattle.islands.specs.Links.{Edges}
+use Rattle.islands.specs.Labels.{Labels, label_at, is_in, is_loose, is_asleep, split_by}
+use Rattle.sleep_wake.specs.Acting.{Acting, links_of}
+use Rattle.sleep_wake.specs.Waking.{put_to_rest}
+
+-- for how many ticks each mover of an island has to have been slow, before it is ready to sleep
+abbrev pub ticks_to_sleep : ℕ
+ticks_to_sleep = 128
+
+-- ---- a split
+
+-- the links of an island
+abbrev pub edges_in : {C : Type 0} → Labels → ℕ → List (Member C) → Edges
+edges_in labels name ties = filter (λ e. is_in (label_at labels e.0) name) (links_of ties)
+
+abbrev pub edges_of : {C : Type 0} → Acting C → ℕ → Edges
+edges_of s name = edges_in s.labels name s.ties
+
+-- the link of one constraint, if it has one and that is of the island
+abbrev pub second_edge : Labels → ℕ → ℕ → Option ℕ → Edges
+second_edge labels name first None = []
+second_edge labels name first (Some second) = cond (is_in (label_at labels first) name) ((first, second) ∷ []) []
+
+abbrev pub edges_of_one : Labels → ℕ → Movers → Edges
+edges_of_one labels name m = second_edge labels name m.first m.second
+
+-- the island is replaced by its components; no constraint changes
+unfoldable pub split_at : {C : Type 0} → ℕ → Acting C → Acting C
+split_at name s = record { ties = s.ties; labels = split_by s.labels name (edges_of s name); lists = s.lists }
+
+-- ---- which islands are ready; timers by slot, in ticks
+
+abbrev pub lesser : ℕ → Option ℕ → ℕ
+lesser t None = t
+lesser t (Some u) = min t u
+
+-- the least timer of an island, if it has movers
+abbrev pub least_timer : ℕ → Labels → List ℕ → Option ℕ
+least_timer name [] timers = None
+least_timer name (o ∷ labels) [] = None
+least_timer name (o ∷ labels) (t ∷ timers) = cond (is_in o name) (Some (lesser t (least_timer name labels timers))) (least_timer name labels timers)
+
+abbrev pub is_due : Option ℕ → Bool
+is_due None = false
+is_due (Some t) = nat_le ticks_to_sleep t
+
+-- the label is that of an awake island of this name, a loose one or a whole one
+abbrev pub is_island : Bool → ℕ → Option Label → Bool
+is_island loose name None = false
+is_island true name (Some l) = (l.name == name) && is_loose l.state
+is_island false name (Some l) = (l.name == name) && (not (is_loose l.state) && not (is_asleep l.state))
+
+-- where the list begins with this slot
+abbrev pub ready_from : Bool → Labels → List ℕ → ℕ → Labels → List ℕ
+ready_from loose labels timers slot [] = []
+ready_from loose labels timers slot (o ∷ rest) = cond (is_island loose slot o && is_due (least_timer slot labels timers)) (slot ∷ ready_from loose labels timers (suc slot) rest) (ready_from loose labels timers (suc slot) rest)
+
+-- the names of the loose islands that are ready, or of the whole ones, ascending
+abbrev pub ready : Bool → Labels → List ℕ → List ℕ
+ready loose labels timers = ready_from loose labels timers 0 labels
+
+-- ---- the phase
+
+abbrev pub is_less : Option ℕ → Option ℕ → Bool
+is_less (Some a) (Some b) = nat_lt a b
+is_less a b = false
+
+-- of two names the one with the greater timer, the best so far where they are equal
+abbrev pub longer_at_rest : (ℕ → Option ℕ) → Option ℕ → ℕ → Option ℕ
+longer_at_rest timer None name = Some name
+longer_at_rest timer (Some best) name = cond (is_less (timer best) (timer name)) (Some name) (Some best)
+
+-- the name with the greatest timer, the first of those that have it
+abbrev pub longest_at_rest : (ℕ → Option ℕ) → Option ℕ → List ℕ → Option ℕ
+longest_at_rest timer best [] = best
+longest_at_rest timer best (name ∷ names) = longest_at_rest timer (longer_at_rest timer best name) names
+
+-- of the loose islands that are ready, the one with the greatest least timer, the lowest of those
+abbrev pub picked_to_split : Labels → List ℕ → Option ℕ
+picked_to_split labels timers = longest_at_rest (λ name. least_timer name labels timers) None (ready true labels timers)
+
+-- the best so far, once the label in a slot was looked at too
+abbrev pub weighed : Labels → List ℕ → Option ℕ → ℕ → Option Label → Option ℕ
+weighed labels timers best slot o = cond (is_island true slot o && is_due (least_timer slot labels timers)) (longer_at_rest (λ name. least_timer name labels timers) best slot) best
+
+abbrev pub split_picked : {C : Type 0} → Option ℕ → Acting C → Acting C
+split_picked None s = s
+split_picked (Some name) s = split_at name s
+
+abbrev pub all_put_to_rest : {C : Type 0} → (C → ℕ) → List ℕ → Acting C → Acting C
+all_put_to_rest number [] s = s
+all_put_to_rest number (name ∷ names) s = all_put_to_rest number names (put_to_rest number name s)
+
+-- all whole islands that are ready fall asleep
+abbrev pub ready_put_to_rest : {C : Type 0} → (C → ℕ) → List ℕ → Acting C → Acting C
+ready_put_to_rest number timers s = all_put_to_rest number (ready false s.labels timers) s
+
+-- one loose island that is ready is split, and then all whole ones that are ready fall asleep
+abbrev pub sleep_phase : {C : Type 0} → (C → ℕ) → List ℕ → Acting C → Acting C
+sleep_phase number timers s = ready_put_to_rest number timers (split_picked (picked_to_split s.labels timers) s)

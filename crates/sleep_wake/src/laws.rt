@@ -1,0 +1,97 @@
+//! What keeps a world settled, and what being settled means. Each function does nothing; its contract is a law.
+
+ghost use Rattle.sleep_wake.specs.Laws.{SleepersAreOneComponent, LinkedStandTogether, WakingKeeps, RestingKeeps, EndingKeeps, BeginningKeeps, TurningKeeps, ChangesFold, TiesAfter, OneOrder, TurnsInto, DroppingKeeps, GoingKeeps, MakingKeeps, EmptyIsSettled, SplittingKeeps, SleepPhaseKeeps};
+
+use graph_colours::Id;
+
+/// A sleeping set is one component: the movers that are in the island of a sleeping mover are just those that
+/// constraints join to it, and the island isn't loose.
+pub fn sleepers_are_one_component<C: Id>()
+    ensures { SleepersAreOneComponent C.number }
+{}
+
+/// Two movers with a constraint between them are in one island, so both are awake or both asleep.
+pub fn linked_movers_stand_together<C: Id>()
+    ensures { LinkedStandTogether C.number }
+{}
+
+/// The island of any mover may wake: all its movers are awake then, and its constraints have taken the least colours
+/// that were free, in their order. Where it is awake already nothing changes.
+pub fn waking_keeps<C: Id>()
+    ensures { WakingKeeps C.number }
+{}
+
+/// An island that isn't loose may fall asleep, and its constraints give up their colours.
+pub fn resting_keeps<C: Id>()
+    ensures { RestingKeeps C.number }
+{}
+
+/// A constraint may end while its movers are awake: it gives up its colour, and the island of its two movers gets
+/// loose.
+pub fn ending_keeps<C: Id>()
+    ensures { EndingKeeps C.number }
+{}
+
+/// A constraint with a new id may begin while its movers are awake: the islands of its two movers are merged, and it
+/// takes a colour.
+pub fn beginning_keeps<C: Id>()
+    ensures { BeginningKeeps C.number }
+{}
+
+/// Constraints may begin and end one after the other, whoever sleeps: each wakes its movers at its turn.
+pub fn turning_keeps<C: Id>()
+    ensures { TurningKeeps C.number }
+{}
+
+/// Changes of constraints that are all different may come in any order.
+pub fn changes_fold<C: Id>()
+    ensures { ChangesFold C.number }
+{}
+
+/// Which constraints there are after changes: those that were there and don't end, and those that begin. Who wakes
+/// meanwhile doesn't matter.
+pub fn ties_after_changes<C: Id>()
+    ensures { TiesAfter C.number }
+{}
+
+/// Two lists of the same constraints that both ascend are one list.
+pub fn one_order<C: Id>()
+    ensures { OneOrder C.number }
+{}
+
+/// From the constraints of one tick to those of the next: what begins and ends between the two lists, one after the
+/// other, leads from the first list to the second and keeps the world settled.
+pub fn turns_into_the_new_constraints<C: Id>()
+    ensures { TurnsInto C.number }
+{}
+
+/// A body that is no mover may go with its constraints of one mover.
+pub fn dropping_keeps<C: Id>()
+    ensures { DroppingKeeps C.number }
+{}
+
+/// An awake mover may go with its constraints, and leaves its island loose.
+pub fn going_keeps<C: Id>()
+    ensures { GoingKeeps C.number }
+{}
+
+/// A mover may come, as an island of its own.
+pub fn making_keeps<C: Id>()
+    ensures { MakingKeeps C.number }
+{}
+
+/// A world with no movers and no constraints is settled.
+pub fn empty_is_settled<C: Id>()
+    ensures { EmptyIsSettled C.number }
+{}
+
+/// An awake island may be replaced by its components.
+pub fn splitting_keeps<C: Id>()
+    ensures { SplittingKeeps C.number }
+{}
+
+/// The sleep phase may come at any time: one loose island that is ready is split, and each whole one that is ready
+/// falls asleep.
+pub fn sleep_phase_keeps<C: Id>()
+    ensures { SleepPhaseKeeps C.number }
+{}

@@ -1,0 +1,23 @@
+//! Islands that fall asleep and wake, with their constraints, after Box2D's solver sets.
+//!
+//! A constraint (a joint, or a contact that touches) acts while all its movers are awake, and has a colour just
+//! then. An island wakes as a whole, and its constraints take colours; it falls asleep as a whole, and they give
+//! them up. Where a constraint begins or ends, its sleeping movers wake first. In the sleep phase of a step one
+//! loose island that is ready to sleep is split, and each whole one that is ready falls asleep.
+//!
+//! What holds throughout is `IsSettled` of the definitions: the constraints ascend, the islands are those that their
+//! links make, and the constraints with a colour are just those that act. The functions of [`laws`] say what keeps
+//! it and what follows from it.
+#![tactic(auto)]
+
+pub mod examples;
+pub mod laws;
+mod phase;
+mod sets;
+mod splits;
+#[cfg(test)]
+mod tests;
+
+pub use phase::{TICKS_TO_SLEEP, pick_split};
+pub use sets::{fall_asleep, wake_movers, wake_set};
+pub use splits::split_set;

@@ -1,0 +1,96 @@
+-- What a table keeps beside its bodies, when one body comes, goes or changes.
+use Rattle.std.proofs.Common.{◌≡◌, ℕ, zero, suc, ◌+◌, ◌<◌, ◌≤◌, Bool, true, false, cond, List, [], ◌∷◌, ◌++◌, length, get_or, slice_set, nat_lt, Option, Some, None, arith, refl, sym, ap, ◌∙◌, inl, inr}
+use Rattle.std.specs.Prelude.{option_map, slice_index_or}
+use Rattle.std.proofs.lemmas.Bool.{cases_Bool, cases_lt}
+use Rattle.std.proofs.lemmas.Bool.Decides.{nat_tests}
+use Rattle.momenta.specs.declared.state.BodyState.{BodyState}
+use Rattle.fixed_geom.specs.declared.vectors.Vec2.{Vec2}
+use Rattle.colour_solver.specs.States.{moves, movers_of, nobody}
+use Rattle.plain_world.specs.declared.body.Body.{Body}
+use Rattle.world_core_base.specs.Awake.{with_slot, with_state, without_slot}
+use Rattle.world_core_base.specs.Gather.{state_of, states_of}
+use Rattle.plain_world.specs.Slots.{body_at, put_p, with_body, with_momentum}
+use Rattle.world_core_base.proofs.GatherLaws.{length-states}
+use Rattle.world_core_base.proofs.SlotsRising.{places-append_off, places-append_on, places-set_off, places-set_on, places-set_same}
+
+pub states-set : (bodies : List (Option Body)) (slot : ℕ) (o : Option Body) → slice_set (states_of bodies) slot (state_of o) ≡ states_of (slice_set bodies slot o)
+states-set [] slot o = refl
+states-set (a ∷ os) zero o = refl
+states-set (a ∷ os) (suc slot) o = ap (λ (l : List BodyState). state_of a ∷ l) (states-set os slot o)
+
+states-append : (bodies : List (Option Body)) (o : Option Body) → (states_of bodies ++ state_of o ∷ []) ≡ states_of (bodies ++ o ∷ [])
+states-append [] o = refl
+states-append (a ∷ os) o = ap (λ (l : List BodyState). state_of a ∷ l) (states-append os o)
+
+is_below : (a b : ℕ) → a < b → nat_lt a b ≡ true
+is_below a b h = grind (arith, nat_tests)
+
+not_below : (a b : ℕ) → b ≤ a → nat_lt a b ≡ false
+not_below a b h = grind (arith, nat_tests)
+
+-- ---- a body that comes
+
+put_states_if : (t : Bool) (bodies : List (Option Body)) (slot : ℕ) (b : Body) → cond t (slice_set (states_of bodies) slot (state_of (Some b))) (states_of bodies ++ state_of (Some b) ∷ []) ≡ states_of (cond t (slice_set bodies slot (Some b)) (bodies ++ Some b ∷ []))
+put_states_if true bodies slot b = states-set bodies slot (Some b)
+put_states_if false bodies slot b = states-append bodies (Some b)
+
+pub put_states : (bodies : List (Option Body)) (states : List BodyState) (slot : ℕ) (b : Body) → states ≡ states_of bodies → with_state states slot (state_of (Some b)) ≡ states_of (with_body bodies slot b)
+put_states bodies states slot b e = rw (e, length-states bodies) (put_states_if (nat_lt slot (length bodies)) bodies slot b)
+
+empty_at : (bodies : List (Option Body)) (slot : ℕ) (d : BodyState) → slot < length bodies → body_at bodies slot ≡ None → get_or (states_of bodies) slot d ≡ nobody
+empty_at [] slot d h e = absurd (omega (arith, h))
+empty_at (None ∷ os) zero d h e = refl
+empty_at (Some b ∷ os) zero d h e = absurd (cc e)
+empty_at (o ∷ os) (suc slot) d h e = empty_at os slot d (omega (arith, h)) e
+
+put_inside : (t : Bool) (ss : List BodyState) (slot : ℕ) (s : BodyState) → s.movable ≡ t → slot < length ss → (get_or ss slot s).movable ≡ false → cond t (with_slot slot (movers_of ss)) (movers_of ss) ≡ movers_of (slice_set ss slot s)
+put_inside true ss slot s e h off = places-set_on moves ss 0 slot slot s (omega arith) h e off
+put_inside false ss slot s e h off = sym (places-set_same moves ss 0 slot s (e ∙ sym off))
+
+put_behind : (t : Bool) (ss : List BodyState) (slot : ℕ) (s : BodyState) → s.movable ≡ t → slot ≡ length ss → cond t (with_slot slot (movers_of ss)) (movers_of ss) ≡ movers_of (ss ++ s ∷ [])
+put_behind true ss slot s e h = places-append_on moves ss 0 slot s (omega (arith, h)) e
+put_behind false ss slot s e h = sym (places-append_off moves ss 0 s e)
+
+put_movers_of : (bodies : List (Option Body)) (slot : ℕ) (s : BodyState) → slot ≤ length bodies → body_at bodies slot ≡ None → cond s.movable (with_slot slot (movers_of (states_of bodies))) (movers_of (states_of bodies)) ≡ movers_of (with_state (states_of bodies) slot s)
+put_movers_of bodies slot s h free =
+    let long = length-states bodies in
+    elim (cases_lt slot (length (states_of bodies))) [
+      | inl less ↦ rw (is_below slot (length (states_of bodies)) less) (put_inside s.movable (states_of bodies) slot s refl less (ap (λ (b : BodyState). b.movable) (empty_at bodies slot s (omega (arith, less, long)) free)))
+      | inr more ↦ rw (not_below slot (length (states_of bodies)) more) (put_behind s.movable (states_of bodies) slot s refl (omega (arith, more, long, h)))
+    ]
+
+pub put_movers : (bodies : List (Option Body)) (states : List BodyState) (awake : List ℕ) (slot : ℕ) (s : BodyState) → states ≡ states_of bodies → awake ≡ movers_of states → slot ≤ length bodies → body_at bodies slot ≡ None
+    → cond s.movable (with_slot slot awake) awake ≡ movers_of (with_state states slot s)
+put_movers bodies states awake slot s e f h free = rw (f, e) (put_movers_of bodies slot s h free)
+
+-- ---- a body that goes
+
+pub clear_movers : (states : List BodyState) (awake : List ℕ) (slot : ℕ) → awake ≡ movers_of states → slot < length states → without_slot slot awake ≡ movers_of (slice_set states slot nobody)
+clear_movers states awake slot e h = rw e (places-set_off moves states 0 slot slot nobody (omega arith) h refl)
+
+-- ---- a body that is pushed
+
+body_at-put : (bodies : List (Option Body)) (slot : ℕ) (o : Option Body) → slot < length bodies → body_at (slice_set bodies slot o) slot ≡ o
+body_at-put [] slot o h = absurd (omega (arith, h))
+body_at-put (y ∷ bodies) zero o h = refl
+body_at-put (y ∷ bodies) (suc slot) o h = body_at-put bodies slot o (omega (arith, h))
+
+-- the state of one body, taken anew from it
+pub renewed_states : (bodies : List (Option Body)) (states : List BodyState) (slot : ℕ) (o : Option Body) → states ≡ states_of bodies → slot < length bodies → slice_set states slot (state_of (body_at (slice_set bodies slot o) slot)) ≡ states_of (slice_set bodies slot o)
+renewed_states bodies states slot o e h = rw (e, body_at-put bodies slot o h) (states-set bodies slot o)
+
+still_moves : (p : Vec2) (o : Option Body) → (state_of (option_map (put_p p) o)).movable ≡ (state_of o).movable
+still_moves p None = refl
+still_moves p (Some b) = refl
+
+state_there : (bodies : List (Option Body)) (slot : ℕ) (d : BodyState) → slot < length bodies → get_or (states_of bodies) slot d ≡ state_of (body_at bodies slot)
+state_there [] slot d h = absurd (omega (arith, h))
+state_there (None ∷ os) zero d h = refl
+state_there (Some b ∷ os) zero d h = refl
+state_there (o ∷ os) (suc slot) d h = state_there os slot d (omega (arith, h))
+
+pub pushed_movers : (bodies : List (Option Body)) (slot : ℕ) (p : Vec2) → slot < length bodies → movers_of (states_of bodies) ≡ movers_of (states_of (with_momentum bodies slot p))
+pushed_movers bodies slot p h =
+    let o : Option Body = option_map (put_p p) (body_at bodies slot) in
+    let same : (state_of o).movable ≡ (get_or (states_of bodies) slot (state_of o)).movable = still_moves p (body_at bodies slot) ∙ ap (λ (s : BodyState). s.movable) (sym (state_there bodies slot (state_of o) h)) in
+    sym (ap movers_of (sym (states-set bodies slot o)) ∙ places-set_same moves (states_of bodies) 0 slot (state_of o) same)

@@ -1,0 +1,35 @@
+-- The movers' slots, ascending, and the states by slot: what a step goes over, kept beside the bodies.
+use Rattle.std.specs.Prelude.{◌≡◌, ℕ, ◌<◌, ◌≤◌, ◌==◌, Bool, not, cond, nat_lt, List, [], ◌∷◌, ◌++◌, length, Option, slice_set}
+use Rattle.std.specs.List.{AllPairs, filter}
+use Rattle.momenta.specs.declared.state.BodyState.{BodyState}
+use Rattle.colour_solver.specs.States.{movers_of}
+use Rattle.plain_world.specs.declared.body.Body.{Body}
+use Rattle.world_core_base.specs.Gather.{states_of}
+
+abbrev pub AreSlotsRising : List ℕ → Type 0
+AreSlotsRising slots = AllPairs (λ s later. s < later) slots
+
+-- with one more slot, which stands before the first that isn't lower
+abbrev pub with_slot : ℕ → List ℕ → List ℕ
+with_slot slot [] = slot ∷ []
+with_slot slot (s ∷ slots) = cond (nat_lt s slot) (s ∷ with_slot slot slots) (slot ∷ s ∷ slots)
+
+abbrev pub without_slot : ℕ → List ℕ → List ℕ
+without_slot slot slots = filter (λ s. not (s == slot)) slots
+
+-- a state put into a slot, or into a new one at the end
+abbrev pub with_state : List BodyState → ℕ → BodyState → List BodyState
+with_state states slot s = cond (nat_lt slot (length states)) (slice_set states slot s) (states ++ s ∷ [])
+
+-- what contracts see of a table of bodies: the bodies by slot, and for how many more there is room
+pub record Bodies : Type 0 where
+  pub bodies : List (Option Body)
+  pub room : ℕ
+
+-- What a table keeps beside its bodies: their states, the movers' slots, and room in each of its lists.
+pub record IsBodyTable (bodies : List (Option Body)) (ss : List BodyState) (slots : List ℕ) (room bodies_left states_left awake_left : ℕ) : Type 0 where
+  pub states : ss ≡ states_of bodies
+  pub awake : slots ≡ movers_of ss
+  pub for_bodies : room ≤ bodies_left
+  pub for_states : room ≤ states_left
+  pub for_awake : room ≤ awake_left

@@ -1,0 +1,194 @@
+//! The bodies of a world by slot, with what a step goes over: their states, and the movers' slots.
+
+ghost use Rattle.std.specs.Prelude.{◌≡◌, ◌+◌, ◌-◌, ◌<◌, ◌≤◌, ◌^◌, ◌+ℤ◌, [], None, IfOk, OnOk, length, slice_set, vec_len, vec_capacity};
+ghost use Rattle.std.specs.Result.{IsOkUnless};
+ghost use Rattle.fixed_geom.specs.Vectors.{IsWithin};
+ghost use Rattle.momenta.specs.declared.state.BodyState.{BodyState};
+ghost use Rattle.colour_solver.specs.States.{AreAllStates};
+ghost use Rattle.colour_solver.specs.Ticks.{AreSums, added_x, added_y, ran, run_of, start};
+ghost use Rattle.colour_solver.specs.Turns.{AreRowsBelow};
+ghost use Rattle.world_core_base.specs.Awake.{with_state};
+ghost use Rattle.plain_world.specs.Bodies.{AreBodies, momentum_x, momentum_y};
+ghost use Rattle.world_core_base.specs.Gather.{state_of, states_of, with_motions};
+ghost use Rattle.world_core_base.specs.Renewal.{renewed_bodies};
+ghost use Rattle.plain_world.specs.Slots.{HaveSameSlots, body_at, with_body, with_momentum};
+
+use crate::awake::{add_mover, drop_slot};
+use crate::gather::{NOBODY, body_state};
+use crate::moving::move_awake;
+use body_handles::MAX_SLOTS;
+use colour_solver::{StepSums, run_step};
+use colour_solver_base::ContactRow;
+use fixed_geom::{Refusal, Vec2};
+use momenta::BodyState;
+use plain_world::{Body, clear_slot, copy_bodies, put_body, put_momentum};
+use std::alloc::Global;
+use std::marker::Model;
+
+/// The bodies by slot. Contracts see them, and for how many more there is room.
+#[derive(Drop)]
+pub struct BodyTable {
+    bodies: Vec<Option<Body>>,
+    // The bodies as the ticks work on them, by slot.
+    states: Vec<BodyState>,
+    // The movers' slots, ascending.
+    awake: Vec<u32>,
+    // For how many more bodies each list has room.
+    room: usize,
+}
+
+impl Model for BodyTable {
+    ghost use Rattle.std.specs.Prelude.{◌-◌, vec_capacity, vec_len};
+    ghost use Rattle.world_core_base.specs.Awake.{Bodies, IsBodyTable};
+
+    ghost Value = { Bodies };
+
+    ghost view = { λ a. record { bodies = a.bodies.items; room = a.room } };
+
+    ghost invariant = { λ a. IsBodyTable a.bodies.items a.states.items a.awake.items a.room (vec_capacity a.bodies - vec_len a.bodies) (vec_capacity a.states - vec_len a.states) (vec_capacity a.awake - vec_len a.awake) };
+}
+
+/// Puts a state into a slot, or into a new one at the end, for which there is room.
+fn put_state(states: &mut Vec<BodyState>, slot: usize, state: BodyState)
+    requires { 1 ≤ vec_capacity states.old - vec_len states.old }
+    ensures { states.new.items ≡ with_state states.old.items slot state }
+{
+    if slot < states.len() {
+        states[slot] = state;
+    } else {
+        let _ = states.push(state);
+    }
+}
+
+/// Sets the momentum of the state in a slot, if it is a mover's or another body's that is there.
+fn put_state_momentum(states: &mut Vec<BodyState>, bodies: &[Option<Body>], slot: usize)
+    requires bodies { slot < length bodies.now }
+    requires states { slot < length states.old.items }
+    ensures { states.new.items ≡ slice_set states.old.items slot (state_of (body_at bodies.now slot)) }
+{
+    states[slot] = crate::gather::state_of(&bodies[slot]);
+}
+
+impl BodyTable {
+    /// No body.
+    pub fn new(alloc: Global) -> BodyTable
+        ensures { result.bodies ≡ [] }
+    {
+        BodyTable {
+            bodies: Vec::new(alloc),
+            states: Vec::new(alloc),
+            awake: Vec::new(alloc),
+            room: 0,
+        }
+    }
+
+    /// Where its memory comes from.
+    pub fn allocator(&self) -> Global {
+        *self.bodies.allocator()
+    }
+
+    /// The bodies by slot.
+    pub fn bodies(&self) -> &[Option<Body>]
+        ensures { result.now ≡ self.now.bodies }
+    {
+        self.bodies.as_slice()
+    }
+
+    /// The bodies by slot as a step works on them.
+    pub fn states(&self) -> &[BodyState]
+        ensures { result.now ≡ states_of self.now.bodies }
+    {
+        self.states.as_slice()
+    }
+
+    /// Makes room for one more body. Refused 1 where memory is wanting.
+    pub fn reserve_one(&mut self) -> Result<(), Refusal>
+        ensures bodies { self.new.bodies ≡ self.old.bodies }
+        ensures room { OnOk result (1 ≤ self.new.room) }
+        ensures memory_only { IsOkUnless result Refusal.NoMemory }
+    {
+        self.room = 0;
+        self.bodies.reserve(1)?;
+        self.states.reserve(1)?;
+        self.awake.reserve(1)?;
+        self.room = 1;
+        Ok(())
+    }
+
+    /// Puts a body into an empty slot, or into a new one at the end, for which there is room.
+    pub fn put(&mut self, slot: u32, body: Body)
+        requires room { 1 ≤ self.old.room }
+        requires next { slot ≤ length self.old.bodies }
+        requires free { body_at self.old.bodies slot ≡ None }
+        ensures { self.new.bodies ≡ with_body self.old.bodies slot body }
+    {
+        let state = body_state(&body);
+        self.room = 0;
+        add_mover(&mut self.awake, slot, state.movable);
+        put_state(&mut self.states, slot as usize, state);
+        put_body(&mut self.bodies, slot as usize, body);
+    }
+
+    /// Empties a slot.
+    pub fn clear(&mut self, slot: u32)
+        requires { slot < length self.old.bodies }
+        ensures bodies { self.new.bodies ≡ slice_set self.old.bodies slot None }
+    {
+        self.room = 0;
+        drop_slot(&mut self.awake, slot);
+        self.states[slot as usize] = NOBODY;
+        clear_slot(&mut self.bodies, slot as usize);
+    }
+
+    /// Sets the momentum of the body in a slot.
+    pub fn put_momentum(&mut self, slot: u32, p: Vec2)
+        requires { slot < length self.old.bodies }
+        ensures bodies { self.new.bodies ≡ with_momentum self.old.bodies slot p }
+    {
+        self.room = 0;
+        put_momentum(&mut self.bodies, slot as usize, p);
+        put_state_momentum(&mut self.states, &self.bodies, slot as usize);
+    }
+
+    /// Runs the ticks of a step, 0 to 8, and its restitution, over the movers and over the contacts in solve order; each mover's fat boxes
+    /// that its shapes have left are then made anew. Answers what was added to the movers' momentum, by cause.
+    pub fn run(&mut self, rows: &mut Vec<ContactRow>, gravity: Vec2, count: u64) -> StepSums
+        requires few { length self.old.bodies ≤ MAX_SLOTS }
+        requires bodies { AreBodies self.old.bodies }
+        requires gravity { IsWithin (2 ^ 16) gravity }
+        requires rows { AreRowsBelow (length self.old.bodies) rows.old.items }
+        requires count { count ≤ 8 }
+        ensures run { run_of (ran count gravity (start (states_of self.old.bodies) rows.old.items)).states rows.new.items result ≡ ran count gravity (start (states_of self.old.bodies) rows.old.items) }
+        ensures bodies { self.new.bodies ≡ renewed_bodies (with_motions self.old.bodies (ran count gravity (start (states_of self.old.bodies) rows.old.items)).states) }
+        ensures rows { AreRowsBelow (length self.old.bodies) rows.new.items }
+        ensures all_bodies { AreBodies self.new.bodies }
+        ensures slots { HaveSameSlots self.old.bodies self.new.bodies }
+        ensures small { AreSums (2 ^ 83) result }
+        ensures momentum_x { momentum_x self.new.bodies ≡ momentum_x self.old.bodies +ℤ added_x result }
+        ensures momentum_y { momentum_y self.new.bodies ≡ momentum_y self.old.bodies +ℤ added_y result }
+    {
+        self.room = 0;
+        let sums = run_step(&mut self.states, rows, &self.awake, gravity, count);
+        move_awake(&mut self.bodies, &mut self.states, &self.awake);
+        sums
+    }
+
+    /// A copy, with no room. Refused 1 where memory is wanting.
+    pub fn try_copy(&self) -> Result<BodyTable, Refusal>
+        ensures copy { IfOk result (λ copied. copied.bodies ≡ self.now.bodies) }
+        ensures memory_only { IsOkUnless result Refusal.NoMemory }
+    {
+        let alloc = *self.bodies.allocator();
+        let bodies = copy_bodies(alloc, &self.bodies)?;
+        let mut states = Vec::new(alloc);
+        states.extend_from_slice(&self.states)?;
+        let mut awake = Vec::new(alloc);
+        awake.extend_from_slice(&self.awake)?;
+        Ok(BodyTable {
+            bodies,
+            states,
+            awake,
+            room: 0,
+        })
+    }
+}
