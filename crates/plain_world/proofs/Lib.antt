@@ -1,2 +1,3 @@
+pub mod BoxLemmas
 pub mod CensusLemmas
 pub mod FatLaws

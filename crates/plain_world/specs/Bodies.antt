@@ -1,5 +1,5 @@
 -- Bodies: which are movers, where each stands, what may be made, and the movers' momentum.
-use Rattle.std.specs.Prelude.{◌≡◌, ℕ, ◌^◌, Bool, true, false, not, ◌&&◌, cond, All, length, List, [], ◌∷◌, Option, Some, None, ℤ, pos, ◌+ℤ◌, slice_get}
+use Rattle.std.specs.Prelude.{◌≡◌, ℕ, ◌^◌, Bool, true, false, not, ◌&&◌, cond, All, List, [], ◌∷◌, Option, Some, None, ℤ, pos, ◌+ℤ◌, slice_get}
 use Rattle.std.specs.Ordering.{int_eq}
 use Rattle.fixed_geom.specs.Vectors.{IsWithin, is_within}
 use Rattle.fixed_geom.specs.Facings.{IsFacing, is_facing}
@@ -19,7 +19,7 @@ use Rattle.plain_world.specs.declared.body.BodyDef.{BodyDef}
 use Rattle.plain_world.specs.declared.body.BodyView.{BodyView}
 use Rattle.shapes.specs.Shapes.{is_between, shapes_refusal, IsShapeDef}
 use Rattle.shapes.specs.declared.pose.Pose.{Pose}
-use Rattle.plain_world.specs.Fats.{fat_boxes}
+use Rattle.plain_world.specs.Fats.{AreFatBoxes, fat_boxes}
 
 -- ---- where a body stands
 
@@ -99,7 +99,7 @@ pub record IsBody (b : Body) : Type 0 where
   pub rest : is_mover b ≡ false → IsAtRest b.motion
   pub shapes : shapes_refusal (not (is_dynamic b.kind)) b.shapes ≡ None
   pub forms : All IsShapeDef b.shapes
-  pub fats : length b.fats ≡ length b.shapes
+  pub fats : AreFatBoxes (pose_of b) b.shapes b.fats
 
 abbrev pub AreBodies : List (Option Body) → Type 0
 AreBodies bodies = (slot : ℕ) (b : Body) → slice_get bodies slot ≡ Some (Some b) → IsBody b

@@ -1,6 +1,6 @@
 -- Fat boxes: for each shape of a body a box with room to move in.
-use Rattle.std.specs.Prelude.{cond, List, [], ◌∷◌, map}
-use Rattle.fixed_geom.specs.Boxes.{contains}
+use Rattle.std.specs.Prelude.{◌≡◌, ◌^◌, cond, List, [], ◌∷◌, map, length}
+use Rattle.fixed_geom.specs.Boxes.{contains, Contains, IsBoxWithin}
 use Rattle.fixed_geom.specs.declared.boxes.Box2.{Box2}
 use Rattle.shapes.specs.Bounds.{tight_box, fat_box}
 use Rattle.shapes.specs.declared.pose.Pose.{Pose}
@@ -23,3 +23,21 @@ abbrev pub renewed_boxes : Pose → List ShapeDef → List Box2 → List Box2
 renewed_boxes o [] fats = fats
 renewed_boxes o (d ∷ defs) [] = []
 renewed_boxes o (d ∷ defs) (fat ∷ fats) = renewed d.shape o fat ∷ renewed_boxes o defs fats
+
+-- ---- what is kept of them
+
+-- a fat box of a shape of a body with the pose o: it contains the tight box, and lies within 2^37
+pub record IsFatBox (o : Pose) (s : Shape) (fat : Box2) : Type 0 where
+  pub contains : Contains fat (tight_box s o)
+  pub within : IsBoxWithin (2 ^ 37) fat
+
+-- the same of each shape and its box, in their order
+abbrev pub EachIsFatBox : Pose → List ShapeDef → List Box2 → Type 0
+EachIsFatBox o [] fats = Unit {0}
+EachIsFatBox o (d ∷ defs) [] = Unit {0}
+EachIsFatBox o (d ∷ defs) (fat ∷ fats) = IsFatBox o d.shape fat × EachIsFatBox o defs fats
+
+-- each shape has a fat box
+pub record AreFatBoxes (o : Pose) (defs : List ShapeDef) (fats : List Box2) : Type 0 where
+  pub long : length fats ≡ length defs
+  pub each : EachIsFatBox o defs fats

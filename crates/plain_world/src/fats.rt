@@ -4,7 +4,7 @@ ghost use Rattle.std.specs.Prelude.{◌≡◌, [], All, IfOk, length};
 ghost use Rattle.std.specs.Result.{IsOkUnless};
 ghost use Rattle.shapes.specs.Shapes.{IsShape, IsShapeDef};
 ghost use Rattle.shapes.specs.Poses.{IsPose};
-ghost use Rattle.plain_world.specs.Fats.{fat_box_of, fat_boxes, renewed, renewed_boxes};
+ghost use Rattle.plain_world.specs.Fats.{AreFatBoxes, fat_box_of, fat_boxes, renewed, renewed_boxes};
 
 use fixed_geom::{Box2, Refusal, contains};
 use shapes::{Pose, Shape, ShapeDef, fat_box, tight_box};
@@ -43,6 +43,7 @@ impl FatBoxes {
         requires defs { All IsShapeDef defs.now }
         requires pose { IsPose pose }
         ensures boxes { IfOk result (λ fats. fats ≡ fat_boxes defs.now pose) }
+        ensures fat { IfOk result (λ fats. AreFatBoxes pose defs.now fats) }
         ensures memory_only { IsOkUnless result Refusal.NoMemory }
     {
         let mut boxes = SmallVec::new(alloc);

@@ -1,10 +1,10 @@
 -- What a step gathers from bodies and contacts, and what it writes back to the bodies.
 use Rattle.std.proofs.Common.{◌≡◌, inl, inr, ◌⊎◌, ℕ, zero, suc, ◌<◌, List, [], ◌∷◌, length, Option, Some, None, Bool, true, false, cond, arith, refl, sym, ap, ◌∙◌, subst, is_some, slice_index_or}
-use Rattle.std.specs.Prelude.{option_map}
+use Rattle.std.specs.Prelude.{All, not, option_map, slice_get}
 use Rattle.std.proofs.lemmas.Int.{ints}
 use Rattle.std.proofs.lemmas.Option.{slice_get-get_or}
 use Rattle.fixed_geom.specs.Reciprocals.{rdiv_reciprocal, share_reciprocal}
-use Rattle.momenta.specs.Motions.{IsMass}
+use Rattle.momenta.specs.Motions.{IsMass, IsMotion}
 use Rattle.momenta.specs.Reciprocals.{reciprocals_of}
 use Rattle.momenta.specs.Impulses.{AreStates, IsState}
 use Rattle.momenta.specs.declared.mass.MassData.{MassData}
@@ -15,7 +15,10 @@ use Rattle.colour_solver.specs.States.{nobody, AreAllStates, AreSameStates, tota
 use Rattle.plain_world.specs.declared.body.Body.{Body}
 use Rattle.plain_world.specs.declared.body.Kind.{Kind}
 use Rattle.plain_world.specs.declared.body.Kind.TheVariants.{Static, Dynamic}
-use Rattle.plain_world.specs.Bodies.{AreBodies, IsBody, IsMassOf, is_dynamic, is_mover, momentum_x, momentum_y, p_x, p_y}
+use Rattle.shapes.specs.Shapes.{IsShapeDef, shapes_refusal}
+use Rattle.shapes.specs.declared.pose.Pose.{Pose}
+use Rattle.plain_world.specs.Bodies.{AreBodies, IsAtRest, IsBody, IsMassOf, is_dynamic, is_mover, momentum_x, momentum_y, p_x, p_y, pose_of}
+use Rattle.plain_world.specs.Fats.{AreFatBoxes}
 use Rattle.plain_world.specs.Slots.{HaveSameSlots, body_at}
 use Rattle.world_core_base.specs.Gather.{ends_at, moves, state_of, states_of, with_motion, with_motions}
 
@@ -96,28 +99,47 @@ length-states (o ∷ os) = ap suc (length-states os)
 
 -- ---- what stays a body
 
+-- a body that the ticks have moved: its fat boxes are those of the pose that it had before
+pub record IsMovedBody (b : Body) : Type 0 where
+  pub before : Pose
+  pub mass : IsMassOf b.kind b.mass
+  pub motion : IsMotion b.mass b.motion
+  pub rest : is_mover b ≡ false → IsAtRest b.motion
+  pub shapes : shapes_refusal (not (is_dynamic b.kind)) b.shapes ≡ None
+  pub forms : All IsShapeDef b.shapes
+  pub fats : AreFatBoxes before b.shapes b.fats
+  pub still : is_mover b ≡ false → AreFatBoxes (pose_of b) b.shapes b.fats
+
+unmoved : (b : Body) → IsBody b → IsMovedBody b
+unmoved b is = record { before = pose_of b; mass = is.mass; motion = is.motion; rest = is.rest; shapes = is.shapes; forms = is.forms; fats = is.fats; still = λ e. is.fats }
+
 -- of the body b, as its state s has left it
-moved_if : (m : Bool) (b : Body) (s : BodyState) → is_mover b ≡ m → IsBody b → IsState s → s.mass ≡ b.mass → IsBody (cond m (record b { motion = s.motion }) b)
+moved_if : (m : Bool) (b : Body) (s : BodyState) → is_mover b ≡ m → IsBody b → IsState s → s.mass ≡ b.mass → IsMovedBody (cond m (record b { motion = s.motion }) b)
 moved_if true b s e is state same = record {
+  before = pose_of b;
   mass = is.mass;
   motion = rw same at state.motion;
   rest = λ still. absurd (let both : true ≡ false = sym e ∙ still in cc both);
   shapes = is.shapes;
   forms = is.forms;
   fats = is.fats;
+  still = λ still. absurd (let both : true ≡ false = sym e ∙ still in cc both);
 }
-moved_if false b s e is state same = is
+moved_if false b s e is state same = unmoved b is
 
-entry_moved : (o : Option Body) (s : BodyState) (b : Body) → ((a : Body) → o ≡ Some a → IsBody a) → IsState s → s.mass ≡ (state_of o).mass → option_map (with_motion s) o ≡ Some b → IsBody b
+entry_moved : (o : Option Body) (s : BodyState) (b : Body) → ((a : Body) → o ≡ Some a → IsBody a) → IsState s → s.mass ≡ (state_of o).mass → option_map (with_motion s) o ≡ Some b → IsMovedBody b
 entry_moved None s b is state same e = cc
-entry_moved (Some a) s b is state same e = let now : with_motion s a ≡ b = cc in subst IsBody now (moved_if (is_mover a) a s refl (is a refl) state same)
+entry_moved (Some a) s b is state same e = let now : with_motion s a ≡ b = cc in subst IsMovedBody now (moved_if (is_mover a) a s refl (is a refl) state same)
+
+abbrev pub AreMovedBodies : List (Option Body) → Type 0
+AreMovedBodies bodies = (slot : ℕ) (b : Body) → slice_get bodies slot ≡ Some (Some b) → IsMovedBody b
 
 pub tail_same : (o : Option Body) (os : List (Option Body)) (s : BodyState) (ss : List BodyState) → AreSameStates (states_of (o ∷ os)) (s ∷ ss) → AreSameStates (states_of os) ss
 tail_same o os s ss h = record { long = let whole = h.long in omega (arith, whole); immovable = λ slot. h.immovable (suc slot); reciprocals = λ slot. h.reciprocals (suc slot); movable = λ slot. h.movable (suc slot); mass = λ slot. h.mass (suc slot) }
 
-pub bodies-moved : (bodies : List (Option Body)) (states : List BodyState) → AreBodies bodies → AreAllStates states → AreSameStates (states_of bodies) states → AreBodies (with_motions bodies states)
+pub bodies-moved : (bodies : List (Option Body)) (states : List BodyState) → AreBodies bodies → AreAllStates states → AreSameStates (states_of bodies) states → AreMovedBodies (with_motions bodies states)
 bodies-moved [] states all given same slot b e = cc
-bodies-moved (o ∷ os) [] all given same slot b e = all slot b e
+bodies-moved (o ∷ os) [] all given same slot b e = unmoved b (all slot b e)
 bodies-moved (o ∷ os) (s ∷ ss) all given same zero b e = entry_moved o s b (λ a f. all zero a (ap Some f)) (given zero s refl) (same.mass zero) (cc)
 bodies-moved (o ∷ os) (s ∷ ss) all given same (suc slot) b e = bodies-moved os ss (λ k c f. all (suc k) c f) (λ k t f. given (suc k) t f) (tail_same o os s ss same) slot b e
 

@@ -5,29 +5,34 @@ use Rattle.std.proofs.lemmas.Int.{ints}
 use Rattle.plain_world.specs.declared.body.Body.{Body}
 use Rattle.plain_world.specs.Bodies.{is_mover, pose_of, IsBody, AreBodies, p_x, p_y, momentum_x, momentum_y}
 use Rattle.plain_world.specs.Fats.{renewed_boxes}
+use Rattle.plain_world.proofs.BoxLemmas.{renewed_are}
+use Rattle.world_core_base.proofs.GatherLaws.{AreMovedBodies, IsMovedBody}
 use Rattle.world_core_base.specs.Renewal.{with_renewed, renewed_bodies}
 use Rattle.plain_world.specs.Slots.{body_at, HaveSameSlots}
 use Rattle.shapes.specs.declared.pose.Pose.{Pose}
 use Rattle.shapes.specs.declared.shape.ShapeDef.{ShapeDef}
 use Rattle.fixed_geom.specs.declared.boxes.Box2.{Box2}
 
-length-renewed : (o : Pose) (defs : List ShapeDef) (fats : List Box2) → length fats ≡ length defs → length (renewed_boxes o defs fats) ≡ length defs
-length-renewed o [] fats e = e
-length-renewed o (d ∷ defs) [] e = absurd (omega arith)
-length-renewed o (d ∷ defs) (f ∷ fats) e = let rest = length-renewed o defs fats (omega arith) in omega (arith, rest)
+kept_if : (m : Bool) (b : Body) → is_mover b ≡ m → IsMovedBody b → IsBody (cond m (record b { fats = renewed_boxes (pose_of b) b.shapes b.fats }) b)
+kept_if true b e is = record {
+  mass = is.mass;
+  motion = is.motion;
+  rest = is.rest;
+  shapes = is.shapes;
+  forms = is.forms;
+  fats = renewed_are is.before (pose_of b) b.shapes b.fats is.forms (record { x = is.motion.x; rot = is.motion.facing }) is.fats;
+}
+kept_if false b e is = record { mass = is.mass; motion = is.motion; rest = is.rest; shapes = is.shapes; forms = is.forms; fats = is.still e }
 
-kept_if : (m : Bool) (b : Body) → is_mover b ≡ m → IsBody b → IsBody (cond m (record b { fats = renewed_boxes (pose_of b) b.shapes b.fats }) b)
-kept_if true b e is = record { mass = is.mass; motion = is.motion; rest = is.rest; shapes = is.shapes; forms = is.forms; fats = length-renewed (pose_of b) b.shapes b.fats is.fats }
-kept_if false b e is = is
-
-is_body : (b : Body) → IsBody b → IsBody (with_renewed b)
+is_body : (b : Body) → IsMovedBody b → IsBody (with_renewed b)
 is_body b is = kept_if (is_mover b) b refl is
 
-entry_body : (o : Option Body) (b : Body) → ((a : Body) → o ≡ Some a → IsBody a) → option_map with_renewed o ≡ Some b → IsBody b
+entry_body : (o : Option Body) (b : Body) → ((a : Body) → o ≡ Some a → IsMovedBody a) → option_map with_renewed o ≡ Some b → IsBody b
 entry_body None b is e = cc
 entry_body (Some a) b is e = let same : with_renewed a ≡ b = cc in subst IsBody same (is_body a (is a refl))
 
-pub bodies-renewed : (bodies : List (Option Body)) → AreBodies bodies → AreBodies (renewed_bodies bodies)
+-- the bodies that the ticks have moved, once their fat boxes are made anew
+pub bodies-renewed : (bodies : List (Option Body)) → AreMovedBodies bodies → AreBodies (renewed_bodies bodies)
 bodies-renewed [] all slot b e = cc
 bodies-renewed (o ∷ os) all zero b e = entry_body o b (λ a f. all zero a (ap Some f)) (cc)
 bodies-renewed (o ∷ os) all (suc slot) b e = bodies-renewed os (λ k c f. all (suc k) c f) slot b e
