@@ -1,0 +1,3 @@
+pub mod BoxLists
+pub mod Indexes
+pub mod Tables

@@ -1,0 +1,24 @@
+//! Boxes by key, in a balanced tree: which boxes overlap one, and what a ray hits first.
+//!
+//! A [`BoxTree`] answers as a scan of all boxes does. Contracts see the list of boxes by key, and nothing of the tree.
+//! The keys whose boxes overlap a given one come ascending; a ray's first hit is the least by fraction, then by key.
+//!
+//! # How it is kept
+//!
+//! Box2D's dynamic tree ('b2DynamicTree') gave the idea: a binary tree of boxes, with a leaf for each box, where the leaf
+//! has a loose box so that small moves leave the tree as it is. Its leaves stand in no order; here they stand in the order of
+//! a Morton code of the box's corner, so that one way down finds the leaf of a known rank. The tree is balanced as
+//! Adelson-Velsky and Landis do it. A table gives the rank by key, with which `remove` and `replace` cost by the
+//! logarithm.
+#![tactic(auto)]
+
+mod boxes;
+mod index;
+mod places;
+mod table;
+#[cfg(test)]
+mod tests;
+
+pub use box_tree_base::{Hit, Ray};
+pub use boxes::BoxTree;
+pub use places::MAX_KEYS;

@@ -1,0 +1,4 @@
+pub mod DepthLemmas
+pub mod ForkLemmas
+pub mod ListLemmas
+pub mod WalkLemmas

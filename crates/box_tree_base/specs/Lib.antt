@@ -1,0 +1,9 @@
+pub mod Depths
+pub mod Joins
+pub mod Lists
+pub mod Measure
+pub mod Outline
+pub mod Queries
+pub mod Rays
+pub mod Roots
+pub mod Trees

@@ -1,0 +1,69 @@
+//! A leaf put into a tree, and one taken out.
+
+ghost use Rattle.std.specs.Prelude.{◌≡◌, ◌+◌, ◌^◌, ◌<◌, ◌≤◌, length};
+ghost use Rattle.box_tree_base.specs.Lists.{Each, IsIn, IsAdded};
+ghost use Rattle.box_tree_base.specs.Trees.{IsOther};
+
+use crate::forks::{balanced, pair};
+use crate::leaves::{BLANK, Leaf};
+use crate::tree::{Node, Tree, taken};
+use std::mem;
+
+impl Tree {
+    /// Puts a leaf into its place by rank, with two boxes for the fork that it makes.
+    pub fn insert(&mut self, leaf: &Leaf, first: Box<Tree>, second: Box<Tree>)
+        requires other { Each (IsOther leaf.now.rank) self.old.leaves }
+        requires few { length self.old.leaves + 1 < 2 ^ 32 }
+        ensures added { IsAdded leaf.now self.old.leaves self.new.leaves }
+        ensures not_lower { self.old.height ≤ self.new.height }
+        ensures at_most_one_higher { self.new.height ≤ self.old.height + 1 }
+    {
+        match mem::replace(&mut self.node, Node::Tip(BLANK)) {
+            Node::Tip(other) => {
+                self.node = pair(leaf, &other, first, second);
+            }
+            Node::Fork(mut left, stem, mut right) => {
+                if leaf.rank < stem.split {
+                    left.insert(leaf, first, second);
+                    self.node = balanced(left, stem.split, right);
+                } else {
+                    right.insert(leaf, first, second);
+                    self.node = balanced(left, stem.split, right);
+                }
+            }
+        }
+    }
+
+    /// Takes a leaf out of a tree that has others, and gives back the two boxes of the fork that goes with it.
+    pub fn remove(&mut self, leaf: &Leaf) -> (Box<Tree>, Box<Tree>)
+        requires there { IsIn leaf.now self.old.leaves }
+        requires more { 0 < self.old.height }
+        requires few { length self.old.leaves < 2 ^ 32 }
+        ensures removed { IsAdded leaf.now self.new.leaves self.old.leaves }
+        ensures not_higher { self.new.height ≤ self.old.height }
+        ensures at_most_one_lower { self.old.height ≤ self.new.height + 1 }
+    {
+        match mem::replace(&mut self.node, Node::Tip(BLANK)) {
+            Node::Tip(_) => unreachable!(),
+            Node::Fork(mut left, stem, mut right) => {
+                if leaf.rank < stem.split {
+                    if left.height() == 0 {
+                        self.node = taken(&mut right);
+                        (left, right)
+                    } else {
+                        let boxes = left.remove(leaf);
+                        self.node = balanced(left, stem.split, right);
+                        boxes
+                    }
+                } else if right.height() == 0 {
+                    self.node = taken(&mut left);
+                    (left, right)
+                } else {
+                    let boxes = right.remove(leaf);
+                    self.node = balanced(left, stem.split, right);
+                    boxes
+                }
+            }
+        }
+    }
+}

@@ -1,0 +1,50 @@
+//! Walks through a tree, which leave out what lies in a box that they can't meet.
+
+ghost use Rattle.std.specs.Prelude.{◌≡◌, ◌++◌, OnOk};
+ghost use Rattle.box_tree_base.specs.Lists.{Each};
+ghost use Rattle.box_tree_base.specs.Queries.{keys_over};
+ghost use Rattle.box_tree_base.specs.Rays.{first_among, IsHitWithin};
+
+use crate::rays::{Hit, Ray, nearer};
+use crate::tree::{Node, Tree};
+use fixed_geom::{Box2, overlaps};
+use std::alloc::AllocError;
+
+impl Tree {
+    /// Adds the keys of the leaves whose boxes overlap the wanted one, from left to right.
+    pub fn collect(&self, wanted: &Box2, found: &mut Vec<u32>) -> Result<(), AllocError>
+        ensures { OnOk result (found.new.items ≡ found.old.items ++ keys_over wanted.now self.now.leaves) }
+    {
+        if !overlaps(self.bounds(), *wanted) {
+            return Ok(());
+        }
+        match &self.node {
+            Node::Tip(leaf) => {
+                found.push(leaf.key)?;
+            }
+            Node::Fork(left, _, right) => {
+                left.collect(wanted, found)?;
+                right.collect(wanted, found)?;
+            }
+        }
+        Ok(())
+    }
+
+    /// The nearest of the ray's hits on the keys of all leaves and of the best so far. A key is hit only where the ray
+    /// reaches its box.
+    pub fn first_hit<R: Ray>(&self, ray: &R, best: Option<Hit>) -> Option<Hit>
+        requires { Each (IsHitWithin (R.reaches ray.now) (R.hit ray.now)) self.now.leaves }
+        ensures { result ≡ first_among (R.hit ray.now) self.now.leaves best }
+    {
+        if !ray.reaches(&self.bounds()) {
+            return best;
+        }
+        match &self.node {
+            Node::Tip(leaf) => nearer(best, leaf.key, ray.hit(leaf.key)),
+            Node::Fork(left, _, right) => {
+                let best = left.first_hit(ray, best);
+                right.first_hit(ray, best)
+            }
+        }
+    }
+}
