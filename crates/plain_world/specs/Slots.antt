@@ -44,7 +44,13 @@ pub record AreMatched (places : List Place) (bodies : List (Option Body)) : Type
   pub few : length bodies ≤ MAX_SLOTS
   pub taken : (slot : ℕ) → is_some (body_at bodies slot) ≡ is_taken places slot
 
--- there are bodies in the same slots as before
+-- how many shapes take part: all of an enabled body, and none of another
+abbrev pub shapes_in : Option Body → ℕ
+shapes_in None = 0
+shapes_in (Some b) = cond b.enabled (length b.shapes) 0
+
+-- there are bodies in the same slots as before, each with as many shapes that take part
 pub record HaveSameSlots (old new : List (Option Body)) : Type 0 where
   pub slots : length new ≡ length old
   pub taken : (slot : ℕ) → is_some (body_at new slot) ≡ is_some (body_at old slot)
+  pub shapes : (slot : ℕ) → shapes_in (body_at new slot) ≡ shapes_in (body_at old slot)

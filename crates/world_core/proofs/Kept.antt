@@ -21,7 +21,7 @@ use Rattle.colour_solver.specs.Ticks.{AreSums, added_x, added_y}
 use Rattle.plain_world.specs.declared.body.Body.{Body}
 use Rattle.plain_world.specs.declared.body.BodyDef.{BodyDef}
 use Rattle.plain_world.specs.Bodies.{is_mover, is_dynamic, IsBody, AreBodies, p_x, p_y, momentum_x, momentum_y, made}
-use Rattle.plain_world.specs.Slots.{body_at, HaveSameSlots, with_body, with_momentum, put_p}
+use Rattle.plain_world.specs.Slots.{body_at, shapes_in, HaveSameSlots, with_body, with_momentum, put_p}
 use Rattle.event_feed.specs.Events.{EventLists}
 use Rattle.world_core.specs.World.{World, body_of, book_of}
 use Rattle.contacts_base.specs.Contacts.{contacts_without}
@@ -190,7 +190,7 @@ push_kept w h j p call why s few e =
     let new_y : p_y (option_map (put_p p) (body_at bodies h.slot)) ≡ p.y = ap p_y put ∙ mover_part (is_mover got.body) p.y got.mover in
     let x : p.x ≡ got.body.motion.p.x +ℤ j.x = ap (λ (v : Vec2). v.x) got.sum in
     let y : p.y ≡ got.body.motion.p.y +ℤ j.y = ap (λ (v : Vec2). v.y) got.sum in
-    let slots : HaveSameSlots bodies (with_momentum bodies h.slot p) = HaveSameSlots-set bodies h.slot _ (ap is_some put ∙ sym (ap is_some at)) in
+    let slots : HaveSameSlots bodies (with_momentum bodies h.slot p) = HaveSameSlots-set bodies h.slot _ (ap is_some put ∙ sym (ap is_some at)) (ap shapes_in put ∙ sym (ap shapes_in at)) in
     let tied = tied_bodies bodies (with_momentum bodies h.slot p) w.plain.contacts (members_of bodies w.plain.colours) (MovesSame-momentum bodies h.slot p) slots (tied_sound w s) in
     let kept = listed (with_momentum bodies h.slot p) w.plain.contacts (members_of bodies w.plain.colours) w.plain.colours (sym s.moved) tied.colours in
     record {

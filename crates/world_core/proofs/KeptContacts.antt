@@ -13,6 +13,7 @@ use Rattle.fixed_geom.specs.declared.vectors.Vec2.{Vec2}
 use Rattle.momenta.specs.declared.state.BodyState.{BodyState}
 use Rattle.contacts_base.specs.declared.key.ContactKey.{ContactKey}
 use Rattle.contacts_base.specs.declared.contact.ContactPoint.{ContactPoint}
+use Rattle.contacts_base.specs.declared.evaluation.Impulses.{Impulses}
 use Rattle.contacts_base.specs.declared.contact.ContactEntry.{ContactEntry}
 use Rattle.contacts_base.specs.Keys.{key_number}
 use Rattle.contacts_base.specs.Contacts.{number_of, lookup, AreKeysRising, with_impulses, with_second}
@@ -26,7 +27,8 @@ use Rattle.colour_solver_base.specs.declared.row.ContactRow.{ContactRow}
 use Rattle.colour_solver_base.specs.Rows.{IsPointRow, IsRow}
 use Rattle.plain_world.specs.declared.body.Body.{Body}
 use Rattle.plain_world.specs.Bodies.{is_mover}
-use Rattle.plain_world.specs.Slots.{body_at, with_body, with_momentum, put_p, HaveSameSlots}
+use Rattle.plain_world.specs.Formed.{HasPoints, IsShapeOf}
+use Rattle.plain_world.specs.Slots.{body_at, shapes_in, with_body, with_momentum, put_p, HaveSameSlots}
 use Rattle.world_core_base.specs.Renewal.{with_renewed, renewed_bodies}
 use Rattle.world_core_base.specs.Gather.{with_motion, with_motions, impulses_of, with_row, put_row, with_rows, moves_in, moves, IsContactOf, AreContactsOf}
 use Rattle.world_core_base.proofs.ContactLaws.{touches_with_row}
@@ -312,31 +314,85 @@ with_rows_lookup contacts rows key = lookup_touching (with_rows contacts rows) c
 
 -- ---- the bodies of both shapes stay there
 
-pub has_bodies_more : (old new : List (Option Body)) (contacts : List ContactEntry) → ((slot : ℕ) → is_some (body_at old slot) ≡ true → is_some (body_at new slot) ≡ true) → All (HasBodies old) contacts → All (HasBodies new) contacts
+-- a slot's body is there as before, with as many shapes that take part
+pub record IsKeptIn (old new : List (Option Body)) (slot : ℕ) : Type 0 where
+  pub there : is_some (body_at new slot) ≡ true
+  pub shapes : shapes_in (body_at new slot) ≡ shapes_in (body_at old slot)
+
+kept_at : (old new : List (Option Body)) (slot : ℕ) → is_some (body_at old slot) ≡ true → body_at new slot ≡ body_at old slot → IsKeptIn old new slot
+kept_at old new slot taken e = record { there = ap is_some e ∙ taken; shapes = ap shapes_in e }
+
+kept_has_bodies : (old new : List (Option Body)) (e : ContactEntry) → IsKeptIn old new e.key.first.slot → IsKeptIn old new e.key.second.slot → HasBodies old e → HasBodies new e
+kept_has_bodies old new e a b h = record {
+  first = a.there;
+  second = b.there;
+  first_shape = rw a.shapes h.first_shape;
+  second_shape = rw b.shapes h.second_shape;
+  named = h.named;
+  points = h.points;
+}
+
+pub has_bodies_more : (old new : List (Option Body)) (contacts : List ContactEntry) → ((slot : ℕ) → is_some (body_at old slot) ≡ true → IsKeptIn old new slot) → All (HasBodies old) contacts → All (HasBodies new) contacts
 has_bodies_more old new contacts more all =
-    All-weaker (HasBodies old) (HasBodies new) (λ e h. record { first = more e.key.first.slot h.first; second = more e.key.second.slot h.second; named = h.named }) contacts all
+    All-weaker (HasBodies old) (HasBodies new) (λ e h. kept_has_bodies old new e (more e.key.first.slot h.first) (more e.key.second.slot h.second) h) contacts all
 
 pub has_bodies_same : (old new : List (Option Body)) (contacts : List ContactEntry) → HaveSameSlots old new → All (HasBodies old) contacts → All (HasBodies new) contacts
-has_bodies_same old new contacts h all = has_bodies_more old new contacts (λ slot taken. h.taken slot ∙ taken) all
+has_bodies_same old new contacts h all = has_bodies_more old new contacts (λ slot taken. record { there = h.taken slot ∙ taken; shapes = h.shapes slot }) all
 
 pub has_bodies_with : (bodies : List (Option Body)) (slot : ℕ) (b : Body) (contacts : List ContactEntry) → body_at bodies slot ≡ None → All (HasBodies bodies) contacts → All (HasBodies (with_body bodies slot b)) contacts
-has_bodies_with bodies slot b contacts none all = has_bodies_more bodies (with_body bodies slot b) contacts (λ k taken. ap is_some (body_at-with_body bodies slot b k none taken) ∙ taken) all
+has_bodies_with bodies slot b contacts none all = has_bodies_more bodies (with_body bodies slot b) contacts (λ k taken. kept_at bodies (with_body bodies slot b) k taken (body_at-with_body bodies slot b k none taken)) all
 
 others_have_bodies : (bodies : List (Option Body)) (slot : ℕ) (e : ContactEntry) → not (has_slot slot e) ≡ true → HasBodies bodies e → HasBodies (slice_set bodies slot None) e
 others_have_bodies bodies slot e other h =
     let t = neither (e.key.first.slot == slot) (e.key.second.slot == slot) other in
-    record {
-      first = ap is_some (body_at-set_other bodies slot None e.key.first.slot (eqb-false _ _ t.0)) ∙ h.first;
-      second = ap is_some (body_at-set_other bodies slot None e.key.second.slot (eqb-false _ _ t.1)) ∙ h.second;
-      named = h.named;
-    }
+    kept_has_bodies bodies (slice_set bodies slot None) e
+    (kept_at bodies (slice_set bodies slot None) e.key.first.slot h.first (body_at-set_other bodies slot None e.key.first.slot (eqb-false _ _ t.0)))
+    (kept_at bodies (slice_set bodies slot None) e.key.second.slot h.second (body_at-set_other bodies slot None e.key.second.slot (eqb-false _ _ t.1))) h
 
 pub has_bodies_without : (bodies : List (Option Body)) (slot : ℕ) (contacts : List ContactEntry) → All (HasBodies bodies) contacts → All (HasBodies (slice_set bodies slot None)) (contacts_without slot contacts)
 has_bodies_without bodies slot contacts all = all_without (HasBodies bodies) (HasBodies (slice_set bodies slot None)) slot (others_have_bodies bodies slot) contacts all
 
+-- ---- a row's impulses leave the points as they are
+
+candidate_kept : (i : Impulses) (o : Option ContactPoint) → ForSome o (λ p. p.candidate ≤ 3) → ForSome (option_map (with_impulses i) o) (λ p. p.candidate ≤ 3)
+candidate_kept i None h = λ x e. cc
+candidate_kept i (Some p) h = λ x e. let same : with_impulses i p ≡ x = cc in subst (λ (q : ContactPoint). q.candidate ≤ 3) same (h p refl)
+
+second_candidate : (i : Option Impulses) (o : Option ContactPoint) → ForSome o (λ p. p.candidate ≤ 3) → ForSome (with_second i o) (λ p. p.candidate ≤ 3)
+second_candidate None o h = h
+second_candidate (Some i) o h = candidate_kept i o h
+
+-- the point q, with its impulses or with others
+record IsOf (o : Option ContactPoint) (q : ContactPoint) : Type 0 where
+  point : ContactPoint
+  there : o ≡ Some point
+  candidate : point.candidate ≡ q.candidate
+
+mapped_of : (i : Impulses) (o : Option ContactPoint) (q : ContactPoint) → option_map (with_impulses i) o ≡ Some q → IsOf o q
+mapped_of i None q e = cc
+mapped_of i (Some p) q e = let same : with_impulses i p ≡ q = cc in record { point = p; there = refl; candidate = ap (λ (r : ContactPoint). r.candidate) same }
+
+second_of : (i : Option Impulses) (o : Option ContactPoint) (q : ContactPoint) → with_second i o ≡ Some q → IsOf o q
+second_of None o q e = record { point = q; there = e; candidate = refl }
+second_of (Some i) o q e = mapped_of i o q e
+
+row_beside : (r : ContactRow) (e : ContactEntry) → HasPoints e.contact → (q : ContactPoint) → (with_row r e).contact.second ≡ Some q → (p : ContactPoint) × ((with_row r e).contact.first ≡ Some p) × ((q.candidate == p.candidate) ≡ false)
+row_beside r e h q is =
+    let own = second_of (option_map impulses_of r.second) e.contact.second q is in
+    let first = h.beside own.point own.there in
+    (with_impulses (impulses_of r.first) first.0, ap (option_map (with_impulses (impulses_of r.first))) first.1, rw own.candidate at first.2)
+
+row_points : (r : ContactRow) (e : ContactEntry) → HasPoints e.contact → HasPoints (with_row r e).contact
+row_points r e h = record {
+  first = candidate_kept (impulses_of r.first) e.contact.first h.first;
+  second = second_candidate (option_map impulses_of r.second) e.contact.second h.second;
+  beside = row_beside r e h;
+}
+
 pub has_bodies_rows : (bodies : List (Option Body)) (contacts : List ContactEntry) (rows : List ContactRow) → All (HasBodies bodies) contacts → All (HasBodies bodies) (with_rows contacts rows)
 has_bodies_rows bodies contacts rows all =
-    all_rows (λ r. Unit {0}) (HasBodies bodies) (λ r e row h. record { first = h.first; second = h.second; named = h.named }) contacts rows (λ k d lt. tt) all
+    all_rows (λ r. Unit {0}) (HasBodies bodies)
+    (λ r e row h. record { first = h.first; second = h.second; first_shape = h.first_shape; second_shape = h.second_shape; named = h.named; points = row_points r e h.points }) contacts rows (λ k d lt. tt) all
 
 -- ---- the movers of a contact
 

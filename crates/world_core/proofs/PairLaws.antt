@@ -13,7 +13,8 @@ use Rattle.shapes.specs.declared.shape.ShapeDef.{ShapeDef}
 use Rattle.shapes.specs.Shapes.{IsShape, IsShapeDef}
 use Rattle.shapes.specs.Filters.{should_collide}
 use Rattle.shapes.specs.Poses.{IsPose}
-use Rattle.shapes.specs.Manifolds.{manifold_of, IsPointWithin}
+use Rattle.shapes.specs.Manifolds.{manifold_of, IsPointWithin, IsSecond}
+use Rattle.shapes.proofs.SecondLemmas.{manifold_has_second}
 use Rattle.shapes.proofs.TouchLemmas.{has_touching}
 use Rattle.contacts_base.specs.declared.key.ContactKey.{ContactKey}
 use Rattle.contacts_base.specs.declared.contact.Contact.{Contact}
@@ -34,7 +35,8 @@ use Rattle.contacts.proofs.NearLemmas.{IsNearFrom, from_is}
 use Rattle.body_handles.specs.declared.places.TheConstants.{MAX_SLOTS}
 use Rattle.plain_world.specs.declared.body.Body.{Body}
 use Rattle.plain_world.specs.Bodies.{is_dynamic, is_mover, pose_of, IsBody, AreBodies}
-use Rattle.plain_world.specs.Slots.{body_at}
+use Rattle.plain_world.specs.Formed.{HasPoints, IsShapeOf}
+use Rattle.plain_world.specs.Slots.{body_at, shapes_in}
 use Rattle.world_core_base.specs.Gather.{moves_in, moves, IsContactOf, AreContactsOf}
 use Rattle.world_core.specs.Collide.{shape_proxies, body_proxies, entry_proxies, proxies_from, proxies_of, contacts_after}
 use Rattle.world_core.specs.Sound.{HasBodies}
@@ -46,6 +48,7 @@ use Rattle.world_core.proofs.SlotLemmas.{below_length}
 -- a shape of the body, which is enabled
 pub record IsProxyOf (b : Body) (p : Proxy) : Type 0 where
   pub index : p.id.index < 8
+  pub own : p.id.index < length b.shapes
   pub enabled : b.enabled ≡ true
   pub dynamic : p.dynamic ≡ is_dynamic b.kind
   pub shape : IsShape p.shape
@@ -66,16 +69,16 @@ record IsProxyAt (slot : ℕ) (b : Body) (p : Proxy) : Type 0 where
   slot_is : p.id.slot ≡ slot
   is : IsProxyOf b p
 
-shapes_are : (slot : ℕ) (b : Body) (index : ℕ) (defs : List ShapeDef) (fats : List Box2) → IsBody b → b.enabled ≡ true → index + length defs ≤ 8 → All IsShapeDef defs
+shapes_are : (slot : ℕ) (b : Body) (index : ℕ) (defs : List ShapeDef) (fats : List Box2) → IsBody b → b.enabled ≡ true → index + length defs ≤ 8 → index + length defs ≤ length b.shapes → All IsShapeDef defs
     → Each (IsProxyAt slot b) (shape_proxies slot (is_dynamic b.kind) (pose_of b) index defs fats)
-shapes_are slot b index [] fats is on few forms = tt
-shapes_are slot b index (d ∷ defs) [] is on few forms = tt
-shapes_are slot b index (d ∷ defs) (fat ∷ fats) is on few forms = (
+shapes_are slot b index [] fats is on few own forms = tt
+shapes_are slot b index (d ∷ defs) [] is on few own forms = tt
+shapes_are slot b index (d ∷ defs) (fat ∷ fats) is on few own forms = (
   record {
     slot_is = refl;
-    is = record { index = omega arith; enabled = on; dynamic = refl; shape = (All-head IsShapeDef d defs forms).shape; pose = record { x = is.motion.x; rot = is.motion.facing } };
+    is = record { index = omega (arith, few); own = omega (arith, own); enabled = on; dynamic = refl; shape = (All-head IsShapeDef d defs forms).shape; pose = record { x = is.motion.x; rot = is.motion.facing } };
   },
-  shapes_are slot b (suc index) defs fats is on (omega arith) (All-tail IsShapeDef d defs forms),
+  shapes_are slot b (suc index) defs fats is on (omega (arith, few)) (omega (arith, own)) (All-tail IsShapeDef d defs forms),
 )
 
 if_enabled : (P : Proxy → Type 0) (t : Bool) (ps : List Proxy) → (t ≡ true → Each P ps) → Each P (cond t ps [])
@@ -85,7 +88,7 @@ if_enabled P false ps h = tt
 body_are : (slot : ℕ) (b : Body) → IsBody b → Each (IsProxyAt slot b) (body_proxies slot b)
 body_are slot b is =
     if_enabled (IsProxyAt slot b) b.enabled (shape_proxies slot (is_dynamic b.kind) (pose_of b) 0 b.shapes b.fats)
-    (λ on. let few = eight_at_most _ _ is.shapes in shapes_are slot b 0 b.shapes b.fats is on (omega (arith, few)) is.forms)
+    (λ on. let few = eight_at_most _ _ is.shapes in shapes_are slot b 0 b.shapes b.fats is on (omega (arith, few)) (omega arith) is.forms)
 
 entry_are : (n : ℕ) (o : Option Body) (bodies : List (Option Body)) → AreBodies (o ∷ bodies) → Each (IsProxyIn n (o ∷ bodies)) (entry_proxies n o)
 entry_are n None bodies all = tt
@@ -263,17 +266,54 @@ entry_within bodies old p q hp hq near all =
       contact = evaluated_within (lookup old (key_of p q)) (manifold_of p.shape p.pose q.shape q.pose) (lookup_within bodies old (key_of p q) all) touching.first touching.second;
     }
 
--- the bodies of both its shapes are there
+-- ---- the points of the contact that is evaluated
+
+candidate_within : (old : Option ContactEntry) (o : Option Point) → IfSome o (λ p. IsPointWithin (2 ^ 27) p) → ForSome (option_map (kept_point old) o) (λ p. p.candidate ≤ 3)
+candidate_within old None is = λ x e. cc
+candidate_within old (Some p) is = λ x e. let same : kept_point old p ≡ x = cc in subst (λ (q : ContactPoint). q.candidate ≤ 3) same is.candidate
+
+second_beside : (old : Option ContactEntry) (first : Point) (o : Option Point) → IfSome o (λ p. IsSecond first p) → (q : ContactPoint) → option_map (kept_point old) o ≡ Some q
+    → (p : ContactPoint) × (Some (kept_point old first) ≡ Some p) × ((q.candidate == p.candidate) ≡ false)
+second_beside old first None is q e = cc
+second_beside old first (Some p) is q e =
+    let same : kept_point old p ≡ q = cc in
+    (kept_point old first, refl, subst (λ (r : ContactPoint). (r.candidate == first.candidate) ≡ false) same is.other)
+
+apart_points : HasPoints apart
+apart_points = record { first = λ x e. cc; second = λ x e. cc; beside = λ q e. cc }
+
+either_points : (t : Bool) (c d : Contact) → HasPoints c → (t ≡ false → HasPoints d) → HasPoints (cond t c d)
+either_points true c d h l = h
+either_points false c d h l = l refl
+
+pub evaluated_points : (old : Option ContactEntry) (m : Manifold) → (m.first.separation ≤ℤ pos 0 → IsPointWithin (2 ^ 27) m.first) → IfSome m.second (λ p. IsPointWithin (2 ^ 27) p) → IfSome m.second (λ p. IsSecond m.first p)
+    → HasPoints (evaluated old m)
+unfolding evaluated
+evaluated_points old m first second other =
+    either_points (int_lt (pos 0) m.first.separation) apart (record { first = Some (kept_point old m.first); second = option_map (kept_point old) m.second }) apart_points
+    (λ e. record { first = candidate_within old (Some m.first) (first (not_above m.first.separation e)); second = candidate_within old m.second second; beside = second_beside old m.first m.second other })
+
+shapes_on : (b : Body) (index : ℕ) → b.enabled ≡ true → index < length b.shapes → index < shapes_in (Some b)
+shapes_on b index on h = rw on h
+
+shape_of : (bodies : List (Option Body)) (p : Proxy) → IsProxyIn 0 bodies p → IsShapeOf bodies p.id
+shape_of bodies p h = subst (λ (o : Option Body). p.id.index < shapes_in o) (sym (body_there bodies p h)) (shapes_on h.body p.id.index h.is.enabled h.is.own)
+
+-- the bodies of both its shapes are there, and the shapes are theirs
 pub entry_has_bodies : (bodies : List (Option Body)) (old : List ContactEntry) (p q : Proxy) → length bodies ≤ MAX_SLOTS → IsProxyIn 0 bodies p → IsProxyIn 0 bodies q → HasBodies bodies (entry_of old p q)
 unfolding entry_of entry_with
 entry_has_bodies bodies old p q few hp hq =
+    let touching = has_touching p.shape p.pose q.shape q.pose hp.is.shape hp.is.pose hq.is.shape hq.is.pose in
     let a = hp.is.index in
     let b = hq.is.index in
     let slot = below_length bodies q.id.slot hq.body (body_there bodies q hq) in
     record {
       first = ap is_some (body_there bodies p hp);
       second = ap is_some (body_there bodies q hq);
+      first_shape = shape_of bodies p hp;
+      second_shape = shape_of bodies q hq;
       named = record { first = omega (arith, a); second = omega (arith, b); slot = omega (arith, slot, few) };
+      points = evaluated_points (lookup old (key_of p q)) (manifold_of p.shape p.pose q.shape q.pose) touching.first touching.second (manifold_has_second p.shape p.pose q.shape q.pose (manifold_of p.shape p.pose q.shape q.pose) refl);
     }
 
 -- what holds of the contact of each two near shapes of bodies holds of all contacts

@@ -12,7 +12,7 @@ use Rattle.body_handles.proofs.LowestLemmas.{no_place}
 use Rattle.body_handles.specs.declared.places.TheConstants.{MAX_SLOTS}
 use Rattle.plain_world.specs.declared.body.Body.{Body}
 use Rattle.plain_world.specs.Bodies.{is_mover, IsBody, AreBodies, p_x, p_y, momentum_x, momentum_y}
-use Rattle.plain_world.specs.Slots.{body_at, is_taken, AreMatched, HaveSameSlots}
+use Rattle.plain_world.specs.Slots.{body_at, shapes_in, is_taken, AreMatched, HaveSameSlots}
 
 -- ---- the momentum
 
@@ -130,8 +130,15 @@ same_set (a ∷ bs) zero o e (suc k) = refl
 same_set (a ∷ bs) (suc slot) o e zero = refl
 same_set (a ∷ bs) (suc slot) o e (suc k) = same_set bs slot o e k
 
-pub HaveSameSlots-set : (bodies : List (Option Body)) (slot : ℕ) (o : Option Body) → is_some o ≡ is_some (body_at bodies slot) → HaveSameSlots bodies (slice_set bodies slot o)
-HaveSameSlots-set bodies slot o e = record { slots = grind (arith, common_steps); taken = same_set bodies slot o e }
+same_shapes : (bodies : List (Option Body)) (slot : ℕ) (o : Option Body) → shapes_in o ≡ shapes_in (body_at bodies slot) → (k : ℕ) → shapes_in (body_at (slice_set bodies slot o) k) ≡ shapes_in (body_at bodies k)
+same_shapes [] slot o e k = refl
+same_shapes (a ∷ bs) zero o e zero = e
+same_shapes (a ∷ bs) zero o e (suc k) = refl
+same_shapes (a ∷ bs) (suc slot) o e zero = refl
+same_shapes (a ∷ bs) (suc slot) o e (suc k) = same_shapes bs slot o e k
+
+pub HaveSameSlots-set : (bodies : List (Option Body)) (slot : ℕ) (o : Option Body) → is_some o ≡ is_some (body_at bodies slot) → shapes_in o ≡ shapes_in (body_at bodies slot) → HaveSameSlots bodies (slice_set bodies slot o)
+HaveSameSlots-set bodies slot o e shapes = record { slots = grind (arith, common_steps); taken = same_set bodies slot o e; shapes = same_shapes bodies slot o shapes }
 
 pub AreMatched-same : (places : List Place) (old new : List (Option Body)) → HaveSameSlots old new → AreMatched places old → AreMatched places new
 AreMatched-same places old new same m = record {

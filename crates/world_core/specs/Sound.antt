@@ -8,6 +8,7 @@ use Rattle.contacts_base.specs.Contacts.{AreKeysRising}
 use Rattle.plain_world.specs.declared.body.Body.{Body}
 use Rattle.plain_world.specs.Bodies.{AreBodies, momentum_x, momentum_y}
 use Rattle.plain_world.specs.Slots.{AreMatched, body_at}
+use Rattle.plain_world.specs.Formed.{HasPoints, IsShapeOf}
 use Rattle.world_core_base.specs.Gather.{AreContactsOf}
 use Rattle.graph_colours.specs.Colours.{ids_of}
 use Rattle.world_core.specs.Colouring.{AreColoured, IsNamed, members_of}
@@ -18,11 +19,14 @@ pub record AreSmall (n : ℕ) (b : Book) : Type 0 where
   pub x : (cause : Cause) → unsigned_abs (total_of_x cause b) ≤ n
   pub y : (cause : Cause) → unsigned_abs (total_of_y cause b) ≤ n
 
--- the bodies of both its shapes are there, and the shapes' names are within their ranges
+-- the bodies of both its shapes are there, the shapes are theirs, their names are within their ranges, and so are its points
 pub record HasBodies (bodies : List (Option Body)) (e : ContactEntry) : Type 0 where
   pub first : is_some (body_at bodies e.key.first.slot) ≡ true
   pub second : is_some (body_at bodies e.key.second.slot) ≡ true
+  pub first_shape : IsShapeOf bodies e.key.first
+  pub second_shape : IsShapeOf bodies e.key.second
   pub named : IsNamed e.key
+  pub points : HasPoints e.contact
 
 -- The movers' momentum is the ledger's total; there is a body just in the slots that are taken; a body that isn't a mover is
 -- at rest, and a mover's numbers are within their limits; the contacts' keys ascend, and each is of two bodies that are there, one of them a mover;

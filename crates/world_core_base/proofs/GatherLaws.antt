@@ -19,7 +19,7 @@ use Rattle.shapes.specs.Shapes.{IsShapeDef, shapes_refusal}
 use Rattle.shapes.specs.declared.pose.Pose.{Pose}
 use Rattle.plain_world.specs.Bodies.{AreBodies, IsAtRest, IsBody, IsMassOf, is_dynamic, is_mover, momentum_x, momentum_y, p_x, p_y, pose_of}
 use Rattle.plain_world.specs.Fats.{AreFatBoxes}
-use Rattle.plain_world.specs.Slots.{HaveSameSlots, body_at}
+use Rattle.plain_world.specs.Slots.{HaveSameSlots, body_at, shapes_in}
 use Rattle.world_core_base.specs.Gather.{ends_at, moves, state_of, states_of, with_motion, with_motions}
 
 -- ---- the bodies as states
@@ -160,8 +160,22 @@ taken-moved (o ∷ os) [] slot = refl
 taken-moved (o ∷ os) (s ∷ ss) zero = same_presence o s
 taken-moved (o ∷ os) (s ∷ ss) (suc slot) = taken-moved os ss slot
 
+shapes_if : (m : Bool) (b : Body) (s : BodyState) → shapes_in (Some (cond m (record b { motion = s.motion }) b)) ≡ shapes_in (Some b)
+shapes_if true b s = refl
+shapes_if false b s = refl
+
+same_shapes : (o : Option Body) (s : BodyState) → shapes_in (option_map (with_motion s) o) ≡ shapes_in o
+same_shapes None s = refl
+same_shapes (Some b) s = shapes_if (is_mover b) b s
+
+shapes-moved : (bodies : List (Option Body)) (states : List BodyState) (slot : ℕ) → shapes_in (body_at (with_motions bodies states) slot) ≡ shapes_in (body_at bodies slot)
+shapes-moved [] states slot = refl
+shapes-moved (o ∷ os) [] slot = refl
+shapes-moved (o ∷ os) (s ∷ ss) zero = same_shapes o s
+shapes-moved (o ∷ os) (s ∷ ss) (suc slot) = shapes-moved os ss slot
+
 pub slots-moved : (bodies : List (Option Body)) (states : List BodyState) → HaveSameSlots bodies (with_motions bodies states)
-slots-moved bodies states = record { slots = length-moved bodies states; taken = taken-moved bodies states }
+slots-moved bodies states = record { slots = length-moved bodies states; taken = taken-moved bodies states; shapes = shapes-moved bodies states }
 
 -- ---- the momentum is that of the states
 

@@ -63,7 +63,7 @@ pub slots-both : (bodies : List (Option Body)) (states : List BodyState) → Hav
 slots-both bodies states =
     let first : HaveSameSlots bodies (with_motions bodies states) = slots-moved bodies states in
     let second : HaveSameSlots (with_motions bodies states) (moved_bodies bodies states) = slots-renewed (with_motions bodies states) in
-    record { slots = second.slots ∙ first.slots; taken = λ slot. second.taken slot ∙ first.taken slot }
+    record { slots = second.slots ∙ first.slots; taken = λ slot. second.taken slot ∙ first.taken slot; shapes = λ slot. second.shapes slot ∙ first.shapes slot }
 
 pub momentum_x-both : (bodies : List (Option Body)) (states : List BodyState) → AreSameStates (states_of bodies) states → momentum_x (moved_bodies bodies states) ≡ total_x states
 momentum_x-both bodies states same = momentum_x-renewed (with_motions bodies states) ∙ momentum_x-moved bodies states same

@@ -8,7 +8,7 @@ use Rattle.plain_world.specs.Fats.{renewed_boxes}
 use Rattle.plain_world.proofs.BoxLemmas.{renewed_are}
 use Rattle.world_core_base.proofs.GatherLaws.{AreMovedBodies, IsMovedBody}
 use Rattle.world_core_base.specs.Renewal.{with_renewed, renewed_bodies}
-use Rattle.plain_world.specs.Slots.{body_at, HaveSameSlots}
+use Rattle.plain_world.specs.Slots.{body_at, shapes_in, HaveSameSlots}
 use Rattle.shapes.specs.declared.pose.Pose.{Pose}
 use Rattle.shapes.specs.declared.shape.ShapeDef.{ShapeDef}
 use Rattle.fixed_geom.specs.declared.boxes.Box2.{Box2}
@@ -50,8 +50,21 @@ same_taken [] slot = refl
 same_taken (o ∷ os) zero = same_presence o
 same_taken (o ∷ os) (suc slot) = same_taken os slot
 
+shapes_if : (m : Bool) (b : Body) → shapes_in (Some (cond m (record b { fats = renewed_boxes (pose_of b) b.shapes b.fats }) b)) ≡ shapes_in (Some b)
+shapes_if true b = refl
+shapes_if false b = refl
+
+same_shapes : (o : Option Body) → shapes_in (option_map with_renewed o) ≡ shapes_in o
+same_shapes None = refl
+same_shapes (Some b) = shapes_if (is_mover b) b
+
+shapes-renewed : (bodies : List (Option Body)) (slot : ℕ) → shapes_in (body_at (renewed_bodies bodies) slot) ≡ shapes_in (body_at bodies slot)
+shapes-renewed [] slot = refl
+shapes-renewed (o ∷ os) zero = same_shapes o
+shapes-renewed (o ∷ os) (suc slot) = shapes-renewed os slot
+
 pub slots-renewed : (bodies : List (Option Body)) → HaveSameSlots bodies (renewed_bodies bodies)
-slots-renewed bodies = record { slots = same_length bodies; taken = same_taken bodies }
+slots-renewed bodies = record { slots = same_length bodies; taken = same_taken bodies; shapes = shapes-renewed bodies }
 
 x_if : (m : Bool) (b : Body) → is_mover b ≡ m → p_x (Some (cond m (record b { fats = renewed_boxes (pose_of b) b.shapes b.fats }) b)) ≡ p_x (Some b)
 x_if true b e = refl
