@@ -30,7 +30,8 @@ use Rattle.world_core.specs.Inside.{IsWhole}
 use Rattle.world_core.proofs.MembersLaws.{listed, moved_members}
 use Rattle.world_core.specs.Apply.{Answers, apply_destroy, booked, sum_of, pushed, departing, empty_world}
 use Rattle.world_core.specs.declared.command.Reply.TheVariants as replies
-use Rattle.world_core.specs.Sound.{IsRoomy, IsSound}
+use Rattle.world_core.specs.Sound.{IsRoomy}
+use Rattle.world_core.proofs.SoundLaws.{IsKept, kept_sound, sound_kept}
 use Rattle.world_core.proofs.BookLemmas.{sum_x-booked, sum_y-booked, AreSmall-booked, AreSmall-weaker, step_booked, AreSmall-step, sum_x-step, sum_y-step}
 use Rattle.world_core.proofs.KeptContacts.{MovesSame-momentum}
 use Rattle.world_core.proofs.TiedLaws.{AreTied, tied_sound, tied_bodies, tied_empty, tied_with, tied_without}
@@ -38,7 +39,7 @@ use Rattle.world_core.proofs.SlotLemmas.{momentum_x-set, momentum_y-set, momentu
 
 -- ---- a sound world has room in its ledger's numbers
 
-pub IsRoomy-sound : (w : World) (room : ℕ) → IsSound w → IsRoomy (record { entries = w.entries; settled = w.settled; room = room })
+pub IsRoomy-sound : (w : World) (room : ℕ) → IsKept w → IsRoomy (record { entries = w.entries; settled = w.settled; room = room })
 IsRoomy-sound w room s =
     let mx = momentum_x_le w.plain.bodies s.bodies in
     let my = momentum_y_le w.plain.bodies s.bodies in
@@ -74,7 +75,7 @@ no_total_y g causes.Clamp = omega arith
 no_total_y g causes.Rest = omega arith
 no_total_y g causes.Departed = omega arith
 
-pub new_sound : (g : Vec2) → IsWithin (2 ^ 16) g → IsSound (empty_world g)
+pub new_sound : (g : Vec2) → IsWithin (2 ^ 16) g → IsKept (empty_world g)
 new_sound g h = record {
   total_x = refl;
   total_y = refl;
@@ -88,25 +89,6 @@ new_sound g h = record {
   moved = (listed [] [] (replicate (COLOURS + 1) []) (replicate (COLOURS + 1) []) refl tied_empty.colours).moved;
   gravity = h;
   steps = omega arith;
-  calls = omega arith;
-}
-
--- ---- gravity
-
-pub gravity_kept : (w : World) (g : Vec2) → IsSound w → w.plain.calls < 2 ^ 40 → IsWithin (2 ^ 16) g → IsSound (record w { plain = record w.plain { gravity = g; calls = w.plain.calls + 1 } })
-gravity_kept w g s few h = record {
-  total_x = s.total_x;
-  total_y = s.total_y;
-  causes = AreSmall-weaker (2 ^ 126 + w.plain.calls * 2 ^ 83) (2 ^ 126 + (w.plain.calls + 1) * 2 ^ 83) (book_of w) (omega arith) s.causes;
-  bodies = s.bodies;
-  matched = s.matched;
-  contacts = s.contacts;
-  pairs = s.pairs;
-  there = s.there;
-  colours = s.colours;
-  moved = s.moved;
-  gravity = h;
-  steps = omega (arith, s.steps);
   calls = omega arith;
 }
 
@@ -173,8 +155,8 @@ put_is : (o : Option Body) (b : Body) (p : Vec2) → o ≡ Some b → option_map
 put_is None b p e = cc
 put_is (Some a) b p e = ap (λ (c : Body). Some (put_p p c)) (let same : a ≡ b = cc in same)
 
-pub push_kept : (w : World) (h : Handle) (j p : Vec2) (call : ℕ) (why : Cause) → IsSound w → w.plain.calls < 2 ^ 40 → pushed (body_of w.plain h) j ≡ Ok p
-    → IsSound (record w { plain = record w.plain { bodies = with_momentum w.plain.bodies h.slot p; calls = w.plain.calls + 1 }; entries = w.entries ++ booked call why j.x j.y })
+pub push_kept : (w : World) (h : Handle) (j p : Vec2) (call : ℕ) (why : Cause) → IsKept w → w.plain.calls < 2 ^ 40 → pushed (body_of w.plain h) j ≡ Ok p
+    → IsKept (record w { plain = record w.plain { bodies = with_momentum w.plain.bodies h.slot p; calls = w.plain.calls + 1 }; entries = w.entries ++ booked call why j.x j.y })
 push_kept w h j p call why s few e =
     let got = pushed_from (body_of w.plain h) j p e in
     let bodies = w.plain.bodies in
@@ -238,8 +220,8 @@ departing_small o p is e =
 pub named : (live : Bool) (bodies : List (Option Body)) (slot : ℕ) (b : Body) → AreBodies bodies → cond live (body_at bodies slot) None ≡ Some b → IsBody b
 named live bodies slot b all e = all slot b (body_at-in bodies slot b (found_at live (body_at bodies slot) b e))
 
-pub destroy_kept : (w : World) (h : Handle) (p : Vec2) (call : ℕ) (why : Cause) (x y : ℤ) (contacts : List ContactEntry) (lists : Lists) → IsSound w → w.plain.calls < 2 ^ 40 → departing (body_of w.plain h) ≡ Ok p → x ≡ neg_ℤ p.x → y ≡ neg_ℤ p.y → AreTied (slice_set w.plain.bodies h.slot None) contacts lists
-    → IsSound (record w { plain = record w.plain { places = places_without w.plain.places h; bodies = slice_set w.plain.bodies h.slot None; contacts = contacts; colours = ids_of lists; calls = w.plain.calls + 1 }; entries = w.entries ++ booked call why x y })
+pub destroy_kept : (w : World) (h : Handle) (p : Vec2) (call : ℕ) (why : Cause) (x y : ℤ) (contacts : List ContactEntry) (lists : Lists) → IsKept w → w.plain.calls < 2 ^ 40 → departing (body_of w.plain h) ≡ Ok p → x ≡ neg_ℤ p.x → y ≡ neg_ℤ p.y → AreTied (slice_set w.plain.bodies h.slot None) contacts lists
+    → IsKept (record w { plain = record w.plain { places = places_without w.plain.places h; bodies = slice_set w.plain.bodies h.slot None; contacts = contacts; colours = ids_of lists; calls = w.plain.calls + 1 }; entries = w.entries ++ booked call why x y })
 destroy_kept w h p call why x y contacts lists s few e is_x is_y tied =
     let small = departing_small (body_of w.plain h) p (λ b f. named (is_live w.plain.places h) w.plain.bodies h.slot b s.bodies f) e in
     let got = departing_from (body_of w.plain h) p e in
@@ -270,9 +252,9 @@ destroy_kept w h p call why x y contacts lists s few e is_x is_y tied =
 
 -- ---- CreateBody
 
-kept_with : (t : Bool) (w : World) (slot : ℕ) (place : Place) (b : Body) → IsSound w → w.plain.calls < 2 ^ 40 → (t ≡ true → slot < length w.plain.bodies) → (t ≡ false → length w.plain.bodies < MAX_SLOTS)
+kept_with : (t : Bool) (w : World) (slot : ℕ) (place : Place) (b : Body) → IsKept w → w.plain.calls < 2 ^ 40 → (t ≡ true → slot < length w.plain.bodies) → (t ≡ false → length w.plain.bodies < MAX_SLOTS)
     → place.live ≡ true → IsBody b → p_x (Some b) ≡ pos 0 → p_y (Some b) ≡ pos 0 → body_at w.plain.bodies slot ≡ None → AreTied (cond t (slice_set w.plain.bodies slot (Some b)) (w.plain.bodies ++ Some b ∷ [])) w.plain.contacts (members_of w.plain.bodies w.plain.colours)
-    → IsSound (record w { plain = record w.plain { places = (if t then slice_set w.plain.places slot place else w.plain.places ++ place ∷ []); bodies = cond t (slice_set w.plain.bodies slot (Some b)) (w.plain.bodies ++ Some b ∷ []); calls = w.plain.calls + 1 } })
+    → IsKept (record w { plain = record w.plain { places = (if t then slice_set w.plain.places slot place else w.plain.places ++ place ∷ []); bodies = cond t (slice_set w.plain.bodies slot (Some b)) (w.plain.bodies ++ Some b ∷ []); calls = w.plain.calls + 1 } })
 kept_with true w slot place b s few below past live is px py none tied =
     let mx = momentum_x-set w.plain.bodies slot (Some b) (below refl) in
     let my = momentum_y-set w.plain.bodies slot (Some b) (below refl) in
@@ -315,11 +297,11 @@ kept_with false w slot place b s few below past live is px py none tied =
     }
 
 -- the slot that a new body comes into is free
-pub free_slot : (w : World) → IsSound w → body_at w.plain.bodies (lowest w.plain.places) ≡ None
+pub free_slot : (w : World) → IsKept w → body_at w.plain.bodies (lowest w.plain.places) ≡ None
 free_slot w s = none_if _ (s.matched.taken (lowest w.plain.places) ∙ lowest-free w.plain.places)
 
-pub create_kept : (w : World) (d : BodyDef) → IsSound w → w.plain.calls < 2 ^ 40 → lowest w.plain.places < MAX_SLOTS → IsBody (made d) → AreTied (with_body w.plain.bodies (lowest w.plain.places) (made d)) w.plain.contacts (members_of w.plain.bodies w.plain.colours)
-    → IsSound (record w { plain = record w.plain { places = places_with w.plain.places (lowest w.plain.places); bodies = with_body w.plain.bodies (lowest w.plain.places) (made d); calls = w.plain.calls + 1 } })
+pub create_kept : (w : World) (d : BodyDef) → IsKept w → w.plain.calls < 2 ^ 40 → lowest w.plain.places < MAX_SLOTS → IsBody (made d) → AreTied (with_body w.plain.bodies (lowest w.plain.places) (made d)) w.plain.contacts (members_of w.plain.bodies w.plain.colours)
+    → IsKept (record w { plain = record w.plain { places = places_with w.plain.places (lowest w.plain.places); bodies = with_body w.plain.bodies (lowest w.plain.places) (made d); calls = w.plain.calls + 1 } })
 create_kept w d s few free is tied =
     let slot = lowest w.plain.places in
     let none : body_at w.plain.bodies slot ≡ None = free_slot w s in
@@ -337,8 +319,8 @@ pub record IsStep (old new : List (Option Body)) (sums : StepSums) : Type 0 wher
   pub momentum_x : momentum_x new ≡ momentum_x old +ℤ added_x sums
   pub momentum_y : momentum_y new ≡ momentum_y old +ℤ added_y sums
 
-pub step_kept : (w : World) (bodies : List (Option Body)) (sums : StepSums) (events : EventLists) (contacts : List ContactEntry) (lists : Lists) → IsSound w → w.plain.calls < 2 ^ 40 → IsStep w.plain.bodies bodies sums → AreTied bodies contacts lists
-    → IsSound (record w { plain = record w.plain { bodies = bodies; contacts = contacts; colours = ids_of lists; steps = w.plain.steps + 1; calls = w.plain.calls + 1 }; entries = w.entries ++ step_booked (w.plain.calls + 1) sums; events = events })
+pub step_kept : (w : World) (bodies : List (Option Body)) (sums : StepSums) (events : EventLists) (contacts : List ContactEntry) (lists : Lists) → IsKept w → w.plain.calls < 2 ^ 40 → IsStep w.plain.bodies bodies sums → AreTied bodies contacts lists
+    → IsKept (record w { plain = record w.plain { bodies = bodies; contacts = contacts; colours = ids_of lists; steps = w.plain.steps + 1; calls = w.plain.calls + 1 }; entries = w.entries ++ step_booked (w.plain.calls + 1) sums; events = events })
 step_kept w bodies sums events contacts lists s few step tied =
     let call = w.plain.calls + 1 in
     let mx = step.momentum_x in
@@ -364,29 +346,29 @@ step_kept w bodies sums events contacts lists s few step tied =
 -- ---- the world, and its colours with their movers
 
 -- what is kept of a sound world whose colours are the ids of these lists
-pub whole : (w : World) (lists : Lists) → IsSound w → w.plain.colours ≡ ids_of lists → AreColoured w.plain.bodies w.plain.contacts lists → IsWhole w lists
-whole w lists s is h = record { sound = s; members = (listed w.plain.bodies w.plain.contacts lists w.plain.colours is h).members }
+pub whole : (w : World) (lists : Lists) → IsKept w → w.plain.colours ≡ ids_of lists → AreColoured w.plain.bodies w.plain.contacts lists → IsWhole w lists
+whole w lists s is h = record { sound = sound_kept w s; members = (listed w.plain.bodies w.plain.contacts lists w.plain.colours is h).members }
 
 pub push_whole : (w : World) (lists : Lists) (h : Handle) (j p : Vec2) (call : ℕ) (why : Cause) → IsWhole w lists → w.plain.calls < 2 ^ 40 → pushed (body_of w.plain h) j ≡ Ok p
     → IsWhole (record w { plain = record w.plain { bodies = with_momentum w.plain.bodies h.slot p; calls = w.plain.calls + 1 }; entries = w.entries ++ booked call why j.x j.y }) lists
 push_whole w lists h j p call why is few e =
-    let s = push_kept w h j p call why is.sound few e in
-    record { sound = s; members = is.members ∙ moved_members w.plain.bodies (with_momentum w.plain.bodies h.slot p) w.plain.colours (MovesSame-momentum w.plain.bodies h.slot p).same }
+    let s = push_kept w h j p call why (kept_sound w is.sound) few e in
+    record { sound = sound_kept _ s; members = is.members ∙ moved_members w.plain.bodies (with_momentum w.plain.bodies h.slot p) w.plain.colours (MovesSame-momentum w.plain.bodies h.slot p).same }
 
 pub destroy_whole : (w : World) (lists : Lists) (h : Handle) (p : Vec2) (call : ℕ) (why : Cause) (x y : ℤ) → IsWhole w lists → w.plain.calls < 2 ^ 40 → departing (body_of w.plain h) ≡ Ok p → x ≡ neg_ℤ p.x → y ≡ neg_ℤ p.y
     → IsWhole (record w { plain = record w.plain { places = places_without w.plain.places h; bodies = slice_set w.plain.bodies h.slot None; contacts = contacts_without h.slot w.plain.contacts; colours = ids_of (lists_without h.slot lists w.plain.contacts); calls = w.plain.calls + 1 }; entries = w.entries ++ booked call why x y })
     (lists_without h.slot lists w.plain.contacts)
 destroy_whole w lists h p call why x y is few e is_x is_y =
     let tied : AreTied (slice_set w.plain.bodies h.slot None) (contacts_without h.slot w.plain.contacts) (lists_without h.slot lists w.plain.contacts) =
-    tied_without w.plain.bodies h.slot w.plain.contacts lists (subst (AreTied w.plain.bodies w.plain.contacts) (sym is.members) (tied_sound w is.sound)) in
-    whole _ (lists_without h.slot lists w.plain.contacts) (destroy_kept w h p call why x y (contacts_without h.slot w.plain.contacts) (lists_without h.slot lists w.plain.contacts) is.sound few e is_x is_y tied) refl tied.colours
+    tied_without w.plain.bodies h.slot w.plain.contacts lists (subst (AreTied w.plain.bodies w.plain.contacts) (sym is.members) (tied_sound w (kept_sound w is.sound))) in
+    whole _ (lists_without h.slot lists w.plain.contacts) (destroy_kept w h p call why x y (contacts_without h.slot w.plain.contacts) (lists_without h.slot lists w.plain.contacts) (kept_sound w is.sound) few e is_x is_y tied) refl tied.colours
 
 pub create_whole : (w : World) (lists : Lists) (d : BodyDef) → IsWhole w lists → w.plain.calls < 2 ^ 40 → lowest w.plain.places < MAX_SLOTS → IsBody (made d)
     → IsWhole (record w { plain = record w.plain { places = places_with w.plain.places (lowest w.plain.places); bodies = with_body w.plain.bodies (lowest w.plain.places) (made d); calls = w.plain.calls + 1 } }) lists
 create_whole w lists d is few free body =
     let tied : AreTied (with_body w.plain.bodies (lowest w.plain.places) (made d)) w.plain.contacts (members_of w.plain.bodies w.plain.colours) =
-    tied_with w.plain.bodies (lowest w.plain.places) (made d) w.plain.contacts (members_of w.plain.bodies w.plain.colours) (free_slot w is.sound) (tied_sound w is.sound) in
-    whole _ lists (create_kept w d is.sound few free body tied) (sym is.sound.moved ∙ ap ids_of (sym is.members)) (subst (AreColoured (with_body w.plain.bodies (lowest w.plain.places) (made d)) w.plain.contacts) (sym is.members) tied.colours)
+    tied_with w.plain.bodies (lowest w.plain.places) (made d) w.plain.contacts (members_of w.plain.bodies w.plain.colours) (free_slot w (kept_sound w is.sound)) (tied_sound w (kept_sound w is.sound)) in
+    whole _ lists (create_kept w d (kept_sound w is.sound) few free body tied) (sym ((kept_sound w is.sound).moved) ∙ ap ids_of (sym is.members)) (subst (AreColoured (with_body w.plain.bodies (lowest w.plain.places) (made d)) w.plain.contacts) (sym is.members) tied.colours)
 
 -- what the destroying of a body answers and leaves, its colours taken from these lists
 pub destroy_answers : (w : World) (lists : Lists) (h : Handle) (p : Vec2) (x y : ℤ) → lists ≡ members_of w.plain.bodies w.plain.colours → departing (body_of w.plain h) ≡ Ok p → x ≡ neg_ℤ p.x → y ≡ neg_ℤ p.y

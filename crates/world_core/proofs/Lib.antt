@@ -6,6 +6,7 @@ pub mod ColouringSteps
 pub mod ColouringTurns
 pub mod ColouringLaws
 pub mod ColouringBodies
+pub mod SoundLaws
 pub mod TiedLaws
 pub mod MembersLaws
 pub mod Kept

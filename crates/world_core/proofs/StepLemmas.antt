@@ -24,7 +24,7 @@ use Rattle.world_core.specs.Colouring.{Lists, members_of}
 use Rattle.world_core.specs.World.{World}
 use Rattle.world_core.specs.Apply.{Answers, Applied, apply_step, stepped, colours_after, run_after, events_of, world_with}
 use Rattle.world_core.specs.Inside.{IsWhole}
-use Rattle.world_core.specs.Sound.{IsSound}
+use Rattle.world_core.proofs.SoundLaws.{IsKept, kept_sound}
 use Rattle.world_core.proofs.BookLemmas.{step_booked}
 use Rattle.world_core.proofs.Kept.{IsStep, step_kept, whole}
 use Rattle.world_core.proofs.KeptContacts.{MovesSame, MovesSame-trans, MovesSame-motions, MovesSame-renewed}
@@ -57,7 +57,7 @@ step_answers old n states rows sums between run =
     if_accepted (is_between (pos 1) (pos 8) n) (stepped old.plain (collided_in old) (lists_in old) (run_after old.plain (unsigned_abs n) (contacts_after old.plain.bodies old.plain.contacts) (lists_in old))) old _ _ between refl (rw (← run) refl)
 
 -- what a step leaves is tied as before
-tied_step : (w : World) (bodies : List (Option Body)) (states : List BodyState) (rows : List ContactRow) (n : ℕ) → bodies ≡ renewed_bodies (with_motions w.plain.bodies states) → HaveSameSlots w.plain.bodies bodies → IsSound w
+tied_step : (w : World) (bodies : List (Option Body)) (states : List BodyState) (rows : List ContactRow) (n : ℕ) → bodies ≡ renewed_bodies (with_motions w.plain.bodies states) → HaveSameSlots w.plain.bodies bodies → IsKept w
     → AreKeysRising (contacts_after w.plain.bodies w.plain.contacts) → AreRowsBelow n rows → AreTied bodies (with_rows (contacts_after w.plain.bodies w.plain.contacts) rows) (lists_in w)
 tied_step w bodies states rows n is slots s rises below =
     let now : List ContactEntry = contacts_after w.plain.bodies w.plain.contacts in
@@ -71,5 +71,5 @@ pub step_whole : (w : World) (old : Lists) (bodies : List (Option Body)) (contac
     → IsWhole w old → w.plain.calls < 2 ^ 40 → IsStep w.plain.bodies bodies sums → AreKeysRising (contacts_after w.plain.bodies w.plain.contacts) → AreRowsBelow n rows
     → IsWhole (record w { plain = record w.plain { bodies = bodies; contacts = contacts; colours = ids_of lists; steps = w.plain.steps + 1; calls = w.plain.calls + 1 }; entries = w.entries ++ step_booked (w.plain.calls + 1) sums; events = events }) lists
 step_whole w old bodies contacts lists states rows sums events n is_bodies is_contacts is_lists is few step rises below =
-    let tied : AreTied bodies contacts lists = rw (is_contacts, is_lists) (tied_step w bodies states rows n is_bodies step.slots is.sound rises below) in
-    whole _ lists (step_kept w bodies sums events contacts lists is.sound few step tied) refl tied.colours
+    let tied : AreTied bodies contacts lists = rw (is_contacts, is_lists) (tied_step w bodies states rows n is_bodies step.slots (kept_sound w is.sound) rises below) in
+    whole _ lists (step_kept w bodies sums events contacts lists (kept_sound w is.sound) few step tied) refl tied.colours

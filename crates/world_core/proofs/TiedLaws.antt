@@ -26,7 +26,8 @@ use Rattle.world_core.specs.World.{World}
 use Rattle.contacts_base.specs.Contacts.{contacts_without, has_slot}
 use Rattle.world_core.specs.Collide.{contacts_after}
 use Rattle.world_core.specs.Colouring.{Lists, turned, AreColoured, IsNamed, AreNamed, IsNamedContact, members_of, movers_of, lists_without}
-use Rattle.world_core.specs.Sound.{HasBodies, IsSound}
+use Rattle.world_core.specs.Sound.{HasBodies}
+use Rattle.world_core.proofs.SoundLaws.{IsKept}
 use Rattle.world_core.proofs.PairLaws.{contacts_of_after, has_bodies_after}
 use Rattle.world_core.proofs.KeptContacts.{MovesSame, contacts_of_more, contacts_of_same, contacts_of_without, contacts_of_rows, MovesMore-with_body, has_bodies_same, has_bodies_with, has_bodies_without, has_bodies_rows, keys_rise_rows, keys_rise_without, with_rows_lookup}
 use Rattle.world_core.proofs.ColouringLaws.{coloured_bodies, coloured_contacts, coloured_turned}
@@ -39,7 +40,7 @@ pub record AreTied (bodies : List (Option Body)) (contacts : List ContactEntry) 
   pub there : All (HasBodies bodies) contacts
   pub colours : AreColoured bodies contacts lists
 
-pub tied_sound : (w : World) → IsSound w → AreTied w.plain.bodies w.plain.contacts (members_of w.plain.bodies w.plain.colours)
+pub tied_sound : (w : World) → IsKept w → AreTied w.plain.bodies w.plain.contacts (members_of w.plain.bodies w.plain.colours)
 tied_sound w s = record { rising = s.contacts; pairs = s.pairs; there = s.there; colours = s.colours }
 
 -- bodies in the same slots, the same of them moving

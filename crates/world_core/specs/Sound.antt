@@ -1,12 +1,13 @@
--- What each world keeps.
-use Rattle.std.specs.Prelude.{◌≡◌, ℕ, ◌+◌, ◌*◌, ◌≤◌, ◌^◌, true, List, Option, All, is_some, unsigned_abs}
+-- What each world keeps: what it promises, and how its lists and numbers are formed.
+use Rattle.std.specs.Prelude.{◌≡◌, ℕ, ◌+◌, ◌*◌, ◌≤◌, ◌^◌, true, false, List, Option, Some, All, is_some, unsigned_abs}
 use Rattle.fixed_geom.specs.Vectors.{IsWithin}
 use Rattle.impulse_ledger.specs.declared.entry.Cause.{Cause}
 use Rattle.impulse_ledger.specs.Sums.{Book, total_x, total_y, total_of_x, total_of_y}
 use Rattle.contacts_base.specs.declared.contact.ContactEntry.{ContactEntry}
 use Rattle.contacts_base.specs.Contacts.{AreKeysRising}
 use Rattle.plain_world.specs.declared.body.Body.{Body}
-use Rattle.plain_world.specs.Bodies.{AreBodies, momentum_x, momentum_y}
+use Rattle.plain_world.specs.Bodies.{AreBodies, IsAtRest, is_awake, momentum_x, momentum_y}
+use Rattle.plain_world.specs.Census.{IsCensus, census_of}
 use Rattle.plain_world.specs.Slots.{AreMatched, body_at}
 use Rattle.plain_world.specs.Formed.{HasPoints, IsShapeOf}
 use Rattle.world_core_base.specs.Gather.{AreContactsOf}
@@ -28,23 +29,40 @@ pub record HasBodies (bodies : List (Option Body)) (e : ContactEntry) : Type 0 w
   pub named : IsNamed e.key
   pub points : HasPoints e.contact
 
--- The movers' momentum is the ledger's total; there is a body just in the slots that are taken; a body that isn't a mover is
--- at rest, and a mover's numbers are within their limits; the contacts' keys ascend, and each is of two bodies that are there, one of them a mover;
--- those that touch are just those with a colour, each with a mover, and no two of one colour share a mover.
-pub record IsSound (w : World) : Type 0 where
+-- ---- what a world promises
+
+-- a body that isn't an awake mover is at rest
+abbrev pub AreAtRest : List (Option Body) → Type 0
+AreAtRest bodies = (slot : ℕ) (b : Body) → body_at bodies slot ≡ Some b → is_awake b ≡ false → IsAtRest b.motion
+
+-- Each live body stands in exactly one set. The constraints that have a colour are just those that act, each with its movers, and no two of
+-- one colour share a mover. The movers' momentum is the ledger's total. What isn't an awake mover is at rest.
+pub record KeepsPromises (w : World) : Type 0 where
+  pub sets : IsCensus w.plain.places w.plain.bodies (census_of w.plain.places w.plain.bodies)
+  pub colours : AreColoured w.plain.bodies w.plain.contacts (members_of w.plain.bodies w.plain.colours)
   pub total_x : momentum_x w.plain.bodies ≡ total_x (book_of w)
   pub total_y : momentum_y w.plain.bodies ≡ total_y (book_of w)
-  pub causes : AreSmall (2 ^ 126 + w.plain.calls * 2 ^ 83) (book_of w)
-  pub bodies : AreBodies w.plain.bodies
+  pub rest : AreAtRest w.plain.bodies
+
+-- ---- what its lists and numbers keep
+
+-- There is a body just in the slots that are taken, and its numbers, its shapes and their fat boxes are within their limits. The contacts' keys ascend;
+-- each is of two bodies that are there, one of them a mover, and of shapes of theirs. Each constraint with a colour has movers. All sums have room.
+pub record IsWellFormed (w : World) : Type 0 where
   pub matched : AreMatched w.plain.places w.plain.bodies
+  pub bodies : AreBodies w.plain.bodies
   pub contacts : AreKeysRising w.plain.contacts
   pub pairs : AreContactsOf w.plain.bodies w.plain.contacts
   pub there : All (HasBodies w.plain.bodies) w.plain.contacts
-  pub colours : AreColoured w.plain.bodies w.plain.contacts (members_of w.plain.bodies w.plain.colours)
   pub moved : ids_of (members_of w.plain.bodies w.plain.colours) ≡ w.plain.colours
+  pub causes : AreSmall (2 ^ 126 + w.plain.calls * 2 ^ 83) (book_of w)
   pub gravity : IsWithin (2 ^ 16) w.plain.gravity
   pub steps : w.plain.steps ≤ w.plain.calls
   pub calls : w.plain.calls ≤ 2 ^ 40
+
+pub record IsSound (w : World) : Type 0 where
+  pub promises : KeepsPromises w
+  pub formed : IsWellFormed w
 
 -- there is room in the numbers for the entries of one more call
 pub record IsRoomy (b : Book) : Type 0 where

@@ -7,6 +7,7 @@ use Rattle.plain_world.specs.Bodies.{IsBody, made}
 use Rattle.world_core.specs.World.{World}
 use Rattle.world_core.specs.contracts.world.WorldCore.{the_view}
 use Rattle.world_core.proofs.Kept.{create_whole, free_slot}
+use Rattle.world_core.proofs.SoundLaws.{kept_sound}
 use Rattle.world_core.proofs.world.WorldCore.create_body.Goals as goal
 
 pub invariant_of-self-2 : goal.invariant_of-self-2
@@ -22,9 +23,9 @@ pub put-requires-clause-next : goal.put-requires-clause-next
 put-requires-clause-next c =
     let w : World = the_view c.self.inside in
     let least : lowest w.plain.places ≤ length w.plain.places = lowest-le-length w.plain.places in
-    let slots : length w.plain.places ≡ length w.plain.bodies = c.self.invariant.sound.matched.slots in
+    let slots : length w.plain.places ≡ length w.plain.bodies = (kept_sound _ c.self.invariant.sound).matched.slots in
     rw (c.in_ok-handle.ensures.slot, c.in_ok-reserve_one.ensures.kept, c.in_ok-reserve_one-2.ensures.bodies) (omega (arith, least, slots))
 
 pub put-requires-clause-free : goal.put-requires-clause-free
 put-requires-clause-free c =
-    rw (c.in_ok-handle.ensures.slot, c.in_ok-reserve_one.ensures.kept, c.in_ok-reserve_one-2.ensures.bodies) (free_slot (the_view c.self.inside) c.self.invariant.sound)
+    rw (c.in_ok-handle.ensures.slot, c.in_ok-reserve_one.ensures.kept, c.in_ok-reserve_one-2.ensures.bodies) (free_slot (the_view c.self.inside) (kept_sound _ c.self.invariant.sound))

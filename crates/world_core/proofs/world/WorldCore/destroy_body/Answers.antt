@@ -6,11 +6,12 @@ use Rattle.world_core.specs.contracts.world.WorldCore.{the_view}
 use Rattle.world_core.specs.Apply.{departing}
 use Rattle.world_core.proofs.BookLemmas.{Fits-roomy}
 use Rattle.world_core.proofs.Kept.{IsRoomy-sound, IsRoomy-same, destroy_answers, destroy_whole}
+use Rattle.world_core.proofs.SoundLaws.{kept_sound}
 use Rattle.world_core.proofs.world.WorldCore.destroy_body.Goals as goal
 
 pub book-requires-clause-fits : goal.book-requires-clause-fits
 book-requires-clause-fits c =
-    Fits-roomy c.reserve.new.self _ (IsRoomy-same _ _ c.in_ok-reserve.ensures.entries c.in_ok-reserve.ensures.settled (IsRoomy-sound _ 0 c.self.invariant.sound))
+    Fits-roomy c.reserve.new.self _ (IsRoomy-same _ _ c.in_ok-reserve.ensures.entries c.in_ok-reserve.ensures.settled (IsRoomy-sound _ 0 (kept_sound _ c.self.invariant.sound)))
     (rw c.loss_of.ensures.x (omega (arith, ints))) (rw c.loss_of.ensures.y (omega (arith, ints)))
 
 pub invariant_of-self-2 : goal.invariant_of-self-2

@@ -5,14 +5,15 @@ use Rattle.world_core.specs.Apply.{pushed}
 use Rattle.world_core.proofs.BookLemmas.{Fits-roomy}
 use Rattle.world_core.specs.contracts.world.WorldCore.{the_view}
 use Rattle.world_core.proofs.Kept.{IsRoomy-sound, IsRoomy-same, push_whole}
+use Rattle.world_core.proofs.SoundLaws.{kept_sound}
 use Rattle.world_core.proofs.world.WorldCore.push.Goals as goal
 
 pub momentum_after-requires : goal.momentum_after-requires
-momentum_after-requires c = rw c.bodies.ensures c.self.invariant.sound.bodies
+momentum_after-requires c = rw c.bodies.ensures (kept_sound _ c.self.invariant.sound).bodies
 
 pub book-requires-clause-fits : goal.book-requires-clause-fits
 book-requires-clause-fits c =
-    Fits-roomy c.reserve.new.self _ (IsRoomy-same _ _ c.in_ok-reserve.ensures.entries c.in_ok-reserve.ensures.settled (IsRoomy-sound _ 0 c.self.invariant.sound))
+    Fits-roomy c.reserve.new.self _ (IsRoomy-same _ _ c.in_ok-reserve.ensures.entries c.in_ok-reserve.ensures.settled (IsRoomy-sound _ 0 (kept_sound _ c.self.invariant.sound)))
     (rw c.gain_of.ensures.x (omega (arith, ints))) (rw c.gain_of.ensures.y (omega (arith, ints)))
 
 pub invariant_of-self-2 : goal.invariant_of-self-2

@@ -20,18 +20,19 @@ use Rattle.world_core.proofs.ColouringLaws.{absent}
 use Rattle.world_core.proofs.PairLaws.{contacts_of_after}
 use Rattle.world_core.proofs.Kept.{IsRoomy-sound, IsRoomy-same, IsStep}
 use Rattle.world_core.proofs.StepLemmas.{collided_in, lists_in, step_answers, step_whole}
+use Rattle.world_core.proofs.SoundLaws.{kept_sound}
 use Rattle.world_core.proofs.world.WorldCore.step.Goals as goal
 
 pub collide-requires-clause-bodies : goal.collide-requires-clause-bodies
-collide-requires-clause-bodies c = rw c.bodies.ensures c.self.invariant.sound.bodies
+collide-requires-clause-bodies c = rw c.bodies.ensures (kept_sound _ c.self.invariant.sound).bodies
 
 pub turn_colours-requires-clause-absent : goal.turn_colours-requires-clause-absent
 turn_colours-requires-clause-absent c =
     rw (c.deref.ensures.value, c.in_ok-changes.ensures.begin, c.bodies.ensures, c.in_ok-reserve-2.ensures.lists)
-    (absent c.self.inside.bodies.bodies c.self.inside.contacts (contacts_after c.self.inside.bodies.bodies c.self.inside.contacts) c.self.inside.colours.lists (subst (AreColoured c.self.inside.bodies.bodies c.self.inside.contacts) (sym c.self.invariant.members) c.self.invariant.sound.colours))
+    (absent c.self.inside.bodies.bodies c.self.inside.contacts (contacts_after c.self.inside.bodies.bodies c.self.inside.contacts) c.self.inside.colours.lists (subst (AreColoured c.self.inside.bodies.bodies c.self.inside.contacts) (sym c.self.invariant.members) (kept_sound _ c.self.invariant.sound).colours))
 
 pub gather_rows-requires-clause-all_states : goal.gather_rows-requires-clause-all_states
-gather_rows-requires-clause-all_states c = rw c.states.ensures (states-all c.self.inside.bodies.bodies c.self.invariant.sound.bodies)
+gather_rows-requires-clause-all_states c = rw c.states.ensures (states-all c.self.inside.bodies.bodies (kept_sound _ c.self.invariant.sound).bodies)
 
 pub gather_rows-requires-clause-rising : goal.gather_rows-requires-clause-rising
 gather_rows-requires-clause-rising c = c.as_slice.ensures.contacts.rising
@@ -40,7 +41,7 @@ pub gather_rows-requires-clause-contacts : goal.gather_rows-requires-clause-cont
 gather_rows-requires-clause-contacts c =
     let bodies = c.self.inside.bodies.bodies in
     let of : AreContactsOf bodies c.as_slice.result.now =
-    rw (c.as_slice.ensures.value, c.in_ok-changes.ensures.now, c.bodies.ensures) (contacts_of_after bodies c.self.inside.contacts c.self.invariant.sound.bodies c.self.invariant.sound.matched.few c.self.invariant.sound.pairs) in
+    rw (c.as_slice.ensures.value, c.in_ok-changes.ensures.now, c.bodies.ensures) (contacts_of_after bodies c.self.inside.contacts (kept_sound _ c.self.invariant.sound).bodies (kept_sound _ c.self.invariant.sound).matched.few (kept_sound _ c.self.invariant.sound).pairs) in
     rw c.states.ensures (contacts_on bodies c.as_slice.result.now c.as_slice.ensures.contacts of)
 
 pub run-sums-requires-clause-rows : goal.run-sums-requires-clause-rows
@@ -49,7 +50,7 @@ run-sums-requires-clause-rows c =
     rows_as_long (length c.self.inside.bodies.bodies) (length c.states.result.now) c.gather_rows.new.rows.items long c.gather_rows.ensures.rows
 
 pub book_step-requires-clause-roomy : goal.book_step-requires-clause-roomy
-book_step-requires-clause-roomy c = IsRoomy-same _ _ c.in_ok-reserve.ensures.entries c.in_ok-reserve.ensures.settled (IsRoomy-sound _ 0 c.self.invariant.sound)
+book_step-requires-clause-roomy c = IsRoomy-same _ _ c.in_ok-reserve.ensures.entries c.in_ok-reserve.ensures.settled (IsRoomy-sound _ 0 (kept_sound _ c.self.invariant.sound))
 
 pub invariant_of-self-2 : goal.invariant_of-self-2
 invariant_of-self-2 c =

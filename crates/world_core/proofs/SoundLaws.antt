@@ -1,0 +1,70 @@
+-- A sound world, part by part: what each command's law keeps, and what follows from it.
+use Rattle.std.proofs.Common.{◌≡◌, ℕ, ◌+◌, ◌*◌, ◌^◌, ◌≤◌, All}
+use Rattle.fixed_geom.specs.Vectors.{IsWithin}
+use Rattle.impulse_ledger.specs.Sums.{total_x, total_y}
+use Rattle.contacts_base.specs.Contacts.{AreKeysRising}
+use Rattle.graph_colours.specs.Colours.{ids_of}
+use Rattle.plain_world.specs.Bodies.{AreBodies, momentum_x, momentum_y}
+use Rattle.plain_world.specs.Slots.{AreMatched}
+use Rattle.plain_world.proofs.CensusLemmas.{census_of-is}
+use Rattle.world_core_base.specs.Gather.{AreContactsOf}
+use Rattle.world_core.specs.Colouring.{AreColoured, members_of}
+use Rattle.world_core.specs.Sound.{AreSmall, HasBodies, IsSound}
+use Rattle.world_core.specs.World.{World, book_of}
+use Rattle.world_core.proofs.SlotLemmas.{body_at-in}
+
+-- the parts from which the others follow
+pub record IsKept (w : World) : Type 0 where
+  pub total_x : momentum_x w.plain.bodies ≡ total_x (book_of w)
+  pub total_y : momentum_y w.plain.bodies ≡ total_y (book_of w)
+  pub causes : AreSmall (2 ^ 126 + w.plain.calls * 2 ^ 83) (book_of w)
+  pub bodies : AreBodies w.plain.bodies
+  pub matched : AreMatched w.plain.places w.plain.bodies
+  pub contacts : AreKeysRising w.plain.contacts
+  pub pairs : AreContactsOf w.plain.bodies w.plain.contacts
+  pub there : All (HasBodies w.plain.bodies) w.plain.contacts
+  pub colours : AreColoured w.plain.bodies w.plain.contacts (members_of w.plain.bodies w.plain.colours)
+  pub moved : ids_of (members_of w.plain.bodies w.plain.colours) ≡ w.plain.colours
+  pub gravity : IsWithin (2 ^ 16) w.plain.gravity
+  pub steps : w.plain.steps ≤ w.plain.calls
+  pub calls : w.plain.calls ≤ 2 ^ 40
+
+pub kept_sound : (w : World) → IsSound w → IsKept w
+kept_sound w s = record {
+  total_x = s.promises.total_x;
+  total_y = s.promises.total_y;
+  causes = s.formed.causes;
+  bodies = s.formed.bodies;
+  matched = s.formed.matched;
+  contacts = s.formed.contacts;
+  pairs = s.formed.pairs;
+  there = s.formed.there;
+  colours = s.promises.colours;
+  moved = s.formed.moved;
+  gravity = s.formed.gravity;
+  steps = s.formed.steps;
+  calls = s.formed.calls;
+}
+
+pub sound_kept : (w : World) → IsKept w → IsSound w
+sound_kept w k = record {
+  promises = record {
+    sets = census_of-is w.plain.places w.plain.bodies k.matched;
+    colours = k.colours;
+    total_x = k.total_x;
+    total_y = k.total_y;
+    rest = λ slot b there still. (k.bodies slot b (body_at-in w.plain.bodies slot b there)).rest still;
+  };
+  formed = record {
+    matched = k.matched;
+    bodies = k.bodies;
+    contacts = k.contacts;
+    pairs = k.pairs;
+    there = k.there;
+    moved = k.moved;
+    causes = k.causes;
+    gravity = k.gravity;
+    steps = k.steps;
+    calls = k.calls;
+  };
+}
