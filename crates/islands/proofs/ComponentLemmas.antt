@@ -52,15 +52,15 @@ split_made old name edges names new r parts = record {
   members = λ s h. component old name edges names new s r parts h;
 }
 
-same_lists : (xs ys : Labels) → length xs ≡ length ys → ((s : ℕ) → label_at xs s ≡ label_at ys s) → xs ≡ ys
-same_lists [] [] e h = refl
-same_lists [] (y ∷ ys) e h = absurd (omega (arith, e))
-same_lists (x ∷ xs) [] e h = absurd (omega (arith, e))
-same_lists (x ∷ xs) (y ∷ ys) e h = let front : x ≡ y = h 0 in let rest : xs ≡ ys = same_lists xs ys (omega (arith, e)) (λ s. h (suc s)) in rw (front, rest) refl
+pub same_labels : (xs ys : Labels) → length xs ≡ length ys → ((s : ℕ) → label_at xs s ≡ label_at ys s) → xs ≡ ys
+same_labels [] [] e h = refl
+same_labels [] (y ∷ ys) e h = absurd (omega (arith, e))
+same_labels (x ∷ xs) [] e h = absurd (omega (arith, e))
+same_labels (x ∷ xs) (y ∷ ys) e h = let front : x ≡ y = h 0 in let rest : xs ≡ ys = same_labels xs ys (omega (arith, e)) (λ s. h (suc s)) in rw (front, rest) refl
 
 -- two splits of the same are one
 pub split_one : (old : Labels) (name : ℕ) (edges : Edges) (new also : Labels) → IsSplit old name edges new → IsSplit old name edges also → new ≡ also
-split_one old name edges new also p q = same_lists new also (p.size ∙ sym q.size) (λ s. elim (in_case (label_at old s) name) [
+split_one old name edges new also p q = same_labels new also (p.size ∙ sym q.size) (λ s. elim (in_case (label_at old s) name) [
   | inl h ↦ let a : IsComponent edges new s = p.members s h in let b : IsComponent edges also s = q.members s h in
       let one : a.name ≤ b.name = a.lowest b.name b.joined in let two : b.name ≤ a.name = b.lowest a.name a.joined in
       let same : a.name ≡ b.name = omega (arith, one, two) in

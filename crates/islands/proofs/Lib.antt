@@ -6,3 +6,6 @@ pub mod WalkLemmas
 pub mod ThreadLemmas
 pub mod ComponentLemmas
 pub mod GroupLemmas
+pub mod PartLemmas
+pub mod JoinPartLemmas
+pub mod LeavePartLemmas

@@ -5,3 +5,4 @@ pub mod Laws
 pub mod Walk
 pub mod Threads
 pub mod Kept
+pub mod Packed

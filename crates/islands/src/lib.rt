@@ -11,6 +11,7 @@ ghost use Rattle.islands.specs.Laws.{AddingKeeps, MergingKeeps, LooseningKeeps, 
 mod components;
 mod islands;
 mod label;
+mod parts;
 mod room;
 mod scratch;
 #[cfg(test)]

@@ -1,0 +1,2 @@
+mod JointRows
+mod Laws64

@@ -1,0 +1,4 @@
+pub mod Joints
+pub mod Rows
+pub mod Row64
+pub mod Laws

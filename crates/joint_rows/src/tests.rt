@@ -1,0 +1,240 @@
+ghost use Rattle.std.specs.Prelude.{◌≡◌, ◌^◌, ◌≤◌, ◌⊎◌, ◌≤ℤ◌, true, pos, unsigned_abs};
+ghost use Rattle.fixed_geom.specs.Facings.{IsFacing};
+ghost use Rattle.fixed_geom.specs.Vectors.{IsWithin};
+ghost use Rattle.momenta.specs.Impulses.{AreStates, IsState};
+ghost use Rattle.joint_rows.specs.Joints.{IsJoint};
+ghost use Rattle.joint_rows.specs.Rows.{IsJointRow};
+
+use crate::{
+    Joint, JointAfter, JointBodies, JointRow, joint_row, solve_joint, solve_joint_64, warm_joint,
+    warm_joint_64,
+};
+use fixed_geom::{Rot, Vec2};
+use momenta::{
+    BodyState, Ends, Exerted64, MassData, Momenta64, MomentaPair64, Motion, reciprocals_of,
+};
+
+const ORIGIN: Vec2 = Vec2 { x: 0, y: 0 };
+
+const AHEAD: Rot = Rot { c: 1 << 30, s: 0 };
+
+const LEFT: Rot = Rot { c: 0, s: 1 << 30 };
+
+const UNIT_MASS: MassData = MassData {
+    mass: 1,
+    inertia: 0,
+};
+
+fn at(x: i64, y: i64) -> Vec2 {
+    Vec2 { x, y }
+}
+
+/// A body of mass 1 that never turns, where it stood when the step began.
+fn body(movable: bool, x: Vec2, rot: Rot, p: Vec2) -> BodyState
+    requires position { IsWithin (2 ^ 36) x }
+    requires facing { IsFacing rot }
+    requires momentum { IsWithin (2 ^ 60) p }
+    ensures state { IsState result }
+    ensures movable { result.movable ≡ movable }
+{
+    BodyState {
+        movable,
+        mass: UNIT_MASS,
+        motion: Motion { p, l: 0, x, rot },
+        start: x,
+        reciprocals: reciprocals_of(UNIT_MASS),
+    }
+}
+
+/// Two movers 1000 apart, the first of which has the momentum `p`, and the second `q`.
+fn two_movers(p: Vec2, q: Vec2) -> Ends
+    requires first { IsWithin (2 ^ 60) p }
+    requires second { IsWithin (2 ^ 60) q }
+    ensures states { AreStates result }
+    ensures mover { (result.a.movable ≡ true) ⊎ (result.b.movable ≡ true) }
+{
+    Ends {
+        a: body(true, ORIGIN, AHEAD, p),
+        b: body(true, Vec2 { x: 1000, y: 0 }, AHEAD, q),
+    }
+}
+
+/// A joint of the two centres.
+fn joint(length: i64, impulse: i64) -> Joint
+    requires length_low { pos 0 ≤ℤ length }
+    requires length_high { unsigned_abs length ≤ 2 ^ 25 }
+    requires impulse { unsigned_abs impulse ≤ 2 ^ 42 }
+    ensures { IsJoint result }
+{
+    Joint {
+        from: ORIGIN,
+        to: ORIGIN,
+        length,
+        impulse,
+    }
+}
+
+/// The row of a joint of two bodies that stand as when the step began.
+fn row_of(joint: Joint, ends: &Ends) -> JointRow
+    requires joint { IsJoint joint }
+    requires states { AreStates ends.now }
+    requires mover { (ends.now.a.movable ≡ true) ⊎ (ends.now.b.movable ≡ true) }
+    ensures { IsJointRow result }
+{
+    let bodies = JointBodies {
+        index: 0,
+        a: 0,
+        b: 1,
+    };
+    joint_row(bodies, &joint, ends)
+}
+
+/// A joint and its bodies after a pass, if they stood so when the step began.
+fn solved(joint: Joint, mut ends: Ends) -> JointAfter
+    requires joint { IsJoint joint }
+    requires states { AreStates ends }
+    requires mover { (ends.a.movable ≡ true) ⊎ (ends.b.movable ≡ true) }
+{
+    let mut row = row_of(joint, &ends);
+    solve_joint(&mut row, &mut ends);
+    JointAfter { row, ends }
+}
+
+/// The same after a warm start.
+fn warmed(joint: Joint, mut ends: Ends) -> JointAfter
+    requires joint { IsJoint joint }
+    requires states { AreStates ends }
+    requires mover { (ends.a.movable ≡ true) ⊎ (ends.b.movable ≡ true) }
+{
+    let row = row_of(joint, &ends);
+    warm_joint(&row, &mut ends);
+    JointAfter { row, ends }
+}
+
+/// The accumulated impulse and the two momenta.
+fn left_by(after: &JointAfter) -> (i64, Vec2, Vec2) {
+    (
+        after.row.impulse,
+        after.ends.a.motion.p,
+        after.ends.b.motion.p,
+    )
+}
+
+#[test]
+fn a_stretched_joint_pulls_its_bodies_together(rt: HostRuntime) {
+    let after = solved(joint(984, 0), two_movers(ORIGIN, ORIGIN));
+    assert_eq!(rt; after.row.stretch, 16);
+    assert_eq!(rt; after.row.line.direction, at(1 << 30, 0));
+    assert_eq!(rt; left_by(&after), (-1, at(1, 0), at(-1, 0)));
+}
+
+#[test]
+fn a_pressed_joint_pushes_its_bodies_apart(rt: HostRuntime) {
+    let after = solved(joint(1016, 0), two_movers(ORIGIN, ORIGIN));
+    assert_eq!(rt; left_by(&after), (1, at(-1, 0), at(1, 0)));
+}
+
+#[test]
+fn a_far_stretched_joint_has_the_greatest_bias(rt: HostRuntime) {
+    let ends = Ends {
+        a: body(true, ORIGIN, AHEAD, ORIGIN),
+        b: body(true, Vec2 { x: 0, y: 1 << 20 }, AHEAD, ORIGIN),
+    };
+    let after = solved(joint(0, 0), ends);
+    assert_eq!(rt; left_by(&after), (-8192, at(0, 8192), at(0, -8192)));
+}
+
+#[test]
+fn an_immovable_end_gets_nothing(rt: HostRuntime) {
+    let ends = Ends {
+        a: body(false, ORIGIN, AHEAD, ORIGIN),
+        b: body(true, Vec2 { x: 1000, y: 0 }, AHEAD, ORIGIN),
+    };
+    let after = solved(joint(984, 0), ends);
+    assert_eq!(rt; left_by(&after), (-2, ORIGIN, at(-2, 0)));
+}
+
+#[test]
+fn anchors_at_one_point_part_upwards(rt: HostRuntime) {
+    let pinned = Joint {
+        from: Vec2 { x: 0, y: -1000 },
+        to: ORIGIN,
+        length: 16,
+        impulse: 0,
+    };
+    let ends = Ends {
+        a: body(true, ORIGIN, LEFT, ORIGIN),
+        b: body(true, Vec2 { x: 1000, y: 0 }, AHEAD, ORIGIN),
+    };
+    let after = solved(pinned, ends);
+    assert_eq!(rt; after.row.line.ra, at(1000, 0));
+    assert_eq!(rt; after.row.stretch, -16);
+    assert_eq!(rt; left_by(&after), (1, at(0, -1), at(0, 1)));
+}
+
+#[test]
+fn an_impulse_beyond_a_limit_is_dropped(rt: HostRuntime) {
+    let fast = Vec2 { x: 1 << 60, y: 0 };
+    let after = solved(joint(984, 0), two_movers(fast, fast));
+    assert_eq!(rt; left_by(&after), (0, at(1 << 60, 0), at(1 << 60, 0)));
+    let after = warmed(joint(1000, 5), two_movers(ORIGIN, fast));
+    assert_eq!(rt; left_by(&after), (5, ORIGIN, at(1 << 60, 0)));
+}
+
+/// A row of two movers that have parted by 16 u since the step began, after a pass.
+fn solved_apart() -> JointAfter {
+    let mut ends = two_movers(ORIGIN, ORIGIN);
+    let mut row = row_of(joint(984, 0), &ends);
+    ends.b.motion.x = Vec2 { x: 1016, y: 0 };
+    solve_joint(&mut row, &mut ends);
+    JointAfter { row, ends }
+}
+
+#[test]
+fn an_error_grows_as_the_centres_part(rt: HostRuntime) {
+    assert_eq!(rt; left_by(&solved_apart()), (-2, at(2, 0), at(-2, 0)));
+}
+
+#[test]
+fn a_warm_start_gives_the_kept_impulse(rt: HostRuntime) {
+    let after = warmed(joint(1000, -5), two_movers(ORIGIN, ORIGIN));
+    assert_eq!(rt; left_by(&after), (-5, at(5, 0), at(-5, 0)));
+}
+
+/// What a pass in 64 bits leaves of two bodies that don't turn.
+fn after_64(total: i64, p: Vec2, q: Vec2) -> Option<Exerted64> {
+    Some(Exerted64 {
+        now: MomentaPair64 {
+            a: Momenta64 { p, l: 0 },
+            b: Momenta64 { p: q, l: 0 },
+        },
+        total,
+    })
+}
+
+#[test]
+fn a_pass_in_64_bits_is_the_pass(rt: HostRuntime) {
+    let ends = two_movers(ORIGIN, ORIGIN);
+    let row = row_of(joint(984, 0), &ends);
+    assert_eq!(rt;
+        solve_joint_64(&row, &ends.a, &ends.b),
+        after_64(-1, at(1, 0), at(-1, 0))
+    );
+}
+
+#[test]
+fn a_warm_start_in_64_bits_gives_the_kept_impulse(rt: HostRuntime) {
+    let ends = two_movers(ORIGIN, ORIGIN);
+    let row = row_of(joint(1000, -5), &ends);
+    assert_eq!(rt;
+        warm_joint_64(&row, &ends.a, &ends.b),
+        after_64(-5, at(5, 0), at(-5, 0))
+    );
+}
+
+#[test]
+fn great_momenta_have_no_pass_in_64_bits(rt: HostRuntime) {
+    let ends = two_movers(ORIGIN, Vec2 { x: 1 << 50, y: 0 });
+    let row = row_of(joint(984, 0), &ends);
+    assert_eq!(rt; solve_joint_64(&row, &ends.a, &ends.b), None);
+}

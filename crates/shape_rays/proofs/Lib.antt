@@ -1,0 +1,9 @@
+pub mod RingLemmas
+pub mod HitLemmas
+pub mod PartLemmas
+pub mod SignLemmas
+pub mod WayLemmas
+pub mod MeetingLemmas
+pub mod PlaceLemmas
+pub mod HitPlaces
+pub mod BoxLaws

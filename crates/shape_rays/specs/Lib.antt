@@ -1,0 +1,4 @@
+pub mod Casts
+pub mod Hits
+pub mod Laws
+pub mod Reach

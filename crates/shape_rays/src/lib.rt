@@ -1,0 +1,18 @@
+//! A ray among the shapes of a world: which boxes it may meet something in, which shape it hits first, and which shapes
+//! lie over a region.
+//!
+//! Where a ray meets one shape is [`shapes::ray`]. Here are the order of hits, the scan over a list of shapes that says
+//! which hit is the first, and a test of boxes that passes over no shape that is hit, so that a tree of boxes may leave
+//! out what the test refuses.
+#![tactic(auto)]
+
+mod boxes;
+mod cast;
+mod hits;
+pub mod laws;
+#[cfg(test)]
+mod tests;
+
+pub use boxes::SLACK;
+pub use cast::RayCast;
+pub use hits::{Hit, PlacedShape, first_hit, is_over, nearer};

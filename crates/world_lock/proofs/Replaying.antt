@@ -1,0 +1,127 @@
+-- One call more at the end of a list of calls, and what it does to a world with its journal.
+use Rattle.std.proofs.Common.{◌≡◌, ◌+◌, ◌^◌, ◌≤◌, List, [], ◌∷◌, ◌++◌, length, take, drop, Result, Ok, Err, refl, sym, ap, ◌∙◌, subst, arith, append_assoc, length-append, inl, inr, ◌⊎◌}
+use Rattle.std.specs.Prelude.{MatchResult, unwrap_or}
+use Rattle.std.proofs.lemmas.Int.{ints}
+use Rattle.std.proofs.Math.Seq.{drop-append_seam}
+use Rattle.std.proofs.lemmas.List.{append-nil, map-append, take-append-le}
+use Rattle.fixed_geom.specs.Vectors.{IsWithin}
+use Rattle.fixed_geom.specs.declared.refusal.Refusal.{Refusal}
+use Rattle.fixed_geom.specs.declared.refusal.Refusal.TheVariants.{NoMemory}
+use Rattle.impulse_ledger.specs.declared.entry.Entry as ledger
+use Rattle.impulse_ledger.specs.Sums.{HaveSameTotals, totals_of}
+use Rattle.impulse_ledger.proofs.SumLemmas.{sum_x-append, sum_y-append, sum_of_x-append, sum_of_y-append}
+use Rattle.world_core.specs.declared.command.Command.{Command}
+use Rattle.world_core.specs.declared.command.Reply.{Reply}
+use Rattle.world_core.specs.World.{World, book_of}
+use Rattle.plain_world.specs.Plain.{Plain}
+use Rattle.world_core.specs.Apply.{Answers, Applied, apply, world_with}
+use Rattle.world_core.specs.Replay.{after, after_one, answer_of, answers_to, replay}
+use Rattle.world_core.specs.Laws.{EachCallCounts, PushesAreSmall, impulse_of}
+use Rattle.world_core.specs.Sound.{IsSound}
+use Rattle.world_lock.specs.Journals.{Beginning, IsJournalled, IsLegal, IsLike, Journalled, KeepsHeadline, Line, booked_by, command_of, commands_of, entries_of, left_by, opening_of, replies_of, reply_of}
+
+-- ---- one answer
+
+pub answered : (due : Result Applied Refusal) (old : World) (r : Result Reply Refusal) (new : World) → Answers due old r new
+    → MatchResult r (λ reply. (answer_of due ≡ Ok reply) × (new ≡ after_one old due)) (λ e. (new ≡ old) × ((e ≡ NoMemory) ⊎ (answer_of due ≡ Err e)))
+answered (Ok a) old (Ok reply) new h = (ap Ok (sym h.0), h.1)
+answered (Ok a) old (Err e) new h = (h.1, inl h.0)
+answered (Err due) old (Ok reply) new h = absurd h
+answered (Err due) old (Err e) new h = (h.1, inr (ap Err (sym h.0)))
+
+counts_by : (law : EachCallCounts) (w : World) (c : Command) (reply : Reply) (due : Result Applied Refusal) → apply w.plain c ≡ due → answer_of due ≡ Ok reply → (after_one w due).plain.calls ≡ w.plain.calls + 1
+counts_by law w c reply (Ok a) is ok = law w.plain c a is
+counts_by law w c reply (Err e) is ok = cc
+
+pub counts : (law : EachCallCounts) (w : World) (c : Command) (reply : Reply) → answer_of (apply w.plain c) ≡ Ok reply → (after w c).plain.calls ≡ w.plain.calls + 1
+counts law w c reply ok = counts_by law w c reply (apply w.plain c) refl ok
+
+small_by : (law : PushesAreSmall) (w : World) (c : Command) (reply : Reply) (due : Result Applied Refusal) → apply w.plain c ≡ due → answer_of due ≡ Ok reply → IsWithin (2 ^ 40) (impulse_of c)
+small_by law w c reply (Ok a) is ok = law w.plain c a is
+small_by law w c reply (Err e) is ok = cc
+
+pub small_push : (law : PushesAreSmall) (w : World) (c : Command) (reply : Reply) → answer_of (apply w.plain c) ≡ Ok reply → IsWithin (2 ^ 40) (impulse_of c)
+small_push law w c reply ok = small_by law w c reply (apply w.plain c) refl ok
+
+-- ---- lists of calls
+
+pub left_push : (first : World) (es : List Line) (e : Line) → left_by first (es ++ e ∷ []) ≡ after (left_by first es) (command_of e)
+left_push first [] e = refl
+left_push first (x ∷ xs) e = left_push (after first (command_of x)) xs e
+
+answers_push : (first : World) (es : List Line) (e : Line) → answers_to first (commands_of (es ++ e ∷ [])) ≡ answers_to first (commands_of es) ++ answer_of (apply (left_by first es).plain (command_of e)) ∷ []
+answers_push first [] e = refl
+answers_push first (x ∷ xs) e = ap (λ l. answer_of (apply first.plain (command_of x)) ∷ l) (answers_push (after first (command_of x)) xs e)
+
+pub legal_push : (first : World) (es : List Line) (e : Line) → IsLegal first es → answer_of (apply (left_by first es).plain (command_of e)) ≡ reply_of e → IsLegal first (es ++ e ∷ [])
+legal_push first es e legal one =
+    let both : answers_to first (commands_of es) ++ answer_of (apply (left_by first es).plain (command_of e)) ∷ [] ≡ replies_of es ++ reply_of e ∷ [] = λ i. legal i ++ one i ∷ [] in
+    answers_push first es e ∙ both ∙ sym (map-append reply_of es (e ∷ []))
+
+-- ---- worlds that differ by settled entries alone
+
+totals_more : (v w : World) (a : Applied) → HaveSameTotals (book_of w) (book_of v) → HaveSameTotals (book_of (world_with w a)) (book_of (world_with v a))
+totals_more v w a same =
+    let x = same.x in let y = same.y in
+    record {
+      x = omega (arith, ints, sum_x-append w.entries a.entries, sum_x-append v.entries a.entries);
+      y = omega (arith, ints, sum_y-append w.entries a.entries, sum_y-append v.entries a.entries);
+      of_cause_x = λ c. omega (arith, ints, same.of_cause_x c, sum_of_x-append c w.entries a.entries, sum_of_x-append c v.entries a.entries);
+      of_cause_y = λ c. omega (arith, ints, same.of_cause_y c, sum_of_y-append c w.entries a.entries, sum_of_y-append c v.entries a.entries);
+    }
+
+like_one : (v w : World) (due : Result Applied Refusal) → IsLike v w → IsLike (after_one v due) (after_one w due)
+like_one v w (Ok a) like = record { plain = refl; events = ap (λ l. unwrap_or a.events l) like.events; totals = totals_more v w a like.totals }
+like_one v w (Err e) like = like
+
+pub like_after : (v w : World) (c : Command) → IsLike v w → IsLike (after v c) (after w c)
+like_after v w c like = subst (λ (p : Plain). IsLike (after_one v (apply p c)) (after w c)) like.plain (like_one v w (apply w.plain c) like)
+
+-- ---- a world with its journal
+
+grown : (w : World) (due : Result Applied Refusal) → (more : List ledger.Entry) × ((after_one w due).entries ≡ w.entries ++ more) × ((after_one w due).settled ≡ w.settled)
+grown w (Ok a) = (a.entries, refl, refl)
+grown w (Err e) = ([], sym (append-nil w.entries), refl)
+
+pub opening_stays : (b : Beginning) (w : World) (c : Command) → b.booked ≤ length w.entries → opening_of b (after w c) ≡ opening_of b w
+opening_stays b w c le =
+    let g = grown w (apply w.plain c) in
+    let entries : take b.booked (after w c).entries ≡ take b.booked w.entries = ap (take b.booked) g.1 ∙ take-append-le b.booked w.entries g.0 le in
+    λ i. record { plain = b.plain; entries = entries i; settled = g.2 i; events = b.events }
+
+pub journalled_call : (b : Beginning) (w : World) (journal : List Line) (e : Line) → IsJournalled b w journal → answer_of (apply w.plain (command_of e)) ≡ reply_of e → IsSound (after w (command_of e))
+    → IsJournalled b (after w (command_of e)) (journal ++ e ∷ [])
+journalled_call b w journal e j ok sound =
+    let now = after w (command_of e) in
+    let old = opening_of b w in
+    let same : opening_of b now ≡ old = opening_stays b w (command_of e) j.booked in
+    let replay : now ≡ left_by old (journal ++ e ∷ []) = ap (λ (v : World). after v (command_of e)) j.headline.replay ∙ sym (left_push old journal e) in
+    let taken : answer_of (apply (left_by old journal).plain (command_of e)) ≡ reply_of e = ap (λ (v : World). answer_of (apply v.plain (command_of e))) (sym j.headline.replay) ∙ ok in
+    let g = grown w (apply w.plain (command_of e)) in
+    record {
+      headline = record {
+        sound = sound;
+        replay = replay ∙ ap (λ (o : World). left_by o (journal ++ e ∷ [])) (sym same);
+        replies = subst (λ (o : World). IsLegal o (journal ++ e ∷ [])) (sym same) (legal_push old journal e j.headline.replies taken);
+      };
+      booked = let le = j.booked in omega (arith, ap length g.1, length-append w.entries g.0);
+      totals = j.totals ∙ ap (λ (o : World). totals_of (book_of o)) (sym same);
+    }
+
+-- ---- the ledger's entries
+
+booked_one : (w : World) (due : Result Applied Refusal) → (after_one w due).entries ≡ w.entries ++ entries_of due
+booked_one w (Ok a) = refl
+booked_one w (Err e) = sym (append-nil w.entries)
+
+booked : (w : World) (cs : List Command) → (replay w cs).entries ≡ w.entries ++ booked_by w cs
+booked w [] = sym (append-nil w.entries)
+booked w (c ∷ cs) =
+    let one : (after w c).entries ≡ w.entries ++ entries_of (apply w.plain c) = booked_one w (apply w.plain c) in
+    booked (after w c) cs ∙ ap (λ (es : List ledger.Entry). es ++ booked_by (after w c) cs) one ∙ append_assoc w.entries (entries_of (apply w.plain c)) (booked_by (after w c) cs)
+
+-- the entries since the opening are those of the replay
+pub booked_since : (j : Journalled) → KeepsHeadline j → drop (length j.opening.entries) j.world.entries ≡ booked_by j.opening (commands_of j.journal)
+booked_since j h =
+    let all : j.world.entries ≡ j.opening.entries ++ booked_by j.opening (commands_of j.journal) = ap (λ (w : World). w.entries) h.replay ∙ booked j.opening (commands_of j.journal) in
+    ap (drop (length j.opening.entries)) all ∙ drop-append_seam j.opening.entries (booked_by j.opening (commands_of j.journal))

@@ -1,0 +1,206 @@
+//! What lies under the lock.
+
+ghost use Rattle.std.specs.Prelude.{◌≡◌, ◌+◌, ◌<◌, ◌≤◌, [], ◌∷◌, ◌++◌, All, Ok, IfOk, OnErr, OnOk, MatchResult, drop, length, replicate};
+ghost use Rattle.std.specs.Result.{IsOkUnless};
+ghost use Rattle.world_core.specs.Apply.{apply};
+ghost use Rattle.world_core.specs.Frames.{settled_world};
+ghost use Rattle.world_core.specs.Replay.{after, answer_of};
+ghost use Rattle.impulse_ledger.specs.Sums.{total_x, total_y};
+ghost use Rattle.plain_world.specs.Bodies.{momentum_x, momentum_y};
+ghost use Rattle.plain_world.specs.Census.{IsCensus, census_of};
+ghost use Rattle.world_core.specs.Colouring.{AreColoured, members_of};
+ghost use Rattle.world_core.specs.World.{book_of};
+ghost use Rattle.world_lock.specs.Journals.{IsLegal, booked_by, commands_of, left_by, line};
+ghost use Rattle.world_lock.specs.Tallies.{no_calls};
+ghost use Rattle.world_lock.specs.Histories.{Called, IsClosed, IsPastFor, Met, Refused, Shown, Told, next_number};
+
+use crate::journalled::{JournalEntry, JournalledWorld};
+use crate::opened::Opened;
+use crate::seat::{Receipt, Seat};
+use crate::shared::Closed;
+use crate::tally::{Tally, calls_in, count_call};
+use fixed_geom::Refusal;
+use seat_book::{Book, Keeper};
+use std::marker::Model;
+use world_core::{Command, Events, Frame, Reply, each_call_counts};
+
+/// What the lock of a shared world guards: the world with its journal, what each seat did, and the keeper of the history.
+#[derive(Drop)]
+pub struct Held<N: Opened> {
+    journalled: JournalledWorld,
+    // How many calls of the history were settled.
+    settled: u64,
+    tallies: Vec<Tally>,
+    // The tallies as they were when the last calls were settled.
+    settled_tallies: Vec<Tally>,
+    keeper: Keeper<N, Command, Reply>,
+}
+
+impl<N: Opened> Model for Held<N> {
+    ghost use Rattle.world_lock.specs.Histories.{IsHeld, Standing, standing};
+
+    ghost Value = { Standing };
+
+    ghost view = { λ h. standing h.journalled h.settled h.tallies.items h.settled_tallies.items h.keeper };
+
+    ghost invariant = { λ h. IsHeld N.seats N.opening (standing h.journalled h.settled h.tallies.items h.settled_tallies.items h.keeper) };
+}
+
+impl<N: Opened> Held<N> {
+    /// A world that no seat has called yet.
+    pub(crate) fn new(
+        journalled: JournalledWorld,
+        tallies: Vec<Tally>,
+        settled_tallies: Vec<Tally>,
+        keeper: Keeper<N, Command, Reply>,
+    ) -> Held<N>
+        requires world { journalled ≡ record { world = N.opening; opening = N.opening; journal = [] } }
+        requires tallies { tallies.items ≡ replicate N.seats no_calls }
+        requires settled { settled_tallies.items ≡ replicate N.seats no_calls }
+        requires keeper { keeper ≡ [] }
+    {
+        // The journal is read for its promise alone, the headline.
+        let _ = journalled.journal();
+        Held {
+            journalled,
+            settled: 0,
+            tallies,
+            settled_tallies,
+            keeper,
+        }
+    }
+
+    /// The journal. Its contract is the headline: each body stands in exactly one solver set; no two constraints of a colour share
+    /// a mover; the movers' momentum is the ledger's total; the world is the one-thread replay of the journal from the opening
+    /// world, which gives the journal's replies; and the ledger's entries since the opening are those of the replay.
+    pub fn headline(&self) -> &[JournalEntry]
+        ensures journal { result.now ≡ self.now.journal }
+        ensures sets { IsCensus self.now.world.plain.places self.now.world.plain.bodies (census_of self.now.world.plain.places self.now.world.plain.bodies) }
+        ensures colours { AreColoured self.now.world.plain.bodies self.now.world.plain.contacts (members_of self.now.world.plain.bodies self.now.world.plain.colours) }
+        ensures total_x { momentum_x self.now.world.plain.bodies ≡ total_x (book_of self.now.world) }
+        ensures total_y { momentum_y self.now.world.plain.bodies ≡ total_y (book_of self.now.world) }
+        ensures replay { self.now.world ≡ left_by self.now.opening self.now.journal }
+        ensures replies { IsLegal self.now.opening self.now.journal }
+        ensures entries { drop (length self.now.opening.entries) self.now.world.entries ≡ booked_by self.now.opening (commands_of self.now.journal) }
+    {
+        self.journalled.journal()
+    }
+
+    /// A call of a seat. The world applies the command, the journal grows by just the seat's next call, and the receipt names
+    /// this entry; the seat has then seen all calls up to it. A refused call changes nothing and takes no number, and the seat
+    /// has then seen all calls before. Refused as the world refuses the command, or 1.
+    pub fn call(
+        &mut self,
+        book: &Book<N, Command, Reply>,
+        seat: &mut Seat<N>,
+        command: Command,
+    ) -> Result<(Reply, Receipt), Refusal>
+        ensures told { MatchResult result (λ r. Called N.opening seat.old command r.0 r.1 seat.new) (λ refusal. Refused N.opening seat.old command refusal seat.new) }
+        ensures done { MatchResult result (λ r. (answer_of (apply self.old.world.plain command) ≡ Ok r.0) × (self.new.world ≡ after self.old.world command) × (self.new.opening ≡ self.old.opening) × (self.new.journal ≡ self.old.journal ++ line seat.old.seat (next_number seat.old) command r.0 ∷ [])) (λ refusal. self.new ≡ self.old) }
+    {
+        each_call_counts();
+        let impulse = command.impulse();
+        let receipt = Receipt {
+            seat: seat.number(),
+            number: calls_in(&self.tallies, seat.number()) + 1,
+            place: self.settled + self.journalled.journal().len() as u64,
+        };
+        match self.journalled.call(receipt.seat, receipt.number, command) {
+            Ok(reply) => {
+                count_call(&mut self.tallies, receipt.seat, impulse);
+                let journal = self.journalled.journal();
+                let entry = &journal[journal.len() - 1];
+                book.enter(&mut self.keeper, &mut seat.pass, &entry.call);
+                Ok((reply, receipt))
+            }
+            Err(refusal) => {
+                book.meet(&mut self.keeper, &mut seat.pass);
+                Err(refusal)
+            }
+        }
+    }
+
+    /// Begins a new journal at the present world, and gives the entries of the old one; the ledger's entries are settled, and
+    /// no total changes. Refused 1 with nothing changed where memory is wanting.
+    pub fn settle(&mut self) -> Result<Vec<JournalEntry>, Refusal>
+        ensures settled { OnOk result (self.new ≡ record { world = settled_world self.old.world; opening = settled_world self.old.world; journal = []; settled = self.old.settled + length self.old.journal; tallies = self.old.tallies; settled_tallies = self.old.tallies; history = self.old.history }) }
+        ensures journal { IfOk result (λ journal. journal.items ≡ self.old.journal) }
+        ensures err { OnErr result (self.new ≡ self.old) }
+        ensures memory_only { IsOkUnless result Refusal.NoMemory }
+    {
+        let journal = self.journalled.settle()?;
+        self.settled += journal.len() as u64;
+        self.settled_tallies.copy_from_slice(&self.tallies);
+        Ok(journal)
+    }
+
+    /// What the world shows, as the seat then has seen it. Refused 1 where memory is wanting.
+    pub fn frame(
+        &mut self,
+        book: &Book<N, Command, Reply>,
+        seat: &mut Seat<N>,
+    ) -> Result<Frame, Refusal>
+        ensures told { MatchResult result (λ frame. Shown N.opening seat.old frame seat.new) (λ refusal. (refusal ≡ Refusal.NoMemory) × Met N.opening seat.old seat.new) }
+        ensures same { self.new ≡ self.old }
+    {
+        book.meet(&mut self.keeper, &mut seat.pass);
+        self.journalled.world().frame()
+    }
+
+    /// The events of the world's last step, as the seat then has seen it. Refused 1 where memory is wanting.
+    pub fn events(
+        &mut self,
+        book: &Book<N, Command, Reply>,
+        seat: &mut Seat<N>,
+    ) -> Result<Events, Refusal>
+        ensures told { MatchResult result (λ events. Told N.opening seat.old events seat.new) (λ refusal. (refusal ≡ Refusal.NoMemory) × Met N.opening seat.old seat.new) }
+        ensures same { self.new ≡ self.old }
+    {
+        book.meet(&mut self.keeper, &mut seat.pass);
+        self.journalled.world().events().try_copy()
+    }
+
+    /// How many seats there are.
+    pub(crate) fn seats(&self) -> u64
+        ensures { result ≡ N.seats }
+    {
+        self.tallies.len() as u64
+    }
+
+    /// All seats meet the history, and the world is closed.
+    pub(crate) fn close(self, book: &Book<N, Command, Reply>, seats: Vec<Seat<N>>) -> Closed
+        ensures { IsClosed N.seats N.opening seats.items result.opening result.world result.journal.items result.settled.items }
+    {
+        let Held {
+            journalled,
+            settled: _,
+            tallies: _,
+            settled_tallies,
+            mut keeper,
+        } = self;
+        meet_all(book, &mut keeper, seats);
+        let (world, opening, journal) = journalled.into_parts();
+        Closed {
+            world,
+            opening,
+            journal,
+            settled: settled_tallies,
+        }
+    }
+}
+
+/// Each of these seats meets the history.
+fn meet_all<N: Opened>(
+    book: &Book<N, Command, Reply>,
+    keeper: &mut Keeper<N, Command, Reply>,
+    seats: Vec<Seat<N>>,
+)
+    ensures pasts { All (IsPastFor N.seats keeper.old) seats.items }
+    ensures same { keeper.new ≡ keeper.old }
+{
+    for mut seat in seats {
+        // The number is read for its promise alone, that it is one of the roster's.
+        let _ = seat.number();
+        book.meet(keeper, &mut seat.pass);
+    }
+}

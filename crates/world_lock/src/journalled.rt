@@ -1,0 +1,132 @@
+//! A world with the journal of its calls, of which it is the replay.
+
+ghost use Rattle.std.specs.Prelude.{◌≡◌, ◌⊎◌, ◌≤◌, [], ◌∷◌, ◌++◌, Ok, Err, IfOk, OnOk, OnErr, MatchResult, length};
+ghost use Rattle.std.specs.Result.{IsOkUnless};
+ghost use Rattle.impulse_ledger.specs.Sums.{HaveSameTotals};
+ghost use Rattle.world_core.specs.World.{book_of};
+ghost use Rattle.world_core.specs.Apply.{apply};
+ghost use Rattle.world_core.specs.Frames.{settled_world};
+ghost use Rattle.world_core.specs.Replay.{after, answer_of};
+ghost use Rattle.world_core.specs.Sound.{IsSound};
+ghost use Rattle.world_lock.specs.Journals.{KeepsHeadline, beginning_at, journalled, line};
+
+use crate::opening::Opening;
+use fixed_geom::Refusal;
+use seat_book::{Call, Entry};
+use std::marker::Model;
+use std::mem;
+use world_core::{Command, Reply, WorldCore};
+
+/// An accepted call: its seat, which of the seat's calls it is, what was asked, and what was answered.
+pub type JournalEntry = Entry<Command, Reply>;
+
+/// A world, with the calls that it accepted since its journal began. Whenever it is whole, the headline holds of it: the world is
+/// sound, and it is the one-thread replay of the journal from the world that the journal began with.
+#[derive(Drop)]
+pub struct JournalledWorld {
+    world: WorldCore,
+    opening: Opening,
+    journal: Vec<JournalEntry>,
+}
+
+impl Model for JournalledWorld {
+    ghost use Rattle.world_lock.specs.Journals.{IsJournalled, Journalled, journalled};
+
+    ghost Value = { Journalled };
+
+    ghost view = { λ a. journalled a.opening a.world a.journal.items };
+
+    ghost invariant = { λ a. IsJournalled a.opening a.world a.journal.items };
+}
+
+/// What the world answers to a command; it is sound whatever it answers.
+fn applied(world: &mut WorldCore, command: &Command) -> Result<Reply, Refusal>
+    ensures answer { MatchResult result (λ reply. (answer_of (apply world.old.plain command.now) ≡ Ok reply) × (world.new ≡ after world.old command.now)) (λ refusal. (world.new ≡ world.old) × ((refusal ≡ Refusal.NoMemory) ⊎ (answer_of (apply world.old.plain command.now) ≡ Err refusal))) }
+    ensures sound { IsSound world.new }
+{
+    let answer = world.apply(command);
+    // The ledger is read for its promise alone, that the world is sound.
+    let _ = world.ledger();
+    answer
+}
+
+impl JournalledWorld {
+    /// A world whose journal begins now, at `opening`.
+    pub(crate) fn new(
+        world: WorldCore,
+        opening: Opening,
+        journal: Vec<JournalEntry>,
+    ) -> JournalledWorld
+        requires opening { opening ≡ beginning_at world }
+        requires sound { IsSound world }
+        requires journal { journal.items ≡ [] }
+        ensures { result ≡ record { world = world; opening = world; journal = [] } }
+    {
+        JournalledWorld {
+            world,
+            opening,
+            journal,
+        }
+    }
+
+    /// The world.
+    pub fn world(&self) -> &WorldCore
+        ensures { result.now ≡ self.now.world }
+    {
+        &self.world
+    }
+
+    /// The calls that were accepted since the journal began, in their order.
+    pub fn journal(&self) -> &[JournalEntry]
+        ensures journal { result.now ≡ self.now.journal }
+        ensures headline { KeepsHeadline self.now }
+    {
+        self.journal.as_slice()
+    }
+
+    /// A call of a seat: the world applies the command, and the journal grows by just this. A refusal changes nothing; the room
+    /// for the journal's entry is made before all else, so want of it is answered first.
+    pub fn call(&mut self, seat: u64, number: u64, command: Command) -> Result<Reply, Refusal>
+        ensures { MatchResult result (λ reply. (answer_of (apply self.old.world.plain command) ≡ Ok reply) × (self.new ≡ record { world = after self.old.world command; opening = self.old.opening; journal = self.old.journal ++ line seat number command reply ∷ [] })) (λ refusal. (self.new ≡ self.old) × ((refusal ≡ Refusal.NoMemory) ⊎ (answer_of (apply self.old.world.plain command) ≡ Err refusal))) }
+    {
+        self.journal.reserve(1)?;
+        let reply = applied(&mut self.world, &command)?;
+        let call = Call {
+            number,
+            command,
+            reply,
+        };
+        self.journal.push_reserved(Entry { seat, call });
+        Ok(reply)
+    }
+
+    /// Begins a new journal at the present world, whose ledger's entries are settled, and gives the old one. Refused 1 with
+    /// nothing changed where memory is wanting.
+    pub fn settle(&mut self) -> Result<Vec<JournalEntry>, Refusal>
+        ensures settled { OnOk result (self.new ≡ record { world = settled_world self.old.world; opening = settled_world self.old.world; journal = [] }) }
+        ensures totals { OnOk result (HaveSameTotals (book_of self.new.world) (book_of self.old.world)) }
+        ensures journal { IfOk result (λ journal. journal.items ≡ self.old.journal) }
+        ensures err { OnErr result (self.new ≡ self.old) }
+        ensures memory_only { IsOkUnless result Refusal.NoMemory }
+    {
+        let opening = Opening::at(&self.world)?;
+        self.world.settle_ledger();
+        let _ = self.world.ledger();
+        self.opening = opening.settled();
+        let empty = Vec::new(*self.journal.allocator());
+        Ok(mem::replace(&mut self.journal, empty))
+    }
+
+    /// Ends the journal: the world, the opening world, and the journal.
+    pub fn into_parts(self) -> (WorldCore, Opening, Vec<JournalEntry>)
+        ensures parts { journalled result.1 result.0 result.2.items ≡ self }
+        ensures headline { KeepsHeadline self }
+    {
+        let JournalledWorld {
+            world,
+            opening,
+            journal,
+        } = self;
+        (world, opening, journal)
+    }
+}
