@@ -5,8 +5,8 @@ use Rattle.std.proofs.lemmas.List.{get_or-set_other, set-get_or}
 use Rattle.momenta.specs.declared.state.BodyState.{BodyState}
 use Rattle.momenta.specs.declared.state.Ends.{Ends}
 use Rattle.momenta.specs.Impulses.{AreSameBodies}
-use Rattle.colour_solver_base.specs.declared.row.ContactRow.{ContactRow}
-use Rattle.colour_solver_base.specs.declared.solve.RowAfter.{RowAfter}
+use Rattle.colour_solver_base.specs.RowsAfter.{RowAfter}
+use Rattle.colour_solver.specs.declared.turns.Slots.{Slots}
 use Rattle.colour_solver.specs.States.{nobody}
 use Rattle.colour_solver.specs.Turns.{after, ends_of, got_x, got_y, passed, rows_passed, share_x, share_y, turn_of, with_ends}
 use Rattle.colour_solver.specs.Colour.{AreTurnsFair, ColoursAreAtOnce, IsColour, ShareNone, is_mover, results, scatter, share_at_once_x, share_at_once_y}
@@ -21,11 +21,11 @@ not_one : (ss : List BodyState) (i j : ℕ) → is_mover ss i ≡ true → is_mo
 not_one ss i j moves still e = let clash : true ≡ false = sym moves ∙ ap (is_mover ss) e ∙ still in cc clash
 
 -- a turn leaves the bodies in other slots alone, and those that don't move
-turn_else : (before now : List BodyState) (r : ContactRow) (made : Ends) (j : ℕ) → AreSameBodies (ends_of before r) made → ends_of now r ≡ ends_of before r
-    → (is_mover before r.bodies.a ≡ true → r.bodies.a ≢ j) → (is_mover before r.bodies.b ≡ true → r.bodies.b ≢ j) → get_or (with_ends now r made) j nobody ≡ get_or now j nobody
-turn_else before now r made j fair ends apart_a apart_b =
-    let a = r.bodies.a in
-    let b = r.bodies.b in
+turn_else : {R : Type 0} (at : R → Slots) (before now : List BodyState) (r : R) (made : Ends) (j : ℕ) → AreSameBodies (ends_of at before r) made → ends_of at now r ≡ ends_of at before r
+    → (is_mover before (at r).a ≡ true → (at r).a ≢ j) → (is_mover before (at r).b ≡ true → (at r).b ≢ j) → get_or (with_ends at now r made) j nobody ≡ get_or now j nobody
+turn_else at before now r made j fair ends apart_a apart_b =
+    let a = (at r).a in
+    let b = (at r).b in
     let first = set now a made.a in
     let same_a : get_or now a nobody ≡ get_or before a nobody = ap (λ (e : Ends). e.a) ends in
     let same_b : get_or now b nobody ≡ get_or before b nobody = ap (λ (e : Ends). e.b) ends in
@@ -34,74 +34,74 @@ turn_else before now r made j fair ends apart_a apart_b =
     fair.b.immovable h ∙ sym same_b ∙ sym (put_else now a b made.a (is_mover before a) (λ m. not_one before a b m h) stays_a) in
     put_else first b j made.b (is_mover before b) apart_b stays_b ∙ put_else now a j made.a (is_mover before a) apart_a stays_a
 
--- the contacts that are left have the bodies that they had before
-abbrev Same : List BodyState → List BodyState → List ContactRow → Type 0
-Same before now rows = (k : ℕ) (e : ContactRow) → slice_get rows k ≡ Some e → ends_of now e ≡ ends_of before e
+-- the rows that are left have the bodies that they had before
+abbrev Same : {R : Type 0} → (R → Slots) → List BodyState → List BodyState → List R → Type 0
+Same {R} at before now rows = (k : ℕ) (e : R) → slice_get rows k ≡ Some e → ends_of at now e ≡ ends_of at before e
 
-turn_same : (f : ContactRow → Ends → RowAfter) (before now : List BodyState) (r : ContactRow) (rs : List ContactRow) → Same before now (r ∷ rs) → turn_of f now r ≡ turn_of f before r
-turn_same f before now r rs same = ap (f r) (same zero r refl)
+turn_same : {R : Type 0} (at : R → Slots) (f : R → Ends → RowAfter R) (before now : List BodyState) (r : R) (rs : List R) → Same at before now (r ∷ rs) → turn_of at f now r ≡ turn_of at f before r
+turn_same at f before now r rs same = ap (f r) (same zero r refl)
 
-still_same : (f : ContactRow → Ends → RowAfter) (before now : List BodyState) (r : ContactRow) (rs : List ContactRow) → IsColour before (r ∷ rs) → AreTurnsFair f before (r ∷ rs) → Same before now (r ∷ rs) → Same before (after f now r) rs
-still_same f before now r rs colour fair same k e h =
-    let ends : ends_of now r ≡ ends_of before r = same zero r refl in
-    let at_first : AreSameBodies (ends_of before r) (turn_of f before r).ends = fair zero r (omega arith) in
-    let here : AreSameBodies (ends_of before r) (turn_of f now r).ends = subst (λ (t : RowAfter). AreSameBodies (ends_of before r) t.ends) (sym (turn_same f before now r rs same)) at_first in
-    let none : ShareNone before r e = colour zero (suc k) r e (omega arith) refl h in
-    let a = turn_else before now r (turn_of f now r).ends e.bodies.a here ends none.a_a none.b_a in
-    let b = turn_else before now r (turn_of f now r).ends e.bodies.b here ends none.a_b none.b_b in
-    let kept : ends_of (after f now r) e ≡ ends_of now e = cc (a, b) in
+still_same : {R : Type 0} (at : R → Slots) (f : R → Ends → RowAfter R) (before now : List BodyState) (r : R) (rs : List R) → IsColour at before (r ∷ rs) → AreTurnsFair at f before (r ∷ rs) → Same at before now (r ∷ rs) → Same at before (after at f now r) rs
+still_same {R} at f before now r rs colour fair same k e h =
+    let ends : ends_of at now r ≡ ends_of at before r = same zero r refl in
+    let at_first : AreSameBodies (ends_of at before r) (turn_of at f before r).ends = fair zero r (omega arith) in
+    let here : AreSameBodies (ends_of at before r) (turn_of at f now r).ends = subst (λ (t : RowAfter R). AreSameBodies (ends_of at before r) t.ends) (sym (turn_same at f before now r rs same)) at_first in
+    let none : ShareNone at before r e = colour zero (suc k) r e (omega arith) refl h in
+    let a = turn_else at before now r (turn_of at f now r).ends (at e).a here ends none.a_a none.b_a in
+    let b = turn_else at before now r (turn_of at f now r).ends (at e).b here ends none.a_b none.b_b in
+    let kept : ends_of at (after at f now r) e ≡ ends_of at now e = cc (a, b) in
     kept ∙ same (suc k) e h
 
-rest_colour : (before : List BodyState) (r : ContactRow) (rs : List ContactRow) → IsColour before (r ∷ rs) → IsColour before rs
-rest_colour before r rs colour i j x y lt at_i at_j = colour (suc i) (suc j) x y (omega arith) at_i at_j
+rest_colour : {R : Type 0} (at : R → Slots) (before : List BodyState) (r : R) (rs : List R) → IsColour at before (r ∷ rs) → IsColour at before rs
+rest_colour at before r rs colour i j x y lt at_i at_j = colour (suc i) (suc j) x y (omega arith) at_i at_j
 
-rest_fair : (f : ContactRow → Ends → RowAfter) (before : List BodyState) (r : ContactRow) (rs : List ContactRow) → AreTurnsFair f before (r ∷ rs) → AreTurnsFair f before rs
-rest_fair f before r rs fair k d lt = fair (suc k) d (omega arith)
+rest_fair : {R : Type 0} (at : R → Slots) (f : R → Ends → RowAfter R) (before : List BodyState) (r : R) (rs : List R) → AreTurnsFair at f before (r ∷ rs) → AreTurnsFair at f before rs
+rest_fair at f before r rs fair k d lt = fair (suc k) d (omega arith)
 
-results_from : (f : ContactRow → Ends → RowAfter) (rows : List ContactRow) (before now : List BodyState) → IsColour before rows → AreTurnsFair f before rows → Same before now rows → results f now rows ≡ map (turn_of f before) rows
-results_from f [] before now colour fair same = refl
-results_from f (r ∷ rs) before now colour fair same =
-    let here = turn_same f before now r rs same in
-    let more = results_from f rs before (after f now r) (rest_colour before r rs colour) (rest_fair f before r rs fair) (still_same f before now r rs colour fair same) in
+results_from : {R : Type 0} (at : R → Slots) (f : R → Ends → RowAfter R) (rows : List R) (before now : List BodyState) → IsColour at before rows → AreTurnsFair at f before rows → Same at before now rows → results at f now rows ≡ map (turn_of at f before) rows
+results_from at f [] before now colour fair same = refl
+results_from at f (r ∷ rs) before now colour fair same =
+    let here = turn_same at f before now r rs same in
+    let more = results_from at f rs before (after at f now r) (rest_colour at before r rs colour) (rest_fair at f before r rs fair) (still_same at f before now r rs colour fair same) in
     cc (here, more)
 
-share_x_from : (f : ContactRow → Ends → RowAfter) (rows : List ContactRow) (before now : List BodyState) → IsColour before rows → AreTurnsFair f before rows → Same before now rows → share_at_once_x f before rows ≡ share_x f now rows
-share_x_from f [] before now colour fair same = refl
-share_x_from f (r ∷ rs) before now colour fair same =
-    let ends : ends_of now r ≡ ends_of before r = same zero r refl in
-    let here : got_x (ends_of before r) (turn_of f before r).ends ≡ got_x (ends_of now r) (turn_of f now r).ends = ap (λ (e : Ends). got_x e (f r e).ends) (sym ends) in
-    let more = share_x_from f rs before (after f now r) (rest_colour before r rs colour) (rest_fair f before r rs fair) (still_same f before now r rs colour fair same) in
-    ap (λ (z : ℤ). z +ℤ share_at_once_x f before rs) here ∙ ap (λ (z : ℤ). got_x (ends_of now r) (turn_of f now r).ends +ℤ z) more
+share_x_from : {R : Type 0} (at : R → Slots) (f : R → Ends → RowAfter R) (rows : List R) (before now : List BodyState) → IsColour at before rows → AreTurnsFair at f before rows → Same at before now rows → share_at_once_x at f before rows ≡ share_x at f now rows
+share_x_from at f [] before now colour fair same = refl
+share_x_from at f (r ∷ rs) before now colour fair same =
+    let ends : ends_of at now r ≡ ends_of at before r = same zero r refl in
+    let here : got_x (ends_of at before r) (turn_of at f before r).ends ≡ got_x (ends_of at now r) (turn_of at f now r).ends = ap (λ (e : Ends). got_x e (f r e).ends) (sym ends) in
+    let more = share_x_from at f rs before (after at f now r) (rest_colour at before r rs colour) (rest_fair at f before r rs fair) (still_same at f before now r rs colour fair same) in
+    ap (λ (z : ℤ). z +ℤ share_at_once_x at f before rs) here ∙ ap (λ (z : ℤ). got_x (ends_of at now r) (turn_of at f now r).ends +ℤ z) more
 
-share_y_from : (f : ContactRow → Ends → RowAfter) (rows : List ContactRow) (before now : List BodyState) → IsColour before rows → AreTurnsFair f before rows → Same before now rows → share_at_once_y f before rows ≡ share_y f now rows
-share_y_from f [] before now colour fair same = refl
-share_y_from f (r ∷ rs) before now colour fair same =
-    let ends : ends_of now r ≡ ends_of before r = same zero r refl in
-    let here : got_y (ends_of before r) (turn_of f before r).ends ≡ got_y (ends_of now r) (turn_of f now r).ends = ap (λ (e : Ends). got_y e (f r e).ends) (sym ends) in
-    let more = share_y_from f rs before (after f now r) (rest_colour before r rs colour) (rest_fair f before r rs fair) (still_same f before now r rs colour fair same) in
-    ap (λ (z : ℤ). z +ℤ share_at_once_y f before rs) here ∙ ap (λ (z : ℤ). got_y (ends_of now r) (turn_of f now r).ends +ℤ z) more
+share_y_from : {R : Type 0} (at : R → Slots) (f : R → Ends → RowAfter R) (rows : List R) (before now : List BodyState) → IsColour at before rows → AreTurnsFair at f before rows → Same at before now rows → share_at_once_y at f before rows ≡ share_y at f now rows
+share_y_from at f [] before now colour fair same = refl
+share_y_from at f (r ∷ rs) before now colour fair same =
+    let ends : ends_of at now r ≡ ends_of at before r = same zero r refl in
+    let here : got_y (ends_of at before r) (turn_of at f before r).ends ≡ got_y (ends_of at now r) (turn_of at f now r).ends = ap (λ (e : Ends). got_y e (f r e).ends) (sym ends) in
+    let more = share_y_from at f rs before (after at f now r) (rest_colour at before r rs colour) (rest_fair at f before r rs fair) (still_same at f before now r rs colour fair same) in
+    ap (λ (z : ℤ). z +ℤ share_at_once_y at f before rs) here ∙ ap (λ (z : ℤ). got_y (ends_of at now r) (turn_of at f now r).ends +ℤ z) more
 
 -- on a colour the turns one by one are those at the bodies before it
-pub results_mapped : (f : ContactRow → Ends → RowAfter) (states : List BodyState) (rows : List ContactRow) → IsColour states rows → AreTurnsFair f states rows → results f states rows ≡ map (turn_of f states) rows
-results_mapped f states rows colour fair = results_from f rows states states colour fair (λ k e h. refl)
+pub results_mapped : {R : Type 0} (at : R → Slots) (f : R → Ends → RowAfter R) (states : List BodyState) (rows : List R) → IsColour at states rows → AreTurnsFair at f states rows → results at f states rows ≡ map (turn_of at f states) rows
+results_mapped at f states rows colour fair = results_from at f rows states states colour fair (λ k e h. refl)
 
 -- with or without a colour: the turns one by one, written back, are the pass
-scatter_results : (f : ContactRow → Ends → RowAfter) (states : List BodyState) (rows : List ContactRow) → scatter states rows (results f states rows) ≡ passed f states rows
-scatter_results f states [] = refl
-scatter_results f states (r ∷ rs) = scatter_results f (after f states r) rs
+scatter_results : {R : Type 0} (at : R → Slots) (f : R → Ends → RowAfter R) (states : List BodyState) (rows : List R) → scatter at states rows (results at f states rows) ≡ passed at f states rows
+scatter_results at f states [] = refl
+scatter_results at f states (r ∷ rs) = scatter_results at f (after at f states r) rs
 
-rows_results : (f : ContactRow → Ends → RowAfter) (states : List BodyState) (rows : List ContactRow) → map (λ (t : RowAfter). t.row) (results f states rows) ≡ rows_passed f states rows
-rows_results f states [] = refl
-rows_results f states (r ∷ rs) = ap (λ (l : List ContactRow). (turn_of f states r).row ∷ l) (rows_results f (after f states r) rs)
+rows_results : {R : Type 0} (at : R → Slots) (f : R → Ends → RowAfter R) (states : List BodyState) (rows : List R) → map (λ (t : RowAfter R). t.row) (results at f states rows) ≡ rows_passed at f states rows
+rows_results {R} at f states [] = refl
+rows_results {R} at f states (r ∷ rs) = ap (λ (l : List R). (turn_of at f states r).row ∷ l) (rows_results at f (after at f states r) rs)
 
 -- mapping the turn over a colour at the bodies before it, and writing the results back, is the pass one by one
-pub colour_law : ColoursAreAtOnce
-colour_law f states rows colour fair =
-    let mapped = results_mapped f states rows colour fair in
+pub colour_law : {R : Type 0} (at : R → Slots) → ColoursAreAtOnce at
+colour_law {R} at f states rows colour fair =
+    let mapped = results_mapped at f states rows colour fair in
     record {
       turns = mapped;
-      bodies = ap (scatter states rows) (sym mapped) ∙ scatter_results f states rows;
-      contacts = ap (map (λ (t : RowAfter). t.row)) (sym mapped) ∙ rows_results f states rows;
-      given_x = share_x_from f rows states states colour fair (λ k e h. refl);
-      given_y = share_y_from f rows states states colour fair (λ k e h. refl);
+      bodies = ap (scatter at states rows) (sym mapped) ∙ scatter_results at f states rows;
+      turned = ap (map (λ (t : RowAfter R). t.row)) (sym mapped) ∙ rows_results at f states rows;
+      given_x = share_x_from at f rows states states colour fair (λ k e h. refl);
+      given_y = share_y_from at f rows states states colour fair (λ k e h. refl);
     }

@@ -9,7 +9,7 @@ use Rattle.momenta.specs.declared.motion.Motion.{Motion}
 use Rattle.momenta.specs.declared.state.BodyState.{BodyState}
 use Rattle.colour_solver.specs.States.{AreAllStates, total_x, total_y}
 use Rattle.colour_solver_base.specs.declared.row.ContactRow.{ContactRow}
-use Rattle.colour_solver.specs.Turns.{AreRowsBelow}
+use Rattle.colour_solver.specs.ContactTurns.{AreRowsBelow}
 use Rattle.colour_solver.specs.Passes.{OnMover, OnMovers, changed, gain_x, gain_y, pass}
 
 -- ---- what stays a body

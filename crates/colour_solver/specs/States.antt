@@ -1,18 +1,24 @@
 -- The bodies of a step by slot, and the movers' momentum. A mover here is an awake one: of the others `movable` is false.
 use Rattle.std.specs.Prelude.{◌≡◌, ℕ, suc, ◌^◌, Bool, false, cond, List, [], ◌∷◌, Some, ℤ, pos, ◌+ℤ◌, length, slice_get, slice_index_or}
+use Rattle.momenta.specs.declared.mass.MassData.{MassData}
 use Rattle.momenta.specs.declared.state.BodyState.{BodyState}
 use Rattle.momenta.specs.Impulses.{IsState}
 use Rattle.fixed_geom.specs.Vectors.{zero_vector}
 use Rattle.momenta.specs.Reciprocals.{reciprocals_of}
 
+-- the mass of a body that no impulse moves: with it a momentum is the velocity itself, and an angular momentum the spin, with which the body is
+-- carried along
+abbrev pub carrier : MassData
+carrier = record { mass = pos 1; inertia = pos (2 ^ 30) }
+
 -- what stands for the body in an empty slot: nothing moves it
 abbrev pub nobody : BodyState
 nobody = record {
   movable = false;
-  mass = record { mass = pos 0; inertia = pos 0 };
+  mass = carrier;
   motion = record { p = zero_vector; l = pos 0; x = zero_vector; rot = record { c = pos (2 ^ 30); s = pos 0 } };
   start = zero_vector;
-  reciprocals = record { mass = pos 0; inertia = pos 0 };
+  reciprocals = record { mass = pos (2 ^ 62); inertia = pos (2 ^ 52) };
 }
 
 abbrev pub AreAllStates : List BodyState → Type 0

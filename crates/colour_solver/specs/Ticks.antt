@@ -9,10 +9,11 @@ use Rattle.momenta.specs.declared.motion.Motion.{Motion}
 use Rattle.momenta.specs.declared.state.BodyState.{BodyState}
 use Rattle.momenta.specs.declared.state.Ends.{Ends}
 use Rattle.colour_solver_base.specs.declared.row.ContactRow.{ContactRow}
-use Rattle.colour_solver_base.specs.declared.solve.RowAfter.{RowAfter}
+use Rattle.colour_solver_base.specs.RowsAfter.{RowAfter}
 use Rattle.colour_solver_base.specs.Rows.{row_warmed, row_solved, row_bounced}
 use Rattle.colour_solver.specs.declared.ticks.StepSums.{StepSums}
 use Rattle.colour_solver.specs.Passes.{pass, gain_x, gain_y}
+use Rattle.colour_solver.specs.ContactTurns.{contact_slots}
 use Rattle.colour_solver.specs.Turns.{passed, rows_passed, share_x, share_y}
 
 -- the bodies and the contacts, and what gravity, immovable bodies, and the speed limit with the edge of the world have added since
@@ -44,12 +45,12 @@ clamp_all f r = record r {
 }
 
 -- a pass over the contacts; what immovable bodies give is booked as Immovable
-abbrev pub turn_all : (ContactRow → Ends → RowAfter) → Run → Run
+abbrev pub turn_all : (ContactRow → Ends → RowAfter ContactRow) → Run → Run
 turn_all f r = record r {
-  states = passed f r.states r.rows;
-  rows = rows_passed f r.states r.rows;
-  immovable_x = r.immovable_x +ℤ share_x f r.states r.rows;
-  immovable_y = r.immovable_y +ℤ share_y f r.states r.rows;
+  states = passed contact_slots f r.states r.rows;
+  rows = rows_passed contact_slots f r.states r.rows;
+  immovable_x = r.immovable_x +ℤ share_x contact_slots f r.states r.rows;
+  immovable_y = r.immovable_y +ℤ share_y contact_slots f r.states r.rows;
 }
 
 -- gravity, the speed limit, the warm start, the solver's pass, the speed limit again, the move

@@ -1,41 +1,43 @@
--- A pass over the contacts in solve order: the left fold of one turn, and what the immovable bodies have given.
-use Rattle.std.specs.Prelude.{ℕ, Bool, ◌<◌, ◌≢◌, cond, List, [], ◌∷◌, ℤ, pos, ◌+ℤ◌, ◌-ℤ◌, All, slice_set, slice_index_or}
+-- A pass over rows in solve order: the left fold of one turn, and what the immovable bodies have given. A row may be of any kind: what is known of it is
+-- where its two bodies stand.
+use Rattle.std.specs.Prelude.{◌≡◌, ℕ, Bool, ◌<◌, ◌≢◌, cond, List, [], ◌∷◌, ℤ, pos, ◌+ℤ◌, ◌-ℤ◌, All, slice_set, slice_index_or}
 use Rattle.momenta.specs.declared.state.BodyState.{BodyState}
 use Rattle.momenta.specs.declared.state.Ends.{Ends}
 use Rattle.momenta.specs.declared.line_64.MomentaPair64.{MomentaPair64}
+use Rattle.momenta.specs.Impulses.{AreStates, AreSameBodies, IsMomentumKept}
 use Rattle.momenta.specs.Line64.{ends_with}
-use Rattle.colour_solver_base.specs.declared.row.ContactRow.{ContactRow}
-use Rattle.colour_solver_base.specs.declared.solve.RowAfter.{RowAfter}
-use Rattle.colour_solver_base.specs.Rows.{IsRow}
+use Rattle.colour_solver_base.specs.RowsAfter.{RowAfter}
+use Rattle.colour_solver_base.specs.Row64.{both_ends}
+use Rattle.colour_solver.specs.declared.turns.Slots.{Slots}
 use Rattle.colour_solver.specs.States.{nobody}
 
--- the two bodies of a contact
-abbrev pub ends_of : List BodyState → ContactRow → Ends
-ends_of states r = record { a = slice_index_or states r.bodies.a nobody; b = slice_index_or states r.bodies.b nobody }
+-- the two bodies of a row
+abbrev pub ends_of : {R : Type 0} → (R → Slots) → List BodyState → R → Ends
+ends_of at states r = record { a = slice_index_or states (at r).a nobody; b = slice_index_or states (at r).b nobody }
 
-abbrev pub with_ends : List BodyState → ContactRow → Ends → List BodyState
-with_ends states r e = slice_set (slice_set states r.bodies.a e.a) r.bodies.b e.b
+abbrev pub with_ends : {R : Type 0} → (R → Slots) → List BodyState → R → Ends → List BodyState
+with_ends at states r e = slice_set (slice_set states (at r).a e.a) (at r).b e.b
 
 -- the two bodies with these momenta
-abbrev pub narrow_ends : List BodyState → ContactRow → MomentaPair64 → Ends
-narrow_ends states r n = ends_with (slice_index_or states r.bodies.a nobody) (slice_index_or states r.bodies.b nobody) n
+abbrev pub narrow_ends : {R : Type 0} → (R → Slots) → List BodyState → R → MomentaPair64 → Ends
+narrow_ends at states r n = ends_with (slice_index_or states (at r).a nobody) (slice_index_or states (at r).b nobody) n
 
--- the turn of one contact, the bodies standing so
-abbrev pub turn_of : (ContactRow → Ends → RowAfter) → List BodyState → ContactRow → RowAfter
-turn_of f states r = f r (ends_of states r)
+-- the turn of one row, the bodies standing so
+abbrev pub turn_of : {R : Type 0} → (R → Slots) → (R → Ends → RowAfter R) → List BodyState → R → RowAfter R
+turn_of at f states r = f r (ends_of at states r)
 
-abbrev pub after : (ContactRow → Ends → RowAfter) → List BodyState → ContactRow → List BodyState
-after f states r = with_ends states r (turn_of f states r).ends
+abbrev pub after : {R : Type 0} → (R → Slots) → (R → Ends → RowAfter R) → List BodyState → R → List BodyState
+after at f states r = with_ends at states r (turn_of at f states r).ends
 
 -- the bodies after all turns, one after another
-abbrev pub passed : (ContactRow → Ends → RowAfter) → List BodyState → List ContactRow → List BodyState
-passed f states [] = states
-passed f states (r ∷ rs) = passed f (after f states r) rs
+abbrev pub passed : {R : Type 0} → (R → Slots) → (R → Ends → RowAfter R) → List BodyState → List R → List BodyState
+passed at f states [] = states
+passed at f states (r ∷ rs) = passed at f (after at f states r) rs
 
--- the contacts after their turns
-abbrev pub rows_passed : (ContactRow → Ends → RowAfter) → List BodyState → List ContactRow → List ContactRow
-rows_passed f states [] = []
-rows_passed f states (r ∷ rs) = (turn_of f states r).row ∷ rows_passed f (after f states r) rs
+-- the rows after their turns
+abbrev pub rows_passed : {R : Type 0} → (R → Slots) → (R → Ends → RowAfter R) → List BodyState → List R → List R
+rows_passed at f states [] = []
+rows_passed at f states (r ∷ rs) = (turn_of at f states r).row ∷ rows_passed at f (after at f states r) rs
 
 -- ---- what the movers got where the other body is immovable
 
@@ -49,22 +51,32 @@ got_x e after = got_by e.a.movable e.b.movable (after.a.motion.p.x -ℤ e.a.moti
 abbrev pub got_y : Ends → Ends → ℤ
 got_y e after = got_by e.a.movable e.b.movable (after.a.motion.p.y -ℤ e.a.motion.p.y) (after.b.motion.p.y -ℤ e.b.motion.p.y)
 
-abbrev pub share_x : (ContactRow → Ends → RowAfter) → List BodyState → List ContactRow → ℤ
-share_x f states [] = pos 0
-share_x f states (r ∷ rs) = got_x (ends_of states r) (turn_of f states r).ends +ℤ share_x f (after f states r) rs
+abbrev pub share_x : {R : Type 0} → (R → Slots) → (R → Ends → RowAfter R) → List BodyState → List R → ℤ
+share_x at f states [] = pos 0
+share_x at f states (r ∷ rs) = got_x (ends_of at states r) (turn_of at f states r).ends +ℤ share_x at f (after at f states r) rs
 
-abbrev pub share_y : (ContactRow → Ends → RowAfter) → List BodyState → List ContactRow → ℤ
-share_y f states [] = pos 0
-share_y f states (r ∷ rs) = got_y (ends_of states r) (turn_of f states r).ends +ℤ share_y f (after f states r) rs
+abbrev pub share_y : {R : Type 0} → (R → Slots) → (R → Ends → RowAfter R) → List BodyState → List R → ℤ
+share_y at f states [] = pos 0
+share_y at f states (r ∷ rs) = got_y (ends_of at states r) (turn_of at f states r).ends +ℤ share_y at f (after at f states r) rs
 
--- ---- what must hold of the contacts
+-- ---- what must hold of the rows
 
--- a contact of two different bodies below n
-pub record IsRowBelow (n : ℕ) (r : ContactRow) : Type 0 where
-  pub row : IsRow r
-  pub a : r.bodies.a < n
-  pub b : r.bodies.b < n
-  pub apart : r.bodies.a ≢ r.bodies.b
+-- a whole row of two different bodies below n
+pub record IsRowOn {R : Type 0} (at : R → Slots) (is : R → Type 0) (n : ℕ) (r : R) : Type 0 where
+  pub row : is r
+  pub a : (at r).a < n
+  pub b : (at r).b < n
+  pub apart : (at r).a ≢ (at r).b
 
-abbrev pub AreRowsBelow : ℕ → List ContactRow → Type 0
-AreRowsBelow n rows = All (IsRowBelow n) rows
+abbrev pub AreRowsOn : {R : Type 0} → (R → Slots) → (R → Type 0) → ℕ → List R → Type 0
+AreRowsOn at is n rows = All (IsRowOn at is n) rows
+
+-- ---- a turn in 64 bits
+
+-- the turn t has left the row r, and the bodies a and b with the momenta n
+pub record IsTurn64 {R : Type 0} (is : R → Type 0) (t : RowAfter R) (a b : BodyState) (r : R) (n : MomentaPair64) : Type 0 where
+  pub value : t ≡ record { row = r; ends = ends_with a b n }
+  pub row : is r
+  pub states : AreStates (ends_with a b n)
+  pub same : AreSameBodies (both_ends a b) (ends_with a b n)
+  pub kept : IsMomentumKept (both_ends a b) (ends_with a b n)

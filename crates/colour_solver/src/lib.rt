@@ -1,4 +1,4 @@
-//! A step on arrays: the bodies by slot and the touching contacts in solve order, with the passes of a tick over both.
+//! A step on arrays: the bodies by slot and the touching contacts in solve order, colour after colour, with the passes of a tick over both.
 //!
 //! A step works on two dense arrays (`BodyState`, `ContactRow`), runs its ticks over them (`run_step`) and writes back what came of it,
 //! as Box2D v3 does with its body states and contact constraints. So the inner loops look nothing up, and a step that is refused before
@@ -6,10 +6,14 @@
 //! they are. A pass over the bodies goes over the slots of the awake movers alone.
 #![tactic(auto)]
 
+pub mod colour_rows;
+pub mod contact_turns;
 pub mod passes;
 pub mod ticks;
 pub mod turns;
 
+pub use colour_rows::Rows;
+pub use contact_turns::{Bounce, Solve, Warm};
 pub use passes::{Change, Gains, pass_two};
 pub use ticks::{StepSums, run_step};
-pub use turns::{Turn, colours_at_once, pass_single, solve_one};
+pub use turns::{Row, Slots, Turn, colours_at_once, pass_rows, solve_one};

@@ -1,22 +1,19 @@
 //! The ticks of a step, and the restitution that ends it.
 
-ghost use Rattle.std.specs.Prelude.{◌≡◌, ℕ, ◌^◌, ◌*◌, ◌+◌, ◌≤◌, ◌+ℤ◌, length};
+ghost use Rattle.std.specs.Prelude.{◌≡◌, ℕ, ◌^◌, ◌*◌, ◌+◌, ◌≤◌, ◌+ℤ◌, length, map};
 ghost use Rattle.fixed_geom.specs.Vectors.{IsWithin};
 ghost use Rattle.momenta.specs.Motions.{pulled, clamped, advanced, IsMotion};
-ghost use Rattle.colour_solver_base.specs.Rows.{row_warmed, row_solved, row_bounced};
 ghost use Rattle.colour_solver.specs.States.{AreAllStates, AreSameStates, movers_of, total_x, total_y};
-ghost use Rattle.colour_solver.specs.Turns.{AreRowsBelow};
+ghost use Rattle.colour_solver.specs.ColourRows.{all_rows};
+ghost use Rattle.colour_solver.specs.ContactTurns.{AreRowsBelow};
 ghost use Rattle.colour_solver.specs.Ticks.{AreSums, CanLimit, CanMove, CanPull, added_x, added_y, ran, run_of, start, tick, ticks};
 
-use crate::{Change, Turn, pass_single, pass_two};
+use crate::{Bounce, Change, Rows, Solve, Warm, pass_two};
 use body_handles::MAX_SLOTS;
-use colour_solver_base::{
-    ContactRow, RowAfter64, bounce_row, has_no_impulses, never_bounces, solve_row, solve_row_64,
-    warm_row, warm_row_64,
-};
+use colour_solver_base::ContactRow;
 use fixed_geom::Vec2;
 use momenta::{
-    BodyState, Ends, Gain, MassData, Motion, NOTHING, Reciprocals, advance, clamp_speed, plus, pull,
+    BodyState, Gain, MassData, Motion, NOTHING, Reciprocals, advance, clamp_speed, plus, pull,
 };
 
 /// What a step has added to the movers' momentum, by cause.
@@ -81,72 +78,12 @@ impl Change for Move {
     }
 }
 
-/// The warm start of a contact.
-#[derive(Clone, Copy)]
-pub struct Warm;
-
-impl Turn for Warm {
-    ghost turn = { λ _ r e. row_warmed r e };
-
-    fn is_idle(&self, row: &ContactRow) -> bool {
-        has_no_impulses(row)
-    }
-
-    fn narrow(&self, row: &ContactRow, a: &BodyState, b: &BodyState) -> Option<RowAfter64> {
-        warm_row_64(row, a, b)
-    }
-
-    fn turn(&self, row: &mut ContactRow, ends: &mut Ends) {
-        warm_row(row, ends)
-    }
-}
-
-/// The impulses of a contact.
-#[derive(Clone, Copy)]
-pub struct Solve;
-
-impl Turn for Solve {
-    ghost turn = { λ _ r e. row_solved r e };
-
-    fn is_idle(&self, row: &ContactRow) -> bool {
-        false
-    }
-
-    fn narrow(&self, row: &ContactRow, a: &BodyState, b: &BodyState) -> Option<RowAfter64> {
-        solve_row_64(row, a, b)
-    }
-
-    fn turn(&self, row: &mut ContactRow, ends: &mut Ends) {
-        solve_row(row, ends)
-    }
-}
-
-/// The restitution of a contact.
-#[derive(Clone, Copy)]
-pub struct Bounce;
-
-impl Turn for Bounce {
-    ghost turn = { λ _ r e. row_bounced r e };
-
-    fn is_idle(&self, row: &ContactRow) -> bool {
-        never_bounces(row)
-    }
-
-    fn narrow(&self, row: &ContactRow, a: &BodyState, b: &BodyState) -> Option<RowAfter64> {
-        None
-    }
-
-    fn turn(&self, row: &mut ContactRow, ends: &mut Ends) {
-        bounce_row(row, ends)
-    }
-}
-
 /// One tick of the awake movers and the contacts: gravity, the speed limit, the warm start, the solver's pass, the speed limit again, the move. Adds to the
 /// sums so far.
 #[tactic(auto, unfolding(crate::specs::Ticks::tick))]
 fn tick(
     states: &mut Vec<BodyState>,
-    rows: &mut Vec<ContactRow>,
+    rows: &mut Rows<ContactRow>,
     awake: &[u32],
     gravity: Vec2,
     sums: StepSums,
@@ -155,11 +92,12 @@ fn tick(
     requires gravity { IsWithin (2 ^ 16) gravity }
     requires states { AreAllStates states.old.items }
     requires awake { awake.now ≡ movers_of states.old.items }
-    requires rows { AreRowsBelow (length states.old.items) rows.old.items }
+    requires rows { AreRowsBelow (length states.old.items) (all_rows rows.old) }
     requires sums { AreSums (2 ^ 83) sums }
-    ensures tick { run_of states.new.items rows.new.items result ≡ tick gravity (run_of states.old.items rows.old.items sums) }
+    ensures tick { run_of states.new.items (all_rows rows.new) result ≡ tick gravity (run_of states.old.items (all_rows rows.old) sums) }
     ensures states { AreAllStates states.new.items }
-    ensures rows { AreRowsBelow (length states.new.items) rows.new.items }
+    ensures rows { AreRowsBelow (length states.new.items) (all_rows rows.new) }
+    ensures colours { map length rows.new.colours ≡ map length rows.old.colours }
     ensures long { length states.new.items ≡ length states.old.items }
     ensures same { AreSameStates states.old.items states.new.items }
     ensures grown { (n : ℕ) → AreSums n sums → AreSums (n + 3 * 2 ^ 78) result }
@@ -167,8 +105,8 @@ fn tick(
     ensures momentum_y { total_y states.new.items +ℤ added_y sums ≡ total_y states.old.items +ℤ added_y result }
 {
     let fallen = pass_two(states, awake, &Pull { gravity }, &Limit);
-    let warm = pass_single(states, rows, &Warm);
-    let solved = pass_single(states, rows, &Solve);
+    let warm = rows.pass(states, &Warm);
+    let solved = rows.pass(states, &Solve);
     let moved = pass_two(states, awake, &Limit, &Move);
     StepSums {
         gravity: plus(sums.gravity, fallen.first),
@@ -189,7 +127,7 @@ fn tick(
 #[tactic(auto, unfolding(crate::specs::Ticks::ran))]
 pub fn run_step(
     states: &mut Vec<BodyState>,
-    rows: &mut Vec<ContactRow>,
+    rows: &mut Rows<ContactRow>,
     awake: &[u32],
     gravity: Vec2,
     count: u64,
@@ -198,11 +136,12 @@ pub fn run_step(
     requires gravity { IsWithin (2 ^ 16) gravity }
     requires states { AreAllStates states.old.items }
     requires awake { awake.now ≡ movers_of states.old.items }
-    requires rows { AreRowsBelow (length states.old.items) rows.old.items }
+    requires rows { AreRowsBelow (length states.old.items) (all_rows rows.old) }
     requires count { count ≤ 8 }
-    ensures run { run_of states.new.items rows.new.items result ≡ ran count gravity (start states.old.items rows.old.items) }
+    ensures run { run_of states.new.items (all_rows rows.new) result ≡ ran count gravity (start states.old.items (all_rows rows.old)) }
     ensures states { AreAllStates states.new.items }
-    ensures rows { AreRowsBelow (length states.new.items) rows.new.items }
+    ensures rows { AreRowsBelow (length states.new.items) (all_rows rows.new) }
+    ensures colours { map length rows.new.colours ≡ map length rows.old.colours }
     ensures long { length states.new.items ≡ length states.old.items }
     ensures same { AreSameStates states.old.items states.new.items }
     ensures small { AreSums (2 ^ 83) result }
@@ -217,7 +156,7 @@ pub fn run_step(
     for index in 0..count {
         sums = tick(states, rows, awake, gravity, sums);
     }
-    let bounced = pass_single(states, rows, &Bounce);
+    let bounced = rows.pass(states, &Bounce);
     StepSums {
         immovable: plus(sums.immovable, bounced),
         ..sums

@@ -1,47 +1,68 @@
-//! Passes over the contacts in solve order: each contact's two bodies take its turn, one contact after another.
+//! Rows that take turns: each row's two bodies take its turn, one row after another, in solve order.
 
-ghost use Rattle.std.specs.Prelude.{◌≡◌, ◌^◌, ◌≤◌, true, length, ◌+ℤ◌, ◌-ℤ◌, IfSome};
+ghost use Rattle.std.specs.Prelude.{◌≡◌, ◌≢◌, ◌^◌, ◌<◌, ◌≤◌, true, None, length, ◌+ℤ◌, ◌-ℤ◌, IfSome};
 ghost use Rattle.momenta.specs.declared.state.Ends.{Ends};
 ghost use Rattle.momenta.specs.Impulses.{AreStates, AreSameBodies, IsMomentumKept, IsSameBody, IsState};
 ghost use Rattle.momenta.specs.Line64.{with_momenta};
 ghost use Rattle.momenta.specs.Gains.{IsGain};
-ghost use Rattle.colour_solver_base.specs.declared.row.ContactRow.{ContactRow};
-ghost use Rattle.colour_solver_base.specs.declared.solve.RowAfter.{RowAfter};
-ghost use Rattle.colour_solver_base.specs.Rows.{IsRow};
-ghost use Rattle.colour_solver_base.specs.Row64.{IsRowAfter64, both_ends, with_first};
+ghost use Rattle.colour_solver_base.specs.RowsAfter.{RowAfter};
+ghost use Rattle.colour_solver_base.specs.Row64.{both_ends};
 ghost use Rattle.fixed_geom.specs.Vectors.{IsWithin};
 ghost use Rattle.colour_solver.specs.Colour.{ColoursAreAtOnce};
 ghost use Rattle.colour_solver.specs.States.{AreAllStates, AreSameStates, total_x, total_y};
-ghost use Rattle.colour_solver.specs.Turns.{AreRowsBelow, IsRowBelow, after, ends_of, got_by, got_x, got_y, narrow_ends, passed, rows_passed, share_x, share_y, turn_of, with_ends};
+ghost use Rattle.colour_solver.specs.Turns.{AreRowsOn, IsRowOn, IsTurn64, after, ends_of, got_by, got_x, got_y, narrow_ends, passed, rows_passed, share_x, share_y, turn_of, with_ends};
 
 use body_handles::MAX_SLOTS;
-use colour_solver_base::{ContactRow, RowAfter64};
 use fixed_geom::Vec2;
-use momenta::{BodyState, Ends, Gain, Momenta64, NOTHING, gain_between, plus};
+use momenta::{BodyState, Ends, Gain, Momenta64, MomentaPair64, NOTHING, gain_between, plus};
 
-/// What a pass does with one contact and its two bodies.
-pub trait Turn {
-    /// The contact and its two bodies after it.
-    ghost turn: { Self → ContactRow → Ends → RowAfter };
+/// Where the two bodies of a row stand.
+#[derive(Clone, Copy, Debug, PartialEq, Eq)]
+pub struct Slots {
+    pub a: u32,
+    pub b: u32,
+}
 
-    /// Whether it leaves the contact and any two bodies as they are.
-    fn is_idle(&self, row: &ContactRow) -> bool
+/// A row of a step: what the impulses between two bodies need, with those accumulated so far. A contact's is the `ContactRow`.
+pub trait Row: Copy {
+    ghost use Rattle.colour_solver.specs.declared.turns.Slots.{Slots};
+
+    /// Where its two bodies stand.
+    ghost slots: { Self → Slots };
+
+    /// What is known of a row since it was made.
+    ghost is_row: { Self → Type 0 };
+
+    fn slots(&self) -> Slots
+        ensures { result ≡ slots self.now };
+}
+
+/// What a pass does with one row and its two bodies.
+pub trait Turn<R: Row> {
+    /// The row and its two bodies after it.
+    ghost turn: { Self → R → Ends → RowAfter R };
+
+    /// Whether it leaves the row and any two bodies as they are.
+    fn is_idle(&self, row: &R) -> bool
         ensures { result ≡ true → (e : Ends) → AreStates e → turn self.now row.now e ≡ record { row = row.now; ends = e } };
 
-    /// The same turn in 64 bits, where there is room.
-    fn narrow(&self, row: &ContactRow, a: &BodyState, b: &BodyState) -> Option<RowAfter64>
-        requires row { IsRow row.now }
+    /// The same turn in 64 bits, where there is room: it is written into the row, and the momenta that the two bodies then have are
+    /// the answer. Where there is none, the row stays as it is.
+    fn narrow(&self, row: &mut R, a: &BodyState, b: &BodyState) -> Option<MomentaPair64>
+        requires row { R.is_row row.old }
         requires first { IsState a.now }
         requires second { IsState b.now }
-        ensures { IfSome result (IsRowAfter64 (turn self.now row.now (both_ends a.now b.now)) row.now a.now b.now) };
+        ensures value { IfSome result (IsTurn64 R.is_row (turn self.now row.old (both_ends a.now b.now)) a.now b.now row.new) }
+        ensures slots { R.slots row.new ≡ R.slots row.old }
+        ensures none { result ≡ None → row.new ≡ row.old };
 
-    fn turn(&self, row: &mut ContactRow, ends: &mut Ends)
-        requires row { IsRow row.old }
+    fn turn(&self, row: &mut R, ends: &mut Ends)
+        requires row { R.is_row row.old }
         requires states { AreStates ends.old }
         ensures value { record { row = row.new; ends = ends.new } ≡ turn self.now row.old ends.old }
-        ensures row { IsRow row.new }
+        ensures row { R.is_row row.new }
         ensures states { AreStates ends.new }
-        ensures bodies { row.new.bodies ≡ row.old.bodies }
+        ensures slots { R.slots row.new ≡ R.slots row.old }
         ensures same { AreSameBodies ends.old ends.new }
         ensures kept { IsMomentumKept ends.old ends.new };
 }
@@ -80,27 +101,27 @@ fn put_momenta(body: &mut BodyState, after: &BodyState)
     body.motion.l = after.motion.l;
 }
 
-/// The turn of one contact that has something to do, with its two bodies as they stand. Answers what the immovable one has
+/// The turn of one row that has something to do, with its two bodies as they stand. Answers what the immovable one has
 /// given, if one is.
-#[cold]
 #[inline(never)]
-fn turn_bodies<T: Turn>(states: &mut Vec<BodyState>, row: &mut ContactRow, turn: &T) -> Gain
+fn turn_bodies<R: Row, T: Turn<R>>(states: &mut Vec<BodyState>, row: &mut R, turn: &T) -> Gain
     requires states { AreAllStates states.old.items }
-    requires row { IsRowBelow (length states.old.items) row.old }
-    ensures states { states.new.items ≡ after (T.turn turn.now) states.old.items row.old }
-    ensures row { row.new ≡ (turn_of (T.turn turn.now) states.old.items row.old).row }
-    ensures x { result.x ≡ got_x (ends_of states.old.items row.old) (turn_of (T.turn turn.now) states.old.items row.old).ends }
-    ensures y { result.y ≡ got_y (ends_of states.old.items row.old) (turn_of (T.turn turn.now) states.old.items row.old).ends }
+    requires row { IsRowOn R.slots R.is_row (length states.old.items) row.old }
+    ensures states { states.new.items ≡ after R.slots (T.turn turn.now) states.old.items row.old }
+    ensures row { row.new ≡ (turn_of R.slots (T.turn turn.now) states.old.items row.old).row }
+    ensures x { result.x ≡ got_x (ends_of R.slots states.old.items row.old) (turn_of R.slots (T.turn turn.now) states.old.items row.old).ends }
+    ensures y { result.y ≡ got_y (ends_of R.slots states.old.items row.old) (turn_of R.slots (T.turn turn.now) states.old.items row.old).ends }
     ensures all_states { AreAllStates states.new.items }
-    ensures below { IsRowBelow (length states.new.items) row.new }
+    ensures below { IsRowOn R.slots R.is_row (length states.new.items) row.new }
     ensures long { length states.new.items ≡ length states.old.items }
     ensures same { AreSameStates states.old.items states.new.items }
     ensures momentum_x { total_x states.new.items ≡ total_x states.old.items +ℤ result.x }
     ensures momentum_y { total_y states.new.items ≡ total_y states.old.items +ℤ result.y }
     ensures small { IsGain (2 ^ 62) result }
 {
-    let a = row.bodies.a as usize;
-    let b = row.bodies.b as usize;
+    let slots = row.slots();
+    let a = slots.a as usize;
+    let b = slots.b as usize;
     let before = Ends {
         a: states[a],
         b: states[b],
@@ -121,52 +142,56 @@ fn put_narrow(body: &mut BodyState, now: Momenta64)
     body.motion.l = i128::from(now.l);
 }
 
-/// Puts what a turn has made of a contact and of its two bodies in their places. Answers what the immovable one has given, if one is.
+/// Puts the momenta that a turn has given the bodies in these slots in their places. Answers what the immovable one has given, if one is.
 #[inline(always)]
-fn put_turn(states: &mut Vec<BodyState>, row: &mut ContactRow, turned: RowAfter64) -> Gain
+fn put_turn(states: &mut Vec<BodyState>, slots: Slots, now: MomentaPair64) -> Gain
     requires states { AreAllStates states.old.items }
-    requires row { IsRowBelow (length states.old.items) row.old }
-    requires after { AreStates (narrow_ends states.old.items row.old turned.now) }
-    ensures states { states.new.items ≡ with_ends states.old.items row.old (narrow_ends states.old.items row.old turned.now) }
-    ensures row { row.new ≡ with_first row.old turned.normal_impulse turned.tangent_impulse }
-    ensures x { result.x ≡ got_x (ends_of states.old.items row.old) (narrow_ends states.old.items row.old turned.now) }
-    ensures y { result.y ≡ got_y (ends_of states.old.items row.old) (narrow_ends states.old.items row.old turned.now) }
+    requires first { slots.a < length states.old.items }
+    requires second { slots.b < length states.old.items }
+    requires apart { slots.a ≢ slots.b }
+    requires after { AreStates (narrow_ends (λ s. s) states.old.items slots now) }
+    ensures states { states.new.items ≡ with_ends (λ s. s) states.old.items slots (narrow_ends (λ s. s) states.old.items slots now) }
+    ensures x { result.x ≡ got_x (ends_of (λ s. s) states.old.items slots) (narrow_ends (λ s. s) states.old.items slots now) }
+    ensures y { result.y ≡ got_y (ends_of (λ s. s) states.old.items slots) (narrow_ends (λ s. s) states.old.items slots now) }
     ensures small { IsGain (2 ^ 62) result }
 {
-    let a = row.bodies.a as usize;
-    let b = row.bodies.b as usize;
-    let given = got(&states[a], &states[b], turned.now.a.p, turned.now.b.p);
-    put_narrow(&mut states[a], turned.now.a);
-    put_narrow(&mut states[b], turned.now.b);
-    row.first.normal_impulse = turned.normal_impulse;
-    row.first.tangent_impulse = turned.tangent_impulse;
+    let a = slots.a as usize;
+    let b = slots.b as usize;
+    let given = got(&states[a], &states[b], now.a.p, now.b.p);
+    put_narrow(&mut states[a], now.a);
+    put_narrow(&mut states[b], now.b);
     given
 }
 
-/// The turn of one contact in 64 bits, where there is room.
+/// The turn of one row in 64 bits, where there is room.
 #[inline(always)]
-fn narrow_turn<T: Turn>(states: &[BodyState], row: &ContactRow, turn: &T) -> Option<RowAfter64>
+fn narrow_turn<R: Row, T: Turn<R>>(
+    states: &[BodyState],
+    row: &mut R,
+    turn: &T,
+) -> Option<MomentaPair64>
     requires states { AreAllStates states.now }
-    requires row { IsRowBelow (length states.now) row.now }
-    ensures { IfSome result (IsRowAfter64 (turn_of (T.turn turn.now) states.now row.now) row.now (ends_of states.now row.now).a (ends_of states.now row.now).b) }
+    requires row { IsRowOn R.slots R.is_row (length states.now) row.old }
+    ensures value { IfSome result (IsTurn64 R.is_row (turn_of R.slots (T.turn turn.now) states.now row.old) (ends_of R.slots states.now row.old).a (ends_of R.slots states.now row.old).b row.new) }
+    ensures slots { R.slots row.new ≡ R.slots row.old }
+    ensures none { result ≡ None → row.new ≡ row.old }
 {
-    let a = row.bodies.a as usize;
-    let b = row.bodies.b as usize;
-    turn.narrow(row, &states[a], &states[b])
+    let slots = row.slots();
+    turn.narrow(row, &states[slots.a as usize], &states[slots.b as usize])
 }
 
-/// The turn of one contact with its two bodies among `states`, as the definition has it. Answers what an immovable body has given
+/// The turn of one row with its two bodies among `states`, as the definition has it. Answers what an immovable body has given
 /// (mass·u/tick), by which the movers' momentum grows.
 #[inline(always)]
-pub fn solve_one<T: Turn>(states: &mut Vec<BodyState>, row: &mut ContactRow, turn: &T) -> Gain
+pub fn solve_one<R: Row, T: Turn<R>>(states: &mut Vec<BodyState>, row: &mut R, turn: &T) -> Gain
     requires states { AreAllStates states.old.items }
-    requires row { IsRowBelow (length states.old.items) row.old }
-    ensures states { states.new.items ≡ after (T.turn turn.now) states.old.items row.old }
-    ensures row { row.new ≡ (turn_of (T.turn turn.now) states.old.items row.old).row }
-    ensures x { result.x ≡ got_x (ends_of states.old.items row.old) (turn_of (T.turn turn.now) states.old.items row.old).ends }
-    ensures y { result.y ≡ got_y (ends_of states.old.items row.old) (turn_of (T.turn turn.now) states.old.items row.old).ends }
+    requires row { IsRowOn R.slots R.is_row (length states.old.items) row.old }
+    ensures states { states.new.items ≡ after R.slots (T.turn turn.now) states.old.items row.old }
+    ensures row { row.new ≡ (turn_of R.slots (T.turn turn.now) states.old.items row.old).row }
+    ensures x { result.x ≡ got_x (ends_of R.slots states.old.items row.old) (turn_of R.slots (T.turn turn.now) states.old.items row.old).ends }
+    ensures y { result.y ≡ got_y (ends_of R.slots states.old.items row.old) (turn_of R.slots (T.turn turn.now) states.old.items row.old).ends }
     ensures all_states { AreAllStates states.new.items }
-    ensures below { IsRowBelow (length states.new.items) row.new }
+    ensures below { IsRowOn R.slots R.is_row (length states.new.items) row.new }
     ensures long { length states.new.items ≡ length states.old.items }
     ensures same { AreSameStates states.old.items states.new.items }
     ensures momentum_x { total_x states.new.items ≡ total_x states.old.items +ℤ result.x }
@@ -176,28 +201,30 @@ pub fn solve_one<T: Turn>(states: &mut Vec<BodyState>, row: &mut ContactRow, tur
     if turn.is_idle(row) {
         return NOTHING;
     }
+    let slots = row.slots();
     match narrow_turn(states, row, turn) {
         None => turn_bodies(states, row, turn),
-        Some(turned) => put_turn(states, row, turned),
+        Some(now) => put_turn(states, slots, now),
     }
 }
 
-/// One pass over the contacts in their order, each with the bodies as those before it left them. Answers what immovable
+/// One pass over rows in their order, each with the bodies as those before it left them. Answers what immovable
 /// bodies have given to the movers (mass·u/tick); what two movers give one another leaves their sum alone.
-pub fn pass_single<T: Turn>(
+pub fn pass_rows<R: Row, T: Turn<R>>(
     states: &mut Vec<BodyState>,
-    rows: &mut Vec<ContactRow>,
+    rows: &mut Vec<R>,
     turn: &T,
 ) -> Gain
     requires few { length states.old.items ≤ MAX_SLOTS }
     requires states { AreAllStates states.old.items }
-    requires rows { AreRowsBelow (length states.old.items) rows.old.items }
-    ensures states { states.new.items ≡ passed (T.turn turn.now) states.old.items rows.old.items }
-    ensures rows { rows.new.items ≡ rows_passed (T.turn turn.now) states.old.items rows.old.items }
-    ensures share_x { result.x ≡ share_x (T.turn turn.now) states.old.items rows.old.items }
-    ensures share_y { result.y ≡ share_y (T.turn turn.now) states.old.items rows.old.items }
+    requires rows { AreRowsOn R.slots R.is_row (length states.old.items) rows.old.items }
+    ensures states { states.new.items ≡ passed R.slots (T.turn turn.now) states.old.items rows.old.items }
+    ensures rows { rows.new.items ≡ rows_passed R.slots (T.turn turn.now) states.old.items rows.old.items }
+    ensures share_x { result.x ≡ share_x R.slots (T.turn turn.now) states.old.items rows.old.items }
+    ensures share_y { result.y ≡ share_y R.slots (T.turn turn.now) states.old.items rows.old.items }
     ensures all_states { AreAllStates states.new.items }
-    ensures all_rows { AreRowsBelow (length states.new.items) rows.new.items }
+    ensures all_rows { AreRowsOn R.slots R.is_row (length states.new.items) rows.new.items }
+    ensures as_many { length rows.new.items ≡ length rows.old.items }
     ensures long { length states.new.items ≡ length states.old.items }
     ensures same { AreSameStates states.old.items states.new.items }
     ensures momentum_x { total_x states.new.items ≡ total_x states.old.items +ℤ result.x }
@@ -212,9 +239,9 @@ pub fn pass_single<T: Turn>(
     given
 }
 
-/// The colour law: of contacts no two of which share a mover, the turns may be made at once, each with the bodies as they are
-/// before all of them; written back, they give the bodies, the contacts and the sums that one turn after another gives. So a colour
+/// The colour law: of rows no two of which share a mover, the turns may be made at once, each with the bodies as they are
+/// before all of them; written back, they give the bodies, the rows and the sums that one turn after another gives. So a colour
 /// may be solved in parallel (as Box2D v3's graph colours are). The function does nothing; its contract is the law.
-pub fn colours_at_once()
-    ensures { ColoursAreAtOnce }
+pub fn colours_at_once<R: Row>()
+    ensures { ColoursAreAtOnce R.slots }
 {}

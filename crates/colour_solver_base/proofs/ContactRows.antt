@@ -20,7 +20,7 @@ use Rattle.colour_solver_base.specs.declared.row.PointRow.{PointRow}
 use Rattle.colour_solver_base.specs.declared.row.ContactRow.{ContactRow}
 use Rattle.colour_solver_base.specs.declared.row.Bodies.{Bodies}
 use Rattle.colour_solver_base.specs.declared.solve.PointAfter.{PointAfter}
-use Rattle.colour_solver_base.specs.declared.solve.RowAfter.{RowAfter}
+use Rattle.colour_solver_base.specs.RowsAfter.{RowAfter}
 use Rattle.colour_solver_base.specs.Rows as rows
 use Rattle.colour_solver_base.specs.Rows.{bias_of, is_springy, line_of, point_row, row_bounced, row_from, row_solved, row_warmed, start_speed}
 use Rattle.colour_solver_base.specs.ContactSolving.{AreMovedFrom, IsMovedFrom, IsRowOf, RowsAreContacts, SolvedContact, SolvedPoint, at_points, contact_bounced, contact_solved, contact_warmed, from_first, line_along, normal_line, normal_solved, point_bounced, point_solved, point_warmed, separation_now, tangent_line, tangent_solved, with_normal_impulse, with_tangent_impulse}
@@ -232,8 +232,8 @@ alike_by b s e (Some p) (Some q) r f g alike is h =
     ap (λ (t : PointAfter). rows.then_second g (record { row = record { bodies = b; first = t.point; second = Some (point_row (is_springy b) s q) }; ends = t.ends }) (Some (point_row (is_springy b) s q))) one
     ∙ ap (λ (t : PointAfter). record { row = record { bodies = b; first = point_row (is_springy b) s first.point; second = Some t.point }; ends = t.ends }) two in
     subst (λ (r : ContactRow). IsRowOf b s (at_points f (record { first = Some p; second = Some q }) e) (rows.at_points g r e)) row (record {
-      row = ap (λ (t : RowAfter). Some t.row) (sym both);
-      ends = ap (λ (t : RowAfter). t.ends) both;
+      row = ap (λ (t : RowAfter ContactRow). Some t.row) (sym both);
+      ends = ap (λ (t : RowAfter ContactRow). t.ends) both;
       moved = masses_then s first.ends (f q first.ends).ends then_masses (alike.masses q first.ends);
     })
 

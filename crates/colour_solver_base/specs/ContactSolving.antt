@@ -16,7 +16,7 @@ use Rattle.contacts_base.specs.declared.contact.ContactPoint.{ContactPoint}
 use Rattle.contacts_base.specs.declared.contact.Contact.{Contact}
 use Rattle.colour_solver_base.specs.declared.row.ContactRow.{ContactRow}
 use Rattle.colour_solver_base.specs.declared.row.Bodies.{Bodies}
-use Rattle.colour_solver_base.specs.declared.solve.RowAfter.{RowAfter}
+use Rattle.colour_solver_base.specs.RowsAfter.{RowAfter}
 use Rattle.colour_solver_base.specs.Rows.{tangent, bias_of, most_friction, row_from, row_warmed, row_solved, row_bounced}
 
 -- a point of a contact with its two bodies, and a contact with them
@@ -115,12 +115,12 @@ pub record AreMovedFrom (start e : Ends) : Type 0 where
   pub b : IsMovedFrom start.b e.b
 
 -- what the turn of a contact's row has made of the row and its bodies is what s says of the contact and its bodies
-pub record IsRowOf (b : Bodies) (start : Ends) (s : SolvedContact) (t : RowAfter) : Type 0 where
+pub record IsRowOf (b : Bodies) (start : Ends) (s : SolvedContact) (t : RowAfter ContactRow) : Type 0 where
   pub row : row_from b start s.contact.first s.contact.second ≡ Some t.row
   pub ends : t.ends ≡ s.ends
   pub moved : AreMovedFrom start s.ends
 
-abbrev pub TurnsAlike : (Bodies → Ends → Contact → Ends → SolvedContact) → (ContactRow → Ends → RowAfter) → Type 0
+abbrev pub TurnsAlike : (Bodies → Ends → Contact → Ends → SolvedContact) → (ContactRow → Ends → RowAfter ContactRow) → Type 0
 TurnsAlike f g = (b : Bodies) (start e : Ends) (c : Contact) (r : ContactRow) → row_from b start c.first c.second ≡ Some r → AreMovedFrom start e → IsRowOf b start (f b start c e) (g r e)
 
 pub record RowsAreContacts : Type 0 where

@@ -9,7 +9,7 @@ use Rattle.momenta.specs.Line64.{HasRoom64, FitsIn64, ends_with}
 use Rattle.colour_solver_base.specs.declared.row.PointRow.{PointRow}
 use Rattle.colour_solver_base.specs.declared.row.ContactRow.{ContactRow}
 use Rattle.colour_solver_base.specs.declared.solve.PointAfter.{PointAfter}
-use Rattle.colour_solver_base.specs.declared.solve.RowAfter.{RowAfter}
+use Rattle.colour_solver_base.specs.RowsAfter.{RowAfter}
 use Rattle.colour_solver_base.specs.declared.row_64.RowAfter64.{RowAfter64}
 use Rattle.colour_solver_base.specs.Rows.{IsPointRow, IsRow, bias_of, most_friction, normal_line, normal_solved, separation_now, tangent_line}
 
@@ -33,7 +33,7 @@ abbrev pub with_first : ContactRow → ℤ → ℤ → ContactRow
 with_first r normal_impulse tangent_impulse = record r { first = with_impulses r.first normal_impulse tangent_impulse }
 
 -- what stands in n is t, which a pass has left of the contact r and of the bodies a and b
-pub record IsRowAfter64 (t : RowAfter) (r : ContactRow) (a b : BodyState) (n : RowAfter64) : Type 0 where
+pub record IsRowAfter64 (t : RowAfter ContactRow) (r : ContactRow) (a b : BodyState) (n : RowAfter64) : Type 0 where
   pub value : t ≡ record { row = with_first r n.normal_impulse n.tangent_impulse; ends = ends_with a b n.now }
   pub row : IsRow (with_first r n.normal_impulse n.tangent_impulse)
   pub states : AreStates (ends_with a b n.now)

@@ -18,7 +18,7 @@ use Rattle.colour_solver_base.specs.declared.row.PointRow.{PointRow}
 use Rattle.colour_solver_base.specs.declared.row.ContactRow.{ContactRow}
 use Rattle.colour_solver_base.specs.declared.row.Bodies.{Bodies}
 use Rattle.colour_solver_base.specs.declared.solve.PointAfter.{PointAfter}
-use Rattle.colour_solver_base.specs.declared.solve.RowAfter.{RowAfter}
+use Rattle.colour_solver_base.specs.RowsAfter.{RowAfter}
 
 -- ---- lines
 
@@ -117,27 +117,27 @@ point_bounced restitution p e = cond (bounces restitution p) (normal_solved (neg
 
 -- ---- a whole contact, point by point
 
-abbrev pub after_first : ContactRow → PointAfter → RowAfter
+abbrev pub after_first : ContactRow → PointAfter → RowAfter ContactRow
 after_first r t = record { row = record r { first = t.point }; ends = t.ends }
 
-abbrev pub after_second : ContactRow → PointAfter → RowAfter
+abbrev pub after_second : ContactRow → PointAfter → RowAfter ContactRow
 after_second r t = record { row = record r { second = Some t.point }; ends = t.ends }
 
-abbrev pub then_second : (PointRow → Ends → PointAfter) → RowAfter → Option PointRow → RowAfter
+abbrev pub then_second : (PointRow → Ends → PointAfter) → RowAfter ContactRow → Option PointRow → RowAfter ContactRow
 then_second f t None = t
 then_second f t (Some p) = after_second t.row (f p t.ends)
 
 -- what is done at the first point, and then at the second
-abbrev pub at_points : (PointRow → Ends → PointAfter) → ContactRow → Ends → RowAfter
+abbrev pub at_points : (PointRow → Ends → PointAfter) → ContactRow → Ends → RowAfter ContactRow
 at_points f r e = then_second f (after_first r (f r.first e)) r.second
 
-unfoldable pub row_warmed : ContactRow → Ends → RowAfter
+unfoldable pub row_warmed : ContactRow → Ends → RowAfter ContactRow
 row_warmed r e = at_points (λ p e. record { point = p; ends = point_warmed p e }) r e
 
-unfoldable pub row_solved : ContactRow → Ends → RowAfter
+unfoldable pub row_solved : ContactRow → Ends → RowAfter ContactRow
 row_solved r e = at_points (point_solved r.bodies.friction) r e
 
-unfoldable pub row_bounced : ContactRow → Ends → RowAfter
+unfoldable pub row_bounced : ContactRow → Ends → RowAfter ContactRow
 row_bounced r e = at_points (point_bounced r.bodies.restitution) r e
 
 -- ---- what must hold of a row

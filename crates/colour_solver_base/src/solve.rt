@@ -19,13 +19,6 @@ pub struct PointAfter {
     pub ends: Ends,
 }
 
-/// A contact after its impulses, with the two bodies.
-#[derive(Clone, Copy, Debug, PartialEq, Eq)]
-pub struct RowAfter {
-    pub row: ContactRow,
-    pub ends: Ends,
-}
-
 /// The separation now, in u: that of the step's start, and how far the centres have parted along the normal since.
 #[tactic(auto, unfolding(crate::specs::Rows::separation_now))]
 #[inline(always)]

@@ -4,8 +4,8 @@ ghost use Rattle.momenta.specs.Impulses.{AreStates, IsState};
 ghost use Rattle.colour_solver_base.specs.Rows.{IsRow};
 
 use crate::{
-    Bodies, ContactRow, PointRow, RowAfter, RowAfter64, bounce_row, solve_row, solve_row_64,
-    warm_row, warm_row_64,
+    Bodies, ContactRow, PointRow, RowAfter64, bounce_row, solve_row, solve_row_64, warm_row,
+    warm_row_64,
 };
 use fixed_geom::{Rot, Vec2};
 use momenta::{
@@ -102,8 +102,15 @@ fn push_out(separation: i64) -> i64
     row.first.normal_impulse
 }
 
+/// A contact after a turn, with the two bodies.
+#[derive(Clone, Copy)]
+struct Turned {
+    row: ContactRow,
+    ends: Ends,
+}
+
 /// A contact and its two bodies after a solver pass, the second body having had the momentum `p`.
-fn solved(normal_impulse: i64, p: Vec2) -> RowAfter
+fn solved(normal_impulse: i64, p: Vec2) -> Turned
     requires normal_low { pos 0 ≤ℤ normal_impulse }
     requires normal_high { unsigned_abs normal_impulse ≤ 2 ^ 42 }
     requires momentum { IsWithin (2 ^ 60) p }
@@ -111,16 +118,16 @@ fn solved(normal_impulse: i64, p: Vec2) -> RowAfter
     let mut row = contact(0, 0, normal_impulse);
     let mut ends = on_ground(p);
     solve_row(&mut row, &mut ends);
-    RowAfter { row, ends }
+    Turned { row, ends }
 }
 
-fn bounce(start_speed: i64) -> RowAfter
+fn bounce(start_speed: i64) -> Turned
     requires { unsigned_abs start_speed ≤ 2 ^ 62 }
 {
     let mut row = contact(0, start_speed, 1);
     let mut ends = on_ground(ORIGIN);
     bounce_row(&mut row, &mut ends);
-    RowAfter { row, ends }
+    Turned { row, ends }
 }
 
 #[test]

@@ -1,7 +1,7 @@
 -- The numbers of the refusals, as a script's answer gives them.
 use Rattle.std.specs.Prelude.{ℕ}
 use Rattle.fixed_geom.specs.declared.refusal.Refusal.{Refusal}
-use Rattle.fixed_geom.specs.declared.refusal.Refusal.TheVariants.{NoMemory, StaleHandle, TooMany, BadShape, OutOfRange, NotAMover, SameBody, BodyDisabled, TooFast, WornOut, NoThread, BadFile, WrongSeats, WentBack}
+use Rattle.fixed_geom.specs.declared.refusal.Refusal.TheVariants.{NoMemory, StaleHandle, TooMany, BadShape, OutOfRange, NotAMover, SameBody, BodyDisabled, TooFast, WornOut, NoThread, BadFile, WrongSeats, WentBack, NotKinematic}
 
 abbrev pub number_of : Refusal → ℕ
 number_of NoMemory = 1
@@ -18,3 +18,4 @@ number_of NoThread = 11
 number_of (BadFile clause) = 12
 number_of WrongSeats = 13
 number_of WentBack = 14
+number_of NotKinematic = 15

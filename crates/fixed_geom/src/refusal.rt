@@ -52,10 +52,13 @@ pub enum Refusal {
     /// A frame to be published is older than the published one.
     #[error("the frame is older than the published one")]
     WentBack,
+    /// The body is not kinematic.
+    #[error("the body has no velocity of its own")]
+    NotKinematic,
 }
 
 impl Refusal {
-    /// The number that stands for the refusal in answers, from 1 to 14 in the order above.
+    /// The number that stands for the refusal in answers, from 1 to 15 in the order above.
     pub fn number(self) -> u64
         ensures { result ≡ number_of self }
     {
@@ -74,6 +77,7 @@ impl Refusal {
             Refusal::BadFile(_) => 12,
             Refusal::WrongSeats => 13,
             Refusal::WentBack => 14,
+            Refusal::NotKinematic => 15,
         }
     }
 }

@@ -195,6 +195,7 @@ fn boxes_touch_and_contain(rt: HostRuntime) {
 #[test]
 fn refusals_have_texts(rt: HostRuntime) -> Result<(), Fail> {
     assert_eq!(rt; Refusal::WentBack.number(), 14);
+    assert_eq!(rt; Refusal::NotKinematic.number(), 15);
     let text = format!(in rt.alloc(); "{}", Refusal::BadFile(4))?;
     assert_eq!(rt; text.as_str(), "the saved world breaks clause 4");
     Ok(())

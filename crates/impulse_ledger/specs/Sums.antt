@@ -6,7 +6,7 @@ use Rattle.impulse_ledger.specs.declared.entry.Cause.TheVariants.{Command, Gravi
 use Rattle.impulse_ledger.specs.declared.entry.Entry.{Entry}
 use Rattle.impulse_ledger.specs.declared.totals.Total.{Total}
 use Rattle.impulse_ledger.specs.declared.totals.Totals.{Totals}
-use Rattle.impulse_ledger.specs.Totals.{zero_totals, total_in, over_causes}
+use Rattle.impulse_ledger.specs.Totals.{total_in, over_causes}
 
 -- what contracts see: the entries, oldest first; the sums of entries that were settled and dropped; and how many more
 -- entries may be added with no memory
@@ -15,9 +15,8 @@ pub record Book : Type 0 where
   pub settled : Totals
   pub room : ℕ
 
--- the book of these entries, of which nothing was settled
-abbrev pub book_of : List Entry → ℕ → Book
-book_of entries room = record { entries = entries; settled = zero_totals; room = room }
+abbrev pub book_of : List Entry → Totals → ℕ → Book
+book_of entries settled room = record { entries = entries; settled = settled; room = room }
 
 -- the sums of the entries' components
 abbrev pub sum_x : List Entry → ℤ
@@ -63,6 +62,27 @@ total_of_x cause b = sum_of_x cause b.entries +ℤ (total_in cause b.settled).x
 
 abbrev pub total_of_y : Cause → Book → ℤ
 total_of_y cause b = sum_of_y cause b.entries +ℤ (total_in cause b.settled).y
+
+-- the sums of all causes
+abbrev pub total_with : Cause → Book → Total
+total_with cause b = record { x = total_of_x cause b; y = total_of_y cause b }
+
+abbrev pub totals_of : Book → Totals
+totals_of b = record {
+  command = total_with Command b;
+  gravity = total_with Gravity b;
+  immovable = total_with Immovable b;
+  clamp = total_with Clamp b;
+  rest = total_with Rest b;
+  departed = total_with Departed b;
+}
+
+-- the sums of two books are the same, over all causes and of each
+pub record HaveSameTotals (a b : Book) : Type 0 where
+  pub x : total_x a ≡ total_x b
+  pub y : total_y a ≡ total_y b
+  pub of_cause_x : (cause : Cause) → total_of_x cause a ≡ total_of_x cause b
+  pub of_cause_y : (cause : Cause) → total_of_y cause a ≡ total_of_y cause b
 
 -- the sums stay in their ranges with one more entry
 pub record Fits (b : Book) (e : Entry) : Type 0 where

@@ -3,7 +3,7 @@
 ghost use Rattle.std.specs.Prelude.{◌≡◌, ◌+◌, ◌≤◌, ◌^◌, unsigned_abs, [], ◌∷◌, ◌++◌, OnOk, OnErr, IfOk, IsOk};
 ghost use Rattle.std.specs.Result.{IsOkUnless};
 ghost use Rattle.impulse_ledger.specs.Totals.{zero_totals};
-ghost use Rattle.impulse_ledger.specs.Sums.{total_x, total_y, total_of_x, total_of_y, Fits};
+ghost use Rattle.impulse_ledger.specs.Sums.{total_x, total_y, total_of_x, total_of_y, totals_of, Fits, HaveSameTotals};
 
 use crate::entry::{Cause, Entry};
 use crate::limits::{MAX_TOTAL, MAX_TOTAL_OF_CAUSE};
@@ -13,12 +13,14 @@ use std::alloc::Global;
 use std::marker::Model;
 
 /// The book of impulses. Contracts see its entries, oldest first (`entries`), the sums of entries that were settled and
-/// dropped (`settled`, all zero so far), and how many more entries may be added with no memory (`room`).
+/// dropped (`settled`), and how many more entries may be added with no memory (`room`).
 ///
 /// A component of a sum by cause is at most `MAX_TOTAL_OF_CAUSE` in size, and one of the sum of all at most `MAX_TOTAL`.
 #[derive(Drop)]
 pub struct Ledger {
     entries: Vec<Entry>,
+    // The sums by cause of entries that were dropped.
+    settled: Totals,
     // The sums by cause, and over all causes, kept up to date.
     by_cause: Totals,
     all: Total,
@@ -30,9 +32,9 @@ impl Model for Ledger {
 
     ghost Value = { Book };
 
-    ghost view = { λ a. book_of a.entries.items (vec_capacity a.entries - vec_len a.entries) };
+    ghost view = { λ a. book_of a.entries.items a.settled (vec_capacity a.entries - vec_len a.entries) };
 
-    ghost invariant = { λ a. IsKept (book_of a.entries.items (vec_capacity a.entries - vec_len a.entries)) a.by_cause a.all };
+    ghost invariant = { λ a. IsKept (book_of a.entries.items a.settled (vec_capacity a.entries - vec_len a.entries)) a.by_cause a.all };
 }
 
 impl Ledger {
@@ -43,6 +45,7 @@ impl Ledger {
     {
         Ledger {
             entries: Vec::new(alloc),
+            settled: Totals::zero(),
             by_cause: Totals::zero(),
             all: Total::ZERO,
         }
@@ -91,6 +94,17 @@ impl Ledger {
         let _ = self.entries.push(entry);
     }
 
+    /// Adds the entries to the settled sums, each to that of its cause, and drops them. No sum changes, and no memory is
+    /// taken.
+    pub fn settle(&mut self)
+        ensures entries { self.new.entries ≡ [] }
+        ensures settled { self.new.settled ≡ totals_of self.old }
+        ensures totals { HaveSameTotals self.new self.old }
+    {
+        self.entries.clear();
+        self.settled = self.by_cause;
+    }
+
     /// The sum of all entries and of what was settled.
     pub fn total(&self) -> Total
         ensures x { result.x ≡ total_x self.now }
@@ -128,6 +142,7 @@ impl Ledger {
         entries.extend_from_slice(&self.entries)?;
         Ok(Ledger {
             entries,
+            settled: self.settled,
             by_cause: self.by_cause,
             all: self.all,
         })
@@ -181,6 +196,20 @@ mod tests {
         }
         assert_eq!(rt; before.entries(), [PUSHED].as_slice());
         assert_eq!(rt; before.total(), Total { x: 5, y: -7 });
+        Ok(())
+    }
+
+    #[test]
+    fn settled_entries_stay_in_the_sums(rt: HostRuntime) -> Result<(), Fail> {
+        let mut ledger = Ledger::new(rt.alloc());
+        ledger.post(PUSHED)?;
+        ledger.settle();
+        assert_eq!(rt; ledger.entries().len(), 0);
+        assert_eq!(rt; ledger.total(), Total { x: 5, y: -7 });
+        ledger.post(FELL)?;
+        assert_eq!(rt; ledger.entries(), [FELL].as_slice());
+        assert_eq!(rt; ledger.total(), Total { x: 5, y: -107 });
+        assert_eq!(rt; ledger.total_of(Cause::Command), Total { x: 5, y: -7 });
         Ok(())
     }
 }

@@ -61,17 +61,13 @@ quarter_turn inertia l w h e small = sym (spin_turning inertia l h ∙ ap (limit
 
 -- ---- the velocity of a point
 
-pub velocity_fixed : (r : Vec2) (s : BodyState) → s.movable ≡ false → velocity_at r s ≡ zero_vector
+velocity_is : (r : Vec2) (s : BodyState) → velocity_at r s ≡ carried r (velocity s.mass.mass s.motion.p) (spin s.mass.inertia s.motion.l)
 unfolding velocity_at
-velocity_fixed r s h = rw h refl
+velocity_is r s = refl
 
-pub velocity_moving : (r : Vec2) (s : BodyState) → s.movable ≡ true → velocity_at r s ≡ carried r (velocity s.mass.mass s.motion.p) (spin s.mass.inertia s.motion.l)
-unfolding velocity_at
-velocity_moving r s h = rw h refl
-
-pub moving_is : (r v : Vec2) (s : BodyState) (w x y : ℤ) → s.movable ≡ true → v ≡ velocity s.mass.mass s.motion.p → w ≡ spin s.mass.inertia s.motion.l
+pub moving_is : (r v : Vec2) (s : BodyState) (w x y : ℤ) → v ≡ velocity s.mass.mass s.motion.p → w ≡ spin s.mass.inertia s.motion.l
     → x ≡ v.x -ℤ rdiv (w *ℤ r.y) unit_length → y ≡ v.y +ℤ rdiv (w *ℤ r.x) unit_length → record { x = x; y = y } ≡ velocity_at r s
-moving_is r v s w x y h e f g k = rw (velocity_moving r s h, ← e, ← f, g, k) refl
+moving_is r v s w x y e f g k = rw (velocity_is r s, ← e, ← f, g, k) refl
 
 -- a body that turns has an inertia
 pub turning : (inertia l : ℤ) → pos 0 ≤ℤ inertia → (inertia ≡ pos 0 → l ≡ pos 0) → (l ≡ pos 0 → ⊥) → pos 1 ≤ℤ inertia

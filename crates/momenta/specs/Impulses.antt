@@ -2,7 +2,7 @@
 use Rattle.std.specs.Prelude.{◌≡◌, zero, ◌≤◌, ◌^◌, Bool, true, false, cond, nat_le, Option, Some, None, ℤ, pos, neg_ℤ, ◌+ℤ◌, ◌-ℤ◌, ◌*ℤ◌, ◌≤ℤ◌, unsigned_abs, int_lt}
 use Rattle.fixed_geom.specs.Numbers.{rdiv}
 use Rattle.fixed_geom.specs.Reciprocals.{share_reciprocal}
-use Rattle.fixed_geom.specs.Vectors.{IsWithin, is_within, unit_length, zero_vector, dot, cross, plus, minus, opposite}
+use Rattle.fixed_geom.specs.Vectors.{IsWithin, is_within, unit_length, dot, cross, plus, minus, opposite}
 use Rattle.fixed_geom.specs.declared.vectors.Vec2.{Vec2}
 use Rattle.fixed_geom.specs.declared.vectors.TheConstants.{UNIT}
 use Rattle.fixed_geom.specs.declared.limits.TheConstants.{MAX_OFFSET, MAX_POSITION}
@@ -17,9 +17,10 @@ use Rattle.momenta.specs.Reciprocals.{reciprocals_of}
 
 -- ---- a body within a step
 
--- what is kept of it: a mover's mass is one, its numbers are within their limits, and the reciprocals are those of the mass
+-- what is kept of it: its mass is one, its numbers are within their limits, and the reciprocals are those of the mass. Of a body that no
+-- impulse moves, mass and momenta only say how it is carried along: with which velocity and spin.
 pub record IsState (s : BodyState) : Type 0 where
-  pub mass : s.movable ≡ true → IsMass s.mass
+  pub mass : IsMass s.mass
   pub reciprocals : s.reciprocals ≡ reciprocals_of s.mass
   pub motion : IsMotion s.mass s.motion
   pub start : IsWithin (unsigned_abs MAX_POSITION) s.start
@@ -32,13 +33,13 @@ pub record AreStates (e : Ends) : Type 0 where
 abbrev pub carried : Vec2 → Vec2 → ℤ → Vec2
 carried r v w = record { x = v.x -ℤ rdiv (w *ℤ r.y) unit_length; y = v.y +ℤ rdiv (w *ℤ r.x) unit_length }
 
--- the velocity of the body's point at the offset r: of an immovable body none
+-- the velocity of the body's point at the offset r
 unfoldable pub velocity_at : Vec2 → BodyState → Vec2
-velocity_at r s = cond s.movable (carried r (velocity s.mass.mass s.motion.p) (spin s.mass.inertia s.motion.l)) zero_vector
+velocity_at r s = carried r (velocity s.mass.mass s.motion.p) (spin s.mass.inertia s.motion.l)
 
 -- how far the centre has come since the step began
 abbrev pub travelled : BodyState → Vec2
-travelled s = cond s.movable (minus s.motion.x s.start) zero_vector
+travelled s = minus s.motion.x s.start
 
 -- ---- an impulse given
 

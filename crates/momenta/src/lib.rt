@@ -36,7 +36,7 @@ pub use line_64::{
     warm_at_once_64,
 };
 pub use mass::MassData;
-pub use motion::{Motion, spin, velocity};
+pub use motion::{Momenta, Motion, spin, velocity};
 pub use reciprocals::{Reciprocals, reciprocals_of};
 pub use speed_limit::clamp_speed;
 pub use state::{BodyState, Ends, impulse_pair};

@@ -187,6 +187,16 @@ pub(crate) fn velocity_64(p: Vec2, mass: i64, reciprocal: i64) -> Vec2
     }
 }
 
+/// Whether a body with these momenta stands still.
+#[inline(always)]
+fn is_at_rest(now: Momenta64) -> bool
+    ensures x { result ≡ true → now.p.x ≡ pos 0 }
+    ensures y { result ≡ true → now.p.y ≡ pos 0 }
+    ensures l { result ≡ true → now.l ≡ pos 0 }
+{
+    now.p.x == 0 && now.p.y == 0 && now.l == 0
+}
+
 /// The velocity of a body's point at the offset `r` (u), in u/tick, with these momenta.
 #[inline(always)]
 fn velocity_at_64(body: &BodyState, now: Momenta64, r: Vec2) -> Vec2
@@ -196,7 +206,7 @@ fn velocity_at_64(body: &BodyState, now: Momenta64, r: Vec2) -> Vec2
     ensures value { result ≡ velocity_at r (with_momenta body.now now) }
     ensures within { IsWithin (2 ^ 61) result }
 {
-    if !body.movable {
+    if is_at_rest(now) {
         return ZERO_VECTOR;
     }
     let v = velocity_64(now.p, body.mass.mass, body.reciprocals.mass);

@@ -20,6 +20,13 @@ pub struct Motion {
     pub rot: Rot,
 }
 
+/// The momentum of a body (mass·u/tick) and its angular momentum (mass·u²/tick).
+#[derive(Clone, Copy, Debug, PartialEq, Eq)]
+pub struct Momenta {
+    pub p: Vec2,
+    pub l: i128,
+}
+
 impl Motion {
     /// A body at rest, of any mass: no momentum of either kind.
     pub fn at_rest(x: Vec2, rot: Rot) -> Motion

@@ -7,10 +7,10 @@ ghost use Rattle.momenta.specs.declared.motion.Motion.{Motion};
 ghost use Rattle.momenta.specs.Impulses.{IsRoomy, IsState, AreStates, AreSameBodies, velocity_at, travelled, given, turned_by, fits, impulse_pair, or_kept};
 
 use crate::ranges::is_in;
-use crate::{MAX_ANGULAR_MOMENTUM, MAX_MOMENTUM, MassData, Motion, Reciprocals, spin, velocity};
-use fixed_geom::{
-    MAX_OFFSET, MAX_SPIN, Vec2, ZERO_VECTOR, cross, minus, opposite, plus, scaled_64,
+use crate::{
+    MAX_ANGULAR_MOMENTUM, MAX_MOMENTUM, MassData, Momenta, Motion, Reciprocals, spin, velocity,
 };
+use fixed_geom::{MAX_OFFSET, MAX_SPIN, Vec2, cross, minus, opposite, plus, scaled_64};
 
 /// A component of a momentum up to this has room for two impulses.
 const ROOMY_MOMENTUM: i64 = 1 << 59;
@@ -20,6 +20,9 @@ const ROOMY_ANGULAR: i128 = 1 << 89;
 
 /// A body as the solver works on it: whether impulses move it, its mass, its motion, where its
 /// centre was when the step began (u), and what its quotients are taken with.
+///
+/// A body that no impulse moves may still be carried along: its mass and its momenta then say with which velocity and
+/// spin, and are those of no body. Of one that stands still the momenta are 0.
 #[derive(Clone, Copy, Debug, PartialEq, Eq)]
 pub struct BodyState {
     pub movable: bool,
@@ -27,13 +30,6 @@ pub struct BodyState {
     pub motion: Motion,
     pub start: Vec2,
     pub reciprocals: Reciprocals,
-}
-
-/// The momentum of a body (mass·u/tick) and its angular momentum (mass·u²/tick).
-#[derive(Clone, Copy)]
-struct Momenta {
-    p: Vec2,
-    l: i128,
 }
 
 /// The two bodies of a constraint.
@@ -45,7 +41,7 @@ pub struct Ends {
 
 impl BodyState {
     /// The velocity of its point at the offset `r` (u) from the centre, in u/tick: `v + w × r`, as in Erin Catto's
-    /// sequential impulses, with the spin `w` times 2^30. Zero for an immovable body.
+    /// sequential impulses, with the spin `w` times 2^30.
     #[tactic(auto, unfolding(crate::specs::Impulses::velocity_at))]
     #[inline(always)]
     pub fn velocity_at(&self, r: Vec2) -> Vec2
@@ -54,9 +50,6 @@ impl BodyState {
         ensures value { result ≡ velocity_at r self.now }
         ensures within { IsWithin (2 ^ 60 + 2 ^ 25) result }
     {
-        if !self.movable {
-            return ZERO_VECTOR;
-        }
         let v = velocity(self.motion.p, self.mass.mass);
         if self.motion.l == 0 {
             return v;
@@ -68,18 +61,14 @@ impl BodyState {
         }
     }
 
-    /// How far its centre has come since the step began, in u. Zero for an immovable body.
+    /// How far its centre has come since the step began, in u.
     #[inline(always)]
     pub fn travelled(&self) -> Vec2
         requires { IsState self.now }
         ensures value { result ≡ travelled self.now }
         ensures within { IsWithin (2 ^ 37) result }
     {
-        if self.movable {
-            minus(self.motion.x, self.start)
-        } else {
-            ZERO_VECTOR
-        }
+        minus(self.motion.x, self.start)
     }
 
     /// Its momenta with the impulse `j` (mass·u/tick) given at the offset `r` (u): the momentum grows by `j`, and the angular

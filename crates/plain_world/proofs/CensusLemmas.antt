@@ -9,8 +9,8 @@ use Rattle.body_handles.specs.declared.handle.Handle.{Handle}
 use Rattle.body_handles.specs.declared.places.Place.{Place}
 use Rattle.body_handles.specs.Places.{is_live}
 use Rattle.plain_world.specs.declared.body.Body.{Body}
-use Rattle.plain_world.specs.declared.body.Kind.{Kind}
-use Rattle.plain_world.specs.declared.body.Kind.TheVariants as kinds
+use Rattle.plain_world.specs.declared.kind.Kind.{Kind}
+use Rattle.plain_world.specs.declared.kind.Kind.TheVariants as kinds
 use Rattle.plain_world.specs.declared.body.SetName.{SetName}
 use Rattle.plain_world.specs.declared.body.SetName.TheVariants.{Static, Disabled, Awake, Sleeping}
 use Rattle.plain_world.specs.Bodies.{set_of, standing_of}
@@ -184,6 +184,7 @@ one_standing : (enabled : Bool) (kind : Kind)
     + (cond (is_same_set Disabled (cond enabled (set_of kind) Disabled)) 1 0
     + cond (is_same_set Awake (cond enabled (set_of kind) Disabled)) 1 0) ≡ 1
 one_standing true kinds.Static = refl
+one_standing true (kinds.Kinematic course) = refl
 one_standing true kinds.Dynamic = refl
 one_standing false kind = refl
 

@@ -1,5 +1,5 @@
 -- Bodies: which are movers, where each stands, what may be made, and the movers' momentum.
-use Rattle.std.specs.Prelude.{◌≡◌, ℕ, ◌^◌, Bool, true, false, not, ◌&&◌, cond, All, List, [], ◌∷◌, Option, Some, None, ℤ, pos, ◌+ℤ◌, slice_get}
+use Rattle.std.specs.Prelude.{◌≡◌, ℕ, ◌^◌, Bool, true, false, ◌&&◌, cond, All, List, [], ◌∷◌, Option, Some, None, ℤ, pos, ◌+ℤ◌, slice_get}
 use Rattle.std.specs.Ordering.{int_eq}
 use Rattle.fixed_geom.specs.Vectors.{IsWithin, is_within}
 use Rattle.fixed_geom.specs.Facings.{IsFacing, is_facing}
@@ -10,8 +10,9 @@ use Rattle.fixed_geom.specs.declared.refusal.Refusal.TheVariants.{OutOfRange}
 use Rattle.momenta.specs.Motions.{IsMass, IsMotion}
 use Rattle.momenta.specs.declared.mass.MassData.{MassData}
 use Rattle.momenta.specs.declared.motion.Motion.{Motion}
-use Rattle.plain_world.specs.declared.body.Kind.{Kind}
-use Rattle.plain_world.specs.declared.body.Kind.TheVariants.{Static, Dynamic}
+use Rattle.plain_world.specs.declared.kind.Kind.{Kind}
+use Rattle.plain_world.specs.declared.kind.Kind.TheVariants.{Static, Kinematic, Dynamic}
+use Rattle.plain_world.specs.Kinds.{IsCourseOf, carried_by, course_of, is_course_allowed, is_dynamic, is_moving, is_static}
 use Rattle.plain_world.specs.declared.body.SetName.{SetName}
 use Rattle.plain_world.specs.declared.body.SetName.TheVariants as sets
 use Rattle.plain_world.specs.declared.body.Body.{Body}
@@ -23,10 +24,6 @@ use Rattle.plain_world.specs.Fats.{AreFatBoxes, fat_boxes}
 
 -- ---- where a body stands
 
-abbrev pub is_dynamic : Kind → Bool
-is_dynamic Static = false
-is_dynamic Dynamic = true
-
 -- a mover: an enabled dynamic body
 abbrev pub is_mover : Body → Bool
 is_mover b = cond b.enabled (is_dynamic b.kind) false
@@ -37,6 +34,7 @@ is_awake b = is_mover b
 
 abbrev pub set_of : Kind → SetName
 set_of Static = sets.Static
+set_of (Kinematic course) = sets.Awake
 set_of Dynamic = sets.Awake
 
 abbrev pub standing_of : Body → SetName
@@ -48,16 +46,20 @@ pose_of b = record { x = b.motion.x; rot = b.motion.rot }
 
 -- what can be seen of a body
 abbrev pub view_of : Body → BodyView
-view_of b = record { at = b.motion.x; facing = b.motion.rot; p = b.motion.p; l = b.motion.l; set = standing_of b }
+view_of b = record { at = b.motion.x; facing = b.motion.rot; p = b.motion.p; l = b.motion.l; course = course_of b.kind; set = standing_of b }
 
 -- ---- a body that is made
 
+abbrev pub is_no_mass : MassData → Bool
+is_no_mass m = int_eq m.mass (pos 0) && int_eq m.inertia (pos 0)
+
 abbrev pub is_mass_allowed : Kind → MassData → Bool
-is_mass_allowed Static m = int_eq m.mass (pos 0) && int_eq m.inertia (pos 0)
+is_mass_allowed Static m = is_no_mass m
+is_mass_allowed (Kinematic course) m = is_no_mass m
 is_mass_allowed Dynamic m = is_between (pos 1) (pos (2 ^ 20)) m.mass && is_between (pos 0) (pos (2 ^ 60)) m.inertia
 
 abbrev pub numbers_refusal : BodyDef → Option Refusal
-numbers_refusal d = cond (is_mass_allowed d.kind d.mass) (cond (is_within (2 ^ 36) d.x) (cond (is_facing d.rot) None (Some OutOfRange)) (Some OutOfRange)) (Some OutOfRange)
+numbers_refusal d = cond (is_mass_allowed d.kind d.mass) (cond (is_course_allowed d.kind) (cond (is_within (2 ^ 36) d.x) (cond (is_facing d.rot) None (Some OutOfRange)) (Some OutOfRange)) (Some OutOfRange)) (Some OutOfRange)
 
 abbrev pub first_of : Option Refusal → Option Refusal → Option Refusal
 first_of (Some e) later = Some e
@@ -65,7 +67,7 @@ first_of None later = later
 
 -- why a body can't be made: first its shapes, of which segments are for static bodies alone, then its numbers
 unfoldable pub def_refusal : BodyDef → Option Refusal
-def_refusal d = first_of (shapes_refusal (not (is_dynamic d.kind)) d.shapes) (numbers_refusal d)
+def_refusal d = first_of (shapes_refusal (is_static d.kind) d.shapes) (numbers_refusal d)
 
 abbrev pub at_rest : Vec2 → Rot → Motion
 at_rest x rot = record { p = record { x = pos 0; y = pos 0 }; l = pos 0; x = x; rot = rot }
@@ -76,13 +78,15 @@ made d = record { kind = d.kind; mass = d.mass; motion = at_rest d.x d.rot; shap
 
 abbrev pub IsMassOf : Kind → MassData → Type 0
 IsMassOf Static m = (m.mass ≡ pos 0) × (m.inertia ≡ pos 0)
+IsMassOf (Kinematic course) m = (m.mass ≡ pos 0) × (m.inertia ≡ pos 0)
 IsMassOf Dynamic m = IsMass m
 
 -- nothing keeps the body from being made
 pub record IsAllowed (d : BodyDef) : Type 0 where
-  pub shapes : shapes_refusal (not (is_dynamic d.kind)) d.shapes ≡ None
+  pub shapes : shapes_refusal (is_static d.kind) d.shapes ≡ None
   pub forms : All IsShapeDef d.shapes
   pub mass : IsMassOf d.kind d.mass
+  pub course : IsCourseOf d.kind
   pub place : IsWithin (2 ^ 36) d.x
   pub facing : IsFacing d.rot
 
@@ -97,7 +101,9 @@ pub record IsBody (b : Body) : Type 0 where
   pub mass : IsMassOf b.kind b.mass
   pub motion : IsMotion b.mass b.motion
   pub rest : is_mover b ≡ false → IsAtRest b.motion
-  pub shapes : shapes_refusal (not (is_dynamic b.kind)) b.shapes ≡ None
+  pub course : IsCourseOf b.kind
+  pub halted : b.enabled ≡ false → is_moving (carried_by b.kind) ≡ false
+  pub shapes : shapes_refusal (is_static b.kind) b.shapes ≡ None
   pub forms : All IsShapeDef b.shapes
   pub fats : AreFatBoxes (pose_of b) b.shapes b.fats
 

@@ -1,5 +1,7 @@
+pub mod Kinds
 pub mod Bodies
 pub mod Slots
+pub mod Changes
 pub mod Census
 pub mod Fats
 pub mod Formed

@@ -1,6 +1,5 @@
 -- The bodies by slot, beside the places that say which slots are taken.
-use Rattle.std.specs.Prelude.{◌≡◌, ℕ, ◌≤◌, Bool, false, cond, List, [], ◌∷◌, ◌++◌, length, nat_lt, Option, Some, None, is_some, option_map, slice_get, slice_set}
-use Rattle.fixed_geom.specs.declared.vectors.Vec2.{Vec2}
+use Rattle.std.specs.Prelude.{◌≡◌, ℕ, ◌≤◌, Bool, false, cond, List, [], ◌∷◌, ◌++◌, length, nat_lt, Option, Some, None, is_some, slice_get, slice_set}
 use Rattle.body_handles.specs.declared.handle.Handle.{Handle}
 use Rattle.body_handles.specs.declared.places.Place.{Place}
 use Rattle.body_handles.specs.declared.places.TheConstants.{MAX_SLOTS}
@@ -22,13 +21,6 @@ body_of places bodies h = cond (is_live places h) (body_at bodies h.slot) None
 -- a body put into a slot, or into a new one at the end
 abbrev pub with_body : List (Option Body) → ℕ → Body → List (Option Body)
 with_body bodies slot b = cond (nat_lt slot (length bodies)) (slice_set bodies slot (Some b)) (bodies ++ Some b ∷ [])
-
-abbrev pub put_p : Vec2 → Body → Body
-put_p p b = record b { motion = record b.motion { p = p } }
-
--- the momentum of the body in a slot set to p
-abbrev pub with_momentum : List (Option Body) → ℕ → Vec2 → List (Option Body)
-with_momentum bodies slot p = slice_set bodies slot (option_map (put_p p) (body_at bodies slot))
 
 -- whether the slot is taken
 abbrev pub is_taken_place : Option Place → Bool

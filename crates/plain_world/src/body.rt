@@ -1,9 +1,10 @@
 ghost use Rattle.std.specs.Prelude.{◌≡◌, IfOk, OnOk, IsTrue};
 ghost use Rattle.std.specs.Result.{IsOkUnless, result_err};
 ghost use Rattle.shapes.specs.Shapes.{is_between};
-ghost use Rattle.plain_world.specs.Bodies.{is_awake, is_dynamic, is_mover, pose_of, standing_of, view_of, is_mass_allowed, def_refusal, made, IsMassOf, IsAllowed, IsBody};
+ghost use Rattle.plain_world.specs.Bodies.{is_awake, is_mover, is_no_mass, pose_of, standing_of, view_of, is_mass_allowed, def_refusal, made, IsMassOf, IsAllowed, IsBody};
 
 use crate::fats::FatBoxes;
+use crate::kind::{Course, Kind};
 use fixed_geom::{Refusal, Rot, Vec2, is_facing, is_within};
 use momenta::{MassData, Motion};
 use shapes::{Pose, Shapes, check};
@@ -17,31 +18,11 @@ const MAX_MASS: i64 = 1 << 20;
 /// The greatest inertia, in mass·u².
 const MAX_INERTIA: i64 = 1 << 60;
 
-/// Whether a body moves.
-#[derive(Clone, Copy, Debug, PartialEq, Eq)]
-pub enum Kind {
-    /// It stands, and nothing moves it.
-    Static,
-    /// It has a mass, and impulses move it.
-    Dynamic,
-}
-
-impl Kind {
-    pub fn is_dynamic(self) -> bool
-        ensures { result ≡ is_dynamic self }
-    {
-        match self {
-            Kind::Static => false,
-            Kind::Dynamic => true,
-        }
-    }
-}
-
 /// A body to be made: at the place `x` (u) with the facing `rot` (times 2^30), at rest.
 #[derive(Drop)]
 pub struct BodyDef {
     pub kind: Kind,
-    /// Of a dynamic body; zero in both parts for a static one.
+    /// Of a dynamic body; zero in both parts for any other.
     pub mass: MassData,
     pub x: Vec2,
     pub rot: Rot,
@@ -56,8 +37,11 @@ impl BodyDef {
         ensures refusal { result_err result ≡ def_refusal self.now }
         ensures allowed { OnOk result (IsAllowed self.now) }
     {
-        check(self.shapes.as_slice(), !self.kind.is_dynamic())?;
+        check(self.shapes.as_slice(), self.kind.is_static())?;
         if !is_mass_allowed(self.kind, self.mass) {
+            return Err(Refusal::OutOfRange);
+        }
+        if !self.kind.is_course_allowed() {
             return Err(Refusal::OutOfRange);
         }
         if !is_within(self.x, MAX_PLACE) {
@@ -100,14 +84,21 @@ fn is_between(low: i64, high: i64, value: i64) -> bool
     low <= value && value <= high
 }
 
-/// Whether a body of this kind may have this mass: none for a static one, and for a dynamic one a mass of
-/// 1 to 2^20 with an inertia of 0 to 2^60.
+fn is_no_mass(mass: MassData) -> bool
+    ensures { result ≡ is_no_mass mass }
+{
+    mass.mass == 0 && mass.inertia == 0
+}
+
+/// Whether a body of this kind may have this mass: a dynamic one a mass of 1 to 2^20 with an inertia of 0 to 2^60, and
+/// any other none.
 fn is_mass_allowed(kind: Kind, mass: MassData) -> bool
     ensures value { result ≡ is_mass_allowed kind mass }
     ensures mass { IsTrue result → IsMassOf kind mass }
 {
     match kind {
-        Kind::Static => mass.mass == 0 && mass.inertia == 0,
+        Kind::Static => is_no_mass(mass),
+        Kind::Kinematic(_) => is_no_mass(mass),
         Kind::Dynamic => {
             is_between(1, MAX_MASS, mass.mass) && is_between(0, MAX_INERTIA, mass.inertia)
         }
@@ -162,6 +153,7 @@ impl Body {
         }
         match self.kind {
             Kind::Static => SetName::Static,
+            Kind::Kinematic(_) => SetName::Awake,
             Kind::Dynamic => SetName::Awake,
         }
     }
@@ -175,6 +167,7 @@ impl Body {
             facing: self.motion.rot,
             p: self.motion.p,
             l: self.motion.l,
+            course: self.kind.course(),
             set: self.standing(),
         }
     }
@@ -209,12 +202,13 @@ pub enum SetName {
 }
 
 /// What can be seen of a body: its place (u), its facing (times 2^30), its momentum (mass·u/tick) and
-/// angular momentum (mass·u²/tick), and the set in which it stands.
+/// angular momentum (mass·u²/tick), the velocity and the spin of a kinematic one, and the set in which it stands.
 #[derive(Clone, Copy, Debug, PartialEq, Eq)]
 pub struct BodyView {
     pub at: Vec2,
     pub facing: Rot,
     pub p: Vec2,
     pub l: i128,
+    pub course: Option<Course>,
     pub set: SetName,
 }

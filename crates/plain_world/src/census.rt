@@ -64,7 +64,7 @@ impl Census {
         self.disabled.as_slice()
     }
 
-    /// The movers that are awake.
+    /// The movers that are awake, and the kinematic bodies that are enabled.
     pub fn awake(&self) -> &[Handle]
         ensures { result.now ≡ self.now.awake }
     {
@@ -99,8 +99,8 @@ pub fn take_census(
 #[cfg(test)]
 mod tests {
     use super::*;
-    use crate::body::Kind;
     use crate::fats::FatBoxes;
+    use crate::kind::Kind;
     use fixed_geom::{Rot, Vec2};
     use momenta::{MassData, Motion};
     use shapes::Shapes;

@@ -1,11 +1,11 @@
 ghost use Rattle.std.specs.Prelude.{◌≡◌, ◌<◌, ◌≤◌, ◌-◌, ◌+◌, vec_len, vec_capacity, IfOk, None, slice_set};
 ghost use Rattle.std.specs.Option.{option_copied};
 ghost use Rattle.std.specs.Result.{IsOkUnless};
-ghost use Rattle.plain_world.specs.Slots.{body_at, body_of, with_body, with_momentum};
+ghost use Rattle.plain_world.specs.Slots.{body_at, body_of, with_body};
 
 use crate::body::Body;
 use body_handles::{Handle, Handles};
-use fixed_geom::{Refusal, Vec2};
+use fixed_geom::Refusal;
 use std::alloc::Global;
 
 /// The body in a slot.
@@ -42,16 +42,6 @@ pub fn put_body(bodies: &mut Vec<Option<Body>>, slot: usize, body: Body)
         bodies[slot] = Some(body);
     } else {
         let _ = bodies.push(Some(body));
-    }
-}
-
-/// Sets the momentum of the body in a slot.
-pub fn put_momentum(bodies: &mut Vec<Option<Body>>, slot: usize, p: Vec2)
-    requires { slot < vec_len bodies.old }
-    ensures { bodies.new.items ≡ with_momentum bodies.old.items slot p }
-{
-    if let Some(body) = &mut bodies[slot] {
-        body.motion.p = p;
     }
 }
 

@@ -1,11 +1,20 @@
 -- Each command keeps a world sound.
 use Rattle.std.proofs.Common.{◌≡◌, ℕ, ◌+◌, ◌*◌, ◌<◌, ◌≤◌, ◌^◌, List, [], ◌∷◌, ◌++◌, length, Option, Some, None, Ok, Err, Bool, true, false, cond, ℤ, pos, neg_ℤ, ◌+ℤ◌, unsigned_abs, arith, refl, sym, ap, ◌∙◌, subst, is_some, nat_lt, replicate}
-use Rattle.std.specs.Prelude.{slice_set, option_map, if◌then◌else◌}
+use Rattle.std.specs.Prelude.{slice_set, option_map, if◌then◌else◌, nat_le, ◌&&◌}
 use Rattle.std.proofs.lemmas.Int.{ints}
 use Rattle.std.proofs.lemmas.Grind.{common_steps}
-use Rattle.fixed_geom.specs.Vectors.{IsWithin, is_within}
+use Rattle.fixed_geom.specs.Facings.{is_facing}
+use Rattle.fixed_geom.specs.Vectors.{IsWithin, cross, is_within}
+use Rattle.momenta.specs.Impulses.{turned_by}
+use Rattle.momenta.specs.declared.mass.MassData.{MassData}
+use Rattle.momenta.specs.declared.motion.Momenta.{Momenta}
+use Rattle.shapes.specs.Poses.{IsPose}
+use Rattle.shapes.specs.declared.pose.Pose.{Pose}
+use Rattle.std.specs.Option.{ForSome}
+use Rattle.impulse_ledger.specs.declared.entry.Entry.{Entry}
+use Rattle.std.proofs.lemmas.List.{append-nil}
 use Rattle.fixed_geom.specs.declared.vectors.Vec2.{Vec2}
-use Rattle.fixed_geom.specs.declared.refusal.Refusal.TheVariants.{OutOfRange, NotAMover, BodyDisabled, TooFast}
+use Rattle.fixed_geom.specs.declared.refusal.Refusal.TheVariants.{OutOfRange, NotAMover, NotKinematic, BodyDisabled, TooFast}
 use Rattle.body_handles.specs.declared.handle.Handle.{Handle}
 use Rattle.body_handles.specs.declared.places.TheConstants.{MAX_SLOTS}
 use Rattle.graph_colours.specs.declared.limits.TheConstants.{COLOURS}
@@ -20,20 +29,27 @@ use Rattle.colour_solver.specs.declared.ticks.StepSums.{StepSums}
 use Rattle.colour_solver.specs.Ticks.{AreSums, added_x, added_y}
 use Rattle.plain_world.specs.declared.body.Body.{Body}
 use Rattle.plain_world.specs.declared.body.BodyDef.{BodyDef}
-use Rattle.plain_world.specs.Bodies.{is_mover, is_dynamic, IsBody, AreBodies, p_x, p_y, momentum_x, momentum_y, made}
-use Rattle.plain_world.specs.Slots.{body_at, shapes_in, HaveSameSlots, with_body, with_momentum, put_p}
+use Rattle.plain_world.specs.Bodies.{IsMassOf, is_mover, pose_of, IsBody, AreBodies, p_x, p_y, momentum_x, momentum_y, made}
+use Rattle.plain_world.specs.Kinds.{IsCourse, is_course, is_dynamic, is_kinematic, is_limited, is_static}
+use Rattle.plain_world.specs.declared.kind.Course.{Course}
+use Rattle.plain_world.specs.declared.kind.Kind.{Kind}
+use Rattle.plain_world.specs.declared.kind.Kind.TheVariants.{Static, Kinematic, Dynamic}
+use Rattle.plain_world.proofs.BoxLemmas.{renewed_are}
+use Rattle.plain_world.specs.Changes.{CanPose, changed_at, put_course, put_momenta, put_pose}
+use Rattle.plain_world.specs.Slots.{body_at, shapes_in, HaveSameSlots, with_body}
 use Rattle.event_feed.specs.Events.{EventLists}
 use Rattle.world_core.specs.World.{World, body_of, book_of}
 use Rattle.contacts_base.specs.Contacts.{contacts_without}
 use Rattle.world_core.specs.Colouring.{AreColoured, Lists, lists_without, members_of}
 use Rattle.world_core.specs.Inside.{IsWhole}
 use Rattle.world_core.proofs.MembersLaws.{listed, moved_members}
-use Rattle.world_core.specs.Apply.{Answers, apply_destroy, booked, sum_of, pushed, departing, empty_world}
+use Rattle.world_core.specs.Apply.{Answers, apply_destroy, are_momenta, booked, departing, empty_world, is_push, posed, pushed, steered, with_impulse}
 use Rattle.world_core.specs.declared.command.Reply.TheVariants as replies
 use Rattle.world_core.specs.Sound.{IsRoomy}
 use Rattle.world_core.proofs.SoundLaws.{IsKept, kept_sound, sound_kept}
 use Rattle.world_core.proofs.BookLemmas.{sum_x-booked, sum_y-booked, AreSmall-booked, AreSmall-weaker, step_booked, AreSmall-step, sum_x-step, sum_y-step}
-use Rattle.world_core.proofs.KeptContacts.{MovesSame-momentum}
+use Rattle.world_core_base.specs.Gather.{moves_in}
+use Rattle.world_core.proofs.KeptContacts.{MovesSame, MovesSame-set}
 use Rattle.world_core.proofs.TiedLaws.{AreTied, tied_sound, tied_bodies, tied_empty, tied_with, tied_without}
 use Rattle.world_core.proofs.SlotLemmas.{momentum_x-set, momentum_y-set, momentum_x-push, momentum_y-push, momentum_x_le, momentum_y_le, AreBodies-set, AreBodies-push, AreMatched-set, AreMatched-push, HaveSameSlots-set, AreMatched-same, below_length, body_at-in, lowest-free, none_if}
 
@@ -106,81 +122,42 @@ resting_part : (m : Bool) → cond m (pos 0) (pos 0) ≡ pos 0
 resting_part true = refl
 resting_part false = refl
 
--- ---- Push
+-- ---- a command that changes one body
 
-tests : (d e s t : Bool) (q p : Vec2) → cond d (cond e (cond s (cond t (Ok q) (Err TooFast)) (Err OutOfRange)) (Err BodyDisabled)) (Err NotAMover) ≡ Ok p
-    → (d ≡ true) × (e ≡ true) × (s ≡ true) × (t ≡ true) × (p ≡ q)
-tests true true true true q p h = (refl, refl, refl, refl, cc)
-tests true true true false q p h = cc
-tests true true false t q p h = cc
-tests true false s t q p h = cc
-tests false e s t q p h = cc
+-- The body b in a slot becomes the body c, which moves just where b does, and has as many shapes that take part. Its momentum grows by (x, y).
+record IsChanged (bodies : List (Option Body)) (slot : ℕ) (b c : Body) (x y : ℤ) : Type 0 where
+  at : body_at bodies slot ≡ Some b
+  body : IsBody c
+  mover : is_mover c ≡ is_mover b
+  shapes : shapes_in (Some c) ≡ shapes_in (Some b)
+  gain_x : p_x (Some c) ≡ p_x (Some b) +ℤ x
+  gain_y : p_y (Some c) ≡ p_y (Some b) +ℤ y
+  small_x : unsigned_abs x ≤ 2 ^ 40
+  small_y : unsigned_abs y ≤ 2 ^ 40
 
-within_from : (n : ℕ) (v : Vec2) → is_within n v ≡ true → IsWithin n v
-within_from n v e = record { x = grind (arith, common_steps); y = grind (arith, common_steps) }
+changed_moves : (bodies : List (Option Body)) (slot : ℕ) (b c : Body) (x y : ℤ) → IsChanged bodies slot b c x y → MovesSame bodies (slice_set bodies slot (Some c))
+changed_moves bodies slot b c x y is = MovesSame-set bodies slot (Some c) (is.mover ∙ ap moves_in (sym is.at))
 
-moves : (b : Body) → is_dynamic b.kind ≡ true → b.enabled ≡ true → is_mover b ≡ true
-moves b d e = rw (e, d) refl
-
-record IsPushed (o : Option Body) (j p : Vec2) : Type 0 where
-  body : Body
-  found : o ≡ Some body
-  mover : is_mover body ≡ true
-  sum : p ≡ sum_of body.motion.p j
-  push : IsWithin (2 ^ 40) j
-  small : IsWithin (2 ^ 60) p
-
-pushed_from : (o : Option Body) (j p : Vec2) → pushed o j ≡ Ok p → IsPushed o j p
-pushed_from None j p e = cc
-pushed_from (Some b) j p e =
-    let t = tests (is_dynamic b.kind) b.enabled (is_within (2 ^ 40) j) (is_within (2 ^ 60) (sum_of b.motion.p j)) (sum_of b.motion.p j) p e in
-    record { body = b; found = refl; mover = moves b t.0 t.1; sum = t.4; push = within_from (2 ^ 40) j t.2; small = rw t.4 (within_from (2 ^ 60) (sum_of b.motion.p j) t.3) }
-
-true_false : (b : Bool) → b ≡ true → b ≡ false → ⊥
-true_false true e f = cc
-true_false false e f = cc
-
--- a mover with another momentum is still a body
-IsBody-put : (b : Body) (p : Vec2) → IsBody b → is_mover b ≡ true → IsWithin (2 ^ 60) p → IsBody (put_p p b)
-IsBody-put b p is mover small = record {
-  mass = is.mass;
-  motion = record { p = small; l = is.motion.l; still = is.motion.still; x = is.motion.x; facing = is.motion.facing };
-  rest = λ no. absurd (true_false (is_mover b) mover no);
-  shapes = is.shapes;
-  forms = is.forms;
-  fats = is.fats;
-}
-
-put_is : (o : Option Body) (b : Body) (p : Vec2) → o ≡ Some b → option_map (put_p p) o ≡ Some (put_p p b)
-put_is None b p e = cc
-put_is (Some a) b p e = ap (λ (c : Body). Some (put_p p c)) (let same : a ≡ b = cc in same)
-
-pub push_kept : (w : World) (h : Handle) (j p : Vec2) (call : ℕ) (why : Cause) → IsKept w → w.plain.calls < 2 ^ 40 → pushed (body_of w.plain h) j ≡ Ok p
-    → IsKept (record w { plain = record w.plain { bodies = with_momentum w.plain.bodies h.slot p; calls = w.plain.calls + 1 }; entries = w.entries ++ booked call why j.x j.y })
-push_kept w h j p call why s few e =
-    let got = pushed_from (body_of w.plain h) j p e in
+changed_kept : (w : World) (slot : ℕ) (b c : Body) (x y : ℤ) (call : ℕ) (why : Cause) → IsKept w → w.plain.calls < 2 ^ 40 → IsChanged w.plain.bodies slot b c x y
+    → IsKept (record w { plain = record w.plain { bodies = slice_set w.plain.bodies slot (Some c); calls = w.plain.calls + 1 }; entries = w.entries ++ booked call why x y })
+changed_kept w slot b c x y call why s few is =
     let bodies = w.plain.bodies in
-    let at : body_at bodies h.slot ≡ Some got.body = found_at _ _ got.body got.found in
-    let put : option_map (put_p p) (body_at bodies h.slot) ≡ Some (put_p p got.body) = put_is _ got.body p at in
-    let here : h.slot < length bodies = below_length bodies h.slot got.body at in
-    let was : IsBody got.body = s.bodies h.slot got.body (body_at-in bodies h.slot got.body at) in
-    let mx = momentum_x-set bodies h.slot (option_map (put_p p) (body_at bodies h.slot)) here in
-    let my = momentum_y-set bodies h.slot (option_map (put_p p) (body_at bodies h.slot)) here in
-    let old_x : p_x (body_at bodies h.slot) ≡ got.body.motion.p.x = ap p_x at ∙ mover_part (is_mover got.body) got.body.motion.p.x got.mover in
-    let old_y : p_y (body_at bodies h.slot) ≡ got.body.motion.p.y = ap p_y at ∙ mover_part (is_mover got.body) got.body.motion.p.y got.mover in
-    let new_x : p_x (option_map (put_p p) (body_at bodies h.slot)) ≡ p.x = ap p_x put ∙ mover_part (is_mover got.body) p.x got.mover in
-    let new_y : p_y (option_map (put_p p) (body_at bodies h.slot)) ≡ p.y = ap p_y put ∙ mover_part (is_mover got.body) p.y got.mover in
-    let x : p.x ≡ got.body.motion.p.x +ℤ j.x = ap (λ (v : Vec2). v.x) got.sum in
-    let y : p.y ≡ got.body.motion.p.y +ℤ j.y = ap (λ (v : Vec2). v.y) got.sum in
-    let slots : HaveSameSlots bodies (with_momentum bodies h.slot p) = HaveSameSlots-set bodies h.slot _ (ap is_some put ∙ sym (ap is_some at)) (ap shapes_in put ∙ sym (ap shapes_in at)) in
-    let tied = tied_bodies bodies (with_momentum bodies h.slot p) w.plain.contacts (members_of bodies w.plain.colours) (MovesSame-momentum bodies h.slot p) slots (tied_sound w s) in
-    let kept = listed (with_momentum bodies h.slot p) w.plain.contacts (members_of bodies w.plain.colours) w.plain.colours (sym s.moved) tied.colours in
+    let here : slot < length bodies = below_length bodies slot b is.at in
+    let mx = momentum_x-set bodies slot (Some c) here in
+    let my = momentum_y-set bodies slot (Some c) here in
+    let old_x : p_x (body_at bodies slot) ≡ p_x (Some b) = ap p_x is.at in
+    let old_y : p_y (body_at bodies slot) ≡ p_y (Some b) = ap p_y is.at in
+    let gain_x = is.gain_x in
+    let gain_y = is.gain_y in
+    let slots : HaveSameSlots bodies (slice_set bodies slot (Some c)) = HaveSameSlots-set bodies slot (Some c) (sym (ap is_some is.at)) (is.shapes ∙ sym (ap shapes_in is.at)) in
+    let tied = tied_bodies bodies (slice_set bodies slot (Some c)) w.plain.contacts (members_of bodies w.plain.colours) (changed_moves bodies slot b c x y is) slots (tied_sound w s) in
+    let kept = listed (slice_set bodies slot (Some c)) w.plain.contacts (members_of bodies w.plain.colours) w.plain.colours (sym s.moved) tied.colours in
     record {
-      total_x = let t = s.total_x in rw (sum_x-booked w.entries call why j.x j.y) (omega (arith, ints, mx, old_x, new_x, x, t));
-      total_y = let t = s.total_y in rw (sum_y-booked w.entries call why j.x j.y) (omega (arith, ints, my, old_y, new_y, y, t));
+      total_x = let t = s.total_x in rw (sum_x-booked w.entries call why x y) (omega (arith, ints, mx, old_x, gain_x, t));
+      total_y = let t = s.total_y in rw (sum_y-booked w.entries call why x y) (omega (arith, ints, my, old_y, gain_y, t));
       causes = AreSmall-weaker (2 ^ 126 + w.plain.calls * 2 ^ 83 + 2 ^ 40) (2 ^ 126 + (w.plain.calls + 1) * 2 ^ 83) _ (omega arith)
-          (AreSmall-booked (2 ^ 126 + w.plain.calls * 2 ^ 83) (2 ^ 40) 0 0 w.entries w.settled call why j.x j.y s.causes got.push.x got.push.y);
-      bodies = AreBodies-set bodies h.slot _ s.bodies (λ b f. let same : put_p p got.body ≡ b = cc in subst IsBody same (IsBody-put got.body p was got.mover got.small));
+          (AreSmall-booked (2 ^ 126 + w.plain.calls * 2 ^ 83) (2 ^ 40) 0 0 w.entries w.settled call why x y s.causes is.small_x is.small_y);
+      bodies = AreBodies-set bodies slot (Some c) s.bodies (λ d f. let same : c ≡ d = cc in subst IsBody same is.body);
       matched = AreMatched-same w.plain.places bodies _ slots s.matched;
       contacts = tied.rising;
       pairs = tied.pairs;
@@ -191,6 +168,261 @@ push_kept w h j p call why s few e =
       steps = omega (arith, s.steps);
       calls = omega arith;
     }
+
+changed_is : (f : Body → Body) (o : Option Body) (b : Body) → o ≡ Some b → option_map f o ≡ Some (f b)
+changed_is f None b e = cc
+changed_is f (Some a) b e = ap (λ (c : Body). Some (f c)) (let same : a ≡ b = cc in same)
+
+changed_whole : (w : World) (lists : Lists) (slot : ℕ) (f : Body → Body) (b : Body) (x y : ℤ) (call : ℕ) (why : Cause) → IsWhole w lists → w.plain.calls < 2 ^ 40 → IsChanged w.plain.bodies slot b (f b) x y
+    → IsWhole (record w { plain = record w.plain { bodies = changed_at f w.plain.bodies slot; calls = w.plain.calls + 1 }; entries = w.entries ++ booked call why x y }) lists
+changed_whole w lists slot f b x y call why whole few is =
+    rw (changed_is f (body_at w.plain.bodies slot) b is.at) (record {
+      sound = sound_kept _ (changed_kept w slot b (f b) x y call why (kept_sound w whole.sound) few is);
+      members = whole.members ∙ moved_members w.plain.bodies (slice_set w.plain.bodies slot (Some (f b))) w.plain.colours (changed_moves w.plain.bodies slot b (f b) x y is).same;
+    })
+
+-- the same where nothing is booked
+unbooked : (w : World) (lists : Lists) (call : ℕ) (why : Cause) → IsWhole (record w { entries = w.entries ++ booked call why (pos 0) (pos 0) }) lists → IsWhole w lists
+unbooked w lists call why whole = subst (λ (es : List Entry). IsWhole (record w { entries = es }) lists) (append-nil w.entries) whole
+
+-- a body that is named is one of the bodies
+pub named : (live : Bool) (bodies : List (Option Body)) (slot : ℕ) (b : Body) → AreBodies bodies → cond live (body_at bodies slot) None ≡ Some b → IsBody b
+named live bodies slot b all e = all slot b (body_at-in bodies slot b (found_at live (body_at bodies slot) b e))
+
+no_more : (z : ℤ) → z ≡ z +ℤ pos 0
+no_more z = omega (arith, ints)
+
+-- ---- Push and PushAt
+
+tests : (d e s t : Bool) (q m : Momenta) → cond d (cond e (cond s (cond t (Ok q) (Err TooFast)) (Err OutOfRange)) (Err BodyDisabled)) (Err NotAMover) ≡ Ok m
+    → (d ≡ true) × (e ≡ true) × (s ≡ true) × (t ≡ true) × (m ≡ q)
+tests true true true true q m h = (refl, refl, refl, refl, cc)
+tests true true true false q m h = cc
+tests true true false t q m h = cc
+tests true false s t q m h = cc
+tests false e s t q m h = cc
+
+first_of_both : (a b : Bool) → (a && b) ≡ true → a ≡ true
+first_of_both true b e = refl
+first_of_both false b e = cc
+
+second_of_both : (a b : Bool) → (a && b) ≡ true → b ≡ true
+second_of_both true b e = e
+second_of_both false b e = cc
+
+within_from : (n : ℕ) (v : Vec2) → is_within n v ≡ true → IsWithin n v
+within_from n v e = record { x = grind (arith, common_steps); y = grind (arith, common_steps) }
+
+at_most_from : (a b : ℕ) → nat_le a b ≡ true → a ≤ b
+at_most_from a b e = grind (arith, common_steps)
+
+moves : (b : Body) → is_dynamic b.kind ≡ true → b.enabled ≡ true → is_mover b ≡ true
+moves b d e = rw (e, d) refl
+
+true_false : (b : Bool) → b ≡ true → b ≡ false → ⊥
+true_false true e f = cc
+true_false false e f = cc
+
+-- what is known of a body that is pushed
+record IsPushed (o : Option Body) (j r : Vec2) (m : Momenta) : Type 0 where
+  body : Body
+  found : o ≡ Some body
+  mover : is_mover body ≡ true
+  sum : m ≡ with_impulse j r body
+  push : IsWithin (2 ^ 40) j
+  small : IsWithin (2 ^ 60) m.p
+  turns : unsigned_abs m.l ≤ 2 ^ 90
+
+pushed_from : (o : Option Body) (j r : Vec2) (m : Momenta) → pushed o j r ≡ Ok m → IsPushed o j r m
+pushed_from None j r m e = cc
+pushed_from (Some b) j r m e =
+    let t = tests (is_dynamic b.kind) b.enabled (is_push j r) (are_momenta (with_impulse j r b)) (with_impulse j r b) m e in
+    let fit : are_momenta m ≡ true = rw t.4 t.3 in
+    record {
+      body = b;
+      found = refl;
+      mover = moves b t.0 t.1;
+      sum = t.4;
+      push = within_from (2 ^ 40) j (first_of_both _ _ t.2);
+      small = within_from (2 ^ 60) m.p (first_of_both _ _ fit);
+      turns = at_most_from (unsigned_abs m.l) (2 ^ 90) (second_of_both _ _ fit);
+    }
+
+-- a body that doesn't turn has no angular momentum after a push either
+still_turned : (inertia l moment : ℤ) → (inertia ≡ pos 0 → l ≡ pos 0) → inertia ≡ pos 0 → turned_by inertia l moment ≡ pos 0
+still_turned inertia l moment still e = rw e (still e)
+
+-- a mover with other momenta is still a body
+IsBody-put : (b : Body) (j r : Vec2) (m : Momenta) → IsBody b → is_mover b ≡ true → m ≡ with_impulse j r b → IsWithin (2 ^ 60) m.p → unsigned_abs m.l ≤ 2 ^ 90 → IsBody (put_momenta m b)
+IsBody-put b j r m is mover sum small turns = record {
+  mass = is.mass;
+  motion = record {
+    p = small;
+    l = turns;
+    still = λ e. ap (λ (n : Momenta). n.l) sum ∙ still_turned b.mass.inertia b.motion.l (cross r j) is.motion.still e;
+    x = is.motion.x;
+    facing = is.motion.facing;
+  };
+  rest = λ no. absurd (true_false (is_mover b) mover no);
+  course = is.course;
+  halted = is.halted;
+  shapes = is.shapes;
+  forms = is.forms;
+  fats = is.fats;
+}
+
+mover_gains : (t : Bool) (p old j : ℤ) → t ≡ true → p ≡ old +ℤ j → cond t p (pos 0) ≡ cond t old (pos 0) +ℤ j
+mover_gains true p old j e sum = sum
+mover_gains false p old j e sum = cc
+
+pub push_whole : (w : World) (lists : Lists) (h : Handle) (j r : Vec2) (m : Momenta) (call : ℕ) (why : Cause) → IsWhole w lists → w.plain.calls < 2 ^ 40 → pushed (body_of w.plain h) j r ≡ Ok m
+    → IsWhole (record w { plain = record w.plain { bodies = changed_at (put_momenta m) w.plain.bodies h.slot; calls = w.plain.calls + 1 }; entries = w.entries ++ booked call why j.x j.y }) lists
+push_whole w lists h j r m call why whole few e =
+    let got = pushed_from (body_of w.plain h) j r m e in
+    let b = got.body in
+    let is : IsBody b = named (is_live w.plain.places h) w.plain.bodies h.slot b (kept_sound w whole.sound).bodies got.found in
+    changed_whole w lists h.slot (put_momenta m) b j.x j.y call why whole few (record {
+      at = found_at _ _ b got.found;
+      body = IsBody-put b j r m is got.mover got.sum got.small got.turns;
+      mover = refl;
+      shapes = refl;
+      gain_x = mover_gains (is_mover b) m.p.x b.motion.p.x j.x got.mover (ap (λ (n : Momenta). n.p.x) got.sum);
+      gain_y = mover_gains (is_mover b) m.p.y b.motion.p.y j.y got.mover (ap (λ (n : Momenta). n.p.y) got.sum);
+      small_x = got.push.x;
+      small_y = got.push.y;
+    })
+
+-- ---- SetPose
+
+record IsPosed (o : Option Body) (pose given : Pose) : Type 0 where
+  body : Body
+  found : o ≡ Some body
+  same : given ≡ pose
+
+posed_tests : (s t : Bool) (pose given : Pose) → cond s (cond t (Ok pose) (Err OutOfRange)) (Err OutOfRange) ≡ Ok given → given ≡ pose
+posed_tests true true pose given e = cc
+posed_tests true false pose given e = cc
+posed_tests false t pose given e = cc
+
+posed_from : (o : Option Body) (pose given : Pose) → posed o pose ≡ Ok given → IsPosed o pose given
+posed_from None pose given e = cc
+posed_from (Some b) pose given e = record { body = b; found = refl; same = posed_tests (is_within (2 ^ 36) pose.x) (is_facing pose.rot) pose given e }
+
+-- a body in another pose is still a body
+IsBody-posed : (b : Body) (o : Pose) → IsBody b → IsPose o → IsBody (put_pose o b)
+IsBody-posed b o is pose = record {
+  mass = is.mass;
+  motion = record { p = is.motion.p; l = is.motion.l; still = is.motion.still; x = pose.x; facing = pose.rot };
+  rest = λ no. let r = is.rest no in record { x = r.x; y = r.y; l = r.l };
+  course = is.course;
+  halted = is.halted;
+  shapes = is.shapes;
+  forms = is.forms;
+  fats = renewed_are (pose_of b) o b.shapes b.fats is.forms pose is.fats;
+}
+
+pub pose_whole : (w : World) (lists : Lists) (h : Handle) (asked given : Pose) → IsWhole w lists → w.plain.calls < 2 ^ 40 → posed (body_of w.plain h) asked ≡ Ok given → IsPose given
+    → IsWhole (record w { plain = record w.plain { bodies = changed_at (put_pose given) w.plain.bodies h.slot; calls = w.plain.calls + 1 } }) lists
+pose_whole w lists h asked given whole few e pose =
+    let got = posed_from (body_of w.plain h) asked given e in
+    let b = got.body in
+    let is : IsBody b = named (is_live w.plain.places h) w.plain.bodies h.slot b (kept_sound w whole.sound).bodies got.found in
+    unbooked _ lists 0 causes.Command (changed_whole w lists h.slot (put_pose given) b (pos 0) (pos 0) 0 causes.Command whole few (record {
+      at = found_at _ _ b got.found;
+      body = IsBody-posed b given is pose;
+      mover = refl;
+      shapes = refl;
+      gain_x = no_more (p_x (Some b));
+      gain_y = no_more (p_y (Some b));
+      small_x = omega arith;
+      small_y = omega arith;
+    }))
+
+-- what a pose needs of the body that gets it
+pub can_pose : (w : World) (slot : ℕ) (o : Pose) → IsKept w → IsPose o → ForSome (body_at w.plain.bodies slot) (CanPose o)
+can_pose w slot o s pose = by (body_at w.plain.bodies slot) refl
+  where
+    by : (q : Option Body) → body_at w.plain.bodies slot ≡ q → ForSome q (CanPose o)
+    by None e = λ b f. cc
+    by (Some b) e = λ c f. let same : b ≡ c = cc in subst (CanPose o) same (record { body = s.bodies slot b (body_at-in w.plain.bodies slot b e); pose = pose })
+
+-- ---- SetVelocity
+
+record IsSteered (o : Option Body) (asked given : Course) : Type 0 where
+  body : Body
+  found : o ≡ Some body
+  kinematic : is_kinematic body.kind ≡ true
+  enabled : body.enabled ≡ true
+  course : IsCourse given
+
+steered_tests : (k e s : Bool) (asked given : Course) → cond k (cond e (cond s (Ok asked) (Err OutOfRange)) (Err BodyDisabled)) (Err NotKinematic) ≡ Ok given → (k ≡ true) × (e ≡ true) × (s ≡ true) × (given ≡ asked)
+steered_tests true true true asked given e = (refl, refl, refl, cc)
+steered_tests true true false asked given e = cc
+steered_tests true false s asked given e = cc
+steered_tests false e s asked given f = cc
+
+course_from : (course : Course) → is_course course ≡ true → IsCourse course
+course_from course e =
+    let limited : is_limited course ≡ true = first_of_both _ _ e in
+    record { velocity = within_from (2 ^ 20) course.velocity (first_of_both _ _ limited); spin = at_most_from (unsigned_abs course.spin) (2 ^ 28) (second_of_both _ _ limited) }
+
+steered_from : (o : Option Body) (asked given : Course) → steered o asked ≡ Ok given → IsSteered o asked given
+steered_from None asked given e = cc
+steered_from (Some b) asked given e =
+    let t = steered_tests (is_kinematic b.kind) b.enabled (is_course asked) asked given e in
+    record { body = b; found = refl; kinematic = t.0; enabled = t.1; course = rw t.3 (course_from asked t.2) }
+
+-- a kinematic body is no mover
+no_mover : (kind : Kind) (enabled : Bool) → is_kinematic kind ≡ true → cond enabled (is_dynamic kind) false ≡ false
+no_mover Static enabled k = cc
+no_mover (Kinematic course) true k = refl
+no_mover (Kinematic course) false k = refl
+no_mover Dynamic enabled k = cc
+
+-- with its mass, and its shapes
+mass_as : (kind : Kind) (course : Course) (m : MassData) → is_kinematic kind ≡ true → IsMassOf kind m → IsMassOf (Kinematic course) m
+mass_as Static course m k is = cc
+mass_as (Kinematic old) course m k is = is
+mass_as Dynamic course m k is = cc
+
+static_as : (kind : Kind) (course : Course) → is_kinematic kind ≡ true → is_static kind ≡ is_static (Kinematic course)
+static_as Static course k = cc
+static_as (Kinematic old) course k = refl
+static_as Dynamic course k = refl
+
+IsBody-steered : (b : Body) (course : Course) → IsBody b → is_kinematic b.kind ≡ true → b.enabled ≡ true → IsCourse course → IsBody (put_course course b)
+IsBody-steered b course is k enabled allowed = record {
+  mass = mass_as b.kind course b.mass k is.mass;
+  motion = is.motion;
+  rest = λ no. is.rest (no_mover b.kind b.enabled k);
+  course = allowed;
+  halted = λ off. absurd (true_false b.enabled enabled off);
+  shapes = rw (← static_as b.kind course k) is.shapes;
+  forms = is.forms;
+  fats = is.fats;
+}
+
+at_rest_gains : (s t : Bool) (p : ℤ) → s ≡ false → t ≡ false → cond s p (pos 0) ≡ cond t p (pos 0) +ℤ pos 0
+at_rest_gains s t p e f = rw (e, f) refl
+
+pub velocity_whole : (w : World) (lists : Lists) (h : Handle) (asked given : Course) → IsWhole w lists → w.plain.calls < 2 ^ 40 → steered (body_of w.plain h) asked ≡ Ok given
+    → IsWhole (record w { plain = record w.plain { bodies = changed_at (put_course given) w.plain.bodies h.slot; calls = w.plain.calls + 1 } }) lists
+velocity_whole w lists h asked given whole few e =
+    let got = steered_from (body_of w.plain h) asked given e in
+    let b = got.body in
+    let is : IsBody b = named (is_live w.plain.places h) w.plain.bodies h.slot b (kept_sound w whole.sound).bodies got.found in
+    let was : is_mover b ≡ false = no_mover b.kind b.enabled got.kinematic in
+    let now : is_mover (put_course given b) ≡ false = no_mover (Kinematic given) b.enabled refl in
+    unbooked _ lists 0 causes.Command (changed_whole w lists h.slot (put_course given) b (pos 0) (pos 0) 0 causes.Command whole few (record {
+      at = found_at _ _ b got.found;
+      body = IsBody-steered b given is got.kinematic got.enabled got.course;
+      mover = now ∙ sym was;
+      shapes = refl;
+      gain_x = at_rest_gains (is_mover (put_course given b)) (is_mover b) b.motion.p.x now was;
+      gain_y = at_rest_gains (is_mover (put_course given b)) (is_mover b) b.motion.p.y now was;
+      small_x = omega arith;
+      small_y = omega arith;
+    }))
 
 -- ---- DestroyBody
 
@@ -215,10 +447,6 @@ departing_small o p is e =
     part_le : (m : Bool) (z : ℤ) → unsigned_abs z ≤ 2 ^ 60 → unsigned_abs (cond m z (pos 0)) ≤ 2 ^ 60
     part_le true z h = h
     part_le false z h = omega arith
-
--- a body that is named is one of the bodies
-pub named : (live : Bool) (bodies : List (Option Body)) (slot : ℕ) (b : Body) → AreBodies bodies → cond live (body_at bodies slot) None ≡ Some b → IsBody b
-named live bodies slot b all e = all slot b (body_at-in bodies slot b (found_at live (body_at bodies slot) b e))
 
 pub destroy_kept : (w : World) (h : Handle) (p : Vec2) (call : ℕ) (why : Cause) (x y : ℤ) (contacts : List ContactEntry) (lists : Lists) → IsKept w → w.plain.calls < 2 ^ 40 → departing (body_of w.plain h) ≡ Ok p → x ≡ neg_ℤ p.x → y ≡ neg_ℤ p.y → AreTied (slice_set w.plain.bodies h.slot None) contacts lists
     → IsKept (record w { plain = record w.plain { places = places_without w.plain.places h; bodies = slice_set w.plain.bodies h.slot None; contacts = contacts; colours = ids_of lists; calls = w.plain.calls + 1 }; entries = w.entries ++ booked call why x y })
@@ -348,12 +576,6 @@ step_kept w bodies sums events contacts lists s few step tied =
 -- what is kept of a sound world whose colours are the ids of these lists
 pub whole : (w : World) (lists : Lists) → IsKept w → w.plain.colours ≡ ids_of lists → AreColoured w.plain.bodies w.plain.contacts lists → IsWhole w lists
 whole w lists s is h = record { sound = sound_kept w s; members = (listed w.plain.bodies w.plain.contacts lists w.plain.colours is h).members }
-
-pub push_whole : (w : World) (lists : Lists) (h : Handle) (j p : Vec2) (call : ℕ) (why : Cause) → IsWhole w lists → w.plain.calls < 2 ^ 40 → pushed (body_of w.plain h) j ≡ Ok p
-    → IsWhole (record w { plain = record w.plain { bodies = with_momentum w.plain.bodies h.slot p; calls = w.plain.calls + 1 }; entries = w.entries ++ booked call why j.x j.y }) lists
-push_whole w lists h j p call why is few e =
-    let s = push_kept w h j p call why (kept_sound w is.sound) few e in
-    record { sound = sound_kept _ s; members = is.members ∙ moved_members w.plain.bodies (with_momentum w.plain.bodies h.slot p) w.plain.colours (MovesSame-momentum w.plain.bodies h.slot p).same }
 
 pub destroy_whole : (w : World) (lists : Lists) (h : Handle) (p : Vec2) (call : ℕ) (why : Cause) (x y : ℤ) → IsWhole w lists → w.plain.calls < 2 ^ 40 → departing (body_of w.plain h) ≡ Ok p → x ≡ neg_ℤ p.x → y ≡ neg_ℤ p.y
     → IsWhole (record w { plain = record w.plain { places = places_without w.plain.places h; bodies = slice_set w.plain.bodies h.slot None; contacts = contacts_without h.slot w.plain.contacts; colours = ids_of (lists_without h.slot lists w.plain.contacts); calls = w.plain.calls + 1 }; entries = w.entries ++ booked call why x y })

@@ -28,7 +28,7 @@ use Rattle.colour_solver_base.specs.Rows.{IsPointRow, IsRow}
 use Rattle.plain_world.specs.declared.body.Body.{Body}
 use Rattle.plain_world.specs.Bodies.{is_mover}
 use Rattle.plain_world.specs.Formed.{HasPoints, IsShapeOf}
-use Rattle.plain_world.specs.Slots.{body_at, shapes_in, with_body, with_momentum, put_p, HaveSameSlots}
+use Rattle.plain_world.specs.Slots.{body_at, shapes_in, with_body, HaveSameSlots}
 use Rattle.world_core_base.specs.Renewal.{with_renewed, renewed_bodies}
 use Rattle.world_core_base.specs.Gather.{with_motion, with_motions, impulses_of, with_row, put_row, with_rows, moves_in, moves, IsContactOf, AreContactsOf}
 use Rattle.world_core_base.proofs.ContactLaws.{touches_with_row}
@@ -103,17 +103,10 @@ moves-push [] o k m = cc
 moves-push (a ∷ bs) o zero m = m
 moves-push (a ∷ bs) o (suc k) m = moves-push bs o k m
 
--- ---- a new momentum
+-- ---- one body changed
 
-put_moves : (p : Vec2) (o : Option Body) → moves_in (option_map (put_p p) o) ≡ moves_in o
-put_moves p None = refl
-put_moves p (Some b) = refl
-
-pub MovesSame-momentum : (bodies : List (Option Body)) (slot : ℕ) (p : Vec2) → MovesSame bodies (with_momentum bodies slot p)
-MovesSame-momentum bodies slot p = record {
-  slots = length-set bodies slot (option_map (put_p p) (body_at bodies slot));
-  same = moves-set bodies slot (option_map (put_p p) (body_at bodies slot)) (put_moves p (body_at bodies slot));
-}
+pub MovesSame-set : (bodies : List (Option Body)) (slot : ℕ) (o : Option Body) → moves_in o ≡ moves bodies slot → MovesSame bodies (slice_set bodies slot o)
+MovesSame-set bodies slot o e = record { slots = length-set bodies slot o; same = moves-set bodies slot o e }
 
 -- ---- new motions
 

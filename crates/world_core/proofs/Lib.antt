@@ -1,4 +1,5 @@
 pub mod BookLemmas
+pub mod CountLaws
 pub mod SlotLemmas
 pub mod PairLaws
 pub mod KeptContacts
@@ -13,3 +14,4 @@ pub mod Kept
 pub mod ReplayLemmas
 pub mod CollideLaws
 pub mod StepLemmas
+mod RowColourLaws

@@ -34,7 +34,8 @@ use Rattle.contacts.proofs.Members.{Each, each_in, each_from, each_append, all_f
 use Rattle.contacts.proofs.NearLemmas.{IsNearFrom, from_is}
 use Rattle.body_handles.specs.declared.places.TheConstants.{MAX_SLOTS}
 use Rattle.plain_world.specs.declared.body.Body.{Body}
-use Rattle.plain_world.specs.Bodies.{is_dynamic, is_mover, pose_of, IsBody, AreBodies}
+use Rattle.plain_world.specs.Bodies.{is_mover, pose_of, IsBody, AreBodies}
+use Rattle.plain_world.specs.Kinds.{is_dynamic}
 use Rattle.plain_world.specs.Formed.{HasPoints, IsShapeOf}
 use Rattle.plain_world.specs.Slots.{body_at, shapes_in}
 use Rattle.world_core_base.specs.Gather.{moves_in, moves, IsContactOf, AreContactsOf}

@@ -10,7 +10,7 @@ use Rattle.colour_solver_base.specs.declared.row.ContactRow.{ContactRow}
 use Rattle.colour_solver_base.specs.Rows.{IsRow}
 use Rattle.colour_solver.specs.declared.ticks.StepSums.{StepSums}
 use Rattle.colour_solver.specs.Ticks.{run_of}
-use Rattle.colour_solver.specs.Turns.{IsRowBelow, AreRowsBelow}
+use Rattle.colour_solver.specs.ContactTurns.{IsRowBelow, AreRowsBelow}
 use Rattle.event_feed.specs.Events.{EventLists}
 use Rattle.plain_world.specs.declared.body.Body.{Body}
 use Rattle.plain_world.specs.Slots.{HaveSameSlots}

@@ -1,9 +1,9 @@
 -- What each command does to the plain world, as a function.
-use Rattle.std.specs.Prelude.{◌≡◌, ℕ, ◌+◌, ◌^◌, cond, ◌&&◌, nat_le, nat_lt, List, [], ◌∷◌, ◌++◌, Option, Some, None, Result, Ok, Err, ℤ, pos, neg_ℤ, ◌+ℤ◌, unsigned_abs, slice_set, unwrap_or, replicate}
-use Rattle.fixed_geom.specs.Vectors.{is_within}
+use Rattle.std.specs.Prelude.{◌≡◌, ℕ, ◌+◌, ◌^◌, Bool, cond, ◌&&◌, nat_le, nat_lt, List, [], ◌∷◌, ◌++◌, Option, Some, None, Result, Ok, Err, ℤ, pos, neg_ℤ, ◌+ℤ◌, unsigned_abs, slice_set, unwrap_or, replicate}
+use Rattle.fixed_geom.specs.Vectors.{cross, is_within, plus, zero_vector}
 use Rattle.fixed_geom.specs.declared.vectors.Vec2.{Vec2}
 use Rattle.fixed_geom.specs.declared.refusal.Refusal.{Refusal}
-use Rattle.fixed_geom.specs.declared.refusal.Refusal.TheVariants.{NoMemory, StaleHandle, TooMany, OutOfRange, NotAMover, BodyDisabled, TooFast, WornOut}
+use Rattle.fixed_geom.specs.declared.refusal.Refusal.TheVariants.{NoMemory, StaleHandle, TooMany, OutOfRange, NotAMover, NotKinematic, BodyDisabled, TooFast, WornOut}
 use Rattle.body_handles.specs.declared.handle.Handle.{Handle}
 use Rattle.body_handles.specs.declared.places.TheConstants.{MAX_SLOTS}
 use Rattle.graph_colours.specs.declared.limits.TheConstants.{COLOURS}
@@ -13,16 +13,25 @@ use Rattle.impulse_ledger.specs.declared.entry.Entry.{Entry}
 use Rattle.impulse_ledger.specs.declared.entry.Cause as cause
 use Rattle.impulse_ledger.specs.declared.entry.Cause.TheVariants as causes
 use Rattle.impulse_ledger.specs.Totals.{zero_totals}
-use Rattle.plain_world.specs.Bodies.{is_dynamic, def_refusal, made, p_x, p_y}
+use Rattle.plain_world.specs.Bodies.{def_refusal, made, p_x, p_y}
+use Rattle.plain_world.specs.Kinds.{is_course, is_dynamic, is_kinematic}
+use Rattle.plain_world.specs.declared.kind.Course.{Course}
+use Rattle.momenta.specs.Impulses.{turned_by}
+use Rattle.momenta.specs.declared.limits.TheConstants.{MAX_ANGULAR_MOMENTUM, MAX_MOMENTUM}
+use Rattle.momenta.specs.declared.motion.Momenta.{Momenta}
+use Rattle.shapes.specs.declared.pose.Pose.{Pose}
+use Rattle.fixed_geom.specs.Facings.{is_facing}
+use Rattle.fixed_geom.specs.declared.limits.TheConstants.{MAX_POSITION}
 use Rattle.shapes.specs.Shapes.{is_between}
-use Rattle.plain_world.specs.Slots.{with_body, with_momentum}
+use Rattle.plain_world.specs.Slots.{with_body}
+use Rattle.plain_world.specs.Changes.{changed_at, put_course, put_momenta, put_pose}
 use Rattle.world_core_base.specs.Gather.{states_of, rows_of, with_motions, with_rows}
 use Rattle.colour_solver.specs.Ticks.{Run, ran, start}
 use Rattle.world_core_base.specs.Renewal.{renewed_bodies}
 use Rattle.plain_world.specs.declared.body.Body.{Body}
 use Rattle.plain_world.specs.declared.body.BodyDef.{BodyDef}
 use Rattle.world_core.specs.declared.command.Command.{Command}
-use Rattle.world_core.specs.declared.command.Command.TheVariants.{CreateBody, DestroyBody, Push, SetGravity, Step}
+use Rattle.world_core.specs.declared.command.Command.TheVariants.{CreateBody, DestroyBody, Push, PushAt, SetPose, SetVelocity, SetGravity, Step}
 use Rattle.world_core.specs.declared.command.Reply.{Reply}
 use Rattle.world_core.specs.declared.command.Reply.TheVariants as replies
 use Rattle.contacts_base.specs.Contacts.{contacts_without}
@@ -83,27 +92,67 @@ destroy_due w h (Ok p) = Ok (record {
 abbrev pub apply_destroy : Plain → Handle → Result Applied Refusal
 apply_destroy w h = destroy_due w h (departing (body_of w h))
 
--- ---- Push
+-- ---- Push and PushAt
 
-abbrev pub sum_of : Vec2 → Vec2 → Vec2
-sum_of a b = record { x = a.x +ℤ b.x; y = a.y +ℤ b.y }
+-- the momenta of a body with the impulse j, given at the offset r: the angular momentum grows by the moment r × j, if the body turns
+abbrev pub with_impulse : Vec2 → Vec2 → Body → Momenta
+with_impulse j r b = record { p = plus b.motion.p j; l = turned_by b.mass.inertia b.motion.l (cross r j) }
 
--- the momentum that a push leaves, or the first reason why there is none
-abbrev pub pushed : Option Body → Vec2 → Result Vec2 Refusal
-pushed None j = Err StaleHandle
-pushed (Some b) j = cond (is_dynamic b.kind) (cond b.enabled (cond (is_within (2 ^ 40) j) (cond (is_within (2 ^ 60) (sum_of b.motion.p j)) (Ok (sum_of b.motion.p j)) (Err TooFast)) (Err OutOfRange)) (Err BodyDisabled)) (Err NotAMover)
+-- they are within their limits
+abbrev pub are_momenta : Momenta → Bool
+are_momenta m = is_within (unsigned_abs MAX_MOMENTUM) m.p && nat_le (unsigned_abs m.l) (unsigned_abs MAX_ANGULAR_MOMENTUM)
 
-abbrev pub push_due : Plain → Handle → Vec2 → Result Vec2 Refusal → Result Applied Refusal
+-- an impulse and the offset at which it is given are within their limits
+abbrev pub is_push : Vec2 → Vec2 → Bool
+is_push j r = is_within (2 ^ 40) j && is_within (2 ^ 26) r
+
+-- the momenta that a push leaves, or the first reason why there are none
+abbrev pub pushed : Option Body → Vec2 → Vec2 → Result Momenta Refusal
+pushed None j r = Err StaleHandle
+pushed (Some b) j r = cond (is_dynamic b.kind) (cond b.enabled (cond (is_push j r) (cond (are_momenta (with_impulse j r b)) (Ok (with_impulse j r b)) (Err TooFast)) (Err OutOfRange)) (Err BodyDisabled)) (Err NotAMover)
+
+abbrev pub push_due : Plain → Handle → Vec2 → Result Momenta Refusal → Result Applied Refusal
 push_due w h j (Err e) = Err e
-push_due w h j (Ok p) = Ok (record {
-  plain = record w { bodies = with_momentum w.bodies h.slot p; calls = w.calls + 1 };
+push_due w h j (Ok m) = Ok (record {
+  plain = record w { bodies = changed_at (put_momenta m) w.bodies h.slot; calls = w.calls + 1 };
   reply = replies.Done;
   entries = booked (w.calls + 1) causes.Command j.x j.y;
   events = None;
 })
 
-abbrev pub apply_push : Plain → Handle → Vec2 → Result Applied Refusal
-apply_push w h j = push_due w h j (pushed (body_of w h) j)
+-- a push at the centre has the offset 0
+abbrev pub apply_push : Plain → Handle → Vec2 → Vec2 → Result Applied Refusal
+apply_push w h j r = push_due w h j (pushed (body_of w h) j r)
+
+-- ---- SetPose and SetVelocity
+
+-- a command that changes one body and books nothing
+abbrev pub changed : Plain → Handle → (Body → Body) → Applied
+changed w h f = record { plain = record w { bodies = changed_at f w.bodies h.slot; calls = w.calls + 1 }; reply = replies.Done; entries = []; events = None }
+
+-- the pose that a body gets, or the first reason why it gets none
+abbrev pub posed : Option Body → Pose → Result Pose Refusal
+posed None o = Err StaleHandle
+posed (Some b) o = cond (is_within (unsigned_abs MAX_POSITION) o.x) (cond (is_facing o.rot) (Ok o) (Err OutOfRange)) (Err OutOfRange)
+
+abbrev pub pose_due : Plain → Handle → Result Pose Refusal → Result Applied Refusal
+pose_due w h (Err e) = Err e
+pose_due w h (Ok o) = Ok (changed w h (put_pose o))
+
+abbrev pub apply_pose : Plain → Handle → Pose → Result Applied Refusal
+apply_pose w h o = pose_due w h (posed (body_of w h) o)
+
+-- the course that a body gets, or the first reason why it gets none
+abbrev pub steered : Option Body → Course → Result Course Refusal
+steered None course = Err StaleHandle
+steered (Some b) course = cond (is_kinematic b.kind) (cond b.enabled (cond (is_course course) (Ok course) (Err OutOfRange)) (Err BodyDisabled)) (Err NotKinematic)
+
+abbrev pub course_due : Plain → Handle → Result Course Refusal → Result Applied Refusal
+course_due w h (Err e) = Err e
+course_due w h (Ok course) = Ok (changed w h (put_course course))
+
+abbrev pub apply_velocity : Plain → Handle → Course → Result Applied Refusal
+apply_velocity w h course = course_due w h (steered (body_of w h) course)
 
 -- ---- SetGravity
 
@@ -164,7 +213,10 @@ IsMade (Some due) w (Err e) = e ≡ due
 abbrev pub apply_accepted : Plain → Command → Result Applied Refusal
 apply_accepted w (CreateBody d) = apply_create w d
 apply_accepted w (DestroyBody h) = apply_destroy w h
-apply_accepted w (Push h j) = apply_push w h j
+apply_accepted w (Push h j) = apply_push w h j zero_vector
+apply_accepted w (PushAt h j r) = apply_push w h j r
+apply_accepted w (SetPose h o) = apply_pose w h o
+apply_accepted w (SetVelocity h course) = apply_velocity w h course
 apply_accepted w (SetGravity g) = apply_gravity w g
 apply_accepted w (Step n) = apply_step w n
 

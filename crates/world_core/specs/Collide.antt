@@ -9,7 +9,8 @@ use Rattle.contacts_base.specs.declared.near.Proxy.{Proxy}
 use Rattle.contacts_base.specs.Near.{near_codes}
 use Rattle.contacts.specs.Changes.{contacts_of, keys_touching_only_in}
 use Rattle.plain_world.specs.declared.body.Body.{Body}
-use Rattle.plain_world.specs.Bodies.{is_dynamic, pose_of}
+use Rattle.plain_world.specs.Bodies.{pose_of}
+use Rattle.plain_world.specs.Kinds.{is_dynamic}
 
 -- ---- the shapes that the collide reads: those of enabled bodies, ascending
 

@@ -5,3 +5,6 @@ pub mod Apply
 pub mod Replay
 pub mod Sound
 pub mod Inside
+pub mod Frames
+pub mod Laws
+pub mod RowColours

@@ -1,6 +1,10 @@
+ghost use Rattle.std.specs.Prelude.{◌≡◌};
+ghost use Rattle.world_core.specs.Laws.{impulse_of};
+
 use body_handles::Handle;
 use fixed_geom::Vec2;
-use plain_world::BodyDef;
+use plain_world::{BodyDef, Course};
+use shapes::Pose;
 
 /// What can be asked of a world. Each accepted command is one call, and takes the next call number.
 ///
@@ -15,10 +19,31 @@ pub enum Command {
     DestroyBody(Handle),
     /// Adds an impulse, in mass·u/tick, to a mover's momentum. Refused 2, 6, 8, 5 or 9, in this order.
     Push(Handle, Vec2),
+    /// Adds an impulse, in mass·u/tick, given at an offset from the centre, in u: the angular momentum of a mover that turns
+    /// grows by its moment. Refused 2, 6, 8, 5 or 9, in this order.
+    PushAt(Handle, Vec2, Vec2),
+    /// Puts a body of any kind, enabled or not, to another place with another facing. Its momenta and its contacts stay, until
+    /// the next step finds how its shapes touch there. Refused 2 or 5.
+    SetPose(Handle, Pose),
+    /// Gives a kinematic body another velocity and spin. Refused 2, 15, 8 or 5, in this order.
+    SetVelocity(Handle, Course),
     /// Sets the gravity, in u/tick². Refused 5.
     SetGravity(Vec2),
     /// Lets 1 to 8 ticks pass. Refused 5.
     Step(i64),
+}
+
+impl Command {
+    /// The impulse that it gives a body by itself, in mass·u/tick: that of a push.
+    pub fn impulse(&self) -> Vec2
+        ensures { result ≡ impulse_of self.now }
+    {
+        match self {
+            Command::Push(_, by) => *by,
+            Command::PushAt(_, by, _) => *by,
+            _ => Vec2 { x: 0, y: 0 },
+        }
+    }
 }
 
 /// What an accepted command answers.

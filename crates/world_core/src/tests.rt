@@ -1,7 +1,7 @@
 ghost use Rattle.std.specs.Prelude.{◌≡◌, ◌+◌, [], ◌∷◌, Some, Ok, Err, true, pos, neg_ℤ, replicate};
 ghost use Rattle.fixed_geom.specs.declared.refusal.Refusal.TheVariants.{OutOfRange, NotAMover};
 ghost use Rattle.impulse_ledger.specs.declared.entry.Cause.TheVariants.{Gravity};
-ghost use Rattle.plain_world.specs.declared.body.Kind.TheVariants.{Static, Dynamic};
+ghost use Rattle.plain_world.specs.declared.kind.Kind.TheVariants.{Static, Dynamic};
 ghost use Rattle.event_feed.specs.Events.{no_events};
 ghost use Rattle.graph_colours.specs.declared.limits.TheConstants.{COLOURS};
 ghost use Rattle.world_core.specs.declared.command.Command.TheVariants.{Step};
@@ -19,7 +19,9 @@ use std::alloc::Global;
 use std::test::Fail;
 
 mod fat_boxes;
+mod frames;
 mod meetings;
+mod one_body;
 mod readme;
 
 const FIRST: Handle = Handle {
@@ -144,6 +146,7 @@ fn awake(at: Vec2, p: Vec2) -> Option<BodyView> {
         facing: UPRIGHT,
         p,
         l: 0,
+        course: None,
         set: SetName::Awake,
     })
 }
@@ -520,9 +523,9 @@ fn definitions_compute()
     ensures stepped { apply (empty_world (record { x = pos 0; y = pos 0 })).plain (Step (pos 4)) ≡ Ok (record { plain = record { places = []; bodies = []; contacts = []; colours = replicate (COLOURS + 1) []; gravity = record { x = pos 0; y = pos 0 }; steps = 1; calls = 1 }; reply = Stepped 1; entries = []; events = Some no_events }) }
     ensures no_ticks { apply (empty_world (record { x = pos 0; y = pos 0 })).plain (Step (pos 0)) ≡ Err OutOfRange }
     ensures nine_ticks { apply (empty_world (record { x = pos 0; y = pos 0 })).plain (Step (pos 9)) ≡ Err OutOfRange }
-    ensures pushed { pushed (Some (record { kind = Dynamic; mass = record { mass = pos 1; inertia = pos 0 }; motion = record { p = record { x = pos 5; y = pos 0 }; l = pos 0; x = record { x = pos 0; y = pos 0 }; rot = record { c = pos 1073741824; s = pos 0 } }; shapes = []; fats = []; timer = 0; enabled = true })) (record { x = pos 7; y = neg_ℤ (pos 3) }) ≡ Ok (record { x = pos 12; y = neg_ℤ (pos 3) }) }
-    ensures far { pushed (Some (record { kind = Dynamic; mass = record { mass = pos 1; inertia = pos 0 }; motion = record { p = record { x = pos 5; y = pos 0 }; l = pos 0; x = record { x = pos 0; y = pos 0 }; rot = record { c = pos 1073741824; s = pos 0 } }; shapes = []; fats = []; timer = 0; enabled = true })) (record { x = pos 1099511627777; y = pos 0 }) ≡ Err OutOfRange }
-    ensures standing { pushed (Some (record { kind = Static; mass = record { mass = pos 1; inertia = pos 0 }; motion = record { p = record { x = pos 5; y = pos 0 }; l = pos 0; x = record { x = pos 0; y = pos 0 }; rot = record { c = pos 1073741824; s = pos 0 } }; shapes = []; fats = []; timer = 0; enabled = true })) (record { x = pos 1099511627777; y = pos 0 }) ≡ Err NotAMover }
+    ensures pushed { pushed (Some (record { kind = Dynamic; mass = record { mass = pos 1; inertia = pos 0 }; motion = record { p = record { x = pos 5; y = pos 0 }; l = pos 0; x = record { x = pos 0; y = pos 0 }; rot = record { c = pos 1073741824; s = pos 0 } }; shapes = []; fats = []; timer = 0; enabled = true })) (record { x = pos 7; y = neg_ℤ (pos 3) }) (record { x = pos 0; y = pos 0 }) ≡ Ok (record { p = record { x = pos 12; y = neg_ℤ (pos 3) }; l = pos 0 }) }
+    ensures far { pushed (Some (record { kind = Dynamic; mass = record { mass = pos 1; inertia = pos 0 }; motion = record { p = record { x = pos 5; y = pos 0 }; l = pos 0; x = record { x = pos 0; y = pos 0 }; rot = record { c = pos 1073741824; s = pos 0 } }; shapes = []; fats = []; timer = 0; enabled = true })) (record { x = pos 1099511627777; y = pos 0 }) (record { x = pos 0; y = pos 0 }) ≡ Err OutOfRange }
+    ensures standing { pushed (Some (record { kind = Static; mass = record { mass = pos 1; inertia = pos 0 }; motion = record { p = record { x = pos 5; y = pos 0 }; l = pos 0; x = record { x = pos 0; y = pos 0 }; rot = record { c = pos 1073741824; s = pos 0 } }; shapes = []; fats = []; timer = 0; enabled = true })) (record { x = pos 1099511627777; y = pos 0 }) (record { x = pos 0; y = pos 0 }) ≡ Err NotAMover }
     ensures departing { departing (Some (record { kind = Dynamic; mass = record { mass = pos 1; inertia = pos 0 }; motion = record { p = record { x = pos 5; y = pos 0 }; l = pos 0; x = record { x = pos 0; y = pos 0 }; rot = record { c = pos 1073741824; s = pos 0 } }; shapes = []; fats = []; timer = 0; enabled = true })) ≡ Ok (record { x = pos 5; y = pos 0 }) }
     ensures booked { booked 3 Gravity (pos 0) (neg_ℤ (pos 160768)) ≡ record { call = 3; cause = Gravity; x = pos 0; y = neg_ℤ (pos 160768) } ∷ [] }
     ensures left_out { booked 3 Gravity (pos 0) (pos 0) ≡ [] }

@@ -3,24 +3,29 @@ ghost use Rattle.std.specs.Result.{IsOkUnless};
 ghost use Rattle.plain_world.specs.Bodies.{view_of};
 ghost use Rattle.plain_world.specs.Census.{IsCensus, census_of};
 ghost use Rattle.plain_world.specs.Plain.{colour_of};
-ghost use Rattle.world_core.specs.World.{body_of};
+ghost use Rattle.impulse_ledger.specs.Sums.{HaveSameTotals};
+ghost use Rattle.world_core.specs.World.{body_of, book_of};
+ghost use Rattle.world_core.specs.Frames.{frame_of, settled_world};
 ghost use Rattle.world_core.specs.Sound.{IsSound};
-ghost use Rattle.world_core.specs.Apply.{Answers, IsMade, empty_world, gravity_refusal, apply, apply_create, apply_destroy, apply_push, apply_gravity, apply_step};
+ghost use Rattle.world_core.specs.Apply.{Answers, IsMade, empty_world, gravity_refusal, apply, apply_create, apply_destroy, apply_push, apply_pose, apply_velocity, apply_gravity, apply_step};
 
 use crate::booking::{book, book_step, gain_of, loss_of};
 use crate::collide::{collide, events_of};
 use crate::colouring::{copy_ids, count_with, drop_colours, turn_colours};
-use crate::pushes::{departing, momentum_after};
+use crate::frame::{Frame, show_bodies};
+use crate::pushes::{course_after, departing, momenta_after, pose_after};
 use crate::{Command, Reply};
 use body_handles::{Handle, Handles};
+use colour_solver::Rows;
 use colour_solver_base::ContactRow;
 use contacts::{BroadPhase, Constraint};
 use contacts_base::Contacts;
 use event_feed::Events;
-use fixed_geom::{Refusal, Vec2, is_within};
-use graph_colours::Colours;
+use fixed_geom::{Refusal, Vec2, ZERO_VECTOR, is_within};
+use graph_colours::{COLOURS, Colours};
 use impulse_ledger::{Cause, Ledger};
-use plain_world::{BodyDef, BodyView, Census, Plain, body_of, copy_bodies, take_census};
+use plain_world::{BodyDef, BodyView, Census, Course, Plain, body_of, copy_bodies, take_census};
+use shapes::Pose;
 use std::alloc::Global;
 use std::marker::Model;
 use world_core_base::{BodyTable, gather_rows, put_impulses};
@@ -44,8 +49,8 @@ pub struct WorldCore {
     broad: BroadPhase,
     // The colours of the active constraints.
     colours: Colours<Constraint>,
-    // Room that a step works in, kept from step to step.
-    rows: Vec<ContactRow>,
+    // The rows of a step by colour, and their memory, which is kept from step to step.
+    rows: Rows<ContactRow>,
     gravity: Vec2,
     steps: u64,
     calls: u64,
@@ -81,7 +86,7 @@ impl WorldCore {
             contacts: Contacts::new(alloc),
             broad: BroadPhase::new(alloc),
             colours: Colours::new(alloc)?,
-            rows: Vec::new(alloc),
+            rows: Rows::new(alloc),
             gravity,
             steps: 0,
             calls: 0,
@@ -101,7 +106,7 @@ impl WorldCore {
             contacts: self.contacts.try_copy()?,
             broad: BroadPhase::new(self.bodies.allocator()),
             colours: self.colours.try_copy()?,
-            rows: Vec::new(self.bodies.allocator()),
+            rows: Rows::new(self.bodies.allocator()),
             gravity: self.gravity,
             steps: self.steps,
             calls: self.calls,
@@ -120,7 +125,10 @@ impl WorldCore {
         match command {
             Command::CreateBody(def) => self.create_body(def),
             Command::DestroyBody(handle) => self.destroy_body(*handle),
-            Command::Push(handle, by) => self.push(*handle, *by),
+            Command::Push(handle, by) => self.push(*handle, *by, ZERO_VECTOR),
+            Command::PushAt(handle, by, offset) => self.push(*handle, *by, *offset),
+            Command::SetPose(handle, pose) => self.set_pose(*handle, *pose),
+            Command::SetVelocity(handle, course) => self.set_velocity(*handle, *course),
             Command::SetGravity(gravity) => self.set_gravity(*gravity),
             Command::Step(ticks) => self.step(*ticks),
         }
@@ -170,11 +178,11 @@ impl WorldCore {
         Ok(Reply::Done)
     }
 
-    fn push(&mut self, handle: Handle, by: Vec2) -> Result<Reply, Refusal>
+    fn push(&mut self, handle: Handle, by: Vec2, offset: Vec2) -> Result<Reply, Refusal>
         requires { self.old.plain.calls < 2 ^ 40 }
-        ensures { Answers (apply_push self.old.plain handle by) self.old result self.new }
+        ensures { Answers (apply_push self.old.plain handle by offset) self.old result self.new }
     {
-        let p = momentum_after(&self.handles, self.bodies.bodies(), handle, by)?;
+        let momenta = momenta_after(&self.handles, self.bodies.bodies(), handle, by, offset)?;
         self.ledger.reserve(1)?;
         book(
             &mut self.ledger,
@@ -182,7 +190,27 @@ impl WorldCore {
             Cause::Command,
             gain_of(by),
         );
-        self.bodies.put_momentum(handle.slot, p);
+        self.bodies.change(handle.slot, &momenta);
+        self.calls += 1;
+        Ok(Reply::Done)
+    }
+
+    fn set_pose(&mut self, handle: Handle, pose: Pose) -> Result<Reply, Refusal>
+        requires { self.old.plain.calls < 2 ^ 40 }
+        ensures { Answers (apply_pose self.old.plain handle pose) self.old result self.new }
+    {
+        let pose = pose_after(&self.handles, self.bodies.bodies(), handle, pose)?;
+        self.bodies.change(handle.slot, &pose);
+        self.calls += 1;
+        Ok(Reply::Done)
+    }
+
+    fn set_velocity(&mut self, handle: Handle, course: Course) -> Result<Reply, Refusal>
+        requires { self.old.plain.calls < 2 ^ 40 }
+        ensures { Answers (apply_velocity self.old.plain handle course) self.old result self.new }
+    {
+        let course = course_after(&self.handles, self.bodies.bodies(), handle, course)?;
+        self.bodies.change(handle.slot, &course);
         self.calls += 1;
         Ok(Reply::Done)
     }
@@ -212,7 +240,7 @@ impl WorldCore {
         self.colours
             .reserve(changes.begin.len(), self.bodies.bodies().len())?;
         let most = count_with(&self.colours, changes.begin.len())?;
-        self.rows.reserve(most)?;
+        self.rows.reserve(most, COLOURS + 1)?;
         turn_colours(
             &mut self.colours,
             self.bodies.bodies(),
@@ -230,7 +258,7 @@ impl WorldCore {
         let sums = self
             .bodies
             .run(&mut self.rows, self.gravity, ticks.unsigned_abs());
-        put_impulses(&mut self.contacts, &self.rows);
+        put_impulses(&mut self.contacts, self.rows.as_slice());
         book_step(&mut self.ledger, self.calls + 1, sums);
         self.steps += 1;
         self.calls += 1;
@@ -306,5 +334,26 @@ impl WorldCore {
             self.handles.places(),
             self.bodies.bodies(),
         )
+    }
+
+    /// What the world shows now: the enabled bodies with their poses and shapes, the movers' momentum, the ledger's total and
+    /// the number of calls. Refused 1 where memory is wanting.
+    pub fn frame(&self) -> Result<Frame, Refusal>
+        ensures frame { IfOk result (λ frame. frame ≡ frame_of self.now) }
+        ensures memory_only { IsOkUnless result Refusal.NoMemory }
+    {
+        let bodies = self.bodies.bodies();
+        let shown = show_bodies(self.bodies.allocator(), self.handles.places(), bodies)?;
+        let total = self.ledger.total();
+        Ok(Frame::new(shown, total, total, self.calls))
+    }
+
+    /// Drops the entries of the ledger, which are added to the settled sums. The plain world, the events and each total stay,
+    /// and no memory is taken.
+    pub fn settle_ledger(&mut self)
+        ensures settled { self.new ≡ settled_world self.old }
+        ensures totals { HaveSameTotals (book_of self.new) (book_of self.old) }
+    {
+        self.ledger.settle();
     }
 }

@@ -1,10 +1,11 @@
 -- Motions given back and fat boxes made anew, from one mover's slot to the next.
-use Rattle.std.proofs.Common.{◌≡◌, ℕ, zero, suc, ◌+◌, ◌<◌, ◌≤◌, Bool, true, false, List, [], ◌∷◌, ◌++◌, length, get_or, take, drop, map, Option, Some, None, arith, refl, sym, ap, ◌∙◌, subst, inl, inr, slice_set, add-one}
+use Rattle.std.proofs.Common.{◌≡◌, ℕ, zero, suc, ◌+◌, ◌<◌, ◌≤◌, Bool, true, false, cond, List, [], ◌∷◌, ◌++◌, length, get_or, take, drop, map, Option, Some, None, arith, refl, sym, ap, ◌∙◌, subst, inl, inr, slice_set, add-one}
 use Rattle.std.specs.List.{slice_get}
 use Rattle.std.specs.Prelude.{option_map}
 use Rattle.std.proofs.lemmas.Bool.{cases_Bool}
 use Rattle.std.proofs.lemmas.List.Edits.{map_over_more}
 use Rattle.std.proofs.lemmas.Option.{slice_get-get_or}
+use Rattle.fixed_geom.specs.declared.vectors.Vec2.{Vec2}
 use Rattle.momenta.specs.Impulses.{IsState}
 use Rattle.momenta.specs.Reciprocals.{reciprocals_of}
 use Rattle.momenta.specs.declared.mass.MassData.{MassData}
@@ -16,6 +17,8 @@ use Rattle.colour_solver.proofs.AwakeLaws.{movers_same}
 use Rattle.colour_solver.proofs.PlaceLaws.{AreOthers, IsNext, IsReached, map_still, reached, reached_at_first, reached_first, reached_last, reached_more, reached_next, reached_there}
 use Rattle.plain_world.specs.declared.body.Body.{Body}
 use Rattle.plain_world.specs.Bodies.{is_mover}
+use Rattle.plain_world.specs.Fats.{renewed_boxes}
+use Rattle.world_core_base.specs.Carried.{carried_motion, solver_mass}
 use Rattle.world_core_base.specs.Gather.{begun, state_of, states_of}
 use Rattle.world_core_base.proofs.GatherLaws.{length-states, state_at, tail_same}
 use Rattle.world_core_base.proofs.MovingLaws.{moved_bodies, moved_entry, moved_more, moved_whole, next_is}
@@ -35,9 +38,27 @@ pub record IsLike (o s : BodyState) : Type 0 where
   pub reciprocals : s.reciprocals ≡ o.reciprocals
   pub immovable : o.movable ≡ false → s ≡ o
 
+place_shown : (m : Bool) (b : Body) → (cond m b.motion (carried_motion b)).x ≡ b.motion.x
+place_shown true b = refl
+place_shown false b = refl
+
 begun_state : (o : Option Body) → begun (state_of o) ≡ state_of o
 begun_state None = refl
-begun_state (Some b) = refl
+begun_state (Some b) = ap (λ (x : Vec2). record (state_of (Some b)) { start = x }) (place_shown (is_mover b) b)
+
+-- the mass that an awake mover shows is its own
+mass_on : (b : Body) → is_mover b ≡ true → solver_mass b ≡ b.mass
+mass_on b on = rw on refl
+
+state_on : (b : Body) → is_mover b ≡ true → state_of (Some b) ≡ state_with true b.mass b.motion (reciprocals_of b.mass)
+state_on b on = rw on refl
+
+-- an awake mover with the motion that its state has
+abbrev with_state_of : BodyState → Body → Body
+with_state_of s b = record b { motion = s.motion; fats = renewed_boxes (record { x = s.motion.x; rot = s.motion.rot }) b.shapes b.fats }
+
+moved_on : (b : Body) (s : BodyState) → is_mover b ≡ true → moved_entry s (Some b) ≡ Some (with_state_of s b)
+moved_on b s on = rw (on, on) refl
 
 entry_still : (o : Option Body) (s : BodyState) → (state_of o).movable ≡ false → moved_entry s o ≡ o
 entry_still None s h = refl
@@ -46,7 +67,7 @@ entry_still (Some b) s h = rw (h, h) refl
 entry_begun : (o : Option Body) (s : BodyState) → IsLike (state_of o) s → state_of (moved_entry s o) ≡ begun s
 entry_begun None s like = sym (ap begun (like.immovable refl))
 entry_begun (Some b) s like = elim (cases_Bool (is_mover b)) [
-  | inl on1 ↦ rw (on1, on1) (whole_state s (is_mover b) b.mass (reciprocals_of b.mass) like.movable like.mass like.reciprocals)
+  | inl on1 ↦ ap state_of (moved_on b s on1) ∙ state_on (with_state_of s b) on1 ∙ whole_state s true b.mass (reciprocals_of b.mass) (like.movable ∙ on1) (like.mass ∙ mass_on b on1) (like.reciprocals ∙ ap reciprocals_of (mass_on b on1))
   | inr off1 ↦ ap state_of (entry_still (Some b) s off1) ∙ sym (ap begun (like.immovable off1) ∙ begun_state (Some b))
 ]
 

@@ -27,7 +27,7 @@ use Rattle.colour_solver_base.specs.declared.row.Bodies as pairs
 use Rattle.colour_solver_base.specs.declared.row.ContactRow.{ContactRow}
 use Rattle.colour_solver_base.specs.declared.row.PointRow.{PointRow}
 use Rattle.colour_solver_base.specs.Rows.{IsPointRow, IsRow, contact_row, is_springy, point_row, row_from}
-use Rattle.colour_solver.specs.Turns.{AreRowsBelow, IsRowBelow}
+use Rattle.colour_solver.specs.ContactTurns.{AreRowsBelow, IsRowBelow}
 use Rattle.colour_solver.specs.States.{nobody}
 use Rattle.plain_world.specs.declared.body.Body.{Body}
 use Rattle.plain_world.specs.Bodies.{AreBodies, IsBody}
@@ -68,7 +68,7 @@ low_if : (t : Bool) (n i : ℕ) (es : List ContactEntry) (key : ContactKey) → 
 low_if true n i es key later is = let same : n ≡ i = cc in omega arith
 low_if false n i es key later is = let more : suc n ≤ i = later is in omega arith
 
-place_low : (n i : ℕ) (es : List ContactEntry) (key : ContactKey) → found_in n es key ≡ Some i → n ≤ i
+pub place_low : (n i : ℕ) (es : List ContactEntry) (key : ContactKey) → found_in n es key ≡ Some i → n ≤ i
 place_low n i [] key is = cc
 place_low n i (e ∷ es) key is = low_if (number_of e == key_number key) n i es key (λ q. place_low (suc n) i es key q) is
 
@@ -96,7 +96,7 @@ from_bodies bodies ends (Some p) second x e =
     let same : row_with bodies (point_row (is_springy bodies) ends p) (option_map (point_row (is_springy bodies) ends) second) ≡ x = cc in
     ap (λ (r : ContactRow). r.bodies) (sym same)
 
-row_bodies : (bodies : pairs.Bodies) (ends : Ends) (c : Contact) (x : ContactRow) → contact_row bodies ends c ≡ Some x → x.bodies ≡ bodies
+pub row_bodies : (bodies : pairs.Bodies) (ends : Ends) (c : Contact) (x : ContactRow) → contact_row bodies ends c ≡ Some x → x.bodies ≡ bodies
 row_bodies bodies ends c x e = from_bodies bodies ends c.first c.second x e
 
 pub row_below : (states : List BodyState) (key : ContactKey) (index : ℕ) (e : ContactEntry) (ends : Ends) (x : ContactRow) → IsContactOn states e → e.key ≡ key

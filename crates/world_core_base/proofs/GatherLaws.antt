@@ -1,8 +1,9 @@
 -- What a step gathers from bodies and contacts, and what it writes back to the bodies.
-use Rattle.std.proofs.Common.{◌≡◌, inl, inr, ◌⊎◌, ℕ, zero, suc, ◌<◌, List, [], ◌∷◌, length, Option, Some, None, Bool, true, false, cond, arith, refl, sym, ap, ◌∙◌, subst, is_some, slice_index_or}
-use Rattle.std.specs.Prelude.{All, not, option_map, slice_get}
+use Rattle.std.proofs.Common.{◌≡◌, inl, inr, ◌⊎◌, ℕ, zero, suc, ◌<◌, List, [], ◌∷◌, length, Option, Some, None, Bool, true, false, cond, pos, arith, refl, sym, ap, ◌∙◌, subst, is_some, slice_index_or}
+use Rattle.std.specs.Prelude.{All, option_map, slice_get}
 use Rattle.std.proofs.lemmas.Int.{ints}
 use Rattle.std.proofs.lemmas.Option.{slice_get-get_or}
+use Rattle.fixed_geom.specs.Numbers.{rdiv}
 use Rattle.fixed_geom.specs.Reciprocals.{rdiv_reciprocal, share_reciprocal}
 use Rattle.momenta.specs.Motions.{IsMass, IsMotion}
 use Rattle.momenta.specs.Reciprocals.{reciprocals_of}
@@ -11,15 +12,17 @@ use Rattle.momenta.specs.declared.mass.MassData.{MassData}
 use Rattle.momenta.specs.declared.state.BodyState.{BodyState}
 use Rattle.contacts_base.specs.declared.key.ContactKey.{ContactKey}
 use Rattle.colour_solver.specs.States as step
-use Rattle.colour_solver.specs.States.{nobody, AreAllStates, AreSameStates, total_x, total_y}
+use Rattle.colour_solver.specs.States.{carrier, nobody, AreAllStates, AreSameStates, total_x, total_y}
 use Rattle.plain_world.specs.declared.body.Body.{Body}
-use Rattle.plain_world.specs.declared.body.Kind.{Kind}
-use Rattle.plain_world.specs.declared.body.Kind.TheVariants.{Static, Dynamic}
+use Rattle.plain_world.specs.declared.kind.Kind.{Kind}
+use Rattle.plain_world.specs.declared.kind.Kind.TheVariants.{Static, Kinematic, Dynamic}
+use Rattle.plain_world.specs.Kinds.{IsCourseOf, carried_by, is_dynamic, is_moving, is_static}
 use Rattle.shapes.specs.Shapes.{IsShapeDef, shapes_refusal}
 use Rattle.shapes.specs.declared.pose.Pose.{Pose}
-use Rattle.plain_world.specs.Bodies.{AreBodies, IsAtRest, IsBody, IsMassOf, is_dynamic, is_mover, momentum_x, momentum_y, p_x, p_y, pose_of}
+use Rattle.plain_world.specs.Bodies.{AreBodies, IsAtRest, IsBody, IsMassOf, is_mover, momentum_x, momentum_y, p_x, p_y, pose_of}
 use Rattle.plain_world.specs.Fats.{AreFatBoxes}
 use Rattle.plain_world.specs.Slots.{HaveSameSlots, body_at, shapes_in}
+use Rattle.world_core_base.specs.Carried.{carried_motion}
 use Rattle.world_core_base.specs.Gather.{ends_at, moves, state_of, states_of, with_motion, with_motions}
 
 -- ---- the bodies as states
@@ -27,16 +30,39 @@ use Rattle.world_core_base.specs.Gather.{ends_at, moves, state_of, states_of, wi
 mass_at : (kind : Kind) (enabled : Bool) (m : MassData) → cond enabled (is_dynamic kind) false ≡ true → IsMassOf kind m → IsMass m
 mass_at Static true m e h = cc
 mass_at Static false m e h = cc
+mass_at (Kinematic course) true m e h = cc
+mass_at (Kinematic course) false m e h = cc
 mass_at Dynamic enabled m e h = h
 
-no_reciprocals : nobody.reciprocals ≡ reciprocals_of nobody.mass
-unfolding reciprocals_of rdiv_reciprocal share_reciprocal
-no_reciprocals = refl
+carrier_reciprocals : nobody.reciprocals ≡ reciprocals_of carrier
+unfolding reciprocals_of rdiv_reciprocal share_reciprocal rdiv
+carrier_reciprocals = refl
+
+is_carrier : IsMass carrier
+is_carrier = record { positive = omega (arith, ints); mass = omega arith; nonnegative = omega (arith, ints); inertia = omega arith }
+
+-- the mass and the motion that a body shows the solver
+mass_shown : (m : Bool) (b : Body) → is_mover b ≡ m → IsBody b → IsMass (cond m b.mass carrier)
+mass_shown true b e is = mass_at b.kind b.enabled b.mass e is.mass
+mass_shown false b e is = is_carrier
+
+motion_shown : (m : Bool) (b : Body) → IsBody b → IsMotion (cond m b.mass carrier) (cond m b.motion (carried_motion b))
+motion_shown true b is = is.motion
+motion_shown false b is =
+    let v = is.course.velocity in
+    let w = is.course.spin in
+    record {
+      p = record { x = omega (arith, v.x); y = omega (arith, v.y) };
+      l = omega (arith, w);
+      still = λ e. absurd (omega (arith, ints, e));
+      x = is.motion.x;
+      facing = is.motion.facing;
+    }
 
 pub is_nobody : IsState nobody
 is_nobody = record {
-  mass = λ e. cc;
-  reciprocals = no_reciprocals;
+  mass = is_carrier;
+  reciprocals = carrier_reciprocals;
   motion = record {
     p = record { x = omega arith; y = omega arith };
     l = omega arith;
@@ -51,7 +77,7 @@ is_state : (o : Option Body) → ((b : Body) → o ≡ Some b → IsBody b) → 
 is_state None is = is_nobody
 is_state (Some b) is =
     let body : IsBody b = is b refl in
-    record { mass = λ moves. mass_at b.kind b.enabled b.mass moves body.mass; reciprocals = refl; motion = body.motion; start = body.motion.x }
+    record { mass = mass_shown (is_mover b) b refl body; reciprocals = refl; motion = motion_shown (is_mover b) b body; start = body.motion.x }
 
 pub states-all : (bodies : List (Option Body)) → AreBodies bodies → AreAllStates (states_of bodies)
 states-all [] all slot s e = cc
@@ -60,11 +86,19 @@ states-all (o ∷ os) all (suc slot) s e = states-all os (λ k b f. all (suc k) 
 
 x_of : (o : Option Body) → step.p_x (state_of o) ≡ p_x o
 x_of None = refl
-x_of (Some b) = refl
+x_of (Some b) = x_shown (is_mover b) b
+  where
+    x_shown : (m : Bool) (b : Body) → cond m (cond m b.motion (carried_motion b)).p.x (pos 0) ≡ cond m b.motion.p.x (pos 0)
+    x_shown true b = refl
+    x_shown false b = refl
 
 y_of : (o : Option Body) → step.p_y (state_of o) ≡ p_y o
 y_of None = refl
-y_of (Some b) = refl
+y_of (Some b) = y_shown (is_mover b) b
+  where
+    y_shown : (m : Bool) (b : Body) → cond m (cond m b.motion (carried_motion b)).p.y (pos 0) ≡ cond m b.motion.p.y (pos 0)
+    y_shown true b = refl
+    y_shown false b = refl
 
 pub total_x-gathered : (bodies : List (Option Body)) → total_x (states_of bodies) ≡ momentum_x bodies
 total_x-gathered [] = refl
@@ -105,21 +139,25 @@ pub record IsMovedBody (b : Body) : Type 0 where
   pub mass : IsMassOf b.kind b.mass
   pub motion : IsMotion b.mass b.motion
   pub rest : is_mover b ≡ false → IsAtRest b.motion
-  pub shapes : shapes_refusal (not (is_dynamic b.kind)) b.shapes ≡ None
+  pub course : IsCourseOf b.kind
+  pub halted : b.enabled ≡ false → is_moving (carried_by b.kind) ≡ false
+  pub shapes : shapes_refusal (is_static b.kind) b.shapes ≡ None
   pub forms : All IsShapeDef b.shapes
   pub fats : AreFatBoxes before b.shapes b.fats
   pub still : is_mover b ≡ false → AreFatBoxes (pose_of b) b.shapes b.fats
 
 unmoved : (b : Body) → IsBody b → IsMovedBody b
-unmoved b is = record { before = pose_of b; mass = is.mass; motion = is.motion; rest = is.rest; shapes = is.shapes; forms = is.forms; fats = is.fats; still = λ e. is.fats }
+unmoved b is = record { before = pose_of b; mass = is.mass; motion = is.motion; rest = is.rest; course = is.course; halted = is.halted; shapes = is.shapes; forms = is.forms; fats = is.fats; still = λ e. is.fats }
 
 -- of the body b, as its state s has left it
-moved_if : (m : Bool) (b : Body) (s : BodyState) → is_mover b ≡ m → IsBody b → IsState s → s.mass ≡ b.mass → IsMovedBody (cond m (record b { motion = s.motion }) b)
+moved_if : (m : Bool) (b : Body) (s : BodyState) → is_mover b ≡ m → IsBody b → IsState s → s.mass ≡ cond m b.mass carrier → IsMovedBody (cond m (record b { motion = s.motion }) b)
 moved_if true b s e is state same = record {
   before = pose_of b;
   mass = is.mass;
   motion = rw same at state.motion;
   rest = λ still. absurd (let both : true ≡ false = sym e ∙ still in cc both);
+  course = is.course;
+  halted = is.halted;
   shapes = is.shapes;
   forms = is.forms;
   fats = is.fats;

@@ -6,3 +6,10 @@ pub mod ContactLaws
 pub mod AwakeLaws
 pub mod SlotsRising
 pub mod TableLaws
+mod ColourLists
+pub mod RowColourLaws
+pub mod SolvingContacts
+pub mod SolvingTurns
+pub mod SolvingRuns
+pub mod SolvingBack
+pub mod SolvingLaws

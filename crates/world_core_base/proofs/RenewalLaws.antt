@@ -18,11 +18,13 @@ kept_if true b e is = record {
   mass = is.mass;
   motion = is.motion;
   rest = is.rest;
+  course = is.course;
+  halted = is.halted;
   shapes = is.shapes;
   forms = is.forms;
   fats = renewed_are is.before (pose_of b) b.shapes b.fats is.forms (record { x = is.motion.x; rot = is.motion.facing }) is.fats;
 }
-kept_if false b e is = record { mass = is.mass; motion = is.motion; rest = is.rest; shapes = is.shapes; forms = is.forms; fats = is.still e }
+kept_if false b e is = record { mass = is.mass; motion = is.motion; rest = is.rest; course = is.course; halted = is.halted; shapes = is.shapes; forms = is.forms; fats = is.still e }
 
 is_body : (b : Body) → IsMovedBody b → IsBody (with_renewed b)
 is_body b is = kept_if (is_mover b) b refl is

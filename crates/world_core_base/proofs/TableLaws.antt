@@ -1,15 +1,15 @@
 -- What a table keeps beside its bodies, when one body comes, goes or changes.
 use Rattle.std.proofs.Common.{◌≡◌, ℕ, zero, suc, ◌+◌, ◌<◌, ◌≤◌, Bool, true, false, cond, List, [], ◌∷◌, ◌++◌, length, get_or, slice_set, nat_lt, Option, Some, None, arith, refl, sym, ap, ◌∙◌, inl, inr}
-use Rattle.std.specs.Prelude.{option_map, slice_index_or}
+use Rattle.std.specs.Prelude.{slice_index_or}
 use Rattle.std.proofs.lemmas.Bool.{cases_Bool, cases_lt}
 use Rattle.std.proofs.lemmas.Bool.Decides.{nat_tests}
 use Rattle.momenta.specs.declared.state.BodyState.{BodyState}
-use Rattle.fixed_geom.specs.declared.vectors.Vec2.{Vec2}
 use Rattle.colour_solver.specs.States.{moves, movers_of, nobody}
 use Rattle.plain_world.specs.declared.body.Body.{Body}
 use Rattle.world_core_base.specs.Awake.{with_slot, with_state, without_slot}
 use Rattle.world_core_base.specs.Gather.{state_of, states_of}
-use Rattle.plain_world.specs.Slots.{body_at, put_p, with_body, with_momentum}
+use Rattle.plain_world.specs.Changes.{is_awake_in}
+use Rattle.plain_world.specs.Slots.{body_at, with_body}
 use Rattle.world_core_base.proofs.GatherLaws.{length-states}
 use Rattle.world_core_base.proofs.SlotsRising.{places-append_off, places-append_on, places-set_off, places-set_on, places-set_same}
 
@@ -68,7 +68,7 @@ put_movers bodies states awake slot s e f h free = rw (f, e) (put_movers_of bodi
 pub clear_movers : (states : List BodyState) (awake : List ℕ) (slot : ℕ) → awake ≡ movers_of states → slot < length states → without_slot slot awake ≡ movers_of (slice_set states slot nobody)
 clear_movers states awake slot e h = rw e (places-set_off moves states 0 slot slot nobody (omega arith) h refl)
 
--- ---- a body that is pushed
+-- ---- a body that is changed
 
 body_at-put : (bodies : List (Option Body)) (slot : ℕ) (o : Option Body) → slot < length bodies → body_at (slice_set bodies slot o) slot ≡ o
 body_at-put [] slot o h = absurd (omega (arith, h))
@@ -79,9 +79,9 @@ body_at-put (y ∷ bodies) (suc slot) o h = body_at-put bodies slot o (omega (ar
 pub renewed_states : (bodies : List (Option Body)) (states : List BodyState) (slot : ℕ) (o : Option Body) → states ≡ states_of bodies → slot < length bodies → slice_set states slot (state_of (body_at (slice_set bodies slot o) slot)) ≡ states_of (slice_set bodies slot o)
 renewed_states bodies states slot o e h = rw (e, body_at-put bodies slot o h) (states-set bodies slot o)
 
-still_moves : (p : Vec2) (o : Option Body) → (state_of (option_map (put_p p) o)).movable ≡ (state_of o).movable
-still_moves p None = refl
-still_moves p (Some b) = refl
+moves_as : (o : Option Body) → (state_of o).movable ≡ is_awake_in o
+moves_as None = refl
+moves_as (Some b) = refl
 
 state_there : (bodies : List (Option Body)) (slot : ℕ) (d : BodyState) → slot < length bodies → get_or (states_of bodies) slot d ≡ state_of (body_at bodies slot)
 state_there [] slot d h = absurd (omega (arith, h))
@@ -89,8 +89,10 @@ state_there (None ∷ os) zero d h = refl
 state_there (Some b ∷ os) zero d h = refl
 state_there (o ∷ os) (suc slot) d h = state_there os slot d (omega (arith, h))
 
-pub pushed_movers : (bodies : List (Option Body)) (slot : ℕ) (p : Vec2) → slot < length bodies → movers_of (states_of bodies) ≡ movers_of (states_of (with_momentum bodies slot p))
-pushed_movers bodies slot p h =
-    let o : Option Body = option_map (put_p p) (body_at bodies slot) in
-    let same : (state_of o).movable ≡ (get_or (states_of bodies) slot (state_of o)).movable = still_moves p (body_at bodies slot) ∙ ap (λ (s : BodyState). s.movable) (sym (state_there bodies slot (state_of o) h)) in
+-- a change that leaves an awake mover one leaves the movers' slots
+pub changed_movers : (bodies : List (Option Body)) (slot : ℕ) (o : Option Body) → slot < length bodies → is_awake_in (body_at (slice_set bodies slot o) slot) ≡ is_awake_in (body_at bodies slot)
+    → movers_of (states_of bodies) ≡ movers_of (states_of (slice_set bodies slot o))
+changed_movers bodies slot o h awake =
+    let now : is_awake_in o ≡ is_awake_in (body_at bodies slot) = ap is_awake_in (sym (body_at-put bodies slot o h)) ∙ awake in
+    let same : (state_of o).movable ≡ (get_or (states_of bodies) slot (state_of o)).movable = moves_as o ∙ now ∙ sym (moves_as (body_at bodies slot)) ∙ ap (λ (s : BodyState). s.movable) (sym (state_there bodies slot (state_of o) h)) in
     sym (ap movers_of (sym (states-set bodies slot o)) ∙ places-set_same moves (states_of bodies) 0 slot (state_of o) same)

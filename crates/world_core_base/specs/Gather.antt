@@ -22,13 +22,14 @@ use Rattle.colour_solver.specs.States.{nobody}
 use Rattle.plain_world.specs.declared.body.Body.{Body}
 use Rattle.plain_world.specs.Bodies.{is_awake, is_mover}
 use Rattle.plain_world.specs.Slots.{body_at}
+use Rattle.world_core_base.specs.Carried.{solver_mass, solver_motion}
 
 -- ---- the bodies
 
 -- a body as the solver works on it
 abbrev pub state_of : Option Body → BodyState
 state_of None = nobody
-state_of (Some b) = record { movable = is_awake b; mass = b.mass; motion = b.motion; start = b.motion.x; reciprocals = reciprocals_of b.mass }
+state_of (Some b) = record { movable = is_awake b; mass = solver_mass b; motion = solver_motion b; start = b.motion.x; reciprocals = reciprocals_of (solver_mass b) }
 
 abbrev pub states_of : List (Option Body) → List BodyState
 states_of bodies = map state_of bodies

@@ -1,3 +1,7 @@
 pub mod Renewal
+pub mod Carried
 pub mod Gather
 pub mod Awake
+pub mod RowColours
+pub mod Solving
+pub mod SolvingArrays

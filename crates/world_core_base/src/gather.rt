@@ -1,36 +1,43 @@
 //! What a step works on: the bodies by slot and the touching contacts in solve order, gathered when it begins and
 //! written back when it ends.
 
-ghost use Rattle.std.specs.Prelude.{◌≡◌, ◌<◌, ◌≤◌, ◌≢◌, ◌⊎◌, ◌+◌, ◌-◌, ◌++◌, ℕ, List, Option, Some, true, length, map, vec_len, vec_capacity, option_map, slice_get};
+ghost use Rattle.std.specs.Prelude.{◌≡◌, ◌<◌, ◌≤◌, ◌≢◌, ◌⊎◌, ◌+◌, ◌++◌, ℕ, List, [], Option, Some, true, length, map, option_map, slice_get};
 ghost use Rattle.std.specs.Option.{ForSome, option_copied, option_to_list};
 ghost use Rattle.contacts_base.specs.Contacts.{AreKeysRising, number_of};
 ghost use Rattle.contacts_base.specs.Keys.{key_number};
 ghost use Rattle.momenta.specs.Impulses.{AreStates};
 ghost use Rattle.colour_solver_base.specs.Rows.{AreSurfaces};
 ghost use Rattle.colour_solver.specs.States.{AreAllStates};
-ghost use Rattle.colour_solver.specs.Turns.{AreRowsBelow, IsRowBelow};
+ghost use Rattle.colour_solver.specs.ColourRows.{all_rows};
+ghost use Rattle.colour_solver.specs.ContactTurns.{AreRowsBelow, IsRowBelow};
 ghost use Rattle.graph_colours.specs.Colours.{all_members};
 ghost use Rattle.plain_world.specs.Bodies.{AreBodies};
 ghost use Rattle.contacts_base.specs.Surfaces.{IsSurface};
 ghost use Rattle.world_core_base.specs.Gather.{AreContactsOf, AreContactsOn, IsContactOn, bodies_of, ends_at, impulses_of, row_in, row_of, rows_in, rows_of, state_of, with_rows};
+ghost use Rattle.world_core_base.specs.Carried.{solver_mass, solver_motion};
 
+use colour_solver::Rows;
 use colour_solver_base::{Bodies, ContactRow, PointRow, contact_row};
 use contacts::Constraint;
 use contacts_base::{
     Contact, ContactEntry, ContactKey, Contacts, Impulses, Surface, place_at, seek,
 };
 use fixed_geom::{Rot, UNIT, Vec2};
-use graph_colours::{Colours, Member, OVERFLOW};
+use graph_colours::{COLOURS, Colours, Member, OVERFLOW};
 use momenta::{BodyState, Ends, MassData, Motion, Reciprocals, reciprocals_of};
 use plain_world::Body;
+
+/// The mass of a body that no impulse moves: with it a momentum is the velocity itself, and an angular momentum the spin,
+/// with which the body is carried along.
+const CARRIER: MassData = MassData {
+    mass: 1,
+    inertia: UNIT,
+};
 
 /// What stands for the body in an empty slot: nothing moves it.
 pub const NOBODY: BodyState = BodyState {
     movable: false,
-    mass: MassData {
-        mass: 0,
-        inertia: 0,
-    },
+    mass: CARRIER,
     motion: Motion {
         p: Vec2 { x: 0, y: 0 },
         l: 0,
@@ -39,8 +46,8 @@ pub const NOBODY: BodyState = BodyState {
     },
     start: Vec2 { x: 0, y: 0 },
     reciprocals: Reciprocals {
-        mass: 0,
-        inertia: 0,
+        mass: 1 << 62,
+        inertia: 1 << 52,
     },
 };
 
@@ -55,17 +62,40 @@ pub fn state_of(entry: &Option<Body>) -> BodyState
     }
 }
 
+/// The mass that a body shows the solver.
+fn solver_mass(body: &Body) -> MassData
+    ensures { result ≡ solver_mass body.now }
+{
+    if body.is_awake() { body.mass } else { CARRIER }
+}
+
+/// The motion that a body shows the solver: of one that isn't an awake mover, its course.
+fn solver_motion(body: &Body) -> Motion
+    ensures { result ≡ solver_motion body.now }
+{
+    if body.is_awake() {
+        return body.motion;
+    }
+    let course = body.kind.carried_by();
+    Motion {
+        p: course.velocity,
+        l: i128::from(course.spin),
+        ..body.motion
+    }
+}
+
 /// A body as the solver works on it.
 #[inline(always)]
 pub fn body_state(body: &Body) -> BodyState
     ensures { result ≡ state_of (Some body.now) }
 {
+    let mass = solver_mass(body);
     BodyState {
         movable: body.is_awake(),
-        mass: body.mass,
-        motion: body.motion,
+        mass,
+        motion: solver_motion(body),
         start: body.motion.x,
-        reciprocals: reciprocals_of(body.mass),
+        reciprocals: reciprocals_of(mass),
     }
 }
 
@@ -148,20 +178,21 @@ fn row_of(
 
 /// Adds a row, if there is one, for which there is room.
 #[inline(always)]
-fn push_row(rows: &mut Vec<ContactRow>, row: Option<ContactRow>)
-    requires { 1 ≤ vec_capacity rows.old - vec_len rows.old }
-    ensures value { rows.new.items ≡ rows.old.items ++ option_to_list row }
-    ensures room { vec_len rows.new ≤ vec_len rows.old + 1 }
-    ensures capacity { vec_capacity rows.old ≤ vec_capacity rows.new }
+fn push_row(rows: &mut Rows<ContactRow>, row: Option<ContactRow>)
+    requires { 1 ≤ rows.old.room }
+    ensures colours { rows.new.colours ≡ rows.old.colours }
+    ensures left { rows.new.left ≡ rows.old.left ++ option_to_list row }
+    ensures room { rows.old.room ≤ rows.new.room + 1 }
+    ensures more { rows.new.more ≡ rows.old.more }
 {
     if let Some(row) = row {
-        let _ = rows.push(row);
+        rows.push(row);
     }
 }
 
 /// Gathers the contacts of one colour, ascending, for which there is room.
 fn gather_colour(
-    rows: &mut Vec<ContactRow>,
+    rows: &mut Rows<ContactRow>,
     states: &[BodyState],
     contacts: &[ContactEntry],
     members: &[Member<Constraint>],
@@ -169,12 +200,13 @@ fn gather_colour(
     requires all_states { AreAllStates states.now }
     requires rising { AreKeysRising contacts.now }
     requires contacts { AreContactsOn states.now contacts.now }
-    requires rows { AreRowsBelow (length states.now) rows.old.items }
-    requires room { vec_len rows.old + length members.now ≤ vec_capacity rows.old }
-    ensures value { rows.new.items ≡ rows.old.items ++ rows_in states.now contacts.now members.now }
-    ensures rows { AreRowsBelow (length states.now) rows.new.items }
-    ensures room { vec_len rows.new ≤ vec_len rows.old + length members.now }
-    ensures capacity { vec_capacity rows.old ≤ vec_capacity rows.new }
+    requires rows { AreRowsBelow (length states.now) rows.old.left }
+    requires room { length members.now ≤ rows.old.room }
+    ensures colours { rows.new.colours ≡ rows.old.colours }
+    ensures left { rows.new.left ≡ rows.old.left ++ rows_in states.now contacts.now members.now }
+    ensures rows { AreRowsBelow (length states.now) rows.new.left }
+    ensures room { rows.old.room ≤ rows.new.room + length members.now }
+    ensures more { rows.new.more ≡ rows.old.more }
 {
     let mut hint = 0;
     for member in members {
@@ -182,10 +214,11 @@ fn gather_colour(
     }
 }
 
-/// Gathers the active contacts in solve order, for which there is room: colour after colour, and the overflow last.
+/// Gathers the active contacts in solve order, for which there is room: colour after colour, and the overflow last. Each row
+/// stands in its contact's colour.
 #[tactic(auto, unfolding(crate::specs::Gather::rows_of))]
 pub fn gather_rows(
-    rows: &mut Vec<ContactRow>,
+    rows: &mut Rows<ContactRow>,
     states: &[BodyState],
     contacts: &[ContactEntry],
     colours: &Colours<Constraint>,
@@ -193,13 +226,17 @@ pub fn gather_rows(
     requires all_states { AreAllStates states.now }
     requires rising { AreKeysRising contacts.now }
     requires contacts { AreContactsOn states.now contacts.now }
-    requires room { length (all_members colours.now.lists) ≤ vec_capacity rows.old }
-    ensures value { rows.new.items ≡ rows_of states.now contacts.now colours.now.lists }
-    ensures rows { AreRowsBelow (length states.now) rows.new.items }
+    requires room { length (all_members colours.now.lists) ≤ rows.old.room }
+    requires more { COLOURS + 1 ≤ rows.old.more }
+    ensures colours { rows.new.colours ≡ map (rows_in states.now contacts.now) colours.now.lists }
+    ensures left { rows.new.left ≡ [] }
+    ensures value { all_rows rows.new ≡ rows_of states.now contacts.now colours.now.lists }
+    ensures rows { AreRowsBelow (length states.now) (all_rows rows.new) }
 {
     rows.clear();
     for colour in 0..OVERFLOW + 1 {
         gather_colour(rows, states, contacts, colours.members(colour));
+        rows.end_colour();
     }
 }
 

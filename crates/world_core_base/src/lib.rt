@@ -6,8 +6,10 @@
 
 mod awake;
 mod gather;
+mod laws;
 mod moving;
 mod table;
 
 pub use gather::{gather_rows, put_impulses};
+pub use laws::{arrays_are_solving, rows_are_colours};
 pub use table::BodyTable;

@@ -1,27 +1,30 @@
 //! The bodies of a world by slot, with what a step goes over: their states, and the movers' slots.
 
 ghost use Rattle.std.specs.Prelude.{◌≡◌, ◌+◌, ◌-◌, ◌<◌, ◌≤◌, ◌^◌, ◌+ℤ◌, [], None, IfOk, OnOk, length, slice_set, vec_len, vec_capacity};
+ghost use Rattle.std.specs.Option.{ForSome};
 ghost use Rattle.std.specs.Result.{IsOkUnless};
 ghost use Rattle.fixed_geom.specs.Vectors.{IsWithin};
 ghost use Rattle.momenta.specs.declared.state.BodyState.{BodyState};
 ghost use Rattle.colour_solver.specs.States.{AreAllStates};
 ghost use Rattle.colour_solver.specs.Ticks.{AreSums, added_x, added_y, ran, run_of, start};
-ghost use Rattle.colour_solver.specs.Turns.{AreRowsBelow};
+ghost use Rattle.colour_solver.specs.ColourRows.{all_rows};
+ghost use Rattle.colour_solver.specs.ContactTurns.{AreRowsBelow};
 ghost use Rattle.world_core_base.specs.Awake.{with_state};
 ghost use Rattle.plain_world.specs.Bodies.{AreBodies, momentum_x, momentum_y};
 ghost use Rattle.world_core_base.specs.Gather.{state_of, states_of, with_motions};
 ghost use Rattle.world_core_base.specs.Renewal.{renewed_bodies};
-ghost use Rattle.plain_world.specs.Slots.{HaveSameSlots, body_at, with_body, with_momentum};
+ghost use Rattle.plain_world.specs.Changes.{changed_at};
+ghost use Rattle.plain_world.specs.Slots.{HaveSameSlots, body_at, with_body};
 
 use crate::awake::{add_mover, drop_slot};
 use crate::gather::{NOBODY, body_state};
 use crate::moving::move_awake;
 use body_handles::MAX_SLOTS;
-use colour_solver::{StepSums, run_step};
+use colour_solver::{Rows, StepSums, run_step};
 use colour_solver_base::ContactRow;
 use fixed_geom::{Refusal, Vec2};
 use momenta::BodyState;
-use plain_world::{Body, clear_slot, copy_bodies, put_body, put_momentum};
+use plain_world::{Body, BodyChange, change_slot, clear_slot, copy_bodies, put_body};
 use std::alloc::Global;
 use std::marker::Model;
 
@@ -60,8 +63,8 @@ fn put_state(states: &mut Vec<BodyState>, slot: usize, state: BodyState)
     }
 }
 
-/// Sets the momentum of the state in a slot, if it is a mover's or another body's that is there.
-fn put_state_momentum(states: &mut Vec<BodyState>, bodies: &[Option<Body>], slot: usize)
+/// Takes the state in a slot anew from the body there.
+fn renew_state(states: &mut Vec<BodyState>, bodies: &[Option<Body>], slot: usize)
     requires bodies { slot < length bodies.now }
     requires states { slot < length states.old.items }
     ensures { states.new.items ≡ slice_set states.old.items slot (state_of (body_at bodies.now slot)) }
@@ -140,27 +143,28 @@ impl BodyTable {
         clear_slot(&mut self.bodies, slot as usize);
     }
 
-    /// Sets the momentum of the body in a slot.
-    pub fn put_momentum(&mut self, slot: u32, p: Vec2)
-        requires { slot < length self.old.bodies }
-        ensures bodies { self.new.bodies ≡ with_momentum self.old.bodies slot p }
+    /// Makes a change to the body in a slot, if one is there.
+    pub fn change<C: BodyChange>(&mut self, slot: u32, change: &C)
+        requires slot { slot < length self.old.bodies }
+        requires fits { ForSome (body_at self.old.bodies slot) (C.fits change.now) }
+        ensures bodies { self.new.bodies ≡ changed_at (C.after change.now) self.old.bodies slot }
     {
         self.room = 0;
-        put_momentum(&mut self.bodies, slot as usize, p);
-        put_state_momentum(&mut self.states, &self.bodies, slot as usize);
+        change_slot(&mut self.bodies, slot as usize, change);
+        renew_state(&mut self.states, &self.bodies, slot as usize);
     }
 
     /// Runs the ticks of a step, 0 to 8, and its restitution, over the movers and over the contacts in solve order; each mover's fat boxes
     /// that its shapes have left are then made anew. Answers what was added to the movers' momentum, by cause.
-    pub fn run(&mut self, rows: &mut Vec<ContactRow>, gravity: Vec2, count: u64) -> StepSums
+    pub fn run(&mut self, rows: &mut Rows<ContactRow>, gravity: Vec2, count: u64) -> StepSums
         requires few { length self.old.bodies ≤ MAX_SLOTS }
         requires bodies { AreBodies self.old.bodies }
         requires gravity { IsWithin (2 ^ 16) gravity }
-        requires rows { AreRowsBelow (length self.old.bodies) rows.old.items }
+        requires rows { AreRowsBelow (length self.old.bodies) (all_rows rows.old) }
         requires count { count ≤ 8 }
-        ensures run { run_of (ran count gravity (start (states_of self.old.bodies) rows.old.items)).states rows.new.items result ≡ ran count gravity (start (states_of self.old.bodies) rows.old.items) }
-        ensures bodies { self.new.bodies ≡ renewed_bodies (with_motions self.old.bodies (ran count gravity (start (states_of self.old.bodies) rows.old.items)).states) }
-        ensures rows { AreRowsBelow (length self.old.bodies) rows.new.items }
+        ensures run { run_of (ran count gravity (start (states_of self.old.bodies) (all_rows rows.old))).states (all_rows rows.new) result ≡ ran count gravity (start (states_of self.old.bodies) (all_rows rows.old)) }
+        ensures bodies { self.new.bodies ≡ renewed_bodies (with_motions self.old.bodies (ran count gravity (start (states_of self.old.bodies) (all_rows rows.old))).states) }
+        ensures rows { AreRowsBelow (length self.old.bodies) (all_rows rows.new) }
         ensures all_bodies { AreBodies self.new.bodies }
         ensures slots { HaveSameSlots self.old.bodies self.new.bodies }
         ensures small { AreSums (2 ^ 83) result }

@@ -4,7 +4,7 @@ use fixed_geom::{Rot, Vec2};
 use momenta::MassData;
 use plain_world::{BodyDef, Kind};
 use serde_json::{Map, Value};
-use shapes::{Filter, Shape, ShapeDef, Shapes};
+use shapes::{Filter, Pose, Shape, ShapeDef, Shapes};
 use std::alloc::Global;
 use world_core::Command;
 
@@ -221,6 +221,17 @@ fn take_request(alloc: Global, fields: &mut Fields<'_>) -> Result<Request, LineF
         "push" => {
             let body = id_of(fields.take("body")?)?;
             Command::Push(body, vector_of(fields.take("by")?)?)
+        }
+        "push_at" => {
+            let body = id_of(fields.take("body")?)?;
+            let by = vector_of(fields.take("by")?)?;
+            Command::PushAt(body, by, vector_of(fields.take("offset")?)?)
+        }
+        "set_pose" => {
+            let body = id_of(fields.take("body")?)?;
+            let x = vector_of(fields.take("at")?)?;
+            let rot = facing_of(fields.take("facing")?)?;
+            Command::SetPose(body, Pose { x, rot })
         }
         "gravity" => Command::SetGravity(vector_of(fields.take("by")?)?),
         "step" => Command::Step(signed_of(fields.take("ticks")?)?),

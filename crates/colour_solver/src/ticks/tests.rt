@@ -3,10 +3,12 @@ ghost use Rattle.fixed_geom.specs.Vectors.{IsWithin};
 ghost use Rattle.momenta.specs.Impulses.{IsState};
 ghost use Rattle.colour_solver_base.specs.Rows.{IsRow};
 ghost use Rattle.colour_solver.specs.States.{AreAllStates, movers_of};
-ghost use Rattle.colour_solver.specs.Turns.{AreRowsBelow, IsRowBelow};
+ghost use Rattle.colour_solver.specs.ColourRows.{all_rows};
+ghost use Rattle.colour_solver.specs.ContactTurns.{AreRowsBelow, IsRowBelow};
 ghost use Rattle.colour_solver.specs.Ticks.{start, ticks};
 
 use super::run_step;
+use crate::Rows;
 use colour_solver_base::{Bodies, ContactRow, PointRow};
 use fixed_geom::{Refusal, Rot, Vec2};
 use momenta::{BodyState, Gain, MassData, Motion, inverse_reciprocal, reciprocals_of};
@@ -56,10 +58,10 @@ fn one_body(alloc: Global, state: BodyState) -> Result<Vec<BodyState>, Refusal>
     Ok(states)
 }
 
-fn no_rows(alloc: Global) -> Vec<ContactRow>
-    ensures { result.items ≡ [] }
+fn no_rows(alloc: Global) -> Rows<ContactRow>
+    ensures { all_rows result ≡ [] }
 {
-    Vec::new(alloc)
+    Rows::new(alloc)
 }
 
 #[test]
@@ -131,11 +133,13 @@ fn two_bodies(alloc: Global) -> Result<Vec<BodyState>, Refusal>
     Ok(states)
 }
 
-fn one_row(alloc: Global) -> Result<Vec<ContactRow>, Refusal>
-    ensures { IfOk result (λ rows. AreRowsBelow 2 rows.items) }
+fn one_row(alloc: Global) -> Result<Rows<ContactRow>, Refusal>
+    ensures { IfOk result (λ rows. AreRowsBelow 2 (all_rows rows)) }
 {
-    let mut rows = Vec::with_capacity(alloc, 1)?;
-    rows.push(landing())?;
+    let mut rows = Rows::new(alloc);
+    rows.reserve(1, 1)?;
+    rows.push(landing());
+    rows.end_colour();
     Ok(rows)
 }
 
@@ -153,7 +157,7 @@ fn a_point_bounces_off_an_immovable_body(rt: HostRuntime) -> Result<(), Fail> {
             assert_eq!(rt; state.motion.p, at(0, 8192));
         }
     }
-    for row in &rows {
+    for row in rows.as_slice() {
         assert_eq!(rt; row.first.normal_impulse, 16384);
     }
     Ok(())

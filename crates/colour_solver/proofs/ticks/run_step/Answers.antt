@@ -17,6 +17,7 @@ loop-index-preserved c =
       run = rw add-one (made.tick ∙ ap (tick c.args.gravity) known.run);
       all_states = made.states;
       all_rows = made.rows;
+      colours = made.colours ∙ known.colours;
       long = made.long ∙ known.long;
       same = same_on c.args.states.now.items c.loop-index.states.items c.tick-sums.new.states.items known.same made.same;
       small = record {
@@ -30,12 +31,12 @@ loop-index-preserved c =
 
 pub returns-clause-momentum_x : goal.returns-clause-momentum_x
 returns-clause-momentum_x c =
-    rw c.plus.ensures.x (last_added _ _ _ _ _ _ _ c.pass_single-bounced.ensures.momentum_x c.loop-index.invariant.momentum_x)
+    rw c.plus.ensures.x (last_added _ _ _ _ _ _ _ c.pass-bounced.ensures.momentum_x c.loop-index.invariant.momentum_x)
 
 pub returns-clause-momentum_y : goal.returns-clause-momentum_y
 returns-clause-momentum_y c =
-    rw c.plus.ensures.y (last_added _ _ _ _ _ _ _ c.pass_single-bounced.ensures.momentum_y c.loop-index.invariant.momentum_y)
+    rw c.plus.ensures.y (last_added _ _ _ _ _ _ _ c.pass-bounced.ensures.momentum_y c.loop-index.invariant.momentum_y)
 
 pub returns-clause-same : goal.returns-clause-same
 returns-clause-same c =
-    same_on c.args.states.now.items c.loop-index.states.items c.pass_single-bounced.new.states.items c.loop-index.invariant.same c.pass_single-bounced.ensures.same
+    same_on c.args.states.now.items c.loop-index.states.items c.pass-bounced.new.states.items c.loop-index.invariant.same c.pass-bounced.ensures.same

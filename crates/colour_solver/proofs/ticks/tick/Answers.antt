@@ -1,6 +1,7 @@
 use Rattle.std.proofs.Common.{◌^◌, ◌∙◌, sym, length, arith}
 use Rattle.momenta.specs.Motions.{pulled, clamped, advanced}
 use Rattle.colour_solver.specs.States.{total_x, total_y}
+use Rattle.colour_solver.specs.ColourRows.{all_rows}
 use Rattle.colour_solver.specs.Ticks.{tick}
 use Rattle.colour_solver.proofs.SameLaws.{same_on}
 use Rattle.colour_solver.proofs.AwakeLaws.{movers_same}
@@ -10,30 +11,30 @@ use Rattle.colour_solver.proofs.ticks.tick.Goals as goal
 pub pass_two-fallen-requires-clause-fits : goal.pass_two-fallen-requires-clause-fits
 pass_two-fallen-requires-clause-fits c = λ slot s e moves.
     let state = c.requires.states slot s e in
-    record { gravity = c.requires.gravity; mass = state.mass moves; motion = state.motion }
+    record { gravity = c.requires.gravity; mass = state.mass; motion = state.motion }
 
 pub pass_two-fallen-requires-clause-small : goal.pass_two-fallen-requires-clause-small
 pass_two-fallen-requires-clause-small c = λ slot s e moves.
     let p = (c.requires.states slot s e).motion.p in
     record { x = omega (arith, p.x); y = omega (arith, p.y) }
 
-pub pass_single-warm-requires-clause-states : goal.pass_single-warm-requires-clause-states
-pass_single-warm-requires-clause-states c =
+pub pass-warm-requires-clause-states : goal.pass-warm-requires-clause-states
+pass-warm-requires-clause-states c =
     states_after (pulled c.args.gravity) clamped c.args.states.now.items _ c.pass_two-fallen.ensures.states c.requires.states (λ slot s e moves. (c.pass_two-fallen.ensures.gives slot s e moves).motion)
 
-pub pass_single-warm-requires-clause-rows : goal.pass_single-warm-requires-clause-rows
-pass_single-warm-requires-clause-rows c =
-    rows_as_long (length c.pass_two-fallen.new.states.items) (length c.args.states.now.items) c.args.rows.now.items (long_after (pulled c.args.gravity) clamped c.args.states.now.items c.pass_two-fallen.new.states.items c.pass_two-fallen.ensures.states) c.requires.rows
+pub pass-warm-requires-clause-rows : goal.pass-warm-requires-clause-rows
+pass-warm-requires-clause-rows c =
+    rows_as_long (length c.pass_two-fallen.new.states.items) (length c.args.states.now.items) (all_rows c.args.rows.now) (long_after (pulled c.args.gravity) clamped c.args.states.now.items c.pass_two-fallen.new.states.items c.pass_two-fallen.ensures.states) c.requires.rows
 
 pub pass_two-moved-requires-clause-fits : goal.pass_two-moved-requires-clause-fits
 pass_two-moved-requires-clause-fits c = λ slot s e moves.
-    let state = c.pass_single-solved.ensures.all_states slot s e in
+    let state = c.pass-solved.ensures.all_states slot s e in
     let m = state.motion in
-    record { mass = state.mass moves; motion = record { p = record { x = omega (arith, m.p.x); y = omega (arith, m.p.y) }; l = m.l; still = m.still; x = m.x; facing = m.facing } }
+    record { mass = state.mass; motion = record { p = record { x = omega (arith, m.p.x); y = omega (arith, m.p.y) }; l = m.l; still = m.still; x = m.x; facing = m.facing } }
 
 pub pass_two-moved-requires-clause-small : goal.pass_two-moved-requires-clause-small
 pass_two-moved-requires-clause-small c = λ slot s e moves.
-    let p = (c.pass_single-solved.ensures.all_states slot s e).motion.p in
+    let p = (c.pass-solved.ensures.all_states slot s e).motion.p in
     record { x = omega (arith, p.x); y = omega (arith, p.y) }
 
 pub plus-requires-6-clause-first : goal.plus-requires-6-clause-first
@@ -47,17 +48,17 @@ unfolding tick
 returns-clause-tick c =
     rw (c.plus.ensures.x, c.plus.ensures.y, c.plus-3.ensures.x, c.plus-3.ensures.y, c.plus-2.ensures.x, c.plus-2.ensures.y, c.plus-6.ensures.x, c.plus-6.ensures.y, c.plus-5.ensures.x, c.plus-5.ensures.y, c.plus-4.ensures.x, c.plus-4.ensures.y)
     (rw (c.pass_two-moved.ensures.states, c.pass_two-moved.ensures.first_x, c.pass_two-moved.ensures.first_y, c.pass_two-moved.ensures.second_x, c.pass_two-moved.ensures.second_y)
-    (rw (c.pass_single-solved.ensures.states, c.pass_single-solved.ensures.rows, c.pass_single-solved.ensures.share_x, c.pass_single-solved.ensures.share_y)
-    (rw (c.pass_single-warm.ensures.states, c.pass_single-warm.ensures.rows, c.pass_single-warm.ensures.share_x, c.pass_single-warm.ensures.share_y)
+    (rw (c.pass-solved.ensures.states, c.pass-solved.ensures.rows, c.pass-solved.ensures.share_x, c.pass-solved.ensures.share_y)
+    (rw (c.pass-warm.ensures.states, c.pass-warm.ensures.rows, c.pass-warm.ensures.share_x, c.pass-warm.ensures.share_y)
     (rw (c.pass_two-fallen.ensures.states, c.pass_two-fallen.ensures.first_x, c.pass_two-fallen.ensures.first_y, c.pass_two-fallen.ensures.second_x, c.pass_two-fallen.ensures.second_y)))))
 
 pub returns-clause-states : goal.returns-clause-states
 returns-clause-states c =
-    states_after clamped advanced c.pass_single-solved.new.states.items _ c.pass_two-moved.ensures.states c.pass_single-solved.ensures.all_states c.pass_two-moved.ensures.gives
+    states_after clamped advanced c.pass-solved.new.states.items _ c.pass_two-moved.ensures.states c.pass-solved.ensures.all_states c.pass_two-moved.ensures.gives
 
 pub returns-clause-rows : goal.returns-clause-rows
 returns-clause-rows c =
-    rows_as_long (length c.pass_two-moved.new.states.items) (length c.pass_single-solved.new.states.items) c.pass_single-solved.new.rows.items (long_after clamped advanced c.pass_single-solved.new.states.items c.pass_two-moved.new.states.items c.pass_two-moved.ensures.states) c.pass_single-solved.ensures.all_rows
+    rows_as_long (length c.pass_two-moved.new.states.items) (length c.pass-solved.new.states.items) (all_rows c.pass-solved.new.self) (long_after clamped advanced c.pass-solved.new.states.items c.pass_two-moved.new.states.items c.pass_two-moved.ensures.states) c.pass-solved.ensures.all_rows
 
 pub returns-clause-grown : goal.returns-clause-grown
 returns-clause-grown c = λ n h.
@@ -69,8 +70,8 @@ returns-clause-grown c = λ n h.
         y = rw c.plus.ensures.y (one_more c.args.sums.gravity.y fallen.result.first.y n h.gravity.y fallen.ensures.small_first.y);
       };
       immovable = record {
-        x = rw (c.plus-3.ensures.x, c.plus-2.ensures.x) (two_more c.args.sums.immovable.x c.pass_single-warm.result.x c.pass_single-solved.result.x n h.immovable.x c.pass_single-warm.ensures.small.x c.pass_single-solved.ensures.small.x);
-        y = rw (c.plus-3.ensures.y, c.plus-2.ensures.y) (two_more c.args.sums.immovable.y c.pass_single-warm.result.y c.pass_single-solved.result.y n h.immovable.y c.pass_single-warm.ensures.small.y c.pass_single-solved.ensures.small.y);
+        x = rw (c.plus-3.ensures.x, c.plus-2.ensures.x) (two_more c.args.sums.immovable.x c.pass-warm.result.x c.pass-solved.result.x n h.immovable.x c.pass-warm.ensures.small.x c.pass-solved.ensures.small.x);
+        y = rw (c.plus-3.ensures.y, c.plus-2.ensures.y) (two_more c.args.sums.immovable.y c.pass-warm.result.y c.pass-solved.result.y n h.immovable.y c.pass-warm.ensures.small.y c.pass-solved.ensures.small.y);
       };
       clamp = record {
         x = rw (c.plus-6.ensures.x, c.plus-5.ensures.x, c.plus-4.ensures.x) (three_more c.args.sums.clamp.x fallen.result.second.x moved.result.first.x moved.result.second.x n h.clamp.x fallen.ensures.small_second.x moved.ensures.small_first.x moved.ensures.small_second.x);
@@ -81,8 +82,8 @@ returns-clause-grown c = λ n h.
 pub returns-clause-momentum_x : goal.returns-clause-momentum_x
 returns-clause-momentum_x c =
     let fallen = c.pass_two-fallen in
-    let warm = c.pass_single-warm in
-    let solved = c.pass_single-solved in
+    let warm = c.pass-warm in
+    let solved = c.pass-solved in
     let moved = c.pass_two-moved in
     let sums = c.args.sums in
     rw (c.plus.ensures.x, c.plus-3.ensures.x, c.plus-2.ensures.x, c.plus-6.ensures.x, c.plus-5.ensures.x, c.plus-4.ensures.x)
@@ -95,8 +96,8 @@ returns-clause-momentum_x c =
 pub returns-clause-momentum_y : goal.returns-clause-momentum_y
 returns-clause-momentum_y c =
     let fallen = c.pass_two-fallen in
-    let warm = c.pass_single-warm in
-    let solved = c.pass_single-solved in
+    let warm = c.pass-warm in
+    let solved = c.pass-solved in
     let moved = c.pass_two-moved in
     let sums = c.args.sums in
     rw (c.plus.ensures.y, c.plus-3.ensures.y, c.plus-2.ensures.y, c.plus-6.ensures.y, c.plus-5.ensures.y, c.plus-4.ensures.y)
@@ -110,8 +111,8 @@ pub returns-clause-same : goal.returns-clause-same
 returns-clause-same c =
     let first = c.args.states.now.items in
     let fallen = c.pass_two-fallen in
-    let warm = c.pass_single-warm in
-    let solved = c.pass_single-solved in
+    let warm = c.pass-warm in
+    let solved = c.pass-solved in
     let moved = c.pass_two-moved in
     same_on first solved.new.states.items moved.new.states.items
     (same_on first warm.new.states.items solved.new.states.items (same_on first fallen.new.states.items warm.new.states.items fallen.ensures.same warm.ensures.same) solved.ensures.same) moved.ensures.same
@@ -120,10 +121,10 @@ pub pass_two-fallen-requires-clause-reciprocals : goal.pass_two-fallen-requires-
 pass_two-fallen-requires-clause-reciprocals c = λ slot s e. (c.requires.states slot s e).reciprocals
 
 pub pass_two-moved-requires-clause-reciprocals : goal.pass_two-moved-requires-clause-reciprocals
-pass_two-moved-requires-clause-reciprocals c = λ slot s e. (c.pass_single-solved.ensures.all_states slot s e).reciprocals
+pass_two-moved-requires-clause-reciprocals c = λ slot s e. (c.pass-solved.ensures.all_states slot s e).reciprocals
 
 pub pass_two-moved-requires-clause-awake : goal.pass_two-moved-requires-clause-awake
 pass_two-moved-requires-clause-awake c =
     let fallen = c.pass_two-fallen.new.states.items in
-    let warm = c.pass_single-warm.new.states.items in
-    c.requires.awake ∙ sym c.pass_two-fallen.ensures.movers ∙ sym (movers_same fallen warm c.pass_single-warm.ensures.same) ∙ sym (movers_same warm c.pass_single-solved.new.states.items c.pass_single-solved.ensures.same)
+    let warm = c.pass-warm.new.states.items in
+    c.requires.awake ∙ sym c.pass_two-fallen.ensures.movers ∙ sym (movers_same fallen warm c.pass-warm.ensures.same) ∙ sym (movers_same warm c.pass-solved.new.states.items c.pass-solved.ensures.same)

@@ -2,4 +2,4 @@ use Rattle.colour_solver.proofs.ColourLaw.{colour_law}
 use Rattle.colour_solver.proofs.turns.colours_at_once.Goals as goal
 
 pub returns : goal.returns
-returns c = colour_law
+returns g c = colour_law g.R.Row.slots

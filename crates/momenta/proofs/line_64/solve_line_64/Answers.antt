@@ -1,5 +1,5 @@
-use Rattle.std.proofs.Common.{◌≡◌, ◌≤ℤ◌, refl, rules}
-use Rattle.std.proofs.lemmas.Int.{to_z-of_z}
+use Rattle.std.proofs.Common.{◌≡◌, ℕ, ◌≤◌, ◌^◌, ℤ, ◌≤ℤ◌, unsigned_abs, arith, refl, rules}
+use Rattle.std.proofs.lemmas.Int.{to_z-of_z, ints}
 use Rattle.std.specs.Int.{w64, w128}
 use mir.Val.{SFits}
 use Rattle.momenta.specs.Impulses.{solved, speed_along}
@@ -9,6 +9,19 @@ use Rattle.momenta.proofs.line_64.solve_line_64.Goals as goal
 
 pub part_along_64-speed-requires-clause-v : goal.part_along_64-speed-requires-clause-v
 part_along_64-speed-requires-clause-v c = c.if-not-has_product_64.ensures.within refl
+
+-- what lies between two numbers is no larger than both
+inside : (low high x : ℤ) (n : ℕ) → unsigned_abs low ≤ n → unsigned_abs high ≤ n → low ≤ℤ x → x ≤ℤ high → unsigned_abs x ≤ n
+inside low high x n a b c d = omega (arith, ints, a, b, c, d)
+
+pub exert_64-requires-clause-new : goal.exert_64-requires-clause-new
+exert_64-requires-clause-new c =
+    let low : SFits w64 c.args.low = c.ranges.low in
+    let high : SFits w64 c.args.high = c.ranges.high in
+    let next : SFits w64 c.in-Some.next = search rules in
+    let least = rw c.in-Some.is at (simp to_z-of_z at c.checked_total_64.ensures.low) in
+    let most = rw c.in-Some.is at (simp to_z-of_z at c.checked_total_64.ensures.high) in
+    simp to_z-of_z (inside c.args.low c.args.high c.in-Some.next (2 ^ 43) c.requires.low c.requires.high least most)
 
 pub returns-in-Some-clause-value : goal.returns-in-Some-clause-value
 unfolding solved speed_along

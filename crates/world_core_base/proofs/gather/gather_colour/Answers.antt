@@ -1,5 +1,5 @@
-use Rattle.std.proofs.Common.{length, sym, subst, arith}
-use Rattle.colour_solver.specs.Turns.{AreRowsBelow, IsRowBelow}
+use Rattle.std.proofs.Common.{◌∙◌, length, sym, subst, arith}
+use Rattle.colour_solver.specs.ContactTurns.{AreRowsBelow, IsRowBelow}
 use Rattle.graph_colours.specs.declared.member.Member.{Member}
 use Rattle.contacts.specs.declared.constraint.Constraint.{Constraint}
 use Rattle.world_core_base.specs.Gather.{row_of}
@@ -9,10 +9,11 @@ use Rattle.world_core_base.proofs.gather.gather_colour.Goals as goal
 pub loop-member-preserved : goal.loop-member-preserved
 loop-member-preserved c =
     let find = λ (m : Member Constraint). row_of c.args.states.now c.args.contacts.now m.id in
-    let pushed = c.push_row.ensures.value in
+    let pushed = c.push_row.ensures.left in
     record {
-      value = rw (pushed, c.row_of.ensures.value) (row_more find c.loop-member.rows.items _ c.args.members.now c.loop-member.member-index _ c.loop-member-test.true c.loop-member.invariant.value);
-      rows = subst (AreRowsBelow (length c.args.states.now)) (sym pushed) (all_more (IsRowBelow (length c.args.states.now)) c.loop-member.rows.items c.row_of.result c.loop-member.invariant.rows c.row_of.ensures.row);
+      colours = c.push_row.ensures.colours ∙ c.loop-member.invariant.colours;
+      left = rw (pushed, c.row_of.ensures.value) (row_more find c.loop-member.rows.left _ c.args.members.now c.loop-member.member-index _ c.loop-member-test.true c.loop-member.invariant.left);
+      rows = subst (AreRowsBelow (length c.args.states.now)) (sym pushed) (all_more (IsRowBelow (length c.args.states.now)) c.loop-member.rows.left c.row_of.result c.loop-member.invariant.rows c.row_of.ensures.row);
       room = omega (arith, c.push_row.ensures.room, c.loop-member.invariant.room);
-      capacity = omega (arith, c.push_row.ensures.capacity, c.loop-member.invariant.capacity);
+      more = c.push_row.ensures.more ∙ c.loop-member.invariant.more;
     }

@@ -3,6 +3,7 @@ use Rattle.std.proofs.lemmas.Int.{to_z-of_z}
 use Rattle.shapes.specs.Shapes.{is_between}
 use Rattle.contacts_base.specs.declared.contact.ContactEntry.{ContactEntry}
 use Rattle.contacts_base.specs.Contacts.{AreKeysRising}
+use Rattle.colour_solver.specs.ColourRows.{all_rows}
 use Rattle.colour_solver.specs.declared.ticks.StepSums.{StepSums}
 use Rattle.colour_solver.specs.Ticks.{Run, ran, run_of, start}
 use Rattle.colour_solver.proofs.TickLaws.{rows_as_long}
@@ -47,7 +48,7 @@ gather_rows-requires-clause-contacts c =
 pub run-sums-requires-clause-rows : goal.run-sums-requires-clause-rows
 run-sums-requires-clause-rows c =
     let long : length c.self.inside.bodies.bodies ≡ length c.states.result.now = rw c.states.ensures (sym (length-states c.self.inside.bodies.bodies)) in
-    rows_as_long (length c.self.inside.bodies.bodies) (length c.states.result.now) c.gather_rows.new.rows.items long c.gather_rows.ensures.rows
+    rows_as_long (length c.self.inside.bodies.bodies) (length c.states.result.now) (all_rows c.gather_rows.new.rows) long c.gather_rows.ensures.rows
 
 pub book_step-requires-clause-roomy : goal.book_step-requires-clause-roomy
 book_step-requires-clause-roomy c = IsRoomy-same _ _ c.in_ok-reserve.ensures.entries c.in_ok-reserve.ensures.settled (IsRoomy-sound _ 0 (kept_sound _ c.self.invariant.sound))
@@ -58,10 +59,10 @@ invariant_of-self-2 c =
     let bodies = c.self.inside.bodies.bodies in
     let sums : StepSums = c.run-sums.result in
     let calls : c.self.inside.calls < 2 ^ 40 = rw (← c.self.view_is) at c.requires in
-    let r : Run = ran c.unsigned_abs.result c.self.inside.gravity (start (states_of bodies) c.gather_rows.new.rows.items) in
+    let r : Run = ran c.unsigned_abs.result c.self.inside.gravity (start (states_of bodies) (all_rows c.gather_rows.new.rows)) in
     let is_now : c.in_ok-changes.changes.now ≡ contacts_after bodies c.self.inside.contacts = rw c.bodies.ensures at c.in_ok-changes.ensures.now in
-    let put : c.put_impulses.new.contacts ≡ with_rows c.in_ok-changes.changes.now c.run-sums.new.rows.items = rw c.deref-3.ensures.value at c.put_impulses.ensures.value in
-    let is_contacts : c.put_impulses.new.contacts ≡ with_rows (contacts_after bodies c.self.inside.contacts) c.run-sums.new.rows.items = put ∙ ap (λ (es : List ContactEntry). with_rows es c.run-sums.new.rows.items) is_now in
+    let put : c.put_impulses.new.contacts ≡ with_rows c.in_ok-changes.changes.now (all_rows c.run-sums.new.rows) = rw c.as_slice-2.ensures at c.put_impulses.ensures.value in
+    let is_contacts : c.put_impulses.new.contacts ≡ with_rows (contacts_after bodies c.self.inside.contacts) (all_rows c.run-sums.new.rows) = put ∙ ap (λ (es : List ContactEntry). with_rows es (all_rows c.run-sums.new.rows)) is_now in
     let turned_to : c.turn_colours.new.colours.lists ≡ turned bodies c.self.inside.colours.lists (collided_in w).begin (collided_in w).end =
     rw (c.bodies-3.ensures, c.in_ok-reserve-2.ensures.lists, c.deref.ensures.value, c.deref-2.ensures.value, c.in_ok-changes.ensures.begin, c.in_ok-changes.ensures.end, c.bodies.ensures) at c.turn_colours.ensures.lists in
     let is_lists : c.turn_colours.new.colours.lists ≡ lists_in w = turned_to ∙ ap (λ (old : Lists). turned bodies old (collided_in w).begin (collided_in w).end) c.self.invariant.members in
@@ -73,7 +74,7 @@ invariant_of-self-2 c =
       momentum_y = c.run-sums.ensures.momentum_y;
     } in
     rw (c.book_step.ensures.entries, c.book_step.ensures.settled, c.in_ok-reserve.ensures.entries, c.in_ok-reserve.ensures.settled)
-    (step_whole w c.self.inside.colours.lists c.run-sums.new.self.bodies c.put_impulses.new.contacts c.turn_colours.new.colours.lists r.states c.run-sums.new.rows.items sums c.events_of.result (length bodies)
+    (step_whole w c.self.inside.colours.lists c.run-sums.new.self.bodies c.put_impulses.new.contacts c.turn_colours.new.colours.lists r.states (all_rows c.run-sums.new.rows) sums c.events_of.result (length bodies)
     c.run-sums.ensures.bodies is_contacts is_lists c.self.invariant calls step (subst AreKeysRising (c.as_slice.ensures.value ∙ is_now) c.as_slice.ensures.contacts.rising) c.run-sums.ensures.rows)
 
 pub returns : goal.returns
@@ -82,14 +83,14 @@ returns c =
     let bodies = c.self.inside.bodies.bodies in
     let between : is_between (pos 1) (pos 8) c.args.ticks ≡ true = search (rules, tests) in
     let count : c.unsigned_abs.result ≡ unsigned_abs c.args.ticks = grind (arith, to_z-of_z) in
-    let before : Run = ran c.unsigned_abs.result c.self.inside.gravity (start (states_of bodies) c.gather_rows.new.rows.items) in
+    let before : Run = ran c.unsigned_abs.result c.self.inside.gravity (start (states_of bodies) (all_rows c.gather_rows.new.rows)) in
     let r : Run = run_after w.plain (unsigned_abs c.args.ticks) (contacts_after bodies c.self.inside.contacts) (lists_in w) in
     let turned_to : c.turn_colours.new.colours.lists ≡ turned bodies c.self.inside.colours.lists (collided_in w).begin (collided_in w).end =
     rw (c.bodies-3.ensures, c.in_ok-reserve-2.ensures.lists, c.deref.ensures.value, c.deref-2.ensures.value, c.in_ok-changes.ensures.begin, c.in_ok-changes.ensures.end, c.bodies.ensures) at c.turn_colours.ensures.lists in
     let is_lists : c.turn_colours.new.colours.lists ≡ lists_in w = turned_to ∙ ap (λ (old : Lists). turned bodies old (collided_in w).begin (collided_in w).end) c.self.invariant.members in
     let same : before ≡ r =
     rw (count, c.gather_rows.ensures.value, c.states.ensures, c.as_slice.ensures.value, is_lists, c.in_ok-changes.ensures.now, c.bodies.ensures) refl in
-    let run : run_of r.states c.run-sums.new.rows.items c.run-sums.result ≡ r = subst (λ (q : Run). run_of q.states c.run-sums.new.rows.items c.run-sums.result ≡ q) same c.run-sums.ensures.run in
+    let run : run_of r.states (all_rows c.run-sums.new.rows) c.run-sums.result ≡ r = subst (λ (q : Run). run_of q.states (all_rows c.run-sums.new.rows) c.run-sums.result ≡ q) same c.run-sums.ensures.run in
     let is_bodies : c.run-sums.new.self.bodies ≡ renewed_bodies (with_motions bodies r.states) = c.run-sums.ensures.bodies ∙ ap (λ (q : Run). renewed_bodies (with_motions bodies q.states)) same in
-    rw (← c.self.view_is, c.events_of.ensures, is_bodies, c.put_impulses.ensures.value, c.deref-3.ensures.value, is_lists, c.in_ok-changes.ensures.now, c.in_ok-changes.ensures.begin, c.in_ok-changes.ensures.end, c.bodies.ensures, c.book_step.ensures.entries, c.book_step.ensures.settled, c.in_ok-reserve.ensures.entries, c.in_ok-reserve.ensures.settled)
-    (step_answers w c.args.ticks r.states c.run-sums.new.rows.items c.run-sums.result between run)
+    rw (← c.self.view_is, c.events_of.ensures, is_bodies, c.put_impulses.ensures.value, c.as_slice-2.ensures, is_lists, c.in_ok-changes.ensures.now, c.in_ok-changes.ensures.begin, c.in_ok-changes.ensures.end, c.bodies.ensures, c.book_step.ensures.entries, c.book_step.ensures.settled, c.in_ok-reserve.ensures.entries, c.in_ok-reserve.ensures.settled)
+    (step_answers w c.args.ticks r.states (all_rows c.run-sums.new.rows) c.run-sums.result between run)

@@ -1,5 +1,6 @@
 use Rattle.std.proofs.Common.{◌≡◌, ℤ, ◌+ℤ◌, length, ap, sym, ◌∙◌}
 use Rattle.colour_solver.specs.States.{total_x, total_y}
+use Rattle.colour_solver.specs.ColourRows.{all_rows}
 use Rattle.colour_solver.specs.Ticks.{added_x, added_y}
 use Rattle.colour_solver.proofs.TickLaws.{rows_as_long}
 use Rattle.plain_world.specs.Bodies.{AreBodies}
@@ -17,7 +18,7 @@ move_awake-requires-clause-bodies c = rw (← c.self.view_is) at c.requires.bodi
 pub returns-clause-rows : goal.returns-clause-rows
 returns-clause-rows c =
     let long : length c.self.inside.bodies.items ≡ length c.run_step-sums.new.states.items = sym (c.run_step-sums.ensures.long ∙ ap length c.self.invariant.states ∙ length-states c.self.inside.bodies.items) in
-    rw (← c.self.view_is) (rows_as_long (length c.self.inside.bodies.items) (length c.run_step-sums.new.states.items) c.run_step-sums.new.rows.items long c.run_step-sums.ensures.rows)
+    rw (← c.self.view_is) (rows_as_long (length c.self.inside.bodies.items) (length c.run_step-sums.new.states.items) (all_rows c.run_step-sums.new.rows) long c.run_step-sums.ensures.rows)
 
 pub returns-clause-momentum_x : goal.returns-clause-momentum_x
 returns-clause-momentum_x c =

@@ -1,0 +1,39 @@
+-- Changes of one body in its slot, which leave it a mover, or none, as it was.
+use Rattle.std.specs.Prelude.{◌≡◌, Bool, true, false, ℕ, List, Option, Some, None, option_map, slice_set}
+use Rattle.momenta.specs.declared.motion.Momenta.{Momenta}
+use Rattle.shapes.specs.Poses.{IsPose}
+use Rattle.shapes.specs.declared.pose.Pose.{Pose}
+use Rattle.plain_world.specs.declared.body.Body.{Body}
+use Rattle.plain_world.specs.declared.kind.Course.{Course}
+use Rattle.plain_world.specs.declared.kind.Kind.TheVariants.{Kinematic}
+use Rattle.plain_world.specs.Bodies.{IsBody, is_awake}
+use Rattle.plain_world.specs.Fats.{renewed_boxes}
+use Rattle.plain_world.specs.Slots.{body_at}
+
+-- the body in a slot changed
+abbrev pub changed_at : (Body → Body) → List (Option Body) → ℕ → List (Option Body)
+changed_at f bodies slot = slice_set bodies slot (option_map f (body_at bodies slot))
+
+-- an awake mover is there
+abbrev pub is_awake_in : Option Body → Bool
+is_awake_in None = false
+is_awake_in (Some b) = is_awake b
+
+-- ---- the changes
+
+-- other momenta
+abbrev pub put_momenta : Momenta → Body → Body
+put_momenta m b = record b { motion = record b.motion { p = m.p; l = m.l } }
+
+-- another pose: fat boxes are made anew where the shapes' tight boxes leave them
+abbrev pub put_pose : Pose → Body → Body
+put_pose o b = record b { motion = record b.motion { x = o.x; rot = o.rot }; fats = renewed_boxes o b.shapes b.fats }
+
+-- another course, of a kinematic body
+abbrev pub put_course : Course → Body → Body
+put_course course b = record b { kind = Kinematic course }
+
+-- a body that can have another pose
+pub record CanPose (o : Pose) (b : Body) : Type 0 where
+  pub body : IsBody b
+  pub pose : IsPose o

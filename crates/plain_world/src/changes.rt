@@ -1,0 +1,75 @@
+//! Changes of one body in its slot.
+
+ghost use Rattle.std.specs.Prelude.{◌≡◌, ◌<◌, true, vec_len};
+ghost use Rattle.std.specs.Option.{ForSome};
+ghost use Rattle.plain_world.specs.declared.body.Body.{Body};
+ghost use Rattle.plain_world.specs.Bodies.{is_awake};
+ghost use Rattle.plain_world.specs.Changes.{CanPose, changed_at, is_awake_in, put_course, put_momenta, put_pose};
+ghost use Rattle.plain_world.specs.Kinds.{is_kinematic};
+ghost use Rattle.plain_world.specs.Slots.{body_at};
+
+use crate::body::Body;
+use crate::kind::{Course, Kind};
+use momenta::Momenta;
+use shapes::Pose;
+
+/// A change of a body that leaves it an awake mover, or none, as it was.
+pub trait BodyChange {
+    ghost after: { Self → Body → Body };
+
+    /// The bodies that it may be made to.
+    ghost fits: { Self → Body → Type 0 };
+
+    fn change(&self, body: &mut Body)
+        requires { fits self.now body.old }
+        ensures value { body.new ≡ after self.now body.old }
+        ensures awake { is_awake body.new ≡ is_awake body.old };
+}
+
+/// Other momenta.
+impl BodyChange for Momenta {
+    ghost after = { λ m b. put_momenta m b };
+
+    ghost fits = { λ _ _. Unit {0} };
+
+    fn change(&self, body: &mut Body) {
+        body.motion.p = self.p;
+        body.motion.l = self.l;
+    }
+}
+
+/// Another pose: the momenta stay, and fat boxes are made anew where the shapes' tight boxes leave them.
+impl BodyChange for Pose {
+    ghost after = { λ o b. put_pose o b };
+
+    ghost fits = { λ o b. CanPose o b };
+
+    fn change(&self, body: &mut Body) {
+        body.motion.x = self.x;
+        body.motion.rot = self.rot;
+        body.fats.renew(body.shapes.as_slice(), *self);
+    }
+}
+
+/// Another velocity and spin of a kinematic body.
+impl BodyChange for Course {
+    ghost after = { λ course b. put_course course b };
+
+    ghost fits = { λ _ b. is_kinematic b.kind ≡ true };
+
+    fn change(&self, body: &mut Body) {
+        body.kind = Kind::Kinematic(*self);
+    }
+}
+
+/// Makes a change to the body in a slot, if one is there.
+pub fn change_slot<C: BodyChange>(bodies: &mut Vec<Option<Body>>, slot: usize, change: &C)
+    requires slot { slot < vec_len bodies.old }
+    requires fits { ForSome (body_at bodies.old.items slot) (C.fits change.now) }
+    ensures value { bodies.new.items ≡ changed_at (C.after change.now) bodies.old.items slot }
+    ensures awake { is_awake_in (body_at bodies.new.items slot) ≡ is_awake_in (body_at bodies.old.items slot) }
+{
+    if let Some(body) = &mut bodies[slot] {
+        change.change(body);
+    }
+}

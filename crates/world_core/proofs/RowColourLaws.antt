@@ -1,0 +1,82 @@
+-- A constraint with its movers, as the solver sees its bodies.
+use Rattle.std.proofs.Common.{◌≡◌, ℕ, zero, suc, ◌<◌, ◌+◌, ◌==◌, ◌||◌, Bool, true, false, List, [], ◌∷◌, ◌++◌, length, get_or, Option, Some, None, All, arith, refl, sym, ap, ◌∙◌, subst}
+use Rattle.std.specs.List.{flat_map}
+use Rattle.std.proofs.lemmas.Bool.Decides.{nat_tests}
+use Rattle.std.proofs.lemmas.List.{length-append}
+use Rattle.graph_colours.specs.declared.limits.TheConstants.{COLOURS}
+use Rattle.graph_colours.specs.declared.member.Movers.{Movers}
+use Rattle.graph_colours.specs.declared.member.Member.{Member}
+use Rattle.graph_colours.specs.Movers.{has_mover}
+use Rattle.contacts_base.specs.declared.key.ContactKey.{ContactKey}
+use Rattle.contacts.specs.declared.constraint.Constraint.{Constraint}
+use Rattle.plain_world.specs.declared.body.Body.{Body}
+use Rattle.colour_solver.specs.Colour.{is_mover}
+use Rattle.world_core_base.specs.Gather.{moves, states_of}
+use Rattle.world_core_base.specs.RowColours.{HasBoth, HasItsMovers}
+use Rattle.world_core_base.proofs.RowColourLaws.{colour_rows_apart}
+use Rattle.world_core.specs.Colouring.{AreColoured, Lists, movers_if, movers_of}
+use Rattle.world_core.specs.RowColours.{ColouredRowsAreColours}
+
+moves_back : (bodies : List (Option Body)) (slot : ℕ) → is_mover (states_of bodies) slot ≡ true → moves bodies slot ≡ true
+moves_back [] slot e = e
+moves_back (None ∷ os) zero e = e
+moves_back (Some b ∷ os) zero e = e
+moves_back (o ∷ os) (suc slot) e = moves_back os slot e
+
+same_slot : (a : ℕ) → (a == a) ≡ true
+same_slot a = grind (arith, nat_tests)
+
+or_true : (t u : Bool) → u ≡ true → (t || u) ≡ true
+or_true true u h = refl
+or_true false u h = h
+
+true_or : (t u : Bool) → t ≡ true → (t || u) ≡ true
+true_or true u h = refl
+true_or false u h = absurd (cc h)
+
+-- the movers among two bodies
+among : (first second : Bool) (a b : ℕ) (m : Movers) → movers_if first second a b ≡ Some m → (first ≡ true → has_mover m a ≡ true) × (second ≡ true → has_mover m b ≡ true)
+among true true a b m e =
+    let is : record { first = a; second = Some b } ≡ m = cc e in
+    (λ h. subst (λ (o : Movers). has_mover o a ≡ true) is (true_or (a == a) (b == a) (same_slot a)), λ h. subst (λ (o : Movers). has_mover o b ≡ true) is (or_true (a == b) (b == b) (same_slot b)))
+among true false a b m e =
+    let is : record { first = a; second = None } ≡ m = cc e in
+    (λ h. subst (λ (o : Movers). has_mover o a ≡ true) is (true_or (a == a) false (same_slot a)), λ h. absurd (cc h))
+among false true a b m e =
+    let is : record { first = b; second = None } ≡ m = cc e in
+    (λ h. absurd (cc h), λ h. subst (λ (o : Movers). has_mover o b ≡ true) is (true_or (b == b) false (same_slot b)))
+among false false a b m e = absurd (cc e)
+
+has_its : (bodies : List (Option Body)) (m : Member Constraint) → movers_of bodies m.id ≡ Some m.movers → HasItsMovers (states_of bodies) m
+has_its bodies m is = λ key named.
+    let here : movers_if (moves bodies key.first.slot) (moves bodies key.second.slot) key.first.slot key.second.slot ≡ Some m.movers = ap (movers_of bodies) (sym named) ∙ is in
+    let both = among (moves bodies key.first.slot) (moves bodies key.second.slot) key.first.slot key.second.slot m.movers here in
+    record { first = λ h. both.0 (moves_back bodies key.first.slot h); second = λ h. both.1 (moves_back bodies key.second.slot h) }
+
+-- what holds of all elements of lists that are joined holds of each list's
+get_or-front : {X : Type 0} (xs ys : List X) (k : ℕ) (d : X) → k < length xs → get_or (xs ++ ys) k d ≡ get_or xs k d
+get_or-front [] ys k d h = absurd (omega (arith, h))
+get_or-front (x ∷ xs) ys zero d h = refl
+get_or-front (x ∷ xs) ys (suc k) d h = get_or-front xs ys k d (omega (arith, h))
+
+get_or-behind : {X : Type 0} (xs ys : List X) (k : ℕ) (d : X) → get_or (xs ++ ys) (length xs + k) d ≡ get_or ys k d
+get_or-behind [] ys k d = ap (λ (n : ℕ). get_or ys n d) (let same : 0 + k ≡ k = omega arith in same)
+get_or-behind (x ∷ xs) ys k d = ap (λ (n : ℕ). get_or (x ∷ (xs ++ ys)) n d) (let same : suc (length xs) + k ≡ suc (length xs + k) = omega arith in same) ∙ get_or-behind xs ys k d
+
+each_first : {X : Type 0} (P : X → Type 0) (xs : List X) (lists : List (List X)) → All P xs → All (All P) lists → All (All P) (xs ∷ lists)
+each_first P xs lists here rest zero d lt = here
+each_first P xs lists here rest (suc k) d lt = rest k d (omega (arith, lt))
+
+in_each : {X : Type 0} (P : X → Type 0) (lists : List (List X)) → All P (flat_map (λ (xs : List X). xs) lists) → All (All P) lists
+in_each P [] all = λ k d lt. absurd (omega (arith, lt))
+in_each {X} P (xs ∷ lists) all =
+    let rest : List X = flat_map (λ (ys : List X). ys) lists in
+    let long : length (xs ++ rest) ≡ length xs + length rest = length-append xs rest in
+    each_first P xs lists (λ k d lt. subst P (get_or-front xs rest k d lt) (all k d (omega (arith, lt, long))))
+    (in_each P lists (λ k d lt. subst P (get_or-behind xs rest k d) (all (length xs + k) d (omega (arith, lt, long)))))
+
+pub coloured_rows : ColouredRowsAreColours
+coloured_rows bodies contacts lists colour coloured lt =
+    let of_all : All (HasItsMovers (states_of bodies)) (flat_map (λ (ms : List (Member Constraint)). ms) lists) = λ k d inside. has_its bodies (get_or (flat_map (λ (ms : List (Member Constraint)). ms) lists) k d) (coloured.movers k d inside) in
+    let count : length lists ≡ COLOURS + 1 = coloured.colouring.count in
+    colour_rows_apart (states_of bodies) contacts lists colour (in_each (HasItsMovers (states_of bodies)) lists of_all) coloured.colouring.apart (omega (arith, count)) lt

@@ -1,0 +1,63 @@
+-- What a frame shows of a world, and what settling the ledger leaves.
+use Rattle.std.specs.Prelude.{ℕ, zero, suc, ◌==◌, cond, List, [], ◌∷◌, ◌++◌, length, Option, Some, None, slice_get}
+use Rattle.body_handles.specs.declared.handle.Handle.{Handle}
+use Rattle.body_handles.specs.declared.places.Place.{Place}
+use Rattle.body_handles.specs.Places.{generation_at}
+use Rattle.impulse_ledger.specs.declared.totals.Total.{Total}
+use Rattle.impulse_ledger.specs.Sums.{total_x, total_y, totals_of}
+use Rattle.plain_world.specs.declared.body.Body.{Body}
+use Rattle.plain_world.specs.Bodies.{pose_of, momentum_x, momentum_y}
+use Rattle.plain_world.specs.Slots.{body_at, body_in}
+use Rattle.shapes.specs.declared.pose.Pose.{Pose}
+use Rattle.world_core.specs.declared.frame.FrameBody.{FrameBody}
+use Rattle.world_core.specs.World.{World, book_of}
+
+-- ---- frames
+
+-- what contracts see of a frame
+pub record View : Type 0 where
+  -- the enabled body in each slot
+  pub bodies : List (Option FrameBody)
+  pub momentum : Total
+  pub booked : Total
+  pub calls : ℕ
+
+-- a body is shown if it is enabled
+abbrev pub shown_body : Handle → Body → Option FrameBody
+shown_body h b = cond b.enabled (Some (record { handle = h; pose = pose_of b; shapes = b.shapes })) None
+
+abbrev pub shown : Handle → Option Body → Option FrameBody
+shown h None = None
+shown h (Some b) = shown_body h b
+
+-- what is shown of the slots below n
+abbrev pub shown_up : List Place → List (Option Body) → ℕ → List (Option FrameBody)
+shown_up places bodies zero = []
+shown_up places bodies (suc n) = shown_up places bodies n ++ shown (record { slot = n; generation = generation_at places n }) (body_at bodies n) ∷ []
+
+-- the frame of a world: its enabled bodies by slot, the movers' momentum, the ledger's total, and the number of calls
+abbrev pub frame_of : World → View
+frame_of w = record {
+  bodies = shown_up w.plain.places w.plain.bodies (length w.plain.bodies);
+  momentum = record { x = momentum_x w.plain.bodies; y = momentum_y w.plain.bodies };
+  booked = record { x = total_x (book_of w); y = total_y (book_of w) };
+  calls = w.plain.calls;
+}
+
+-- the pose of the body that a handle names, as a frame's bodies show it
+abbrev pub pose_if : Option FrameBody → Handle → Option Pose
+pose_if None h = None
+pose_if (Some b) h = cond (b.handle.generation == h.generation) (Some b.pose) None
+
+abbrev pub frame_body_in : Option (Option FrameBody) → Option FrameBody
+frame_body_in None = None
+frame_body_in (Some o) = o
+
+abbrev pub pose_in : List (Option FrameBody) → Handle → Option Pose
+pose_in bodies h = pose_if (frame_body_in (slice_get bodies h.slot)) h
+
+-- ---- settling
+
+-- the ledger's entries are added to the settled sums, and nothing else changes
+abbrev pub settled_world : World → World
+settled_world w = record w { entries = []; settled = totals_of (book_of w) }

@@ -1,0 +1,177 @@
+-- What a step's passes leave of contacts and bodies, and that the arrays leave the same.
+use Rattle.std.proofs.Common.{◌≡◌, ◌≢◌, ℕ, zero, suc, ◌+◌, ◌==◌, Bool, true, false, cond, List, [], ◌∷◌, map, fold, Option, Some, None, All, arith, refl, sym, ap, ◌∙◌, subst}
+use Rattle.std.specs.Prelude.{option_map}
+use Rattle.std.specs.List.{slice_get, filter_map}
+use Rattle.std.proofs.lemmas.List.Elements.{All-head, All-tail, All-weaker}
+use Rattle.std.proofs.lemmas.Option.{none-some, same_Some}
+use Rattle.fixed_geom.specs.declared.vectors.Vec2.{Vec2}
+use Rattle.momenta.specs.Motions.{pulled, clamped, advanced}
+use Rattle.momenta.specs.declared.state.Ends.{Ends}
+use Rattle.contacts_base.specs.Keys.{key_number}
+use Rattle.contacts_base.specs.Contacts.{found_in, found_place, lookup, number_of}
+use Rattle.contacts_base.specs.declared.contact.Contact.{Contact}
+use Rattle.contacts_base.specs.declared.contact.ContactEntry.{ContactEntry}
+use Rattle.contacts_base.specs.declared.contact.ContactPoint.{ContactPoint}
+use Rattle.contacts_base.specs.declared.key.ContactKey.{ContactKey}
+use Rattle.contacts.specs.declared.constraint.Constraint.{Constraint}
+use Rattle.contacts.specs.declared.constraint.Constraint.TheVariants as constraints
+use Rattle.graph_colours.specs.declared.member.Member.{Member}
+use Rattle.graph_colours.specs.Colours.{ids_of}
+use Rattle.colour_solver_base.specs.declared.row.ContactRow.{ContactRow}
+use Rattle.colour_solver_base.specs.ContactSolving.{SolvedPoint, at_points, bounces, contact_bounced, contact_solved, contact_warmed, normal_solved, point_bounced, point_solved, point_warmed}
+use Rattle.colour_solver.specs.Ticks.{Run, ran, start}
+use Rattle.plain_world.specs.declared.body.Body.{Body}
+use Rattle.world_core_base.specs.Gather.{row_of, rows_of, states_of, with_motions, with_rows}
+use Rattle.world_core_base.specs.Solving.{ContactTurn, Moving, Solving, begin, bodies_of, bounce, clamp, ends_now, ends_then, left, moving_at, pass, pull, solve, solve_order, solved, tick, ticks, turn, turn_between, warm, with_contact}
+use Rattle.world_core_base.specs.SolvingArrays.{ArraysAreSolving, CanSolve, IsRunOf}
+use Rattle.world_core_base.proofs.SolvingBack.{IsElsewhere, bare, bare_contact, bare_point, place_of, rows_back}
+use Rattle.world_core_base.proofs.SolvingContacts.{place_put}
+use Rattle.world_core_base.proofs.SolvingRuns.{ran_alike, run_in, solved_stood}
+use Rattle.world_core_base.proofs.SolvingTurns.{held, stood}
+
+-- ---- a turn changes impulses alone
+
+abbrev IsBarely : (ContactPoint → Ends → SolvedPoint) → Type 0
+IsBarely f = (p : ContactPoint) (n : Ends) → bare_point (f p n).point ≡ bare_point p
+
+points_barely : (f : ContactPoint → Ends → SolvedPoint) → IsBarely f → (first second : Option ContactPoint) (n : Ends) → bare_contact (at_points f (record { first = first; second = second }) n).contact ≡ bare_contact (record { first = first; second = second })
+points_barely f h None second n = refl
+points_barely f h (Some p) None n = λ j. record { first = Some (h p n j); second = None }
+points_barely f h (Some p) (Some q) n = λ j. record { first = Some (h p n j); second = Some (h q (f p n).ends j) }
+
+abbrev IsTurnBare : ContactTurn → Type 0
+IsTurnBare f = (e : ContactEntry) (begun now : Ends) → bare_contact (f e begun now).contact ≡ bare_contact e.contact
+
+warm_bare : IsTurnBare warm
+unfolding contact_warmed
+warm_bare e begun now = points_barely (λ p n. record { point = p; ends = point_warmed p n }) (λ p n. refl) e.contact.first e.contact.second now
+
+solve_bare : IsTurnBare solve
+unfolding contact_solved
+solve_bare e begun now = points_barely (point_solved e.surface.friction) (λ p n. refl) e.contact.first e.contact.second now
+
+bounced_by : (t : Bool) (p : ContactPoint) (a b : SolvedPoint) → bare_point a.point ≡ bare_point p → bare_point b.point ≡ bare_point p → bare_point (cond t a b).point ≡ bare_point p
+bounced_by true p a b e f = e
+bounced_by false p a b e f = f
+
+bounce_bare : IsTurnBare bounce
+unfolding contact_bounced
+bounce_bare e begun now = points_barely (point_bounced e.surface.restitution begun) (λ p n. bounced_by (bounces e.surface.restitution begun p) p _ (record { point = p; ends = n }) refl refl) e.contact.first e.contact.second now
+
+-- ---- a contact that is put back
+
+bare_put_by : (t : Bool) (key : ContactKey) (c : Contact) (e f : ContactEntry) (es : List ContactEntry) → cond t (Some e) (lookup es key) ≡ Some f → bare_contact c ≡ bare_contact f.contact → (lookup es key ≡ Some f → map bare (with_contact key c es) ≡ map bare es)
+    → map bare (cond t (record e { contact = c } ∷ es) (e ∷ with_contact key c es)) ≡ map bare (e ∷ es)
+bare_put_by true key c e f es is same rest = ap (λ (d : Contact). record e { contact = d } ∷ map bare es) (same ∙ ap (λ (g : ContactEntry). bare_contact g.contact) (sym (same_Some e f is)))
+bare_put_by false key c e f es is same rest = ap (λ (l : List ContactEntry). bare e ∷ l) (rest is)
+
+bare_put : (key : ContactKey) (c : Contact) (f : ContactEntry) (es : List ContactEntry) → lookup es key ≡ Some f → bare_contact c ≡ bare_contact f.contact → map bare (with_contact key c es) ≡ map bare es
+bare_put key c f [] is same = refl
+bare_put key c f (e ∷ es) is same = bare_put_by (number_of e == key_number key) key c e f es is same (λ h. bare_put key c f es h same)
+
+else_put_by : (t : Bool) (n j : ℕ) (key : ContactKey) (c : Contact) (e : ContactEntry) (es : List ContactEntry) → cond t (Some n) (found_in (suc n) es key) ≢ Some (n + j)
+    → ((k : ℕ) → found_in (suc n) es key ≢ Some (suc n + k) → slice_get (with_contact key c es) k ≡ slice_get es k) → slice_get (cond t (record e { contact = c } ∷ es) (e ∷ with_contact key c es)) j ≡ slice_get (e ∷ es) j
+else_put_by true n zero key c e es ne rest = absurd (ne (ap (λ (k : ℕ). Some k) (let same : n ≡ n + 0 = omega arith in same)))
+else_put_by true n (suc j) key c e es ne rest = refl
+else_put_by false n zero key c e es ne rest = refl
+else_put_by false n (suc j) key c e es ne rest = rest j (λ h. ne (h ∙ ap (λ (k : ℕ). Some k) (let same : suc n + j ≡ n + suc j = omega arith in same)))
+
+else_put : (n j : ℕ) (key : ContactKey) (c : Contact) (es : List ContactEntry) → found_in n es key ≢ Some (n + j) → slice_get (with_contact key c es) j ≡ slice_get es j
+else_put n j key c [] ne = refl
+else_put n j key c (e ∷ es) ne = else_put_by (number_of e == key_number key) n j key c e es ne (λ k h. else_put (suc n) k key c es h)
+
+-- ---- contacts that have other impulses, of these constraints alone
+
+record IsImpulsed (order : List Constraint) (es fs : List ContactEntry) : Type 0 where
+  barely : map bare fs ≡ map bare es
+  places : (id : Constraint) → place_of fs id ≡ place_of es id
+  others : (j : ℕ) → All (IsElsewhere es j) order → slice_get fs j ≡ slice_get es j
+
+unimpulsed : (order : List Constraint) (es : List ContactEntry) → IsImpulsed order es es
+unimpulsed order es = record { barely = refl; places = λ id. refl; others = λ j h. refl }
+
+elsewhere_too : (order : List Constraint) (es fs : List ContactEntry) (j : ℕ) → ((id : Constraint) → place_of fs id ≡ place_of es id) → All (IsElsewhere es j) order → All (IsElsewhere fs j) order
+elsewhere_too order es fs j places all = All-weaker (IsElsewhere es j) (IsElsewhere fs j) (λ id ne h. ne (sym (places id) ∙ h)) order all
+
+impulsed_then : (order : List Constraint) (es fs gs : List ContactEntry) → IsImpulsed order es fs → IsImpulsed order fs gs → IsImpulsed order es gs
+impulsed_then order es fs gs h k = record {
+  barely = k.barely ∙ h.barely;
+  places = λ id. k.places id ∙ h.places id;
+  others = λ j all. k.others j (elsewhere_too order es fs j h.places all) ∙ h.others j all;
+}
+
+place_of_put : (key : ContactKey) (c : Contact) (es : List ContactEntry) (id : Constraint) → place_of (with_contact key c es) id ≡ place_of es id
+place_of_put key c es (constraints.Joint h) = refl
+place_of_put key c es (constraints.Contact k) = place_put key k c es
+
+-- one constraint before others
+impulsed_first : (id : Constraint) (order : List Constraint) (es fs gs : List ContactEntry) → map bare fs ≡ map bare es → ((o : Constraint) → place_of fs o ≡ place_of es o) → ((j : ℕ) → IsElsewhere es j id → slice_get fs j ≡ slice_get es j)
+    → IsImpulsed order fs gs → IsImpulsed (id ∷ order) es gs
+impulsed_first id order es fs gs barely places others k = record {
+  barely = k.barely ∙ barely;
+  places = λ o. k.places o ∙ places o;
+  others = λ j all. k.others j (elsewhere_too order es fs j places (All-tail (IsElsewhere es j) id order all)) ∙ others j (All-head (IsElsewhere es j) id order all);
+}
+
+record IsOneImpulsed (id : Constraint) (es fs : List ContactEntry) : Type 0 where
+  barely : map bare fs ≡ map bare es
+  places : (o : Constraint) → place_of fs o ≡ place_of es o
+  others : (j : ℕ) → IsElsewhere es j id → slice_get fs j ≡ slice_get es j
+
+turn_impulsed : (f : ContactTurn) (s : Solving) (id : Constraint) → IsTurnBare f → IsOneImpulsed id s.contacts (turn f s id).contacts
+turn_impulsed f s (constraints.Joint h) law = record { barely = refl; places = λ o. refl; others = λ j ne. refl }
+turn_impulsed f s (constraints.Contact key) law = by (lookup s.contacts key) (moving_at s.bodies key.first.slot) (moving_at s.bodies key.second.slot) refl
+  where
+    by : (o : Option ContactEntry) (a b : Option Moving) → lookup s.contacts key ≡ o → IsOneImpulsed (constraints.Contact key) s.contacts (turn_between f s key o a b).contacts
+    by None a b is = record { barely = refl; places = λ o. refl; others = λ j ne. refl }
+    by (Some e) None b is = record { barely = refl; places = λ o. refl; others = λ j ne. refl }
+    by (Some e) (Some a) None is = record { barely = refl; places = λ o. refl; others = λ j ne. refl }
+    by (Some e) (Some a) (Some b) is =
+        let c : Contact = (f e (ends_then a b) (ends_now a b)).contact in
+        record {
+          barely = bare_put key c e s.contacts is (law e (ends_then a b) (ends_now a b));
+          places = place_of_put key c s.contacts;
+          others = λ j ne. else_put 0 j key c s.contacts (λ h. ne (h ∙ ap (λ (k : ℕ). Some k) (let same : 0 + j ≡ j = omega arith in same)));
+        }
+
+pass_impulsed : (f : ContactTurn) (order : List Constraint) (s : Solving) → IsTurnBare f → IsImpulsed order s.contacts (pass f order s).contacts
+pass_impulsed f [] s law = unimpulsed [] s.contacts
+pass_impulsed f (id ∷ order) s law =
+    let first : IsOneImpulsed id s.contacts (turn f s id).contacts = turn_impulsed f s id law in
+    impulsed_first id order s.contacts (turn f s id).contacts (pass f order (turn f s id)).contacts first.barely first.places first.others (pass_impulsed f order (turn f s id) law)
+
+tick_impulsed : (g : Vec2) (order : List Constraint) (s : Solving) → IsImpulsed order s.contacts (tick g order s).contacts
+tick_impulsed g order s =
+    let before : Solving = clamp clamped (pull g s) in
+    impulsed_then order s.contacts (pass warm order before).contacts (pass solve order (pass warm order before)).contacts (pass_impulsed warm order before warm_bare) (pass_impulsed solve order (pass warm order before) solve_bare)
+
+ticks_impulsed : (n : ℕ) (g : Vec2) (order : List Constraint) (s : Solving) → IsImpulsed order s.contacts (ticks n g order s).contacts
+ticks_impulsed zero g order s = unimpulsed order s.contacts
+ticks_impulsed (suc n) g order s = impulsed_then order s.contacts (ticks n g order s).contacts (tick g order (ticks n g order s)).contacts (ticks_impulsed n g order s) (tick_impulsed g order (ticks n g order s))
+
+solved_impulsed : (n : ℕ) (g : Vec2) (order : List Constraint) (bodies : List (Option Body)) (contacts : List ContactEntry) → IsImpulsed order contacts (solved n g order bodies contacts).contacts
+unfolding solved
+solved_impulsed n g order bodies contacts =
+    let before : Solving = ticks n g order (begin bodies contacts) in
+    impulsed_then order contacts before.contacts (pass bounce order before).contacts (ticks_impulsed n g order (begin bodies contacts)) (pass_impulsed bounce order before bounce_bare)
+
+-- ---- what is written back
+
+motions_back : (ms : List (Option Moving)) → with_motions (stood ms) (map held ms) ≡ map (option_map left) ms
+motions_back [] = refl
+motions_back (None ∷ ms) = ap (λ (l : List (Option Body)). None ∷ l) (motions_back ms)
+motions_back (Some m ∷ ms) = ap (λ (l : List (Option Body)). Some (left m) ∷ l) (motions_back ms)
+
+run_back : (bodies : List (Option Body)) (contacts : List ContactEntry) (order : List Constraint) (s : Solving) → stood s.bodies ≡ bodies → IsImpulsed order contacts s.contacts → IsRunOf bodies contacts (run_in bodies order s) s
+run_back bodies contacts order s e h = record {
+  bodies_left = ap (λ (l : List (Option Body)). with_motions l (map held s.bodies)) (sym e) ∙ motions_back s.bodies;
+  contacts_left = rows_back (states_of bodies) order contacts s.contacts (sym h.barely) (λ j all. sym (h.others j (elsewhere_too order s.contacts contacts j (λ id. sym (h.places id)) all)));
+  sums = refl;
+}
+
+pub arrays_are_solving : ArraysAreSolving
+arrays_are_solving n g bodies contacts lists can =
+    let order : List Constraint = solve_order (ids_of lists) in
+    let s : Solving = solved n g order bodies contacts in
+    subst (λ (r : Run). IsRunOf bodies contacts r s) (sym (ran_alike n g bodies contacts lists can))
+    (run_back bodies contacts order s (solved_stood n g bodies contacts order can) (solved_impulsed n g order bodies contacts))

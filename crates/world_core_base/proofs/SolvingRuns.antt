@@ -1,0 +1,274 @@
+-- The passes over the arrays are those of the definition, and so is a whole step.
+use Rattle.std.proofs.Common.{◌≡◌, ℕ, zero, suc, Bool, true, false, cond, List, [], ◌∷◌, ◌++◌, map, fold, Option, Some, None, All, ℤ, pos, ◌+ℤ◌, ◌-ℤ◌, refl, sym, ap, ◌∙◌, subst}
+use Rattle.std.specs.Prelude.{option_map}
+use Rattle.std.specs.List.{filter_map, flat_map, cons_option}
+use Rattle.std.proofs.lemmas.List.Elements.{filter_map-append}
+use Rattle.fixed_geom.specs.declared.vectors.Vec2.{Vec2}
+use Rattle.momenta.specs.Motions.{pulled, clamped, advanced}
+use Rattle.momenta.specs.Reciprocals.{reciprocals_of}
+use Rattle.momenta.specs.declared.gain.Gain.{Gain}
+use Rattle.momenta.specs.declared.mass.MassData.{MassData}
+use Rattle.momenta.specs.declared.motion.Motion.{Motion}
+use Rattle.momenta.specs.declared.state.BodyState.{BodyState}
+use Rattle.momenta.specs.declared.state.Ends.{Ends}
+use Rattle.contacts_base.specs.Contacts.{lookup}
+use Rattle.contacts_base.specs.declared.contact.Contact.{Contact}
+use Rattle.contacts_base.specs.declared.contact.ContactEntry.{ContactEntry}
+use Rattle.contacts_base.specs.declared.contact.ContactPoint.{ContactPoint}
+use Rattle.contacts.specs.declared.constraint.Constraint.{Constraint}
+use Rattle.contacts.specs.declared.constraint.Constraint.TheVariants as constraints
+use Rattle.graph_colours.specs.declared.member.Member.{Member}
+use Rattle.graph_colours.specs.Colours.{ids_of}
+use Rattle.colour_solver_base.specs.declared.row.ContactRow.{ContactRow}
+use Rattle.colour_solver_base.specs.RowsAfter.{RowAfter}
+use Rattle.colour_solver_base.specs.Rows.{row_bounced, row_solved, row_warmed}
+use Rattle.colour_solver_base.specs.ContactSolving.{SolvedContact, SolvedPoint, at_points, contact_bounced, contact_solved, contact_warmed, from_first, point_bounced, point_solved, point_warmed}
+use Rattle.colour_solver_base.proofs.ContactRows.{rows_are_contacts}
+use Rattle.colour_solver.specs.Passes as arrays
+use Rattle.colour_solver.specs.States.{carrier, nobody}
+use Rattle.colour_solver.specs.Ticks as runs
+use Rattle.colour_solver.specs.Ticks.{Run, clamp_all, pull_all, ran, run_of, start, turn_all}
+use Rattle.plain_world.specs.declared.body.Body.{Body}
+use Rattle.plain_world.specs.Bodies.{is_awake}
+use Rattle.world_core_base.specs.Carried.{solver_mass}
+use Rattle.world_core_base.specs.Gather.{bodies_of, row_of, rows_in, rows_of, state_of, states_of}
+use Rattle.world_core_base.specs.Solving.{ContactTurn, Moving, Solving, all_changed, begin, bounce, changed, clamp, gain, gain_of, moving, moving_at, pass, plus, pull, solve, solve_order, solved, state_with, tick, ticks, turn, turn_between, warm}
+use Rattle.world_core_base.specs.SolvingArrays.{CanSolve, HasEnds}
+use Rattle.world_core_base.proofs.SolvingTurns.{AreOnce, IsPassed, IsTurnAlike, body_of, held, less_itself, pass_alike, stood, stood_turn}
+
+-- the run that a solving is
+abbrev pub run_in : List (Option Body) → List Constraint → Solving → Run
+run_in bodies order s = run_of (map held s.bodies) (filter_map (row_of (states_of bodies) s.contacts) order) s.sums
+
+-- A pass of the arrays is one of the definition, of bodies that stood so when the step began.
+record IsSamePass (bodies : List (Option Body)) (order : List Constraint) (over : Run → Run) (by : Solving → Solving) : Type 0 where
+  run : (s : Solving) → stood s.bodies ≡ bodies → over (run_in bodies order s) ≡ run_in bodies order (by s)
+  stays : (s : Solving) → stood s.bodies ≡ bodies → stood (by s).bodies ≡ bodies
+
+-- one pass after another
+then_pass : (bodies : List (Option Body)) (order : List Constraint) (f g : Run → Run) (p q : Solving → Solving) → IsSamePass bodies order f p → IsSamePass bodies order g q → IsSamePass bodies order (λ r. g (f r)) (λ s. q (p s))
+then_pass bodies order f g p q h k = record {
+  run = λ s e. ap g (h.run s e) ∙ k.run (p s) (h.stays s e);
+  stays = λ s e. k.stays (p s) (h.stays s e);
+}
+
+-- ---- a pass over the contacts
+
+-- the other sums stay
+record AreBookedAlike (s t : Solving) : Type 0 where
+  gravity : t.sums.gravity ≡ s.sums.gravity
+  clamp : t.sums.clamp ≡ s.sums.clamp
+
+booked_turn : (f : ContactTurn) (s : Solving) (id : Constraint) → AreBookedAlike s (turn f s id)
+booked_turn f s (constraints.Joint h) = record { gravity = refl; clamp = refl }
+booked_turn f s (constraints.Contact key) = by (lookup s.contacts key) (moving_at s.bodies key.first.slot) (moving_at s.bodies key.second.slot)
+  where
+    by : (o : Option ContactEntry) (a b : Option Moving) → AreBookedAlike s (turn_between f s key o a b)
+    by None a b = record { gravity = refl; clamp = refl }
+    by (Some e) None b = record { gravity = refl; clamp = refl }
+    by (Some e) (Some a) None = record { gravity = refl; clamp = refl }
+    by (Some e) (Some a) (Some b) = record { gravity = refl; clamp = refl }
+
+booked_pass : (f : ContactTurn) (order : List Constraint) (s : Solving) → AreBookedAlike s (pass f order s)
+booked_pass f [] s = record { gravity = refl; clamp = refl }
+booked_pass f (id ∷ order) s =
+    let first : AreBookedAlike s (turn f s id) = booked_turn f s id in
+    let rest : AreBookedAlike (turn f s id) (pass f order (turn f s id)) = booked_pass f order (turn f s id) in
+    record { gravity = rest.gravity ∙ first.gravity; clamp = rest.clamp ∙ first.clamp }
+
+stood_pass : (f : ContactTurn) (order : List Constraint) (s : Solving) → stood (pass f order s).bodies ≡ stood s.bodies
+stood_pass f [] s = refl
+stood_pass f (id ∷ order) s = stood_pass f order (turn f s id) ∙ stood_turn f s id
+
+same_turns : (f : ContactTurn) (g : ContactRow → Ends → RowAfter ContactRow) (bodies : List (Option Body)) (order : List Constraint) → IsTurnAlike f g → AreOnce order → All (HasEnds bodies) order → IsSamePass bodies order (turn_all g) (pass f order)
+same_turns f g bodies order law once there = record {
+  run = λ s e.
+      let h : IsPassed g (states_of bodies) (map held s.bodies) (filter_map (row_of (states_of bodies) s.contacts) order) s.sums.immovable order (pass f order s) =
+      pass_alike f g order s (states_of bodies) (map held s.bodies) law once (subst (λ (l : List (Option Body)). All (HasEnds l) order) (sym e) there) (ap states_of (sym e)) refl in
+      let booked : AreBookedAlike s (pass f order s) = booked_pass f order s in
+      λ j. record {
+        states = h.bodies j;
+        rows = h.contacts j;
+        gravity_x = (sym booked.gravity j).x;
+        gravity_y = (sym booked.gravity j).y;
+        immovable_x = h.x j;
+        immovable_y = h.y j;
+        clamp_x = (sym booked.clamp j).x;
+        clamp_y = (sym booked.clamp j).y;
+      };
+  stays = λ s e. stood_pass f order s ∙ e;
+}
+
+-- ---- a pass over the bodies
+
+-- a mover's state where t tells whether it moves
+abbrev state_if : Bool → Moving → BodyState
+state_if t m = record { movable = t; mass = cond t m.body.mass carrier; motion = m.motion; start = m.body.motion.x; reciprocals = reciprocals_of (cond t m.body.mass carrier) }
+
+changed_by : (t : Bool) (f : MassData → Motion → Motion) (m : Moving)
+    → arrays.changed f (state_if t m) ≡ record (state_if t m) { motion = (cond t (record m { motion = f m.body.mass m.motion }) m).motion }
+changed_by true f m = refl
+changed_by false f m = refl
+
+body_changed_by : (t : Bool) (m n : Moving) → n.body ≡ m.body → (cond t n m).body ≡ m.body
+body_changed_by true m n e = e
+body_changed_by false m n e = refl
+
+held_changed : (f : MassData → Motion → Motion) (o : Option Moving) → arrays.changed f (held o) ≡ held (option_map (changed f) o)
+held_changed f None = refl
+held_changed f (Some m) = changed_by (is_awake m.body) f m ∙ ap (λ (b : Body). state_with b (changed f m).motion) (sym (body_changed_by (is_awake m.body) m (record m { motion = f m.body.mass m.motion }) refl))
+
+all_held : (f : MassData → Motion → Motion) (ms : List (Option Moving)) → arrays.pass f (map held ms) ≡ map held (all_changed f ms)
+all_held f [] = refl
+all_held f (o ∷ ms) = λ j. held_changed f o j ∷ all_held f ms j
+
+stood_changed : (f : MassData → Motion → Motion) (ms : List (Option Moving)) → stood (all_changed f ms) ≡ stood ms
+stood_changed f [] = refl
+stood_changed f (None ∷ ms) = ap (λ (l : List (Option Body)). None ∷ l) (stood_changed f ms)
+stood_changed f (Some m ∷ ms) = λ j. Some (body_changed_by (is_awake m.body) m (record m { motion = f m.body.mass m.motion }) refl j) ∷ stood_changed f ms j
+
+gain_x_by : (t : Bool) (f : MassData → Motion → Motion) (m : Moving) → arrays.one_gain_x f (state_if t m) ≡ (cond t (record m { motion = f m.body.mass m.motion }) m).motion.p.x -ℤ m.motion.p.x
+gain_x_by true f m = refl
+gain_x_by false f m = sym (less_itself m.motion.p.x)
+
+gain_y_by : (t : Bool) (f : MassData → Motion → Motion) (m : Moving) → arrays.one_gain_y f (state_if t m) ≡ (cond t (record m { motion = f m.body.mass m.motion }) m).motion.p.y -ℤ m.motion.p.y
+gain_y_by true f m = refl
+gain_y_by false f m = sym (less_itself m.motion.p.y)
+
+one_gain_x : (f : MassData → Motion → Motion) (o : Option Moving) → arrays.one_gain_x f (held o) ≡ (gain_of f o).x
+one_gain_x f None = refl
+one_gain_x f (Some m) = gain_x_by (is_awake m.body) f m
+
+one_gain_y : (f : MassData → Motion → Motion) (o : Option Moving) → arrays.one_gain_y f (held o) ≡ (gain_of f o).y
+one_gain_y f None = refl
+one_gain_y f (Some m) = gain_y_by (is_awake m.body) f m
+
+gain_x : (f : MassData → Motion → Motion) (ms : List (Option Moving)) → arrays.gain_x f (map held ms) ≡ (gain f ms).x
+gain_x f [] = refl
+gain_x f (o ∷ ms) = λ j. one_gain_x f o j +ℤ gain_x f ms j
+
+gain_y : (f : MassData → Motion → Motion) (ms : List (Option Moving)) → arrays.gain_y f (map held ms) ≡ (gain f ms).y
+gain_y f [] = refl
+gain_y f (o ∷ ms) = λ j. one_gain_y f o j +ℤ gain_y f ms j
+
+same_pull : (g : Vec2) (bodies : List (Option Body)) (order : List Constraint) → IsSamePass bodies order (pull_all g) (pull g)
+same_pull g bodies order = record {
+  run = λ s e. λ j. record {
+    states = all_held (pulled g) s.bodies j;
+    rows = filter_map (row_of (states_of bodies) s.contacts) order;
+    gravity_x = s.sums.gravity.x +ℤ gain_x (pulled g) s.bodies j;
+    gravity_y = s.sums.gravity.y +ℤ gain_y (pulled g) s.bodies j;
+    immovable_x = s.sums.immovable.x;
+    immovable_y = s.sums.immovable.y;
+    clamp_x = s.sums.clamp.x;
+    clamp_y = s.sums.clamp.y;
+  };
+  stays = λ s e. stood_changed (pulled g) s.bodies ∙ e;
+}
+
+same_clamp : (f : MassData → Motion → Motion) (bodies : List (Option Body)) (order : List Constraint) → IsSamePass bodies order (clamp_all f) (clamp f)
+same_clamp f bodies order = record {
+  run = λ s e. λ j. record {
+    states = all_held f s.bodies j;
+    rows = filter_map (row_of (states_of bodies) s.contacts) order;
+    gravity_x = s.sums.gravity.x;
+    gravity_y = s.sums.gravity.y;
+    immovable_x = s.sums.immovable.x;
+    immovable_y = s.sums.immovable.y;
+    clamp_x = s.sums.clamp.x +ℤ gain_x f s.bodies j;
+    clamp_y = s.sums.clamp.y +ℤ gain_y f s.bodies j;
+  };
+  stays = λ s e. stood_changed f s.bodies ∙ e;
+}
+
+-- ---- the turns of contacts
+
+idle_points : (f : ContactPoint → Ends → SolvedPoint) (c : Contact) (now : Ends) → c.first ≡ None → at_points f c now ≡ record { contact = c; ends = now }
+idle_points f c now is = ap (λ (o : Option ContactPoint). from_first f c now o) is
+
+warm_idle : (e : ContactEntry) (begun now : Ends) → e.contact.first ≡ None → warm e begun now ≡ record { contact = e.contact; ends = now }
+unfolding contact_warmed
+warm_idle e begun now is = idle_points (λ p n. record { point = p; ends = point_warmed p n }) e.contact now is
+
+solve_idle : (e : ContactEntry) (begun now : Ends) → e.contact.first ≡ None → solve e begun now ≡ record { contact = e.contact; ends = now }
+unfolding contact_solved
+solve_idle e begun now is = idle_points (point_solved e.surface.friction) e.contact now is
+
+bounce_idle : (e : ContactEntry) (begun now : Ends) → e.contact.first ≡ None → bounce e begun now ≡ record { contact = e.contact; ends = now }
+unfolding contact_bounced
+bounce_idle e begun now is = idle_points (point_bounced e.surface.restitution begun) e.contact now is
+
+warm_alike : IsTurnAlike warm row_warmed
+warm_alike = record { alike = λ key i e begun now r is h. rows_are_contacts.warm (bodies_of key e.surface i) begun now e.contact r is h; idle = warm_idle }
+
+solve_alike : IsTurnAlike solve row_solved
+solve_alike = record { alike = λ key i e begun now r is h. rows_are_contacts.solve (bodies_of key e.surface i) begun now e.contact r is h; idle = solve_idle }
+
+bounce_alike : IsTurnAlike bounce row_bounced
+bounce_alike = record { alike = λ key i e begun now r is h. rows_are_contacts.bounce (bodies_of key e.surface i) begun now e.contact r is h; idle = bounce_idle }
+
+-- ---- ticks, and the restitution
+
+same_tick : (g : Vec2) (bodies : List (Option Body)) (order : List Constraint) → AreOnce order → All (HasEnds bodies) order → IsSamePass bodies order (runs.tick g) (tick g order)
+unfolding runs.tick
+same_tick g bodies order once there =
+    then_pass bodies order _ _ _ _ (same_pull g bodies order)
+    (then_pass bodies order _ _ _ _ (same_clamp clamped bodies order)
+    (then_pass bodies order _ _ _ _ (same_turns warm row_warmed bodies order warm_alike once there)
+    (then_pass bodies order _ _ _ _ (same_turns solve row_solved bodies order solve_alike once there)
+    (then_pass bodies order _ _ _ _ (same_clamp clamped bodies order) (same_clamp advanced bodies order)))))
+
+same_none : (bodies : List (Option Body)) (order : List Constraint) → IsSamePass bodies order (λ r. r) (λ s. s)
+same_none bodies order = record { run = λ s e. refl; stays = λ s e. e }
+
+same_ticks : (n : ℕ) (g : Vec2) (bodies : List (Option Body)) (order : List Constraint) → AreOnce order → All (HasEnds bodies) order → IsSamePass bodies order (runs.ticks n g) (ticks n g order)
+same_ticks zero g bodies order once there = same_none bodies order
+same_ticks (suc n) g bodies order once there = then_pass bodies order (runs.ticks n g) (runs.tick g) (ticks n g order) (tick g order) (same_ticks n g bodies order once there) (same_tick g bodies order once there)
+
+same_ran : (n : ℕ) (g : Vec2) (bodies : List (Option Body)) (order : List Constraint) → AreOnce order → All (HasEnds bodies) order → IsSamePass bodies order (ran n g) (λ s. pass bounce order (ticks n g order s))
+unfolding ran
+same_ran n g bodies order once there =
+    then_pass bodies order (runs.ticks n g) (turn_all row_bounced) (ticks n g order) (pass bounce order) (same_ticks n g bodies order once there) (same_turns bounce row_bounced bodies order bounce_alike once there)
+
+-- ---- what a step begins with
+
+begun_states : (bodies : List (Option Body)) → states_of bodies ≡ map held (map (option_map moving) bodies)
+begun_states [] = refl
+begun_states (None ∷ bodies) = ap (λ (l : List BodyState). nobody ∷ l) (begun_states bodies)
+begun_states (Some b ∷ bodies) = ap (λ (l : List BodyState). state_of (Some b) ∷ l) (begun_states bodies)
+
+pub begun_stood : (bodies : List (Option Body)) → stood (map (option_map moving) bodies) ≡ bodies
+begun_stood [] = refl
+begun_stood (None ∷ bodies) = ap (λ (l : List (Option Body)). None ∷ l) (begun_stood bodies)
+begun_stood (Some b ∷ bodies) = ap (λ (l : List (Option Body)). Some b ∷ l) (begun_stood bodies)
+
+rows_of_ids : (h : Constraint → Option ContactRow) (ms : List (Member Constraint)) → filter_map (λ (m : Member Constraint). h m.id) ms ≡ filter_map h (map (λ (m : Member Constraint). m.id) ms)
+rows_of_ids h [] = refl
+rows_of_ids h (m ∷ ms) = ap (λ (l : List ContactRow). cons_option (h m.id) l) (rows_of_ids h ms)
+
+rows_in_order : (states : List BodyState) (contacts : List ContactEntry) (lists : List (List (Member Constraint))) → flat_map (rows_in states contacts) lists ≡ filter_map (row_of states contacts) (solve_order (ids_of lists))
+rows_in_order states contacts [] = refl
+rows_in_order states contacts (ms ∷ lists) =
+    ap (λ (l : List ContactRow). l ++ flat_map (rows_in states contacts) lists) (rows_of_ids (row_of states contacts) ms)
+    ∙ ap (λ (l : List ContactRow). filter_map (row_of states contacts) (map (λ (m : Member Constraint). m.id) ms) ++ l) (rows_in_order states contacts lists)
+    ∙ sym (filter_map-append (row_of states contacts) (map (λ (m : Member Constraint). m.id) ms) (solve_order (ids_of lists)))
+
+begun_rows : (states : List BodyState) (contacts : List ContactEntry) (lists : List (List (Member Constraint))) → rows_of states contacts lists ≡ filter_map (row_of states contacts) (solve_order (ids_of lists))
+unfolding rows_of
+begun_rows states contacts lists = rows_in_order states contacts lists
+
+-- the arrays of a whole step are those of the solving that the definition ends with
+pub ran_alike : (n : ℕ) (g : Vec2) (bodies : List (Option Body)) (contacts : List ContactEntry) (lists : List (List (Member Constraint))) → CanSolve bodies (solve_order (ids_of lists))
+    → ran n g (start (states_of bodies) (rows_of (states_of bodies) contacts lists)) ≡ run_in bodies (solve_order (ids_of lists)) (solved n g (solve_order (ids_of lists)) bodies contacts)
+unfolding solved
+ran_alike n g bodies contacts lists can =
+    let order : List Constraint = solve_order (ids_of lists) in
+    let law : IsSamePass bodies order (ran n g) (λ s. pass bounce order (ticks n g order s)) = same_ran n g bodies order can.once can.there in
+    let first : start (states_of bodies) (rows_of (states_of bodies) contacts lists) ≡ run_in bodies order (begin bodies contacts) = (λ j. start (begun_states bodies j) (begun_rows (states_of bodies) contacts lists j)) in
+    ap (ran n g) first ∙ law.run (begin bodies contacts) (begun_stood bodies)
+
+pub solved_stood : (n : ℕ) (g : Vec2) (bodies : List (Option Body)) (contacts : List ContactEntry) (order : List Constraint) → CanSolve bodies order → stood (solved n g order bodies contacts).bodies ≡ bodies
+unfolding solved
+solved_stood n g bodies contacts order can =
+    let law : IsSamePass bodies order (ran n g) (λ s. pass bounce order (ticks n g order s)) = same_ran n g bodies order can.once can.there in
+    law.stays (begin bodies contacts) (begun_stood bodies)

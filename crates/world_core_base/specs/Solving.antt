@@ -1,0 +1,198 @@
+-- What a step does to the bodies and the contacts: passes over the active constraints in solve order and passes over the bodies, and
+-- what each adds to the movers' momentum. Bodies stand by slot and contacts by key, and nothing is computed before it is used.
+use Rattle.std.specs.Prelude.{ℕ, zero, suc, ◌==◌, cond, List, [], ◌∷◌, Option, Some, None, option_map, map, fold, ℤ, pos, ◌+ℤ◌, ◌-ℤ◌, slice_set}
+use Rattle.std.specs.List.{flat_map, slice_get}
+use Rattle.fixed_geom.specs.declared.vectors.Vec2.{Vec2}
+use Rattle.momenta.specs.Motions.{pulled, clamped, advanced}
+use Rattle.momenta.specs.Reciprocals.{reciprocals_of}
+use Rattle.momenta.specs.declared.gain.Gain.{Gain}
+use Rattle.momenta.specs.declared.mass.MassData.{MassData}
+use Rattle.momenta.specs.declared.motion.Motion.{Motion}
+use Rattle.momenta.specs.declared.state.BodyState.{BodyState}
+use Rattle.momenta.specs.declared.state.Ends.{Ends}
+use Rattle.contacts_base.specs.Keys.{key_number}
+use Rattle.contacts_base.specs.Contacts.{lookup, number_of}
+use Rattle.contacts_base.specs.declared.contact.Contact.{Contact}
+use Rattle.contacts_base.specs.declared.contact.ContactEntry.{ContactEntry}
+use Rattle.contacts_base.specs.declared.key.ContactKey.{ContactKey}
+use Rattle.contacts.specs.declared.constraint.Constraint.{Constraint}
+use Rattle.contacts.specs.declared.constraint.Constraint.TheVariants as constraints
+use Rattle.colour_solver_base.specs.ContactSolving.{SolvedContact, contact_bounced, contact_solved, contact_warmed}
+use Rattle.colour_solver.specs.declared.ticks.StepSums.{StepSums}
+use Rattle.plain_world.specs.declared.body.Body.{Body}
+use Rattle.plain_world.specs.Bodies.{is_awake}
+use Rattle.world_core_base.specs.Carried.{solver_mass, solver_motion}
+
+-- A body in a step: as it stood when the step began, and its motion now. The motion of a body that isn't an awake mover is its course all the
+-- step long.
+pub record Moving : Type 0 where
+  pub body : Body
+  pub motion : Motion
+
+-- The bodies by slot, the contacts, ascending by key, and what was added to the movers' momentum since the step began: by gravity, by
+-- immovable bodies, and by the speed limit with the edge of the world.
+pub record Solving : Type 0 where
+  pub bodies : List (Option Moving)
+  pub contacts : List ContactEntry
+  pub sums : StepSums
+
+-- ---- sums of momentum
+
+abbrev pub nothing : Gain
+nothing = record { x = pos 0; y = pos 0 }
+
+abbrev pub plus : Gain → Gain → Gain
+plus a b = record { x = a.x +ℤ b.x; y = a.y +ℤ b.y }
+
+-- what the momentum has gained from one motion to the other
+abbrev pub gained : Motion → Motion → Gain
+gained before after = record { x = after.p.x -ℤ before.p.x; y = after.p.y -ℤ before.p.y }
+
+-- ---- the bodies of a constraint
+
+abbrev pub moving_in : Option (Option Moving) → Option Moving
+moving_in None = None
+moving_in (Some o) = o
+
+-- the body in a slot
+abbrev pub moving_at : List (Option Moving) → ℕ → Option Moving
+moving_at bodies slot = moving_in (slice_get bodies slot)
+
+-- The body with a motion, as impulses act on it: those that aren't awake movers have the mass with which the momenta of a course are its velocity
+-- and its spin.
+abbrev pub state_with : Body → Motion → BodyState
+state_with b motion = record { movable = is_awake b; mass = solver_mass b; motion = motion; start = b.motion.x; reciprocals = reciprocals_of (solver_mass b) }
+
+-- two bodies as they are now
+abbrev pub ends_now : Moving → Moving → Ends
+ends_now a b = record { a = state_with a.body a.motion; b = state_with b.body b.motion }
+
+-- and as they were when the step began
+abbrev pub ends_then : Moving → Moving → Ends
+ends_then a b = record { a = state_with a.body (solver_motion a.body); b = state_with b.body (solver_motion b.body) }
+
+-- the body with the motion that an impulse has left it
+abbrev pub left_by : BodyState → Moving → Moving
+left_by s m = record m { motion = s.motion }
+
+-- what a mover has gained where the other body is immovable: the impulse of that body, which nobody else has lost
+abbrev pub given_by_immovable : Ends → Ends → Gain
+given_by_immovable before after = cond before.a.movable (cond before.b.movable nothing (gained before.a.motion after.a.motion)) (cond before.b.movable (gained before.b.motion after.b.motion) nothing)
+
+-- ---- the turn of one constraint
+
+-- what is done at a contact: it is told how its bodies stood when the step began, and how they are now
+abbrev pub ContactTurn : Type 0
+ContactTurn = ContactEntry → Ends → Ends → SolvedContact
+
+-- the warm start: the kept impulses are given once more
+abbrev pub warm : ContactTurn
+warm e start now = contact_warmed e.contact now
+
+-- the impulses of the solver: each point's along its normal, and then friction
+abbrev pub solve : ContactTurn
+solve e start now = contact_solved e.surface.friction e.contact now
+
+-- restitution: a part of the speed at which the bodies came together when the step began is given back
+abbrev pub bounce : ContactTurn
+bounce e start now = contact_bounced e.surface.restitution start e.contact now
+
+-- the contact that has the key, with these points
+abbrev pub with_contact : ContactKey → Contact → List ContactEntry → List ContactEntry
+with_contact key c [] = []
+with_contact key c (e ∷ es) = cond (number_of e == key_number key) (record e { contact = c } ∷ es) (e ∷ with_contact key c es)
+
+abbrev pub with_sum : Gain → StepSums → StepSums
+with_sum g sums = record sums { immovable = plus sums.immovable g }
+
+-- the contact and its two bodies put back, and what an immovable one gave booked
+abbrev pub put_back : ContactKey → Moving → Moving → SolvedContact → Solving → Solving
+put_back key a b solved s = record {
+  bodies = slice_set (slice_set s.bodies key.first.slot (Some (left_by solved.ends.a a))) key.second.slot (Some (left_by solved.ends.b b));
+  contacts = with_contact key solved.contact s.contacts;
+  sums = with_sum (given_by_immovable (ends_now a b) solved.ends) s.sums;
+}
+
+-- the turn of the contact, if it is there and both its bodies are
+abbrev pub turn_between : ContactTurn → Solving → ContactKey → Option ContactEntry → Option Moving → Option Moving → Solving
+turn_between f s key None a b = s
+turn_between f s key (Some e) None b = s
+turn_between f s key (Some e) (Some a) None = s
+turn_between f s key (Some e) (Some a) (Some b) = put_back key a b (f e (ends_then a b) (ends_now a b)) s
+
+-- the turn of a constraint: a joint does nothing yet
+abbrev pub turn : ContactTurn → Solving → Constraint → Solving
+turn f s (constraints.Joint h) = s
+turn f s (constraints.Contact key) = turn_between f s key (lookup s.contacts key) (moving_at s.bodies key.first.slot) (moving_at s.bodies key.second.slot)
+
+-- ---- passes
+
+-- the active constraints in solve order: colour after colour, and the overflow last, each ascending
+abbrev pub solve_order : List (List Constraint) → List Constraint
+solve_order colours = flat_map (λ ids. ids) colours
+
+-- a pass over the active constraints: one turn after another
+abbrev pub pass : ContactTurn → List Constraint → Solving → Solving
+pass f order s = fold (turn f) s order
+
+-- an awake mover with its motion changed; any other body as it was
+abbrev pub changed : (MassData → Motion → Motion) → Moving → Moving
+changed f m = cond (is_awake m.body) (record m { motion = f m.body.mass m.motion }) m
+
+-- a pass over the bodies
+abbrev pub all_changed : (MassData → Motion → Motion) → List (Option Moving) → List (Option Moving)
+all_changed f bodies = map (option_map (changed f)) bodies
+
+abbrev pub gain_of : (MassData → Motion → Motion) → Option Moving → Gain
+gain_of f None = nothing
+gain_of f (Some m) = gained m.motion (changed f m).motion
+
+-- what such a pass adds to the momentum
+abbrev pub gain : (MassData → Motion → Motion) → List (Option Moving) → Gain
+gain f [] = nothing
+gain f (o ∷ bodies) = plus (gain_of f o) (gain f bodies)
+
+-- gravity
+abbrev pub pull : Vec2 → Solving → Solving
+pull gravity s = record s { bodies = all_changed (pulled gravity) s.bodies; sums = record s.sums { gravity = plus s.sums.gravity (gain (pulled gravity) s.bodies) } }
+
+-- a change that takes momentum away: the speed limit, and the move with its stop at the edge of the world
+abbrev pub clamp : (MassData → Motion → Motion) → Solving → Solving
+clamp f s = record s { bodies = all_changed f s.bodies; sums = record s.sums { clamp = plus s.sums.clamp (gain f s.bodies) } }
+
+-- ---- a tick, and a step
+
+-- the passes of a tick, in their order
+abbrev pub passes : Vec2 → List Constraint → List (Solving → Solving)
+passes gravity order = pull gravity ∷ clamp clamped ∷ pass warm order ∷ pass solve order ∷ clamp clamped ∷ clamp advanced ∷ []
+
+abbrev pub tick : Vec2 → List Constraint → Solving → Solving
+tick gravity order s = fold (λ s pass. pass s) s (passes gravity order)
+
+abbrev pub ticks : ℕ → Vec2 → List Constraint → Solving → Solving
+ticks zero gravity order s = s
+ticks (suc n) gravity order s = tick gravity order (ticks n gravity order s)
+
+-- a body as the step finds it: an awake mover with its motion, any other with its course
+abbrev pub moving : Body → Moving
+moving b = record { body = b; motion = solver_motion b }
+
+abbrev pub no_sums : StepSums
+no_sums = record { gravity = nothing; immovable = nothing; clamp = nothing }
+
+abbrev pub begin : List (Option Body) → List ContactEntry → Solving
+begin bodies contacts = record { bodies = map (option_map moving) bodies; contacts = contacts; sums = no_sums }
+
+-- the ticks of a step, and then the restitution
+unfoldable pub solved : ℕ → Vec2 → List Constraint → List (Option Body) → List ContactEntry → Solving
+solved n gravity order bodies contacts = pass bounce order (ticks n gravity order (begin bodies contacts))
+
+-- ---- what it leaves
+
+-- an awake mover with its motion now; any other body as it was
+abbrev pub left : Moving → Body
+left m = cond (is_awake m.body) (record m.body { motion = m.motion }) m.body
+
+-- the bodies as the step leaves them
+abbrev pub bodies_of : Solving → List (Option Body)
+bodies_of s = map (option_map left) s.bodies
