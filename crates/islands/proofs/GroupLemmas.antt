@@ -1,69 +1,87 @@
--- What the islands' type keeps: each call leaves a partition of few slots.
-use Rattle.std.proofs.Common.{◌≡◌, ℕ, ◌+◌, ◌^◌, ◌<◌, ◌≤◌, List, [], ◌∷◌, ◌++◌, length, Some, None, arith, refl, get_or, inl, inr}
-use Rattle.std.specs.Prelude.{Contains}
-use Rattle.std.specs.List.Sorted.{IsStrictlyIncreasing}
+-- What the islands' type keeps: each call leaves parts of few slots.
+use Rattle.std.proofs.Common.{◌≡◌, ℕ, ◌+◌, ◌^◌, ◌<◌, ◌≤◌, length, Option, Some, None, true, arith, refl, sym, ap, ◌∙◌, subst}
+use Rattle.std.specs.Prelude.{IsSome}
 use Rattle.std.proofs.lemmas.Grind.{common_steps}
-use Rattle.std.proofs.lemmas.Bool.{cases_lt, lt-ltb, le-ltb}
+use Rattle.std.proofs.lemmas.Bool.{false≢true}
 use Rattle.std.proofs.lemmas.List.{length-map}
-use Rattle.std.proofs.lemmas.List.Elements.{Contains-get_or}
+use Rattle.islands.specs.declared.parts.Note.{Note}
+use Rattle.islands.specs.declared.parts.Head.{Head}
+use Rattle.islands.specs.declared.label.Label.{Label}
 use Rattle.islands.specs.declared.label.IslandState.{IslandState}
 use Rattle.islands.specs.declared.label.IslandState.TheVariants.{Loose}
-use Rattle.islands.specs.declared.label.Label.{Label}
-use Rattle.islands.specs.Links.{Edges}
-use Rattle.islands.specs.Labels.{Labels, label_at, IsIn, relabel, relabelled, with_state, added, union_label, lowest, left_behind, split_by}
-use Rattle.islands.specs.Partition.{IsPartition, Inside, IsSplit}
-use Rattle.islands.specs.Kept.{IsGrouped}
-use Rattle.islands.proofs.LabelLemmas.{added_partition, merged_partition, with_state_partition, rest_of, left_partition, gone_partition, in_of}
-use Rattle.islands.proofs.SplitLemmas.{split_is, split_partition}
+use Rattle.islands.specs.Labels.{Labels, label_at, is_in, IsIn, added, with_state, loosened, loosened_by, merged}
+use Rattle.islands.specs.Packed.{Notes, note_at, Heads, head_at, in_part, InPart, part_in, name_of, label_in, labels_of, IsPacked, IsKept}
+use Rattle.islands.proofs.LabelLemmas.{in_is}
+use Rattle.islands.proofs.SplitLemmas.{still_labelled}
+use Rattle.islands.proofs.PartLemmas.{labels_at, label_of_part, in_of_part}
 
-relabelled_size : (a b : ℕ) (to : Label) (labels : Labels) → length (relabelled a b to labels) ≡ length labels
-relabelled_size a b to labels = length-map labels (relabel a b to)
+labels_size : (notes : Notes) (heads : Heads) → length (labels_of notes heads) ≡ length notes
+labels_size notes heads = length-map notes (label_in heads)
+
+-- as many slots, and no less room
+pub kept_same : (old new : Notes) (heads also : Heads) (one two three four room : ℕ) → IsKept old heads one two room → IsPacked new also → length new ≡ length old → one ≤ three → two ≤ four → IsKept new also three four room
+kept_same old new heads also one two three four room w p size more rest = let f = w.few in let n = w.notes_room in let h = w.heads_room in
+    record { packed = p; few = omega (arith, f, size); notes_room = omega (arith, n, more); heads_room = omega (arith, h, rest) }
 
 added_few : (labels : Labels) (slot : ℕ) → slot < 2 ^ 32 → length labels ≤ 2 ^ 32 → length (added labels slot) ≤ 2 ^ 32
 added_few labels slot h k = grind (arith, common_steps)
 
-pub added_grouped : (labels : Labels) (slot capacity new room : ℕ) → IsGrouped labels capacity room → capacity ≤ new → slot < 2 ^ 32 → label_at labels slot ≡ None → IsGrouped (added labels slot) new room
-added_grouped labels slot capacity new room w more few fresh = let e = w.enough in record { partition = added_partition labels slot w.partition fresh; few = added_few labels slot few w.few; enough = omega (arith, e, more) }
+pub kept_added : (old new : Notes) (heads also : Heads) (one two three four room slot : ℕ) → IsKept old heads one two room → IsPacked new also → labels_of new also ≡ added (labels_of old heads) slot → slot < 2 ^ 32 → one ≤ three → two ≤ four → IsKept new also three four room
+kept_added old new heads also one two three four room slot w p e lt more rest =
+    let f = w.few in let n = w.notes_room in let h = w.heads_room in
+    let before = labels_size old heads in let after = labels_size new also in
+    let few : length (added (labels_of old heads) slot) ≤ 2 ^ 32 = added_few (labels_of old heads) slot lt (omega (arith, f, before)) in
+    let same : length (labels_of new also) ≡ length (added (labels_of old heads) slot) = ap length e in
+    record { packed = p; few = omega (arith, few, same, after); notes_room = omega (arith, n, more); heads_room = omega (arith, h, rest) }
 
-pub merged_grouped : (labels : Labels) (a b capacity new room : ℕ) (x y : Label) → IsGrouped labels capacity room → capacity ≤ new → label_at labels a ≡ Some x → label_at labels b ≡ Some y → IsGrouped (relabelled x.name y.name (union_label x y) labels) new room
-merged_grouped labels a b capacity new room x y w more e f = let n = relabelled_size x.name y.name (union_label x y) labels in let m = w.few in let q = w.enough in record { partition = merged_partition labels a b x y w.partition e f; few = omega (arith, n, m); enough = omega (arith, q, more) }
+-- ---- whether there is a mover
 
-pub stated_grouped : (labels : Labels) (name : ℕ) (state : IslandState) (capacity new room : ℕ) → IsGrouped labels capacity room → capacity ≤ new → IsIn labels name name → IsGrouped (with_state name state labels) new room
-stated_grouped labels name state capacity new room w more h = let to : Label = record { name = name; state = state } in let n = relabelled_size name name to labels in let m = w.few in let q = w.enough in
-    record { partition = with_state_partition labels name to w.partition refl h; few = omega (arith, n, m); enough = omega (arith, q, more) }
+no_note_of : (heads : Heads) (o : Option Note) → label_in heads o ≡ None → o ≡ None
+no_note_of heads None e = refl
+no_note_of heads (Some n) e = let some : Some (head_at heads n.part).label ≡ None = e in absurd (cc)
 
--- the name of a mover's island is in it
-pub name_in : (labels : Labels) (slot : ℕ) (l : Label) → IsPartition labels → label_at labels slot ≡ Some l → IsIn labels l.name l.name
-name_in labels slot l p e = in_of (label_at labels l.name) l l.name (p.named slot l e) refl
+pub no_note : (notes : Notes) (heads : Heads) (slot : ℕ) → label_at (labels_of notes heads) slot ≡ None → note_at notes slot ≡ None
+no_note notes heads slot e = no_note_of heads (note_at notes slot) (sym (labels_at heads notes slot) ∙ e)
 
-pub rest_size : (labels : Labels) (slot : ℕ) → length (rest_of labels slot) ≡ length labels
-rest_size labels slot = grind (arith, common_steps)
+some_note_of : (heads : Heads) (o : Option Note) → IsSome (label_in heads o) → IsSome o
+some_note_of heads None h = absurd (false≢true h)
+some_note_of heads (Some n) h = refl
 
-pub left_grouped : (labels : Labels) (slot : ℕ) (l : Label) (capacity new room : ℕ) → IsGrouped labels capacity room → capacity ≤ new → label_at labels slot ≡ Some l → lowest l.name (rest_of labels slot) < length (rest_of labels slot)
-    → IsGrouped (relabelled l.name l.name (record { name = lowest l.name (rest_of labels slot); state = Loose }) (rest_of labels slot)) new room
-left_grouped labels slot l capacity new room w more e found =
-    let to : Label = record { name = lowest l.name (rest_of labels slot); state = Loose } in
-    let n = relabelled_size l.name l.name to (rest_of labels slot) in let m = w.few in let q = w.enough in let r = rest_size labels slot in
-    record { partition = left_partition labels slot l w.partition e found; few = omega (arith, n, m, r); enough = omega (arith, q, more) }
+pub some_note : (notes : Notes) (heads : Heads) (slot : ℕ) → IsSome (label_at (labels_of notes heads) slot) → IsSome (note_at notes slot)
+some_note notes heads slot h = let P : Option Label → Type 0 = λ o. IsSome o in some_note_of heads (note_at notes slot) (subst P (labels_at heads notes slot) h)
 
-pub gone_grouped : (labels : Labels) (slot : ℕ) (l : Label) (capacity new room : ℕ) → IsGrouped labels capacity room → capacity ≤ new → label_at labels slot ≡ Some l → length (rest_of labels slot) ≤ lowest l.name (rest_of labels slot) → IsGrouped (rest_of labels slot) new room
-gone_grouped labels slot l capacity new room w more e none = let m = w.few in let q = w.enough in let r = rest_size labels slot in record { partition = gone_partition labels slot l w.partition e none; few = omega (arith, m, r); enough = omega (arith, q, more) }
+pub in_some_note : (notes : Notes) (heads : Heads) (name slot : ℕ) → IsIn (labels_of notes heads) name slot → IsSome (note_at notes slot)
+in_some_note notes heads name slot h = let l = in_is (label_at (labels_of notes heads) slot) name h in let P : Option Label → Type 0 = λ o. IsSome o in some_note notes heads slot (subst P (sym l.1) refl)
 
-pub taken_out_grouped : (labels : Labels) (slot : ℕ) (l : Label) (capacity new room : ℕ) → IsGrouped labels capacity room → capacity ≤ new → label_at labels slot ≡ Some l
-    → IsGrouped (left_behind (lowest l.name (rest_of labels slot)) l.name (rest_of labels slot)) new room
-taken_out_grouped labels slot l capacity new room w more e = elim (cases_lt (lowest l.name (rest_of labels slot)) (length (rest_of labels slot))) [
-  | inl found ↦ rw (lt-ltb (lowest l.name (rest_of labels slot)) (length (rest_of labels slot)) found) (left_grouped labels slot l capacity new room w more e found)
-  | inr none ↦ rw (le-ltb (lowest l.name (rest_of labels slot)) (length (rest_of labels slot)) none) (gone_grouped labels slot l capacity new room w more e none)
-]
+-- ---- the part of a mover
 
-pub split_grouped : (labels : Labels) (name : ℕ) (edges : Edges) (capacity new room : ℕ) → IsGrouped labels capacity room → capacity ≤ new → Inside labels name edges → IsGrouped (split_by labels name edges) new room
-split_grouped labels name edges capacity new room w more inside = let s : IsSplit labels name edges (split_by labels name edges) = split_is labels name edges w.partition inside in let n = s.size in let m = w.few in let q = w.enough in
-    record { partition = split_partition labels name edges w.partition inside; few = omega (arith, n, m); enough = omega (arith, q, more) }
+pub part_led : (notes : Notes) (heads : Heads) (slot part : ℕ) → IsPacked notes heads → part_in (note_at notes slot) ≡ Some part → InPart notes part part
+part_led notes heads slot part p e = (p.parts part slot (in_of_part (note_at notes slot) part e)).led
 
--- ---- lists of members
+label_by_part : (notes : Notes) (heads : Heads) (slot part : ℕ) → part_in (note_at notes slot) ≡ Some part → label_at (labels_of notes heads) slot ≡ Some (head_at heads part).label
+label_by_part notes heads slot part e = labels_at heads notes slot ∙ label_of_part heads part (note_at notes slot) (in_of_part (note_at notes slot) part e)
 
-pub ascending_push : (xs : List ℕ) (x : ℕ) → IsStrictlyIncreasing xs → ((s : ℕ) → Contains xs s → s < x) → IsStrictlyIncreasing (xs ++ x ∷ [])
-ascending_push xs x asc below k lt = elim (cases_lt (k + 1) (length xs)) [
-  | inl h ↦ grind (arith, common_steps, asc k h)
-  | inr h ↦ let long : k < length xs = grind (arith, common_steps) in grind (arith, common_steps, below (get_or xs k 0) (Contains-get_or xs k 0 long))
-]
+pub loosened_part : (notes : Notes) (heads : Heads) (slot part : ℕ) → part_in (note_at notes slot) ≡ Some part → loosened (labels_of notes heads) slot ≡ with_state (name_of heads part) Loose (labels_of notes heads)
+unfolding loosened
+loosened_part notes heads slot part e = ap (λ o. loosened_by o (labels_of notes heads)) (label_by_part notes heads slot part e)
+
+-- the mover in the slot of an island's name is in it
+pub named_part : (notes : Notes) (heads : Heads) (name part : ℕ) → IsIn (labels_of notes heads) name name → part_in (note_at notes name) ≡ Some part → name_of heads part ≡ name
+named_part notes heads name part h e =
+    let l = in_is (label_at (labels_of notes heads) name) name h in
+    let same : Some l.0 ≡ Some (head_at heads part).label = sym l.1 ∙ label_by_part notes heads name part e in
+    let one : l.0 ≡ (head_at heads part).label = cc in
+    ap (λ (x : Label). x.name) (sym one) ∙ l.2
+
+-- ---- a merge leaves each mover where it is
+
+label_there : (heads : Heads) (o : Option Note) → IsSome o → (l : Label) × (label_in heads o ≡ Some l)
+label_there heads None h = absurd (false≢true h)
+label_there heads (Some n) h = ((head_at heads n.part).label, refl)
+
+pub still_there : (notes : Notes) (heads : Heads) (new : Notes) (also : Heads) (a b s : ℕ) → labels_of new also ≡ merged (labels_of notes heads) a b → IsSome (note_at notes s) → IsSome (note_at new s)
+still_there notes heads new also a b s e h =
+    let was = label_there heads (note_at notes s) h in
+    let now = still_labelled (labels_of notes heads) a b s (was.0, labels_at heads notes s ∙ was.1) in
+    let P : Option Label → Type 0 = λ o. IsSome o in
+    some_note new also s (subst P (sym (ap (λ l. label_at l s) e ∙ now.1)) refl)

@@ -6,11 +6,11 @@ use Rattle.std.proofs.lemmas.Bool.{cases_eq, false≢true}
 use Rattle.islands.specs.declared.parts.Note.{Note}
 use Rattle.islands.specs.declared.parts.Head.{Head}
 use Rattle.islands.specs.declared.label.Label.{Label}
-use Rattle.islands.specs.Labels.{Labels, label_at, is_in, relabel, relabelled, union_label}
-use Rattle.islands.specs.Packed.{Notes, note_at, Heads, head_at, no_head, labelled_head, in_part, InPart, rank_of, next_of, rank_at, next_at, name_of, label_in, labels_of, counted, ahead, IsPart, IsPacked, moved_note, or_first, AreJoined, joined_head}
+use Rattle.islands.specs.Labels.{Labels, label_at, is_in, relabel, relabelled, union_label, merged, merged_by}
+use Rattle.islands.specs.Packed.{Notes, note_at, Heads, head_at, no_head, labelled_head, in_part, InPart, rank_of, next_of, rank_at, next_at, name_of, label_in, labels_of, counted, ahead, IsPart, IsPacked, moved_note, or_first, AreJoined, joined_head, part_in}
 use Rattle.islands.proofs.LabelLemmas.{relabel_at, union_low}
-use Rattle.islands.proofs.ComponentLemmas.{same_labels}
-use Rattle.islands.proofs.PartLemmas.{part_is, part_case, part_some, part_of_some, one_part, not_part, short, count_sum, count_same, ahead_same, part_stays, labels_at, label_of_part, in_name, part_kept}
+use Rattle.islands.proofs.SlotLemmas.{same_labels}
+use Rattle.islands.proofs.PartLemmas.{part_is, part_case, part_some, part_of_some, one_part, not_part, short, count_sum, count_same, ahead_same, part_stays, labels_at, label_of_part, in_name, part_kept, in_of_part}
 
 abbrev pub moved_in : ℕ → ℕ → ℕ → ℕ → Option Note → Option Note
 moved_in to count first s None = None
@@ -198,7 +198,7 @@ joined_packed old heads a b new label p h g apart j u =
     }
 
 -- what the labels are then
-label_away : (heads : Heads) (a : ℕ) (h : Head) (o : Option Note) → in_part a o ≡ false → label_in (slice_set heads a h) o ≡ label_in heads o
+pub label_away : (heads : Heads) (a : ℕ) (h : Head) (o : Option Note) → in_part a o ≡ false → label_in (slice_set heads a h) o ≡ label_in heads o
 label_away heads a h None off = refl
 label_away heads a h (Some n) off = ap (λ (x : Head). Some x.label) (head_kept heads a n.part h (λ e. false≢true (sym off ∙ part_some a n e)))
 
@@ -284,3 +284,12 @@ pub merged_one_labels : (notes : Notes) (heads : Heads) (x y : ℕ) → IsPacked
     → labels_of notes (slice_set heads x (labelled_head heads x (union_label (head_at heads x).label (head_at heads y).label))) ≡ relabelled (name_of heads x) (name_of heads y) (union_label (head_at heads x).label (head_at heads y).label) (labels_of notes heads)
 merged_one_labels notes heads x y p h e = labelled_labels notes heads x (union_label (head_at heads x).label (head_at heads y).label) p h
     ∙ ap (λ n. relabelled (name_of heads x) n (union_label (head_at heads x).label (head_at heads y).label) (labels_of notes heads)) (ap (name_of heads) e)
+
+-- two movers, by their parts
+pub merged_movers : (notes : Notes) (heads : Heads) (a b x y : ℕ) → part_in (note_at notes a) ≡ Some x → part_in (note_at notes b) ≡ Some y
+    → merged (labels_of notes heads) a b ≡ relabelled (name_of heads x) (name_of heads y) (union_label (head_at heads x).label (head_at heads y).label) (labels_of notes heads)
+unfolding merged
+merged_movers notes heads a b x y e f =
+    let first : label_at (labels_of notes heads) a ≡ Some (head_at heads x).label = labels_at heads notes a ∙ label_of_part heads x (note_at notes a) (in_of_part (note_at notes a) x e) in
+    let second : label_at (labels_of notes heads) b ≡ Some (head_at heads y).label = labels_at heads notes b ∙ label_of_part heads y (note_at notes b) (in_of_part (note_at notes b) y f) in
+    ap (λ o. merged_by o (label_at (labels_of notes heads) b) (labels_of notes heads)) first ∙ ap (λ o. merged_by (Some (head_at heads x).label) o (labels_of notes heads)) second

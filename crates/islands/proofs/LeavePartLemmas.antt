@@ -43,7 +43,7 @@ staying old heads k slot to new s p l there h away =
     }
 
 -- no other part was led from there
-led_elsewhere : (old : Notes) (heads : Heads) (k to s : ℕ) → IsPacked old heads → InPart old k to → in_part k (note_at old s) ≡ false → in_part to (note_at old s) ≡ false
+pub led_elsewhere : (old : Notes) (heads : Heads) (k to s : ℕ) → IsPacked old heads → InPart old k to → in_part k (note_at old s) ≡ false → in_part to (note_at old s) ≡ false
 led_elsewhere old heads k to s p h off = elim (part_case to (note_at old s)) [
   | inr away ↦ away
   | inl on ↦ let same : k ≡ to = one_part k to (note_at old to) h (p.parts to s on).led in absurd (false≢true (sym off ∙ ap (λ m. in_part m (note_at old s)) same ∙ on))
@@ -155,7 +155,7 @@ begins old heads k slot to new all l there lead away =
           })
     ]
 
-left_test : (old : Notes) (heads : Heads) (k slot to : ℕ) (new : Notes) → IsPacked old heads → AreLeft old k slot to new → InPart old k slot → InPart old k to → (s : ℕ) → in_part to (note_at new s) ≡ in_part k (note_at (slice_set old slot None) s)
+pub left_test : (old : Notes) (heads : Heads) (k slot to : ℕ) (new : Notes) → IsPacked old heads → AreLeft old k slot to new → InPart old k slot → InPart old k to → (s : ℕ) → in_part to (note_at new s) ≡ in_part k (note_at (slice_set old slot None) s)
 left_test old heads k slot to new p l there lead s = elim (cases_eq s slot) [
   | inl e ↦ ap (in_part to) (ap (note_at new) e ∙ l.gone) ∙ sym (ap (in_part k) (ap (note_at (slice_set old slot None)) e ∙ get_or-set_same old slot None None (short old k slot there)))
   | inr away ↦ elim (part_case k (note_at old s)) [

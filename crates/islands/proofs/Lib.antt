@@ -2,10 +2,12 @@ pub mod JoinLemmas
 pub mod LabelLemmas
 pub mod KeptLemmas
 pub mod SplitLemmas
-pub mod WalkLemmas
-pub mod ThreadLemmas
-pub mod ComponentLemmas
+pub mod SlotLemmas
 pub mod GroupLemmas
 pub mod PartLemmas
 pub mod JoinPartLemmas
 pub mod LeavePartLemmas
+pub mod ReadingLemmas
+pub mod LeftLemmas
+pub mod ListingLemmas
+pub mod AloneLemmas

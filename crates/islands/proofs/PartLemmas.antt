@@ -1,6 +1,6 @@
 -- Lemmas on parts: who is in one, how many, what a walk along a thread has passed, and which labels it means.
-use Rattle.std.proofs.Common.{◌≡◌, ◌≢◌, ℕ, zero, suc, ◌+◌, ◌<◌, ◌≤◌, [], ◌∷◌, length, get_or, Option, Some, None, Bool, true, false, ◌⊎◌, ◌||◌, ◌&&◌, inl, inr, arith, refl, sym, ap, ◌∙◌, slice_set, get_or-set_same, get_or-set_other, eq-eqb}
-use Rattle.std.specs.Prelude.{cond, ◌==◌}
+use Rattle.std.proofs.Common.{◌≡◌, ◌≢◌, ℕ, zero, suc, ◌+◌, ◌<◌, ◌≤◌, [], ◌∷◌, length, get_or, Option, Some, None, Bool, true, false, ◌⊎◌, ◌||◌, ◌&&◌, inl, inr, arith, refl, sym, ap, ◌∙◌, slice_set, get_or-set_same, get_or-set_other, eq-eqb, subst}
+use Rattle.std.specs.Prelude.{cond, ◌==◌, IsSome}
 use Rattle.std.proofs.lemmas.Bool.{cases_lt, cases_eq, eqb-true, false≢true, le-leb, lt-leb, ne_eqb}
 use Rattle.std.proofs.lemmas.List.{length-set}
 use Rattle.std.proofs.lemmas.List.Sums.{sum_by-cons, count_by-le-length}
@@ -256,3 +256,14 @@ packed_partition notes heads p = record {
 pub in_of_part : (o : Option Note) (k : ℕ) → part_in o ≡ Some k → in_part k o ≡ true
 in_of_part None k e = let no : None ≡ Some k = e in absurd (cc)
 in_of_part (Some n) k e = part_some k n cc
+
+pub note_short : (notes : Notes) (slot : ℕ) → IsSome (note_at notes slot) → slot < length notes
+note_short notes slot h = elim (cases_lt slot (length notes)) [
+  | inl lt ↦ lt
+  | inr le ↦ absurd (let P : Option Note → Type 0 = λ o. IsSome o in false≢true (subst P (note_past notes slot le) h))
+]
+
+-- a part is led from a slot that has a head
+pub part_short : (notes : Notes) (heads : Heads) (slot : ℕ) (n : Note) → IsPacked notes heads → note_at notes slot ≡ Some n → n.part < length heads
+part_short notes heads slot n p e =
+    let lt = short notes n.part n.part (p.parts n.part slot (part_of_some n.part (note_at notes slot) n e refl)).led in let z = p.sizes in omega (arith, lt, z)

@@ -87,12 +87,12 @@ merging_all (e ∷ edges) R labels w ends =
 
 -- ---- each mover of the island on its own
 
-scattered_at : (slot name : ℕ) (labels : Labels) (s : ℕ) → label_at (scattered_from slot name labels) s ≡ alone name (slot + s) (label_at labels s)
+pub scattered_at : (slot name : ℕ) (labels : Labels) (s : ℕ) → label_at (scattered_from slot name labels) s ≡ alone name (slot + s) (label_at labels s)
 scattered_at slot name [] s = refl
 scattered_at slot name (o ∷ labels) zero = let same : slot ≡ slot + 0 = omega arith in ap (λ n. alone name n o) same
 scattered_at slot name (o ∷ labels) (suc s) = let same : suc slot + s ≡ slot + suc s = omega arith in scattered_at (suc slot) name labels s ∙ ap (λ n. alone name n (label_at labels s)) same
 
-scattered_size : (slot name : ℕ) (labels : Labels) → length (scattered_from slot name labels) ≡ length labels
+pub scattered_size : (slot name : ℕ) (labels : Labels) → length (scattered_from slot name labels) ≡ length labels
 scattered_size slot name [] = refl
 scattered_size slot name (o ∷ labels) = ap (λ n. suc n) (scattered_size (suc slot) name labels)
 

@@ -2,7 +2,5 @@ pub mod Links
 pub mod Labels
 pub mod Partition
 pub mod Laws
-pub mod Walk
-pub mod Threads
 pub mod Kept
 pub mod Packed

@@ -1,10 +1,10 @@
 -- Islands as threads through the slots of their movers: what is kept by slot, which labels that means, and what holds of it.
-use Rattle.std.specs.Prelude.{◌≡◌, ◌≢◌, ℕ, suc, ◌-◌, nat_lt, ◌+◌, ◌<◌, ◌≤◌, List, length, Some, None, Option, map, ◌==◌, ◌&&◌, ◌^◌, Bool, true, false, cond, count_by, nat_le, min}
-use Rattle.std.specs.List.{slice_index_or}
+use Rattle.std.specs.Prelude.{◌≡◌, ◌≢◌, ◌↔◌, ◌++◌, replicate, nat_eq, Contains, ℕ, suc, ◌-◌, nat_lt, ◌+◌, ◌<◌, ◌≤◌, List, length, Some, None, Option, map, ◌==◌, ◌&&◌, ◌^◌, Bool, true, false, cond, count_by, nat_le, min}
+use Rattle.std.specs.List.{slice_index_or, IsDistinct}
 use Rattle.islands.specs.declared.parts.Note.{Note}
 use Rattle.islands.specs.declared.parts.Head.{Head}
 use Rattle.islands.specs.declared.label.Label.{Label}
-use Rattle.islands.specs.Labels.{Labels, own_label}
+use Rattle.islands.specs.Labels.{Labels, label_at, is_in, own_label}
 
 -- by slot the note of the mover there, if there is one
 abbrev pub Notes : Type 0
@@ -98,6 +98,16 @@ pub record IsPacked (notes : Notes) (heads : Heads) : Type 0 where
   pub sizes : length heads ≡ length notes
   pub parts : (k s : ℕ) → InPart notes k s → IsPart notes heads k
 
+-- the part is the island of this name, or there is no such island
+abbrev pub IsNamedPart : Notes → Heads → ℕ → Option ℕ → Type 0
+IsNamedPart notes heads name None = (s : ℕ) → is_in (label_at (labels_of notes heads) s) name ≡ false
+IsNamedPart notes heads name (Some part) = InPart notes part part × (name_of heads part ≡ name)
+
+-- the members of a part, each once
+pub record AreMembers (notes : Notes) (part : ℕ) (members : List ℕ) : Type 0 where
+  pub all : (s : ℕ) → Contains members s ↔ InPart notes part s
+  pub apart : IsDistinct nat_eq members
+
 -- What the type keeps, beside the room in its lists.
 pub record IsKept (notes : Notes) (heads : Heads) (notes_capacity heads_capacity room : ℕ) : Type 0 where
   pub packed : IsPacked notes heads
@@ -144,8 +154,11 @@ is_next (Some next) slot = next == slot
 abbrev pub left_note : ℕ → ℕ → Option ℕ → ℕ → Note → Note
 left_note slot rank next to n = record { part = to; rank = cond (nat_lt rank n.rank) (n.rank - 1) n.rank; next = cond (is_next n.next slot) next n.next }
 
+abbrev pub left_head_of : Head → ℕ → Option ℕ → Label → Head
+left_head_of head slot next label = record { label = label; first = cond (head.first == slot) (or_first next slot) head.first; count = head.count - 1 }
+
 abbrev pub left_head : Heads → ℕ → ℕ → Option ℕ → Label → Head
-left_head heads part slot next label = record { label = label; first = cond ((head_at heads part).first == slot) (or_first next slot) (head_at heads part).first; count = (head_at heads part).count - 1 }
+left_head heads part slot next label = left_head_of (head_at heads part) slot next label
 
 -- the notes once the mover in the slot has left the part, which is led from `to` then
 pub record AreLeft (old : Notes) (part slot to : ℕ) (new : Notes) : Type 0 where
@@ -162,12 +175,33 @@ lesser (Some best) member = min best member
 abbrev pub lesser_other : Option ℕ → ℕ → ℕ → Option ℕ
 lesser_other best member slot = cond (member == slot) best (Some (lesser best member))
 
+-- the least of those of which P holds, if there is one
+abbrev pub IsLowest : (ℕ → Type 0) → Option ℕ → Type 0
+IsLowest P None = (s : ℕ) → P s → ⊥
+IsLowest P (Some low) = P low × ((s : ℕ) → P s → low ≤ s)
+
 abbrev pub IsLowestOther : Notes → ℕ → ℕ → Option ℕ → Type 0
-IsLowestOther notes part slot None = (s : ℕ) → InPart notes part s → s ≡ slot
-IsLowestOther notes part slot (Some low) = InPart notes part low × (low ≢ slot) × ((s : ℕ) → InPart notes part s → s ≢ slot → low ≤ s)
+IsLowestOther notes part slot o = IsLowest (λ s. InPart notes part s × (s ≢ slot)) o
 
 -- the notes with those of the part mended, as the mover in the slot leaves it
 pub record AreMended (old : Notes) (slot : ℕ) (gone : Note) (to : ℕ) (new : Notes) : Type 0 where
   pub size : length new ≡ length old
   pub others : (s : ℕ) → in_part gone.part (note_at old s) ≡ false → note_at new s ≡ note_at old s
   pub mended : (s : ℕ) (n : Note) → note_at old s ≡ Some n → n.part ≡ gone.part → note_at new s ≡ Some (left_note slot gone.rank gone.next to n)
+
+-- ---- a mover comes
+
+-- at least n items
+abbrev pub filled : {X : Type 0} → X → List X → ℕ → List X
+filled item items n = items ++ replicate (n - length items) item
+
+-- ---- a part is scattered
+
+-- the notes and heads once each of the members is a part of its own
+pub record AreScattered (old : Notes) (heads : Heads) (members : List ℕ) (new : Notes) (also : Heads) : Type 0 where
+  pub size : length new ≡ length old
+  pub heads_size : length also ≡ length heads
+  pub notes_alone : (s : ℕ) → Contains members s → note_at new s ≡ Some (own_note s)
+  pub heads_alone : (s : ℕ) → Contains members s → head_at also s ≡ own_head s
+  pub notes_kept : (s : ℕ) → (Contains members s → ⊥) → note_at new s ≡ note_at old s
+  pub heads_kept : (s : ℕ) → (Contains members s → ⊥) → head_at also s ≡ head_at heads s

@@ -3,13 +3,18 @@
 ghost use Rattle.std.specs.Prelude.{◌≡◌, ℕ, ◌<◌, ◌≤◌, ◌^◌, ◌↔◌, [], None, length, vec_capacity, IfOk, OnOk, OnErr, IsSome, IfSome, Contains, option_map};
 ghost use Rattle.std.specs.Result.{IsOkUnless};
 ghost use Rattle.std.specs.List.Sorted.{IsStrictlyIncreasing};
-ghost use Rattle.islands.specs.Labels.{label_at, IsIn, is_loose, is_asleep, lowest, left_behind, added, merged, loosened, taken_out, rested, woken, split_by};
+ghost use Rattle.islands.specs.Labels.{label_at, IsIn, is_loose, is_asleep, added, merged, loosened, taken_out, rested, woken, split_by};
 ghost use Rattle.islands.specs.Partition.{IsPartition, Inside, IsSplit};
 
-use crate::components::rename;
-use crate::label::{IslandState, Label, label_of, lowest, members_of, pad, relabel, union};
+use crate::adding::add_part;
+use crate::joining::merge_movers;
+use crate::label::{IslandState, Label};
+use crate::leaving::leave;
+use crate::listing::members_of;
+use crate::parts::{Head, Note, label_in, part_at, set_state};
 use crate::room::reserve_in_all;
 use crate::scratch::SplitScratch;
+use crate::splitting::split_island;
 use fixed_geom::Refusal;
 use std::alloc::Global;
 use std::marker::Model;
@@ -18,19 +23,22 @@ use std::marker::Model;
 /// the bound below which a mover's slot must be so that it may be added (`room`).
 #[derive(Drop)]
 pub struct Islands {
-    labels: Vec<Option<Label>>,
+    // By slot what is kept of the mover, and of the part that is led from there.
+    notes: Vec<Option<Note>>,
+    heads: Vec<Head>,
     room: usize,
 }
 
 impl Model for Islands {
     ghost use Rattle.std.specs.Prelude.{vec_capacity};
-    ghost use Rattle.islands.specs.Kept.{Grouped, IsGrouped};
+    ghost use Rattle.islands.specs.Kept.{Grouped};
+    ghost use Rattle.islands.specs.Packed.{IsKept, labels_of};
 
     ghost Value = { Grouped };
 
-    ghost view = { λ a. record { labels = a.labels.items; room = a.room } };
+    ghost view = { λ a. record { labels = labels_of a.notes.items a.heads.items; room = a.room } };
 
-    ghost invariant = { λ a. IsGrouped a.labels.items (vec_capacity a.labels) a.room };
+    ghost invariant = { λ a. IsKept a.notes.items a.heads.items (vec_capacity a.notes) (vec_capacity a.heads) a.room };
 }
 
 impl Islands {
@@ -40,7 +48,8 @@ impl Islands {
         ensures room { result.room ≡ 0 }
     {
         Islands {
-            labels: Vec::new(alloc),
+            notes: Vec::new(alloc),
+            heads: Vec::new(alloc),
             room: 0,
         }
     }
@@ -51,9 +60,10 @@ impl Islands {
         ensures room { IfOk result (λ copied. copied.room ≡ 0) }
         ensures memory_only { IsOkUnless result Refusal.NoMemory }
     {
-        let alloc = *self.labels.allocator();
+        let alloc = *self.notes.allocator();
         Ok(Islands {
-            labels: Vec::from_slice(alloc, self.labels.as_slice())?,
+            notes: Vec::from_slice(alloc, self.notes.as_slice())?,
+            heads: Vec::from_slice(alloc, self.heads.as_slice())?,
             room: 0,
         })
     }
@@ -66,7 +76,8 @@ impl Islands {
         ensures refused { OnErr result (self.new ≡ self.old) }
         ensures memory_only { IsOkUnless result Refusal.NoMemory }
     {
-        reserve_in_all(&mut self.labels, slots)?;
+        reserve_in_all(&mut self.notes, slots)?;
+        reserve_in_all(&mut self.heads, slots)?;
         self.room = self.room.max(slots);
         Ok(())
     }
@@ -78,50 +89,37 @@ impl Islands {
         ensures labels { self.new.labels ≡ added self.old.labels slot }
         ensures room { self.new.room ≡ self.old.room }
     {
-        let place = slot as usize;
-        pad(&mut self.labels, place + 1);
-        self.labels[place] = Some(Label {
-            name: slot,
-            state: IslandState::Whole,
-        });
+        add_part(&mut self.notes, &mut self.heads, slot);
     }
 
     /// Makes the islands of two movers one, under the lesser name, and loose if either was. It is
     /// awake then. Takes no memory.
-    #[tactic(auto, unfolding(crate::specs::Labels::merged))]
     pub fn merge(&mut self, a: u32, b: u32)
         requires first { IsSome (label_at self.old.labels a) }
         requires second { IsSome (label_at self.old.labels b) }
         ensures labels { self.new.labels ≡ merged self.old.labels a b }
         ensures room { self.new.room ≡ self.old.room }
     {
-        let x = label_of(&self.labels, a);
-        let y = label_of(&self.labels, b);
-        relabel(&mut self.labels, x.name, y.name, union(x, y));
+        merge_movers(&mut self.notes, &mut self.heads, a, b);
     }
 
     /// Makes the island of a mover loose: it has lost a link.
-    #[tactic(auto, unfolding(crate::specs::Labels::loosened))]
     pub fn loosen(&mut self, slot: u32)
         requires mover { IsSome (label_at self.old.labels slot) }
         ensures labels { self.new.labels ≡ loosened self.old.labels slot }
         ensures room { self.new.room ≡ self.old.room }
     {
-        let name = label_of(&self.labels, slot).name;
-        let state = IslandState::Loose;
-        relabel(&mut self.labels, name, name, Label { name, state });
+        let part = part_at(&self.notes, slot);
+        set_state(&self.notes, &mut self.heads, part, IslandState::Loose);
     }
 
     /// Takes a mover out of its island. Those that it leaves behind are loose, under their lowest slot.
-    #[tactic(auto, unfolding(crate::specs::Labels::taken_out))]
     pub fn take_out(&mut self, slot: u32)
         requires mover { IsSome (label_at self.old.labels slot) }
         ensures labels { self.new.labels ≡ taken_out self.old.labels slot }
         ensures room { self.new.room ≡ self.old.room }
     {
-        let name = label_of(&self.labels, slot).name;
-        self.labels[slot as usize] = None;
-        leave_behind(&mut self.labels, name);
+        leave(&mut self.notes, &mut self.heads, slot);
     }
 
     /// Puts an island to rest.
@@ -131,8 +129,8 @@ impl Islands {
         ensures labels { self.new.labels ≡ rested self.old.labels name }
         ensures room { self.new.room ≡ self.old.room }
     {
-        let state = IslandState::Asleep;
-        relabel(&mut self.labels, name, name, Label { name, state });
+        let part = part_at(&self.notes, name);
+        set_state(&self.notes, &mut self.heads, part, IslandState::Asleep);
     }
 
     /// Wakes an island.
@@ -142,8 +140,8 @@ impl Islands {
         ensures labels { self.new.labels ≡ woken self.old.labels name }
         ensures room { self.new.room ≡ self.old.room }
     {
-        let state = IslandState::Whole;
-        relabel(&mut self.labels, name, name, Label { name, state });
+        let part = part_at(&self.notes, name);
+        set_state(&self.notes, &mut self.heads, part, IslandState::Whole);
     }
 
     /// Replaces an island by its connected components over the links that are given, none of them
@@ -158,8 +156,7 @@ impl Islands {
         ensures scratch_slots { scratch.new.slots ≡ scratch.old.slots }
         ensures scratch_links { scratch.new.links ≡ scratch.old.links }
     {
-        scratch.name_components(&self.labels, name, edges);
-        rename(&mut self.labels, name, scratch.names());
+        split_island(&mut self.notes, &mut self.heads, name, edges, scratch);
     }
 
     /// How many slots there are, with a mover or without.
@@ -167,7 +164,7 @@ impl Islands {
         ensures value { result ≡ length self.now.labels }
         ensures few { length self.now.labels ≤ 2 ^ 32 }
     {
-        self.labels.len()
+        self.notes.len()
     }
 
     /// The label of a mover's island; `None` where there is no mover.
@@ -175,10 +172,7 @@ impl Islands {
         ensures value { result ≡ label_at self.now.labels slot }
         ensures partition { IsPartition self.now.labels }
     {
-        match self.labels.get(slot as usize) {
-            Some(label) => *label,
-            None => None,
-        }
+        label_in(&self.notes, &self.heads, slot)
     }
 
     /// The name of a mover's island, which is its lowest slot; `None` where there is no mover.
@@ -196,7 +190,7 @@ impl Islands {
         requires { IsSome (label_at self.now.labels slot) }
         ensures { IfSome (label_at self.now.labels slot) (λ l. result ≡ is_loose l.state) }
     {
-        label_of(&self.labels, slot).state.is_loose()
+        self.label_of(slot).unwrap().state.is_loose()
     }
 
     /// Whether a mover sleeps.
@@ -204,7 +198,7 @@ impl Islands {
         requires { IsSome (label_at self.now.labels slot) }
         ensures { IfSome (label_at self.now.labels slot) (λ l. result ≡ is_asleep l.state) }
     {
-        label_of(&self.labels, slot).state.is_asleep()
+        self.label_of(slot).unwrap().state.is_asleep()
     }
 
     /// The movers of an island, ascending. Refused 1 where memory is wanting.
@@ -213,22 +207,6 @@ impl Islands {
         ensures members { IfOk result (λ v. (slot : ℕ) → Contains v.items slot ↔ IsIn self.now.labels name slot) }
         ensures memory_only { IsOkUnless result Refusal.NoMemory }
     {
-        members_of(*self.labels.allocator(), &self.labels, name)
-    }
-}
-
-/// Makes the movers that are left of an island loose, under their lowest slot.
-fn leave_behind(labels: &mut Vec<Option<Label>>, name: u32)
-    requires { length labels.old.items ≤ 2 ^ 32 }
-    ensures labels { labels.new.items ≡ left_behind (lowest name labels.old.items) name labels.old.items }
-    ensures capacity { vec_capacity labels.old ≤ vec_capacity labels.new }
-{
-    let low = lowest(labels, name);
-    if low < labels.len() {
-        let to = Label {
-            name: low as u32,
-            state: IslandState::Loose,
-        };
-        relabel(labels, name, name, to);
+        members_of(*self.notes.allocator(), &self.notes, &self.heads, name)
     }
 }

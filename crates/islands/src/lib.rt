@@ -8,16 +8,20 @@
 
 ghost use Rattle.islands.specs.Laws.{AddingKeeps, MergingKeeps, LooseningKeeps, TakingOutKeeps, StateChangeKeeps, SplittingKeeps};
 
-mod components;
+mod adding;
 mod islands;
+mod joining;
 mod label;
+mod leaving;
+mod listing;
+mod merging;
 mod parts;
 mod room;
+mod scattering;
 mod scratch;
+mod splitting;
 #[cfg(test)]
 mod tests;
-mod threading;
-mod walk;
 
 pub use islands::Islands;
 pub use label::{IslandState, Label};

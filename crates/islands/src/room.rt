@@ -1,7 +1,8 @@
 //! Lists that were given room before.
 
-ghost use Rattle.std.specs.Prelude.{◌≡◌, ◌+◌, ◌<◌, ◌≤◌, ◌++◌, ◌∷◌, [], None, length, replicate, vec_len, vec_capacity, OnOk};
+ghost use Rattle.std.specs.Prelude.{◌≡◌, ◌+◌, ◌<◌, ◌≤◌, ◌++◌, ◌∷◌, [], vec_len, vec_capacity, OnOk};
 ghost use Rattle.std.specs.Result.{IsOkUnless};
+ghost use Rattle.islands.specs.Packed.{filled};
 
 use fixed_geom::Refusal;
 
@@ -26,12 +27,13 @@ pub(crate) fn push_in_room<T: Copy>(list: &mut Vec<T>, item: T)
     let _ = list.push(item);
 }
 
-/// Leaves n slots with nothing in them, for which there is room.
-pub(crate) fn blank<T: Copy>(list: &mut Vec<Option<T>>, n: usize)
+/// Makes the list at least n items long, for which there is room.
+pub(crate) fn pad<T: Copy>(list: &mut Vec<T>, n: usize, item: T)
     requires { n ≤ vec_capacity list.old }
-    ensures items { list.new.items ≡ replicate n None }
+    ensures items { list.new.items ≡ filled item list.old.items n }
     ensures capacity { vec_capacity list.old ≤ vec_capacity list.new }
 {
-    list.clear();
-    let _ = list.resize(n, None);
+    if list.len() < n {
+        let _ = list.resize(n, item);
+    }
 }

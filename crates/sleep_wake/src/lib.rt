@@ -15,8 +15,6 @@ pub mod laws;
 mod phase;
 mod sets;
 mod splits;
-#[cfg(test)]
-mod tests;
 
 pub use phase::{TICKS_TO_SLEEP, pick_split};
 pub use sets::{fall_asleep, wake_movers, wake_set};

@@ -1,11 +1,17 @@
-use Rattle.std.proofs.Common.{◌≡◌, Some, sym, vec_capacity}
+use Rattle.std.proofs.Common.{◌≡◌, Some, sym, ◌∙◌}
 use Rattle.islands.specs.declared.label.IslandState.TheVariants.{Loose}
-use Rattle.islands.specs.Labels.{label_at}
-use Rattle.islands.proofs.GroupLemmas.{stated_grouped, name_in}
+use Rattle.islands.specs.Labels.{with_state}
+use Rattle.islands.specs.Packed.{note_at, part_in, name_of, labels_of}
+use Rattle.islands.proofs.GroupLemmas.{part_led, loosened_part}
 use Rattle.islands.proofs.islands.Islands.loosen.Goals as goal
 
-pub invariant_of-self : goal.invariant_of-self
-invariant_of-self c =
-    let e : label_at c.self.inside.labels.items c.args.slot ≡ Some c.label_of-name.result = rw (sym c.deref.ensures.value) c.label_of-name.ensures in
-    rw c.relabel.ensures.labels (stated_grouped c.self.inside.labels.items c.label_of-name.result.name Loose (vec_capacity c.self.inside.labels) (vec_capacity c.relabel.new.labels) c.self.inside.room c.self.invariant c.relabel.ensures.capacity
-    (name_in c.self.inside.labels.items c.args.slot c.label_of-name.result c.self.invariant.partition e))
+pub set_state-requires-clause-part : goal.set_state-requires-clause-part
+set_state-requires-clause-part c =
+    let e : part_in (note_at c.self.inside.notes.items c.args.slot) ≡ Some c.part_at-part.result = rw (sym c.deref.ensures.value) c.part_at-part.ensures in
+    rw c.deref-2.ensures.value (part_led c.self.inside.notes.items c.self.inside.heads.items c.args.slot c.part_at-part.result c.self.invariant.packed e)
+
+pub returns-clause-labels : goal.returns-clause-labels
+returns-clause-labels c =
+    let e : part_in (note_at c.self.inside.notes.items c.args.slot) ≡ Some c.part_at-part.result = rw (sym c.deref.ensures.value) c.part_at-part.ensures in
+    let is : labels_of c.self.inside.notes.items c.set_state.new.heads.items ≡ with_state (name_of c.self.inside.heads.items c.part_at-part.result) Loose (labels_of c.self.inside.notes.items c.self.inside.heads.items) = rw (sym c.deref-2.ensures.value) c.set_state.ensures.labels in
+    rw (← c.self.view_is) (is ∙ sym (loosened_part c.self.inside.notes.items c.self.inside.heads.items c.args.slot c.part_at-part.result e))

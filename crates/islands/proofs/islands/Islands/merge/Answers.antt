@@ -1,10 +1,19 @@
-use Rattle.std.proofs.Common.{◌≡◌, Some, sym, vec_capacity}
+use Rattle.std.proofs.Common.{vec_capacity}
+use Rattle.std.specs.Prelude.{IsSome}
 use Rattle.islands.specs.Labels.{label_at}
-use Rattle.islands.proofs.GroupLemmas.{merged_grouped}
+use Rattle.islands.specs.Packed.{labels_of}
+use Rattle.islands.proofs.GroupLemmas.{kept_same, some_note}
 use Rattle.islands.proofs.islands.Islands.merge.Goals as goal
 
+pub merge_movers-requires-clause-first : goal.merge_movers-requires-clause-first
+merge_movers-requires-clause-first c =
+    let there : IsSome (label_at (labels_of c.self.inside.notes.items c.self.inside.heads.items) c.args.a) = rw (← c.self.view_is) at c.requires.first in
+    some_note c.self.inside.notes.items c.self.inside.heads.items c.args.a there
+
+pub merge_movers-requires-clause-second : goal.merge_movers-requires-clause-second
+merge_movers-requires-clause-second c =
+    let there : IsSome (label_at (labels_of c.self.inside.notes.items c.self.inside.heads.items) c.args.b) = rw (← c.self.view_is) at c.requires.second in
+    some_note c.self.inside.notes.items c.self.inside.heads.items c.args.b there
+
 pub invariant_of-self : goal.invariant_of-self
-invariant_of-self c =
-    let a : label_at c.self.inside.labels.items c.args.a ≡ Some c.label_of-x.result = rw (sym c.deref.ensures.value) c.label_of-x.ensures in
-    let b : label_at c.self.inside.labels.items c.args.b ≡ Some c.label_of-y.result = rw (sym c.deref-2.ensures.value) c.label_of-y.ensures in
-    rw (c.relabel.ensures.labels, c.union.ensures) (merged_grouped c.self.inside.labels.items c.args.a c.args.b (vec_capacity c.self.inside.labels) (vec_capacity c.relabel.new.labels) c.self.inside.room c.label_of-x.result c.label_of-y.result c.self.invariant c.relabel.ensures.capacity a b)
+invariant_of-self c = kept_same c.self.inside.notes.items c.merge_movers.new.notes.items c.self.inside.heads.items c.merge_movers.new.heads.items (vec_capacity c.self.inside.notes) (vec_capacity c.self.inside.heads) (vec_capacity c.merge_movers.new.notes) (vec_capacity c.merge_movers.new.heads) c.self.inside.room c.self.invariant c.merge_movers.ensures.packed c.merge_movers.ensures.size c.merge_movers.ensures.capacity c.merge_movers.ensures.heads_capacity

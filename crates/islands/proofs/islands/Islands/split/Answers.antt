@@ -1,32 +1,18 @@
-use Rattle.std.proofs.Common.{◌≡◌, sym, vec_capacity}
-use Rattle.islands.specs.Labels.{split_by}
+use Rattle.std.proofs.Common.{vec_capacity}
 use Rattle.islands.specs.Partition.{Inside}
-use Rattle.islands.specs.Walk.{AreComponents}
-use Rattle.islands.proofs.ComponentLemmas.{Renames, split_made, renamed_is_split}
-use Rattle.islands.proofs.GroupLemmas.{split_grouped}
+use Rattle.islands.specs.Packed.{labels_of}
+use Rattle.islands.proofs.PartLemmas.{packed_partition}
+use Rattle.islands.proofs.SplitLemmas.{split_is}
+use Rattle.islands.proofs.GroupLemmas.{kept_same}
 use Rattle.islands.proofs.islands.Islands.split.Goals as goal
 
-pub name_components-requires-clause-inside : goal.name_components-requires-clause-inside
-name_components-requires-clause-inside c = rw c.deref.ensures.value (rw (← c.self.view_is) at c.requires.inside)
-
 pub invariant_of-self : goal.invariant_of-self
-invariant_of-self c =
-    let inside : Inside c.self.inside.labels.items c.args.name c.args.edges.now = rw (← c.self.view_is) at c.requires.inside in
-    let parts : AreComponents c.self.inside.labels.items c.args.name c.args.edges.now c.name_components.new.self.names = rw (sym c.deref.ensures.value) c.name_components.ensures.components in
-    let renames : Renames c.self.inside.labels.items c.args.name c.name_components.new.self.names c.rename.new.labels.items = record { size = c.rename.ensures.size; at = rw (sym c.names.ensures) c.rename.ensures.labels } in
-    let is : c.rename.new.labels.items ≡ split_by c.self.inside.labels.items c.args.name c.args.edges.now = renamed_is_split c.self.inside.labels.items c.args.name c.args.edges.now c.name_components.new.self.names c.rename.new.labels.items renames parts c.self.invariant.partition inside in
-    rw is (split_grouped c.self.inside.labels.items c.args.name c.args.edges.now (vec_capacity c.self.inside.labels) (vec_capacity c.rename.new.labels) c.self.inside.room c.self.invariant c.rename.ensures.capacity inside)
+invariant_of-self c = kept_same c.self.inside.notes.items c.split_island.new.notes.items c.self.inside.heads.items c.split_island.new.heads.items (vec_capacity c.self.inside.notes) (vec_capacity c.self.inside.heads) (vec_capacity c.split_island.new.notes) (vec_capacity c.split_island.new.heads) c.self.inside.room c.self.invariant c.split_island.ensures.packed c.split_island.ensures.size c.split_island.ensures.capacity c.split_island.ensures.heads_capacity
 
-pub returns-clause-labels : goal.returns-clause-labels
-returns-clause-labels c =
-    let inside : Inside c.self.inside.labels.items c.args.name c.args.edges.now = rw (← c.self.view_is) at c.requires.inside in
-    let parts : AreComponents c.self.inside.labels.items c.args.name c.args.edges.now c.name_components.new.self.names = rw (sym c.deref.ensures.value) c.name_components.ensures.components in
-    let renames : Renames c.self.inside.labels.items c.args.name c.name_components.new.self.names c.rename.new.labels.items = record { size = c.rename.ensures.size; at = rw (sym c.names.ensures) c.rename.ensures.labels } in
-    rw (← c.self.view_is) (renamed_is_split c.self.inside.labels.items c.args.name c.args.edges.now c.name_components.new.self.names c.rename.new.labels.items renames parts c.self.invariant.partition inside)
+pub split_island-requires-clause-inside : goal.split_island-requires-clause-inside
+split_island-requires-clause-inside c = rw (← c.self.view_is) at c.requires.inside
 
 pub returns-clause-components : goal.returns-clause-components
 returns-clause-components c =
-    let inside : Inside c.self.inside.labels.items c.args.name c.args.edges.now = rw (← c.self.view_is) at c.requires.inside in
-    let parts : AreComponents c.self.inside.labels.items c.args.name c.args.edges.now c.name_components.new.self.names = rw (sym c.deref.ensures.value) c.name_components.ensures.components in
-    let renames : Renames c.self.inside.labels.items c.args.name c.name_components.new.self.names c.rename.new.labels.items = record { size = c.rename.ensures.size; at = rw (sym c.names.ensures) c.rename.ensures.labels } in
-    rw (← c.self.view_is) (split_made c.self.inside.labels.items c.args.name c.args.edges.now c.name_components.new.self.names c.rename.new.labels.items renames parts)
+    let inside : Inside (labels_of c.self.inside.notes.items c.self.inside.heads.items) c.args.name c.args.edges.now = rw (← c.self.view_is) at c.requires.inside in
+    rw (← c.self.view_is) (rw c.split_island.ensures.labels (split_is (labels_of c.self.inside.notes.items c.self.inside.heads.items) c.args.name c.args.edges.now (packed_partition c.self.inside.notes.items c.self.inside.heads.items c.self.invariant.packed) inside))

@@ -1,9 +1,14 @@
-use Rattle.std.proofs.Common.{◌≡◌, Some, sym, vec_capacity}
+use Rattle.std.proofs.Common.{vec_capacity}
+use Rattle.std.specs.Prelude.{IsSome}
 use Rattle.islands.specs.Labels.{label_at}
-use Rattle.islands.proofs.GroupLemmas.{taken_out_grouped}
+use Rattle.islands.specs.Packed.{labels_of}
+use Rattle.islands.proofs.GroupLemmas.{kept_same, some_note}
 use Rattle.islands.proofs.islands.Islands.take_out.Goals as goal
 
+pub leave-requires-clause-mover : goal.leave-requires-clause-mover
+leave-requires-clause-mover c =
+    let there : IsSome (label_at (labels_of c.self.inside.notes.items c.self.inside.heads.items) c.args.slot) = rw (← c.self.view_is) at c.requires.mover in
+    some_note c.self.inside.notes.items c.self.inside.heads.items c.args.slot there
+
 pub invariant_of-self : goal.invariant_of-self
-invariant_of-self c =
-    let e : label_at c.self.inside.labels.items c.args.slot ≡ Some c.label_of-name.result = rw (sym c.deref.ensures.value) c.label_of-name.ensures in
-    rw c.leave_behind.ensures.labels (taken_out_grouped c.self.inside.labels.items c.args.slot c.label_of-name.result (vec_capacity c.self.inside.labels) (vec_capacity c.leave_behind.new.labels) c.self.inside.room c.self.invariant c.leave_behind.ensures.capacity e)
+invariant_of-self c = kept_same c.self.inside.notes.items c.leave.new.notes.items c.self.inside.heads.items c.leave.new.heads.items (vec_capacity c.self.inside.notes) (vec_capacity c.self.inside.heads) (vec_capacity c.leave.new.notes) (vec_capacity c.leave.new.heads) c.self.inside.room c.self.invariant c.leave.ensures.packed c.leave.ensures.size c.leave.ensures.capacity c.leave.ensures.heads_capacity

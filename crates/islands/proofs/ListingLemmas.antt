@@ -1,0 +1,105 @@
+-- The members of a part as a list, and the part of an island.
+use Rattle.std.proofs.Common.{◌≡◌, ◌≢◌, ◌↔◌, ℕ, ◌<◌, ◌≤◌, List, [], ◌∷◌, ◌++◌, length, Option, Some, None, true, false, ◌⊎◌, inl, inr, arith, refl, sym, ap, ◌∙◌, subst}
+use Rattle.std.specs.Prelude.{Contains, nat_eq, ◌==◌, ◌||◌}
+use Rattle.std.specs.List.{IsDistinct, list_any}
+use Rattle.std.specs.Cmp.{nat_eq_equiv}
+use Rattle.std.specs.List.Sorted.{IsPermutation, IsNonDecreasing, IsStrictlyIncreasing}
+use Rattle.std.proofs.lemmas.Bool.{cases_eq, ne_eqb, false≢true}
+use Rattle.std.proofs.lemmas.List.Elements.{Contains-push, Contains-push_cases, Contains-append_left}
+use Rattle.std.proofs.lemmas.List.Sorted.{Contains-permutation, IsPermutation-sym}
+use Rattle.std.proofs.lemmas.Map.Keys.{IsDistinct-push, IsDistinct-IsPermutation, IsStrictlyIncreasing-from_distinct}
+use Rattle.islands.specs.declared.parts.Note.{Note}
+use Rattle.islands.specs.declared.parts.Head.{Head}
+use Rattle.islands.specs.declared.label.Label.{Label}
+use Rattle.islands.specs.Labels.{Labels, label_at, is_in, IsIn}
+use Rattle.islands.specs.Packed.{Notes, note_at, Heads, head_at, in_part, InPart, part_in, name_of, label_in, labels_of, IsPart, IsPacked, IsNamedPart, AreMembers}
+use Rattle.islands.proofs.JoinLemmas.{contains_head, contains_tail}
+use Rattle.islands.proofs.LabelLemmas.{in_case, in_is}
+use Rattle.islands.proofs.PartLemmas.{labels_at, label_of_part, packed_partition, in_name}
+use Rattle.islands.proofs.ReadingLemmas.{Passed, GoesOn, none_passed, all_passed}
+
+-- the list has the members that were passed
+pub record ArePassed (notes : Notes) (k : ℕ) (at : Option ℕ) (members : List ℕ) : Type 0 where
+  pub all : (s : ℕ) → Contains members s ↔ Passed notes k at s
+  pub apart : IsDistinct nat_eq members
+
+none_contained : (s : ℕ) → Contains [] s → ⊥
+none_contained s h = omega (arith, h.1)
+
+not_any : (y : ℕ) (xs : List ℕ) → (Contains xs y → ⊥) → list_any (nat_eq y) xs ≡ false
+not_any y [] h = refl
+not_any y (x ∷ xs) h = rw (ne_eqb y x (λ e. let P : ℕ → Type 0 = λ v. Contains (x ∷ xs) v in h (subst P (sym e) (contains_head x xs)))) (not_any y xs (λ g. h (contains_tail x xs y g)))
+
+pub list_starts : (notes : Notes) (heads : Heads) (k : ℕ) → IsPart notes heads k → ArePassed notes k (Some (head_at heads k).first) []
+unfolding IsDistinct
+list_starts notes heads k p = record {
+  all = λ s. (λ h. absurd (none_contained s h), λ h. absurd (none_passed notes heads k s p h));
+  apart = tt;
+}
+
+pub list_goes : (notes : Notes) (k t : ℕ) (at later : Option ℕ) (members : List ℕ) → GoesOn notes k t at later → ArePassed notes k at members → ArePassed notes k later (members ++ t ∷ [])
+list_goes notes k t at later members on list = record {
+  all = λ s. (
+    λ h. elim (Contains-push_cases members t s h) [
+      | inl g ↦ on.still s ((list.all s).0 g)
+      | inr e ↦ let P : ℕ → Type 0 = λ v. Passed notes k later v in subst P e on.here
+    ],
+    λ h. elim (on.only s h) [
+      | inl e ↦ let P : ℕ → Type 0 = λ v. Contains (members ++ t ∷ []) v in subst P (sym e) (Contains-push members t)
+      | inr g ↦ Contains-append_left members (t ∷ []) s ((list.all s).1 g)
+    ],
+  );
+  apart = IsDistinct-push nat_eq_equiv members t list.apart (not_any t members (λ h. on.fresh ((list.all t).0 h)));
+}
+
+pub list_ends : (notes : Notes) (k : ℕ) (at : Option ℕ) (members : List ℕ) → at ≡ None → ArePassed notes k at members → AreMembers notes k members
+list_ends notes k at members e list = record {
+  all = λ s. (λ h. ((list.all s).0 h).0, λ h. (list.all s).1 (all_passed notes k s at e h));
+  apart = list.apart;
+}
+
+-- ---- in order
+
+pub sorted_rises : (notes : Notes) (k : ℕ) (members sorted : List ℕ) → AreMembers notes k members → IsPermutation members sorted → IsNonDecreasing sorted → IsStrictlyIncreasing sorted
+sorted_rises notes k members sorted list moved order = IsStrictlyIncreasing-from_distinct sorted order (IsDistinct-IsPermutation nat_eq nat_eq_equiv.symm members sorted moved list.apart)
+
+pub sorted_all : (notes : Notes) (k : ℕ) (members sorted : List ℕ) → AreMembers notes k members → IsPermutation members sorted → (s : ℕ) → Contains sorted s ↔ InPart notes k s
+sorted_all notes k members sorted list moved s = (
+  λ h. (list.all s).0 (Contains-permutation sorted members s (IsPermutation-sym members sorted moved) h),
+  λ h. Contains-permutation members sorted s moved ((list.all s).1 h),
+)
+
+-- ---- the part of an island
+
+-- who is in the island is in its part
+pub named_test : (notes : Notes) (heads : Heads) (name part s : ℕ) → IsPacked notes heads → InPart notes part part → name_of heads part ≡ name → is_in (label_at (labels_of notes heads) s) name ≡ in_part part (note_at notes s)
+named_test notes heads name part s p h e = ap (λ n. is_in (label_at (labels_of notes heads) s) n) (sym e) ∙ ap (λ o. is_in o (name_of heads part)) (labels_at heads notes s) ∙ in_name notes heads part part s p h
+
+-- an island has a mover in the slot of its name
+name_there : (notes : Notes) (heads : Heads) (name s : ℕ) → IsPacked notes heads → is_in (label_at (labels_of notes heads) s) name ≡ true → is_in (label_at (labels_of notes heads) name) name ≡ true
+name_there notes heads name s p h =
+    let l = in_is (label_at (labels_of notes heads) s) name h in
+    let at : label_at (labels_of notes heads) l.0.name ≡ Some l.0 = (packed_partition notes heads p).named s l.0 l.1 in
+    ap (λ o. is_in o name) (ap (label_at (labels_of notes heads)) (sym l.2) ∙ at ∙ sym l.1) ∙ h
+
+pub none_named : (notes : Notes) (heads : Heads) (name : ℕ) → IsPacked notes heads → is_in (label_at (labels_of notes heads) name) name ≡ false → IsNamedPart notes heads name None
+none_named notes heads name p off s = elim (in_case (label_at (labels_of notes heads) s) name) [
+  | inl on ↦ absurd (false≢true (sym off ∙ name_there notes heads name s p on))
+  | inr away ↦ away
+]
+
+pub not_name : (notes : Notes) (heads : Heads) (name part : ℕ) → InPart notes part name → name_of heads part ≢ name → is_in (label_at (labels_of notes heads) name) name ≡ false
+not_name notes heads name part h away = ap (λ o. is_in o name) (labels_at heads notes name ∙ label_of_part heads part (note_at notes name) h) ∙ ne_eqb (name_of heads part) name away
+
+no_mover_at : (heads : Heads) (o : Option Note) (name : ℕ) → part_in o ≡ None → is_in (label_in heads o) name ≡ false
+no_mover_at heads None name e = refl
+no_mover_at heads (Some n) name e = let some : Some n.part ≡ None = e in absurd (cc)
+
+pub no_mover : (notes : Notes) (heads : Heads) (slot name : ℕ) → part_in (note_at notes slot) ≡ None → is_in (label_at (labels_of notes heads) slot) name ≡ false
+no_mover notes heads slot name e = ap (λ o. is_in o name) (labels_at heads notes slot) ∙ no_mover_at heads (note_at notes slot) name e
+
+pub nobody_listed : (notes : Notes) (heads : Heads) (name : ℕ) (members : List ℕ) → members ≡ [] → IsNamedPart notes heads name None → (s : ℕ) → Contains members s ↔ IsIn (labels_of notes heads) name s
+nobody_listed notes heads name members e none s = (λ h. absurd (let P : List ℕ → Type 0 = λ xs. Contains xs s in none_contained s (subst P e h)), λ h. absurd (false≢true (sym (none s) ∙ h)))
+
+pub all_listed : (notes : Notes) (heads : Heads) (name part : ℕ) (members : List ℕ) → IsPacked notes heads → IsNamedPart notes heads name (Some part) → ((s : ℕ) → Contains members s ↔ InPart notes part s) → (s : ℕ) → Contains members s ↔ IsIn (labels_of notes heads) name s
+all_listed notes heads name part members p named all s = (λ h. named_test notes heads name part s p named.0 named.1 ∙ (all s).0 h, λ h. (all s).1 (sym (named_test notes heads name part s p named.0 named.1) ∙ h))

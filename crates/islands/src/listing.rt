@@ -1,0 +1,72 @@
+//! The members of a part, as a list.
+
+ghost use Rattle.std.specs.Prelude.{◌≡◌, ◌≤◌, ◌↔◌, ℕ, vec_capacity, Contains, IfOk};
+ghost use Rattle.std.specs.Result.{IsOkUnless};
+ghost use Rattle.std.specs.List.Sorted.{IsStrictlyIncreasing};
+ghost use Rattle.islands.specs.Labels.{IsIn};
+ghost use Rattle.islands.specs.Packed.{IsPacked, InPart, AreMembers, head_at, labels_of};
+
+use crate::parts::{Head, Note, part_named};
+use crate::room::{push_in_room, reserve_in_all};
+use fixed_geom::Refusal;
+use std::alloc::Global;
+
+/// Lists the members of a part along its thread. There is room for all.
+pub(crate) fn list_members(
+    notes: &[Option<Note>],
+    heads: &[Head],
+    part: u32,
+    members: &mut Vec<u32>,
+)
+    requires packed { IsPacked notes.now heads.now }
+    requires part { InPart notes.now part part }
+    requires room { (head_at heads.now part).count ≤ vec_capacity members.old }
+    ensures members { AreMembers notes.now part members.new.items }
+    ensures capacity { vec_capacity members.old ≤ vec_capacity members.new }
+{
+    members.clear();
+    let mut at = Some(heads[part as usize].first);
+    while let Some(member) = at {
+        push_in_room(members, member);
+        at = notes[member as usize].unwrap().next;
+    }
+}
+
+/// The members of a part, ascending. Refused 1 where memory is wanting.
+fn sorted_members(
+    alloc: Global,
+    notes: &[Option<Note>],
+    heads: &[Head],
+    part: u32,
+) -> Result<Vec<u32>, Refusal>
+    requires packed { IsPacked notes.now heads.now }
+    requires part { InPart notes.now part part }
+    ensures ascending { IfOk result (λ v. IsStrictlyIncreasing v.items) }
+    ensures members { IfOk result (λ v. (slot : ℕ) → Contains v.items slot ↔ InPart notes.now part slot) }
+    ensures memory_only { IsOkUnless result Refusal.NoMemory }
+{
+    let mut members = Vec::new(alloc);
+    reserve_in_all(&mut members, heads[part as usize].count as usize)?;
+    list_members(notes, heads, part, &mut members);
+    members.sort_unstable();
+    Ok(members)
+}
+
+/// The movers of an island, ascending; none where there is no such island. Refused 1 where memory is
+/// wanting.
+pub(crate) fn members_of(
+    alloc: Global,
+    notes: &[Option<Note>],
+    heads: &[Head],
+    name: u32,
+) -> Result<Vec<u32>, Refusal>
+    requires packed { IsPacked notes.now heads.now }
+    ensures ascending { IfOk result (λ v. IsStrictlyIncreasing v.items) }
+    ensures members { IfOk result (λ v. (slot : ℕ) → Contains v.items slot ↔ IsIn (labels_of notes.now heads.now) name slot) }
+    ensures memory_only { IsOkUnless result Refusal.NoMemory }
+{
+    match part_named(notes, heads, name) {
+        None => Ok(Vec::new(alloc)),
+        Some(part) => sorted_members(alloc, notes, heads, part),
+    }
+}
