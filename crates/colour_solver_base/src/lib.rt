@@ -10,8 +10,6 @@ pub mod limits;
 pub mod row;
 pub mod row_64;
 pub mod solve;
-#[cfg(test)]
-mod tests;
 
 pub use laws::rows_are_contacts;
 pub use limits::{BOUNCE_SPEED, MAX_BIAS, SLOP};

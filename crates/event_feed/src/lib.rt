@@ -3,7 +3,5 @@
 #![tactic(auto)]
 
 mod events;
-#[cfg(test)]
-mod tests;
 
 pub use events::Events;

@@ -34,8 +34,6 @@ pub mod reciprocals;
 pub mod refusal;
 pub mod roots;
 pub mod shares_64;
-#[cfg(test)]
-mod tests;
 pub mod vectors;
 
 pub use boxes::{Box2, contains, grow, overlaps};

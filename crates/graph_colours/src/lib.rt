@@ -11,8 +11,6 @@ mod colours;
 mod limits;
 mod marks;
 mod member;
-#[cfg(test)]
-mod tests;
 
 pub use colours::Colours;
 pub use limits::{COLOURS, OVERFLOW};

@@ -3,6 +3,7 @@ pub mod Spins
 pub mod Standing
 pub mod Totals
 pub mod MotionLaws
+pub mod Courses
 pub mod ImpulseLaws
 pub mod Shares
 pub mod NoImpulse

@@ -17,8 +17,6 @@ pub mod ranges;
 pub mod reciprocals;
 pub mod speed_limit;
 pub mod state;
-#[cfg(test)]
-mod tests;
 pub mod travel;
 
 pub use gain::{Gain, NOTHING, gain_between, plus};

@@ -76,7 +76,7 @@ fn hit_at(fraction: Option<u32>, shape: ShapeId) -> Option<Hit>
 }
 
 /// The ray's hit on one shape.
-fn hit_on(cast: &RayCast, placed: &PlacedShape) -> Option<Hit>
+pub fn hit_on(cast: &RayCast, placed: &PlacedShape) -> Option<Hit>
     requires { IsPlacedShape placed.now }
     ensures { result ≡ hit_on cast.now placed.now }
 {

@@ -10,9 +10,7 @@ mod boxes;
 mod cast;
 mod hits;
 pub mod laws;
-#[cfg(test)]
-mod tests;
 
 pub use boxes::SLACK;
 pub use cast::RayCast;
-pub use hits::{Hit, PlacedShape, first_hit, is_over, nearer};
+pub use hits::{Hit, PlacedShape, first_hit, hit_on, is_over, nearer};

@@ -14,15 +14,11 @@ mod filter;
 mod limits;
 mod manifolds;
 mod mixing;
-#[cfg(test)]
-mod placements;
 mod points;
 mod pose;
 mod rays;
 mod shape;
 mod spots;
-#[cfg(test)]
-mod tests;
 
 pub use bounds::{fat_box, tight_box};
 pub use filter::{Filter, should_collide};

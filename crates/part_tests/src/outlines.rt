@@ -6,8 +6,8 @@ ghost use Rattle.fixed_geom.specs.Vectors.{IsWithin};
 ghost use Rattle.shapes.specs.Shapes.{IsShape};
 ghost use Rattle.shapes.specs.Poses.{IsPose};
 
-use super::*;
 use fixed_geom::{Box2, Refusal, Rot, UNIT, Vec2};
+use shapes::*;
 use std::test::Fail;
 
 fn ahead() -> Rot

@@ -3,7 +3,7 @@ ghost use Rattle.fixed_geom.specs.Vectors.{IsWithin};
 ghost use Rattle.momenta.specs.Impulses.{AreStates, IsState};
 ghost use Rattle.colour_solver_base.specs.Rows.{IsRow};
 
-use crate::{
+use colour_solver_base::{
     Bodies, ContactRow, PointRow, RowAfter64, bounce_row, solve_row, solve_row_64, warm_row,
     warm_row_64,
 };

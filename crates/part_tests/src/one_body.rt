@@ -3,11 +3,11 @@ ghost use Rattle.fixed_geom.specs.Vectors.{IsWithin};
 ghost use Rattle.momenta.specs.Impulses.{AreStates, IsLine, IsState};
 ghost use Rattle.momenta.specs.Motions.{IsMass, IsMotion};
 
-use crate::{
+use fixed_geom::{Rot, Vec2};
+use momenta::{
     BodyState, Ends, Line, MassData, Momenta64, MomentaPair64, Motion, advance, clamp_speed,
     inverse_mass, inverse_reciprocal, momenta_pair_64, parting, pull, reciprocals_of, solve_line,
 };
-use fixed_geom::{Rot, Vec2};
 
 const AHEAD: Rot = Rot { c: 1 << 30, s: 0 };
 

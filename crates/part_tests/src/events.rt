@@ -1,8 +1,8 @@
 //! Lists as they are handed in, and as they are told.
 
-use crate::Events;
 use body_handles::Handle;
 use contacts_base::{ContactKey, ShapeId};
+use event_feed::Events;
 use std::test::Fail;
 
 const fn key(slot: u32, index: u8, other: u32) -> ContactKey {

@@ -2,7 +2,7 @@
 
 ghost use Rattle.std.specs.Prelude.{◌≡◌, true, cond, nat_lt, None, Some};
 
-use super::*;
+use box_tree::*;
 use fixed_geom::{Box2, Refusal, Vec2};
 use std::alloc::Global;
 use std::test::Fail;

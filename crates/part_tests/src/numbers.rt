@@ -5,7 +5,7 @@ ghost use Rattle.fixed_geom.specs.Numbers.{rdiv, fdiv, isqrt};
 ghost use Rattle.fixed_geom.specs.Vectors.{cross, unit};
 ghost use Rattle.fixed_geom.specs.Facings.{is_facing, turn};
 
-use super::*;
+use fixed_geom::*;
 use std::test::Fail;
 
 #[test]
@@ -202,7 +202,7 @@ fn refusals_have_texts(rt: HostRuntime) -> Result<(), Fail> {
 }
 
 /// The definitions give the same values, computed by themselves.
-#[tactic(auto, unfolding(crate::specs::Numbers::rdiv, crate::specs::Numbers::fdiv, crate::specs::Numbers::root_of, crate::specs::Numbers::root, crate::specs::Numbers::isqrt, crate::specs::Vectors::dot, crate::specs::Vectors::cross, crate::specs::Vectors::span, crate::specs::Vectors::unit, crate::specs::Facings::turn, crate::specs::Facings::is_facing))]
+#[tactic(auto, unfolding(fixed_geom::specs::Numbers::rdiv, fixed_geom::specs::Numbers::fdiv, fixed_geom::specs::Numbers::root_of, fixed_geom::specs::Numbers::root, fixed_geom::specs::Numbers::isqrt, fixed_geom::specs::Vectors::dot, fixed_geom::specs::Vectors::cross, fixed_geom::specs::Vectors::span, fixed_geom::specs::Vectors::unit, fixed_geom::specs::Facings::turn, fixed_geom::specs::Facings::is_facing))]
 fn definitions_compute()
     ensures up { rdiv (pos 5) (pos 2) ≡ pos 3 }
     ensures away { rdiv (neg_ℤ (pos 5)) (pos 2) ≡ neg_ℤ (pos 3) }

@@ -4,9 +4,9 @@
 ghost use Rattle.std.specs.Prelude.{◌^◌, ◌≤◌, unsigned_abs};
 ghost use Rattle.shapes.specs.Shapes.{IsShape};
 
-use super::*;
-use crate::tests::{at, capsule, circle, segment};
+use crate::outlines::{at, capsule, circle, segment};
 use fixed_geom::{UNIT, Vec2};
+use shapes::*;
 use std::test::Fail;
 
 fn ball() -> Shape

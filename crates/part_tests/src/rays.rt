@@ -7,9 +7,9 @@ ghost use Rattle.shapes.specs.Shapes.{IsShape};
 ghost use Rattle.shapes.specs.Poses.{IsPose};
 ghost use Rattle.shape_rays.specs.Hits.{IsPlacedShape};
 
-use super::*;
 use contacts_base::ShapeId;
 use fixed_geom::{Box2, MAX_POSITION, Rot, UNIT, Vec2, is_facing, is_within};
+use shape_rays::*;
 use shapes::{MAX_CORE, MAX_RADIUS, MAX_RAY, Pose, Shape};
 
 /// A pose that faces along the x axis.

@@ -1,0 +1,30 @@
+//! Tests of the crates below the world, by their public calls: values worked by hand, and each call that takes memory where there is enough
+//! of it. They stand in a crate of their own because a crate with tests is proved twice.
+#![tactic(auto)]
+
+#[cfg(test)]
+mod colours;
+#[cfg(test)]
+mod events;
+#[cfg(test)]
+mod handles;
+#[cfg(test)]
+mod ledger;
+#[cfg(test)]
+mod near;
+#[cfg(test)]
+mod numbers;
+#[cfg(test)]
+mod one_body;
+#[cfg(test)]
+mod outlines;
+#[cfg(test)]
+mod placements;
+#[cfg(test)]
+mod points;
+#[cfg(test)]
+mod rays;
+#[cfg(test)]
+mod sleep;
+#[cfg(test)]
+mod tree;
