@@ -67,7 +67,7 @@ made_still P f g all now a m others is below k b lt e = elim (cases_lt k a) [
 
 -- ---- the same bodies move after a step
 
-movers_same_from : (old new : List BodyState) (n : ℕ) → length new ≡ length old → ((slot : ℕ) → (get_or new slot nobody).movable ≡ (get_or old slot nobody).movable) → places_from moves n new ≡ places_from moves n old
+pub movers_same_from : (old new : List BodyState) (n : ℕ) → length new ≡ length old → ((slot : ℕ) → (get_or new slot nobody).movable ≡ (get_or old slot nobody).movable) → places_from moves n new ≡ places_from moves n old
 movers_same_from [] [] n long same = refl
 movers_same_from [] (b ∷ new) n long same = absurd (cc long)
 movers_same_from (a ∷ old) [] n long same = absurd (cc long)

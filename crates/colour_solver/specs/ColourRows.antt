@@ -1,4 +1,4 @@
--- The rows of a step by colour: one list, and where each colour ends in it.
+-- Inner: the rows of a step by colour: one list, and where each colour ends in it.
 use Rattle.std.specs.Prelude.{ℕ, ◌-◌, ◌≤◌, List, [], ◌∷◌, ◌++◌, take, drop}
 use Rattle.std.specs.List.{flat_map}
 

@@ -1,4 +1,4 @@
--- The rows of contacts among those that take turns.
+-- Inner: the rows of contacts among those that take turns.
 use Rattle.std.specs.Prelude.{ℕ, List}
 use Rattle.colour_solver_base.specs.declared.row.ContactRow.{ContactRow}
 use Rattle.colour_solver_base.specs.Rows.{IsRow}

@@ -1,24 +1,30 @@
--- The bodies of a step by slot, and the movers' momentum. A mover here is an awake one: of the others `movable` is false.
-use Rattle.std.specs.Prelude.{◌≡◌, ℕ, suc, ◌^◌, Bool, false, cond, List, [], ◌∷◌, Some, ℤ, pos, ◌+ℤ◌, length, slice_get, slice_index_or}
+-- Inner: the bodies of a step by slot, and the movers' momentum. A mover here is an awake one: of the others `movable` is false.
+use Rattle.std.specs.Prelude.{◌≡◌, ℕ, suc, ◌^◌, ◌≤◌, Bool, true, false, cond, not, List, [], ◌∷◌, Some, ℤ, pos, ◌+ℤ◌, unsigned_abs, length, slice_get, slice_index_or}
+use Rattle.std.specs.Ordering.{int_eq}
 use Rattle.momenta.specs.declared.mass.MassData.{MassData}
 use Rattle.momenta.specs.declared.state.BodyState.{BodyState}
 use Rattle.momenta.specs.Impulses.{IsState}
-use Rattle.fixed_geom.specs.Vectors.{zero_vector}
+use Rattle.fixed_geom.specs.Vectors.{IsWithin, zero_vector}
+use Rattle.fixed_geom.specs.declared.limits.TheConstants.{MAX_SPIN}
+use Rattle.momenta.specs.declared.limits.TheConstants.{MAX_SPEED}
 use Rattle.momenta.specs.Reciprocals.{reciprocals_of}
 
--- the mass of a body that no impulse moves: with it a momentum is the velocity itself, and an angular momentum the spin, with which the body is
--- carried along
+-- the mass of a body that is carried along: with it the momentum is the velocity itself, and the angular momentum the spin
 abbrev pub carrier : MassData
 carrier = record { mass = pos 1; inertia = pos (2 ^ 30) }
+
+-- the mass of a body that stands: it never turns either
+abbrev pub standing : MassData
+standing = record { mass = pos 1; inertia = pos 0 }
 
 -- what stands for the body in an empty slot: nothing moves it
 abbrev pub nobody : BodyState
 nobody = record {
   movable = false;
-  mass = carrier;
+  mass = standing;
   motion = record { p = zero_vector; l = pos 0; x = zero_vector; rot = record { c = pos (2 ^ 30); s = pos 0 } };
   start = zero_vector;
-  reciprocals = record { mass = pos (2 ^ 62); inertia = pos (2 ^ 52) };
+  reciprocals = record { mass = pos (2 ^ 62); inertia = pos 0 };
 }
 
 abbrev pub AreAllStates : List BodyState → Type 0
@@ -41,6 +47,25 @@ moves s = s.movable
 abbrev pub movers_of : List BodyState → List ℕ
 movers_of states = places_from moves 0 states
 
+-- ---- bodies that are carried along
+
+-- no impulse moves the body, and its mass isn't that of one that stands
+abbrev pub is_carried : BodyState → Bool
+is_carried s = cond s.movable false (not (int_eq s.mass.inertia (pos 0)))
+
+-- their slots, ascending
+abbrev pub carried_of : List BodyState → List ℕ
+carried_of states = places_from is_carried 0 states
+
+-- its momenta are a velocity and a spin within their limits
+pub record HasCourse (s : BodyState) : Type 0 where
+  pub mass : s.mass ≡ carrier
+  pub velocity : IsWithin (unsigned_abs MAX_SPEED) s.motion.p
+  pub spin : unsigned_abs s.motion.l ≤ unsigned_abs MAX_SPIN
+
+abbrev pub HaveCourses : List BodyState → Type 0
+HaveCourses states = (slot : ℕ) (s : BodyState) → slice_get states slot ≡ Some s → is_carried s ≡ true → HasCourse s
+
 -- ---- the movers' momentum
 
 abbrev pub p_x : BodyState → ℤ
@@ -57,12 +82,20 @@ abbrev pub total_y : List BodyState → ℤ
 total_y [] = pos 0
 total_y (s ∷ states) = p_y s +ℤ total_y states
 
--- ---- what a step leaves alone
+-- ---- what is left alone
 
--- which bodies move, their masses with their reciprocals, and all of a body that doesn't move
+-- by impulses and by what is done to movers alone: which bodies move, their masses with their reciprocals, and all of a body that doesn't move
 pub record AreSameStates (old new : List BodyState) : Type 0 where
   pub long : length new ≡ length old
   pub immovable : (slot : ℕ) → (slice_index_or old slot nobody).movable ≡ false → slice_index_or new slot nobody ≡ slice_index_or old slot nobody
+  pub reciprocals : (slot : ℕ) → (slice_index_or new slot nobody).reciprocals ≡ (slice_index_or old slot nobody).reciprocals
+  pub movable : (slot : ℕ) → (slice_index_or new slot nobody).movable ≡ (slice_index_or old slot nobody).movable
+  pub mass : (slot : ℕ) → (slice_index_or new slot nobody).mass ≡ (slice_index_or old slot nobody).mass
+
+-- by a whole step: which bodies move, their masses with their reciprocals, and all of a body that stands
+pub record AreSameBeside (old new : List BodyState) : Type 0 where
+  pub long : length new ≡ length old
+  pub standing : (slot : ℕ) → (slice_index_or old slot nobody).movable ≡ false → is_carried (slice_index_or old slot nobody) ≡ false → slice_index_or new slot nobody ≡ slice_index_or old slot nobody
   pub reciprocals : (slot : ℕ) → (slice_index_or new slot nobody).reciprocals ≡ (slice_index_or old slot nobody).reciprocals
   pub movable : (slot : ℕ) → (slice_index_or new slot nobody).movable ≡ (slice_index_or old slot nobody).movable
   pub mass : (slot : ℕ) → (slice_index_or new slot nobody).mass ≡ (slice_index_or old slot nobody).mass

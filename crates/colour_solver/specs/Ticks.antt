@@ -1,4 +1,4 @@
--- A step's ticks and its restitution: passes over the bodies and the contacts, and what each adds to the movers' momentum.
+-- Inner: a step's ticks and its restitution on the dense arrays: passes over the bodies and the contacts, and what each adds to the movers' momentum.
 use Rattle.std.specs.Prelude.{ℕ, zero, suc, ◌^◌, List, ℤ, pos, ◌+ℤ◌}
 use Rattle.fixed_geom.specs.Vectors.{IsWithin}
 use Rattle.fixed_geom.specs.declared.vectors.Vec2.{Vec2}
@@ -12,7 +12,7 @@ use Rattle.colour_solver_base.specs.declared.row.ContactRow.{ContactRow}
 use Rattle.colour_solver_base.specs.RowsAfter.{RowAfter}
 use Rattle.colour_solver_base.specs.Rows.{row_warmed, row_solved, row_bounced}
 use Rattle.colour_solver.specs.declared.ticks.StepSums.{StepSums}
-use Rattle.colour_solver.specs.Passes.{pass, gain_x, gain_y}
+use Rattle.colour_solver.specs.Passes.{carry, pass, gain_x, gain_y}
 use Rattle.colour_solver.specs.ContactTurns.{contact_slots}
 use Rattle.colour_solver.specs.Turns.{passed, rows_passed, share_x, share_y}
 
@@ -53,9 +53,13 @@ turn_all f r = record r {
   immovable_y = r.immovable_y +ℤ share_y contact_slots f r.states r.rows;
 }
 
--- gravity, the speed limit, the warm start, the solver's pass, the speed limit again, the move
+-- what is carried along moves on, and adds nothing to the movers' momentum
+abbrev pub carry_all : Run → Run
+carry_all r = record r { states = carry r.states }
+
+-- gravity, the speed limit, the warm start, the solver's pass, the speed limit again, the move, and what is carried along
 unfoldable pub tick : Vec2 → Run → Run
-tick g r = clamp_all advanced (clamp_all clamped (turn_all row_solved (turn_all row_warmed (clamp_all clamped (pull_all g r)))))
+tick g r = carry_all (clamp_all advanced (clamp_all clamped (turn_all row_solved (turn_all row_warmed (clamp_all clamped (pull_all g r))))))
 
 abbrev pub ticks : ℕ → Vec2 → Run → Run
 ticks zero g r = r

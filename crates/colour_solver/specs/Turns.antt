@@ -1,4 +1,4 @@
--- A pass over rows in solve order: the left fold of one turn, and what the immovable bodies have given. A row may be of any kind: what is known of it is
+-- Inner: a pass over rows in solve order: the left fold of one turn, and what the immovable bodies have given. A row may be of any kind: what is known of it is
 -- where its two bodies stand.
 use Rattle.std.specs.Prelude.{◌≡◌, ℕ, Bool, ◌<◌, ◌≢◌, cond, List, [], ◌∷◌, ℤ, pos, ◌+ℤ◌, ◌-ℤ◌, All, slice_set, slice_index_or}
 use Rattle.momenta.specs.declared.state.BodyState.{BodyState}

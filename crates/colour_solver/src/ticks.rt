@@ -3,11 +3,12 @@
 ghost use Rattle.std.specs.Prelude.{◌≡◌, ℕ, ◌^◌, ◌*◌, ◌+◌, ◌≤◌, ◌+ℤ◌, length, map};
 ghost use Rattle.fixed_geom.specs.Vectors.{IsWithin};
 ghost use Rattle.momenta.specs.Motions.{pulled, clamped, advanced, IsMotion};
-ghost use Rattle.colour_solver.specs.States.{AreAllStates, AreSameStates, movers_of, total_x, total_y};
+ghost use Rattle.colour_solver.specs.States.{AreAllStates, AreSameBeside, HaveCourses, carried_of, movers_of, total_x, total_y};
 ghost use Rattle.colour_solver.specs.ColourRows.{all_rows};
 ghost use Rattle.colour_solver.specs.ContactTurns.{AreRowsBelow};
 ghost use Rattle.colour_solver.specs.Ticks.{AreSums, CanLimit, CanMove, CanPull, added_x, added_y, ran, run_of, start, tick, ticks};
 
+use crate::courses::carry_along;
 use crate::{Bounce, Change, Rows, Solve, Warm, pass_two};
 use body_handles::MAX_SLOTS;
 use colour_solver_base::ContactRow;
@@ -78,13 +79,14 @@ impl Change for Move {
     }
 }
 
-/// One tick of the awake movers and the contacts: gravity, the speed limit, the warm start, the solver's pass, the speed limit again, the move. Adds to the
-/// sums so far.
+/// One tick of the awake movers and the contacts: gravity, the speed limit, the warm start, the solver's pass, the speed limit again, the move; and then of
+/// the bodies that are carried along. Adds to the sums so far.
 #[tactic(auto, unfolding(crate::specs::Ticks::tick))]
 fn tick(
     states: &mut Vec<BodyState>,
     rows: &mut Rows<ContactRow>,
     awake: &[u32],
+    carried: &[u32],
     gravity: Vec2,
     sums: StepSums,
 ) -> StepSums
@@ -92,6 +94,8 @@ fn tick(
     requires gravity { IsWithin (2 ^ 16) gravity }
     requires states { AreAllStates states.old.items }
     requires awake { awake.now ≡ movers_of states.old.items }
+    requires carried { carried.now ≡ carried_of states.old.items }
+    requires courses { HaveCourses states.old.items }
     requires rows { AreRowsBelow (length states.old.items) (all_rows rows.old) }
     requires sums { AreSums (2 ^ 83) sums }
     ensures tick { run_of states.new.items (all_rows rows.new) result ≡ tick gravity (run_of states.old.items (all_rows rows.old) sums) }
@@ -99,7 +103,8 @@ fn tick(
     ensures rows { AreRowsBelow (length states.new.items) (all_rows rows.new) }
     ensures colours { map length rows.new.colours ≡ map length rows.old.colours }
     ensures long { length states.new.items ≡ length states.old.items }
-    ensures same { AreSameStates states.old.items states.new.items }
+    ensures same { AreSameBeside states.old.items states.new.items }
+    ensures courses { HaveCourses states.new.items }
     ensures grown { (n : ℕ) → AreSums n sums → AreSums (n + 3 * 2 ^ 78) result }
     ensures momentum_x { total_x states.new.items +ℤ added_x sums ≡ total_x states.old.items +ℤ added_x result }
     ensures momentum_y { total_y states.new.items +ℤ added_y sums ≡ total_y states.old.items +ℤ added_y result }
@@ -108,6 +113,7 @@ fn tick(
     let warm = rows.pass(states, &Warm);
     let solved = rows.pass(states, &Solve);
     let moved = pass_two(states, awake, &Limit, &Move);
+    carry_along(states, carried);
     StepSums {
         gravity: plus(sums.gravity, fallen.first),
         immovable: plus(plus(sums.immovable, warm), solved),
@@ -120,7 +126,8 @@ fn tick(
 
 /// Runs that many ticks, 0 to 8, over the awake movers, whose slots are `awake`, and the contacts, and then the restitution: in each
 /// tick gravity (u/tick², each component within ±2^16), the speed limit, the warm start and the solver's pass over the contacts in
-/// their order, the speed limit again, and the move. What isn't an awake mover stays as it is.
+/// their order, the speed limit again, and the move. The bodies that are carried along, whose slots are `carried`, move on at the end of
+/// each tick; any other body stays as it is.
 ///
 /// Answers what gravity, what immovable bodies, and what the speed limit with the edge of the world have added to the movers'
 /// momentum (mass·u/tick).
@@ -129,6 +136,7 @@ pub fn run_step(
     states: &mut Vec<BodyState>,
     rows: &mut Rows<ContactRow>,
     awake: &[u32],
+    carried: &[u32],
     gravity: Vec2,
     count: u64,
 ) -> StepSums
@@ -136,6 +144,8 @@ pub fn run_step(
     requires gravity { IsWithin (2 ^ 16) gravity }
     requires states { AreAllStates states.old.items }
     requires awake { awake.now ≡ movers_of states.old.items }
+    requires carried { carried.now ≡ carried_of states.old.items }
+    requires courses { HaveCourses states.old.items }
     requires rows { AreRowsBelow (length states.old.items) (all_rows rows.old) }
     requires count { count ≤ 8 }
     ensures run { run_of states.new.items (all_rows rows.new) result ≡ ran count gravity (start states.old.items (all_rows rows.old)) }
@@ -143,7 +153,8 @@ pub fn run_step(
     ensures rows { AreRowsBelow (length states.new.items) (all_rows rows.new) }
     ensures colours { map length rows.new.colours ≡ map length rows.old.colours }
     ensures long { length states.new.items ≡ length states.old.items }
-    ensures same { AreSameStates states.old.items states.new.items }
+    ensures same { AreSameBeside states.old.items states.new.items }
+    ensures courses { HaveCourses states.new.items }
     ensures small { AreSums (2 ^ 83) result }
     ensures momentum_x { total_x states.new.items ≡ total_x states.old.items +ℤ added_x result }
     ensures momentum_y { total_y states.new.items ≡ total_y states.old.items +ℤ added_y result }
@@ -154,7 +165,7 @@ pub fn run_step(
         clamp: NOTHING,
     };
     for index in 0..count {
-        sums = tick(states, rows, awake, gravity, sums);
+        sums = tick(states, rows, awake, carried, gravity, sums);
     }
     let bounced = rows.pass(states, &Bounce);
     StepSums {

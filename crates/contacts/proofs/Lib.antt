@@ -3,6 +3,7 @@ pub mod Rising
 pub mod NearLemmas
 pub mod ProxyLemmas
 pub mod PairLemmas
+pub mod ForbiddenLemmas
 pub mod StripLemmas
 pub mod SweepLemmas
 pub mod SurfaceLemmas

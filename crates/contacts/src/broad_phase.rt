@@ -1,12 +1,15 @@
 //! The broad phase: the fat boxes of the enabled bodies' shapes, and which of them overlap.
 
 ghost use Rattle.std.specs.Prelude.{◌≡◌, ◌<◌, ◌≤◌, ◌-◌, ◌∷◌, ◌++◌, [], All, OnOk, OnErr, IfOk, vec_len, vec_capacity};
+ghost use Rattle.std.specs.List.Sorted.{IsNonDecreasing};
 ghost use Rattle.std.specs.Result.{IsOkUnless};
 ghost use Rattle.contacts_base.specs.Near.{IsProxy, IsProxyList, number_of, near_codes};
+ghost use Rattle.contacts.specs.Forbidden.{allowed_codes};
 ghost use Rattle.contacts.specs.Pairs.{ArePairs};
 ghost use Rattle.contacts.specs.Changes.{AreRising, contacts_of, keys_not_in, keys_touching_only_in};
 
 use crate::changes::{Changes, update};
+use crate::forbidden::list_allowed;
 use crate::sweep::near_pairs;
 use contacts_base::{Contacts, Proxy};
 use fixed_geom::{Box2, Refusal};
@@ -24,6 +27,8 @@ pub struct BroadPhase {
     // Room that the sweep works in, kept from one to the next.
     starts: Vec<u64>,
     near: Vec<u64>,
+    // The near pairs whose bodies nothing keeps from colliding, kept in the same way.
+    allowed: Vec<u64>,
 }
 
 impl Model for BroadPhase {
@@ -58,6 +63,7 @@ impl BroadPhase {
             heights: 0,
             starts: Vec::new(alloc),
             near: Vec::new(alloc),
+            allowed: Vec::new(alloc),
         }
     }
 
@@ -104,6 +110,7 @@ impl BroadPhase {
             heights: self.heights,
             starts: Vec::new(alloc),
             near: Vec::new(alloc),
+            allowed: Vec::new(alloc),
         })
     }
 
@@ -138,15 +145,21 @@ impl BroadPhase {
         Ok(near)
     }
 
-    /// The contacts of the near pairs, each evaluated anew, and what changed; `old` are the contacts
-    /// until now. Refused 1 where memory is wanting.
+    /// The contacts of the near pairs whose bodies aren't among the forbidden pairs (numbers of `pair_number`, ascending), each evaluated
+    /// anew, and what changed; `old` are the contacts until now. Refused 1 where memory is wanting.
     ///
     /// A pair that had a contact keeps its surface, and the impulses of its points by their candidates; a
     /// new pair gets a contact with what its shapes' surfaces mix to. A contact ends that touched and doesn't any more, also where its shapes are no longer
-    /// near.
-    pub fn update_contacts(&mut self, alloc: Global, old: &Contacts) -> Result<Changes, Refusal>
+    /// near or its bodies may no longer collide.
+    pub fn update_contacts(
+        &mut self,
+        alloc: Global,
+        forbidden: &[u64],
+        old: &Contacts,
+    ) -> Result<Changes, Refusal>
+        requires { IsNonDecreasing forbidden.now }
         ensures kept { self.new ≡ self.old }
-        ensures now { IfOk result (λ changes. changes.now ≡ contacts_of old.now self.old (near_codes self.old)) }
+        ensures now { IfOk result (λ changes. changes.now ≡ contacts_of old.now self.old (allowed_codes forbidden.now self.old)) }
         ensures made { IfOk result (λ changes. changes.made.items ≡ keys_not_in old.now changes.now) }
         ensures gone { IfOk result (λ changes. changes.gone.items ≡ keys_not_in changes.now old.now) }
         ensures begin { IfOk result (λ changes. changes.begin.items ≡ keys_touching_only_in old.now changes.now) }
@@ -164,6 +177,7 @@ impl BroadPhase {
             &self.proxies,
             &self.boxes,
         )?;
-        update(alloc, old, &self.proxies, &self.near)
+        list_allowed(&mut self.allowed, forbidden, &self.proxies, &self.near)?;
+        update(alloc, old, &self.proxies, &self.allowed)
     }
 }

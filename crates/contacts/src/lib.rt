@@ -8,10 +8,10 @@
 mod broad_phase;
 mod changes;
 mod constraint;
+mod forbidden;
 mod sweep;
-#[cfg(test)]
-mod tests;
 
 pub use broad_phase::BroadPhase;
 pub use changes::Changes;
 pub use constraint::Constraint;
+pub use forbidden::pair_number;

@@ -1,3 +1,5 @@
 pub mod BoxLemmas
 pub mod CensusLemmas
 pub mod FatLaws
+pub mod KindLaws
+pub mod PairNumbers

@@ -1,5 +1,5 @@
 -- Bodies: which are movers, where each stands, what may be made, and the movers' momentum.
-use Rattle.std.specs.Prelude.{◌≡◌, ℕ, ◌^◌, Bool, true, false, ◌&&◌, cond, All, List, [], ◌∷◌, Option, Some, None, ℤ, pos, ◌+ℤ◌, slice_get}
+use Rattle.std.specs.Prelude.{◌≡◌, ℕ, ◌^◌, Bool, true, false, ◌&&◌, ◌||◌, cond, All, List, [], ◌∷◌, Option, Some, None, ℤ, pos, ◌+ℤ◌, slice_get}
 use Rattle.std.specs.Ordering.{int_eq}
 use Rattle.fixed_geom.specs.Vectors.{IsWithin, is_within}
 use Rattle.fixed_geom.specs.Facings.{IsFacing, is_facing}
@@ -12,7 +12,7 @@ use Rattle.momenta.specs.declared.mass.MassData.{MassData}
 use Rattle.momenta.specs.declared.motion.Motion.{Motion}
 use Rattle.plain_world.specs.declared.kind.Kind.{Kind}
 use Rattle.plain_world.specs.declared.kind.Kind.TheVariants.{Static, Kinematic, Dynamic}
-use Rattle.plain_world.specs.Kinds.{IsCourseOf, carried_by, course_of, is_course_allowed, is_dynamic, is_moving, is_static}
+use Rattle.plain_world.specs.Kinds.{IsCourseOf, carried_by, course_of, is_course_allowed, is_dynamic, is_kinematic, is_moving, is_static}
 use Rattle.plain_world.specs.declared.body.SetName.{SetName}
 use Rattle.plain_world.specs.declared.body.SetName.TheVariants as sets
 use Rattle.plain_world.specs.declared.body.Body.{Body}
@@ -31,6 +31,14 @@ is_mover b = cond b.enabled (is_dynamic b.kind) false
 -- a mover that is awake: what the collide, the colours and the solver take. All movers are.
 abbrev pub is_awake : Body → Bool
 is_awake b = is_mover b
+
+-- a body that is carried along with a course of its own: an enabled kinematic one
+abbrev pub is_carried : Body → Bool
+is_carried b = cond b.enabled (is_kinematic b.kind) false
+
+-- a body that a step may move
+abbrev pub can_move : Body → Bool
+can_move b = is_awake b || is_carried b
 
 abbrev pub set_of : Kind → SetName
 set_of Static = sets.Static

@@ -1,4 +1,4 @@
--- Changes of one body in its slot, which leave it a mover, or none, as it was.
+-- Changes of one body in its slot, which leave it a mover, or carried along, or neither, as it was.
 use Rattle.std.specs.Prelude.{◌≡◌, Bool, true, false, ℕ, List, Option, Some, None, option_map, slice_set}
 use Rattle.momenta.specs.declared.motion.Momenta.{Momenta}
 use Rattle.shapes.specs.Poses.{IsPose}
@@ -6,7 +6,7 @@ use Rattle.shapes.specs.declared.pose.Pose.{Pose}
 use Rattle.plain_world.specs.declared.body.Body.{Body}
 use Rattle.plain_world.specs.declared.kind.Course.{Course}
 use Rattle.plain_world.specs.declared.kind.Kind.TheVariants.{Kinematic}
-use Rattle.plain_world.specs.Bodies.{IsBody, is_awake}
+use Rattle.plain_world.specs.Bodies.{IsBody, is_awake, is_carried}
 use Rattle.plain_world.specs.Fats.{renewed_boxes}
 use Rattle.plain_world.specs.Slots.{body_at}
 
@@ -18,6 +18,11 @@ changed_at f bodies slot = slice_set bodies slot (option_map f (body_at bodies s
 abbrev pub is_awake_in : Option Body → Bool
 is_awake_in None = false
 is_awake_in (Some b) = is_awake b
+
+-- a body that is carried along is there
+abbrev pub is_carried_in : Option Body → Bool
+is_carried_in None = false
+is_carried_in (Some b) = is_carried b
 
 -- ---- the changes
 

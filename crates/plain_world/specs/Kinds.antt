@@ -46,12 +46,8 @@ abbrev pub is_moving : Course → Bool
 is_moving course = not (int_eq course.velocity.x (pos 0)) || (not (int_eq course.velocity.y (pos 0)) || not (int_eq course.spin (pos 0)))
 
 -- velocity and spin are within their limits
-abbrev pub is_limited : Course → Bool
-is_limited course = is_within (unsigned_abs MAX_SPEED) course.velocity && nat_le (unsigned_abs course.spin) (unsigned_abs MAX_SPIN)
-
--- a course that a body may be given: no step carries a body along yet, so that it has to stand still
 abbrev pub is_course : Course → Bool
-is_course course = is_limited course && not (is_moving course)
+is_course course = is_within (unsigned_abs MAX_SPEED) course.velocity && nat_le (unsigned_abs course.spin) (unsigned_abs MAX_SPIN)
 
 abbrev pub is_course_allowed : Kind → Bool
 is_course_allowed Static = true

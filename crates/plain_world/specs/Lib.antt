@@ -5,4 +5,7 @@ pub mod Changes
 pub mod Census
 pub mod Fats
 pub mod Formed
+pub mod Joints
+pub mod JointTables
+pub mod Placement
 pub mod Plain

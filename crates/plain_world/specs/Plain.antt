@@ -8,11 +8,15 @@ use Rattle.contacts_base.specs.declared.contact.ContactEntry.{ContactEntry}
 use Rattle.contacts.specs.Constraints.{constraint_number}
 use Rattle.contacts.specs.declared.constraint.Constraint.{Constraint}
 use Rattle.plain_world.specs.declared.body.Body.{Body}
+use Rattle.plain_world.specs.declared.joint.BodyJoint.{BodyJoint}
 
 pub record Plain : Type 0 where
   -- each body slot that was ever used, and the body in it
   pub places : List Place
   pub bodies : List (Option Body)
+  -- each joint slot that was ever used, and the joint in it
+  pub joint_places : List Place
+  pub joints : List (Option BodyJoint)
   -- ascending by key
   pub contacts : List ContactEntry
   -- for each colour the active constraints that have it, ascending, and last those in the overflow

@@ -1,4 +1,4 @@
--- The bodies by slot, beside the places that say which slots are taken.
+-- Items by slot, bodies or joints, beside the places that say which slots are taken.
 use Rattle.std.specs.Prelude.{◌≡◌, ℕ, ◌≤◌, Bool, false, cond, List, [], ◌∷◌, ◌++◌, length, nat_lt, Option, Some, None, is_some, slice_get, slice_set}
 use Rattle.body_handles.specs.declared.handle.Handle.{Handle}
 use Rattle.body_handles.specs.declared.places.Place.{Place}
@@ -6,21 +6,28 @@ use Rattle.body_handles.specs.declared.places.TheConstants.{MAX_SLOTS}
 use Rattle.body_handles.specs.Places.{is_live}
 use Rattle.plain_world.specs.declared.body.Body.{Body}
 
-abbrev pub body_in : Option (Option Body) → Option Body
-body_in None = None
-body_in (Some o) = o
+abbrev pub item_in : {X : Type 0} → Option (Option X) → Option X
+item_in None = None
+item_in (Some o) = o
+
+-- what a slot contains
+abbrev pub item_at : {X : Type 0} → List (Option X) → ℕ → Option X
+item_at items slot = item_in (slice_get items slot)
+
+-- an item put into a slot, or into a new one at the end
+abbrev pub with_item : {X : Type 0} → List (Option X) → ℕ → X → List (Option X)
+with_item items slot x = cond (nat_lt slot (length items)) (slice_set items slot (Some x)) (items ++ Some x ∷ [])
 
 -- the body in a slot
 abbrev pub body_at : List (Option Body) → ℕ → Option Body
-body_at bodies slot = body_in (slice_get bodies slot)
+body_at bodies slot = item_at bodies slot
+
+abbrev pub with_body : List (Option Body) → ℕ → Body → List (Option Body)
+with_body bodies slot b = with_item bodies slot b
 
 -- the body that a handle names
 abbrev pub body_of : List Place → List (Option Body) → Handle → Option Body
 body_of places bodies h = cond (is_live places h) (body_at bodies h.slot) None
-
--- a body put into a slot, or into a new one at the end
-abbrev pub with_body : List (Option Body) → ℕ → Body → List (Option Body)
-with_body bodies slot b = cond (nat_lt slot (length bodies)) (slice_set bodies slot (Some b)) (bodies ++ Some b ∷ [])
 
 -- whether the slot is taken
 abbrev pub is_taken_place : Option Place → Bool
@@ -30,11 +37,11 @@ is_taken_place (Some p) = p.live
 abbrev pub is_taken : List Place → ℕ → Bool
 is_taken places slot = is_taken_place (slice_get places slot)
 
--- there is a body just in the slots that are taken
-pub record AreMatched (places : List Place) (bodies : List (Option Body)) : Type 0 where
-  pub slots : length places ≡ length bodies
-  pub few : length bodies ≤ MAX_SLOTS
-  pub taken : (slot : ℕ) → is_some (body_at bodies slot) ≡ is_taken places slot
+-- there is an item just in the slots that are taken
+pub record AreMatched {X : Type 0} (places : List Place) (items : List (Option X)) : Type 0 where
+  pub slots : length places ≡ length items
+  pub few : length items ≤ MAX_SLOTS
+  pub taken : (slot : ℕ) → is_some (item_at items slot) ≡ is_taken places slot
 
 -- how many shapes take part: all of an enabled body, and none of another
 abbrev pub shapes_in : Option Body → ℕ

@@ -1,7 +1,7 @@
 ghost use Rattle.std.specs.Prelude.{◌≡◌, IfOk, OnOk, IsTrue};
 ghost use Rattle.std.specs.Result.{IsOkUnless, result_err};
 ghost use Rattle.shapes.specs.Shapes.{is_between};
-ghost use Rattle.plain_world.specs.Bodies.{is_awake, is_mover, is_no_mass, pose_of, standing_of, view_of, is_mass_allowed, def_refusal, made, IsMassOf, IsAllowed, IsBody};
+ghost use Rattle.plain_world.specs.Bodies.{can_move, is_awake, is_carried, is_mover, is_no_mass, pose_of, standing_of, view_of, is_mass_allowed, def_refusal, made, IsMassOf, IsAllowed, IsBody};
 
 use crate::fats::FatBoxes;
 use crate::kind::{Course, Kind};
@@ -132,6 +132,20 @@ impl Body {
         ensures { result ≡ is_awake self.now }
     {
         self.is_mover()
+    }
+
+    /// Whether it is carried along with a course of its own: an enabled kinematic body.
+    pub fn is_carried(&self) -> bool
+        ensures { result ≡ is_carried self.now }
+    {
+        self.enabled && self.kind.is_kinematic()
+    }
+
+    /// Whether a step may move it.
+    pub fn can_move(&self) -> bool
+        ensures { result ≡ can_move self.now }
+    {
+        self.is_awake() || self.is_carried()
     }
 
     /// Where its shapes are in the world.

@@ -3,8 +3,8 @@
 ghost use Rattle.std.specs.Prelude.{◌≡◌, ◌<◌, true, vec_len};
 ghost use Rattle.std.specs.Option.{ForSome};
 ghost use Rattle.plain_world.specs.declared.body.Body.{Body};
-ghost use Rattle.plain_world.specs.Bodies.{is_awake};
-ghost use Rattle.plain_world.specs.Changes.{CanPose, changed_at, is_awake_in, put_course, put_momenta, put_pose};
+ghost use Rattle.plain_world.specs.Bodies.{is_awake, is_carried};
+ghost use Rattle.plain_world.specs.Changes.{CanPose, changed_at, is_awake_in, is_carried_in, put_course, put_momenta, put_pose};
 ghost use Rattle.plain_world.specs.Kinds.{is_kinematic};
 ghost use Rattle.plain_world.specs.Slots.{body_at};
 
@@ -13,7 +13,7 @@ use crate::kind::{Course, Kind};
 use momenta::Momenta;
 use shapes::Pose;
 
-/// A change of a body that leaves it an awake mover, or none, as it was.
+/// A change of a body that leaves it an awake mover, or carried along, or neither, as it was.
 pub trait BodyChange {
     ghost after: { Self → Body → Body };
 
@@ -23,7 +23,8 @@ pub trait BodyChange {
     fn change(&self, body: &mut Body)
         requires { fits self.now body.old }
         ensures value { body.new ≡ after self.now body.old }
-        ensures awake { is_awake body.new ≡ is_awake body.old };
+        ensures awake { is_awake body.new ≡ is_awake body.old }
+        ensures carried { is_carried body.new ≡ is_carried body.old };
 }
 
 /// Other momenta.
@@ -68,6 +69,7 @@ pub fn change_slot<C: BodyChange>(bodies: &mut Vec<Option<Body>>, slot: usize, c
     requires fits { ForSome (body_at bodies.old.items slot) (C.fits change.now) }
     ensures value { bodies.new.items ≡ changed_at (C.after change.now) bodies.old.items slot }
     ensures awake { is_awake_in (body_at bodies.new.items slot) ≡ is_awake_in (body_at bodies.old.items slot) }
+    ensures carried { is_carried_in (body_at bodies.new.items slot) ≡ is_carried_in (body_at bodies.old.items slot) }
 {
     if let Some(body) = &mut bodies[slot] {
         change.change(body);

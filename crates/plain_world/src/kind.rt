@@ -2,7 +2,7 @@
 
 ghost use Rattle.std.specs.Prelude.{◌≡◌, ◌≤◌, unsigned_abs, Some, IfSome, IsTrue};
 ghost use Rattle.fixed_geom.specs.Vectors.{IsWithin};
-ghost use Rattle.plain_world.specs.Kinds.{carried_by, course_of, is_course, is_course_allowed, is_dynamic, is_kinematic, is_limited, is_moving, is_static, IsCourse, IsCourseOf};
+ghost use Rattle.plain_world.specs.Kinds.{carried_by, course_of, is_course, is_course_allowed, is_dynamic, is_kinematic, is_moving, is_static, IsCourse, IsCourseOf};
 
 use fixed_geom::{MAX_SPIN, Vec2, is_within};
 use momenta::MAX_SPEED;
@@ -22,21 +22,13 @@ pub const NO_COURSE: Course = Course {
 };
 
 impl Course {
-    /// Whether velocity and spin are within their limits.
-    fn is_limited(self) -> bool
-        ensures value { result ≡ is_limited self }
-        ensures course { IsTrue result → IsCourse self }
-    {
-        is_within(self.velocity, MAX_SPEED.unsigned_abs())
-            && self.spin.unsigned_abs() <= MAX_SPIN.unsigned_abs()
-    }
-
-    /// Whether a body may be given this course: within the limits, and 0 as yet, since no step carries a body along.
+    /// Whether a body may be given this course: velocity and spin are within their limits.
     pub fn is_allowed(self) -> bool
         ensures value { result ≡ is_course self }
         ensures course { IsTrue result → IsCourse self }
     {
-        self.is_limited() && !self.is_moving()
+        is_within(self.velocity, MAX_SPEED.unsigned_abs())
+            && self.spin.unsigned_abs() <= MAX_SPIN.unsigned_abs()
     }
 
     /// Whether a body with this course moves: the velocity or the spin isn't 0.

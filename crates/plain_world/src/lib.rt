@@ -1,15 +1,19 @@
 //! What a world is, as lists, however it is kept.
 //!
-//! A world keeps its bodies by slot. This crate has what one slot contains (`Body`, `BodyDef`, `Kind`), where a body stands
-//! (`SetName`) and what stands in each set (`Census`), the fat boxes of its shapes (`FatBoxes`), and the whole world as
-//! plain lists (`Plain`). What a step gathers and moves stands above it.
+//! A world keeps its bodies and its joints by slot. This crate has what one slot contains (`Body`, `BodyDef`, `Kind`; `BodyJoint`,
+//! `JointDef`, `JointTable`), where a body stands (`SetName`) and what stands in each set (`Census`), the fat boxes of its shapes
+//! (`FatBoxes`), and the whole world as plain lists (`Plain`). What a step gathers and moves stands above it.
 #![tactic(auto)]
 
 mod body;
 mod census;
 mod changes;
 mod fats;
+mod joint;
+mod joint_table;
 mod kind;
+mod pair_numbers;
+mod placement;
 mod plain;
 mod slots;
 
@@ -19,6 +23,10 @@ pub use changes::{BodyChange, change_slot};
 pub use contacts::Constraint;
 pub use contacts_base::{ContactEntry, ContactKey, ShapeId};
 pub use fats::FatBoxes;
+pub use joint::{BodyJoint, JointDef};
+pub use joint_rows::Joint;
+pub use joint_table::JointTable;
 pub use kind::{Course, Kind, NO_COURSE};
+pub use placement::shape_of;
 pub use plain::Plain;
-pub use slots::{body_at, body_of, clear_slot, copy_bodies, put_body};
+pub use slots::{body_of, clear_slot, copy_bodies, item_at, put_item};

@@ -2,6 +2,7 @@ ghost use Rattle.std.specs.Prelude.{◌≡◌, ◌<◌, length, map};
 ghost use Rattle.plain_world.specs.Plain.{constraints_of, members_at};
 
 use crate::body::Body;
+use crate::joint::BodyJoint;
 use body_handles::Place;
 use contacts::Constraint;
 use contacts_base::ContactEntry;
@@ -13,6 +14,8 @@ use std::marker::Model;
 pub struct Plain {
     places: Vec<Place>,
     bodies: Vec<Option<Body>>,
+    joint_places: Vec<Place>,
+    joints: Vec<Option<BodyJoint>>,
     contacts: Vec<ContactEntry>,
     colours: Vec<Vec<Constraint>>,
     gravity: Vec2,
@@ -26,27 +29,31 @@ impl Model for Plain {
 
     ghost Value = { PlainWorld };
 
-    ghost view = { λ a. record { places = a.places.items; bodies = a.bodies.items; contacts = a.contacts.items; colours = constraints_of a.colours.items; gravity = a.gravity; steps = a.steps; calls = a.calls } };
+    ghost view = { λ a. record { places = a.places.items; bodies = a.bodies.items; joint_places = a.joint_places.items; joints = a.joints.items; contacts = a.contacts.items; colours = constraints_of a.colours.items; gravity = a.gravity; steps = a.steps; calls = a.calls } };
 }
 
 impl Plain {
     /// The world of these lists, of which nothing is asked: each body slot that was ever used, the body in it, the
-    /// contacts by key, and for each colour the active constraints that have it, those in the overflow last; the gravity in
+    /// same of the joints, the contacts by key, and for each colour the active constraints that have it, those in the overflow last; the gravity in
     /// u/tick², and how many steps and calls were accepted.
     pub fn new(
         places: Vec<Place>,
         bodies: Vec<Option<Body>>,
+        joint_places: Vec<Place>,
+        joints: Vec<Option<BodyJoint>>,
         contacts: Vec<ContactEntry>,
         colours: Vec<Vec<Constraint>>,
         gravity: Vec2,
         steps: u64,
         calls: u64,
     ) -> Plain
-        ensures { result ≡ record { places = places.items; bodies = bodies.items; contacts = contacts.items; colours = constraints_of colours.items; gravity = gravity; steps = steps; calls = calls } }
+        ensures { result ≡ record { places = places.items; bodies = bodies.items; joint_places = joint_places.items; joints = joints.items; contacts = contacts.items; colours = constraints_of colours.items; gravity = gravity; steps = steps; calls = calls } }
     {
         Plain {
             places,
             bodies,
+            joint_places,
+            joints,
             contacts,
             colours,
             gravity,
@@ -67,6 +74,20 @@ impl Plain {
         ensures { result.now ≡ self.now.bodies }
     {
         self.bodies.as_slice()
+    }
+
+    /// Each joint slot that was ever used: its generation, and whether it is taken.
+    pub fn joint_places(&self) -> &[Place]
+        ensures { result.now ≡ self.now.joint_places }
+    {
+        self.joint_places.as_slice()
+    }
+
+    /// The joint in each slot.
+    pub fn joints(&self) -> &[Option<BodyJoint>]
+        ensures { result.now ≡ self.now.joints }
+    {
+        self.joints.as_slice()
     }
 
     /// The contacts of near shapes, ascending by key.

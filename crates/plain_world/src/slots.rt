@@ -1,18 +1,18 @@
 ghost use Rattle.std.specs.Prelude.{◌≡◌, ◌<◌, ◌≤◌, ◌-◌, ◌+◌, vec_len, vec_capacity, IfOk, None, slice_set};
 ghost use Rattle.std.specs.Option.{option_copied};
 ghost use Rattle.std.specs.Result.{IsOkUnless};
-ghost use Rattle.plain_world.specs.Slots.{body_at, body_of, with_body};
+ghost use Rattle.plain_world.specs.Slots.{body_of, item_at, with_item};
 
 use crate::body::Body;
 use body_handles::{Handle, Handles};
 use fixed_geom::Refusal;
 use std::alloc::Global;
 
-/// The body in a slot.
-pub fn body_at(bodies: &[Option<Body>], slot: usize) -> Option<&Body>
-    ensures { option_copied result ≡ body_at bodies.now slot }
+/// What a slot contains, a body or a joint.
+pub fn item_at<T>(items: &[Option<T>], slot: usize) -> Option<&T>
+    ensures { option_copied result ≡ item_at items.now slot }
 {
-    match bodies.get(slot) {
+    match items.get(slot) {
         Some(entry) => entry.as_ref(),
         None => None,
     }
@@ -27,30 +27,32 @@ pub fn body_of<'a>(
     ensures { option_copied result ≡ body_of handles.now.places bodies.now handle }
 {
     if handles.is_live(handle) {
-        body_at(bodies, handle.slot as usize)
+        item_at(bodies, handle.slot as usize)
     } else {
         None
     }
 }
 
-/// Puts a body into a slot, or into a new one at the end, for which there is room.
-pub fn put_body(bodies: &mut Vec<Option<Body>>, slot: usize, body: Body)
-    requires { 1 ≤ vec_capacity bodies.old - vec_len bodies.old }
-    ensures { bodies.new.items ≡ with_body bodies.old.items slot body }
+/// Puts a body or a joint into a slot, or into a new one at the end, for which there is room.
+pub fn put_item<T: Drop>(items: &mut Vec<Option<T>>, slot: usize, item: T)
+    requires { 1 ≤ vec_capacity items.old - vec_len items.old }
+    ensures items { items.new.items ≡ with_item items.old.items slot item }
+    ensures capacity { vec_capacity items.old ≤ vec_capacity items.new }
+    ensures len { vec_len items.new ≤ vec_len items.old + 1 }
 {
-    if slot < bodies.len() {
-        bodies[slot] = Some(body);
+    if slot < items.len() {
+        items[slot] = Some(item);
     } else {
-        let _ = bodies.push(Some(body));
+        let _ = items.push(Some(item));
     }
 }
 
 /// Empties a slot.
-pub fn clear_slot(bodies: &mut Vec<Option<Body>>, slot: usize)
-    requires { slot < vec_len bodies.old }
-    ensures { bodies.new.items ≡ slice_set bodies.old.items slot None }
+pub fn clear_slot<T: Drop>(items: &mut Vec<Option<T>>, slot: usize)
+    requires { slot < vec_len items.old }
+    ensures { items.new.items ≡ slice_set items.old.items slot None }
 {
-    bodies[slot] = None;
+    items[slot] = None;
 }
 
 /// A copy of each body. Refused 1 where memory is wanting.

@@ -12,7 +12,7 @@ use Rattle.impulse_ledger.proofs.SumLemmas.{sum_x-append, sum_y-append, sum_of_x
 use Rattle.impulse_ledger.specs.Totals.{total_in}
 use Rattle.colour_solver.specs.declared.ticks.StepSums.{StepSums}
 use Rattle.colour_solver.specs.Ticks.{AreSums, added_x, added_y}
-use Rattle.world_core.specs.Apply.{booked}
+use Rattle.world_core.specs.Apply.{booked, step_entries}
 use Rattle.world_core.specs.Sound.{AreSmall, IsRoomy}
 
 -- ---- what was booked sums to what it was
@@ -147,11 +147,7 @@ one_cause causes.Departed = record { gi = refl; gc = refl; ic = refl }
 moved : (es rest s : ℤ) (n : ℕ) → unsigned_abs ((es +ℤ s) +ℤ rest) ≤ n → unsigned_abs ((es +ℤ rest) +ℤ s) ≤ n
 moved es rest s n h = omega (arith, ints)
 
--- what a step books
-abbrev pub step_booked : ℕ → StepSums → List Entry
-step_booked call s = booked call causes.Gravity s.gravity.x s.gravity.y ++ (booked call causes.Immovable s.immovable.x s.immovable.y ++ booked call causes.Clamp s.clamp.x s.clamp.y)
-
-step_small_x : (n m : ℕ) (es : List Entry) (settled : ℤ) (call : ℕ) (s : StepSums) (cause : Cause) → AreSums m s → unsigned_abs (sum_of_x cause es +ℤ settled) ≤ n → unsigned_abs (sum_of_x cause (es ++ step_booked call s) +ℤ settled) ≤ n + m
+step_small_x : (n m : ℕ) (es : List Entry) (settled : ℤ) (call : ℕ) (s : StepSums) (cause : Cause) → AreSums m s → unsigned_abs (sum_of_x cause es +ℤ settled) ≤ n → unsigned_abs (sum_of_x cause (es ++ step_entries call s) +ℤ settled) ≤ n + m
 step_small_x n m es settled call s cause small h =
     let gs : List Entry = booked call causes.Gravity s.gravity.x s.gravity.y in
     let is : List Entry = booked call causes.Immovable s.immovable.x s.immovable.y in
@@ -169,7 +165,7 @@ step_small_x n m es settled call s cause small h =
     (let b = small.gravity.x in omega (arith, b, sum_of_x_by zg cause eg)) (let b = small.immovable.x in omega (arith, b, sum_of_x_by zi cause ei)) (let b = small.clamp.x in omega (arith, b, sum_of_x_by zc cause ec))
     (other_x zg cause eg) (other_x zi cause ei) (other_x zc cause ec)))
 
-step_small_y : (n m : ℕ) (es : List Entry) (settled : ℤ) (call : ℕ) (s : StepSums) (cause : Cause) → AreSums m s → unsigned_abs (sum_of_y cause es +ℤ settled) ≤ n → unsigned_abs (sum_of_y cause (es ++ step_booked call s) +ℤ settled) ≤ n + m
+step_small_y : (n m : ℕ) (es : List Entry) (settled : ℤ) (call : ℕ) (s : StepSums) (cause : Cause) → AreSums m s → unsigned_abs (sum_of_y cause es +ℤ settled) ≤ n → unsigned_abs (sum_of_y cause (es ++ step_entries call s) +ℤ settled) ≤ n + m
 step_small_y n m es settled call s cause small h =
     let gs : List Entry = booked call causes.Gravity s.gravity.x s.gravity.y in
     let is : List Entry = booked call causes.Immovable s.immovable.x s.immovable.y in
@@ -187,31 +183,31 @@ step_small_y n m es settled call s cause small h =
     (let b = small.gravity.y in omega (arith, b, sum_of_y_by zg cause eg)) (let b = small.immovable.y in omega (arith, b, sum_of_y_by zi cause ei)) (let b = small.clamp.y in omega (arith, b, sum_of_y_by zc cause ec))
     (other_y zg cause eg) (other_y zi cause ei) (other_y zc cause ec)))
 
-pub AreSmall-step : (n m : ℕ) (es : List Entry) (settled : Totals) (call : ℕ) (s : StepSums) → AreSums m s → AreSmall n (record { entries = es; settled = settled; room = 0 }) → AreSmall (n + m) (record { entries = es ++ step_booked call s; settled = settled; room = 0 })
+pub AreSmall-step : (n m : ℕ) (es : List Entry) (settled : Totals) (call : ℕ) (s : StepSums) → AreSums m s → AreSmall n (record { entries = es; settled = settled; room = 0 }) → AreSmall (n + m) (record { entries = es ++ step_entries call s; settled = settled; room = 0 })
 AreSmall-step n m es settled call s sums small = record {
   x = λ cause. step_small_x n m es (total_in cause settled).x call s cause sums (small.x cause);
   y = λ cause. step_small_y n m es (total_in cause settled).y call s cause sums (small.y cause);
 }
 
 -- the sums with a step's entries
-pub sum_x-step : (es : List Entry) (call : ℕ) (s : StepSums) → sum_x (es ++ step_booked call s) ≡ sum_x es +ℤ added_x s
+pub sum_x-step : (es : List Entry) (call : ℕ) (s : StepSums) → sum_x (es ++ step_entries call s) ≡ sum_x es +ℤ added_x s
 sum_x-step es call s =
     let gs : List Entry = booked call causes.Gravity s.gravity.x s.gravity.y in
     let is : List Entry = booked call causes.Immovable s.immovable.x s.immovable.y in
     let c = sum_x-booked is call causes.Clamp s.clamp.x s.clamp.y in
     let i = sum_x-booked [] call causes.Immovable s.immovable.x s.immovable.y in
     let g = sum_x-booked [] call causes.Gravity s.gravity.x s.gravity.y in
-    let a = sum_x-append es (step_booked call s) in
+    let a = sum_x-append es (step_entries call s) in
     let b = sum_x-append gs (is ++ booked call causes.Clamp s.clamp.x s.clamp.y) in
     omega (arith, ints, a, b, c, i, g)
 
-pub sum_y-step : (es : List Entry) (call : ℕ) (s : StepSums) → sum_y (es ++ step_booked call s) ≡ sum_y es +ℤ added_y s
+pub sum_y-step : (es : List Entry) (call : ℕ) (s : StepSums) → sum_y (es ++ step_entries call s) ≡ sum_y es +ℤ added_y s
 sum_y-step es call s =
     let gs : List Entry = booked call causes.Gravity s.gravity.x s.gravity.y in
     let is : List Entry = booked call causes.Immovable s.immovable.x s.immovable.y in
     let c = sum_y-booked is call causes.Clamp s.clamp.x s.clamp.y in
     let i = sum_y-booked [] call causes.Immovable s.immovable.x s.immovable.y in
     let g = sum_y-booked [] call causes.Gravity s.gravity.x s.gravity.y in
-    let a = sum_y-append es (step_booked call s) in
+    let a = sum_y-append es (step_entries call s) in
     let b = sum_y-append gs (is ++ booked call causes.Clamp s.clamp.x s.clamp.y) in
     omega (arith, ints, a, b, c, i, g)

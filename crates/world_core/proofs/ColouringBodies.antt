@@ -8,7 +8,7 @@ use Rattle.graph_colours.specs.declared.member.Member.{Member}
 use Rattle.graph_colours.specs.Colours.{all_members, colour_of, IsColouring}
 use Rattle.graph_colours.proofs.Cases.{by_test, true_or_false, or_left, or_right}
 use Rattle.graph_colours.proofs.PlaceLemmas.{is_same}
-use Rattle.graph_colours.proofs.ColouringLemmas.{absent_in_each, absent_everywhere, released_keeps}
+use Rattle.graph_colours.proofs.ColouringLemmas.{absent_in_each, absent_everywhere, released_keeps, released_others}
 use Rattle.contacts_base.specs.declared.key.ShapeId.{ShapeId}
 use Rattle.contacts_base.specs.declared.key.ContactKey.{ContactKey}
 use Rattle.contacts_base.specs.declared.contact.ContactEntry.{ContactEntry}
@@ -22,14 +22,17 @@ use Rattle.contacts.specs.Constraints.{constraint_number}
 use Rattle.contacts_base.specs.Contacts.{is_touching}
 use Rattle.contacts.proofs.Members.{Each, IsIn, each_in}
 use Rattle.contacts.proofs.Rising.{IsRising, rising_from_increasing}
+use Rattle.body_handles.specs.Places.{is_live}
 use Rattle.plain_world.specs.declared.body.Body.{Body}
+use Rattle.plain_world.specs.declared.joint.BodyJoint.{BodyJoint}
+use Rattle.plain_world.specs.Joints.{joint_at}
 use Rattle.plain_world.specs.Slots.{with_body}
 use Rattle.world_core_base.specs.Gather.{moves, IsContactOf, AreContactsOf}
 use Rattle.contacts_base.specs.Contacts.{has_slot, contacts_without}
-use Rattle.world_core.specs.Colouring.{Lists, movers_of, ended, released_if, lists_without, IsNamed, AreNamed, IsNamedContact, AreColoured}
+use Rattle.world_core.specs.Colouring.{JointSlots, Lists, acts, movers_at, movers_of, ended, released_if, lists_without, IsNamed, AreNamed, IsNamedConstraint, AreColoured}
 use Rattle.world_core.proofs.ColouringSteps.{each_from_all, absent_ended}
 use Rattle.world_core.proofs.ColouringTurns.{colour, all_ended, far_ended, ended_own}
-use Rattle.world_core.proofs.ColouringLaws.{none_from}
+use Rattle.world_core.proofs.ColouringLaws.{joint_apart, none_from}
 
 -- ---- the contacts of one slot give up their colours
 
@@ -42,6 +45,12 @@ all_list : (P : Member Constraint → Type 0) (slot : ℕ) (lists : Lists) (es :
 all_list P slot lists [] h = h
 all_list P slot lists (e ∷ es) h = all_list P slot (released_if slot lists e) es
     (by_test (λ (l : Lists). All P (all_members l)) (touches e.contact && has_slot slot e) (ended lists e.key) lists (λ q. all_ended P lists e.key h) (λ q. h))
+
+others_without : (c : Constraint) (slot : ℕ) (lists : Lists) (es : List ContactEntry) → ((key : ContactKey) → constraint_number c ≢ constraint_number (constraints.Contact key)) → colour_of constraint_number c (lists_without slot lists es) ≡ colour_of constraint_number c lists
+others_without c slot lists [] far = refl
+others_without c slot lists (e ∷ es) far =
+    others_without c slot (released_if slot lists e) es far
+    ∙ by_test (λ (l : Lists). colour_of constraint_number c l ≡ colour_of constraint_number c lists) (touches e.contact && has_slot slot e) (ended lists e.key) lists (λ q. released_others constraint_number (constraints.Contact e.key) lists c (far e.key)) (λ q. refl)
 
 released_far : (slot : ℕ) (key : ContactKey) (lists : Lists) (e : ContactEntry) → (number_of e ≡ key_number key → ⊥) → colour key (released_if slot lists e) ≡ colour key lists
 released_far slot key lists e far = by_test (λ (l : Lists). colour key l ≡ colour key lists) (touches e.contact && has_slot slot e) (ended lists e.key) lists (λ q. far_ended key e.key lists (λ s. far (sym s))) (λ q. refl)
@@ -106,12 +115,13 @@ active_without slot key lists (e ∷ es) r h = elim (cases_eq (number_of e) (key
 ]
 
 -- the body is still there
-pub coloured_released : (bodies : List (Option Body)) (slot : ℕ) (contacts : List ContactEntry) (lists : Lists) → AreKeysRising contacts → AreColoured bodies contacts lists → AreColoured bodies (contacts_without slot contacts) (lists_without slot lists contacts)
-coloured_released bodies slot contacts lists rising h = record {
+pub coloured_released : (bodies : List (Option Body)) (js : JointSlots) (slot : ℕ) (contacts : List ContactEntry) (lists : Lists) → AreKeysRising contacts → AreColoured bodies js contacts lists → AreColoured bodies js (contacts_without slot contacts) (lists_without slot lists contacts)
+coloured_released bodies js slot contacts lists rising h = record {
   colouring = keeps_without slot lists contacts h.colouring;
   active = λ key. active_without slot key lists contacts (rising_from_increasing (map number_of contacts) rising) (h.active key);
-  named = all_list (λ m. IsNamedContact m.id) slot lists contacts h.named;
-  movers = all_list (λ m. movers_of bodies m.id ≡ Some m.movers) slot lists contacts h.movers;
+  joined = λ g named. ap is_some (others_without (constraints.Joint g) slot lists contacts (λ key. joint_apart g key named)) ∙ h.joined g named;
+  named = all_list (λ m. IsNamedConstraint m.id) slot lists contacts h.named;
+  movers = all_list (λ m. movers_of bodies js m.id ≡ Some m.movers) slot lists contacts h.movers;
 }
 
 -- ---- what has a colour is a contact of the list
@@ -153,33 +163,47 @@ lookup_entry (e ∷ es) key h = elim (cases_eq (number_of e) (key_number key)) [
   | inr q ↦ let r : (f : ContactEntry) × IsIn f es × (number_of f ≡ key_number key) = lookup_entry es key (ap is_touching (sym (lookup-later e es key q)) ∙ h) in (r.0, inr r.1, r.2)
 ]
 
-known_entry : (contacts : List ContactEntry) (lists : Lists) (c : Constraint) → ((key : ContactKey) → is_some (colour key lists) ≡ is_touching (lookup contacts key)) → AreNamed contacts → IsNamedContact c → is_some (colour_of constraint_number c lists) ≡ true → (e : ContactEntry) × IsIn e contacts × (c ≡ constraints.Contact e.key)
-known_entry contacts lists (constraints.Joint h) active names named some = absurd named
-known_entry contacts lists (constraints.Contact key) active names named some =
+-- the contact that a coloured constraint is
+pub known_entry : (contacts : List ContactEntry) (lists : Lists) (key : ContactKey) → ((k : ContactKey) → is_some (colour k lists) ≡ is_touching (lookup contacts k)) → AreNamed contacts → IsNamed key → is_some (colour key lists) ≡ true → (e : ContactEntry) × IsIn e contacts × (key ≡ e.key)
+known_entry contacts lists key active names named some =
     let r : (e : ContactEntry) × IsIn e contacts × (number_of e ≡ key_number key) = lookup_entry contacts key (sym (active key) ∙ some) in
     let here : IsNamed r.0.key = each_in (λ e. IsNamed e.key) r.0 contacts (each_from_all (λ e. IsNamed e.key) contacts names) r.1 in
-    (r.0, r.1, ap constraints.Contact (sym (same_key r.0.key key here named r.2)))
+    (r.0, r.1, sym (same_key r.0.key key here named r.2))
 
 -- ---- bodies that change beside the contacts
 
 abbrev pub MoveAlike : List (Option Body) → List (Option Body) → ContactEntry → Type 0
 MoveAlike old new e = (moves new e.key.first.slot ≡ moves old e.key.first.slot) × (moves new e.key.second.slot ≡ moves old e.key.second.slot)
 
-movers_alike : (old new : List (Option Body)) (c : Constraint) (e : ContactEntry) → c ≡ constraints.Contact e.key → MoveAlike old new e → movers_of new c ≡ movers_of old c
-movers_alike old new c e is h =
-    let P : Constraint → Type 0 = λ x. movers_of new x ≡ movers_of old x in
-    subst P (sym is) (rw (h.0, h.1) refl)
+-- the bodies of each joint move just if they did
+abbrev pub JointsAlike : List (Option Body) → List (Option Body) → List (Option BodyJoint) → Type 0
+JointsAlike old new joints = (slot : ℕ) (j : BodyJoint) → joint_at joints slot ≡ Some j → (moves new j.a ≡ moves old j.a) × (moves new j.b ≡ moves old j.b)
 
--- the bodies of each contact move just if they did
-pub coloured_at : (old new : List (Option Body)) (contacts : List ContactEntry) (lists : Lists) → AreNamed contacts → Each (MoveAlike old new) contacts → AreColoured old contacts lists → AreColoured new contacts lists
-coloured_at old new contacts lists names alike h = record {
+movers_at-alike : (old new : List (Option Body)) (o : Option BodyJoint) → ((j : BodyJoint) → o ≡ Some j → (moves new j.a ≡ moves old j.a) × (moves new j.b ≡ moves old j.b)) → movers_at new o ≡ movers_at old o
+movers_at-alike old new None alike = refl
+movers_at-alike old new (Some j) alike = let same = alike j refl in rw (same.0, same.1) refl
+
+acts_alike : (old new : List (Option Body)) (live : Bool) (o : Option BodyJoint) → movers_at new o ≡ movers_at old o → acts new (cond live o None) ≡ acts old (cond live o None)
+acts_alike old new true o same = ap is_some same
+acts_alike old new false o same = refl
+
+movers_alike : (old new : List (Option Body)) (js : JointSlots) (contacts : List ContactEntry) (lists : Lists) (id : Constraint) → AreNamed contacts → Each (MoveAlike old new) contacts → JointsAlike old new js.joints → AreColoured old js contacts lists → IsNamedConstraint id → is_some (colour_of constraint_number id lists) ≡ true → movers_of new js id ≡ movers_of old js id
+movers_alike old new js contacts lists (constraints.Joint g) names alike joints h named some = movers_at-alike old new (joint_at js.joints g.slot) (joints g.slot)
+movers_alike old new js contacts lists (constraints.Contact key) names alike joints h named some =
+    let r : (e : ContactEntry) × IsIn e contacts × (key ≡ e.key) = known_entry contacts lists key h.active names named some in
+    let same : MoveAlike old new r.0 = each_in (MoveAlike old new) r.0 contacts alike r.1 in
+    subst (λ (k : ContactKey). movers_of new js (constraints.Contact k) ≡ movers_of old js (constraints.Contact k)) (sym r.2) (rw (same.0, same.1) refl)
+
+-- the bodies of each contact and of each joint move just if they did
+pub coloured_at : (old new : List (Option Body)) (js : JointSlots) (contacts : List ContactEntry) (lists : Lists) → AreNamed contacts → Each (MoveAlike old new) contacts → JointsAlike old new js.joints → AreColoured old js contacts lists → AreColoured new js contacts lists
+coloured_at old new js contacts lists names alike joints h = record {
   colouring = h.colouring;
   active = h.active;
+  joined = λ g named. h.joined g named ∙ sym (acts_alike old new (is_live js.places g) (joint_at js.joints g.slot) (movers_at-alike old new (joint_at js.joints g.slot) (joints g.slot)));
   named = h.named;
   movers = λ k d lt.
       let m : Member Constraint = get_or (all_members lists) k d in
-      let r : (e : ContactEntry) × IsIn e contacts × (m.id ≡ constraints.Contact e.key) = known_entry contacts lists m.id h.active names (h.named k d lt) (members_coloured constraint_number lists k d lt) in
-      movers_alike old new m.id r.0 r.2 (each_in (MoveAlike old new) r.0 contacts alike r.1) ∙ h.movers k d lt;
+      movers_alike old new js contacts lists m.id names alike joints h (h.named k d lt) (members_coloured constraint_number lists k d lt) ∙ h.movers k d lt;
 }
 
 moves_beside : (bodies : List (Option Body)) (slot k : ℕ) (o : Option Body) → k ≢ slot → moves (slice_set bodies slot o) k ≡ moves bodies k
@@ -208,25 +232,26 @@ each_beside bodies slot o [] h = tt
 each_beside bodies slot o (e ∷ es) h = (alike_beside bodies slot o e h.0, each_beside bodies slot o es h.1)
 
 -- a slot that no contact is of
-pub coloured_beside : (bodies : List (Option Body)) (slot : ℕ) (o : Option Body) (contacts : List ContactEntry) (lists : Lists) → AreNamed contacts → All (λ e. has_slot slot e ≡ false) contacts → AreColoured bodies contacts lists → AreColoured (slice_set bodies slot o) contacts lists
-coloured_beside bodies slot o contacts lists names apart h =
-    coloured_at bodies (slice_set bodies slot o) contacts lists names (each_beside bodies slot o contacts (each_from_all (λ e. has_slot slot e ≡ false) contacts apart)) h
+pub coloured_beside : (bodies : List (Option Body)) (js : JointSlots) (slot : ℕ) (o : Option Body) (contacts : List ContactEntry) (lists : Lists) → AreNamed contacts → All (λ e. has_slot slot e ≡ false) contacts → JointsAlike bodies (slice_set bodies slot o) js.joints → AreColoured bodies js contacts lists → AreColoured (slice_set bodies slot o) js contacts lists
+coloured_beside bodies js slot o contacts lists names apart joints h =
+    coloured_at bodies (slice_set bodies slot o) js contacts lists names (each_beside bodies slot o contacts (each_from_all (λ e. has_slot slot e ≡ false) contacts apart)) joints h
 
 pub each_before : (bodies : List (Option Body)) (o : Option Body) (es : List ContactEntry) → Each (IsContactOf bodies) es → Each (MoveAlike bodies (bodies ++ o ∷ [])) es
 each_before bodies o [] h = tt
 each_before bodies o (e ∷ es) h = ((moves_before bodies e.key.first.slot o h.0.first, moves_before bodies e.key.second.slot o h.0.second), each_before bodies o es h.1)
 
 -- a new slot at the end
-pub coloured_append : (bodies : List (Option Body)) (o : Option Body) (contacts : List ContactEntry) (lists : Lists) → AreNamed contacts → AreContactsOf bodies contacts → AreColoured bodies contacts lists → AreColoured (bodies ++ o ∷ []) contacts lists
-coloured_append bodies o contacts lists names pairs h =
-    coloured_at bodies (bodies ++ o ∷ []) contacts lists names (each_before bodies o contacts (each_from_all (IsContactOf bodies) contacts pairs)) h
+pub coloured_append : (bodies : List (Option Body)) (js : JointSlots) (o : Option Body) (contacts : List ContactEntry) (lists : Lists) → AreNamed contacts → AreContactsOf bodies contacts → JointsAlike bodies (bodies ++ o ∷ []) js.joints → AreColoured bodies js contacts lists → AreColoured (bodies ++ o ∷ []) js contacts lists
+coloured_append bodies js o contacts lists names pairs joints h =
+    coloured_at bodies (bodies ++ o ∷ []) js contacts lists names (each_before bodies o contacts (each_from_all (IsContactOf bodies) contacts pairs)) joints h
 
 -- a body that comes, in a slot that no contact is of
-pub coloured_with_body : (bodies : List (Option Body)) (slot : ℕ) (b : Body) (contacts : List ContactEntry) (lists : Lists) → AreNamed contacts → AreContactsOf bodies contacts → All (λ e. has_slot slot e ≡ false) contacts → AreColoured bodies contacts lists → AreColoured (with_body bodies slot b) contacts lists
-coloured_with_body bodies slot b contacts lists names pairs apart h =
-    by_test (λ (bs : List (Option Body)). AreColoured bs contacts lists) (nat_lt slot (length bodies)) (slice_set bodies slot (Some b)) (bodies ++ Some b ∷ [])
-    (λ q. coloured_beside bodies slot (Some b) contacts lists names apart h)
-    (λ q. coloured_append bodies (Some b) contacts lists names pairs h)
+pub coloured_with_body : (bodies : List (Option Body)) (js : JointSlots) (slot : ℕ) (b : Body) (contacts : List ContactEntry) (lists : Lists) → AreNamed contacts → AreContactsOf bodies contacts → All (λ e. has_slot slot e ≡ false) contacts → JointsAlike bodies (with_body bodies slot b) js.joints → AreColoured bodies js contacts lists → AreColoured (with_body bodies slot b) js contacts lists
+coloured_with_body bodies js slot b contacts lists names pairs apart joints h =
+    by_test (λ (bs : List (Option Body)). JointsAlike bodies bs js.joints → AreColoured bs js contacts lists) (nat_lt slot (length bodies)) (slice_set bodies slot (Some b)) (bodies ++ Some b ∷ [])
+    (λ q alike. coloured_beside bodies js slot (Some b) contacts lists names apart alike h)
+    (λ q alike. coloured_append bodies js (Some b) contacts lists names pairs alike h)
+    joints
 
 -- ---- a body that goes
 
@@ -242,7 +267,7 @@ pub AreNamed-without : (slot : ℕ) (contacts : List ContactEntry) → AreNamed 
 AreNamed-without slot contacts names = All-filter (λ e. not (has_slot slot e)) (λ e. IsNamed e.key) contacts names
 
 -- its contacts give up their colours
-pub coloured_without : (bodies : List (Option Body)) (slot : ℕ) (contacts : List ContactEntry) (lists : Lists) → AreKeysRising contacts → AreNamed contacts → AreColoured bodies contacts lists → AreColoured (slice_set bodies slot None) (contacts_without slot contacts) (lists_without slot lists contacts)
-coloured_without bodies slot contacts lists rising names h =
+pub coloured_without : (bodies : List (Option Body)) (js : JointSlots) (slot : ℕ) (contacts : List ContactEntry) (lists : Lists) → AreKeysRising contacts → AreNamed contacts → JointsAlike bodies (slice_set bodies slot None) js.joints → AreColoured bodies js contacts lists → AreColoured (slice_set bodies slot None) js (contacts_without slot contacts) (lists_without slot lists contacts)
+coloured_without bodies js slot contacts lists rising names joints h =
     let rest : List ContactEntry = contacts_without slot contacts in
-    coloured_at bodies (slice_set bodies slot None) rest (lists_without slot lists contacts) (AreNamed-without slot contacts names) (each_beside bodies slot None rest (each_apart slot contacts)) (coloured_released bodies slot contacts lists rising h)
+    coloured_at bodies (slice_set bodies slot None) js rest (lists_without slot lists contacts) (AreNamed-without slot contacts names) (each_beside bodies slot None rest (each_apart slot contacts)) joints (coloured_released bodies js slot contacts lists rising h)

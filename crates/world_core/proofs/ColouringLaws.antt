@@ -7,7 +7,7 @@ use Rattle.std.proofs.lemmas.List.Elements.{All-weaker}
 use Rattle.graph_colours.specs.declared.member.Movers.{Movers}
 use Rattle.graph_colours.specs.declared.member.Member.{Member}
 use Rattle.graph_colours.specs.Colours.{all_members}
-use Rattle.graph_colours.proofs.Cases.{by_test, true_or_false}
+use Rattle.graph_colours.proofs.Cases.{true_or_false}
 use Rattle.contacts_base.specs.declared.key.ContactKey.{ContactKey}
 use Rattle.contacts_base.specs.declared.contact.ContactEntry.{ContactEntry}
 use Rattle.contacts_base.specs.Keys.{key_number}
@@ -23,51 +23,52 @@ use Rattle.contacts.proofs.Rising.{IsRising, rising_from_increasing}
 use Rattle.contacts.proofs.ChangeLemmas.{keys_touching_rise}
 use Rattle.colour_solver_base.specs.declared.row.ContactRow.{ContactRow}
 use Rattle.momenta.specs.declared.state.BodyState.{BodyState}
+use Rattle.body_handles.specs.declared.handle.Handle.{Handle}
+use Rattle.contacts.specs.Constraints.{constraint_number}
 use Rattle.plain_world.specs.declared.body.Body.{Body}
+use Rattle.plain_world.specs.declared.joint.BodyJoint.{BodyJoint}
+use Rattle.plain_world.specs.Joints.{joint_at, joint_of}
 use Rattle.plain_world.specs.Bodies.{is_mover}
 use Rattle.world_core_base.specs.Gather.{moves, moves_in, IsContactOf, AreContactsOf, with_motion, with_motions, with_row, with_rows, put_row}
 use Rattle.world_core_base.proofs.ContactLaws.{touches_with_row}
-use Rattle.world_core.specs.Colouring.{Lists, movers_if, movers_between, movers_of, turned, IsNamed, AreNamed, IsNamedContact, AreColoured}
+use Rattle.world_core.specs.Colouring.{JointSlots, Lists, movers_at, movers_if, movers_between, movers_of, turned, IsNamed, AreNamed, IsNamedHandle, IsNamedConstraint, AreColoured}
 use Rattle.world_core.proofs.ColouringSteps.{AreAbsent, EachAbsent, each_from_all}
-use Rattle.world_core.proofs.ColouringTurns.{Far, Has, colour, lookup_by_number, far_turned, absent_turned, gone_turned, keeps_turned, all_turned, taken_turned}
+use Rattle.world_core.proofs.ColouringTurns.{Far, Has, colour, lookup_by_number, far_turned, absent_turned, gone_turned, keeps_turned, others_turned, all_turned, taken_turned}
+
+-- ---- the numbers of joints and contacts
+
+pub joint_apart : (g : Handle) (key : ContactKey) → IsNamedHandle g → constraint_number (constraints.Joint g) ≢ constraint_number (constraints.Contact key)
+joint_apart g key named q = let s = named.slot in let n = named.generation in omega (arith, s, n, q)
 
 -- ---- what changes no colour
 
-pub movers_same : (old new : List (Option Body)) → ((slot : ℕ) → moves new slot ≡ moves old slot) → (c : Constraint) → movers_of new c ≡ movers_of old c
-movers_same old new same (constraints.Joint h) = refl
-movers_same old new same (constraints.Contact key) = rw (same key.first.slot, same key.second.slot) refl
+movers_at-same : (old new : List (Option Body)) → ((slot : ℕ) → moves new slot ≡ moves old slot) → (o : Option BodyJoint) → movers_at new o ≡ movers_at old o
+movers_at-same old new same None = refl
+movers_at-same old new same (Some j) = rw (same j.a, same j.b) refl
+
+pub movers_same : (old new : List (Option Body)) (js : JointSlots) → ((slot : ℕ) → moves new slot ≡ moves old slot) → (c : Constraint) → movers_of new js c ≡ movers_of old js c
+movers_same old new js same (constraints.Joint h) = movers_at-same old new same (joint_at js.joints h.slot)
+movers_same old new js same (constraints.Contact key) = rw (same key.first.slot, same key.second.slot) refl
 
 -- bodies that change, but not which of them move
-pub coloured_bodies : (old new : List (Option Body)) (contacts : List ContactEntry) (lists : Lists) → ((slot : ℕ) → moves new slot ≡ moves old slot) → AreColoured old contacts lists → AreColoured new contacts lists
-coloured_bodies old new contacts lists same h = record {
+pub coloured_bodies : (old new : List (Option Body)) (js : JointSlots) (contacts : List ContactEntry) (lists : Lists) → ((slot : ℕ) → moves new slot ≡ moves old slot) → AreColoured old js contacts lists → AreColoured new js contacts lists
+coloured_bodies old new js contacts lists same h = record {
   colouring = h.colouring;
   active = h.active;
+  joined = λ g named. h.joined g named ∙ sym (ap is_some (movers_at-same old new same (joint_of js.places js.joints g)));
   named = h.named;
-  movers = All-weaker (λ (m : Member Constraint). movers_of old m.id ≡ Some m.movers) (λ m. movers_of new m.id ≡ Some m.movers) (λ m p. movers_same old new same m.id ∙ p) (all_members lists) h.movers;
+  movers = All-weaker (λ (m : Member Constraint). movers_of old js m.id ≡ Some m.movers) (λ m. movers_of new js m.id ≡ Some m.movers) (λ m p. movers_same old new js same m.id ∙ p) (all_members lists) h.movers;
 }
 
 -- contacts that change, but not which of them touch
-pub coloured_contacts : (bodies : List (Option Body)) (old new : List ContactEntry) (lists : Lists) → ((key : ContactKey) → is_touching (lookup new key) ≡ is_touching (lookup old key)) → AreColoured bodies old lists → AreColoured bodies new lists
-coloured_contacts bodies old new lists same h = record {
+pub coloured_contacts : (bodies : List (Option Body)) (js : JointSlots) (old new : List ContactEntry) (lists : Lists) → ((key : ContactKey) → is_touching (lookup new key) ≡ is_touching (lookup old key)) → AreColoured bodies js old lists → AreColoured bodies js new lists
+coloured_contacts bodies js old new lists same h = record {
   colouring = h.colouring;
   active = λ key. h.active key ∙ sym (same key);
+  joined = h.joined;
   named = h.named;
   movers = h.movers;
 }
-
--- a motion put into a mover
-mover_with : (s : BodyState) (b : Body) → is_mover (with_motion s b) ≡ is_mover b
-mover_with s b = by_test (λ (a : Body). is_mover a ≡ is_mover b) (is_mover b) (record b { motion = s.motion }) b (λ q. refl) (λ q. refl)
-
-moves_with : (s : BodyState) (o : Option Body) → moves_in (option_map (with_motion s) o) ≡ moves_in o
-moves_with s None = refl
-moves_with s (Some b) = mover_with s b
-
-pub moves-with_motions : (bodies : List (Option Body)) (states : List BodyState) (slot : ℕ) → moves (with_motions bodies states) slot ≡ moves bodies slot
-moves-with_motions [] states slot = refl
-moves-with_motions (o ∷ bodies) [] slot = refl
-moves-with_motions (o ∷ bodies) (s ∷ states) zero = moves_with s o
-moves-with_motions (o ∷ bodies) (s ∷ states) (suc slot) = moves-with_motions bodies states slot
 
 -- an entry put in the place of another with the same key, which touches if that does
 touching_here : (e f : ContactEntry) (es : List ContactEntry) (key : ContactKey) → f.key ≡ e.key → touches f.contact ≡ touches e.contact → is_touching (lookup (f ∷ es) key) ≡ is_touching (lookup (e ∷ es) key)
@@ -99,12 +100,6 @@ pub touching-with_rows : (es : List ContactEntry) (rs : List ContactRow) (key : 
 touching-with_rows es [] key = refl
 touching-with_rows es (r ∷ rs) key = touching-with_rows (put_row r es (slice_get es r.bodies.index)) rs key ∙ touching_put r es (slice_get es r.bodies.index) key refl
 
--- what a step leaves of the bodies and the contacts
-pub coloured_stepped : (bodies : List (Option Body)) (states : List BodyState) (contacts : List ContactEntry) (rows : List ContactRow) (lists : Lists) → AreColoured bodies contacts lists → AreColoured (with_motions bodies states) (with_rows contacts rows) lists
-coloured_stepped bodies states contacts rows lists h =
-    coloured_contacts (with_motions bodies states) contacts (with_rows contacts rows) lists (touching-with_rows contacts rows)
-    (coloured_bodies bodies (with_motions bodies states) contacts lists (moves-with_motions bodies states) h)
-
 -- ---- which contacts begin, and which end
 
 if_touching : (t u : Bool) (key k : ContactKey) → cond t (cond u None (Some key)) None ≡ Some k → (t ≡ true) × (u ≡ false) × (key ≡ k)
@@ -133,16 +128,16 @@ pub none_from : {X : Type 0} (o : Option X) → is_some o ≡ false → o ≡ No
 none_from None h = refl
 none_from (Some x) h = cc
 
-each_absent : (bodies : List (Option Body)) (old now : List ContactEntry) (lists : Lists) → AreColoured bodies old lists → EachAbsent lists (keys_touching_only_in old now)
-each_absent bodies old now lists h =
+each_absent : (bodies : List (Option Body)) (js : JointSlots) (old now : List ContactEntry) (lists : Lists) → AreColoured bodies js old lists → EachAbsent lists (keys_touching_only_in old now)
+each_absent bodies js old now lists h =
     each_picked (λ e. e ≡ e) (λ k. colour k lists ≡ None) (key_if_touching old) now (each_any now) (λ e q k p.
     let is : e.key ≡ k = (only_in old e k p).2 in
     let P : ContactKey → Type 0 = λ j. colour j lists ≡ None in
     subst P is (none_from (colour e.key lists) (h.active e.key ∙ (only_in old e k p).1)))
 
 -- contacts that begin have no colour
-pub absent : (bodies : List (Option Body)) (old now : List ContactEntry) (lists : Lists) → AreColoured bodies old lists → AreAbsent lists (keys_touching_only_in old now)
-absent bodies old now lists h = all_from_each (λ k. colour k lists ≡ None) (keys_touching_only_in old now) (each_absent bodies old now lists h)
+pub absent : (bodies : List (Option Body)) (js : JointSlots) (old now : List ContactEntry) (lists : Lists) → AreColoured bodies js old lists → AreAbsent lists (keys_touching_only_in old now)
+absent bodies js old now lists h = all_from_each (λ k. colour k lists ≡ None) (keys_touching_only_in old now) (each_absent bodies js old now lists h)
 
 -- one that touches in the others isn't among those that touch only here
 far_known : (others es : List ContactEntry) (key : ContactKey) → is_touching (lookup others key) ≡ true → Far (key_number key) (keys_touching_only_in others es)
@@ -230,8 +225,8 @@ active_after true false is now a b c d same = b refl refl ∙ same
 active_after false true is now a b c d same = c refl refl ∙ same
 active_after false false is now a b c d same = d refl refl ∙ same
 
-active_turned : (bodies : List (Option Body)) (old now : List ContactEntry) (lists : Lists) → AreKeysRising old → AreKeysRising now → AreContactsOf bodies now → AreColoured bodies old lists → (key : ContactKey) → is_some (colour key (turned bodies lists (keys_touching_only_in old now) (keys_touching_only_in now old))) ≡ is_touching (lookup now key)
-active_turned bodies old now lists rising rises pairs h key =
+active_turned : (bodies : List (Option Body)) (js : JointSlots) (old now : List ContactEntry) (lists : Lists) → AreKeysRising old → AreKeysRising now → AreContactsOf bodies now → AreColoured bodies js old lists → (key : ContactKey) → is_some (colour key (turned bodies lists (keys_touching_only_in old now) (keys_touching_only_in now old))) ≡ is_touching (lookup now key)
+active_turned bodies js old now lists rising rises pairs h key =
     let begins : List ContactKey = keys_touching_only_in old now in
     let ends : List ContactKey = keys_touching_only_in now old in
     let up : IsRising (map number_of old) = rising_from_increasing (map number_of old) rising in
@@ -239,21 +234,22 @@ active_turned bodies old now lists rising rises pairs h key =
     let first : IsRising (map key_number begins) = rising_from_increasing (map key_number begins) (keys_touching_rise old now rises) in
     active_after (is_touching (lookup now key)) (is_touching (lookup old key)) (is_some (colour key (turned bodies lists begins ends))) (is_touching (lookup now key))
     (λ t o. ap is_some (far_turned bodies key lists begins ends (far_known old now key o) (far_known now old key t)) ∙ h.active key ∙ o)
-    (λ t o. taken_turned bodies key lists begins ends (has_touching old now key t o) (far_known now old key t) h.colouring (each_absent bodies old now lists h) first (each_moved bodies old now pairs))
+    (λ t o. taken_turned bodies key lists begins ends (has_touching old now key t o) (far_known now old key t) h.colouring (each_absent bodies js old now lists h) first (each_moved bodies old now pairs))
     (λ t o. ap is_some (gone_turned bodies key lists begins ends (far_untouched old now key up' t) (has_touching now old key o t)))
     (λ t o. ap is_some (absent_turned bodies key lists begins ends (far_untouched old now key up' t) (none_from (colour key lists) (h.active key ∙ o))))
     refl
 
 -- contacts that begin take a colour, and those that end give it up
-pub coloured_turned : (bodies : List (Option Body)) (old now : List ContactEntry) (lists : Lists) → AreKeysRising old → AreKeysRising now → AreContactsOf bodies now → AreNamed now → AreColoured bodies old lists → AreColoured bodies now (turned bodies lists (keys_touching_only_in old now) (keys_touching_only_in now old))
-coloured_turned bodies old now lists rising rises pairs names h =
+pub coloured_turned : (bodies : List (Option Body)) (js : JointSlots) (old now : List ContactEntry) (lists : Lists) → AreKeysRising old → AreKeysRising now → AreContactsOf bodies now → AreNamed now → AreColoured bodies js old lists → AreColoured bodies js now (turned bodies lists (keys_touching_only_in old now) (keys_touching_only_in now old))
+coloured_turned bodies js old now lists rising rises pairs names h =
     let begins : List ContactKey = keys_touching_only_in old now in
     let ends : List ContactKey = keys_touching_only_in now old in
     let first : IsRising (map key_number begins) = rising_from_increasing (map key_number begins) (keys_touching_rise old now rises) in
-    let none : EachAbsent lists begins = each_absent bodies old now lists h in
+    let none : EachAbsent lists begins = each_absent bodies js old now lists h in
     record {
       colouring = keeps_turned bodies lists begins ends h.colouring none first;
-      active = active_turned bodies old now lists rising rises pairs h;
-      named = all_turned (λ m. IsNamedContact m.id) bodies lists begins ends h.colouring none first (each_weaker IsNamed (λ k. (m : Movers) → movers_between bodies k ≡ Some m → IsNamed k) begins (λ k p m q. p) (each_named old now names)) h.named;
-      movers = all_turned (λ m. movers_of bodies m.id ≡ Some m.movers) bodies lists begins ends h.colouring none first (each_movers bodies begins) h.movers;
+      active = active_turned bodies js old now lists rising rises pairs h;
+      joined = λ g named. ap is_some (others_turned (constraints.Joint g) bodies lists begins ends (λ key. joint_apart g key named)) ∙ h.joined g named;
+      named = all_turned (λ m. IsNamedConstraint m.id) bodies lists begins ends h.colouring none first (each_weaker IsNamed (λ k. (m : Movers) → movers_between bodies k ≡ Some m → IsNamed k) begins (λ k p m q. p) (each_named old now names)) h.named;
+      movers = all_turned (λ m. movers_of bodies js m.id ≡ Some m.movers) bodies lists begins ends h.colouring none first (each_movers bodies begins) h.movers;
     }

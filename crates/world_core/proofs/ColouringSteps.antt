@@ -22,7 +22,7 @@ use Rattle.contacts.specs.Changes.{AreRising}
 use Rattle.contacts.proofs.Members.{Each, all_from_each}
 use Rattle.contacts.proofs.Rising.{IsRising, rising_from_increasing}
 use Rattle.plain_world.specs.declared.body.Body.{Body}
-use Rattle.world_core.specs.Colouring.{Lists, movers_between, begun, begun_with, ended, ended_all, ended_until, left_from, turned}
+use Rattle.world_core.specs.Colouring.{Lists, movers_between, begun, placed_with, ended, ended_all, ended_until, left_from, turned}
 
 -- ---- movers
 
@@ -84,13 +84,13 @@ absent_until c key lists (e ∷ es) h = by_test (λ (l : Lists). colour_of const
     (λ q. absent_until c key (ended lists e) es (absent_ended c e lists h))
     (λ q. h)
 
-pub others_begun_with : (c : Constraint) (lists : Lists) (key : ContactKey) (o : Option Movers) → constraint_number c ≢ constraint_number (Contact key) → colour_of constraint_number c (begun_with lists key o) ≡ colour_of constraint_number c lists
-others_begun_with c lists key None far = refl
-others_begun_with c lists key (Some m) far = placed_others constraint_number (record { id = Contact key; movers = m }) lists c far
+pub others_placed : (c : Constraint) (lists : Lists) (id : Constraint) (o : Option Movers) → constraint_number c ≢ constraint_number id → colour_of constraint_number c (placed_with lists id o) ≡ colour_of constraint_number c lists
+others_placed c lists id None far = refl
+others_placed c lists id (Some m) far = placed_others constraint_number (record { id = id; movers = m }) lists c far
 
 pub others_begun : (c : Constraint) (bodies : List (Option Body)) (lists : Lists) (key : ContactKey) → constraint_number c ≢ constraint_number (Contact key) → colour_of constraint_number c (begun bodies lists key) ≡ colour_of constraint_number c lists
 unfolding begun
-others_begun c bodies lists key far = others_begun_with c lists key (movers_between bodies key) far
+others_begun c bodies lists key far = others_placed c lists (Contact key) (movers_between bodies key) far
 
 -- ---- contacts that are to begin have no colour
 

@@ -5,7 +5,7 @@ use Rattle.std.proofs.lemmas.List.Sorted.{All-permutation}
 use Rattle.graph_colours.specs.declared.member.Movers.{Movers}
 use Rattle.graph_colours.specs.declared.member.Member.{Member}
 use Rattle.graph_colours.specs.Members.{without}
-use Rattle.graph_colours.specs.Colours.{all_members, colour_of, placed, IsColouring}
+use Rattle.graph_colours.specs.Colours.{all_members, colour_of, placed, released, IsColouring}
 use Rattle.graph_colours.proofs.Cases.{by_test}
 use Rattle.graph_colours.proofs.ColouringLemmas.{placed_keeps, placed_members, placed_own, released_keeps, released_members, released_own, released_others}
 use Rattle.contacts_base.specs.declared.key.ContactKey.{ContactKey}
@@ -18,7 +18,7 @@ use Rattle.contacts.specs.Constraints.{constraint_number}
 use Rattle.contacts.proofs.Members.{Each}
 use Rattle.contacts.proofs.Rising.{IsRising}
 use Rattle.plain_world.specs.declared.body.Body.{Body}
-use Rattle.world_core.specs.Colouring.{Lists, movers_between, begun, begun_with, ended, ended_all, ended_until, left_from, turned}
+use Rattle.world_core.specs.Colouring.{Lists, movers_between, begun, placed_with, ended, ended_all, ended_until, left_from, turned}
 use Rattle.world_core.proofs.ColouringSteps.{EachAbsent, colour_by_number, absent_ended, absent_until, others_begun, next_absent}
 
 -- ---- keys among keys, by their numbers
@@ -114,6 +114,26 @@ gone_turned bodies key lists (b ∷ bs) ends f h = elim (gone_until key b lists 
   | inr r ↦ gone_turned bodies key (begun bodies (ended_until b lists ends) b) bs (left_from b ends) f.1 r
 ]
 
+-- ---- other constraints keep their colours
+
+others_all : (c : Constraint) (lists : Lists) (ends : List ContactKey) → ((key : ContactKey) → constraint_number c ≢ constraint_number (Contact key)) → colour_of constraint_number c (ended_all lists ends) ≡ colour_of constraint_number c lists
+others_all c lists [] far = refl
+others_all c lists (e ∷ es) far = others_all c (ended lists e) es far ∙ released_others constraint_number (Contact e) lists c (far e)
+
+others_until : (c : Constraint) (b : ContactKey) (lists : Lists) (ends : List ContactKey) → ((key : ContactKey) → constraint_number c ≢ constraint_number (Contact key)) → colour_of constraint_number c (ended_until b lists ends) ≡ colour_of constraint_number c lists
+others_until c b lists [] far = refl
+others_until c b lists (e ∷ es) far = by_test (λ (l : Lists). colour_of constraint_number c l ≡ colour_of constraint_number c lists) (nat_lt (key_number e) (key_number b)) (ended_until b (ended lists e) es) lists
+    (λ q. others_until c b (ended lists e) es far ∙ released_others constraint_number (Contact e) lists c (far e))
+    (λ q. refl)
+
+-- one that is no contact
+pub others_turned : (c : Constraint) (bodies : List (Option Body)) (lists : Lists) (begins ends : List ContactKey) → ((key : ContactKey) → constraint_number c ≢ constraint_number (Contact key)) → colour_of constraint_number c (turned bodies lists begins ends) ≡ colour_of constraint_number c lists
+others_turned c bodies lists [] ends far = others_all c lists ends far
+others_turned c bodies lists (b ∷ bs) ends far =
+    others_turned c bodies (begun bodies (ended_until b lists ends) b) bs (left_from b ends) far
+    ∙ others_begun c bodies (ended_until b lists ends) b (far b)
+    ∙ others_until c b lists ends far
+
 -- ---- it stays a colouring
 
 keeps_all : (lists : Lists) (ends : List ContactKey) → IsColouring constraint_number lists → IsColouring constraint_number (ended_all lists ends)
@@ -126,13 +146,13 @@ keeps_until b lists (e ∷ es) h = by_test (λ (l : Lists). IsColouring constrai
     (λ q. keeps_until b (ended lists e) es (released_keeps constraint_number (Contact e) lists h))
     (λ q. h)
 
-keeps_begun_with : (lists : Lists) (key : ContactKey) (o : Option Movers) → IsColouring constraint_number lists → colour key lists ≡ None → IsColouring constraint_number (begun_with lists key o)
-keeps_begun_with lists key None h absent = h
-keeps_begun_with lists key (Some m) h absent = placed_keeps constraint_number (record { id = Contact key; movers = m }) lists h absent
+pub keeps_placed : (lists : Lists) (id : Constraint) (o : Option Movers) → IsColouring constraint_number lists → colour_of constraint_number id lists ≡ None → IsColouring constraint_number (placed_with lists id o)
+keeps_placed lists id None h absent = h
+keeps_placed lists id (Some m) h absent = placed_keeps constraint_number (record { id = id; movers = m }) lists h absent
 
 keeps_begun : (bodies : List (Option Body)) (lists : Lists) (key : ContactKey) → IsColouring constraint_number lists → colour key lists ≡ None → IsColouring constraint_number (begun bodies lists key)
 unfolding begun
-keeps_begun bodies lists key h absent = keeps_begun_with lists key (movers_between bodies key) h absent
+keeps_begun bodies lists key h absent = keeps_placed lists (Contact key) (movers_between bodies key) h absent
 
 -- the colouring once the first has begun
 keeps_first : (bodies : List (Option Body)) (lists : Lists) (b : ContactKey) (ends : List ContactKey) → IsColouring constraint_number lists → colour b lists ≡ None → IsColouring constraint_number (begun bodies (ended_until b lists ends) b)
@@ -149,10 +169,13 @@ pub all_without : (P : Member Constraint → Type 0) (id : Constraint) (ms : Lis
 unfolding without
 all_without P id ms h = All-filter (λ m. not (constraint_number m.id == constraint_number id)) P ms h
 
-pub all_ended : (P : Member Constraint → Type 0) (lists : Lists) (e : ContactKey) → All P (all_members lists) → All P (all_members (ended lists e))
-all_ended P lists e h =
+pub all_released : (P : Member Constraint → Type 0) (lists : Lists) (id : Constraint) → All P (all_members lists) → All P (all_members (released constraint_number id lists))
+all_released P lists id h =
     let Q : List (Member Constraint) → Type 0 = λ ms. All P ms in
-    subst Q (sym (released_members constraint_number (Contact e) lists)) (all_without P (Contact e) (all_members lists) h)
+    subst Q (sym (released_members constraint_number id lists)) (all_without P id (all_members lists) h)
+
+pub all_ended : (P : Member Constraint → Type 0) (lists : Lists) (e : ContactKey) → All P (all_members lists) → All P (all_members (ended lists e))
+all_ended P lists e h = all_released P lists (Contact e) h
 
 all_all : (P : Member Constraint → Type 0) (lists : Lists) (ends : List ContactKey) → All P (all_members lists) → All P (all_members (ended_all lists ends))
 all_all P lists [] h = h
@@ -164,15 +187,15 @@ all_until P b lists (e ∷ es) h = by_test (λ (l : Lists). All P (all_members l
     (λ q. all_until P b (ended lists e) es (all_ended P lists e h))
     (λ q. h)
 
-all_begun_with : (P : Member Constraint → Type 0) (lists : Lists) (key : ContactKey) (o : Option Movers) → IsColouring constraint_number lists → ((m : Movers) → o ≡ Some m → P (record { id = Contact key; movers = m })) → All P (all_members lists) → All P (all_members (begun_with lists key o))
-all_begun_with P lists key None h f all = all
-all_begun_with P lists key (Some m) h f all =
-    let x : Member Constraint = record { id = Contact key; movers = m } in
+pub all_placed : (P : Member Constraint → Type 0) (lists : Lists) (id : Constraint) (o : Option Movers) → IsColouring constraint_number lists → ((m : Movers) → o ≡ Some m → P (record { id = id; movers = m })) → All P (all_members lists) → All P (all_members (placed_with lists id o))
+all_placed P lists id None h f all = all
+all_placed P lists id (Some m) h f all =
+    let x : Member Constraint = record { id = id; movers = m } in
     All-permutation P (x ∷ all_members lists) (all_members (placed constraint_number x lists)) (placed_members constraint_number x lists h) (All-cons P x (all_members lists) (f m refl) all)
 
 all_begun : (P : Member Constraint → Type 0) (bodies : List (Option Body)) (lists : Lists) (key : ContactKey) → IsColouring constraint_number lists → ((m : Movers) → movers_between bodies key ≡ Some m → P (record { id = Contact key; movers = m })) → All P (all_members lists) → All P (all_members (begun bodies lists key))
 unfolding begun
-all_begun P bodies lists key h f all = all_begun_with P lists key (movers_between bodies key) h f all
+all_begun P bodies lists key h f all = all_placed P lists (Contact key) (movers_between bodies key) h f all
 
 pub all_turned : (P : Member Constraint → Type 0) (bodies : List (Option Body)) (lists : Lists) (begins ends : List ContactKey) → IsColouring constraint_number lists → EachAbsent lists begins → IsRising (map key_number begins)
     → Each (λ b. (m : Movers) → movers_between bodies b ≡ Some m → P (record { id = Contact b; movers = m })) begins → All P (all_members lists) → All P (all_members (turned bodies lists begins ends))
@@ -183,13 +206,13 @@ all_turned P bodies lists (b ∷ bs) ends h absent r f all =
 
 -- ---- one that begins has a colour
 
-begun_with_own : (lists : Lists) (b : ContactKey) (o : Option Movers) → IsColouring constraint_number lists → colour b lists ≡ None → is_some o ≡ true → is_some (colour b (begun_with lists b o)) ≡ true
-begun_with_own lists b None h absent some = cc
-begun_with_own lists b (Some m) h absent some = ap is_some (placed_own constraint_number (record { id = Contact b; movers = m }) lists h absent)
+pub placed_with_own : (lists : Lists) (id : Constraint) (o : Option Movers) → IsColouring constraint_number lists → colour_of constraint_number id lists ≡ None → is_some (colour_of constraint_number id (placed_with lists id o)) ≡ is_some o
+placed_with_own lists id None h absent = ap is_some absent
+placed_with_own lists id (Some m) h absent = ap is_some (placed_own constraint_number (record { id = id; movers = m }) lists h absent)
 
 begun_own : (bodies : List (Option Body)) (lists : Lists) (key b : ContactKey) → IsColouring constraint_number lists → colour b lists ≡ None → is_some (movers_between bodies b) ≡ true → key_number key ≡ key_number b → is_some (colour key (begun bodies lists b)) ≡ true
 unfolding begun
-begun_own bodies lists key b h absent some same = ap is_some (colour_same key b (begun_with lists b (movers_between bodies b)) same) ∙ begun_with_own lists b (movers_between bodies b) h absent some
+begun_own bodies lists key b h absent some same = ap is_some (colour_same key b (placed_with lists (Contact b) (movers_between bodies b)) same) ∙ placed_with_own lists (Contact b) (movers_between bodies b) h absent ∙ some
 
 pub taken_turned : (bodies : List (Option Body)) (key : ContactKey) (lists : Lists) (begins ends : List ContactKey) → Has (key_number key) begins → Far (key_number key) ends → IsColouring constraint_number lists → EachAbsent lists begins → IsRising (map key_number begins)
     → Each (λ b. is_some (movers_between bodies b) ≡ true) begins → is_some (colour key (turned bodies lists begins ends)) ≡ true

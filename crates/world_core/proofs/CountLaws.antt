@@ -1,24 +1,25 @@
 -- Each accepted command counts one call more.
 use Rattle.std.proofs.Common.{◌≡◌, ℕ, ◌+◌, ◌^◌, Bool, true, false, cond, Option, Some, None, Result, Ok, Err, ℤ, pos, nat_lt, refl, sym, ap}
 use Rattle.fixed_geom.specs.declared.refusal.Refusal.{Refusal}
-use Rattle.fixed_geom.specs.declared.refusal.Refusal.TheVariants.{OutOfRange, TooMany, WornOut}
+use Rattle.fixed_geom.specs.declared.refusal.Refusal.TheVariants.{OutOfRange, StaleHandle, TooMany, WornOut}
 use Rattle.fixed_geom.specs.declared.vectors.Vec2.{Vec2}
 use Rattle.fixed_geom.specs.Vectors.{is_within, zero_vector}
 use Rattle.body_handles.specs.declared.handle.Handle.{Handle}
 use Rattle.body_handles.specs.declared.places.TheConstants.{MAX_SLOTS}
-use Rattle.body_handles.specs.Places.{lowest}
+use Rattle.body_handles.specs.Places.{is_live, lowest}
 use Rattle.momenta.specs.declared.motion.Momenta.{Momenta}
 use Rattle.shapes.specs.Shapes.{is_between}
 use Rattle.shapes.specs.declared.pose.Pose.{Pose}
 use Rattle.plain_world.specs.Bodies.{def_refusal}
 use Rattle.plain_world.specs.declared.body.BodyDef.{BodyDef}
+use Rattle.plain_world.specs.declared.joint.JointDef.{JointDef}
 use Rattle.plain_world.specs.declared.kind.Course.{Course}
 use Rattle.plain_world.specs.Plain.{Plain}
-use Rattle.world_core.specs.Apply.{Applied, apply, apply_accepted, course_due, create_due, departing, destroy_due, pose_due, posed, push_due, pushed, steered}
+use Rattle.world_core.specs.Apply.{Applied, apply, apply_accepted, course_due, create_due, departing, destroy_due, join_due, join_refusal, pose_due, posed, push_due, pushed, steered}
 use Rattle.world_core.specs.Laws.{EachCallCounts}
 use Rattle.world_core.specs.World.{body_of}
 use Rattle.world_core.specs.declared.command.Command.{Command}
-use Rattle.world_core.specs.declared.command.Command.TheVariants.{CreateBody, DestroyBody, Push, PushAt, SetPose, SetVelocity, SetGravity, Step}
+use Rattle.world_core.specs.declared.command.Command.TheVariants.{CreateBody, DestroyBody, CreateJoint, DestroyJoint, Push, PushAt, SetPose, SetVelocity, SetGravity, Step}
 
 -- the number of calls that an accepted command leaves
 abbrev calls_of : Result Applied Refusal → ℕ
@@ -38,6 +39,10 @@ destroy_counts : (w : Plain) (b : Handle) (r : Result Vec2 Refusal) (a : Applied
 destroy_counts w b (Ok p) a h = sym (ap calls_of h)
 destroy_counts w b (Err e) a h = cc
 
+join_counts : (w : Plain) (d : JointDef) (due : Option Refusal) (a : Applied) → join_due w d due ≡ Ok a → a.plain.calls ≡ w.calls + 1
+join_counts w d (Some e) a h = cc
+join_counts w d None a h = tested (nat_lt (lowest w.joint_places) MAX_SLOTS) _ a TooMany (w.calls + 1) refl h
+
 push_counts : (w : Plain) (b : Handle) (j : Vec2) (r : Result Momenta Refusal) (a : Applied) → push_due w b j r ≡ Ok a → a.plain.calls ≡ w.calls + 1
 push_counts w b j (Ok m) a h = sym (ap calls_of h)
 push_counts w b j (Err e) a h = cc
@@ -53,6 +58,8 @@ course_counts w b (Err e) a h = cc
 accepted_counts : (w : Plain) (c : Command) (a : Applied) → apply_accepted w c ≡ Ok a → a.plain.calls ≡ w.calls + 1
 accepted_counts w (CreateBody d) a h = create_counts w d (def_refusal d) a h
 accepted_counts w (DestroyBody b) a h = destroy_counts w b (departing (body_of w b)) a h
+accepted_counts w (CreateJoint d) a h = join_counts w d (join_refusal (body_of w d.a) (body_of w d.b) d) a h
+accepted_counts w (DestroyJoint b) a h = tested (is_live w.joint_places b) _ a StaleHandle (w.calls + 1) refl h
 accepted_counts w (Push b j) a h = push_counts w b j (pushed (body_of w b) j zero_vector) a h
 accepted_counts w (PushAt b j r) a h = push_counts w b j (pushed (body_of w b) j r) a h
 accepted_counts w (SetPose b o) a h = pose_counts w b (posed (body_of w b) o) a h

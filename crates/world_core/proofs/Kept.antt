@@ -1,5 +1,5 @@
 -- Each command keeps a world sound.
-use Rattle.std.proofs.Common.{◌≡◌, ℕ, ◌+◌, ◌*◌, ◌<◌, ◌≤◌, ◌^◌, List, [], ◌∷◌, ◌++◌, length, Option, Some, None, Ok, Err, Bool, true, false, cond, ℤ, pos, neg_ℤ, ◌+ℤ◌, unsigned_abs, arith, refl, sym, ap, ◌∙◌, subst, is_some, nat_lt, replicate}
+use Rattle.std.proofs.Common.{◌≡◌, ℕ, ◌+◌, ◌*◌, ◌<◌, ◌≤◌, ◌^◌, List, [], ◌∷◌, ◌++◌, length, Option, Some, None, Ok, Err, Bool, true, false, cond, ℤ, pos, neg_ℤ, ◌+ℤ◌, unsigned_abs, arith, refl, sym, ap, ◌∙◌, subst, is_some, nat_lt, lt-ltb, replicate}
 use Rattle.std.specs.Prelude.{slice_set, option_map, if◌then◌else◌, nat_le, ◌&&◌}
 use Rattle.std.proofs.lemmas.Int.{ints}
 use Rattle.std.proofs.lemmas.Grind.{common_steps}
@@ -14,11 +14,15 @@ use Rattle.std.specs.Option.{ForSome}
 use Rattle.impulse_ledger.specs.declared.entry.Entry.{Entry}
 use Rattle.std.proofs.lemmas.List.{append-nil}
 use Rattle.fixed_geom.specs.declared.vectors.Vec2.{Vec2}
-use Rattle.fixed_geom.specs.declared.refusal.Refusal.TheVariants.{OutOfRange, NotAMover, NotKinematic, BodyDisabled, TooFast}
+use Rattle.fixed_geom.specs.declared.refusal.Refusal.TheVariants.{OutOfRange, NotAMover, NotKinematic, BodyDisabled, TooFast, TooMany}
 use Rattle.body_handles.specs.declared.handle.Handle.{Handle}
 use Rattle.body_handles.specs.declared.places.TheConstants.{MAX_SLOTS}
 use Rattle.graph_colours.specs.declared.limits.TheConstants.{COLOURS}
-use Rattle.graph_colours.specs.Colours.{ids_of}
+use Rattle.graph_colours.specs.Colours.{colour_of, ids_of}
+use Rattle.contacts.specs.Constraints.{constraint_number}
+use Rattle.contacts.specs.declared.constraint.Constraint.TheVariants.{Joint}
+use Rattle.world_core.specs.declared.command.Reply.{Reply}
+use Rattle.plain_world.specs.declared.joint.JointDef.{JointDef}
 use Rattle.body_handles.specs.declared.places.Place.{Place}
 use Rattle.body_handles.specs.Places.{lowest, generation_at, places_with, places_without, is_live}
 use Rattle.impulse_ledger.specs.declared.entry.Cause.{Cause}
@@ -30,7 +34,8 @@ use Rattle.colour_solver.specs.Ticks.{AreSums, added_x, added_y}
 use Rattle.plain_world.specs.declared.body.Body.{Body}
 use Rattle.plain_world.specs.declared.body.BodyDef.{BodyDef}
 use Rattle.plain_world.specs.Bodies.{IsMassOf, is_mover, pose_of, IsBody, AreBodies, p_x, p_y, momentum_x, momentum_y, made}
-use Rattle.plain_world.specs.Kinds.{IsCourse, is_course, is_dynamic, is_kinematic, is_limited, is_static}
+use Rattle.plain_world.specs.Kinds.{IsCourse, is_course, is_dynamic, is_kinematic, is_static}
+use Rattle.plain_world.proofs.KindLaws.{mass_as, no_mover, static_as}
 use Rattle.plain_world.specs.declared.kind.Course.{Course}
 use Rattle.plain_world.specs.declared.kind.Kind.{Kind}
 use Rattle.plain_world.specs.declared.kind.Kind.TheVariants.{Static, Kinematic, Dynamic}
@@ -38,16 +43,20 @@ use Rattle.plain_world.proofs.BoxLemmas.{renewed_are}
 use Rattle.plain_world.specs.Changes.{CanPose, changed_at, put_course, put_momenta, put_pose}
 use Rattle.plain_world.specs.Slots.{body_at, shapes_in, HaveSameSlots, with_body}
 use Rattle.event_feed.specs.Events.{EventLists}
-use Rattle.world_core.specs.World.{World, body_of, book_of}
+use Rattle.world_core.specs.World.{World, body_of, book_of, joints_of}
 use Rattle.contacts_base.specs.Contacts.{contacts_without}
-use Rattle.world_core.specs.Colouring.{AreColoured, Lists, lists_without, members_of}
+use Rattle.world_core.specs.Colouring.{AreColoured, JointSlots, Lists, lists_without, members_of}
+use Rattle.world_core.specs.Joining.{Joined, handle_at, joined_with, unjoined, unjoined_all}
+use Rattle.world_core.proofs.JoinedLaws.{absent_new, free_joint, named_new, tied_joined, tied_unjoined, tied_unjoined_all}
+use Rattle.plain_world.specs.declared.joint.BodyJoint.{BodyJoint}
+use Rattle.plain_world.specs.Joints.{IsBodyJoint, joint_made}
 use Rattle.world_core.specs.Inside.{IsWhole}
 use Rattle.world_core.proofs.MembersLaws.{listed, moved_members}
-use Rattle.world_core.specs.Apply.{Answers, apply_destroy, are_momenta, booked, departing, empty_world, is_push, posed, pushed, steered, with_impulse}
+use Rattle.world_core.specs.Apply.{Answers, apply_destroy, are_momenta, booked, Applied, apply_join, departing, destroyed, empty_world, join_refusal, joined, joined_in, with_joined, world_with, is_push, posed, pushed, steered, step_entries, with_impulse}
 use Rattle.world_core.specs.declared.command.Reply.TheVariants as replies
 use Rattle.world_core.specs.Sound.{IsRoomy}
 use Rattle.world_core.proofs.SoundLaws.{IsKept, kept_sound, sound_kept}
-use Rattle.world_core.proofs.BookLemmas.{sum_x-booked, sum_y-booked, AreSmall-booked, AreSmall-weaker, step_booked, AreSmall-step, sum_x-step, sum_y-step}
+use Rattle.world_core.proofs.BookLemmas.{sum_x-booked, sum_y-booked, AreSmall-booked, AreSmall-weaker, AreSmall-step, sum_x-step, sum_y-step}
 use Rattle.world_core_base.specs.Gather.{moves_in}
 use Rattle.world_core.proofs.KeptContacts.{MovesSame, MovesSame-set}
 use Rattle.world_core.proofs.TiedLaws.{AreTied, tied_sound, tied_bodies, tied_empty, tied_with, tied_without}
@@ -98,11 +107,14 @@ new_sound g h = record {
   causes = AreSmall-weaker (2 ^ 126) (2 ^ 126 + 0 * 2 ^ 83) (book_of (empty_world g)) (omega arith) (record { x = no_total_x g; y = no_total_y g });
   bodies = λ slot b e. cc;
   matched = record { slots = refl; few = omega arith; taken = λ slot. refl };
+  joint_slots = tied_empty.slots;
+  joint_places = tied_empty.places;
+  joints = tied_empty.joints;
   contacts = tied_empty.rising;
   pairs = tied_empty.pairs;
   there = tied_empty.there;
-  colours = (listed [] [] (replicate (COLOURS + 1) []) (replicate (COLOURS + 1) []) refl tied_empty.colours).colours;
-  moved = (listed [] [] (replicate (COLOURS + 1) []) (replicate (COLOURS + 1) []) refl tied_empty.colours).moved;
+  colours = (listed [] (record { places = []; joints = [] }) [] (replicate (COLOURS + 1) []) (replicate (COLOURS + 1) []) refl tied_empty.colours).colours;
+  moved = (listed [] (record { places = []; joints = [] }) [] (replicate (COLOURS + 1) []) (replicate (COLOURS + 1) []) refl tied_empty.colours).moved;
   gravity = h;
   steps = omega arith;
   calls = omega arith;
@@ -150,8 +162,8 @@ changed_kept w slot b c x y call why s few is =
     let gain_x = is.gain_x in
     let gain_y = is.gain_y in
     let slots : HaveSameSlots bodies (slice_set bodies slot (Some c)) = HaveSameSlots-set bodies slot (Some c) (sym (ap is_some is.at)) (is.shapes ∙ sym (ap shapes_in is.at)) in
-    let tied = tied_bodies bodies (slice_set bodies slot (Some c)) w.plain.contacts (members_of bodies w.plain.colours) (changed_moves bodies slot b c x y is) slots (tied_sound w s) in
-    let kept = listed (slice_set bodies slot (Some c)) w.plain.contacts (members_of bodies w.plain.colours) w.plain.colours (sym s.moved) tied.colours in
+    let tied = tied_bodies bodies (slice_set bodies slot (Some c)) (joints_of w.plain) w.plain.contacts (members_of bodies (joints_of w.plain) w.plain.colours) (changed_moves bodies slot b c x y is) slots (tied_sound w s) in
+    let kept = listed (slice_set bodies slot (Some c)) (joints_of w.plain) w.plain.contacts (members_of bodies (joints_of w.plain) w.plain.colours) w.plain.colours (sym s.moved) tied.colours in
     record {
       total_x = let t = s.total_x in rw (sum_x-booked w.entries call why x y) (omega (arith, ints, mx, old_x, gain_x, t));
       total_y = let t = s.total_y in rw (sum_y-booked w.entries call why x y) (omega (arith, ints, my, old_y, gain_y, t));
@@ -159,6 +171,9 @@ changed_kept w slot b c x y call why s few is =
           (AreSmall-booked (2 ^ 126 + w.plain.calls * 2 ^ 83) (2 ^ 40) 0 0 w.entries w.settled call why x y s.causes is.small_x is.small_y);
       bodies = AreBodies-set bodies slot (Some c) s.bodies (λ d f. let same : c ≡ d = cc in subst IsBody same is.body);
       matched = AreMatched-same w.plain.places bodies _ slots s.matched;
+      joint_slots = tied.slots;
+      joint_places = tied.places;
+      joints = tied.joints;
       contacts = tied.rising;
       pairs = tied.pairs;
       there = tied.there;
@@ -178,7 +193,7 @@ changed_whole : (w : World) (lists : Lists) (slot : ℕ) (f : Body → Body) (b 
 changed_whole w lists slot f b x y call why whole few is =
     rw (changed_is f (body_at w.plain.bodies slot) b is.at) (record {
       sound = sound_kept _ (changed_kept w slot b (f b) x y call why (kept_sound w whole.sound) few is);
-      members = whole.members ∙ moved_members w.plain.bodies (slice_set w.plain.bodies slot (Some (f b))) w.plain.colours (changed_moves w.plain.bodies slot b (f b) x y is).same;
+      members = whole.members ∙ moved_members w.plain.bodies (slice_set w.plain.bodies slot (Some (f b))) (joints_of w.plain) w.plain.colours (changed_moves w.plain.bodies slot b (f b) x y is).same;
     })
 
 -- the same where nothing is booked
@@ -362,33 +377,13 @@ steered_tests true false s asked given e = cc
 steered_tests false e s asked given f = cc
 
 course_from : (course : Course) → is_course course ≡ true → IsCourse course
-course_from course e =
-    let limited : is_limited course ≡ true = first_of_both _ _ e in
-    record { velocity = within_from (2 ^ 20) course.velocity (first_of_both _ _ limited); spin = at_most_from (unsigned_abs course.spin) (2 ^ 28) (second_of_both _ _ limited) }
+course_from course e = record { velocity = within_from (2 ^ 20) course.velocity (first_of_both _ _ e); spin = at_most_from (unsigned_abs course.spin) (2 ^ 28) (second_of_both _ _ e) }
 
 steered_from : (o : Option Body) (asked given : Course) → steered o asked ≡ Ok given → IsSteered o asked given
 steered_from None asked given e = cc
 steered_from (Some b) asked given e =
     let t = steered_tests (is_kinematic b.kind) b.enabled (is_course asked) asked given e in
     record { body = b; found = refl; kinematic = t.0; enabled = t.1; course = rw t.3 (course_from asked t.2) }
-
--- a kinematic body is no mover
-no_mover : (kind : Kind) (enabled : Bool) → is_kinematic kind ≡ true → cond enabled (is_dynamic kind) false ≡ false
-no_mover Static enabled k = cc
-no_mover (Kinematic course) true k = refl
-no_mover (Kinematic course) false k = refl
-no_mover Dynamic enabled k = cc
-
--- with its mass, and its shapes
-mass_as : (kind : Kind) (course : Course) (m : MassData) → is_kinematic kind ≡ true → IsMassOf kind m → IsMassOf (Kinematic course) m
-mass_as Static course m k is = cc
-mass_as (Kinematic old) course m k is = is
-mass_as Dynamic course m k is = cc
-
-static_as : (kind : Kind) (course : Course) → is_kinematic kind ≡ true → is_static kind ≡ is_static (Kinematic course)
-static_as Static course k = cc
-static_as (Kinematic old) course k = refl
-static_as Dynamic course k = refl
 
 IsBody-steered : (b : Body) (course : Course) → IsBody b → is_kinematic b.kind ≡ true → b.enabled ≡ true → IsCourse course → IsBody (put_course course b)
 IsBody-steered b course is k enabled allowed = record {
@@ -448,9 +443,9 @@ departing_small o p is e =
     part_le true z h = h
     part_le false z h = omega arith
 
-pub destroy_kept : (w : World) (h : Handle) (p : Vec2) (call : ℕ) (why : Cause) (x y : ℤ) (contacts : List ContactEntry) (lists : Lists) → IsKept w → w.plain.calls < 2 ^ 40 → departing (body_of w.plain h) ≡ Ok p → x ≡ neg_ℤ p.x → y ≡ neg_ℤ p.y → AreTied (slice_set w.plain.bodies h.slot None) contacts lists
-    → IsKept (record w { plain = record w.plain { places = places_without w.plain.places h; bodies = slice_set w.plain.bodies h.slot None; contacts = contacts; colours = ids_of lists; calls = w.plain.calls + 1 }; entries = w.entries ++ booked call why x y })
-destroy_kept w h p call why x y contacts lists s few e is_x is_y tied =
+pub destroy_kept : (w : World) (h : Handle) (p : Vec2) (call : ℕ) (why : Cause) (x y : ℤ) (js : JointSlots) (contacts : List ContactEntry) (lists : Lists) → IsKept w → w.plain.calls < 2 ^ 40 → departing (body_of w.plain h) ≡ Ok p → x ≡ neg_ℤ p.x → y ≡ neg_ℤ p.y → AreTied (slice_set w.plain.bodies h.slot None) js contacts lists
+    → IsKept (record w { plain = record w.plain { places = places_without w.plain.places h; bodies = slice_set w.plain.bodies h.slot None; joint_places = js.places; joints = js.joints; contacts = contacts; colours = ids_of lists; calls = w.plain.calls + 1 }; entries = w.entries ++ booked call why x y })
+destroy_kept w h p call why x y js contacts lists s few e is_x is_y tied =
     let small = departing_small (body_of w.plain h) p (λ b f. named (is_live w.plain.places h) w.plain.bodies h.slot b s.bodies f) e in
     let got = departing_from (body_of w.plain h) p e in
     let bodies = w.plain.bodies in
@@ -460,7 +455,7 @@ destroy_kept w h p call why x y contacts lists s few e is_x is_y tied =
     let my = momentum_y-set bodies h.slot None here in
     let old_x : p_x (body_at bodies h.slot) ≡ p.x = ap p_x at ∙ sym got.x in
     let old_y : p_y (body_at bodies h.slot) ≡ p.y = ap p_y at ∙ sym got.y in
-    let kept = listed (slice_set bodies h.slot None) contacts lists (ids_of lists) refl tied.colours in
+    let kept = listed (slice_set bodies h.slot None) js contacts lists (ids_of lists) refl tied.colours in
     record {
       total_x = let t = s.total_x in rw (sum_x-booked w.entries call why x y) (omega (arith, ints, mx, old_x, is_x, t));
       total_y = let t = s.total_y in rw (sum_y-booked w.entries call why x y) (omega (arith, ints, my, old_y, is_y, t));
@@ -468,6 +463,9 @@ destroy_kept w h p call why x y contacts lists s few e is_x is_y tied =
           (AreSmall-booked (2 ^ 126 + w.plain.calls * 2 ^ 83) (2 ^ 60) 0 0 w.entries w.settled call why x y s.causes (let l = small.x in omega (arith, ints)) (let l = small.y in omega (arith, ints)));
       bodies = AreBodies-set bodies h.slot None s.bodies (λ b f. cc);
       matched = AreMatched-set w.plain.places bodies h.slot _ None refl s.matched;
+      joint_slots = tied.slots;
+      joint_places = tied.places;
+      joints = tied.joints;
       contacts = tied.rising;
       pairs = tied.pairs;
       there = tied.there;
@@ -481,20 +479,23 @@ destroy_kept w h p call why x y contacts lists s few e is_x is_y tied =
 -- ---- CreateBody
 
 kept_with : (t : Bool) (w : World) (slot : ℕ) (place : Place) (b : Body) → IsKept w → w.plain.calls < 2 ^ 40 → (t ≡ true → slot < length w.plain.bodies) → (t ≡ false → length w.plain.bodies < MAX_SLOTS)
-    → place.live ≡ true → IsBody b → p_x (Some b) ≡ pos 0 → p_y (Some b) ≡ pos 0 → body_at w.plain.bodies slot ≡ None → AreTied (cond t (slice_set w.plain.bodies slot (Some b)) (w.plain.bodies ++ Some b ∷ [])) w.plain.contacts (members_of w.plain.bodies w.plain.colours)
+    → place.live ≡ true → IsBody b → p_x (Some b) ≡ pos 0 → p_y (Some b) ≡ pos 0 → body_at w.plain.bodies slot ≡ None → AreTied (cond t (slice_set w.plain.bodies slot (Some b)) (w.plain.bodies ++ Some b ∷ [])) (joints_of w.plain) w.plain.contacts (members_of w.plain.bodies (joints_of w.plain) w.plain.colours)
     → IsKept (record w { plain = record w.plain { places = (if t then slice_set w.plain.places slot place else w.plain.places ++ place ∷ []); bodies = cond t (slice_set w.plain.bodies slot (Some b)) (w.plain.bodies ++ Some b ∷ []); calls = w.plain.calls + 1 } })
 kept_with true w slot place b s few below past live is px py none tied =
     let mx = momentum_x-set w.plain.bodies slot (Some b) (below refl) in
     let my = momentum_y-set w.plain.bodies slot (Some b) (below refl) in
     let old_x : p_x (body_at w.plain.bodies slot) ≡ pos 0 = ap p_x none in
     let old_y : p_y (body_at w.plain.bodies slot) ≡ pos 0 = ap p_y none in
-    let kept = listed (slice_set w.plain.bodies slot (Some b)) w.plain.contacts (members_of w.plain.bodies w.plain.colours) w.plain.colours (sym s.moved) tied.colours in
+    let kept = listed (slice_set w.plain.bodies slot (Some b)) (joints_of w.plain) w.plain.contacts (members_of w.plain.bodies (joints_of w.plain) w.plain.colours) w.plain.colours (sym s.moved) tied.colours in
     record {
       total_x = let t = s.total_x in omega (arith, ints, mx, old_x, px, t);
       total_y = let t = s.total_y in omega (arith, ints, my, old_y, py, t);
       causes = AreSmall-weaker (2 ^ 126 + w.plain.calls * 2 ^ 83) (2 ^ 126 + (w.plain.calls + 1) * 2 ^ 83) (book_of w) (omega arith) s.causes;
       bodies = AreBodies-set w.plain.bodies slot (Some b) s.bodies (λ c f. let same : b ≡ c = cc in subst IsBody same is);
       matched = AreMatched-set w.plain.places w.plain.bodies slot place (Some b) (sym live) s.matched;
+      joint_slots = tied.slots;
+      joint_places = tied.places;
+      joints = tied.joints;
       contacts = tied.rising;
       pairs = tied.pairs;
       there = tied.there;
@@ -507,13 +508,16 @@ kept_with true w slot place b s few below past live is px py none tied =
 kept_with false w slot place b s few below past live is px py none tied =
     let mx = momentum_x-push w.plain.bodies (Some b) in
     let my = momentum_y-push w.plain.bodies (Some b) in
-    let kept = listed (w.plain.bodies ++ Some b ∷ []) w.plain.contacts (members_of w.plain.bodies w.plain.colours) w.plain.colours (sym s.moved) tied.colours in
+    let kept = listed (w.plain.bodies ++ Some b ∷ []) (joints_of w.plain) w.plain.contacts (members_of w.plain.bodies (joints_of w.plain) w.plain.colours) w.plain.colours (sym s.moved) tied.colours in
     record {
       total_x = let t = s.total_x in omega (arith, ints, mx, px, t);
       total_y = let t = s.total_y in omega (arith, ints, my, py, t);
       causes = AreSmall-weaker (2 ^ 126 + w.plain.calls * 2 ^ 83) (2 ^ 126 + (w.plain.calls + 1) * 2 ^ 83) (book_of w) (omega arith) s.causes;
       bodies = AreBodies-push w.plain.bodies (Some b) s.bodies (λ c f. let same : b ≡ c = cc in subst IsBody same is);
       matched = AreMatched-push w.plain.places w.plain.bodies place (Some b) (sym live) (past refl) s.matched;
+      joint_slots = tied.slots;
+      joint_places = tied.places;
+      joints = tied.joints;
       contacts = tied.rising;
       pairs = tied.pairs;
       there = tied.there;
@@ -528,7 +532,7 @@ kept_with false w slot place b s few below past live is px py none tied =
 pub free_slot : (w : World) → IsKept w → body_at w.plain.bodies (lowest w.plain.places) ≡ None
 free_slot w s = none_if _ (s.matched.taken (lowest w.plain.places) ∙ lowest-free w.plain.places)
 
-pub create_kept : (w : World) (d : BodyDef) → IsKept w → w.plain.calls < 2 ^ 40 → lowest w.plain.places < MAX_SLOTS → IsBody (made d) → AreTied (with_body w.plain.bodies (lowest w.plain.places) (made d)) w.plain.contacts (members_of w.plain.bodies w.plain.colours)
+pub create_kept : (w : World) (d : BodyDef) → IsKept w → w.plain.calls < 2 ^ 40 → lowest w.plain.places < MAX_SLOTS → IsBody (made d) → AreTied (with_body w.plain.bodies (lowest w.plain.places) (made d)) (joints_of w.plain) w.plain.contacts (members_of w.plain.bodies (joints_of w.plain) w.plain.colours)
     → IsKept (record w { plain = record w.plain { places = places_with w.plain.places (lowest w.plain.places); bodies = with_body w.plain.bodies (lowest w.plain.places) (made d); calls = w.plain.calls + 1 } })
 create_kept w d s few free is tied =
     let slot = lowest w.plain.places in
@@ -547,13 +551,13 @@ pub record IsStep (old new : List (Option Body)) (sums : StepSums) : Type 0 wher
   pub momentum_x : momentum_x new ≡ momentum_x old +ℤ added_x sums
   pub momentum_y : momentum_y new ≡ momentum_y old +ℤ added_y sums
 
-pub step_kept : (w : World) (bodies : List (Option Body)) (sums : StepSums) (events : EventLists) (contacts : List ContactEntry) (lists : Lists) → IsKept w → w.plain.calls < 2 ^ 40 → IsStep w.plain.bodies bodies sums → AreTied bodies contacts lists
-    → IsKept (record w { plain = record w.plain { bodies = bodies; contacts = contacts; colours = ids_of lists; steps = w.plain.steps + 1; calls = w.plain.calls + 1 }; entries = w.entries ++ step_booked (w.plain.calls + 1) sums; events = events })
+pub step_kept : (w : World) (bodies : List (Option Body)) (sums : StepSums) (events : EventLists) (contacts : List ContactEntry) (lists : Lists) → IsKept w → w.plain.calls < 2 ^ 40 → IsStep w.plain.bodies bodies sums → AreTied bodies (joints_of w.plain) contacts lists
+    → IsKept (record w { plain = record w.plain { bodies = bodies; contacts = contacts; colours = ids_of lists; steps = w.plain.steps + 1; calls = w.plain.calls + 1 }; entries = w.entries ++ step_entries (w.plain.calls + 1) sums; events = events })
 step_kept w bodies sums events contacts lists s few step tied =
     let call = w.plain.calls + 1 in
     let mx = step.momentum_x in
     let my = step.momentum_y in
-    let kept = listed bodies contacts lists (ids_of lists) refl tied.colours in
+    let kept = listed bodies (joints_of w.plain) contacts lists (ids_of lists) refl tied.colours in
     record {
       total_x = let t = s.total_x in rw (sum_x-step w.entries call sums) (omega (arith, ints, mx, t));
       total_y = let t = s.total_y in rw (sum_y-step w.entries call sums) (omega (arith, ints, my, t));
@@ -561,6 +565,9 @@ step_kept w bodies sums events contacts lists s few step tied =
           (AreSmall-step (2 ^ 126 + w.plain.calls * 2 ^ 83) (2 ^ 83) w.entries w.settled call sums step.small s.causes);
       bodies = step.bodies;
       matched = AreMatched-same w.plain.places w.plain.bodies bodies step.slots s.matched;
+      joint_slots = tied.slots;
+      joint_places = tied.places;
+      joints = tied.joints;
       contacts = tied.rising;
       pairs = tied.pairs;
       there = tied.there;
@@ -574,26 +581,88 @@ step_kept w bodies sums events contacts lists s few step tied =
 -- ---- the world, and its colours with their movers
 
 -- what is kept of a sound world whose colours are the ids of these lists
-pub whole : (w : World) (lists : Lists) → IsKept w → w.plain.colours ≡ ids_of lists → AreColoured w.plain.bodies w.plain.contacts lists → IsWhole w lists
-whole w lists s is h = record { sound = sound_kept w s; members = (listed w.plain.bodies w.plain.contacts lists w.plain.colours is h).members }
+pub whole : (w : World) (lists : Lists) → IsKept w → w.plain.colours ≡ ids_of lists → AreColoured w.plain.bodies (joints_of w.plain) w.plain.contacts lists → IsWhole w lists
+whole w lists s is h = record { sound = sound_kept w s; members = (listed w.plain.bodies (joints_of w.plain) w.plain.contacts lists w.plain.colours is h).members }
+
+-- what is left of the colours, and of the joints, once a body and its joints are gone
+abbrev pub joined_without : World → Lists → Handle → Joined
+joined_without w lists h = unjoined_all h.slot (record { slots = joints_of w.plain; lists = lists })
 
 pub destroy_whole : (w : World) (lists : Lists) (h : Handle) (p : Vec2) (call : ℕ) (why : Cause) (x y : ℤ) → IsWhole w lists → w.plain.calls < 2 ^ 40 → departing (body_of w.plain h) ≡ Ok p → x ≡ neg_ℤ p.x → y ≡ neg_ℤ p.y
-    → IsWhole (record w { plain = record w.plain { places = places_without w.plain.places h; bodies = slice_set w.plain.bodies h.slot None; contacts = contacts_without h.slot w.plain.contacts; colours = ids_of (lists_without h.slot lists w.plain.contacts); calls = w.plain.calls + 1 }; entries = w.entries ++ booked call why x y })
-    (lists_without h.slot lists w.plain.contacts)
+    → IsWhole (record w { plain = destroyed w.plain h (joined_without w lists h); entries = w.entries ++ booked call why x y })
+    (lists_without h.slot (joined_without w lists h).lists w.plain.contacts)
 destroy_whole w lists h p call why x y is few e is_x is_y =
-    let tied : AreTied (slice_set w.plain.bodies h.slot None) (contacts_without h.slot w.plain.contacts) (lists_without h.slot lists w.plain.contacts) =
-    tied_without w.plain.bodies h.slot w.plain.contacts lists (subst (AreTied w.plain.bodies w.plain.contacts) (sym is.members) (tied_sound w (kept_sound w is.sound))) in
-    whole _ (lists_without h.slot lists w.plain.contacts) (destroy_kept w h p call why x y (contacts_without h.slot w.plain.contacts) (lists_without h.slot lists w.plain.contacts) (kept_sound w is.sound) few e is_x is_y tied) refl tied.colours
+    let s : Joined = joined_without w lists h in
+    let left : Lists = lists_without h.slot s.lists w.plain.contacts in
+    let now : AreTied w.plain.bodies (joints_of w.plain) w.plain.contacts lists = subst (AreTied w.plain.bodies (joints_of w.plain) w.plain.contacts) (sym is.members) (tied_sound w (kept_sound w is.sound)) in
+    let gone = tied_unjoined_all w.plain.bodies w.plain.contacts h.slot (record { slots = joints_of w.plain; lists = lists }) now in
+    let tied : AreTied (slice_set w.plain.bodies h.slot None) s.slots (contacts_without h.slot w.plain.contacts) left = tied_without w.plain.bodies s.slots h.slot w.plain.contacts s.lists gone.none gone.tied in
+    whole _ left (destroy_kept w h p call why x y s.slots (contacts_without h.slot w.plain.contacts) left (kept_sound w is.sound) few e is_x is_y tied) refl tied.colours
 
 pub create_whole : (w : World) (lists : Lists) (d : BodyDef) → IsWhole w lists → w.plain.calls < 2 ^ 40 → lowest w.plain.places < MAX_SLOTS → IsBody (made d)
     → IsWhole (record w { plain = record w.plain { places = places_with w.plain.places (lowest w.plain.places); bodies = with_body w.plain.bodies (lowest w.plain.places) (made d); calls = w.plain.calls + 1 } }) lists
 create_whole w lists d is few free body =
-    let tied : AreTied (with_body w.plain.bodies (lowest w.plain.places) (made d)) w.plain.contacts (members_of w.plain.bodies w.plain.colours) =
-    tied_with w.plain.bodies (lowest w.plain.places) (made d) w.plain.contacts (members_of w.plain.bodies w.plain.colours) (free_slot w (kept_sound w is.sound)) (tied_sound w (kept_sound w is.sound)) in
-    whole _ lists (create_kept w d (kept_sound w is.sound) few free body tied) (sym ((kept_sound w is.sound).moved) ∙ ap ids_of (sym is.members)) (subst (AreColoured (with_body w.plain.bodies (lowest w.plain.places) (made d)) w.plain.contacts) (sym is.members) tied.colours)
+    let tied : AreTied (with_body w.plain.bodies (lowest w.plain.places) (made d)) (joints_of w.plain) w.plain.contacts (members_of w.plain.bodies (joints_of w.plain) w.plain.colours) =
+    tied_with w.plain.bodies (joints_of w.plain) (lowest w.plain.places) (made d) w.plain.contacts (members_of w.plain.bodies (joints_of w.plain) w.plain.colours) (free_slot w (kept_sound w is.sound)) (tied_sound w (kept_sound w is.sound)) in
+    whole _ lists (create_kept w d (kept_sound w is.sound) few free body tied) (sym ((kept_sound w is.sound).moved) ∙ ap ids_of (sym is.members)) (subst (AreColoured (with_body w.plain.bodies (lowest w.plain.places) (made d)) (joints_of w.plain) w.plain.contacts) (sym is.members) tied.colours)
 
 -- what the destroying of a body answers and leaves, its colours taken from these lists
-pub destroy_answers : (w : World) (lists : Lists) (h : Handle) (p : Vec2) (x y : ℤ) → lists ≡ members_of w.plain.bodies w.plain.colours → departing (body_of w.plain h) ≡ Ok p → x ≡ neg_ℤ p.x → y ≡ neg_ℤ p.y
+pub destroy_answers : (w : World) (lists : Lists) (h : Handle) (p : Vec2) (x y : ℤ) → lists ≡ members_of w.plain.bodies (joints_of w.plain) w.plain.colours → departing (body_of w.plain h) ≡ Ok p → x ≡ neg_ℤ p.x → y ≡ neg_ℤ p.y
     → Answers (apply_destroy w.plain h) w (Ok replies.Done)
-    (record w { plain = record w.plain { places = places_without w.plain.places h; bodies = slice_set w.plain.bodies h.slot None; contacts = contacts_without h.slot w.plain.contacts; colours = ids_of (lists_without h.slot lists w.plain.contacts); calls = w.plain.calls + 1 }; entries = w.entries ++ booked (w.plain.calls + 1) causes.Departed x y })
+    (record w { plain = destroyed w.plain h (joined_without w lists h); entries = w.entries ++ booked (w.plain.calls + 1) causes.Departed x y })
 destroy_answers w lists h p x y members due is_x is_y = rw (due, members, is_x, is_y) (refl, refl)
+
+-- ---- CreateJoint and DestroyJoint
+
+-- the joints of a sound world, which change with their colours
+pub joined_whole : (w : World) (s : Joined) → IsKept w → w.plain.calls < 2 ^ 40 → AreTied w.plain.bodies s.slots w.plain.contacts s.lists
+    → IsWhole (record w { plain = with_joined w.plain s }) s.lists
+joined_whole w s k few tied =
+    let kept = listed w.plain.bodies s.slots w.plain.contacts s.lists (ids_of s.lists) refl tied.colours in
+    whole _ s.lists (record {
+      total_x = k.total_x;
+      total_y = k.total_y;
+      causes = AreSmall-weaker (2 ^ 126 + w.plain.calls * 2 ^ 83) (2 ^ 126 + (w.plain.calls + 1) * 2 ^ 83) (book_of w) (omega arith) k.causes;
+      bodies = k.bodies;
+      matched = k.matched;
+      joint_slots = tied.slots;
+      joint_places = tied.places;
+      joints = tied.joints;
+      contacts = tied.rising;
+      pairs = tied.pairs;
+      there = tied.there;
+      colours = kept.colours;
+      moved = kept.moved;
+      gravity = k.gravity;
+      steps = omega (arith, k.steps);
+      calls = omega arith;
+    }) refl tied.colours
+
+tied_lists : (w : World) (lists : Lists) → IsWhole w lists → AreTied w.plain.bodies (joints_of w.plain) w.plain.contacts lists
+tied_lists w lists is = subst (AreTied w.plain.bodies (joints_of w.plain) w.plain.contacts) (sym is.members) (tied_sound w (kept_sound w is.sound))
+
+pub join_whole : (w : World) (lists : Lists) (j : BodyJoint) → IsWhole w lists → w.plain.calls < 2 ^ 40 → lowest w.plain.joint_places < MAX_SLOTS → IsBodyJoint w.plain.bodies j
+    → IsWhole (record w { plain = with_joined w.plain (joined_with w.plain.bodies j (record { slots = joints_of w.plain; lists = lists })) }) (joined_with w.plain.bodies j (record { slots = joints_of w.plain; lists = lists })).lists
+join_whole w lists j is few free joint =
+    joined_whole w (joined_with w.plain.bodies j (record { slots = joints_of w.plain; lists = lists })) (kept_sound w is.sound) few (tied_joined w.plain.bodies w.plain.contacts j (record { slots = joints_of w.plain; lists = lists }) free joint (tied_lists w lists is))
+
+pub unjoin_whole : (w : World) (lists : Lists) (h : Handle) → IsWhole w lists → w.plain.calls < 2 ^ 40 → is_live w.plain.joint_places h ≡ true
+    → IsWhole (record w { plain = with_joined w.plain (unjoined h (record { slots = joints_of w.plain; lists = lists })) }) (unjoined h (record { slots = joints_of w.plain; lists = lists })).lists
+unjoin_whole w lists h is few live =
+    joined_whole w (unjoined h (record { slots = joints_of w.plain; lists = lists })) (kept_sound w is.sound) few (tied_unjoined w.plain.bodies w.plain.contacts h (record { slots = joints_of w.plain; lists = lists }) live (tied_lists w lists is))
+
+-- the handle that is given out next has no colour
+pub new_uncoloured : (w : World) (lists : Lists) → IsWhole w lists → lowest w.plain.joint_places < MAX_SLOTS → colour_of constraint_number (Joint (handle_at w.plain.joint_places (lowest w.plain.joint_places))) lists ≡ None
+new_uncoloured w lists is free =
+    let t : AreTied w.plain.bodies (joints_of w.plain) w.plain.contacts lists = tied_lists w lists is in
+    absent_new w.plain.bodies w.plain.contacts (handle_at w.plain.joint_places (lowest w.plain.joint_places)) (record { slots = joints_of w.plain; lists = lists }) (named_new w.plain.joint_places t.places free) (free_joint w.plain.joint_places w.plain.joints t.slots) t.colours
+
+if_free : (t : Bool) (a : Applied) (old : World) (reply : Reply) (new : World) → t ≡ true → reply ≡ a.reply → new ≡ world_with old a → Answers (cond t (Ok a) (Err TooMany)) old (Ok reply) new
+if_free true a old reply new e p q = (p, q)
+if_free false a old reply new e p q = cc
+
+pub join_answers : (w : World) (lists : Lists) (d : JointDef) → lists ≡ members_of w.plain.bodies (joints_of w.plain) w.plain.colours → lowest w.plain.joint_places < MAX_SLOTS → None ≡ join_refusal (body_of w.plain d.a) (body_of w.plain d.b) d
+    → Answers (apply_join w.plain d) w (Ok (replies.Joint (handle_at w.plain.joint_places (lowest w.plain.joint_places))))
+    (record w { plain = with_joined w.plain (joined_with w.plain.bodies (joint_made d) (record { slots = joints_of w.plain; lists = lists })) })
+join_answers w lists d members free due =
+    rw (← due, members) (if_free (nat_lt (lowest w.plain.joint_places) MAX_SLOTS) (joined w.plain d) w _ _ (lt-ltb (lowest w.plain.joint_places) MAX_SLOTS free) refl (ap (λ (es : List Entry). record w { plain = with_joined w.plain (joined_with w.plain.bodies (joint_made d) (joined_in w.plain)); entries = es }) (sym (append-nil w.entries))))

@@ -26,14 +26,16 @@ use Rattle.colour_solver_base.specs.declared.row.PointRow.{PointRow}
 use Rattle.colour_solver_base.specs.declared.row.ContactRow.{ContactRow}
 use Rattle.colour_solver_base.specs.Rows.{IsPointRow, IsRow}
 use Rattle.plain_world.specs.declared.body.Body.{Body}
-use Rattle.plain_world.specs.Bodies.{is_mover}
+use Rattle.plain_world.specs.Bodies.{can_move, is_mover}
+use Rattle.world_core_base.proofs.GatherLaws.{mover_moved}
 use Rattle.plain_world.specs.Formed.{HasPoints, IsShapeOf}
 use Rattle.plain_world.specs.Slots.{body_at, shapes_in, with_body, HaveSameSlots}
 use Rattle.world_core_base.specs.Renewal.{with_renewed, renewed_bodies}
 use Rattle.world_core_base.specs.Gather.{with_motion, with_motions, impulses_of, with_row, put_row, with_rows, moves_in, moves, IsContactOf, AreContactsOf}
 use Rattle.world_core_base.proofs.ContactLaws.{touches_with_row}
 use Rattle.contacts_base.specs.Contacts.{has_slot, contacts_without}
-use Rattle.world_core.specs.Colouring.{movers_between, movers_of}
+use Rattle.world_core.specs.Colouring.{movers_between}
+use Rattle.world_core.proofs.SlotLemmas.{item_at-set_other}
 use Rattle.world_core.specs.Sound.{HasBodies}
 use Rattle.world_core.proofs.CollideLaws.{AreKeysRising-filter}
 
@@ -83,15 +85,8 @@ moves-set (a ∷ bs) zero o e (suc k) = refl
 moves-set (a ∷ bs) (suc slot) o e zero = refl
 moves-set (a ∷ bs) (suc slot) o e (suc k) = moves-set bs slot o e k
 
-pub body_at-set_other : (bodies : List (Option Body)) (slot : ℕ) (o : Option Body) (k : ℕ) → k ≢ slot → body_at (slice_set bodies slot o) k ≡ body_at bodies k
-body_at-set_other [] slot o k ne = refl
-body_at-set_other (a ∷ bs) zero o zero ne = absurd (ne refl)
-body_at-set_other (a ∷ bs) zero o (suc k) ne = refl
-body_at-set_other (a ∷ bs) (suc slot) o zero ne = refl
-body_at-set_other (a ∷ bs) (suc slot) o (suc k) ne = body_at-set_other bs slot o k (λ e. ne (ap suc e))
-
 pub moves-set_other : (bodies : List (Option Body)) (slot : ℕ) (o : Option Body) (k : ℕ) → k ≢ slot → moves (slice_set bodies slot o) k ≡ moves bodies k
-moves-set_other bodies slot o k ne = ap moves_in (body_at-set_other bodies slot o k ne)
+moves-set_other bodies slot o k ne = ap moves_in (item_at-set_other bodies slot o k ne)
 
 pub body_at-push : (bodies : List (Option Body)) (o : Option Body) (k : ℕ) → is_some (body_at bodies k) ≡ true → body_at (bodies ++ o ∷ []) k ≡ body_at bodies k
 body_at-push [] o k taken = cc
@@ -116,7 +111,7 @@ either_moves false b c e = refl
 
 motion_moves : (s : BodyState) (o : Option Body) → moves_in (option_map (with_motion s) o) ≡ moves_in o
 motion_moves s None = refl
-motion_moves s (Some b) = either_moves (is_mover b) b (record b { motion = s.motion }) refl
+motion_moves s (Some b) = mover_moved s b
 
 motions_slots : (bodies : List (Option Body)) (states : List BodyState) → length (with_motions bodies states) ≡ length bodies
 motions_slots [] states = refl
@@ -136,7 +131,7 @@ MovesSame-motions bodies states = record { slots = motions_slots bodies states; 
 
 renewed_moves : (o : Option Body) → moves_in (option_map with_renewed o) ≡ moves_in o
 renewed_moves None = refl
-renewed_moves (Some b) = either_moves (is_mover b) b _ refl
+renewed_moves (Some b) = either_moves (can_move b) b _ refl
 
 all_renewed_moves : (bodies : List (Option Body)) (k : ℕ) → moves (renewed_bodies bodies) k ≡ moves bodies k
 all_renewed_moves [] k = refl
@@ -170,7 +165,7 @@ body_at-with : (t : Bool) (bodies : List (Option Body)) (slot : ℕ) (o : Option
 body_at-with true bodies slot o k none taken =
     elim (cases_eq k slot) [
       | inl e ↦ let free : is_some (body_at bodies slot) ≡ false = ap is_some none in let here : is_some (body_at bodies slot) ≡ true = rw e at taken in absurd (cc)
-      | inr ne ↦ body_at-set_other bodies slot o k ne
+      | inr ne ↦ item_at-set_other bodies slot o k ne
     ]
 body_at-with false bodies slot o k none taken = body_at-push bodies o k taken
 
@@ -339,8 +334,8 @@ others_have_bodies : (bodies : List (Option Body)) (slot : ℕ) (e : ContactEntr
 others_have_bodies bodies slot e other h =
     let t = neither (e.key.first.slot == slot) (e.key.second.slot == slot) other in
     kept_has_bodies bodies (slice_set bodies slot None) e
-    (kept_at bodies (slice_set bodies slot None) e.key.first.slot h.first (body_at-set_other bodies slot None e.key.first.slot (eqb-false _ _ t.0)))
-    (kept_at bodies (slice_set bodies slot None) e.key.second.slot h.second (body_at-set_other bodies slot None e.key.second.slot (eqb-false _ _ t.1))) h
+    (kept_at bodies (slice_set bodies slot None) e.key.first.slot h.first (item_at-set_other bodies slot None e.key.first.slot (eqb-false _ _ t.0)))
+    (kept_at bodies (slice_set bodies slot None) e.key.second.slot h.second (item_at-set_other bodies slot None e.key.second.slot (eqb-false _ _ t.1))) h
 
 pub has_bodies_without : (bodies : List (Option Body)) (slot : ℕ) (contacts : List ContactEntry) → All (HasBodies bodies) contacts → All (HasBodies (slice_set bodies slot None)) (contacts_without slot contacts)
 has_bodies_without bodies slot contacts all = all_without (HasBodies bodies) (HasBodies (slice_set bodies slot None)) slot (others_have_bodies bodies slot) contacts all
@@ -391,11 +386,6 @@ has_bodies_rows bodies contacts rows all =
 
 pub movers_between-same : (old new : List (Option Body)) (key : ContactKey) → moves new key.first.slot ≡ moves old key.first.slot → moves new key.second.slot ≡ moves old key.second.slot → movers_between new key ≡ movers_between old key
 movers_between-same old new key a b = rw (a, b) refl
-
--- they stay where the same slots move
-pub movers_of-same : (old new : List (Option Body)) (c : Constraint) → MovesSame old new → movers_of new c ≡ movers_of old c
-movers_of-same old new (Joint h) same = refl
-movers_of-same old new (Contact key) same = movers_between-same old new key (same.same key.first.slot) (same.same key.second.slot)
 
 -- and where a body comes into a slot that isn't the contact's
 pub movers_between-with : (bodies : List (Option Body)) (slot : ℕ) (b : Body) (e : ContactEntry) → body_at bodies slot ≡ None → HasBodies bodies e → movers_between (with_body bodies slot b) e.key ≡ movers_between bodies e.key

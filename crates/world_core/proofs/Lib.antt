@@ -9,9 +9,12 @@ pub mod ColouringLaws
 pub mod ColouringBodies
 pub mod SoundLaws
 pub mod TiedLaws
+pub mod JoinedLaws
 pub mod MembersLaws
 pub mod Kept
 pub mod ReplayLemmas
 pub mod CollideLaws
+pub mod SolveLaws
 pub mod StepLemmas
 mod RowColourLaws
+pub mod QueryLaws

@@ -17,13 +17,13 @@ use Rattle.contacts_base.specs.declared.contact.ContactEntry.{ContactEntry}
 use Rattle.plain_world.specs.declared.body.Body.{Body}
 use Rattle.world_core_base.specs.Gather.{moves}
 use Rattle.world_core.proofs.ColouringLaws.{movers_same}
-use Rattle.world_core.specs.Colouring.{AreColoured, Lists, member_of, members_of, movers_of}
+use Rattle.world_core.specs.Colouring.{AreColoured, JointSlots, Lists, member_of, members_of, movers_of}
 
-abbrev HasMovers : List (Option Body) → Member Constraint → Type 0
-HasMovers bodies m = movers_of bodies m.id ≡ Some m.movers
+abbrev HasMovers : List (Option Body) → JointSlots → Member Constraint → Type 0
+HasMovers bodies js m = movers_of bodies js m.id ≡ Some m.movers
 
-member_back : (bodies : List (Option Body)) (m : Member Constraint) → HasMovers bodies m → member_of bodies m.id ≡ Some m
-member_back bodies m h = ap (option_map (λ (o : Movers). record { id = m.id; movers = o })) h
+member_back : (bodies : List (Option Body)) (js : JointSlots) (m : Member Constraint) → HasMovers bodies js m → member_of bodies js m.id ≡ Some m
+member_back bodies js m h = ap (option_map (λ (o : Movers). record { id = m.id; movers = o })) h
 
 all_tail : {X : Type 0} (P : X → Type 0) (x : X) (xs : List X) → All P (x ∷ xs) → All P xs
 all_tail P x xs all = λ k d lt. all (suc k) d (omega arith)
@@ -41,44 +41,44 @@ all_right : {X : Type 0} (P : X → Type 0) (xs ys : List X) → All P (xs ++ ys
 all_right P [] ys all = all
 all_right P (x ∷ xs) ys all = all_right P xs ys (all_tail P x (xs ++ ys) all)
 
-colour_back : (bodies : List (Option Body)) (ms : List (Member Constraint)) → All (HasMovers bodies) ms → filter_map (member_of bodies) (map (λ (m : Member Constraint). m.id) ms) ≡ ms
-colour_back bodies [] all = refl
-colour_back bodies (m ∷ ms) all =
-    rw (member_back bodies m (all zero m (omega arith))) (ap (λ (l : List (Member Constraint)). m ∷ l) (colour_back bodies ms (all_tail (HasMovers bodies) m ms all)))
+colour_back : (bodies : List (Option Body)) (js : JointSlots) (ms : List (Member Constraint)) → All (HasMovers bodies js) ms → filter_map (member_of bodies js) (map (λ (m : Member Constraint). m.id) ms) ≡ ms
+colour_back bodies js [] all = refl
+colour_back bodies js (m ∷ ms) all =
+    rw (member_back bodies js m (all zero m (omega arith))) (ap (λ (l : List (Member Constraint)). m ∷ l) (colour_back bodies js ms (all_tail (HasMovers bodies js) m ms all)))
 
 -- members whose movers are those of the bodies are known by their ids
-pub members_back : (bodies : List (Option Body)) (lists : Lists) → All (HasMovers bodies) (all_members lists) → members_of bodies (ids_of lists) ≡ lists
-members_back bodies [] all = refl
-members_back bodies (ms ∷ lists) all =
-    ap (λ (l : List (Member Constraint)). l ∷ members_of bodies (ids_of lists)) (colour_back bodies ms (all_left (HasMovers bodies) ms (all_members lists) all))
-    ∙ ap (λ (l : Lists). ms ∷ l) (members_back bodies lists (all_right (HasMovers bodies) ms (all_members lists) all))
+pub members_back : (bodies : List (Option Body)) (js : JointSlots) (lists : Lists) → All (HasMovers bodies js) (all_members lists) → members_of bodies js (ids_of lists) ≡ lists
+members_back bodies js [] all = refl
+members_back bodies js (ms ∷ lists) all =
+    ap (λ (l : List (Member Constraint)). l ∷ members_of bodies js (ids_of lists)) (colour_back bodies js ms (all_left (HasMovers bodies js) ms (all_members lists) all))
+    ∙ ap (λ (l : Lists). ms ∷ l) (members_back bodies js lists (all_right (HasMovers bodies js) ms (all_members lists) all))
 
 -- what a sound world keeps of its colours
-pub record AreListed (bodies : List (Option Body)) (contacts : List ContactEntry) (lists : Lists) (ids : List (List Constraint)) : Type 0 where
-  pub members : lists ≡ members_of bodies ids
-  pub colours : AreColoured bodies contacts (members_of bodies ids)
-  pub moved : ids_of (members_of bodies ids) ≡ ids
+pub record AreListed (bodies : List (Option Body)) (js : JointSlots) (contacts : List ContactEntry) (lists : Lists) (ids : List (List Constraint)) : Type 0 where
+  pub members : lists ≡ members_of bodies js ids
+  pub colours : AreColoured bodies js contacts (members_of bodies js ids)
+  pub moved : ids_of (members_of bodies js ids) ≡ ids
 
-pub listed : (bodies : List (Option Body)) (contacts : List ContactEntry) (lists : Lists) (ids : List (List Constraint)) → ids ≡ ids_of lists → AreColoured bodies contacts lists → AreListed bodies contacts lists ids
-listed bodies contacts lists ids is h =
-    let back : members_of bodies ids ≡ lists = ap (members_of bodies) is ∙ members_back bodies lists h.movers in
+pub listed : (bodies : List (Option Body)) (js : JointSlots) (contacts : List ContactEntry) (lists : Lists) (ids : List (List Constraint)) → ids ≡ ids_of lists → AreColoured bodies js contacts lists → AreListed bodies js contacts lists ids
+listed bodies js contacts lists ids is h =
+    let back : members_of bodies js ids ≡ lists = ap (members_of bodies js) is ∙ members_back bodies js lists h.movers in
     record {
       members = sym back;
-      colours = subst (AreColoured bodies contacts) (sym back) h;
+      colours = subst (AreColoured bodies js contacts) (sym back) h;
       moved = ap ids_of back ∙ sym is;
     }
 
-same_members : (old new : List (Option Body)) (ids : List Constraint) → ((id : Constraint) → member_of old id ≡ member_of new id) → filter_map (member_of old) ids ≡ filter_map (member_of new) ids
-same_members old new [] same = refl
-same_members old new (id ∷ ids) same =
-    ap (λ (o : Option (Member Constraint)). cons_option o (filter_map (member_of old) ids)) (same id) ∙ ap (λ (l : List (Member Constraint)). cons_option (member_of new id) l) (same_members old new ids same)
+same_members : (old new : List (Option Body)) (js : JointSlots) (ids : List Constraint) → ((id : Constraint) → member_of old js id ≡ member_of new js id) → filter_map (member_of old js) ids ≡ filter_map (member_of new js) ids
+same_members old new js [] same = refl
+same_members old new js (id ∷ ids) same =
+    ap (λ (o : Option (Member Constraint)). cons_option o (filter_map (member_of old js) ids)) (same id) ∙ ap (λ (l : List (Member Constraint)). cons_option (member_of new js id) l) (same_members old new js ids same)
 
 -- bodies of which the same move
-pub moved_members : (old new : List (Option Body)) (colours : List (List Constraint)) → ((slot : ℕ) → moves new slot ≡ moves old slot) → members_of old colours ≡ members_of new colours
-moved_members old new [] same = refl
-moved_members old new (ids ∷ colours) same =
-    ap (λ (l : List (Member Constraint)). l ∷ members_of old colours) (same_members old new ids (λ id. ap (option_map (λ (o : Movers). record { id = id; movers = o })) (sym (movers_same old new same id))))
-    ∙ ap (λ (l : Lists). filter_map (member_of new) ids ∷ l) (moved_members old new colours same)
+pub moved_members : (old new : List (Option Body)) (js : JointSlots) (colours : List (List Constraint)) → ((slot : ℕ) → moves new slot ≡ moves old slot) → members_of old js colours ≡ members_of new js colours
+moved_members old new js [] same = refl
+moved_members old new js (ids ∷ colours) same =
+    ap (λ (l : List (Member Constraint)). l ∷ members_of old js colours) (same_members old new js ids (λ id. ap (option_map (λ (o : Movers). record { id = id; movers = o })) (sym (movers_same old new js same id))))
+    ∙ ap (λ (l : Lists). filter_map (member_of new js) ids ∷ l) (moved_members old new js colours same)
 
 -- ---- the colour of a constraint
 

@@ -4,7 +4,7 @@ use Rattle.std.specs.Prelude.{◌==◌, ◌||◌, ◌≢◌, int_lt}
 use Rattle.std.specs.Option.{ForSome}
 use Rattle.std.proofs.lemmas.Bool.{eqb-false}
 use Rattle.std.proofs.lemmas.Grind.{common_steps}
-use Rattle.std.proofs.lemmas.List.Elements.{All-head, All-tail, All-map}
+use Rattle.std.proofs.lemmas.List.Elements.{All-filter, All-head, All-tail, All-map}
 use Rattle.fixed_geom.specs.declared.boxes.Box2.{Box2}
 use Rattle.fixed_geom.specs.Boxes.{overlaps}
 use Rattle.shapes.specs.declared.points.Point.{Point}
@@ -34,6 +34,9 @@ use Rattle.contacts.proofs.Members.{Each, each_in, each_from, each_append, all_f
 use Rattle.contacts.proofs.NearLemmas.{IsNearFrom, from_is}
 use Rattle.body_handles.specs.declared.places.TheConstants.{MAX_SLOTS}
 use Rattle.plain_world.specs.declared.body.Body.{Body}
+use Rattle.plain_world.specs.declared.joint.BodyJoint.{BodyJoint}
+use Rattle.plain_world.specs.Joints.{forbidden_pairs}
+use Rattle.contacts.specs.Forbidden.{allowed_codes, is_allowed}
 use Rattle.plain_world.specs.Bodies.{is_mover, pose_of, IsBody, AreBodies}
 use Rattle.plain_world.specs.Kinds.{is_dynamic}
 use Rattle.plain_world.specs.Formed.{HasPoints, IsShapeOf}
@@ -318,10 +321,10 @@ entry_has_bodies bodies old p q few hp hq =
     }
 
 -- what holds of the contact of each two near shapes of bodies holds of all contacts
-pub all_after : (P : ContactEntry → Type 0) (bodies : List (Option Body)) (old : List ContactEntry) → AreBodies bodies → length bodies ≤ MAX_SLOTS
-    → ((p q : Proxy) → IsProxyIn 0 bodies p → IsProxyIn 0 bodies q → is_near p q ≡ true → P (entry_of old p q)) → All P (contacts_after bodies old)
+pub all_after : (P : ContactEntry → Type 0) (bodies : List (Option Body)) (joints : List (Option BodyJoint)) (old : List ContactEntry) → AreBodies bodies → length bodies ≤ MAX_SLOTS
+    → ((p q : Proxy) → IsProxyIn 0 bodies p → IsProxyIn 0 bodies q → is_near p q ≡ true → P (entry_of old p q)) → All P (contacts_after bodies joints old)
 unfolding contacts_after
-all_after P bodies old all few each =
+all_after P bodies joints old all few each =
     let ps = proxies_of bodies in
     let are : All (IsProxyIn 0 bodies) ps = all_from_each (IsProxyIn 0 bodies) ps (proxies_are 0 bodies all) in
     let short : length ps ≤ 2 ^ 32 = omega (arith, few, proxies_few 0 bodies all) in
@@ -329,12 +332,13 @@ all_after P bodies old all few each =
     let b = h.before in
     let w = h.within in
     each (proxy_at ps (first_place code)) (proxy_at ps (second_place code)) (are (first_place code) no_proxy (omega (arith, b, w))) (are (second_place code) no_proxy w) h.near in
-    All-map P (entry_at old ps) (near_codes ps)
-    (all_from_each (λ c. P (entry_at old ps c)) (near_codes ps) (each_weaker (IsNearPair ps) (λ c. P (entry_at old ps c)) pair (near_codes ps) (near_codes_are ps short)))
+    All-map P (entry_at old ps) (allowed_codes (forbidden_pairs joints) ps)
+    (All-filter (is_allowed (forbidden_pairs joints) ps) (λ c. P (entry_at old ps c)) (near_codes ps)
+    (all_from_each (λ c. P (entry_at old ps c)) (near_codes ps) (each_weaker (IsNearPair ps) (λ c. P (entry_at old ps c)) pair (near_codes ps) (near_codes_are ps short))))
 
-pub contacts_of_after : (bodies : List (Option Body)) (old : List ContactEntry) → AreBodies bodies → length bodies ≤ MAX_SLOTS → AreContactsOf bodies old → AreContactsOf bodies (contacts_after bodies old)
-contacts_of_after bodies old all few pairs =
-    all_after (IsContactOf bodies) bodies old all few (λ p q hp hq near. entry_within bodies old p q hp hq near pairs)
+pub contacts_of_after : (bodies : List (Option Body)) (joints : List (Option BodyJoint)) (old : List ContactEntry) → AreBodies bodies → length bodies ≤ MAX_SLOTS → AreContactsOf bodies old → AreContactsOf bodies (contacts_after bodies joints old)
+contacts_of_after bodies joints old all few pairs =
+    all_after (IsContactOf bodies) bodies joints old all few (λ p q hp hq near. entry_within bodies old p q hp hq near pairs)
 
-pub has_bodies_after : (bodies : List (Option Body)) (old : List ContactEntry) → AreBodies bodies → length bodies ≤ MAX_SLOTS → All (HasBodies bodies) (contacts_after bodies old)
-has_bodies_after bodies old all few = all_after (HasBodies bodies) bodies old all few (λ p q hp hq near. entry_has_bodies bodies old p q few hp hq)
+pub has_bodies_after : (bodies : List (Option Body)) (joints : List (Option BodyJoint)) (old : List ContactEntry) → AreBodies bodies → length bodies ≤ MAX_SLOTS → All (HasBodies bodies) (contacts_after bodies joints old)
+has_bodies_after bodies joints old all few = all_after (HasBodies bodies) bodies joints old all few (λ p q hp hq near. entry_has_bodies bodies old p q few hp hq)

@@ -14,7 +14,7 @@ use Rattle.colour_solver.specs.Colour.{is_mover}
 use Rattle.world_core_base.specs.Gather.{moves, states_of}
 use Rattle.world_core_base.specs.RowColours.{HasBoth, HasItsMovers}
 use Rattle.world_core_base.proofs.RowColourLaws.{colour_rows_apart}
-use Rattle.world_core.specs.Colouring.{AreColoured, Lists, movers_if, movers_of}
+use Rattle.world_core.specs.Colouring.{AreColoured, JointSlots, Lists, movers_if, movers_of}
 use Rattle.world_core.specs.RowColours.{ColouredRowsAreColours}
 
 moves_back : (bodies : List (Option Body)) (slot : ℕ) → is_mover (states_of bodies) slot ≡ true → moves bodies slot ≡ true
@@ -47,9 +47,9 @@ among false true a b m e =
     (λ h. absurd (cc h), λ h. subst (λ (o : Movers). has_mover o b ≡ true) is (true_or (b == b) false (same_slot b)))
 among false false a b m e = absurd (cc e)
 
-has_its : (bodies : List (Option Body)) (m : Member Constraint) → movers_of bodies m.id ≡ Some m.movers → HasItsMovers (states_of bodies) m
-has_its bodies m is = λ key named.
-    let here : movers_if (moves bodies key.first.slot) (moves bodies key.second.slot) key.first.slot key.second.slot ≡ Some m.movers = ap (movers_of bodies) (sym named) ∙ is in
+has_its : (bodies : List (Option Body)) (s : JointSlots) (m : Member Constraint) → movers_of bodies s m.id ≡ Some m.movers → HasItsMovers (states_of bodies) m
+has_its bodies s m is = λ key named.
+    let here : movers_if (moves bodies key.first.slot) (moves bodies key.second.slot) key.first.slot key.second.slot ≡ Some m.movers = ap (movers_of bodies s) (sym named) ∙ is in
     let both = among (moves bodies key.first.slot) (moves bodies key.second.slot) key.first.slot key.second.slot m.movers here in
     record { first = λ h. both.0 (moves_back bodies key.first.slot h); second = λ h. both.1 (moves_back bodies key.second.slot h) }
 
@@ -76,7 +76,7 @@ in_each {X} P (xs ∷ lists) all =
     (in_each P lists (λ k d lt. subst P (get_or-behind xs rest k d) (all (length xs + k) d (omega (arith, lt, long)))))
 
 pub coloured_rows : ColouredRowsAreColours
-coloured_rows bodies contacts lists colour coloured lt =
-    let of_all : All (HasItsMovers (states_of bodies)) (flat_map (λ (ms : List (Member Constraint)). ms) lists) = λ k d inside. has_its bodies (get_or (flat_map (λ (ms : List (Member Constraint)). ms) lists) k d) (coloured.movers k d inside) in
+coloured_rows bodies s contacts lists colour coloured lt =
+    let of_all : All (HasItsMovers (states_of bodies)) (flat_map (λ (ms : List (Member Constraint)). ms) lists) = λ k d inside. has_its bodies s (get_or (flat_map (λ (ms : List (Member Constraint)). ms) lists) k d) (coloured.movers k d inside) in
     let count : length lists ≡ COLOURS + 1 = coloured.colouring.count in
     colour_rows_apart (states_of bodies) contacts lists colour (in_each (HasItsMovers (states_of bodies)) lists of_all) coloured.colouring.apart (omega (arith, count)) lt

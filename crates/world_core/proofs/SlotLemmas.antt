@@ -1,5 +1,5 @@
 -- One slot changed: what becomes of the movers' momentum, of the bodies, and of the slots that are taken.
-use Rattle.std.proofs.Common.{◌≡◌, ℕ, zero, suc, ◌*◌, ◌<◌, ◌≤◌, ◌^◌, List, [], ◌∷◌, ◌++◌, length, Option, Some, None, Bool, true, false, cond, ℤ, pos, ◌+ℤ◌, unsigned_abs, arith, refl, sym, ap, ◌∙◌, is_some}
+use Rattle.std.proofs.Common.{◌≡◌, ◌≢◌, ℕ, zero, suc, ◌*◌, ◌<◌, ◌≤◌, ◌^◌, List, [], ◌∷◌, ◌++◌, length, Option, Some, None, Bool, true, false, cond, ℤ, pos, ◌+ℤ◌, unsigned_abs, arith, refl, sym, ap, ◌∙◌, is_some}
 use Rattle.std.specs.Prelude.{slice_get, slice_set, not, ◌&&◌}
 use Rattle.std.proofs.Common.{inl, inr, get_or}
 use Rattle.std.proofs.lemmas.Bool.{cases_lt}
@@ -12,7 +12,7 @@ use Rattle.body_handles.proofs.LowestLemmas.{no_place}
 use Rattle.body_handles.specs.declared.places.TheConstants.{MAX_SLOTS}
 use Rattle.plain_world.specs.declared.body.Body.{Body}
 use Rattle.plain_world.specs.Bodies.{is_mover, IsBody, AreBodies, p_x, p_y, momentum_x, momentum_y}
-use Rattle.plain_world.specs.Slots.{body_at, shapes_in, is_taken, AreMatched, HaveSameSlots}
+use Rattle.plain_world.specs.Slots.{body_at, item_at, shapes_in, is_taken, AreMatched, HaveSameSlots}
 
 -- ---- the momentum
 
@@ -74,11 +74,8 @@ AreBodies-push (a ∷ bs) o all new = extended a (bs ++ o ∷ []) (λ b e. all z
 
 -- ---- the slots
 
-AllTaken : List Place → List (Option Body) → Type 0
-AllTaken places bodies = (k : ℕ) → is_some (body_at bodies k) ≡ is_taken places k
-
-matched_set : (places : List Place) (bodies : List (Option Body)) (slot : ℕ) (p : Place) (o : Option Body) → length places ≡ length bodies → is_some o ≡ p.live
-    → ((k : ℕ) → is_some (body_at bodies k) ≡ is_taken places k) → (k : ℕ) → is_some (body_at (slice_set bodies slot o) k) ≡ is_taken (slice_set places slot p) k
+matched_set : {X : Type 0} (places : List Place) (bodies : List (Option X)) (slot : ℕ) (p : Place) (o : Option X) → length places ≡ length bodies → is_some o ≡ p.live
+    → ((k : ℕ) → is_some (item_at bodies k) ≡ is_taken places k) → (k : ℕ) → is_some (item_at (slice_set bodies slot o) k) ≡ is_taken (slice_set places slot p) k
 matched_set [] [] slot p o len e h k = h k
 matched_set [] (b ∷ bs) slot p o len e h k = absurd (omega arith)
 matched_set (q ∷ ps) [] slot p o len e h k = absurd (omega arith)
@@ -87,8 +84,8 @@ matched_set (q ∷ ps) (b ∷ bs) zero p o len e h (suc k) = h (suc k)
 matched_set (q ∷ ps) (b ∷ bs) (suc slot) p o len e h zero = h zero
 matched_set (q ∷ ps) (b ∷ bs) (suc slot) p o len e h (suc k) = matched_set ps bs slot p o (omega arith) e (λ j. h (suc j)) k
 
-matched_push : (places : List Place) (bodies : List (Option Body)) (p : Place) (o : Option Body) → length places ≡ length bodies → is_some o ≡ p.live
-    → ((k : ℕ) → is_some (body_at bodies k) ≡ is_taken places k) → (k : ℕ) → is_some (body_at (bodies ++ o ∷ []) k) ≡ is_taken (places ++ p ∷ []) k
+matched_push : {X : Type 0} (places : List Place) (bodies : List (Option X)) (p : Place) (o : Option X) → length places ≡ length bodies → is_some o ≡ p.live
+    → ((k : ℕ) → is_some (item_at bodies k) ≡ is_taken places k) → (k : ℕ) → is_some (item_at (bodies ++ o ∷ []) k) ≡ is_taken (places ++ p ∷ []) k
 matched_push [] [] p o len e h zero = e
 matched_push [] [] p o len e h (suc k) = refl
 matched_push [] (b ∷ bs) p o len e h k = absurd (omega arith)
@@ -96,22 +93,67 @@ matched_push (q ∷ ps) [] p o len e h k = absurd (omega arith)
 matched_push (q ∷ ps) (b ∷ bs) p o len e h zero = h zero
 matched_push (q ∷ ps) (b ∷ bs) p o len e h (suc k) = matched_push ps bs p o (omega arith) e (λ j. h (suc j)) k
 
-pub AreMatched-set : (places : List Place) (bodies : List (Option Body)) (slot : ℕ) (p : Place) (o : Option Body) → is_some o ≡ p.live → AreMatched places bodies → AreMatched (slice_set places slot p) (slice_set bodies slot o)
+pub AreMatched-set : {X : Type 0} (places : List Place) (bodies : List (Option X)) (slot : ℕ) (p : Place) (o : Option X) → is_some o ≡ p.live → AreMatched places bodies → AreMatched (slice_set places slot p) (slice_set bodies slot o)
 AreMatched-set places bodies slot p o e m = record {
   slots = let s = m.slots in grind (arith, common_steps);
   few = let f = m.few in grind (arith, common_steps);
   taken = matched_set places bodies slot p o m.slots e m.taken;
 }
 
-pub AreMatched-push : (places : List Place) (bodies : List (Option Body)) (p : Place) (o : Option Body) → is_some o ≡ p.live → length bodies < MAX_SLOTS → AreMatched places bodies → AreMatched (places ++ p ∷ []) (bodies ++ o ∷ [])
+pub AreMatched-push : {X : Type 0} (places : List Place) (bodies : List (Option X)) (p : Place) (o : Option X) → is_some o ≡ p.live → length bodies < MAX_SLOTS → AreMatched places bodies → AreMatched (places ++ p ∷ []) (bodies ++ o ∷ [])
 AreMatched-push places bodies p o e few m = record {
   slots = let s = m.slots in grind (arith, common_steps);
   few = grind (arith, common_steps);
   taken = matched_push places bodies p o m.slots e m.taken;
 }
 
--- a body stands only in a slot that there is
-pub below_length : (bodies : List (Option Body)) (slot : ℕ) (b : Body) → body_at bodies slot ≡ Some b → slot < length bodies
+pub item_at-set_other : {X : Type 0} (items : List (Option X)) (slot : ℕ) (o : Option X) (k : ℕ) → k ≢ slot → item_at (slice_set items slot o) k ≡ item_at items k
+item_at-set_other [] slot o k ne = refl
+item_at-set_other (a ∷ xs) zero o zero ne = absurd (ne refl)
+item_at-set_other (a ∷ xs) zero o (suc k) ne = refl
+item_at-set_other (a ∷ xs) (suc slot) o zero ne = refl
+item_at-set_other (a ∷ xs) (suc slot) o (suc k) ne = item_at-set_other xs slot o k (λ e. ne (ap suc e))
+
+pub item_at-set_none : {X : Type 0} (items : List (Option X)) (slot : ℕ) → item_at (slice_set items slot None) slot ≡ None
+item_at-set_none [] slot = refl
+item_at-set_none (a ∷ xs) zero = refl
+item_at-set_none (a ∷ xs) (suc slot) = item_at-set_none xs slot
+
+pub slice_get-set_other : {X : Type 0} (xs : List X) (slot k : ℕ) (x : X) → k ≢ slot → slice_get (slice_set xs slot x) k ≡ slice_get xs k
+slice_get-set_other [] slot k x ne = refl
+slice_get-set_other (y ∷ ys) zero zero x ne = absurd (ne refl)
+slice_get-set_other (y ∷ ys) zero (suc k) x ne = refl
+slice_get-set_other (y ∷ ys) (suc slot) zero x ne = refl
+slice_get-set_other (y ∷ ys) (suc slot) (suc k) x ne = slice_get-set_other ys slot k x (λ e. ne (ap suc e))
+
+-- what stands in a slot to which something is added, in it or at the end
+pub slice_get-with : {X : Type 0} (t : Bool) (xs : List X) (slot k : ℕ) (x : X) → (t ≡ false → slot ≡ length xs) → k ≢ slot → slice_get (cond t (slice_set xs slot x) (xs ++ x ∷ [])) k ≡ slice_get xs k
+slice_get-with true xs slot k x at ne = slice_get-set_other xs slot k x ne
+slice_get-with false xs slot k x at ne = push_other xs k x (λ e. ne (e ∙ sym (at refl)))
+  where
+    push_other : {X : Type 0} (xs : List X) (k : ℕ) (x : X) → k ≢ length xs → slice_get (xs ++ x ∷ []) k ≡ slice_get xs k
+    push_other [] zero x ne = absurd (ne refl)
+    push_other [] (suc k) x ne = refl
+    push_other (y ∷ ys) zero x ne = refl
+    push_other (y ∷ ys) (suc k) x ne = push_other ys k x (λ e. ne (ap suc e))
+
+pub slice_get-with_own : {X : Type 0} (t : Bool) (xs : List X) (slot : ℕ) (x : X) → (t ≡ true → slot < length xs) → (t ≡ false → slot ≡ length xs) → slice_get (cond t (slice_set xs slot x) (xs ++ x ∷ [])) slot ≡ Some x
+slice_get-with_own true xs slot x below at = set_own xs slot x (below refl)
+  where
+    set_own : {X : Type 0} (xs : List X) (slot : ℕ) (x : X) → slot < length xs → slice_get (slice_set xs slot x) slot ≡ Some x
+    set_own [] slot x lt = absurd (omega arith)
+    set_own (y ∷ ys) zero x lt = refl
+    set_own (y ∷ ys) (suc slot) x lt = set_own ys slot x (omega arith)
+slice_get-with_own false xs slot x below at = push_own xs slot x (at refl)
+  where
+    push_own : {X : Type 0} (xs : List X) (slot : ℕ) (x : X) → slot ≡ length xs → slice_get (xs ++ x ∷ []) slot ≡ Some x
+    push_own [] zero x e = refl
+    push_own [] (suc slot) x e = absurd (omega arith)
+    push_own (y ∷ ys) zero x e = absurd (omega arith)
+    push_own (y ∷ ys) (suc slot) x e = push_own ys slot x (omega arith)
+
+-- an item stands only in a slot that there is
+pub below_length : {X : Type 0} (bodies : List (Option X)) (slot : ℕ) (b : X) → item_at bodies slot ≡ Some b → slot < length bodies
 below_length [] slot b e = cc
 below_length (a ∷ bs) zero b e = omega arith
 below_length (a ∷ bs) (suc slot) b e = omega (arith, below_length bs slot b e)
@@ -170,7 +212,7 @@ lowest-free places = elim (cases_lt (lowest places) (length places)) [
   | inr h ↦ taken_past places (lowest places) h
 ]
 
--- and no body is there
-pub none_if : (o : Option Body) → is_some o ≡ false → o ≡ None
+-- and nothing is there
+pub none_if : {X : Type 0} (o : Option X) → is_some o ≡ false → o ≡ None
 none_if None e = refl
 none_if (Some b) e = cc

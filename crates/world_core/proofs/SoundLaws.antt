@@ -5,12 +5,14 @@ use Rattle.impulse_ledger.specs.Sums.{total_x, total_y}
 use Rattle.contacts_base.specs.Contacts.{AreKeysRising}
 use Rattle.graph_colours.specs.Colours.{ids_of}
 use Rattle.plain_world.specs.Bodies.{AreBodies, momentum_x, momentum_y}
+use Rattle.body_handles.specs.Places.{IsPlace}
+use Rattle.plain_world.specs.Joints.{AreJoints}
 use Rattle.plain_world.specs.Slots.{AreMatched}
 use Rattle.plain_world.proofs.CensusLemmas.{census_of-is}
 use Rattle.world_core_base.specs.Gather.{AreContactsOf}
 use Rattle.world_core.specs.Colouring.{AreColoured, members_of}
 use Rattle.world_core.specs.Sound.{AreSmall, HasBodies, IsSound}
-use Rattle.world_core.specs.World.{World, book_of}
+use Rattle.world_core.specs.World.{World, book_of, joints_of}
 use Rattle.world_core.proofs.SlotLemmas.{body_at-in}
 
 -- the parts from which the others follow
@@ -20,11 +22,14 @@ pub record IsKept (w : World) : Type 0 where
   pub causes : AreSmall (2 ^ 126 + w.plain.calls * 2 ^ 83) (book_of w)
   pub bodies : AreBodies w.plain.bodies
   pub matched : AreMatched w.plain.places w.plain.bodies
+  pub joint_slots : AreMatched w.plain.joint_places w.plain.joints
+  pub joint_places : All IsPlace w.plain.joint_places
+  pub joints : AreJoints w.plain.bodies w.plain.joints
   pub contacts : AreKeysRising w.plain.contacts
   pub pairs : AreContactsOf w.plain.bodies w.plain.contacts
   pub there : All (HasBodies w.plain.bodies) w.plain.contacts
-  pub colours : AreColoured w.plain.bodies w.plain.contacts (members_of w.plain.bodies w.plain.colours)
-  pub moved : ids_of (members_of w.plain.bodies w.plain.colours) ≡ w.plain.colours
+  pub colours : AreColoured w.plain.bodies (joints_of w.plain) w.plain.contacts (members_of w.plain.bodies (joints_of w.plain) w.plain.colours)
+  pub moved : ids_of (members_of w.plain.bodies (joints_of w.plain) w.plain.colours) ≡ w.plain.colours
   pub gravity : IsWithin (2 ^ 16) w.plain.gravity
   pub steps : w.plain.steps ≤ w.plain.calls
   pub calls : w.plain.calls ≤ 2 ^ 40
@@ -36,6 +41,9 @@ kept_sound w s = record {
   causes = s.formed.causes;
   bodies = s.formed.bodies;
   matched = s.formed.matched;
+  joint_slots = s.formed.joint_slots;
+  joint_places = s.formed.joint_places;
+  joints = s.formed.joints;
   contacts = s.formed.contacts;
   pairs = s.formed.pairs;
   there = s.formed.there;
@@ -58,6 +66,9 @@ sound_kept w k = record {
   formed = record {
     matched = k.matched;
     bodies = k.bodies;
+    joint_slots = k.joint_slots;
+    joint_places = k.joint_places;
+    joints = k.joints;
     contacts = k.contacts;
     pairs = k.pairs;
     there = k.there;

@@ -1,14 +1,14 @@
 -- What each command does to the plain world, as a function.
-use Rattle.std.specs.Prelude.{◌≡◌, ℕ, ◌+◌, ◌^◌, Bool, cond, ◌&&◌, nat_le, nat_lt, List, [], ◌∷◌, ◌++◌, Option, Some, None, Result, Ok, Err, ℤ, pos, neg_ℤ, ◌+ℤ◌, unsigned_abs, slice_set, unwrap_or, replicate}
+use Rattle.std.specs.Prelude.{◌≡◌, ℕ, ◌+◌, ◌^◌, Bool, cond, ◌&&◌, ◌==◌, nat_le, nat_lt, List, [], ◌∷◌, ◌++◌, Option, Some, None, Result, Ok, Err, ℤ, pos, neg_ℤ, ◌+ℤ◌, unsigned_abs, slice_set, unwrap_or, replicate}
 use Rattle.fixed_geom.specs.Vectors.{cross, is_within, plus, zero_vector}
 use Rattle.fixed_geom.specs.declared.vectors.Vec2.{Vec2}
 use Rattle.fixed_geom.specs.declared.refusal.Refusal.{Refusal}
-use Rattle.fixed_geom.specs.declared.refusal.Refusal.TheVariants.{NoMemory, StaleHandle, TooMany, OutOfRange, NotAMover, NotKinematic, BodyDisabled, TooFast, WornOut}
+use Rattle.fixed_geom.specs.declared.refusal.Refusal.TheVariants.{NoMemory, StaleHandle, TooMany, OutOfRange, SameBody, NotAMover, NotKinematic, BodyDisabled, TooFast, WornOut}
 use Rattle.body_handles.specs.declared.handle.Handle.{Handle}
 use Rattle.body_handles.specs.declared.places.TheConstants.{MAX_SLOTS}
 use Rattle.graph_colours.specs.declared.limits.TheConstants.{COLOURS}
 use Rattle.graph_colours.specs.Colours.{ids_of}
-use Rattle.body_handles.specs.Places.{lowest, generation_at, places_with, places_without}
+use Rattle.body_handles.specs.Places.{lowest, generation_at, is_live, places_with, places_without}
 use Rattle.impulse_ledger.specs.declared.entry.Entry.{Entry}
 use Rattle.impulse_ledger.specs.declared.entry.Cause as cause
 use Rattle.impulse_ledger.specs.declared.entry.Cause.TheVariants as causes
@@ -25,13 +25,16 @@ use Rattle.fixed_geom.specs.declared.limits.TheConstants.{MAX_POSITION}
 use Rattle.shapes.specs.Shapes.{is_between}
 use Rattle.plain_world.specs.Slots.{with_body}
 use Rattle.plain_world.specs.Changes.{changed_at, put_course, put_momenta, put_pose}
-use Rattle.world_core_base.specs.Gather.{states_of, rows_of, with_motions, with_rows}
-use Rattle.colour_solver.specs.Ticks.{Run, ran, start}
+use Rattle.colour_solver.specs.declared.ticks.StepSums.{StepSums}
+use Rattle.world_core_base.specs.Solving.{Solving, bodies_of, solve_order, solved}
 use Rattle.world_core_base.specs.Renewal.{renewed_bodies}
 use Rattle.plain_world.specs.declared.body.Body.{Body}
 use Rattle.plain_world.specs.declared.body.BodyDef.{BodyDef}
+use Rattle.plain_world.specs.declared.joint.JointDef.{JointDef}
+use Rattle.plain_world.specs.Joints.{joint_made, joint_refusal}
+use Rattle.world_core.specs.Joining.{Joined, handle_at, joined_with, unjoined, unjoined_all}
 use Rattle.world_core.specs.declared.command.Command.{Command}
-use Rattle.world_core.specs.declared.command.Command.TheVariants.{CreateBody, DestroyBody, Push, PushAt, SetPose, SetVelocity, SetGravity, Step}
+use Rattle.world_core.specs.declared.command.Command.TheVariants.{CreateBody, DestroyBody, CreateJoint, DestroyJoint, Push, PushAt, SetPose, SetVelocity, SetGravity, Step}
 use Rattle.world_core.specs.declared.command.Reply.{Reply}
 use Rattle.world_core.specs.declared.command.Reply.TheVariants as replies
 use Rattle.contacts_base.specs.Contacts.{contacts_without}
@@ -40,7 +43,7 @@ use Rattle.world_core.specs.Colouring.{Lists, turned, lists_without, members_of}
 use Rattle.contacts_base.specs.declared.contact.ContactEntry.{ContactEntry}
 use Rattle.event_feed.specs.Events.{EventLists, no_events}
 use Rattle.plain_world.specs.Plain.{Plain}
-use Rattle.world_core.specs.World.{World, body_of}
+use Rattle.world_core.specs.World.{World, body_of, joints_of}
 
 -- what an accepted command leaves: the plain world, the reply, the ledger's new entries, and the events where it is a step
 pub record Applied : Type 0 where
@@ -79,11 +82,19 @@ abbrev pub departing : Option Body → Result Vec2 Refusal
 departing None = Err StaleHandle
 departing (Some b) = Ok (record { x = p_x (Some b); y = p_y (Some b) })
 
--- it is booked with the other sign
+-- the joints with their slots and their colours
+abbrev pub joined_in : Plain → Joined
+joined_in w = record { slots = joints_of w; lists = members_of w.bodies (joints_of w) w.colours }
+
+-- what is left of the world once a body's joints are gone
+abbrev pub destroyed : Plain → Handle → Joined → Plain
+destroyed w h s = record w { places = places_without w.places h; bodies = slice_set w.bodies h.slot None; joint_places = s.slots.places; joints = s.slots.joints; contacts = contacts_without h.slot w.contacts; colours = ids_of (lists_without h.slot s.lists w.contacts); calls = w.calls + 1 }
+
+-- its joints go, then its contacts; the momentum is booked with the other sign
 abbrev pub destroy_due : Plain → Handle → Result Vec2 Refusal → Result Applied Refusal
 destroy_due w h (Err e) = Err e
 destroy_due w h (Ok p) = Ok (record {
-  plain = record w { places = places_without w.places h; bodies = slice_set w.bodies h.slot None; contacts = contacts_without h.slot w.contacts; colours = ids_of (lists_without h.slot (members_of w.bodies w.colours) w.contacts); calls = w.calls + 1 };
+  plain = destroyed w h (unjoined_all h.slot (joined_in w));
   reply = replies.Done;
   entries = booked (w.calls + 1) causes.Departed (neg_ℤ p.x) (neg_ℤ p.y);
   events = None;
@@ -91,6 +102,36 @@ destroy_due w h (Ok p) = Ok (record {
 
 abbrev pub apply_destroy : Plain → Handle → Result Applied Refusal
 apply_destroy w h = destroy_due w h (departing (body_of w h))
+
+-- ---- CreateJoint and DestroyJoint
+
+-- the world with these joints
+abbrev pub with_joined : Plain → Joined → Plain
+with_joined w s = record w { joint_places = s.slots.places; joints = s.slots.joints; colours = ids_of s.lists; calls = w.calls + 1 }
+
+-- the first reason why two bodies can't be joined
+abbrev pub join_refusal : Option Body → Option Body → JointDef → Option Refusal
+join_refusal None b d = Some StaleHandle
+join_refusal (Some a) None d = Some StaleHandle
+join_refusal (Some a) (Some b) d = cond (d.a.slot == d.b.slot) (Some SameBody) (cond a.enabled (cond b.enabled (joint_refusal d) (Some BodyDisabled)) (Some BodyDisabled))
+
+abbrev pub joined : Plain → JointDef → Applied
+joined w d = record {
+  plain = with_joined w (joined_with w.bodies (joint_made d) (joined_in w));
+  reply = replies.Joint (handle_at w.joint_places (lowest w.joint_places));
+  entries = [];
+  events = None;
+}
+
+abbrev pub join_due : Plain → JointDef → Option Refusal → Result Applied Refusal
+join_due w d (Some e) = Err e
+join_due w d None = cond (nat_lt (lowest w.joint_places) MAX_SLOTS) (Ok (joined w d)) (Err TooMany)
+
+abbrev pub apply_join : Plain → JointDef → Result Applied Refusal
+apply_join w d = join_due w d (join_refusal (body_of w d.a) (body_of w d.b) d)
+
+abbrev pub apply_unjoin : Plain → Handle → Result Applied Refusal
+apply_unjoin w h = cond (is_live w.joint_places h) (Ok (record { plain = with_joined w (unjoined h (joined_in w)); reply = replies.Done; entries = []; events = None })) (Err StaleHandle)
 
 -- ---- Push and PushAt
 
@@ -167,31 +208,31 @@ events_of c = record { begin = c.begin; end = c.end; slept = []; woke = [] }
 
 -- the colours after the collide: who begins takes one, who ends gives it up
 abbrev pub colours_after : Plain → Collided → Lists
-colours_after w c = turned w.bodies (members_of w.bodies w.colours) c.begin c.end
+colours_after w c = turned w.bodies (members_of w.bodies (joints_of w) w.colours) c.begin c.end
 
--- the ticks and the restitution, over the bodies and over the contacts in solve order
-abbrev pub run_after : Plain → ℕ → List ContactEntry → Lists → Run
-run_after w n contacts lists = ran n w.gravity (start (states_of w.bodies) (rows_of (states_of w.bodies) contacts lists))
+-- the ticks and the restitution, over the bodies by slot and over the constraints in solve order
+abbrev pub solved_after : Plain → ℕ → Collided → Lists → Solving
+solved_after w n c lists = solved n w.gravity (solve_order (ids_of lists)) w.bodies c.now
 
--- what the step has added to the movers' momentum
-abbrev pub step_entries : ℕ → Run → List Entry
-step_entries call r = booked call causes.Gravity r.gravity_x r.gravity_y ++ (booked call causes.Immovable r.immovable_x r.immovable_y ++ booked call causes.Clamp r.clamp_x r.clamp_y)
+-- what the step has added to the movers' momentum, by cause
+abbrev pub step_entries : ℕ → StepSums → List Entry
+step_entries call sums = booked call causes.Gravity sums.gravity.x sums.gravity.y ++ (booked call causes.Immovable sums.immovable.x sums.immovable.y ++ booked call causes.Clamp sums.clamp.x sums.clamp.y)
 
 -- the bodies and contacts that the ticks have left, and then the fat boxes
-abbrev pub stepped : Plain → Collided → Lists → Run → Applied
-stepped w c lists r = record {
-  plain = record w { bodies = renewed_bodies (with_motions w.bodies r.states); contacts = with_rows c.now r.rows; colours = ids_of lists; steps = w.steps + 1; calls = w.calls + 1 };
+abbrev pub stepped : Plain → Collided → Lists → Solving → Applied
+stepped w c lists s = record {
+  plain = record w { bodies = renewed_bodies (bodies_of s); contacts = s.contacts; colours = ids_of lists; steps = w.steps + 1; calls = w.calls + 1 };
   reply = replies.Stepped (w.steps + 1);
-  entries = step_entries (w.calls + 1) r;
+  entries = step_entries (w.calls + 1) s.sums;
   events = Some (events_of c);
 }
 
 -- first the collide with its colours, and then the ticks
 abbrev pub step_done : Plain → ℕ → Collided → Applied
-step_done w n c = stepped w c (colours_after w c) (run_after w n c.now (colours_after w c))
+step_done w n c = stepped w c (colours_after w c) (solved_after w n c (colours_after w c))
 
 abbrev pub apply_step : Plain → ℤ → Result Applied Refusal
-apply_step w n = cond (is_between (pos 1) (pos 8) n) (Ok (step_done w (unsigned_abs n) (collided w.bodies w.contacts))) (Err OutOfRange)
+apply_step w n = cond (is_between (pos 1) (pos 8) n) (Ok (step_done w (unsigned_abs n) (collided w.bodies w.joints w.contacts))) (Err OutOfRange)
 
 -- ---- a new world
 
@@ -199,7 +240,7 @@ abbrev pub gravity_refusal : Vec2 → Option Refusal
 gravity_refusal g = cond (is_within (2 ^ 16) g) None (Some OutOfRange)
 
 abbrev pub empty_world : Vec2 → World
-empty_world g = record { plain = record { places = []; bodies = []; contacts = []; colours = replicate (COLOURS + 1) []; gravity = g; steps = 0; calls = 0 }; entries = []; settled = zero_totals; events = no_events }
+empty_world g = record { plain = record { places = []; bodies = []; joint_places = []; joints = []; contacts = []; colours = replicate (COLOURS + 1) []; gravity = g; steps = 0; calls = 0 }; entries = []; settled = zero_totals; events = no_events }
 
 -- just what is due; or, where nothing keeps the world from being made, want of memory
 abbrev pub IsMade : Option Refusal → World → Result World Refusal → Type 0
@@ -213,6 +254,8 @@ IsMade (Some due) w (Err e) = e ≡ due
 abbrev pub apply_accepted : Plain → Command → Result Applied Refusal
 apply_accepted w (CreateBody d) = apply_create w d
 apply_accepted w (DestroyBody h) = apply_destroy w h
+apply_accepted w (CreateJoint d) = apply_join w d
+apply_accepted w (DestroyJoint h) = apply_unjoin w h
 apply_accepted w (Push h j) = apply_push w h j zero_vector
 apply_accepted w (PushAt h j r) = apply_push w h j r
 apply_accepted w (SetPose h o) = apply_pose w h o

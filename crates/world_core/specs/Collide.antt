@@ -6,9 +6,11 @@ use Rattle.shapes.specs.declared.shape.ShapeDef.{ShapeDef}
 use Rattle.contacts_base.specs.declared.key.ContactKey.{ContactKey}
 use Rattle.contacts_base.specs.declared.contact.ContactEntry.{ContactEntry}
 use Rattle.contacts_base.specs.declared.near.Proxy.{Proxy}
-use Rattle.contacts_base.specs.Near.{near_codes}
+use Rattle.contacts.specs.Forbidden.{allowed_codes}
 use Rattle.contacts.specs.Changes.{contacts_of, keys_touching_only_in}
 use Rattle.plain_world.specs.declared.body.Body.{Body}
+use Rattle.plain_world.specs.declared.joint.BodyJoint.{BodyJoint}
+use Rattle.plain_world.specs.Joints.{forbidden_pairs}
 use Rattle.plain_world.specs.Bodies.{pose_of}
 use Rattle.plain_world.specs.Kinds.{is_dynamic}
 
@@ -44,13 +46,13 @@ pub record Collided : Type 0 where
   pub begin : List ContactKey
   pub end : List ContactKey
 
--- every near pair has a contact, evaluated anew with its kept impulses
-unfoldable pub contacts_after : List (Option Body) → List ContactEntry → List ContactEntry
-contacts_after bodies old = contacts_of old (proxies_of bodies) (near_codes (proxies_of bodies))
+-- Every near pair of shapes, whose bodies no joint keeps from colliding, has a contact, evaluated anew with its kept impulses.
+unfoldable pub contacts_after : List (Option Body) → List (Option BodyJoint) → List ContactEntry → List ContactEntry
+contacts_after bodies joints old = contacts_of old (proxies_of bodies) (allowed_codes (forbidden_pairs joints) (proxies_of bodies))
 
-abbrev pub collided : List (Option Body) → List ContactEntry → Collided
-collided bodies old = record {
-  now = contacts_after bodies old;
-  begin = keys_touching_only_in old (contacts_after bodies old);
-  end = keys_touching_only_in (contacts_after bodies old) old;
+abbrev pub collided : List (Option Body) → List (Option BodyJoint) → List ContactEntry → Collided
+collided bodies joints old = record {
+  now = contacts_after bodies joints old;
+  begin = keys_touching_only_in old (contacts_after bodies joints old);
+  end = keys_touching_only_in (contacts_after bodies joints old) old;
 }

@@ -7,7 +7,7 @@ use Rattle.impulse_ledger.specs.declared.totals.Total.{Total}
 use Rattle.impulse_ledger.specs.Sums.{total_x, total_y, totals_of}
 use Rattle.plain_world.specs.declared.body.Body.{Body}
 use Rattle.plain_world.specs.Bodies.{pose_of, momentum_x, momentum_y}
-use Rattle.plain_world.specs.Slots.{body_at, body_in}
+use Rattle.plain_world.specs.Slots.{body_at}
 use Rattle.shapes.specs.declared.pose.Pose.{Pose}
 use Rattle.world_core.specs.declared.frame.FrameBody.{FrameBody}
 use Rattle.world_core.specs.World.{World, book_of}

@@ -4,13 +4,15 @@ use Rattle.fixed_geom.specs.Vectors.{IsWithin}
 use Rattle.fixed_geom.specs.declared.vectors.Vec2.{Vec2}
 use Rattle.plain_world.specs.Plain.{Plain}
 use Rattle.world_core.specs.declared.command.Command.{Command}
-use Rattle.world_core.specs.declared.command.Command.TheVariants.{CreateBody, DestroyBody, Push, PushAt, SetPose, SetVelocity, SetGravity, Step}
+use Rattle.world_core.specs.declared.command.Command.TheVariants.{CreateBody, DestroyBody, CreateJoint, DestroyJoint, Push, PushAt, SetPose, SetVelocity, SetGravity, Step}
 use Rattle.world_core.specs.Apply.{Applied, apply}
 
 -- the impulse that a command gives a body by itself: that of a push
 abbrev pub impulse_of : Command → Vec2
 impulse_of (CreateBody d) = record { x = pos 0; y = pos 0 }
 impulse_of (DestroyBody h) = record { x = pos 0; y = pos 0 }
+impulse_of (CreateJoint d) = record { x = pos 0; y = pos 0 }
+impulse_of (DestroyJoint h) = record { x = pos 0; y = pos 0 }
 impulse_of (Push h j) = j
 impulse_of (PushAt h j r) = j
 impulse_of (SetPose h o) = record { x = pos 0; y = pos 0 }

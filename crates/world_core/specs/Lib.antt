@@ -1,5 +1,6 @@
 pub mod Collide
 pub mod Colouring
+pub mod Joining
 pub mod World
 pub mod Apply
 pub mod Replay

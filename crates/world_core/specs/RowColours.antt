@@ -6,9 +6,9 @@ use Rattle.colour_solver.specs.Colour.{IsColour}
 use Rattle.colour_solver.specs.ContactTurns.{contact_slots}
 use Rattle.plain_world.specs.declared.body.Body.{Body}
 use Rattle.world_core_base.specs.Gather.{rows_in, states_of}
-use Rattle.world_core.specs.Colouring.{AreColoured, Lists}
+use Rattle.world_core.specs.Colouring.{AreColoured, JointSlots, Lists}
 
 -- where the contacts are coloured as in a sound world, the rows of each colour but the overflow are a colour to the solver
 abbrev pub ColouredRowsAreColours : Type 0
-ColouredRowsAreColours = (bodies : List (Option Body)) (contacts : List ContactEntry) (lists : Lists) (colour : ℕ) → AreColoured bodies contacts lists → colour < COLOURS
+ColouredRowsAreColours = (bodies : List (Option Body)) (s : JointSlots) (contacts : List ContactEntry) (lists : Lists) (colour : ℕ) → AreColoured bodies s contacts lists → colour < COLOURS
     → IsColour contact_slots (states_of bodies) (slice_index_or (map (rows_in (states_of bodies) contacts) lists) colour [])

@@ -9,11 +9,13 @@ use Rattle.plain_world.specs.declared.body.Body.{Body}
 use Rattle.plain_world.specs.Bodies.{AreBodies, IsAtRest, is_awake, momentum_x, momentum_y}
 use Rattle.plain_world.specs.Census.{IsCensus, census_of}
 use Rattle.plain_world.specs.Slots.{AreMatched, body_at}
+use Rattle.body_handles.specs.Places.{IsPlace}
+use Rattle.plain_world.specs.Joints.{AreJoints}
 use Rattle.plain_world.specs.Formed.{HasPoints, IsShapeOf}
 use Rattle.world_core_base.specs.Gather.{AreContactsOf}
 use Rattle.graph_colours.specs.Colours.{ids_of}
 use Rattle.world_core.specs.Colouring.{AreColoured, IsNamed, members_of}
-use Rattle.world_core.specs.World.{World, book_of}
+use Rattle.world_core.specs.World.{World, book_of, joints_of}
 
 -- no cause's total is beyond n
 pub record AreSmall (n : ℕ) (b : Book) : Type 0 where
@@ -39,22 +41,26 @@ AreAtRest bodies = (slot : ℕ) (b : Body) → body_at bodies slot ≡ Some b �
 -- one colour share a mover. The movers' momentum is the ledger's total. What isn't an awake mover is at rest.
 pub record KeepsPromises (w : World) : Type 0 where
   pub sets : IsCensus w.plain.places w.plain.bodies (census_of w.plain.places w.plain.bodies)
-  pub colours : AreColoured w.plain.bodies w.plain.contacts (members_of w.plain.bodies w.plain.colours)
+  pub colours : AreColoured w.plain.bodies (joints_of w.plain) w.plain.contacts (members_of w.plain.bodies (joints_of w.plain) w.plain.colours)
   pub total_x : momentum_x w.plain.bodies ≡ total_x (book_of w)
   pub total_y : momentum_y w.plain.bodies ≡ total_y (book_of w)
   pub rest : AreAtRest w.plain.bodies
 
 -- ---- what its lists and numbers keep
 
--- There is a body just in the slots that are taken, and its numbers, its shapes and their fat boxes are within their limits. The contacts' keys ascend;
+-- There is a body just in the slots that are taken, and its numbers, its shapes and their fat boxes are within their limits. There is a joint just in the
+-- joints' slots that are taken, whose generations are within their range, between two different bodies that are there, with its numbers within their limits. The contacts' keys ascend;
 -- each is of two bodies that are there, one of them a mover, and of shapes of theirs. Each constraint with a colour has movers. All sums have room.
 pub record IsWellFormed (w : World) : Type 0 where
   pub matched : AreMatched w.plain.places w.plain.bodies
   pub bodies : AreBodies w.plain.bodies
+  pub joint_slots : AreMatched w.plain.joint_places w.plain.joints
+  pub joint_places : All IsPlace w.plain.joint_places
+  pub joints : AreJoints w.plain.bodies w.plain.joints
   pub contacts : AreKeysRising w.plain.contacts
   pub pairs : AreContactsOf w.plain.bodies w.plain.contacts
   pub there : All (HasBodies w.plain.bodies) w.plain.contacts
-  pub moved : ids_of (members_of w.plain.bodies w.plain.colours) ≡ w.plain.colours
+  pub moved : ids_of (members_of w.plain.bodies (joints_of w.plain) w.plain.colours) ≡ w.plain.colours
   pub causes : AreSmall (2 ^ 126 + w.plain.calls * 2 ^ 83) (book_of w)
   pub gravity : IsWithin (2 ^ 16) w.plain.gravity
   pub steps : w.plain.steps ≤ w.plain.calls

@@ -8,6 +8,7 @@ use Rattle.plain_world.specs.Plain.{Plain}
 use Rattle.plain_world.specs.Slots as slots
 use Rattle.plain_world.specs.declared.body.Body.{Body}
 use Rattle.event_feed.specs.Events.{EventLists}
+use Rattle.world_core.specs.Colouring.{JointSlots}
 
 -- what contracts see of a world: its plain lists, its ledger, and the events of its last step
 pub record World : Type 0 where
@@ -15,6 +16,10 @@ pub record World : Type 0 where
   pub entries : List Entry
   pub settled : Totals
   pub events : EventLists
+
+-- the slots of its joints, and the joints in them
+abbrev pub joints_of : Plain → JointSlots
+joints_of w = record { places = w.joint_places; joints = w.joints }
 
 -- the body that a handle names
 abbrev pub body_of : Plain → Handle → Option Body

@@ -12,7 +12,7 @@ use contacts::{BroadPhase, Changes};
 use contacts_base::{ContactKey, Contacts, Proxy, ShapeId, Surface};
 use event_feed::Events;
 use fixed_geom::Refusal;
-use plain_world::Body;
+use plain_world::{Body, JointTable};
 use shapes::ShapeDef;
 use std::alloc::Global;
 
@@ -77,26 +77,27 @@ fn gather(broad: &mut BroadPhase, bodies: &[Option<Body>]) -> Result<(), Refusal
     Ok(())
 }
 
-/// Gathers shapes from the bodies, finds the near pairs of shapes and evaluates a contact for each. Refused 1
-/// where memory is wanting.
+/// Gathers shapes from the bodies, finds the near pairs of shapes whose bodies no joint keeps from colliding, and evaluates a contact for
+/// each. Refused 1 where memory is wanting.
 #[tactic(auto, unfolding(crate::specs::Collide::contacts_after))]
 pub fn collide(
     alloc: Global,
     broad: &mut BroadPhase,
     bodies: &[Option<Body>],
+    joints: &JointTable,
     old: &Contacts,
 ) -> Result<Changes, Refusal>
     requires few { length bodies.now ≤ MAX_SLOTS }
     requires bodies { AreBodies bodies.now }
-    ensures now { IfOk result (λ changes. changes.now ≡ contacts_after bodies.now old.now) }
-    ensures begin { IfOk result (λ changes. changes.begin.items ≡ keys_touching_only_in old.now (contacts_after bodies.now old.now)) }
-    ensures end { IfOk result (λ changes. changes.end.items ≡ keys_touching_only_in (contacts_after bodies.now old.now) old.now) }
+    ensures now { IfOk result (λ changes. changes.now ≡ contacts_after bodies.now joints.now.joints old.now) }
+    ensures begin { IfOk result (λ changes. changes.begin.items ≡ keys_touching_only_in old.now (contacts_after bodies.now joints.now.joints old.now)) }
+    ensures end { IfOk result (λ changes. changes.end.items ≡ keys_touching_only_in (contacts_after bodies.now joints.now.joints old.now) old.now) }
     ensures begin_rises { IfOk result (λ changes. AreRising changes.begin.items) }
     ensures end_rises { IfOk result (λ changes. AreRising changes.end.items) }
     ensures memory_only { IsOkUnless result Refusal.NoMemory }
 {
     gather(broad, bodies)?;
-    broad.update_contacts(alloc, old)
+    broad.update_contacts(alloc, joints.forbidden(), old)
 }
 
 /// The events of a step in which these contacts, ascending, began and ended.

@@ -1,9 +1,9 @@
-//! Which colours the contacts that begin take, and those that end give up.
+//! Which colours constraints take as they begin to act, and give up as they end.
 
 ghost use Rattle.std.specs.Prelude.{◌≡◌, ◌≤◌, ◌+◌, ◌&&◌, None, All, IfOk, length, drop, map};
 ghost use Rattle.std.specs.Option.{ForSome};
 ghost use Rattle.std.specs.Result.{IsOkUnless};
-ghost use Rattle.contacts.specs.declared.constraint.Constraint.TheVariants.{Contact};
+ghost use Rattle.contacts.specs.declared.constraint.Constraint.TheVariants.{Contact, Joint};
 ghost use Rattle.contacts_base.specs.Evaluate.{touches};
 ghost use Rattle.contacts.specs.Constraints.{constraint_number};
 ghost use Rattle.contacts.specs.Changes.{AreRising};
@@ -12,26 +12,27 @@ ghost use Rattle.graph_colours.specs.Colours.{all_members, colour_of, ids_of};
 ghost use Rattle.plain_world.specs.Plain.{constraints_of};
 ghost use Rattle.world_core_base.specs.Gather.{moves};
 ghost use Rattle.contacts_base.specs.Contacts.{has_slot};
-ghost use Rattle.world_core.specs.Colouring.{movers_between, movers_if, begun, begun_with, ended_all, ended_until, left_from, turned, lists_without};
+ghost use Rattle.world_core.specs.Colouring.{movers_if, movers_with, begun, placed_with, ended_all, ended_until, left_from, turned, lists_without};
 
+use body_handles::Handle;
 use contacts::Constraint;
 use contacts_base::{ContactEntry, ContactKey};
 use fixed_geom::Refusal;
 use graph_colours::{Colours, Member, Movers, OVERFLOW};
-use plain_world::{Body, body_at};
+use plain_world::{Body, BodyJoint, item_at};
 use std::alloc::Global;
 
 /// Whether the body in a slot is there and moves.
 fn moves(bodies: &[Option<Body>], slot: u32) -> bool
     ensures { result ≡ moves bodies.now slot }
 {
-    match body_at(bodies, slot as usize) {
+    match item_at(bodies, slot as usize) {
         None => false,
         Some(body) => body.is_mover(),
     }
 }
 
-/// The movers of two bodies' contact, of which it is known whether they move; `None` where neither does.
+/// The movers of a constraint between two bodies, of which it is known whether they move; `None` where neither does.
 fn movers_if(first_moves: bool, second_moves: bool, first: u32, second: u32) -> Option<Movers>
     ensures { result ≡ movers_if first_moves second_moves first second }
 {
@@ -52,28 +53,26 @@ fn movers_if(first_moves: bool, second_moves: bool, first: u32, second: u32) -> 
     }
 }
 
-/// The movers of a contact, whose slots are those of bodies.
-fn movers_between(bodies: &[Option<Body>], key: ContactKey) -> Option<Movers>
-    ensures value { result ≡ movers_between bodies.now key }
+/// The movers among the bodies in two slots.
+fn movers_with(bodies: &[Option<Body>], first: u32, second: u32) -> Option<Movers>
+    ensures value { result ≡ movers_with bodies.now first second }
     ensures below { ForSome result (AreBelow (length bodies.now)) }
 {
-    let first = key.first.slot;
-    let second = key.second.slot;
     movers_if(moves(bodies, first), moves(bodies, second), first, second)
 }
 
-/// A contact with these movers takes its colour; one with none takes no colour.
-fn begin_with(colours: &mut Colours<Constraint>, key: ContactKey, movers: Option<Movers>)
-    requires absent { colour_of constraint_number (Contact key) colours.old.lists ≡ None }
+/// A constraint with these movers takes its colour; one with none takes no colour.
+fn place_with(colours: &mut Colours<Constraint>, id: Constraint, movers: Option<Movers>)
+    requires absent { colour_of constraint_number id colours.old.lists ≡ None }
     requires below { ForSome movers (AreBelow colours.old.slots) }
     requires room { 1 ≤ colours.old.room }
-    ensures lists { colours.new.lists ≡ begun_with colours.old.lists key movers }
+    ensures lists { colours.new.lists ≡ placed_with colours.old.lists id movers }
     ensures room { colours.old.room ≤ colours.new.room + 1 }
     ensures slots { colours.new.slots ≡ colours.old.slots }
     ensures count { length (all_members colours.new.lists) ≤ length (all_members colours.old.lists) + 1 }
 {
     if let Some(movers) = movers {
-        let _ = colours.place(Constraint::Contact(key), movers);
+        let _ = colours.place(id, movers);
     }
 }
 
@@ -88,7 +87,24 @@ fn begin(colours: &mut Colours<Constraint>, bodies: &[Option<Body>], key: Contac
     ensures slots { colours.new.slots ≡ colours.old.slots }
     ensures count { length (all_members colours.new.lists) ≤ length (all_members colours.old.lists) + 1 }
 {
-    begin_with(colours, key, movers_between(bodies, key));
+    let movers = movers_with(bodies, key.first.slot, key.second.slot);
+    place_with(colours, Constraint::Contact(key), movers);
+}
+
+/// A joint that is made takes its colour, if one of its bodies moves.
+pub fn join(
+    colours: &mut Colours<Constraint>,
+    bodies: &[Option<Body>],
+    handle: Handle,
+    joint: &BodyJoint,
+)
+    requires absent { colour_of constraint_number (Joint handle) colours.old.lists ≡ None }
+    requires slots { length bodies.now ≤ colours.old.slots }
+    requires room { 1 ≤ colours.old.room }
+    ensures lists { colours.new.lists ≡ placed_with colours.old.lists (Joint handle) (movers_with bodies.now joint.now.a joint.now.b) }
+{
+    let movers = movers_with(bodies, joint.a, joint.b);
+    place_with(colours, Constraint::Joint(handle), movers);
 }
 
 /// The contacts that end before `key`, from this place on, give up their colours. Answers the place of the next.

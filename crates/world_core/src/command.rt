@@ -3,7 +3,7 @@ ghost use Rattle.world_core.specs.Laws.{impulse_of};
 
 use body_handles::Handle;
 use fixed_geom::Vec2;
-use plain_world::{BodyDef, Course};
+use plain_world::{BodyDef, Course, JointDef};
 use shapes::Pose;
 
 /// What can be asked of a world. Each accepted command is one call, and takes the next call number.
@@ -15,8 +15,13 @@ pub enum Command {
     /// Makes a body at rest, enabled. Refused 4 for its shapes, 5 for a number outside its limit, 3 where
     /// no slot can be given out.
     CreateBody(BodyDef),
-    /// Takes a body away; the momentum that a mover had is booked as departed. Refused 2.
+    /// Takes a body away with its joints; the momentum that a mover had is booked as departed. Refused 2.
     DestroyBody(Handle),
+    /// Joins two bodies, one of which at least moves if the joint is to do anything but keep them from colliding. Refused 2, 7, 8, 5 or 3,
+    /// in this order.
+    CreateJoint(JointDef),
+    /// Takes a joint away. Refused 2.
+    DestroyJoint(Handle),
     /// Adds an impulse, in mass·u/tick, to a mover's momentum. Refused 2, 6, 8, 5 or 9, in this order.
     Push(Handle, Vec2),
     /// Adds an impulse, in mass·u/tick, given at an offset from the centre, in u: the angular momentum of a mover that turns
@@ -51,6 +56,8 @@ impl Command {
 pub enum Reply {
     /// The body that was made.
     Body(Handle),
+    /// The joint that was made.
+    Joint(Handle),
     Done,
     /// The number of the step, counted from 1.
     Stepped(u64),

@@ -6,19 +6,26 @@ mod collide;
 mod colouring;
 mod command;
 mod frame;
+mod joining;
 mod laws;
 mod pushes;
+mod queries;
 mod replay;
 mod world;
 
+pub use body_handles::{Handle, Place};
 pub use command::{Command, Reply};
 pub use event_feed::Events;
+pub use fixed_geom::{Refusal, Rot, Vec2};
 pub use frame::{Frame, FrameBody};
+pub use impulse_ledger::{Cause, Ledger, Total};
 pub use laws::{coloured_rows_are_colours, each_call_counts};
+pub use momenta::MassData;
 pub use plain_world::{
-    Body, BodyDef, BodyView, Census, Constraint, ContactEntry, ContactKey, Course, FatBoxes, Kind,
-    NO_COURSE, Plain, SetName, ShapeId,
+    Body, BodyDef, BodyJoint, BodyView, Census, Constraint, ContactEntry, ContactKey, Course,
+    FatBoxes, Joint, JointDef, Kind, NO_COURSE, Plain, SetName, ShapeId,
 };
+pub use shapes::{Filter, Pose, Shape, ShapeDef, Shapes};
 pub use world::WorldCore;
 
 #[cfg(test)]

@@ -20,6 +20,7 @@ use std::test::Fail;
 
 mod fat_boxes;
 mod frames;
+mod joints;
 mod meetings;
 mod one_body;
 mod readme;
@@ -518,9 +519,9 @@ fn lists_and_census_are_the_world(rt: HostRuntime) -> Result<(), Fail> {
 }
 
 /// The definitions give the same values, computed by themselves: the empty step, refused steps and pushes.
-#[tactic(auto, unfolding(contacts_base::specs::Near::near_codes, world_core_base::specs::Gather::rows_of, colour_solver::specs::Ticks::tick, colour_solver::specs::Ticks::ran, crate::specs::Collide::contacts_after))]
+#[tactic(auto, unfolding(contacts_base::specs::Near::near_codes, world_core_base::specs::Solving::solved, crate::specs::Collide::contacts_after))]
 fn definitions_compute()
-    ensures stepped { apply (empty_world (record { x = pos 0; y = pos 0 })).plain (Step (pos 4)) ≡ Ok (record { plain = record { places = []; bodies = []; contacts = []; colours = replicate (COLOURS + 1) []; gravity = record { x = pos 0; y = pos 0 }; steps = 1; calls = 1 }; reply = Stepped 1; entries = []; events = Some no_events }) }
+    ensures stepped { apply (empty_world (record { x = pos 0; y = pos 0 })).plain (Step (pos 4)) ≡ Ok (record { plain = record { places = []; bodies = []; joint_places = []; joints = []; contacts = []; colours = replicate (COLOURS + 1) []; gravity = record { x = pos 0; y = pos 0 }; steps = 1; calls = 1 }; reply = Stepped 1; entries = []; events = Some no_events }) }
     ensures no_ticks { apply (empty_world (record { x = pos 0; y = pos 0 })).plain (Step (pos 0)) ≡ Err OutOfRange }
     ensures nine_ticks { apply (empty_world (record { x = pos 0; y = pos 0 })).plain (Step (pos 9)) ≡ Err OutOfRange }
     ensures pushed { pushed (Some (record { kind = Dynamic; mass = record { mass = pos 1; inertia = pos 0 }; motion = record { p = record { x = pos 5; y = pos 0 }; l = pos 0; x = record { x = pos 0; y = pos 0 }; rot = record { c = pos 1073741824; s = pos 0 } }; shapes = []; fats = []; timer = 0; enabled = true })) (record { x = pos 7; y = neg_ℤ (pos 3) }) (record { x = pos 0; y = pos 0 }) ≡ Ok (record { p = record { x = pos 12; y = neg_ℤ (pos 3) }; l = pos 0 }) }

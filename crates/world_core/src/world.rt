@@ -7,15 +7,16 @@ ghost use Rattle.impulse_ledger.specs.Sums.{HaveSameTotals};
 ghost use Rattle.world_core.specs.World.{body_of, book_of};
 ghost use Rattle.world_core.specs.Frames.{frame_of, settled_world};
 ghost use Rattle.world_core.specs.Sound.{IsSound};
-ghost use Rattle.world_core.specs.Apply.{Answers, IsMade, empty_world, gravity_refusal, apply, apply_create, apply_destroy, apply_push, apply_pose, apply_velocity, apply_gravity, apply_step};
+ghost use Rattle.world_core.specs.Apply.{Answers, IsMade, empty_world, gravity_refusal, apply, apply_create, apply_destroy, apply_join, apply_unjoin, apply_push, apply_pose, apply_velocity, apply_gravity, apply_step};
 
 use crate::booking::{book, book_step, gain_of, loss_of};
 use crate::collide::{collide, events_of};
-use crate::colouring::{copy_ids, count_with, drop_colours, turn_colours};
+use crate::colouring::{copy_ids, count_with, drop_colours, join, turn_colours};
 use crate::frame::{Frame, show_bodies};
+use crate::joining::{check_join, unjoin, unjoin_all};
 use crate::pushes::{course_after, departing, momenta_after, pose_after};
 use crate::{Command, Reply};
-use body_handles::{Handle, Handles};
+use body_handles::{Handle, Handles, Place};
 use colour_solver::Rows;
 use colour_solver_base::ContactRow;
 use contacts::{BroadPhase, Constraint};
@@ -24,7 +25,10 @@ use event_feed::Events;
 use fixed_geom::{Refusal, Vec2, ZERO_VECTOR, is_within};
 use graph_colours::{COLOURS, Colours};
 use impulse_ledger::{Cause, Ledger};
-use plain_world::{BodyDef, BodyView, Census, Course, Plain, body_of, copy_bodies, take_census};
+use plain_world::{
+    Body, BodyDef, BodyView, Census, Course, JointDef, JointTable, Plain, body_of, copy_bodies,
+    take_census,
+};
 use shapes::Pose;
 use std::alloc::Global;
 use std::marker::Model;
@@ -44,6 +48,8 @@ const MAX_TICKS: i64 = 8;
 pub struct WorldCore {
     handles: Handles,
     bodies: BodyTable,
+    joint_handles: Handles,
+    joints: JointTable,
     contacts: Contacts,
     // Room that a collide works in, kept from step to step.
     broad: BroadPhase,
@@ -83,6 +89,8 @@ impl WorldCore {
         Ok(WorldCore {
             handles: Handles::new(alloc),
             bodies: BodyTable::new(alloc),
+            joint_handles: Handles::new(alloc),
+            joints: JointTable::new(alloc),
             contacts: Contacts::new(alloc),
             broad: BroadPhase::new(alloc),
             colours: Colours::new(alloc)?,
@@ -103,6 +111,8 @@ impl WorldCore {
         Ok(WorldCore {
             handles: self.handles.try_copy()?,
             bodies: self.bodies.try_copy()?,
+            joint_handles: self.joint_handles.try_copy()?,
+            joints: self.joints.try_copy()?,
             contacts: self.contacts.try_copy()?,
             broad: BroadPhase::new(self.bodies.allocator()),
             colours: self.colours.try_copy()?,
@@ -125,6 +135,8 @@ impl WorldCore {
         match command {
             Command::CreateBody(def) => self.create_body(def),
             Command::DestroyBody(handle) => self.destroy_body(*handle),
+            Command::CreateJoint(def) => self.create_joint(def),
+            Command::DestroyJoint(handle) => self.destroy_joint(*handle),
             Command::Push(handle, by) => self.push(*handle, *by, ZERO_VECTOR),
             Command::PushAt(handle, by, offset) => self.push(*handle, *by, *offset),
             Command::SetPose(handle, pose) => self.set_pose(*handle, *pose),
@@ -170,10 +182,52 @@ impl WorldCore {
             Cause::Departed,
             loss_of(p),
         );
+        unjoin_all(
+            &mut self.joint_handles,
+            &mut self.joints,
+            &mut self.colours,
+            handle.slot,
+        );
         self.bodies.clear(handle.slot);
         drop_colours(&mut self.colours, self.contacts.as_slice(), handle.slot);
         self.contacts.drop_of_body(handle.slot);
         self.handles.remove(handle);
+        self.calls += 1;
+        Ok(Reply::Done)
+    }
+
+    fn create_joint(&mut self, def: &JointDef) -> Result<Reply, Refusal>
+        requires { self.old.plain.calls < 2 ^ 40 }
+        ensures { Answers (apply_join self.old.plain def.now) self.old result self.new }
+    {
+        check_join(&self.handles, self.bodies.bodies(), def)?;
+        if self.joint_handles.is_full() {
+            return Err(Refusal::TooMany);
+        }
+        let joint = def.make();
+        self.joint_handles.reserve_one()?;
+        self.joints.reserve_one()?;
+        self.colours.reserve(1, self.bodies.bodies().len())?;
+        let handle = self.joint_handles.insert()?;
+        self.joints.put(handle.slot, joint);
+        join(&mut self.colours, self.bodies.bodies(), handle, &joint);
+        self.calls += 1;
+        Ok(Reply::Joint(handle))
+    }
+
+    fn destroy_joint(&mut self, handle: Handle) -> Result<Reply, Refusal>
+        requires { self.old.plain.calls < 2 ^ 40 }
+        ensures { Answers (apply_unjoin self.old.plain handle) self.old result self.new }
+    {
+        if !self.joint_handles.is_live(handle) {
+            return Err(Refusal::StaleHandle);
+        }
+        unjoin(
+            &mut self.joint_handles,
+            &mut self.joints,
+            &mut self.colours,
+            handle,
+        );
         self.calls += 1;
         Ok(Reply::Done)
     }
@@ -236,7 +290,13 @@ impl WorldCore {
         }
         let alloc = self.bodies.allocator();
         self.ledger.reserve(3)?;
-        let changes = collide(alloc, &mut self.broad, self.bodies.bodies(), &self.contacts)?;
+        let changes = collide(
+            alloc,
+            &mut self.broad,
+            self.bodies.bodies(),
+            &self.joints,
+            &self.contacts,
+        )?;
         self.colours
             .reserve(changes.begin.len(), self.bodies.bodies().len())?;
         let most = count_with(&self.colours, changes.begin.len())?;
@@ -275,6 +335,36 @@ impl WorldCore {
         }
     }
 
+    /// The bodies by slot, without a copy: `None` in a slot that is free. The handle of one is its slot with the generation that
+    /// `places` has there.
+    pub fn bodies(&self) -> &[Option<Body>]
+        ensures bodies { result.now ≡ self.now.plain.bodies }
+        ensures sound { IsSound self.now }
+    {
+        self.bodies.bodies()
+    }
+
+    /// The slots that were ever used, with the generation of each and whether it is taken.
+    pub fn places(&self) -> &[Place]
+        ensures { result.now ≡ self.now.plain.places }
+    {
+        self.handles.places()
+    }
+
+    /// The gravity, in u/tick².
+    pub fn gravity(&self) -> Vec2
+        ensures { result ≡ self.now.plain.gravity }
+    {
+        self.gravity
+    }
+
+    /// How many steps were accepted.
+    pub fn steps(&self) -> u64
+        ensures { result ≡ self.now.plain.steps }
+    {
+        self.steps
+    }
+
     /// The colour of an active constraint, 0 to 23, or 24 in the overflow; `None` of one that isn't active.
     pub fn colour_of(&self, constraint: Constraint) -> Option<u8>
         ensures { result ≡ colour_of constraint self.now.plain.colours }
@@ -308,12 +398,18 @@ impl WorldCore {
         let mut places = Vec::new(alloc);
         places.extend_from_slice(self.handles.places())?;
         let bodies = copy_bodies(alloc, self.bodies.bodies())?;
+        let mut joint_places = Vec::new(alloc);
+        joint_places.extend_from_slice(self.joint_handles.places())?;
+        let mut joints = Vec::new(alloc);
+        joints.extend_from_slice(self.joints.joints())?;
         let mut contacts = Vec::new(alloc);
         contacts.extend_from_slice(self.contacts.as_slice())?;
         let colours = copy_ids(alloc, &self.colours)?;
         Ok(Plain::new(
             places,
             bodies,
+            joint_places,
+            joints,
             contacts,
             colours,
             self.gravity,

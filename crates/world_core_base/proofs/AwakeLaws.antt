@@ -1,8 +1,10 @@
--- Motions given back and fat boxes made anew, from one mover's slot to the next.
-use Rattle.std.proofs.Common.{◌≡◌, ℕ, zero, suc, ◌+◌, ◌<◌, ◌≤◌, Bool, true, false, cond, List, [], ◌∷◌, ◌++◌, length, get_or, take, drop, map, Option, Some, None, arith, refl, sym, ap, ◌∙◌, subst, inl, inr, slice_set, add-one}
+-- Motions given back and fat boxes made anew, from one slot to the next: first the movers', and then those of the bodies that are carried along.
+use Rattle.std.proofs.Common.{◌≡◌, ℕ, zero, suc, ◌+◌, ◌<◌, ◌≤◌, Bool, true, false, cond, not, List, [], ◌∷◌, ◌++◌, length, get_or, take, drop, map, Option, Some, None, pos, int_eq, arith, refl, sym, ap, ◌∙◌, subst, inl, inr, slice_set, add-one}
 use Rattle.std.specs.List.{slice_get}
+use Rattle.std.specs.Option.{ForSome}
 use Rattle.std.specs.Prelude.{option_map}
 use Rattle.std.proofs.lemmas.Bool.{cases_Bool}
+use Rattle.std.proofs.lemmas.List.{get_or_default}
 use Rattle.std.proofs.lemmas.List.Edits.{map_over_more}
 use Rattle.std.proofs.lemmas.Option.{slice_get-get_or}
 use Rattle.fixed_geom.specs.declared.vectors.Vec2.{Vec2}
@@ -12,16 +14,19 @@ use Rattle.momenta.specs.declared.mass.MassData.{MassData}
 use Rattle.momenta.specs.declared.motion.Motion.{Motion}
 use Rattle.momenta.specs.declared.reciprocals.Reciprocals.{Reciprocals}
 use Rattle.momenta.specs.declared.state.BodyState.{BodyState}
-use Rattle.colour_solver.specs.States.{AreAllStates, AreSameStates, moves, movers_of, nobody, places_from}
-use Rattle.colour_solver.proofs.AwakeLaws.{movers_same}
-use Rattle.colour_solver.proofs.PlaceLaws.{AreOthers, IsNext, IsReached, map_still, reached, reached_at_first, reached_first, reached_last, reached_more, reached_next, reached_there}
+use Rattle.colour_solver.specs.States as step
+use Rattle.colour_solver.specs.States.{AreAllStates, AreSameBeside, HasCourse, HaveCourses, carried_of, carrier, moves, movers_of, nobody, places_from}
+use Rattle.colour_solver.proofs.CourseLaws.{carried_beside, course_at, movers_beside}
+use Rattle.colour_solver.proofs.PlaceLaws.{IsNext, IsReached, map_still, places_low, reached, reached_at_first, reached_first, reached_last, reached_more, reached_next, reached_there}
 use Rattle.plain_world.specs.declared.body.Body.{Body}
-use Rattle.plain_world.specs.Bodies.{is_mover}
+use Rattle.plain_world.specs.Bodies.{AreBodies, IsBody, is_carried, is_mover}
 use Rattle.plain_world.specs.Fats.{renewed_boxes}
-use Rattle.world_core_base.specs.Carried.{carried_motion, solver_mass}
+use Rattle.plain_world.proofs.KindLaws.{carried_enabled, carried_rests}
+use Rattle.world_core_base.specs.Carried.{carried_motion, carried_to, solver_mass}
 use Rattle.world_core_base.specs.Gather.{begun, state_of, states_of}
-use Rattle.world_core_base.proofs.GatherLaws.{length-states, state_at, tail_same}
-use Rattle.world_core_base.proofs.MovingLaws.{moved_bodies, moved_entry, moved_more, moved_whole, next_is}
+use Rattle.world_core_base.specs.Moved.{FitsState, moved_entry}
+use Rattle.world_core_base.proofs.GatherLaws.{IsLike, carried_like, carried_state, fits_state, length-states, like_first, mass_carried, state_at, tail_same}
+use Rattle.world_core_base.proofs.MovingLaws.{begun_where, begun_where_one, bodies_still, length-moved_so_far, moved_bodies, moved_where, moved_where_one, moved_whole, next_moved, still_there}
 
 -- ---- one body
 
@@ -31,231 +36,345 @@ state_with m w t r = record { movable = m; mass = w; motion = t; start = t.x; re
 whole_state : (s : BodyState) (m : Bool) (w : MassData) (r : Reciprocals) → s.movable ≡ m → s.mass ≡ w → s.reciprocals ≡ r → state_with m w s.motion r ≡ begun s
 whole_state s m w r e f g = rw (e, f, g) refl
 
--- the state s has what the ticks leave alone of the state o
-pub record IsLike (o s : BodyState) : Type 0 where
-  pub movable : s.movable ≡ o.movable
-  pub mass : s.mass ≡ o.mass
-  pub reciprocals : s.reciprocals ≡ o.reciprocals
-  pub immovable : o.movable ≡ false → s ≡ o
-
-place_shown : (m : Bool) (b : Body) → (cond m b.motion (carried_motion b)).x ≡ b.motion.x
-place_shown true b = refl
-place_shown false b = refl
-
-begun_state : (o : Option Body) → begun (state_of o) ≡ state_of o
-begun_state None = refl
-begun_state (Some b) = ap (λ (x : Vec2). record (state_of (Some b)) { start = x }) (place_shown (is_mover b) b)
-
 -- the mass that an awake mover shows is its own
 mass_on : (b : Body) → is_mover b ≡ true → solver_mass b ≡ b.mass
-mass_on b on = rw on refl
+mass_on b on1 = rw on1 refl
 
 state_on : (b : Body) → is_mover b ≡ true → state_of (Some b) ≡ state_with true b.mass b.motion (reciprocals_of b.mass)
-state_on b on = rw on refl
+state_on b on1 = rw on1 refl
 
 -- an awake mover with the motion that its state has
 abbrev with_state_of : BodyState → Body → Body
 with_state_of s b = record b { motion = s.motion; fats = renewed_boxes (record { x = s.motion.x; rot = s.motion.rot }) b.shapes b.fats }
 
 moved_on : (b : Body) (s : BodyState) → is_mover b ≡ true → moved_entry s (Some b) ≡ Some (with_state_of s b)
-moved_on b s on = rw (on, on) refl
+moved_on b s on1 = rw (on1, on1) refl
 
-entry_still : (o : Option Body) (s : BodyState) → (state_of o).movable ≡ false → moved_entry s o ≡ o
-entry_still None s h = refl
-entry_still (Some b) s h = rw (h, h) refl
+-- a body that is carried along, with the motion that its state has
+abbrev carried_with : BodyState → Body → Body
+carried_with s b = record (carried_to s.motion b) { fats = renewed_boxes (record { x = s.motion.x; rot = s.motion.rot }) b.shapes b.fats }
 
-entry_begun : (o : Option Body) (s : BodyState) → IsLike (state_of o) s → state_of (moved_entry s o) ≡ begun s
-entry_begun None s like = sym (ap begun (like.immovable refl))
-entry_begun (Some b) s like = elim (cases_Bool (is_mover b)) [
-  | inl on1 ↦ ap state_of (moved_on b s on1) ∙ state_on (with_state_of s b) on1 ∙ whole_state s true b.mass (reciprocals_of b.mass) (like.movable ∙ on1) (like.mass ∙ mass_on b on1) (like.reciprocals ∙ ap reciprocals_of (mass_on b on1))
-  | inr off1 ↦ ap state_of (entry_still (Some b) s off1) ∙ sym (ap begun (like.immovable off1) ∙ begun_state (Some b))
+moved_along : (b : Body) (s : BodyState) → is_carried b ≡ true → moved_entry s (Some b) ≡ Some (carried_with s b)
+moved_along b s on1 =
+    let rests : is_mover b ≡ false = carried_rests b.enabled b.kind on1 in
+    let enabled : b.enabled ≡ true = carried_enabled b.enabled b.kind on1 in
+    rw (rests, on1, enabled) refl
+
+state_along : (b : Body) (s : BodyState) → is_carried b ≡ true → state_of (Some (carried_with s b)) ≡ state_with false carrier s.motion (reciprocals_of carrier)
+state_along b s on1 =
+    let enabled : b.enabled ≡ true = carried_enabled b.enabled b.kind on1 in
+    rw enabled refl
+
+-- ---- one slot
+
+-- what moves by its state moves
+awake_like : (b : Body) (s : BodyState) → IsLike (state_of (Some b)) s → s.movable ≡ is_mover b
+awake_like b s like = like.movable
+
+entry_other : (o : Option Body) (s : BodyState) → IsLike (state_of o) s → s.movable ≡ false → step.is_carried s ≡ false → moved_entry s o ≡ o
+entry_other None s like off1 still = refl
+entry_other (Some b) s like off1 still =
+    let rests : is_mover b ≡ false = sym (awake_like b s like) ∙ off1 in
+    let stands : is_carried b ≡ false = sym (carried_like (state_of (Some b)) s like ∙ carried_state b) ∙ still in
+    rw (rests, stands, rests, stands) refl
+
+entry_both : (o : Option Body) (s : BodyState) → IsLike (state_of o) s → moved_where_one step.is_carried (begun_where_one moves s) (moved_where_one moves s o) ≡ moved_entry s o
+entry_both o s like = elim (cases_Bool s.movable) [
+  | inl on1 ↦ rw on1 refl
+  | inr off1 ↦
+      let first : moved_where_one moves s o ≡ o = rw off1 refl in
+      let begins : begun_where_one moves s ≡ s = rw off1 refl in
+      (λ j. moved_where_one step.is_carried (begins j) (first j)) ∙ along off1
 ]
+  where
+    along : s.movable ≡ false → moved_where_one step.is_carried s o ≡ moved_entry s o
+    along off1 = elim (cases_Bool (step.is_carried s)) [
+      | inl c ↦ (λ j. cond (c j) (moved_entry s o) o)
+      | inr n ↦ (λ j. cond (n j) (moved_entry s o) o) ∙ sym (entry_other o s like off1 n)
+    ]
 
-like_first : (o : Option Body) (os : List (Option Body)) (s : BodyState) (ss : List BodyState) → AreSameStates (states_of (o ∷ os)) (s ∷ ss) → IsLike (state_of o) s
-like_first o os s ss same = record { movable = same.movable zero; mass = same.mass zero; reciprocals = same.reciprocals zero; immovable = same.immovable zero }
+-- the state that is begun is that of the body
+state_moved : (o : Option Body) (s : BodyState) → IsLike (state_of o) s → s.movable ≡ true → begun s ≡ state_of (moved_entry s o)
+state_moved None s like on1 = absurd (let both : true ≡ false = sym on1 ∙ like.movable in cc both)
+state_moved (Some b) s like on1 =
+    let awake : is_mover b ≡ true = sym (awake_like b s like) ∙ on1 in
+    sym (ap state_of (moved_on b s awake) ∙ state_on (with_state_of s b) awake ∙ whole_state s true b.mass (reciprocals_of b.mass) on1 (like.mass ∙ mass_on b awake) (like.reciprocals ∙ ap reciprocals_of (mass_on b awake)))
 
--- ---- all bodies
+state_carried : (o : Option Body) (s : BodyState) → IsLike (state_of o) s → s.movable ≡ false → step.is_carried s ≡ true → begun s ≡ state_of (moved_entry s o)
+state_carried None s like off1 on1 = absurd (let both : true ≡ false = sym on1 ∙ carried_like nobody s like in cc both)
+state_carried (Some b) s like off1 on1 =
+    let carried : is_carried b ≡ true = sym (carried_like (state_of (Some b)) s like ∙ carried_state b) ∙ on1 in
+    sym (ap state_of (moved_along b s carried) ∙ state_along b s carried ∙ whole_state s false carrier (reciprocals_of carrier) off1 (like.mass ∙ mass_carried b carried) (like.reciprocals ∙ ap reciprocals_of (mass_carried b carried)))
 
-all_begun : (bodies : List (Option Body)) (states : List BodyState) → AreSameStates (states_of bodies) states → map begun states ≡ states_of (moved_bodies bodies states)
-all_begun [] [] same = refl
-all_begun [] (s ∷ ss) same = absurd (let long = same.long in omega (arith, long))
-all_begun (o ∷ os) [] same = absurd (let long = same.long in omega (arith, long))
-all_begun (o ∷ os) (s ∷ ss) same =
-    let first : state_of (moved_entry s o) ≡ begun s = entry_begun o s (like_first o os s ss same) in
-    let rest : map begun ss ≡ states_of (moved_bodies os ss) = all_begun os ss (tail_same o os s ss same) in
-    ap (λ (l : List BodyState). begun s ∷ l) rest ∙ ap (λ (t : BodyState). t ∷ states_of (moved_bodies os ss)) (sym first)
+begun_both : (o : Option Body) (s : BodyState) → IsLike (state_of o) s → begun_where_one step.is_carried (begun_where_one moves s) ≡ state_of (moved_entry s o)
+begun_both o s like = elim (cases_Bool s.movable) [
+  | inl on1 ↦ (let first : begun_where_one step.is_carried (begun_where_one moves s) ≡ begun s = rw on1 refl in first ∙ state_moved o s like on1)
+  | inr off1 ↦
+      let begins : begun_where_one moves s ≡ s = rw off1 refl in
+      ap (begun_where_one step.is_carried) begins ∙ along off1
+]
+  where
+    along : s.movable ≡ false → begun_where_one step.is_carried s ≡ state_of (moved_entry s o)
+    along off1 = elim (cases_Bool (step.is_carried s)) [
+      | inl c ↦ (λ j. cond (c j) (begun s) s) ∙ state_carried o s like off1 c
+      | inr n ↦ (λ j. cond (n j) (begun s) s) ∙ like.standing (sym like.movable ∙ off1) (sym (carried_like (state_of o) s like) ∙ n) ∙ sym (ap state_of (entry_other o s like off1 n))
+    ]
 
--- ---- from the slot a on to the slot m
+-- ---- all slots
 
-bodies_still : (bodies : List (Option Body)) (states : List BodyState) (a m : ℕ) → a ≤ m → length states ≡ length bodies → AreOthers moves (states_of bodies) a m
-    → (moved_bodies (take m bodies) (take m states) ++ drop m bodies) ≡ moved_bodies (take a bodies) (take a states) ++ drop a bodies
-bodies_still [] states zero zero h long others = refl
-bodies_still [] states zero (suc m) h long others = refl
-bodies_still [] states (suc a) zero h long others = absurd (omega (arith, h))
-bodies_still [] states (suc a) (suc m) h long others = refl
-bodies_still (o ∷ os) [] a m h long others = absurd (omega (arith, long))
-bodies_still (o ∷ os) (s ∷ ss) zero zero h long others = refl
-bodies_still (o ∷ os) (s ∷ ss) zero (suc m) h long others =
-    let first : moved_entry s o ≡ o = entry_still o s (others zero (state_of o) (omega arith) (omega arith) refl) in
-    let rest = bodies_still os ss zero m (omega arith) (omega (arith, long)) (λ j x lo hi e. others (suc j) x (omega arith) (omega (arith, hi)) e) in
-    ap (λ (l : List (Option Body)). moved_entry s o ∷ l) rest ∙ ap (λ (p : Option Body). p ∷ os) first
-bodies_still (o ∷ os) (s ∷ ss) (suc a) zero h long others = absurd (omega (arith, h))
-bodies_still (o ∷ os) (s ∷ ss) (suc a) (suc m) h long others =
-    ap (λ (l : List (Option Body)). moved_entry s o ∷ l) (bodies_still os ss a m (omega (arith, h)) (omega (arith, long)) (λ j x lo hi e. others (suc j) x (omega (arith, lo)) (omega (arith, hi)) e))
+both_moved : (bodies : List (Option Body)) (states : List BodyState) → AreSameBeside (states_of bodies) states → moved_where step.is_carried (moved_where moves bodies states) (begun_where moves states) ≡ moved_bodies bodies states
+both_moved [] states same = refl
+both_moved (o ∷ os) [] same = absurd (let long = same.long in omega (arith, long))
+both_moved (o ∷ os) (s ∷ ss) same = λ j. entry_both o s (like_first o os s ss same) j ∷ both_moved os ss (tail_same o os s ss same) j
 
-states_still : (bodies : List (Option Body)) (states : List BodyState) (a m : ℕ) → a ≤ m → AreSameStates (states_of bodies) states → AreOthers moves (states_of bodies) a m
-    → (map begun (take m states) ++ drop m states) ≡ map begun (take a states) ++ drop a states
-states_still [] [] zero zero h same others = refl
-states_still [] [] zero (suc m) h same others = refl
-states_still [] [] (suc a) zero h same others = absurd (omega (arith, h))
-states_still [] [] (suc a) (suc m) h same others = refl
-states_still [] (s ∷ ss) a m h same others = absurd (let long = same.long in omega (arith, long))
-states_still (o ∷ os) [] a m h same others = absurd (let long = same.long in omega (arith, long))
-states_still (o ∷ os) (s ∷ ss) zero zero h same others = refl
-states_still (o ∷ os) (s ∷ ss) zero (suc m) h same others =
-    let stands : (state_of o).movable ≡ false = others zero (state_of o) (omega arith) (omega arith) refl in
-    let is : s ≡ state_of o = same.immovable zero stands in
-    let first : begun s ≡ s = ap begun is ∙ begun_state o ∙ sym is in
-    let rest = states_still os ss zero m (omega arith) (tail_same o os s ss same) (λ j x lo hi e. others (suc j) x (omega arith) (omega (arith, hi)) e) in
-    ap (λ (l : List BodyState). begun s ∷ l) rest ∙ ap (λ (t : BodyState). t ∷ ss) first
-states_still (o ∷ os) (s ∷ ss) (suc a) zero h same others = absurd (omega (arith, h))
-states_still (o ∷ os) (s ∷ ss) (suc a) (suc m) h same others =
-    ap (λ (l : List BodyState). begun s ∷ l) (states_still os ss a m (omega (arith, h)) (tail_same o os s ss same) (λ j x lo hi e. others (suc j) x (omega (arith, lo)) (omega (arith, hi)) e))
+both_begun : (bodies : List (Option Body)) (states : List BodyState) → AreSameBeside (states_of bodies) states → begun_where step.is_carried (begun_where moves states) ≡ states_of (moved_bodies bodies states)
+both_begun [] [] same = refl
+both_begun [] (s ∷ ss) same = absurd (let long = same.long in omega (arith, long))
+both_begun (o ∷ os) [] same = absurd (let long = same.long in omega (arith, long))
+both_begun (o ∷ os) (s ∷ ss) same = λ j. begun_both o s (like_first o os s ss same) j ∷ both_begun os ss (tail_same o os s ss same) j
 
 -- ---- the walk
 
--- once k of the slots were seen: what two loops over all slots below the next mover's have made
-pub record HasMoved (all : List (Option Body)) (before : List BodyState) (places : List ℕ) (k : ℕ) (os : List (Option Body)) (ss : List BodyState) : Type 0 where
-  pub walk : IsReached moves (states_of all) places k
-  pub bodies : os ≡ moved_bodies (take (reached places k (states_of all)) all) (take (reached places k (states_of all)) before) ++ drop (reached places k (states_of all)) all
-  pub states : ss ≡ map begun (take (reached places k (states_of all)) before) ++ drop (reached places k (states_of all)) before
+first_on : (is : BodyState → Bool) (ys : List BodyState) (m : ℕ) (rest : List ℕ) (d : BodyState) → places_from is m ys ≡ m ∷ rest → is (get_or ys 0 d) ≡ true
+first_on is [] m rest d e = absurd (cc e)
+first_on is (y ∷ ys) m rest d e = elim (cases_Bool (is y)) [
+  | inl on1 ↦ on1
+  | inr off1 ↦
+      (let all : places_from is (suc m) ys ≡ m ∷ rest = rw off1 at e in
+      let low = places_low is ys (suc m) (suc m + length ys) refl in
+      let head : get_or (places_from is (suc m) ys) 0 (suc m + length ys) ≡ m = ap (λ l. get_or l 0 (suc m + length ys)) all in
+      absurd (omega (arith, low, head)))
+]
 
-pub moved_first : (all : List (Option Body)) (before : List BodyState) (places : List ℕ) → AreSameStates (states_of all) before → places ≡ movers_of (states_of all) → HasMoved all before places 0 all before
-moved_first all before places same e =
-    let m = reached places 0 (states_of all) in
-    let first : IsNext moves (states_of all) 0 m 0 m = reached_first moves (states_of all) places e in
+drop_head : (l : List ℕ) (k d : ℕ) → k < length l → drop k l ≡ get_or l k d ∷ drop (suc k) l
+drop_head [] k d h = absurd (omega (arith, h))
+drop_head (x ∷ l) zero d h = refl
+drop_head (x ∷ l) (suc k) d h = drop_head l k d (omega (arith, h))
+
+first_left : (xs : List BodyState) (m : ℕ) (d : BodyState) → get_or (drop m xs) 0 d ≡ get_or xs m d
+first_left xs zero d = refl
+first_left [] (suc m) d = refl
+first_left (x ∷ xs) (suc m) d = first_left xs m d
+
+-- the place that the walk stands at passes the test
+place_on : (is : BodyState → Bool) (xs : List BodyState) (places : List ℕ) (k : ℕ) (d : BodyState) → k < length places → IsReached is xs places k → is (get_or xs (reached places k xs) d) ≡ true
+place_on is xs places k d h known =
+    let m = reached places k xs in
+    ap is (sym (first_left xs m d)) ∙ first_on is (drop m xs) m (drop (suc k) places) d (known.rest ∙ drop_head places k (length xs) h)
+
+-- once k of the slots were seen: what two loops over all slots below the next one's have made
+pub record HasMoved (is : BodyState → Bool) (all : List (Option Body)) (before : List BodyState) (places : List ℕ) (k : ℕ) (os : List (Option Body)) (ss : List BodyState) : Type 0 where
+  pub walk : IsReached is before places k
+  pub bodies : os ≡ moved_where is (take (reached places k before) all) (take (reached places k before) before) ++ drop (reached places k before) all
+  pub states : ss ≡ begun_where is (take (reached places k before) before) ++ drop (reached places k before) before
+
+still_begun : (is : BodyState → Bool) (s : BodyState) → is s ≡ false → begun_where_one is s ≡ s
+still_begun is s h = rw h refl
+
+pub moved_first : (is : BodyState → Bool) (all : List (Option Body)) (before : List BodyState) (places : List ℕ) → length before ≡ length all → places ≡ places_from is 0 before → HasMoved is all before places 0 all before
+moved_first is all before places long e =
+    let m = reached places 0 before in
+    let first : IsNext is before 0 m 0 m = reached_first is before places e in
     record {
-      walk = reached_at_first moves (states_of all) places e;
-      bodies = sym (bodies_still all before 0 m first.from (same.long ∙ length-states all) first.others);
-      states = sym (states_still all before 0 m first.from same first.others);
+      walk = reached_at_first is before places e;
+      bodies = sym (bodies_still is all before 0 m first.from long first.others);
+      states = sym (map_still (begun_where_one is) before 0 m first.from (λ j s lo hi f. still_begun is s (first.others j s lo hi f)));
     }
 
-get_or-any : {X : Type 0} (l : List X) (k : ℕ) (d e : X) → k < length l → get_or l k d ≡ get_or l k e
-get_or-any [] k d e h = absurd (omega (arith, h))
-get_or-any (x ∷ l) zero d e h = refl
-get_or-any (x ∷ l) (suc k) d e h = get_or-any l k d e (omega (arith, h))
+get_or-later : (is : BodyState → Bool) (states : List BodyState) (a : ℕ) (d : BodyState) → get_or (begun_where is (take a states) ++ drop a states) a d ≡ get_or states a d
+get_or-later is [] zero d = refl
+get_or-later is [] (suc a) d = refl
+get_or-later is (s ∷ ss) zero d = refl
+get_or-later is (s ∷ ss) (suc a) d = get_or-later is ss a d
 
-get_or-later : (states : List BodyState) (a : ℕ) (d : BodyState) → get_or (map begun (take a states) ++ drop a states) a d ≡ get_or states a d
-get_or-later [] zero d = refl
-get_or-later [] (suc a) d = refl
-get_or-later (s ∷ ss) zero d = refl
-get_or-later (s ∷ ss) (suc a) d = get_or-later ss a d
+length-begun : (is : BodyState → Bool) (states : List BodyState) (a : ℕ) → length (begun_where is (take a states) ++ drop a states) ≡ length states
+length-begun is [] zero = refl
+length-begun is [] (suc a) = refl
+length-begun is (s ∷ ss) zero = refl
+length-begun is (s ∷ ss) (suc a) = ap suc (length-begun is ss a)
 
-length-begun : (states : List BodyState) (a : ℕ) → length (map begun (take a states) ++ drop a states) ≡ length states
-length-begun [] zero = refl
-length-begun [] (suc a) = refl
-length-begun (s ∷ ss) zero = refl
-length-begun (s ∷ ss) (suc a) = ap suc (length-begun ss a)
-
-length-moved_so_far : (all : List (Option Body)) (states : List BodyState) (a : ℕ) → length states ≡ length all → length (moved_bodies (take a all) (take a states) ++ drop a all) ≡ length all
-length-moved_so_far [] states zero long = refl
-length-moved_so_far [] states (suc a) long = refl
-length-moved_so_far (o ∷ os) [] a long = absurd (omega (arith, long))
-length-moved_so_far (o ∷ os) (s ∷ ss) zero long = refl
-length-moved_so_far (o ∷ os) (s ∷ ss) (suc a) long = ap suc (length-moved_so_far os ss a (omega (arith, long)))
-
--- the slot with the number k is there, and body and state in it are as they were
-pub record IsThere (was : List (Option Body)) (old : List BodyState) (os : List (Option Body)) (ss : List BodyState) (slot : ℕ) (o : Option Body) : Type 0 where
+-- the slot with the number k is there, its state passes the test, and body and state in it are as they were
+pub record IsThere (is : BodyState → Bool) (was : List (Option Body)) (old : List BodyState) (os : List (Option Body)) (ss : List BodyState) (slot : ℕ) : Type 0 where
   pub all : slot < length was
   pub before : slot < length old
   pub bodies : slot < length os
   pub states : slot < length ss
-  pub now : o ≡ get_or os slot o
-  pub body : o ≡ get_or was slot o
+  pub passes : is (get_or old slot nobody) ≡ true
+  pub body : get_or os slot None ≡ get_or was slot None
   pub state : get_or ss slot nobody ≡ get_or old slot nobody
 
-pub there_at : (all : List (Option Body)) (before : List BodyState) (places : List ℕ) (k slot : ℕ) (bodies : List (Option Body)) (states : List BodyState) (o : Option Body)
-    → AreSameStates (states_of all) before → HasMoved all before places k bodies states → k < length places → slot ≡ get_or places k 0 → o ≡ get_or bodies slot o → IsThere all before bodies states slot o
-there_at all before places k slot bodies states o same known h at is =
-    let m = reached places k (states_of all) in
-    let e : slot ≡ m = at ∙ get_or-any places k 0 (length (states_of all)) h in
-    let below = reached_there moves (states_of all) places k h known.walk in
-    let as_long = length-states all in
-    let long : length before ≡ length all = same.long ∙ as_long in
-    let bodies_long : length bodies ≡ length all = ap length known.bodies ∙ length-moved_so_far all before m long in
-    let states_long : length states ≡ length before = ap length known.states ∙ length-begun before m in
-    let now : o ≡ get_or bodies m o = is ∙ ap (λ (n : ℕ). get_or bodies n o) e in
-    let here : m < length all = omega (arith, below, as_long) in
-    subst (λ (n : ℕ). IsThere all before bodies states n o) (sym e) (record {
+pub there_at : (is : BodyState → Bool) (all : List (Option Body)) (before : List BodyState) (places : List ℕ) (k slot : ℕ) (os : List (Option Body)) (ss : List BodyState)
+    → length before ≡ length all → HasMoved is all before places k os ss → k < length places → slot ≡ get_or places k 0 → IsThere is all before os ss slot
+there_at is all before places k slot os ss long known h at =
+    let m = reached places k before in
+    let e : slot ≡ m = at ∙ get_or_default places k 0 (length before) h in
+    let below = reached_there is before places k h known.walk in
+    let here : m < length all = omega (arith, below, long) in
+    let bodies_long : length os ≡ length all = ap length known.bodies ∙ length-moved_so_far is all before m long in
+    let states_long : length ss ≡ length before = ap length known.states ∙ length-begun is before m in
+    subst (λ (n : ℕ). IsThere is all before os ss n) (sym e) (record {
       all = here;
-      before = omega (arith, here, long);
+      before = below;
       bodies = omega (arith, here, bodies_long);
-      states = omega (arith, here, long, states_long);
-      now = now;
-      body = next_is all bodies before m o here long known.bodies now;
-      state = ap (λ (l : List BodyState). get_or l m nobody) known.states ∙ get_or-later before m nobody;
+      states = omega (arith, below, states_long);
+      passes = place_on is before places k nobody h known.walk;
+      body = ap (λ (l : List (Option Body)). get_or l m None) known.bodies ∙ still_there is all before m None here long;
+      state = ap (λ (l : List BodyState). get_or l m nobody) known.states ∙ get_or-later is before m nobody;
     })
 
--- the state that stands there is the one that stood there
-same_state : (before states : List BodyState) (slot : ℕ) (s : BodyState) → slot < length before → slot < length states → get_or states slot nobody ≡ get_or before slot nobody → s ≡ get_or states slot s → s ≡ get_or before slot s
-same_state before states slot s h k same is = is ∙ get_or-any states slot s nobody k ∙ same ∙ get_or-any before slot nobody s h
-
-pub is_there : (before states : List BodyState) (slot : ℕ) (s : BodyState) → AreAllStates before → slot < length before → slot < length states → get_or states slot nobody ≡ get_or before slot nobody → s ≡ get_or states slot s → IsState s
-is_there before states slot s all h k same is = subst IsState (sym (same_state before states slot s h k same is)) (state_at before slot s all h)
-
-pub walked_more : (all : List (Option Body)) (before : List BodyState) (places : List ℕ) (k slot : ℕ) (bodies : List (Option Body)) (states : List BodyState) (o after : Option Body) (s started : BodyState)
-    → AreSameStates (states_of all) before → HasMoved all before places k bodies states → k < length places → slot ≡ get_or places k 0 → o ≡ get_or bodies slot o → s ≡ get_or states slot s
-    → (t : BodyState) → t ≡ get_or states slot t → after ≡ moved_entry t o → started ≡ begun s
-    → HasMoved all before places (suc k) (slice_set bodies slot after) (slice_set states slot started)
-walked_more all before places k slot bodies states o after s started same known h at is is_s t is_t makes begins =
-    let m = reached places k (states_of all) in
-    let n = reached places (suc k) (states_of all) in
-    let e : slot ≡ m = at ∙ get_or-any places k 0 (length (states_of all)) h in
-    let here : IsThere all before bodies states m o = subst (λ (j : ℕ). IsThere all before bodies states j o) e (there_at all before places k slot bodies states o same known h at is) in
-    let more : IsNext moves (states_of all) (suc m) n (suc m) n = reached_next moves (states_of all) places k h known.walk in
-    let long : length before ≡ length all = same.long ∙ length-states all in
-    let at_s : s ≡ get_or states m s = is_s ∙ ap (λ (j : ℕ). get_or states j s) e in
-    let was : s ≡ get_or before m s = same_state before states m s here.before here.states here.state at_s in
-    let at_t : t ≡ get_or states m t = is_t ∙ ap (λ (j : ℕ). get_or states j t) e in
-    let alike : t ≡ s = at_t ∙ get_or-any states m t s here.states ∙ sym at_s in
-    let value : after ≡ moved_entry (get_or before m s) o = makes ∙ ap (λ (u : BodyState). moved_entry u o) (alike ∙ was) in
-    let bodies_more : slice_set bodies m after ≡ moved_bodies (take (suc m) all) (take (suc m) before) ++ drop (suc m) all =
-    rw add-one at (moved_more all bodies before m o after s here.all long known.bodies here.now value) in
-    let states_more : slice_set states m (begun s) ≡ map begun (take (suc m) before) ++ drop (suc m) before =
-    rw add-one at (map_over_more begun before states m s here.before known.states at_s) in
+pub walked_more : (is : BodyState → Bool) (all : List (Option Body)) (before : List BodyState) (places : List ℕ) (k slot : ℕ) (os os_after : List (Option Body)) (ss ss_after : List BodyState)
+    → length before ≡ length all → HasMoved is all before places k os ss → k < length places → slot ≡ get_or places k 0
+    → os_after ≡ slice_set os slot (moved_entry (get_or ss slot nobody) (get_or os slot None)) → ss_after ≡ slice_set ss slot (begun (get_or ss slot nobody)) → HasMoved is all before places (suc k) os_after ss_after
+walked_more is all before places k slot os os_after ss ss_after long known h at puts begins =
+    let m = reached places k before in
+    let n = reached places (suc k) before in
+    let e : slot ≡ m = at ∙ get_or_default places k 0 (length before) h in
+    let here : IsThere is all before os ss m = subst (λ (j : ℕ). IsThere is all before os ss j) e (there_at is all before places k slot os ss long known h at) in
+    let more : IsNext is before (suc m) n (suc m) n = reached_next is before places k h known.walk in
+    let s : BodyState = get_or before m nobody in
+    let o : Option Body = get_or all m None in
+    let entry : moved_entry (get_or ss m nobody) (get_or os m None) ≡ moved_where_one is s o = (λ j. moved_entry (here.state j) (here.body j)) ∙ (λ j. cond (sym here.passes j) (moved_entry s o) o) in
+    let state : begun (get_or ss m nobody) ≡ begun_where_one is s = ap begun here.state ∙ (λ j. cond (sym here.passes j) (begun s) s) in
+    let bodies_more : slice_set os m (moved_entry (get_or ss m nobody) (get_or os m None)) ≡ moved_where is (take (suc m) all) (take (suc m) before) ++ drop (suc m) all =
+    (λ j. slice_set (known.bodies j) m (entry j)) ∙ next_moved is all before m None nobody here.all long in
+    let states_more : slice_set ss m (begun (get_or ss m nobody)) ≡ begun_where is (take (suc m) before) ++ drop (suc m) before =
+    (λ j. slice_set (known.states j) m (state j)) ∙ next_begun is before m nobody here.before in
     record {
-      walk = reached_more moves (states_of all) places k h known.walk;
-      bodies = rw e (bodies_more ∙ sym (bodies_still all before (suc m) n more.from long more.others));
-      states = rw (e, begins) (states_more ∙ sym (states_still all before (suc m) n more.from same more.others));
+      walk = reached_more is before places k h known.walk;
+      bodies = puts ∙ (λ j. slice_set os (e j) (moved_entry (get_or ss (e j) nobody) (get_or os (e j) None))) ∙ bodies_more ∙ sym (bodies_still is all before (suc m) n more.from long more.others);
+      states = begins ∙ (λ j. slice_set ss (e j) (begun (get_or ss (e j) nobody))) ∙ states_more ∙ sym (map_still (begun_where_one is) before (suc m) n more.from (λ j x lo hi f. still_begun is x (more.others j x lo hi f)));
+    }
+  where
+    next_begun : (p : BodyState → Bool) (xs : List BodyState) (i : ℕ) (d : BodyState) → i < length xs → slice_set (begun_where p (take i xs) ++ drop i xs) i (begun_where_one p (get_or xs i d)) ≡ begun_where p (take (suc i) xs) ++ drop (suc i) xs
+    next_begun p [] i d lt = absurd (omega (arith, lt))
+    next_begun p (x ∷ xs) zero d lt = refl
+    next_begun p (x ∷ xs) (suc i) d lt = ap (λ (l : List BodyState). begun_where_one p x ∷ l) (next_begun p xs i d (omega (arith, lt)))
+
+begun_whole : (is : BodyState → Bool) (states : List BodyState) (i : ℕ) → length states ≤ i → (begun_where is (take i states) ++ drop i states) ≡ begun_where is states
+begun_whole is [] zero h = refl
+begun_whole is [] (suc i) h = refl
+begun_whole is (s ∷ ss) zero h = absurd (omega arith)
+begun_whole is (s ∷ ss) (suc i) h = ap (λ (l : List BodyState). begun_where_one is s ∷ l) (begun_whole is ss i (omega (arith, h)))
+
+pub record IsWalked (is : BodyState → Bool) (all : List (Option Body)) (before : List BodyState) (os : List (Option Body)) (ss : List BodyState) : Type 0 where
+  pub bodies : os ≡ moved_where is all before
+  pub states : ss ≡ begun_where is before
+
+pub walked_last : (is : BodyState → Bool) (all : List (Option Body)) (before : List BodyState) (places : List ℕ) (k : ℕ) (os : List (Option Body)) (ss : List BodyState)
+    → length before ≡ length all → HasMoved is all before places k os ss → length places ≤ k → IsWalked is all before os ss
+walked_last is all before places k os ss long known h =
+    let ended = reached_last before places k h in
+    record {
+      bodies = known.bodies ∙ moved_whole is all before (reached places k before) (omega (arith, ended, long)) long;
+      states = known.states ∙ begun_whole is before (reached places k before) (omega (arith, ended));
     }
 
-begun_whole : (states : List BodyState) (i : ℕ) → length states ≤ i → (map begun (take i states) ++ drop i states) ≡ map begun states
-begun_whole [] zero h = refl
-begun_whole [] (suc i) h = refl
-begun_whole (s ∷ ss) zero h = absurd (omega (arith, h))
-begun_whole (s ∷ ss) (suc i) h = ap (λ (l : List BodyState). begun s ∷ l) (begun_whole ss i (omega (arith, h)))
+-- ---- what the second walk begins with
+
+length-where : (is : BodyState → Bool) (all : List (Option Body)) (before : List BodyState) → length (moved_where is all before) ≡ length all
+length-where is [] before = refl
+length-where is (o ∷ os) [] = refl
+length-where is (o ∷ os) (s ∷ ss) = ap suc (length-where is os ss)
+
+length-begun_all : (is : BodyState → Bool) (before : List BodyState) → length (begun_where is before) ≡ length before
+length-begun_all is [] = refl
+length-begun_all is (s ∷ ss) = ap suc (length-begun_all is ss)
+
+pub second_long : (all : List (Option Body)) (before : List BodyState) → length before ≡ length all → length (begun_where moves before) ≡ length (moved_where moves all before)
+second_long all before long = length-begun_all moves before ∙ long ∙ sym (length-where moves all before)
+
+carried_begun : (is : BodyState → Bool) (s : BodyState) → step.is_carried (begun_where_one is s) ≡ step.is_carried s
+carried_begun is s = by (is s)
+  where
+    by : (t : Bool) → step.is_carried (cond t (begun s) s) ≡ step.is_carried s
+    by true = refl
+    by false = refl
+
+places_begun : (is : BodyState → Bool) (states : List BodyState) (n : ℕ) → places_from step.is_carried n (begun_where is states) ≡ places_from step.is_carried n states
+places_begun is [] n = refl
+places_begun is (s ∷ ss) n = λ j. cond (carried_begun is s j) (n ∷ places_begun is ss (suc n) j) (places_begun is ss (suc n) j)
+
+pub second_places : (before : List BodyState) (places : List ℕ) → places ≡ carried_of before → places ≡ places_from step.is_carried 0 (begun_where moves before)
+second_places before places e = e ∙ sym (places_begun moves before 0)
+
+-- a slot that the first walk has passed by
+body_passed : (all : List (Option Body)) (before : List BodyState) (slot : ℕ) → moves (get_or before slot nobody) ≡ false → get_or (moved_where moves all before) slot None ≡ get_or all slot None
+body_passed [] before slot off1 = refl
+body_passed (o ∷ os) [] slot off1 = refl
+body_passed (o ∷ os) (s ∷ ss) zero off1 = λ j. cond (off1 j) (moved_entry s o) o
+body_passed (o ∷ os) (s ∷ ss) (suc slot) off1 = body_passed os ss slot off1
+
+state_passed : (before : List BodyState) (slot : ℕ) → moves (get_or before slot nobody) ≡ false → get_or (begun_where moves before) slot nobody ≡ get_or before slot nobody
+state_passed [] slot off1 = refl
+state_passed (s ∷ ss) zero off1 = λ j. cond (off1 j) (begun s) s
+state_passed (s ∷ ss) (suc slot) off1 = state_passed ss slot off1
+
+-- ---- a body fits the state in its slot
+
+like_at : (all : List (Option Body)) (before : List BodyState) (slot : ℕ) → AreSameBeside (states_of all) before → slot < length all → IsLike (state_of (get_or all slot None)) (get_or before slot nobody)
+like_at [] before slot same h = absurd (omega (arith, h))
+like_at (o ∷ os) [] slot same h = absurd (let long = same.long in omega (arith, long))
+like_at (o ∷ os) (s ∷ ss) zero same h = like_first o os s ss same
+like_at (o ∷ os) (s ∷ ss) (suc slot) same h = like_at os ss slot (tail_same o os s ss same) (omega (arith, h))
+
+pub fits_at : (all : List (Option Body)) (before : List BodyState) (slot : ℕ) → AreBodies all → AreAllStates before → HaveCourses before → AreSameBeside (states_of all) before → slot < length all → slot < length before
+    → ForSome (get_or all slot None) (FitsState (get_or before slot nobody))
+fits_at all before slot bodies states courses same h k = λ b e.
+    let is : IsBody b = bodies slot b (slice_get-get_or all slot None h ∙ ap Some e) in
+    let like : IsLike (state_of (Some b)) (get_or before slot nobody) = subst (λ (o : Option Body). IsLike (state_of o) (get_or before slot nobody)) e (like_at all before slot same h) in
+    fits_state b (get_or before slot nobody) is (state_at before slot nobody states k) (course_at before slot (get_or before slot nobody) nobody courses k refl) like
+
+pub fits_first : (all : List (Option Body)) (before : List BodyState) (os : List (Option Body)) (ss : List BodyState) (slot : ℕ) → AreBodies all → AreAllStates before → HaveCourses before → AreSameBeside (states_of all) before
+    → IsThere moves all before os ss slot → ForSome (get_or os slot None) (FitsState (get_or ss slot nobody))
+fits_first all before os ss slot bodies states courses same there =
+    let known : ForSome (get_or all slot None) (FitsState (get_or before slot nobody)) = fits_at all before slot bodies states courses same there.all there.before in
+    λ b e. subst (λ (s : BodyState). FitsState s b) (sym there.state) (known b (sym there.body ∙ e))
+
+fixed_if : (t u : Bool) → cond t false u ≡ true → t ≡ false
+fixed_if true u h = absurd (cc h)
+fixed_if false u h = refl
+
+pub fits_second : (all : List (Option Body)) (before : List BodyState) (os : List (Option Body)) (ss : List BodyState) (slot : ℕ) → AreBodies all → AreAllStates before → HaveCourses before → AreSameBeside (states_of all) before
+    → IsThere step.is_carried (moved_where moves all before) (begun_where moves before) os ss slot → ForSome (get_or os slot None) (FitsState (get_or ss slot nobody))
+fits_second all before os ss slot bodies states courses same there =
+    let long : slot < length all = let h = there.all in let l = length-where moves all before in omega (arith, h, l) in
+    let below : slot < length before = let h = there.before in let l = length-begun_all moves before in omega (arith, h, l) in
+    let carried : step.is_carried (get_or before slot nobody) ≡ true = sym (passed_on before slot) ∙ there.passes in
+    let rests : moves (get_or before slot nobody) ≡ false = fixed_if (get_or before slot nobody).movable (not (int_eq (get_or before slot nobody).mass.inertia (pos 0))) carried in
+    let known : ForSome (get_or all slot None) (FitsState (get_or before slot nobody)) = fits_at all before slot bodies states courses same long below in
+    λ b e. subst (λ (s : BodyState). FitsState s b) (sym (there.state ∙ state_passed before slot rests)) (known b (sym (there.body ∙ body_passed all before slot rests) ∙ e))
+  where
+    passed_on : (xs : List BodyState) (i : ℕ) → step.is_carried (get_or (begun_where moves xs) i nobody) ≡ step.is_carried (get_or xs i nobody)
+    passed_on [] i = refl
+    passed_on (x ∷ xs) zero = carried_begun moves x
+    passed_on (x ∷ xs) (suc i) = passed_on xs i
+
+-- ---- both walks
 
 pub record IsMoved (all : List (Option Body)) (before : List BodyState) (os : List (Option Body)) (ss : List BodyState) : Type 0 where
   pub bodies : os ≡ moved_bodies all before
   pub states : ss ≡ states_of os
 
-pub walked_last : (all : List (Option Body)) (before : List BodyState) (places : List ℕ) (k : ℕ) (bodies : List (Option Body)) (states : List BodyState)
-    → AreSameStates (states_of all) before → HasMoved all before places k bodies states → length places ≤ k → IsMoved all before bodies states
-walked_last all before places k bodies states same known h =
-    let m = reached places k (states_of all) in
-    let as_long = length-states all in
-    let long : length before ≡ length all = same.long ∙ as_long in
-    let ended = reached_last (states_of all) places k h in
-    let is_bodies : bodies ≡ moved_bodies all before = known.bodies ∙ moved_whole all before m (omega (arith, ended, as_long)) long in
-    let is_states : states ≡ map begun before = known.states ∙ begun_whole before m (omega (arith, ended, as_long, long)) in
-    record { bodies = is_bodies; states = is_states ∙ all_begun all before same ∙ ap states_of (sym is_bodies) }
+pub both_walked : (all : List (Option Body)) (before : List BodyState) (os : List (Option Body)) (ss : List BodyState) → AreSameBeside (states_of all) before → IsWalked step.is_carried (moved_where moves all before) (begun_where moves before) os ss
+    → IsMoved all before os ss
+both_walked all before os ss same walked =
+    let is_bodies : os ≡ moved_bodies all before = walked.bodies ∙ both_moved all before same in
+    record { bodies = is_bodies; states = walked.states ∙ both_begun all before same ∙ ap states_of (sym is_bodies) }
 
-movers_begun : (states : List BodyState) (n : ℕ) → places_from moves n (map begun states) ≡ places_from moves n states
-movers_begun [] n = refl
-movers_begun (s ∷ ss) n = rw (movers_begun ss (suc n)) refl
+-- the same bodies move as before, and are carried along
+movable_begun : (is : BodyState → Bool) (s : BodyState) → moves (begun_where_one is s) ≡ moves s
+movable_begun is s = by (is s)
+  where
+    by : (t : Bool) → moves (cond t (begun s) s) ≡ moves s
+    by true = refl
+    by false = refl
 
--- the same bodies move as before
-pub movers_both : (all : List (Option Body)) (before : List BodyState) (os : List (Option Body)) (ss : List BodyState) → AreSameStates (states_of all) before → os ≡ moved_bodies all before → ss ≡ states_of os → movers_of ss ≡ movers_of (states_of all)
-movers_both all before os ss same is_bodies is_states =
-    let whole : ss ≡ map begun before = is_states ∙ ap states_of is_bodies ∙ sym (all_begun all before same) in
-    ap movers_of whole ∙ movers_begun before 0 ∙ movers_same (states_of all) before same
+movers_begun : (is : BodyState → Bool) (states : List BodyState) (n : ℕ) → places_from moves n (begun_where is states) ≡ places_from moves n states
+movers_begun is [] n = refl
+movers_begun is (s ∷ ss) n = λ j. cond (movable_begun is s j) (n ∷ movers_begun is ss (suc n) j) (movers_begun is ss (suc n) j)
+
+pub movers_both : (before ss : List BodyState) → ss ≡ begun_where step.is_carried (begun_where moves before) → movers_of ss ≡ movers_of before
+movers_both before ss e = ap movers_of e ∙ movers_begun step.is_carried (begun_where moves before) 0 ∙ movers_begun moves before 0
+
+pub carried_both : (before ss : List BodyState) → ss ≡ begun_where step.is_carried (begun_where moves before) → carried_of ss ≡ carried_of before
+carried_both before ss e = ap carried_of e ∙ places_begun step.is_carried (begun_where moves before) 0 ∙ places_begun moves before 0

@@ -31,7 +31,7 @@ use Rattle.colour_solver.specs.ContactTurns.{AreRowsBelow, IsRowBelow}
 use Rattle.colour_solver.specs.States.{nobody}
 use Rattle.plain_world.specs.declared.body.Body.{Body}
 use Rattle.plain_world.specs.Bodies.{AreBodies, IsBody}
-use Rattle.plain_world.specs.Slots.{body_at, body_in}
+use Rattle.plain_world.specs.Slots.{body_at}
 use Rattle.world_core_base.specs.Gather.{AreContactsOf, AreContactsOn, IsContactOf, IsContactOn, bodies_of, impulses_of, moves, put_row, row_in, row_of, states_of, with_row, with_rows}
 use Rattle.world_core_base.proofs.GatherLaws.{length-states, movable_at}
 

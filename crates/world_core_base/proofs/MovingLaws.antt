@@ -1,63 +1,90 @@
--- Motions given back and fat boxes made anew, slot after slot.
-use Rattle.std.proofs.Common.{◌≡◌, ℕ, zero, suc, ◌+◌, ◌<◌, ◌≤◌, List, [], ◌∷◌, ◌++◌, length, get_or, take, drop, Option, arith, refl, ap, ◌∙◌, slice_set, add-one}
-use Rattle.std.specs.Prelude.{option_map}
+-- Motions given back and fat boxes made anew, of those bodies whose states pass a test.
+use Rattle.std.proofs.Common.{◌≡◌, ℕ, zero, suc, ◌+◌, ◌<◌, ◌≤◌, Bool, cond, true, false, List, [], ◌∷◌, ◌++◌, length, get_or, take, drop, map, Option, None, arith, refl, ap, ◌∙◌, slice_set}
 use Rattle.momenta.specs.declared.state.BodyState.{BodyState}
-use Rattle.colour_solver.specs.States.{AreAllStates, AreSameStates, total_x, total_y}
+use Rattle.colour_solver.specs.States.{AreAllStates, AreSameBeside, HaveCourses, total_x, total_y}
+use Rattle.colour_solver.proofs.PlaceLaws.{AreOthers}
 use Rattle.plain_world.specs.declared.body.Body.{Body}
 use Rattle.plain_world.specs.Bodies.{AreBodies, momentum_x, momentum_y}
 use Rattle.plain_world.specs.Slots.{HaveSameSlots}
-use Rattle.world_core_base.specs.Gather.{states_of, with_motion, with_motions}
-use Rattle.world_core_base.specs.Renewal.{with_renewed, renewed_bodies}
+use Rattle.world_core_base.specs.Gather.{begun, states_of, with_motions}
+use Rattle.world_core_base.specs.Moved.{moved_entry}
+use Rattle.world_core_base.specs.Renewal.{renewed_bodies}
 use Rattle.world_core_base.proofs.GatherLaws.{bodies-moved, momentum_x-moved, momentum_y-moved, slots-moved}
 use Rattle.world_core_base.proofs.RenewalLaws.{bodies-renewed, momentum_x-renewed, momentum_y-renewed, slots-renewed}
 
-abbrev pub moved_entry : BodyState → Option Body → Option Body
-moved_entry s o = option_map with_renewed (option_map (with_motion s) o)
-
--- each mover with the motion of its state, and its fat boxes made anew there
+-- each body with the motion of its state, and its fat boxes made anew there
 abbrev pub moved_bodies : List (Option Body) → List BodyState → List (Option Body)
 moved_bodies bodies states = renewed_bodies (with_motions bodies states)
 
+-- ---- those whose states pass a test
+
+abbrev pub moved_where_one : (BodyState → Bool) → BodyState → Option Body → Option Body
+moved_where_one is s o = cond (is s) (moved_entry s o) o
+
+abbrev pub moved_where : (BodyState → Bool) → List (Option Body) → List BodyState → List (Option Body)
+moved_where is [] states = []
+moved_where is (o ∷ bodies) [] = o ∷ bodies
+moved_where is (o ∷ bodies) (s ∷ states) = moved_where_one is s o ∷ moved_where is bodies states
+
+abbrev pub begun_where_one : (BodyState → Bool) → BodyState → BodyState
+begun_where_one is s = cond (is s) (begun s) s
+
+abbrev pub begun_where : (BodyState → Bool) → List BodyState → List BodyState
+begun_where is states = map (begun_where_one is) states
+
 -- ---- the loop over the slots
 
-next_moved : (all : List (Option Body)) (states : List BodyState) (i : ℕ) (d : Option Body) (e : BodyState) → i < length all → length states ≡ length all
-    → slice_set (moved_bodies (take i all) (take i states) ++ drop i all) i (moved_entry (get_or states i e) (get_or all i d)) ≡ moved_bodies (take (suc i) all) (take (suc i) states) ++ drop (suc i) all
-next_moved [] states i d e h k = absurd (omega arith)
-next_moved (o ∷ os) [] i d e h k = absurd (omega arith)
-next_moved (o ∷ os) (s ∷ ss) zero d e h k = refl
-next_moved (o ∷ os) (s ∷ ss) (suc i) d e h k = ap (λ (l : List (Option Body)). moved_entry s o ∷ l) (next_moved os ss i d e (omega arith) (omega arith))
+pub next_moved : (is : BodyState → Bool) (all : List (Option Body)) (states : List BodyState) (i : ℕ) (d : Option Body) (e : BodyState) → i < length all → length states ≡ length all
+    → slice_set (moved_where is (take i all) (take i states) ++ drop i all) i (moved_where_one is (get_or states i e) (get_or all i d)) ≡ moved_where is (take (suc i) all) (take (suc i) states) ++ drop (suc i) all
+next_moved is [] states i d e h k = absurd (omega arith)
+next_moved is (o ∷ os) [] i d e h k = absurd (omega arith)
+next_moved is (o ∷ os) (s ∷ ss) zero d e h k = refl
+next_moved is (o ∷ os) (s ∷ ss) (suc i) d e h k = ap (λ (l : List (Option Body)). moved_where_one is s o ∷ l) (next_moved is os ss i d e (omega arith) (omega arith))
 
-still_there : (all : List (Option Body)) (states : List BodyState) (i : ℕ) (d : Option Body) → i < length all → length states ≡ length all
-    → get_or (moved_bodies (take i all) (take i states) ++ drop i all) i d ≡ get_or all i d
-still_there [] states i d h k = absurd (omega arith)
-still_there (o ∷ os) [] i d h k = absurd (omega arith)
-still_there (o ∷ os) (s ∷ ss) zero d h k = refl
-still_there (o ∷ os) (s ∷ ss) (suc i) d h k = still_there os ss i d (omega arith) (omega arith)
+pub still_there : (is : BodyState → Bool) (all : List (Option Body)) (states : List BodyState) (i : ℕ) (d : Option Body) → i < length all → length states ≡ length all
+    → get_or (moved_where is (take i all) (take i states) ++ drop i all) i d ≡ get_or all i d
+still_there is [] states i d h k = absurd (omega arith)
+still_there is (o ∷ os) [] i d h k = absurd (omega arith)
+still_there is (o ∷ os) (s ∷ ss) zero d h k = refl
+still_there is (o ∷ os) (s ∷ ss) (suc i) d h k = still_there is os ss i d (omega arith) (omega arith)
 
--- the slot that is next is as it was
-pub next_is : (all items : List (Option Body)) (states : List BodyState) (i : ℕ) (now : Option Body) → i < length all → length states ≡ length all
-    → items ≡ moved_bodies (take i all) (take i states) ++ drop i all → now ≡ get_or items i now → now ≡ get_or all i now
-next_is all items states i now h k is here = here ∙ ap (λ (l : List (Option Body)). get_or l i now) is ∙ still_there all states i now h k
-
-pub moved_more : (all items : List (Option Body)) (states : List BodyState) (i : ℕ) (now after : Option Body) (d : BodyState) → i < length all → length states ≡ length all
-    → items ≡ moved_bodies (take i all) (take i states) ++ drop i all → now ≡ get_or items i now → after ≡ moved_entry (get_or states i d) now
-    → slice_set items i after ≡ moved_bodies (take (i + 1) all) (take (i + 1) states) ++ drop (i + 1) all
-moved_more all items states i now after d h k is here made =
-    let value : after ≡ moved_entry (get_or states i d) (get_or all i now) = made ∙ ap (moved_entry (get_or states i d)) (next_is all items states i now h k is here) in
-    rw (is, value, add-one) (next_moved all states i now d h k)
+pub length-moved_so_far : (is : BodyState → Bool) (all : List (Option Body)) (states : List BodyState) (a : ℕ) → length states ≡ length all → length (moved_where is (take a all) (take a states) ++ drop a all) ≡ length all
+length-moved_so_far is [] states zero long = refl
+length-moved_so_far is [] states (suc a) long = refl
+length-moved_so_far is (o ∷ os) [] a long = absurd (omega (arith, long))
+length-moved_so_far is (o ∷ os) (s ∷ ss) zero long = refl
+length-moved_so_far is (o ∷ os) (s ∷ ss) (suc a) long = ap suc (length-moved_so_far is os ss a (omega (arith, long)))
 
 -- once all slots were seen
-pub moved_whole : (all : List (Option Body)) (states : List BodyState) (i : ℕ) → length all ≤ i → length states ≡ length all → moved_bodies (take i all) (take i states) ++ drop i all ≡ moved_bodies all states
-moved_whole [] states zero h k = refl
-moved_whole [] states (suc i) h k = refl
-moved_whole (o ∷ os) states zero h k = absurd (omega arith)
-moved_whole (o ∷ os) [] (suc i) h k = absurd (omega arith)
-moved_whole (o ∷ os) (s ∷ ss) (suc i) h k = ap (λ (l : List (Option Body)). moved_entry s o ∷ l) (moved_whole os ss i (omega arith) (omega arith))
+pub moved_whole : (is : BodyState → Bool) (all : List (Option Body)) (states : List BodyState) (i : ℕ) → length all ≤ i → length states ≡ length all → moved_where is (take i all) (take i states) ++ drop i all ≡ moved_where is all states
+moved_whole is [] states zero h k = refl
+moved_whole is [] states (suc i) h k = refl
+moved_whole is (o ∷ os) states zero h k = absurd (omega arith)
+moved_whole is (o ∷ os) [] (suc i) h k = absurd (omega arith)
+moved_whole is (o ∷ os) (s ∷ ss) (suc i) h k = ap (λ (l : List (Option Body)). moved_where_one is s o ∷ l) (moved_whole is os ss i (omega arith) (omega arith))
+
+-- from the slot a on to the slot m
+pub bodies_still : (is : BodyState → Bool) (bodies : List (Option Body)) (states : List BodyState) (a m : ℕ) → a ≤ m → length states ≡ length bodies → AreOthers is states a m
+    → (moved_where is (take m bodies) (take m states) ++ drop m bodies) ≡ moved_where is (take a bodies) (take a states) ++ drop a bodies
+bodies_still is [] states zero zero h long others = refl
+bodies_still is [] states zero (suc m) h long others = refl
+bodies_still is [] states (suc a) zero h long others = absurd (omega (arith, h))
+bodies_still is [] states (suc a) (suc m) h long others = refl
+bodies_still is (o ∷ os) [] a m h long others = absurd (omega (arith, long))
+bodies_still is (o ∷ os) (s ∷ ss) zero zero h long others = refl
+bodies_still is (o ∷ os) (s ∷ ss) zero (suc m) h long others =
+    let off1 : is s ≡ false = others zero s (omega arith) (omega arith) refl in
+    let first : moved_where_one is s o ≡ o = rw off1 refl in
+    let rest = bodies_still is os ss zero m (omega arith) (omega (arith, long)) (λ j x lo hi e. others (suc j) x (omega arith) (omega (arith, hi)) e) in
+    ap (λ (l : List (Option Body)). moved_where_one is s o ∷ l) rest ∙ ap (λ (p : Option Body). p ∷ os) first
+bodies_still is (o ∷ os) (s ∷ ss) (suc a) zero h long others = absurd (omega (arith, h))
+bodies_still is (o ∷ os) (s ∷ ss) (suc a) (suc m) h long others =
+    ap (λ (l : List (Option Body)). moved_where_one is s o ∷ l) (bodies_still is os ss a m (omega (arith, h)) (omega (arith, long)) (λ j x lo hi e. others (suc j) x (omega (arith, lo)) (omega (arith, hi)) e))
 
 -- ---- what both leave
 
-pub bodies-both : (bodies : List (Option Body)) (states : List BodyState) → AreBodies bodies → AreAllStates states → AreSameStates (states_of bodies) states → AreBodies (moved_bodies bodies states)
-bodies-both bodies states all given same = bodies-renewed (with_motions bodies states) (bodies-moved bodies states all given same)
+pub bodies-both : (bodies : List (Option Body)) (states : List BodyState) → AreBodies bodies → AreAllStates states → HaveCourses states → AreSameBeside (states_of bodies) states → AreBodies (moved_bodies bodies states)
+bodies-both bodies states all given has same = bodies-renewed (with_motions bodies states) (bodies-moved bodies states all given has same)
 
 pub slots-both : (bodies : List (Option Body)) (states : List BodyState) → HaveSameSlots bodies (moved_bodies bodies states)
 slots-both bodies states =
@@ -65,8 +92,8 @@ slots-both bodies states =
     let second : HaveSameSlots (with_motions bodies states) (moved_bodies bodies states) = slots-renewed (with_motions bodies states) in
     record { slots = second.slots ∙ first.slots; taken = λ slot. second.taken slot ∙ first.taken slot; shapes = λ slot. second.shapes slot ∙ first.shapes slot }
 
-pub momentum_x-both : (bodies : List (Option Body)) (states : List BodyState) → AreSameStates (states_of bodies) states → momentum_x (moved_bodies bodies states) ≡ total_x states
+pub momentum_x-both : (bodies : List (Option Body)) (states : List BodyState) → AreSameBeside (states_of bodies) states → momentum_x (moved_bodies bodies states) ≡ total_x states
 momentum_x-both bodies states same = momentum_x-renewed (with_motions bodies states) ∙ momentum_x-moved bodies states same
 
-pub momentum_y-both : (bodies : List (Option Body)) (states : List BodyState) → AreSameStates (states_of bodies) states → momentum_y (moved_bodies bodies states) ≡ total_y states
+pub momentum_y-both : (bodies : List (Option Body)) (states : List BodyState) → AreSameBeside (states_of bodies) states → momentum_y (moved_bodies bodies states) ≡ total_y states
 momentum_y-both bodies states same = momentum_y-renewed (with_motions bodies states) ∙ momentum_y-moved bodies states same

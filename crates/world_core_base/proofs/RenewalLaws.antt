@@ -1,9 +1,9 @@
 -- Fat boxes made anew change nothing else of a body.
-use Rattle.std.proofs.Common.{◌≡◌, ℕ, zero, suc, List, [], ◌∷◌, length, Option, Some, None, Bool, true, false, cond, refl, ap, arith, is_some, subst}
+use Rattle.std.proofs.Common.{◌≡◌, ℕ, zero, suc, List, [], ◌∷◌, length, Option, Some, None, Bool, true, false, cond, ◌||◌, refl, ap, arith, is_some, subst}
 use Rattle.std.specs.Prelude.{option_map}
 use Rattle.std.proofs.lemmas.Int.{ints}
 use Rattle.plain_world.specs.declared.body.Body.{Body}
-use Rattle.plain_world.specs.Bodies.{is_mover, pose_of, IsBody, AreBodies, p_x, p_y, momentum_x, momentum_y}
+use Rattle.plain_world.specs.Bodies.{can_move, is_carried, is_mover, pose_of, IsBody, AreBodies, p_x, p_y, momentum_x, momentum_y}
 use Rattle.plain_world.specs.Fats.{renewed_boxes}
 use Rattle.plain_world.proofs.BoxLemmas.{renewed_are}
 use Rattle.world_core_base.proofs.GatherLaws.{AreMovedBodies, IsMovedBody}
@@ -13,8 +13,8 @@ use Rattle.shapes.specs.declared.pose.Pose.{Pose}
 use Rattle.shapes.specs.declared.shape.ShapeDef.{ShapeDef}
 use Rattle.fixed_geom.specs.declared.boxes.Box2.{Box2}
 
-kept_if : (m : Bool) (b : Body) → is_mover b ≡ m → IsMovedBody b → IsBody (cond m (record b { fats = renewed_boxes (pose_of b) b.shapes b.fats }) b)
-kept_if true b e is = record {
+renewed_body : (b : Body) → IsMovedBody b → IsBody (record b { fats = renewed_boxes (pose_of b) b.shapes b.fats })
+renewed_body b is = record {
   mass = is.mass;
   motion = is.motion;
   rest = is.rest;
@@ -24,10 +24,14 @@ kept_if true b e is = record {
   forms = is.forms;
   fats = renewed_are is.before (pose_of b) b.shapes b.fats is.forms (record { x = is.motion.x; rot = is.motion.facing }) is.fats;
 }
-kept_if false b e is = record { mass = is.mass; motion = is.motion; rest = is.rest; course = is.course; halted = is.halted; shapes = is.shapes; forms = is.forms; fats = is.still e }
+
+kept_if : (m c : Bool) (b : Body) → is_mover b ≡ m → is_carried b ≡ c → IsMovedBody b → IsBody (cond (m || c) (record b { fats = renewed_boxes (pose_of b) b.shapes b.fats }) b)
+kept_if true c b e f is = renewed_body b is
+kept_if false true b e f is = renewed_body b is
+kept_if false false b e f is = record { mass = is.mass; motion = is.motion; rest = is.rest; course = is.course; halted = is.halted; shapes = is.shapes; forms = is.forms; fats = is.still e f }
 
 is_body : (b : Body) → IsMovedBody b → IsBody (with_renewed b)
-is_body b is = kept_if (is_mover b) b refl is
+is_body b is = kept_if (is_mover b) (is_carried b) b refl refl is
 
 entry_body : (o : Option Body) (b : Body) → ((a : Body) → o ≡ Some a → IsMovedBody a) → option_map with_renewed o ≡ Some b → IsBody b
 entry_body None b is e = cc
@@ -58,7 +62,7 @@ shapes_if false b = refl
 
 same_shapes : (o : Option Body) → shapes_in (option_map with_renewed o) ≡ shapes_in o
 same_shapes None = refl
-same_shapes (Some b) = shapes_if (is_mover b) b
+same_shapes (Some b) = shapes_if (can_move b) b
 
 shapes-renewed : (bodies : List (Option Body)) (slot : ℕ) → shapes_in (body_at (renewed_bodies bodies) slot) ≡ shapes_in (body_at bodies slot)
 shapes-renewed [] slot = refl
@@ -68,21 +72,21 @@ shapes-renewed (o ∷ os) (suc slot) = shapes-renewed os slot
 pub slots-renewed : (bodies : List (Option Body)) → HaveSameSlots bodies (renewed_bodies bodies)
 slots-renewed bodies = record { slots = same_length bodies; taken = same_taken bodies; shapes = shapes-renewed bodies }
 
-x_if : (m : Bool) (b : Body) → is_mover b ≡ m → p_x (Some (cond m (record b { fats = renewed_boxes (pose_of b) b.shapes b.fats }) b)) ≡ p_x (Some b)
-x_if true b e = refl
-x_if false b e = refl
+x_if : (m : Bool) (b : Body) → p_x (Some (cond m (record b { fats = renewed_boxes (pose_of b) b.shapes b.fats }) b)) ≡ p_x (Some b)
+x_if true b = refl
+x_if false b = refl
 
-y_if : (m : Bool) (b : Body) → is_mover b ≡ m → p_y (Some (cond m (record b { fats = renewed_boxes (pose_of b) b.shapes b.fats }) b)) ≡ p_y (Some b)
-y_if true b e = refl
-y_if false b e = refl
+y_if : (m : Bool) (b : Body) → p_y (Some (cond m (record b { fats = renewed_boxes (pose_of b) b.shapes b.fats }) b)) ≡ p_y (Some b)
+y_if true b = refl
+y_if false b = refl
 
 x_same : (o : Option Body) → p_x (option_map with_renewed o) ≡ p_x o
 x_same None = refl
-x_same (Some b) = x_if (is_mover b) b refl
+x_same (Some b) = x_if (can_move b) b
 
 y_same : (o : Option Body) → p_y (option_map with_renewed o) ≡ p_y o
 y_same None = refl
-y_same (Some b) = y_if (is_mover b) b refl
+y_same (Some b) = y_if (can_move b) b
 
 pub momentum_x-renewed : (bodies : List (Option Body)) → momentum_x (renewed_bodies bodies) ≡ momentum_x bodies
 momentum_x-renewed [] = refl

@@ -25,15 +25,17 @@ use Rattle.colour_solver_base.specs.Rows.{row_bounced, row_solved, row_warmed}
 use Rattle.colour_solver_base.specs.ContactSolving.{SolvedContact, SolvedPoint, at_points, contact_bounced, contact_solved, contact_warmed, from_first, point_bounced, point_solved, point_warmed}
 use Rattle.colour_solver_base.proofs.ContactRows.{rows_are_contacts}
 use Rattle.colour_solver.specs.Passes as arrays
-use Rattle.colour_solver.specs.States.{carrier, nobody}
+use Rattle.colour_solver.specs.States as step
+use Rattle.colour_solver.specs.States.{carrier, nobody, standing}
 use Rattle.colour_solver.specs.Ticks as runs
-use Rattle.colour_solver.specs.Ticks.{Run, clamp_all, pull_all, ran, run_of, start, turn_all}
+use Rattle.colour_solver.specs.Ticks.{Run, carry_all, clamp_all, pull_all, ran, run_of, start, turn_all}
 use Rattle.plain_world.specs.declared.body.Body.{Body}
-use Rattle.plain_world.specs.Bodies.{is_awake}
+use Rattle.plain_world.specs.Bodies.{is_awake, is_carried}
 use Rattle.world_core_base.specs.Carried.{solver_mass}
 use Rattle.world_core_base.specs.Gather.{bodies_of, row_of, rows_in, rows_of, state_of, states_of}
-use Rattle.world_core_base.specs.Solving.{ContactTurn, Moving, Solving, all_changed, begin, bounce, changed, clamp, gain, gain_of, moving, moving_at, pass, plus, pull, solve, solve_order, solved, state_with, tick, ticks, turn, turn_between, warm}
+use Rattle.world_core_base.specs.Solving.{ContactTurn, Moving, Solving, all_changed, along, begin, bounce, carry, changed, clamp, gain, gain_of, moving, moving_at, pass, plus, pull, solve, solve_order, solved, state_with, tick, ticks, turn, turn_between, warm}
 use Rattle.world_core_base.specs.SolvingArrays.{CanSolve, HasEnds}
+use Rattle.world_core_base.proofs.GatherLaws.{carried_state, mass_carried}
 use Rattle.world_core_base.proofs.SolvingTurns.{AreOnce, IsPassed, IsTurnAlike, body_of, held, less_itself, pass_alike, stood, stood_turn}
 
 -- the run that a solving is
@@ -101,9 +103,13 @@ same_turns f g bodies order law once there = record {
 
 -- ---- a pass over the bodies
 
+-- the mass that a body shows, where t tells whether it is an awake mover
+abbrev shown_if : Bool → Body → MassData
+shown_if t b = cond t b.mass (cond (is_carried b) carrier standing)
+
 -- a mover's state where t tells whether it moves
 abbrev state_if : Bool → Moving → BodyState
-state_if t m = record { movable = t; mass = cond t m.body.mass carrier; motion = m.motion; start = m.body.motion.x; reciprocals = reciprocals_of (cond t m.body.mass carrier) }
+state_if t m = record { movable = t; mass = shown_if t m.body; motion = m.motion; start = m.body.motion.x; reciprocals = reciprocals_of (shown_if t m.body) }
 
 changed_by : (t : Bool) (f : MassData → Motion → Motion) (m : Moving)
     → arrays.changed f (state_if t m) ≡ record (state_if t m) { motion = (cond t (record m { motion = f m.body.mass m.motion }) m).motion }
@@ -181,6 +187,45 @@ same_clamp f bodies order = record {
   stays = λ s e. stood_changed f s.bodies ∙ e;
 }
 
+-- ---- the bodies that are carried along
+
+along_by : (t : Bool) (m : Moving) → step.is_carried (state_with m.body m.motion) ≡ t → is_carried m.body ≡ t → arrays.carried_along (state_with m.body m.motion) ≡ state_with (cond t (record m { motion = advanced carrier m.motion }) m).body (cond t (record m { motion = advanced carrier m.motion }) m).motion
+along_by true m e f =
+    let mass : solver_mass m.body ≡ carrier = mass_carried m.body f in
+    (λ j. cond (e j) (record (state_with m.body m.motion) { motion = advanced (solver_mass m.body) m.motion }) (state_with m.body m.motion)) ∙ (λ j. record (state_with m.body m.motion) { motion = advanced (mass j) m.motion })
+along_by false m e f = (λ j. cond (e j) (record (state_with m.body m.motion) { motion = advanced (solver_mass m.body) m.motion }) (state_with m.body m.motion))
+
+held_along : (o : Option Moving) → arrays.carried_along (held o) ≡ held (option_map along o)
+held_along None = refl
+held_along (Some m) = along_by (is_carried m.body) m (carried_state m.body) refl ∙ (λ j. along_there (is_carried m.body) m j)
+  where
+    along_there : (t : Bool) (m : Moving) → state_with (cond t (record m { motion = advanced carrier m.motion }) m).body (cond t (record m { motion = advanced carrier m.motion }) m).motion ≡ held (Some (cond t (record m { motion = advanced carrier m.motion }) m))
+    along_there t m = refl
+
+all_along : (ms : List (Option Moving)) → arrays.carry (map held ms) ≡ map held (map (option_map along) ms)
+all_along [] = refl
+all_along (o ∷ ms) = λ j. held_along o j ∷ all_along ms j
+
+stood_along : (ms : List (Option Moving)) → stood (map (option_map along) ms) ≡ stood ms
+stood_along [] = refl
+stood_along (None ∷ ms) = ap (λ (l : List (Option Body)). None ∷ l) (stood_along ms)
+stood_along (Some m ∷ ms) = λ j. Some (body_changed_by (is_carried m.body) m (record m { motion = advanced carrier m.motion }) refl j) ∷ stood_along ms j
+
+same_carry : (bodies : List (Option Body)) (order : List Constraint) → IsSamePass bodies order carry_all carry
+same_carry bodies order = record {
+  run = λ s e. λ j. record {
+    states = all_along s.bodies j;
+    rows = filter_map (row_of (states_of bodies) s.contacts) order;
+    gravity_x = s.sums.gravity.x;
+    gravity_y = s.sums.gravity.y;
+    immovable_x = s.sums.immovable.x;
+    immovable_y = s.sums.immovable.y;
+    clamp_x = s.sums.clamp.x;
+    clamp_y = s.sums.clamp.y;
+  };
+  stays = λ s e. stood_along s.bodies ∙ e;
+}
+
 -- ---- the turns of contacts
 
 idle_points : (f : ContactPoint → Ends → SolvedPoint) (c : Contact) (now : Ends) → c.first ≡ None → at_points f c now ≡ record { contact = c; ends = now }
@@ -216,7 +261,8 @@ same_tick g bodies order once there =
     (then_pass bodies order _ _ _ _ (same_clamp clamped bodies order)
     (then_pass bodies order _ _ _ _ (same_turns warm row_warmed bodies order warm_alike once there)
     (then_pass bodies order _ _ _ _ (same_turns solve row_solved bodies order solve_alike once there)
-    (then_pass bodies order _ _ _ _ (same_clamp clamped bodies order) (same_clamp advanced bodies order)))))
+    (then_pass bodies order _ _ _ _ (same_clamp clamped bodies order)
+    (then_pass bodies order _ _ _ _ (same_clamp advanced bodies order) (same_carry bodies order))))))
 
 same_none : (bodies : List (Option Body)) (order : List Constraint) → IsSamePass bodies order (λ r. r) (λ s. s)
 same_none bodies order = record { run = λ s e. refl; stays = λ s e. e }

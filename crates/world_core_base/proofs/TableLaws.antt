@@ -4,13 +4,15 @@ use Rattle.std.specs.Prelude.{slice_index_or}
 use Rattle.std.proofs.lemmas.Bool.{cases_Bool, cases_lt}
 use Rattle.std.proofs.lemmas.Bool.Decides.{nat_tests}
 use Rattle.momenta.specs.declared.state.BodyState.{BodyState}
-use Rattle.colour_solver.specs.States.{moves, movers_of, nobody}
+use Rattle.colour_solver.specs.States as step
+use Rattle.colour_solver.specs.States.{carried_of, moves, movers_of, nobody, places_from}
+use Rattle.plain_world.specs.Bodies.{is_carried}
 use Rattle.plain_world.specs.declared.body.Body.{Body}
 use Rattle.world_core_base.specs.Awake.{with_slot, with_state, without_slot}
 use Rattle.world_core_base.specs.Gather.{state_of, states_of}
-use Rattle.plain_world.specs.Changes.{is_awake_in}
+use Rattle.plain_world.specs.Changes.{is_awake_in, is_carried_in}
 use Rattle.plain_world.specs.Slots.{body_at, with_body}
-use Rattle.world_core_base.proofs.GatherLaws.{length-states}
+use Rattle.world_core_base.proofs.GatherLaws.{carried_state, length-states}
 use Rattle.world_core_base.proofs.SlotsRising.{places-append_off, places-append_on, places-set_off, places-set_on, places-set_same}
 
 pub states-set : (bodies : List (Option Body)) (slot : ℕ) (o : Option Body) → slice_set (states_of bodies) slot (state_of o) ≡ states_of (slice_set bodies slot o)
@@ -43,30 +45,39 @@ empty_at (None ∷ os) zero d h e = refl
 empty_at (Some b ∷ os) zero d h e = absurd (cc e)
 empty_at (o ∷ os) (suc slot) d h e = empty_at os slot d (omega (arith, h)) e
 
-put_inside : (t : Bool) (ss : List BodyState) (slot : ℕ) (s : BodyState) → s.movable ≡ t → slot < length ss → (get_or ss slot s).movable ≡ false → cond t (with_slot slot (movers_of ss)) (movers_of ss) ≡ movers_of (slice_set ss slot s)
-put_inside true ss slot s e h off = places-set_on moves ss 0 slot slot s (omega arith) h e off
-put_inside false ss slot s e h off = sym (places-set_same moves ss 0 slot s (e ∙ sym off))
+put_inside : (is : BodyState → Bool) (t : Bool) (ss : List BodyState) (slot : ℕ) (s : BodyState) → is s ≡ t → slot < length ss → is (get_or ss slot s) ≡ false → cond t (with_slot slot (places_from is 0 ss)) (places_from is 0 ss) ≡ places_from is 0 (slice_set ss slot s)
+put_inside is true ss slot s e h off = places-set_on is ss 0 slot slot s (omega arith) h e off
+put_inside is false ss slot s e h off = sym (places-set_same is ss 0 slot s (e ∙ sym off))
 
-put_behind : (t : Bool) (ss : List BodyState) (slot : ℕ) (s : BodyState) → s.movable ≡ t → slot ≡ length ss → cond t (with_slot slot (movers_of ss)) (movers_of ss) ≡ movers_of (ss ++ s ∷ [])
-put_behind true ss slot s e h = places-append_on moves ss 0 slot s (omega (arith, h)) e
-put_behind false ss slot s e h = sym (places-append_off moves ss 0 s e)
+put_behind : (is : BodyState → Bool) (t : Bool) (ss : List BodyState) (slot : ℕ) (s : BodyState) → is s ≡ t → slot ≡ length ss → cond t (with_slot slot (places_from is 0 ss)) (places_from is 0 ss) ≡ places_from is 0 (ss ++ s ∷ [])
+put_behind is true ss slot s e h = places-append_on is ss 0 slot s (omega (arith, h)) e
+put_behind is false ss slot s e h = sym (places-append_off is ss 0 s e)
 
-put_movers_of : (bodies : List (Option Body)) (slot : ℕ) (s : BodyState) → slot ≤ length bodies → body_at bodies slot ≡ None → cond s.movable (with_slot slot (movers_of (states_of bodies))) (movers_of (states_of bodies)) ≡ movers_of (with_state (states_of bodies) slot s)
-put_movers_of bodies slot s h free =
+put_slots_of : (is : BodyState → Bool) (bodies : List (Option Body)) (slot : ℕ) (s : BodyState) → is nobody ≡ false → slot ≤ length bodies → body_at bodies slot ≡ None
+    → cond (is s) (with_slot slot (places_from is 0 (states_of bodies))) (places_from is 0 (states_of bodies)) ≡ places_from is 0 (with_state (states_of bodies) slot s)
+put_slots_of is bodies slot s none h free =
     let long = length-states bodies in
     elim (cases_lt slot (length (states_of bodies))) [
-      | inl less ↦ rw (is_below slot (length (states_of bodies)) less) (put_inside s.movable (states_of bodies) slot s refl less (ap (λ (b : BodyState). b.movable) (empty_at bodies slot s (omega (arith, less, long)) free)))
-      | inr more ↦ rw (not_below slot (length (states_of bodies)) more) (put_behind s.movable (states_of bodies) slot s refl (omega (arith, more, long, h)))
+      | inl less ↦ rw (is_below slot (length (states_of bodies)) less) (put_inside is (is s) (states_of bodies) slot s refl less (ap is (empty_at bodies slot s (omega (arith, less, long)) free) ∙ none))
+      | inr more ↦ rw (not_below slot (length (states_of bodies)) more) (put_behind is (is s) (states_of bodies) slot s refl (omega (arith, more, long, h)))
     ]
 
 pub put_movers : (bodies : List (Option Body)) (states : List BodyState) (awake : List ℕ) (slot : ℕ) (s : BodyState) → states ≡ states_of bodies → awake ≡ movers_of states → slot ≤ length bodies → body_at bodies slot ≡ None
     → cond s.movable (with_slot slot awake) awake ≡ movers_of (with_state states slot s)
-put_movers bodies states awake slot s e f h free = rw (f, e) (put_movers_of bodies slot s h free)
+put_movers bodies states awake slot s e f h free = rw (f, e) (put_slots_of moves bodies slot s refl h free)
+
+pub put_carried : (bodies : List (Option Body)) (states : List BodyState) (carried : List ℕ) (slot : ℕ) (b : Body) → states ≡ states_of bodies → carried ≡ carried_of states → slot ≤ length bodies → body_at bodies slot ≡ None
+    → cond (is_carried b) (with_slot slot carried) carried ≡ carried_of (with_state states slot (state_of (Some b)))
+put_carried bodies states carried slot b e f h free =
+    (λ j. cond (sym (carried_state b) j) (with_slot slot carried) carried) ∙ rw (f, e) (put_slots_of step.is_carried bodies slot (state_of (Some b)) refl h free)
 
 -- ---- a body that goes
 
 pub clear_movers : (states : List BodyState) (awake : List ℕ) (slot : ℕ) → awake ≡ movers_of states → slot < length states → without_slot slot awake ≡ movers_of (slice_set states slot nobody)
 clear_movers states awake slot e h = rw e (places-set_off moves states 0 slot slot nobody (omega arith) h refl)
+
+pub clear_carried : (states : List BodyState) (carried : List ℕ) (slot : ℕ) → carried ≡ carried_of states → slot < length states → without_slot slot carried ≡ carried_of (slice_set states slot nobody)
+clear_carried states carried slot e h = rw e (places-set_off step.is_carried states 0 slot slot nobody (omega arith) h refl)
 
 -- ---- a body that is changed
 
@@ -89,10 +100,23 @@ state_there (None ∷ os) zero d h = refl
 state_there (Some b ∷ os) zero d h = refl
 state_there (o ∷ os) (suc slot) d h = state_there os slot d (omega (arith, h))
 
+carried_as : (o : Option Body) → step.is_carried (state_of o) ≡ is_carried_in o
+carried_as None = refl
+carried_as (Some b) = carried_state b
+
+changed_slots : (is : BodyState → Bool) (is_in : Option Body → Bool) → ((o : Option Body) → is (state_of o) ≡ is_in o) → (bodies : List (Option Body)) (slot : ℕ) (o : Option Body) → slot < length bodies → is_in (body_at (slice_set bodies slot o) slot) ≡ is_in (body_at bodies slot)
+    → places_from is 0 (states_of bodies) ≡ places_from is 0 (states_of (slice_set bodies slot o))
+changed_slots is is_in agree bodies slot o h same =
+    let now : is_in o ≡ is_in (body_at bodies slot) = ap is_in (sym (body_at-put bodies slot o h)) ∙ same in
+    let alike : is (state_of o) ≡ is (get_or (states_of bodies) slot (state_of o)) = agree o ∙ now ∙ sym (agree (body_at bodies slot)) ∙ ap is (sym (state_there bodies slot (state_of o) h)) in
+    sym (ap (places_from is 0) (sym (states-set bodies slot o)) ∙ places-set_same is (states_of bodies) 0 slot (state_of o) alike)
+
 -- a change that leaves an awake mover one leaves the movers' slots
 pub changed_movers : (bodies : List (Option Body)) (slot : ℕ) (o : Option Body) → slot < length bodies → is_awake_in (body_at (slice_set bodies slot o) slot) ≡ is_awake_in (body_at bodies slot)
     → movers_of (states_of bodies) ≡ movers_of (states_of (slice_set bodies slot o))
-changed_movers bodies slot o h awake =
-    let now : is_awake_in o ≡ is_awake_in (body_at bodies slot) = ap is_awake_in (sym (body_at-put bodies slot o h)) ∙ awake in
-    let same : (state_of o).movable ≡ (get_or (states_of bodies) slot (state_of o)).movable = moves_as o ∙ now ∙ sym (moves_as (body_at bodies slot)) ∙ ap (λ (s : BodyState). s.movable) (sym (state_there bodies slot (state_of o) h)) in
-    sym (ap movers_of (sym (states-set bodies slot o)) ∙ places-set_same moves (states_of bodies) 0 slot (state_of o) same)
+changed_movers bodies slot o h awake = changed_slots moves is_awake_in moves_as bodies slot o h awake
+
+-- and one that leaves a body carried along leaves the slots of these
+pub changed_carried : (bodies : List (Option Body)) (slot : ℕ) (o : Option Body) → slot < length bodies → is_carried_in (body_at (slice_set bodies slot o) slot) ≡ is_carried_in (body_at bodies slot)
+    → carried_of (states_of bodies) ≡ carried_of (states_of (slice_set bodies slot o))
+changed_carried bodies slot o h carried = changed_slots step.is_carried is_carried_in carried_as bodies slot o h carried

@@ -1,8 +1,8 @@
--- The movers' slots, ascending, and the states by slot: what a step goes over, kept beside the bodies.
+-- The slots of the movers and of the bodies that are carried along, ascending, and the states by slot: what a step goes over, kept beside the bodies.
 use Rattle.std.specs.Prelude.{◌≡◌, ℕ, ◌<◌, ◌≤◌, ◌==◌, Bool, not, cond, nat_lt, List, [], ◌∷◌, ◌++◌, length, Option, slice_set}
 use Rattle.std.specs.List.{AllPairs, filter}
 use Rattle.momenta.specs.declared.state.BodyState.{BodyState}
-use Rattle.colour_solver.specs.States.{movers_of}
+use Rattle.colour_solver.specs.States.{carried_of, movers_of}
 use Rattle.plain_world.specs.declared.body.Body.{Body}
 use Rattle.world_core_base.specs.Gather.{states_of}
 
@@ -26,10 +26,12 @@ pub record Bodies : Type 0 where
   pub bodies : List (Option Body)
   pub room : ℕ
 
--- What a table keeps beside its bodies: their states, the movers' slots, and room in each of its lists.
-pub record IsBodyTable (bodies : List (Option Body)) (ss : List BodyState) (slots : List ℕ) (room bodies_left states_left awake_left : ℕ) : Type 0 where
+-- What a table keeps beside its bodies: their states, the slots of the movers and of the bodies that are carried along, and room in each of its lists.
+pub record IsBodyTable (bodies : List (Option Body)) (ss : List BodyState) (slots along : List ℕ) (room bodies_left states_left awake_left carried_left : ℕ) : Type 0 where
   pub states : ss ≡ states_of bodies
   pub awake : slots ≡ movers_of ss
+  pub carried : along ≡ carried_of ss
   pub for_bodies : room ≤ bodies_left
   pub for_states : room ≤ states_left
   pub for_awake : room ≤ awake_left
+  pub for_carried : room ≤ carried_left

@@ -22,7 +22,7 @@ use Rattle.colour_solver.specs.States.{nobody}
 use Rattle.plain_world.specs.declared.body.Body.{Body}
 use Rattle.plain_world.specs.Bodies.{is_awake, is_mover}
 use Rattle.plain_world.specs.Slots.{body_at}
-use Rattle.world_core_base.specs.Carried.{solver_mass, solver_motion}
+use Rattle.world_core_base.specs.Carried.{moved_to, solver_mass, solver_motion}
 
 -- ---- the bodies
 
@@ -66,9 +66,9 @@ rows_of states contacts lists = flat_map (rows_in states contacts) lists
 -- ---- back to the bodies and the contacts
 
 abbrev pub with_motion : BodyState → Body → Body
-with_motion s b = cond (is_awake b) (record b { motion = s.motion }) b
+with_motion s b = moved_to s.motion b
 
--- each mover with the motion that the step has left it
+-- each body with the motion that the step has left it
 abbrev pub with_motions : List (Option Body) → List BodyState → List (Option Body)
 with_motions [] states = []
 with_motions (o ∷ bodies) [] = o ∷ bodies

@@ -19,12 +19,13 @@ use Rattle.contacts.specs.declared.constraint.Constraint.{Constraint}
 use Rattle.contacts.specs.declared.constraint.Constraint.TheVariants as constraints
 use Rattle.colour_solver_base.specs.ContactSolving.{SolvedContact, contact_bounced, contact_solved, contact_warmed}
 use Rattle.colour_solver.specs.declared.ticks.StepSums.{StepSums}
+use Rattle.colour_solver.specs.States.{carrier}
 use Rattle.plain_world.specs.declared.body.Body.{Body}
-use Rattle.plain_world.specs.Bodies.{is_awake}
-use Rattle.world_core_base.specs.Carried.{solver_mass, solver_motion}
+use Rattle.plain_world.specs.Bodies.{is_awake, is_carried}
+use Rattle.world_core_base.specs.Carried.{moved_to, solver_mass, solver_motion}
 
--- A body in a step: as it stood when the step began, and its motion now. The motion of a body that isn't an awake mover is its course all the
--- step long.
+-- A body in a step: as it stood when the step began, and its motion now. The momenta of a body that isn't an awake mover are its course: its
+-- velocity and its spin.
 pub record Moving : Type 0 where
   pub body : Body
   pub motion : Motion
@@ -160,11 +161,19 @@ pull gravity s = record s { bodies = all_changed (pulled gravity) s.bodies; sums
 abbrev pub clamp : (MassData → Motion → Motion) → Solving → Solving
 clamp f s = record s { bodies = all_changed f s.bodies; sums = record s.sums { clamp = plus s.sums.clamp (gain f s.bodies) } }
 
+-- a body that is carried along moves on with its course; any other body as it was
+abbrev pub along : Moving → Moving
+along m = cond (is_carried m.body) (record m { motion = advanced carrier m.motion }) m
+
+-- the bodies that are carried along, to whose momentum nothing is added, since they have none
+abbrev pub carry : Solving → Solving
+carry s = record s { bodies = map (option_map along) s.bodies }
+
 -- ---- a tick, and a step
 
 -- the passes of a tick, in their order
 abbrev pub passes : Vec2 → List Constraint → List (Solving → Solving)
-passes gravity order = pull gravity ∷ clamp clamped ∷ pass warm order ∷ pass solve order ∷ clamp clamped ∷ clamp advanced ∷ []
+passes gravity order = pull gravity ∷ clamp clamped ∷ pass warm order ∷ pass solve order ∷ clamp clamped ∷ clamp advanced ∷ carry ∷ []
 
 abbrev pub tick : Vec2 → List Constraint → Solving → Solving
 tick gravity order s = fold (λ s pass. pass s) s (passes gravity order)
@@ -189,9 +198,8 @@ solved n gravity order bodies contacts = pass bounce order (ticks n gravity orde
 
 -- ---- what it leaves
 
--- an awake mover with its motion now; any other body as it was
 abbrev pub left : Moving → Body
-left m = cond (is_awake m.body) (record m.body { motion = m.motion }) m.body
+left m = moved_to m.motion m.body
 
 -- the bodies as the step leaves them
 abbrev pub bodies_of : Solving → List (Option Body)

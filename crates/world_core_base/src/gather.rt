@@ -27,17 +27,22 @@ use graph_colours::{COLOURS, Colours, Member, OVERFLOW};
 use momenta::{BodyState, Ends, MassData, Motion, Reciprocals, reciprocals_of};
 use plain_world::Body;
 
-/// The mass of a body that no impulse moves: with it a momentum is the velocity itself, and an angular momentum the spin,
-/// with which the body is carried along.
+/// The mass of a body that is carried along: with it the momentum is the velocity itself, and the angular momentum the spin.
 const CARRIER: MassData = MassData {
     mass: 1,
     inertia: UNIT,
 };
 
+/// The mass of a body that stands: it never turns either.
+const STANDING: MassData = MassData {
+    mass: 1,
+    inertia: 0,
+};
+
 /// What stands for the body in an empty slot: nothing moves it.
 pub const NOBODY: BodyState = BodyState {
     movable: false,
-    mass: CARRIER,
+    mass: STANDING,
     motion: Motion {
         p: Vec2 { x: 0, y: 0 },
         l: 0,
@@ -47,7 +52,7 @@ pub const NOBODY: BodyState = BodyState {
     start: Vec2 { x: 0, y: 0 },
     reciprocals: Reciprocals {
         mass: 1 << 62,
-        inertia: 1 << 52,
+        inertia: 0,
     },
 };
 
@@ -66,7 +71,13 @@ pub fn state_of(entry: &Option<Body>) -> BodyState
 fn solver_mass(body: &Body) -> MassData
     ensures { result ≡ solver_mass body.now }
 {
-    if body.is_awake() { body.mass } else { CARRIER }
+    if body.is_awake() {
+        body.mass
+    } else if body.is_carried() {
+        CARRIER
+    } else {
+        STANDING
+    }
 }
 
 /// The motion that a body shows the solver: of one that isn't an awake mover, its course.

@@ -1,6 +1,6 @@
 //! What a step works on.
 //!
-//! The bodies of a world by slot with what a step goes over (`BodyTable`: their states, and the slots of the awake movers), and
+//! The bodies of a world by slot with what a step goes over (`BodyTable`: their states, and the slots of the awake movers and of the bodies that are carried along), and
 //! what a step gathers of the contacts (`gather_rows`) and writes back to them (`put_impulses`).
 #![tactic(auto)]
 

@@ -1,34 +1,53 @@
-//! The bodies as a step leaves them: each awake mover's motion, and the fat boxes that its shapes have left.
+//! The bodies as a step leaves them: the motion of each awake mover and of each body that is carried along, and the fat boxes that its
+//! shapes have left.
 
-ghost use Rattle.std.specs.Prelude.{◌≡◌, option_map};
+ghost use Rattle.std.specs.Prelude.{◌≡◌, ◌<◌, None, length, slice_index_or, slice_set};
 ghost use Rattle.std.specs.Option.{ForSome};
-ghost use Rattle.momenta.specs.Impulses.{IsState};
-ghost use Rattle.colour_solver.specs.States.{AreAllStates, AreSameStates, movers_of, total_x, total_y};
-ghost use Rattle.plain_world.specs.Bodies.{AreBodies, IsBody, momentum_x, momentum_y};
+ghost use Rattle.colour_solver.specs.States.{AreAllStates, AreSameBeside, HaveCourses, carried_of, movers_of, nobody, total_x, total_y};
+ghost use Rattle.plain_world.specs.Bodies.{AreBodies, momentum_x, momentum_y};
 ghost use Rattle.world_core_base.specs.Gather.{begun, states_of, with_motion, with_motions};
+ghost use Rattle.world_core_base.specs.Moved.{FitsState, moved_entry};
 ghost use Rattle.world_core_base.specs.Renewal.{renewed_bodies, with_renewed};
 ghost use Rattle.plain_world.specs.Slots.{HaveSameSlots};
 
 use momenta::BodyState;
-use plain_world::Body;
+use plain_world::{Body, Course, Kind};
 
-fn move_body(body: &mut Body, state: &BodyState)
-    requires body { IsBody body.old }
-    requires state { IsState state.now }
-    ensures { body.new ≡ with_renewed (with_motion state.now body.old) }
+/// Gives an awake mover its motion, and a body that is carried along its pose and what is left of its course.
+fn put_motion(body: &mut Body, state: &BodyState)
+    requires { FitsState state.now body.old }
+    ensures { body.new ≡ with_motion state.now body.old }
 {
-    if !body.is_awake() {
+    if body.is_awake() {
+        body.motion = state.motion;
         return;
     }
-    body.motion = state.motion;
+    if !body.is_carried() {
+        return;
+    }
+    body.kind = Kind::Kinematic(Course {
+        velocity: state.motion.p,
+        spin: state.motion.l as i64,
+    });
+    body.motion.x = state.motion.x;
+    body.motion.rot = state.motion.rot;
+}
+
+fn move_body(body: &mut Body, state: &BodyState)
+    requires { FitsState state.now body.old }
+    ensures { body.new ≡ with_renewed (with_motion state.now body.old) }
+{
+    put_motion(body, state);
+    if !body.can_move() {
+        return;
+    }
     let pose = body.pose();
     body.fats.renew(body.shapes.as_slice(), pose);
 }
 
 fn move_entry(entry: &mut Option<Body>, state: &BodyState)
-    requires entry { ForSome entry.old IsBody }
-    requires state { IsState state.now }
-    ensures { entry.new ≡ option_map with_renewed (option_map (with_motion state.now) entry.old) }
+    requires { ForSome entry.old (FitsState state.now) }
+    ensures { entry.new ≡ moved_entry state.now entry.old }
 {
     match entry {
         None => {}
@@ -43,24 +62,45 @@ fn begin_there(state: &mut BodyState)
     state.start = state.motion.x;
 }
 
-/// Gives each awake mover, whose slots are `awake`, the motion that the ticks have left it, and makes its fat boxes anew
-/// that its shapes' tight boxes have left. The states are then those of the bodies again.
-pub fn move_awake(bodies: &mut Vec<Option<Body>>, states: &mut Vec<BodyState>, awake: &[u32])
+/// Gives the body in a slot the motion that the ticks have left it.
+fn move_slot(bodies: &mut Vec<Option<Body>>, states: &mut Vec<BodyState>, slot: usize)
+    requires body { slot < length bodies.old.items }
+    requires state { slot < length states.old.items }
+    requires fits { ForSome (slice_index_or bodies.old.items slot None) (FitsState (slice_index_or states.old.items slot nobody)) }
+    ensures bodies { bodies.new.items ≡ slice_set bodies.old.items slot (moved_entry (slice_index_or states.old.items slot nobody) (slice_index_or bodies.old.items slot None)) }
+    ensures states { states.new.items ≡ slice_set states.old.items slot (begun (slice_index_or states.old.items slot nobody)) }
+{
+    move_entry(&mut bodies[slot], &states[slot]);
+    begin_there(&mut states[slot]);
+}
+
+/// Gives each awake mover and each body that is carried along, whose slots are `awake` and `carried`, the motion that the ticks have
+/// left it, and makes its fat boxes anew that its shapes' tight boxes have left. The states are then those of the bodies again.
+pub fn move_bodies(
+    bodies: &mut Vec<Option<Body>>,
+    states: &mut Vec<BodyState>,
+    awake: &[u32],
+    carried: &[u32],
+)
     requires bodies { AreBodies bodies.old.items }
     requires states { AreAllStates states.old.items }
-    requires same { AreSameStates (states_of bodies.old.items) states.old.items }
-    requires awake { awake.now ≡ movers_of (states_of bodies.old.items) }
+    requires courses { HaveCourses states.old.items }
+    requires same { AreSameBeside (states_of bodies.old.items) states.old.items }
+    requires awake { awake.now ≡ movers_of states.old.items }
+    requires carried { carried.now ≡ carried_of states.old.items }
     ensures value { bodies.new.items ≡ renewed_bodies (with_motions bodies.old.items states.old.items) }
     ensures states { states.new.items ≡ states_of bodies.new.items }
     ensures awake { awake.now ≡ movers_of states.new.items }
+    ensures carried { carried.now ≡ carried_of states.new.items }
     ensures bodies { AreBodies bodies.new.items }
     ensures slots { HaveSameSlots bodies.old.items bodies.new.items }
     ensures momentum_x { momentum_x bodies.new.items ≡ total_x states.old.items }
     ensures momentum_y { momentum_y bodies.new.items ≡ total_y states.old.items }
 {
     for place in 0..awake.len() {
-        let slot = awake[place] as usize;
-        move_entry(&mut bodies[slot], &states[slot]);
-        begin_there(&mut states[slot]);
+        move_slot(bodies, states, awake[place] as usize);
+    }
+    for place in 0..carried.len() {
+        move_slot(bodies, states, carried[place] as usize);
     }
 }

@@ -16,15 +16,15 @@ ghost use Rattle.world_core_base.specs.Renewal.{renewed_bodies};
 ghost use Rattle.plain_world.specs.Changes.{changed_at};
 ghost use Rattle.plain_world.specs.Slots.{HaveSameSlots, body_at, with_body};
 
-use crate::awake::{add_mover, drop_slot};
+use crate::awake::{add_if, drop_slot};
 use crate::gather::{NOBODY, body_state};
-use crate::moving::move_awake;
+use crate::moving::move_bodies;
 use body_handles::MAX_SLOTS;
 use colour_solver::{Rows, StepSums, run_step};
 use colour_solver_base::ContactRow;
 use fixed_geom::{Refusal, Vec2};
 use momenta::BodyState;
-use plain_world::{Body, BodyChange, change_slot, clear_slot, copy_bodies, put_body};
+use plain_world::{Body, BodyChange, change_slot, clear_slot, copy_bodies, put_item};
 use std::alloc::Global;
 use std::marker::Model;
 
@@ -36,6 +36,8 @@ pub struct BodyTable {
     states: Vec<BodyState>,
     // The movers' slots, ascending.
     awake: Vec<u32>,
+    // The slots of the bodies that are carried along, ascending.
+    carried: Vec<u32>,
     // For how many more bodies each list has room.
     room: usize,
 }
@@ -48,7 +50,7 @@ impl Model for BodyTable {
 
     ghost view = { λ a. record { bodies = a.bodies.items; room = a.room } };
 
-    ghost invariant = { λ a. IsBodyTable a.bodies.items a.states.items a.awake.items a.room (vec_capacity a.bodies - vec_len a.bodies) (vec_capacity a.states - vec_len a.states) (vec_capacity a.awake - vec_len a.awake) };
+    ghost invariant = { λ a. IsBodyTable a.bodies.items a.states.items a.awake.items a.carried.items a.room (vec_capacity a.bodies - vec_len a.bodies) (vec_capacity a.states - vec_len a.states) (vec_capacity a.awake - vec_len a.awake) (vec_capacity a.carried - vec_len a.carried) };
 }
 
 /// Puts a state into a slot, or into a new one at the end, for which there is room.
@@ -81,6 +83,7 @@ impl BodyTable {
             bodies: Vec::new(alloc),
             states: Vec::new(alloc),
             awake: Vec::new(alloc),
+            carried: Vec::new(alloc),
             room: 0,
         }
     }
@@ -114,6 +117,7 @@ impl BodyTable {
         self.bodies.reserve(1)?;
         self.states.reserve(1)?;
         self.awake.reserve(1)?;
+        self.carried.reserve(1)?;
         self.room = 1;
         Ok(())
     }
@@ -127,9 +131,10 @@ impl BodyTable {
     {
         let state = body_state(&body);
         self.room = 0;
-        add_mover(&mut self.awake, slot, state.movable);
+        add_if(&mut self.awake, slot, state.movable);
+        add_if(&mut self.carried, slot, body.is_carried());
         put_state(&mut self.states, slot as usize, state);
-        put_body(&mut self.bodies, slot as usize, body);
+        put_item(&mut self.bodies, slot as usize, body);
     }
 
     /// Empties a slot.
@@ -139,6 +144,7 @@ impl BodyTable {
     {
         self.room = 0;
         drop_slot(&mut self.awake, slot);
+        drop_slot(&mut self.carried, slot);
         self.states[slot as usize] = NOBODY;
         clear_slot(&mut self.bodies, slot as usize);
     }
@@ -154,8 +160,8 @@ impl BodyTable {
         renew_state(&mut self.states, &self.bodies, slot as usize);
     }
 
-    /// Runs the ticks of a step, 0 to 8, and its restitution, over the movers and over the contacts in solve order; each mover's fat boxes
-    /// that its shapes have left are then made anew. Answers what was added to the movers' momentum, by cause.
+    /// Runs the ticks of a step, 0 to 8, and its restitution, over the movers, the bodies that are carried along, and the contacts in
+    /// solve order; fat boxes that their shapes have left are then made anew. Answers what was added to the movers' momentum, by cause.
     pub fn run(&mut self, rows: &mut Rows<ContactRow>, gravity: Vec2, count: u64) -> StepSums
         requires few { length self.old.bodies ≤ MAX_SLOTS }
         requires bodies { AreBodies self.old.bodies }
@@ -172,8 +178,20 @@ impl BodyTable {
         ensures momentum_y { momentum_y self.new.bodies ≡ momentum_y self.old.bodies +ℤ added_y result }
     {
         self.room = 0;
-        let sums = run_step(&mut self.states, rows, &self.awake, gravity, count);
-        move_awake(&mut self.bodies, &mut self.states, &self.awake);
+        let sums = run_step(
+            &mut self.states,
+            rows,
+            &self.awake,
+            &self.carried,
+            gravity,
+            count,
+        );
+        move_bodies(
+            &mut self.bodies,
+            &mut self.states,
+            &self.awake,
+            &self.carried,
+        );
         sums
     }
 
@@ -188,10 +206,13 @@ impl BodyTable {
         states.extend_from_slice(&self.states)?;
         let mut awake = Vec::new(alloc);
         awake.extend_from_slice(&self.awake)?;
+        let mut carried = Vec::new(alloc);
+        carried.extend_from_slice(&self.carried)?;
         Ok(BodyTable {
             bodies,
             states,
             awake,
+            carried,
             room: 0,
         })
     }

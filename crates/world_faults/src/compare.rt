@@ -135,6 +135,3 @@ fn are_same_events(first: &Events, second: &Events) -> bool {
         && first.slept() == second.slept()
         && first.woke() == second.woke()
 }
-
-#[cfg(test)]
-mod tests;

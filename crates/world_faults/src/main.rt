@@ -2,19 +2,21 @@
 //! `kept` where a refused call left everything as it was and then succeeded, `none` where the call met
 //! no refusal, `outside` where something beside the call met it, and else what differs.
 //!
-//! `world_faults CALL` makes that call; without a word it makes each in turn, a line for each. What
-//! refuses the memory is beside the program: `faults/run`.
+//! `world_faults CALL` makes that call; without a word it makes each in turn, a line for each, and then tells
+//! what it finds in worlds that differ in a known way. What refuses the memory is beside the program: `faults/run`.
 #![tactic(auto)]
 
 mod call;
 mod calls;
 mod compare;
+mod differences;
 mod scene;
 mod stop;
 mod trial;
 mod worlds;
 
 use call::{ALL, Call};
+use differences::Difference;
 use std::process::ExitCode;
 use std::rt::Env;
 use std::{env, io};
@@ -49,9 +51,19 @@ fn print_trial<R: AllocGlobal + Print>(rt: &R, call: Call) -> io::Result<()> {
     }
 }
 
+fn print_difference<R: AllocGlobal + Print>(rt: &R, difference: Difference) -> io::Result<()> {
+    match differences::compare(rt.alloc(), difference) {
+        Ok(()) => println!(rt; "the same"),
+        Err(stop) => println!(rt; "{stop}"),
+    }
+}
+
 fn print_each<R: AllocGlobal + Print>(rt: &R) -> io::Result<()> {
     for call in ALL {
         print_trial(rt, call)?;
+    }
+    for difference in differences::ALL {
+        print_difference(rt, difference)?;
     }
     Ok(())
 }

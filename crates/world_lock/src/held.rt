@@ -9,7 +9,7 @@ ghost use Rattle.impulse_ledger.specs.Sums.{total_x, total_y};
 ghost use Rattle.plain_world.specs.Bodies.{momentum_x, momentum_y};
 ghost use Rattle.plain_world.specs.Census.{IsCensus, census_of};
 ghost use Rattle.world_core.specs.Colouring.{AreColoured, members_of};
-ghost use Rattle.world_core.specs.World.{book_of};
+ghost use Rattle.world_core.specs.World.{book_of, joints_of};
 ghost use Rattle.world_lock.specs.Journals.{IsLegal, booked_by, commands_of, left_by, line};
 ghost use Rattle.world_lock.specs.Tallies.{no_calls};
 ghost use Rattle.world_lock.specs.Histories.{Called, IsClosed, IsPastFor, Met, Refused, Shown, Told, next_number};
@@ -76,7 +76,7 @@ impl<N: Opened> Held<N> {
     pub fn headline(&self) -> &[JournalEntry]
         ensures journal { result.now ≡ self.now.journal }
         ensures sets { IsCensus self.now.world.plain.places self.now.world.plain.bodies (census_of self.now.world.plain.places self.now.world.plain.bodies) }
-        ensures colours { AreColoured self.now.world.plain.bodies self.now.world.plain.contacts (members_of self.now.world.plain.bodies self.now.world.plain.colours) }
+        ensures colours { AreColoured self.now.world.plain.bodies (joints_of self.now.world.plain) self.now.world.plain.contacts (members_of self.now.world.plain.bodies (joints_of self.now.world.plain) self.now.world.plain.colours) }
         ensures total_x { momentum_x self.now.world.plain.bodies ≡ total_x (book_of self.now.world) }
         ensures total_y { momentum_y self.now.world.plain.bodies ≡ total_y (book_of self.now.world) }
         ensures replay { self.now.world ≡ left_by self.now.opening self.now.journal }

@@ -68,7 +68,7 @@ fn no_rows(alloc: Global) -> Rows<ContactRow>
 fn a_point_falls_for_four_ticks(rt: HostRuntime) -> Result<(), Fail> {
     let mut states = one_body(rt.alloc(), point(true, 256, ORIGIN))?;
     let mut rows = no_rows(rt.alloc());
-    let sums = run_step(&mut states, &mut rows, &[0], at(0, -157), 4);
+    let sums = run_step(&mut states, &mut rows, &[0], &[], at(0, -157), 4);
     assert_eq!(rt; sums.gravity, Gain { x: 0, y: -160768 });
     assert_eq!(rt; sums.immovable, Gain { x: 0, y: 0 });
     assert_eq!(rt; sums.clamp, Gain { x: 0, y: 0 });
@@ -83,7 +83,7 @@ fn a_point_falls_for_four_ticks(rt: HostRuntime) -> Result<(), Fail> {
 fn the_speed_limit_is_booked_as_clamp(rt: HostRuntime) -> Result<(), Fail> {
     let mut states = one_body(rt.alloc(), point(true, 1, at(2097152, 0)))?;
     let mut rows = no_rows(rt.alloc());
-    let sums = run_step(&mut states, &mut rows, &[0], ORIGIN, 1);
+    let sums = run_step(&mut states, &mut rows, &[0], &[], ORIGIN, 1);
     assert_eq!(rt; sums.gravity, Gain { x: 0, y: 0 });
     assert_eq!(rt; sums.clamp, Gain { x: -1048576, y: 0 });
     for state in &states {
@@ -147,7 +147,7 @@ fn one_row(alloc: Global) -> Result<Rows<ContactRow>, Refusal>
 fn a_point_bounces_off_an_immovable_body(rt: HostRuntime) -> Result<(), Fail> {
     let mut states = two_bodies(rt.alloc())?;
     let mut rows = one_row(rt.alloc())?;
-    let sums = run_step(&mut states, &mut rows, &[1], ORIGIN, 1);
+    let sums = run_step(&mut states, &mut rows, &[1], &[], ORIGIN, 1);
     assert_eq!(rt; sums.immovable, Gain { x: 0, y: 16384 });
     assert_eq!(rt; sums.gravity, Gain { x: 0, y: 0 });
     assert_eq!(rt; sums.clamp, Gain { x: 0, y: 0 });

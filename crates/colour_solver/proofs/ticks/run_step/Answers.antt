@@ -1,12 +1,14 @@
 use Rattle.std.proofs.Common.{◌*◌, ◌^◌, arith, ap, sym, ◌∙◌, add-one}
 use Rattle.colour_solver.specs.Ticks.{tick}
-use Rattle.colour_solver.proofs.SameLaws.{same_on}
-use Rattle.colour_solver.proofs.AwakeLaws.{movers_same}
+use Rattle.colour_solver.proofs.CourseLaws.{beside_on, beside_same, carried_beside, courses_same, movers_beside}
 use Rattle.colour_solver.proofs.TickLaws.{carried_on, last_added}
 use Rattle.colour_solver.proofs.ticks.run_step.Goals as goal
 
 pub tick-sums-requires-clause-awake : goal.tick-sums-requires-clause-awake
-tick-sums-requires-clause-awake c = c.requires.awake ∙ sym (movers_same c.args.states.now.items c.loop-index.states.items c.loop-index.invariant.same)
+tick-sums-requires-clause-awake c = c.requires.awake ∙ sym (movers_beside c.args.states.now.items c.loop-index.states.items c.loop-index.invariant.same)
+
+pub tick-sums-requires-clause-carried : goal.tick-sums-requires-clause-carried
+tick-sums-requires-clause-carried c = c.requires.carried ∙ sym (carried_beside c.args.states.now.items c.loop-index.states.items c.loop-index.invariant.same)
 
 pub loop-index-preserved : goal.loop-index-preserved
 loop-index-preserved c =
@@ -19,7 +21,8 @@ loop-index-preserved c =
       all_rows = made.rows;
       colours = made.colours ∙ known.colours;
       long = made.long ∙ known.long;
-      same = same_on c.args.states.now.items c.loop-index.states.items c.tick-sums.new.states.items known.same made.same;
+      same = beside_on c.args.states.now.items c.loop-index.states.items c.tick-sums.new.states.items known.same made.same;
+      courses = made.courses;
       small = record {
         gravity = record { x = omega (arith, grown.gravity.x); y = omega (arith, grown.gravity.y) };
         immovable = record { x = omega (arith, grown.immovable.x); y = omega (arith, grown.immovable.y) };
@@ -39,4 +42,7 @@ returns-clause-momentum_y c =
 
 pub returns-clause-same : goal.returns-clause-same
 returns-clause-same c =
-    same_on c.args.states.now.items c.loop-index.states.items c.pass-bounced.new.states.items c.loop-index.invariant.same c.pass-bounced.ensures.same
+    beside_on c.args.states.now.items c.loop-index.states.items c.pass-bounced.new.states.items c.loop-index.invariant.same (beside_same c.loop-index.states.items c.pass-bounced.new.states.items c.pass-bounced.ensures.same)
+
+pub returns-clause-courses : goal.returns-clause-courses
+returns-clause-courses c = courses_same c.loop-index.states.items c.pass-bounced.new.states.items c.pass-bounced.ensures.same c.loop-index.invariant.courses

@@ -3,7 +3,8 @@ use Rattle.momenta.specs.Motions.{pulled, clamped, advanced}
 use Rattle.colour_solver.specs.States.{total_x, total_y}
 use Rattle.colour_solver.specs.ColourRows.{all_rows}
 use Rattle.colour_solver.specs.Ticks.{tick}
-use Rattle.colour_solver.proofs.SameLaws.{same_on}
+use Rattle.colour_solver.proofs.SameLaws.{same_four}
+use Rattle.colour_solver.proofs.CourseLaws.{beside_carry, beside_on, beside_same, carried_beside, carried_long, courses-carry, courses_same, total_x-carry, total_y-carry}
 use Rattle.colour_solver.proofs.AwakeLaws.{movers_same}
 use Rattle.colour_solver.proofs.TickLaws.{long_after, one_more, rows_as_long, states_after, three_more, tick_adds, total_x-after, total_y-after, two_more}
 use Rattle.colour_solver.proofs.ticks.tick.Goals as goal
@@ -47,18 +48,18 @@ pub returns-clause-tick : goal.returns-clause-tick
 unfolding tick
 returns-clause-tick c =
     rw (c.plus.ensures.x, c.plus.ensures.y, c.plus-3.ensures.x, c.plus-3.ensures.y, c.plus-2.ensures.x, c.plus-2.ensures.y, c.plus-6.ensures.x, c.plus-6.ensures.y, c.plus-5.ensures.x, c.plus-5.ensures.y, c.plus-4.ensures.x, c.plus-4.ensures.y)
-    (rw (c.pass_two-moved.ensures.states, c.pass_two-moved.ensures.first_x, c.pass_two-moved.ensures.first_y, c.pass_two-moved.ensures.second_x, c.pass_two-moved.ensures.second_y)
+    (rw (c.carry_along.ensures.value, c.pass_two-moved.ensures.states, c.pass_two-moved.ensures.first_x, c.pass_two-moved.ensures.first_y, c.pass_two-moved.ensures.second_x, c.pass_two-moved.ensures.second_y)
     (rw (c.pass-solved.ensures.states, c.pass-solved.ensures.rows, c.pass-solved.ensures.share_x, c.pass-solved.ensures.share_y)
     (rw (c.pass-warm.ensures.states, c.pass-warm.ensures.rows, c.pass-warm.ensures.share_x, c.pass-warm.ensures.share_y)
     (rw (c.pass_two-fallen.ensures.states, c.pass_two-fallen.ensures.first_x, c.pass_two-fallen.ensures.first_y, c.pass_two-fallen.ensures.second_x, c.pass_two-fallen.ensures.second_y)))))
 
-pub returns-clause-states : goal.returns-clause-states
-returns-clause-states c =
+pub carry_along-requires-clause-states : goal.carry_along-requires-clause-states
+carry_along-requires-clause-states c =
     states_after clamped advanced c.pass-solved.new.states.items _ c.pass_two-moved.ensures.states c.pass-solved.ensures.all_states c.pass_two-moved.ensures.gives
 
 pub returns-clause-rows : goal.returns-clause-rows
 returns-clause-rows c =
-    rows_as_long (length c.pass_two-moved.new.states.items) (length c.pass-solved.new.states.items) (all_rows c.pass-solved.new.self) (long_after clamped advanced c.pass-solved.new.states.items c.pass_two-moved.new.states.items c.pass_two-moved.ensures.states) c.pass-solved.ensures.all_rows
+    rows_as_long (length c.carry_along.new.states.items) (length c.pass-solved.new.states.items) (all_rows c.pass-solved.new.self) (carried_long c.pass_two-moved.new.states.items c.carry_along.new.states.items c.carry_along.ensures.value ∙ long_after clamped advanced c.pass-solved.new.states.items c.pass_two-moved.new.states.items c.pass_two-moved.ensures.states) c.pass-solved.ensures.all_rows
 
 pub returns-clause-grown : goal.returns-clause-grown
 returns-clause-grown c = λ n h.
@@ -86,7 +87,7 @@ returns-clause-momentum_x c =
     let solved = c.pass-solved in
     let moved = c.pass_two-moved in
     let sums = c.args.sums in
-    rw (c.plus.ensures.x, c.plus-3.ensures.x, c.plus-2.ensures.x, c.plus-6.ensures.x, c.plus-5.ensures.x, c.plus-4.ensures.x)
+    rw (c.carry_along.ensures.value, total_x-carry moved.new.states.items, c.plus.ensures.x, c.plus-3.ensures.x, c.plus-2.ensures.x, c.plus-6.ensures.x, c.plus-5.ensures.x, c.plus-4.ensures.x)
     (tick_adds (total_x c.args.states.now.items) (total_x fallen.new.states.items) (total_x warm.new.states.items) (total_x solved.new.states.items) (total_x moved.new.states.items)
     fallen.result.first.x fallen.result.second.x warm.result.x solved.result.x moved.result.first.x moved.result.second.x sums.gravity.x sums.immovable.x sums.clamp.x
     (total_x-after (pulled c.args.gravity) clamped c.args.states.now.items fallen.new.states.items fallen.result.first.x fallen.result.second.x fallen.ensures.states fallen.ensures.first_x fallen.ensures.second_x)
@@ -100,12 +101,40 @@ returns-clause-momentum_y c =
     let solved = c.pass-solved in
     let moved = c.pass_two-moved in
     let sums = c.args.sums in
-    rw (c.plus.ensures.y, c.plus-3.ensures.y, c.plus-2.ensures.y, c.plus-6.ensures.y, c.plus-5.ensures.y, c.plus-4.ensures.y)
+    rw (c.carry_along.ensures.value, total_y-carry moved.new.states.items, c.plus.ensures.y, c.plus-3.ensures.y, c.plus-2.ensures.y, c.plus-6.ensures.y, c.plus-5.ensures.y, c.plus-4.ensures.y)
     (tick_adds (total_y c.args.states.now.items) (total_y fallen.new.states.items) (total_y warm.new.states.items) (total_y solved.new.states.items) (total_y moved.new.states.items)
     fallen.result.first.y fallen.result.second.y warm.result.y solved.result.y moved.result.first.y moved.result.second.y sums.gravity.y sums.immovable.y sums.clamp.y
     (total_y-after (pulled c.args.gravity) clamped c.args.states.now.items fallen.new.states.items fallen.result.first.y fallen.result.second.y fallen.ensures.states fallen.ensures.first_y fallen.ensures.second_y)
     warm.ensures.momentum_y solved.ensures.momentum_y
     (total_y-after clamped advanced solved.new.states.items moved.new.states.items moved.result.first.y moved.result.second.y moved.ensures.states moved.ensures.first_y moved.ensures.second_y))
+
+pub carry_along-requires-clause-carried : goal.carry_along-requires-clause-carried
+carry_along-requires-clause-carried c =
+    let first = c.args.states.now.items in
+    let fallen = c.pass_two-fallen in
+    let warm = c.pass-warm in
+    let solved = c.pass-solved in
+    let moved = c.pass_two-moved in
+    c.requires.carried ∙ sym (carried_beside first moved.new.states.items (beside_same first moved.new.states.items (same_four first fallen.new.states.items warm.new.states.items solved.new.states.items moved.new.states.items fallen.ensures.same warm.ensures.same solved.ensures.same moved.ensures.same)))
+
+pub carry_along-requires-clause-courses : goal.carry_along-requires-clause-courses
+carry_along-requires-clause-courses c =
+    let first = c.args.states.now.items in
+    let fallen = c.pass_two-fallen in
+    let warm = c.pass-warm in
+    let solved = c.pass-solved in
+    let moved = c.pass_two-moved in
+    courses_same first moved.new.states.items (same_four first fallen.new.states.items warm.new.states.items solved.new.states.items moved.new.states.items fallen.ensures.same warm.ensures.same solved.ensures.same moved.ensures.same) c.requires.courses
+
+pub returns-clause-courses : goal.returns-clause-courses
+returns-clause-courses c =
+    let first = c.args.states.now.items in
+    let fallen = c.pass_two-fallen in
+    let warm = c.pass-warm in
+    let solved = c.pass-solved in
+    let moved = c.pass_two-moved in
+    rw c.carry_along.ensures.value
+    (courses-carry moved.new.states.items (courses_same first moved.new.states.items (same_four first fallen.new.states.items warm.new.states.items solved.new.states.items moved.new.states.items fallen.ensures.same warm.ensures.same solved.ensures.same moved.ensures.same) c.requires.courses))
 
 pub returns-clause-same : goal.returns-clause-same
 returns-clause-same c =
@@ -114,8 +143,11 @@ returns-clause-same c =
     let warm = c.pass-warm in
     let solved = c.pass-solved in
     let moved = c.pass_two-moved in
-    same_on first solved.new.states.items moved.new.states.items
-    (same_on first warm.new.states.items solved.new.states.items (same_on first fallen.new.states.items warm.new.states.items fallen.ensures.same warm.ensures.same) solved.ensures.same) moved.ensures.same
+    rw c.carry_along.ensures.value
+    (beside_on first moved.new.states.items _ (beside_same first moved.new.states.items (same_four first fallen.new.states.items warm.new.states.items solved.new.states.items moved.new.states.items fallen.ensures.same warm.ensures.same solved.ensures.same moved.ensures.same)) (beside_carry moved.new.states.items))
+
+pub returns-clause-long : goal.returns-clause-long
+returns-clause-long c = (returns-clause-same c).long
 
 pub pass_two-fallen-requires-clause-reciprocals : goal.pass_two-fallen-requires-clause-reciprocals
 pass_two-fallen-requires-clause-reciprocals c = λ slot s e. (c.requires.states slot s e).reciprocals

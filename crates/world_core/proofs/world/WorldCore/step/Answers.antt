@@ -13,14 +13,13 @@ use Rattle.world_core_base.proofs.ContactLaws.{contacts_on}
 use Rattle.world_core_base.proofs.GatherLaws.{length-states, states-all}
 use Rattle.world_core_base.specs.Renewal.{renewed_bodies}
 use Rattle.world_core.specs.contracts.world.WorldCore.{the_view}
-use Rattle.world_core.specs.World.{World}
+use Rattle.world_core.specs.World.{World, joints_of}
 use Rattle.world_core.specs.Collide.{contacts_after}
-use Rattle.world_core.specs.Apply.{run_after}
 use Rattle.world_core.specs.Colouring.{AreColoured, Lists, turned}
 use Rattle.world_core.proofs.ColouringLaws.{absent}
 use Rattle.world_core.proofs.PairLaws.{contacts_of_after}
 use Rattle.world_core.proofs.Kept.{IsRoomy-sound, IsRoomy-same, IsStep}
-use Rattle.world_core.proofs.StepLemmas.{collided_in, lists_in, step_answers, step_whole}
+use Rattle.world_core.proofs.StepLemmas.{collided_in, lists_in, ran_in, step_answers, step_whole}
 use Rattle.world_core.proofs.SoundLaws.{kept_sound}
 use Rattle.world_core.proofs.world.WorldCore.step.Goals as goal
 
@@ -30,7 +29,7 @@ collide-requires-clause-bodies c = rw c.bodies.ensures (kept_sound _ c.self.inva
 pub turn_colours-requires-clause-absent : goal.turn_colours-requires-clause-absent
 turn_colours-requires-clause-absent c =
     rw (c.deref.ensures.value, c.in_ok-changes.ensures.begin, c.bodies.ensures, c.in_ok-reserve-2.ensures.lists)
-    (absent c.self.inside.bodies.bodies c.self.inside.contacts (contacts_after c.self.inside.bodies.bodies c.self.inside.contacts) c.self.inside.colours.lists (subst (AreColoured c.self.inside.bodies.bodies c.self.inside.contacts) (sym c.self.invariant.members) (kept_sound _ c.self.invariant.sound).colours))
+    (absent c.self.inside.bodies.bodies (joints_of (the_view c.self.inside).plain) c.self.inside.contacts (contacts_after c.self.inside.bodies.bodies c.self.inside.joints.joints c.self.inside.contacts) c.self.inside.colours.lists (subst (AreColoured c.self.inside.bodies.bodies (joints_of (the_view c.self.inside).plain) c.self.inside.contacts) (sym c.self.invariant.members) (kept_sound _ c.self.invariant.sound).colours))
 
 pub gather_rows-requires-clause-all_states : goal.gather_rows-requires-clause-all_states
 gather_rows-requires-clause-all_states c = rw c.states.ensures (states-all c.self.inside.bodies.bodies (kept_sound _ c.self.invariant.sound).bodies)
@@ -42,7 +41,7 @@ pub gather_rows-requires-clause-contacts : goal.gather_rows-requires-clause-cont
 gather_rows-requires-clause-contacts c =
     let bodies = c.self.inside.bodies.bodies in
     let of : AreContactsOf bodies c.as_slice.result.now =
-    rw (c.as_slice.ensures.value, c.in_ok-changes.ensures.now, c.bodies.ensures) (contacts_of_after bodies c.self.inside.contacts (kept_sound _ c.self.invariant.sound).bodies (kept_sound _ c.self.invariant.sound).matched.few (kept_sound _ c.self.invariant.sound).pairs) in
+    rw (c.as_slice.ensures.value, c.in_ok-changes.ensures.now, c.bodies.ensures) (contacts_of_after bodies c.self.inside.joints.joints c.self.inside.contacts (kept_sound _ c.self.invariant.sound).bodies (kept_sound _ c.self.invariant.sound).matched.few (kept_sound _ c.self.invariant.sound).pairs) in
     rw c.states.ensures (contacts_on bodies c.as_slice.result.now c.as_slice.ensures.contacts of)
 
 pub run-sums-requires-clause-rows : goal.run-sums-requires-clause-rows
@@ -60,9 +59,9 @@ invariant_of-self-2 c =
     let sums : StepSums = c.run-sums.result in
     let calls : c.self.inside.calls < 2 ^ 40 = rw (← c.self.view_is) at c.requires in
     let r : Run = ran c.unsigned_abs.result c.self.inside.gravity (start (states_of bodies) (all_rows c.gather_rows.new.rows)) in
-    let is_now : c.in_ok-changes.changes.now ≡ contacts_after bodies c.self.inside.contacts = rw c.bodies.ensures at c.in_ok-changes.ensures.now in
+    let is_now : c.in_ok-changes.changes.now ≡ contacts_after bodies c.self.inside.joints.joints c.self.inside.contacts = rw c.bodies.ensures at c.in_ok-changes.ensures.now in
     let put : c.put_impulses.new.contacts ≡ with_rows c.in_ok-changes.changes.now (all_rows c.run-sums.new.rows) = rw c.as_slice-2.ensures at c.put_impulses.ensures.value in
-    let is_contacts : c.put_impulses.new.contacts ≡ with_rows (contacts_after bodies c.self.inside.contacts) (all_rows c.run-sums.new.rows) = put ∙ ap (λ (es : List ContactEntry). with_rows es (all_rows c.run-sums.new.rows)) is_now in
+    let is_contacts : c.put_impulses.new.contacts ≡ with_rows (contacts_after bodies c.self.inside.joints.joints c.self.inside.contacts) (all_rows c.run-sums.new.rows) = put ∙ ap (λ (es : List ContactEntry). with_rows es (all_rows c.run-sums.new.rows)) is_now in
     let turned_to : c.turn_colours.new.colours.lists ≡ turned bodies c.self.inside.colours.lists (collided_in w).begin (collided_in w).end =
     rw (c.bodies-3.ensures, c.in_ok-reserve-2.ensures.lists, c.deref.ensures.value, c.deref-2.ensures.value, c.in_ok-changes.ensures.begin, c.in_ok-changes.ensures.end, c.bodies.ensures) at c.turn_colours.ensures.lists in
     let is_lists : c.turn_colours.new.colours.lists ≡ lists_in w = turned_to ∙ ap (λ (old : Lists). turned bodies old (collided_in w).begin (collided_in w).end) c.self.invariant.members in
@@ -84,13 +83,15 @@ returns c =
     let between : is_between (pos 1) (pos 8) c.args.ticks ≡ true = search (rules, tests) in
     let count : c.unsigned_abs.result ≡ unsigned_abs c.args.ticks = grind (arith, to_z-of_z) in
     let before : Run = ran c.unsigned_abs.result c.self.inside.gravity (start (states_of bodies) (all_rows c.gather_rows.new.rows)) in
-    let r : Run = run_after w.plain (unsigned_abs c.args.ticks) (contacts_after bodies c.self.inside.contacts) (lists_in w) in
+    let r : Run = ran_in w (unsigned_abs c.args.ticks) in
     let turned_to : c.turn_colours.new.colours.lists ≡ turned bodies c.self.inside.colours.lists (collided_in w).begin (collided_in w).end =
     rw (c.bodies-3.ensures, c.in_ok-reserve-2.ensures.lists, c.deref.ensures.value, c.deref-2.ensures.value, c.in_ok-changes.ensures.begin, c.in_ok-changes.ensures.end, c.bodies.ensures) at c.turn_colours.ensures.lists in
     let is_lists : c.turn_colours.new.colours.lists ≡ lists_in w = turned_to ∙ ap (λ (old : Lists). turned bodies old (collided_in w).begin (collided_in w).end) c.self.invariant.members in
     let same : before ≡ r =
     rw (count, c.gather_rows.ensures.value, c.states.ensures, c.as_slice.ensures.value, is_lists, c.in_ok-changes.ensures.now, c.bodies.ensures) refl in
+    let is_now : c.in_ok-changes.changes.now ≡ contacts_after bodies c.self.inside.joints.joints c.self.inside.contacts = rw c.bodies.ensures at c.in_ok-changes.ensures.now in
+    let rises : AreKeysRising (contacts_after bodies c.self.inside.joints.joints c.self.inside.contacts) = subst AreKeysRising (c.as_slice.ensures.value ∙ is_now) c.as_slice.ensures.contacts.rising in
     let run : run_of r.states (all_rows c.run-sums.new.rows) c.run-sums.result ≡ r = subst (λ (q : Run). run_of q.states (all_rows c.run-sums.new.rows) c.run-sums.result ≡ q) same c.run-sums.ensures.run in
     let is_bodies : c.run-sums.new.self.bodies ≡ renewed_bodies (with_motions bodies r.states) = c.run-sums.ensures.bodies ∙ ap (λ (q : Run). renewed_bodies (with_motions bodies q.states)) same in
     rw (← c.self.view_is, c.events_of.ensures, is_bodies, c.put_impulses.ensures.value, c.as_slice-2.ensures, is_lists, c.in_ok-changes.ensures.now, c.in_ok-changes.ensures.begin, c.in_ok-changes.ensures.end, c.bodies.ensures, c.book_step.ensures.entries, c.book_step.ensures.settled, c.in_ok-reserve.ensures.entries, c.in_ok-reserve.ensures.settled)
-    (step_answers w c.args.ticks r.states (all_rows c.run-sums.new.rows) c.run-sums.result between run)
+    (step_answers w c.args.ticks r.states (all_rows c.run-sums.new.rows) c.run-sums.result (kept_sound w c.self.invariant.sound) rises between run)

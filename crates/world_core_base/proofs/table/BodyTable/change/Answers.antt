@@ -1,11 +1,11 @@
 use Rattle.std.proofs.Common.{◌≡◌, ◌<◌, length, Option, ap, sym, ◌∙◌, arith}
 use Rattle.std.specs.Prelude.{option_map}
-use Rattle.colour_solver.specs.States.{movers_of}
+use Rattle.colour_solver.specs.States.{carried_of, movers_of}
 use Rattle.plain_world.specs.declared.body.Body.{Body}
 use Rattle.world_core_base.specs.Gather.{states_of}
-use Rattle.plain_world.specs.Changes.{changed_at, is_awake_in}
+use Rattle.plain_world.specs.Changes.{changed_at, is_awake_in, is_carried_in}
 use Rattle.plain_world.specs.Slots.{body_at}
-use Rattle.world_core_base.proofs.TableLaws.{changed_movers, renewed_states}
+use Rattle.world_core_base.proofs.TableLaws.{changed_carried, changed_movers, renewed_states}
 use Rattle.world_core_base.proofs.table.BodyTable.change.Goals as goal
 
 pub invariant_of-self : goal.invariant_of-self
@@ -20,7 +20,9 @@ invariant_of-self g c =
     record {
       states = rw c.change_slot.ensures.value now;
       awake = c.self.invariant.awake ∙ ap movers_of c.self.invariant.states ∙ changed_movers bodies c.args.slot o there (rw c.change_slot.ensures.value at c.change_slot.ensures.awake) ∙ ap movers_of (sym now);
+      carried = c.self.invariant.carried ∙ ap carried_of c.self.invariant.states ∙ changed_carried bodies c.args.slot o there (rw c.change_slot.ensures.value at c.change_slot.ensures.carried) ∙ ap carried_of (sym now);
       for_bodies = omega arith;
       for_states = omega arith;
       for_awake = omega arith;
+      for_carried = omega arith;
     }

@@ -2,9 +2,10 @@ use Rattle.std.proofs.Common.{◌≡◌, ℤ, ◌+ℤ◌, length, ap, sym, ◌�
 use Rattle.colour_solver.specs.States.{total_x, total_y}
 use Rattle.colour_solver.specs.ColourRows.{all_rows}
 use Rattle.colour_solver.specs.Ticks.{added_x, added_y}
+use Rattle.colour_solver.proofs.CourseLaws.{carried_beside, movers_beside}
 use Rattle.colour_solver.proofs.TickLaws.{rows_as_long}
 use Rattle.plain_world.specs.Bodies.{AreBodies}
-use Rattle.world_core_base.proofs.GatherLaws.{length-states, states-all, total_x-gathered, total_y-gathered}
+use Rattle.world_core_base.proofs.GatherLaws.{courses-all, length-states, states-all, total_x-gathered, total_y-gathered}
 use Rattle.world_core_base.proofs.table.BodyTable.run.Goals as goal
 
 pub run_step-sums-requires-clause-states : goal.run_step-sums-requires-clause-states
@@ -12,8 +13,19 @@ run_step-sums-requires-clause-states c =
     let bodies : AreBodies c.self.inside.bodies.items = rw (← c.self.view_is) at c.requires.bodies in
     rw c.self.invariant.states (states-all c.self.inside.bodies.items bodies)
 
-pub move_awake-requires-clause-bodies : goal.move_awake-requires-clause-bodies
-move_awake-requires-clause-bodies c = rw (← c.self.view_is) at c.requires.bodies
+pub run_step-sums-requires-clause-courses : goal.run_step-sums-requires-clause-courses
+run_step-sums-requires-clause-courses c =
+    let bodies : AreBodies c.self.inside.bodies.items = rw (← c.self.view_is) at c.requires.bodies in
+    rw c.self.invariant.states (courses-all c.self.inside.bodies.items bodies)
+
+pub move_bodies-requires-clause-awake : goal.move_bodies-requires-clause-awake
+move_bodies-requires-clause-awake c = rw c.deref-3.ensures.value (c.self.invariant.awake ∙ sym (movers_beside c.self.inside.states.items c.run_step-sums.new.states.items c.run_step-sums.ensures.same))
+
+pub move_bodies-requires-clause-carried : goal.move_bodies-requires-clause-carried
+move_bodies-requires-clause-carried c = rw c.deref-4.ensures.value (c.self.invariant.carried ∙ sym (carried_beside c.self.inside.states.items c.run_step-sums.new.states.items c.run_step-sums.ensures.same))
+
+pub move_bodies-requires-clause-bodies : goal.move_bodies-requires-clause-bodies
+move_bodies-requires-clause-bodies c = rw (← c.self.view_is) at c.requires.bodies
 
 pub returns-clause-rows : goal.returns-clause-rows
 returns-clause-rows c =
@@ -23,9 +35,9 @@ returns-clause-rows c =
 pub returns-clause-momentum_x : goal.returns-clause-momentum_x
 returns-clause-momentum_x c =
     rw (← c.self.view_is)
-    (c.move_awake.ensures.momentum_x ∙ c.run_step-sums.ensures.momentum_x ∙ ap (λ (z : ℤ). z +ℤ added_x c.run_step-sums.result) (ap total_x c.self.invariant.states ∙ total_x-gathered c.self.inside.bodies.items))
+    (c.move_bodies.ensures.momentum_x ∙ c.run_step-sums.ensures.momentum_x ∙ ap (λ (z : ℤ). z +ℤ added_x c.run_step-sums.result) (ap total_x c.self.invariant.states ∙ total_x-gathered c.self.inside.bodies.items))
 
 pub returns-clause-momentum_y : goal.returns-clause-momentum_y
 returns-clause-momentum_y c =
     rw (← c.self.view_is)
-    (c.move_awake.ensures.momentum_y ∙ c.run_step-sums.ensures.momentum_y ∙ ap (λ (z : ℤ). z +ℤ added_y c.run_step-sums.result) (ap total_y c.self.invariant.states ∙ total_y-gathered c.self.inside.bodies.items))
+    (c.move_bodies.ensures.momentum_y ∙ c.run_step-sums.ensures.momentum_y ∙ ap (λ (z : ℤ). z +ℤ added_y c.run_step-sums.result) (ap total_y c.self.invariant.states ∙ total_y-gathered c.self.inside.bodies.items))

@@ -1,0 +1,73 @@
+//! Pairs of bodies that something keeps from colliding.
+
+ghost use Rattle.std.specs.Prelude.{◌≡◌, ◌++◌, ◌∷◌, [], cond, filter, OnOk};
+ghost use Rattle.std.specs.List.Sorted.{IsNonDecreasing};
+ghost use Rattle.std.specs.Result.{IsOkUnless};
+ghost use Rattle.contacts.specs.Forbidden.{is_allowed, is_forbidden, pair_number};
+ghost use Rattle.contacts.specs.Pairs.{IsPair, ArePairs};
+
+use contacts_base::Proxy;
+use fixed_geom::Refusal;
+
+/// The number of a pair of bodies, by their slots: the same whichever comes first.
+pub fn pair_number(a: u32, b: u32) -> u64
+    ensures { result ≡ pair_number a b }
+{
+    if a < b {
+        u64::from(a) * (1 << 32) + u64::from(b)
+    } else {
+        u64::from(b) * (1 << 32) + u64::from(a)
+    }
+}
+
+/// Whether the bodies of two shapes are among these pairs.
+fn is_forbidden(pairs: &[u64], p: &Proxy, q: &Proxy) -> bool
+    requires { IsNonDecreasing pairs.now }
+    ensures { result ≡ is_forbidden pairs.now p.now q.now }
+{
+    pairs
+        .binary_search(&pair_number(p.id.slot, q.id.slot))
+        .is_ok()
+}
+
+/// Whether the bodies of the pair of shapes with this code aren't among these pairs.
+fn is_allowed(pairs: &[u64], proxies: &[Proxy], code: u64) -> bool
+    requires sorted { IsNonDecreasing pairs.now }
+    requires pair { IsPair proxies.now code }
+    ensures { result ≡ is_allowed pairs.now proxies.now code }
+{
+    let first = (code / (1 << 32)) as usize;
+    let second = (code % (1 << 32)) as usize;
+    !is_forbidden(pairs, &proxies[first], &proxies[second])
+}
+
+/// Adds a pair's code, if it is wanted. Refused 1 where memory is wanting.
+fn push_if(codes: &mut Vec<u64>, wanted: bool, code: u64) -> Result<(), Refusal>
+    ensures pushed { OnOk result (codes.new.items ≡ codes.old.items ++ cond wanted (code ∷ []) []) }
+    ensures memory_only { IsOkUnless result Refusal.NoMemory }
+{
+    if wanted {
+        codes.push(code)?;
+    }
+    Ok(())
+}
+
+/// Fills `allowed` with the codes of those pairs of shapes whose bodies aren't among the forbidden pairs. Refused 1 where memory is
+/// wanting.
+pub(crate) fn list_allowed(
+    allowed: &mut Vec<u64>,
+    forbidden: &[u64],
+    proxies: &[Proxy],
+    codes: &[u64],
+) -> Result<(), Refusal>
+    requires sorted { IsNonDecreasing forbidden.now }
+    requires pairs { ArePairs proxies.now codes.now }
+    ensures listed { OnOk result (allowed.new.items ≡ filter (is_allowed forbidden.now proxies.now) codes.now) }
+    ensures memory_only { IsOkUnless result Refusal.NoMemory }
+{
+    allowed.clear();
+    for code in codes {
+        push_if(allowed, is_allowed(forbidden, proxies, *code), *code)?;
+    }
+    Ok(())
+}

@@ -1,0 +1,71 @@
+-- Joints by slot: which may be made, which stand between which bodies, and which bodies they keep from colliding.
+use Rattle.std.specs.Prelude.{◌≡◌, ◌≢◌, ℕ, ◌==◌, ◌||◌, Bool, true, false, cond, is_some, List, Option, Some, None, pos, unsigned_abs}
+use Rattle.std.specs.List.{filter_map}
+use Rattle.fixed_geom.specs.Vectors.{is_within}
+use Rattle.fixed_geom.specs.declared.refusal.Refusal.{Refusal}
+use Rattle.fixed_geom.specs.declared.refusal.Refusal.TheVariants.{OutOfRange}
+use Rattle.shapes.specs.Shapes.{is_between}
+use Rattle.body_handles.specs.declared.handle.Handle.{Handle}
+use Rattle.body_handles.specs.declared.places.Place.{Place}
+use Rattle.body_handles.specs.Places.{is_live}
+use Rattle.joint_rows.specs.Joints.{IsJoint}
+use Rattle.joint_rows.specs.declared.limits.TheConstants.{MAX_ANCHOR, MAX_JOINT_LENGTH}
+use Rattle.contacts.specs.Forbidden.{pair_number}
+use Rattle.plain_world.specs.declared.body.Body.{Body}
+use Rattle.plain_world.specs.declared.joint.BodyJoint.{BodyJoint}
+use Rattle.plain_world.specs.declared.joint.JointDef.{JointDef}
+use Rattle.plain_world.specs.Slots.{body_at, item_at}
+
+-- ---- a joint that is made
+
+-- why a joint can't be made, for its numbers
+unfoldable pub joint_refusal : JointDef → Option Refusal
+joint_refusal d = cond (is_within (unsigned_abs MAX_ANCHOR) d.from) (cond (is_within (unsigned_abs MAX_ANCHOR) d.to) (cond (is_between (pos 0) MAX_JOINT_LENGTH d.length) None (Some OutOfRange)) (Some OutOfRange)) (Some OutOfRange)
+
+-- the joint, with no impulse yet
+abbrev pub joint_made : JointDef → BodyJoint
+joint_made d = record { a = d.a.slot; b = d.b.slot; collide = d.collide; joint = record { from = d.from; to = d.to; length = d.length; impulse = pos 0 } }
+
+-- ---- joints by slot
+
+-- the joint in a slot
+abbrev pub joint_at : List (Option BodyJoint) → ℕ → Option BodyJoint
+joint_at joints slot = item_at joints slot
+
+-- the joint that a handle names
+abbrev pub joint_of : List Place → List (Option BodyJoint) → Handle → Option BodyJoint
+joint_of places joints h = cond (is_live places h) (joint_at joints h.slot) None
+
+-- one of the joint's ends is the body in the slot
+abbrev pub is_joint_of : ℕ → BodyJoint → Bool
+is_joint_of slot j = (j.a == slot) || (j.b == slot)
+
+abbrev pub is_end_in : ℕ → Option BodyJoint → Bool
+is_end_in slot None = false
+is_end_in slot (Some j) = is_joint_of slot j
+
+-- ---- which bodies joints keep from colliding
+
+-- the number of the pair of bodies, if the joint keeps them from colliding
+abbrev pub forbidden_by : BodyJoint → Option ℕ
+forbidden_by j = cond j.collide None (Some (pair_number j.a j.b))
+
+abbrev pub forbidden_in : Option BodyJoint → Option ℕ
+forbidden_in None = None
+forbidden_in (Some j) = forbidden_by j
+
+-- the numbers of all pairs of bodies that joints keep from colliding
+abbrev pub forbidden_pairs : List (Option BodyJoint) → List ℕ
+forbidden_pairs joints = filter_map forbidden_in joints
+
+-- ---- what must hold of joints
+
+-- a joint between two different bodies that are there, with its numbers within their limits
+pub record IsBodyJoint (bodies : List (Option Body)) (j : BodyJoint) : Type 0 where
+  pub first : is_some (body_at bodies j.a) ≡ true
+  pub second : is_some (body_at bodies j.b) ≡ true
+  pub apart : j.a ≢ j.b
+  pub joint : IsJoint j.joint
+
+abbrev pub AreJoints : List (Option Body) → List (Option BodyJoint) → Type 0
+AreJoints bodies joints = (slot : ℕ) (j : BodyJoint) → joint_at joints slot ≡ Some j → IsBodyJoint bodies j

@@ -1,0 +1,127 @@
+//! The joints of a world by slot, and which pairs of bodies they keep from colliding.
+
+ghost use Rattle.std.specs.Prelude.{◌≡◌, ◌≤◌, ◌<◌, [], IfOk, None, OnOk, length, slice_set};
+ghost use Rattle.std.specs.Option.{option_copied};
+ghost use Rattle.std.specs.Result.{IsOkUnless};
+ghost use Rattle.std.specs.List.Sorted.{IsNonDecreasing};
+ghost use Rattle.plain_world.specs.Joints.{forbidden_in, forbidden_pairs, joint_at};
+ghost use Rattle.plain_world.specs.JointTables.{HaveSameNumbers};
+ghost use Rattle.plain_world.specs.Slots.{with_item};
+
+use crate::joint::BodyJoint;
+use crate::pair_numbers::{add_pair, drop_pair};
+use crate::slots::{clear_slot, item_at, put_item};
+use fixed_geom::Refusal;
+use std::alloc::Global;
+use std::marker::Model;
+
+/// The joints by slot. Contracts see what each slot contains (`joints`) and how many more slots may be added with no
+/// memory (`room`).
+#[derive(Drop)]
+pub struct JointTable {
+    joints: Vec<Option<BodyJoint>>,
+    // The numbers of the pairs of bodies that joints keep from colliding, ascending, each as often as there are such joints.
+    forbidden: Vec<u64>,
+    // For how many more joints each list has room.
+    room: usize,
+}
+
+impl Model for JointTable {
+    ghost use Rattle.std.specs.Prelude.{◌-◌, vec_capacity, vec_len};
+    ghost use Rattle.plain_world.specs.JointTables.{IsJointTable, Joints};
+
+    ghost Value = { Joints };
+
+    ghost view = { λ a. record { joints = a.joints.items; room = a.room } };
+
+    ghost invariant = { λ a. IsJointTable a.joints.items a.forbidden.items a.room (vec_capacity a.joints - vec_len a.joints) (vec_capacity a.forbidden - vec_len a.forbidden) };
+}
+
+/// The number of the pair of bodies that a joint, if there is one, keeps from colliding.
+fn forbidden_in(joint: Option<&BodyJoint>) -> Option<u64>
+    ensures { result ≡ forbidden_in (option_copied joint.entry) }
+{
+    match joint {
+        None => None,
+        Some(joint) => joint.forbidden_pair(),
+    }
+}
+
+impl JointTable {
+    /// No joints.
+    pub fn new(alloc: Global) -> JointTable
+        ensures { result.joints ≡ [] }
+    {
+        JointTable {
+            joints: Vec::new(alloc),
+            forbidden: Vec::new(alloc),
+            room: 0,
+        }
+    }
+
+    /// A copy of its own. Refused 1 where memory is wanting.
+    pub fn try_copy(&self) -> Result<JointTable, Refusal>
+        ensures copy { IfOk result (λ copied. copied.joints ≡ self.now.joints) }
+        ensures memory_only { IsOkUnless result Refusal.NoMemory }
+    {
+        let alloc = *self.joints.allocator();
+        Ok(JointTable {
+            joints: Vec::from_slice(alloc, self.joints.as_slice())?,
+            forbidden: Vec::from_slice(alloc, self.forbidden.as_slice())?,
+            room: 0,
+        })
+    }
+
+    /// The joint in each slot.
+    pub fn joints(&self) -> &[Option<BodyJoint>]
+        ensures { result.now ≡ self.now.joints }
+    {
+        self.joints.as_slice()
+    }
+
+    /// Makes room for one more joint. Refused 1 where memory is wanting.
+    pub fn reserve_one(&mut self) -> Result<(), Refusal>
+        ensures joints { self.new.joints ≡ self.old.joints }
+        ensures room { OnOk result (1 ≤ self.new.room) }
+        ensures memory_only { IsOkUnless result Refusal.NoMemory }
+    {
+        self.room = 0;
+        self.joints.reserve(1)?;
+        self.forbidden.reserve(1)?;
+        self.room = 1;
+        Ok(())
+    }
+
+    /// Puts a joint into an empty slot, or into a new one at the end, for which there is room.
+    pub fn put(&mut self, slot: u32, joint: BodyJoint)
+        requires room { 1 ≤ self.old.room }
+        requires next { slot ≤ length self.old.joints }
+        requires free { joint_at self.old.joints slot ≡ None }
+        ensures { self.new.joints ≡ with_item self.old.joints slot joint }
+    {
+        self.room = 0;
+        add_pair(&mut self.forbidden, joint.forbidden_pair());
+        put_item(&mut self.joints, slot as usize, joint);
+    }
+
+    /// Empties a slot.
+    pub fn clear(&mut self, slot: u32)
+        requires { slot < length self.old.joints }
+        ensures { self.new.joints ≡ slice_set self.old.joints slot None }
+    {
+        self.room = 0;
+        drop_pair(
+            &mut self.forbidden,
+            forbidden_in(item_at(&self.joints, slot as usize)),
+        );
+        clear_slot(&mut self.joints, slot as usize);
+    }
+
+    /// The numbers of the pairs of bodies that joints keep from colliding, ascending, each as often as there are such joints.
+    pub fn forbidden(&self) -> &[u64]
+        ensures same { HaveSameNumbers (forbidden_pairs self.now.joints) result.now }
+        ensures sorted { IsNonDecreasing result.now }
+    {
+        self.forbidden.as_slice()
+    }
+}

@@ -1,0 +1,116 @@
+use Rattle.std.proofs.Common.{◌≡◌, ◌≤◌, ◌<◌, length, slice_index_or, List, Option, refl, arith, ap, sym, ◌∙◌, add-one}
+use Rattle.momenta.specs.declared.state.BodyState.{BodyState}
+use Rattle.colour_solver.specs.States.{is_carried, moves}
+use Rattle.plain_world.specs.declared.body.Body.{Body}
+use Rattle.world_core_base.proofs.GatherLaws.{length-states}
+use Rattle.world_core_base.proofs.MovingLaws.{begun_where, bodies-both, moved_where, momentum_x-both, momentum_y-both, slots-both}
+use Rattle.world_core_base.proofs.AwakeLaws.{IsWalked, both_walked, carried_both, fits_first, fits_second, movers_both, moved_first, second_long, second_places, there_at, walked_last, walked_more}
+use Rattle.world_core_base.proofs.moving.move_bodies.Goals as goal
+
+pub loop-place-init : goal.loop-place-init
+loop-place-init c = moved_first moves c.args.bodies.now.items c.args.states.now.items c.args.awake.now (c.requires.same.long ∙ length-states c.args.bodies.now.items) c.requires.awake
+
+pub move_slot-requires-clause-body : goal.move_slot-requires-clause-body
+move_slot-requires-clause-body c =
+    (there_at moves c.args.bodies.now.items c.args.states.now.items c.args.awake.now c.loop-place.place (slice_index_or c.args.awake.now c.loop-place.place 0) c.loop-place.bodies.items c.loop-place.states.items
+    (c.requires.same.long ∙ length-states c.args.bodies.now.items) c.loop-place.invariant c.loop-place-test.true refl).bodies
+
+pub move_slot-requires-clause-state : goal.move_slot-requires-clause-state
+move_slot-requires-clause-state c =
+    (there_at moves c.args.bodies.now.items c.args.states.now.items c.args.awake.now c.loop-place.place (slice_index_or c.args.awake.now c.loop-place.place 0) c.loop-place.bodies.items c.loop-place.states.items
+    (c.requires.same.long ∙ length-states c.args.bodies.now.items) c.loop-place.invariant c.loop-place-test.true refl).states
+
+pub move_slot-requires-clause-fits : goal.move_slot-requires-clause-fits
+move_slot-requires-clause-fits c =
+    let slot = slice_index_or c.args.awake.now c.loop-place.place 0 in
+    let all = c.args.bodies.now.items in
+    let before = c.args.states.now.items in
+    fits_first all before c.loop-place.bodies.items c.loop-place.states.items slot c.requires.bodies c.requires.states c.requires.courses c.requires.same
+    (there_at moves all before c.args.awake.now c.loop-place.place slot c.loop-place.bodies.items c.loop-place.states.items (c.requires.same.long ∙ length-states all) c.loop-place.invariant c.loop-place-test.true refl)
+
+pub loop-place-preserved : goal.loop-place-preserved
+loop-place-preserved c =
+    let all = c.args.bodies.now.items in
+    rw add-one
+    (walked_more moves all c.args.states.now.items c.args.awake.now c.loop-place.place (slice_index_or c.args.awake.now c.loop-place.place 0) c.loop-place.bodies.items c.move_slot.new.bodies.items c.loop-place.states.items c.move_slot.new.states.items
+    (c.requires.same.long ∙ length-states all) c.loop-place.invariant c.loop-place-test.true refl c.move_slot.ensures.bodies c.move_slot.ensures.states)
+
+pub loop-place-2-init : goal.loop-place-2-init
+loop-place-2-init c =
+    let all = c.args.bodies.now.items in
+    let before = c.args.states.now.items in
+    let long : length before ≡ length all = c.requires.same.long ∙ length-states all in
+    let walked : IsWalked moves all before c.loop-place.bodies.items c.loop-place.states.items =
+    walked_last moves all before c.args.awake.now c.loop-place.place c.loop-place.bodies.items c.loop-place.states.items long c.loop-place.invariant (omega (arith, c.loop-place-test.false)) in
+    rw (walked.bodies, walked.states) (moved_first is_carried (moved_where moves all before) (begun_where moves before) c.args.carried.now (second_long all before long) (second_places before c.args.carried.now c.requires.carried))
+
+pub move_slot-requires-in-loop-place-2-clause-body : goal.move_slot-requires-in-loop-place-2-clause-body
+move_slot-requires-in-loop-place-2-clause-body c =
+    let all = c.args.bodies.now.items in
+    let before = c.args.states.now.items in
+    (there_at is_carried (moved_where moves all before) (begun_where moves before) c.args.carried.now c.loop-place-2.place (slice_index_or c.args.carried.now c.loop-place-2.place 0) c.loop-place-2.bodies.items c.loop-place-2.states.items
+    (second_long all before (c.requires.same.long ∙ length-states all)) c.loop-place-2.invariant c.loop-place-2-test.true refl).bodies
+
+pub move_slot-requires-in-loop-place-2-clause-state : goal.move_slot-requires-in-loop-place-2-clause-state
+move_slot-requires-in-loop-place-2-clause-state c =
+    let all = c.args.bodies.now.items in
+    let before = c.args.states.now.items in
+    (there_at is_carried (moved_where moves all before) (begun_where moves before) c.args.carried.now c.loop-place-2.place (slice_index_or c.args.carried.now c.loop-place-2.place 0) c.loop-place-2.bodies.items c.loop-place-2.states.items
+    (second_long all before (c.requires.same.long ∙ length-states all)) c.loop-place-2.invariant c.loop-place-2-test.true refl).states
+
+pub move_slot-requires-in-loop-place-2-clause-fits : goal.move_slot-requires-in-loop-place-2-clause-fits
+move_slot-requires-in-loop-place-2-clause-fits c =
+    let slot = slice_index_or c.args.carried.now c.loop-place-2.place 0 in
+    let all = c.args.bodies.now.items in
+    let before = c.args.states.now.items in
+    fits_second all before c.loop-place-2.bodies.items c.loop-place-2.states.items slot c.requires.bodies c.requires.states c.requires.courses c.requires.same
+    (there_at is_carried (moved_where moves all before) (begun_where moves before) c.args.carried.now c.loop-place-2.place slot c.loop-place-2.bodies.items c.loop-place-2.states.items
+    (second_long all before (c.requires.same.long ∙ length-states all)) c.loop-place-2.invariant c.loop-place-2-test.true refl)
+
+pub loop-place-2-preserved : goal.loop-place-2-preserved
+loop-place-2-preserved c =
+    let all = c.args.bodies.now.items in
+    let before = c.args.states.now.items in
+    rw add-one
+    (walked_more is_carried (moved_where moves all before) (begun_where moves before) c.args.carried.now c.loop-place-2.place (slice_index_or c.args.carried.now c.loop-place-2.place 0) c.loop-place-2.bodies.items c.move_slot-in-loop-place-2.new.bodies.items c.loop-place-2.states.items c.move_slot-in-loop-place-2.new.states.items
+    (second_long all before (c.requires.same.long ∙ length-states all)) c.loop-place-2.invariant c.loop-place-2-test.true refl c.move_slot-in-loop-place-2.ensures.bodies c.move_slot-in-loop-place-2.ensures.states)
+
+pub returns-clause-value : goal.returns-clause-value
+returns-clause-value c =
+    let all = c.args.bodies.now.items in
+    let before = c.args.states.now.items in
+    (both_walked all before c.loop-place-2.bodies.items c.loop-place-2.states.items c.requires.same (walked_last is_carried (moved_where moves all before) (begun_where moves before) c.args.carried.now c.loop-place-2.place c.loop-place-2.bodies.items c.loop-place-2.states.items
+    (second_long all before (c.requires.same.long ∙ length-states all)) c.loop-place-2.invariant (omega (arith, c.loop-place-2-test.false)))).bodies
+
+pub returns-clause-states : goal.returns-clause-states
+returns-clause-states c =
+    let all = c.args.bodies.now.items in
+    let before = c.args.states.now.items in
+    (both_walked all before c.loop-place-2.bodies.items c.loop-place-2.states.items c.requires.same (walked_last is_carried (moved_where moves all before) (begun_where moves before) c.args.carried.now c.loop-place-2.place c.loop-place-2.bodies.items c.loop-place-2.states.items
+    (second_long all before (c.requires.same.long ∙ length-states all)) c.loop-place-2.invariant (omega (arith, c.loop-place-2-test.false)))).states
+
+pub returns-clause-awake : goal.returns-clause-awake
+returns-clause-awake c =
+    let all = c.args.bodies.now.items in
+    let before = c.args.states.now.items in
+    c.requires.awake ∙ sym (movers_both before c.loop-place-2.states.items (walked_last is_carried (moved_where moves all before) (begun_where moves before) c.args.carried.now c.loop-place-2.place c.loop-place-2.bodies.items c.loop-place-2.states.items
+    (second_long all before (c.requires.same.long ∙ length-states all)) c.loop-place-2.invariant (omega (arith, c.loop-place-2-test.false))).states)
+
+pub returns-clause-carried : goal.returns-clause-carried
+returns-clause-carried c =
+    let all = c.args.bodies.now.items in
+    let before = c.args.states.now.items in
+    c.requires.carried ∙ sym (carried_both before c.loop-place-2.states.items (walked_last is_carried (moved_where moves all before) (begun_where moves before) c.args.carried.now c.loop-place-2.place c.loop-place-2.bodies.items c.loop-place-2.states.items
+    (second_long all before (c.requires.same.long ∙ length-states all)) c.loop-place-2.invariant (omega (arith, c.loop-place-2-test.false))).states)
+
+pub returns-clause-bodies : goal.returns-clause-bodies
+returns-clause-bodies c = rw (returns-clause-value c) (bodies-both c.args.bodies.now.items c.args.states.now.items c.requires.bodies c.requires.states c.requires.courses c.requires.same)
+
+pub returns-clause-slots : goal.returns-clause-slots
+returns-clause-slots c = rw (returns-clause-value c) (slots-both c.args.bodies.now.items c.args.states.now.items)
+
+pub returns-clause-momentum_x : goal.returns-clause-momentum_x
+returns-clause-momentum_x c = rw (returns-clause-value c) (momentum_x-both c.args.bodies.now.items c.args.states.now.items c.requires.same)
+
+pub returns-clause-momentum_y : goal.returns-clause-momentum_y
+returns-clause-momentum_y c = rw (returns-clause-value c) (momentum_y-both c.args.bodies.now.items c.args.states.now.items c.requires.same)

@@ -1,0 +1,63 @@
+ghost use Rattle.std.specs.Prelude.{◌≡◌, [], ◌∷◌, ◌++◌, IfOk, OnOk};
+ghost use Rattle.std.specs.Result.{IsOkUnless};
+ghost use Rattle.plain_world.specs.Slots.{body_at};
+ghost use Rattle.shape_rays.specs.Hits.{IsPlacedShape, region};
+ghost use Rattle.world_core.specs.Sound.{IsSound};
+ghost use Rattle.world_queries.specs.Placed.{shapes_at, placed_shapes};
+
+use crate::shapes_in::placed_shape;
+use contacts_base::ShapeId;
+use fixed_geom::{Box2, Refusal};
+use shape_rays::{PlacedShape, is_over};
+use shapes::MAX_SHAPES;
+use std::alloc::Global;
+use world_core::WorldCore;
+
+/// Adds the shape if it lies over the region. Refused 1 where memory is wanting.
+fn add_over(found: &mut Vec<ShapeId>, bounds: &Box2, placed: &PlacedShape) -> Result<(), Refusal>
+    requires { IsPlacedShape placed.now }
+    ensures found { OnOk result (found.new.items ≡ found.old.items ++ region bounds.now (placed.now ∷ [])) }
+    ensures memory_only { IsOkUnless result Refusal.NoMemory }
+{
+    if is_over(&placed.shape, placed.pose, bounds) {
+        found.push(placed.id)?;
+    }
+    Ok(())
+}
+
+/// Adds the shapes of the body in a slot that lie over the region. Refused 1 where memory is wanting.
+fn add_at_slot(
+    found: &mut Vec<ShapeId>,
+    world: &WorldCore,
+    bounds: &Box2,
+    slot: u32,
+) -> Result<(), Refusal>
+    requires { IsSound world.now }
+    ensures found { OnOk result (found.new.items ≡ found.old.items ++ region bounds.now (shapes_at slot (body_at world.now.plain.bodies slot))) }
+    ensures memory_only { IsOkUnless result Refusal.NoMemory }
+{
+    for index in 0..MAX_SHAPES {
+        let id = ShapeId {
+            slot,
+            index: index as u8,
+        };
+        let Some(placed) = placed_shape(world, id) else {
+            return Ok(());
+        };
+        add_over(found, bounds, &placed)?;
+    }
+    Ok(())
+}
+
+/// All shapes of enabled bodies whose tight box overlaps the region, ascending by name; a box that only touches it does. Refused
+/// 1 where memory is wanting.
+pub fn region(alloc: Global, world: &WorldCore, bounds: &Box2) -> Result<Vec<ShapeId>, Refusal>
+    ensures shapes { IfOk result (λ found. found.items ≡ region bounds.now (placed_shapes world.now.plain.bodies)) }
+    ensures memory_only { IsOkUnless result Refusal.NoMemory }
+{
+    let mut found = Vec::new(alloc);
+    for slot in 0..world.slots() {
+        add_at_slot(&mut found, world, bounds, slot)?;
+    }
+    Ok(found)
+}
