@@ -2,24 +2,31 @@ use crate::ids::Id;
 use body_handles::Handle;
 use fixed_geom::{Refusal, Rot, Vec2};
 use impulse_ledger::{Cause, Ledger, Total};
-use plain_world::{BodyView, SetName};
+use plain_world::{BodyView, Course, SetName};
 use std::fmt;
 use world_core::{ContactKey, Events, ShapeId};
+use world_queries::Hit;
 
 /// The answer to a line. Its text is compact JSON, the keys of each object ascending.
-#[derive(Clone, Copy)]
+#[derive(Drop)]
 pub enum Answer<'a> {
     /// A command without an answer of its own was accepted.
     Done,
     /// The body that was made.
     Body(Handle),
+    /// The joint that was made.
+    Joint(Handle),
     /// The number of the step, and its events.
     Stepped(u64, &'a Events),
     /// What can be seen of a body.
     Shown(BodyView),
     /// The ledger's totals.
     Ledger(&'a Ledger),
-    /// A refused command.
+    /// What a ray hits first.
+    Hit(Option<Hit>),
+    /// The shapes over a region, ascending.
+    Shapes(Vec<ShapeId>),
+    /// A refused request.
     Refused(Refusal),
     /// The number of a line that is no request.
     Bad(u64),
@@ -29,19 +36,22 @@ impl fmt::Display for Answer<'_> {
     fn fmt<W: fmt::Write>(&self, f: &mut fmt::Formatter<W>) -> fmt::Result {
         match self {
             Answer::Done => f.write_str("{\"done\":true}"),
-            Answer::Body(handle) => write_body(f, *handle),
+            Answer::Body(handle) => write_made(f, "body", *handle),
+            Answer::Joint(handle) => write_made(f, "joint", *handle),
             Answer::Stepped(step, events) => write_step(f, *step, events),
             Answer::Shown(view) => write_view(f, view),
             Answer::Ledger(ledger) => write_ledger(f, ledger),
+            Answer::Hit(hit) => write_hit(f, *hit),
+            Answer::Shapes(shapes) => write_shapes(f, shapes.as_slice()),
             Answer::Refused(refusal) => write_refusal(f, *refusal),
             Answer::Bad(line) => write!(f, "{{\"bad\":{line}}}"),
         }
     }
 }
 
-fn write_body<W: fmt::Write>(f: &mut fmt::Formatter<W>, handle: Handle) -> fmt::Result {
+fn write_made<W: fmt::Write>(f: &mut fmt::Formatter<W>, what: &str, handle: Handle) -> fmt::Result {
     let id = Id(handle);
-    write!(f, "{{\"body\":\"{id}\"}}")
+    write!(f, "{{\"{what}\":\"{id}\"}}")
 }
 
 fn write_refusal<W: fmt::Write>(f: &mut fmt::Formatter<W>, refusal: Refusal) -> fmt::Result {
@@ -57,11 +67,17 @@ fn write_comma<W: fmt::Write>(f: &mut fmt::Formatter<W>, index: usize) -> fmt::R
     if index == 0 { Ok(()) } else { f.write_str(",") }
 }
 
+fn write_shape<W: fmt::Write>(f: &mut fmt::Formatter<W>, shape: ShapeId) -> fmt::Result {
+    let ShapeId { slot, index } = shape;
+    write!(f, "[{slot},{index}]")
+}
+
 fn write_contact<W: fmt::Write>(f: &mut fmt::Formatter<W>, contact: &ContactKey) -> fmt::Result {
-    let ShapeId { slot, index } = contact.first;
-    write!(f, "[[{slot},{index}],")?;
-    let ShapeId { slot, index } = contact.second;
-    write!(f, "[{slot},{index}]]")
+    f.write_str("[")?;
+    write_shape(f, contact.first)?;
+    f.write_str(",")?;
+    write_shape(f, contact.second)?;
+    f.write_str("]")
 }
 
 fn write_contacts<W: fmt::Write>(
@@ -115,7 +131,17 @@ fn write_view<W: fmt::Write>(f: &mut fmt::Formatter<W>, view: &BodyView) -> fmt:
     let Vec2 { x, y } = view.p;
     write!(f, "\"p\":[{x},{y}],\"set\":\"")?;
     write_set(f, view.set)?;
-    f.write_str("\"}")
+    f.write_str("\"")?;
+    if let Some(course) = view.course {
+        write_course(f, course)?;
+    }
+    f.write_str("}")
+}
+
+fn write_course<W: fmt::Write>(f: &mut fmt::Formatter<W>, course: Course) -> fmt::Result {
+    let Vec2 { x, y } = course.velocity;
+    let spin = course.spin;
+    write!(f, ",\"spin\":{spin},\"velocity\":[{x},{y}]")
 }
 
 fn write_total<W: fmt::Write>(f: &mut fmt::Formatter<W>, total: Total) -> fmt::Result {
@@ -139,4 +165,22 @@ fn write_ledger<W: fmt::Write>(f: &mut fmt::Formatter<W>, ledger: &Ledger) -> fm
     f.write_str("},\"total\":")?;
     write_total(f, ledger.total())?;
     f.write_str("}")
+}
+
+fn write_hit<W: fmt::Write>(f: &mut fmt::Formatter<W>, hit: Option<Hit>) -> fmt::Result {
+    let Some(Hit { fraction, shape }) = hit else {
+        return f.write_str("{\"hit\":null}");
+    };
+    write!(f, "{{\"hit\":{{\"fraction\":{fraction},\"shape\":")?;
+    write_shape(f, shape)?;
+    f.write_str("}}")
+}
+
+fn write_shapes<W: fmt::Write>(f: &mut fmt::Formatter<W>, shapes: &[ShapeId]) -> fmt::Result {
+    f.write_str("{\"shapes\":[")?;
+    for (index, shape) in shapes.iter().enumerate() {
+        write_comma(f, index)?;
+        write_shape(f, *shape)?;
+    }
+    f.write_str("]}")
 }

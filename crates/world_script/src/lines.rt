@@ -1,10 +1,13 @@
-use crate::ids::handle_of;
+use crate::faults::{LineFault, Reason};
+use crate::fields::Fields;
+use crate::reading::fields_of;
+use crate::values::{facing_of, id_of, shapes_of, signed_of, text_of, truth_of, vector_of};
 use body_handles::Handle;
-use fixed_geom::{Rot, Vec2};
+use fixed_geom::{Box2, Rot, Vec2, ZERO_VECTOR};
+use json::Scratch;
 use momenta::MassData;
-use plain_world::{BodyDef, Kind};
-use serde_json::{Map, Value};
-use shapes::{Filter, Pose, Shape, ShapeDef, Shapes};
+use plain_world::{BodyDef, Course, JointDef, Kind};
+use shapes::Pose;
 use std::alloc::Global;
 use world_core::Command;
 
@@ -17,194 +20,58 @@ pub enum Request {
     Show(Handle),
     /// The ledger's totals.
     Ledger,
+    /// What a ray with this start and this way hits first.
+    Ray(Vec2, Vec2),
+    /// The shapes over a region.
+    Region(Box2),
 }
 
-/// Why a line gives no request.
-#[derive(Clone, Copy, Debug, PartialEq, Eq)]
-pub enum LineFault {
-    /// It is no request.
-    Bad,
-    /// There was no memory to read it.
-    NoMemory,
-}
+/// The mass of a body that isn't dynamic.
+const NO_MASS: MassData = MassData {
+    mass: 0,
+    inertia: 0,
+};
 
-/// The keys of an object. Each key that is allowed is taken once; what is left then is unknown.
-#[derive(Drop)]
-struct Fields<'a> {
-    members: &'a Map<String, Value>,
-    left: usize,
-}
-
-impl<'a> Fields<'a> {
-    fn of(value: &'a Value) -> Result<Fields<'a>, LineFault> {
-        let members = value.as_object().ok_or(LineFault::Bad)?;
-        let left = members.len();
-        Ok(Fields { members, left })
-    }
-
-    /// The value of a key that may be left out.
-    fn take_optional(&mut self, key: &str) -> Option<&'a Value> {
-        let value = self.members.get(key)?;
-        self.left = self.left.saturating_sub(1);
-        Some(value)
-    }
-
-    /// The value of a key that has to stand.
-    fn take(&mut self, key: &str) -> Result<&'a Value, LineFault> {
-        self.take_optional(key).ok_or(LineFault::Bad)
-    }
-
-    /// Refuses an object in which a key was not taken.
-    fn finish(self) -> Result<(), LineFault> {
-        if self.left == 0 {
-            Ok(())
-        } else {
-            Err(LineFault::Bad)
-        }
-    }
-}
-
-fn text_of(value: &Value) -> Result<&str, LineFault> {
-    value.as_str().ok_or(LineFault::Bad)
-}
-
-fn signed_of(value: &Value) -> Result<i64, LineFault> {
-    value.as_i64().ok_or(LineFault::Bad)
-}
-
-fn unsigned_of(value: &Value) -> Result<u64, LineFault> {
-    value.as_u64().ok_or(LineFault::Bad)
-}
-
-fn group_of(value: &Value) -> Result<i32, LineFault> {
-    i32::try_from(signed_of(value)?).map_err(|_| LineFault::Bad)
-}
-
-fn pair_of(value: &Value) -> Result<(&Value, &Value), LineFault> {
-    match value.as_array().ok_or(LineFault::Bad)?.as_slice() {
-        [first, second] => Ok((first, second)),
-        _ => Err(LineFault::Bad),
-    }
-}
-
-fn vector_of(value: &Value) -> Result<Vec2, LineFault> {
-    let (x, y) = pair_of(value)?;
-    Ok(Vec2 {
-        x: signed_of(x)?,
-        y: signed_of(y)?,
-    })
-}
-
-fn facing_of(value: &Value) -> Result<Rot, LineFault> {
-    let Vec2 { x: c, y: s } = vector_of(value)?;
-    Ok(Rot { c, s })
-}
-
-fn ends_of(value: &Value) -> Result<(Vec2, Vec2), LineFault> {
-    let (first, second) = pair_of(value)?;
-    Ok((vector_of(first)?, vector_of(second)?))
-}
-
-fn id_of(value: &Value) -> Result<Handle, LineFault> {
-    handle_of(text_of(value)?).ok_or(LineFault::Bad)
-}
-
-/// The form of a shape: exactly one of the keys that name it, with a radius where it has one.
-fn take_form(fields: &mut Fields<'_>) -> Result<Shape, LineFault> {
-    if let Some(value) = fields.take_optional("circle") {
-        let center = vector_of(value)?;
-        let radius = signed_of(fields.take("radius")?)?;
-        return Ok(Shape::Circle { center, radius });
-    }
-    if let Some(value) = fields.take_optional("capsule") {
-        let (first, second) = ends_of(value)?;
-        let radius = signed_of(fields.take("radius")?)?;
-        return Ok(Shape::Capsule {
-            first,
-            second,
-            radius,
-        });
-    }
-    let (first, second) = ends_of(fields.take("segment")?)?;
-    Ok(Shape::Segment { first, second })
-}
-
-fn take_filter(fields: &mut Fields<'_>) -> Result<Filter, LineFault> {
-    let mut filter = Filter::default();
-    if let Some(value) = fields.take_optional("category") {
-        filter.category = unsigned_of(value)?;
-    }
-    if let Some(value) = fields.take_optional("mask") {
-        filter.mask = unsigned_of(value)?;
-    }
-    if let Some(value) = fields.take_optional("group") {
-        filter.group = group_of(value)?;
-    }
-    Ok(filter)
-}
-
-/// A number that may be left out, and is 0 then.
-fn take_or_zero(fields: &mut Fields<'_>, key: &str) -> Result<i64, LineFault> {
-    match fields.take_optional(key) {
-        Some(value) => signed_of(value),
-        None => Ok(0),
-    }
-}
-
-fn shape_of(value: &Value) -> Result<ShapeDef, LineFault> {
-    let mut fields = Fields::of(value)?;
-    let def = ShapeDef {
-        shape: take_form(&mut fields)?,
-        friction: take_or_zero(&mut fields, "friction")?,
-        restitution: take_or_zero(&mut fields, "restitution")?,
-        filter: take_filter(&mut fields)?,
+/// The course of a kinematic body: a velocity or a spin that is left out is 0.
+fn take_course<'a>(fields: &mut Fields<'a>) -> Result<Course, LineFault<'a>> {
+    let velocity = match fields.take_optional("velocity") {
+        Some(value) => vector_of(value)?,
+        None => ZERO_VECTOR,
     };
-    fields.finish()?;
-    Ok(def)
-}
-
-fn shapes_of(alloc: Global, value: &Value) -> Result<Shapes, LineFault> {
-    let mut shapes = Shapes::new(alloc);
-    for item in value.as_array().ok_or(LineFault::Bad)? {
-        shapes
-            .push(shape_of(item)?)
-            .map_err(|_| LineFault::NoMemory)?;
-    }
-    Ok(shapes)
+    let spin = match fields.take_optional("spin") {
+        Some(value) => signed_of(value)?,
+        None => 0,
+    };
+    Ok(Course { velocity, spin })
 }
 
 /// The kind of a body, with the mass and the inertia that a dynamic one has to have.
-fn take_kind(fields: &mut Fields<'_>) -> Result<(Kind, MassData), LineFault> {
+fn take_kind<'a>(fields: &mut Fields<'a>) -> Result<(Kind, MassData), LineFault<'a>> {
     match text_of(fields.take("kind")?)? {
-        "static" => Ok((
-            Kind::Static,
-            MassData {
-                mass: 0,
-                inertia: 0,
-            },
-        )),
+        "static" => Ok((Kind::Static, NO_MASS)),
+        "kinematic" => Ok((Kind::Kinematic(take_course(fields)?), NO_MASS)),
         "dynamic" => {
             let mass = signed_of(fields.take("mass")?)?;
             let inertia = signed_of(fields.take("inertia")?)?;
             Ok((Kind::Dynamic, MassData { mass, inertia }))
         }
-        _ => Err(LineFault::Bad),
+        _ => Err(LineFault::at("kind", Reason::NoKind)),
     }
 }
 
 /// A facing that may be left out: the body then isn't turned.
-fn take_facing(fields: &mut Fields<'_>) -> Result<Rot, LineFault> {
+fn take_facing<'a>(fields: &mut Fields<'a>) -> Result<Rot, LineFault<'a>> {
     match fields.take_optional("facing") {
         Some(value) => facing_of(value),
         None => Ok(Rot { c: 1 << 30, s: 0 }),
     }
 }
 
-fn take_body_def(alloc: Global, fields: &mut Fields<'_>) -> Result<BodyDef, LineFault> {
+fn take_body_def<'a>(fields: &mut Fields<'a>) -> Result<BodyDef, LineFault<'a>> {
     let (kind, mass) = take_kind(fields)?;
     let x = vector_of(fields.take("at")?)?;
     let rot = take_facing(fields)?;
-    let shapes = shapes_of(alloc, fields.take("shapes")?)?;
+    let shapes = shapes_of(fields.take("shapes")?)?;
     Ok(BodyDef {
         kind,
         mass,
@@ -214,10 +81,32 @@ fn take_body_def(alloc: Global, fields: &mut Fields<'_>) -> Result<BodyDef, Line
     })
 }
 
-fn take_request(alloc: Global, fields: &mut Fields<'_>) -> Result<Request, LineFault> {
+fn take_joint_def<'a>(fields: &mut Fields<'a>) -> Result<JointDef, LineFault<'a>> {
+    let a = id_of(fields.take("a")?)?;
+    let b = id_of(fields.take("b")?)?;
+    let from = vector_of(fields.take("from")?)?;
+    let to = vector_of(fields.take("to")?)?;
+    let length = signed_of(fields.take("length")?)?;
+    let collide = match fields.take_optional("collide") {
+        Some(value) => truth_of(value)?,
+        None => false,
+    };
+    Ok(JointDef {
+        a,
+        b,
+        from,
+        to,
+        length,
+        collide,
+    })
+}
+
+fn take_request<'a>(fields: &mut Fields<'a>) -> Result<Request, LineFault<'a>> {
     let command = match text_of(fields.take("do")?)? {
-        "create" => Command::CreateBody(take_body_def(alloc, fields)?),
+        "create" => Command::CreateBody(take_body_def(fields)?),
         "destroy" => Command::DestroyBody(id_of(fields.take("body")?)?),
+        "joint" => Command::CreateJoint(take_joint_def(fields)?),
+        "unjoin" => Command::DestroyJoint(id_of(fields.take("joint")?)?),
         "push" => {
             let body = id_of(fields.take("body")?)?;
             Command::Push(body, vector_of(fields.take("by")?)?)
@@ -233,24 +122,38 @@ fn take_request(alloc: Global, fields: &mut Fields<'_>) -> Result<Request, LineF
             let rot = facing_of(fields.take("facing")?)?;
             Command::SetPose(body, Pose { x, rot })
         }
+        "set_velocity" => {
+            let body = id_of(fields.take("body")?)?;
+            let velocity = vector_of(fields.take("velocity")?)?;
+            let spin = signed_of(fields.take("spin")?)?;
+            Command::SetVelocity(body, Course { velocity, spin })
+        }
         "gravity" => Command::SetGravity(vector_of(fields.take("by")?)?),
         "step" => Command::Step(signed_of(fields.take("ticks")?)?),
         "show" => return Ok(Request::Show(id_of(fields.take("body")?)?)),
         "ledger" => return Ok(Request::Ledger),
-        _ => return Err(LineFault::Bad),
+        "ray" => {
+            let from = vector_of(fields.take("from")?)?;
+            return Ok(Request::Ray(from, vector_of(fields.take("along")?)?));
+        }
+        "region" => {
+            let lo = vector_of(fields.take("lo")?)?;
+            let hi = vector_of(fields.take("hi")?)?;
+            return Ok(Request::Region(Box2 { lo, hi }));
+        }
+        _ => return Err(LineFault::at("do", Reason::NoRequest)),
     };
     Ok(Request::Command(command))
 }
 
-/// Reads a line, with or without its end.
-pub fn request_of(alloc: Global, line: &[u8]) -> Result<Request, LineFault> {
-    let value = match Value::from_slice(alloc, line) {
-        Ok(value) => value,
-        Err(error) if error.is_memory() => return Err(LineFault::NoMemory),
-        Err(_) => return Err(LineFault::Bad),
-    };
-    let mut fields = Fields::of(&value)?;
-    let request = take_request(alloc, &mut fields)?;
+/// Reads a line, with or without its end. The scratch grows to the longest line that was read.
+pub fn request_of<'a>(
+    alloc: Global,
+    line: &'a [u8],
+    scratch: &'a mut Scratch,
+) -> Result<Request, LineFault<'a>> {
+    let mut fields = fields_of(alloc, line, scratch)?;
+    let request = take_request(&mut fields)?;
     fields.finish()?;
     Ok(request)
 }

@@ -5,10 +5,17 @@
 
 mod answers;
 mod engine;
+mod explain;
+mod faults;
+mod fields;
 mod ids;
+mod line_reader;
 mod lines;
 mod options;
+mod reading;
+mod shape_fields;
 mod status;
+mod values;
 
 use engine::{Options, run};
 use options::Instead;
@@ -18,9 +25,12 @@ use std::process::ExitCode;
 use std::rt::Env;
 use std::{env, io};
 
+/// How many bytes are read at once. Answers are written before each read, so that a larger number saves writes too.
+const READ_AHEAD: usize = 65_536;
+
 /// Answers standard input on standard output.
-fn serve<R: AllocGlobal + Input + Print>(rt: &R, options: Options) -> Status {
-    let Ok(mut reader) = BufReader::new(rt.alloc(), rt.reader()) else {
+fn serve<R: AllocGlobal + Input + Print + Eprint>(rt: &R, options: Options) -> Status {
+    let Ok(mut reader) = BufReader::with_capacity(rt.alloc(), READ_AHEAD, rt.reader()) else {
         return Status::NoMemory;
     };
     let Ok(mut writer) = BufWriter::new(rt.alloc(), io::writer(rt)) else {
@@ -54,7 +64,7 @@ fn start<R: AllocGlobal + Env + Input + Print + Eprint>(rt: &R) -> Status {
     };
     match options::options(rt.alloc(), words.as_slice()) {
         Ok(options) => serve(rt, options),
-        Err(Instead::Help(text)) => match print!(rt; "{text}") {
+        Err(Instead::Text(text)) => match print!(rt; "{text}") {
             Ok(()) => Status::Ended,
             Err(_) => Status::Failed,
         },

@@ -1,14 +1,42 @@
 use crate::engine::Options;
-use clap::Command;
 use clap::error::ErrorKind;
+use clap::{Arg, ArgAction, ArgMatches, Command};
 use std::alloc::Global;
 use std::convert::AsStr;
+
+const ABOUT: &str =
+    "Keeps a world of bodies: reads one JSON request a line, and answers each with a line";
+
+const VERSION: &str = "0.1.0";
+
+/// What follows the options in the help.
+const REQUESTS: &str =
+    "Requests, each an object with \"do\" and these keys (a key in brackets may be left out):
+  create    kind, mass and inertia (of a dynamic body alone), [velocity] and [spin] (of a kinematic one), at, [facing], shapes
+  destroy   body
+  joint     a, b, from, to, length, [collide]
+  unjoin    joint
+  push      body, by
+  push_at   body, by, offset
+  set_pose  body, at, facing
+  set_velocity  body, velocity, spin
+  gravity   by
+  step      ticks
+  show      body
+  ledger
+  ray       from, along
+  region    lo, hi
+
+Shapes are {\"circle\":[x,y],\"radius\":r}, {\"capsule\":[[x,y],[x,y]],\"radius\":r} and {\"segment\":[[x,y],[x,y]]}, each with
+[friction], [restitution], [category], [mask], [group].
+An answer is one line: {\"refused\":K} where the world refuses a request, and {\"bad\":N} where line N is no request; the
+program ends then with status 1, and says on standard error what is wrong. docs/SCRIPT.md has all of it.";
 
 /// Why the program's words give no options.
 #[derive(Debug, Drop)]
 pub enum Instead {
-    /// Help was asked for: its text.
-    Help(String),
+    /// Help or the version was asked for: its text.
+    Text(String),
     /// The words are bad: the text of the fault.
     BadWords(String),
     /// There was no memory to read them.
@@ -17,13 +45,26 @@ pub enum Instead {
 
 /// Reads the program's words, of which the first is its name.
 pub fn options<S: AsStr>(alloc: Global, words: &[S]) -> Result<Options, Instead> {
-    let command = Command::new(alloc, "world_script").about(
-        "Keeps a world of bodies: reads one JSON request a line, and answers each with a line",
-    );
-    match command.try_get_matches_from(words) {
-        Ok(_) => Ok(Options {}),
+    match matches_of(alloc, words) {
+        Ok(matches) => Ok(Options {
+            explain: matches.get_flag("explain"),
+        }),
         Err(error) => Err(instead_of(alloc, &error)),
     }
+}
+
+/// What the words ask for.
+fn matches_of<'a, S: AsStr>(alloc: Global, words: &'a [S]) -> Result<ArgMatches<'a>, clap::Error> {
+    let explain = Arg::new(alloc, "explain")
+        .long("explain")
+        .action(ArgAction::SetTrue)
+        .help("Say in words on standard error why a request is refused");
+    let command = Command::new(alloc, "world_script")
+        .about(ABOUT)
+        .version(VERSION)
+        .after_help(REQUESTS)
+        .arg(explain)?;
+    command.try_get_matches_from(words)
 }
 
 /// What to do in place of a run.
@@ -37,6 +78,6 @@ fn instead_of(alloc: Global, error: &clap::Error) -> Instead {
     if error.use_stderr() {
         Instead::BadWords(text)
     } else {
-        Instead::Help(text)
+        Instead::Text(text)
     }
 }
