@@ -1,5 +1,5 @@
 -- Bodies that are carried along, from one to the next, and what stays when they move on.
-use Rattle.std.proofs.Common.{◌≡◌, ℕ, zero, suc, ◌+◌, ◌<◌, ◌≤◌, Bool, true, false, cond, not, List, [], ◌∷◌, ◌++◌, length, get_or, set, take, drop, map, Some, pos, ◌+ℤ◌, unsigned_abs, int_eq, arith, refl, sym, ap, ◌∙◌, subst, inl, inr, slice_set, add-one}
+use Rattle.std.proofs.Common.{◌≡◌, ℕ, zero, suc, ◌+◌, ◌<◌, ◌≤◌, Bool, true, false, cond, not, List, [], ◌∷◌, ◌++◌, length, get_or, set, take, drop, map, None, Some, pos, ◌+ℤ◌, unsigned_abs, int_eq, arith, refl, sym, ap, ◌∙◌, subst, inl, inr, slice_set, add-one}
 use Rattle.std.specs.List.{slice_get}
 use Rattle.std.proofs.lemmas.Bool.{cases_Bool}
 use Rattle.std.proofs.lemmas.Int.{ints}
@@ -76,6 +76,16 @@ courses-set (a ∷ ss) zero s all has zero x e = let same : s ≡ x = cc e in su
 courses-set (a ∷ ss) zero s all has (suc k) x e = all (suc k) x e
 courses-set (a ∷ ss) (suc i) s all has zero x e = all zero x e
 courses-set (a ∷ ss) (suc i) s all has (suc k) x e = courses-set ss i s (λ n y f. all (suc n) y f) has k x e
+
+-- bodies that aren't carried have any course
+pub courses_one : (s : BodyState) → is_carried s ≡ false → HaveCourses (s ∷ [])
+courses_one s stands zero x e on1 = let same : s ≡ x = cc e in let wrong : true ≡ false = sym on1 ∙ ap is_carried (sym same) ∙ stands in cc wrong
+courses_one s stands (suc k) x e on1 = let wrong : None ≡ Some x = e in cc wrong
+
+pub courses-push : (ss : List BodyState) (s : BodyState) → HaveCourses ss → is_carried s ≡ false → HaveCourses (ss ++ s ∷ [])
+courses-push [] s all stands k x e on1 = courses_one s stands k x e on1
+courses-push (a ∷ ss) s all stands zero x e on1 = all zero x e on1
+courses-push (a ∷ ss) s all stands (suc k) x e on1 = courses-push ss s (λ n y f. all (suc n) y f) stands k x e on1
 
 pub courses-carry : (ss : List BodyState) → HaveCourses ss → HaveCourses (carry ss)
 courses-carry [] all k x e = all k x e

@@ -2,7 +2,7 @@ ghost use Rattle.std.specs.Prelude.{◌≡◌, ◌^◌, ◌≤◌, [], ◌∷◌
 ghost use Rattle.fixed_geom.specs.Vectors.{IsWithin};
 ghost use Rattle.momenta.specs.Impulses.{IsState};
 ghost use Rattle.colour_solver_base.specs.Rows.{IsRow};
-ghost use Rattle.colour_solver.specs.States.{AreAllStates, movers_of};
+ghost use Rattle.colour_solver.specs.States.{AreAllStates, HaveCourses, carried_of, is_carried, movers_of};
 ghost use Rattle.colour_solver.specs.ColourRows.{all_rows};
 ghost use Rattle.colour_solver.specs.ContactTurns.{AreRowsBelow, IsRowBelow};
 ghost use Rattle.colour_solver.specs.Ticks.{start, ticks};
@@ -32,6 +32,7 @@ fn point(movable: bool, mass: i64, p: Vec2) -> BodyState
     requires slow { IsWithin (2 ^ 60) p }
     ensures state { IsState result }
     ensures movable { result.movable ≡ movable }
+    ensures stands { is_carried result ≡ false }
 {
     let weight = MassData { mass, inertia: 0 };
     BodyState {
@@ -49,9 +50,11 @@ fn point(movable: bool, mass: i64, p: Vec2) -> BodyState
 }
 
 fn one_body(alloc: Global, state: BodyState) -> Result<Vec<BodyState>, Refusal>
-    requires { IsState state }
+    requires state { IsState state }
+    requires stands { is_carried state ≡ false }
     ensures items { IfOk result (λ states. states.items ≡ state ∷ []) }
     ensures states { IfOk result (λ states. AreAllStates states.items) }
+    ensures courses { IfOk result (λ states. HaveCourses states.items) }
 {
     let mut states = Vec::with_capacity(alloc, 1)?;
     states.push(state)?;
@@ -127,6 +130,8 @@ fn two_bodies(alloc: Global) -> Result<Vec<BodyState>, Refusal>
     ensures long { IfOk result (λ states. length states.items ≡ 2) }
     ensures states { IfOk result (λ states. AreAllStates states.items) }
     ensures movers { IfOk result (λ states. movers_of states.items ≡ 1 ∷ []) }
+    ensures carried { IfOk result (λ states. carried_of states.items ≡ []) }
+    ensures courses { IfOk result (λ states. HaveCourses states.items) }
 {
     let mut states = one_body(alloc, point(false, 1, ORIGIN))?;
     states.push(point(true, 1, at(0, -8192)))?;

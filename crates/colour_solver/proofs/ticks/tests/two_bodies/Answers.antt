@@ -1,5 +1,6 @@
 use Rattle.std.proofs.Common.{refl, sym, subst}
-use Rattle.colour_solver.specs.States.{AreAllStates}
+use Rattle.colour_solver.specs.States.{AreAllStates, HaveCourses}
+use Rattle.colour_solver.proofs.CourseLaws.{courses-push}
 use Rattle.colour_solver.proofs.TurnLaws.{states-push}
 use Rattle.colour_solver.proofs.ticks.tests.two_bodies.Goals as goal
 
@@ -11,3 +12,9 @@ returns-clause-states c = subst AreAllStates (sym c.in_ok-push.ensures.items) (s
 
 pub returns-clause-movers : goal.returns-clause-movers
 returns-clause-movers c = rw (c.in_ok-push.ensures.items, c.in_ok-states.ensures.items, c.point.ensures.movable, c.point-2.ensures.movable) refl
+
+pub returns-clause-carried : goal.returns-clause-carried
+returns-clause-carried c = rw (c.in_ok-push.ensures.items, c.in_ok-states.ensures.items, c.point.ensures.stands, c.point-2.ensures.stands) refl
+
+pub returns-clause-courses : goal.returns-clause-courses
+returns-clause-courses c = subst HaveCourses (sym c.in_ok-push.ensures.items) (courses-push c.in_ok-states.states.items c.point-2.result c.in_ok-states.ensures.courses c.point-2.ensures.stands)
