@@ -3,33 +3,25 @@
 //! statuses.
 #![tactic(auto)]
 
-mod answers;
-mod engine;
-mod explain;
-mod faults;
-mod fields;
-mod ids;
-mod line_reader;
-mod lines;
 mod options;
-mod reading;
-mod shape_fields;
-mod status;
-mod values;
 
-use engine::{Options, run};
 use options::Instead;
-use status::Status;
+use script_engine::{Options, Status, run};
 use std::io::{BufReader, BufWriter};
 use std::process::ExitCode;
 use std::rt::Env;
+use std::sync::Wait;
+use std::thread::Threads;
 use std::{env, io};
 
 /// How many bytes are read at once. Answers are written before each read, so that a larger number saves writes too.
 const READ_AHEAD: usize = 65_536;
 
 /// Answers standard input on standard output.
-fn serve<R: AllocGlobal + Input + Print + Eprint>(rt: &R, options: Options) -> Status {
+fn serve<R: AllocGlobal + Input + Print + Eprint + Threads + Wait + Sync>(
+    rt: &R,
+    options: Options,
+) -> Status {
     let Ok(mut reader) = BufReader::with_capacity(rt.alloc(), READ_AHEAD, rt.reader()) else {
         return Status::NoMemory;
     };
@@ -52,7 +44,7 @@ fn read_words<R: AllocGlobal + Env>(rt: &R) -> Result<Vec<String>, Status> {
 }
 
 /// Does what the program's words ask for.
-fn start<R: AllocGlobal + Env + Input + Print + Eprint>(rt: &R) -> Status {
+fn start<R: AllocGlobal + Env + Input + Print + Eprint + Threads + Wait + Sync>(rt: &R) -> Status {
     let words = match read_words(rt) {
         Ok(words) => words,
         Err(status) => {

@@ -1,6 +1,6 @@
-use crate::engine::Options;
 use clap::error::ErrorKind;
 use clap::{Arg, ArgAction, ArgMatches, Command};
+use script_engine::Options;
 use std::alloc::Global;
 use std::convert::AsStr;
 
@@ -26,6 +26,7 @@ const REQUESTS: &str =
   ledger
   ray       from, along
   region    lo, hi
+  crowd     each (1 to 16 of the requests create to step), times (1 to 1000)
 
 Shapes are {\"circle\":[x,y],\"radius\":r}, {\"capsule\":[[x,y],[x,y]],\"radius\":r} and {\"segment\":[[x,y],[x,y]]}, each with
 [friction], [restitution], [category], [mask], [group].
@@ -48,6 +49,7 @@ pub fn options<S: AsStr>(alloc: Global, words: &[S]) -> Result<Options, Instead>
     match matches_of(alloc, words) {
         Ok(matches) => Ok(Options {
             explain: matches.get_flag("explain"),
+            threads: matches.get_one::<u64>("threads").unwrap_or(1),
         }),
         Err(error) => Err(instead_of(alloc, &error)),
     }
@@ -59,11 +61,18 @@ fn matches_of<'a, S: AsStr>(alloc: Global, words: &'a [S]) -> Result<ArgMatches<
         .long("explain")
         .action(ArgAction::SetTrue)
         .help("Say in words on standard error why a request is refused");
+    let threads = Arg::new(alloc, "threads")
+        .long("threads")
+        .value_name("N")
+        .action(ArgAction::Set)
+        .value_parser(clap::value_parser!(u64).range(1..=64))
+        .help("How many threads make the calls of a crowd, 1 to 64 [default: 1]");
     let command = Command::new(alloc, "world_script")
         .about(ABOUT)
         .version(VERSION)
         .after_help(REQUESTS)
-        .arg(explain)?;
+        .arg(explain)?
+        .arg(threads)?;
     command.try_get_matches_from(words)
 }
 

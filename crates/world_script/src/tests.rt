@@ -1,11 +1,8 @@
-use crate::engine::{Options, run};
-use crate::explain::explain;
-use crate::faults::LineFault;
-use crate::lines::request_of;
 use crate::options::{Instead, options};
-use crate::status::Status;
 use fixed_geom::Refusal;
 use json::Scratch;
+use line_json::LineFault;
+use script_engine::{Options, Status, explain, request_of, run};
 use std::alloc::Global;
 use std::cell::Cell;
 use std::io;
@@ -69,7 +66,10 @@ fn cut_writer(alloc: Global, left: u8) -> CutWriter {
 
 const DONE: &[u8] = b"{\"done\":true}\n";
 
-const PLAIN: Options = Options { explain: false };
+const PLAIN: Options = Options {
+    explain: false,
+    threads: 1,
+};
 
 /// What the words ask for in place of a run, and its text.
 fn instead(asked: Result<Options, Instead>) -> Option<(&'static str, String)> {
@@ -86,7 +86,10 @@ fn reads_its_words(rt: HostRuntime) -> Result<(), Fail> {
     assert_eq!(rt; options(alloc, &["world_script"]).ok(), Some(PLAIN));
     assert_eq!(rt;
         options(alloc, &["world_script", "--explain"]).ok(),
-        Some(Options { explain: true })
+        Some(Options {
+            explain: true,
+            threads: 1,
+        })
     );
 
     let (what, text) = instead(options(alloc, &["world_script", "--help"])).ok_or("a run")?;

@@ -13,15 +13,6 @@ pub enum Status {
     Failed,
 }
 
-/// Why lines before the input's end aren't answered.
-#[derive(Clone, Copy, Debug, PartialEq, Eq)]
-pub enum Stop {
-    BadLine,
-    NoMemory,
-    ReadFailed,
-    WriteFailed,
-}
-
 impl Status {
     /// The status that the process ends with.
     pub fn code(self) -> u8 {

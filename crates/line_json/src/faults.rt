@@ -6,7 +6,7 @@ use std::fmt;
 const TOLD: usize = 32;
 
 /// Why a line, or the value of a key, is none that a request has.
-#[derive(Clone, Copy, Debug, PartialEq, Eq)]
+#[derive(Clone, Copy)]
 pub enum Reason {
     /// The line has more bytes than any request.
     TooLong,
@@ -32,10 +32,14 @@ pub enum Reason {
     NotVector,
     NotEnds,
     NotShapes,
-    NotObject,
+    NotEach,
     NotId,
     /// There is no request of this name.
     NoRequest,
+    /// The request is none that a crowd makes.
+    NotACall,
+    /// The number of times is none that a crowd has.
+    NotTimes,
     /// There is no kind of this name.
     NoKind,
 }
@@ -59,9 +63,11 @@ impl Reason {
             Reason::NotVector => "not a list of two whole numbers of 64 bits",
             Reason::NotEnds => "not a list of two places",
             Reason::NotShapes => "not a list of shapes",
-            Reason::NotObject => "not an object",
+            Reason::NotEach => "not a list of 1 to 16 requests",
             Reason::NotId => "not an id",
             Reason::NoRequest => "no request has this name",
+            Reason::NotACall => "no command of this name",
+            Reason::NotTimes => "not 1 to 1000",
             Reason::NoKind => "no kind has this name",
         }
     }
@@ -77,9 +83,10 @@ impl fmt::Display for Reason {
     }
 }
 
-/// What is wrong with a line, and where: in which shape of its list, counted from 0, and at which key.
-#[derive(Clone, Copy, Debug, PartialEq, Eq)]
+/// What is wrong with a line, and where: in which request and in which shape of their lists, counted from 0, and at which key.
+#[derive(Clone, Copy)]
 pub struct Fault<'a> {
+    pub each: Option<usize>,
     pub shape: Option<usize>,
     pub key: Option<&'a str>,
     pub reason: Reason,
@@ -89,6 +96,7 @@ impl<'a> Fault<'a> {
     /// A fault of the whole line.
     pub fn of_line(reason: Reason) -> Fault<'a> {
         Fault {
+            each: None,
             shape: None,
             key: None,
             reason,
@@ -98,9 +106,18 @@ impl<'a> Fault<'a> {
     /// A fault of one key.
     pub fn at(key: &'a str, reason: Reason) -> Fault<'a> {
         Fault {
+            each: None,
             shape: None,
             key: Some(key),
             reason,
+        }
+    }
+
+    /// The fault in this request of the line's list.
+    pub fn in_each(self, each: usize) -> Fault<'a> {
+        Fault {
+            each: Some(each),
+            ..self
         }
     }
 
@@ -137,6 +154,9 @@ fn write_key<W: fmt::Write>(f: &mut fmt::Formatter<W>, key: &str) -> fmt::Result
 
 impl fmt::Display for Fault<'_> {
     fn fmt<W: fmt::Write>(&self, f: &mut fmt::Formatter<W>) -> fmt::Result {
+        if let Some(each) = self.each {
+            write!(f, "each[{each}]: ")?;
+        }
         if let Some(shape) = self.shape {
             write!(f, "shapes[{shape}]: ")?;
         }
@@ -149,7 +169,7 @@ impl fmt::Display for Fault<'_> {
 }
 
 /// Why a line gives no request.
-#[derive(Clone, Copy, Debug, PartialEq, Eq)]
+#[derive(Clone, Copy)]
 pub enum LineFault<'a> {
     /// It is no request.
     Bad(Fault<'a>),

@@ -1,6 +1,6 @@
 ghost use Rattle.std.specs.Prelude.{◌≡◌, ◌<◌, ◌^◌, ◌↔◌, ℕ, Some, IsTrue, IfSome};
 ghost use Rattle.std.specs.Fmt.{decimal};
-ghost use Rattle.world_script.specs.IdTexts.{id_text, IsPadded};
+ghost use Rattle.line_json.specs.IdTexts.{id_text, IsPadded};
 
 use body_handles::Handle;
 use std::fmt;

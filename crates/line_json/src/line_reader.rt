@@ -1,7 +1,7 @@
 //! Lines from a reader, and answers that don't wait.
 
-use crate::answers::Answer;
-use crate::status::Stop;
+use crate::stop::Stop;
+use std::fmt::Display;
 use std::io;
 use std::io::{BufRead, ErrorKind, Write};
 
@@ -25,7 +25,7 @@ impl<'a, O: Write> Outbox<'a, O> {
     }
 
     /// Writes an answer as a line.
-    pub fn write(&mut self, answer: Answer<'_>) -> Result<(), Stop> {
+    pub fn write<D: Display>(&mut self, answer: &D) -> Result<(), Stop> {
         self.waiting = true;
         writeln!(self.writer, "{answer}").map_err(|_| Stop::WriteFailed)
     }
@@ -92,6 +92,18 @@ impl<'a, I: BufRead> LineReader<'a, I> {
         Ok(whole)
     }
 
+    /// The same, after answers that wait were let go where the read may wait.
+    fn read_on<O: Write>(
+        &mut self,
+        line: &mut Vec<u8>,
+        outbox: &mut Outbox<'_, O>,
+    ) -> Result<bool, Stop> {
+        if self.ahead == 0 {
+            outbox.flush()?;
+        }
+        self.read_part(line)
+    }
+
     /// Reads a line with its end, or as much of it as shows that it is too long. At the end of the input the line is
     /// empty. Before each read that may wait, answers that wait are let go.
     pub fn read_line<O: Write>(
@@ -101,11 +113,10 @@ impl<'a, I: BufRead> LineReader<'a, I> {
     ) -> Result<(), Stop> {
         line.clear();
         for _ in 0..u64::MAX {
-            if self.ahead == 0 {
-                outbox.flush()?;
-            }
-            if self.read_part(line)? {
-                return Ok(());
+            match self.read_on(line, outbox) {
+                Ok(false) => {}
+                Ok(true) => return Ok(()),
+                Err(stop) => return Err(stop),
             }
         }
         Err(Stop::ReadFailed)

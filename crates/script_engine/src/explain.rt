@@ -1,6 +1,6 @@
 //! Which key of a request a refusal speaks of.
 
-use crate::lines::Request;
+use crate::requests::Request;
 use fixed_geom::{MAX_POSITION, Refusal, is_facing, is_within};
 use joint_rows::MAX_ANCHOR;
 use momenta::{MAX_MASS, MAX_SPEED};

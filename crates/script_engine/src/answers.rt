@@ -1,10 +1,11 @@
-use crate::ids::Id;
 use body_handles::Handle;
 use fixed_geom::{Refusal, Rot, Vec2};
 use impulse_ledger::{Cause, Ledger, Total};
+use line_json::Id;
 use plain_world::{BodyView, Course, SetName};
 use std::fmt;
 use world_core::{ContactKey, Events, ShapeId};
+use world_lock::Tally;
 use world_queries::Hit;
 
 /// The answer to a line. Its text is compact JSON, the keys of each object ascending.
@@ -26,6 +27,8 @@ pub enum Answer<'a> {
     Hit(Option<Hit>),
     /// The shapes over a region, ascending.
     Shapes(Vec<ShapeId>),
+    /// How many calls a crowd's journal has, and what each of its seats did.
+    Crowd(u64, Vec<Tally>),
     /// A refused request.
     Refused(Refusal),
     /// The number of a line that is no request.
@@ -43,6 +46,7 @@ impl fmt::Display for Answer<'_> {
             Answer::Ledger(ledger) => write_ledger(f, ledger),
             Answer::Hit(hit) => write_hit(f, *hit),
             Answer::Shapes(shapes) => write_shapes(f, shapes.as_slice()),
+            Answer::Crowd(journal, seats) => write_crowd(f, *journal, seats.as_slice()),
             Answer::Refused(refusal) => write_refusal(f, *refusal),
             Answer::Bad(line) => write!(f, "{{\"bad\":{line}}}"),
         }
@@ -181,6 +185,26 @@ fn write_shapes<W: fmt::Write>(f: &mut fmt::Formatter<W>, shapes: &[ShapeId]) ->
     for (index, shape) in shapes.iter().enumerate() {
         write_comma(f, index)?;
         write_shape(f, *shape)?;
+    }
+    f.write_str("]}")
+}
+
+fn write_seat<W: fmt::Write>(f: &mut fmt::Formatter<W>, seat: &Tally) -> fmt::Result {
+    let calls = seat.calls;
+    write!(f, "{{\"accepted\":{calls},\"pushed\":")?;
+    write_total(f, seat.pushed)?;
+    f.write_str("}")
+}
+
+fn write_crowd<W: fmt::Write>(
+    f: &mut fmt::Formatter<W>,
+    journal: u64,
+    seats: &[Tally],
+) -> fmt::Result {
+    write!(f, "{{\"journal\":{journal},\"seats\":[")?;
+    for (index, seat) in seats.iter().enumerate() {
+        write_comma(f, index)?;
+        write_seat(f, seat)?;
     }
     f.write_str("]}")
 }

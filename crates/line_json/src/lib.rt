@@ -1,0 +1,20 @@
+//! A line of JSON, as far as a request can have it: the keys of its object, and their values.
+#![tactic(auto)]
+
+mod faults;
+mod fields;
+mod ids;
+mod line;
+mod line_reader;
+mod pairs;
+mod shape_fields;
+mod stop;
+mod tokens;
+mod values;
+
+pub use faults::{Fault, LineFault, Reason};
+pub use fields::Fields;
+pub use ids::{Id, handle_of};
+pub use line::Line;
+pub use line_reader::{LONGEST, LineReader, Outbox};
+pub use stop::Stop;

@@ -1,0 +1,58 @@
+//! The calls of a world, in functions that promise nothing: no proof of this crate has to read what a world promises.
+
+use fixed_geom::{Box2, Refusal, Vec2};
+use impulse_ledger::Ledger;
+use plain_world::BodyView;
+use std::alloc::Global;
+use std::sync::Wait;
+use world_core::{Command, Events, Handle, Reply, ShapeId, WorldCore};
+use world_lock::{Opened, Seat, SharedWorld};
+use world_queries::Hit;
+
+pub fn new_world(alloc: Global) -> Result<WorldCore, Refusal> {
+    WorldCore::new(alloc, Vec2 { x: 0, y: 0 })
+}
+
+pub fn apply(world: &mut WorldCore, command: &Command) -> Result<Reply, Refusal> {
+    world.apply(command)
+}
+
+pub fn body_of(world: &WorldCore, handle: Handle) -> Option<BodyView> {
+    world.body(handle)
+}
+
+pub fn ledger_of(world: &WorldCore) -> &Ledger {
+    world.ledger()
+}
+
+pub fn events_of(world: &WorldCore) -> &Events {
+    world.events()
+}
+
+/// What a ray hits first. Refused 5 where the ray is beyond its limits.
+pub fn ray(world: &WorldCore, from: Vec2, along: Vec2) -> Result<Option<Hit>, Refusal> {
+    if world_queries::is_ray(from, along) {
+        Ok(world_queries::ray(world, from, along))
+    } else {
+        Err(Refusal::OutOfRange)
+    }
+}
+
+/// The shapes over a region. Refused 5 where the region is beyond its limits, and else 1 where memory is wanting.
+pub fn region(alloc: Global, world: &WorldCore, bounds: &Box2) -> Result<Vec<ShapeId>, Refusal> {
+    if world_queries::is_region(bounds) {
+        world_queries::region(alloc, world, bounds)
+    } else {
+        Err(Refusal::OutOfRange)
+    }
+}
+
+/// Makes a call through a seat, and says whether it was accepted.
+pub fn call<N: Opened, R: Wait>(
+    rt: &R,
+    shared: &SharedWorld<N>,
+    seat: &mut Seat<N>,
+    command: Command,
+) -> bool {
+    shared.call(rt, seat, command).is_ok()
+}

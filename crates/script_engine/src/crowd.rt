@@ -1,0 +1,231 @@
+//! Calls of many threads at once.
+
+ghost use Rattle.std.specs.Prelude.{◌≡◌};
+
+use crate::calls::{call, new_world};
+use crate::requests::{CrowdDef, copy_of};
+use fixed_geom::Refusal;
+use impulse_ledger::Total;
+use seat_book::Roster;
+use std::alloc::Global;
+use std::marker::Brand;
+use std::sync::Wait;
+use std::thread::{Scope, Threads};
+use std::{mem, thread};
+use world_core::{Command, Reply, WorldCore};
+use world_lock::{Closed, JournalEntry, Opened, Seat, SharedWorld, Tally};
+
+/// What a crowd left: how many calls were accepted, and what each seat did, in the order of the seats' numbers.
+#[derive(Drop)]
+pub struct Report {
+    pub journal: u64,
+    pub seats: Vec<Tally>,
+}
+
+const NO_CALLS: Tally = Tally {
+    calls: 0,
+    pushed: Total { x: 0, y: 0 },
+};
+
+fn no_calls(alloc: Global, threads: u64) -> Result<Vec<Tally>, Refusal> {
+    let mut seats = Vec::new(alloc);
+    for _seat in 0..threads {
+        seats.push(NO_CALLS)?;
+    }
+    Ok(seats)
+}
+
+/// Counts a call of the journal to its seat.
+fn count(seats: &mut [Tally], entry: &JournalEntry) {
+    if let Some(seat) = seats.get_mut(entry.seat as usize) {
+        let by = entry.call.command.impulse();
+        seat.calls = seat.calls.saturating_add(1);
+        seat.pushed.x = seat.pushed.x.saturating_add(i128::from(by.x));
+        seat.pushed.y = seat.pushed.y.saturating_add(i128::from(by.y));
+    }
+}
+
+fn count_all(seats: &mut [Tally], journal: &[JournalEntry]) {
+    for entry in journal {
+        count(seats, entry);
+    }
+}
+
+/// Makes a call; one that is refused is passed over.
+fn make_call<N: Opened, R: Wait>(
+    rt: &R,
+    shared: &SharedWorld<N>,
+    seat: &mut Seat<N>,
+    command: &Command,
+) {
+    if let Ok(copied) = copy_of(command) {
+        let _accepted = call(rt, shared, seat, copied);
+    }
+}
+
+/// Makes each call in its order.
+fn make_each<N: Opened, R: Wait>(
+    rt: &R,
+    shared: &SharedWorld<N>,
+    seat: &mut Seat<N>,
+    each: &[Command],
+) {
+    for command in each {
+        make_call(rt, shared, seat, command);
+    }
+}
+
+/// What one thread does.
+fn make_calls<N: Opened, R: Wait>(
+    rt: &R,
+    shared: &SharedWorld<N>,
+    seat: &mut Seat<N>,
+    def: &CrowdDef,
+) {
+    for _ in 0..def.times {
+        make_each(rt, shared, seat, def.each.as_slice());
+    }
+}
+
+/// Starts a thread for each seat, up to one that can't be started. Refused 11 then.
+fn start_all<'s, E, N: Opened + Send + Sync + 's, R: Threads + Wait + Sync>(
+    scope: &Scope<'s, E>,
+    rt: &'s R,
+    shared: &'s SharedWorld<N>,
+    seats: &'s mut [Seat<N>],
+    def: &'s CrowdDef,
+) -> Result<(), Refusal> {
+    for seat in seats.iter_mut() {
+        if scope
+            .spawn(move || make_calls(rt, shared, seat, def))
+            .is_err()
+        {
+            return Err(Refusal::NoThread);
+        }
+    }
+    Ok(())
+}
+
+/// All seats call at once, each on a thread of its own. Refused 11 where one can't be started.
+fn call_at_once<N: Opened + Send + Sync, R: Threads + Wait + Sync>(
+    rt: &R,
+    shared: &SharedWorld<N>,
+    seats: &mut [Seat<N>],
+    def: &CrowdDef,
+) -> Result<(), Refusal> {
+    thread::scope(thread::scope_env(), rt, |scope| {
+        start_all(scope, rt, shared, seats, def)
+    })
+}
+
+/// What is left of a crowd: the world, the calls that it accepted, and what the crowd is refused.
+#[derive(Drop)]
+struct Left {
+    world: Option<WorldCore>,
+    journal: Vec<JournalEntry>,
+    answer: Result<(), Refusal>,
+}
+
+impl Left {
+    /// What is left of a shared world that was closed.
+    fn of(closed: Closed, answer: Result<(), Refusal>) -> Left {
+        let Closed {
+            world,
+            opening: _,
+            journal,
+            settled: _,
+        } = closed;
+        Left {
+            world: Some(world),
+            journal,
+            answer,
+        }
+    }
+
+    /// What is left where no calls were made.
+    fn uncalled(alloc: Global, world: Option<WorldCore>, refusal: Refusal) -> Left {
+        Left {
+            world,
+            journal: Vec::new(alloc),
+            answer: Err(refusal),
+        }
+    }
+
+    /// Puts the world back in its place, counts the calls to their seats, and answers how many there were.
+    fn settle(self, place: &mut WorldCore, seats: &mut [Tally]) -> Result<u64, Refusal> {
+        let Left {
+            world,
+            journal,
+            answer,
+        } = self;
+        if let Some(world) = world {
+            *place = world;
+        }
+        count_all(seats, journal.as_slice());
+        match answer {
+            Ok(()) => Ok(journal.len() as u64),
+            Err(refusal) => Err(refusal),
+        }
+    }
+}
+
+/// Lets the seats call, and closes the world.
+fn gather<N: Opened + Send + Sync, R: Threads + Wait + Sync>(
+    rt: &R,
+    alloc: Global,
+    shared: SharedWorld<N>,
+    mut seats: Vec<Seat<N>>,
+    def: &CrowdDef,
+) -> Left {
+    let answer = call_at_once(rt, &shared, seats.as_mut_slice(), def);
+    match shared.close(seats) {
+        Ok(closed) => Left::of(closed, answer),
+        // It can't be: the seats were lent to the threads, and are all back.
+        Err((_, _, refusal)) => Left::uncalled(alloc, None, refusal),
+    }
+}
+
+/// Opens the world to a crowd. Where it can't be opened it comes back as it was.
+fn share<N: Opened + Send + Sync, R: Threads + Wait + Sync>(
+    rt: &R,
+    alloc: Global,
+    world: WorldCore,
+    roster: Roster<Command, Reply>,
+    def: &CrowdDef,
+) -> Left
+    requires { (roster.table ≡ N.table) × (roster.seats ≡ N.seats) × (world ≡ N.opening) }
+{
+    match SharedWorld::<N>::open(alloc, world, roster) {
+        Ok((shared, seats)) => gather(rt, alloc, shared, seats, def),
+        Err((world, refusal)) => Left::uncalled(alloc, Some(world), refusal),
+    }
+}
+
+/// Lets as many seats call as there are tallies, and answers how many calls were accepted.
+fn share_out<R: Threads + Wait + Sync>(
+    rt: &R,
+    alloc: Global,
+    world: &mut WorldCore,
+    def: &CrowdDef,
+    seats: &mut Vec<Tally>,
+) -> Result<u64, Refusal> {
+    let roster = Roster::new(alloc, seats.len() as u64)?;
+    let spare = new_world(alloc)?;
+    let own = mem::replace(world, spare);
+    let left = share::<Brand, R>(rt, alloc, own, roster, def);
+    left.settle(world, seats.as_mut_slice())
+}
+
+/// So many threads make the crowd's calls. Refused 1, with nothing changed, where memory is wanting, and 11 where a thread can't be
+/// started: the calls of the threads that ran stand then.
+pub fn crowd<R: Threads + Wait + Sync>(
+    rt: &R,
+    alloc: Global,
+    world: &mut WorldCore,
+    def: &CrowdDef,
+    threads: u64,
+) -> Result<Report, Refusal> {
+    let mut seats = no_calls(alloc, threads)?;
+    let journal = share_out(rt, alloc, world, def, &mut seats)?;
+    Ok(Report { journal, seats })
+}

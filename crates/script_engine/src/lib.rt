@@ -1,0 +1,15 @@
+//! The program's engine: one JSON request a line, and one answer a line.
+#![tactic(auto)]
+
+mod answers;
+mod calls;
+mod crowd;
+mod engine;
+mod explain;
+mod requests;
+mod status;
+
+pub use engine::{Options, run};
+pub use explain::{Explanation, explain};
+pub use requests::{CrowdDef, Request, request_of};
+pub use status::Status;
