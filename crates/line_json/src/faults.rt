@@ -187,4 +187,12 @@ impl<'a> LineFault<'a> {
     pub fn at(key: &'a str, reason: Reason) -> LineFault<'a> {
         LineFault::Bad(Fault::at(key, reason))
     }
+
+    /// The fault in this request of the line's list.
+    pub fn in_each(self, each: usize) -> LineFault<'a> {
+        match self {
+            LineFault::Bad(fault) => LineFault::Bad(fault.in_each(each)),
+            LineFault::NoMemory => self,
+        }
+    }
 }

@@ -64,12 +64,15 @@ impl<'a> Fields<'a> {
 
     /// Puts a key's value in, in place of what the key had.
     pub fn put(&mut self, key: &'a str, content: Content<'a>) {
-        if let Some(place) = self.place_of(key) {
-            if let Some(value) = self.values.get_mut(place) {
-                value.content = content;
-            }
-        } else {
-            self.append(Value { key, content });
+        match self.place_of(key) {
+            Some(place) => self.replace(place, content),
+            None => self.append(Value { key, content }),
+        }
+    }
+
+    fn replace(&mut self, place: usize, content: Content<'a>) {
+        if let Some(value) = self.values.get_mut(place) {
+            value.content = content;
         }
     }
 
@@ -88,7 +91,10 @@ impl<'a> Fields<'a> {
 
     /// Adds a shape, of which no more are kept than need be.
     pub(crate) fn push_shape(&mut self, shape: ShapeDef) {
-        if self.shapes.as_slice().len() < MOST_SHAPES && self.shapes.push(shape).is_err() {
+        if self.shapes.as_slice().len() >= MOST_SHAPES {
+            return;
+        }
+        if self.shapes.push(shape).is_err() {
             self.note(LineFault::NoMemory);
         }
     }
@@ -210,7 +216,7 @@ impl<'a> Fields<'a> {
     }
 
     /// Takes a list of objects. What they are stands beside the object.
-    pub(crate) fn take_each(&mut self, key: &'a str) {
+    pub fn take_each(&mut self, key: &'a str) {
         match self.take(key) {
             Content::Each => {}
             Content::Faulty(fault) => self.note(LineFault::Bad(fault)),

@@ -171,34 +171,46 @@ impl<'a> Line<'a> {
             let Token::Key(key) = tokens.next() else {
                 return;
             };
-            let content = match tokens.next() {
-                Token::BeginArray if key == "each" => self.read_each(tokens, key),
-                token => read_value(tokens, &mut self.own, key, token),
-            };
-            self.own.put(key, content);
+            self.read_own_value(tokens, key);
         }
+    }
+
+    fn read_own_value(&mut self, tokens: &mut Tokens<'a>, key: &'a str) {
+        let token = tokens.next();
+        let content = if key == "each" && matches!(token, Token::BeginArray) {
+            self.read_each(tokens, key)
+        } else {
+            read_value(tokens, &mut self.own, key, token)
+        };
+        self.own.put(key, content);
     }
 
     /// Reads the rest of a list of requests. What is beyond the most of them is passed by.
     fn read_each(&mut self, tokens: &mut Tokens<'a>, key: &'a str) -> Content<'a> {
         self.each.clear();
-        let fault = Some(Fault::at(key, Reason::NotEach));
-        let mut found = Content::Each;
-        for place in 0..usize::MAX {
-            match tokens.next() {
-                Token::EndArray | Token::Bad => break,
-                Token::BeginObject if place < MOST_EACH => self.read_one(tokens),
-                token => {
-                    let _item = tokens.content(token);
-                    found = first_fault(found, fault);
-                }
+        let mut well = true;
+        for _ in 0..u64::MAX {
+            let token = tokens.next();
+            if matches!(token, Token::EndArray | Token::Bad) {
+                break;
             }
+            well = self.read_item(tokens, token) && well;
         }
-        if self.each.is_empty() {
-            first_fault(found, fault)
+        if well && !self.each.is_empty() {
+            Content::Each
         } else {
-            found
+            Content::Faulty(Fault::at(key, Reason::NotEach))
         }
+    }
+
+    /// Reads an item of a line's list of requests, and says whether it may stand there.
+    fn read_item(&mut self, tokens: &mut Tokens<'a>, token: Token<'a>) -> bool {
+        if self.each.len() < MOST_EACH && matches!(token, Token::BeginObject) {
+            self.read_one(tokens);
+            return true;
+        }
+        let _item = tokens.content(token);
+        false
     }
 
     fn read_one(&mut self, tokens: &mut Tokens<'a>) {
