@@ -23,52 +23,94 @@ pub fn expect(moment: Moment, part: Part, is_same: bool) -> Result<(), Stop> {
     }
 }
 
+/// Stops where something differs.
+fn expect_none(moment: Moment, difference: Option<Part>) -> Result<(), Stop> {
+    match difference {
+        Some(part) => Err(Stop::Differs(moment, part)),
+        None => Ok(()),
+    }
+}
+
+/// The first part that was found to differ. The comparison goes on after it, so that it is one way through all parts.
+struct Comparison {
+    found: Option<Part>,
+}
+
+impl Comparison {
+    fn new() -> Comparison {
+        Comparison { found: None }
+    }
+
+    fn expect(&mut self, part: Part, is_same: bool) {
+        if !is_same && self.found.is_none() {
+            self.found = Some(part);
+        }
+    }
+}
+
 /// Stops where the two worlds differ: in their plain lists, their ledgers or their events.
 pub fn expect_same_worlds(
     moment: Moment,
     first: &WorldCore,
     second: &WorldCore,
 ) -> Result<(), Stop> {
-    let lists = lists_of(first)?;
-    expect_lists_of(moment, &lists, second)?;
-    expect_same_books(moment, first, second)
+    match lists_of(first) {
+        Ok(lists) => expect_world_of(moment, &lists, first, second),
+        Err(refusal) => Err(Stop::from(refusal)),
+    }
+}
+
+/// Stops where the second world differs from the first, whose lists these are.
+fn expect_world_of(
+    moment: Moment,
+    lists: &Plain,
+    first: &WorldCore,
+    second: &WorldCore,
+) -> Result<(), Stop> {
+    expect_lists_of(moment, lists, second)?;
+    expect_none(moment, difference_of_books(first, second))
 }
 
 /// Stops where these aren't the world's lists.
 fn expect_lists_of(moment: Moment, lists: &Plain, world: &WorldCore) -> Result<(), Stop> {
-    let others = lists_of(world)?;
-    expect_same_lists(moment, lists, &others)
+    match lists_of(world) {
+        Ok(others) => expect_same_lists(moment, lists, &others),
+        Err(refusal) => Err(Stop::from(refusal)),
+    }
 }
 
-/// Stops where the two worlds differ in their ledgers or their events.
-fn expect_same_books(moment: Moment, first: &WorldCore, second: &WorldCore) -> Result<(), Stop> {
+/// In what the two worlds differ of their ledgers and their events.
+fn difference_of_books(first: &WorldCore, second: &WorldCore) -> Option<Part> {
+    let mut books = Comparison::new();
     let (ledger, other) = (ledger_of(first), ledger_of(second));
-    expect(moment, Part::Entries, ledger.entries() == other.entries())?;
-    expect(moment, Part::Totals, are_same_totals(ledger, other))?;
-    expect(
-        moment,
+    books.expect(Part::Entries, ledger.entries() == other.entries());
+    books.expect(Part::Totals, are_same_totals(ledger, other));
+    books.expect(
         Part::Events,
         are_same_events(events_of(first), events_of(second)),
-    )
+    );
+    books.found
 }
 
 /// Stops where the two lists of worlds differ.
 pub fn expect_same_lists(moment: Moment, first: &Plain, second: &Plain) -> Result<(), Stop> {
-    expect(moment, Part::Places, first.places() == second.places())?;
-    expect(
-        moment,
+    expect_none(moment, difference_of_lists(first, second))
+}
+
+/// In what the two lists of worlds differ.
+fn difference_of_lists(first: &Plain, second: &Plain) -> Option<Part> {
+    let mut lists = Comparison::new();
+    lists.expect(Part::Places, first.places() == second.places());
+    lists.expect(
         Part::Bodies,
         are_same_bodies(first.bodies(), second.bodies()),
-    )?;
-    expect(
-        moment,
-        Part::Contacts,
-        first.contacts() == second.contacts(),
-    )?;
-    expect(moment, Part::Colours, are_same_colours(first, second))?;
-    expect(moment, Part::Gravity, first.gravity() == second.gravity())?;
-    expect(moment, Part::Steps, first.steps() == second.steps())?;
-    expect(moment, Part::Calls, first.calls() == second.calls())
+    );
+    lists.expect(Part::Contacts, first.contacts() == second.contacts());
+    lists.expect(Part::Colours, are_same_colours(first, second));
+    lists.expect(Part::Gravity, first.gravity() == second.gravity());
+    lists.expect(Part::Steps, first.steps() == second.steps());
+    lists.expect(Part::Calls, first.calls() == second.calls());
+    lists.found
 }
 
 /// Whether the two list the same bodies in each set.

@@ -85,49 +85,89 @@ fn mover(alloc: Global, x: i64, shapes: u32) -> Result<Command, Refusal> {
     }))
 }
 
-/// The ground, and movers beside one another; the last two overlap.
-fn add_bodies(alloc: Global, world: &mut WorldCore) -> Result<(), Refusal> {
-    let ground = ground(alloc)?;
-    apply(world, &ground)?;
-    for index in 0..MOVERS {
-        let mover = mover(alloc, i64::from(index) * 4 * METRE, 1)?;
-        apply(world, &mover)?;
+/// A world that is being made, and the first refusal that it met; what is asked after that doesn't matter any more.
+struct Scene<'a> {
+    alloc: Global,
+    world: &'a mut WorldCore,
+    refusal: Option<Refusal>,
+}
+
+impl Scene<'_> {
+    fn note<T: Drop>(&mut self, answer: Result<T, Refusal>) {
+        if let (Err(refusal), None) = (answer, self.refusal) {
+            self.refusal = Some(refusal);
+        }
     }
-    let partner = mover(alloc, LAST + METRE / 2, 1)?;
-    apply(world, &partner)?;
-    Ok(())
+
+    fn apply(&mut self, command: &Command) {
+        let answer = apply(self.world, command);
+        self.note(answer);
+    }
+
+    fn create(&mut self, command: Result<Command, Refusal>) {
+        match command {
+            Ok(command) => self.apply(&command),
+            Err(refusal) => self.note::<()>(Err(refusal)),
+        }
+    }
+
+    fn step(&mut self, ticks: i64) {
+        let answer = step(self.world, ticks);
+        self.note(answer);
+    }
+
+    /// The ground, and movers beside one another; the last two overlap.
+    fn add_bodies(&mut self) {
+        self.create(ground(self.alloc));
+        for index in 0..MOVERS {
+            self.create(mover(self.alloc, i64::from(index) * 4 * METRE, 1));
+        }
+        self.create(mover(self.alloc, LAST + METRE / 2, 1));
+    }
+
+    /// Pushes, and steps after which the two that overlap have just parted.
+    fn let_pass(&mut self) {
+        self.apply(&Command::Push(PUSHED, Vec2 { x: 70_000, y: 9 }));
+        self.apply(&Command::Push(DESTROYED, Vec2 { x: -5, y: 11 }));
+        self.step(4);
+        let away = Vec2 {
+            x: MASS * METRE,
+            y: 0,
+        };
+        self.apply(&Command::Push(PARTNER, away));
+        self.step(1);
+    }
+
+    fn fill(&mut self) {
+        self.add_bodies();
+        self.let_pass();
+        self.create(mover(self.alloc, METRE / 2, 1));
+        self.apply(&Command::DestroyBody(DESTROYED));
+    }
 }
 
-/// Pushes, and steps after which the two that overlap have just parted.
-fn let_pass(world: &mut WorldCore) -> Result<(), Refusal> {
-    apply(world, &Command::Push(PUSHED, Vec2 { x: 70_000, y: 9 }))?;
-    apply(world, &Command::Push(DESTROYED, Vec2 { x: -5, y: 11 }))?;
-    step(world, 4)?;
-    let away = Vec2 {
-        x: MASS * METRE,
-        y: 0,
+/// Fills an empty world, and makes a copy of it.
+fn filled(alloc: Global, world: &mut WorldCore) -> Result<WorldCore, Refusal> {
+    let mut scene = Scene {
+        alloc,
+        world,
+        refusal: None,
     };
-    apply(world, &Command::Push(PARTNER, away))?;
-    step(world, 1)?;
-    Ok(())
-}
-
-fn fill(alloc: Global, world: &mut WorldCore) -> Result<(), Refusal> {
-    add_bodies(alloc, world)?;
-    let_pass(world)?;
-    let last = mover(alloc, METRE / 2, 1)?;
-    apply(world, &last)?;
-    apply(world, &Command::DestroyBody(DESTROYED))?;
-    Ok(())
+    scene.fill();
+    match scene.refusal {
+        None => copy_of(scene.world),
+        Some(refusal) => Err(refusal),
+    }
 }
 
 /// A world with a static body, movers that were pushed and fell, a slot that is free again, and entries
 /// of several causes in its ledger. Its next step sees a contact end and another begin. Its lists have no spare room, so that
 /// whatever grows asks for memory.
 pub fn world(alloc: Global) -> Result<WorldCore, Refusal> {
-    let mut world = new_world(alloc, GRAVITY)?;
-    fill(alloc, &mut world)?;
-    copy_of(&world)
+    match new_world(alloc, GRAVITY) {
+        Ok(mut world) => filled(alloc, &mut world),
+        Err(refusal) => Err(refusal),
+    }
 }
 
 /// The command of a call, which the scene's world accepts.
@@ -155,16 +195,55 @@ pub fn gravity() -> Command {
     Command::SetGravity(Vec2 { x: 0, y: 80 })
 }
 
+/// Commands, and the first refusal that was met while they were made.
+#[derive(Drop)]
+struct List {
+    commands: Vec<Command>,
+    refusal: Option<Refusal>,
+}
+
+impl List {
+    fn refuse(&mut self, refusal: Refusal) {
+        if self.refusal.is_none() {
+            self.refusal = Some(refusal);
+        }
+    }
+
+    fn push(&mut self, command: Command) {
+        if self.commands.push(command).is_err() {
+            self.refuse(Refusal::NoMemory);
+        }
+    }
+
+    fn add(&mut self, made: Result<Command, Refusal>) {
+        match made {
+            Ok(command) => self.push(command),
+            Err(refusal) => self.refuse(refusal),
+        }
+    }
+
+    fn fill(&mut self, alloc: Global) {
+        self.add(create_many_shapes(alloc));
+        self.push(push());
+        self.push(step_command());
+        self.push(destroy());
+        self.push(gravity());
+        self.add(create(alloc));
+        self.push(step_command());
+        self.push(Command::DestroyBody(DESTROYED));
+    }
+}
+
 /// A list of commands, of which each but the last is accepted.
 pub fn commands(alloc: Global) -> Result<Vec<Command>, Refusal> {
-    let mut commands = Vec::new(alloc);
-    commands.push(create_many_shapes(alloc)?)?;
-    commands.push(push())?;
-    commands.push(step_command())?;
-    commands.push(destroy())?;
-    commands.push(gravity())?;
-    commands.push(create(alloc)?)?;
-    commands.push(step_command())?;
-    commands.push(Command::DestroyBody(DESTROYED))?;
-    Ok(commands)
+    let mut list = List {
+        commands: Vec::new(alloc),
+        refusal: None,
+    };
+    list.fill(alloc);
+    let List { commands, refusal } = list;
+    match refusal {
+        None => Ok(commands),
+        Some(refusal) => Err(refusal),
+    }
 }

@@ -20,14 +20,21 @@ pub struct Worlds {
 impl Worlds {
     /// The scene's world, three times.
     pub fn new(alloc: Global) -> Result<Worlds, Refusal> {
-        let world = scene::world(alloc)?;
-        let before = copy_of(&world)?;
-        let reference = scene::world(alloc)?;
-        Ok(Worlds {
-            world,
-            before,
-            reference,
-        })
+        match scene::world(alloc) {
+            Ok(world) => Worlds::with(alloc, world),
+            Err(refusal) => Err(refusal),
+        }
+    }
+
+    fn with(alloc: Global, world: WorldCore) -> Result<Worlds, Refusal> {
+        match (copy_of(&world), scene::world(alloc)) {
+            (Ok(before), Ok(reference)) => Ok(Worlds {
+                world,
+                before,
+                reference,
+            }),
+            (Err(refusal), _) | (Ok(_), Err(refusal)) => Err(refusal),
+        }
     }
 
     /// Applies a command to the world in which memory may be refused.
