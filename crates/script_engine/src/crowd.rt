@@ -4,6 +4,7 @@ ghost use Rattle.std.specs.Prelude.{◌≡◌};
 
 use crate::calls::{call, new_world};
 use crate::requests::{CrowdDef, copy_of};
+use answer_json::SeatReport;
 use fixed_geom::Refusal;
 use impulse_ledger::Total;
 use seat_book::Roster;
@@ -13,21 +14,21 @@ use std::sync::Wait;
 use std::thread::{Scope, Threads};
 use std::{mem, thread};
 use world_core::{Command, Reply, WorldCore};
-use world_lock::{Closed, JournalEntry, Opened, Seat, SharedWorld, Tally};
+use world_lock::{Closed, JournalEntry, Opened, Seat, SharedWorld};
 
 /// What a crowd left: how many calls were accepted, and what each seat did, in the order of the seats' numbers.
 #[derive(Drop)]
 pub struct Report {
     pub journal: u64,
-    pub seats: Vec<Tally>,
+    pub seats: Vec<SeatReport>,
 }
 
-const NO_CALLS: Tally = Tally {
-    calls: 0,
+const NO_CALLS: SeatReport = SeatReport {
+    accepted: 0,
     pushed: Total { x: 0, y: 0 },
 };
 
-fn no_calls(alloc: Global, threads: u64) -> Result<Vec<Tally>, Refusal> {
+fn no_calls(alloc: Global, threads: u64) -> Result<Vec<SeatReport>, Refusal> {
     let mut seats = Vec::new(alloc);
     for _seat in 0..threads {
         seats.push(NO_CALLS)?;
@@ -36,16 +37,16 @@ fn no_calls(alloc: Global, threads: u64) -> Result<Vec<Tally>, Refusal> {
 }
 
 /// Counts a call of the journal to its seat.
-fn count(seats: &mut [Tally], entry: &JournalEntry) {
+fn count(seats: &mut [SeatReport], entry: &JournalEntry) {
     if let Some(seat) = seats.get_mut(entry.seat as usize) {
         let by = entry.call.command.impulse();
-        seat.calls = seat.calls.saturating_add(1);
+        seat.accepted = seat.accepted.saturating_add(1);
         seat.pushed.x = seat.pushed.x.saturating_add(i128::from(by.x));
         seat.pushed.y = seat.pushed.y.saturating_add(i128::from(by.y));
     }
 }
 
-fn count_all(seats: &mut [Tally], journal: &[JournalEntry]) {
+fn count_all(seats: &mut [SeatReport], journal: &[JournalEntry]) {
     for entry in journal {
         count(seats, entry);
     }
@@ -152,7 +153,7 @@ impl Left {
     }
 
     /// Puts the world back in its place, counts the calls to their seats, and answers how many there were.
-    fn settle(self, place: &mut WorldCore, seats: &mut [Tally]) -> Result<u64, Refusal> {
+    fn settle(self, place: &mut WorldCore, seats: &mut [SeatReport]) -> Result<u64, Refusal> {
         let Left {
             world,
             journal,
@@ -201,13 +202,13 @@ fn share<N: Opened + Send + Sync, R: Threads + Wait + Sync>(
     }
 }
 
-/// Lets as many seats call as there are tallies, and answers how many calls were accepted.
+/// Lets as many seats call as there are reports, and answers how many calls were accepted.
 fn share_out<R: Threads + Wait + Sync>(
     rt: &R,
     alloc: Global,
     world: &mut WorldCore,
     def: &CrowdDef,
-    seats: &mut Vec<Tally>,
+    seats: &mut Vec<SeatReport>,
 ) -> Result<u64, Refusal> {
     let roster = Roster::new(alloc, seats.len() as u64)?;
     let spare = new_world(alloc)?;

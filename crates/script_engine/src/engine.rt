@@ -1,11 +1,11 @@
 //! Lines in, answers out.
 
-use crate::answers::Answer;
 use crate::calls::{apply, body_of, events_of, ledger_of, new_world, ray, region};
 use crate::crowd::crowd;
 use crate::explain::explain;
 use crate::requests::{CrowdDef, Request, request_of};
 use crate::status::Status;
+use answer_json::Answer;
 use body_handles::Handle;
 use fixed_geom::{Box2, Refusal, Vec2};
 use json::Scratch;

@@ -1,7 +1,6 @@
 //! The program's engine: one JSON request a line, and one answer a line.
 #![tactic(auto)]
 
-mod answers;
 mod calls;
 mod crowd;
 mod engine;

@@ -1,12 +1,19 @@
 use body_handles::Handle;
+use contacts_base::{ContactKey, ShapeId};
+use event_feed::Events;
 use fixed_geom::{Refusal, Rot, Vec2};
 use impulse_ledger::{Cause, Ledger, Total};
 use line_json::Id;
 use plain_world::{BodyView, Course, SetName};
+use shape_rays::Hit;
 use std::fmt;
-use world_core::{ContactKey, Events, ShapeId};
-use world_lock::Tally;
-use world_queries::Hit;
+
+/// What a seat of a crowd did: how many of its calls were accepted, and the sum of the impulses that they gave, in mass·u/tick.
+#[derive(Clone, Copy)]
+pub struct SeatReport {
+    pub accepted: u64,
+    pub pushed: Total,
+}
 
 /// The answer to a line. Its text is compact JSON, the keys of each object ascending.
 #[derive(Drop)]
@@ -28,7 +35,7 @@ pub enum Answer<'a> {
     /// The shapes over a region, ascending.
     Shapes(Vec<ShapeId>),
     /// How many calls a crowd's journal has, and what each of its seats did.
-    Crowd(u64, Vec<Tally>),
+    Crowd(u64, Vec<SeatReport>),
     /// A refused request.
     Refused(Refusal),
     /// The number of a line that is no request.
@@ -189,9 +196,9 @@ fn write_shapes<W: fmt::Write>(f: &mut fmt::Formatter<W>, shapes: &[ShapeId]) ->
     f.write_str("]}")
 }
 
-fn write_seat<W: fmt::Write>(f: &mut fmt::Formatter<W>, seat: &Tally) -> fmt::Result {
-    let calls = seat.calls;
-    write!(f, "{{\"accepted\":{calls},\"pushed\":")?;
+fn write_seat<W: fmt::Write>(f: &mut fmt::Formatter<W>, seat: &SeatReport) -> fmt::Result {
+    let accepted = seat.accepted;
+    write!(f, "{{\"accepted\":{accepted},\"pushed\":")?;
     write_total(f, seat.pushed)?;
     f.write_str("}")
 }
@@ -199,7 +206,7 @@ fn write_seat<W: fmt::Write>(f: &mut fmt::Formatter<W>, seat: &Tally) -> fmt::Re
 fn write_crowd<W: fmt::Write>(
     f: &mut fmt::Formatter<W>,
     journal: u64,
-    seats: &[Tally],
+    seats: &[SeatReport],
 ) -> fmt::Result {
     write!(f, "{{\"journal\":{journal},\"seats\":[")?;
     for (index, seat) in seats.iter().enumerate() {

@@ -1,0 +1,6 @@
+//! Answers to the lines of a script, as compact JSON.
+#![tactic(auto)]
+
+mod answers;
+
+pub use answers::{Answer, SeatReport};
