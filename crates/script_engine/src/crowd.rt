@@ -206,15 +206,15 @@ fn share<N: Opened + Send + Sync, R: Threads + Wait + Sync>(
 fn share_out<R: Threads + Wait + Sync>(
     rt: &R,
     alloc: Global,
-    world: &mut WorldCore,
+    place: &mut WorldCore,
     def: &CrowdDef,
     seats: &mut Vec<SeatReport>,
 ) -> Result<u64, Refusal> {
     let roster = Roster::new(alloc, seats.len() as u64)?;
     let spare = new_world(alloc)?;
-    let own = mem::replace(world, spare);
-    let left = share::<Brand, R>(rt, alloc, own, roster, def);
-    left.settle(world, seats.as_mut_slice())
+    let world = mem::replace(place, spare);
+    let left = share::<Brand, R>(rt, alloc, world, roster, def);
+    left.settle(place, seats.as_mut_slice())
 }
 
 /// So many threads make the crowd's calls. Refused 1, with nothing changed, where memory is wanting, and 11 where a thread can't be

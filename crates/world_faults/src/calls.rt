@@ -38,6 +38,14 @@ pub fn lists_of(world: &WorldCore) -> Result<Plain, Refusal> {
     world.plain()
 }
 
+/// How many calls it accepted.
+pub fn calls_of(world: &WorldCore) -> Result<u64, Refusal> {
+    match world.plain() {
+        Ok(lists) => Ok(lists.calls()),
+        Err(refusal) => Err(refusal),
+    }
+}
+
 pub fn census_of(world: &WorldCore) -> Result<Census, Refusal> {
     world.census()
 }

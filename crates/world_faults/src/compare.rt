@@ -32,6 +32,7 @@ fn expect_none(moment: Moment, difference: Option<Part>) -> Result<(), Stop> {
 }
 
 /// The first part that was found to differ. The comparison goes on after it, so that it is one way through all parts.
+#[derive(Drop)]
 struct Comparison {
     found: Option<Part>,
 }

@@ -86,6 +86,7 @@ fn mover(alloc: Global, x: i64, shapes: u32) -> Result<Command, Refusal> {
 }
 
 /// A world that is being made, and the first refusal that it met; what is asked after that doesn't matter any more.
+#[derive(Drop)]
 struct Scene<'a> {
     alloc: Global,
     world: &'a mut WorldCore,

@@ -35,6 +35,14 @@ pub fn trial(alloc: Global, call: Call) -> Result<Outcome, Stop> {
     }
 }
 
+/// That a call met no refusal, unless what it gave differs.
+fn met(compared: Result<(), Stop>) -> Result<bool, Stop> {
+    match compared {
+        Ok(()) => Ok(true),
+        Err(stop) => Err(stop),
+    }
+}
+
 /// Stops where a call that was made again was refused again.
 fn again(is_accepted: bool) -> Result<Outcome, Stop> {
     expect(Moment::Accepted, Part::Answer, is_accepted)?;
@@ -82,10 +90,7 @@ fn list_twice(worlds: &Worlds) -> Result<Outcome, Stop> {
 
 fn is_listed(worlds: &Worlds, expected: &Plain) -> Result<bool, Stop> {
     match lists_of(&worlds.world) {
-        Ok(plain) => {
-            expect_same_lists(Moment::Accepted, &plain, expected)?;
-            Ok(true)
-        }
+        Ok(plain) => met(expect_same_lists(Moment::Accepted, &plain, expected)),
         Err(_) => Ok(false),
     }
 }
@@ -108,8 +113,7 @@ fn is_counted(worlds: &Worlds, expected: &Census) -> Result<bool, Stop> {
     match census_of(&worlds.world) {
         Ok(census) => {
             let is_same = are_same_censuses(&census, expected);
-            expect(Moment::Accepted, Part::Answer, is_same)?;
-            Ok(true)
+            met(expect(Moment::Accepted, Part::Answer, is_same))
         }
         Err(_) => Ok(false),
     }
@@ -130,10 +134,7 @@ fn copy_twice(worlds: &Worlds) -> Result<Outcome, Stop> {
 
 fn is_copied(worlds: &Worlds) -> Result<bool, Stop> {
     match copy_of(&worlds.world) {
-        Ok(copied) => {
-            expect_same_worlds(Moment::Accepted, &copied, &worlds.reference)?;
-            Ok(true)
-        }
+        Ok(copied) => met(expect_same_worlds(Moment::Accepted, &copied, &worlds.reference)),
         Err(_) => Ok(false),
     }
 }
@@ -161,15 +162,28 @@ fn replay_twice(
         return Ok(Outcome::Unmet);
     }
     let made = worlds.calls_made()?;
-    let (Some(accepted), Some(rest)) = (commands.get(..made), commands.get(made..)) else {
+    replay_rest(alloc, worlds, commands, expected, made)
+}
+
+/// Stops where the commands before the refusal, so many, have left something else than in a world that met none; then the
+/// replay of the others.
+fn replay_rest(
+    alloc: Global,
+    worlds: &mut Worlds,
+    commands: &[Command],
+    expected: &[Answer],
+    made: usize,
+) -> Result<Outcome, Stop> {
+    let (Some(accepted), Some(rest), Some(answers)) = (
+        commands.get(..made),
+        commands.get(made..),
+        expected.get(made..),
+    ) else {
         return Err(Stop::Differs(Moment::Refused, Part::Calls));
     };
-    replay(alloc, &mut worlds.before, accepted)?;
+    worlds.replay_before(alloc, accepted)?;
     worlds.expect_kept()?;
-    match expected.get(made..) {
-        Some(expected_rest) => again(is_replayed(alloc, worlds, rest, expected_rest)?),
-        None => Err(Stop::Differs(Moment::Refused, Part::Calls)),
-    }
+    again(is_replayed(alloc, worlds, rest, answers)?)
 }
 
 fn is_replayed(
@@ -179,15 +193,14 @@ fn is_replayed(
     expected: &[Answer],
 ) -> Result<bool, Stop> {
     match replay(alloc, &mut worlds.world, commands) {
-        Ok(answers) => {
-            expect(
-                Moment::Accepted,
-                Part::Answer,
-                answers.as_slice() == expected,
-            )?;
-            worlds.expect_as_reference()?;
-            Ok(true)
-        }
+        Ok(answers) => expect_answers(worlds, answers.as_slice() == expected),
         Err(_) => Ok(false),
     }
+}
+
+/// Stops where the answers aren't the expected ones, or the world isn't as the reference.
+fn expect_answers(worlds: &Worlds, are_same: bool) -> Result<bool, Stop> {
+    expect(Moment::Accepted, Part::Answer, are_same)?;
+    worlds.expect_as_reference()?;
+    Ok(true)
 }

@@ -1,4 +1,4 @@
-use crate::calls::{Answer, apply, copy_of, lists_of};
+use crate::calls::{Answer, apply, calls_of, copy_of, replay};
 use crate::compare::expect_same_worlds;
 use crate::scene;
 use crate::stop::{Moment, Stop};
@@ -57,9 +57,18 @@ impl Worlds {
         expect_same_worlds(Moment::Accepted, &self.world, &self.reference)
     }
 
+    /// Replays commands in the copy that was made before the call.
+    pub fn replay_before(&mut self, alloc: Global, commands: &[Command]) -> Result<(), Refusal> {
+        match replay(alloc, &mut self.before, commands) {
+            Ok(_) => Ok(()),
+            Err(refusal) => Err(refusal),
+        }
+    }
+
     /// How many calls the world accepted since it was copied.
     pub fn calls_made(&self) -> Result<usize, Refusal> {
-        let calls = lists_of(&self.world)?.calls();
-        Ok(calls.saturating_sub(lists_of(&self.before)?.calls()) as usize)
+        let before = calls_of(&self.before)?;
+        let calls = calls_of(&self.world)?;
+        Ok(calls.saturating_sub(before) as usize)
     }
 }
