@@ -2,5 +2,6 @@
 #![tactic(auto)]
 
 mod answers;
+mod pen;
 
 pub use answers::{Answer, SeatReport};
