@@ -212,16 +212,16 @@ colours_after w c = turned w.bodies (members_of w.bodies (joints_of w) w.colours
 
 -- the ticks and the restitution, over the bodies by slot and over the constraints in solve order
 abbrev pub solved_after : Plain → ℕ → Collided → Lists → Solving
-solved_after w n c lists = solved n w.gravity (solve_order (ids_of lists)) w.bodies c.now
+solved_after w n c lists = solved n w.gravity (solve_order (ids_of lists)) w.bodies w.joints c.now
 
 -- what the step has added to the movers' momentum, by cause
 abbrev pub step_entries : ℕ → StepSums → List Entry
 step_entries call sums = booked call causes.Gravity sums.gravity.x sums.gravity.y ++ (booked call causes.Immovable sums.immovable.x sums.immovable.y ++ booked call causes.Clamp sums.clamp.x sums.clamp.y)
 
--- the bodies and contacts that the ticks have left, and then the fat boxes
+-- the bodies, joints and contacts that the ticks have left, and then the fat boxes
 abbrev pub stepped : Plain → Collided → Lists → Solving → Applied
 stepped w c lists s = record {
-  plain = record w { bodies = renewed_bodies (bodies_of s); contacts = s.contacts; colours = ids_of lists; steps = w.steps + 1; calls = w.calls + 1 };
+  plain = record w { bodies = renewed_bodies (bodies_of s); joints = s.joints; contacts = s.contacts; colours = ids_of lists; steps = w.steps + 1; calls = w.calls + 1 };
   reply = replies.Stepped (w.steps + 1);
   entries = step_entries (w.calls + 1) s.sums;
   events = Some (events_of c);
