@@ -58,11 +58,7 @@ fn warm_joint_narrow(row: &mut JointRow, a: &BodyState, b: &BodyState) -> Option
 
 /// The warm start of a contact in 64 bits, where there is room.
 #[inline(always)]
-fn warm_contact_narrow(
-    row: &mut ContactRow,
-    a: &BodyState,
-    b: &BodyState,
-) -> Option<MomentaPair64>
+fn warm_contact_narrow(row: &mut ContactRow, a: &BodyState, b: &BodyState) -> Option<MomentaPair64>
     requires row { IsRow row.old }
     requires first { IsState a.now }
     requires second { IsState b.now }
@@ -94,11 +90,7 @@ fn solve_joint_narrow(row: &mut JointRow, a: &BodyState, b: &BodyState) -> Optio
 
 /// The impulses of a contact in 64 bits, where there is room.
 #[inline(always)]
-fn solve_contact_narrow(
-    row: &mut ContactRow,
-    a: &BodyState,
-    b: &BodyState,
-) -> Option<MomentaPair64>
+fn solve_contact_narrow(row: &mut ContactRow, a: &BodyState, b: &BodyState) -> Option<MomentaPair64>
     requires row { IsRow row.old }
     requires first { IsState a.now }
     requires second { IsState b.now }
