@@ -26,7 +26,6 @@ use Rattle.colour_solver_base.specs.declared.row.PointRow.{PointRow}
 use Rattle.colour_solver_base.specs.Rows.{contact_row, is_springy, point_row, row_from}
 use Rattle.colour_solver_base.specs.ContactSolving.{SolvedContact, SolvedPoint, at_points, bounces, contact_bounced, contact_solved, contact_warmed, from_first, normal_line, normal_solved, point_bounced, point_solved, point_warmed, then_second}
 use Rattle.world_core_base.specs.Gather.{bodies_of, ends_at, impulses_of, put_row, row_in, row_of, with_row, with_rows}
-use Rattle.world_core_base.specs.Solving.{ContactTurn, Moving, Solving, all_changed, bounce, clamp, ends_now, ends_then, moving_at, pass, pull, solve, tick, ticks, turn, turn_between, warm, with_contact}
 use Rattle.world_core_base.proofs.ContactLaws.{place_low, row_bodies}
 use Rattle.world_core_base.proofs.SolvingContacts.{look_at, missing_there, place_put, row_is_there, row_there}
 

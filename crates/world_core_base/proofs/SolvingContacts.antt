@@ -118,17 +118,12 @@ row_is_there states es key = by (found_place es key) refl
     by None is = refl
     by (Some i) is = ap (row_in states key i) (look_at es key i is)
 
-pub no_row_of_joint : (states : List BodyState) (es fs : List ContactEntry) (h : Handle) → row_of states es (constraints.Joint h) ≡ row_of states fs (constraints.Joint h)
-unfolding row_of
-no_row_of_joint states es fs h = refl
-
 -- a contact that is put back leaves the rows of others
-pub row_put_other : (states : List BodyState) (key : ContactKey) (c : Contact) (es : List ContactEntry) (id : Constraint) → constraint_number (constraints.Contact key) ≢ constraint_number id → row_of states (with_contact key c es) id ≡ row_of states es id
-row_put_other states key c es (constraints.Joint h) ne = no_row_of_joint states (with_contact key c es) es h
-row_put_other states key c es (constraints.Contact k) ne =
+pub row_put_other : (states : List BodyState) (key : ContactKey) (c : Contact) (es : List ContactEntry) (k : ContactKey) → key_number key ≢ key_number k → row_of states (with_contact key c es) (constraints.Contact k) ≡ row_of states es (constraints.Contact k)
+row_put_other states key c es k ne =
     row_is_there states (with_contact key c es) k
     ∙ ap (λ (o : Option ℕ). row_there states k o (lookup (with_contact key c es) k)) (place_put key k c es)
-    ∙ ap (λ (o : Option ContactEntry). row_there states k (found_place es k) o) (lookup_put_other key k c es (λ e. ne (ap (λ (n : ℕ). 2 ^ 80 + n) e)))
+    ∙ ap (λ (o : Option ContactEntry). row_there states k (found_place es k) o) (lookup_put_other key k c es ne)
     ∙ sym (row_is_there states es k)
 
 pub missing_there : (es : List ContactEntry) (key : ContactKey) → found_place es key ≡ None → lookup es key ≡ None

@@ -3,7 +3,7 @@ use Rattle.std.proofs.Common.{◌≡◌, ◌≢◌, ◌⊎◌, inl, inr, ℕ, ze
 use Rattle.std.specs.Prelude.{option_map}
 use Rattle.std.specs.List.{slice_get, filter_map, cons_option}
 use Rattle.std.proofs.lemmas.Bool.{cases_eq}
-use Rattle.std.proofs.lemmas.List.Elements.{All-nil, All-cons, All-weaker}
+use Rattle.std.proofs.lemmas.List.Elements.{All-nil, All-cons, All-tail, All-weaker}
 use Rattle.std.proofs.lemmas.Option.{none-some, same_Some, slice_get-map}
 use Rattle.momenta.specs.declared.state.BodyState.{BodyState}
 use Rattle.joint_rows.specs.Rows.{joint_row}
@@ -116,6 +116,10 @@ none_impulsed order js = record { barely = refl; others = λ slot h. refl }
 
 pub joints_then : (order : List Constraint) (js ks ls : List (Option BodyJoint)) → AreImpulsed order js ks → AreImpulsed order ks ls → AreImpulsed order js ls
 joints_then order js ks ls h k = record { barely = k.barely ∙ h.barely; others = λ slot all. k.others slot all ∙ h.others slot all }
+
+-- of one constraint more
+pub joints_more : (id : Constraint) (order : List Constraint) (js ks : List (Option BodyJoint)) → AreImpulsed order js ks → AreImpulsed (id ∷ order) js ks
+joints_more id order js ks h = record { barely = h.barely; others = λ slot all. h.others slot (All-tail (IsAway slot) id order all) }
 
 -- the joint in a slot put back
 pub put_impulsed : (order : List Constraint) (js : List (Option BodyJoint)) (slot : ℕ) (j k : BodyJoint) → joint_at js slot ≡ Some j → bare_joint k ≡ bare_joint j → ((other : ℕ) → All (IsAway other) order → slot ≢ other) → AreImpulsed order js (slice_set js slot (Some k))
