@@ -551,13 +551,14 @@ pub record IsStep (old new : List (Option Body)) (sums : StepSums) : Type 0 wher
   pub momentum_x : momentum_x new ≡ momentum_x old +ℤ added_x sums
   pub momentum_y : momentum_y new ≡ momentum_y old +ℤ added_y sums
 
-pub step_kept : (w : World) (bodies : List (Option Body)) (sums : StepSums) (events : EventLists) (contacts : List ContactEntry) (lists : Lists) → IsKept w → w.plain.calls < 2 ^ 40 → IsStep w.plain.bodies bodies sums → AreTied bodies (joints_of w.plain) contacts lists
-    → IsKept (record w { plain = record w.plain { bodies = bodies; contacts = contacts; colours = ids_of lists; steps = w.plain.steps + 1; calls = w.plain.calls + 1 }; entries = w.entries ++ step_entries (w.plain.calls + 1) sums; events = events })
-step_kept w bodies sums events contacts lists s few step tied =
+pub step_kept : (w : World) (bodies : List (Option Body)) (joints : List (Option BodyJoint)) (sums : StepSums) (events : EventLists) (contacts : List ContactEntry) (lists : Lists) → IsKept w → w.plain.calls < 2 ^ 40 → IsStep w.plain.bodies bodies sums
+    → AreTied bodies (record { places = w.plain.joint_places; joints = joints }) contacts lists
+    → IsKept (record w { plain = record w.plain { bodies = bodies; joints = joints; contacts = contacts; colours = ids_of lists; steps = w.plain.steps + 1; calls = w.plain.calls + 1 }; entries = w.entries ++ step_entries (w.plain.calls + 1) sums; events = events })
+step_kept w bodies joints sums events contacts lists s few step tied =
     let call = w.plain.calls + 1 in
     let mx = step.momentum_x in
     let my = step.momentum_y in
-    let kept = listed bodies (joints_of w.plain) contacts lists (ids_of lists) refl tied.colours in
+    let kept = listed bodies (record { places = w.plain.joint_places; joints = joints }) contacts lists (ids_of lists) refl tied.colours in
     record {
       total_x = let t = s.total_x in rw (sum_x-step w.entries call sums) (omega (arith, ints, mx, t));
       total_y = let t = s.total_y in rw (sum_y-step w.entries call sums) (omega (arith, ints, my, t));

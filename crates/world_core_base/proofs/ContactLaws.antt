@@ -1,18 +1,14 @@
 -- The rows of a step's contacts, and the impulses given back to the contacts.
-use Rattle.std.proofs.Common.{◌≡◌, append_assoc, ℕ, zero, suc, ◌+◌, ◌*◌, ◌^◌, ◌<◌, ◌≤◌, ◌==◌, List, [], ◌∷◌, ◌++◌, length, get_or, drop, map, is_some, Option, Some, None, Bool, true, false, cond, ℤ, pos, ◌≤ℤ◌, unsigned_abs, arith, refl, sym, ap, ◌∙◌, subst, All, add-one, inl, inr, ◌⊎◌, slice_index_or}
+use Rattle.std.proofs.Common.{◌≡◌, append_assoc, ℕ, zero, suc, ◌+◌, ◌*◌, ◌^◌, ◌<◌, ◌≤◌, ◌==◌, List, [], ◌∷◌, ◌++◌, length, get_or, drop, map, is_some, Option, Some, None, Bool, true, false, cond, arith, refl, sym, ap, ◌∙◌, subst, All, add-one, inl, inr, ◌⊎◌, slice_index_or}
 use Rattle.std.specs.Prelude.{option_map}
 use Rattle.std.specs.Option.{ForSome, option_to_list}
-use Rattle.std.specs.Int.{int_max}
 use Rattle.std.specs.List.{slice_get, cons_option, filter_map}
 use Rattle.std.proofs.Math.Seq.{drop-cons, map-set_same}
-use Rattle.std.proofs.lemmas.Int.{ints}
 use Rattle.std.proofs.lemmas.Bool.Decides.{nat_tests}
 use Rattle.std.proofs.lemmas.Option.{get_or_from_slice_get, slice_get_within}
 use Rattle.std.proofs.lemmas.List.Elements.{All-append, All-get_or, All-set}
 use Rattle.momenta.specs.declared.state.BodyState.{BodyState}
 use Rattle.momenta.specs.declared.state.Ends.{Ends}
-use Rattle.shapes.specs.Shapes.{IsShapeDef}
-use Rattle.shapes.specs.declared.shape.ShapeDef.{ShapeDef}
 use Rattle.contacts_base.specs.Keys.{key_number}
 use Rattle.contacts_base.specs.Contacts.{AreContacts, number_of, found_in, found_place, with_impulses, with_second}
 use Rattle.contacts_base.specs.Evaluate.{touches}
@@ -29,8 +25,6 @@ use Rattle.colour_solver_base.specs.declared.row.PointRow.{PointRow}
 use Rattle.colour_solver_base.specs.Rows.{IsPointRow, IsRow, contact_row, is_springy, point_row, row_from}
 use Rattle.colour_solver.specs.States.{nobody}
 use Rattle.plain_world.specs.declared.body.Body.{Body}
-use Rattle.plain_world.specs.Bodies.{AreBodies, IsBody}
-use Rattle.plain_world.specs.Slots.{body_at}
 use Rattle.world_core_base.specs.Gather.{AreContactsOf, AreContactsOn, IsContactOf, IsContactOn, IsContactRowBelow, bodies_of, impulses_of, moves, put_row, row_in, row_of, states_of, with_row, with_rows}
 use Rattle.world_core_base.proofs.GatherLaws.{length-states, movable_at}
 

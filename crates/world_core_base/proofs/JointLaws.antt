@@ -1,11 +1,10 @@
 -- The joints as a step finds them, and the impulses given back to them.
-use Rattle.std.proofs.Common.{◌≡◌, inl, inr, ◌⊎◌, ℕ, zero, suc, ◌<◌, ◌≤◌, List, [], ◌∷◌, length, Option, Some, None, All, true, is_some, unsigned_abs, arith, refl, sym, ap, ◌∙◌, subst, slice_set, slice_index_or}
-use Rattle.std.specs.Prelude.{option_map, slice_get}
+use Rattle.std.proofs.Common.{◌≡◌, inl, inr, ◌⊎◌, ℕ, zero, suc, ◌<◌, List, [], ◌∷◌, length, Option, Some, None, All, true, is_some, arith, refl, sym, ap, ◌∙◌, subst, slice_set, slice_index_or}
+use Rattle.std.specs.Prelude.{option_map}
 use Rattle.std.specs.Option.{ForSome}
 use Rattle.std.proofs.lemmas.Bool.{cases_eq}
 use Rattle.std.proofs.lemmas.List.Elements.{All-nil, All-cons, All-head, All-tail}
 use Rattle.std.proofs.lemmas.Option.{none-some, same_Some}
-use Rattle.joint_rows.specs.Joints.{IsJoint}
 use Rattle.joint_rows.specs.Rows.{IsJointRow, joint_row}
 use Rattle.momenta.specs.Impulses.{AreStates}
 use Rattle.momenta.specs.declared.state.BodyState.{BodyState}
@@ -24,7 +23,7 @@ use Rattle.plain_world.specs.Slots.{body_at}
 use Rattle.world_core_base.specs.ConstraintRows.{IsJointOn, IsJointThere, contacts_among, joint_bodies, joint_ends, joint_row_in, joints_among, put_joint_row, with_joint_rows}
 use Rattle.world_core_base.specs.Gather.{IsContactRowBelow, moves, states_of, with_rows}
 use Rattle.world_core_base.proofs.GatherLaws.{length-states, movable_at, state_at}
-use Rattle.world_core_base.proofs.SolvingJoints.{joint_put_other, joint_put_same}
+use Rattle.world_core_base.proofs.SolvingJoints.{bare_joints, bare_put, joint_put_other, joint_put_same}
 
 -- ---- the rows of joints, and those of contacts
 
@@ -114,3 +113,13 @@ contact_below n (Some r) x below e =
     let is : IsContactRowBelow n r = below r refl in
     let here : IsRowBelow n (rows.Contact r) = record { row = is.row; a = is.a; b = is.b; apart = is.apart } in
     subst (IsRowBelow n) (same_Some (rows.Contact r) x e) here
+
+-- ---- what the impulses given back leave of the joints
+
+bare_set : (joints : List (Option BodyJoint)) (slot : ℕ) (impulse : ℤ) (o : Option BodyJoint) → joint_at joints slot ≡ o → bare_joints (impulse_set slot impulse joints o) ≡ bare_joints joints
+bare_set joints slot impulse None e = refl
+bare_set joints slot impulse (Some j) e = bare_put joints slot j (with_impulse impulse j) e refl
+
+pub bare_rows : (joints : List (Option BodyJoint)) (rs : List JointRow) → bare_joints (with_joint_rows joints rs) ≡ bare_joints joints
+bare_rows joints [] = refl
+bare_rows joints (r ∷ rs) = bare_rows (put_joint_row r joints) rs ∙ bare_set joints r.bodies.index r.impulse (joint_at joints r.bodies.index) refl

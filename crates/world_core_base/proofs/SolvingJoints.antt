@@ -1,5 +1,5 @@
 -- Joints by slot in a step: a joint that is put back, its row, its bodies, and the impulses that rows give back to joints.
-use Rattle.std.proofs.Common.{◌≡◌, ◌≢◌, ◌⊎◌, inl, inr, ℕ, zero, suc, List, [], ◌∷◌, map, Option, Some, None, All, ℤ, pos, is_some, true, refl, sym, ap, ◌∙◌, subst, slice_set, slice_index_or}
+use Rattle.std.proofs.Common.{◌≡◌, ◌≢◌, ◌⊎◌, inl, inr, ℕ, zero, suc, List, [], ◌∷◌, map, Option, Some, None, All, pos, refl, sym, ap, ◌∙◌, subst, slice_set}
 use Rattle.std.specs.Prelude.{option_map}
 use Rattle.std.specs.List.{slice_get, filter_map, cons_option}
 use Rattle.std.proofs.lemmas.Bool.{cases_eq}
@@ -7,7 +7,6 @@ use Rattle.std.proofs.lemmas.List.Elements.{All-nil, All-cons, All-tail, All-wea
 use Rattle.std.proofs.lemmas.Option.{none-some, same_Some, slice_get-map}
 use Rattle.momenta.specs.declared.state.BodyState.{BodyState}
 use Rattle.joint_rows.specs.Rows.{joint_row}
-use Rattle.joint_rows.specs.declared.row.JointRow.{JointRow}
 use Rattle.contacts.specs.declared.constraint.Constraint.{Constraint}
 use Rattle.contacts.specs.declared.constraint.Constraint.TheVariants as constraints
 use Rattle.plain_world.specs.declared.body.Body.{Body}
@@ -15,7 +14,7 @@ use Rattle.plain_world.specs.declared.joint.BodyJoint.{BodyJoint}
 use Rattle.plain_world.specs.Joints.{impulse_set, joint_at, with_impulse}
 use Rattle.plain_world.specs.Slots.{item_in}
 use Rattle.world_core_base.specs.ConstraintRows.{joint_bodies, joint_ends, joint_row_in, joint_row_of, put_joint_row, with_joint_rows}
-use Rattle.world_core_base.specs.SolvingArrays.{AreThere, HasEnds, JointHasEnds}
+use Rattle.world_core_base.specs.SolvingArrays.{HasEnds, JointHasEnds}
 
 -- ---- joints without their impulses
 
@@ -28,7 +27,7 @@ bare_entry o = option_map bare_joint o
 abbrev pub bare_joints : List (Option BodyJoint) → List (Option BodyJoint)
 bare_joints joints = map bare_entry joints
 
-joint_bare : (js : List (Option BodyJoint)) (slot : ℕ) → joint_at (bare_joints js) slot ≡ bare_entry (joint_at js slot)
+pub joint_bare : (js : List (Option BodyJoint)) (slot : ℕ) → joint_at (bare_joints js) slot ≡ bare_entry (joint_at js slot)
 joint_bare [] slot = refl
 joint_bare (o ∷ os) zero = refl
 joint_bare (o ∷ os) (suc slot) = joint_bare os slot
@@ -161,6 +160,7 @@ still_none js ks slot e is =
     no_item None h = inl refl
     no_item (Some None) h = inr refl
     no_item (Some (Some j)) h = absurd (none-some j (sym h))
+
     by : (o p : Option (Option BodyJoint)) → (p ≡ None) ⊎ (p ≡ Some None) → option_map bare_entry o ≡ option_map bare_entry p → o ≡ p
     by None None h same = refl
     by None (Some p) h same = absurd (none-some (bare_entry p) same)

@@ -1,36 +1,35 @@
 -- What a step's passes leave of contacts and bodies, and that the arrays leave the same.
-use Rattle.std.proofs.Common.{◌≡◌, ◌≢◌, ℕ, zero, suc, ◌+◌, ◌==◌, Bool, true, false, cond, List, [], ◌∷◌, map, fold, Option, Some, None, All, arith, refl, sym, ap, ◌∙◌, subst}
+use Rattle.std.proofs.Common.{◌≡◌, ◌≢◌, ℕ, zero, suc, ◌+◌, ◌==◌, Bool, true, false, cond, List, [], ◌∷◌, map, Option, Some, None, All, arith, refl, sym, ap, ◌∙◌, subst}
 use Rattle.std.specs.Prelude.{option_map}
 use Rattle.std.specs.List.{slice_get, cons_option, filter_map}
 use Rattle.std.proofs.lemmas.List.Elements.{All-head, All-tail, All-weaker}
-use Rattle.std.proofs.lemmas.Option.{none-some, same_Some}
+use Rattle.std.proofs.lemmas.Option.{same_Some}
 use Rattle.fixed_geom.specs.declared.vectors.Vec2.{Vec2}
-use Rattle.momenta.specs.Motions.{pulled, clamped, advanced}
+use Rattle.momenta.specs.Motions.{clamped}
 use Rattle.momenta.specs.declared.state.BodyState.{BodyState}
 use Rattle.momenta.specs.declared.state.Ends.{Ends}
 use Rattle.body_handles.specs.declared.handle.Handle.{Handle}
 use Rattle.joint_rows.specs.declared.row.JointRow.{JointRow}
 use Rattle.contacts_base.specs.Keys.{key_number}
-use Rattle.contacts_base.specs.Contacts.{found_in, found_place, lookup, number_of}
+use Rattle.contacts_base.specs.Contacts.{found_in, lookup, number_of}
 use Rattle.contacts_base.specs.declared.contact.Contact.{Contact}
 use Rattle.contacts_base.specs.declared.contact.ContactEntry.{ContactEntry}
 use Rattle.contacts_base.specs.declared.contact.ContactPoint.{ContactPoint}
 use Rattle.contacts_base.specs.declared.key.ContactKey.{ContactKey}
 use Rattle.contacts.specs.declared.constraint.Constraint.{Constraint}
 use Rattle.contacts.specs.declared.constraint.Constraint.TheVariants as constraints
-use Rattle.graph_colours.specs.declared.member.Member.{Member}
 use Rattle.graph_colours.specs.Colours.{ids_of}
 use Rattle.colour_solver_base.specs.declared.row.ContactRow.{ContactRow}
-use Rattle.colour_solver_base.specs.ContactSolving.{SolvedPoint, at_points, bounces, contact_bounced, contact_solved, contact_warmed, normal_solved, point_bounced, point_solved, point_warmed}
-use Rattle.colour_solver.specs.Ticks.{Run, ran, start}
+use Rattle.colour_solver_base.specs.ContactSolving.{SolvedPoint, at_points, bounces, contact_bounced, contact_solved, contact_warmed, point_bounced, point_solved, point_warmed}
+use Rattle.colour_solver.specs.Ticks.{Run}
 use Rattle.colour_solver.specs.declared.constraint_row.ConstraintRow.TheVariants as rows
 use Rattle.plain_world.specs.declared.body.Body.{Body}
 use Rattle.plain_world.specs.declared.joint.BodyJoint.{BodyJoint}
 use Rattle.plain_world.specs.Joints.{joint_at}
 use Rattle.world_core_base.specs.ConstraintRows.{constraint_row, contacts_among, joint_row_in, joint_row_of, joints_among, with_joint_rows}
 use Rattle.world_core_base.specs.Gather.{row_of, states_of, with_motions, with_rows}
-use Rattle.world_core_base.specs.Solving.{Moving, Solving, Turns, begin, bodies_of, bounce, clamp, ends_now, ends_then, left, moving_at, pass, pull, solve, solve_order, solved, tick, ticks, turn, turn_between, turn_joined, turn_joint, warm, with_contact}
-use Rattle.world_core_base.specs.SolvingArrays.{ArraysAreSolving, CanSolve, IsRunOf}
+use Rattle.world_core_base.specs.Solving.{Moving, Solving, Turns, begin, bounce, clamp, ends_now, ends_then, left, moving_at, pass, pull, solve, solve_order, solved, tick, ticks, turn, turn_between, turn_joined, turn_joint, warm, with_contact}
+use Rattle.world_core_base.specs.SolvingArrays.{ArraysAreSolving, IsRunOf}
 use Rattle.world_core_base.proofs.SolvingBack.{IsElsewhere, bare, bare_contact, bare_point, place_of, rows_back}
 use Rattle.world_core_base.proofs.SolvingContacts.{place_put}
 use Rattle.world_core_base.proofs.SolvingRuns.{ran_alike, run_in, solved_stood}
@@ -133,6 +132,7 @@ turn_impulsed f s (constraints.Joint h) law = by (joint_at s.joints h.slot)
     between j None b = record { barely = refl; places = λ o. refl; others = λ j ne. refl }
     between j (Some a) None = record { barely = refl; places = λ o. refl; others = λ j ne. refl }
     between j (Some a) (Some b) = record { barely = refl; places = λ o. refl; others = λ j ne. refl }
+
     by : (o : Option BodyJoint) → IsOneImpulsed (constraints.Joint h) s.contacts (turn_joint f s h.slot o).contacts
     by None = record { barely = refl; places = λ o. refl; others = λ j ne. refl }
     by (Some j) = between j (moving_at s.bodies j.a) (moving_at s.bodies j.b)
@@ -189,6 +189,7 @@ turn_joints f s (constraints.Joint h) order law = by (joint_at s.joints h.slot) 
     between j (Some a) None is = none_impulsed (constraints.Joint h ∷ order) s.joints
     between j (Some a) (Some b) is =
         put_impulsed (constraints.Joint h ∷ order) s.joints h.slot j (record j { joint = (f.joint j.joint (ends_then a b) (ends_now a b)).joint }) is (law j (ends_then a b) (ends_now a b)) (λ other all. All-head (IsAway other) (constraints.Joint h) order all)
+
     by : (o : Option BodyJoint) → joint_at s.joints h.slot ≡ o → AreImpulsed (constraints.Joint h ∷ order) s.joints (turn_joint f s h.slot o).joints
     by None is = none_impulsed (constraints.Joint h ∷ order) s.joints
     by (Some j) is = between j (moving_at s.bodies j.a) (moving_at s.bodies j.b) is

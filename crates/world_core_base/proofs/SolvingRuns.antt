@@ -1,12 +1,11 @@
 -- The passes over the arrays are those of the definition, and so is a whole step.
-use Rattle.std.proofs.Common.{◌≡◌, ℕ, zero, suc, Bool, true, false, cond, List, [], ◌∷◌, ◌++◌, map, fold, Option, Some, None, All, ℤ, pos, neg_ℤ, ◌+ℤ◌, ◌-ℤ◌, refl, sym, ap, ◌∙◌, subst}
+use Rattle.std.proofs.Common.{◌≡◌, ℕ, zero, suc, Bool, true, false, cond, List, [], ◌∷◌, ◌++◌, map, Option, Some, None, All, neg_ℤ, ◌+ℤ◌, ◌-ℤ◌, refl, sym, ap, ◌∙◌, subst}
 use Rattle.std.specs.Prelude.{option_map}
 use Rattle.std.specs.List.{filter_map, flat_map, cons_option}
 use Rattle.std.proofs.lemmas.List.Elements.{filter_map-append}
 use Rattle.fixed_geom.specs.declared.vectors.Vec2.{Vec2}
 use Rattle.momenta.specs.Motions.{pulled, clamped, advanced}
 use Rattle.momenta.specs.Reciprocals.{reciprocals_of}
-use Rattle.momenta.specs.declared.gain.Gain.{Gain}
 use Rattle.momenta.specs.declared.mass.MassData.{MassData}
 use Rattle.momenta.specs.declared.motion.Motion.{Motion}
 use Rattle.momenta.specs.declared.state.BodyState.{BodyState}
@@ -22,7 +21,7 @@ use Rattle.graph_colours.specs.Colours.{ids_of}
 use Rattle.colour_solver_base.specs.declared.row.ContactRow.{ContactRow}
 use Rattle.colour_solver_base.specs.RowsAfter.{RowAfter}
 use Rattle.colour_solver_base.specs.Rows.{row_bounced, row_solved, row_warmed}
-use Rattle.colour_solver_base.specs.ContactSolving.{SolvedContact, SolvedPoint, at_points, contact_bounced, contact_solved, contact_warmed, from_first, point_bounced, point_solved, point_warmed}
+use Rattle.colour_solver_base.specs.ContactSolving.{SolvedPoint, at_points, contact_bounced, contact_solved, contact_warmed, from_first, point_bounced, point_solved, point_warmed}
 use Rattle.colour_solver_base.specs.ContactSolving.{AreMovedFrom}
 use Rattle.colour_solver_base.proofs.ContactRows.{masses_then, rows_are_contacts, solved_masses, warmed_masses}
 use Rattle.joint_rows.specs.declared.joint.Joint.{Joint}
@@ -46,11 +45,11 @@ use Rattle.plain_world.specs.Bodies.{is_awake, is_carried}
 use Rattle.world_core_base.specs.Carried.{solver_mass}
 use Rattle.world_core_base.specs.ConstraintRows.{constraint_row, rows_in, rows_of}
 use Rattle.world_core_base.specs.Gather.{bodies_of, state_of, states_of}
-use Rattle.world_core_base.specs.Solving.{Moving, Solving, Turns, all_changed, along, begin, bounce, carry, changed, clamp, gain, gain_of, moving, moving_at, pass, plus, pull, solve, solve_order, solved, state_with, tick, ticks, turn, turn_between, turn_joined, turn_joint, warm}
+use Rattle.world_core_base.specs.Solving.{Moving, Solving, Turns, all_changed, along, begin, bounce, carry, changed, clamp, gain, gain_of, moving, moving_at, pass, pull, solve, solve_order, solved, state_with, tick, ticks, turn, turn_between, turn_joined, turn_joint, warm}
 use Rattle.world_core_base.specs.SolvingArrays.{CanSolve, HasEnds}
 use Rattle.world_core_base.proofs.GatherLaws.{carried_state, mass_carried}
 use Rattle.world_core_base.proofs.SolvingJoints.{all_ends_as, bare_joints}
-use Rattle.world_core_base.proofs.SolvingTurns.{AreOnce, IsJointTurnBare, IsPassed, IsTurnAlike, bare_turn, body_of, held, less_itself, pass_alike, rows_now, stood, stood_turn}
+use Rattle.world_core_base.proofs.SolvingTurns.{AreOnce, IsJointTurnBare, IsPassed, IsTurnAlike, bare_turn, held, less_itself, pass_alike, rows_now, stood, stood_turn}
 
 -- the run that a solving is
 abbrev pub run_in : List (Option Body) → List Constraint → Solving → Run
@@ -58,8 +57,8 @@ run_in bodies order s = run_of (map held s.bodies) (rows_now (states_of bodies) 
 
 -- the bodies stood so when the step began, and the joints are those but for their impulses
 record IsOf (bodies : List (Option Body)) (joints : List (Option BodyJoint)) (s : Solving) : Type 0 where
-  bodies : stood s.bodies ≡ bodies
-  joints : bare_joints s.joints ≡ bare_joints joints
+  stands : stood s.bodies ≡ bodies
+  barely : bare_joints s.joints ≡ bare_joints joints
 
 -- A pass of the arrays is one of the definition.
 record IsSamePass (bodies : List (Option Body)) (joints : List (Option BodyJoint)) (order : List Constraint) (over : Run → Run) (by : Solving → Solving) : Type 0 where
@@ -87,6 +86,7 @@ booked_turn f s (constraints.Joint h) = by (joint_at s.joints h.slot)
     between j None b = record { gravity = refl; clamp = refl }
     between j (Some a) None = record { gravity = refl; clamp = refl }
     between j (Some a) (Some b) = record { gravity = refl; clamp = refl }
+
     by : (o : Option BodyJoint) → AreBookedAlike s (turn_joint f s h.slot o)
     by None = record { gravity = refl; clamp = refl }
     by (Some j) = between j (moving_at s.bodies j.a) (moving_at s.bodies j.b)
@@ -107,18 +107,18 @@ booked_pass f (id ∷ order) s =
 
 stays_pass : (f : Turns) (bodies : List (Option Body)) (joints : List (Option BodyJoint)) (order : List Constraint) (s : Solving) → IsJointTurnBare f → IsOf bodies joints s → IsOf bodies joints (pass f order s)
 stays_pass f bodies joints [] s law of = of
-stays_pass f bodies joints (id ∷ order) s law of = stays_pass f bodies joints order (turn f s id) law (record { bodies = stood_turn f s id ∙ of.bodies; joints = bare_turn f s id law ∙ of.joints })
+stays_pass f bodies joints (id ∷ order) s law of = stays_pass f bodies joints order (turn f s id) law (record { stands = stood_turn f s id ∙ of.stands; barely = bare_turn f s id law ∙ of.barely })
 
 ends_of_all : (bodies : List (Option Body)) (joints : List (Option BodyJoint)) (order : List Constraint) (s : Solving) → IsOf bodies joints s → All (HasEnds bodies joints) order → All (HasEnds (stood s.bodies) s.joints) order
 ends_of_all bodies joints order s of there =
-    all_ends_as (stood s.bodies) joints s.joints order (sym of.joints) (subst (λ (l : List (Option Body)). All (HasEnds l joints) order) (sym of.bodies) there)
+    all_ends_as (stood s.bodies) joints s.joints order (sym of.barely) (subst (λ (l : List (Option Body)). All (HasEnds l joints) order) (sym of.stands) there)
 
 same_turns : (f : Turns) (k : JointRow → Ends → JointAfter) (g : ContactRow → Ends → RowAfter ContactRow) (bodies : List (Option Body)) (joints : List (Option BodyJoint)) (order : List Constraint) → IsTurnAlike f k g → AreOnce order → All (HasEnds bodies joints) order
     → IsSamePass bodies joints order (turn_all (either_turn k g)) (pass f order)
 same_turns f k g bodies joints order law once there = record {
   run = λ s e.
       let h : IsPassed (either_turn k g) (states_of bodies) (map held s.bodies) (rows_now (states_of bodies) s order) s.sums.immovable order (pass f order s) =
-      pass_alike f k g order s (states_of bodies) (map held s.bodies) law once (ends_of_all bodies joints order s e there) (ap states_of (sym e.bodies)) refl in
+      pass_alike f k g order s (states_of bodies) (map held s.bodies) law once (ends_of_all bodies joints order s e there) (ap states_of (sym e.stands)) refl in
       let booked : AreBookedAlike s (pass f order s) = booked_pass f order s in
       λ j. record {
         states = h.bodies j;
@@ -201,7 +201,7 @@ same_pull g bodies joints order = record {
     clamp_x = s.sums.clamp.x;
     clamp_y = s.sums.clamp.y;
   };
-  stays = λ s e. record { bodies = stood_changed (pulled g) s.bodies ∙ e.bodies; joints = e.joints };
+  stays = λ s e. record { stands = stood_changed (pulled g) s.bodies ∙ e.stands; barely = e.barely };
 }
 
 same_clamp : (f : MassData → Motion → Motion) (bodies : List (Option Body)) (joints : List (Option BodyJoint)) (order : List Constraint) → IsSamePass bodies joints order (clamp_all f) (clamp f)
@@ -216,7 +216,7 @@ same_clamp f bodies joints order = record {
     clamp_x = s.sums.clamp.x +ℤ gain_x f s.bodies j;
     clamp_y = s.sums.clamp.y +ℤ gain_y f s.bodies j;
   };
-  stays = λ s e. record { bodies = stood_changed f s.bodies ∙ e.bodies; joints = e.joints };
+  stays = λ s e. record { stands = stood_changed f s.bodies ∙ e.stands; barely = e.barely };
 }
 
 -- ---- the bodies that are carried along
@@ -255,7 +255,7 @@ same_carry bodies joints order = record {
     clamp_x = s.sums.clamp.x;
     clamp_y = s.sums.clamp.y;
   };
-  stays = λ s e. record { bodies = stood_along s.bodies ∙ e.bodies; joints = e.joints };
+  stays = λ s e. record { stands = stood_along s.bodies ∙ e.stands; barely = e.barely };
 }
 
 -- ---- the turns of contacts that don't touch
@@ -364,7 +364,7 @@ unfolding rows_of
 begun_rows states joints contacts lists = rows_in_order states joints contacts lists
 
 begun_of : (bodies : List (Option Body)) (joints : List (Option BodyJoint)) (contacts : List ContactEntry) → IsOf bodies joints (begin bodies joints contacts)
-begun_of bodies joints contacts = record { bodies = begun_stood bodies; joints = refl }
+begun_of bodies joints contacts = record { stands = begun_stood bodies; barely = refl }
 
 -- the arrays of a whole step are those of the solving that the definition ends with
 pub ran_alike : (n : ℕ) (g : Vec2) (bodies : List (Option Body)) (joints : List (Option BodyJoint)) (contacts : List ContactEntry) (lists : List (List (Member Constraint))) → CanSolve bodies joints (solve_order (ids_of lists))
@@ -380,4 +380,4 @@ pub solved_stood : (n : ℕ) (g : Vec2) (bodies : List (Option Body)) (joints : 
 unfolding solved
 solved_stood n g bodies joints contacts order can =
     let law : IsSamePass bodies joints order (ran n g) (λ s. pass bounce order (ticks n g order s)) = same_ran n g bodies joints order can.once can.there in
-    (law.stays (begin bodies joints contacts) (begun_of bodies joints contacts)).bodies
+    (law.stays (begin bodies joints contacts) (begun_of bodies joints contacts)).stands

@@ -1,7 +1,7 @@
 -- A turn in the arrays is the turn of the definition, and so is a pass over the constraints.
-use Rattle.std.proofs.Common.{◌≡◌, ◌≢◌, ℕ, zero, suc, ◌+◌, ◌<◌, ◌≤◌, Bool, true, false, cond, List, [], ◌∷◌, length, get_or, map, is_some, fold, Option, Some, None, All, ℤ, pos, ◌+ℤ◌, ◌-ℤ◌, arith, refl, sym, ap, ◌∙◌, subst, slice_set, slice_index_or}
+use Rattle.std.proofs.Common.{◌≡◌, ℕ, zero, suc, Bool, true, false, cond, List, [], ◌∷◌, map, is_some, Option, Some, None, All, ℤ, pos, ◌+ℤ◌, ◌-ℤ◌, arith, refl, sym, ap, ◌∙◌, subst, slice_set, slice_index_or}
 use Rattle.std.specs.Prelude.{option_map}
-use Rattle.std.specs.List.{AllPairs, slice_get, filter_map, cons_option}
+use Rattle.std.specs.List.{AllPairs, filter_map, cons_option}
 use Rattle.std.proofs.lemmas.Int.{ints}
 use Rattle.std.proofs.lemmas.List.Elements.{All-head, All-tail}
 use Rattle.std.proofs.lemmas.Option.{none-some, same_Some}
@@ -12,7 +12,6 @@ use Rattle.joint_rows.specs.declared.joint.Joint.{Joint}
 use Rattle.joint_rows.specs.declared.row.JointBodies.{JointBodies}
 use Rattle.joint_rows.specs.declared.row.JointRow.{JointRow}
 use Rattle.joint_rows.specs.declared.solve.JointAfter.{JointAfter}
-use Rattle.momenta.specs.Motions as motions
 use Rattle.momenta.specs.declared.gain.Gain.{Gain}
 use Rattle.momenta.specs.declared.mass.MassData.{MassData}
 use Rattle.momenta.specs.declared.motion.Motion.{Motion}
@@ -21,7 +20,6 @@ use Rattle.momenta.specs.declared.state.BodyState.{BodyState}
 use Rattle.momenta.specs.declared.state.Ends.{Ends}
 use Rattle.fixed_geom.specs.declared.vectors.Vec2.{Vec2}
 use Rattle.contacts_base.specs.Contacts.{found_place, lookup}
-use Rattle.contacts_base.specs.declared.contact.Contact.{Contact}
 use Rattle.contacts_base.specs.declared.contact.ContactEntry.{ContactEntry}
 use Rattle.contacts_base.specs.declared.contact.ContactPoint.{ContactPoint}
 use Rattle.contacts_base.specs.declared.key.ContactKey.{ContactKey}
@@ -42,15 +40,14 @@ use Rattle.colour_solver.specs.Turns.{after, ends_of, got_x, got_y, passed, rows
 use Rattle.plain_world.specs.declared.body.Body.{Body}
 use Rattle.plain_world.specs.declared.joint.BodyJoint.{BodyJoint}
 use Rattle.plain_world.specs.Joints.{joint_at}
-use Rattle.plain_world.specs.Bodies.{is_awake}
 use Rattle.plain_world.specs.Slots.{body_at}
 use Rattle.world_core_base.specs.Carried.{solver_motion}
-use Rattle.world_core_base.specs.Gather.{bodies_of, ends_at, row_in, row_of, state_of, states_of}
+use Rattle.world_core_base.specs.Gather.{bodies_of, ends_at, row_of, state_of, states_of}
 use Rattle.world_core_base.specs.ConstraintRows.{constraint_row, joint_bodies, joint_ends, joint_row_in}
 use Rattle.world_core_base.specs.Solving.{Moving, Solving, Turns, ends_now, ends_then, gained, given_by_immovable, left_by, moving_at, nothing, pass, plus, put_back, put_joint_back, state_with, turn, turn_between, turn_joined, turn_joint, with_contact, with_sum}
 use Rattle.world_core_base.specs.SolvingArrays.{AreOther, HasEnds, JointHasEnds}
 use Rattle.world_core_base.proofs.ContactLaws.{row_bodies}
-use Rattle.world_core_base.proofs.SolvingJoints.{all_ends_as, bare_joint, bare_joints, bare_put, joint_put_other, joint_put_same, joint_there_again}
+use Rattle.world_core_base.proofs.SolvingJoints.{all_ends_as, bare_joint, bare_joints, bare_put, joint_put_other, joint_put_same}
 use Rattle.world_core_base.proofs.SolvingContacts.{lookup_put_same, missing_there, place_put, put_idle, row_is_there, row_put_other, row_there}
 
 -- ---- the bodies as states
@@ -122,6 +119,7 @@ stood_turn f s (constraints.Joint h) = by (joint_at s.joints h.slot)
     between j (Some a) (Some b) at_a at_b =
         let t : SolvedJoint = f.joint j.joint (ends_then a b) (ends_now a b) in
         stood_put s.bodies j.a j.b a b (left_by t.ends.a a) (left_by t.ends.b b) at_a at_b refl refl
+
     by : (o : Option BodyJoint) → stood (turn_joint f s h.slot o).bodies ≡ stood s.bodies
     by None = refl
     by (Some j) = between j (moving_at s.bodies j.a) (moving_at s.bodies j.b) refl refl
@@ -153,6 +151,7 @@ bare_turn f s (constraints.Joint h) law = by (joint_at s.joints h.slot) refl
     between j None b is = refl
     between j (Some a) None is = refl
     between j (Some a) (Some b) is = bare_put s.joints h.slot j (record j { joint = (f.joint j.joint (ends_then a b) (ends_now a b)).joint }) is (law j (ends_then a b) (ends_now a b))
+
     by : (o : Option BodyJoint) → joint_at s.joints h.slot ≡ o → bare_joints (turn_joint f s h.slot o).joints ≡ bare_joints s.joints
     by None is = refl
     by (Some j) is = between j (moving_at s.bodies j.a) (moving_at s.bodies j.b) is
@@ -167,6 +166,7 @@ row_joint_other f states s h (constraints.Joint k) ne = by (joint_at s.joints h.
     between j (Some a) None = refl
     between j (Some a) (Some b) =
         ap (λ (o : Option BodyJoint). option_map rows.Joint (joint_row_in states k.slot o)) (joint_put_other s.joints h.slot k.slot (Some (record j { joint = (f.joint j.joint (ends_then a b) (ends_now a b)).joint })) ne)
+
     by : (o : Option BodyJoint) → constraint_row states (turn_joint f s h.slot o).joints s.contacts (constraints.Joint k) ≡ constraint_row states s.joints s.contacts (constraints.Joint k)
     by None = refl
     by (Some j) = between j (moving_at s.bodies j.a) (moving_at s.bodies j.b)
@@ -176,6 +176,7 @@ row_joint_other f states s h (constraints.Contact key) ne = by (joint_at s.joint
     between j None b = refl
     between j (Some a) None = refl
     between j (Some a) (Some b) = refl
+
     by : (o : Option BodyJoint) → constraint_row states (turn_joint f s h.slot o).joints (turn_joint f s h.slot o).contacts (constraints.Contact key) ≡ constraint_row states s.joints s.contacts (constraints.Contact key)
     by None = refl
     by (Some j) = between j (moving_at s.bodies j.a) (moving_at s.bodies j.b)

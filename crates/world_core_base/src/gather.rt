@@ -28,8 +28,8 @@ use contacts_base::{
 };
 use fixed_geom::{Rot, UNIT, Vec2};
 use graph_colours::{COLOURS, Colours, Member, OVERFLOW};
-use momenta::{BodyState, Ends, MassData, Motion, Reciprocals, reciprocals_of};
 use joint_rows::JointRow;
+use momenta::{BodyState, Ends, MassData, Motion, Reciprocals, reciprocals_of};
 use plain_world::{Body, BodyJoint, JointTable};
 
 /// The mass of a body that is carried along: with it the momentum is the velocity itself, and the angular momentum the spin.

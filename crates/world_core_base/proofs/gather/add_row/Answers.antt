@@ -1,4 +1,4 @@
-use Rattle.std.proofs.Common.{◌≡◌, ◌∙◌, length, Some, Option}
+use Rattle.std.proofs.Common.{◌≡◌, ◌∙◌, length}
 use Rattle.contacts.specs.declared.constraint.Constraint.TheVariants as constraints
 use Rattle.plain_world.specs.Joints.{joint_at}
 use Rattle.world_core_base.specs.Gather.{row_of}

@@ -1,6 +1,6 @@
-use Rattle.std.proofs.Common.{◌≡◌, ◌<◌, ◌≤◌, ◌+◌, ◌∙◌, ◌++◌, ◌∷◌, [], List, length, sym, ap, subst, arith, drop, All}
+use Rattle.std.proofs.Common.{◌≡◌, ◌<◌, ◌≤◌, ◌+◌, ◌++◌, ◌∷◌, [], length, sym, ap, subst, arith, All}
 use Rattle.colour_solver.specs.ConstraintTurns.{AreRowsBelow, IsRowBelow}
-use Rattle.graph_colours.specs.Colours.{all_members, list_at}
+use Rattle.graph_colours.specs.Colours.{list_at}
 use Rattle.graph_colours.specs.declared.limits.TheConstants.{COLOURS}
 use Rattle.world_core_base.specs.ConstraintRows.{rows_in, rows_of}
 use Rattle.world_core_base.proofs.ColourLists.{all_joined, all_lists_more, joined, length_joined, list_done, list_more}
