@@ -1,5 +1,5 @@
 -- The joints as a step finds them, and the impulses given back to them.
-use Rattle.std.proofs.Common.{◌≡◌, inl, inr, ◌⊎◌, ℕ, zero, suc, ◌<◌, List, [], ◌∷◌, length, Option, Some, None, All, true, is_some, arith, refl, sym, ap, ◌∙◌, subst, slice_set, slice_index_or}
+use Rattle.std.proofs.Common.{ℤ, ◌≡◌, inl, inr, ◌⊎◌, ℕ, zero, suc, ◌<◌, List, [], ◌∷◌, length, Option, Some, None, All, true, is_some, arith, refl, sym, ap, ◌∙◌, subst, slice_set, slice_index_or}
 use Rattle.std.specs.Prelude.{option_map}
 use Rattle.std.specs.Option.{ForSome}
 use Rattle.std.proofs.lemmas.Bool.{cases_eq}
