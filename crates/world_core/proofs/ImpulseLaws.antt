@@ -1,5 +1,5 @@
 -- Joints with other impulses, as a step leaves them: what is tied to them stays so, and what a step's arrays ask of them.
-use Rattle.std.proofs.Common.{◌≡◌, ◌⊎◌, inl, inr, ℕ, suc, Bool, true, false, cond, is_some, List, [], ◌∷◌, map, length, Option, Some, None, All, option_map, slice_get, refl, sym, ap, ◌∙◌, subst}
+use Rattle.std.proofs.Common.{◌≡◌, ◌⊎◌, inl, inr, ℕ, suc, Bool, true, false, cond, is_some, List, [], ◌∷◌, length, Option, Some, None, All, refl, sym, ap, ◌∙◌}
 use Rattle.std.proofs.lemmas.List.Elements.{All-weaker}
 use Rattle.std.proofs.lemmas.Option.{none-some}
 use Rattle.body_handles.specs.declared.places.Place.{Place}
@@ -11,14 +11,14 @@ use Rattle.contacts.specs.declared.constraint.Constraint.{Constraint}
 use Rattle.contacts.specs.declared.constraint.Constraint.TheVariants as constraints
 use Rattle.plain_world.specs.declared.body.Body.{Body}
 use Rattle.plain_world.specs.declared.joint.BodyJoint.{BodyJoint}
-use Rattle.plain_world.specs.Joints.{AreJoints, joint_at, joint_of}
+use Rattle.plain_world.specs.Joints.{AreJoints, joint_at}
 use Rattle.plain_world.specs.Slots.{AreMatched}
 use Rattle.body_handles.specs.Places.{is_live}
 use Rattle.world_core_base.specs.ConstraintRows.{HasJointOn, HaveJointsOn}
 use Rattle.world_core_base.specs.Gather.{moves, states_of}
 use Rattle.world_core_base.proofs.JointLaws.{joint_on}
 use Rattle.world_core_base.proofs.SolvingJoints.{bare_entry, bare_joints, joint_bare}
-use Rattle.world_core.specs.Colouring.{AreColoured, JointSlots, Lists, acts, movers_at, movers_if, movers_of}
+use Rattle.world_core.specs.Colouring.{JointSlots, Lists, acts, movers_at, movers_if, movers_of}
 use Rattle.world_core.proofs.RowColourLaws.{in_each}
 use Rattle.world_core.proofs.TiedLaws.{AreTied}
 

@@ -6,7 +6,6 @@ use Rattle.std.proofs.lemmas.Grind.{common_steps}
 use Rattle.fixed_geom.specs.Facings.{is_facing}
 use Rattle.fixed_geom.specs.Vectors.{IsWithin, cross, is_within}
 use Rattle.momenta.specs.Impulses.{turned_by}
-use Rattle.momenta.specs.declared.mass.MassData.{MassData}
 use Rattle.momenta.specs.declared.motion.Momenta.{Momenta}
 use Rattle.shapes.specs.Poses.{IsPose}
 use Rattle.shapes.specs.declared.pose.Pose.{Pose}
@@ -33,12 +32,11 @@ use Rattle.colour_solver.specs.declared.ticks.StepSums.{StepSums}
 use Rattle.colour_solver.specs.Ticks.{AreSums, added_x, added_y}
 use Rattle.plain_world.specs.declared.body.Body.{Body}
 use Rattle.plain_world.specs.declared.body.BodyDef.{BodyDef}
-use Rattle.plain_world.specs.Bodies.{IsMassOf, is_mover, pose_of, IsBody, AreBodies, p_x, p_y, momentum_x, momentum_y, made}
-use Rattle.plain_world.specs.Kinds.{IsCourse, is_course, is_dynamic, is_kinematic, is_static}
+use Rattle.plain_world.specs.Bodies.{is_mover, pose_of, IsBody, AreBodies, p_x, p_y, momentum_x, momentum_y, made}
+use Rattle.plain_world.specs.Kinds.{IsCourse, is_course, is_dynamic, is_kinematic}
 use Rattle.plain_world.proofs.KindLaws.{mass_as, no_mover, static_as}
 use Rattle.plain_world.specs.declared.kind.Course.{Course}
-use Rattle.plain_world.specs.declared.kind.Kind.{Kind}
-use Rattle.plain_world.specs.declared.kind.Kind.TheVariants.{Static, Kinematic, Dynamic}
+use Rattle.plain_world.specs.declared.kind.Kind.TheVariants.{Kinematic}
 use Rattle.plain_world.proofs.BoxLemmas.{renewed_are}
 use Rattle.plain_world.specs.Changes.{CanPose, changed_at, put_course, put_momenta, put_pose}
 use Rattle.plain_world.specs.Slots.{body_at, shapes_in, HaveSameSlots, with_body}

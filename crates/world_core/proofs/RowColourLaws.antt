@@ -1,5 +1,5 @@
 -- A constraint with its movers, as the solver sees its bodies.
-use Rattle.std.proofs.Common.{◌≡◌, ℕ, zero, suc, ◌<◌, ◌+◌, ◌==◌, ◌||◌, Bool, true, false, List, [], ◌∷◌, ◌++◌, length, get_or, Option, Some, None, All, arith, refl, sym, ap, ◌∙◌, subst}
+use Rattle.std.proofs.Common.{◌≡◌, ℕ, zero, suc, ◌<◌, ◌+◌, ◌==◌, ◌||◌, Bool, true, false, List, [], ◌∷◌, ◌++◌, length, get_or, Option, Some, None, All, arith, refl, ap, ◌∙◌, subst}
 use Rattle.std.specs.List.{flat_map}
 use Rattle.std.proofs.lemmas.Bool.Decides.{nat_tests}
 use Rattle.std.proofs.lemmas.List.{length-append}
@@ -16,7 +16,7 @@ use Rattle.colour_solver.specs.Colour.{is_mover}
 use Rattle.world_core_base.specs.Gather.{moves, states_of}
 use Rattle.world_core_base.specs.RowColours.{HasBoth, HasItsMovers, HasMovers, JointHasMovers}
 use Rattle.world_core_base.proofs.RowColourLaws.{colour_rows_apart}
-use Rattle.world_core.specs.Colouring.{AreColoured, JointSlots, Lists, movers_at, movers_if, movers_of}
+use Rattle.world_core.specs.Colouring.{JointSlots, movers_at, movers_if, movers_of}
 use Rattle.world_core.specs.RowColours.{ColouredRowsAreColours}
 
 moves_back : (bodies : List (Option Body)) (slot : ℕ) → is_mover (states_of bodies) slot ≡ true → moves bodies slot ≡ true

@@ -1,5 +1,5 @@
 -- What each command does to the plain world, as a function.
-use Rattle.std.specs.Prelude.{◌≡◌, ℕ, ◌+◌, ◌^◌, Bool, cond, ◌&&◌, ◌==◌, nat_le, nat_lt, List, [], ◌∷◌, ◌++◌, Option, Some, None, Result, Ok, Err, ℤ, pos, neg_ℤ, ◌+ℤ◌, unsigned_abs, slice_set, unwrap_or, replicate}
+use Rattle.std.specs.Prelude.{◌≡◌, ℕ, ◌+◌, ◌^◌, Bool, cond, ◌&&◌, ◌==◌, nat_le, nat_lt, List, [], ◌∷◌, ◌++◌, Option, Some, None, Result, Ok, Err, ℤ, pos, neg_ℤ, unsigned_abs, slice_set, unwrap_or, replicate}
 use Rattle.fixed_geom.specs.Vectors.{cross, is_within, plus, zero_vector}
 use Rattle.fixed_geom.specs.declared.vectors.Vec2.{Vec2}
 use Rattle.fixed_geom.specs.declared.refusal.Refusal.{Refusal}
@@ -40,7 +40,6 @@ use Rattle.world_core.specs.declared.command.Reply.TheVariants as replies
 use Rattle.contacts_base.specs.Contacts.{contacts_without}
 use Rattle.world_core.specs.Collide.{Collided, collided}
 use Rattle.world_core.specs.Colouring.{Lists, turned, lists_without, members_of}
-use Rattle.contacts_base.specs.declared.contact.ContactEntry.{ContactEntry}
 use Rattle.event_feed.specs.Events.{EventLists, no_events}
 use Rattle.plain_world.specs.Plain.{Plain}
 use Rattle.world_core.specs.World.{World, body_of, joints_of}

@@ -60,6 +60,7 @@ pub fn expect_same_lists(moment: Moment, first: &Plain, second: &Plain) -> Resul
         Part::Bodies,
         are_same_bodies(first.bodies(), second.bodies()),
     )?;
+    expect_same_joints(moment, first, second)?;
     expect(
         moment,
         Part::Contacts,
@@ -69,6 +70,13 @@ pub fn expect_same_lists(moment: Moment, first: &Plain, second: &Plain) -> Resul
     expect(moment, Part::Gravity, first.gravity() == second.gravity())?;
     expect(moment, Part::Steps, first.steps() == second.steps())?;
     expect(moment, Part::Calls, first.calls() == second.calls())
+}
+
+/// Stops where the two lists of worlds differ in their joints, impulses and all, or in the joints' places.
+fn expect_same_joints(moment: Moment, first: &Plain, second: &Plain) -> Result<(), Stop> {
+    let are_same_places = first.joint_places() == second.joint_places();
+    expect(moment, Part::JointPlaces, are_same_places)?;
+    expect(moment, Part::Joints, first.joints() == second.joints())
 }
 
 /// Whether the two list the same bodies in each set.

@@ -1,4 +1,4 @@
-use Rattle.std.proofs.Common.{rules, tests, true, pos, unsigned_abs, ◌≡◌, ◌<◌, ◌^◌, ◌∙◌, ℤ, List, refl, sym, ap, subst, length, arith}
+use Rattle.std.proofs.Common.{rules, tests, true, pos, unsigned_abs, ◌≡◌, ◌<◌, ◌^◌, ◌∙◌, List, refl, sym, ap, subst, length, arith}
 use Rattle.std.proofs.lemmas.Int.{to_z-of_z}
 use Rattle.shapes.specs.Shapes.{is_between}
 use Rattle.contacts_base.specs.declared.contact.ContactEntry.{ContactEntry}
@@ -8,7 +8,7 @@ use Rattle.colour_solver.specs.declared.ticks.StepSums.{StepSums}
 use Rattle.colour_solver.specs.Ticks.{Run, ran, run_of, start}
 use Rattle.colour_solver.proofs.TickLaws.{rows_as_long}
 use Rattle.colour_solver.specs.declared.constraint_row.ConstraintRow.{ConstraintRow}
-use Rattle.world_core_base.specs.ConstraintRows.{HaveJointsOn, contacts_among, joints_among, with_joint_rows}
+use Rattle.world_core_base.specs.ConstraintRows.{contacts_among}
 use Rattle.world_core_base.specs.Gather.{states_of, with_motions, with_rows}
 use Rattle.world_core_base.specs.Gather.{AreContactsOf}
 use Rattle.world_core_base.proofs.ContactLaws.{contacts_on}
