@@ -8,8 +8,8 @@ use Rattle.momenta.specs.declared.mass.MassData.{MassData}
 use Rattle.momenta.specs.declared.motion.Motion.{Motion}
 use Rattle.momenta.specs.declared.state.BodyState.{BodyState}
 use Rattle.colour_solver.specs.States.{AreAllStates, total_x, total_y}
-use Rattle.colour_solver_base.specs.declared.row.ContactRow.{ContactRow}
-use Rattle.colour_solver.specs.ContactTurns.{AreRowsBelow}
+use Rattle.colour_solver.specs.declared.constraint_row.ConstraintRow.{ConstraintRow}
+use Rattle.colour_solver.specs.ConstraintTurns.{AreRowsBelow}
 use Rattle.colour_solver.specs.Passes.{OnMover, OnMovers, changed, gain_x, gain_y, pass}
 
 -- ---- what stays a body
@@ -48,7 +48,7 @@ length-pass f (s ∷ ss) = ap suc (length-pass f ss)
 pub long_after : (f g : MassData → Motion → Motion) (old new : List BodyState) → new ≡ pass g (pass f old) → length new ≡ length old
 long_after f g old new e = ap length e ∙ length-pass g (pass f old) ∙ length-pass f old
 
-pub rows_as_long : (n m : ℕ) (rows : List ContactRow) → n ≡ m → AreRowsBelow m rows → AreRowsBelow n rows
+pub rows_as_long : (n m : ℕ) (rows : List ConstraintRow) → n ≡ m → AreRowsBelow m rows → AreRowsBelow n rows
 rows_as_long n m rows e all = subst (λ (k : ℕ). AreRowsBelow k rows) (sym e) all
 
 -- ---- what a pass adds to the momentum is its gain

@@ -1,7 +1,7 @@
 pub mod States
 pub mod Passes
 pub mod Turns
-pub mod ContactTurns
+pub mod ConstraintTurns
 pub mod ColourRows
 pub mod Ticks
 pub mod Colour

@@ -1,4 +1,4 @@
--- Inner: a step's ticks and its restitution on the dense arrays: passes over the bodies and the contacts, and what each adds to the movers' momentum.
+-- Inner: a step's ticks and its restitution on the dense arrays: passes over the bodies and the constraints, and what each adds to the movers' momentum.
 use Rattle.std.specs.Prelude.{ℕ, zero, suc, ◌^◌, List, ℤ, pos, ◌+ℤ◌}
 use Rattle.fixed_geom.specs.Vectors.{IsWithin}
 use Rattle.fixed_geom.specs.declared.vectors.Vec2.{Vec2}
@@ -8,19 +8,18 @@ use Rattle.momenta.specs.declared.mass.MassData.{MassData}
 use Rattle.momenta.specs.declared.motion.Motion.{Motion}
 use Rattle.momenta.specs.declared.state.BodyState.{BodyState}
 use Rattle.momenta.specs.declared.state.Ends.{Ends}
-use Rattle.colour_solver_base.specs.declared.row.ContactRow.{ContactRow}
 use Rattle.colour_solver_base.specs.RowsAfter.{RowAfter}
-use Rattle.colour_solver_base.specs.Rows.{row_warmed, row_solved, row_bounced}
+use Rattle.colour_solver.specs.declared.constraint_row.ConstraintRow.{ConstraintRow}
 use Rattle.colour_solver.specs.declared.ticks.StepSums.{StepSums}
 use Rattle.colour_solver.specs.Passes.{carry, pass, gain_x, gain_y}
-use Rattle.colour_solver.specs.ContactTurns.{contact_slots}
+use Rattle.colour_solver.specs.ConstraintTurns.{constraint_bounced, constraint_slots, constraint_solved, constraint_warmed}
 use Rattle.colour_solver.specs.Turns.{passed, rows_passed, share_x, share_y}
 
--- the bodies and the contacts, and what gravity, immovable bodies, and the speed limit with the edge of the world have added since
+-- the bodies and the constraints, and what gravity, immovable bodies, and the speed limit with the edge of the world have added since
 -- the step began
 pub record Run : Type 0 where
   pub states : List BodyState
-  pub rows : List ContactRow
+  pub rows : List ConstraintRow
   pub gravity_x : ℤ
   pub gravity_y : ℤ
   pub immovable_x : ℤ
@@ -44,13 +43,13 @@ clamp_all f r = record r {
   clamp_y = r.clamp_y +ℤ gain_y f r.states;
 }
 
--- a pass over the contacts; what immovable bodies give is booked as Immovable
-abbrev pub turn_all : (ContactRow → Ends → RowAfter ContactRow) → Run → Run
+-- a pass over the constraints; what immovable bodies give is booked as Immovable
+abbrev pub turn_all : (ConstraintRow → Ends → RowAfter ConstraintRow) → Run → Run
 turn_all f r = record r {
-  states = passed contact_slots f r.states r.rows;
-  rows = rows_passed contact_slots f r.states r.rows;
-  immovable_x = r.immovable_x +ℤ share_x contact_slots f r.states r.rows;
-  immovable_y = r.immovable_y +ℤ share_y contact_slots f r.states r.rows;
+  states = passed constraint_slots f r.states r.rows;
+  rows = rows_passed constraint_slots f r.states r.rows;
+  immovable_x = r.immovable_x +ℤ share_x constraint_slots f r.states r.rows;
+  immovable_y = r.immovable_y +ℤ share_y constraint_slots f r.states r.rows;
 }
 
 -- what is carried along moves on, and adds nothing to the movers' momentum
@@ -59,7 +58,7 @@ carry_all r = record r { states = carry r.states }
 
 -- gravity, the speed limit, the warm start, the solver's pass, the speed limit again, the move, and what is carried along
 unfoldable pub tick : Vec2 → Run → Run
-tick g r = carry_all (clamp_all advanced (clamp_all clamped (turn_all row_solved (turn_all row_warmed (clamp_all clamped (pull_all g r))))))
+tick g r = carry_all (clamp_all advanced (clamp_all clamped (turn_all constraint_solved (turn_all constraint_warmed (clamp_all clamped (pull_all g r))))))
 
 abbrev pub ticks : ℕ → Vec2 → Run → Run
 ticks zero g r = r
@@ -67,13 +66,13 @@ ticks (suc n) g r = tick g (ticks n g r)
 
 -- all ticks, and then the restitution
 unfoldable pub ran : ℕ → Vec2 → Run → Run
-ran n g r = turn_all row_bounced (ticks n g r)
+ran n g r = turn_all constraint_bounced (ticks n g r)
 
-abbrev pub start : List BodyState → List ContactRow → Run
+abbrev pub start : List BodyState → List ConstraintRow → Run
 start states rows = record { states = states; rows = rows; gravity_x = pos 0; gravity_y = pos 0; immovable_x = pos 0; immovable_y = pos 0; clamp_x = pos 0; clamp_y = pos 0 }
 
--- the bodies and contacts with the sums that the code has kept
-abbrev pub run_of : List BodyState → List ContactRow → StepSums → Run
+-- the bodies and constraints with the sums that the code has kept
+abbrev pub run_of : List BodyState → List ConstraintRow → StepSums → Run
 run_of states rows s = record { states = states; rows = rows; gravity_x = s.gravity.x; gravity_y = s.gravity.y; immovable_x = s.immovable.x; immovable_y = s.immovable.y; clamp_x = s.clamp.x; clamp_y = s.clamp.y }
 
 pub record AreSums (n : ℕ) (s : StepSums) : Type 0 where

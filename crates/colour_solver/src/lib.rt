@@ -1,6 +1,6 @@
-//! A step on arrays: the bodies by slot and the touching contacts in solve order, colour after colour, with the passes of a tick over both.
+//! A step on arrays: the bodies by slot and the joints and the touching contacts in solve order, colour after colour, with the passes of a tick over both.
 //!
-//! A step works on two dense arrays (`BodyState`, `ContactRow`), runs its ticks over them (`run_step`) and writes back what came of it,
+//! A step works on two dense arrays (`BodyState`, `ConstraintRow`), runs its ticks over them (`run_step`) and writes back what came of it,
 //! as Box2D v3 does with its body states and contact constraints. So the inner loops look nothing up, and a step that is refused before
 //! has changed nothing. A `BodyState` that is `movable` is an awake mover. Of the others those that are carried along move on at the end
 //! of each tick, and the rest (static, asleep, disabled, or no body) stay as they are. A pass over the bodies goes over the slots of the awake
@@ -8,14 +8,16 @@
 #![tactic(auto)]
 
 pub mod colour_rows;
-pub mod contact_turns;
+pub mod constraint_row;
+pub mod constraint_turns;
 mod courses;
 pub mod passes;
 pub mod ticks;
 pub mod turns;
 
 pub use colour_rows::Rows;
-pub use contact_turns::{Bounce, Solve, Warm};
+pub use constraint_row::ConstraintRow;
+pub use constraint_turns::{Bounce, Solve, Warm};
 pub use passes::{Change, Gains, pass_two};
 pub use ticks::{StepSums, run_step};
 pub use turns::{Row, Slots, Turn, colours_at_once, pass_rows, solve_one};

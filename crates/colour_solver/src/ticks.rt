@@ -5,13 +5,12 @@ ghost use Rattle.fixed_geom.specs.Vectors.{IsWithin};
 ghost use Rattle.momenta.specs.Motions.{pulled, clamped, advanced, IsMotion};
 ghost use Rattle.colour_solver.specs.States.{AreAllStates, AreSameBeside, HaveCourses, carried_of, movers_of, total_x, total_y};
 ghost use Rattle.colour_solver.specs.ColourRows.{all_rows};
-ghost use Rattle.colour_solver.specs.ContactTurns.{AreRowsBelow};
+ghost use Rattle.colour_solver.specs.ConstraintTurns.{AreRowsBelow};
 ghost use Rattle.colour_solver.specs.Ticks.{AreSums, CanLimit, CanMove, CanPull, added_x, added_y, ran, run_of, start, tick, ticks};
 
 use crate::courses::carry_along;
-use crate::{Bounce, Change, Rows, Solve, Warm, pass_two};
+use crate::{Bounce, Change, ConstraintRow, Rows, Solve, Warm, pass_two};
 use body_handles::MAX_SLOTS;
-use colour_solver_base::ContactRow;
 use fixed_geom::Vec2;
 use momenta::{
     BodyState, Gain, MassData, Motion, NOTHING, Reciprocals, advance, clamp_speed, plus, pull,
@@ -21,7 +20,7 @@ use momenta::{
 #[derive(Clone, Copy, Debug, PartialEq, Eq)]
 pub struct StepSums {
     pub gravity: Gain,
-    /// By immovable bodies, through contacts.
+    /// By immovable bodies, through joints and contacts.
     pub immovable: Gain,
     /// By the speed limit, and by the edge of the world.
     pub clamp: Gain,
@@ -79,12 +78,12 @@ impl Change for Move {
     }
 }
 
-/// One tick of the awake movers and the contacts: gravity, the speed limit, the warm start, the solver's pass, the speed limit again, the move; and then of
+/// One tick of the awake movers and the constraints: gravity, the speed limit, the warm start, the solver's pass, the speed limit again, the move; and then of
 /// the bodies that are carried along. Adds to the sums so far.
 #[tactic(auto, unfolding(crate::specs::Ticks::tick))]
 fn tick(
     states: &mut Vec<BodyState>,
-    rows: &mut Rows<ContactRow>,
+    rows: &mut Rows<ConstraintRow>,
     awake: &[u32],
     carried: &[u32],
     gravity: Vec2,
@@ -124,8 +123,8 @@ fn tick(
     }
 }
 
-/// Runs that many ticks, 0 to 8, over the awake movers, whose slots are `awake`, and the contacts, and then the restitution: in each
-/// tick gravity (u/tick², each component within ±2^16), the speed limit, the warm start and the solver's pass over the contacts in
+/// Runs that many ticks, 0 to 8, over the awake movers, whose slots are `awake`, and the joints and contacts, and then the restitution: in each
+/// tick gravity (u/tick², each component within ±2^16), the speed limit, the warm start and the solver's pass over them in
 /// their order, the speed limit again, and the move. The bodies that are carried along, whose slots are `carried`, move on at the end of
 /// each tick; any other body stays as it is.
 ///
@@ -134,7 +133,7 @@ fn tick(
 #[tactic(auto, unfolding(crate::specs::Ticks::ran))]
 pub fn run_step(
     states: &mut Vec<BodyState>,
-    rows: &mut Rows<ContactRow>,
+    rows: &mut Rows<ConstraintRow>,
     awake: &[u32],
     carried: &[u32],
     gravity: Vec2,

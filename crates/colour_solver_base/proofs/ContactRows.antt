@@ -30,7 +30,7 @@ use Rattle.colour_solver_base.specs.ContactSolving.{AreMovedFrom, IsMovedFrom, I
 like_then : (a b c : BodyState) → IsMovedFrom a b → IsMovedFrom b c → IsMovedFrom a c
 like_then a b c h k = record { movable = k.movable ∙ h.movable; mass = k.mass ∙ h.mass; start = k.start ∙ h.start; reciprocals = k.reciprocals ∙ h.reciprocals }
 
-masses_then : (a b c : Ends) → AreMovedFrom a b → AreMovedFrom b c → AreMovedFrom a c
+pub masses_then : (a b c : Ends) → AreMovedFrom a b → AreMovedFrom b c → AreMovedFrom a c
 masses_then a b c h k = record { a = like_then a.a b.a c.a h.a k.a; b = like_then a.b b.b c.b h.b k.b }
 
 same_body : (s : BodyState) → IsMovedFrom s s
@@ -60,7 +60,7 @@ dropped_ends : (old new : ℤ) (e : Ends) (o : Option Ends) → or_kept e o ≡ 
 dropped_ends old new e (Some after) = refl
 dropped_ends old new e None = refl
 
-warmed_masses : (line : Line) (total : ℤ) (e : Ends) → AreMovedFrom e (warmed line total e)
+pub warmed_masses : (line : Line) (total : ℤ) (e : Ends) → AreMovedFrom e (warmed line total e)
 unfolding warmed
 warmed_masses line total e = pair_masses (along line.direction total) line.ra line.rb e
 
@@ -70,7 +70,7 @@ exerted_masses line old new e =
     let j : Vec2 = along line.direction (new -ℤ old) in
     subst (AreMovedFrom e) (dropped_ends old new e (impulse_pair j line.ra line.rb e)) (pair_masses j line.ra line.rb e)
 
-solved_masses : (line : Line) (bias low high total : ℤ) (e : Ends) → AreMovedFrom e (solved line bias low high total e).ends
+pub solved_masses : (line : Line) (bias low high total : ℤ) (e : Ends) → AreMovedFrom e (solved line bias low high total e).ends
 unfolding solved
 solved_masses line bias low high total e = exerted_masses line total (between low high (total +ℤ wanted (speed_along line e) bias line.inverse_mass)) e
 

@@ -1,2 +1,2 @@
-mod JointRows
+pub mod JointRows
 mod Laws64

@@ -1,14 +1,12 @@
 -- The boxes of shapes lie within the limits of the world, and fat boxes contain tight ones.
-use Rattle.std.proofs.Common.{◌≡◌, ℕ, suc, ◌+◌, ◌*◌, ◌^◌, ◌≤◌, Bool, true, false, ◌&&◌, cond, ℤ, pos, ◌+ℤ◌, ◌-ℤ◌, ◌≤ℤ◌, unsigned_abs, int_lt, int_le, List, [], ◌∷◌, length, map, All, arith, refl}
+use Rattle.std.proofs.Common.{◌≡◌, ℕ, suc, ◌+◌, ◌^◌, ◌≤◌, Bool, true, false, ◌&&◌, cond, ℤ, pos, ◌≤ℤ◌, unsigned_abs, int_lt, int_le, List, [], ◌∷◌, length, All, arith, refl}
 use Rattle.std.proofs.lemmas.Int.{ints}
-use Rattle.std.specs.Int.{int_min, int_max}
-use Rattle.fixed_geom.specs.Vectors.{IsWithin, plus}
-use Rattle.fixed_geom.specs.Facings.{rotate}
+use Rattle.fixed_geom.specs.Vectors.{IsWithin}
 use Rattle.fixed_geom.specs.Boxes.{IsBoxWithin, Contains, contains, covers, grow}
 use Rattle.fixed_geom.specs.declared.boxes.Box2.{Box2}
 use Rattle.fixed_geom.specs.declared.vectors.Vec2.{Vec2}
 use Rattle.fixed_geom.proofs.FacingLemmas.{rotate_within}
-use Rattle.shapes.specs.Bounds.{box_of_ends, tight_box, fat_box}
+use Rattle.shapes.specs.Bounds.{box_of_ends, tight_box}
 use Rattle.shapes.specs.Poses.{IsPose, placed, core_of}
 use Rattle.shapes.specs.Shapes.{IsShape, IsShapeDef, first_end, second_end, radius_of}
 use Rattle.shapes.specs.declared.pose.Core.{Core}

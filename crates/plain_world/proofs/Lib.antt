@@ -3,3 +3,4 @@ pub mod CensusLemmas
 pub mod FatLaws
 pub mod KindLaws
 pub mod PairNumbers
+mod ImpulseLaws

@@ -1,5 +1,5 @@
 -- Changes of one body in its slot, which leave it a mover, or carried along, or neither, as it was.
-use Rattle.std.specs.Prelude.{◌≡◌, Bool, true, false, ℕ, List, Option, Some, None, option_map, slice_set}
+use Rattle.std.specs.Prelude.{Bool, false, ℕ, List, Option, Some, None, option_map, slice_set}
 use Rattle.momenta.specs.declared.motion.Momenta.{Momenta}
 use Rattle.shapes.specs.Poses.{IsPose}
 use Rattle.shapes.specs.declared.pose.Pose.{Pose}

@@ -1,10 +1,10 @@
 //! The joints of a world by slot, and which pairs of bodies they keep from colliding.
 
-ghost use Rattle.std.specs.Prelude.{◌≡◌, ◌≤◌, ◌<◌, [], IfOk, None, OnOk, length, slice_set};
+ghost use Rattle.std.specs.Prelude.{◌≡◌, ◌≤◌, ◌<◌, [], IfOk, None, OnOk, length, option_map, slice_set};
 ghost use Rattle.std.specs.Option.{option_copied};
 ghost use Rattle.std.specs.Result.{IsOkUnless};
 ghost use Rattle.std.specs.List.Sorted.{IsNonDecreasing};
-ghost use Rattle.plain_world.specs.Joints.{forbidden_in, forbidden_pairs, joint_at};
+ghost use Rattle.plain_world.specs.Joints.{forbidden_in, forbidden_pairs, impulse_set, joint_at, with_impulse};
 ghost use Rattle.plain_world.specs.JointTables.{HaveSameNumbers};
 ghost use Rattle.plain_world.specs.Slots.{with_item};
 
@@ -44,6 +44,18 @@ fn forbidden_in(joint: Option<&BodyJoint>) -> Option<u64>
     match joint {
         None => None,
         Some(joint) => joint.forbidden_pair(),
+    }
+}
+
+/// Gives the joint in a slot's entry, if there is one, this impulse.
+fn put_impulse(entry: &mut Option<BodyJoint>, impulse: i64)
+    ensures { entry.new ≡ option_map (with_impulse impulse) entry.old }
+{
+    match entry {
+        None => {}
+        Some(joint) => {
+            joint.joint.impulse = impulse;
+        }
     }
 }
 
@@ -115,6 +127,16 @@ impl JointTable {
             forbidden_in(item_at(&self.joints, slot as usize)),
         );
         clear_slot(&mut self.joints, slot as usize);
+    }
+
+    /// Gives the joint in a slot, if there is one, this impulse (mass·u/tick).
+    #[inline(always)]
+    pub fn set_impulse(&mut self, slot: usize, impulse: i64)
+        ensures { self.new.joints ≡ impulse_set slot impulse self.old.joints (joint_at self.old.joints slot) }
+    {
+        if slot < self.joints.len() {
+            put_impulse(&mut self.joints[slot], impulse);
+        }
     }
 
     /// The numbers of the pairs of bodies that joints keep from colliding, ascending, each as often as there are such joints.

@@ -1,5 +1,5 @@
 -- Which contacts have a colour: what a step, a body that goes and a body that comes leave of that.
-use Rattle.std.proofs.Common.{◌≡◌, ◌≢◌, ◌⊎◌, ℕ, zero, suc, ◌<◌, Bool, true, false, cond, is_some, List, [], ◌∷◌, map, Option, Some, None, option_map, slice_get, slice_set, subst, refl, sym, ap, ◌∙◌, arith, inl, inr}
+use Rattle.std.proofs.Common.{◌≡◌, ◌≢◌, ◌⊎◌, ℕ, zero, suc, ◌<◌, Bool, true, false, cond, is_some, List, [], ◌∷◌, map, Option, Some, None, slice_get, slice_set, subst, refl, sym, ap, ◌∙◌, arith, inl, inr}
 use Rattle.std.specs.List.{filter_map, cons_option}
 use Rattle.std.proofs.lemmas.Bool.{cases_eq}
 use Rattle.std.proofs.lemmas.Option.{none-some, same_Some}
@@ -22,14 +22,12 @@ use Rattle.contacts.proofs.Members.{Each, all_from_each}
 use Rattle.contacts.proofs.Rising.{IsRising, rising_from_increasing}
 use Rattle.contacts.proofs.ChangeLemmas.{keys_touching_rise}
 use Rattle.colour_solver_base.specs.declared.row.ContactRow.{ContactRow}
-use Rattle.momenta.specs.declared.state.BodyState.{BodyState}
 use Rattle.body_handles.specs.declared.handle.Handle.{Handle}
 use Rattle.contacts.specs.Constraints.{constraint_number}
 use Rattle.plain_world.specs.declared.body.Body.{Body}
 use Rattle.plain_world.specs.declared.joint.BodyJoint.{BodyJoint}
 use Rattle.plain_world.specs.Joints.{joint_at, joint_of}
-use Rattle.plain_world.specs.Bodies.{is_mover}
-use Rattle.world_core_base.specs.Gather.{moves, moves_in, IsContactOf, AreContactsOf, with_motion, with_motions, with_row, with_rows, put_row}
+use Rattle.world_core_base.specs.Gather.{moves, IsContactOf, AreContactsOf, with_row, with_rows, put_row}
 use Rattle.world_core_base.proofs.ContactLaws.{touches_with_row}
 use Rattle.world_core.specs.Colouring.{JointSlots, Lists, movers_at, movers_if, movers_between, movers_of, turned, IsNamed, AreNamed, IsNamedHandle, IsNamedConstraint, AreColoured}
 use Rattle.world_core.proofs.ColouringSteps.{AreAbsent, EachAbsent, each_from_all}

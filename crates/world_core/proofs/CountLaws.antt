@@ -1,5 +1,5 @@
 -- Each accepted command counts one call more.
-use Rattle.std.proofs.Common.{◌≡◌, ℕ, ◌+◌, ◌^◌, Bool, true, false, cond, Option, Some, None, Result, Ok, Err, ℤ, pos, nat_lt, refl, sym, ap}
+use Rattle.std.proofs.Common.{◌≡◌, ℕ, ◌+◌, ◌^◌, Bool, true, false, cond, Option, Some, None, Result, Ok, Err, pos, nat_lt, refl, sym, ap}
 use Rattle.fixed_geom.specs.declared.refusal.Refusal.{Refusal}
 use Rattle.fixed_geom.specs.declared.refusal.Refusal.TheVariants.{OutOfRange, StaleHandle, TooMany, WornOut}
 use Rattle.fixed_geom.specs.declared.vectors.Vec2.{Vec2}
@@ -15,7 +15,7 @@ use Rattle.plain_world.specs.declared.body.BodyDef.{BodyDef}
 use Rattle.plain_world.specs.declared.joint.JointDef.{JointDef}
 use Rattle.plain_world.specs.declared.kind.Course.{Course}
 use Rattle.plain_world.specs.Plain.{Plain}
-use Rattle.world_core.specs.Apply.{Applied, apply, apply_accepted, course_due, create_due, departing, destroy_due, join_due, join_refusal, pose_due, posed, push_due, pushed, steered}
+use Rattle.world_core.specs.Apply.{Applied, apply_accepted, course_due, create_due, departing, destroy_due, join_due, join_refusal, pose_due, posed, push_due, pushed, steered}
 use Rattle.world_core.specs.Laws.{EachCallCounts}
 use Rattle.world_core.specs.World.{body_of}
 use Rattle.world_core.specs.declared.command.Command.{Command}

@@ -1,6 +1,6 @@
 -- Joints that are made and that go: their slots, and which constraints have a colour then.
-use Rattle.std.proofs.Common.{◌≡◌, ◌≢◌, ℕ, zero, suc, ◌+◌, ◌^◌, ◌<◌, ◌≤◌, ◌==◌, ◌&&◌, Bool, true, false, cond, List, [], ◌∷◌, ◌++◌, length, get_or, Option, Some, None, is_some, nat_lt, ltb-true, ltb-false, All, slice_get, slice_set, refl, sym, ap, ap₂, ◌∙◌, subst, arith, inl, inr}
-use Rattle.std.proofs.lemmas.Bool.{cases_eq, cases_lt}
+use Rattle.std.proofs.Common.{◌≡◌, ◌≢◌, ℕ, zero, suc, ◌+◌, ◌<◌, ◌≤◌, ◌==◌, ◌&&◌, Bool, true, false, cond, List, [], ◌∷◌, ◌++◌, length, get_or, Option, Some, None, is_some, nat_lt, ltb-true, ltb-false, All, slice_get, slice_set, refl, sym, ap, ap₂, ◌∙◌, subst, arith, inl, inr}
+use Rattle.std.proofs.lemmas.Bool.{cases_eq}
 use Rattle.std.proofs.lemmas.List.{length-set}
 use Rattle.std.proofs.lemmas.Option.{get_or_from_slice_get, none-some, same_Some, slice_get_within}
 use Rattle.body_handles.specs.declared.handle.Handle.{Handle}
@@ -8,22 +8,21 @@ use Rattle.body_handles.specs.declared.places.Place.{Place}
 use Rattle.body_handles.specs.declared.places.TheConstants.{MAX_SLOTS}
 use Rattle.body_handles.specs.Places.{generation_at, generation_of, is_live, is_live_at, lowest, places_with, places_without, IsLive, IsPlace}
 use Rattle.body_handles.proofs.LowestLemmas.{lowest-le-length, no_place}
-use Rattle.body_handles.proofs.TableLemmas.{IsLive-given, IsPlace-given, IsTable-given, IsTable-taken}
+use Rattle.body_handles.proofs.TableLemmas.{IsPlace-given, IsTable-given, IsTable-taken}
 use Rattle.graph_colours.specs.declared.member.Member.{Member}
 use Rattle.graph_colours.specs.declared.member.Movers.{Movers}
-use Rattle.graph_colours.specs.Colours.{all_members, colour_of, released}
+use Rattle.graph_colours.specs.Colours.{all_members, colour_of}
 use Rattle.graph_colours.proofs.Cases.{by_test, true_or_false}
 use Rattle.graph_colours.proofs.ColouringLemmas.{released_keeps, released_others, released_own}
 use Rattle.graph_colours.proofs.PlaceLemmas.{is_same, not_same, same_from}
 use Rattle.contacts_base.specs.declared.contact.ContactEntry.{ContactEntry}
-use Rattle.contacts_base.specs.declared.key.ContactKey.{ContactKey}
 use Rattle.contacts.specs.Constraints.{constraint_number}
 use Rattle.contacts.specs.declared.constraint.Constraint.{Constraint}
 use Rattle.contacts.specs.declared.constraint.Constraint.TheVariants.{Contact, Joint}
 use Rattle.plain_world.specs.declared.body.Body.{Body}
 use Rattle.plain_world.specs.declared.joint.BodyJoint.{BodyJoint}
 use Rattle.plain_world.specs.Joints.{AreJoints, IsBodyJoint, is_end_in, is_joint_of, joint_at, joint_of}
-use Rattle.plain_world.specs.Slots.{AreMatched, is_taken_place, item_at, item_in, with_item}
+use Rattle.plain_world.specs.Slots.{AreMatched, is_taken_place, item_in, with_item}
 use Rattle.world_core.specs.Colouring.{AreColoured, IsNamedConstraint, IsNamedHandle, JointSlots, Lists, acts, movers_at, movers_of, movers_with, placed_with}
 use Rattle.world_core.specs.Joining.{Joined, handle_at, joined_with, unjoined, unjoined_if, unjoined_up, unjoined_all}
 use Rattle.world_core.proofs.ColouringBodies.{members_coloured}

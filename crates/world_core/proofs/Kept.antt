@@ -6,7 +6,6 @@ use Rattle.std.proofs.lemmas.Grind.{common_steps}
 use Rattle.fixed_geom.specs.Facings.{is_facing}
 use Rattle.fixed_geom.specs.Vectors.{IsWithin, cross, is_within}
 use Rattle.momenta.specs.Impulses.{turned_by}
-use Rattle.momenta.specs.declared.mass.MassData.{MassData}
 use Rattle.momenta.specs.declared.motion.Momenta.{Momenta}
 use Rattle.shapes.specs.Poses.{IsPose}
 use Rattle.shapes.specs.declared.pose.Pose.{Pose}
@@ -33,12 +32,11 @@ use Rattle.colour_solver.specs.declared.ticks.StepSums.{StepSums}
 use Rattle.colour_solver.specs.Ticks.{AreSums, added_x, added_y}
 use Rattle.plain_world.specs.declared.body.Body.{Body}
 use Rattle.plain_world.specs.declared.body.BodyDef.{BodyDef}
-use Rattle.plain_world.specs.Bodies.{IsMassOf, is_mover, pose_of, IsBody, AreBodies, p_x, p_y, momentum_x, momentum_y, made}
-use Rattle.plain_world.specs.Kinds.{IsCourse, is_course, is_dynamic, is_kinematic, is_static}
+use Rattle.plain_world.specs.Bodies.{is_mover, pose_of, IsBody, AreBodies, p_x, p_y, momentum_x, momentum_y, made}
+use Rattle.plain_world.specs.Kinds.{IsCourse, is_course, is_dynamic, is_kinematic}
 use Rattle.plain_world.proofs.KindLaws.{mass_as, no_mover, static_as}
 use Rattle.plain_world.specs.declared.kind.Course.{Course}
-use Rattle.plain_world.specs.declared.kind.Kind.{Kind}
-use Rattle.plain_world.specs.declared.kind.Kind.TheVariants.{Static, Kinematic, Dynamic}
+use Rattle.plain_world.specs.declared.kind.Kind.TheVariants.{Kinematic}
 use Rattle.plain_world.proofs.BoxLemmas.{renewed_are}
 use Rattle.plain_world.specs.Changes.{CanPose, changed_at, put_course, put_momenta, put_pose}
 use Rattle.plain_world.specs.Slots.{body_at, shapes_in, HaveSameSlots, with_body}
@@ -551,13 +549,14 @@ pub record IsStep (old new : List (Option Body)) (sums : StepSums) : Type 0 wher
   pub momentum_x : momentum_x new ≡ momentum_x old +ℤ added_x sums
   pub momentum_y : momentum_y new ≡ momentum_y old +ℤ added_y sums
 
-pub step_kept : (w : World) (bodies : List (Option Body)) (sums : StepSums) (events : EventLists) (contacts : List ContactEntry) (lists : Lists) → IsKept w → w.plain.calls < 2 ^ 40 → IsStep w.plain.bodies bodies sums → AreTied bodies (joints_of w.plain) contacts lists
-    → IsKept (record w { plain = record w.plain { bodies = bodies; contacts = contacts; colours = ids_of lists; steps = w.plain.steps + 1; calls = w.plain.calls + 1 }; entries = w.entries ++ step_entries (w.plain.calls + 1) sums; events = events })
-step_kept w bodies sums events contacts lists s few step tied =
+pub step_kept : (w : World) (bodies : List (Option Body)) (joints : List (Option BodyJoint)) (sums : StepSums) (events : EventLists) (contacts : List ContactEntry) (lists : Lists) → IsKept w → w.plain.calls < 2 ^ 40 → IsStep w.plain.bodies bodies sums
+    → AreTied bodies (record { places = w.plain.joint_places; joints = joints }) contacts lists
+    → IsKept (record w { plain = record w.plain { bodies = bodies; joints = joints; contacts = contacts; colours = ids_of lists; steps = w.plain.steps + 1; calls = w.plain.calls + 1 }; entries = w.entries ++ step_entries (w.plain.calls + 1) sums; events = events })
+step_kept w bodies joints sums events contacts lists s few step tied =
     let call = w.plain.calls + 1 in
     let mx = step.momentum_x in
     let my = step.momentum_y in
-    let kept = listed bodies (joints_of w.plain) contacts lists (ids_of lists) refl tied.colours in
+    let kept = listed bodies (record { places = w.plain.joint_places; joints = joints }) contacts lists (ids_of lists) refl tied.colours in
     record {
       total_x = let t = s.total_x in rw (sum_x-step w.entries call sums) (omega (arith, ints, mx, t));
       total_y = let t = s.total_y in rw (sum_y-step w.entries call sums) (omega (arith, ints, my, t));

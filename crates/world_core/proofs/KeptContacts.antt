@@ -9,7 +9,6 @@ use Rattle.std.proofs.lemmas.Bool.{cases_eq, eqb-false}
 use Rattle.std.proofs.lemmas.List.{length-set, length-map}
 use Rattle.std.proofs.lemmas.List.Elements.{All-nil, All-cons, All-head, All-tail, All-set, All-weaker}
 use Rattle.std.proofs.lemmas.Option.{slice_get_within, get_or_from_slice_get}
-use Rattle.fixed_geom.specs.declared.vectors.Vec2.{Vec2}
 use Rattle.momenta.specs.declared.state.BodyState.{BodyState}
 use Rattle.contacts_base.specs.declared.key.ContactKey.{ContactKey}
 use Rattle.contacts_base.specs.declared.contact.ContactPoint.{ContactPoint}
@@ -19,8 +18,6 @@ use Rattle.contacts_base.specs.Keys.{key_number}
 use Rattle.contacts_base.specs.Contacts.{number_of, lookup, AreKeysRising, with_impulses, with_second}
 use Rattle.contacts_base.specs.Evaluate.{touches}
 use Rattle.contacts_base.specs.Limits.{IsContactPoint}
-use Rattle.contacts.specs.declared.constraint.Constraint.{Constraint}
-use Rattle.contacts.specs.declared.constraint.Constraint.TheVariants.{Joint, Contact}
 use Rattle.contacts_base.specs.Contacts.{is_touching}
 use Rattle.colour_solver_base.specs.declared.row.PointRow.{PointRow}
 use Rattle.colour_solver_base.specs.declared.row.ContactRow.{ContactRow}
@@ -28,7 +25,7 @@ use Rattle.colour_solver_base.specs.Rows.{IsPointRow, IsRow}
 use Rattle.plain_world.specs.declared.body.Body.{Body}
 use Rattle.plain_world.specs.Bodies.{can_move, is_mover}
 use Rattle.world_core_base.proofs.GatherLaws.{mover_moved}
-use Rattle.plain_world.specs.Formed.{HasPoints, IsShapeOf}
+use Rattle.plain_world.specs.Formed.{HasPoints}
 use Rattle.plain_world.specs.Slots.{body_at, shapes_in, with_body, HaveSameSlots}
 use Rattle.world_core_base.specs.Renewal.{with_renewed, renewed_bodies}
 use Rattle.world_core_base.specs.Gather.{with_motion, with_motions, impulses_of, with_row, put_row, with_rows, moves_in, moves, IsContactOf, AreContactsOf}

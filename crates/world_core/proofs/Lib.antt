@@ -14,7 +14,8 @@ pub mod MembersLaws
 pub mod Kept
 pub mod ReplayLemmas
 pub mod CollideLaws
-pub mod SolveLaws
-pub mod StepLemmas
 mod RowColourLaws
+pub mod SolveLaws
+pub mod ImpulseLaws
+pub mod StepLemmas
 pub mod QueryLaws

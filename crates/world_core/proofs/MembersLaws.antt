@@ -1,7 +1,7 @@
 -- The colours of the plain world, and what they are with their movers.
-use Rattle.std.proofs.Common.{◌≡◌, ◌∙◌, ℕ, zero, suc, ◌<◌, ◌+◌, List, [], ◌∷◌, ◌++◌, length, map, All, Option, Some, None, option_map, Bool, true, false, cond, get_or, refl, sym, ap, subst, arith}
+use Rattle.std.proofs.Common.{◌≡◌, ◌∙◌, ℕ, zero, suc, List, [], ◌∷◌, ◌++◌, map, All, Option, Some, option_map, Bool, refl, sym, ap, subst, arith}
 use Rattle.std.specs.Prelude.{◌==◌, ◌||◌}
-use Rattle.std.specs.List.{cons_option, filter_map, flat_map, list_any, position_or_len}
+use Rattle.std.specs.List.{cons_option, filter_map, list_any, position_or_len}
 use Rattle.std.proofs.lemmas.List.{length-map}
 use Rattle.graph_colours.specs.Colours as colours
 use Rattle.graph_colours.specs.Members.{has_id}

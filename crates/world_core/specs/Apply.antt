@@ -1,5 +1,5 @@
 -- What each command does to the plain world, as a function.
-use Rattle.std.specs.Prelude.{◌≡◌, ℕ, ◌+◌, ◌^◌, Bool, cond, ◌&&◌, ◌==◌, nat_le, nat_lt, List, [], ◌∷◌, ◌++◌, Option, Some, None, Result, Ok, Err, ℤ, pos, neg_ℤ, ◌+ℤ◌, unsigned_abs, slice_set, unwrap_or, replicate}
+use Rattle.std.specs.Prelude.{◌≡◌, ℕ, ◌+◌, ◌^◌, Bool, cond, ◌&&◌, ◌==◌, nat_le, nat_lt, List, [], ◌∷◌, ◌++◌, Option, Some, None, Result, Ok, Err, ℤ, pos, neg_ℤ, unsigned_abs, slice_set, unwrap_or, replicate}
 use Rattle.fixed_geom.specs.Vectors.{cross, is_within, plus, zero_vector}
 use Rattle.fixed_geom.specs.declared.vectors.Vec2.{Vec2}
 use Rattle.fixed_geom.specs.declared.refusal.Refusal.{Refusal}
@@ -40,7 +40,6 @@ use Rattle.world_core.specs.declared.command.Reply.TheVariants as replies
 use Rattle.contacts_base.specs.Contacts.{contacts_without}
 use Rattle.world_core.specs.Collide.{Collided, collided}
 use Rattle.world_core.specs.Colouring.{Lists, turned, lists_without, members_of}
-use Rattle.contacts_base.specs.declared.contact.ContactEntry.{ContactEntry}
 use Rattle.event_feed.specs.Events.{EventLists, no_events}
 use Rattle.plain_world.specs.Plain.{Plain}
 use Rattle.world_core.specs.World.{World, body_of, joints_of}
@@ -212,16 +211,16 @@ colours_after w c = turned w.bodies (members_of w.bodies (joints_of w) w.colours
 
 -- the ticks and the restitution, over the bodies by slot and over the constraints in solve order
 abbrev pub solved_after : Plain → ℕ → Collided → Lists → Solving
-solved_after w n c lists = solved n w.gravity (solve_order (ids_of lists)) w.bodies c.now
+solved_after w n c lists = solved n w.gravity (solve_order (ids_of lists)) w.bodies w.joints c.now
 
 -- what the step has added to the movers' momentum, by cause
 abbrev pub step_entries : ℕ → StepSums → List Entry
 step_entries call sums = booked call causes.Gravity sums.gravity.x sums.gravity.y ++ (booked call causes.Immovable sums.immovable.x sums.immovable.y ++ booked call causes.Clamp sums.clamp.x sums.clamp.y)
 
--- the bodies and contacts that the ticks have left, and then the fat boxes
+-- the bodies, joints and contacts that the ticks have left, and then the fat boxes
 abbrev pub stepped : Plain → Collided → Lists → Solving → Applied
 stepped w c lists s = record {
-  plain = record w { bodies = renewed_bodies (bodies_of s); contacts = s.contacts; colours = ids_of lists; steps = w.steps + 1; calls = w.calls + 1 };
+  plain = record w { bodies = renewed_bodies (bodies_of s); joints = s.joints; contacts = s.contacts; colours = ids_of lists; steps = w.steps + 1; calls = w.calls + 1 };
   reply = replies.Stepped (w.steps + 1);
   entries = step_entries (w.calls + 1) s.sums;
   events = Some (events_of c);

@@ -17,8 +17,7 @@ use crate::joining::{check_join, unjoin, unjoin_all};
 use crate::pushes::{course_after, departing, momenta_after, pose_after};
 use crate::{Command, Reply};
 use body_handles::{Handle, Handles, Place};
-use colour_solver::Rows;
-use colour_solver_base::ContactRow;
+use colour_solver::{ConstraintRow, Rows};
 use contacts::{BroadPhase, Constraint};
 use contacts_base::Contacts;
 use event_feed::Events;
@@ -56,7 +55,7 @@ pub struct WorldCore {
     // The colours of the active constraints.
     colours: Colours<Constraint>,
     // The rows of a step by colour, and their memory, which is kept from step to step.
-    rows: Rows<ContactRow>,
+    rows: Rows<ConstraintRow>,
     gravity: Vec2,
     steps: u64,
     calls: u64,
@@ -312,13 +311,14 @@ impl WorldCore {
         gather_rows(
             &mut self.rows,
             self.bodies.states(),
+            self.joints.joints(),
             self.contacts.as_slice(),
             &self.colours,
         );
         let sums = self
             .bodies
             .run(&mut self.rows, self.gravity, ticks.unsigned_abs());
-        put_impulses(&mut self.contacts, self.rows.as_slice());
+        put_impulses(&mut self.joints, &mut self.contacts, self.rows.as_slice());
         book_step(&mut self.ledger, self.calls + 1, sums);
         self.steps += 1;
         self.calls += 1;

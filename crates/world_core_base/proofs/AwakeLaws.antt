@@ -1,14 +1,9 @@
 -- Motions given back and fat boxes made anew, from one slot to the next: first the movers', and then those of the bodies that are carried along.
-use Rattle.std.proofs.Common.{◌≡◌, ℕ, zero, suc, ◌+◌, ◌<◌, ◌≤◌, Bool, true, false, cond, not, List, [], ◌∷◌, ◌++◌, length, get_or, take, drop, map, Option, Some, None, pos, int_eq, arith, refl, sym, ap, ◌∙◌, subst, inl, inr, slice_set, add-one}
-use Rattle.std.specs.List.{slice_get}
+use Rattle.std.proofs.Common.{◌≡◌, ℕ, zero, suc, ◌+◌, ◌<◌, ◌≤◌, Bool, true, false, cond, not, List, [], ◌∷◌, ◌++◌, length, get_or, take, drop, Option, Some, None, pos, int_eq, arith, refl, sym, ap, ◌∙◌, subst, inl, inr, slice_set}
 use Rattle.std.specs.Option.{ForSome}
-use Rattle.std.specs.Prelude.{option_map}
 use Rattle.std.proofs.lemmas.Bool.{cases_Bool}
 use Rattle.std.proofs.lemmas.List.{get_or_default}
-use Rattle.std.proofs.lemmas.List.Edits.{map_over_more}
 use Rattle.std.proofs.lemmas.Option.{slice_get-get_or}
-use Rattle.fixed_geom.specs.declared.vectors.Vec2.{Vec2}
-use Rattle.momenta.specs.Impulses.{IsState}
 use Rattle.momenta.specs.Reciprocals.{reciprocals_of}
 use Rattle.momenta.specs.declared.mass.MassData.{MassData}
 use Rattle.momenta.specs.declared.motion.Motion.{Motion}
@@ -16,16 +11,16 @@ use Rattle.momenta.specs.declared.reciprocals.Reciprocals.{Reciprocals}
 use Rattle.momenta.specs.declared.state.BodyState.{BodyState}
 use Rattle.colour_solver.specs.States as step
 use Rattle.colour_solver.specs.States.{AreAllStates, AreSameBeside, HasCourse, HaveCourses, carried_of, carrier, moves, movers_of, nobody, places_from}
-use Rattle.colour_solver.proofs.CourseLaws.{carried_beside, course_at, movers_beside}
+use Rattle.colour_solver.proofs.CourseLaws.{course_at}
 use Rattle.colour_solver.proofs.PlaceLaws.{IsNext, IsReached, map_still, places_low, reached, reached_at_first, reached_first, reached_last, reached_more, reached_next, reached_there}
 use Rattle.plain_world.specs.declared.body.Body.{Body}
 use Rattle.plain_world.specs.Bodies.{AreBodies, IsBody, is_carried, is_mover}
 use Rattle.plain_world.specs.Fats.{renewed_boxes}
 use Rattle.plain_world.proofs.KindLaws.{carried_enabled, carried_rests}
-use Rattle.world_core_base.specs.Carried.{carried_motion, carried_to, solver_mass}
+use Rattle.world_core_base.specs.Carried.{carried_to, solver_mass}
 use Rattle.world_core_base.specs.Gather.{begun, state_of, states_of}
 use Rattle.world_core_base.specs.Moved.{FitsState, moved_entry}
-use Rattle.world_core_base.proofs.GatherLaws.{IsLike, carried_like, carried_state, fits_state, length-states, like_first, mass_carried, state_at, tail_same}
+use Rattle.world_core_base.proofs.GatherLaws.{IsLike, carried_like, carried_state, fits_state, like_first, mass_carried, state_at, tail_same}
 use Rattle.world_core_base.proofs.MovingLaws.{begun_where, begun_where_one, bodies_still, length-moved_so_far, moved_bodies, moved_where, moved_where_one, moved_whole, next_moved, still_there}
 
 -- ---- one body

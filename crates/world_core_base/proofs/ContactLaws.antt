@@ -1,18 +1,14 @@
 -- The rows of a step's contacts, and the impulses given back to the contacts.
-use Rattle.std.proofs.Common.{◌≡◌, append_assoc, ℕ, zero, suc, ◌+◌, ◌*◌, ◌^◌, ◌<◌, ◌≤◌, ◌==◌, List, [], ◌∷◌, ◌++◌, length, get_or, drop, map, is_some, Option, Some, None, Bool, true, false, cond, ℤ, pos, ◌≤ℤ◌, unsigned_abs, arith, refl, sym, ap, ◌∙◌, subst, All, add-one, inl, inr, ◌⊎◌, slice_index_or}
+use Rattle.std.proofs.Common.{◌≡◌, append_assoc, ℕ, zero, suc, ◌+◌, ◌*◌, ◌^◌, ◌<◌, ◌≤◌, ◌==◌, List, [], ◌∷◌, ◌++◌, length, get_or, drop, map, is_some, Option, Some, None, Bool, true, false, cond, arith, refl, sym, ap, ◌∙◌, subst, All, add-one, inl, inr, ◌⊎◌, slice_index_or}
 use Rattle.std.specs.Prelude.{option_map}
 use Rattle.std.specs.Option.{ForSome, option_to_list}
-use Rattle.std.specs.Int.{int_max}
 use Rattle.std.specs.List.{slice_get, cons_option, filter_map}
 use Rattle.std.proofs.Math.Seq.{drop-cons, map-set_same}
-use Rattle.std.proofs.lemmas.Int.{ints}
 use Rattle.std.proofs.lemmas.Bool.Decides.{nat_tests}
 use Rattle.std.proofs.lemmas.Option.{get_or_from_slice_get, slice_get_within}
 use Rattle.std.proofs.lemmas.List.Elements.{All-append, All-get_or, All-set}
 use Rattle.momenta.specs.declared.state.BodyState.{BodyState}
 use Rattle.momenta.specs.declared.state.Ends.{Ends}
-use Rattle.shapes.specs.Shapes.{IsShapeDef}
-use Rattle.shapes.specs.declared.shape.ShapeDef.{ShapeDef}
 use Rattle.contacts_base.specs.Keys.{key_number}
 use Rattle.contacts_base.specs.Contacts.{AreContacts, number_of, found_in, found_place, with_impulses, with_second}
 use Rattle.contacts_base.specs.Evaluate.{touches}
@@ -27,12 +23,9 @@ use Rattle.colour_solver_base.specs.declared.row.Bodies as pairs
 use Rattle.colour_solver_base.specs.declared.row.ContactRow.{ContactRow}
 use Rattle.colour_solver_base.specs.declared.row.PointRow.{PointRow}
 use Rattle.colour_solver_base.specs.Rows.{IsPointRow, IsRow, contact_row, is_springy, point_row, row_from}
-use Rattle.colour_solver.specs.ContactTurns.{AreRowsBelow, IsRowBelow}
 use Rattle.colour_solver.specs.States.{nobody}
 use Rattle.plain_world.specs.declared.body.Body.{Body}
-use Rattle.plain_world.specs.Bodies.{AreBodies, IsBody}
-use Rattle.plain_world.specs.Slots.{body_at}
-use Rattle.world_core_base.specs.Gather.{AreContactsOf, AreContactsOn, IsContactOf, IsContactOn, bodies_of, impulses_of, moves, put_row, row_in, row_of, states_of, with_row, with_rows}
+use Rattle.world_core_base.specs.Gather.{AreContactsOf, AreContactsOn, IsContactOf, IsContactOn, IsContactRowBelow, bodies_of, impulses_of, moves, put_row, row_in, row_of, states_of, with_row, with_rows}
 use Rattle.world_core_base.proofs.GatherLaws.{length-states, movable_at}
 
 -- ---- the place of a key
@@ -100,7 +93,7 @@ pub row_bodies : (bodies : pairs.Bodies) (ends : Ends) (c : Contact) (x : Contac
 row_bodies bodies ends c x e = from_bodies bodies ends c.first c.second x e
 
 pub row_below : (states : List BodyState) (key : ContactKey) (index : ℕ) (e : ContactEntry) (ends : Ends) (x : ContactRow) → IsContactOn states e → e.key ≡ key
-    → contact_row (bodies_of key e.surface index) ends e.contact ≡ Some x → IsRow x → IsRowBelow (length states) x
+    → contact_row (bodies_of key e.surface index) ends e.contact ≡ Some x → IsRow x → IsContactRowBelow (length states) x
 row_below states key index e ends x of keys is row =
     let here : x.bodies ≡ bodies_of key e.surface index = row_bodies (bodies_of key e.surface index) ends e.contact x is in
     let a : x.bodies.a ≡ e.key.first.slot = ap (λ (p : pairs.Bodies). p.a) here ∙ sym (ap (λ (k : ContactKey). k.first.slot) keys) in
@@ -173,11 +166,10 @@ contacts_put bodies r contacts (Some f) e row all =
     let there : IsContactOf bodies f = subst (IsContactOf bodies) (get_or_from_slice_get contacts place f f e) (All-get_or (IsContactOf bodies) contacts place f (slice_get_within contacts place f e) all) in
     All-set (IsContactOf bodies) contacts place (with_row r f) (contact_kept bodies r f row there) all
 
-pub contacts_stay : (bodies : List (Option Body)) (n : ℕ) (contacts : List ContactEntry) (rows : List ContactRow) → AreRowsBelow n rows → AreContactsOf bodies contacts → AreContactsOf bodies (with_rows contacts rows)
-contacts_stay bodies n contacts [] below all = all
-contacts_stay bodies n contacts (r ∷ rs) below all =
-    let first : IsRowBelow n r = below 0 r (omega arith) in
-    contacts_stay bodies n (put_row r contacts (slice_get contacts r.bodies.index)) rs (λ k d lt. below (suc k) d (omega arith)) (contacts_put bodies r contacts (slice_get contacts r.bodies.index) refl first.row all)
+pub contacts_stay : (bodies : List (Option Body)) (contacts : List ContactEntry) (rows : List ContactRow) → All IsRow rows → AreContactsOf bodies contacts → AreContactsOf bodies (with_rows contacts rows)
+contacts_stay bodies contacts [] whole all = all
+contacts_stay bodies contacts (r ∷ rs) whole all =
+    contacts_stay bodies (put_row r contacts (slice_get contacts r.bodies.index)) rs (λ k d lt. whole (suc k) d (omega arith)) (contacts_put bodies r contacts (slice_get contacts r.bodies.index) refl (whole 0 r (omega arith)) all)
 
 -- ---- which contacts touch
 

@@ -9,6 +9,8 @@ pub mod TableLaws
 mod ColourLists
 pub mod RowColourLaws
 pub mod SolvingContacts
+pub mod SolvingJoints
+pub mod JointLaws
 pub mod SolvingTurns
 pub mod SolvingRuns
 pub mod SolvingBack

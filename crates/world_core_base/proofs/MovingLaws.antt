@@ -1,5 +1,5 @@
 -- Motions given back and fat boxes made anew, of those bodies whose states pass a test.
-use Rattle.std.proofs.Common.{◌≡◌, ℕ, zero, suc, ◌+◌, ◌<◌, ◌≤◌, Bool, cond, true, false, List, [], ◌∷◌, ◌++◌, length, get_or, take, drop, map, Option, None, arith, refl, ap, ◌∙◌, slice_set}
+use Rattle.std.proofs.Common.{◌≡◌, ℕ, zero, suc, ◌<◌, ◌≤◌, Bool, cond, false, List, [], ◌∷◌, ◌++◌, length, get_or, take, drop, map, Option, arith, refl, ap, ◌∙◌, slice_set}
 use Rattle.momenta.specs.declared.state.BodyState.{BodyState}
 use Rattle.colour_solver.specs.States.{AreAllStates, AreSameBeside, HaveCourses, total_x, total_y}
 use Rattle.colour_solver.proofs.PlaceLaws.{AreOthers}

@@ -9,9 +9,6 @@ use Rattle.plain_world.proofs.BoxLemmas.{renewed_are}
 use Rattle.world_core_base.proofs.GatherLaws.{AreMovedBodies, IsMovedBody}
 use Rattle.world_core_base.specs.Renewal.{with_renewed, renewed_bodies}
 use Rattle.plain_world.specs.Slots.{body_at, shapes_in, HaveSameSlots}
-use Rattle.shapes.specs.declared.pose.Pose.{Pose}
-use Rattle.shapes.specs.declared.shape.ShapeDef.{ShapeDef}
-use Rattle.fixed_geom.specs.declared.boxes.Box2.{Box2}
 
 renewed_body : (b : Body) → IsMovedBody b → IsBody (record b { fats = renewed_boxes (pose_of b) b.shapes b.fats })
 renewed_body b is = record {

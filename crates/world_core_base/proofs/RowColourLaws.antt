@@ -1,6 +1,8 @@
 -- No two rows of a colour share a mover.
-use Rattle.std.proofs.Common.{◌≡◌, ◌≢◌, ℕ, zero, suc, ◌<◌, ◌==◌, ◌||◌, Bool, true, false, List, [], ◌∷◌, length, get_or, take, map, Option, Some, None, All, arith, refl, sym, ap, ◌∙◌, subst}
+use Rattle.std.proofs.Common.{◌≡◌, ◌≢◌, ℕ, zero, suc, ◌<◌, true, false, List, [], ◌∷◌, length, get_or, take, map, Option, Some, None, All, arith, refl, sym, ap, ◌∙◌, subst}
+use Rattle.std.specs.Prelude.{option_map}
 use Rattle.std.specs.List.{slice_get, cons_option, filter_map, AllPairs}
+use Rattle.std.proofs.lemmas.Option.{none-some, same_Some}
 use Rattle.momenta.specs.declared.state.BodyState.{BodyState}
 use Rattle.contacts_base.specs.declared.key.ContactKey.{ContactKey}
 use Rattle.contacts_base.specs.declared.contact.ContactEntry.{ContactEntry}
@@ -16,17 +18,24 @@ use Rattle.graph_colours.proofs.MoverLemmas.{unshared}
 use Rattle.colour_solver_base.specs.declared.row.Bodies as pairs
 use Rattle.colour_solver_base.specs.declared.row.ContactRow.{ContactRow}
 use Rattle.colour_solver.specs.Colour.{IsColour, ShareNone, is_mover}
-use Rattle.colour_solver.specs.ContactTurns.{contact_slots}
-use Rattle.world_core_base.specs.Gather.{bodies_of, ends_at, row_at, row_in, row_of, rows_in}
-use Rattle.world_core_base.specs.RowColours.{HasBoth, HasItsMovers, RowsAreColours}
+use Rattle.colour_solver.specs.declared.turns.Slots.{Slots}
+use Rattle.colour_solver.specs.declared.constraint_row.ConstraintRow.{ConstraintRow}
+use Rattle.colour_solver.specs.declared.constraint_row.ConstraintRow.TheVariants as rows
+use Rattle.colour_solver.specs.ConstraintTurns.{constraint_slots}
+use Rattle.joint_rows.specs.Rows.{joint_row}
+use Rattle.plain_world.specs.declared.joint.BodyJoint.{BodyJoint}
+use Rattle.plain_world.specs.Joints.{joint_at}
+use Rattle.world_core_base.specs.ConstraintRows.{constraint_row, joint_bodies, joint_ends, joint_row_in, rows_in}
+use Rattle.world_core_base.specs.Gather.{bodies_of, ends_at, row_at, row_in, row_of}
+use Rattle.world_core_base.specs.RowColours.{HasBoth, HasItsMovers, HasMovers, JointHasMovers, RowsAreColours}
 use Rattle.world_core_base.proofs.ContactLaws.{row_bodies}
 
 -- ---- the bodies of a row
 
--- the row r is of the contact with this key
-pub record IsRowOfKey (key : ContactKey) (r : ContactRow) : Type 0 where
-  pub a : r.bodies.a ≡ key.first.slot
-  pub b : r.bodies.b ≡ key.second.slot
+-- the row r of a contact is of the one with this key
+record IsRowOfKey (key : ContactKey) (r : ContactRow) : Type 0 where
+  a : r.bodies.a ≡ key.first.slot
+  b : r.bodies.b ≡ key.second.slot
 
 of_entry : (states : List BodyState) (key : ContactKey) (index : ℕ) (o : Option ContactEntry) (r : ContactRow) → row_in states key index o ≡ Some r → IsRowOfKey key r
 of_entry states key index None r e = absurd (cc e)
@@ -38,16 +47,36 @@ of_place : (states : List BodyState) (contacts : List ContactEntry) (key : Conta
 of_place states contacts key None r e = absurd (cc e)
 of_place states contacts key (Some index) r e = of_entry states key index (slice_get contacts index) r e
 
--- the contact that a row is of
-pub record IsOf (c : Constraint) (r : ContactRow) : Type 0 where
-  pub key : ContactKey
-  pub named : c ≡ Contact key
-  pub row : IsRowOfKey key r
-
-of_id : (states : List BodyState) (contacts : List ContactEntry) (c : Constraint) (r : ContactRow) → row_of states contacts c ≡ Some r → IsOf c r
+of_key : (states : List BodyState) (contacts : List ContactEntry) (key : ContactKey) (r : ContactRow) → row_of states contacts (Contact key) ≡ Some r → IsRowOfKey key r
 unfolding row_of
-of_id states contacts (Joint h) r e = absurd (cc e)
-of_id states contacts (Contact key) r e = record { key = key; named = refl; row = of_place states contacts key (found_place contacts key) r e }
+of_key states contacts key r e = of_place states contacts key (found_place contacts key) r e
+
+-- the row r is of two bodies, of which those that move are among the movers
+record IsAmong (states : List BodyState) (movers : Movers) (r : ConstraintRow) : Type 0 where
+  first : ℕ
+  second : ℕ
+  both : HasBoth states movers first second
+  a : (constraint_slots r).a ≡ first
+  b : (constraint_slots r).b ≡ second
+
+of_joint : (states : List BodyState) (movers : Movers) (slot : ℕ) (o : Option BodyJoint) (r : ConstraintRow) → JointHasMovers states movers o → option_map rows.Joint (joint_row_in states slot o) ≡ Some r → IsAmong states movers r
+unfolding joint_row
+of_joint states movers slot None r has e = absurd (none-some r e)
+of_joint states movers slot (Some j) r has e =
+    let same : r ≡ rows.Joint (joint_row (joint_bodies slot j) (joint_ends states j) j.joint) = sym (same_Some (rows.Joint (joint_row (joint_bodies slot j) (joint_ends states j) j.joint)) r e) in
+    record { first = j.a; second = j.b; both = has; a = ap (λ (q : ConstraintRow). (constraint_slots q).a) same; b = ap (λ (q : ConstraintRow). (constraint_slots q).b) same }
+
+of_contact : (states : List BodyState) (contacts : List ContactEntry) (movers : Movers) (key : ContactKey) (o : Option ContactRow) (r : ConstraintRow) → HasBoth states movers key.first.slot key.second.slot
+    → row_of states contacts (Contact key) ≡ o → option_map rows.Contact o ≡ Some r → IsAmong states movers r
+of_contact states contacts movers key None r has is e = absurd (none-some r e)
+of_contact states contacts movers key (Some q) r has is e =
+    let of : IsRowOfKey key q = of_key states contacts key q is in
+    let same : r ≡ rows.Contact q = sym (same_Some (rows.Contact q) r e) in
+    record { first = key.first.slot; second = key.second.slot; both = has; a = ap (λ (p : ConstraintRow). (constraint_slots p).a) same ∙ of.a; b = ap (λ (p : ConstraintRow). (constraint_slots p).b) same ∙ of.b }
+
+of_id : (states : List BodyState) (joints : List (Option BodyJoint)) (contacts : List ContactEntry) (movers : Movers) (c : Constraint) (r : ConstraintRow) → HasMovers states joints movers c → constraint_row states joints contacts c ≡ Some r → IsAmong states movers r
+of_id states joints contacts movers (Joint h) r has e = of_joint states movers h.slot (joint_at joints h.slot) r has e
+of_id states joints contacts movers (Contact key) r has e = of_contact states contacts movers key (row_of states contacts (Contact key)) r has refl e
 
 -- ---- two rows
 
@@ -61,18 +90,18 @@ not_shared states m n i j k l at_i at_j apart has_k has_l moves same =
     let wrong : true ≡ false = sym there ∙ without_it in
     cc wrong
 
-share_none : (states : List BodyState) (contacts : List ContactEntry) (m n : Member Constraint) (r e : ContactRow) → HasItsMovers states m → HasItsMovers states n → shares m.movers n.movers ≡ false
-    → row_of states contacts m.id ≡ Some r → row_of states contacts n.id ≡ Some e → ShareNone contact_slots states r e
-share_none states contacts m n r e has_m has_n apart is_r is_e =
-    let of_r : IsOf m.id r = of_id states contacts m.id r is_r in
-    let of_e : IsOf n.id e = of_id states contacts n.id e is_e in
-    let both_r : HasBoth states m.movers of_r.key = has_m of_r.key of_r.named in
-    let both_e : HasBoth states n.movers of_e.key = has_n of_e.key of_e.named in
+share_none : (states : List BodyState) (joints : List (Option BodyJoint)) (contacts : List ContactEntry) (m n : Member Constraint) (r e : ConstraintRow) → HasItsMovers states joints m → HasItsMovers states joints n → shares m.movers n.movers ≡ false
+    → constraint_row states joints contacts m.id ≡ Some r → constraint_row states joints contacts n.id ≡ Some e → ShareNone constraint_slots states r e
+share_none states joints contacts m n r e has_m has_n apart is_r is_e =
+    let p : IsAmong states m.movers r = of_id states joints contacts m.movers m.id r has_m is_r in
+    let q : IsAmong states n.movers e = of_id states joints contacts n.movers n.id e has_n is_e in
+    let one : Slots = constraint_slots r in
+    let other : Slots = constraint_slots e in
     record {
-      a_a = not_shared states m.movers n.movers r.bodies.a e.bodies.a of_r.key.first.slot of_e.key.first.slot of_r.row.a of_e.row.a apart both_r.first both_e.first;
-      a_b = not_shared states m.movers n.movers r.bodies.a e.bodies.b of_r.key.first.slot of_e.key.second.slot of_r.row.a of_e.row.b apart both_r.first both_e.second;
-      b_a = not_shared states m.movers n.movers r.bodies.b e.bodies.a of_r.key.second.slot of_e.key.first.slot of_r.row.b of_e.row.a apart both_r.second both_e.first;
-      b_b = not_shared states m.movers n.movers r.bodies.b e.bodies.b of_r.key.second.slot of_e.key.second.slot of_r.row.b of_e.row.b apart both_r.second both_e.second;
+      a_a = not_shared states m.movers n.movers one.a other.a p.first q.first p.a q.a apart p.both.first q.both.first;
+      a_b = not_shared states m.movers n.movers one.a other.b p.first q.second p.a q.b apart p.both.first q.both.second;
+      b_a = not_shared states m.movers n.movers one.b other.a p.second q.first p.b q.a apart p.both.second q.both.first;
+      b_b = not_shared states m.movers n.movers one.b other.b p.second q.second p.b q.b apart p.both.second q.both.second;
     }
 
 -- ---- the rows of a list
@@ -113,10 +142,10 @@ pairs_made {X} f P Q S law (x ∷ xs) all apart i j y w lt at_i at_j =
     (λ k l h a b. pairs_made f P Q S law xs rest more k l y w h a b)
     lt at_i at_j
 
-members_apart : (states : List BodyState) (contacts : List ContactEntry) (members : List (Member Constraint)) → All (HasItsMovers states) members → AreApart members → IsColour contact_slots states (rows_in states contacts members)
-members_apart states contacts members all apart = λ i j r e lt at_i at_j.
-    pairs_made (λ (m : Member Constraint). row_of states contacts m.id) (HasItsMovers states) (λ (m n : Member Constraint). shares m.movers n.movers ≡ false) (ShareNone contact_slots states)
-    (λ m n x y has_m has_n apart is_x is_y. share_none states contacts m n x y has_m has_n apart is_x is_y) members all apart i j r e lt at_i at_j
+members_apart : (states : List BodyState) (joints : List (Option BodyJoint)) (contacts : List ContactEntry) (members : List (Member Constraint)) → All (HasItsMovers states joints) members → AreApart members → IsColour constraint_slots states (rows_in states joints contacts members)
+members_apart states joints contacts members all apart = λ i j r e lt at_i at_j.
+    pairs_made (λ (m : Member Constraint). constraint_row states joints contacts m.id) (HasItsMovers states joints) (λ (m n : Member Constraint). shares m.movers n.movers ≡ false) (ShareNone constraint_slots states)
+    (λ m n x y has_m has_n apart is_x is_y. share_none states joints contacts m n x y has_m has_n apart is_x is_y) members all apart i j r e lt at_i at_j
 
 -- ---- the rows of each colour
 
@@ -137,8 +166,8 @@ length-taken (suc n) [] h = absurd (omega (arith, h))
 length-taken (suc n) (x ∷ xs) h = ap suc (length-taken n xs (omega (arith, h)))
 
 pub colour_rows_apart : RowsAreColours
-colour_rows_apart states contacts lists colour has apart many lt =
+colour_rows_apart states joints contacts lists colour has apart many lt =
     let inside : colour < length lists = omega (arith, lt, many) in
     let long = length-taken COLOURS lists many in
     let here : AreApart (get_or lists colour []) = subst AreApart (get_or-taken COLOURS lists colour [] lt) (apart colour [] (omega (arith, lt, long))) in
-    subst (IsColour contact_slots states) (sym (get_or-mapped (rows_in states contacts) lists colour [] [] inside)) (members_apart states contacts (get_or lists colour []) (has colour [] inside) here)
+    subst (IsColour constraint_slots states) (sym (get_or-mapped (rows_in states joints contacts) lists colour [] [] inside)) (members_apart states joints contacts (get_or lists colour []) (has colour [] inside) here)

@@ -1,34 +1,26 @@
 -- What rows give back to the contacts is what the definition has made of them: the impulses of the points, and nothing else.
-use Rattle.std.proofs.Common.{◌≡◌, ◌≢◌, ◌⊎◌, inl, inr, ℕ, zero, suc, ◌+◌, ◌==◌, Bool, true, false, cond, List, [], ◌∷◌, map, fold, Option, Some, None, All, ℤ, pos, neg_ℤ, ◌*ℤ◌, arith, refl, sym, ap, ◌∙◌, subst, slice_set}
+use Rattle.std.proofs.Common.{◌≡◌, ◌≢◌, ◌⊎◌, inl, inr, ℕ, zero, suc, Bool, List, [], ◌∷◌, map, Option, Some, None, All, pos, refl, sym, ap, ◌∙◌, subst, slice_set}
 use Rattle.std.specs.Prelude.{option_map}
 use Rattle.std.specs.List.{slice_get, filter_map, cons_option}
 use Rattle.std.proofs.lemmas.Bool.{cases_eq}
-use Rattle.std.proofs.lemmas.List.Elements.{All-nil, All-cons, All-tail}
+use Rattle.std.proofs.lemmas.List.Elements.{All-nil, All-cons}
 use Rattle.std.proofs.lemmas.Option.{none-some, same_Some, slice_get-map}
-use Rattle.fixed_geom.specs.Numbers.{rdiv}
-use Rattle.fixed_geom.specs.declared.vectors.Vec2.{Vec2}
-use Rattle.momenta.specs.Impulses.{speed_along}
 use Rattle.momenta.specs.declared.state.BodyState.{BodyState}
 use Rattle.momenta.specs.declared.state.Ends.{Ends}
-use Rattle.contacts_base.specs.Keys.{key_number}
-use Rattle.contacts_base.specs.Contacts.{found_in, found_place, lookup, number_of, with_impulses, with_second}
+use Rattle.contacts_base.specs.Contacts.{found_place, lookup, with_impulses, with_second}
 use Rattle.contacts_base.specs.declared.contact.Contact.{Contact}
 use Rattle.contacts_base.specs.declared.contact.ContactEntry.{ContactEntry}
 use Rattle.contacts_base.specs.declared.contact.ContactPoint.{ContactPoint}
 use Rattle.contacts_base.specs.declared.evaluation.Impulses.{Impulses}
 use Rattle.contacts_base.specs.declared.key.ContactKey.{ContactKey}
-use Rattle.contacts_base.specs.declared.surface.Surface.{Surface}
 use Rattle.contacts.specs.declared.constraint.Constraint.{Constraint}
 use Rattle.contacts.specs.declared.constraint.Constraint.TheVariants as constraints
 use Rattle.colour_solver_base.specs.declared.row.Bodies as pairs
 use Rattle.colour_solver_base.specs.declared.row.ContactRow.{ContactRow}
-use Rattle.colour_solver_base.specs.declared.row.PointRow.{PointRow}
 use Rattle.colour_solver_base.specs.Rows.{contact_row, is_springy, point_row, row_from}
-use Rattle.colour_solver_base.specs.ContactSolving.{SolvedContact, SolvedPoint, at_points, bounces, contact_bounced, contact_solved, contact_warmed, from_first, normal_line, normal_solved, point_bounced, point_solved, point_warmed, then_second}
-use Rattle.world_core_base.specs.Gather.{bodies_of, ends_at, impulses_of, put_row, row_in, row_of, with_row, with_rows}
-use Rattle.world_core_base.specs.Solving.{ContactTurn, Moving, Solving, all_changed, bounce, clamp, ends_now, ends_then, moving_at, pass, pull, solve, tick, ticks, turn, turn_between, warm, with_contact}
-use Rattle.world_core_base.proofs.ContactLaws.{place_low, row_bodies}
-use Rattle.world_core_base.proofs.SolvingContacts.{look_at, missing_there, place_put, row_is_there, row_there}
+use Rattle.world_core_base.specs.Gather.{bodies_of, ends_at, impulses_of, put_row, row_of, with_row, with_rows}
+use Rattle.world_core_base.proofs.ContactLaws.{row_bodies}
+use Rattle.world_core_base.proofs.SolvingContacts.{look_at, row_is_there, row_there}
 
 -- ---- a contact without its impulses
 

@@ -1,29 +1,19 @@
 -- Contacts by key and by index: a contact that is put back, its row, and the impulses that rows give to contacts.
-use Rattle.std.proofs.Common.{◌≡◌, ◌≢◌, ◌⊎◌, inl, inr, ℕ, zero, suc, ◌+◌, ◌^◌, ◌≤◌, ◌==◌, Bool, true, false, cond, List, [], ◌∷◌, length, map, Option, Some, None, All, arith, refl, sym, ap, ◌∙◌, subst, slice_set}
+use Rattle.std.proofs.Common.{◌≡◌, ◌≢◌, ℕ, zero, suc, ◌+◌, ◌≤◌, ◌==◌, Bool, true, false, cond, List, [], ◌∷◌, Option, Some, None, arith, refl, sym, ap, ◌∙◌}
 use Rattle.std.specs.Prelude.{option_map}
-use Rattle.std.specs.List.{slice_get, filter_map, cons_option}
-use Rattle.std.proofs.lemmas.Bool.{cases_eq, eqb-true, eqb-false}
+use Rattle.std.specs.List.{slice_get}
+use Rattle.std.proofs.lemmas.Bool.{eqb-true}
 use Rattle.std.proofs.lemmas.Bool.Decides.{nat_tests}
-use Rattle.std.proofs.lemmas.List.Elements.{All-nil, All-cons, All-head, All-tail}
-use Rattle.std.proofs.lemmas.Option.{none-some, same_Some, slice_get-map, slice_get_within}
+use Rattle.std.proofs.lemmas.Option.{same_Some}
 use Rattle.momenta.specs.declared.state.BodyState.{BodyState}
-use Rattle.momenta.specs.declared.state.Ends.{Ends}
-use Rattle.body_handles.specs.declared.handle.Handle.{Handle}
 use Rattle.contacts_base.specs.Keys.{key_number}
-use Rattle.contacts_base.specs.Contacts.{found_in, found_place, lookup, number_of, with_impulses, with_second}
+use Rattle.contacts_base.specs.Contacts.{found_in, found_place, lookup, number_of}
 use Rattle.contacts_base.specs.declared.contact.Contact.{Contact}
 use Rattle.contacts_base.specs.declared.contact.ContactEntry.{ContactEntry}
-use Rattle.contacts_base.specs.declared.contact.ContactPoint.{ContactPoint}
-use Rattle.contacts_base.specs.declared.evaluation.Impulses.{Impulses}
 use Rattle.contacts_base.specs.declared.key.ContactKey.{ContactKey}
-use Rattle.contacts_base.specs.declared.surface.Surface.{Surface}
-use Rattle.contacts.specs.Constraints.{constraint_number}
-use Rattle.contacts.specs.declared.constraint.Constraint.{Constraint}
 use Rattle.contacts.specs.declared.constraint.Constraint.TheVariants as constraints
-use Rattle.colour_solver_base.specs.declared.row.Bodies as pairs
 use Rattle.colour_solver_base.specs.declared.row.ContactRow.{ContactRow}
-use Rattle.colour_solver_base.specs.Rows.{contact_row, is_springy, point_row, row_from}
-use Rattle.world_core_base.specs.Gather.{bodies_of, ends_at, impulses_of, put_row, row_at, row_in, row_of, with_row, with_rows}
+use Rattle.world_core_base.specs.Gather.{row_at, row_in, row_of}
 use Rattle.world_core_base.specs.Solving.{with_contact}
 use Rattle.world_core_base.proofs.ContactLaws.{place_low}
 
@@ -118,17 +108,12 @@ row_is_there states es key = by (found_place es key) refl
     by None is = refl
     by (Some i) is = ap (row_in states key i) (look_at es key i is)
 
-pub no_row_of_joint : (states : List BodyState) (es fs : List ContactEntry) (h : Handle) → row_of states es (constraints.Joint h) ≡ row_of states fs (constraints.Joint h)
-unfolding row_of
-no_row_of_joint states es fs h = refl
-
 -- a contact that is put back leaves the rows of others
-pub row_put_other : (states : List BodyState) (key : ContactKey) (c : Contact) (es : List ContactEntry) (id : Constraint) → constraint_number (constraints.Contact key) ≢ constraint_number id → row_of states (with_contact key c es) id ≡ row_of states es id
-row_put_other states key c es (constraints.Joint h) ne = no_row_of_joint states (with_contact key c es) es h
-row_put_other states key c es (constraints.Contact k) ne =
+pub row_put_other : (states : List BodyState) (key : ContactKey) (c : Contact) (es : List ContactEntry) (k : ContactKey) → key_number key ≢ key_number k → row_of states (with_contact key c es) (constraints.Contact k) ≡ row_of states es (constraints.Contact k)
+row_put_other states key c es k ne =
     row_is_there states (with_contact key c es) k
     ∙ ap (λ (o : Option ℕ). row_there states k o (lookup (with_contact key c es) k)) (place_put key k c es)
-    ∙ ap (λ (o : Option ContactEntry). row_there states k (found_place es k) o) (lookup_put_other key k c es (λ e. ne (ap (λ (n : ℕ). 2 ^ 80 + n) e)))
+    ∙ ap (λ (o : Option ContactEntry). row_there states k (found_place es k) o) (lookup_put_other key k c es ne)
     ∙ sym (row_is_there states es k)
 
 pub missing_there : (es : List ContactEntry) (key : ContactKey) → found_place es key ≡ None → lookup es key ≡ None

@@ -1,33 +1,40 @@
 -- What a step's passes leave of contacts and bodies, and that the arrays leave the same.
-use Rattle.std.proofs.Common.{◌≡◌, ◌≢◌, ℕ, zero, suc, ◌+◌, ◌==◌, Bool, true, false, cond, List, [], ◌∷◌, map, fold, Option, Some, None, All, arith, refl, sym, ap, ◌∙◌, subst}
+use Rattle.std.proofs.Common.{◌≡◌, ◌≢◌, ℕ, zero, suc, ◌+◌, ◌==◌, Bool, true, false, cond, List, [], ◌∷◌, map, Option, Some, None, All, arith, refl, sym, ap, ◌∙◌, subst}
 use Rattle.std.specs.Prelude.{option_map}
-use Rattle.std.specs.List.{slice_get, filter_map}
+use Rattle.std.specs.List.{slice_get, cons_option, filter_map}
 use Rattle.std.proofs.lemmas.List.Elements.{All-head, All-tail, All-weaker}
-use Rattle.std.proofs.lemmas.Option.{none-some, same_Some}
+use Rattle.std.proofs.lemmas.Option.{same_Some}
 use Rattle.fixed_geom.specs.declared.vectors.Vec2.{Vec2}
-use Rattle.momenta.specs.Motions.{pulled, clamped, advanced}
+use Rattle.momenta.specs.Motions.{clamped}
+use Rattle.momenta.specs.declared.state.BodyState.{BodyState}
 use Rattle.momenta.specs.declared.state.Ends.{Ends}
+use Rattle.body_handles.specs.declared.handle.Handle.{Handle}
+use Rattle.joint_rows.specs.declared.row.JointRow.{JointRow}
 use Rattle.contacts_base.specs.Keys.{key_number}
-use Rattle.contacts_base.specs.Contacts.{found_in, found_place, lookup, number_of}
+use Rattle.contacts_base.specs.Contacts.{found_in, lookup, number_of}
 use Rattle.contacts_base.specs.declared.contact.Contact.{Contact}
 use Rattle.contacts_base.specs.declared.contact.ContactEntry.{ContactEntry}
 use Rattle.contacts_base.specs.declared.contact.ContactPoint.{ContactPoint}
 use Rattle.contacts_base.specs.declared.key.ContactKey.{ContactKey}
 use Rattle.contacts.specs.declared.constraint.Constraint.{Constraint}
 use Rattle.contacts.specs.declared.constraint.Constraint.TheVariants as constraints
-use Rattle.graph_colours.specs.declared.member.Member.{Member}
 use Rattle.graph_colours.specs.Colours.{ids_of}
 use Rattle.colour_solver_base.specs.declared.row.ContactRow.{ContactRow}
-use Rattle.colour_solver_base.specs.ContactSolving.{SolvedPoint, at_points, bounces, contact_bounced, contact_solved, contact_warmed, normal_solved, point_bounced, point_solved, point_warmed}
-use Rattle.colour_solver.specs.Ticks.{Run, ran, start}
+use Rattle.colour_solver_base.specs.ContactSolving.{SolvedPoint, at_points, bounces, contact_bounced, contact_solved, contact_warmed, point_bounced, point_solved, point_warmed}
+use Rattle.colour_solver.specs.Ticks.{Run}
+use Rattle.colour_solver.specs.declared.constraint_row.ConstraintRow.TheVariants as rows
 use Rattle.plain_world.specs.declared.body.Body.{Body}
-use Rattle.world_core_base.specs.Gather.{row_of, rows_of, states_of, with_motions, with_rows}
-use Rattle.world_core_base.specs.Solving.{ContactTurn, Moving, Solving, begin, bodies_of, bounce, clamp, ends_now, ends_then, left, moving_at, pass, pull, solve, solve_order, solved, tick, ticks, turn, turn_between, warm, with_contact}
-use Rattle.world_core_base.specs.SolvingArrays.{ArraysAreSolving, CanSolve, IsRunOf}
+use Rattle.plain_world.specs.declared.joint.BodyJoint.{BodyJoint}
+use Rattle.plain_world.specs.Joints.{joint_at}
+use Rattle.world_core_base.specs.ConstraintRows.{constraint_row, contacts_among, joint_row_in, joint_row_of, joints_among, with_joint_rows}
+use Rattle.world_core_base.specs.Gather.{row_of, states_of, with_motions, with_rows}
+use Rattle.world_core_base.specs.Solving.{Moving, Solving, Turns, begin, bounce, clamp, ends_now, ends_then, left, moving_at, pass, pull, solve, solve_order, solved, tick, ticks, turn, turn_between, turn_joined, turn_joint, warm, with_contact}
+use Rattle.world_core_base.specs.SolvingArrays.{ArraysAreSolving, IsRunOf}
 use Rattle.world_core_base.proofs.SolvingBack.{IsElsewhere, bare, bare_contact, bare_point, place_of, rows_back}
 use Rattle.world_core_base.proofs.SolvingContacts.{place_put}
 use Rattle.world_core_base.proofs.SolvingRuns.{ran_alike, run_in, solved_stood}
-use Rattle.world_core_base.proofs.SolvingTurns.{held, stood}
+use Rattle.world_core_base.proofs.SolvingJoints.{AreImpulsed, IsAway, joints_back, joints_more, joints_then, none_impulsed, put_impulsed}
+use Rattle.world_core_base.proofs.SolvingTurns.{IsJointTurnBare, held, stood}
 
 -- ---- a turn changes impulses alone
 
@@ -39,8 +46,8 @@ points_barely f h None second n = refl
 points_barely f h (Some p) None n = λ j. record { first = Some (h p n j); second = None }
 points_barely f h (Some p) (Some q) n = λ j. record { first = Some (h p n j); second = Some (h q (f p n).ends j) }
 
-abbrev IsTurnBare : ContactTurn → Type 0
-IsTurnBare f = (e : ContactEntry) (begun now : Ends) → bare_contact (f e begun now).contact ≡ bare_contact e.contact
+abbrev IsTurnBare : Turns → Type 0
+IsTurnBare f = (e : ContactEntry) (begun now : Ends) → bare_contact (f.contact e begun now).contact ≡ bare_contact e.contact
 
 warm_bare : IsTurnBare warm
 unfolding contact_warmed
@@ -118,8 +125,17 @@ record IsOneImpulsed (id : Constraint) (es fs : List ContactEntry) : Type 0 wher
   places : (o : Constraint) → place_of fs o ≡ place_of es o
   others : (j : ℕ) → IsElsewhere es j id → slice_get fs j ≡ slice_get es j
 
-turn_impulsed : (f : ContactTurn) (s : Solving) (id : Constraint) → IsTurnBare f → IsOneImpulsed id s.contacts (turn f s id).contacts
-turn_impulsed f s (constraints.Joint h) law = record { barely = refl; places = λ o. refl; others = λ j ne. refl }
+turn_impulsed : (f : Turns) (s : Solving) (id : Constraint) → IsTurnBare f → IsOneImpulsed id s.contacts (turn f s id).contacts
+turn_impulsed f s (constraints.Joint h) law = by (joint_at s.joints h.slot)
+  where
+    between : (j : BodyJoint) (a b : Option Moving) → IsOneImpulsed (constraints.Joint h) s.contacts (turn_joined f s h.slot j a b).contacts
+    between j None b = record { barely = refl; places = λ o. refl; others = λ j ne. refl }
+    between j (Some a) None = record { barely = refl; places = λ o. refl; others = λ j ne. refl }
+    between j (Some a) (Some b) = record { barely = refl; places = λ o. refl; others = λ j ne. refl }
+
+    by : (o : Option BodyJoint) → IsOneImpulsed (constraints.Joint h) s.contacts (turn_joint f s h.slot o).contacts
+    by None = record { barely = refl; places = λ o. refl; others = λ j ne. refl }
+    by (Some j) = between j (moving_at s.bodies j.a) (moving_at s.bodies j.b)
 turn_impulsed f s (constraints.Contact key) law = by (lookup s.contacts key) (moving_at s.bodies key.first.slot) (moving_at s.bodies key.second.slot) refl
   where
     by : (o : Option ContactEntry) (a b : Option Moving) → lookup s.contacts key ≡ o → IsOneImpulsed (constraints.Contact key) s.contacts (turn_between f s key o a b).contacts
@@ -127,14 +143,14 @@ turn_impulsed f s (constraints.Contact key) law = by (lookup s.contacts key) (mo
     by (Some e) None b is = record { barely = refl; places = λ o. refl; others = λ j ne. refl }
     by (Some e) (Some a) None is = record { barely = refl; places = λ o. refl; others = λ j ne. refl }
     by (Some e) (Some a) (Some b) is =
-        let c : Contact = (f e (ends_then a b) (ends_now a b)).contact in
+        let c : Contact = (f.contact e (ends_then a b) (ends_now a b)).contact in
         record {
           barely = bare_put key c e s.contacts is (law e (ends_then a b) (ends_now a b));
           places = place_of_put key c s.contacts;
           others = λ j ne. else_put 0 j key c s.contacts (λ h. ne (h ∙ ap (λ (k : ℕ). Some k) (let same : 0 + j ≡ j = omega arith in same)));
         }
 
-pass_impulsed : (f : ContactTurn) (order : List Constraint) (s : Solving) → IsTurnBare f → IsImpulsed order s.contacts (pass f order s).contacts
+pass_impulsed : (f : Turns) (order : List Constraint) (s : Solving) → IsTurnBare f → IsImpulsed order s.contacts (pass f order s).contacts
 pass_impulsed f [] s law = unimpulsed [] s.contacts
 pass_impulsed f (id ∷ order) s law =
     let first : IsOneImpulsed id s.contacts (turn f s id).contacts = turn_impulsed f s id law in
@@ -149,11 +165,92 @@ ticks_impulsed : (n : ℕ) (g : Vec2) (order : List Constraint) (s : Solving) �
 ticks_impulsed zero g order s = unimpulsed order s.contacts
 ticks_impulsed (suc n) g order s = impulsed_then order s.contacts (ticks n g order s).contacts (tick g order (ticks n g order s)).contacts (ticks_impulsed n g order s) (tick_impulsed g order (ticks n g order s))
 
-solved_impulsed : (n : ℕ) (g : Vec2) (order : List Constraint) (bodies : List (Option Body)) (contacts : List ContactEntry) → IsImpulsed order contacts (solved n g order bodies contacts).contacts
+solved_impulsed : (n : ℕ) (g : Vec2) (order : List Constraint) (bodies : List (Option Body)) (joints : List (Option BodyJoint)) (contacts : List ContactEntry) → IsImpulsed order contacts (solved n g order bodies joints contacts).contacts
 unfolding solved
-solved_impulsed n g order bodies contacts =
-    let before : Solving = ticks n g order (begin bodies contacts) in
-    impulsed_then order contacts before.contacts (pass bounce order before).contacts (ticks_impulsed n g order (begin bodies contacts)) (pass_impulsed bounce order before bounce_bare)
+solved_impulsed n g order bodies joints contacts =
+    let before : Solving = ticks n g order (begin bodies joints contacts) in
+    impulsed_then order contacts before.contacts (pass bounce order before).contacts (ticks_impulsed n g order (begin bodies joints contacts)) (pass_impulsed bounce order before bounce_bare)
+
+-- ---- joints that have other impulses, of these constraints alone
+
+-- what a turn leaves of the joints, of these constraints and one more
+turn_joints : (f : Turns) (s : Solving) (id : Constraint) (order : List Constraint) → IsJointTurnBare f → AreImpulsed (id ∷ order) s.joints (turn f s id).joints
+turn_joints f s (constraints.Contact key) order law = by (lookup s.contacts key) (moving_at s.bodies key.first.slot) (moving_at s.bodies key.second.slot)
+  where
+    by : (o : Option ContactEntry) (a b : Option Moving) → AreImpulsed (constraints.Contact key ∷ order) s.joints (turn_between f s key o a b).joints
+    by None a b = none_impulsed (constraints.Contact key ∷ order) s.joints
+    by (Some e) None b = none_impulsed (constraints.Contact key ∷ order) s.joints
+    by (Some e) (Some a) None = none_impulsed (constraints.Contact key ∷ order) s.joints
+    by (Some e) (Some a) (Some b) = none_impulsed (constraints.Contact key ∷ order) s.joints
+turn_joints f s (constraints.Joint h) order law = by (joint_at s.joints h.slot) refl
+  where
+    between : (j : BodyJoint) (a b : Option Moving) → joint_at s.joints h.slot ≡ Some j → AreImpulsed (constraints.Joint h ∷ order) s.joints (turn_joined f s h.slot j a b).joints
+    between j None b is = none_impulsed (constraints.Joint h ∷ order) s.joints
+    between j (Some a) None is = none_impulsed (constraints.Joint h ∷ order) s.joints
+    between j (Some a) (Some b) is =
+        put_impulsed (constraints.Joint h ∷ order) s.joints h.slot j (record j { joint = (f.joint j.joint (ends_then a b) (ends_now a b)).joint }) is (law j (ends_then a b) (ends_now a b)) (λ other all. All-head (IsAway other) (constraints.Joint h) order all)
+
+    by : (o : Option BodyJoint) → joint_at s.joints h.slot ≡ o → AreImpulsed (constraints.Joint h ∷ order) s.joints (turn_joint f s h.slot o).joints
+    by None is = none_impulsed (constraints.Joint h ∷ order) s.joints
+    by (Some j) is = between j (moving_at s.bodies j.a) (moving_at s.bodies j.b) is
+
+pass_joints : (f : Turns) (order : List Constraint) (s : Solving) → IsJointTurnBare f → AreImpulsed order s.joints (pass f order s).joints
+pass_joints f [] s law = none_impulsed [] s.joints
+pass_joints f (id ∷ order) s law =
+    joints_then (id ∷ order) s.joints (turn f s id).joints (pass f order (turn f s id)).joints (turn_joints f s id order law) (joints_more id order (turn f s id).joints (pass f order (turn f s id)).joints (pass_joints f order (turn f s id) law))
+
+tick_joints : (g : Vec2) (order : List Constraint) (s : Solving) → AreImpulsed order s.joints (tick g order s).joints
+tick_joints g order s =
+    let before : Solving = clamp clamped (pull g s) in
+    joints_then order s.joints (pass warm order before).joints (pass solve order (pass warm order before)).joints (pass_joints warm order before (λ j begun now. refl)) (pass_joints solve order (pass warm order before) (λ j begun now. refl))
+
+ticks_joints : (n : ℕ) (g : Vec2) (order : List Constraint) (s : Solving) → AreImpulsed order s.joints (ticks n g order s).joints
+ticks_joints zero g order s = none_impulsed order s.joints
+ticks_joints (suc n) g order s = joints_then order s.joints (ticks n g order s).joints (tick g order (ticks n g order s)).joints (ticks_joints n g order s) (tick_joints g order (ticks n g order s))
+
+pub solved_joints : (n : ℕ) (g : Vec2) (order : List Constraint) (bodies : List (Option Body)) (joints : List (Option BodyJoint)) (contacts : List ContactEntry) → AreImpulsed order joints (solved n g order bodies joints contacts).joints
+unfolding solved
+solved_joints n g order bodies joints contacts =
+    let before : Solving = ticks n g order (begin bodies joints contacts) in
+    joints_then order joints before.joints (pass bounce order before).joints (ticks_joints n g order (begin bodies joints contacts)) (pass_joints bounce order before (λ j begun now. refl))
+
+-- ---- the rows of joints and those of contacts
+
+joints_split : (states : List BodyState) (joints : List (Option BodyJoint)) (contacts : List ContactEntry) (order : List Constraint) → joints_among (filter_map (constraint_row states joints contacts) order) ≡ filter_map (joint_row_of states joints) order
+joints_split states joints contacts [] = refl
+joints_split states joints contacts (constraints.Joint h ∷ order) = by (joint_row_in states h.slot (joint_at joints h.slot)) (joints_split states joints contacts order)
+  where
+    by : (o : Option JointRow) → joints_among (filter_map (constraint_row states joints contacts) order) ≡ filter_map (joint_row_of states joints) order
+        → joints_among (cons_option (option_map rows.Joint o) (filter_map (constraint_row states joints contacts) order)) ≡ cons_option o (filter_map (joint_row_of states joints) order)
+    by None rest = rest
+    by (Some r) rest = ap (λ (l : List JointRow). r ∷ l) rest
+joints_split states joints contacts (constraints.Contact key ∷ order) = by (row_of states contacts (constraints.Contact key)) (joints_split states joints contacts order)
+  where
+    by : (o : Option ContactRow) → joints_among (filter_map (constraint_row states joints contacts) order) ≡ filter_map (joint_row_of states joints) order
+        → joints_among (cons_option (option_map rows.Contact o) (filter_map (constraint_row states joints contacts) order)) ≡ filter_map (joint_row_of states joints) order
+    by None rest = rest
+    by (Some r) rest = rest
+
+no_contact_row : (states : List BodyState) (contacts : List ContactEntry) (h : Handle) → row_of states contacts (constraints.Joint h) ≡ None
+unfolding row_of
+no_contact_row states contacts h = refl
+
+contacts_split : (states : List BodyState) (joints : List (Option BodyJoint)) (contacts : List ContactEntry) (order : List Constraint) → contacts_among (filter_map (constraint_row states joints contacts) order) ≡ filter_map (row_of states contacts) order
+contacts_split states joints contacts [] = refl
+contacts_split states joints contacts (constraints.Joint h ∷ order) =
+    by (joint_row_in states h.slot (joint_at joints h.slot)) (contacts_split states joints contacts order)
+    ∙ ap (λ (o : Option ContactRow). cons_option o (filter_map (row_of states contacts) order)) (sym (no_contact_row states contacts h))
+  where
+    by : (o : Option JointRow) → contacts_among (filter_map (constraint_row states joints contacts) order) ≡ filter_map (row_of states contacts) order
+        → contacts_among (cons_option (option_map rows.Joint o) (filter_map (constraint_row states joints contacts) order)) ≡ filter_map (row_of states contacts) order
+    by None rest = rest
+    by (Some r) rest = rest
+contacts_split states joints contacts (constraints.Contact key ∷ order) = by (row_of states contacts (constraints.Contact key)) (contacts_split states joints contacts order)
+  where
+    by : (o : Option ContactRow) → contacts_among (filter_map (constraint_row states joints contacts) order) ≡ filter_map (row_of states contacts) order
+        → contacts_among (cons_option (option_map rows.Contact o) (filter_map (constraint_row states joints contacts) order)) ≡ cons_option o (filter_map (row_of states contacts) order)
+    by None rest = rest
+    by (Some r) rest = ap (λ (l : List ContactRow). r ∷ l) rest
 
 -- ---- what is written back
 
@@ -162,16 +259,17 @@ motions_back [] = refl
 motions_back (None ∷ ms) = ap (λ (l : List (Option Body)). None ∷ l) (motions_back ms)
 motions_back (Some m ∷ ms) = ap (λ (l : List (Option Body)). Some (left m) ∷ l) (motions_back ms)
 
-run_back : (bodies : List (Option Body)) (contacts : List ContactEntry) (order : List Constraint) (s : Solving) → stood s.bodies ≡ bodies → IsImpulsed order contacts s.contacts → IsRunOf bodies contacts (run_in bodies order s) s
-run_back bodies contacts order s e h = record {
+run_back : (bodies : List (Option Body)) (joints : List (Option BodyJoint)) (contacts : List ContactEntry) (order : List Constraint) (s : Solving) → stood s.bodies ≡ bodies → AreImpulsed order joints s.joints → IsImpulsed order contacts s.contacts → IsRunOf bodies joints contacts (run_in bodies order s) s
+run_back bodies joints contacts order s e k h = record {
   bodies_left = ap (λ (l : List (Option Body)). with_motions l (map held s.bodies)) (sym e) ∙ motions_back s.bodies;
-  contacts_left = rows_back (states_of bodies) order contacts s.contacts (sym h.barely) (λ j all. sym (h.others j (elsewhere_too order s.contacts contacts j (λ id. sym (h.places id)) all)));
+  joints_left = ap (with_joint_rows joints) (joints_split (states_of bodies) s.joints s.contacts order) ∙ joints_back (states_of bodies) order joints s.joints (sym k.barely) (λ slot all. sym (k.others slot all));
+  contacts_left = ap (with_rows contacts) (contacts_split (states_of bodies) s.joints s.contacts order) ∙ rows_back (states_of bodies) order contacts s.contacts (sym h.barely) (λ j all. sym (h.others j (elsewhere_too order s.contacts contacts j (λ id. sym (h.places id)) all)));
   sums = refl;
 }
 
 pub arrays_are_solving : ArraysAreSolving
-arrays_are_solving n g bodies contacts lists can =
+arrays_are_solving n g bodies joints contacts lists can =
     let order : List Constraint = solve_order (ids_of lists) in
-    let s : Solving = solved n g order bodies contacts in
-    subst (λ (r : Run). IsRunOf bodies contacts r s) (sym (ran_alike n g bodies contacts lists can))
-    (run_back bodies contacts order s (solved_stood n g bodies contacts order can) (solved_impulsed n g order bodies contacts))
+    let s : Solving = solved n g order bodies joints contacts in
+    subst (λ (r : Run). IsRunOf bodies joints contacts r s) (sym (ran_alike n g bodies joints contacts lists can))
+    (run_back bodies joints contacts order s (solved_stood n g bodies joints contacts order can) (solved_joints n g order bodies joints contacts) (solved_impulsed n g order bodies joints contacts))

@@ -1,12 +1,11 @@
 -- The passes over the arrays are those of the definition, and so is a whole step.
-use Rattle.std.proofs.Common.{◌≡◌, ℕ, zero, suc, Bool, true, false, cond, List, [], ◌∷◌, ◌++◌, map, fold, Option, Some, None, All, ℤ, pos, ◌+ℤ◌, ◌-ℤ◌, refl, sym, ap, ◌∙◌, subst}
+use Rattle.std.proofs.Common.{◌≡◌, ℕ, zero, suc, Bool, true, false, cond, List, [], ◌∷◌, ◌++◌, map, Option, Some, None, All, neg_ℤ, ◌+ℤ◌, ◌-ℤ◌, refl, sym, ap, ◌∙◌, subst}
 use Rattle.std.specs.Prelude.{option_map}
 use Rattle.std.specs.List.{filter_map, flat_map, cons_option}
 use Rattle.std.proofs.lemmas.List.Elements.{filter_map-append}
 use Rattle.fixed_geom.specs.declared.vectors.Vec2.{Vec2}
 use Rattle.momenta.specs.Motions.{pulled, clamped, advanced}
 use Rattle.momenta.specs.Reciprocals.{reciprocals_of}
-use Rattle.momenta.specs.declared.gain.Gain.{Gain}
 use Rattle.momenta.specs.declared.mass.MassData.{MassData}
 use Rattle.momenta.specs.declared.motion.Motion.{Motion}
 use Rattle.momenta.specs.declared.state.BodyState.{BodyState}
@@ -22,47 +21,75 @@ use Rattle.graph_colours.specs.Colours.{ids_of}
 use Rattle.colour_solver_base.specs.declared.row.ContactRow.{ContactRow}
 use Rattle.colour_solver_base.specs.RowsAfter.{RowAfter}
 use Rattle.colour_solver_base.specs.Rows.{row_bounced, row_solved, row_warmed}
-use Rattle.colour_solver_base.specs.ContactSolving.{SolvedContact, SolvedPoint, at_points, contact_bounced, contact_solved, contact_warmed, from_first, point_bounced, point_solved, point_warmed}
-use Rattle.colour_solver_base.proofs.ContactRows.{rows_are_contacts}
+use Rattle.colour_solver_base.specs.ContactSolving.{SolvedPoint, at_points, contact_bounced, contact_solved, contact_warmed, from_first, point_bounced, point_solved, point_warmed}
+use Rattle.colour_solver_base.specs.ContactSolving.{AreMovedFrom}
+use Rattle.colour_solver_base.proofs.ContactRows.{masses_then, rows_are_contacts, solved_masses, warmed_masses}
+use Rattle.joint_rows.specs.declared.joint.Joint.{Joint}
+use Rattle.joint_rows.specs.declared.limits.TheConstants.{MAX_JOINT_IMPULSE}
+use Rattle.joint_rows.specs.declared.row.JointRow.{JointRow}
+use Rattle.joint_rows.specs.declared.solve.JointAfter.{JointAfter}
+use Rattle.joint_rows.specs.Joints.{bias_of, direction_along, joint_gap, joint_line, joint_stretch, parted_along}
+use Rattle.joint_rows.specs.Rows.{joint_solved, joint_warmed}
+use Rattle.joint_rows.proofs.JointRows.{rows_are_joints}
+use Rattle.colour_solver.specs.declared.constraint_row.ConstraintRow.{ConstraintRow}
+use Rattle.colour_solver.specs.ConstraintTurns.{constraint_bounced, either_turn, joint_unbounced}
 use Rattle.colour_solver.specs.Passes as arrays
 use Rattle.colour_solver.specs.States as step
 use Rattle.colour_solver.specs.States.{carrier, nobody, standing}
 use Rattle.colour_solver.specs.Ticks as runs
 use Rattle.colour_solver.specs.Ticks.{Run, carry_all, clamp_all, pull_all, ran, run_of, start, turn_all}
 use Rattle.plain_world.specs.declared.body.Body.{Body}
+use Rattle.plain_world.specs.declared.joint.BodyJoint.{BodyJoint}
+use Rattle.plain_world.specs.Joints.{joint_at}
 use Rattle.plain_world.specs.Bodies.{is_awake, is_carried}
 use Rattle.world_core_base.specs.Carried.{solver_mass}
-use Rattle.world_core_base.specs.Gather.{bodies_of, row_of, rows_in, rows_of, state_of, states_of}
-use Rattle.world_core_base.specs.Solving.{ContactTurn, Moving, Solving, all_changed, along, begin, bounce, carry, changed, clamp, gain, gain_of, moving, moving_at, pass, plus, pull, solve, solve_order, solved, state_with, tick, ticks, turn, turn_between, warm}
+use Rattle.world_core_base.specs.ConstraintRows.{constraint_row, rows_in, rows_of}
+use Rattle.world_core_base.specs.Gather.{bodies_of, state_of, states_of}
+use Rattle.world_core_base.specs.Solving.{Moving, Solving, Turns, all_changed, along, begin, bounce, carry, changed, clamp, gain, gain_of, moving, moving_at, pass, pull, solve, solve_order, solved, state_with, tick, ticks, turn, turn_between, turn_joined, turn_joint, warm}
 use Rattle.world_core_base.specs.SolvingArrays.{CanSolve, HasEnds}
 use Rattle.world_core_base.proofs.GatherLaws.{carried_state, mass_carried}
-use Rattle.world_core_base.proofs.SolvingTurns.{AreOnce, IsPassed, IsTurnAlike, body_of, held, less_itself, pass_alike, stood, stood_turn}
+use Rattle.world_core_base.proofs.SolvingJoints.{all_ends_as, bare_joints}
+use Rattle.world_core_base.proofs.SolvingTurns.{AreOnce, IsJointTurnBare, IsPassed, IsTurnAlike, bare_turn, held, less_itself, pass_alike, rows_now, stood, stood_turn}
 
 -- the run that a solving is
 abbrev pub run_in : List (Option Body) → List Constraint → Solving → Run
-run_in bodies order s = run_of (map held s.bodies) (filter_map (row_of (states_of bodies) s.contacts) order) s.sums
+run_in bodies order s = run_of (map held s.bodies) (rows_now (states_of bodies) s order) s.sums
 
--- A pass of the arrays is one of the definition, of bodies that stood so when the step began.
-record IsSamePass (bodies : List (Option Body)) (order : List Constraint) (over : Run → Run) (by : Solving → Solving) : Type 0 where
-  run : (s : Solving) → stood s.bodies ≡ bodies → over (run_in bodies order s) ≡ run_in bodies order (by s)
-  stays : (s : Solving) → stood s.bodies ≡ bodies → stood (by s).bodies ≡ bodies
+-- the bodies stood so when the step began, and the joints are those but for their impulses
+record IsOf (bodies : List (Option Body)) (joints : List (Option BodyJoint)) (s : Solving) : Type 0 where
+  stands : stood s.bodies ≡ bodies
+  barely : bare_joints s.joints ≡ bare_joints joints
+
+-- A pass of the arrays is one of the definition.
+record IsSamePass (bodies : List (Option Body)) (joints : List (Option BodyJoint)) (order : List Constraint) (over : Run → Run) (by : Solving → Solving) : Type 0 where
+  run : (s : Solving) → IsOf bodies joints s → over (run_in bodies order s) ≡ run_in bodies order (by s)
+  stays : (s : Solving) → IsOf bodies joints s → IsOf bodies joints (by s)
 
 -- one pass after another
-then_pass : (bodies : List (Option Body)) (order : List Constraint) (f g : Run → Run) (p q : Solving → Solving) → IsSamePass bodies order f p → IsSamePass bodies order g q → IsSamePass bodies order (λ r. g (f r)) (λ s. q (p s))
-then_pass bodies order f g p q h k = record {
+then_pass : (bodies : List (Option Body)) (joints : List (Option BodyJoint)) (order : List Constraint) (f g : Run → Run) (p q : Solving → Solving) → IsSamePass bodies joints order f p → IsSamePass bodies joints order g q → IsSamePass bodies joints order (λ r. g (f r)) (λ s. q (p s))
+then_pass bodies joints order f g p q h k = record {
   run = λ s e. ap g (h.run s e) ∙ k.run (p s) (h.stays s e);
   stays = λ s e. k.stays (p s) (h.stays s e);
 }
 
--- ---- a pass over the contacts
+-- ---- a pass over the constraints
 
 -- the other sums stay
 record AreBookedAlike (s t : Solving) : Type 0 where
   gravity : t.sums.gravity ≡ s.sums.gravity
   clamp : t.sums.clamp ≡ s.sums.clamp
 
-booked_turn : (f : ContactTurn) (s : Solving) (id : Constraint) → AreBookedAlike s (turn f s id)
-booked_turn f s (constraints.Joint h) = record { gravity = refl; clamp = refl }
+booked_turn : (f : Turns) (s : Solving) (id : Constraint) → AreBookedAlike s (turn f s id)
+booked_turn f s (constraints.Joint h) = by (joint_at s.joints h.slot)
+  where
+    between : (j : BodyJoint) (a b : Option Moving) → AreBookedAlike s (turn_joined f s h.slot j a b)
+    between j None b = record { gravity = refl; clamp = refl }
+    between j (Some a) None = record { gravity = refl; clamp = refl }
+    between j (Some a) (Some b) = record { gravity = refl; clamp = refl }
+
+    by : (o : Option BodyJoint) → AreBookedAlike s (turn_joint f s h.slot o)
+    by None = record { gravity = refl; clamp = refl }
+    by (Some j) = between j (moving_at s.bodies j.a) (moving_at s.bodies j.b)
 booked_turn f s (constraints.Contact key) = by (lookup s.contacts key) (moving_at s.bodies key.first.slot) (moving_at s.bodies key.second.slot)
   where
     by : (o : Option ContactEntry) (a b : Option Moving) → AreBookedAlike s (turn_between f s key o a b)
@@ -71,26 +98,31 @@ booked_turn f s (constraints.Contact key) = by (lookup s.contacts key) (moving_a
     by (Some e) (Some a) None = record { gravity = refl; clamp = refl }
     by (Some e) (Some a) (Some b) = record { gravity = refl; clamp = refl }
 
-booked_pass : (f : ContactTurn) (order : List Constraint) (s : Solving) → AreBookedAlike s (pass f order s)
+booked_pass : (f : Turns) (order : List Constraint) (s : Solving) → AreBookedAlike s (pass f order s)
 booked_pass f [] s = record { gravity = refl; clamp = refl }
 booked_pass f (id ∷ order) s =
     let first : AreBookedAlike s (turn f s id) = booked_turn f s id in
     let rest : AreBookedAlike (turn f s id) (pass f order (turn f s id)) = booked_pass f order (turn f s id) in
     record { gravity = rest.gravity ∙ first.gravity; clamp = rest.clamp ∙ first.clamp }
 
-stood_pass : (f : ContactTurn) (order : List Constraint) (s : Solving) → stood (pass f order s).bodies ≡ stood s.bodies
-stood_pass f [] s = refl
-stood_pass f (id ∷ order) s = stood_pass f order (turn f s id) ∙ stood_turn f s id
+stays_pass : (f : Turns) (bodies : List (Option Body)) (joints : List (Option BodyJoint)) (order : List Constraint) (s : Solving) → IsJointTurnBare f → IsOf bodies joints s → IsOf bodies joints (pass f order s)
+stays_pass f bodies joints [] s law of = of
+stays_pass f bodies joints (id ∷ order) s law of = stays_pass f bodies joints order (turn f s id) law (record { stands = stood_turn f s id ∙ of.stands; barely = bare_turn f s id law ∙ of.barely })
 
-same_turns : (f : ContactTurn) (g : ContactRow → Ends → RowAfter ContactRow) (bodies : List (Option Body)) (order : List Constraint) → IsTurnAlike f g → AreOnce order → All (HasEnds bodies) order → IsSamePass bodies order (turn_all g) (pass f order)
-same_turns f g bodies order law once there = record {
+ends_of_all : (bodies : List (Option Body)) (joints : List (Option BodyJoint)) (order : List Constraint) (s : Solving) → IsOf bodies joints s → All (HasEnds bodies joints) order → All (HasEnds (stood s.bodies) s.joints) order
+ends_of_all bodies joints order s of there =
+    all_ends_as (stood s.bodies) joints s.joints order (sym of.barely) (subst (λ (l : List (Option Body)). All (HasEnds l joints) order) (sym of.stands) there)
+
+same_turns : (f : Turns) (k : JointRow → Ends → JointAfter) (g : ContactRow → Ends → RowAfter ContactRow) (bodies : List (Option Body)) (joints : List (Option BodyJoint)) (order : List Constraint) → IsTurnAlike f k g → AreOnce order → All (HasEnds bodies joints) order
+    → IsSamePass bodies joints order (turn_all (either_turn k g)) (pass f order)
+same_turns f k g bodies joints order law once there = record {
   run = λ s e.
-      let h : IsPassed g (states_of bodies) (map held s.bodies) (filter_map (row_of (states_of bodies) s.contacts) order) s.sums.immovable order (pass f order s) =
-      pass_alike f g order s (states_of bodies) (map held s.bodies) law once (subst (λ (l : List (Option Body)). All (HasEnds l) order) (sym e) there) (ap states_of (sym e)) refl in
+      let h : IsPassed (either_turn k g) (states_of bodies) (map held s.bodies) (rows_now (states_of bodies) s order) s.sums.immovable order (pass f order s) =
+      pass_alike f k g order s (states_of bodies) (map held s.bodies) law once (ends_of_all bodies joints order s e there) (ap states_of (sym e.stands)) refl in
       let booked : AreBookedAlike s (pass f order s) = booked_pass f order s in
       λ j. record {
         states = h.bodies j;
-        rows = h.contacts j;
+        rows = h.rows_left j;
         gravity_x = (sym booked.gravity j).x;
         gravity_y = (sym booked.gravity j).y;
         immovable_x = h.x j;
@@ -98,7 +130,7 @@ same_turns f g bodies order law once there = record {
         clamp_x = (sym booked.clamp j).x;
         clamp_y = (sym booked.clamp j).y;
       };
-  stays = λ s e. stood_pass f order s ∙ e;
+  stays = λ s e. stays_pass f bodies joints order s law.joint_bare e;
 }
 
 -- ---- a pass over the bodies
@@ -157,11 +189,11 @@ gain_y : (f : MassData → Motion → Motion) (ms : List (Option Moving)) → ar
 gain_y f [] = refl
 gain_y f (o ∷ ms) = λ j. one_gain_y f o j +ℤ gain_y f ms j
 
-same_pull : (g : Vec2) (bodies : List (Option Body)) (order : List Constraint) → IsSamePass bodies order (pull_all g) (pull g)
-same_pull g bodies order = record {
+same_pull : (g : Vec2) (bodies : List (Option Body)) (joints : List (Option BodyJoint)) (order : List Constraint) → IsSamePass bodies joints order (pull_all g) (pull g)
+same_pull g bodies joints order = record {
   run = λ s e. λ j. record {
     states = all_held (pulled g) s.bodies j;
-    rows = filter_map (row_of (states_of bodies) s.contacts) order;
+    rows = rows_now (states_of bodies) s order;
     gravity_x = s.sums.gravity.x +ℤ gain_x (pulled g) s.bodies j;
     gravity_y = s.sums.gravity.y +ℤ gain_y (pulled g) s.bodies j;
     immovable_x = s.sums.immovable.x;
@@ -169,14 +201,14 @@ same_pull g bodies order = record {
     clamp_x = s.sums.clamp.x;
     clamp_y = s.sums.clamp.y;
   };
-  stays = λ s e. stood_changed (pulled g) s.bodies ∙ e;
+  stays = λ s e. record { stands = stood_changed (pulled g) s.bodies ∙ e.stands; barely = e.barely };
 }
 
-same_clamp : (f : MassData → Motion → Motion) (bodies : List (Option Body)) (order : List Constraint) → IsSamePass bodies order (clamp_all f) (clamp f)
-same_clamp f bodies order = record {
+same_clamp : (f : MassData → Motion → Motion) (bodies : List (Option Body)) (joints : List (Option BodyJoint)) (order : List Constraint) → IsSamePass bodies joints order (clamp_all f) (clamp f)
+same_clamp f bodies joints order = record {
   run = λ s e. λ j. record {
     states = all_held f s.bodies j;
-    rows = filter_map (row_of (states_of bodies) s.contacts) order;
+    rows = rows_now (states_of bodies) s order;
     gravity_x = s.sums.gravity.x;
     gravity_y = s.sums.gravity.y;
     immovable_x = s.sums.immovable.x;
@@ -184,7 +216,7 @@ same_clamp f bodies order = record {
     clamp_x = s.sums.clamp.x +ℤ gain_x f s.bodies j;
     clamp_y = s.sums.clamp.y +ℤ gain_y f s.bodies j;
   };
-  stays = λ s e. stood_changed f s.bodies ∙ e;
+  stays = λ s e. record { stands = stood_changed f s.bodies ∙ e.stands; barely = e.barely };
 }
 
 -- ---- the bodies that are carried along
@@ -211,11 +243,11 @@ stood_along [] = refl
 stood_along (None ∷ ms) = ap (λ (l : List (Option Body)). None ∷ l) (stood_along ms)
 stood_along (Some m ∷ ms) = λ j. Some (body_changed_by (is_carried m.body) m (record m { motion = advanced carrier m.motion }) refl j) ∷ stood_along ms j
 
-same_carry : (bodies : List (Option Body)) (order : List Constraint) → IsSamePass bodies order carry_all carry
-same_carry bodies order = record {
+same_carry : (bodies : List (Option Body)) (joints : List (Option BodyJoint)) (order : List Constraint) → IsSamePass bodies joints order carry_all carry
+same_carry bodies joints order = record {
   run = λ s e. λ j. record {
     states = all_along s.bodies j;
-    rows = filter_map (row_of (states_of bodies) s.contacts) order;
+    rows = rows_now (states_of bodies) s order;
     gravity_x = s.sums.gravity.x;
     gravity_y = s.sums.gravity.y;
     immovable_x = s.sums.immovable.x;
@@ -223,58 +255,86 @@ same_carry bodies order = record {
     clamp_x = s.sums.clamp.x;
     clamp_y = s.sums.clamp.y;
   };
-  stays = λ s e. stood_along s.bodies ∙ e;
+  stays = λ s e. record { stands = stood_along s.bodies ∙ e.stands; barely = e.barely };
 }
 
--- ---- the turns of contacts
+-- ---- the turns of contacts that don't touch
 
 idle_points : (f : ContactPoint → Ends → SolvedPoint) (c : Contact) (now : Ends) → c.first ≡ None → at_points f c now ≡ record { contact = c; ends = now }
 idle_points f c now is = ap (λ (o : Option ContactPoint). from_first f c now o) is
 
-warm_idle : (e : ContactEntry) (begun now : Ends) → e.contact.first ≡ None → warm e begun now ≡ record { contact = e.contact; ends = now }
+warm_idle : (e : ContactEntry) (begun now : Ends) → e.contact.first ≡ None → warm.contact e begun now ≡ record { contact = e.contact; ends = now }
 unfolding contact_warmed
 warm_idle e begun now is = idle_points (λ p n. record { point = p; ends = point_warmed p n }) e.contact now is
 
-solve_idle : (e : ContactEntry) (begun now : Ends) → e.contact.first ≡ None → solve e begun now ≡ record { contact = e.contact; ends = now }
+solve_idle : (e : ContactEntry) (begun now : Ends) → e.contact.first ≡ None → solve.contact e begun now ≡ record { contact = e.contact; ends = now }
 unfolding contact_solved
 solve_idle e begun now is = idle_points (point_solved e.surface.friction) e.contact now is
 
-bounce_idle : (e : ContactEntry) (begun now : Ends) → e.contact.first ≡ None → bounce e begun now ≡ record { contact = e.contact; ends = now }
+bounce_idle : (e : ContactEntry) (begun now : Ends) → e.contact.first ≡ None → bounce.contact e begun now ≡ record { contact = e.contact; ends = now }
 unfolding contact_bounced
 bounce_idle e begun now is = idle_points (point_bounced e.surface.restitution begun) e.contact now is
 
-warm_alike : IsTurnAlike warm row_warmed
-warm_alike = record { alike = λ key i e begun now r is h. rows_are_contacts.warm (bodies_of key e.surface i) begun now e.contact r is h; idle = warm_idle }
+-- ---- the turns of joints
 
-solve_alike : IsTurnAlike solve row_solved
-solve_alike = record { alike = λ key i e begun now r is h. rows_are_contacts.solve (bodies_of key e.surface i) begun now e.contact r is h; idle = solve_idle }
+joint_warm_moved : (begun now : Ends) (j : Joint) → AreMovedFrom begun now → AreMovedFrom begun (warm.joint j begun now).ends
+joint_warm_moved begun now j h = masses_then begun now (warm.joint j begun now).ends h (warmed_masses (joint_line j begun) j.impulse now)
 
-bounce_alike : IsTurnAlike bounce row_bounced
-bounce_alike = record { alike = λ key i e begun now r is h. rows_are_contacts.bounce (bodies_of key e.surface i) begun now e.contact r is h; idle = bounce_idle }
+joint_solve_moved : (begun now : Ends) (j : Joint) → AreMovedFrom begun now → AreMovedFrom begun (solve.joint j begun now).ends
+joint_solve_moved begun now j h =
+    masses_then begun now (solve.joint j begun now).ends h
+    (solved_masses (joint_line j begun) (bias_of (joint_stretch j begun +ℤ parted_along (direction_along (joint_gap j begun)) now)) (neg_ℤ MAX_JOINT_IMPULSE) MAX_JOINT_IMPULSE j.impulse now)
+
+warm_alike : IsTurnAlike warm joint_warmed row_warmed
+warm_alike = record {
+  alike = λ key i e begun now r is h. rows_are_contacts.warm (bodies_of key e.surface i) begun now e.contact r is h;
+  idle = warm_idle;
+  joint = λ bodies begun now j. rows_are_joints.warm bodies begun now j;
+  joint_moved = joint_warm_moved;
+  joint_bare = λ j begun now. refl;
+}
+
+solve_alike : IsTurnAlike solve joint_solved row_solved
+solve_alike = record {
+  alike = λ key i e begun now r is h. rows_are_contacts.solve (bodies_of key e.surface i) begun now e.contact r is h;
+  idle = solve_idle;
+  joint = λ bodies begun now j. rows_are_joints.solve bodies begun now j;
+  joint_moved = joint_solve_moved;
+  joint_bare = λ j begun now. refl;
+}
+
+bounce_alike : IsTurnAlike bounce joint_unbounced row_bounced
+bounce_alike = record {
+  alike = λ key i e begun now r is h. rows_are_contacts.bounce (bodies_of key e.surface i) begun now e.contact r is h;
+  idle = bounce_idle;
+  joint = λ bodies begun now j. refl;
+  joint_moved = λ begun now j h. h;
+  joint_bare = λ j begun now. refl;
+}
 
 -- ---- ticks, and the restitution
 
-same_tick : (g : Vec2) (bodies : List (Option Body)) (order : List Constraint) → AreOnce order → All (HasEnds bodies) order → IsSamePass bodies order (runs.tick g) (tick g order)
+same_tick : (g : Vec2) (bodies : List (Option Body)) (joints : List (Option BodyJoint)) (order : List Constraint) → AreOnce order → All (HasEnds bodies joints) order → IsSamePass bodies joints order (runs.tick g) (tick g order)
 unfolding runs.tick
-same_tick g bodies order once there =
-    then_pass bodies order _ _ _ _ (same_pull g bodies order)
-    (then_pass bodies order _ _ _ _ (same_clamp clamped bodies order)
-    (then_pass bodies order _ _ _ _ (same_turns warm row_warmed bodies order warm_alike once there)
-    (then_pass bodies order _ _ _ _ (same_turns solve row_solved bodies order solve_alike once there)
-    (then_pass bodies order _ _ _ _ (same_clamp clamped bodies order)
-    (then_pass bodies order _ _ _ _ (same_clamp advanced bodies order) (same_carry bodies order))))))
+same_tick g bodies joints order once there =
+    then_pass bodies joints order _ _ _ _ (same_pull g bodies joints order)
+    (then_pass bodies joints order _ _ _ _ (same_clamp clamped bodies joints order)
+    (then_pass bodies joints order _ _ _ _ (same_turns warm joint_warmed row_warmed bodies joints order warm_alike once there)
+    (then_pass bodies joints order _ _ _ _ (same_turns solve joint_solved row_solved bodies joints order solve_alike once there)
+    (then_pass bodies joints order _ _ _ _ (same_clamp clamped bodies joints order)
+    (then_pass bodies joints order _ _ _ _ (same_clamp advanced bodies joints order) (same_carry bodies joints order))))))
 
-same_none : (bodies : List (Option Body)) (order : List Constraint) → IsSamePass bodies order (λ r. r) (λ s. s)
-same_none bodies order = record { run = λ s e. refl; stays = λ s e. e }
+same_none : (bodies : List (Option Body)) (joints : List (Option BodyJoint)) (order : List Constraint) → IsSamePass bodies joints order (λ r. r) (λ s. s)
+same_none bodies joints order = record { run = λ s e. refl; stays = λ s e. e }
 
-same_ticks : (n : ℕ) (g : Vec2) (bodies : List (Option Body)) (order : List Constraint) → AreOnce order → All (HasEnds bodies) order → IsSamePass bodies order (runs.ticks n g) (ticks n g order)
-same_ticks zero g bodies order once there = same_none bodies order
-same_ticks (suc n) g bodies order once there = then_pass bodies order (runs.ticks n g) (runs.tick g) (ticks n g order) (tick g order) (same_ticks n g bodies order once there) (same_tick g bodies order once there)
+same_ticks : (n : ℕ) (g : Vec2) (bodies : List (Option Body)) (joints : List (Option BodyJoint)) (order : List Constraint) → AreOnce order → All (HasEnds bodies joints) order → IsSamePass bodies joints order (runs.ticks n g) (ticks n g order)
+same_ticks zero g bodies joints order once there = same_none bodies joints order
+same_ticks (suc n) g bodies joints order once there = then_pass bodies joints order (runs.ticks n g) (runs.tick g) (ticks n g order) (tick g order) (same_ticks n g bodies joints order once there) (same_tick g bodies joints order once there)
 
-same_ran : (n : ℕ) (g : Vec2) (bodies : List (Option Body)) (order : List Constraint) → AreOnce order → All (HasEnds bodies) order → IsSamePass bodies order (ran n g) (λ s. pass bounce order (ticks n g order s))
+same_ran : (n : ℕ) (g : Vec2) (bodies : List (Option Body)) (joints : List (Option BodyJoint)) (order : List Constraint) → AreOnce order → All (HasEnds bodies joints) order → IsSamePass bodies joints order (ran n g) (λ s. pass bounce order (ticks n g order s))
 unfolding ran
-same_ran n g bodies order once there =
-    then_pass bodies order (runs.ticks n g) (turn_all row_bounced) (ticks n g order) (pass bounce order) (same_ticks n g bodies order once there) (same_turns bounce row_bounced bodies order bounce_alike once there)
+same_ran n g bodies joints order once there =
+    then_pass bodies joints order (runs.ticks n g) (turn_all constraint_bounced) (ticks n g order) (pass bounce order) (same_ticks n g bodies joints order once there) (same_turns bounce joint_unbounced row_bounced bodies joints order bounce_alike once there)
 
 -- ---- what a step begins with
 
@@ -288,33 +348,36 @@ begun_stood [] = refl
 begun_stood (None ∷ bodies) = ap (λ (l : List (Option Body)). None ∷ l) (begun_stood bodies)
 begun_stood (Some b ∷ bodies) = ap (λ (l : List (Option Body)). Some b ∷ l) (begun_stood bodies)
 
-rows_of_ids : (h : Constraint → Option ContactRow) (ms : List (Member Constraint)) → filter_map (λ (m : Member Constraint). h m.id) ms ≡ filter_map h (map (λ (m : Member Constraint). m.id) ms)
+rows_of_ids : (h : Constraint → Option ConstraintRow) (ms : List (Member Constraint)) → filter_map (λ (m : Member Constraint). h m.id) ms ≡ filter_map h (map (λ (m : Member Constraint). m.id) ms)
 rows_of_ids h [] = refl
-rows_of_ids h (m ∷ ms) = ap (λ (l : List ContactRow). cons_option (h m.id) l) (rows_of_ids h ms)
+rows_of_ids h (m ∷ ms) = ap (λ (l : List ConstraintRow). cons_option (h m.id) l) (rows_of_ids h ms)
 
-rows_in_order : (states : List BodyState) (contacts : List ContactEntry) (lists : List (List (Member Constraint))) → flat_map (rows_in states contacts) lists ≡ filter_map (row_of states contacts) (solve_order (ids_of lists))
-rows_in_order states contacts [] = refl
-rows_in_order states contacts (ms ∷ lists) =
-    ap (λ (l : List ContactRow). l ++ flat_map (rows_in states contacts) lists) (rows_of_ids (row_of states contacts) ms)
-    ∙ ap (λ (l : List ContactRow). filter_map (row_of states contacts) (map (λ (m : Member Constraint). m.id) ms) ++ l) (rows_in_order states contacts lists)
-    ∙ sym (filter_map-append (row_of states contacts) (map (λ (m : Member Constraint). m.id) ms) (solve_order (ids_of lists)))
+rows_in_order : (states : List BodyState) (joints : List (Option BodyJoint)) (contacts : List ContactEntry) (lists : List (List (Member Constraint))) → flat_map (rows_in states joints contacts) lists ≡ filter_map (constraint_row states joints contacts) (solve_order (ids_of lists))
+rows_in_order states joints contacts [] = refl
+rows_in_order states joints contacts (ms ∷ lists) =
+    ap (λ (l : List ConstraintRow). l ++ flat_map (rows_in states joints contacts) lists) (rows_of_ids (constraint_row states joints contacts) ms)
+    ∙ ap (λ (l : List ConstraintRow). filter_map (constraint_row states joints contacts) (map (λ (m : Member Constraint). m.id) ms) ++ l) (rows_in_order states joints contacts lists)
+    ∙ sym (filter_map-append (constraint_row states joints contacts) (map (λ (m : Member Constraint). m.id) ms) (solve_order (ids_of lists)))
 
-begun_rows : (states : List BodyState) (contacts : List ContactEntry) (lists : List (List (Member Constraint))) → rows_of states contacts lists ≡ filter_map (row_of states contacts) (solve_order (ids_of lists))
+begun_rows : (states : List BodyState) (joints : List (Option BodyJoint)) (contacts : List ContactEntry) (lists : List (List (Member Constraint))) → rows_of states joints contacts lists ≡ filter_map (constraint_row states joints contacts) (solve_order (ids_of lists))
 unfolding rows_of
-begun_rows states contacts lists = rows_in_order states contacts lists
+begun_rows states joints contacts lists = rows_in_order states joints contacts lists
+
+begun_of : (bodies : List (Option Body)) (joints : List (Option BodyJoint)) (contacts : List ContactEntry) → IsOf bodies joints (begin bodies joints contacts)
+begun_of bodies joints contacts = record { stands = begun_stood bodies; barely = refl }
 
 -- the arrays of a whole step are those of the solving that the definition ends with
-pub ran_alike : (n : ℕ) (g : Vec2) (bodies : List (Option Body)) (contacts : List ContactEntry) (lists : List (List (Member Constraint))) → CanSolve bodies (solve_order (ids_of lists))
-    → ran n g (start (states_of bodies) (rows_of (states_of bodies) contacts lists)) ≡ run_in bodies (solve_order (ids_of lists)) (solved n g (solve_order (ids_of lists)) bodies contacts)
+pub ran_alike : (n : ℕ) (g : Vec2) (bodies : List (Option Body)) (joints : List (Option BodyJoint)) (contacts : List ContactEntry) (lists : List (List (Member Constraint))) → CanSolve bodies joints (solve_order (ids_of lists))
+    → ran n g (start (states_of bodies) (rows_of (states_of bodies) joints contacts lists)) ≡ run_in bodies (solve_order (ids_of lists)) (solved n g (solve_order (ids_of lists)) bodies joints contacts)
 unfolding solved
-ran_alike n g bodies contacts lists can =
+ran_alike n g bodies joints contacts lists can =
     let order : List Constraint = solve_order (ids_of lists) in
-    let law : IsSamePass bodies order (ran n g) (λ s. pass bounce order (ticks n g order s)) = same_ran n g bodies order can.once can.there in
-    let first : start (states_of bodies) (rows_of (states_of bodies) contacts lists) ≡ run_in bodies order (begin bodies contacts) = (λ j. start (begun_states bodies j) (begun_rows (states_of bodies) contacts lists j)) in
-    ap (ran n g) first ∙ law.run (begin bodies contacts) (begun_stood bodies)
+    let law : IsSamePass bodies joints order (ran n g) (λ s. pass bounce order (ticks n g order s)) = same_ran n g bodies joints order can.once can.there in
+    let first : start (states_of bodies) (rows_of (states_of bodies) joints contacts lists) ≡ run_in bodies order (begin bodies joints contacts) = (λ j. start (begun_states bodies j) (begun_rows (states_of bodies) joints contacts lists j)) in
+    ap (ran n g) first ∙ law.run (begin bodies joints contacts) (begun_of bodies joints contacts)
 
-pub solved_stood : (n : ℕ) (g : Vec2) (bodies : List (Option Body)) (contacts : List ContactEntry) (order : List Constraint) → CanSolve bodies order → stood (solved n g order bodies contacts).bodies ≡ bodies
+pub solved_stood : (n : ℕ) (g : Vec2) (bodies : List (Option Body)) (joints : List (Option BodyJoint)) (contacts : List ContactEntry) (order : List Constraint) → CanSolve bodies joints order → stood (solved n g order bodies joints contacts).bodies ≡ bodies
 unfolding solved
-solved_stood n g bodies contacts order can =
-    let law : IsSamePass bodies order (ran n g) (λ s. pass bounce order (ticks n g order s)) = same_ran n g bodies order can.once can.there in
-    law.stays (begin bodies contacts) (begun_stood bodies)
+solved_stood n g bodies joints contacts order can =
+    let law : IsSamePass bodies joints order (ran n g) (λ s. pass bounce order (ticks n g order s)) = same_ran n g bodies joints order can.once can.there in
+    (law.stays (begin bodies joints contacts) (begun_of bodies joints contacts)).stands

@@ -1,5 +1,5 @@
 -- The slots of the movers and of the bodies that are carried along, ascending, and the states by slot: what a step goes over, kept beside the bodies.
-use Rattle.std.specs.Prelude.{◌≡◌, ℕ, ◌<◌, ◌≤◌, ◌==◌, Bool, not, cond, nat_lt, List, [], ◌∷◌, ◌++◌, length, Option, slice_set}
+use Rattle.std.specs.Prelude.{◌≡◌, ℕ, ◌<◌, ◌≤◌, ◌==◌, not, cond, nat_lt, List, [], ◌∷◌, ◌++◌, length, Option, slice_set}
 use Rattle.std.specs.List.{AllPairs, filter}
 use Rattle.momenta.specs.declared.state.BodyState.{BodyState}
 use Rattle.colour_solver.specs.States.{carried_of, movers_of}

@@ -1,6 +1,5 @@
 -- What a step works on, gathered from the bodies, the contacts and their colours, and written back to them.
-use Rattle.std.specs.Prelude.{◌≡◌, ℕ, ◌<◌, ◌⊎◌, ◌≢◌, Bool, true, false, cond, List, [], ◌∷◌, length, map, All, Option, Some, None, option_map, slice_get, slice_index_or}
-use Rattle.std.specs.List.{filter_map, flat_map}
+use Rattle.std.specs.Prelude.{◌≡◌, ℕ, ◌<◌, ◌⊎◌, ◌≢◌, Bool, true, false, List, [], ◌∷◌, length, map, All, Option, Some, None, option_map, slice_get, slice_index_or}
 use Rattle.momenta.specs.Reciprocals.{reciprocals_of}
 use Rattle.momenta.specs.declared.state.BodyState.{BodyState}
 use Rattle.momenta.specs.declared.state.Ends.{Ends}
@@ -13,11 +12,10 @@ use Rattle.contacts_base.specs.Contacts.{found_place, impulses_set, with_points}
 use Rattle.contacts_base.specs.Limits.{IsContact}
 use Rattle.contacts.specs.declared.constraint.Constraint.{Constraint}
 use Rattle.contacts.specs.declared.constraint.Constraint.TheVariants as constraints
-use Rattle.graph_colours.specs.declared.member.Member.{Member}
 use Rattle.colour_solver_base.specs.declared.row.PointRow.{PointRow}
 use Rattle.colour_solver_base.specs.declared.row.ContactRow.{ContactRow}
 use Rattle.colour_solver_base.specs.declared.row.Bodies as pairs
-use Rattle.colour_solver_base.specs.Rows.{contact_row}
+use Rattle.colour_solver_base.specs.Rows.{IsRow, contact_row}
 use Rattle.colour_solver.specs.States.{nobody}
 use Rattle.plain_world.specs.declared.body.Body.{Body}
 use Rattle.plain_world.specs.Bodies.{is_awake, is_mover}
@@ -55,13 +53,6 @@ row_at states contacts key (Some index) = row_in states key index (slice_get con
 unfoldable pub row_of : List BodyState → List ContactEntry → Constraint → Option ContactRow
 row_of states contacts (constraints.Joint h) = None
 row_of states contacts (constraints.Contact key) = row_at states contacts key (found_place contacts key)
-
-abbrev pub rows_in : List BodyState → List ContactEntry → List (Member Constraint) → List ContactRow
-rows_in states contacts members = filter_map (λ m. row_of states contacts m.id) members
-
--- the active contacts in solve order: colour after colour, and the overflow last
-unfoldable pub rows_of : List BodyState → List ContactEntry → List (List (Member Constraint)) → List ContactRow
-rows_of states contacts lists = flat_map (rows_in states contacts) lists
 
 -- ---- back to the bodies and the contacts
 
@@ -126,3 +117,12 @@ pub record IsContactOn (states : List BodyState) (e : ContactEntry) : Type 0 whe
 
 abbrev pub AreContactsOn : List BodyState → List ContactEntry → Type 0
 AreContactsOn states contacts = All (IsContactOn states) contacts
+
+-- ---- what holds of the rows of contacts
+
+-- a whole row of two different bodies below n
+pub record IsContactRowBelow (n : ℕ) (r : ContactRow) : Type 0 where
+  pub row : IsRow r
+  pub a : r.bodies.a < n
+  pub b : r.bodies.b < n
+  pub apart : r.bodies.a ≢ r.bodies.b

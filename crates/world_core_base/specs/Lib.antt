@@ -1,6 +1,7 @@
 pub mod Renewal
 pub mod Carried
 pub mod Gather
+pub mod ConstraintRows
 pub mod Moved
 pub mod Awake
 pub mod RowColours

@@ -1,6 +1,5 @@
 -- A body as the ticks have left it: its motion given back, and then its fat boxes.
 use Rattle.std.specs.Prelude.{◌≡◌, true, Option, option_map}
-use Rattle.std.specs.Option.{ForSome}
 use Rattle.momenta.specs.declared.state.BodyState.{BodyState}
 use Rattle.momenta.specs.Impulses.{IsState}
 use Rattle.colour_solver.specs.States.{HasCourse}

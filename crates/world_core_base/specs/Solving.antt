@@ -1,6 +1,6 @@
--- What a step does to the bodies and the contacts: passes over the active constraints in solve order and passes over the bodies, and
--- what each adds to the movers' momentum. Bodies stand by slot and contacts by key, and nothing is computed before it is used.
-use Rattle.std.specs.Prelude.{ℕ, zero, suc, ◌==◌, cond, List, [], ◌∷◌, Option, Some, None, option_map, map, fold, ℤ, pos, ◌+ℤ◌, ◌-ℤ◌, slice_set}
+-- What a step does to the bodies, the joints and the contacts: passes over the active constraints in solve order and passes over the bodies, and
+-- what each adds to the movers' momentum. Bodies and joints stand by slot and contacts by key, and nothing is computed before it is used.
+use Rattle.std.specs.Prelude.{ℕ, zero, suc, ◌==◌, cond, List, [], ◌∷◌, Option, Some, None, option_map, map, fold, pos, ◌+ℤ◌, ◌-ℤ◌, slice_set}
 use Rattle.std.specs.List.{flat_map, slice_get}
 use Rattle.fixed_geom.specs.declared.vectors.Vec2.{Vec2}
 use Rattle.momenta.specs.Motions.{pulled, clamped, advanced}
@@ -17,10 +17,14 @@ use Rattle.contacts_base.specs.declared.contact.ContactEntry.{ContactEntry}
 use Rattle.contacts_base.specs.declared.key.ContactKey.{ContactKey}
 use Rattle.contacts.specs.declared.constraint.Constraint.{Constraint}
 use Rattle.contacts.specs.declared.constraint.Constraint.TheVariants as constraints
+use Rattle.joint_rows.specs.declared.joint.Joint.{Joint}
+use Rattle.joint_rows.specs.Joints.{SolvedJoint, joint_solved, joint_warmed}
 use Rattle.colour_solver_base.specs.ContactSolving.{SolvedContact, contact_bounced, contact_solved, contact_warmed}
 use Rattle.colour_solver.specs.declared.ticks.StepSums.{StepSums}
 use Rattle.colour_solver.specs.States.{carrier}
 use Rattle.plain_world.specs.declared.body.Body.{Body}
+use Rattle.plain_world.specs.declared.joint.BodyJoint.{BodyJoint}
+use Rattle.plain_world.specs.Joints.{joint_at}
 use Rattle.plain_world.specs.Bodies.{is_awake, is_carried}
 use Rattle.world_core_base.specs.Carried.{moved_to, solver_mass, solver_motion}
 
@@ -30,10 +34,11 @@ pub record Moving : Type 0 where
   pub body : Body
   pub motion : Motion
 
--- The bodies by slot, the contacts, ascending by key, and what was added to the movers' momentum since the step began: by gravity, by
+-- The bodies by slot, the joints by slot, the contacts, ascending by key, and what was added to the movers' momentum since the step began: by gravity, by
 -- immovable bodies, and by the speed limit with the edge of the world.
 pub record Solving : Type 0 where
   pub bodies : List (Option Moving)
+  pub joints : List (Option BodyJoint)
   pub contacts : List ContactEntry
   pub sums : StepSums
 
@@ -82,21 +87,31 @@ given_by_immovable before after = cond before.a.movable (cond before.b.movable n
 
 -- ---- the turn of one constraint
 
--- what is done at a contact: it is told how its bodies stood when the step began, and how they are now
-abbrev pub ContactTurn : Type 0
-ContactTurn = ContactEntry → Ends → Ends → SolvedContact
+-- What a pass does at a joint, and what at a contact: each is told how its bodies stood when the step began, and how they are now.
+pub record Turns : Type 0 where
+  pub joint : Joint → Ends → Ends → SolvedJoint
+  pub contact : ContactEntry → Ends → Ends → SolvedContact
 
 -- the warm start: the kept impulses are given once more
-abbrev pub warm : ContactTurn
-warm e start now = contact_warmed e.contact now
+abbrev pub warm : Turns
+warm = record {
+  joint = λ j start now. joint_warmed start j now;
+  contact = λ e start now. contact_warmed e.contact now;
+}
 
--- the impulses of the solver: each point's along its normal, and then friction
-abbrev pub solve : ContactTurn
-solve e start now = contact_solved e.surface.friction e.contact now
+-- the impulses of the solver: a joint's along the line of its anchors, and at a contact each point's along its normal, and then friction
+abbrev pub solve : Turns
+solve = record {
+  joint = λ j start now. joint_solved start j now;
+  contact = λ e start now. contact_solved e.surface.friction e.contact now;
+}
 
--- restitution: a part of the speed at which the bodies came together when the step began is given back
-abbrev pub bounce : ContactTurn
-bounce e start now = contact_bounced e.surface.restitution start e.contact now
+-- restitution: a part of the speed at which the bodies of a contact came together when the step began is given back; a joint has none
+abbrev pub bounce : Turns
+bounce = record {
+  joint = λ j start now. record { joint = j; ends = now };
+  contact = λ e start now. contact_bounced e.surface.restitution start e.contact now;
+}
 
 -- the contact that has the key, with these points
 abbrev pub with_contact : ContactKey → Contact → List ContactEntry → List ContactEntry
@@ -106,24 +121,44 @@ with_contact key c (e ∷ es) = cond (number_of e == key_number key) (record e {
 abbrev pub with_sum : Gain → StepSums → StepSums
 with_sum g sums = record sums { immovable = plus sums.immovable g }
 
+-- the joint in a slot and its two bodies put back, and what an immovable one gave booked
+abbrev pub put_joint_back : ℕ → BodyJoint → Moving → Moving → SolvedJoint → Solving → Solving
+put_joint_back slot j a b solved s = record {
+  bodies = slice_set (slice_set s.bodies j.a (Some (left_by solved.ends.a a))) j.b (Some (left_by solved.ends.b b));
+  joints = slice_set s.joints slot (Some (record j { joint = solved.joint }));
+  contacts = s.contacts;
+  sums = with_sum (given_by_immovable (ends_now a b) solved.ends) s.sums;
+}
+
+-- the turn of the joint in a slot, if it is there and both its bodies are
+abbrev pub turn_joined : Turns → Solving → ℕ → BodyJoint → Option Moving → Option Moving → Solving
+turn_joined f s slot j None b = s
+turn_joined f s slot j (Some a) None = s
+turn_joined f s slot j (Some a) (Some b) = put_joint_back slot j a b (f.joint j.joint (ends_then a b) (ends_now a b)) s
+
+abbrev pub turn_joint : Turns → Solving → ℕ → Option BodyJoint → Solving
+turn_joint f s slot None = s
+turn_joint f s slot (Some j) = turn_joined f s slot j (moving_at s.bodies j.a) (moving_at s.bodies j.b)
+
 -- the contact and its two bodies put back, and what an immovable one gave booked
 abbrev pub put_back : ContactKey → Moving → Moving → SolvedContact → Solving → Solving
 put_back key a b solved s = record {
   bodies = slice_set (slice_set s.bodies key.first.slot (Some (left_by solved.ends.a a))) key.second.slot (Some (left_by solved.ends.b b));
+  joints = s.joints;
   contacts = with_contact key solved.contact s.contacts;
   sums = with_sum (given_by_immovable (ends_now a b) solved.ends) s.sums;
 }
 
 -- the turn of the contact, if it is there and both its bodies are
-abbrev pub turn_between : ContactTurn → Solving → ContactKey → Option ContactEntry → Option Moving → Option Moving → Solving
+abbrev pub turn_between : Turns → Solving → ContactKey → Option ContactEntry → Option Moving → Option Moving → Solving
 turn_between f s key None a b = s
 turn_between f s key (Some e) None b = s
 turn_between f s key (Some e) (Some a) None = s
-turn_between f s key (Some e) (Some a) (Some b) = put_back key a b (f e (ends_then a b) (ends_now a b)) s
+turn_between f s key (Some e) (Some a) (Some b) = put_back key a b (f.contact e (ends_then a b) (ends_now a b)) s
 
--- the turn of a constraint: a joint does nothing yet
-abbrev pub turn : ContactTurn → Solving → Constraint → Solving
-turn f s (constraints.Joint h) = s
+-- the turn of a constraint
+abbrev pub turn : Turns → Solving → Constraint → Solving
+turn f s (constraints.Joint h) = turn_joint f s h.slot (joint_at s.joints h.slot)
 turn f s (constraints.Contact key) = turn_between f s key (lookup s.contacts key) (moving_at s.bodies key.first.slot) (moving_at s.bodies key.second.slot)
 
 -- ---- passes
@@ -133,7 +168,7 @@ abbrev pub solve_order : List (List Constraint) → List Constraint
 solve_order colours = flat_map (λ ids. ids) colours
 
 -- a pass over the active constraints: one turn after another
-abbrev pub pass : ContactTurn → List Constraint → Solving → Solving
+abbrev pub pass : Turns → List Constraint → Solving → Solving
 pass f order s = fold (turn f) s order
 
 -- an awake mover with its motion changed; any other body as it was
@@ -189,12 +224,12 @@ moving b = record { body = b; motion = solver_motion b }
 abbrev pub no_sums : StepSums
 no_sums = record { gravity = nothing; immovable = nothing; clamp = nothing }
 
-abbrev pub begin : List (Option Body) → List ContactEntry → Solving
-begin bodies contacts = record { bodies = map (option_map moving) bodies; contacts = contacts; sums = no_sums }
+abbrev pub begin : List (Option Body) → List (Option BodyJoint) → List ContactEntry → Solving
+begin bodies joints contacts = record { bodies = map (option_map moving) bodies; joints = joints; contacts = contacts; sums = no_sums }
 
 -- the ticks of a step, and then the restitution
-unfoldable pub solved : ℕ → Vec2 → List Constraint → List (Option Body) → List ContactEntry → Solving
-solved n gravity order bodies contacts = pass bounce order (ticks n gravity order (begin bodies contacts))
+unfoldable pub solved : ℕ → Vec2 → List Constraint → List (Option Body) → List (Option BodyJoint) → List ContactEntry → Solving
+solved n gravity order bodies joints contacts = pass bounce order (ticks n gravity order (begin bodies joints contacts))
 
 -- ---- what it leaves
 

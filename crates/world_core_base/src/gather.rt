@@ -1,7 +1,7 @@
-//! What a step works on: the bodies by slot and the touching contacts in solve order, gathered when it begins and
+//! What a step works on: the bodies by slot, and the joints and the touching contacts in solve order, gathered when it begins and
 //! written back when it ends.
 
-ghost use Rattle.std.specs.Prelude.{◌≡◌, ◌<◌, ◌≤◌, ◌≢◌, ◌⊎◌, ◌+◌, ◌++◌, ℕ, List, [], Option, Some, true, length, map, option_map, slice_get};
+ghost use Rattle.std.specs.Prelude.{◌≡◌, ◌<◌, ◌≤◌, ◌≢◌, ◌⊎◌, ◌+◌, ◌++◌, ◌∷◌, ℕ, List, [], All, Option, Some, true, length, map, option_map, slice_get};
 ghost use Rattle.std.specs.Option.{ForSome, option_copied, option_to_list};
 ghost use Rattle.contacts_base.specs.Contacts.{AreKeysRising, number_of};
 ghost use Rattle.contacts_base.specs.Keys.{key_number};
@@ -9,14 +9,18 @@ ghost use Rattle.momenta.specs.Impulses.{AreStates};
 ghost use Rattle.colour_solver_base.specs.Rows.{AreSurfaces};
 ghost use Rattle.colour_solver.specs.States.{AreAllStates};
 ghost use Rattle.colour_solver.specs.ColourRows.{all_rows};
-ghost use Rattle.colour_solver.specs.ContactTurns.{AreRowsBelow, IsRowBelow};
+ghost use Rattle.colour_solver_base.specs.Rows.{IsRow};
+ghost use Rattle.colour_solver.specs.ConstraintTurns.{AreRowsBelow, IsRowBelow};
 ghost use Rattle.graph_colours.specs.Colours.{all_members};
 ghost use Rattle.plain_world.specs.Bodies.{AreBodies};
 ghost use Rattle.contacts_base.specs.Surfaces.{IsSurface};
-ghost use Rattle.world_core_base.specs.Gather.{AreContactsOf, AreContactsOn, IsContactOn, bodies_of, ends_at, impulses_of, row_in, row_of, rows_in, rows_of, state_of, with_rows};
+ghost use Rattle.world_core_base.specs.Gather.{AreContactsOf, AreContactsOn, IsContactOn, IsContactRowBelow, bodies_of, ends_at, impulses_of, row_in, row_of, state_of, with_rows};
+ghost use Rattle.world_core_base.specs.ConstraintRows.{HasJointOn, HaveJointsOn, constraint_row, contacts_among, joints_among, rows_in, rows_of, with_joint_rows};
+ghost use Rattle.plain_world.specs.Joints.{AreJoints};
 ghost use Rattle.world_core_base.specs.Carried.{solver_mass, solver_motion};
 
-use colour_solver::Rows;
+use crate::joint_row::joint_row_at;
+use colour_solver::{ConstraintRow, Rows};
 use colour_solver_base::{Bodies, ContactRow, PointRow, contact_row};
 use contacts::Constraint;
 use contacts_base::{
@@ -24,8 +28,9 @@ use contacts_base::{
 };
 use fixed_geom::{Rot, UNIT, Vec2};
 use graph_colours::{COLOURS, Colours, Member, OVERFLOW};
+use joint_rows::JointRow;
 use momenta::{BodyState, Ends, MassData, Motion, Reciprocals, reciprocals_of};
-use plain_world::Body;
+use plain_world::{Body, BodyJoint, JointTable};
 
 /// The mass of a body that is carried along: with it the momentum is the velocity itself, and the angular momentum the spin.
 const CARRIER: MassData = MassData {
@@ -155,7 +160,7 @@ fn row_in(
     requires contact { IsContactOn states.now (record { key = own; surface = surface; contact = contact.now }) }
     requires same { key_number own ≡ key_number key }
     ensures value { result ≡ row_in states.now key index (Some (record { key = own; surface = surface; contact = contact.now })) }
-    ensures row { ForSome result (IsRowBelow (length states.now)) }
+    ensures row { ForSome result (IsContactRowBelow (length states.now)) }
 {
     let ends = ends_at(states, key);
     contact_row(bodies_of(key, surface, index), contact, &ends)
@@ -174,7 +179,7 @@ fn row_of(
     requires rising { AreKeysRising contacts.now }
     requires contacts { AreContactsOn states.now contacts.now }
     ensures value { result ≡ row_of states.now contacts.now id }
-    ensures row { ForSome result (IsRowBelow (length states.now)) }
+    ensures row { ForSome result (IsContactRowBelow (length states.now)) }
 {
     match id {
         Constraint::Joint(_) => None,
@@ -187,66 +192,115 @@ fn row_of(
     }
 }
 
-/// Adds a row, if there is one, for which there is room.
+/// Adds a joint's row, if there is one, for which there is room.
 #[inline(always)]
-fn push_row(rows: &mut Rows<ContactRow>, row: Option<ContactRow>)
+fn push_joint(rows: &mut Rows<ConstraintRow>, row: Option<JointRow>)
     requires { 1 ≤ rows.old.room }
     ensures colours { rows.new.colours ≡ rows.old.colours }
-    ensures left { rows.new.left ≡ rows.old.left ++ option_to_list row }
+    ensures left { rows.new.left ≡ rows.old.left ++ option_to_list (option_map ConstraintRow.Joint row) }
     ensures room { rows.old.room ≤ rows.new.room + 1 }
     ensures more { rows.new.more ≡ rows.old.more }
 {
     if let Some(row) = row {
-        rows.push(row);
+        rows.push(ConstraintRow::Joint(row));
     }
 }
 
-/// Gathers the contacts of one colour, ascending, for which there is room.
-fn gather_colour(
-    rows: &mut Rows<ContactRow>,
+/// Adds a contact's row, if there is one, for which there is room.
+#[inline(always)]
+fn push_contact(rows: &mut Rows<ConstraintRow>, row: Option<ContactRow>)
+    requires { 1 ≤ rows.old.room }
+    ensures colours { rows.new.colours ≡ rows.old.colours }
+    ensures left { rows.new.left ≡ rows.old.left ++ option_to_list (option_map ConstraintRow.Contact row) }
+    ensures room { rows.old.room ≤ rows.new.room + 1 }
+    ensures more { rows.new.more ≡ rows.old.more }
+{
+    if let Some(row) = row {
+        rows.push(ConstraintRow::Contact(row));
+    }
+}
+
+/// Adds the row of a constraint, for which there is room: of a joint, or of a contact that touches, which is looked for from `hint` on.
+#[inline(always)]
+fn add_row(
+    rows: &mut Rows<ConstraintRow>,
     states: &[BodyState],
+    joints: &[Option<BodyJoint>],
+    contacts: &[ContactEntry],
+    hint: &mut usize,
+    id: Constraint,
+)
+    requires all_states { AreAllStates states.now }
+    requires joint { HasJointOn states.now joints.now id }
+    requires rising { AreKeysRising contacts.now }
+    requires contacts { AreContactsOn states.now contacts.now }
+    requires room { 1 ≤ rows.old.room }
+    ensures colours { rows.new.colours ≡ rows.old.colours }
+    ensures left { rows.new.left ≡ rows.old.left ++ option_to_list (constraint_row states.now joints.now contacts.now id) }
+    ensures row { ForSome (constraint_row states.now joints.now contacts.now id) (IsRowBelow (length states.now)) }
+    ensures room { rows.old.room ≤ rows.new.room + 1 }
+    ensures more { rows.new.more ≡ rows.old.more }
+{
+    match id {
+        Constraint::Joint(handle) => {
+            push_joint(rows, joint_row_at(states, joints, handle.slot as usize));
+        }
+        Constraint::Contact(_) => {
+            push_contact(rows, row_of(states, contacts, hint, id));
+        }
+    }
+}
+
+/// Gathers the constraints of one colour, ascending, for which there is room.
+fn gather_colour(
+    rows: &mut Rows<ConstraintRow>,
+    states: &[BodyState],
+    joints: &[Option<BodyJoint>],
     contacts: &[ContactEntry],
     members: &[Member<Constraint>],
 )
     requires all_states { AreAllStates states.now }
+    requires joints { HaveJointsOn states.now joints.now members.now }
     requires rising { AreKeysRising contacts.now }
     requires contacts { AreContactsOn states.now contacts.now }
     requires rows { AreRowsBelow (length states.now) rows.old.left }
     requires room { length members.now ≤ rows.old.room }
     ensures colours { rows.new.colours ≡ rows.old.colours }
-    ensures left { rows.new.left ≡ rows.old.left ++ rows_in states.now contacts.now members.now }
+    ensures left { rows.new.left ≡ rows.old.left ++ rows_in states.now joints.now contacts.now members.now }
     ensures rows { AreRowsBelow (length states.now) rows.new.left }
     ensures room { rows.old.room ≤ rows.new.room + length members.now }
     ensures more { rows.new.more ≡ rows.old.more }
 {
     let mut hint = 0;
     for member in members {
-        push_row(rows, row_of(states, contacts, &mut hint, member.id));
+        add_row(rows, states, joints, contacts, &mut hint, member.id);
     }
 }
 
-/// Gathers the active contacts in solve order, for which there is room: colour after colour, and the overflow last. Each row
-/// stands in its contact's colour.
-#[tactic(auto, unfolding(crate::specs::Gather::rows_of))]
+/// Gathers the active constraints in solve order, for which there is room: colour after colour, and the overflow last. Each row
+/// stands in its constraint's colour.
+#[tactic(auto, unfolding(crate::specs::ConstraintRows::rows_of))]
 pub fn gather_rows(
-    rows: &mut Rows<ContactRow>,
+    rows: &mut Rows<ConstraintRow>,
     states: &[BodyState],
+    joints: &[Option<BodyJoint>],
     contacts: &[ContactEntry],
     colours: &Colours<Constraint>,
 )
     requires all_states { AreAllStates states.now }
+    requires joints { All (HaveJointsOn states.now joints.now) colours.now.lists }
     requires rising { AreKeysRising contacts.now }
     requires contacts { AreContactsOn states.now contacts.now }
     requires room { length (all_members colours.now.lists) ≤ rows.old.room }
     requires more { COLOURS + 1 ≤ rows.old.more }
-    ensures colours { rows.new.colours ≡ map (rows_in states.now contacts.now) colours.now.lists }
+    ensures colours { rows.new.colours ≡ map (rows_in states.now joints.now contacts.now) colours.now.lists }
     ensures left { rows.new.left ≡ [] }
-    ensures value { all_rows rows.new ≡ rows_of states.now contacts.now colours.now.lists }
+    ensures value { all_rows rows.new ≡ rows_of states.now joints.now contacts.now colours.now.lists }
     ensures rows { AreRowsBelow (length states.now) (all_rows rows.new) }
 {
     rows.clear();
     for colour in 0..OVERFLOW + 1 {
-        gather_colour(rows, states, contacts, colours.members(colour));
+        gather_colour(rows, states, joints, contacts, colours.members(colour));
         rows.end_colour();
     }
 }
@@ -273,16 +327,34 @@ fn second_impulses(row: &Option<PointRow>) -> Option<Impulses>
     }
 }
 
-/// Gives each contact the impulses that the step has left it.
-pub fn put_impulses(contacts: &mut Contacts, rows: &[ContactRow])
-    ensures value { contacts.new ≡ with_rows contacts.old rows.now }
+/// Gives the joint or the contact of a row the impulses that the step has left it.
+#[inline(always)]
+fn put_row(joints: &mut JointTable, contacts: &mut Contacts, row: &ConstraintRow)
+    ensures joints { joints.new.joints ≡ with_joint_rows joints.old.joints (joints_among (row.now ∷ [])) }
+    ensures contacts { contacts.new ≡ with_rows contacts.old (contacts_among (row.now ∷ [])) }
+{
+    match row {
+        ConstraintRow::Joint(row) => {
+            joints.set_impulse(row.bodies.index, row.impulse);
+        }
+        ConstraintRow::Contact(row) => {
+            contacts.set_impulses(
+                row.bodies.index,
+                impulses_of(&row.first),
+                second_impulses(&row.second),
+            );
+        }
+    }
+}
+
+/// Gives each joint and each contact the impulses that the step has left it.
+pub fn put_impulses(joints: &mut JointTable, contacts: &mut Contacts, rows: &[ConstraintRow])
+    ensures joints { joints.new.joints ≡ with_joint_rows joints.old.joints (joints_among rows.now) }
+    ensures value { contacts.new ≡ with_rows contacts.old (contacts_among rows.now) }
+    ensures all_joints { (bodies : List (Option Body)) (n : ℕ) → AreRowsBelow n rows.now → AreJoints bodies joints.old.joints → AreJoints bodies joints.new.joints }
     ensures contacts { (bodies : List (Option Body)) (n : ℕ) → AreRowsBelow n rows.now → AreContactsOf bodies contacts.old → AreContactsOf bodies contacts.new }
 {
     for row in rows {
-        contacts.set_impulses(
-            row.bodies.index,
-            impulses_of(&row.first),
-            second_impulses(&row.second),
-        );
+        put_row(joints, contacts, row);
     }
 }

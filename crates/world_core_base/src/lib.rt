@@ -1,11 +1,12 @@
 //! What a step works on.
 //!
 //! The bodies of a world by slot with what a step goes over (`BodyTable`: their states, and the slots of the awake movers and of the bodies that are carried along), and
-//! what a step gathers of the contacts (`gather_rows`) and writes back to them (`put_impulses`).
+//! what a step gathers of joints and contacts (`gather_rows`) and writes back to them (`put_impulses`).
 #![tactic(auto)]
 
 mod awake;
 mod gather;
+mod joint_row;
 mod laws;
 mod moving;
 mod table;

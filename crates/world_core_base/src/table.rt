@@ -8,7 +8,7 @@ ghost use Rattle.momenta.specs.declared.state.BodyState.{BodyState};
 ghost use Rattle.colour_solver.specs.States.{AreAllStates};
 ghost use Rattle.colour_solver.specs.Ticks.{AreSums, added_x, added_y, ran, run_of, start};
 ghost use Rattle.colour_solver.specs.ColourRows.{all_rows};
-ghost use Rattle.colour_solver.specs.ContactTurns.{AreRowsBelow};
+ghost use Rattle.colour_solver.specs.ConstraintTurns.{AreRowsBelow};
 ghost use Rattle.world_core_base.specs.Awake.{with_state};
 ghost use Rattle.plain_world.specs.Bodies.{AreBodies, momentum_x, momentum_y};
 ghost use Rattle.world_core_base.specs.Gather.{state_of, states_of, with_motions};
@@ -20,8 +20,7 @@ use crate::awake::{add_if, drop_slot};
 use crate::gather::{NOBODY, body_state};
 use crate::moving::move_bodies;
 use body_handles::MAX_SLOTS;
-use colour_solver::{Rows, StepSums, run_step};
-use colour_solver_base::ContactRow;
+use colour_solver::{ConstraintRow, Rows, StepSums, run_step};
 use fixed_geom::{Refusal, Vec2};
 use momenta::BodyState;
 use plain_world::{Body, BodyChange, change_slot, clear_slot, copy_bodies, put_item};
@@ -160,9 +159,9 @@ impl BodyTable {
         renew_state(&mut self.states, &self.bodies, slot as usize);
     }
 
-    /// Runs the ticks of a step, 0 to 8, and its restitution, over the movers, the bodies that are carried along, and the contacts in
+    /// Runs the ticks of a step, 0 to 8, and its restitution, over the movers, the bodies that are carried along, and the constraints in
     /// solve order; fat boxes that their shapes have left are then made anew. Answers what was added to the movers' momentum, by cause.
-    pub fn run(&mut self, rows: &mut Rows<ContactRow>, gravity: Vec2, count: u64) -> StepSums
+    pub fn run(&mut self, rows: &mut Rows<ConstraintRow>, gravity: Vec2, count: u64) -> StepSums
         requires few { length self.old.bodies ≤ MAX_SLOTS }
         requires bodies { AreBodies self.old.bodies }
         requires gravity { IsWithin (2 ^ 16) gravity }

@@ -6,6 +6,11 @@ pub enum Call {
     CreateManyShapes,
     Push,
     Destroy,
+    CreateJoint,
+    DestroyJoint,
+    SetPose,
+    SetVelocity,
+    /// A step in which joints act.
     Step,
     Gravity,
     Plain,
@@ -15,11 +20,15 @@ pub enum Call {
 }
 
 /// Every call.
-pub const ALL: [Call; 10] = [
+pub const ALL: [Call; 14] = [
     Call::Create,
     Call::CreateManyShapes,
     Call::Push,
     Call::Destroy,
+    Call::CreateJoint,
+    Call::DestroyJoint,
+    Call::SetPose,
+    Call::SetVelocity,
     Call::Step,
     Call::Gravity,
     Call::Plain,
@@ -36,6 +45,10 @@ impl Call {
             "create_many_shapes" => Some(Call::CreateManyShapes),
             "push" => Some(Call::Push),
             "destroy" => Some(Call::Destroy),
+            "create_joint" => Some(Call::CreateJoint),
+            "destroy_joint" => Some(Call::DestroyJoint),
+            "set_pose" => Some(Call::SetPose),
+            "set_velocity" => Some(Call::SetVelocity),
             "step" => Some(Call::Step),
             "gravity" => Some(Call::Gravity),
             "plain" => Some(Call::Plain),

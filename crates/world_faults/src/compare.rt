@@ -106,6 +106,11 @@ fn difference_of_lists(first: &Plain, second: &Plain) -> Option<Part> {
         Part::Bodies,
         are_same_bodies(first.bodies(), second.bodies()),
     );
+    lists.expect(
+        Part::JointPlaces,
+        first.joint_places() == second.joint_places(),
+    );
+    lists.expect(Part::Joints, first.joints() == second.joints());
     lists.expect(Part::Contacts, first.contacts() == second.contacts());
     lists.expect(Part::Colours, are_same_colours(first, second));
     lists.expect(Part::Gravity, first.gravity() == second.gravity());

@@ -15,6 +15,8 @@ pub enum Difference {
     Created,
     /// A body was pushed.
     Pushed,
+    /// A joint was made.
+    Joined,
     /// Gravity is another.
     Pulled,
     /// Two pushes came in the other order.
@@ -24,9 +26,10 @@ pub enum Difference {
 }
 
 /// Every difference.
-pub const ALL: [Difference; 5] = [
+pub const ALL: [Difference; 6] = [
     Difference::Created,
     Difference::Pushed,
+    Difference::Joined,
     Difference::Pulled,
     Difference::Order,
     Difference::Nothing,
@@ -52,6 +55,7 @@ fn compare_in(worlds: &mut Worlds, alloc: Global, difference: Difference) -> Res
     match difference {
         Difference::Created => compare_after(worlds, &scene::create(alloc)?),
         Difference::Pushed => compare_after(worlds, &scene::push()),
+        Difference::Joined => compare_after(worlds, &scene::create_joint()),
         Difference::Pulled => compare_after(worlds, &scene::gravity()),
         Difference::Order => compare_orders(worlds),
         Difference::Nothing => worlds.expect_kept(),

@@ -2,8 +2,8 @@ use crate::calls::{apply, copy_of, new_world, step};
 use body_handles::Handle;
 use fixed_geom::{Refusal, Rot, UNIT, Vec2};
 use momenta::MassData;
-use plain_world::{BodyDef, Kind};
-use shapes::{MAX_SHAPES, Shape, ShapeDef, Shapes};
+use plain_world::{BodyDef, Course, JointDef, Kind};
+use shapes::{MAX_SHAPES, Pose, Shape, ShapeDef, Shapes};
 use std::alloc::Global;
 use world_core::{Command, WorldCore};
 
@@ -34,6 +34,30 @@ const LAST: i64 = 4 * 4 * METRE;
 /// The mover that overlaps the last one of the row, and is pushed away from it.
 const PARTNER: Handle = Handle {
     slot: 6,
+    generation: 1,
+};
+
+/// The mover beside the one that is pushed, to which it is jointed.
+const NEIGHBOUR: Handle = Handle {
+    slot: 1,
+    generation: 1,
+};
+
+/// A kinematic body, to which the last mover of the row is jointed.
+const LIFT: Handle = Handle {
+    slot: 7,
+    generation: 1,
+};
+
+/// The last mover of the row.
+const CARRIED: Handle = Handle {
+    slot: 5,
+    generation: 1,
+};
+
+/// The joint of the mover that is pushed and its neighbour.
+const JOINT: Handle = Handle {
+    slot: 0,
     generation: 1,
 };
 
@@ -85,6 +109,38 @@ fn mover(alloc: Global, x: i64, shapes: u32) -> Result<Command, Refusal> {
     }))
 }
 
+fn lift(alloc: Global) -> Result<Command, Refusal> {
+    Ok(Command::CreateBody(BodyDef {
+        kind: Kind::Kinematic(Course {
+            velocity: Vec2 { x: 40, y: 70 },
+            spin: 9,
+        }),
+        mass: MassData {
+            mass: 0,
+            inertia: 0,
+        },
+        x: Vec2 {
+            x: LAST,
+            y: 9 * METRE,
+        },
+        rot: Rot { c: UNIT, s: 0 },
+        shapes: circles(alloc, 1)?,
+    }))
+}
+
+/// A joint that is shorter than the two bodies are apart, so that it pulls.
+fn joint(a: Handle, b: Handle, length: i64) -> Command {
+    let anchor = Vec2 { x: 0, y: METRE / 4 };
+    Command::CreateJoint(JointDef {
+        a,
+        b,
+        from: anchor,
+        to: anchor,
+        length,
+        collide: true,
+    })
+}
+
 /// A world that is being made, and the first refusal that it met; what is asked after that doesn't matter any more.
 #[derive(Drop)]
 struct Scene<'a> {
@@ -117,13 +173,16 @@ impl Scene<'_> {
         self.note(answer);
     }
 
-    /// The ground, and movers beside one another; the last two overlap.
+    /// The ground, movers beside one another, of which the last two overlap, and a kinematic body above them; and two joints.
     fn add_bodies(&mut self) {
         self.create(ground(self.alloc));
         for index in 0..MOVERS {
             self.create(mover(self.alloc, i64::from(index) * 4 * METRE, 1));
         }
         self.create(mover(self.alloc, LAST + METRE / 2, 1));
+        self.create(lift(self.alloc));
+        self.apply(&joint(NEIGHBOUR, PUSHED, METRE));
+        self.apply(&joint(CARRIED, LIFT, METRE));
     }
 
     /// Pushes, and steps after which the two that overlap have just parted.
@@ -196,6 +255,35 @@ pub fn gravity() -> Command {
     Command::SetGravity(Vec2 { x: 0, y: 80 })
 }
 
+pub fn create_joint() -> Command {
+    joint(PARTNER, NEIGHBOUR, 2 * METRE)
+}
+
+pub fn destroy_joint() -> Command {
+    Command::DestroyJoint(JOINT)
+}
+
+pub fn set_pose() -> Command {
+    let x = Vec2 { x: 0, y: METRE };
+    Command::SetPose(
+        PUSHED,
+        Pose {
+            x,
+            rot: Rot { c: 0, s: UNIT },
+        },
+    )
+}
+
+pub fn set_velocity() -> Command {
+    Command::SetVelocity(
+        LIFT,
+        Course {
+            velocity: Vec2 { x: -3, y: 2_000 },
+            spin: -77,
+        },
+    )
+}
+
 /// Commands, and the first refusal that was met while they were made.
 #[derive(Drop)]
 struct List {
@@ -227,6 +315,11 @@ impl List {
         self.add(create_many_shapes(alloc));
         self.push(push());
         self.push(step_command());
+        self.push(create_joint());
+        self.push(set_velocity());
+        self.push(set_pose());
+        self.push(step_command());
+        self.push(destroy_joint());
         self.push(destroy());
         self.push(gravity());
         self.add(create(alloc));

@@ -4,11 +4,11 @@ ghost use Rattle.momenta.specs.Impulses.{IsState};
 ghost use Rattle.colour_solver_base.specs.Rows.{IsRow};
 ghost use Rattle.colour_solver.specs.States.{AreAllStates, HaveCourses, carried_of, is_carried, movers_of};
 ghost use Rattle.colour_solver.specs.ColourRows.{all_rows};
-ghost use Rattle.colour_solver.specs.ContactTurns.{AreRowsBelow, IsRowBelow};
+ghost use Rattle.colour_solver.specs.ConstraintTurns.{AreRowsBelow, IsRowBelow};
 ghost use Rattle.colour_solver.specs.Ticks.{start, ticks};
 
 use super::run_step;
-use crate::Rows;
+use crate::{ConstraintRow, Rows};
 use colour_solver_base::{Bodies, ContactRow, PointRow};
 use fixed_geom::{Refusal, Rot, Vec2};
 use momenta::{BodyState, Gain, MassData, Motion, inverse_reciprocal, reciprocals_of};
@@ -61,7 +61,7 @@ fn one_body(alloc: Global, state: BodyState) -> Result<Vec<BodyState>, Refusal>
     Ok(states)
 }
 
-fn no_rows(alloc: Global) -> Rows<ContactRow>
+fn no_rows(alloc: Global) -> Rows<ConstraintRow>
     ensures { all_rows result ≡ [] }
 {
     Rows::new(alloc)
@@ -97,7 +97,7 @@ fn the_speed_limit_is_booked_as_clamp(rt: HostRuntime) -> Result<(), Fail> {
 }
 
 /// The contact of a point of mass 1 that comes down on an immovable body at 8,192 u a tick, and bounces in full.
-fn landing() -> ContactRow
+fn landing() -> ConstraintRow
     ensures { IsRowBelow 2 result }
 {
     let point = PointRow {
@@ -113,7 +113,7 @@ fn landing() -> ContactRow
         normal_impulse: 0,
         tangent_impulse: 0,
     };
-    ContactRow {
+    ConstraintRow::Contact(ContactRow {
         bodies: Bodies {
             index: 0,
             a: 0,
@@ -123,7 +123,7 @@ fn landing() -> ContactRow
         },
         first: point,
         second: None,
-    }
+    })
 }
 
 fn two_bodies(alloc: Global) -> Result<Vec<BodyState>, Refusal>
@@ -138,7 +138,7 @@ fn two_bodies(alloc: Global) -> Result<Vec<BodyState>, Refusal>
     Ok(states)
 }
 
-fn one_row(alloc: Global) -> Result<Rows<ContactRow>, Refusal>
+fn one_row(alloc: Global) -> Result<Rows<ConstraintRow>, Refusal>
     ensures { IfOk result (λ rows. AreRowsBelow 2 (all_rows rows)) }
 {
     let mut rows = Rows::new(alloc);
@@ -163,7 +163,9 @@ fn a_point_bounces_off_an_immovable_body(rt: HostRuntime) -> Result<(), Fail> {
         }
     }
     for row in rows.as_slice() {
-        assert_eq!(rt; row.first.normal_impulse, 16384);
+        if let ConstraintRow::Contact(contact) = row {
+            assert_eq!(rt; contact.first.normal_impulse, 16384);
+        }
     }
     Ok(())
 }

@@ -1,7 +1,7 @@
 use Rattle.std.proofs.Common.{◌≡◌, ◌*◌, ◌^◌, ◌+ℤ◌, length, map}
 use Rattle.colour_solver.specs.States.{AreAllStates, AreSameBeside, HaveCourses, total_x, total_y}
 use Rattle.colour_solver.specs.ColourRows.{all_rows}
-use Rattle.colour_solver.specs.ContactTurns.{AreRowsBelow}
+use Rattle.colour_solver.specs.ConstraintTurns.{AreRowsBelow}
 use Rattle.colour_solver.specs.Ticks.{AreSums, added_x, added_y, run_of, start, ticks}
 use Rattle.colour_solver.proofs.ticks.run_step.Given as goal
 

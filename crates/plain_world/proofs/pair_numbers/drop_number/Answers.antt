@@ -1,6 +1,6 @@
-use Rattle.std.proofs.Common.{◌≡◌, ℕ, List, get_or, true, false, refl, sym, ◌∙◌}
+use Rattle.std.proofs.Common.{◌≡◌, true, false, refl, ◌∙◌}
 use Rattle.std.specs.Prelude.{is_ok}
-use Rattle.std.proofs.lemmas.List.Sorted.{IsPermutation-remove, searched}
+use Rattle.std.proofs.lemmas.List.Sorted.{searched}
 use Rattle.graph_colours.proofs.Cases.{true_or_false}
 use Rattle.contacts.proofs.ForbiddenLemmas.{found_is}
 use Rattle.plain_world.proofs.PairNumbers.{taken_out}

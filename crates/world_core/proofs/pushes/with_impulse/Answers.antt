@@ -1,4 +1,4 @@
-use Rattle.std.proofs.Common.{◌^◌, arith, rules}
+use Rattle.std.proofs.Common.{◌^◌, arith}
 use Rattle.std.proofs.lemmas.Int.{to_z-of_z}
 use Rattle.std.specs.Int.{w128}
 use mir.Val.{SFits}

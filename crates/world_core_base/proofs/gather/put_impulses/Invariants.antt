@@ -1,6 +1,10 @@
 use Rattle.std.proofs.Common.{◌≡◌, drop}
 use Rattle.world_core_base.specs.Gather.{with_rows}
+use Rattle.world_core_base.specs.ConstraintRows.{contacts_among, joints_among, with_joint_rows}
 use Rattle.world_core_base.proofs.gather.put_impulses.Given as goal
 
 abbrev pub invariant-loop-row : goal.invariant-loop-row
-invariant-loop-row l = with_rows l.contacts (drop l.row-index l.rows) ≡ with_rows l.initial.contacts l.rows
+invariant-loop-row l = record {
+  joints : with_joint_rows l.joints.joints (joints_among (drop l.row-index l.rows)) ≡ with_joint_rows l.initial.joints.joints (joints_among l.rows);
+  contacts : with_rows l.contacts (contacts_among (drop l.row-index l.rows)) ≡ with_rows l.initial.contacts (contacts_among l.rows);
+}

@@ -1,7 +1,5 @@
-use Rattle.std.proofs.Common.{◌≡◌, ◌≤◌, ◌<◌, length, slice_index_or, List, Option, refl, arith, ap, sym, ◌∙◌, add-one}
-use Rattle.momenta.specs.declared.state.BodyState.{BodyState}
+use Rattle.std.proofs.Common.{◌≡◌, length, slice_index_or, refl, arith, sym, ◌∙◌, add-one}
 use Rattle.colour_solver.specs.States.{is_carried, moves}
-use Rattle.plain_world.specs.declared.body.Body.{Body}
 use Rattle.world_core_base.proofs.GatherLaws.{length-states}
 use Rattle.world_core_base.proofs.MovingLaws.{begun_where, bodies-both, moved_where, momentum_x-both, momentum_y-both, slots-both}
 use Rattle.world_core_base.proofs.AwakeLaws.{IsWalked, both_walked, carried_both, fits_first, fits_second, movers_both, moved_first, second_long, second_places, there_at, walked_last, walked_more}

@@ -1,6 +1,4 @@
-use Rattle.std.proofs.Common.{◌≡◌, ◌<◌, length, None, List, ℕ, subst, sym, arith}
-use Rattle.std.specs.Option.{option_to_list}
-use Rattle.plain_world.specs.Joints.{forbidden_in, joint_at}
+use Rattle.std.proofs.Common.{◌<◌, length, arith}
 use Rattle.plain_world.proofs.PairNumbers.{number_there, cleared}
 use Rattle.plain_world.proofs.joint_table.JointTable.clear.Goals as goal
 

@@ -1,6 +1,5 @@
-use Rattle.std.proofs.Common.{◌≡◌, ◌<◌, ◌≤◌, ◌^◌, length, None, arith}
+use Rattle.std.proofs.Common.{◌≡◌, ◌<◌, ◌≤◌, ◌^◌, length, arith}
 use Rattle.body_handles.proofs.LowestLemmas.{lowest-le-length}
-use Rattle.plain_world.specs.Slots.{body_at}
 use Rattle.body_handles.specs.Places.{lowest}
 use Rattle.body_handles.specs.declared.places.TheConstants.{MAX_SLOTS}
 use Rattle.plain_world.specs.Bodies.{IsBody, made}

@@ -1,4 +1,3 @@
-use Rattle.std.proofs.Common.{◌≡◌, IfSome}
 use Rattle.shapes.specs.Poses.{IsPose}
 use Rattle.shapes.specs.Shapes.{IsShape}
 use Rattle.shapes.specs.declared.pose.Pose.{Pose}

@@ -3,7 +3,7 @@ use Rattle.std.specs.Prelude.{option_map}
 use Rattle.colour_solver.specs.States.{carried_of, movers_of}
 use Rattle.plain_world.specs.declared.body.Body.{Body}
 use Rattle.world_core_base.specs.Gather.{states_of}
-use Rattle.plain_world.specs.Changes.{changed_at, is_awake_in, is_carried_in}
+use Rattle.plain_world.specs.Changes.{changed_at}
 use Rattle.plain_world.specs.Slots.{body_at}
 use Rattle.world_core_base.proofs.TableLaws.{changed_carried, changed_movers, renewed_states}
 use Rattle.world_core_base.proofs.table.BodyTable.change.Goals as goal

@@ -1,0 +1,17 @@
+use Rattle.std.proofs.Common.{◌≡◌, ◌∙◌, length}
+use Rattle.contacts.specs.declared.constraint.Constraint.TheVariants as constraints
+use Rattle.plain_world.specs.Joints.{joint_at}
+use Rattle.world_core_base.specs.Gather.{row_of}
+use Rattle.world_core_base.proofs.JointLaws.{contact_below, joint_below}
+use Rattle.world_core_base.proofs.gather.add_row.Goals as goal
+
+pub returns-in-Joint-clause-row : goal.returns-in-Joint-clause-row
+returns-in-Joint-clause-row c = λ x e.
+    let slot = c.in-Joint.handle.slot in
+    joint_below c.args.states.now slot (joint_at c.args.joints.now slot) x (rw c.in-Joint.is at c.requires.joint) (λ r f. c.joint_row_at.ensures.row r (c.joint_row_at.ensures.value ∙ f)) (rw c.in-Joint.is at e)
+
+pub returns-in-Contact-clause-row : goal.returns-in-Contact-clause-row
+returns-in-Contact-clause-row c = λ x e.
+    let made = row_of c.args.states.now c.args.contacts.now (constraints.Contact c.in-Contact.field-0) in
+    let value : c.row_of.result ≡ made = rw c.in-Contact.is at c.row_of.ensures.value in
+    contact_below (length c.args.states.now) made x (λ r f. c.row_of.ensures.row r (value ∙ f)) (rw c.in-Contact.is at e)

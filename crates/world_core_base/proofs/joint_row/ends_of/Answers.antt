@@ -1,0 +1,11 @@
+use Rattle.std.proofs.Common.{sym, subst, arith}
+use Rattle.std.proofs.lemmas.Grind.{common_steps}
+use Rattle.momenta.specs.Impulses.{AreStates}
+use Rattle.world_core_base.proofs.JointLaws.{joint_states}
+use Rattle.world_core_base.proofs.joint_row.ends_of.Goals as goal
+
+pub returns-clause-value : goal.returns-clause-value
+returns-clause-value c = grind (arith, common_steps)
+
+pub returns-clause-states : goal.returns-clause-states
+returns-clause-states c = subst AreStates (sym (returns-clause-value c)) (joint_states c.args.states.now c.args.joint.now c.requires.all_states c.requires.first c.requires.second)
