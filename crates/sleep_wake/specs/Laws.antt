@@ -8,7 +8,9 @@ use Rattle.islands.specs.Links.{Linked, Joined}
 use Rattle.islands.specs.Labels.{Labels, label_at, is_asleep, is_loose}
 use Rattle.sleep_wake.specs.Acting.{Acting, AreMovers, IsSettled, links_of, is_awake, are_awake}
 use Rattle.sleep_wake.specs.Waking.{woken_at, put_to_rest}
-use Rattle.sleep_wake.specs.Changes.{Change, Begin, End, ended, begun, turned, AreChanges, AreChangesOf, changes_between}
+use Rattle.sleep_wake.specs.declared.change.Change.{Change}
+use Rattle.sleep_wake.specs.declared.change.Change.TheVariants.{Begin, End}
+use Rattle.sleep_wake.specs.Changes.{ended, begun, turned, AreChanges, AreChangesOf, changes_between}
 use Rattle.sleep_wake.specs.Bodies.{dropped, mover_gone, mover_made}
 use Rattle.sleep_wake.specs.SleepPhase.{split_at, sleep_phase}
 

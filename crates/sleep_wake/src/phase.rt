@@ -4,7 +4,7 @@ ghost use Rattle.std.specs.Prelude.{◌≡◌, true, cond, Some};
 ghost use Rattle.islands.specs.Labels.{label_at};
 ghost use Rattle.sleep_wake.specs.SleepPhase.{lesser, least_timer, is_due, is_island, is_less, longer_at_rest, weighed, picked_to_split};
 
-use crate::sets::is_in;
+use crate::waking::is_in;
 use islands::Islands;
 
 /// For how many ticks each mover of an island has to have been slow, before it is ready to sleep.

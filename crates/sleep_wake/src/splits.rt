@@ -8,7 +8,7 @@ ghost use Rattle.islands.specs.Partition.{AreIslands};
 ghost use Rattle.sleep_wake.specs.Acting.{links_of};
 ghost use Rattle.sleep_wake.specs.SleepPhase.{edges_in, edges_of_one};
 
-use crate::sets::is_in;
+use crate::waking::is_in;
 use graph_colours::{Id, Member, Movers};
 use islands::{Islands, SplitScratch};
 

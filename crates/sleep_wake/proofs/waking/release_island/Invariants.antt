@@ -1,7 +1,7 @@
 use Rattle.std.proofs.Common.{◌≡◌, drop}
 use Rattle.std.specs.Prelude.{filter}
 use Rattle.sleep_wake.specs.Waking.{has_mover_of, released_all}
-use Rattle.sleep_wake.proofs.sets.release_island.Given as goal
+use Rattle.sleep_wake.proofs.waking.release_island.Given as goal
 
 abbrev pub invariant-loop-place : goal.invariant-loop-place
 invariant-loop-place g l = record {
