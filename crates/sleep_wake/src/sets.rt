@@ -1,6 +1,6 @@
 //! The constraints, islands and colours of a world, kept together.
 
-ghost use Rattle.std.specs.Prelude.{◌≡◌, ◌<◌, ◌≤◌, ◌+◌, ◌∷◌, ℕ, true, false, length, filter, replicate, [], IfOk, OnOk, OnErr, None, Contains, option_map};
+ghost use Rattle.std.specs.Prelude.{◌≡◌, ◌<◌, ◌≤◌, ◌+◌, ◌∷◌, ℕ, true, false, length, filter, replicate, [], IfOk, OnOk, OnErr, Some, None, Contains, option_map};
 ghost use Rattle.std.specs.Result.{IsOkUnless};
 ghost use Rattle.graph_colours.specs.declared.limits.TheConstants.{COLOURS};
 ghost use Rattle.graph_colours.specs.declared.member.Member.{Member as TheMember};
@@ -11,8 +11,8 @@ ghost use Rattle.sleep_wake.specs.Acting.{acting, is_awake, are_awake, AreMovers
 ghost use Rattle.sleep_wake.specs.Waking.{woken_at, movers_woken, put_to_rest};
 ghost use Rattle.sleep_wake.specs.Changes.{begun, ended, each_begun, each_ended, CanBegin, CanEnd, changed, turned, begin_count, IsChange, AreChanges};
 ghost use Rattle.sleep_wake.specs.Bodies.{mover_made, mover_gone};
-ghost use Rattle.sleep_wake.specs.SleepPhase.{is_island, split_at, sleep_phase};
-ghost use Rattle.sleep_wake.specs.Sleeping.{name_at, names_of, islands_woken, slept_at};
+ghost use Rattle.sleep_wake.specs.SleepPhase.{is_island, split_at, sleep_phase, ready_put_to_rest};
+ghost use Rattle.sleep_wake.specs.Sleeping.{names_of, is_whole, islands_woken, split_if_loose, rested_at, slept_at};
 
 use crate::change::Change;
 use crate::changing::{begin, end};
@@ -365,7 +365,31 @@ impl<C: Id> Sets<C> {
             && !label.state.is_asleep()
         {
             self.split_if_loose(label);
-            self.rest_island_of(slot);
+            self.rest_at(slot);
+        }
+    }
+
+    /// Splits the island of this label, if it is loose.
+    fn split_if_loose(&mut self, label: Label)
+        requires { label_at self.old.acting.labels label.name ≡ Some label }
+        ensures acting { self.new.acting ≡ split_if_loose label self.old.acting }
+        ensures room { self.new.room ≡ self.old.room }
+        ensures slots { self.new.slots ≡ self.old.slots }
+    {
+        if label.state.is_loose() {
+            self.split(label.name);
+        }
+    }
+
+    /// Puts the whole island of an awake mover to rest.
+    fn rest_at(&mut self, slot: u32)
+        requires { is_whole (label_at self.old.acting.labels slot) ≡ true }
+        ensures acting { self.new.acting ≡ rested_at C.number slot self.old.acting }
+        ensures room { self.new.room ≡ self.old.room }
+        ensures slots { self.new.slots ≡ self.old.slots }
+    {
+        if let Some(label) = self.label_of(slot) {
+            self.put_to_rest(label.name);
         }
     }
 
@@ -382,5 +406,18 @@ impl<C: Id> Sets<C> {
             self.split(name);
         }
         self.rest_ready(timers);
+    }
+
+    /// Each whole island that is ready falls asleep.
+    fn rest_ready(&mut self, timers: &[u64])
+        ensures acting { self.new.acting ≡ ready_put_to_rest C.number timers.now self.old.acting }
+        ensures room { self.new.room ≡ self.old.room }
+        ensures slots { self.new.slots ≡ self.old.slots }
+    {
+        for slot in 0..self.islands.slots() {
+            if is_ready(&self.islands, timers, slot as u32) {
+                self.put_to_rest(slot as u32);
+            }
+        }
     }
 }

@@ -6,7 +6,7 @@ ghost use Rattle.graph_colours.specs.Movers.{AreBelow};
 ghost use Rattle.graph_colours.specs.Members.{AreRising};
 ghost use Rattle.graph_colours.specs.Colours.{all_members};
 ghost use Rattle.islands.specs.Labels.{label_at, is_in, IsIn};
-ghost use Rattle.sleep_wake.specs.Acting.{acting, IsSettled};
+ghost use Rattle.sleep_wake.specs.Acting.{acting, is_awake, second_awake, are_awake, IsSettled};
 ghost use Rattle.sleep_wake.specs.Waking.{second_in, are_in, has_mover_of, placed_all, released_all, set_woken, woken_at, movers_woken, put_to_rest};
 ghost use Rattle.sleep_wake.specs.Rooms.{CanPlace};
 
@@ -30,6 +30,32 @@ fn is_second_in(islands: &Islands, name: u32, slot: Option<u32>) -> bool
         None => false,
         Some(slot) => is_in(islands, name, slot),
     }
+}
+
+/// Whether a mover is in the slot, and awake.
+pub(crate) fn is_awake(islands: &Islands, slot: u32) -> bool
+    ensures { result ≡ is_awake islands.now.labels slot }
+{
+    match islands.label_of(slot) {
+        None => false,
+        Some(label) => !label.state.is_asleep(),
+    }
+}
+
+fn is_second_awake(islands: &Islands, slot: Option<u32>) -> bool
+    ensures { result ≡ second_awake islands.now.labels slot }
+{
+    match slot {
+        None => true,
+        Some(slot) => is_awake(islands, slot),
+    }
+}
+
+/// Whether all movers of a constraint are awake.
+pub(crate) fn are_awake(islands: &Islands, movers: Movers) -> bool
+    ensures { result ≡ are_awake islands.now.labels movers }
+{
+    is_awake(islands, movers.first) && is_second_awake(islands, movers.second)
 }
 
 /// Whether one of the movers is in the island of this name.
@@ -58,7 +84,7 @@ fn place_island<C: Id>(islands: &Islands, colours: &mut Colours<C>, ties: &[Memb
 fn release_island<C: Id>(islands: &Islands, colours: &mut Colours<C>, ties: &[Member<C>], name: u32)
     ensures lists { colours.new.lists ≡ released_all C.number colours.old.lists (filter (has_mover_of islands.now.labels name) ties.now) }
     ensures slots { colours.new.slots ≡ colours.old.slots }
-    ensures room { colours.new.room ≡ colours.old.room }
+    ensures room { colours.new.room + length (all_members colours.new.lists) ≡ colours.old.room + length (all_members colours.old.lists) }
 {
     for place in 0..ties.len() {
         let tie = ties[place];
@@ -90,7 +116,7 @@ fn wake_island<C: Id>(
 /// Wakes the island of the mover in the slot, if it sleeps: its constraints take colours, in the order
 /// of the ties. Takes no memory: there is room for all ties that have no colour.
 #[tactic(auto, unfolding(crate::specs::Waking::woken_at))]
-pub fn wake_set<C: Id>(
+pub(crate) fn wake_set<C: Id>(
     islands: &mut Islands,
     colours: &mut Colours<C>,
     ties: &[Member<C>],
@@ -113,7 +139,7 @@ pub fn wake_set<C: Id>(
 
 /// Wakes the islands of a constraint's movers, those that sleep, the first one's first. Takes no memory:
 /// there is room for all ties that have no colour.
-pub fn wake_movers<C: Id>(
+pub(crate) fn wake_movers<C: Id>(
     islands: &mut Islands,
     colours: &mut Colours<C>,
     ties: &[Member<C>],
@@ -135,7 +161,7 @@ pub fn wake_movers<C: Id>(
 
 /// Puts an island to rest, and takes the colours of its constraints. Takes no memory.
 #[tactic(auto, unfolding(crate::specs::Waking::put_to_rest))]
-pub fn fall_asleep<C: Id>(
+pub(crate) fn fall_asleep<C: Id>(
     islands: &mut Islands,
     colours: &mut Colours<C>,
     ties: &[Member<C>],
@@ -145,7 +171,7 @@ pub fn fall_asleep<C: Id>(
     ensures at_rest { acting ties.now islands.new.labels colours.new.lists ≡ put_to_rest C.number name (acting ties.now islands.old.labels colours.old.lists) }
     ensures islands_room { islands.new.room ≡ islands.old.room }
     ensures slots { colours.new.slots ≡ colours.old.slots }
-    ensures room { colours.new.room ≡ colours.old.room }
+    ensures room { colours.new.room + length (all_members colours.new.lists) ≡ colours.old.room + length (all_members colours.old.lists) }
 {
     release_island(islands, colours, ties, name);
     islands.rest(name);
