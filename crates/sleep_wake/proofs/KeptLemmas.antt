@@ -26,7 +26,7 @@ use Rattle.sleep_wake.specs.Laws.{WakingKeeps, TurningKeeps, RestingKeeps, Sleep
 use Rattle.sleep_wake.proofs.ListLemmas.{filter_in, in_filter, without_in, in_without, inserted_in, in_inserted, one_of, has_from, absent_from, places_one, places, Places, releases, Releases, released_in, in_released, rising_filter, link_in, in_links, links_more}
 use Rattle.sleep_wake.proofs.AwakeLemmas.{and_is, all_awake, awake_first, same_awake, NoneIn, of_island, tie_together, awake_in, awake_out, awake_as, stated_labelled, in_or_out, parted_awake, parted_labelled, united_awake, united_labelled}
 
-asleep_whole : (state : IslandState) → is_asleep state ≡ true → is_loose state ≡ false
+pub asleep_whole : (state : IslandState) → is_asleep state ≡ true → is_loose state ≡ false
 asleep_whole Whole h = refl
 asleep_whole Loose h = absurd (false≢true h)
 asleep_whole Asleep h = refl
@@ -128,7 +128,7 @@ pub record WakesBoth {C : Type 0} (number : C → ℕ) (first : ℕ) (second : O
   pub one : IsLabelled s.labels first → is_awake new.labels first ≡ true
   pub two : (b : ℕ) → second ≡ Some b → IsLabelled s.labels b → is_awake new.labels b ≡ true
 
-wakes_both : {C : Type 0} (number : C → ℕ) (first : ℕ) (o : Option ℕ) (s : Acting C) → IsSettled number s → WakesBoth number first o s (second_woken number o (woken_at number first s))
+pub wakes_both : {C : Type 0} (number : C → ℕ) (first : ℕ) (o : Option ℕ) (s : Acting C) → IsSettled number s → WakesBoth number first o s (second_woken number o (woken_at number first s))
 wakes_both number first None s w = let a = wakes number first s w in record { settled = a.settled; ties = a.ties; labelled = a.labelled; one = a.awake; two = λ b e h. absurd (let no : None ≡ Some b = e in cc) }
 wakes_both number first (Some c) s w =
     let a = wakes number first s w in

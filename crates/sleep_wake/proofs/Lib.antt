@@ -8,3 +8,7 @@ pub mod SetLemmas
 pub mod PickLemmas
 pub mod CountLemmas
 pub mod EdgeLemmas
+pub mod SizeLemmas
+pub mod StandLemmas
+pub mod FoldLemmas
+pub mod RestLemmas

@@ -25,7 +25,7 @@ use Rattle.sleep_wake.proofs.ListLemmas.{none_in, filter_in, in_filter, one_of, 
 use Rattle.sleep_wake.proofs.AwakeLemmas.{same_awake, awake_as}
 use Rattle.sleep_wake.proofs.KeptLemmas.{resting}
 
-not_is : (t : Bool) → not t ≡ true → t ≡ false
+pub not_is : (t : Bool) → not t ≡ true → t ≡ false
 not_is true h = absurd (false≢true h)
 not_is false h = refl
 
@@ -281,7 +281,7 @@ names_by labels name false (Some l) e h = let o = and_is (l.name == name) (not (
     let q = and_is (not (is_loose l.state)) (not (is_asleep l.state)) o.1 in
     record { l = l; at = e; named = eqb-true l.name name o.0; loosely = not_is (is_loose l.state) q.0; awake = not_is (is_asleep l.state) q.1 }
 
-names : (labels : Labels) (name : ℕ) (loose : Bool) → IsNamedIsland loose labels name → Names labels name loose
+pub names : (labels : Labels) (name : ℕ) (loose : Bool) → IsNamedIsland loose labels name → Names labels name loose
 names labels name loose h = names_by labels name loose (label_at labels name) refl h
 
 -- one of the list is picked, or none

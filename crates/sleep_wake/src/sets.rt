@@ -135,6 +135,11 @@ impl<C: Id> Sets<C> {
         self.ties.as_slice()
     }
 
+    /// What holds of all sets: a law, for loops over their calls.
+    fn settled(&self)
+        ensures { IsSettled C.number self.now.acting }
+    {}
+
     /// The colours of the constraints that act.
     pub fn colours(&self) -> &Colours<C>
         ensures { result.now.lists ≡ self.now.acting.lists }
@@ -197,6 +202,7 @@ impl<C: Id> Sets<C> {
     // ---- movers come and go
 
     /// Makes a mover an island of its own, awake and not loose.
+    #[tactic(auto, unfolding(crate::specs::Bodies::mover_made))]
     pub fn add_mover(&mut self, slot: u32)
         requires fresh { label_at self.old.acting.labels slot ≡ None }
         requires below { slot < self.old.slots }
@@ -284,6 +290,7 @@ impl<C: Id> Sets<C> {
         ensures slots { self.new.slots ≡ self.old.slots }
     {
         for place in 0..members.len() {
+            self.settled();
             self.begin(members[place]);
         }
     }
@@ -296,6 +303,7 @@ impl<C: Id> Sets<C> {
         ensures slots { self.new.slots ≡ self.old.slots }
     {
         for place in 0..members.len() {
+            self.settled();
             self.end(members[place]);
         }
     }
@@ -308,6 +316,7 @@ impl<C: Id> Sets<C> {
         ensures room { self.new.room ≡ self.old.room }
         ensures slots { self.new.slots ≡ self.old.slots }
     {
+        self.settled();
         match change {
             Change::Begin(member) => {
                 self.wake_movers(member.movers);
@@ -346,6 +355,7 @@ impl<C: Id> Sets<C> {
     }
 
     /// Replaces a loose island by its components, by its name. No constraint changes.
+    #[tactic(auto, unfolding(crate::specs::SleepPhase::split_at))]
     pub fn split(&mut self, name: u32)
         requires { is_island true name (label_at self.old.acting.labels name) ≡ true }
         ensures acting { self.new.acting ≡ split_at name self.old.acting }
@@ -356,11 +366,13 @@ impl<C: Id> Sets<C> {
     }
 
     /// Puts a mover to sleep with its island, which is split first where it is loose. One that sleeps stays as it is.
+    #[tactic(auto, unfolding(crate::specs::Sleeping::slept_at))]
     pub fn sleep(&mut self, slot: u32)
         ensures acting { self.new.acting ≡ slept_at C.number slot self.old.acting }
         ensures room { self.new.room ≡ self.old.room }
         ensures slots { self.new.slots ≡ self.old.slots }
     {
+        self.settled();
         if let Some(label) = self.label_of(slot)
             && !label.state.is_asleep()
         {
@@ -388,6 +400,7 @@ impl<C: Id> Sets<C> {
         ensures room { self.new.room ≡ self.old.room }
         ensures slots { self.new.slots ≡ self.old.slots }
     {
+        self.settled();
         if let Some(label) = self.label_of(slot) {
             self.put_to_rest(label.name);
         }
@@ -402,7 +415,7 @@ impl<C: Id> Sets<C> {
         ensures room { self.new.room ≡ self.old.room }
         ensures slots { self.new.slots ≡ self.old.slots }
     {
-        if let Some(name) = pick_split(&self.islands, timers) {
+        if let Some(name) = pick_split(self.islands(), timers) {
             self.split(name);
         }
         self.rest_ready(timers);
@@ -414,8 +427,8 @@ impl<C: Id> Sets<C> {
         ensures room { self.new.room ≡ self.old.room }
         ensures slots { self.new.slots ≡ self.old.slots }
     {
-        for slot in 0..self.islands.slots() {
-            if is_ready(&self.islands, timers, slot as u32) {
+        for slot in 0..self.islands().slots() {
+            if is_ready(self.islands(), timers, slot as u32) {
                 self.put_to_rest(slot as u32);
             }
         }
