@@ -1,7 +1,8 @@
 -- Constraints that begin and end one after the other, seen from each of them.
-use Rattle.std.proofs.Common.{◌≡◌, ◌≢◌, ℕ, suc, ◌+◌, ◌<◌, ◌≤◌, ◌==◌, ◌||◌, Bool, true, false, cond, List, [], ◌∷◌, Option, Some, None, length, refl, sym, ap, ◌∙◌, arith, subst, inl, inr}
+use Rattle.std.proofs.Common.{◌≡◌, ◌≢◌, ℕ, suc, ◌+◌, ◌<◌, ◌≤◌, ◌==◌, ◌||◌, Bool, true, false, cond, List, [], ◌∷◌, Option, Some, None, length, drop, get_or, refl, sym, ap, ◌∙◌, arith, subst, inl, inr}
 use Rattle.std.specs.Prelude.{Contains, AllPairs}
 use Rattle.std.proofs.lemmas.Bool.{false≢true}
+use Rattle.std.proofs.lemmas.List.{drop_more}
 use Rattle.graph_colours.specs.declared.member.Movers.{Movers}
 use Rattle.graph_colours.specs.declared.member.Member.{Member}
 use Rattle.graph_colours.specs.Members.{AreRising, has_id, inserted, without}
@@ -22,6 +23,10 @@ use Rattle.sleep_wake.proofs.ListLemmas.{above_head, in_without}
 use Rattle.sleep_wake.proofs.AwakeLemmas.{and_is, all_awake, same_awake, united_awake, united_labelled, parted_awake, parted_labelled, stated_labelled}
 use Rattle.sleep_wake.proofs.KeptLemmas.{wakes_both}
 use Rattle.sleep_wake.proofs.SizeLemmas.{both_ties, inserted_size, without_fewer}
+
+-- the item in a place, and those after it
+pub first_is : {X : Type 0} (xs : List X) (i : ℕ) (x : X) → i < length xs → x ≡ get_or xs i x → drop i xs ≡ x ∷ drop (i + 1) xs
+first_is {X} xs i x lt e = drop_more xs i x lt ∙ ap (λ (y : X). y ∷ drop (i + 1) xs) (sym e)
 
 -- ---- what is awake has a label
 

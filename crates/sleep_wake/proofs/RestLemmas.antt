@@ -71,7 +71,7 @@ ready_there timers labels slot lt =
 
 -- one that isn't ready stays as it is
 pub not_ready : {C : Type 0} (number : C → ℕ) (timers : List ℕ) (slot : ℕ) (s : Acting C) → slot < length s.labels → is_ready false s.labels timers slot (label_at s.labels slot) ≡ false → all_put_to_rest number (still_ready timers s.labels (slot + 1)) s ≡ all_put_to_rest number (still_ready timers s.labels slot) s
-not_ready number timers slot s lt h = ap (λ names. all_put_to_rest number names s) (sym (ready_there timers s.labels slot lt ∙ rw h refl))
+not_ready number timers slot s lt h = let passed : still_ready timers s.labels slot ≡ still_ready timers s.labels (slot + 1) = ready_there timers s.labels slot lt ∙ rw h refl in ap (λ names. all_put_to_rest number names s) (sym passed)
 
 -- one that is ready falls asleep, and then those after it
 pub then_ready : {C : Type 0} (number : C → ℕ) (timers : List ℕ) (slot : ℕ) (s : Acting C) → slot < length s.labels → is_ready false s.labels timers slot (label_at s.labels slot) ≡ true → all_put_to_rest number (still_ready timers (put_to_rest number slot s).labels (slot + 1)) (put_to_rest number slot s) ≡ all_put_to_rest number (still_ready timers s.labels slot) s
@@ -80,7 +80,8 @@ then_ready {C} number timers slot s lt h =
     let new : Acting C = put_to_rest number slot s in
     let same : still_ready timers (map (asleep_in slot) s.labels) (slot + 1) ≡ still_ready timers s.labels (slot + 1) =
         ap (λ rest. ready_from false (map (asleep_in slot) s.labels) timers (slot + 1) rest) (drop_map (asleep_in slot) (slot + 1) s.labels) ∙ ready_rested slot s.labels timers (slot + 1) (drop (slot + 1) s.labels) (omega arith) in
-    ap (λ names. all_put_to_rest number names new) same ∙ ap (λ names. all_put_to_rest number names s) (sym (ready_there timers s.labels slot lt ∙ rw h refl))
+    let front : still_ready timers s.labels slot ≡ slot ∷ still_ready timers s.labels (slot + 1) = ready_there timers s.labels slot lt ∙ rw h refl in
+    ap (λ names. all_put_to_rest number names new) same ∙ ap (λ names. all_put_to_rest number names s) (sym front)
 
 -- past the last slot none is ready
 past_all : (labels : Labels) (slot : ℕ) → length labels ≤ slot → drop slot labels ≡ []

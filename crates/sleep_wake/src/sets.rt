@@ -138,7 +138,9 @@ impl<C: Id> Sets<C> {
     /// What holds of all sets: a law, for loops over their calls.
     fn settled(&self)
         ensures { IsSettled C.number self.now.acting }
-    {}
+    {
+        let _ = self.ties();
+    }
 
     /// The colours of the constraints that act.
     pub fn colours(&self) -> &Colours<C>
