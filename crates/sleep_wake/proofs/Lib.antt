@@ -12,3 +12,4 @@ pub mod SizeLemmas
 pub mod StandLemmas
 pub mod FoldLemmas
 pub mod RestLemmas
+pub mod NameLemmas

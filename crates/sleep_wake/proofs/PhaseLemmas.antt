@@ -297,6 +297,10 @@ longest_of : (P : ℕ → Type 0) (timer : ℕ → Option ℕ) (best : Option �
 longest_of P timer best [] f h n e = f n e
 longest_of P timer best (m ∷ ns) f h n e = longest_of P timer (longer_at_rest timer best m) ns (longer_is P timer best m f h.0) h.1 n e
 
+-- one that is picked is a loose island
+pub picked_is : (labels : Labels) (timers : List ℕ) (n : ℕ) → picked_to_split labels timers ≡ Some n → is_island true n (label_at labels n) ≡ true
+picked_is labels timers n e = longest_of (IsNamedIsland true labels) (λ name. least_timer name labels timers) None (ready true labels timers) (λ k q. absurd (let no : None ≡ Some k = q in cc)) (ready_all true labels timers) n e
+
 split_keeps : {C : Type 0} (number : C → ℕ) (s : Acting C) (o : Option ℕ) → IsSettled number s → ((n : ℕ) → o ≡ Some n → IsNamedIsland true s.labels n) → IsSettled number (split_picked o s)
 split_keeps number s None w f = w
 split_keeps number s (Some name) w f = let o = names s.labels name true (f name refl) in splitting_keeps number s name o.l w o.at o.named o.awake
@@ -327,8 +331,7 @@ rest_keeps number (n ∷ ns) s w h =
 pub sleeping_keeps : {C : Type 0} (number : C → ℕ) → SleepPhaseKeeps number
 sleeping_keeps {C} number s timers w =
     let now : Acting C = split_picked (picked_to_split s.labels timers) s in
-    let first : IsSettled number now = split_keeps number s (picked_to_split s.labels timers) w (λ n e.
-    longest_of (IsNamedIsland true s.labels) (λ name. least_timer name s.labels timers) None (ready true s.labels timers) (λ k q. absurd (let no : None ≡ Some k = q in cc)) (ready_all true s.labels timers) n e) in
+    let first : IsSettled number now = split_keeps number s (picked_to_split s.labels timers) w (λ n e. picked_is s.labels timers n e) in
     rest_keeps number (ready false now.labels timers) now first
     (all_on (IsNamedIsland false now.labels) (MayRest now.labels) (ready false now.labels timers) (λ n h. let o = names now.labels n false h in (o.l, o.at, o.named, o.loosely)) (ready_all false now.labels timers))
 
