@@ -1,6 +1,6 @@
 -- Names that ascend, with one more.
-use Rattle.std.proofs.Common.{◌≡◌, ◌≢◌, ℕ, zero, suc, ◌+◌, ◌<◌, ◌≤◌, List, [], ◌∷◌, ◌++◌, length, take, drop, get_or, refl, sym, ap, ◌∙◌, arith}
-use Rattle.std.specs.List.{AllWithin}
+use Rattle.std.proofs.Common.{◌≡◌, ◌≢◌, ℕ, zero, suc, ◌+◌, ◌<◌, ◌≤◌, List, [], ◌∷◌, length, get_or, refl, sym, ap, ◌∙◌, arith}
+use Rattle.std.specs.List.{AllWithin, insert}
 use Rattle.graph_colours.proofs.PlaceLemmas.{is_lower, not_lower, is_same, not_same}
 use Rattle.sleep_wake.specs.Sleeping.{with_one_name}
 
@@ -13,7 +13,7 @@ name_there name (n ∷ names) (suc i) before lt at =
     rw (is_lower n name low) (ap (λ ns. n ∷ ns) (name_there name names i (λ k d l h. before (suc k) d (omega arith) (omega (arith, h))) (omega (arith, lt)) at))
 
 -- one that isn't
-pub name_put : (name : ℕ) (names : List ℕ) (i : ℕ) → i ≤ length names → AllWithin (λ n. n < name) names 0 i → (i < length names → name < get_or names i 0) → take i names ++ (name ∷ drop i names) ≡ with_one_name name names
+pub name_put : (name : ℕ) (names : List ℕ) (i : ℕ) → i ≤ length names → AllWithin (λ n. n < name) names 0 i → (i < length names → name < get_or names i 0) → insert names i name ≡ with_one_name name names
 name_put name [] zero le before at = refl
 name_put name [] (suc i) le before at = absurd (omega (arith, le))
 name_put name (n ∷ names) zero le before at =
@@ -22,3 +22,6 @@ name_put name (n ∷ names) zero le before at =
 name_put name (n ∷ names) (suc i) le before at =
     let low : n < name = before 0 n (omega arith) (omega arith) in
     rw (is_lower n name low) (ap (λ ns. n ∷ ns) (name_put name names i (omega (arith, le)) (λ k d l h. before (suc k) d (omega arith) (omega (arith, h))) (λ h. at (omega (arith, h)))))
+
+pub above : (name n : ℕ) → name ≤ n → n ≢ name → name < n
+above name n le off = omega (arith, le, off)
