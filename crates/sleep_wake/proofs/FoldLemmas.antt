@@ -95,7 +95,7 @@ woken_ready number m s w h =
 abbrev pub Labelled : Labels → Labels → Type 0
 Labelled old new = (t : ℕ) → IsLabelled old t → IsLabelled new t
 
-movers_on : (old new : Labels) (m : Movers) → Labelled old new → AreMovers old m → AreMovers new m
+pub movers_on : (old new : Labels) (m : Movers) → Labelled old new → AreMovers old m → AreMovers new m
 movers_on old new m f h = record { first = f m.first h.first; second = λ b e. f b (h.second b e) }
 
 set_labelled : {C : Type 0} (number : C → ℕ) (name : ℕ) (t : Bool) (s : Acting C) → Labelled s.labels (cond t (set_woken number name s) s).labels

@@ -13,3 +13,4 @@ pub mod StandLemmas
 pub mod FoldLemmas
 pub mod RestLemmas
 pub mod NameLemmas
+pub mod LawLemmas
