@@ -8,7 +8,7 @@ use Rattle.graph_colours.specs.declared.limits.TheConstants.{COLOURS}
 use Rattle.graph_colours.specs.declared.member.Member.{Member}
 use Rattle.graph_colours.specs.Members.{AreRising, AreApart, is_free, has_id, inserted, without}
 use Rattle.graph_colours.specs.Marks.{Bucket, HasRoom, members_in, lists_of, IsGraph}
-use Rattle.graph_colours.specs.Colours.{list_at, least_colour, placed, released, colour_of, IsColouring}
+use Rattle.graph_colours.specs.Colours.{list_at, all_members, least_colour, placed, released, colour_of, IsColouring}
 use Rattle.graph_colours.proofs.PlaceLemmas.{is_same, not_same}
 use Rattle.graph_colours.proofs.SearchLemmas.{position_none, position_some, found_in_map, least_is_first}
 use Rattle.graph_colours.proofs.ColouringLemmas.{enough, first_at_most}
@@ -22,24 +22,26 @@ lists_right P [] overflow each = All-head P overflow [] each
 lists_right P (b ∷ bs) overflow each = lists_right P bs overflow (All-tail P b.members (lists_of bs overflow) each)
 
 -- a graph of the same lists
-pub graph_same : {C : Type 0} (number : C → ℕ) (bs cs : List (Bucket C)) (overflow over : List (Member C)) (spare room slots left more below : ℕ) → IsGraph number bs overflow spare room slots → map members_in cs ≡ map members_in bs → over ≡ overflow → All (HasRoom more below) cs → more ≤ left → IsGraph number cs over left more below
-graph_same {C} number bs cs overflow over spare room slots left more below graph same is rooms le =
+pub graph_same : {C : Type 0} (number : C → ℕ) (bs cs : List (Bucket C)) (overflow over : List (Member C)) (capacity count room slots left more below : ℕ) → IsGraph number bs overflow capacity count room slots → map members_in cs ≡ map members_in bs → over ≡ overflow → All (HasRoom (more + count) below) cs → more + count ≤ left → IsGraph number cs over left count more below
+graph_same {C} number bs cs overflow over capacity count room slots left more below graph same is rooms le =
     let lists : List (List (Member C)) → List (Member C) → List (List (Member C)) = λ ls o. ls ++ o ∷ [] in
     let e : lists_of cs over ≡ lists_of bs overflow = ap (λ ls. lists ls over) same ∙ ap (λ o. lists (map members_in bs) o) is in
     let P : List (List (Member C)) → Type 0 = λ l. IsColouring number l in
     record {
       colouring = subst P (sym e) graph.colouring;
       count = sym (length-map cs members_in) ∙ ap length same ∙ length-map bs members_in ∙ graph.count;
+      size = graph.size ∙ sym (ap (λ (ls : List (List (Member C))). length (all_members ls)) e);
       rooms = rooms;
       overflow_room = le;
     }
 
-pub rooms_both : {C : Type 0} (a b s t : ℕ) (bs : List (Bucket C)) → All (HasRoom a s) bs → All (HasRoom b t) bs → All (HasRoom (max a b) (max s t)) bs
-rooms_both {C} a b s t bs first second k d lt =
-    let x : HasRoom a s (get_or bs k d) = first k d lt in
-    let y : HasRoom b t (get_or bs k d) = second k d lt in
+-- room for the greater of two numbers
+pub rooms_both : {C : Type 0} (a b s t n : ℕ) (bs : List (Bucket C)) → All (HasRoom (a + n) s) bs → All (HasRoom (b + n) t) bs → All (HasRoom (max a b + n) (max s t)) bs
+rooms_both {C} a b s t n bs first second k d lt =
+    let x : HasRoom (a + n) s (get_or bs k d) = first k d lt in
+    let y : HasRoom (b + n) t (get_or bs k d) = second k d lt in
     record {
-      enough = let p : a ≤ (get_or bs k d).room = x.enough in let q : b ≤ (get_or bs k d).room = y.enough in omega arith;
+      enough = let p : a + n ≤ (get_or bs k d).capacity = x.enough in let q : b + n ≤ (get_or bs k d).capacity = y.enough in omega arith;
       below = let p : s ≤ (get_or bs k d).slots = x.below in let q : t ≤ (get_or bs k d).slots = y.below in omega arith;
     }
 

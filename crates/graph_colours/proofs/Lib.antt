@@ -7,5 +7,6 @@ pub mod SearchLemmas
 pub mod StepLemmas
 pub mod OnceLemmas
 pub mod ColouringLemmas
+pub mod SizeLemmas
 pub mod EmptyLemmas
 pub mod GraphLemmas

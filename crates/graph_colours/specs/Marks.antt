@@ -1,17 +1,17 @@
 -- How one colour is kept: its members, and for each slot whether one of them has the mover there.
-use Rattle.std.specs.Prelude.{◌≡◌, ℕ, ◌≤◌, ◌||◌, Bool, false, List, ◌∷◌, [], ◌++◌, length, map, slice_index_or, slice_set, All, Option, Some, None}
+use Rattle.std.specs.Prelude.{◌≡◌, ℕ, ◌≤◌, ◌+◌, ◌||◌, Bool, false, List, ◌∷◌, [], ◌++◌, length, map, slice_index_or, slice_set, All, Option, Some, None}
 use Rattle.std.specs.List.{list_any}
 use Rattle.graph_colours.specs.declared.limits.TheConstants.{COLOURS}
 use Rattle.graph_colours.specs.declared.member.Movers.{Movers}
 use Rattle.graph_colours.specs.declared.member.Member.{Member}
 use Rattle.graph_colours.specs.Movers.{has_mover}
 use Rattle.graph_colours.specs.Members.{AreRising, AreApart}
-use Rattle.graph_colours.specs.Colours.{IsColouring}
+use Rattle.graph_colours.specs.Colours.{all_members, IsColouring}
 
--- what a colour shows: its members, how many more it takes with no memory, and the slots that have marks
+-- what a colour shows: its members, for how many in all it has room, and the slots that have marks
 pub record Bucket (C : Type 0) : Type 0 where
   pub members : List (Member C)
-  pub room : ℕ
+  pub capacity : ℕ
   pub slots : ℕ
 
 abbrev pub is_marked_second : List Bool → Option ℕ → Bool
@@ -41,9 +41,9 @@ pub record IsKept {C : Type 0} (number : C → ℕ) (ms : List (Member C)) (used
   pub apart : AreApart ms
   pub marks : AreMarks ms used
 
--- there is room for that many, whose movers' slots are below the bound
+-- there is room for that many in all, whose movers' slots are below the bound
 pub record HasRoom {C : Type 0} (constraints slots : ℕ) (b : Bucket C) : Type 0 where
-  pub enough : constraints ≤ b.room
+  pub enough : constraints ≤ b.capacity
   pub below : slots ≤ b.slots
 
 -- the members of the colours and of the overflow
@@ -53,9 +53,10 @@ members_in b = b.members
 abbrev pub lists_of : {C : Type 0} → List (Bucket C) → List (Member C) → List (List (Member C))
 lists_of colours overflow = map members_in colours ++ overflow ∷ []
 
--- what the whole graph keeps: a colouring, with room for that many more in each colour and in the overflow
-pub record IsGraph {C : Type 0} (number : C → ℕ) (colours : List (Bucket C)) (overflow : List (Member C)) (spare room slots : ℕ) : Type 0 where
+-- what the whole graph keeps: a colouring of that many members, with room for all of them and that many more in each colour and in the overflow
+pub record IsGraph {C : Type 0} (number : C → ℕ) (colours : List (Bucket C)) (overflow : List (Member C)) (capacity members room slots : ℕ) : Type 0 where
   pub colouring : IsColouring number (lists_of colours overflow)
   pub count : length colours ≡ COLOURS
-  pub rooms : All (HasRoom room slots) colours
-  pub overflow_room : room ≤ spare
+  pub size : members ≡ length (all_members (lists_of colours overflow))
+  pub rooms : All (HasRoom (room + members) slots) colours
+  pub overflow_room : room + members ≤ capacity

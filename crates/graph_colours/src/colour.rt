@@ -1,6 +1,6 @@
 //! One colour of the graph: constraints no two of which share a mover.
 
-ghost use Rattle.std.specs.Prelude.{◌≡◌, ◌<◌, ◌≤◌, ◌+◌, true, false, [], OnOk, IfOk};
+ghost use Rattle.std.specs.Prelude.{◌≡◌, ◌<◌, ◌≤◌, true, false, [], length, OnOk, IfOk};
 ghost use Rattle.std.specs.Result.{IsOkUnless};
 ghost use Rattle.graph_colours.specs.Movers.{AreBelow};
 ghost use Rattle.graph_colours.specs.Members.{is_free, has_id, inserted, without};
@@ -20,12 +20,12 @@ pub struct Colour<C: Id> {
 }
 
 impl<C: Id> Model for Colour<C> {
-    ghost use Rattle.std.specs.Prelude.{◌-◌, length, vec_capacity, vec_len};
+    ghost use Rattle.std.specs.Prelude.{length, vec_capacity};
     ghost use Rattle.graph_colours.specs.Marks.{Bucket, IsKept};
 
     ghost Value = { Bucket C };
 
-    ghost view = { λ a. record { members = a.members.items; room = vec_capacity a.members - vec_len a.members; slots = length a.used.items } };
+    ghost view = { λ a. record { members = a.members.items; capacity = vec_capacity a.members; slots = length a.used.items } };
 
     ghost invariant = { λ a. IsKept C.number a.members.items a.used.items };
 }
@@ -54,17 +54,18 @@ impl<C: Id> Colour<C> {
         })
     }
 
-    /// Makes room for that many more members, whose movers' slots are below `slots`. Refused 1 where
+    /// Makes room for that many members in all, whose movers' slots are below `slots`. Refused 1 where
     /// memory is wanting.
     pub(crate) fn reserve(&mut self, constraints: usize, slots: usize) -> Result<(), Refusal>
-        ensures room_made { OnOk result (constraints ≤ self.new.room) }
+        ensures room_made { OnOk result (constraints ≤ self.new.capacity) }
         ensures slots_made { OnOk result (slots ≤ self.new.slots) }
         ensures members { self.new.members ≡ self.old.members }
-        ensures room { self.old.room ≤ self.new.room }
+        ensures capacity { self.old.capacity ≤ self.new.capacity }
         ensures slots { self.old.slots ≤ self.new.slots }
         ensures memory_only { IsOkUnless result Refusal.NoMemory }
     {
-        self.members.reserve(constraints)?;
+        let more = constraints.max(self.members.len()) - self.members.len();
+        self.members.reserve(more)?;
         self.used.resize(slots.max(self.used.len()), false)?;
         Ok(())
     }
@@ -89,9 +90,9 @@ impl<C: Id> Colour<C> {
         requires free { is_free self.old.members member.movers ≡ true }
         requires absent { has_id C.number member.id self.old.members ≡ false }
         requires below { AreBelow self.old.slots member.movers }
-        requires room { 1 ≤ self.old.room }
+        requires room { length self.old.members < self.old.capacity }
         ensures members { self.new.members ≡ inserted C.number member self.old.members }
-        ensures room { self.old.room ≤ self.new.room + 1 }
+        ensures capacity { self.old.capacity ≤ self.new.capacity }
         ensures slots { self.new.slots ≡ self.old.slots }
     {
         member::insert(&mut self.members, member);
@@ -102,7 +103,7 @@ impl<C: Id> Colour<C> {
     pub(crate) fn remove(&mut self, id: C) -> bool
         ensures value { result ≡ has_id C.number id self.old.members }
         ensures members { self.new.members ≡ without C.number id self.old.members }
-        ensures room { self.old.room ≤ self.new.room }
+        ensures capacity { self.old.capacity ≤ self.new.capacity }
         ensures slots { self.new.slots ≡ self.old.slots }
     {
         let Some(movers) = member::remove(&mut self.members, id) else {

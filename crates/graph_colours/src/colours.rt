@@ -1,8 +1,8 @@
 //! The colours and the overflow.
 
-ghost use Rattle.std.specs.Prelude.{◌≡◌, ◌≢◌, ◌<◌, ◌≤◌, ◌+◌, ◌∷◌, ℕ, length, map, replicate, slice_set, slice_index_or, vec_len, vec_capacity, [], All, false, OnOk, OnErr, IfOk};
+ghost use Rattle.std.specs.Prelude.{◌≡◌, ◌≢◌, ◌<◌, ◌≤◌, ◌+◌, ◌==◌, ◌∷◌, ℕ, length, map, replicate, slice_set, slice_index_or, vec_len, vec_capacity, [], All, false, OnOk, OnErr, IfOk};
 ghost use Rattle.std.specs.Result.{IsOkUnless};
-ghost use Rattle.std.specs.List.{position, position_or_len};
+ghost use Rattle.std.specs.List.{position_or_len, count_by};
 ghost use Rattle.std.specs.List.Sorted.{IsPermutation};
 ghost use Rattle.graph_colours.specs.Movers.{AreBelow};
 ghost use Rattle.graph_colours.specs.Members.{AreRising, AreApart, is_free, has_id, inserted, without};
@@ -23,13 +23,14 @@ use std::marker::Model;
 pub struct Colours<C: Id> {
     colours: Vec<Colour<C>>,
     overflow: Vec<Member<C>>,
-    // For how many more constraints, and below which slot, each list has room.
+    // How many constraints there are; and for how many more, and below which slot, each list has room.
+    count: usize,
     room: usize,
     slots: usize,
 }
 
 impl<C: Id> Model for Colours<C> {
-    ghost use Rattle.std.specs.Prelude.{◌-◌, vec_capacity, vec_len};
+    ghost use Rattle.std.specs.Prelude.{vec_capacity};
     ghost use Rattle.graph_colours.specs.Colours.{Coloured};
     ghost use Rattle.graph_colours.specs.Marks.{lists_of, IsGraph};
 
@@ -37,7 +38,7 @@ impl<C: Id> Model for Colours<C> {
 
     ghost view = { λ a. record { lists = lists_of a.colours.items a.overflow.items; room = a.room; slots = a.slots } };
 
-    ghost invariant = { λ a. IsGraph C.number a.colours.items a.overflow.items (vec_capacity a.overflow - vec_len a.overflow) a.room a.slots };
+    ghost invariant = { λ a. IsGraph C.number a.colours.items a.overflow.items (vec_capacity a.overflow) a.count a.room a.slots };
 }
 
 /// As many colours as there are, with no members. Refused 1 where memory is wanting.
@@ -64,7 +65,7 @@ fn copies<C: Id>(alloc: Global, colours: &[Colour<C>]) -> Result<Vec<Colour<C>>,
     Ok(copied)
 }
 
-/// Makes room in each colour. Refused 1 where memory is wanting.
+/// Makes room in each colour for that many members in all. Refused 1 where memory is wanting.
 fn reserve_all<C: Id>(
     colours: &mut Vec<Colour<C>>,
     constraints: usize,
@@ -78,6 +79,26 @@ fn reserve_all<C: Id>(
     for place in 0..colours.len() {
         colours[place].reserve(constraints, slots)?;
     }
+    Ok(())
+}
+
+/// Makes room in each colour and in the overflow for that many members in all. Refused 1 where memory is wanting.
+fn reserve_lists<C: Id>(
+    colours: &mut Vec<Colour<C>>,
+    overflow: &mut Vec<Member<C>>,
+    constraints: usize,
+    slots: usize,
+) -> Result<(), Refusal>
+    ensures made { OnOk result (All (HasRoom constraints slots) colours.new.items) }
+    ensures kept { (room below : ℕ) → All (HasRoom room below) colours.old.items → All (HasRoom room below) colours.new.items }
+    ensures lists { map members_in colours.new.items ≡ map members_in colours.old.items }
+    ensures overflow { overflow.new.items ≡ overflow.old.items }
+    ensures overflow_made { OnOk result (constraints ≤ vec_capacity overflow.new) }
+    ensures capacity { vec_capacity overflow.old ≤ vec_capacity overflow.new }
+    ensures memory_only { IsOkUnless result Refusal.NoMemory }
+{
+    reserve_all(colours, constraints, slots)?;
+    overflow.reserve(constraints.max(overflow.len()) - overflow.len())?;
     Ok(())
 }
 
@@ -106,9 +127,15 @@ fn first_with<C: Id>(colours: &[Colour<C>], id: C) -> usize
     colours.len()
 }
 
-/// Takes the id out of the first list that has it, and touches no other: an id stands in one at most.
-fn remove_from_first<C: Id>(colours: &mut Vec<Colour<C>>, overflow: &mut Vec<Member<C>>, id: C)
+/// Takes the id out of the first list that has it, and touches no other: an id stands in one at most. Answers
+/// how many members went.
+fn remove_from_first<C: Id>(
+    colours: &mut Vec<Colour<C>>,
+    overflow: &mut Vec<Member<C>>,
+    id: C,
+) -> usize
     requires { IsColouring C.number (lists_of colours.old.items overflow.old.items) }
+    ensures gone { result ≡ count_by (λ m. C.number m.id == C.number id) (all_members (lists_of colours.old.items overflow.old.items)) }
     ensures lists { lists_of colours.new.items overflow.new.items ≡ released C.number id (lists_of colours.old.items overflow.old.items) }
     ensures kept { (room below : ℕ) → All (HasRoom room below) colours.old.items → All (HasRoom room below) colours.new.items }
     ensures len { vec_len overflow.new ≤ vec_len overflow.old }
@@ -116,10 +143,13 @@ fn remove_from_first<C: Id>(colours: &mut Vec<Colour<C>>, overflow: &mut Vec<Mem
 {
     for colour in 0..colours.len() {
         if colours[colour].remove(id) {
-            return;
+            return 1;
         }
     }
-    let _ = member::remove(overflow, id);
+    match member::remove(overflow, id) {
+        Some(_) => 1,
+        None => 0,
+    }
 }
 
 /// Adds a member to the colour at this place, or to the overflow where there is none.
@@ -133,10 +163,10 @@ fn put<C: Id>(
     requires absent { All (λ colour. has_id C.number member.id colour.members ≡ false) colours.old.items }
     requires rising { AreRising C.number overflow.old.items }
     requires below { All (λ colour. AreBelow colour.slots member.movers) colours.old.items }
-    requires room { All (λ colour. 1 ≤ colour.room) colours.old.items }
+    requires room { All (λ colour. length colour.members < colour.capacity) colours.old.items }
     requires overflow_room { vec_len overflow.old < vec_capacity overflow.old }
     ensures lists { lists_of colours.new.items overflow.new.items ≡ slice_set (lists_of colours.old.items overflow.old.items) place (inserted C.number member (list_at (lists_of colours.old.items overflow.old.items) place)) }
-    ensures kept { (room below : ℕ) → All (HasRoom (room + 1) below) colours.old.items → All (HasRoom room below) colours.new.items }
+    ensures kept { (room below : ℕ) → All (HasRoom room below) colours.old.items → All (HasRoom room below) colours.new.items }
     ensures len { vec_len overflow.new ≤ vec_len overflow.old + 1 }
     ensures capacity { vec_capacity overflow.old ≤ vec_capacity overflow.new }
 {
@@ -158,6 +188,7 @@ impl<C: Id> Colours<C> {
         Ok(Colours {
             colours: no_colours(alloc)?,
             overflow: Vec::new(alloc),
+            count: 0,
             room: 0,
             slots: 0,
         })
@@ -171,12 +202,23 @@ impl<C: Id> Colours<C> {
         ensures memory_only { IsOkUnless result Refusal.NoMemory }
     {
         let alloc = *self.overflow.allocator();
+        let mut colours = copies(alloc, &self.colours)?;
+        let mut overflow = Vec::from_slice(alloc, self.overflow.as_slice())?;
+        reserve_lists(&mut colours, &mut overflow, self.count, 0)?;
         Ok(Colours {
-            colours: copies(alloc, &self.colours)?,
-            overflow: Vec::from_slice(alloc, self.overflow.as_slice())?,
+            colours,
+            overflow,
+            count: self.count,
             room: 0,
             slots: 0,
         })
+    }
+
+    /// How many constraints there are.
+    pub fn count(&self) -> usize
+        ensures { result ≡ length (all_members self.now.lists) }
+    {
+        self.count
     }
 
     /// Makes room for that many more constraints, whose movers' slots are below `slots`. Refused 1
@@ -190,8 +232,10 @@ impl<C: Id> Colours<C> {
         ensures refused { OnErr result (self.new ≡ self.old) }
         ensures memory_only { IsOkUnless result Refusal.NoMemory }
     {
-        reserve_all(&mut self.colours, constraints, slots)?;
-        self.overflow.reserve(constraints)?;
+        let Some(total) = self.count.checked_add(constraints) else {
+            return Err(Refusal::NoMemory);
+        };
+        reserve_lists(&mut self.colours, &mut self.overflow, total, slots)?;
         self.room = self.room.max(constraints);
         self.slots = self.slots.max(slots);
         Ok(())
@@ -206,6 +250,7 @@ impl<C: Id> Colours<C> {
         ensures colour { result ≡ least_colour self.old.lists movers }
         ensures lists { self.new.lists ≡ placed C.number (record { id = id; movers = movers }) self.old.lists }
         ensures room { self.old.room ≡ self.new.room + 1 }
+        ensures total { self.new.room + length (all_members self.new.lists) ≡ self.old.room + length (all_members self.old.lists) }
         ensures slots { self.new.slots ≡ self.old.slots }
         ensures keeps { IsColouring C.number self.new.lists }
         ensures own { colour_of C.number id self.new.lists ≡ Some result }
@@ -220,6 +265,7 @@ impl<C: Id> Colours<C> {
             Member { id, movers },
         );
         self.room -= 1;
+        self.count += 1;
         colour as u8
     }
 
@@ -227,14 +273,16 @@ impl<C: Id> Colours<C> {
     /// constraint's colour changes.
     pub fn release(&mut self, id: C)
         ensures lists { self.new.lists ≡ released C.number id self.old.lists }
-        ensures room { self.new.room ≡ self.old.room }
+        ensures total { self.new.room + length (all_members self.new.lists) ≡ self.old.room + length (all_members self.old.lists) }
         ensures slots { self.new.slots ≡ self.old.slots }
         ensures keeps { IsColouring C.number self.new.lists }
         ensures own { colour_of C.number id self.new.lists ≡ None }
         ensures others { (other : C) → C.number other ≢ C.number id → colour_of C.number other self.new.lists ≡ colour_of C.number other self.old.lists }
         ensures members { all_members self.new.lists ≡ without C.number id (all_members self.old.lists) }
     {
-        remove_from_first(&mut self.colours, &mut self.overflow, id);
+        let gone = remove_from_first(&mut self.colours, &mut self.overflow, id);
+        self.room += gone;
+        self.count -= gone;
     }
 
     /// The colour of the constraint, 0 to `OVERFLOW`; `None` where it has none.

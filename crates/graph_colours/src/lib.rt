@@ -10,7 +10,7 @@ mod colour;
 mod colours;
 mod limits;
 mod marks;
-mod member;
+pub mod member;
 
 pub use colours::Colours;
 pub use limits::{COLOURS, OVERFLOW};

@@ -29,7 +29,7 @@ pub struct Member<C> {
 }
 
 /// The place of the first member whose id's number is at least `wanted`, or the list's length.
-pub(crate) fn place_from<C: Id>(members: &[Member<C>], wanted: u128) -> usize
+pub fn place_from<C: Id>(members: &[Member<C>], wanted: u128) -> usize
     requires { AreRising C.number members.now }
     ensures within { result ≤ length members.now }
     ensures before { AllWithin (λ m. C.number m.id < wanted) members.now 0 result }
@@ -39,7 +39,7 @@ pub(crate) fn place_from<C: Id>(members: &[Member<C>], wanted: u128) -> usize
 }
 
 /// Whether a member has the id.
-pub(crate) fn has_id<C: Id>(members: &[Member<C>], id: C) -> bool
+pub fn has_id<C: Id>(members: &[Member<C>], id: C) -> bool
     requires { AreRising C.number members.now }
     ensures { result ≡ has_id C.number id members.now }
 {
@@ -51,7 +51,7 @@ pub(crate) fn has_id<C: Id>(members: &[Member<C>], id: C) -> bool
 }
 
 /// Adds a member, for which there is room.
-pub(crate) fn insert<C: Id>(members: &mut Vec<Member<C>>, member: Member<C>)
+pub fn insert<C: Id>(members: &mut Vec<Member<C>>, member: Member<C>)
     requires rising { AreRising C.number members.old.items }
     requires room { vec_len members.old < vec_capacity members.old }
     ensures items { members.new.items ≡ inserted C.number member members.old.items }
@@ -63,7 +63,7 @@ pub(crate) fn insert<C: Id>(members: &mut Vec<Member<C>>, member: Member<C>)
 }
 
 /// Takes out the member that has the id, and answers its movers.
-pub(crate) fn remove<C: Id>(members: &mut Vec<Member<C>>, id: C) -> Option<Movers>
+pub fn remove<C: Id>(members: &mut Vec<Member<C>>, id: C) -> Option<Movers>
     requires { AreRising C.number members.old.items }
     ensures value { result ≡ movers_of C.number id members.old.items }
     ensures items { members.new.items ≡ without C.number id members.old.items }

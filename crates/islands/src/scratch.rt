@@ -51,7 +51,6 @@ impl SplitScratch {
     /// Makes room for the split of an island with that many links, where there are that many slots in
     /// all. Refused 1 where memory is wanting.
     pub fn reserve(&mut self, slots: usize, links: usize) -> Result<(), Refusal>
-        requires few { links ≤ 2 ^ 62 }
         ensures slots_made { OnOk result (slots ≤ self.new.slots) }
         ensures links_made { OnOk result (links ≤ self.new.links) }
         ensures slots { self.old.slots ≤ self.new.slots }

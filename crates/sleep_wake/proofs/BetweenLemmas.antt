@@ -11,7 +11,9 @@ use Rattle.graph_colours.proofs.ListLemmas.{pairs_none, pairs_head, pairs_tail}
 use Rattle.graph_colours.proofs.PlaceLemmas.{not_same}
 use Rattle.islands.specs.Labels.{Labels}
 use Rattle.sleep_wake.specs.Acting.{AreMovers, IsSettled}
-use Rattle.sleep_wake.specs.Changes.{Change, Begin, End, turned, change_number, IsChange, AreChangesOf, only_in, change_inserted, begins_inserted, changes_between}
+use Rattle.sleep_wake.specs.declared.change.Change.{Change}
+use Rattle.sleep_wake.specs.declared.change.Change.TheVariants.{Begin, End}
+use Rattle.sleep_wake.specs.Changes.{turned, change_number, IsChange, AreChangesOf, only_in, change_inserted, begins_inserted, changes_between}
 use Rattle.sleep_wake.specs.Laws.{TurnsInto}
 use Rattle.sleep_wake.proofs.ListLemmas.{filter_in, in_filter, has_from, rising_filter}
 use Rattle.sleep_wake.proofs.TurnLemmas.{changes_fold, ties_after_all, one_order, begin_is, end_is}

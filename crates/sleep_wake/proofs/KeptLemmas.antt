@@ -18,13 +18,15 @@ use Rattle.islands.proofs.LabelLemmas.{in_of, one_label}
 use Rattle.islands.proofs.KeptLemmas.{same_links, changing_state, loosening, merging}
 use Rattle.islands.proofs.SplitLemmas.{IsLabelled}
 use Rattle.sleep_wake.specs.Acting.{Acting, AreMovers, IsSettled, links_of, awake_label, is_awake, second_awake, are_awake}
-use Rattle.sleep_wake.specs.Changes.{Change, Begin, End, parted, united, ended, begun, turned, AreChanges}
+use Rattle.sleep_wake.specs.declared.change.Change.{Change}
+use Rattle.sleep_wake.specs.declared.change.Change.TheVariants.{Begin, End}
+use Rattle.sleep_wake.specs.Changes.{parted, united, ended, begun, turned, AreChanges}
 use Rattle.sleep_wake.specs.Waking.{ties_of, has_mover_of, set_woken, woken_by, woken_at, second_woken, movers_woken, put_to_rest}
 use Rattle.sleep_wake.specs.Laws.{WakingKeeps, TurningKeeps, RestingKeeps, SleepersAreOneComponent, LinkedStandTogether, EndingKeeps, BeginningKeeps}
 use Rattle.sleep_wake.proofs.ListLemmas.{filter_in, in_filter, without_in, in_without, inserted_in, in_inserted, one_of, has_from, absent_from, places_one, places, Places, releases, Releases, released_in, in_released, rising_filter, link_in, in_links, links_more}
 use Rattle.sleep_wake.proofs.AwakeLemmas.{and_is, all_awake, awake_first, same_awake, NoneIn, of_island, tie_together, awake_in, awake_out, awake_as, stated_labelled, in_or_out, parted_awake, parted_labelled, united_awake, united_labelled}
 
-asleep_whole : (state : IslandState) → is_asleep state ≡ true → is_loose state ≡ false
+pub asleep_whole : (state : IslandState) → is_asleep state ≡ true → is_loose state ≡ false
 asleep_whole Whole h = refl
 asleep_whole Loose h = absurd (false≢true h)
 asleep_whole Asleep h = refl
@@ -126,7 +128,7 @@ pub record WakesBoth {C : Type 0} (number : C → ℕ) (first : ℕ) (second : O
   pub one : IsLabelled s.labels first → is_awake new.labels first ≡ true
   pub two : (b : ℕ) → second ≡ Some b → IsLabelled s.labels b → is_awake new.labels b ≡ true
 
-wakes_both : {C : Type 0} (number : C → ℕ) (first : ℕ) (o : Option ℕ) (s : Acting C) → IsSettled number s → WakesBoth number first o s (second_woken number o (woken_at number first s))
+pub wakes_both : {C : Type 0} (number : C → ℕ) (first : ℕ) (o : Option ℕ) (s : Acting C) → IsSettled number s → WakesBoth number first o s (second_woken number o (woken_at number first s))
 wakes_both number first None s w = let a = wakes number first s w in record { settled = a.settled; ties = a.ties; labelled = a.labelled; one = a.awake; two = λ b e h. absurd (let no : None ≡ Some b = e in cc) }
 wakes_both number first (Some c) s w =
     let a = wakes number first s w in

@@ -8,3 +8,9 @@ pub mod SetLemmas
 pub mod PickLemmas
 pub mod CountLemmas
 pub mod EdgeLemmas
+pub mod SizeLemmas
+pub mod StandLemmas
+pub mod FoldLemmas
+pub mod RestLemmas
+pub mod NameLemmas
+pub mod LawLemmas

@@ -25,7 +25,7 @@ use Rattle.sleep_wake.proofs.ListLemmas.{none_in, filter_in, in_filter, one_of, 
 use Rattle.sleep_wake.proofs.AwakeLemmas.{same_awake, awake_as}
 use Rattle.sleep_wake.proofs.KeptLemmas.{resting}
 
-not_is : (t : Bool) → not t ≡ true → t ≡ false
+pub not_is : (t : Bool) → not t ≡ true → t ≡ false
 not_is true h = absurd (false≢true h)
 not_is false h = refl
 
@@ -281,7 +281,7 @@ names_by labels name false (Some l) e h = let o = and_is (l.name == name) (not (
     let q = and_is (not (is_loose l.state)) (not (is_asleep l.state)) o.1 in
     record { l = l; at = e; named = eqb-true l.name name o.0; loosely = not_is (is_loose l.state) q.0; awake = not_is (is_asleep l.state) q.1 }
 
-names : (labels : Labels) (name : ℕ) (loose : Bool) → IsNamedIsland loose labels name → Names labels name loose
+pub names : (labels : Labels) (name : ℕ) (loose : Bool) → IsNamedIsland loose labels name → Names labels name loose
 names labels name loose h = names_by labels name loose (label_at labels name) refl h
 
 -- one of the list is picked, or none
@@ -296,6 +296,10 @@ longer_is P timer (Some b) m f h k q = next_best P (is_less (timer b) (timer m))
 longest_of : (P : ℕ → Type 0) (timer : ℕ → Option ℕ) (best : Option ℕ) (ns : List ℕ) → ((n : ℕ) → best ≡ Some n → P n) → AreAll P ns → (n : ℕ) → longest_at_rest timer best ns ≡ Some n → P n
 longest_of P timer best [] f h n e = f n e
 longest_of P timer best (m ∷ ns) f h n e = longest_of P timer (longer_at_rest timer best m) ns (longer_is P timer best m f h.0) h.1 n e
+
+-- one that is picked is a loose island
+pub picked_is : (labels : Labels) (timers : List ℕ) (n : ℕ) → picked_to_split labels timers ≡ Some n → is_island true n (label_at labels n) ≡ true
+picked_is labels timers n e = longest_of (IsNamedIsland true labels) (λ name. least_timer name labels timers) None (ready true labels timers) (λ k q. absurd (let no : None ≡ Some k = q in cc)) (ready_all true labels timers) n e
 
 split_keeps : {C : Type 0} (number : C → ℕ) (s : Acting C) (o : Option ℕ) → IsSettled number s → ((n : ℕ) → o ≡ Some n → IsNamedIsland true s.labels n) → IsSettled number (split_picked o s)
 split_keeps number s None w f = w
@@ -327,8 +331,7 @@ rest_keeps number (n ∷ ns) s w h =
 pub sleeping_keeps : {C : Type 0} (number : C → ℕ) → SleepPhaseKeeps number
 sleeping_keeps {C} number s timers w =
     let now : Acting C = split_picked (picked_to_split s.labels timers) s in
-    let first : IsSettled number now = split_keeps number s (picked_to_split s.labels timers) w (λ n e.
-    longest_of (IsNamedIsland true s.labels) (λ name. least_timer name s.labels timers) None (ready true s.labels timers) (λ k q. absurd (let no : None ≡ Some k = q in cc)) (ready_all true s.labels timers) n e) in
+    let first : IsSettled number now = split_keeps number s (picked_to_split s.labels timers) w (λ n e. picked_is s.labels timers n e) in
     rest_keeps number (ready false now.labels timers) now first
     (all_on (IsNamedIsland false now.labels) (MayRest now.labels) (ready false now.labels timers) (λ n h. let o = names now.labels n false h in (o.l, o.at, o.named, o.loosely)) (ready_all false now.labels timers))
 

@@ -1,10 +1,12 @@
 -- Constraints that begin and end, one after the other, and which of them do between two lists.
-use Rattle.std.specs.Prelude.{◌≡◌, ◌≢◌, ℕ, false, not, cond, nat_lt, List, [], ◌∷◌, Option, Some, None, filter, map, Contains, AllPairs}
+use Rattle.std.specs.Prelude.{◌≡◌, ◌≢◌, ℕ, suc, true, false, not, cond, nat_lt, List, [], ◌∷◌, Option, Some, None, filter, map, Contains, AllPairs}
 use Rattle.graph_colours.specs.declared.member.Member.{Member}
-use Rattle.graph_colours.specs.Members.{has_id, inserted, without}
+use Rattle.graph_colours.specs.Members.{AreRising, has_id, inserted, without}
 use Rattle.graph_colours.specs.Colours.{placed, released}
 use Rattle.islands.specs.Labels.{Labels, merged, loosened}
-use Rattle.sleep_wake.specs.Acting.{Acting, AreMovers}
+use Rattle.sleep_wake.specs.declared.change.Change.{Change}
+use Rattle.sleep_wake.specs.declared.change.Change.TheVariants.{Begin, End}
+use Rattle.sleep_wake.specs.Acting.{Acting, AreMovers, are_awake}
 use Rattle.sleep_wake.specs.Waking.{movers_woken}
 
 -- ---- one constraint begins or ends, while its movers are awake
@@ -27,16 +29,49 @@ ended number m s = record { ties = without number m.id s.ties; labels = parted m
 unfoldable pub begun : {C : Type 0} → (C → ℕ) → Member C → Acting C → Acting C
 begun number m s = record { ties = inserted number m s.ties; labels = united m.movers.second m.movers.first s.labels; lists = placed number m s.lists }
 
--- ---- changes, each at its turn
+-- ---- several begin or end, one after the other, while their movers are awake
 
-pub data Change (C : Type 0) : Type 0 where
-  Begin : Member C → Change C
-  End : Member C → Change C
+abbrev pub each_begun : {C : Type 0} → (C → ℕ) → List (Member C) → Acting C → Acting C
+each_begun number [] s = s
+each_begun number (m ∷ ms) s = each_begun number ms (begun number m s)
+
+abbrev pub each_ended : {C : Type 0} → (C → ℕ) → List (Member C) → Acting C → Acting C
+each_ended number [] s = s
+each_ended number (m ∷ ms) s = each_ended number ms (ended number m s)
+
+-- the constraints with these, and without these
+abbrev pub each_inserted : {C : Type 0} → (C → ℕ) → List (Member C) → List (Member C) → List (Member C)
+each_inserted number [] ties = ties
+each_inserted number (m ∷ ms) ties = each_inserted number ms (inserted number m ties)
+
+abbrev pub each_without : {C : Type 0} → (C → ℕ) → List (Member C) → List (Member C) → List (Member C)
+each_without number [] ties = ties
+each_without number (m ∷ ms) ties = each_without number ms (without number m.id ties)
+
+-- they ascend, none of them is there yet, and their movers are awake
+pub record CanBegin {C : Type 0} (number : C → ℕ) (ms : List (Member C)) (s : Acting C) : Type 0 where
+  pub rising : AreRising number ms
+  pub fresh : (m : Member C) → Contains ms m → has_id number m.id s.ties ≡ false
+  pub awake : (m : Member C) → Contains ms m → are_awake s.labels m.movers ≡ true
+
+-- they ascend, are there, and their movers are awake
+pub record CanEnd {C : Type 0} (number : C → ℕ) (ms : List (Member C)) (s : Acting C) : Type 0 where
+  pub rising : AreRising number ms
+  pub there : (m : Member C) → Contains ms m → Contains s.ties m
+  pub awake : (m : Member C) → Contains ms m → are_awake s.labels m.movers ≡ true
+
+-- ---- changes, each at its turn
 
 -- sleeping movers of the constraint wake first
 abbrev pub changed : {C : Type 0} → (C → ℕ) → Change C → Acting C → Acting C
 changed number (Begin m) s = begun number m (movers_woken number m.movers s)
 changed number (End m) s = ended number m (movers_woken number m.movers s)
+
+-- how many of the changes begin
+abbrev pub begin_count : {C : Type 0} → List (Change C) → ℕ
+begin_count [] = 0
+begin_count (Begin m ∷ changes) = suc (begin_count changes)
+begin_count (End m ∷ changes) = begin_count changes
 
 -- the changes one after the other
 abbrev pub turned : {C : Type 0} → (C → ℕ) → List (Change C) → Acting C → Acting C

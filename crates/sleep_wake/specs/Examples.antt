@@ -5,7 +5,8 @@ use Rattle.islands.specs.declared.label.IslandState.{IslandState}
 use Rattle.islands.specs.declared.label.IslandState.TheVariants.{Loose, Asleep}
 use Rattle.islands.specs.declared.label.Label.{Label}
 use Rattle.sleep_wake.specs.Acting.{Acting}
-use Rattle.sleep_wake.specs.Changes.{turned, End}
+use Rattle.sleep_wake.specs.declared.change.Change.TheVariants.{End}
+use Rattle.sleep_wake.specs.Changes.{turned}
 use Rattle.sleep_wake.specs.SleepPhase.{sleep_phase}
 
 -- a constraint between the movers in two slots

@@ -1,5 +1,5 @@
 -- What keeps a world settled, and what being settled means.
-use Rattle.std.specs.Prelude.{◌≡◌, ℕ, ◌↔◌, ◌⊎◌, Bool, true, false, List, [], Some, None, Contains}
+use Rattle.std.specs.Prelude.{◌≡◌, ℕ, ◌==◌, ◌||◌, ◌&&◌, not, is_some, ◌↔◌, ◌⊎◌, Bool, true, false, List, [], Some, None, Contains}
 use Rattle.graph_colours.specs.declared.member.Member.{Member}
 use Rattle.graph_colours.specs.Members.{AreRising, has_id}
 use Rattle.graph_colours.specs.Colours.{all_members, IsColouring}
@@ -8,8 +8,11 @@ use Rattle.islands.specs.Links.{Linked, Joined}
 use Rattle.islands.specs.Labels.{Labels, label_at, is_asleep, is_loose}
 use Rattle.sleep_wake.specs.Acting.{Acting, AreMovers, IsSettled, links_of, is_awake, are_awake}
 use Rattle.sleep_wake.specs.Waking.{woken_at, put_to_rest}
-use Rattle.sleep_wake.specs.Changes.{Change, Begin, End, ended, begun, turned, AreChanges, AreChangesOf, changes_between}
+use Rattle.sleep_wake.specs.declared.change.Change.{Change}
+use Rattle.sleep_wake.specs.declared.change.Change.TheVariants.{Begin, End}
+use Rattle.sleep_wake.specs.Changes.{each_begun, each_ended, CanBegin, CanEnd, ended, begun, turned, AreChanges, AreChangesOf, changes_between}
 use Rattle.sleep_wake.specs.Bodies.{dropped, mover_gone, mover_made}
+use Rattle.sleep_wake.specs.Sleeping.{names_of, islands_woken, slept_at}
 use Rattle.sleep_wake.specs.SleepPhase.{split_at, sleep_phase}
 
 -- ---- what being settled means
@@ -92,3 +95,64 @@ SplittingKeeps {C} number = (s : Acting C) (name : ℕ) (l : Label) → IsSettle
 
 abbrev pub SleepPhaseKeeps : {C : Type 0} → (C → ℕ) → Type 0
 SleepPhaseKeeps {C} number = (s : Acting C) (timers : List ℕ) → IsSettled number s → IsSettled number (sleep_phase number timers s)
+
+-- islands may wake by their names
+abbrev pub WakingNamedKeeps : {C : Type 0} → (C → ℕ) → Type 0
+WakingNamedKeeps {C} number = (s : Acting C) (names : List ℕ) → IsSettled number s → IsSettled number (islands_woken number names s)
+
+-- several constraints may begin, one after the other
+abbrev pub BeginningEachKeeps : {C : Type 0} → (C → ℕ) → Type 0
+BeginningEachKeeps {C} number = (s : Acting C) (ms : List (Member C)) → IsSettled number s → CanBegin number ms s → IsSettled number (each_begun number ms s)
+
+-- several constraints may end, one after the other
+abbrev pub EndingEachKeeps : {C : Type 0} → (C → ℕ) → Type 0
+EndingEachKeeps {C} number = (s : Acting C) (ms : List (Member C)) → IsSettled number s → CanEnd number ms s → IsSettled number (each_ended number ms s)
+
+-- a mover may be put to sleep
+abbrev pub SleepKeeps : {C : Type 0} → (C → ℕ) → Type 0
+SleepKeeps {C} number = (s : Acting C) (slot : ℕ) → IsSettled number s → IsSettled number (slept_at number slot s)
+
+-- ---- who is a mover
+
+-- there are movers in the same slots
+abbrev pub HaveSameMovers : {C : Type 0} → Acting C → Acting C → Type 0
+HaveSameMovers old new = (slot : ℕ) → is_some (label_at new.labels slot) ≡ is_some (label_at old.labels slot)
+
+-- whoever wakes or sleeps, and whatever begins or ends
+pub record MoversStay {C : Type 0} (number : C → ℕ) : Type 0 where
+  pub waking : (s : Acting C) (names : List ℕ) → HaveSameMovers s (islands_woken number names s)
+  pub begun : (s : Acting C) (ms : List (Member C)) → HaveSameMovers s (each_begun number ms s)
+  pub ended : (s : Acting C) (ms : List (Member C)) → HaveSameMovers s (each_ended number ms s)
+  pub turned : (s : Acting C) (changes : List (Change C)) → HaveSameMovers s (turned number changes s)
+  pub slept : (s : Acting C) (slot : ℕ) → IsSettled number s → HaveSameMovers s (slept_at number slot s)
+  pub phase : (s : Acting C) (timers : List ℕ) → IsSettled number s → HaveSameMovers s (sleep_phase number timers s)
+
+-- one that comes is a mover, and one that goes isn't
+pub record MoversComeAndGo {C : Type 0} (number : C → ℕ) : Type 0 where
+  pub made : (s : Acting C) (slot other : ℕ) → is_some (label_at (mover_made slot s).labels other) ≡ ((other == slot) || is_some (label_at s.labels other))
+  pub gone : (s : Acting C) (slot other : ℕ) → is_some (label_at (mover_gone number slot s).labels other) ≡ (not (other == slot) && is_some (label_at s.labels other))
+
+-- ---- who is awake
+
+-- whoever is awake stays so
+abbrev pub NobodyFallsAsleep : {C : Type 0} → Acting C → Acting C → Type 0
+NobodyFallsAsleep old new = (slot : ℕ) → is_awake old.labels slot ≡ true → is_awake new.labels slot ≡ true
+
+-- nobody falls asleep where islands wake, or constraints begin and end
+pub record AwakeStayAwake {C : Type 0} (number : C → ℕ) : Type 0 where
+  pub waking : (s : Acting C) (names : List ℕ) → IsSettled number s → NobodyFallsAsleep s (islands_woken number names s)
+  pub begun : (s : Acting C) (ms : List (Member C)) → IsSettled number s → CanBegin number ms s → NobodyFallsAsleep s (each_begun number ms s)
+  pub ended : (s : Acting C) (ms : List (Member C)) → IsSettled number s → CanEnd number ms s → NobodyFallsAsleep s (each_ended number ms s)
+  pub turned : (s : Acting C) (changes : List (Change C)) → IsSettled number s → AreChanges number s.labels s.ties changes → NobodyFallsAsleep s (turned number changes s)
+
+-- The label of an awake mover stays as it is where others wake.
+abbrev pub WakingLeavesTheAwake : {C : Type 0} → (C → ℕ) → Type 0
+WakingLeavesTheAwake {C} number = (s : Acting C) (names : List ℕ) (slot : ℕ) → IsSettled number s → is_awake s.labels slot ≡ true → label_at (islands_woken number names s).labels slot ≡ label_at s.labels slot
+
+-- Once the islands of some movers were woken by their names, all of these are awake.
+abbrev pub TheNamedAreAwake : {C : Type 0} → (C → ℕ) → Type 0
+TheNamedAreAwake {C} number = (s : Acting C) (slots : List ℕ) (slot : ℕ) → IsSettled number s → Contains slots slot → is_some (label_at s.labels slot) ≡ true → is_awake (islands_woken number (names_of s.labels slots) s).labels slot ≡ true
+
+-- A constraint has a colour just while all its movers are awake.
+abbrev pub TheAwakeAct : {C : Type 0} → (C → ℕ) → Type 0
+TheAwakeAct {C} number = (s : Acting C) (m : Member C) → IsSettled number s → Contains s.ties m → Contains (all_members s.lists) m ↔ (are_awake s.labels m.movers ≡ true)

@@ -4,5 +4,7 @@ pub mod Rooms
 pub mod Changes
 pub mod Bodies
 pub mod SleepPhase
+pub mod Sleeping
+pub mod Standing
 pub mod Laws
 pub mod Examples

@@ -55,10 +55,14 @@ is_island loose name None = false
 is_island true name (Some l) = (l.name == name) && is_loose l.state
 is_island false name (Some l) = (l.name == name) && (not (is_loose l.state) && not (is_asleep l.state))
 
+-- it is, and its movers have been slow for long enough
+abbrev pub is_ready : Bool → Labels → List ℕ → ℕ → Option Label → Bool
+is_ready loose labels timers name o = is_island loose name o && is_due (least_timer name labels timers)
+
 -- where the list begins with this slot
 abbrev pub ready_from : Bool → Labels → List ℕ → ℕ → Labels → List ℕ
 ready_from loose labels timers slot [] = []
-ready_from loose labels timers slot (o ∷ rest) = cond (is_island loose slot o && is_due (least_timer slot labels timers)) (slot ∷ ready_from loose labels timers (suc slot) rest) (ready_from loose labels timers (suc slot) rest)
+ready_from loose labels timers slot (o ∷ rest) = cond (is_ready loose labels timers slot o) (slot ∷ ready_from loose labels timers (suc slot) rest) (ready_from loose labels timers (suc slot) rest)
 
 -- the names of the loose islands that are ready, or of the whole ones, ascending
 abbrev pub ready : Bool → Labels → List ℕ → List ℕ
@@ -86,7 +90,7 @@ picked_to_split labels timers = longest_at_rest (λ name. least_timer name label
 
 -- the best so far, once the label in a slot was looked at too
 abbrev pub weighed : Labels → List ℕ → Option ℕ → ℕ → Option Label → Option ℕ
-weighed labels timers best slot o = cond (is_island true slot o && is_due (least_timer slot labels timers)) (longer_at_rest (λ name. least_timer name labels timers) best slot) best
+weighed labels timers best slot o = cond (is_ready true labels timers slot o) (longer_at_rest (λ name. least_timer name labels timers) best slot) best
 
 abbrev pub split_picked : {C : Type 0} → Option ℕ → Acting C → Acting C
 split_picked None s = s

@@ -1,6 +1,6 @@
 //! What keeps a world settled, and what being settled means. Each function does nothing; its contract is a law.
 
-ghost use Rattle.sleep_wake.specs.Laws.{SleepersAreOneComponent, LinkedStandTogether, WakingKeeps, RestingKeeps, EndingKeeps, BeginningKeeps, TurningKeeps, ChangesFold, TiesAfter, OneOrder, TurnsInto, DroppingKeeps, GoingKeeps, MakingKeeps, EmptyIsSettled, SplittingKeeps, SleepPhaseKeeps};
+ghost use Rattle.sleep_wake.specs.Laws.{SleepersAreOneComponent, LinkedStandTogether, WakingKeeps, RestingKeeps, EndingKeeps, BeginningKeeps, TurningKeeps, ChangesFold, TiesAfter, OneOrder, TurnsInto, DroppingKeeps, GoingKeeps, MakingKeeps, EmptyIsSettled, SplittingKeeps, SleepPhaseKeeps, WakingNamedKeeps, BeginningEachKeeps, EndingEachKeeps, SleepKeeps, MoversStay, MoversComeAndGo, AwakeStayAwake, WakingLeavesTheAwake, TheNamedAreAwake, TheAwakeAct};
 
 use graph_colours::Id;
 
@@ -94,4 +94,54 @@ pub fn splitting_keeps<C: Id>()
 /// falls asleep.
 pub fn sleep_phase_keeps<C: Id>()
     ensures { SleepPhaseKeeps C.number }
+{}
+
+/// Islands may wake by their names, one after the other.
+pub fn waking_named_keeps<C: Id>()
+    ensures { WakingNamedKeeps C.number }
+{}
+
+/// Several constraints with new ids may begin while their movers are awake.
+pub fn beginning_each_keeps<C: Id>()
+    ensures { BeginningEachKeeps C.number }
+{}
+
+/// Several constraints may end while their movers are awake.
+pub fn ending_each_keeps<C: Id>()
+    ensures { EndingEachKeeps C.number }
+{}
+
+/// A mover may be put to sleep with its island, which is split first where it is loose.
+pub fn sleep_keeps<C: Id>()
+    ensures { SleepKeeps C.number }
+{}
+
+/// Who is a mover doesn't change where islands wake and sleep, and constraints begin and end.
+pub fn movers_stay<C: Id>()
+    ensures { MoversStay C.number }
+{}
+
+/// A mover that comes is one more, and one that goes is one less.
+pub fn movers_come_and_go<C: Id>()
+    ensures { MoversComeAndGo C.number }
+{}
+
+/// Nobody falls asleep where islands wake, or constraints begin and end.
+pub fn awake_stay_awake<C: Id>()
+    ensures { AwakeStayAwake C.number }
+{}
+
+/// Where islands wake, the labels of those that are awake stay as they are.
+pub fn waking_leaves_the_awake<C: Id>()
+    ensures { WakingLeavesTheAwake C.number }
+{}
+
+/// Once the islands of some movers were woken by their names, all of these are awake.
+pub fn the_named_are_awake<C: Id>()
+    ensures { TheNamedAreAwake C.number }
+{}
+
+/// A constraint has a colour just while all its movers are awake.
+pub fn the_awake_act<C: Id>()
+    ensures { TheAwakeAct C.number }
 {}

@@ -10,12 +10,17 @@
 //! it and what follows from it.
 #![tactic(auto)]
 
+mod change;
+mod changing;
 pub mod examples;
+mod growing;
 pub mod laws;
+mod names;
 mod phase;
 mod sets;
 mod splits;
+mod waking;
 
-pub use phase::{TICKS_TO_SLEEP, pick_split};
-pub use sets::{fall_asleep, wake_movers, wake_set};
-pub use splits::split_set;
+pub use change::Change;
+pub use phase::TICKS_TO_SLEEP;
+pub use sets::Sets;

@@ -1,14 +1,26 @@
 //! Which island a sleep phase splits.
 
-ghost use Rattle.std.specs.Prelude.{◌≡◌, true, cond, Some};
+ghost use Rattle.std.specs.Prelude.{◌≡◌, true, false, cond, Some};
 ghost use Rattle.islands.specs.Labels.{label_at};
-ghost use Rattle.sleep_wake.specs.SleepPhase.{lesser, least_timer, is_due, is_island, is_less, longer_at_rest, weighed, picked_to_split};
+ghost use Rattle.sleep_wake.specs.SleepPhase.{lesser, least_timer, is_due, is_island, is_ready, is_less, longer_at_rest, weighed, picked_to_split};
 
-use crate::sets::is_in;
+use crate::waking::is_in;
 use islands::Islands;
 
 /// For how many ticks each mover of an island has to have been slow, before it is ready to sleep.
 pub const TICKS_TO_SLEEP: u64 = 128;
+
+/// Whether the slot names a whole island that is awake.
+fn is_whole_island(islands: &Islands, slot: u32) -> bool
+    ensures { result ≡ is_island false slot (label_at islands.now.labels slot) }
+{
+    match islands.label_of(slot) {
+        None => false,
+        Some(label) => {
+            label.name == slot && !label.state.is_loose() && !label.state.is_asleep()
+        }
+    }
+}
 
 /// Whether the slot names a loose island.
 fn is_loose_island(islands: &Islands, slot: u32) -> bool
@@ -18,6 +30,13 @@ fn is_loose_island(islands: &Islands, slot: u32) -> bool
         None => false,
         Some(label) => label.name == slot && label.state.is_loose(),
     }
+}
+
+/// Whether the slot names a whole island that is awake and has been slow for long enough.
+pub(crate) fn is_ready(islands: &Islands, timers: &[u64], slot: u32) -> bool
+    ensures { result ≡ is_ready false islands.now.labels timers.now slot (label_at islands.now.labels slot) }
+{
+    is_whole_island(islands, slot) && is_due(least_timer(islands, timers, slot))
 }
 
 fn lesser(timer: u64, least: Option<u64>) -> u64
@@ -100,7 +119,7 @@ fn weighed(islands: &Islands, timers: &[u64], best: Option<u32>, slot: u32) -> O
 
 /// The loose island that a sleep phase splits: of those that are ready the one with the greatest least
 /// timer, and of these the lowest. Timers are by slot, in ticks. `None` where none is ready.
-pub fn pick_split(islands: &Islands, timers: &[u64]) -> Option<u32>
+pub(crate) fn pick_split(islands: &Islands, timers: &[u64]) -> Option<u32>
     ensures { result ≡ picked_to_split islands.now.labels timers.now }
 {
     let mut best = None;

@@ -1,152 +1,438 @@
-//! Islands wake and fall asleep, and their constraints take colours and give them up.
+//! The constraints, islands and colours of a world, kept together.
 
-ghost use Rattle.std.specs.Prelude.{◌≡◌, ℕ, ◌≤◌, ◌+◌, true, length, filter, None, Some, Contains};
+ghost use Rattle.std.specs.Prelude.{◌≡◌, ◌<◌, ◌≤◌, ◌+◌, ◌∷◌, ℕ, true, false, length, filter, replicate, [], IfOk, OnOk, OnErr, Some, None, Contains, option_map};
+ghost use Rattle.std.specs.Result.{IsOkUnless};
+ghost use Rattle.graph_colours.specs.declared.limits.TheConstants.{COLOURS};
 ghost use Rattle.graph_colours.specs.declared.member.Member.{Member as TheMember};
-ghost use Rattle.graph_colours.specs.Movers.{AreBelow};
-ghost use Rattle.graph_colours.specs.Members.{AreRising};
-ghost use Rattle.graph_colours.specs.Colours.{all_members};
-ghost use Rattle.islands.specs.Labels.{label_at, is_in, IsIn};
-ghost use Rattle.sleep_wake.specs.Acting.{acting, IsSettled};
-ghost use Rattle.sleep_wake.specs.Waking.{second_in, are_in, has_mover_of, placed_all, released_all, set_woken, woken_at, movers_woken, put_to_rest};
-ghost use Rattle.sleep_wake.specs.Rooms.{CanPlace};
+ghost use Rattle.graph_colours.specs.Members.{has_id};
+ghost use Rattle.graph_colours.specs.Movers.{has_mover};
+ghost use Rattle.islands.specs.Labels.{label_at};
+ghost use Rattle.sleep_wake.specs.Acting.{acting, is_awake, are_awake, AreMovers, IsSettled};
+ghost use Rattle.sleep_wake.specs.Waking.{woken_at, movers_woken, put_to_rest};
+ghost use Rattle.sleep_wake.specs.Changes.{begun, ended, each_begun, each_ended, CanBegin, CanEnd, changed, turned, begin_count, IsChange, AreChanges};
+ghost use Rattle.sleep_wake.specs.Bodies.{mover_made, mover_gone};
+ghost use Rattle.sleep_wake.specs.SleepPhase.{is_island, split_at, sleep_phase, ready_put_to_rest};
+ghost use Rattle.sleep_wake.specs.Sleeping.{names_of, is_whole, islands_woken, split_if_loose, rested_at, slept_at};
 
-use graph_colours::{Colours, Id, Member, Movers};
-use islands::Islands;
+use crate::change::Change;
+use crate::changing::{begin, end};
+use crate::growing::grow;
+use crate::names::list_names;
+use crate::phase::{is_ready, pick_split};
+use crate::splits::split_set;
+use crate::waking::{are_awake, fall_asleep, is_awake, wake_movers, wake_set};
+use fixed_geom::Refusal;
+use graph_colours::{Colours, Id, Member, Movers, member};
+use islands::{Islands, Label, SplitScratch};
+use std::alloc::Global;
+use std::marker::Model;
 
-/// Whether the mover in the slot is in the island of this name.
-pub(crate) fn is_in(islands: &Islands, name: u32, slot: u32) -> bool
-    ensures { result ≡ is_in (label_at islands.now.labels slot) name }
-{
-    match islands.label_of(slot) {
-        None => false,
-        Some(label) => label.name == name,
-    }
+/// All constraints between movers, awake or asleep, with the islands of the movers and the colours of the constraints
+/// that act. Contracts see these three (`acting`), how many constraints may stand with no memory, those that do counted
+/// (`room`), and the bound below which a mover's slot must be (`slots`). Only `new`, `try_copy`, `reserve` and `names_of`
+/// take memory.
+#[derive(Drop)]
+pub struct Sets<C: Id> {
+    // Ascending by number.
+    ties: Vec<Member<C>>,
+    colours: Colours<C>,
+    islands: Islands,
+    // What a split works on.
+    edges: Vec<(u32, u32)>,
+    scratch: SplitScratch,
+    room: usize,
+    slots: usize,
 }
 
-fn is_second_in(islands: &Islands, name: u32, slot: Option<u32>) -> bool
-    ensures { result ≡ second_in islands.now.labels name slot }
-{
-    match slot {
-        None => false,
-        Some(slot) => is_in(islands, name, slot),
-    }
+impl<C: Id> Model for Sets<C> {
+    ghost use Rattle.std.specs.Prelude.{vec_capacity};
+    ghost use Rattle.sleep_wake.specs.Acting.{acting};
+    ghost use Rattle.sleep_wake.specs.Standing.{Standing, IsStanding};
+
+    ghost Value = { Standing C };
+
+    ghost view = { λ a. record { acting = acting a.ties.items a.islands.labels a.colours.lists; room = a.room; slots = a.slots } };
+
+    ghost invariant = { λ a. IsStanding C.number (acting a.ties.items a.islands.labels a.colours.lists) a.room a.slots (record { ties = vec_capacity a.ties; colours = a.colours.room; colour_slots = a.colours.slots; islands = a.islands.room; edges = vec_capacity a.edges; scratch_slots = a.scratch.slots; links = a.scratch.links }) };
 }
 
-/// Whether one of the movers is in the island of this name.
-fn are_in(islands: &Islands, name: u32, movers: Movers) -> bool
-    ensures { result ≡ are_in islands.now.labels name movers }
-{
-    is_in(islands, name, movers.first) || is_second_in(islands, name, movers.second)
-}
-
-/// Gives colours to the constraints of an island, of which none has one, in their order.
-fn place_island<C: Id>(islands: &Islands, colours: &mut Colours<C>, ties: &[Member<C>], name: u32)
-    requires { CanPlace C.number (has_mover_of islands.now.labels name) ties.now colours.old.lists colours.old.room colours.old.slots }
-    ensures lists { colours.new.lists ≡ placed_all C.number colours.old.lists (filter (has_mover_of islands.now.labels name) ties.now) }
-    ensures slots { colours.new.slots ≡ colours.old.slots }
-    ensures room { colours.new.room + length (all_members colours.new.lists) ≡ colours.old.room + length (all_members colours.old.lists) }
-{
-    for place in 0..ties.len() {
-        let tie = ties[place];
-        if are_in(islands, name, tie.movers) {
-            colours.place(tie.id, tie.movers);
-        }
-    }
-}
-
-/// Takes the colours of the constraints of an island.
-fn release_island<C: Id>(islands: &Islands, colours: &mut Colours<C>, ties: &[Member<C>], name: u32)
-    ensures lists { colours.new.lists ≡ released_all C.number colours.old.lists (filter (has_mover_of islands.now.labels name) ties.now) }
-    ensures slots { colours.new.slots ≡ colours.old.slots }
-    ensures room { colours.new.room ≡ colours.old.room }
-{
-    for place in 0..ties.len() {
-        let tie = ties[place];
-        if are_in(islands, name, tie.movers) {
-            colours.release(tie.id);
-        }
-    }
-}
-
-/// Wakes an island that sleeps: its movers are awake, and its constraints have colours.
-#[tactic(auto, unfolding(crate::specs::Waking::set_woken))]
-fn wake_island<C: Id>(
-    islands: &mut Islands,
-    colours: &mut Colours<C>,
-    ties: &[Member<C>],
-    name: u32,
-)
-    requires island { IsIn islands.old.labels name name }
-    requires places { CanPlace C.number (has_mover_of islands.old.labels name) ties.now colours.old.lists colours.old.room colours.old.slots }
-    ensures woken { acting ties.now islands.new.labels colours.new.lists ≡ set_woken C.number name (acting ties.now islands.old.labels colours.old.lists) }
-    ensures islands_room { islands.new.room ≡ islands.old.room }
-    ensures slots { colours.new.slots ≡ colours.old.slots }
-    ensures room { colours.new.room + length (all_members colours.new.lists) ≡ colours.old.room + length (all_members colours.old.lists) }
-{
-    place_island(islands, colours, ties, name);
-    islands.wake(name);
-}
-
-/// Wakes the island of the mover in the slot, if it sleeps: its constraints take colours, in the order
-/// of the ties. Takes no memory: there is room for all ties that have no colour.
-#[tactic(auto, unfolding(crate::specs::Waking::woken_at))]
-pub fn wake_set<C: Id>(
-    islands: &mut Islands,
-    colours: &mut Colours<C>,
-    ties: &[Member<C>],
-    slot: u32,
-)
-    requires settled { IsSettled C.number (acting ties.now islands.old.labels colours.old.lists) }
-    requires below { (m : TheMember C) → Contains ties.now m → AreBelow colours.old.slots m.movers }
-    requires room { length ties.now ≤ colours.old.room + length (all_members colours.old.lists) }
-    ensures woken { acting ties.now islands.new.labels colours.new.lists ≡ woken_at C.number slot (acting ties.now islands.old.labels colours.old.lists) }
-    ensures islands_room { islands.new.room ≡ islands.old.room }
-    ensures slots { colours.new.slots ≡ colours.old.slots }
-    ensures room { colours.new.room + length (all_members colours.new.lists) ≡ colours.old.room + length (all_members colours.old.lists) }
-{
-    if let Some(label) = islands.label_of(slot)
-        && label.state.is_asleep()
+impl<C: Id> Sets<C> {
+    /// No movers and no constraints, and room for none. Refused 1 where memory is wanting.
+    pub fn new(alloc: Global) -> Result<Sets<C>, Refusal>
+        ensures acting { IfOk result (λ made. made.acting ≡ acting [] [] (replicate (COLOURS + 1) [])) }
+        ensures room { IfOk result (λ made. made.room ≡ 0) }
+        ensures slots { IfOk result (λ made. made.slots ≡ 0) }
+        ensures memory_only { IsOkUnless result Refusal.NoMemory }
     {
-        wake_island(islands, colours, ties, label.name);
+        Ok(Sets {
+            ties: Vec::new(alloc),
+            colours: Colours::new(alloc)?,
+            islands: Islands::new(alloc),
+            edges: Vec::new(alloc),
+            scratch: SplitScratch::new(alloc),
+            room: 0,
+            slots: 0,
+        })
     }
-}
 
-/// Wakes the islands of a constraint's movers, those that sleep, the first one's first. Takes no memory:
-/// there is room for all ties that have no colour.
-pub fn wake_movers<C: Id>(
-    islands: &mut Islands,
-    colours: &mut Colours<C>,
-    ties: &[Member<C>],
-    movers: Movers,
-)
-    requires settled { IsSettled C.number (acting ties.now islands.old.labels colours.old.lists) }
-    requires below { (m : TheMember C) → Contains ties.now m → AreBelow colours.old.slots m.movers }
-    requires room { length ties.now ≤ colours.old.room + length (all_members colours.old.lists) }
-    ensures woken { acting ties.now islands.new.labels colours.new.lists ≡ movers_woken C.number movers (acting ties.now islands.old.labels colours.old.lists) }
-    ensures islands_room { islands.new.room ≡ islands.old.room }
-    ensures slots { colours.new.slots ≡ colours.old.slots }
-    ensures room { colours.new.room + length (all_members colours.new.lists) ≡ colours.old.room + length (all_members colours.old.lists) }
-{
-    wake_set(islands, colours, ties, movers.first);
-    if let Some(second) = movers.second {
-        wake_set(islands, colours, ties, second);
+    /// A copy of its own, with room for the constraints that it has. Refused 1 where memory is wanting.
+    pub fn try_copy(&self) -> Result<Sets<C>, Refusal>
+        ensures acting { IfOk result (λ copied. copied.acting ≡ self.now.acting) }
+        ensures room { IfOk result (λ copied. copied.room ≡ length self.now.acting.ties) }
+        ensures slots { IfOk result (λ copied. copied.slots ≡ self.now.slots) }
+        ensures memory_only { IsOkUnless result Refusal.NoMemory }
+    {
+        let alloc = *self.ties.allocator();
+        let mut ties = Vec::from_slice(alloc, self.ties.as_slice())?;
+        let mut colours = self.colours.try_copy()?;
+        let mut islands = self.islands.try_copy()?;
+        let mut edges = Vec::new(alloc);
+        let mut scratch = SplitScratch::new(alloc);
+        let room = grow(&mut ties, &mut colours, &mut islands, &mut edges, &mut scratch, 0, self.slots)?;
+        Ok(Sets {
+            ties,
+            colours,
+            islands,
+            edges,
+            scratch,
+            room,
+            slots: self.slots,
+        })
     }
-}
 
-/// Puts an island to rest, and takes the colours of its constraints. Takes no memory.
-#[tactic(auto, unfolding(crate::specs::Waking::put_to_rest))]
-pub fn fall_asleep<C: Id>(
-    islands: &mut Islands,
-    colours: &mut Colours<C>,
-    ties: &[Member<C>],
-    name: u32,
-)
-    requires island { IsIn islands.old.labels name name }
-    ensures at_rest { acting ties.now islands.new.labels colours.new.lists ≡ put_to_rest C.number name (acting ties.now islands.old.labels colours.old.lists) }
-    ensures islands_room { islands.new.room ≡ islands.old.room }
-    ensures slots { colours.new.slots ≡ colours.old.slots }
-    ensures room { colours.new.room ≡ colours.old.room }
-{
-    release_island(islands, colours, ties, name);
-    islands.rest(name);
+    /// Makes room for that many more constraints, and for movers in slots below `slots`. Refused 1 where memory is wanting.
+    pub fn reserve(&mut self, constraints: usize, slots: usize) -> Result<(), Refusal>
+        ensures room_made { OnOk result (length self.old.acting.ties + constraints ≤ self.new.room) }
+        ensures slots_made { OnOk result (slots ≤ self.new.slots) }
+        ensures acting { self.new.acting ≡ self.old.acting }
+        ensures room { self.old.room ≤ self.new.room }
+        ensures slots { self.old.slots ≤ self.new.slots }
+        ensures refused { OnErr result (self.new ≡ self.old) }
+        ensures memory_only { IsOkUnless result Refusal.NoMemory }
+    {
+        let room = grow(
+            &mut self.ties,
+            &mut self.colours,
+            &mut self.islands,
+            &mut self.edges,
+            &mut self.scratch,
+            constraints,
+            slots,
+        )?;
+        self.room = self.room.max(room);
+        self.slots = self.slots.max(slots);
+        Ok(())
+    }
+
+    // ---- what there is
+
+    /// All constraints, whether their movers are awake or asleep, ascending by number.
+    pub fn ties(&self) -> &[Member<C>]
+        ensures value { result.now ≡ self.now.acting.ties }
+        ensures settled { IsSettled C.number self.now.acting }
+        ensures enough { length self.now.acting.ties ≤ self.now.room }
+    {
+        self.ties.as_slice()
+    }
+
+    /// What holds of all sets: a law, for loops over their calls.
+    fn settled(&self)
+        ensures { IsSettled C.number self.now.acting }
+    {
+        let _ = self.ties();
+    }
+
+    /// The colours of the constraints that act.
+    pub fn colours(&self) -> &Colours<C>
+        ensures { result.now.lists ≡ self.now.acting.lists }
+    {
+        &self.colours
+    }
+
+    /// The islands of the movers.
+    pub fn islands(&self) -> &Islands
+        ensures { result.now.labels ≡ self.now.acting.labels }
+    {
+        &self.islands
+    }
+
+    /// The label of a mover's island; `None` where there is no mover.
+    pub fn label_of(&self, slot: u32) -> Option<Label>
+        ensures value { result ≡ label_at self.now.acting.labels slot }
+        ensures few { length self.now.acting.labels ≤ self.now.slots }
+    {
+        self.islands.label_of(slot)
+    }
+
+    /// The name of a mover's island, which is its lowest slot; `None` where there is no mover.
+    pub fn name_of(&self, slot: u32) -> Option<u32>
+        ensures { result ≡ option_map (λ l. l.name) (label_at self.now.acting.labels slot) }
+    {
+        self.islands.name_of(slot)
+    }
+
+    /// Whether a mover is in the slot, and awake.
+    pub fn is_awake(&self, slot: u32) -> bool
+        ensures { result ≡ is_awake self.now.acting.labels slot }
+    {
+        is_awake(&self.islands, slot)
+    }
+
+    /// Whether all movers of a constraint are awake.
+    pub fn are_awake(&self, movers: Movers) -> bool
+        ensures { result ≡ are_awake self.now.acting.labels movers }
+    {
+        are_awake(&self.islands, movers)
+    }
+
+    /// Whether there is a constraint of this id.
+    pub fn has(&self, id: C) -> bool
+        ensures { result ≡ has_id C.number id self.now.acting.ties }
+    {
+        member::has_id(&self.ties, id)
+    }
+
+    /// The names of the sleeping islands of the movers in these slots, ascending and each once. Refused 1 where memory is
+    /// wanting.
+    pub fn names_of(&self, slots: &[u32]) -> Result<Vec<u32>, Refusal>
+        ensures value { IfOk result (λ names. names.items ≡ names_of self.now.acting.labels slots.now) }
+        ensures memory_only { IsOkUnless result Refusal.NoMemory }
+    {
+        list_names(*self.ties.allocator(), &self.islands, slots)
+    }
+
+    // ---- movers come and go
+
+    /// Makes a mover an island of its own, awake and not loose.
+    #[tactic(auto, unfolding(crate::specs::Bodies::mover_made))]
+    pub fn add_mover(&mut self, slot: u32)
+        requires fresh { label_at self.old.acting.labels slot ≡ None }
+        requires below { slot < self.old.slots }
+        ensures acting { self.new.acting ≡ mover_made slot self.old.acting }
+        ensures room { self.new.room ≡ self.old.room }
+        ensures slots { self.new.slots ≡ self.old.slots }
+    {
+        self.islands.add(slot);
+    }
+
+    /// Takes an awake mover that is in no constraint out of its island. Those that it leaves behind are loose.
+    pub fn remove_mover(&mut self, slot: u32)
+        requires awake { is_awake self.old.acting.labels slot ≡ true }
+        requires alone { filter (λ m. has_mover m.movers slot) self.old.acting.ties ≡ [] }
+        ensures acting { self.new.acting ≡ mover_gone C.number slot self.old.acting }
+        ensures room { self.new.room ≡ self.old.room }
+        ensures slots { self.new.slots ≡ self.old.slots }
+    {
+        self.islands.take_out(slot);
+    }
+
+    // ---- islands wake
+
+    /// Wakes the island of the mover in the slot, if it sleeps: its constraints take colours in their order.
+    pub fn wake(&mut self, slot: u32)
+        ensures acting { self.new.acting ≡ woken_at C.number slot self.old.acting }
+        ensures room { self.new.room ≡ self.old.room }
+        ensures slots { self.new.slots ≡ self.old.slots }
+    {
+        wake_set(&mut self.islands, &mut self.colours, &self.ties, slot);
+    }
+
+    /// Wakes the islands of a constraint's movers, those that sleep, the first one's first.
+    pub fn wake_movers(&mut self, movers: Movers)
+        ensures acting { self.new.acting ≡ movers_woken C.number movers self.old.acting }
+        ensures room { self.new.room ≡ self.old.room }
+        ensures slots { self.new.slots ≡ self.old.slots }
+    {
+        wake_movers(&mut self.islands, &mut self.colours, &self.ties, movers);
+    }
+
+    /// Wakes the islands of these names, those that sleep, one after the other.
+    pub fn wake_named(&mut self, names: &[u32])
+        ensures acting { self.new.acting ≡ islands_woken C.number names.now self.old.acting }
+        ensures room { self.new.room ≡ self.old.room }
+        ensures slots { self.new.slots ≡ self.old.slots }
+    {
+        for place in 0..names.len() {
+            self.wake(names[place]);
+        }
+    }
+
+    // ---- constraints begin and end
+
+    /// A constraint comes whose movers are awake: the islands of two movers are merged, and it takes the least colour that is
+    /// free.
+    pub fn begin(&mut self, member: Member<C>)
+        requires fresh { has_id C.number member.id self.old.acting.ties ≡ false }
+        requires awake { are_awake self.old.acting.labels member.movers ≡ true }
+        requires room { length self.old.acting.ties < self.old.room }
+        ensures acting { self.new.acting ≡ begun C.number member self.old.acting }
+        ensures room { self.new.room ≡ self.old.room }
+        ensures slots { self.new.slots ≡ self.old.slots }
+    {
+        begin(&mut self.islands, &mut self.colours, &mut self.ties, member);
+    }
+
+    /// A constraint goes whose movers are awake: it gives up its colour, and the island of two movers gets loose.
+    pub fn end(&mut self, member: Member<C>)
+        requires there { Contains self.old.acting.ties member }
+        requires awake { are_awake self.old.acting.labels member.movers ≡ true }
+        ensures acting { self.new.acting ≡ ended C.number member self.old.acting }
+        ensures room { self.new.room ≡ self.old.room }
+        ensures slots { self.new.slots ≡ self.old.slots }
+    {
+        end(&mut self.islands, &mut self.colours, &mut self.ties, member);
+    }
+
+    /// Constraints come whose movers are awake, one after the other.
+    pub fn begin_each(&mut self, members: &[Member<C>])
+        requires can { CanBegin C.number members.now self.old.acting }
+        requires room { length self.old.acting.ties + length members.now ≤ self.old.room }
+        ensures acting { self.new.acting ≡ each_begun C.number members.now self.old.acting }
+        ensures room { self.new.room ≡ self.old.room }
+        ensures slots { self.new.slots ≡ self.old.slots }
+    {
+        for place in 0..members.len() {
+            self.settled();
+            self.begin(members[place]);
+        }
+    }
+
+    /// Constraints go whose movers are awake, one after the other.
+    pub fn end_each(&mut self, members: &[Member<C>])
+        requires can { CanEnd C.number members.now self.old.acting }
+        ensures acting { self.new.acting ≡ each_ended C.number members.now self.old.acting }
+        ensures room { self.new.room ≡ self.old.room }
+        ensures slots { self.new.slots ≡ self.old.slots }
+    {
+        for place in 0..members.len() {
+            self.settled();
+            self.end(members[place]);
+        }
+    }
+
+    /// A constraint begins or ends, and its sleeping movers wake before.
+    pub fn change(&mut self, change: Change<C>)
+        requires can { IsChange C.number self.old.acting.labels self.old.acting.ties change }
+        requires room { length self.old.acting.ties + begin_count (change ∷ []) ≤ self.old.room }
+        ensures acting { self.new.acting ≡ changed C.number change self.old.acting }
+        ensures room { self.new.room ≡ self.old.room }
+        ensures slots { self.new.slots ≡ self.old.slots }
+    {
+        self.settled();
+        match change {
+            Change::Begin(member) => {
+                self.wake_movers(member.movers);
+                self.begin(member);
+            }
+            Change::End(member) => {
+                self.wake_movers(member.movers);
+                self.end(member);
+            }
+        }
+    }
+
+    /// Constraints begin and end, each at its turn, as the contacts of a step do. The sleeping movers of each wake before it.
+    pub fn turn(&mut self, changes: &[Change<C>])
+        requires can { AreChanges C.number self.old.acting.labels self.old.acting.ties changes.now }
+        requires room { length self.old.acting.ties + begin_count changes.now ≤ self.old.room }
+        ensures acting { self.new.acting ≡ turned C.number changes.now self.old.acting }
+        ensures room { self.new.room ≡ self.old.room }
+        ensures slots { self.new.slots ≡ self.old.slots }
+    {
+        for place in 0..changes.len() {
+            self.change(changes[place]);
+        }
+    }
+
+    // ---- islands fall asleep
+
+    /// Puts a whole island that is awake to rest, by its name: its constraints give up their colours.
+    pub fn put_to_rest(&mut self, name: u32)
+        requires { is_island false name (label_at self.old.acting.labels name) ≡ true }
+        ensures acting { self.new.acting ≡ put_to_rest C.number name self.old.acting }
+        ensures room { self.new.room ≡ self.old.room }
+        ensures slots { self.new.slots ≡ self.old.slots }
+    {
+        fall_asleep(&mut self.islands, &mut self.colours, &self.ties, name);
+    }
+
+    /// Replaces a loose island by its components, by its name. No constraint changes.
+    #[tactic(auto, unfolding(crate::specs::SleepPhase::split_at))]
+    pub fn split(&mut self, name: u32)
+        requires { is_island true name (label_at self.old.acting.labels name) ≡ true }
+        ensures acting { self.new.acting ≡ split_at name self.old.acting }
+        ensures room { self.new.room ≡ self.old.room }
+        ensures slots { self.new.slots ≡ self.old.slots }
+    {
+        split_set(&mut self.islands, &self.ties, name, &mut self.edges, &mut self.scratch);
+    }
+
+    /// Puts a mover to sleep with its island, which is split first where it is loose. One that sleeps stays as it is.
+    #[tactic(auto, unfolding(crate::specs::Sleeping::slept_at))]
+    pub fn sleep(&mut self, slot: u32)
+        ensures acting { self.new.acting ≡ slept_at C.number slot self.old.acting }
+        ensures room { self.new.room ≡ self.old.room }
+        ensures slots { self.new.slots ≡ self.old.slots }
+    {
+        self.settled();
+        if let Some(label) = self.label_of(slot)
+            && !label.state.is_asleep()
+        {
+            self.split_if_loose(label);
+            self.rest_at(slot);
+        }
+    }
+
+    /// Splits the island of this label, if it is loose.
+    fn split_if_loose(&mut self, label: Label)
+        requires { label_at self.old.acting.labels label.name ≡ Some label }
+        ensures acting { self.new.acting ≡ split_if_loose label self.old.acting }
+        ensures room { self.new.room ≡ self.old.room }
+        ensures slots { self.new.slots ≡ self.old.slots }
+    {
+        if label.state.is_loose() {
+            self.split(label.name);
+        }
+    }
+
+    /// Puts the whole island of an awake mover to rest.
+    fn rest_at(&mut self, slot: u32)
+        requires { is_whole (label_at self.old.acting.labels slot) ≡ true }
+        ensures acting { self.new.acting ≡ rested_at C.number slot self.old.acting }
+        ensures room { self.new.room ≡ self.old.room }
+        ensures slots { self.new.slots ≡ self.old.slots }
+    {
+        self.settled();
+        if let Some(label) = self.label_of(slot) {
+            self.put_to_rest(label.name);
+        }
+    }
+
+    /// The sleep phase of a step, with the timers of the movers by slot, in ticks: of the loose islands that are ready one is
+    /// split, the one that has been slow for longest, and then each whole one that is ready falls asleep. An island is
+    /// ready where the timers of all its movers are at least `TICKS_TO_SLEEP`; one with a mover that may not sleep is kept
+    /// awake by a timer of 0 there.
+    pub fn sleep_phase(&mut self, timers: &[u64])
+        ensures acting { self.new.acting ≡ sleep_phase C.number timers.now self.old.acting }
+        ensures room { self.new.room ≡ self.old.room }
+        ensures slots { self.new.slots ≡ self.old.slots }
+    {
+        if let Some(name) = pick_split(self.islands(), timers) {
+            self.split(name);
+        }
+        self.rest_ready(timers);
+    }
+
+    /// Each whole island that is ready falls asleep.
+    fn rest_ready(&mut self, timers: &[u64])
+        ensures acting { self.new.acting ≡ ready_put_to_rest C.number timers.now self.old.acting }
+        ensures room { self.new.room ≡ self.old.room }
+        ensures slots { self.new.slots ≡ self.old.slots }
+    {
+        for slot in 0..self.islands().slots() {
+            if is_ready(self.islands(), timers, slot as u32) {
+                self.put_to_rest(slot as u32);
+            }
+        }
+    }
 }

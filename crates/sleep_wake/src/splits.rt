@@ -8,7 +8,7 @@ ghost use Rattle.islands.specs.Partition.{AreIslands};
 ghost use Rattle.sleep_wake.specs.Acting.{links_of};
 ghost use Rattle.sleep_wake.specs.SleepPhase.{edges_in, edges_of_one};
 
-use crate::sets::is_in;
+use crate::waking::is_in;
 use graph_colours::{Id, Member, Movers};
 use islands::{Islands, SplitScratch};
 
@@ -41,7 +41,7 @@ fn list_edges<C: Id>(edges: &mut Vec<(u32, u32)>, islands: &Islands, ties: &[Mem
 
 /// Replaces an island by its components over the constraints' links, which are listed in `edges`.
 /// Takes no memory: the edges and the scratch have room for as many links as there are ties.
-pub fn split_set<C: Id>(
+pub(crate) fn split_set<C: Id>(
     islands: &mut Islands,
     ties: &[Member<C>],
     name: u32,

@@ -5,10 +5,12 @@ use Rattle.graph_colours.specs.declared.limits.TheConstants.{COLOURS}
 use Rattle.graph_colours.specs.declared.member.Member.{Member}
 use Rattle.graph_colours.specs.Members.{AreRising, is_free, has_id}
 use Rattle.graph_colours.specs.Marks.{Bucket, HasRoom, lists_of}
-use Rattle.graph_colours.specs.Colours.{IsColouring}
+use Rattle.graph_colours.specs.Colours.{all_members, placed, IsColouring}
 use Rattle.graph_colours.proofs.SearchLemmas.{least_is_first}
 use Rattle.graph_colours.proofs.GraphLemmas.{placed_is, placed_count, lists_left, lists_right}
 use Rattle.graph_colours.proofs.ColouringLemmas.{absent_in_each, first_at_most, placed_keeps, placed_own, placed_others, placed_members}
+use Rattle.graph_colours.proofs.SizeLemmas.{placed_size}
+use Rattle.graph_colours.proofs.StepLemmas.{one_fits}
 use Rattle.graph_colours.proofs.colours.Colours.place.Goals as goal
 
 pub put-requires-clause-absent : goal.put-requires-clause-absent
@@ -35,6 +37,12 @@ overflow_cast-result g c =
     let le : c.first_free-colour.result ≤ COLOURS = omega (arith, e, most, c.self.invariant.count) in
     search (rules, le)
 
+pub put-requires-clause-room : goal.put-requires-clause-room
+put-requires-clause-room g c =
+    let a = c.self.inside in
+    let one = rw (← c.self.view_is) at c.requires.room in
+    one_fits (a.room + a.count) a.slots a.count a.colours.items a.overflow.items c.self.invariant.rooms (omega (arith, c.self.invariant.size)) (omega (arith, one))
+
 pub invariant_of-self : goal.invariant_of-self
 invariant_of-self g c =
     let a = c.self.inside in
@@ -44,13 +52,14 @@ invariant_of-self g c =
     let is = placed_is g.C.Id.number m a.colours.items c.put.new.colours.items a.overflow.items over.items c.first_free-colour.result c.self.invariant.count e c.put.ensures.lists in
     let absent = rw (← c.self.view_is) at c.requires.absent in
     let one = rw (← c.self.view_is) at c.requires.room in
-    let more : a.room ≡ a.room - 1 + 1 = omega (arith, one) in
-    let rooms = subst (λ n. All (HasRoom n a.slots) a.colours.items) more c.self.invariant.rooms in
-    let le : a.room - 1 ≤ vec_capacity over - vec_len over = omega (arith, one, c.self.invariant.overflow_room, c.put.ensures.len, c.put.ensures.capacity) in
+    let same : a.room + a.count ≡ a.room - 1 + (a.count + 1) = omega (arith, one) in
+    let rooms = subst (λ n. All (HasRoom n a.slots) a.colours.items) same c.self.invariant.rooms in
+    let le : a.room - 1 + (a.count + 1) ≤ vec_capacity over = omega (arith, one, c.self.invariant.overflow_room, c.put.ensures.capacity) in
     record {
       colouring = rw is (placed_keeps g.C.Id.number m (lists_of a.colours.items a.overflow.items) c.self.invariant.colouring absent);
       count = placed_count g.C.Id.number m a.colours.items c.put.new.colours.items a.overflow.items over.items c.self.invariant.count is;
-      rooms = c.put.ensures.kept (a.room - 1) a.slots rooms;
+      size = let more : length (all_members (placed g.C.Id.number m (lists_of a.colours.items a.overflow.items))) ≡ length (all_members (lists_of a.colours.items a.overflow.items)) + 1 = placed_size g.C.Id.number m (lists_of a.colours.items a.overflow.items) c.self.invariant.colouring in rw is (omega (arith, more, c.self.invariant.size));
+      rooms = c.put.ensures.kept (a.room - 1 + (a.count + 1)) a.slots rooms;
       overflow_room = le;
     }
 
@@ -80,3 +89,13 @@ returns-clause-members g c =
     let m : Member g.row.C.Denot = record { id = c.args.id; movers = c.args.movers } in
     let keeps : IsColouring g.C.Id.number c.args.self.now.lists = rw (← c.self.view_is) c.self.invariant.colouring in
     rw (returns-clause-lists g c) (placed_members g.C.Id.number m c.args.self.now.lists keeps)
+
+pub returns-clause-total : goal.returns-clause-total
+returns-clause-total g c =
+    let a = c.self.inside in
+    let m : Member g.row.C.Denot = record { id = c.args.id; movers = c.args.movers } in
+    let e = rw c.deref.ensures.value at c.first_free-colour.ensures in
+    let is = placed_is g.C.Id.number m a.colours.items c.put.new.colours.items a.overflow.items c.put.new.overflow.items c.first_free-colour.result c.self.invariant.count e c.put.ensures.lists in
+    let more : length (all_members (placed g.C.Id.number m (lists_of a.colours.items a.overflow.items))) ≡ length (all_members (lists_of a.colours.items a.overflow.items)) + 1 = placed_size g.C.Id.number m (lists_of a.colours.items a.overflow.items) c.self.invariant.colouring in
+    let one = rw (← c.self.view_is) at c.requires.room in
+    rw (← c.self.view_is, is) (omega (arith, more, one))

@@ -5,8 +5,8 @@ use Rattle.islands.proofs.JoinLemmas.{contains_head}
 use Rattle.sleep_wake.specs.Waking.{has_mover_of, placed_all}
 use Rattle.sleep_wake.specs.Rooms.{CanPlace}
 use Rattle.sleep_wake.proofs.SetLemmas.{front_is, passed_by, placed_one, room_for_one, one_more, placed_wanted, passed_left}
-use Rattle.sleep_wake.proofs.sets.place_island.Goals as goal
-use Rattle.sleep_wake.proofs.sets.place_island.Goals.{then-are_in, else-are_in}
+use Rattle.sleep_wake.proofs.waking.place_island.Goals as goal
+use Rattle.sleep_wake.proofs.waking.place_island.Goals.{then-are_in, else-are_in}
 
 pub place-requires-clause-below : goal.place-requires-clause-below
 place-requires-clause-below g c =

@@ -3,7 +3,7 @@ use Rattle.std.specs.Prelude.{filter}
 use Rattle.graph_colours.specs.Colours.{all_members}
 use Rattle.sleep_wake.specs.Waking.{has_mover_of, placed_all}
 use Rattle.sleep_wake.specs.Rooms.{CanPlace}
-use Rattle.sleep_wake.proofs.sets.place_island.Given as goal
+use Rattle.sleep_wake.proofs.waking.place_island.Given as goal
 
 abbrev pub invariant-loop-place : goal.invariant-loop-place
 invariant-loop-place g l = record {

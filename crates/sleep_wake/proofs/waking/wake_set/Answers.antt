@@ -3,7 +3,7 @@ use Rattle.graph_colours.specs.declared.member.Member.{Member}
 use Rattle.islands.specs.Labels.{label_at, is_asleep}
 use Rattle.sleep_wake.specs.Acting.{Acting, acting}
 use Rattle.sleep_wake.proofs.SetLemmas.{sleepers_absent, room_for_sleepers}
-use Rattle.sleep_wake.proofs.sets.wake_set.Goals as goal
+use Rattle.sleep_wake.proofs.waking.wake_set.Goals as goal
 
 pub wake_island-requires-clause-places : goal.wake_island-requires-clause-places
 wake_island-requires-clause-places g c =

@@ -1,0 +1,27 @@
+use Rattle.std.proofs.Common.{◌≡◌, ◌+◌, ◌<◌, ◌≤◌, List, length, refl, sym, ap, ◌∙◌, subst, arith}
+use Rattle.std.specs.Vec.{vec_capacity}
+use Rattle.graph_colours.specs.declared.member.Member.{Member}
+use Rattle.graph_colours.specs.Colours.{all_members}
+use Rattle.islands.specs.Labels.{Labels}
+use Rattle.sleep_wake.specs.Acting.{Acting, acting, IsSettled}
+use Rattle.sleep_wake.proofs.StandLemmas.{stands}
+use Rattle.sleep_wake.specs.Bodies.{mover_made}
+use Rattle.sleep_wake.proofs.PhaseLemmas.{making_keeps}
+use Rattle.sleep_wake.proofs.SizeLemmas.{added_fits, made_is}
+use Rattle.sleep_wake.proofs.sets.Sets.add_mover.Goals as goal
+
+pub invariant_of-self : goal.invariant_of-self
+invariant_of-self g c =
+    let a = c.self.inside in
+    let n = g.C.Id.number in
+    let s : Acting g.row.C.Denot = acting a.ties.items a.islands.labels a.colours.lists in
+    let new : Acting g.row.C.Denot = acting a.ties.items c.add.new.self.labels a.colours.lists in
+    let is : new ≡ mover_made c.args.slot s = made_is c.args.slot s c.add.new.self.labels c.add.ensures.labels in
+    let fresh = rw (← c.self.view_is) at c.requires.fresh in
+    let below = rw (← c.self.view_is) at c.requires.below in
+    let P : Acting g.row.C.Denot → Type 0 = λ v. IsSettled n v in
+    stands n s new a.room a.slots (record { ties = vec_capacity a.ties; colours = a.colours.room; colour_slots = a.colours.slots; islands = a.islands.room; edges = vec_capacity a.edges; scratch_slots = a.scratch.slots; links = a.scratch.links }) (record { ties = vec_capacity a.ties; colours = a.colours.room; colour_slots = a.colours.slots; islands = c.add.new.self.room; edges = vec_capacity a.edges; scratch_slots = a.scratch.slots; links = a.scratch.links }) c.self.invariant
+    (subst P (sym is) (making_keeps n s c.args.slot c.self.invariant.settled fresh))
+    c.self.invariant.enough
+    (rw c.add.ensures.labels (added_fits a.islands.labels c.args.slot a.slots below c.self.invariant.few))
+    (record { ties = omega arith; colours = refl; colour_slots = refl; islands = c.add.ensures.room; edges = omega arith; scratch_slots = refl; links = refl })

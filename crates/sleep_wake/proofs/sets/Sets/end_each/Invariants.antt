@@ -1,0 +1,11 @@
+use Rattle.std.proofs.Common.{◌≡◌, ◌+◌, ◌≤◌, length, drop}
+use Rattle.sleep_wake.specs.Changes.{CanEnd, each_ended}
+use Rattle.sleep_wake.proofs.sets.Sets.end_each.Given as goal
+
+abbrev pub invariant-loop-place : goal.invariant-loop-place
+invariant-loop-place g l = record {
+  can : CanEnd g.C.Id.number (drop l.place l.members) l.self.acting;
+  rest : each_ended g.C.Id.number (drop l.place l.members) l.self.acting ≡ each_ended g.C.Id.number l.members l.fn.self.acting;
+  room : l.self.room ≡ l.fn.self.room;
+  slots : l.self.slots ≡ l.fn.self.slots;
+}

@@ -1,0 +1,33 @@
+use Rattle.std.proofs.Common.{◌≡◌, ◌+◌, ◌<◌, ◌≤◌, List, length, refl, sym, ap, ◌∙◌, subst, arith}
+use Rattle.std.specs.Vec.{vec_capacity}
+use Rattle.graph_colours.specs.declared.member.Member.{Member}
+use Rattle.graph_colours.specs.Colours.{all_members}
+use Rattle.islands.specs.Labels.{Labels}
+use Rattle.sleep_wake.specs.Acting.{Acting, acting, IsSettled}
+use Rattle.sleep_wake.proofs.StandLemmas.{stands}
+use Rattle.sleep_wake.specs.Bodies.{mover_gone}
+use Rattle.sleep_wake.proofs.PhaseLemmas.{going_keeps}
+use Rattle.sleep_wake.proofs.SizeLemmas.{taken_out_size, gone_is}
+use Rattle.sleep_wake.proofs.sets.Sets.remove_mover.Goals as goal
+
+pub invariant_of-self : goal.invariant_of-self
+invariant_of-self g c =
+    let a = c.self.inside in
+    let n = g.C.Id.number in
+    let s : Acting g.row.C.Denot = acting a.ties.items a.islands.labels a.colours.lists in
+    let new : Acting g.row.C.Denot = acting a.ties.items c.take_out.new.self.labels a.colours.lists in
+    let alone = rw (← c.self.view_is) at c.requires.alone in
+    let awake = rw (← c.self.view_is) at c.requires.awake in
+    let is : new ≡ mover_gone n c.args.slot s = gone_is n c.args.slot s c.take_out.new.self.labels alone c.take_out.ensures.labels in
+    let P : Acting g.row.C.Denot → Type 0 = λ v. IsSettled n v in
+    stands n s new a.room a.slots (record { ties = vec_capacity a.ties; colours = a.colours.room; colour_slots = a.colours.slots; islands = a.islands.room; edges = vec_capacity a.edges; scratch_slots = a.scratch.slots; links = a.scratch.links }) (record { ties = vec_capacity a.ties; colours = a.colours.room; colour_slots = a.colours.slots; islands = c.take_out.new.self.room; edges = vec_capacity a.edges; scratch_slots = a.scratch.slots; links = a.scratch.links }) c.self.invariant
+    (subst P (sym is) (going_keeps n s c.args.slot c.self.invariant.settled awake))
+    c.self.invariant.enough
+    (let same : length c.take_out.new.self.labels ≡ length a.islands.labels = ap (λ (v : Labels). length v) c.take_out.ensures.labels ∙ taken_out_size a.islands.labels c.args.slot in omega (arith, same, c.self.invariant.few))
+    (record { ties = omega arith; colours = refl; colour_slots = refl; islands = c.take_out.ensures.room; edges = omega arith; scratch_slots = refl; links = refl })
+
+pub returns-clause-acting : goal.returns-clause-acting
+returns-clause-acting g c =
+    let a = c.self.inside in
+    let s : Acting g.row.C.Denot = acting a.ties.items a.islands.labels a.colours.lists in
+    rw (← c.self.view_is) (gone_is g.C.Id.number c.args.slot s c.take_out.new.self.labels (rw (← c.self.view_is) at c.requires.alone) c.take_out.ensures.labels)

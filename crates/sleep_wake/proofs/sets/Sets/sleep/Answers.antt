@@ -1,0 +1,11 @@
+use Rattle.std.proofs.Common.{◌≡◌, sym, ap, ◌∙◌}
+use Rattle.islands.specs.Labels.{label_at}
+use Rattle.sleep_wake.specs.Acting.{Acting}
+use Rattle.sleep_wake.specs.Sleeping.{is_whole}
+use Rattle.sleep_wake.proofs.RestLemmas.{whole_after}
+use Rattle.sleep_wake.proofs.sets.Sets.sleep.Goals as goal
+
+pub rest_at-requires : goal.rest_at-requires
+rest_at-requires g c =
+    let here = sym c.label_of.ensures.value ∙ c.in-Some.is in
+    ap (λ (v : Acting g.row.C.Denot). is_whole (label_at v.labels c.args.slot)) c.split_if_loose.ensures.acting ∙ whole_after g.C.Id.number c.args.self.now.acting c.args.slot c.in-Some.label c.settled.ensures here (sym c.is_asleep.ensures ∙ c.if-not-is_asleep.true)

@@ -1,0 +1,67 @@
+-- Which islands sleep, who wakes them by their names, and how one mover is put to sleep.
+use Rattle.std.specs.Prelude.{ℕ, ◌==◌, ◌&&◌, Bool, false, not, cond, nat_lt, List, [], ◌∷◌, Option, Some, None}
+use Rattle.islands.specs.declared.label.Label.{Label}
+use Rattle.islands.specs.Labels.{Labels, label_at, is_loose, is_asleep}
+use Rattle.sleep_wake.specs.Acting.{Acting}
+use Rattle.sleep_wake.specs.Waking.{woken_at, put_to_rest}
+use Rattle.sleep_wake.specs.SleepPhase.{split_at}
+
+-- ---- the names of sleeping islands
+
+abbrev pub sleeping_name : Option Label → Option ℕ
+sleeping_name None = None
+sleeping_name (Some l) = cond (is_asleep l.state) (Some l.name) None
+
+-- the name of the island of the mover in the slot, if it sleeps
+abbrev pub name_at : Labels → ℕ → Option ℕ
+name_at labels slot = sleeping_name (label_at labels slot)
+
+-- with one more name, each once and ascending
+abbrev pub with_one_name : ℕ → List ℕ → List ℕ
+with_one_name name [] = name ∷ []
+with_one_name name (n ∷ names) = cond (nat_lt n name) (n ∷ with_one_name name names) (cond (n == name) (n ∷ names) (name ∷ n ∷ names))
+
+abbrev pub with_name : Option ℕ → List ℕ → List ℕ
+with_name None names = names
+with_name (Some name) names = with_one_name name names
+
+-- with the names of the sleeping islands of these slots
+abbrev pub names_from : Labels → List ℕ → List ℕ → List ℕ
+names_from labels names [] = names
+names_from labels names (slot ∷ slots) = names_from labels (with_name (name_at labels slot) names) slots
+
+-- the names of the sleeping islands in which the movers of these slots are, ascending and each once
+abbrev pub names_of : Labels → List ℕ → List ℕ
+names_of labels slots = names_from labels [] slots
+
+-- ---- islands wake by their names, one after the other
+
+abbrev pub islands_woken : {C : Type 0} → (C → ℕ) → List ℕ → Acting C → Acting C
+islands_woken number [] s = s
+islands_woken number (name ∷ names) s = islands_woken number names (woken_at number name s)
+
+-- ---- one mover is put to sleep: its island is split if it is loose, and then the island that the mover is in is put to rest
+
+abbrev pub split_if_loose : {C : Type 0} → Label → Acting C → Acting C
+split_if_loose l s = cond (is_loose l.state) (split_at l.name s) s
+
+-- the label is that of a whole island that is awake
+abbrev pub is_whole : Option Label → Bool
+is_whole None = false
+is_whole (Some l) = not (is_loose l.state) && not (is_asleep l.state)
+
+abbrev pub rested_by : {C : Type 0} → (C → ℕ) → Option Label → Acting C → Acting C
+rested_by number None s = s
+rested_by number (Some l) s = put_to_rest number l.name s
+
+-- the island of the mover in the slot
+abbrev pub rested_at : {C : Type 0} → (C → ℕ) → ℕ → Acting C → Acting C
+rested_at number slot s = rested_by number (label_at s.labels slot) s
+
+abbrev pub slept_by : {C : Type 0} → (C → ℕ) → ℕ → Option Label → Acting C → Acting C
+slept_by number slot None s = s
+slept_by number slot (Some l) s = cond (is_asleep l.state) s (rested_at number slot (split_if_loose l s))
+
+-- one that sleeps stays as it is
+unfoldable pub slept_at : {C : Type 0} → (C → ℕ) → ℕ → Acting C → Acting C
+slept_at number slot s = slept_by number slot (label_at s.labels slot) s

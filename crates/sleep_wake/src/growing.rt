@@ -1,0 +1,50 @@
+//! Room in all parts of the sets.
+
+ghost use Rattle.std.specs.Prelude.{◌≡◌, ◌≤◌, ◌+◌, length, vec_capacity, IfOk, OnOk};
+ghost use Rattle.std.specs.Result.{IsOkUnless};
+ghost use Rattle.graph_colours.specs.Colours.{all_members};
+
+use fixed_geom::Refusal;
+use graph_colours::{Colours, Id, Member};
+use islands::{Islands, SplitScratch};
+
+/// Makes room for that many more constraints, and for movers in slots below `slots`, and answers for how many constraints
+/// in all there is room then. Refused 1 where memory is wanting. Changes no constraint, no island and no colour.
+pub(crate) fn grow<C: Id>(
+    ties: &mut Vec<Member<C>>,
+    colours: &mut Colours<C>,
+    islands: &mut Islands,
+    edges: &mut Vec<(u32, u32)>,
+    scratch: &mut SplitScratch,
+    constraints: usize,
+    slots: usize,
+) -> Result<usize, Refusal>
+    ensures value { IfOk result (λ room. room ≡ length ties.old.items + constraints) }
+    ensures ties { ties.new.items ≡ ties.old.items }
+    ensures lists { colours.new.lists ≡ colours.old.lists }
+    ensures labels { islands.new.labels ≡ islands.old.labels }
+    ensures ties_kept { vec_capacity ties.old ≤ vec_capacity ties.new }
+    ensures ties_made { IfOk result (λ room. room ≤ vec_capacity ties.new) }
+    ensures colours_kept { colours.old.room ≤ colours.new.room }
+    ensures colours_made { IfOk result (λ room. room ≤ colours.new.room + length (all_members colours.new.lists)) }
+    ensures colour_slots_kept { colours.old.slots ≤ colours.new.slots }
+    ensures colour_slots_made { OnOk result (slots ≤ colours.new.slots) }
+    ensures islands_kept { islands.old.room ≤ islands.new.room }
+    ensures islands_made { OnOk result (slots ≤ islands.new.room) }
+    ensures edges_kept { vec_capacity edges.old ≤ vec_capacity edges.new }
+    ensures edges_made { IfOk result (λ room. room ≤ vec_capacity edges.new) }
+    ensures scratch_kept { scratch.old.slots ≤ scratch.new.slots }
+    ensures scratch_made { OnOk result (slots ≤ scratch.new.slots) }
+    ensures links_kept { scratch.old.links ≤ scratch.new.links }
+    ensures links_made { IfOk result (λ room. room ≤ scratch.new.links) }
+    ensures memory_only { IsOkUnless result Refusal.NoMemory }
+{
+    ties.reserve(constraints)?;
+    let room = ties.len() + constraints;
+    colours.reserve(room - colours.count().min(room), slots)?;
+    islands.reserve(slots)?;
+    edges.clear();
+    edges.reserve(room)?;
+    scratch.reserve(slots, room)?;
+    Ok(room)
+}
