@@ -1,5 +1,5 @@
 -- Bodies of one shape: what such a body is, and what it weighs by its shape and its density. π is 355/113.
-use Rattle.std.specs.Prelude.{◌≡◌, ⊥, ℕ, ◌+◌, ◌*◌, ◌^◌, Bool, true, false, cond, nat_le, List, [], ◌∷◌, Option, Some, None, Result, Ok, Err, ℤ, pos, neg_ℤ}
+use Rattle.std.specs.Prelude.{◌≡◌, ℕ, ◌+◌, ◌*◌, ◌^◌, Bool, true, false, cond, nat_le, List, [], ◌∷◌, Option, Some, None, Result, Ok, Err, ℤ, pos, neg_ℤ}
 use Rattle.fixed_geom.specs.Numbers.{nearest}
 use Rattle.fixed_geom.specs.Vectors.{zero_vector}
 use Rattle.fixed_geom.specs.declared.vectors.Vec2.{Vec2}
@@ -55,9 +55,16 @@ formed shape surface = record { shape = shape; friction = surface.friction; rest
 abbrev pub disc : ℕ → Shape
 disc r = Circle zero_vector (pos r)
 
+-- the ends of a core along the x axis, h long to either side of the body's centre
+abbrev pub left_end : ℕ → Vec2
+left_end h = record { x = neg_ℤ (pos h); y = pos 0 }
+
+abbrev pub right_end : ℕ → Vec2
+right_end h = record { x = pos h; y = pos 0 }
+
 -- a capsule along the x axis
 abbrev pub lying : ℕ → ℕ → Shape
-lying h r = Capsule (record { x = neg_ℤ (pos h); y = pos 0 }) (record { x = pos h; y = pos 0 }) (pos r)
+lying h r = Capsule (left_end h) (right_end h) (pos r)
 
 abbrev pub no_mass : MassData
 no_mass = record { mass = pos 0; inertia = pos 0 }
@@ -87,7 +94,7 @@ abbrev pub segment_due : Vec2 → Vec2 → Surface → Result BodyDef Refusal
 segment_due first second surface = unless (shapes_refusal true (formed (Segment first second) surface ∷ [])) (Ok (of_shape Static no_mass (formed (Segment first second) surface)))
 
 abbrev pub floor_due : ℕ → Surface → Result BodyDef Refusal
-floor_due h surface = segment_due (record { x = neg_ℤ (pos h); y = pos 0 }) (record { x = pos h; y = pos 0 }) surface
+floor_due h surface = segment_due (left_end h) (right_end h) surface
 
 abbrev pub platform_due : ℕ → ℕ → Course → Surface → Result BodyDef Refusal
 platform_due h r course surface = unless (shapes_refusal false (formed (lying h r) surface ∷ [])) (cond (is_course course) (Ok (of_shape (Kinematic course) no_mass (formed (lying h r) surface))) (Err OutOfRange))

@@ -1,10 +1,11 @@
 //! Bodies of one shape, whose mass and inertia follow from the shape and a density.
 
-ghost use Rattle.std.specs.Prelude.{◌≡◌, ◌≤◌, ◌<◌, ◌^◌, IfOk, Some, None};
+ghost use Rattle.std.specs.Prelude.{◌≡◌, ◌*◌, ◌≤◌, ◌<◌, ◌^◌, IfOk, IfSome};
 ghost use Rattle.std.specs.Result.{IsOkUnless};
 ghost use Rattle.fixed_geom.specs.Numbers.{nearest};
+ghost use Rattle.momenta.specs.Motions.{IsMass};
 ghost use Rattle.plain_world.specs.Bodies.{IsAllowed};
-ghost use Rattle.plain_world.specs.Presets.{bulk, capsule_due, capsule_mass, circle_due, disc_mass, floor_due, formed, girth, lying, mass_within, of_shape, platform_due, segment_due, IsDue};
+ghost use Rattle.plain_world.specs.Presets.{bulk, capsule_due, capsule_mass, circle_due, disc_mass, floor_due, formed, girth, left_end, lying, mass_within, of_shape, platform_due, right_end, segment_due, IsDue};
 
 use crate::body::BodyDef;
 use crate::kind::{Course, Kind};
@@ -114,9 +115,7 @@ impl BodyDef {
         ensures due { IsDue (floor_due half surface) result }
         ensures allowed { IfOk result IsAllowed }
     {
-        let end = i64::from(half);
-        let first = Vec2 { x: -end, y: 0 };
-        BodyDef::segment(alloc, first, Vec2 { x: end, y: 0 }, surface)
+        BodyDef::segment(alloc, left_end(half), right_end(half), surface)
     }
 
     /// A kinematic capsule, as `capsule` places it, that is carried along with this velocity and spin. Refused 4 for a radius of 0 or
@@ -173,14 +172,31 @@ fn one_shape(alloc: Global, kind: Kind, mass: MassData, shape: ShapeDef) -> Resu
     })
 }
 
+fn left_end(half: u32) -> Vec2
+    ensures { result ≡ left_end half }
+{
+    Vec2 {
+        x: -i64::from(half),
+        y: 0,
+    }
+}
+
+fn right_end(half: u32) -> Vec2
+    ensures { result ≡ right_end half }
+{
+    Vec2 {
+        x: i64::from(half),
+        y: 0,
+    }
+}
+
 /// A capsule along the x axis.
 fn lying(half: u32, radius: u32) -> Shape
     ensures { result ≡ lying half radius }
 {
-    let end = i64::from(half);
     Shape::Capsule {
-        first: Vec2 { x: -end, y: 0 },
-        second: Vec2 { x: end, y: 0 },
+        first: left_end(half),
+        second: right_end(half),
         radius: i64::from(radius),
     }
 }
@@ -197,7 +213,8 @@ fn nearest(n: u128, d: u128) -> u128
 
 /// This mass and inertia, if a dynamic body may have them.
 fn mass_within(mass: u128, inertia: u128) -> Option<MassData>
-    ensures { result ≡ mass_within mass inertia }
+    ensures value { result ≡ mass_within mass inertia }
+    ensures mass { IfSome result IsMass }
 {
     if mass > 1 << 20 {
         return None;
@@ -219,7 +236,8 @@ fn mass_within(mass: u128, inertia: u128) -> Option<MassData>
 fn disc_mass(radius: u64, density: u64) -> Option<MassData>
     requires radius { radius ≤ 2 ^ 24 }
     requires density { density < 2 ^ 32 }
-    ensures { result ≡ disc_mass radius density }
+    ensures value { result ≡ disc_mass radius density }
+    ensures mass { IfSome result IsMass }
 {
     let square = radius * radius;
     let mass = nearest(u128::from(355 * density) * u128::from(square), 113 << 40);
@@ -241,17 +259,25 @@ fn girth(half: u64, radius: u64) -> u64
     452 * half + 355 * radius
 }
 
+fn product(a: u64, b: u64) -> u128
+    requires first { a ≤ 2 ^ 36 }
+    requires second { b ≤ 2 ^ 51 }
+    ensures value { result ≡ a * b }
+    ensures small { result ≤ 2 ^ 87 }
+{
+    u128::from(a) * u128::from(b)
+}
+
 /// 113·(8·h·(h² + 3·r²) + 3·π·r·(r² + 2·h²))
 #[tactic(auto, unfolding(crate::specs::Presets::bulk))]
 fn bulk(half: u64, radius: u64) -> u128
     requires half { half ≤ 2 ^ 24 }
     requires radius { radius ≤ 2 ^ 24 }
     ensures value { result ≡ bulk half radius }
-    ensures small { result ≤ 2 ^ 90 }
+    ensures small { result ≤ 2 ^ 88 }
 {
     let (long, round) = (half * half, radius * radius);
-    u128::from(904 * half) * u128::from(long + 3 * round)
-        + u128::from(1_065 * radius) * u128::from(round + 2 * long)
+    product(904 * half, long + 3 * round) + product(1_065 * radius, round + 2 * long)
 }
 
 /// What a capsule weighs, if a body may.
@@ -259,10 +285,13 @@ fn bulk(half: u64, radius: u64) -> u128
 fn capsule_mass(half: u64, radius: u64, density: u64) -> Option<MassData>
     requires half { half ≤ 2 ^ 24 }
     requires radius { radius ≤ 2 ^ 24 }
-    requires positive { 0 < radius }
     requires density { density < 2 ^ 32 }
-    ensures { result ≡ capsule_mass half radius density }
+    ensures value { result ≡ capsule_mass half radius density }
+    ensures mass { IfSome result IsMass }
 {
+    if radius < 1 {
+        return None;
+    }
     let girth = girth(half, radius);
     let mass = nearest(u128::from(radius * girth) * u128::from(density), 113 << 40);
     if mass > 1 << 20 {
