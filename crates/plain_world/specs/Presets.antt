@@ -1,10 +1,11 @@
 -- Bodies of one shape: what such a body is, and what it weighs by its shape and its density. π is 355/113.
-use Rattle.std.specs.Prelude.{◌≡◌, ℕ, ◌+◌, ◌*◌, ◌^◌, Bool, true, false, cond, nat_le, List, [], ◌∷◌, Option, Some, None, Result, Ok, Err, ℤ, pos, neg_ℤ}
+use Rattle.std.specs.Prelude.{◌≡◌, ℕ, ◌+◌, ◌*◌, ◌^◌, true, false, cond, nat_le, [], ◌∷◌, Option, Some, None, Result, Ok, Err, pos, neg_ℤ, unsigned_abs}
 use Rattle.fixed_geom.specs.Numbers.{nearest}
 use Rattle.fixed_geom.specs.Vectors.{zero_vector}
 use Rattle.fixed_geom.specs.declared.vectors.Vec2.{Vec2}
 use Rattle.fixed_geom.specs.declared.refusal.Refusal.{Refusal}
 use Rattle.fixed_geom.specs.declared.refusal.Refusal.TheVariants.{NoMemory, OutOfRange}
+use Rattle.momenta.specs.declared.limits.TheConstants.{MAX_INERTIA, MAX_MASS}
 use Rattle.momenta.specs.declared.mass.MassData.{MassData}
 use Rattle.shapes.specs.Filters.{default_filter}
 use Rattle.shapes.specs.Shapes.{shapes_refusal}
@@ -22,7 +23,7 @@ use Rattle.contacts_base.specs.declared.surface.Surface.{Surface}
 
 -- a mass and an inertia, if a dynamic body may have them
 abbrev pub mass_within : ℕ → ℕ → Option MassData
-mass_within mass inertia = cond (nat_le mass (2 ^ 20)) (cond (nat_le 1 mass) (cond (nat_le inertia (2 ^ 60)) (Some (record { mass = pos mass; inertia = pos inertia })) None) None) None
+mass_within mass inertia = cond (nat_le mass (unsigned_abs MAX_MASS)) (cond (nat_le 1 mass) (cond (nat_le inertia (unsigned_abs MAX_INERTIA)) (Some (record { mass = pos mass; inertia = pos inertia })) None) None) None
 
 -- a disc of radius r: of the mass m = density·π·r² / 2^40 and the inertia m·r² / 2
 unfoldable pub disc_mass : ℕ → ℕ → Option MassData

@@ -11,7 +11,7 @@ use crate::body::BodyDef;
 use crate::kind::{Course, Kind};
 use contacts_base::Surface;
 use fixed_geom::{Refusal, Rot, UNIT, Vec2, ZERO_VECTOR};
-use momenta::MassData;
+use momenta::{MAX_INERTIA, MAX_MASS, MassData};
 use shapes::{Filter, Shape, ShapeDef, Shapes, check};
 use std::alloc::Global;
 
@@ -216,13 +216,13 @@ fn mass_within(mass: u128, inertia: u128) -> Option<MassData>
     ensures value { result ≡ mass_within mass inertia }
     ensures mass { IfSome result IsMass }
 {
-    if mass > 1 << 20 {
+    if mass > MAX_MASS as u128 {
         return None;
     }
     if mass < 1 {
         return None;
     }
-    if inertia > 1 << 60 {
+    if inertia > MAX_INERTIA as u128 {
         return None;
     }
     Some(MassData {
@@ -241,7 +241,7 @@ fn disc_mass(radius: u64, density: u64) -> Option<MassData>
 {
     let square = radius * radius;
     let mass = nearest(u128::from(355 * density) * u128::from(square), 113 << 40);
-    if mass > 1 << 20 {
+    if mass > MAX_MASS as u128 {
         return None;
     }
     mass_within(mass, nearest(mass * u128::from(square), 2))
@@ -294,7 +294,7 @@ fn capsule_mass(half: u64, radius: u64, density: u64) -> Option<MassData>
     }
     let girth = girth(half, radius);
     let mass = nearest(u128::from(radius * girth) * u128::from(density), 113 << 40);
-    if mass > 1 << 20 {
+    if mass > MAX_MASS as u128 {
         return None;
     }
     let inertia = nearest(mass * bulk(half, radius), u128::from(6 * girth));

@@ -11,6 +11,7 @@ mod laws;
 mod pushes;
 mod queries;
 mod replay;
+mod walk;
 mod world;
 
 pub use body_handles::{Handle, Place};
