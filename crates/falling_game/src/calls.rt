@@ -2,7 +2,7 @@
 //! promises, and the game is proved in a minute or two.
 
 use std::alloc::Global;
-use world_core::{Body, BodyView, Command, ContactKey, Handle, Refusal, Reply, Vec2, WorldCore};
+use world_core::{BodyView, Command, ContactKey, Handle, Refusal, Reply, Vec2, WorldCore};
 
 pub fn new_world(alloc: Global, gravity: Vec2) -> Result<WorldCore, Refusal> {
     WorldCore::new(alloc, gravity)
@@ -17,9 +17,15 @@ pub fn view_of(world: &WorldCore, handle: Handle) -> Option<BodyView> {
     world.body(handle)
 }
 
-/// All bodies, without a copy.
-pub fn bodies_of(world: &WorldCore) -> &[Option<Body>] {
-    world.bodies()
+/// How many slots of bodies were ever used.
+pub fn slots_of(world: &WorldCore) -> u32 {
+    world.slots()
+}
+
+/// What is seen of the body in a slot, if there is one.
+pub fn body_in(world: &WorldCore, slot: u32) -> Option<BodyView> {
+    let handle = world.handle_in(slot)?;
+    world.body(handle)
 }
 
 /// Which shapes began to touch in the last step.

@@ -1,8 +1,8 @@
-use crate::calls::{apply, bodies_of, meetings_of, view_of};
+use crate::calls::{apply, body_in, meetings_of, slots_of, view_of};
 use crate::scene::{Cast, METRE};
 use crate::stop::Stop;
 use std::io;
-use world_core::{Body, Command, ContactKey, Handle, Refusal, Vec2, WorldCore};
+use world_core::{BodyView, Command, ContactKey, Handle, Refusal, SetName, Vec2, WorldCore};
 
 /// How many frames the game has, at 60 a second.
 const FRAMES: u32 = 240;
@@ -27,12 +27,7 @@ const CENTIMETRE: i64 = METRE / 100;
 
 /// What the player wants in this frame: a kick of the coin, which may be gone by then. Its id names no other body, and the refusal
 /// says so.
-fn control<R: Print>(
-    rt: &R,
-    world: &mut WorldCore,
-    cast: &Cast,
-    frame: u32,
-) -> Result<(), Stop> {
+fn control<R: Print>(rt: &R, world: &mut WorldCore, cast: &Cast, frame: u32) -> Result<(), Stop> {
     if !KICKS.contains(&frame) {
         return Ok(());
     }
@@ -65,12 +60,7 @@ fn hear<R: Print>(rt: &R, world: &WorldCore, cast: &Cast, frame: u32) -> io::Res
 }
 
 /// Takes the coin away, whose id names nothing from then on.
-fn take_coin<R: Print>(
-    rt: &R,
-    world: &mut WorldCore,
-    cast: &Cast,
-    frame: u32,
-) -> Result<(), Stop> {
+fn take_coin<R: Print>(rt: &R, world: &mut WorldCore, cast: &Cast, frame: u32) -> Result<(), Stop> {
     apply(world, &Command::DestroyBody(cast.coin))?;
     if view_of(world, cast.coin).is_none() {
         println!(rt; "{frame}: the coin is taken")?;
@@ -79,22 +69,19 @@ fn take_coin<R: Print>(
 }
 
 /// Tells where a body is, in hundredths of a metre.
-fn show<R: Print>(rt: &R, name: &str, body: &Body) -> io::Result<()> {
-    let place = body.pose().x;
-    let (x, y) = (place.x / CENTIMETRE, place.y / CENTIMETRE);
+fn show<R: Print>(rt: &R, name: &str, body: &BodyView) -> io::Result<()> {
+    let (x, y) = (body.at.x / CENTIMETRE, body.at.y / CENTIMETRE);
     println!(rt; "   {name} is at {x}, {y} cm")
 }
 
 /// Tells where each body is that isn't static: a walk over the bodies without a copy.
 fn show_all<R: Print>(rt: &R, world: &WorldCore, cast: &Cast) -> io::Result<()> {
-    let mut slot: u32 = 0;
-    for entry in bodies_of(world) {
-        if let Some(body) = entry {
-            if !body.kind.is_static() {
-                show(rt, cast.name_of(slot), body)?;
+    for slot in 0..slots_of(world) {
+        if let Some(body) = body_in(world, slot) {
+            if body.set != SetName::Static {
+                show(rt, cast.name_of(slot), &body)?;
             }
         }
-        slot = slot.saturating_add(1);
     }
     Ok(())
 }

@@ -18,7 +18,7 @@ use world_core::WorldCore;
 
 /// The game in a world of its own.
 fn play_in<R: AllocGlobal + Print>(rt: &R, world: &mut WorldCore) -> Result<(), Stop> {
-    let cast = make_scene(rt.alloc(), world)?;
+    let cast = make_scene(rt, world)?;
     play(rt, world, &cast)
 }
 

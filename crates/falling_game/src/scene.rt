@@ -103,10 +103,7 @@ fn stick(alloc: Global) -> Result<BodyDef, Refusal> {
 
 fn coin(alloc: Global) -> Result<BodyDef, Refusal> {
     let coin = BodyDef::circle(alloc, HALF_A_METRE / 4, DENSITY, SMOOTH)?;
-    Ok(coin.at(Vec2 {
-        x: 0,
-        y: METRE / 8,
-    }))
+    Ok(coin.at(Vec2 { x: 0, y: METRE / 8 }))
 }
 
 fn lift(alloc: Global) -> Result<BodyDef, Refusal> {
@@ -114,14 +111,30 @@ fn lift(alloc: Global) -> Result<BodyDef, Refusal> {
     Ok(lift.at(Vec2 { x: 0, y: 6 * METRE }))
 }
 
+/// Makes a body that has a mass, and tells what it weighs.
+fn add_mover<R: Print>(
+    rt: &R,
+    world: &mut WorldCore,
+    name: &str,
+    def: BodyDef,
+) -> Result<Handle, Stop> {
+    let weight = def.mass;
+    println!(rt;
+        "{name} has the mass {} and the inertia {}",
+        weight.mass, weight.inertia
+    )?;
+    add(world, def)
+}
+
 /// Makes the bodies of the game.
-pub fn make_scene(alloc: Global, world: &mut WorldCore) -> Result<Cast, Stop> {
+pub fn make_scene<R: AllocGlobal + Print>(rt: &R, world: &mut WorldCore) -> Result<Cast, Stop> {
+    let alloc = rt.alloc();
     Ok(Cast {
         floor: add(world, floor(alloc)?)?,
         ramp: add(world, ramp(alloc)?)?,
-        ball: add(world, ball(alloc)?)?,
-        stick: add(world, stick(alloc)?)?,
-        coin: add(world, coin(alloc)?)?,
+        ball: add_mover(rt, world, "the ball", ball(alloc)?)?,
+        stick: add_mover(rt, world, "the stick", stick(alloc)?)?,
+        coin: add_mover(rt, world, "the coin", coin(alloc)?)?,
         lift: add(world, lift(alloc)?)?,
     })
 }
