@@ -9,3 +9,4 @@ pub mod Joints
 pub mod JointTables
 pub mod Placement
 pub mod Plain
+pub mod Presets

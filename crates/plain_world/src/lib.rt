@@ -2,7 +2,7 @@
 //!
 //! A world keeps its bodies and its joints by slot. This crate has what one slot contains (`Body`, `BodyDef`, `Kind`; `BodyJoint`,
 //! `JointDef`, `JointTable`), where a body stands (`SetName`) and what stands in each set (`Census`), the fat boxes of its shapes
-//! (`FatBoxes`), and the whole world as plain lists (`Plain`). What a step gathers and moves stands above it.
+//! (`FatBoxes`), bodies of one shape by its density (`BodyDef::circle` and its like), and the whole world as plain lists (`Plain`). What a step gathers and moves stands above it.
 #![tactic(auto)]
 
 mod body;
@@ -15,13 +15,14 @@ mod kind;
 mod pair_numbers;
 mod placement;
 mod plain;
+mod presets;
 mod slots;
 
 pub use body::{Body, BodyDef, BodyView, SetName};
 pub use census::{Census, take_census};
 pub use changes::{BodyChange, change_slot};
 pub use contacts::Constraint;
-pub use contacts_base::{ContactEntry, ContactKey, ShapeId};
+pub use contacts_base::{ContactEntry, ContactKey, ShapeId, Surface};
 pub use fats::FatBoxes;
 pub use joint::{BodyJoint, JointDef};
 pub use joint_rows::Joint;
@@ -29,4 +30,5 @@ pub use joint_table::JointTable;
 pub use kind::{Course, Kind, NO_COURSE};
 pub use placement::shape_of;
 pub use plain::Plain;
+pub use presets::SMOOTH;
 pub use slots::{body_of, clear_slot, copy_bodies, item_at, put_item};

@@ -9,3 +9,4 @@ pub mod Inside
 pub mod Frames
 pub mod Laws
 pub mod RowColours
+pub mod Walks

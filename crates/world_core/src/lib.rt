@@ -11,6 +11,7 @@ mod laws;
 mod pushes;
 mod queries;
 mod replay;
+mod walk;
 mod world;
 
 pub use body_handles::{Handle, Place};
@@ -23,7 +24,7 @@ pub use laws::{coloured_rows_are_colours, each_call_counts};
 pub use momenta::MassData;
 pub use plain_world::{
     Body, BodyDef, BodyJoint, BodyView, Census, Constraint, ContactEntry, ContactKey, Course,
-    FatBoxes, Joint, JointDef, Kind, NO_COURSE, Plain, SetName, ShapeId,
+    FatBoxes, Joint, JointDef, Kind, NO_COURSE, Plain, SMOOTH, SetName, ShapeId, Surface,
 };
 pub use shapes::{Filter, Pose, Shape, ShapeDef, Shapes};
 pub use world::WorldCore;
