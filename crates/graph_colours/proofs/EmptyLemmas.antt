@@ -1,13 +1,12 @@
 -- A graph with no members.
-use Rattle.std.proofs.Common.{◌≡◌, ℕ, ◌+◌, ◌<◌, ◌≤◌, ◌++◌, ◌∷◌, false, List, [], length, map, replicate, take, subst, refl, sym, ap, ◌∙◌, arith}
-use Rattle.std.specs.List.{All}
-use Rattle.std.proofs.lemmas.List.{length-map, length-replicate}
+use Rattle.std.proofs.Common.{◌≡◌, ℕ, ◌+◌, ◌<◌, ◌++◌, ◌∷◌, false, List, [], length, map, replicate, subst, refl, sym, ap, ◌∙◌, arith}
+use Rattle.std.proofs.lemmas.List.{length-map}
 use Rattle.std.proofs.lemmas.List.Elements.{All-replicate}
 use Rattle.graph_colours.specs.declared.limits.TheConstants.{COLOURS}
 use Rattle.graph_colours.specs.declared.member.Member.{Member}
 use Rattle.graph_colours.specs.Movers.{shares}
 use Rattle.graph_colours.specs.Members.{AreRising, AreApart}
-use Rattle.graph_colours.specs.Marks.{Bucket, HasRoom, members_in, lists_of, IsGraph}
+use Rattle.graph_colours.specs.Marks.{Bucket, members_in, lists_of, IsGraph}
 use Rattle.graph_colours.specs.Colours.{all_members, IsColouring}
 use Rattle.graph_colours.proofs.ListLemmas.{pairs_none}
 

@@ -273,6 +273,7 @@ impl<C: Id> Colours<C> {
     /// constraint's colour changes.
     pub fn release(&mut self, id: C)
         ensures lists { self.new.lists ≡ released C.number id self.old.lists }
+        ensures room { self.old.room ≤ self.new.room }
         ensures total { self.new.room + length (all_members self.new.lists) ≡ self.old.room + length (all_members self.old.lists) }
         ensures slots { self.new.slots ≡ self.old.slots }
         ensures keeps { IsColouring C.number self.new.lists }

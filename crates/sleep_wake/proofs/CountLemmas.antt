@@ -1,5 +1,5 @@
 -- There is room for the constraints of an island that sleeps: each constraint has a colour already, or takes one of the room.
-use Rattle.std.proofs.Common.{◌≡◌, ◌≢◌, ℕ, zero, suc, ◌+◌, ◌<◌, ◌≤◌, ◌==◌, Bool, true, false, not, cond, List, [], ◌∷◌, length, arith, refl, sym, ap, ◌∙◌, subst, inl, inr}
+use Rattle.std.proofs.Common.{◌≡◌, ℕ, suc, ◌+◌, ◌<◌, ◌≤◌, ◌==◌, Bool, true, false, not, cond, List, [], ◌∷◌, length, arith, refl, sym, ap, ◌∙◌, inl, inr}
 use Rattle.std.specs.Prelude.{Contains, filter}
 use Rattle.std.specs.List.{count_by}
 use Rattle.std.proofs.lemmas.Bool.{false≢true}
@@ -10,7 +10,7 @@ use Rattle.graph_colours.specs.Members.{AreRising, has_id, without}
 use Rattle.graph_colours.proofs.ListLemmas.{pairs_tail}
 use Rattle.graph_colours.proofs.PlaceLemmas.{without_same}
 use Rattle.graph_colours.proofs.ColouringLemmas.{count_released}
-use Rattle.islands.proofs.JoinLemmas.{contains_cases, contains_head, contains_tail}
+use Rattle.islands.proofs.JoinLemmas.{contains_cases, contains_head}
 use Rattle.sleep_wake.proofs.ListLemmas.{none_in, without_in, one_of}
 use Rattle.sleep_wake.proofs.TurnLemmas.{fresh_from}
 

@@ -1,5 +1,5 @@
 -- The links that are listed of an island are inside it.
-use Rattle.std.proofs.Common.{◌≡◌, ℕ, List, inl, sym, ap, ◌∙◌}
+use Rattle.std.proofs.Common.{ℕ, List, inl, sym, ap, ◌∙◌}
 use Rattle.graph_colours.specs.declared.member.Member.{Member}
 use Rattle.islands.specs.Links.{Linked}
 use Rattle.islands.specs.Labels.{Labels, label_at, is_in}

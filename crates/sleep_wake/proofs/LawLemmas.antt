@@ -1,5 +1,5 @@
 -- Who is a mover and who is awake, after each of the calls of the sets.
-use Rattle.std.proofs.Common.{◌≡◌, ◌≢◌, ℕ, zero, suc, ◌↔◌, ◌⊎◌, ◌==◌, ◌||◌, ◌&&◌, Bool, true, false, not, cond, nat_lt, List, [], ◌∷◌, Option, Some, None, length, slice_set, arith, refl, sym, ap, ◌∙◌, subst, inl, inr, get_or-set_same, get_or-set_other}
+use Rattle.std.proofs.Common.{◌≡◌, ℕ, zero, suc, ◌⊎◌, ◌==◌, ◌||◌, ◌&&◌, Bool, true, false, not, cond, nat_lt, List, [], ◌∷◌, Option, Some, None, length, slice_set, arith, refl, sym, ap, ◌∙◌, subst, inl, inr, get_or-set_other}
 use Rattle.std.specs.Prelude.{Contains, is_some}
 use Rattle.std.proofs.lemmas.Bool.{false≢true, cases_eq}
 use Rattle.graph_colours.specs.declared.member.Member.{Member}
@@ -7,27 +7,26 @@ use Rattle.graph_colours.specs.Members.{has_id}
 use Rattle.graph_colours.proofs.PlaceLemmas.{is_same, not_same, same_from}
 use Rattle.islands.specs.declared.label.IslandState.TheVariants.{Whole, Loose, Asleep}
 use Rattle.islands.specs.declared.label.Label.{Label}
-use Rattle.islands.specs.Labels.{Labels, label_at, is_in, is_loose, is_asleep, relabel, relabelled, with_state, merged, merged_by, loosened, loosened_by, rested, woken, added, own_label, without, taken_out, lowest, left_behind, split_by}
+use Rattle.islands.specs.Labels.{Labels, label_at, is_in, is_loose, is_asleep, relabel, relabelled, merged, merged_by, loosened, loosened_by, rested, woken, added, without, taken_out, lowest}
 use Rattle.islands.specs.Partition.{IsPartition}
 use Rattle.islands.proofs.JoinLemmas.{contains_cases, contains_head, contains_tail}
-use Rattle.islands.proofs.LabelLemmas.{relabel_at, others_stay, added_here, added_other, in_case, in_of, in_is, same_by_name}
+use Rattle.islands.proofs.LabelLemmas.{relabel_at, others_stay, added_here, added_other, in_case, in_is}
 use Rattle.islands.proofs.SplitLemmas.{split_is}
 use Rattle.sleep_wake.specs.declared.change.Change.{Change}
 use Rattle.sleep_wake.specs.declared.change.Change.TheVariants.{Begin, End}
-use Rattle.sleep_wake.specs.Acting.{Acting, AreMovers, IsSettled, awake_label, is_awake, are_awake}
+use Rattle.sleep_wake.specs.Acting.{Acting, AreMovers, IsSettled, awake_label, is_awake}
 use Rattle.sleep_wake.specs.Bodies.{mover_made, mover_gone}
 use Rattle.sleep_wake.specs.Changes.{begun, ended, united, parted, each_begun, each_ended, CanBegin, CanEnd, changed, turned, AreChanges}
 use Rattle.sleep_wake.specs.Waking.{set_woken, woken_by, woken_at, second_woken, movers_woken, put_to_rest}
 use Rattle.sleep_wake.specs.SleepPhase.{split_at, edges_of, split_picked, picked_to_split, all_put_to_rest, ready, sleep_phase}
 use Rattle.sleep_wake.specs.Sleeping.{name_at, sleeping_name, with_one_name, with_name, names_from, names_of, islands_woken, split_if_loose, rested_by, rested_at, slept_by, slept_at, is_whole}
-use Rattle.sleep_wake.specs.Laws.{WakingNamedKeeps, BeginningEachKeeps, EndingEachKeeps, SleepKeeps, HaveSameMovers, MoversStay, MoversComeAndGo, NobodyFallsAsleep, AwakeStayAwake, WakingLeavesTheAwake, TheNamedAreAwake, TheAwakeAct}
+use Rattle.sleep_wake.specs.Laws.{WakingNamedKeeps, BeginningEachKeeps, EndingEachKeeps, SleepKeeps, MoversStay, MoversComeAndGo, NobodyFallsAsleep, AwakeStayAwake, WakingLeavesTheAwake, TheNamedAreAwake, TheAwakeAct}
 use Rattle.sleep_wake.proofs.AwakeLemmas.{awake_as, united_awake, parted_awake}
 use Rattle.sleep_wake.proofs.KeptLemmas.{wakes, wakes_both, beginning, beginning_keeps, ending, ending_keeps, resting}
 use Rattle.sleep_wake.proofs.EdgeLemmas.{edges_inside}
-use Rattle.sleep_wake.proofs.PhaseLemmas.{names, splitting_keeps, picked_is}
+use Rattle.sleep_wake.proofs.PhaseLemmas.{names, splitting_keeps}
 use Rattle.sleep_wake.proofs.RestLemmas.{whole_after}
 use Rattle.sleep_wake.proofs.FoldLemmas.{are_up, begin_next, end_next, movers_on, change_next, changed_labelled, Labelled}
-use Rattle.sleep_wake.proofs.SizeLemmas.{both_ties}
 
 -- ---- what keeps the sets settled
 

@@ -2,9 +2,8 @@
 use Rattle.std.proofs.Common.{◌≡◌, ℕ, zero, suc, ◌+◌, ◌<◌, ◌≤◌, ◌&&◌, Bool, true, false, cond, min, List, [], ◌∷◌, get_or, drop, length, Option, None, Some, arith, refl, sym, ap, ◌∙◌, inl, inr}
 use Rattle.std.proofs.lemmas.Bool.{cases_lt}
 use Rattle.std.proofs.lemmas.List.{drop_more}
-use Rattle.islands.specs.declared.label.Label.{Label}
 use Rattle.islands.specs.Labels.{Labels, label_at, is_in}
-use Rattle.sleep_wake.specs.SleepPhase.{lesser, least_timer, is_due, is_island, ready_from, longer_at_rest, longest_at_rest, picked_to_split, weighed}
+use Rattle.sleep_wake.specs.SleepPhase.{lesser, least_timer, is_due, is_island, ready_from, longer_at_rest, longest_at_rest, weighed}
 
 -- ---- the least timer, from the last slot to the first
 

@@ -1,17 +1,17 @@
 -- Islands fall asleep one after the other, and none of them makes another more ready, or less.
-use Rattle.std.proofs.Common.{◌≡◌, ◌≢◌, ℕ, zero, suc, ◌+◌, ◌<◌, ◌≤◌, ◌==◌, ◌&&◌, ◌||◌, Bool, true, false, not, cond, List, [], ◌∷◌, Option, Some, None, length, map, drop, get_or, refl, sym, ap, ◌∙◌, arith, subst, inl, inr}
-use Rattle.std.proofs.lemmas.Bool.{false≢true, cases_eq, eqb-true, eq-eqb}
+use Rattle.std.proofs.Common.{◌≡◌, ◌≢◌, ℕ, zero, suc, ◌+◌, ◌<◌, ◌≤◌, ◌==◌, ◌&&◌, ◌||◌, Bool, true, false, not, cond, List, [], ◌∷◌, Option, Some, None, length, map, drop, refl, sym, ap, ◌∙◌, arith}
+use Rattle.std.proofs.lemmas.Bool.{false≢true, eqb-true, eq-eqb}
 use Rattle.std.proofs.lemmas.List.{drop_more}
 use Rattle.graph_colours.proofs.PlaceLemmas.{not_same}
 use Rattle.islands.specs.declared.label.IslandState.{IslandState}
-use Rattle.islands.specs.declared.label.IslandState.TheVariants.{Whole, Loose, Asleep}
+use Rattle.islands.specs.declared.label.IslandState.TheVariants.{Asleep}
 use Rattle.islands.specs.declared.label.Label.{Label}
-use Rattle.islands.specs.Labels.{Labels, label_at, is_in, is_loose, is_asleep, relabel, rested, split_by, own_label}
+use Rattle.islands.specs.Labels.{Labels, label_at, is_in, is_loose, is_asleep, relabel, rested}
 use Rattle.islands.proofs.LabelLemmas.{in_of}
 use Rattle.islands.proofs.SplitLemmas.{split_is}
 use Rattle.sleep_wake.specs.Acting.{Acting, IsSettled}
 use Rattle.sleep_wake.specs.Waking.{put_to_rest}
-use Rattle.sleep_wake.specs.SleepPhase.{least_timer, lesser, is_due, is_island, is_ready, ready_from, all_put_to_rest, split_at, edges_of}
+use Rattle.sleep_wake.specs.SleepPhase.{least_timer, is_due, is_island, is_ready, ready_from, all_put_to_rest, split_at, edges_of}
 use Rattle.sleep_wake.specs.Sleeping.{is_whole, split_if_loose}
 use Rattle.sleep_wake.proofs.EdgeLemmas.{edges_inside}
 
@@ -79,7 +79,7 @@ unfolding put_to_rest rested
 then_ready {C} number timers slot s lt h =
     let new : Acting C = put_to_rest number slot s in
     let same : still_ready timers (map (asleep_in slot) s.labels) (slot + 1) ≡ still_ready timers s.labels (slot + 1) =
-        ap (λ rest. ready_from false (map (asleep_in slot) s.labels) timers (slot + 1) rest) (drop_map (asleep_in slot) (slot + 1) s.labels) ∙ ready_rested slot s.labels timers (slot + 1) (drop (slot + 1) s.labels) (omega arith) in
+    ap (λ rest. ready_from false (map (asleep_in slot) s.labels) timers (slot + 1) rest) (drop_map (asleep_in slot) (slot + 1) s.labels) ∙ ready_rested slot s.labels timers (slot + 1) (drop (slot + 1) s.labels) (omega arith) in
     let front : still_ready timers s.labels slot ≡ slot ∷ still_ready timers s.labels (slot + 1) = ready_there timers s.labels slot lt ∙ rw h refl in
     ap (λ names. all_put_to_rest number names new) same ∙ ap (λ names. all_put_to_rest number names s) (sym front)
 

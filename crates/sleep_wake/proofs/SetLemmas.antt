@@ -1,19 +1,17 @@
 -- The constraints of an island take colours one after the other, and give them up.
-use Rattle.std.proofs.Common.{◌≡◌, ◌≢◌, ℕ, suc, ◌+◌, ◌<◌, ◌≤◌, Bool, true, false, not, cond, List, [], ◌∷◌, get_or, drop, length, None, Some, arith, refl, sym, ap, ◌∙◌, subst, inl, inr}
+use Rattle.std.proofs.Common.{◌≡◌, ℕ, suc, ◌+◌, ◌<◌, ◌≤◌, Bool, true, false, not, List, ◌∷◌, get_or, drop, length, None, Some, arith, refl, sym, ap, ◌∙◌, subst, inl, inr}
 use Rattle.std.specs.Prelude.{Contains, filter}
 use Rattle.std.proofs.lemmas.Bool.{false≢true}
 use Rattle.std.proofs.lemmas.List.{drop_more}
 use Rattle.std.specs.List.Sorted.{IsPermutation}
 use Rattle.std.proofs.lemmas.List.Sorted.{length_permutation}
 use Rattle.graph_colours.specs.declared.member.Member.{Member}
-use Rattle.graph_colours.specs.Movers.{AreBelow}
-use Rattle.graph_colours.specs.Members.{AreRising}
 use Rattle.graph_colours.specs.Colours.{all_members, colour_of, placed}
 use Rattle.graph_colours.proofs.ListLemmas.{pairs_tail}
 use Rattle.graph_colours.proofs.ColouringLemmas.{placed_others}
 use Rattle.islands.specs.declared.label.Label.{Label}
 use Rattle.islands.specs.Labels.{label_at, IsIn, is_asleep}
-use Rattle.islands.proofs.JoinLemmas.{contains_head, contains_tail}
+use Rattle.islands.proofs.JoinLemmas.{contains_tail}
 use Rattle.sleep_wake.specs.Acting.{Acting, IsSettled, is_awake, are_awake}
 use Rattle.sleep_wake.specs.Waking.{has_mover_of, placed_all}
 use Rattle.sleep_wake.specs.Rooms.{CanPlace}

@@ -1,12 +1,11 @@
 -- What the sets keep, whatever changes in them.
-use Rattle.std.proofs.Common.{◌≡◌, ℕ, ◌+◌, ◌<◌, ◌≤◌, Bool, true, false, List, [], length, None, Some, refl, sym, ap, ◌∙◌, arith, subst, inl, inr}
-use Rattle.std.specs.Prelude.{Contains, filter, IfSome, Option}
+use Rattle.std.proofs.Common.{◌≡◌, ℕ, ◌+◌, ◌<◌, ◌≤◌, Bool, false, List, length, None, Some, refl, ap, arith}
+use Rattle.std.specs.Prelude.{filter, IfSome, Option}
 use Rattle.graph_colours.specs.declared.member.Movers.{Movers}
 use Rattle.graph_colours.specs.declared.member.Member.{Member}
 use Rattle.graph_colours.specs.Movers.{AreBelow}
-use Rattle.graph_colours.specs.Members.{inserted, without}
 use Rattle.graph_colours.specs.Colours.{all_members}
-use Rattle.islands.specs.Labels.{Labels, label_at}
+use Rattle.islands.specs.Labels.{Labels}
 use Rattle.islands.proofs.LabelLemmas.{some_short}
 use Rattle.sleep_wake.specs.Acting.{Acting, AreMovers, IsSettled}
 use Rattle.sleep_wake.specs.Standing.{Capacity, IsStanding}

@@ -1,5 +1,5 @@
 -- What contracts see of the sets, and what the sets keep.
-use Rattle.std.specs.Prelude.{ℕ, ◌≤◌, ◌+◌, List, length}
+use Rattle.std.specs.Prelude.{ℕ, ◌≤◌, ◌+◌, length}
 use Rattle.graph_colours.specs.Colours.{all_members}
 use Rattle.sleep_wake.specs.Acting.{Acting, IsSettled}
 

@@ -62,7 +62,11 @@ fn add_name(names: &mut Vec<u32>, name: u32) -> Result<(), Refusal>
 
 /// The names of the sleeping islands in which the movers of these slots are, ascending and each once. Refused 1 where
 /// memory is wanting.
-pub(crate) fn list_names(alloc: Global, islands: &Islands, slots: &[u32]) -> Result<Vec<u32>, Refusal>
+pub(crate) fn list_names(
+    alloc: Global,
+    islands: &Islands,
+    slots: &[u32],
+) -> Result<Vec<u32>, Refusal>
     ensures value { IfOk result (λ names. names.items ≡ names_of islands.now.labels slots.now) }
     ensures memory_only { IsOkUnless result Refusal.NoMemory }
 {

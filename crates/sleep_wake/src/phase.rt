@@ -16,9 +16,7 @@ fn is_whole_island(islands: &Islands, slot: u32) -> bool
 {
     match islands.label_of(slot) {
         None => false,
-        Some(label) => {
-            label.name == slot && !label.state.is_loose() && !label.state.is_asleep()
-        }
+        Some(label) => { label.name == slot && !label.state.is_loose() && !label.state.is_asleep() }
     }
 }
 

@@ -88,7 +88,15 @@ impl<C: Id> Sets<C> {
         let mut islands = self.islands.try_copy()?;
         let mut edges = Vec::new(alloc);
         let mut scratch = SplitScratch::new(alloc);
-        let room = grow(&mut ties, &mut colours, &mut islands, &mut edges, &mut scratch, 0, self.slots)?;
+        let room = grow(
+            &mut ties,
+            &mut colours,
+            &mut islands,
+            &mut edges,
+            &mut scratch,
+            0,
+            self.slots,
+        )?;
         Ok(Sets {
             ties,
             colours,
@@ -364,7 +372,13 @@ impl<C: Id> Sets<C> {
         ensures room { self.new.room ≡ self.old.room }
         ensures slots { self.new.slots ≡ self.old.slots }
     {
-        split_set(&mut self.islands, &self.ties, name, &mut self.edges, &mut self.scratch);
+        split_set(
+            &mut self.islands,
+            &self.ties,
+            name,
+            &mut self.edges,
+            &mut self.scratch,
+        );
     }
 
     /// Puts a mover to sleep with its island, which is split first where it is loose. One that sleeps stays as it is.

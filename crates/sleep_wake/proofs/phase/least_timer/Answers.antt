@@ -1,4 +1,4 @@
-use Rattle.std.proofs.Common.{◌≡◌, ◌≤◌, length, min, sym, arith}
+use Rattle.std.proofs.Common.{◌≡◌, length, min, sym, arith}
 use Rattle.sleep_wake.proofs.PickLemmas.{none_left}
 use Rattle.sleep_wake.proofs.phase.least_timer.Goals as goal
 

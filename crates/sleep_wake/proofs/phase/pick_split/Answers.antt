@@ -1,4 +1,4 @@
-use Rattle.std.proofs.Common.{◌≡◌, ◌<◌, length, sym, ◌∙◌, arith}
+use Rattle.std.proofs.Common.{◌<◌, length, sym, ◌∙◌, arith}
 use Rattle.sleep_wake.proofs.PickLemmas.{searched_more}
 use Rattle.sleep_wake.proofs.phase.pick_split.Goals as goal
 

@@ -1,4 +1,4 @@
-use Rattle.std.proofs.Common.{◌≡◌, ◌≤◌, ◌+◌, drop, length}
+use Rattle.std.proofs.Common.{◌≡◌, ◌+◌, drop, length}
 use Rattle.std.specs.Prelude.{filter}
 use Rattle.graph_colours.specs.Colours.{all_members}
 use Rattle.sleep_wake.specs.Waking.{has_mover_of, placed_all}

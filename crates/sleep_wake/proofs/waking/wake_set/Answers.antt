@@ -1,7 +1,6 @@
-use Rattle.std.proofs.Common.{◌≡◌, Some, true, refl, sym, ap, ◌∙◌}
-use Rattle.graph_colours.specs.declared.member.Member.{Member}
-use Rattle.islands.specs.Labels.{label_at, is_asleep}
-use Rattle.sleep_wake.specs.Acting.{Acting, acting}
+use Rattle.std.proofs.Common.{◌≡◌, Some, refl, sym, ◌∙◌}
+use Rattle.islands.specs.Labels.{label_at}
+use Rattle.sleep_wake.specs.Acting.{acting}
 use Rattle.sleep_wake.proofs.SetLemmas.{sleepers_absent, room_for_sleepers}
 use Rattle.sleep_wake.proofs.waking.wake_set.Goals as goal
 

@@ -1,5 +1,5 @@
 use Rattle.std.proofs.Common.{◌≡◌, ◌≤◌, ◌-◌, ◌+◌, ◌∙◌, false, arith, rules, subst, List, length, Bool}
-use Rattle.std.specs.Vec.{vec_len, vec_capacity}
+use Rattle.std.specs.Vec.{vec_capacity}
 use Rattle.std.specs.List.{All, position_or_len}
 use Rattle.graph_colours.specs.declared.limits.TheConstants.{COLOURS}
 use Rattle.graph_colours.specs.declared.member.Member.{Member}

@@ -1,5 +1,4 @@
-use Rattle.std.proofs.Common.{◌≡◌, ◌+◌, ◌<◌, ◌≤◌, ◌∷◌, List, drop, length, sym, ap, ◌∙◌, subst, arith}
-use Rattle.graph_colours.specs.declared.member.Member.{Member}
+use Rattle.std.proofs.Common.{◌≡◌, ◌+◌, ◌<◌, ◌≤◌, ◌∷◌, drop, length, sym, ap, ◌∙◌, subst, arith}
 use Rattle.sleep_wake.specs.Acting.{Acting}
 use Rattle.sleep_wake.specs.Changes.{CanBegin, each_begun}
 use Rattle.sleep_wake.proofs.SetLemmas.{front_is}

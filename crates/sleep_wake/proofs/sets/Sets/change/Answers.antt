@@ -1,8 +1,8 @@
-use Rattle.std.proofs.Common.{◌≡◌, ◌+◌, ◌<◌, ◌≤◌, false, List, length, sym, ap, ◌∙◌, subst, arith}
+use Rattle.std.proofs.Common.{◌≡◌, ◌+◌, ◌≤◌, false, List, length, sym, ap, ◌∙◌, subst, arith}
 use Rattle.std.specs.Prelude.{Contains}
 use Rattle.graph_colours.specs.declared.member.Member.{Member}
 use Rattle.graph_colours.specs.Members.{has_id}
-use Rattle.sleep_wake.specs.Acting.{Acting, are_awake, AreMovers}
+use Rattle.sleep_wake.specs.Acting.{Acting, are_awake}
 use Rattle.sleep_wake.proofs.SizeLemmas.{both_ties}
 use Rattle.sleep_wake.proofs.FoldLemmas.{woken_ready}
 use Rattle.sleep_wake.proofs.sets.Sets.change.Goals as goal

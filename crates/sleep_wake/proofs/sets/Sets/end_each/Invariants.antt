@@ -1,4 +1,4 @@
-use Rattle.std.proofs.Common.{◌≡◌, ◌+◌, ◌≤◌, length, drop}
+use Rattle.std.proofs.Common.{◌≡◌, drop}
 use Rattle.sleep_wake.specs.Changes.{CanEnd, each_ended}
 use Rattle.sleep_wake.proofs.sets.Sets.end_each.Given as goal
 

@@ -1,8 +1,5 @@
-use Rattle.std.proofs.Common.{◌≡◌, ◌+◌, ◌<◌, ◌≤◌, List, length, refl, sym, ap, ◌∙◌, subst, arith}
+use Rattle.std.proofs.Common.{◌≡◌, length, refl, sym, ap, ◌∙◌, subst, arith}
 use Rattle.std.specs.Vec.{vec_capacity}
-use Rattle.graph_colours.specs.declared.member.Member.{Member}
-use Rattle.graph_colours.specs.Colours.{all_members}
-use Rattle.islands.specs.Labels.{Labels}
 use Rattle.sleep_wake.specs.Acting.{Acting, acting, IsSettled}
 use Rattle.sleep_wake.proofs.StandLemmas.{stands_on}
 use Rattle.std.proofs.Common.{false}

@@ -1,4 +1,4 @@
-use Rattle.std.proofs.Common.{◌≡◌, ◌+◌, ◌≤◌, length, drop}
+use Rattle.std.proofs.Common.{◌≡◌, length}
 use Rattle.sleep_wake.specs.SleepPhase.{all_put_to_rest, ready_put_to_rest}
 use Rattle.sleep_wake.proofs.RestLemmas.{still_ready}
 use Rattle.sleep_wake.proofs.sets.Sets.rest_ready.Given as goal

@@ -1,4 +1,4 @@
-use Rattle.std.proofs.Common.{◌≡◌, ◌+◌, ◌≤◌, length, drop}
+use Rattle.std.proofs.Common.{◌≡◌, drop}
 use Rattle.sleep_wake.specs.Sleeping.{islands_woken}
 use Rattle.sleep_wake.proofs.sets.Sets.wake_named.Given as goal
 
