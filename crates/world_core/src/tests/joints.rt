@@ -140,10 +140,15 @@ fn meetings(world: &mut WorldCore) -> Result<(usize, usize), Refusal> {
     Ok((events.begin().len(), events.end().len()))
 }
 
-/// The meetings of a tick, those of the next once the bodies are joined, and those of a third once they aren't any more.
+/// The meetings of a tick, those of the next once the bodies are joined by a joint that leaves them where they are, and those of a third
+/// once they aren't any more.
 fn meetings_with_a_joint(world: &mut WorldCore) -> Result<[(usize, usize); 3], Refusal> {
     let before = meetings(world)?;
-    join(world, between(FIRST, SECOND))?;
+    let as_they_are = JointDef {
+        length: 150,
+        ..between(FIRST, SECOND)
+    };
+    join(world, as_they_are)?;
     let joined = meetings(world)?;
     unjoin(world, FIRST)?;
     Ok([before, joined, meetings(world)?])
@@ -156,6 +161,40 @@ fn joined_bodies_do_not_collide(rt: HostRuntime) -> Result<(), Fail> {
         meetings_with_a_joint(&mut world)?,
         [(1, 0), (0, 1), (1, 0)]
     );
+    Ok(())
+}
+
+/// What is seen of the first of two circles 1,000 u apart, which a joint of length 200 pulls together, after one tick and after two.
+fn let_pull(alloc: Global, world: &mut WorldCore) -> Result<[Option<BodyView>; 2], Refusal> {
+    add(alloc, world, 1, ORIGIN, circle(100))?;
+    add(alloc, world, 1, Vec2 { x: 1_000, y: 0 }, circle(100))?;
+    join(
+        world,
+        JointDef {
+            length: 200,
+            ..between(FIRST, SECOND)
+        },
+    )?;
+    step(world, 1)?;
+    let first = seen(world);
+    step(world, 1)?;
+    Ok([first, seen(world)])
+}
+
+fn pulled(alloc: Global) -> Result<[Option<BodyView>; 2], Refusal> {
+    let mut world = new_world(alloc, NO_GRAVITY)?;
+    let_pull(alloc, &mut world)
+}
+
+/// An eighth of the error in the first tick, half of it by each; in the second the kept impulse is given once more, of which the solver takes
+/// most back.
+#[test]
+fn a_joint_pulls_and_keeps_its_impulse(rt: HostRuntime) -> Result<(), Fail> {
+    let expected = [
+        awake(Vec2 { x: 50, y: 0 }, Vec2 { x: 50, y: 0 }),
+        awake(Vec2 { x: 94, y: 0 }, Vec2 { x: 44, y: 0 }),
+    ];
+    assert_eq!(rt; pulled(rt.alloc())?, expected);
     Ok(())
 }
 
