@@ -96,12 +96,16 @@ fn reads_its_words(rt: HostRuntime) -> Result<(), Fail> {
     let about =
         "Keeps a world of bodies: reads one JSON request a line, and answers each with a line";
     let usage = "Usage: world_script [OPTIONS]\n\nOptions:\n";
-    let explain = "      --explain  Say in words on standard error why a request is refused\n";
+    let explain = "      --explain      Say in words on standard error why a request is refused\n";
+    let threads =
+        "      --threads <N>  How many threads make the calls of a crowd, 1 to 64 [default: 1]\n";
     let others =
-        "  -h, --help     Print help\n  -V, --version  Print version\n\nRequests, each an object";
+        "  -h, --help         Print help\n  -V, --version      Print version\n\nRequests, each an object";
     assert_eq!(rt; what, "text");
     assert!(rt;
-        text.starts_with(format!(in alloc; "{about}\n\n{usage}{explain}{others}")?.as_str())
+        text.starts_with(format!(in alloc;
+            "{about}\n\n{usage}{explain}{threads}{others}"
+        )?.as_str())
     );
 
     let (what, text) = instead(options(alloc, &["world_script", "--version"])).ok_or("a run")?;
@@ -119,6 +123,36 @@ fn reads_its_words(rt: HostRuntime) -> Result<(), Fail> {
     Ok(())
 }
 
+/// How many threads the words ask for.
+fn threads_of(alloc: Global, words: &[&str]) -> Option<u64> {
+    options(alloc, words).ok().map(|options| options.threads)
+}
+
+#[test]
+fn reads_the_number_of_threads(rt: HostRuntime) {
+    let alloc = rt.alloc();
+    assert_eq!(rt; threads_of(alloc, &["world_script"]), Some(1));
+    assert_eq!(rt;
+        threads_of(alloc, &["world_script", "--threads", "64"]),
+        Some(64)
+    );
+    assert_eq!(rt;
+        threads_of(alloc, &["world_script", "--threads=2"]),
+        Some(2)
+    );
+    for number in ["0", "65", "-1", "two", ""] {
+        assert_eq!(rt;
+            threads_of(alloc, &["world_script", "--threads", number]),
+            None
+        );
+    }
+    assert_eq!(rt; threads_of(alloc, &["world_script", "--threads"]), None);
+    assert_eq!(rt;
+        threads_of(alloc, &["world_script", "--threads=2", "--threads=2"]),
+        None
+    );
+}
+
 /// What is wrong with a line, in words.
 fn told(alloc: Global, line: &[u8]) -> Result<String, Fail> {
     let mut scratch = Scratch::new(alloc);
@@ -131,7 +165,7 @@ fn told(alloc: Global, line: &[u8]) -> Result<String, Fail> {
 
 #[test]
 fn says_why_a_line_is_bad(rt: HostRuntime) -> Result<(), Fail> {
-    let lines: [(&[u8], &str); 8] = [
+    let lines: [(&[u8], &str); 9] = [
         (
             b"{\"do\":\"step\",\"ticks\":1.5}",
             "ticks: not a whole number of 64 bits",
@@ -151,6 +185,10 @@ fn says_why_a_line_is_bad(rt: HostRuntime) -> Result<(), Fail> {
         (
             b"{\"do\":\"create\",\"kind\":\"static\",\"at\":[0,0],\"shapes\":[{\"circle\":[0,0]}]}",
             "shapes[0]: radius: missing",
+        ),
+        (
+            b"{\"do\":\"crowd\",\"each\":[{\"do\":\"step\"}],\"times\":1}",
+            "each[0]: ticks: missing",
         ),
     ];
     for (line, why) in lines.iter() {
