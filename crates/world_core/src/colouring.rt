@@ -118,7 +118,7 @@ fn end_before(
     ensures lists { colours.new.lists ≡ ended_until key colours.old.lists (drop from ended.now) }
     ensures left { drop result ended.now ≡ left_from key (drop from ended.now) }
     ensures within { result ≤ length ended.now }
-    ensures room { colours.new.room ≡ colours.old.room }
+    ensures room { colours.old.room ≤ colours.new.room }
     ensures slots { colours.new.slots ≡ colours.old.slots }
     ensures count { length (all_members colours.new.lists) ≤ length (all_members colours.old.lists) }
 {
