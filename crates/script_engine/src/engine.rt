@@ -1,8 +1,8 @@
 //! Lines in, answers out.
 
 use crate::calls::{apply, body_of, events_of, ledger_of, new_world, ray, region};
-use crate::crowd::crowd;
-use crate::explain::explain;
+use crate::crowds::crowd;
+use crate::explanation::explain;
 use crate::requests::{CrowdDef, Request, request_of};
 use crate::status::Status;
 use answer_json::Answer;

@@ -2,13 +2,13 @@
 #![tactic(auto)]
 
 mod calls;
-mod crowd;
+mod crowds;
 mod engine;
-mod explain;
+mod explanation;
 mod requests;
 mod status;
 
 pub use engine::{Options, run};
-pub use explain::{Explanation, explain};
+pub use explanation::{Explanation, explain};
 pub use requests::{CrowdDef, Request, request_of};
 pub use status::Status;

@@ -1,4 +1,4 @@
-use Rattle.script_engine.proofs.crowd.share_out.Given as goal
+use Rattle.script_engine.proofs.crowds.share_out.Given as goal
 
 -- the roster that was just made, and the world
 abbrev pub ghosts-share-N-Named : goal.ghosts-share-N-Named
