@@ -18,6 +18,7 @@
 #include <stdatomic.h>
 #include <stdio.h>
 #include <stdlib.h>
+#include <sys/syscall.h>
 #include <unistd.h>
 
 /* Which calls of one kind are refused, and what came of it so far. */
@@ -76,14 +77,21 @@ __attribute__((constructor)) static void begin(void) {
     read_rule(&threads, "REFUSE_THREAD");
 }
 
-/* Writes by the system call, so that the report needs no memory. */
+/* Writes by the system call, so that the report needs no memory; once, however the program ends. */
 __attribute__((destructor)) static void report(void) {
-    if (!getenv("REFUSE_COUNT")) return;
+    static atomic_flag written = ATOMIC_FLAG_INIT;
+    if (!getenv("REFUSE_COUNT") || atomic_flag_test_and_set(&written)) return;
     char line[160];
     int length = snprintf(line, sizeof line, "refuse: allocations %ld refused %ld, threads %ld refused %ld\n",
                           (long)allocations.asked, (long)allocations.refused, (long)threads.asked,
                           (long)threads.refused);
-    if (write(STDERR_FILENO, line, length) != length) _exit(125);
+    if (write(STDERR_FILENO, line, length) != length) syscall(SYS_exit_group, 125);
+}
+
+/* A program that may start threads ends by this call, which runs no destructor. */
+void _exit(int status) {
+    report();
+    for (;;) syscall(SYS_exit_group, status);
 }
 
 void *malloc(size_t size) {
