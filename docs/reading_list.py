@@ -3,8 +3,8 @@
 
     docs/reading_list.py [CRATE/FILE ..]
 
-The roots are the files of crates/*/specs that the main contracts cite: world_core/Apply and world_core/World (what `apply`
-promises), world_core/Replay and world_core/Sound. A file is listed where a root names it, or a file that a root names, and so
+The roots are the files of crates/*/specs that the main contracts cite: world_rules/Apply and world_rules/World (what `apply`
+promises), world_rules/Replay and world_rules/Sound. A file is listed where a root names it, or a file that a root names, and so
 on: so what is listed may be more than a contract needs, and never less. Crates come lowest first, and each line
 has the file's lines and its first comment.
 """
@@ -14,7 +14,7 @@ import re
 import sys
 
 TOP = os.path.dirname(os.path.dirname(os.path.abspath(__file__)))
-ROOTS = ["world_core/Apply", "world_core/World", "world_core/Replay", "world_core/Sound"]
+ROOTS = ["world_rules/Apply", "world_rules/World", "world_rules/Replay", "world_rules/Sound"]
 CITED = re.compile(r"Rattle\.(\w+)\.specs\.(\w+)")
 
 

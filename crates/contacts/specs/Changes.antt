@@ -5,12 +5,14 @@ use Rattle.std.specs.List.Sorted.{IsStrictlyIncreasing}
 use Rattle.shapes.specs.Manifolds.{manifold_of}
 use Rattle.contacts_base.specs.declared.near.Proxy.{Proxy}
 use Rattle.contacts_base.specs.declared.key.ContactKey.{ContactKey}
+use Rattle.contacts_base.specs.declared.contact.Contact.{Contact}
 use Rattle.contacts_base.specs.declared.contact.ContactEntry.{ContactEntry}
 use Rattle.contacts_base.specs.declared.surface.Surface.{Surface}
 use Rattle.contacts_base.specs.Keys.{key_number}
 use Rattle.contacts_base.specs.Surfaces.{mixed}
 use Rattle.contacts_base.specs.Contacts.{lookup, is_touching}
-use Rattle.contacts_base.specs.Evaluate.{evaluated, touches}
+use Rattle.contacts_base.specs.Evaluate.{apart, evaluated, touches}
+use Rattle.contacts_base.specs.Near.{one_stirs}
 use Rattle.contacts.specs.Pairs.{proxy_at, first_place, second_place, key_of}
 
 -- a contact keeps its surface; a new one has what the two shapes' mix to
@@ -18,9 +20,18 @@ abbrev pub surface_with : Option ContactEntry → Proxy → Proxy → Surface
 surface_with None p q = mixed p.surface q.surface
 surface_with (Some e) p q = e.surface
 
+-- the points that a contact has; a new one has none
+abbrev pub kept_contact : Option ContactEntry → Contact
+kept_contact None = apart
+kept_contact (Some e) = e.contact
+
+-- evaluated anew, if the body of one of the shapes stirs; else kept
+abbrev pub contact_with : Option ContactEntry → Proxy → Proxy → Contact
+contact_with old p q = cond (one_stirs p q) (evaluated old (manifold_of p.shape p.pose q.shape q.pose)) (kept_contact old)
+
 -- the contact of two shapes, which was `old` before if it was there
 unfoldable pub entry_with : Option ContactEntry → Proxy → Proxy → ContactEntry
-entry_with old p q = record { key = key_of p q; surface = surface_with old p q; contact = evaluated old (manifold_of p.shape p.pose q.shape q.pose) }
+entry_with old p q = record { key = key_of p q; surface = surface_with old p q; contact = contact_with old p q }
 
 -- the contact of two shapes, which was among the old ones or wasn't
 unfoldable pub entry_of : List ContactEntry → Proxy → Proxy → ContactEntry

@@ -21,6 +21,7 @@ no_proxy = record {
   fat = no_box;
   filter = record { category = 0; mask = 0; group = pos 0 };
   dynamic = false;
+  stirs = false;
   surface = record { friction = pos 0; restitution = pos 0 };
   shape = Circle zero_vector (pos 0);
   pose = record { x = zero_vector; rot = record { c = pos 0; s = pos 0 } };

@@ -6,10 +6,11 @@ ghost use Rattle.contacts_base.specs.Near.{IsProxy, IsProxyList};
 ghost use Rattle.std.specs.Option.{option_copied, option_to_list};
 ghost use Rattle.contacts_base.specs.Contacts.{AreContacts, AreKeysRising, is_touching};
 ghost use Rattle.contacts.specs.Pairs.{IsPair, ArePairs, proxy_at, first_place, second_place, pair_key};
-ghost use Rattle.contacts.specs.Changes.{surface_with, entry_with, contacts_of, key_unless, key_if_new, keys_not_in, keys_touching_only_in, AreRising};
+ghost use Rattle.contacts.specs.Changes.{surface_with, contact_with, entry_with, kept_contact, contacts_of, key_unless, key_if_new, keys_not_in, keys_touching_only_in, AreRising};
 
 use contacts_base::{
-    ContactEntry, ContactKey, Contacts, Proxy, Surface, contact_at, contact_of, seek,
+    Contact, ContactEntry, ContactKey, Contacts, Proxy, Surface, contact_at, contact_of, one_stirs,
+    seek,
 };
 use fixed_geom::Refusal;
 use std::alloc::Global;
@@ -48,6 +49,32 @@ fn surface_with(old: Option<&ContactEntry>, p: &Proxy, q: &Proxy) -> Surface
     }
 }
 
+/// The points that a contact has; a new one has none.
+fn kept_contact(old: Option<&ContactEntry>) -> Contact
+    ensures { result ≡ kept_contact (option_copied old.entry) }
+{
+    match old {
+        None => Contact {
+            first: None,
+            second: None,
+        },
+        Some(entry) => entry.contact,
+    }
+}
+
+/// What the contact of two shapes becomes, which was `old` until now: evaluated anew, if the body of one of them stirs.
+fn contact_with(old: Option<&ContactEntry>, p: &Proxy, q: &Proxy) -> Contact
+    requires first { IsProxy p.now }
+    requires second { IsProxy q.now }
+    ensures { result ≡ contact_with (option_copied old.entry) p.now q.now }
+{
+    if one_stirs(p, q) {
+        contact_of(old, p, q)
+    } else {
+        kept_contact(old)
+    }
+}
+
 /// The contact of two shapes, whose contact until now was `old`.
 #[tactic(auto, unfolding(crate::specs::Changes::entry_with))]
 fn entry_with(old: Option<&ContactEntry>, p: &Proxy, q: &Proxy) -> ContactEntry
@@ -61,7 +88,7 @@ fn entry_with(old: Option<&ContactEntry>, p: &Proxy, q: &Proxy) -> ContactEntry
             second: q.id,
         },
         surface: surface_with(old, p, q),
-        contact: contact_of(old, p, q),
+        contact: contact_with(old, p, q),
     }
 }
 
@@ -191,7 +218,7 @@ fn lost_keys(alloc: Global, now: &[ContactEntry], old: &[ContactEntry]) -> Resul
     Ok(Past { gone, end })
 }
 
-/// The contacts of these pairs, each evaluated anew, and what changed. `old` are the contacts until
+/// The contacts of these pairs, those of bodies that stir evaluated anew, and what changed. `old` are the contacts until
 /// now. Refused 1 where memory is wanting.
 pub fn update(
     alloc: Global,

@@ -31,6 +31,10 @@ pub record IsProxyList (ps : List Proxy) : Type 0 where
 unfoldable pub is_near : Proxy → Proxy → Bool
 is_near p q = cond (p.id.slot == q.id.slot) false (cond (p.dynamic || q.dynamic) (cond (should_collide p.filter q.filter) (overlaps p.fat q.fat) false) false)
 
+-- the body of one of them stirs, so that their contact is evaluated
+abbrev pub one_stirs : Proxy → Proxy → Bool
+one_stirs p q = p.stirs || q.stirs
+
 -- the pair of the shapes at places i and j
 abbrev pub pair_code : ℕ → ℕ → ℕ
 pair_code i j = i * 2 ^ 32 + j

@@ -15,5 +15,5 @@ pub use contact::{Contact, ContactEntry, ContactPoint, contact_at, place_at, see
 pub use contacts::Contacts;
 pub use evaluation::{Impulses, contact_of, evaluate};
 pub use key::{ContactKey, ShapeId};
-pub use near::{Proxy, code_of, is_near};
+pub use near::{Proxy, code_of, is_near, one_stirs};
 pub use surface::Surface;

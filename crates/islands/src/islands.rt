@@ -209,4 +209,17 @@ impl Islands {
     {
         members_of(*self.notes.allocator(), &self.notes, &self.heads, name)
     }
+
+    /// By slot the label of the mover's island. Refused 1 where memory is wanting.
+    pub fn list_labels(&self) -> Result<Vec<Option<Label>>, Refusal>
+        ensures labels { IfOk result (λ v. v.items ≡ self.now.labels) }
+        ensures memory_only { IsOkUnless result Refusal.NoMemory }
+    {
+        let slots = self.slots();
+        let mut labels = Vec::with_capacity(*self.notes.allocator(), slots)?;
+        for slot in 0..slots {
+            labels.push(self.label_of(slot as u32))?;
+        }
+        Ok(labels)
+    }
 }

@@ -3,6 +3,8 @@
 #![tactic(auto)]
 
 #[cfg(test)]
+mod census;
+#[cfg(test)]
 mod colours;
 #[cfg(test)]
 mod events;

@@ -55,6 +55,7 @@ fn proxy_of(slot: u32, shape: Shape, x: i64, y: i64, dynamic: bool) -> Result<Pr
         fat: fat_box(tight_box(&shape, pose)),
         filter: Filter::default(),
         dynamic,
+        stirs: dynamic,
         surface: ROUGH,
         shape,
         pose,

@@ -36,3 +36,17 @@ carried_kinematic false kind h = cc
 
 pub carried_rests : (enabled : Bool) (kind : Kind) → cond enabled (is_kinematic kind) false ≡ true → cond enabled (is_dynamic kind) false ≡ false
 carried_rests enabled kind h = no_mover kind enabled (carried_kinematic enabled kind h)
+
+-- ---- and what it tells with the name under which it sleeps
+
+-- an awake mover is a mover
+pub awake_moves : (mover awake : Bool) → cond mover awake false ≡ true → mover ≡ true
+awake_moves true awake h = refl
+awake_moves false awake h = h
+
+-- what isn't a mover isn't an awake one
+pub not_awake : (mover awake : Bool) → mover ≡ false → cond mover awake false ≡ false
+not_awake mover awake h = λ j. cond (h j) awake false
+
+pub carried_still : (enabled : Bool) (kind : Kind) (awake : Bool) → cond enabled (is_kinematic kind) false ≡ true → cond (cond enabled (is_dynamic kind) false) awake false ≡ false
+carried_still enabled kind awake h = not_awake (cond enabled (is_dynamic kind) false) awake (carried_rests enabled kind h)

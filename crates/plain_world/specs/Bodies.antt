@@ -1,5 +1,6 @@
 -- Bodies: which are movers, where each stands, what may be made, and the movers' momentum.
 use Rattle.std.specs.Prelude.{◌≡◌, ℕ, ◌^◌, Bool, true, false, ◌&&◌, ◌||◌, cond, All, List, [], ◌∷◌, Option, Some, None, ℤ, pos, ◌+ℤ◌, slice_get}
+use Rattle.std.specs.Option.{is_none}
 use Rattle.std.specs.Ordering.{int_eq}
 use Rattle.fixed_geom.specs.Vectors.{IsWithin, is_within}
 use Rattle.fixed_geom.specs.Facings.{IsFacing, is_facing}
@@ -28,9 +29,9 @@ use Rattle.plain_world.specs.Fats.{AreFatBoxes, fat_boxes}
 abbrev pub is_mover : Body → Bool
 is_mover b = cond b.enabled (is_dynamic b.kind) false
 
--- a mover that is awake: what the collide, the colours and the solver take. All movers are.
+-- a mover that is awake: what the collide, the colours and the solver take
 abbrev pub is_awake : Body → Bool
-is_awake b = is_mover b
+is_awake b = cond (is_mover b) (is_none b.asleep) false
 
 -- a body that is carried along with a course of its own: an enabled kinematic one
 abbrev pub is_carried : Body → Bool
@@ -40,13 +41,22 @@ is_carried b = cond b.enabled (is_kinematic b.kind) false
 abbrev pub can_move : Body → Bool
 can_move b = is_awake b || is_carried b
 
-abbrev pub set_of : Kind → SetName
-set_of Static = sets.Static
-set_of (Kinematic course) = sets.Awake
-set_of Dynamic = sets.Awake
+-- a body that the contacts with it are evaluated for: an awake mover, or one that is carried along and moves
+abbrev pub stirs : Body → Bool
+stirs b = is_awake b || cond (is_carried b) (is_moving (carried_by b.kind)) false
+
+-- where a mover stands
+abbrev pub sleeping_set : Option ℕ → SetName
+sleeping_set None = sets.Awake
+sleeping_set (Some name) = sets.Sleeping name
+
+abbrev pub set_of : Kind → Option ℕ → SetName
+set_of Static asleep = sets.Static
+set_of (Kinematic course) asleep = sets.Awake
+set_of Dynamic asleep = sleeping_set asleep
 
 abbrev pub standing_of : Body → SetName
-standing_of b = cond b.enabled (set_of b.kind) sets.Disabled
+standing_of b = cond b.enabled (set_of b.kind b.asleep) sets.Disabled
 
 -- where its shapes are in the world
 abbrev pub pose_of : Body → Pose
@@ -80,9 +90,9 @@ def_refusal d = first_of (shapes_refusal (is_static d.kind) d.shapes) (numbers_r
 abbrev pub at_rest : Vec2 → Rot → Motion
 at_rest x rot = record { p = record { x = pos 0; y = pos 0 }; l = pos 0; x = x; rot = rot }
 
--- the body: at rest, enabled, its timer 0
+-- the body: at rest, enabled, awake if it is a mover, its timer 0
 abbrev pub made : BodyDef → Body
-made d = record { kind = d.kind; mass = d.mass; motion = at_rest d.x d.rot; shapes = d.shapes; fats = fat_boxes d.shapes (record { x = d.x; rot = d.rot }); timer = 0; enabled = true }
+made d = record { kind = d.kind; mass = d.mass; motion = at_rest d.x d.rot; shapes = d.shapes; fats = fat_boxes d.shapes (record { x = d.x; rot = d.rot }); timer = 0; enabled = true; asleep = None }
 
 abbrev pub IsMassOf : Kind → MassData → Type 0
 IsMassOf Static m = (m.mass ≡ pos 0) × (m.inertia ≡ pos 0)
@@ -108,7 +118,8 @@ pub record IsAtRest (s : Motion) : Type 0 where
 pub record IsBody (b : Body) : Type 0 where
   pub mass : IsMassOf b.kind b.mass
   pub motion : IsMotion b.mass b.motion
-  pub rest : is_mover b ≡ false → IsAtRest b.motion
+  pub rest : is_awake b ≡ false → IsAtRest b.motion
+  pub asleep : is_mover b ≡ false → b.asleep ≡ None
   pub course : IsCourseOf b.kind
   pub halted : b.enabled ≡ false → is_moving (carried_by b.kind) ≡ false
   pub shapes : shapes_refusal (is_static b.kind) b.shapes ≡ None

@@ -1,12 +1,13 @@
--- Changes of one body in its slot, which leave it a mover, or carried along, or neither, as it was.
-use Rattle.std.specs.Prelude.{Bool, false, ℕ, List, Option, Some, None, option_map, slice_set}
+-- Changes of one body in its slot: those that leave it an awake mover, or carried along, or neither, as it was, and those that disable and enable it.
+use Rattle.std.specs.Prelude.{◌≡◌, Bool, true, false, cond, ℕ, List, Option, Some, None, option_map, slice_set}
 use Rattle.momenta.specs.declared.motion.Momenta.{Momenta}
 use Rattle.shapes.specs.Poses.{IsPose}
 use Rattle.shapes.specs.declared.pose.Pose.{Pose}
 use Rattle.plain_world.specs.declared.body.Body.{Body}
 use Rattle.plain_world.specs.declared.kind.Course.{Course}
 use Rattle.plain_world.specs.declared.kind.Kind.TheVariants.{Kinematic}
-use Rattle.plain_world.specs.Bodies.{IsBody, is_awake, is_carried}
+use Rattle.plain_world.specs.Bodies.{IsBody, at_rest, is_awake, is_carried}
+use Rattle.plain_world.specs.Kinds.{halted, is_dynamic}
 use Rattle.plain_world.specs.Fats.{renewed_boxes}
 use Rattle.plain_world.specs.Slots.{body_at}
 
@@ -37,6 +38,14 @@ put_pose o b = record b { motion = record b.motion { x = o.x; rot = o.rot }; fat
 -- another course, of a kinematic body
 abbrev pub put_course : Course → Body → Body
 put_course course b = record b { kind = Kinematic course }
+
+-- a body that is disabled comes to a halt, and sleeps no more; its timer stays
+abbrev pub disabled_body : Body → Body
+disabled_body b = record b { enabled = false; kind = halted b.kind; motion = at_rest b.motion.x b.motion.rot; asleep = None }
+
+-- a body that is enabled: a mover is awake, and its timer 0
+abbrev pub enabled_body : Body → Body
+enabled_body b = record b { enabled = true; timer = cond (is_dynamic b.kind) 0 b.timer; asleep = None }
 
 -- a body that can have another pose
 pub record CanPose (o : Pose) (b : Body) : Type 0 where

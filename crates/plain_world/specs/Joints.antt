@@ -1,5 +1,5 @@
 -- Joints by slot: which may be made, which stand between which bodies, and which bodies they keep from colliding.
-use Rattle.std.specs.Prelude.{◌≡◌, ◌≢◌, ℕ, ◌==◌, ◌||◌, Bool, true, false, cond, is_some, List, Option, Some, None, ℤ, pos, unsigned_abs, slice_set}
+use Rattle.std.specs.Prelude.{◌≡◌, ◌≢◌, ℕ, ◌==◌, ◌||◌, Bool, true, false, cond, is_some, List, Option, Some, None, ℤ, pos, unsigned_abs, slice_set, map, option_map}
 use Rattle.std.specs.List.{filter_map}
 use Rattle.fixed_geom.specs.Vectors.{is_within}
 use Rattle.fixed_geom.specs.declared.refusal.Refusal.{Refusal}
@@ -53,6 +53,15 @@ with_impulse impulse j = record j { joint = record j.joint { impulse = impulse }
 abbrev pub impulse_set : ℕ → ℤ → List (Option BodyJoint) → Option BodyJoint → List (Option BodyJoint)
 impulse_set slot impulse joints None = joints
 impulse_set slot impulse joints (Some j) = slice_set joints slot (Some (with_impulse impulse j))
+
+-- ---- joints of a body that takes no part
+
+-- a joint of the body in the slot has no impulse any more
+abbrev pub idle_if : ℕ → BodyJoint → BodyJoint
+idle_if slot j = cond (is_joint_of slot j) (record j { joint = record j.joint { impulse = pos 0 } }) j
+
+abbrev pub idle_joints : ℕ → List (Option BodyJoint) → List (Option BodyJoint)
+idle_joints slot joints = map (option_map (idle_if slot)) joints
 
 -- ---- which bodies joints keep from colliding
 

@@ -45,6 +45,12 @@ carried_by Dynamic = no_course
 abbrev pub is_moving : Course → Bool
 is_moving course = not (int_eq course.velocity.x (pos 0)) || (not (int_eq course.velocity.y (pos 0)) || not (int_eq course.spin (pos 0)))
 
+-- the kind of a body that comes to a halt: a kinematic one has no course any more
+abbrev pub halted : Kind → Kind
+halted Static = Static
+halted (Kinematic course) = Kinematic no_course
+halted Dynamic = Dynamic
+
 -- velocity and spin are within their limits
 abbrev pub is_course : Course → Bool
 is_course course = is_within (unsigned_abs MAX_SPEED) course.velocity && nat_le (unsigned_abs course.spin) (unsigned_abs MAX_SPIN)

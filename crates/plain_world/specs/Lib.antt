@@ -1,8 +1,8 @@
 pub mod Kinds
 pub mod Bodies
 pub mod Slots
+pub mod Sleep
 pub mod Changes
-pub mod Census
 pub mod Fats
 pub mod Formed
 pub mod Joints

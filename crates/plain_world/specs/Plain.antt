@@ -6,6 +6,7 @@ use Rattle.fixed_geom.specs.declared.vectors.Vec2.{Vec2}
 use Rattle.body_handles.specs.declared.places.Place.{Place}
 use Rattle.contacts_base.specs.declared.contact.ContactEntry.{ContactEntry}
 use Rattle.contacts.specs.Constraints.{constraint_number}
+use Rattle.islands.specs.Labels.{Labels}
 use Rattle.contacts.specs.declared.constraint.Constraint.{Constraint}
 use Rattle.plain_world.specs.declared.body.Body.{Body}
 use Rattle.plain_world.specs.declared.joint.BodyJoint.{BodyJoint}
@@ -19,6 +20,8 @@ pub record Plain : Type 0 where
   pub joints : List (Option BodyJoint)
   -- ascending by key
   pub contacts : List ContactEntry
+  -- by slot the island of each mover
+  pub islands : Labels
   -- for each colour the active constraints that have it, ascending, and last those in the overflow
   pub colours : List (List Constraint)
   -- u/tick²

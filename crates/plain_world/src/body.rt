@@ -1,7 +1,7 @@
 ghost use Rattle.std.specs.Prelude.{◌≡◌, IfOk, OnOk, IsTrue};
 ghost use Rattle.std.specs.Result.{IsOkUnless, result_err};
 ghost use Rattle.shapes.specs.Shapes.{is_between};
-ghost use Rattle.plain_world.specs.Bodies.{can_move, is_awake, is_carried, is_mover, is_no_mass, pose_of, standing_of, view_of, is_mass_allowed, def_refusal, made, IsMassOf, IsAllowed, IsBody};
+ghost use Rattle.plain_world.specs.Bodies.{can_move, is_awake, is_carried, is_mover, is_no_mass, pose_of, sleeping_set, standing_of, stirs, view_of, is_mass_allowed, def_refusal, made, IsMassOf, IsAllowed, IsBody};
 
 use crate::fats::FatBoxes;
 use crate::kind::{Course, Kind};
@@ -74,6 +74,7 @@ impl BodyDef {
             fats,
             timer: 0,
             enabled: true,
+            asleep: None,
         })
     }
 }
@@ -105,6 +106,16 @@ fn is_mass_allowed(kind: Kind, mass: MassData) -> bool
     }
 }
 
+/// Where a mover stands that sleeps with the island of this name, if it sleeps.
+fn sleeping_set(asleep: Option<u32>) -> SetName
+    ensures { result ≡ sleeping_set asleep }
+{
+    match asleep {
+        None => SetName::Awake,
+        Some(name) => SetName::Sleeping(name),
+    }
+}
+
 /// A body, as a slot contains it.
 #[derive(Drop)]
 pub struct Body {
@@ -112,6 +123,8 @@ pub struct Body {
     pub mass: MassData,
     pub kind: Kind,
     pub enabled: bool,
+    /// The name of the island with which a mover sleeps, its lowest slot; `None` for all others.
+    pub asleep: Option<u32>,
     /// For how many ticks it has been slow.
     pub timer: u64,
     /// For each shape, in their order, a box that holds it with room to move in.
@@ -127,11 +140,11 @@ impl Body {
         self.enabled && self.kind.is_dynamic()
     }
 
-    /// Whether it is a mover that is awake. All movers are.
+    /// Whether it is a mover that is awake.
     pub fn is_awake(&self) -> bool
         ensures { result ≡ is_awake self.now }
     {
-        self.is_mover()
+        self.is_mover() && self.asleep.is_none()
     }
 
     /// Whether it is carried along with a course of its own: an enabled kinematic body.
@@ -146,6 +159,13 @@ impl Body {
         ensures { result ≡ can_move self.now }
     {
         self.is_awake() || self.is_carried()
+    }
+
+    /// Whether the contacts with it are evaluated in a step, whatever it meets: it is an awake mover, or is carried along and moves.
+    pub fn stirs(&self) -> bool
+        ensures { result ≡ stirs self.now }
+    {
+        self.is_awake() || self.is_carried() && self.kind.carried_by().is_moving()
     }
 
     /// Where its shapes are in the world.
@@ -168,7 +188,7 @@ impl Body {
         match self.kind {
             Kind::Static => SetName::Static,
             Kind::Kinematic(_) => SetName::Awake,
-            Kind::Dynamic => SetName::Awake,
+            Kind::Dynamic => sleeping_set(self.asleep),
         }
     }
 
@@ -201,6 +221,7 @@ impl Body {
             fats,
             timer: self.timer,
             enabled: self.enabled,
+            asleep: self.asleep,
         })
     }
 }

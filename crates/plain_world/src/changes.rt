@@ -4,12 +4,13 @@ ghost use Rattle.std.specs.Prelude.{◌≡◌, ◌<◌, true, vec_len};
 ghost use Rattle.std.specs.Option.{ForSome};
 ghost use Rattle.plain_world.specs.declared.body.Body.{Body};
 ghost use Rattle.plain_world.specs.Bodies.{is_awake, is_carried};
-ghost use Rattle.plain_world.specs.Changes.{CanPose, changed_at, is_awake_in, is_carried_in, put_course, put_momenta, put_pose};
+ghost use Rattle.plain_world.specs.Changes.{CanPose, changed_at, is_awake_in, is_carried_in, disabled_body, enabled_body, put_course, put_momenta, put_pose};
 ghost use Rattle.plain_world.specs.Kinds.{is_kinematic};
 ghost use Rattle.plain_world.specs.Slots.{body_at};
 
 use crate::body::Body;
 use crate::kind::{Course, Kind};
+use fixed_geom::Vec2;
 use momenta::Momenta;
 use shapes::Pose;
 
@@ -60,6 +61,50 @@ impl BodyChange for Course {
 
     fn change(&self, body: &mut Body) {
         body.kind = Kind::Kinematic(*self);
+    }
+}
+
+impl Body {
+    /// Disables it: it comes to a halt, and sleeps no more. Its timer stays.
+    fn disable(&mut self)
+        ensures { self.new ≡ disabled_body self.old }
+    {
+        self.enabled = false;
+        self.kind = self.kind.halted();
+        self.motion.p = Vec2 { x: 0, y: 0 };
+        self.motion.l = 0;
+        self.asleep = None;
+    }
+
+    /// Enables it: a mover is awake, and its timer 0.
+    fn enable(&mut self)
+        ensures { self.new ≡ enabled_body self.old }
+    {
+        self.enabled = true;
+        self.asleep = None;
+        if self.kind.is_dynamic() {
+            self.timer = 0;
+        }
+    }
+}
+
+/// Disables the body in a slot, if one is there.
+pub fn disable_slot(bodies: &mut Vec<Option<Body>>, slot: usize)
+    requires { slot < vec_len bodies.old }
+    ensures { bodies.new.items ≡ changed_at disabled_body bodies.old.items slot }
+{
+    if let Some(body) = &mut bodies[slot] {
+        body.disable();
+    }
+}
+
+/// Enables the body in a slot, if one is there.
+pub fn enable_slot(bodies: &mut Vec<Option<Body>>, slot: usize)
+    requires { slot < vec_len bodies.old }
+    ensures { bodies.new.items ≡ changed_at enabled_body bodies.old.items slot }
+{
+    if let Some(body) = &mut bodies[slot] {
+        body.enable();
     }
 }
 

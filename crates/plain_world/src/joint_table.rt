@@ -1,10 +1,10 @@
 //! The joints of a world by slot, and which pairs of bodies they keep from colliding.
 
-ghost use Rattle.std.specs.Prelude.{◌≡◌, ◌≤◌, ◌<◌, [], IfOk, None, OnOk, length, option_map, slice_set};
+ghost use Rattle.std.specs.Prelude.{◌≡◌, ◌≤◌, ◌<◌, [], IfOk, None, OnOk, length, option_map, slice_index_or, slice_set, vec_len};
 ghost use Rattle.std.specs.Option.{option_copied};
 ghost use Rattle.std.specs.Result.{IsOkUnless};
 ghost use Rattle.std.specs.List.Sorted.{IsNonDecreasing};
-ghost use Rattle.plain_world.specs.Joints.{forbidden_in, forbidden_pairs, impulse_set, joint_at, with_impulse};
+ghost use Rattle.plain_world.specs.Joints.{forbidden_in, forbidden_pairs, idle_if, idle_joints, impulse_set, joint_at, with_impulse};
 ghost use Rattle.plain_world.specs.JointTables.{HaveSameNumbers};
 ghost use Rattle.plain_world.specs.Slots.{with_item};
 
@@ -56,6 +56,34 @@ fn put_impulse(entry: &mut Option<BodyJoint>, impulse: i64)
         Some(joint) => {
             joint.joint.impulse = impulse;
         }
+    }
+}
+
+/// Takes its impulse away from the joint in a slot's entry, if there is one and it is of this body.
+fn idle_entry(entry: &mut Option<BodyJoint>, body: u32)
+    ensures { entry.new ≡ option_map (idle_if body) entry.old }
+{
+    if let Some(joint) = entry {
+        if joint.is_of(body) {
+            joint.joint.impulse = 0;
+        }
+    }
+}
+
+/// The same for the entry of one slot.
+fn idle_slot(joints: &mut Vec<Option<BodyJoint>>, slot: usize, body: u32)
+    requires { slot < vec_len joints.old }
+    ensures { joints.new.items ≡ slice_set joints.old.items slot (option_map (idle_if body) (slice_index_or joints.old.items slot None)) }
+{
+    idle_entry(&mut joints[slot], body);
+}
+
+/// Takes their impulses away from the joints of a body.
+fn idle_all(joints: &mut Vec<Option<BodyJoint>>, body: u32)
+    ensures { joints.new.items ≡ idle_joints body joints.old.items }
+{
+    for slot in 0..joints.len() {
+        idle_slot(joints, slot, body);
     }
 }
 
@@ -137,6 +165,14 @@ impl JointTable {
         if slot < self.joints.len() {
             put_impulse(&mut self.joints[slot], impulse);
         }
+    }
+
+    /// The joints of the body in a slot have no impulse any more.
+    pub fn idle(&mut self, slot: u32)
+        ensures { self.new.joints ≡ idle_joints slot self.old.joints }
+    {
+        self.room = 0;
+        idle_all(&mut self.joints, slot);
     }
 
     /// The numbers of the pairs of bodies that joints keep from colliding, ascending, each as often as there are such joints.

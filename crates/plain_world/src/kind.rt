@@ -2,7 +2,7 @@
 
 ghost use Rattle.std.specs.Prelude.{◌≡◌, ◌≤◌, unsigned_abs, Some, IfSome, IsTrue};
 ghost use Rattle.fixed_geom.specs.Vectors.{IsWithin};
-ghost use Rattle.plain_world.specs.Kinds.{carried_by, course_of, is_course, is_course_allowed, is_dynamic, is_kinematic, is_moving, is_static, IsCourse, IsCourseOf};
+ghost use Rattle.plain_world.specs.Kinds.{carried_by, course_of, halted, is_course, is_course_allowed, is_dynamic, is_kinematic, is_moving, is_static, IsCourse, IsCourseOf};
 
 use fixed_geom::{MAX_SPIN, Vec2, is_within};
 use momenta::MAX_SPEED;
@@ -100,6 +100,17 @@ impl Kind {
             Kind::Static => NO_COURSE,
             Kind::Kinematic(course) => course,
             Kind::Dynamic => NO_COURSE,
+        }
+    }
+
+    /// The kind of a body that comes to a halt: a kinematic one has no velocity and no spin any more.
+    pub(crate) fn halted(self) -> Kind
+        ensures { result ≡ halted self }
+    {
+        match self {
+            Kind::Static => Kind::Static,
+            Kind::Kinematic(_) => Kind::Kinematic(NO_COURSE),
+            Kind::Dynamic => Kind::Dynamic,
         }
     }
 

@@ -1,12 +1,11 @@
 //! What a world is, as lists, however it is kept.
 //!
 //! A world keeps its bodies and its joints by slot. This crate has what one slot contains (`Body`, `BodyDef`, `Kind`; `BodyJoint`,
-//! `JointDef`, `JointTable`), where a body stands (`SetName`) and what stands in each set (`Census`), the fat boxes of its shapes
+//! `JointDef`, `JointTable`), where a body stands (`SetName`), the fat boxes of its shapes
 //! (`FatBoxes`), bodies of one shape by its density (`BodyDef::circle` and its like), and the whole world as plain lists (`Plain`). What a step gathers and moves stands above it.
 #![tactic(auto)]
 
 mod body;
-mod census;
 mod changes;
 mod fats;
 mod joint;
@@ -16,11 +15,11 @@ mod pair_numbers;
 mod placement;
 mod plain;
 mod presets;
+mod sleep;
 mod slots;
 
 pub use body::{Body, BodyDef, BodyView, SetName};
-pub use census::{Census, take_census};
-pub use changes::{BodyChange, change_slot};
+pub use changes::{BodyChange, change_slot, disable_slot, enable_slot};
 pub use contacts::Constraint;
 pub use contacts_base::{ContactEntry, ContactKey, ShapeId, Surface};
 pub use fats::FatBoxes;
@@ -31,4 +30,5 @@ pub use kind::{Course, Kind, NO_COURSE};
 pub use placement::shape_of;
 pub use plain::Plain;
 pub use presets::SMOOTH;
+pub use sleep::{SLOW_SPEED, SLOW_SPIN};
 pub use slots::{body_of, clear_slot, copy_bodies, item_at, put_item};

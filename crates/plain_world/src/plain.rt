@@ -7,6 +7,7 @@ use body_handles::Place;
 use contacts::Constraint;
 use contacts_base::ContactEntry;
 use fixed_geom::Vec2;
+use islands::Label;
 use std::marker::Model;
 
 /// A world as plain lists: what a world is, however it is kept.
@@ -17,6 +18,7 @@ pub struct Plain {
     joint_places: Vec<Place>,
     joints: Vec<Option<BodyJoint>>,
     contacts: Vec<ContactEntry>,
+    islands: Vec<Option<Label>>,
     colours: Vec<Vec<Constraint>>,
     gravity: Vec2,
     steps: u64,
@@ -29,12 +31,12 @@ impl Model for Plain {
 
     ghost Value = { PlainWorld };
 
-    ghost view = { λ a. record { places = a.places.items; bodies = a.bodies.items; joint_places = a.joint_places.items; joints = a.joints.items; contacts = a.contacts.items; colours = constraints_of a.colours.items; gravity = a.gravity; steps = a.steps; calls = a.calls } };
+    ghost view = { λ a. record { places = a.places.items; bodies = a.bodies.items; joint_places = a.joint_places.items; joints = a.joints.items; contacts = a.contacts.items; islands = a.islands.items; colours = constraints_of a.colours.items; gravity = a.gravity; steps = a.steps; calls = a.calls } };
 }
 
 impl Plain {
     /// The world of these lists, of which nothing is asked: each body slot that was ever used, the body in it, the
-    /// same of the joints, the contacts by key, and for each colour the active constraints that have it, those in the overflow last; the gravity in
+    /// same of the joints, the contacts by key, the island of each mover by slot, and for each colour the active constraints that have it, those in the overflow last; the gravity in
     /// u/tick², and how many steps and calls were accepted.
     pub fn new(
         places: Vec<Place>,
@@ -42,12 +44,13 @@ impl Plain {
         joint_places: Vec<Place>,
         joints: Vec<Option<BodyJoint>>,
         contacts: Vec<ContactEntry>,
+        islands: Vec<Option<Label>>,
         colours: Vec<Vec<Constraint>>,
         gravity: Vec2,
         steps: u64,
         calls: u64,
     ) -> Plain
-        ensures { result ≡ record { places = places.items; bodies = bodies.items; joint_places = joint_places.items; joints = joints.items; contacts = contacts.items; colours = constraints_of colours.items; gravity = gravity; steps = steps; calls = calls } }
+        ensures { result ≡ record { places = places.items; bodies = bodies.items; joint_places = joint_places.items; joints = joints.items; contacts = contacts.items; islands = islands.items; colours = constraints_of colours.items; gravity = gravity; steps = steps; calls = calls } }
     {
         Plain {
             places,
@@ -55,6 +58,7 @@ impl Plain {
             joint_places,
             joints,
             contacts,
+            islands,
             colours,
             gravity,
             steps,
@@ -95,6 +99,13 @@ impl Plain {
         ensures { result.now ≡ self.now.contacts }
     {
         self.contacts.as_slice()
+    }
+
+    /// By slot the island of each mover.
+    pub fn islands(&self) -> &[Option<Label>]
+        ensures { result.now ≡ self.now.islands }
+    {
+        self.islands.as_slice()
     }
 
     /// The active constraints of a colour, ascending: 0 to 23, and 24 for the overflow; none of a greater number.

@@ -49,6 +49,10 @@ pub fn copy_of(command: &Command) -> Result<Command, Refusal> {
         Command::SetPose(body, pose) => Ok(Command::SetPose(*body, *pose)),
         Command::SetVelocity(body, course) => Ok(Command::SetVelocity(*body, *course)),
         Command::SetGravity(by) => Ok(Command::SetGravity(*by)),
+        Command::Disable(body) => Ok(Command::Disable(*body)),
+        Command::Enable(body) => Ok(Command::Enable(*body)),
+        Command::Wake(body) => Ok(Command::Wake(*body)),
+        Command::Sleep(body) => Ok(Command::Sleep(*body)),
         Command::Step(ticks) => Ok(Command::Step(*ticks)),
     }
 }
@@ -178,6 +182,10 @@ fn take_command<'a>(alloc: Global, fields: &mut Fields<'a>, name: &str) -> Optio
         "set_pose" => take_pose(fields),
         "set_velocity" => take_velocity(fields),
         "gravity" => Command::SetGravity(fields.take_vector("by")),
+        "disable" => Command::Disable(fields.take_id("body")),
+        "enable" => Command::Enable(fields.take_id("body")),
+        "wake" => Command::Wake(fields.take_id("body")),
+        "sleep" => Command::Sleep(fields.take_id("body")),
         "step" => Command::Step(fields.take_signed("ticks")),
         _ => return None,
     };

@@ -1,6 +1,7 @@
 pub mod ListLemmas
 pub mod AwakeLemmas
 pub mod KeptLemmas
+pub mod FirstLemmas
 pub mod PhaseLemmas
 pub mod TurnLemmas
 pub mod BetweenLemmas

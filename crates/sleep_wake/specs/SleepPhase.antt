@@ -49,6 +49,11 @@ abbrev pub is_due : Option ℕ → Bool
 is_due None = false
 is_due (Some t) = nat_le ticks_to_sleep t
 
+-- a mover with this timer, if it has one, doesn't keep its island from being due
+abbrev pub may_be_due : Option ℕ → Bool
+may_be_due None = true
+may_be_due (Some t) = nat_le ticks_to_sleep t
+
 -- the label is that of an awake island of this name, a loose one or a whole one
 abbrev pub is_island : Bool → ℕ → Option Label → Bool
 is_island loose name None = false

@@ -1,8 +1,9 @@
 //! Which island a sleep phase splits.
 
-ghost use Rattle.std.specs.Prelude.{◌≡◌, true, false, cond, Some};
+ghost use Rattle.std.specs.Prelude.{◌≡◌, ◌&&◌, true, false, cond, Some};
+ghost use Rattle.std.specs.List.{slice_get};
 ghost use Rattle.islands.specs.Labels.{label_at};
-ghost use Rattle.sleep_wake.specs.SleepPhase.{lesser, least_timer, is_due, is_island, is_ready, is_less, longer_at_rest, weighed, picked_to_split};
+ghost use Rattle.sleep_wake.specs.SleepPhase.{lesser, least_timer, is_due, may_be_due, is_island, is_ready, is_less, longer_at_rest, weighed, picked_to_split};
 
 use crate::waking::is_in;
 use islands::Islands;
@@ -30,11 +31,37 @@ fn is_loose_island(islands: &Islands, slot: u32) -> bool
     }
 }
 
+/// Whether the mover in a slot, if it has a timer, has been slow for long enough. An island whose first mover hasn't isn't ready,
+/// whatever the timers of the others are.
+fn may_be_due(timers: &[u64], slot: u32) -> bool
+    ensures { result ≡ may_be_due (slice_get timers.now slot) }
+{
+    match timers.get(slot as usize) {
+        None => true,
+        Some(timer) => TICKS_TO_SLEEP <= *timer,
+    }
+}
+
+/// Whether the island that the slot names has been slow for long enough. Its first mover is asked before the others, so that an island that
+/// moves costs a look at one timer.
+fn has_rested(islands: &Islands, timers: &[u64], slot: u32) -> bool
+    ensures { result ≡ (may_be_due (slice_get timers.now slot) && is_due (least_timer slot islands.now.labels timers.now)) }
+{
+    may_be_due(timers, slot) && is_due(least_timer(islands, timers, slot))
+}
+
 /// Whether the slot names a whole island that is awake and has been slow for long enough.
 pub(crate) fn is_ready(islands: &Islands, timers: &[u64], slot: u32) -> bool
     ensures { result ≡ is_ready false islands.now.labels timers.now slot (label_at islands.now.labels slot) }
 {
-    is_whole_island(islands, slot) && is_due(least_timer(islands, timers, slot))
+    is_whole_island(islands, slot) && has_rested(islands, timers, slot)
+}
+
+/// Whether the slot names a loose island that has been slow for long enough.
+fn is_ready_to_split(islands: &Islands, timers: &[u64], slot: u32) -> bool
+    ensures { result ≡ is_ready true islands.now.labels timers.now slot (label_at islands.now.labels slot) }
+{
+    is_loose_island(islands, slot) && has_rested(islands, timers, slot)
 }
 
 fn lesser(timer: u64, least: Option<u64>) -> u64
@@ -108,7 +135,7 @@ fn longer_at_rest(islands: &Islands, timers: &[u64], best: Option<u32>, name: u3
 fn weighed(islands: &Islands, timers: &[u64], best: Option<u32>, slot: u32) -> Option<u32>
     ensures { result ≡ weighed islands.now.labels timers.now best slot (label_at islands.now.labels slot) }
 {
-    if is_loose_island(islands, slot) && is_due(least_timer(islands, timers, slot)) {
+    if is_ready_to_split(islands, timers, slot) {
         longer_at_rest(islands, timers, best, slot)
     } else {
         best

@@ -17,7 +17,7 @@ use Rattle.plain_world.specs.declared.joint.BodyJoint.{BodyJoint}
 use Rattle.plain_world.specs.JointTables.{HaveSameNumbers}
 use Rattle.plain_world.specs.Joints.{forbidden_pairs}
 use Rattle.plain_world.proofs.PairNumbers.{any_same}
-use Rattle.world_core.specs.Collide.{contacts_after, proxies_of}
+use Rattle.world_rules.specs.Collide.{contacts_after, proxies_of}
 use Rattle.contacts_base.specs.Contacts.{number_of, AreKeysRising}
 use Rattle.contacts.proofs.Members.{Each}
 use Rattle.contacts.proofs.Rising.{IsRising, increasing_from_rising, rising_from_increasing}

@@ -1,8 +1,10 @@
 -- A constraint with its movers, as the solver sees its bodies.
-use Rattle.std.proofs.Common.{◌≡◌, ℕ, zero, suc, ◌<◌, ◌+◌, ◌==◌, ◌||◌, Bool, true, false, List, [], ◌∷◌, ◌++◌, length, get_or, Option, Some, None, All, arith, refl, ap, ◌∙◌, subst}
+use Rattle.std.proofs.Common.{◌≡◌, ℕ, zero, suc, ◌<◌, ◌+◌, ◌==◌, ◌||◌, Bool, true, false, cond, List, [], ◌∷◌, ◌++◌, length, get_or, Option, Some, None, All, arith, refl, ap, ◌∙◌, subst}
 use Rattle.std.specs.List.{flat_map}
 use Rattle.std.proofs.lemmas.Bool.Decides.{nat_tests}
 use Rattle.std.proofs.lemmas.List.{length-append}
+use Rattle.std.proofs.lemmas.List.Elements.{Contains-get_or}
+use Rattle.graph_colours.specs.Colours.{all_members}
 use Rattle.graph_colours.specs.declared.limits.TheConstants.{COLOURS}
 use Rattle.graph_colours.specs.declared.member.Movers.{Movers}
 use Rattle.graph_colours.specs.declared.member.Member.{Member}
@@ -11,18 +13,25 @@ use Rattle.contacts.specs.declared.constraint.Constraint.{Constraint}
 use Rattle.contacts.specs.declared.constraint.Constraint.TheVariants.{Joint, Contact}
 use Rattle.plain_world.specs.declared.body.Body.{Body}
 use Rattle.plain_world.specs.declared.joint.BodyJoint.{BodyJoint}
+use Rattle.plain_world.specs.Bodies as bodies_of
 use Rattle.plain_world.specs.Joints.{joint_at}
 use Rattle.colour_solver.specs.Colour.{is_mover}
-use Rattle.world_core_base.specs.Gather.{moves, states_of}
+use Rattle.solver_sets.specs.Ties.{JointSlots, movers_if, movers_in, movers_of, movers_with, moves}
+use Rattle.solver_sets.proofs.TieLaws as ties
+use Rattle.world_core_base.specs.Gather.{states_of}
 use Rattle.world_core_base.specs.RowColours.{HasBoth, HasItsMovers, HasMovers, JointHasMovers}
 use Rattle.world_core_base.proofs.RowColourLaws.{colour_rows_apart}
-use Rattle.world_core.specs.Colouring.{JointSlots, movers_at, movers_if, movers_of}
 use Rattle.world_core.specs.RowColours.{ColouredRowsAreColours}
+
+-- what is awake is a mover
+awake_moves : (t u : Bool) → cond t u false ≡ true → t ≡ true
+awake_moves true u e = refl
+awake_moves false u e = e
 
 moves_back : (bodies : List (Option Body)) (slot : ℕ) → is_mover (states_of bodies) slot ≡ true → moves bodies slot ≡ true
 moves_back [] slot e = e
 moves_back (None ∷ os) zero e = e
-moves_back (Some b ∷ os) zero e = e
+moves_back (Some b ∷ os) zero e = awake_moves (bodies_of.is_mover b) _ e
 moves_back (o ∷ os) (suc slot) e = moves_back os slot e
 
 same_slot : (a : ℕ) → (a == a) ≡ true
@@ -49,21 +58,18 @@ among false true a b m e =
     (λ h. absurd (cc h), λ h. subst (λ (o : Movers). has_mover o b ≡ true) is (true_or (b == b) false (same_slot b)))
 among false false a b m e = absurd (cc e)
 
-both_among : (bodies : List (Option Body)) (a b : ℕ) (m : Movers) → movers_if (moves bodies a) (moves bodies b) a b ≡ Some m → HasBoth (states_of bodies) m a b
+both_among : (bodies : List (Option Body)) (a b : ℕ) (m : Movers) → movers_with bodies a b ≡ Some m → HasBoth (states_of bodies) m a b
 both_among bodies a b m e =
-    let both = among (moves bodies a) (moves bodies b) a b m e in
+    let both = among (moves bodies a) (moves bodies b) a b m (ties.has_movers bodies a b m e).movers in
     record { first = λ h. both.0 (moves_back bodies a h); second = λ h. both.1 (moves_back bodies b h) }
 
 has_movers : (bodies : List (Option Body)) (s : JointSlots) (m : Movers) (id : Constraint) → movers_of bodies s id ≡ Some m → HasMovers (states_of bodies) s.joints m id
 has_movers bodies s m (Contact key) e = both_among bodies key.first.slot key.second.slot m e
 has_movers bodies s m (Joint h) e = by (joint_at s.joints h.slot) e
   where
-    by : (o : Option BodyJoint) → movers_at bodies o ≡ Some m → JointHasMovers (states_of bodies) m o
+    by : (o : Option BodyJoint) → movers_in bodies o ≡ Some m → JointHasMovers (states_of bodies) m o
     by None e = tt
     by (Some j) e = both_among bodies j.a j.b m e
-
-has_its : (bodies : List (Option Body)) (s : JointSlots) (m : Member Constraint) → movers_of bodies s m.id ≡ Some m.movers → HasItsMovers (states_of bodies) s.joints m
-has_its bodies s m is = has_movers bodies s m.movers m.id is
 
 -- what holds of all elements of lists that are joined holds of each list's
 get_or-front : {X : Type 0} (xs ys : List X) (k : ℕ) (d : X) → k < length xs → get_or (xs ++ ys) k d ≡ get_or xs k d
@@ -79,7 +85,7 @@ each_first : {X : Type 0} (P : X → Type 0) (xs : List X) (lists : List (List X
 each_first P xs lists here rest zero d lt = here
 each_first P xs lists here rest (suc k) d lt = rest k d (omega (arith, lt))
 
-pub in_each : {X : Type 0} (P : X → Type 0) (lists : List (List X)) → All P (flat_map (λ (xs : List X). xs) lists) → All (All P) lists
+in_each : {X : Type 0} (P : X → Type 0) (lists : List (List X)) → All P (flat_map (λ (xs : List X). xs) lists) → All (All P) lists
 in_each P [] all = λ k d lt. absurd (omega (arith, lt))
 in_each {X} P (xs ∷ lists) all =
     let rest : List X = flat_map (λ (ys : List X). ys) lists in
@@ -89,6 +95,7 @@ in_each {X} P (xs ∷ lists) all =
 
 pub coloured_rows : ColouredRowsAreColours
 coloured_rows bodies s contacts lists colour coloured lt =
-    let of_all : All (HasItsMovers (states_of bodies) s.joints) (flat_map (λ (ms : List (Member Constraint)). ms) lists) = λ k d inside. has_its bodies s (get_or (flat_map (λ (ms : List (Member Constraint)). ms) lists) k d) (coloured.movers k d inside) in
+    let of_all : All (HasItsMovers (states_of bodies) s.joints) (all_members lists) =
+    λ k d inside. let m : Member Constraint = get_or (all_members lists) k d in has_movers bodies s m.movers m.id (coloured.movers m (Contains-get_or (all_members lists) k d inside)) in
     let count : length lists ≡ COLOURS + 1 = coloured.colouring.count in
     colour_rows_apart (states_of bodies) s.joints contacts lists colour (in_each (HasItsMovers (states_of bodies) s.joints) lists of_all) coloured.colouring.apart (omega (arith, count)) lt

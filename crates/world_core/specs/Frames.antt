@@ -10,7 +10,7 @@ use Rattle.plain_world.specs.Bodies.{pose_of, momentum_x, momentum_y}
 use Rattle.plain_world.specs.Slots.{body_at}
 use Rattle.shapes.specs.declared.pose.Pose.{Pose}
 use Rattle.world_core.specs.declared.frame.FrameBody.{FrameBody}
-use Rattle.world_core.specs.World.{World, book_of}
+use Rattle.world_rules.specs.World.{World, book_of}
 
 -- ---- frames
 

@@ -1,20 +1,22 @@
 -- The world that the fields of a `WorldCore` show, and what is kept of them.
 use Rattle.std.specs.Prelude.{◌≡◌}
+use Rattle.contacts.specs.declared.constraint.Constraint.{Constraint}
 use Rattle.graph_colours.specs.Colours.{ids_of}
+use Rattle.sleep_wake.specs.Acting.{Acting}
 use Rattle.world_core.specs.declared.world.WorldCore.TheInside.{Inside}
-use Rattle.world_core.specs.Colouring.{Lists, members_of}
-use Rattle.world_core.specs.Sound.{IsSound}
-use Rattle.world_core.specs.World.{World, joints_of}
+use Rattle.world_rules.specs.Sets.{acting_of}
+use Rattle.world_rules.specs.Sound.{IsSound}
+use Rattle.world_rules.specs.World.{World}
 
 abbrev pub world_of : Inside → World
 world_of a = record {
-  plain = record { places = a.handles.places; bodies = a.bodies.bodies; joint_places = a.joint_handles.places; joints = a.joints.joints; contacts = a.contacts; colours = ids_of a.colours.lists; gravity = a.gravity; steps = a.steps; calls = a.calls };
+  plain = record { places = a.handles.places; bodies = a.bodies.bodies; joint_places = a.joint_handles.places; joints = a.joints.joints; contacts = a.contacts; islands = a.sets.acting.labels; colours = ids_of a.sets.acting.lists; gravity = a.gravity; steps = a.steps; calls = a.calls };
   entries = a.ledger.entries;
   settled = a.ledger.settled;
   events = a.events;
 }
 
--- the world is sound, and each constraint is in its colour with its movers
-pub record IsWhole (w : World) (lists : Lists) : Type 0 where
+-- the world is sound, and the constraints, islands and colours that are kept beside its lists are those that the lists have
+pub record IsWhole (w : World) (acting : Acting Constraint) : Type 0 where
   pub sound : IsSound w
-  pub members : lists ≡ members_of w.plain.bodies (joints_of w.plain) w.plain.colours
+  pub same : acting ≡ acting_of w.plain

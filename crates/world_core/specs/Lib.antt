@@ -1,12 +1,4 @@
-pub mod Collide
-pub mod Colouring
-pub mod Joining
-pub mod World
-pub mod Apply
-pub mod Replay
-pub mod Sound
 pub mod Inside
 pub mod Frames
-pub mod Laws
-pub mod RowColours
 pub mod Walks
+pub mod RowColours

@@ -1,9 +1,10 @@
 ghost use Rattle.std.specs.Prelude.{◌≡◌, ◌+◌, ◌≤◌, ◌^◌, ◌++◌, pos, neg_ℤ, unsigned_abs};
 ghost use Rattle.fixed_geom.specs.Vectors.{IsWithin};
 ghost use Rattle.impulse_ledger.specs.Sums.{Fits};
-ghost use Rattle.world_core.specs.Apply.{booked};
-ghost use Rattle.world_core.specs.Sound.{IsRoomy};
+ghost use Rattle.world_rules.specs.Apply.{booked, step_entries};
+ghost use Rattle.world_rules.specs.Sound.{IsRoomy};
 ghost use Rattle.colour_solver.specs.Ticks.{AreSums};
+ghost use Rattle.momenta.specs.Gains.{IsGain};
 
 use colour_solver::StepSums;
 use fixed_geom::Vec2;
@@ -44,6 +45,8 @@ pub fn gain_of(v: Vec2) -> Gain
 pub fn loss_of(v: Vec2) -> Gain
     ensures x { result.x ≡ neg_ℤ v.x }
     ensures y { result.y ≡ neg_ℤ v.y }
+    ensures small_x { unsigned_abs result.x ≤ 2 ^ 63 }
+    ensures small_y { unsigned_abs result.y ≤ 2 ^ 63 }
 {
     Gain {
         x: -i128::from(v.x),
@@ -56,10 +59,24 @@ pub fn book_step(ledger: &mut Ledger, call: u64, sums: StepSums)
     requires room { 3 ≤ ledger.old.room }
     requires roomy { IsRoomy ledger.old }
     requires small { AreSums (2 ^ 83) sums }
-    ensures entries { ledger.new.entries ≡ ledger.old.entries ++ (booked call Cause.Gravity sums.gravity.x sums.gravity.y ++ (booked call Cause.Immovable sums.immovable.x sums.immovable.y ++ booked call Cause.Clamp sums.clamp.x sums.clamp.y)) }
+    ensures entries { ledger.new.entries ≡ ledger.old.entries ++ step_entries call sums }
     ensures settled { ledger.new.settled ≡ ledger.old.settled }
+    ensures room { ledger.old.room ≤ ledger.new.room + 3 }
 {
     book(ledger, call, Cause::Gravity, sums.gravity);
     book(ledger, call, Cause::Immovable, sums.immovable);
     book(ledger, call, Cause::Clamp, sums.clamp);
+}
+
+/// Books what the ticks of a step have added, and then what those that fell asleep have lost, for which there is room.
+pub fn book_rest(ledger: &mut Ledger, call: u64, sums: StepSums, rest: Gain)
+    requires room { 4 ≤ ledger.old.room }
+    requires roomy { IsRoomy ledger.old }
+    requires small { AreSums (2 ^ 83) sums }
+    requires rest { IsGain (2 ^ 78) rest }
+    ensures entries { ledger.new.entries ≡ ledger.old.entries ++ (step_entries call sums ++ booked call Cause.Rest rest.x rest.y) }
+    ensures settled { ledger.new.settled ≡ ledger.old.settled }
+{
+    book_step(ledger, call, sums);
+    book(ledger, call, Cause::Rest, rest);
 }

@@ -5,12 +5,11 @@ ghost use Rattle.contacts_base.specs.Surfaces.{IsSurface};
 ghost use Rattle.shapes.specs.Shapes.{IsShapeDef};
 ghost use Rattle.contacts.specs.Changes.{keys_touching_only_in, AreRising};
 ghost use Rattle.plain_world.specs.Bodies.{AreBodies, IsBody};
-ghost use Rattle.world_core.specs.Collide.{body_proxies, proxies_of, contacts_after};
+ghost use Rattle.world_rules.specs.Collide.{body_proxies, proxies_of, contacts_after};
 
 use body_handles::MAX_SLOTS;
 use contacts::{BroadPhase, Changes};
-use contacts_base::{ContactKey, Contacts, Proxy, ShapeId, Surface};
-use event_feed::Events;
+use contacts_base::{Contacts, Proxy, ShapeId, Surface};
 use fixed_geom::Refusal;
 use plain_world::{Body, JointTable};
 use shapes::ShapeDef;
@@ -41,6 +40,7 @@ fn gather_body(broad: &mut BroadPhase, slot: usize, body: &Body) -> Result<(), R
         return Ok(());
     }
     let dynamic = body.kind.is_dynamic();
+    let stirs = body.stirs();
     let pose = body.pose();
     let defs = body.shapes.as_slice();
     let fats = body.fats.as_slice();
@@ -53,6 +53,7 @@ fn gather_body(broad: &mut BroadPhase, slot: usize, body: &Body) -> Result<(), R
             fat: fats[index],
             filter: defs[index].filter,
             dynamic,
+            stirs,
             surface: surface_of(&defs[index]),
             shape: defs[index].shape,
             pose,
@@ -78,8 +79,8 @@ fn gather(broad: &mut BroadPhase, bodies: &[Option<Body>]) -> Result<(), Refusal
 }
 
 /// Gathers shapes from the bodies, finds the near pairs of shapes whose bodies no joint keeps from colliding, and evaluates a contact for
-/// each. Refused 1 where memory is wanting.
-#[tactic(auto, unfolding(crate::specs::Collide::contacts_after))]
+/// each of which a body stirs. Refused 1 where memory is wanting.
+#[tactic(auto, unfolding(world_rules::specs::Collide::contacts_after))]
 pub fn collide(
     alloc: Global,
     broad: &mut BroadPhase,
@@ -98,13 +99,4 @@ pub fn collide(
 {
     gather(broad, bodies)?;
     broad.update_contacts(alloc, joints.forbidden(), old)
-}
-
-/// The events of a step in which these contacts, ascending, began and ended.
-pub fn events_of(alloc: Global, begin: Vec<ContactKey>, end: Vec<ContactKey>) -> Events
-    requires begin { AreRising begin.items }
-    requires end { AreRising end.items }
-    ensures { result ≡ record { begin = begin.items; end = end.items; slept = []; woke = [] } }
-{
-    Events::from_lists(begin, end, Vec::new(alloc), Vec::new(alloc))
 }

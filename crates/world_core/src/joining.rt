@@ -4,19 +4,15 @@ ghost use Rattle.std.specs.Prelude.{◌≡◌, ◌≢◌, ◌<◌, None, OnOk, S
 ghost use Rattle.std.specs.Option.{option_copied};
 ghost use Rattle.std.specs.Result.{result_err};
 ghost use Rattle.body_handles.specs.Places.{IsLive, places_without};
-ghost use Rattle.graph_colours.specs.Colours.{released};
-ghost use Rattle.contacts.specs.Constraints.{constraint_number};
-ghost use Rattle.contacts.specs.declared.constraint.Constraint.TheVariants.{Joint};
-ghost use Rattle.plain_world.specs.Joints.{IsBodyJoint, is_end_in, joint_made};
+ghost use Rattle.plain_world.specs.Joints.{IsBodyJoint, is_end_in, joint_made, joint_of};
 ghost use Rattle.joint_rows.specs.Joints.{IsJoint};
 ghost use Rattle.plain_world.specs.Slots.{AreMatched, body_of};
-ghost use Rattle.world_core.specs.Apply.{join_refusal};
-ghost use Rattle.world_core.specs.Joining.{joined_as, unjoined_all, unjoined_if};
+ghost use Rattle.world_rules.specs.Apply.{join_refusal};
+ghost use Rattle.solver_sets.specs.Joining.{unjoined_all, unjoined_if};
+ghost use Rattle.solver_sets.specs.Ties.{slots_of};
 
 use body_handles::{Handle, Handles};
-use contacts::Constraint;
 use fixed_geom::Refusal;
-use graph_colours::Colours;
 use plain_world::{Body, BodyJoint, JointDef, JointTable, body_of, item_at};
 
 /// Tests whether two bodies can be joined so: refused 7, 8 or 5, in this order.
@@ -51,24 +47,6 @@ pub fn check_join(handles: &Handles, bodies: &[Option<Body>], def: &JointDef) ->
     }
 }
 
-/// The joint that a handle names goes: its slot is free, and its colour is given up.
-pub fn unjoin(
-    handles: &mut Handles,
-    joints: &mut JointTable,
-    colours: &mut Colours<Constraint>,
-    handle: Handle,
-)
-    requires live { IsLive handles.old.places handle }
-    requires slot { handle.slot < length joints.old.joints }
-    ensures places { handles.new.places ≡ places_without handles.old.places handle }
-    ensures joints { joints.new.joints ≡ slice_set joints.old.joints handle.slot None }
-    ensures lists { colours.new.lists ≡ released constraint_number (Joint handle) colours.old.lists }
-{
-    colours.release(Constraint::Joint(handle));
-    joints.clear(handle.slot);
-    handles.remove(handle);
-}
-
 /// Whether one of the ends of a joint, if there is one, is the body in this slot.
 fn is_end_in(body: u32, joint: Option<&BodyJoint>) -> bool
     ensures { result ≡ is_end_in body (option_copied joint.entry) }
@@ -80,16 +58,10 @@ fn is_end_in(body: u32, joint: Option<&BodyJoint>) -> bool
 }
 
 /// The joint in a slot goes, if one of its ends is the body.
-fn unjoin_if(
-    handles: &mut Handles,
-    joints: &mut JointTable,
-    colours: &mut Colours<Constraint>,
-    body: u32,
-    slot: u32,
-)
+fn drop_if(handles: &mut Handles, joints: &mut JointTable, body: u32, slot: u32)
     requires matched { AreMatched handles.old.places joints.old.joints }
     requires slot { slot < length joints.old.joints }
-    ensures gone { joined_as handles.new.places joints.new.joints colours.new.lists ≡ unjoined_if body slot (joined_as handles.old.places joints.old.joints colours.old.lists) }
+    ensures gone { slots_of handles.new.places joints.new.joints ≡ unjoined_if body slot (slots_of handles.old.places joints.old.joints) }
     ensures matched { AreMatched handles.new.places joints.new.joints }
     ensures slots { length joints.new.joints ≡ length joints.old.joints }
 {
@@ -98,21 +70,28 @@ fn unjoin_if(
             slot,
             generation: handles.places()[slot as usize].generation,
         };
-        unjoin(handles, joints, colours, handle);
+        joints.clear(slot);
+        handles.remove(handle);
     }
 }
 
 /// The joints of the body in a slot go, in ascending order of their own slots.
-pub fn unjoin_all(
-    handles: &mut Handles,
-    joints: &mut JointTable,
-    colours: &mut Colours<Constraint>,
-    body: u32,
-)
+pub fn drop_joints(handles: &mut Handles, joints: &mut JointTable, body: u32)
     requires { AreMatched handles.old.places joints.old.joints }
-    ensures gone { joined_as handles.new.places joints.new.joints colours.new.lists ≡ unjoined_all body (joined_as handles.old.places joints.old.joints colours.old.lists) }
+    ensures gone { slots_of handles.new.places joints.new.joints ≡ unjoined_all body (slots_of handles.old.places joints.old.joints) }
 {
     for slot in 0..joints.joints().len() {
-        unjoin_if(handles, joints, colours, body, slot as u32);
+        drop_if(handles, joints, body, slot as u32);
+    }
+}
+
+/// The joint that a handle names; `None` where it names none that lives.
+pub fn joint_of(handles: &Handles, joints: &JointTable, handle: Handle) -> Option<BodyJoint>
+    ensures { result ≡ joint_of handles.now.places joints.now.joints handle }
+{
+    if handles.is_live(handle) {
+        item_at(joints.joints(), handle.slot as usize).copied()
+    } else {
+        None
     }
 }

@@ -3,19 +3,23 @@
 
 mod booking;
 mod collide;
-mod colouring;
-mod command;
+mod copying;
 mod frame;
 mod joining;
 mod laws;
+mod leaving;
 mod pushes;
 mod queries;
 mod replay;
+mod resting;
+mod scratch;
+mod solving;
+mod turning;
+mod waking;
 mod walk;
 mod world;
 
 pub use body_handles::{Handle, Place};
-pub use command::{Command, Reply};
 pub use event_feed::Events;
 pub use fixed_geom::{Refusal, Rot, Vec2};
 pub use frame::{Frame, FrameBody};
@@ -23,11 +27,13 @@ pub use impulse_ledger::{Cause, Ledger, Total};
 pub use laws::{coloured_rows_are_colours, each_call_counts};
 pub use momenta::MassData;
 pub use plain_world::{
-    Body, BodyDef, BodyJoint, BodyView, Census, Constraint, ContactEntry, ContactKey, Course,
-    FatBoxes, Joint, JointDef, Kind, NO_COURSE, Plain, SMOOTH, SetName, ShapeId, Surface,
+    Body, BodyDef, BodyJoint, BodyView, Constraint, ContactEntry, ContactKey, Course, FatBoxes,
+    Joint, JointDef, Kind, NO_COURSE, Plain, SMOOTH, SetName, ShapeId, Surface,
 };
 pub use shapes::{Filter, Pose, Shape, ShapeDef, Shapes};
+pub use solver_sets::{Census, Item, SleepingSet};
 pub use world::WorldCore;
+pub use world_rules::{Command, Reply};
 
 #[cfg(test)]
 mod tests;

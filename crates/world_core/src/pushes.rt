@@ -2,13 +2,14 @@
 
 ghost use Rattle.std.specs.Prelude.{◌≡◌, ◌<◌, ◌≤◌, ◌^◌, true, OnOk, IfOk, length, unsigned_abs};
 ghost use Rattle.std.specs.Option.{ForSome, option_copied};
+ghost use Rattle.std.specs.Result.{result_err};
 ghost use Rattle.fixed_geom.specs.Vectors.{IsWithin};
 ghost use Rattle.plain_world.specs.Bodies.{IsBody, AreBodies, p_x, p_y};
 ghost use Rattle.plain_world.specs.Kinds.{is_kinematic};
 ghost use Rattle.plain_world.specs.Slots.{body_at, body_of};
 ghost use Rattle.shapes.specs.Poses.{IsPose};
 ghost use Rattle.momenta.specs.Impulses.{turned_by};
-ghost use Rattle.world_core.specs.Apply.{are_momenta, departing, is_push, posed, pushed, steered, with_impulse};
+ghost use Rattle.world_rules.specs.Apply.{are_momenta, is_push, mover_refusal, posed, pushed, steered, with_impulse};
 
 use body_handles::{Handle, Handles};
 use fixed_geom::{MAX_POSITION, Refusal, Vec2, cross, is_facing, is_within, plus};
@@ -165,22 +166,28 @@ pub fn course_after(
     }
 }
 
-/// The momentum that leaves with the body named by a handle: refused 2.
-pub fn departing(
+/// Tests whether the island of the body named by a handle can be woken or put to rest: refused 2, 6 or 8, in this order.
+pub fn check_mover(
     handles: &Handles,
     bodies: &[Option<Body>],
     handle: Handle,
-) -> Result<Vec2, Refusal>
-    ensures value { result ≡ departing (body_of handles.now.places bodies.now handle) }
-    ensures present { OnOk result (handle.slot < length bodies.now) }
+) -> Result<(), Refusal>
+    ensures { result_err result ≡ mover_refusal (body_of handles.now.places bodies.now handle) }
 {
-    match body_of(handles, bodies, handle) {
-        Some(body) => Ok(mover_momentum(body)),
-        None => Err(Refusal::StaleHandle),
+    let Some(body) = body_of(handles, bodies, handle) else {
+        return Err(Refusal::StaleHandle);
+    };
+    if !body.kind.is_dynamic() {
+        return Err(Refusal::NotAMover);
     }
+    if !body.enabled {
+        return Err(Refusal::BodyDisabled);
+    }
+    Ok(())
 }
 
-fn mover_momentum(body: &Body) -> Vec2
+/// The momentum of a body, 0 where it is no mover.
+pub fn mover_momentum(body: &Body) -> Vec2
     ensures { result ≡ record { x = p_x (Some body.now); y = p_y (Some body.now) } }
 {
     if body.is_mover() {

@@ -4,7 +4,7 @@ ghost use Rattle.std.specs.Prelude.{◌≡◌, IfSome, length, option_map};
 ghost use Rattle.plain_world.specs.Placement.{shape_of};
 ghost use Rattle.shapes.specs.Poses.{IsPose};
 ghost use Rattle.shapes.specs.Shapes.{IsShape};
-ghost use Rattle.world_core.specs.Sound.{IsSound};
+ghost use Rattle.world_rules.specs.Sound.{IsSound};
 
 use crate::WorldCore;
 use contacts_base::ShapeId;

@@ -1,10 +1,11 @@
 ghost use Rattle.std.specs.Prelude.{◌≡◌, ◌↔◌, IsTrue, IfOk, OnOk, OnErr, Err};
 ghost use Rattle.std.specs.Result.{IsOkUnless};
-ghost use Rattle.world_core.specs.Replay.{replay, answers_to, IsPartOf};
+ghost use Rattle.world_rules.specs.Replay.{replay, answers_to, IsPartOf};
 
-use crate::{Command, Reply, WorldCore};
+use crate::WorldCore;
 use fixed_geom::Refusal;
 use std::alloc::Global;
+use world_rules::{Command, Reply};
 
 impl WorldCore {
     /// Applies commands one after another, and gives the answer to each. A refused command changes

@@ -1,37 +1,37 @@
+mod bodies;
+mod joints;
+mod parts;
+mod sleeping;
+mod steps;
+
 ghost use Rattle.std.specs.Prelude.{◌≡◌, ◌+◌, ◌<◌, ◌≤◌, ◌^◌, [], IfOk, OnErr, option_map};
 ghost use Rattle.std.specs.Result.{IsOkUnless};
 ghost use Rattle.plain_world.specs.Bodies.{view_of};
-ghost use Rattle.plain_world.specs.Census.{IsCensus, census_of};
+ghost use Rattle.solver_sets.specs.Census.{IsCensus, census_of, standings_of};
+ghost use Rattle.solver_sets.specs.EachOnce.{ListsEachOnce};
 ghost use Rattle.plain_world.specs.Plain.{colour_of};
 ghost use Rattle.impulse_ledger.specs.Sums.{HaveSameTotals};
-ghost use Rattle.world_core.specs.World.{body_of, book_of};
+ghost use Rattle.world_rules.specs.World.{body_of, book_of, joints_of};
 ghost use Rattle.world_core.specs.Frames.{frame_of, settled_world};
-ghost use Rattle.world_core.specs.Sound.{IsSound};
-ghost use Rattle.world_core.specs.Apply.{Answers, IsMade, empty_world, gravity_refusal, apply, apply_create, apply_destroy, apply_join, apply_unjoin, apply_push, apply_pose, apply_velocity, apply_gravity, apply_step};
+ghost use Rattle.world_rules.specs.Sound.{IsSound};
+ghost use Rattle.world_rules.specs.Apply.{Answers, IsMade, empty_world, gravity_refusal, apply};
 
-use crate::booking::{book, book_step, gain_of, loss_of};
-use crate::collide::{collide, events_of};
-use crate::colouring::{copy_ids, count_with, drop_colours, join, turn_colours};
+use crate::copying::copy_ids;
 use crate::frame::{Frame, show_bodies};
-use crate::joining::{check_join, unjoin, unjoin_all};
-use crate::pushes::{course_after, departing, momenta_after, pose_after};
-use crate::{Command, Reply};
 use body_handles::{Handle, Handles, Place};
 use colour_solver::{ConstraintRow, Rows};
 use contacts::{BroadPhase, Constraint};
 use contacts_base::Contacts;
 use event_feed::Events;
 use fixed_geom::{Refusal, Vec2, ZERO_VECTOR, is_within};
-use graph_colours::{COLOURS, Colours};
-use impulse_ledger::{Cause, Ledger};
-use plain_world::{
-    Body, BodyDef, BodyView, Census, Course, JointDef, JointTable, Plain, body_of, copy_bodies,
-    take_census,
-};
-use shapes::Pose;
+use impulse_ledger::Ledger;
+use plain_world::{Body, BodyView, JointTable, Plain, body_of, copy_bodies};
+use sleep_wake::Sets;
+use solver_sets::{Census, take_census};
 use std::alloc::Global;
 use std::marker::Model;
-use world_core_base::{BodyTable, gather_rows, put_impulses};
+use world_core_base::BodyTable;
+use world_rules::{Command, Reply};
 
 /// How many calls a world accepts.
 const MAX_CALLS: u64 = 1 << 40;
@@ -52,8 +52,8 @@ pub struct WorldCore {
     contacts: Contacts,
     // Room that a collide works in, kept from step to step.
     broad: BroadPhase,
-    // The colours of the active constraints.
-    colours: Colours<Constraint>,
+    // The constraints, the islands of their movers, and the colours of those that act.
+    sets: Sets<Constraint>,
     // The rows of a step by colour, and their memory, which is kept from step to step.
     rows: Rows<ConstraintRow>,
     gravity: Vec2,
@@ -64,7 +64,7 @@ pub struct WorldCore {
 }
 
 impl Model for WorldCore {
-    ghost use Rattle.world_core.specs.World.{World};
+    ghost use Rattle.world_rules.specs.World.{World};
 
     ghost Value = { World };
 
@@ -72,7 +72,7 @@ impl Model for WorldCore {
 
     ghost view = { λ a. world_of a };
 
-    ghost invariant = { λ a. IsWhole (world_of a) a.colours.lists };
+    ghost invariant = { λ a. IsWhole (world_of a) a.sets.acting };
 }
 
 impl WorldCore {
@@ -92,7 +92,7 @@ impl WorldCore {
             joints: JointTable::new(alloc),
             contacts: Contacts::new(alloc),
             broad: BroadPhase::new(alloc),
-            colours: Colours::new(alloc)?,
+            sets: Sets::new(alloc)?,
             rows: Rows::new(alloc),
             gravity,
             steps: 0,
@@ -114,7 +114,7 @@ impl WorldCore {
             joints: self.joints.try_copy()?,
             contacts: self.contacts.try_copy()?,
             broad: BroadPhase::new(self.bodies.allocator()),
-            colours: self.colours.try_copy()?,
+            sets: self.sets.try_copy()?,
             rows: Rows::new(self.bodies.allocator()),
             gravity: self.gravity,
             steps: self.steps,
@@ -141,6 +141,10 @@ impl WorldCore {
             Command::SetPose(handle, pose) => self.set_pose(*handle, *pose),
             Command::SetVelocity(handle, course) => self.set_velocity(*handle, *course),
             Command::SetGravity(gravity) => self.set_gravity(*gravity),
+            Command::Disable(handle) => self.disable(*handle),
+            Command::Enable(handle) => self.enable(*handle),
+            Command::Wake(handle) => self.wake(*handle),
+            Command::Sleep(handle) => self.sleep(*handle),
             Command::Step(ticks) => self.step(*ticks),
         }
     }
@@ -150,179 +154,6 @@ impl WorldCore {
         ensures { Answers (apply self.old.plain (Command.Step ticks)) self.old result self.new }
     {
         self.apply(&Command::Step(ticks))
-    }
-
-    fn create_body(&mut self, def: &BodyDef) -> Result<Reply, Refusal>
-        requires { self.old.plain.calls < 2 ^ 40 }
-        ensures { Answers (apply_create self.old.plain def.now) self.old result self.new }
-    {
-        def.check()?;
-        if self.handles.is_full() {
-            return Err(Refusal::TooMany);
-        }
-        let body = def.make(self.bodies.allocator())?;
-        self.handles.reserve_one()?;
-        self.bodies.reserve_one()?;
-        let handle = self.handles.insert()?;
-        self.bodies.put(handle.slot, body);
-        self.calls += 1;
-        Ok(Reply::Body(handle))
-    }
-
-    fn destroy_body(&mut self, handle: Handle) -> Result<Reply, Refusal>
-        requires { self.old.plain.calls < 2 ^ 40 }
-        ensures { Answers (apply_destroy self.old.plain handle) self.old result self.new }
-    {
-        let p = departing(&self.handles, self.bodies.bodies(), handle)?;
-        self.ledger.reserve(1)?;
-        book(
-            &mut self.ledger,
-            self.calls + 1,
-            Cause::Departed,
-            loss_of(p),
-        );
-        unjoin_all(
-            &mut self.joint_handles,
-            &mut self.joints,
-            &mut self.colours,
-            handle.slot,
-        );
-        self.bodies.clear(handle.slot);
-        drop_colours(&mut self.colours, self.contacts.as_slice(), handle.slot);
-        self.contacts.drop_of_body(handle.slot);
-        self.handles.remove(handle);
-        self.calls += 1;
-        Ok(Reply::Done)
-    }
-
-    fn create_joint(&mut self, def: &JointDef) -> Result<Reply, Refusal>
-        requires { self.old.plain.calls < 2 ^ 40 }
-        ensures { Answers (apply_join self.old.plain def.now) self.old result self.new }
-    {
-        check_join(&self.handles, self.bodies.bodies(), def)?;
-        if self.joint_handles.is_full() {
-            return Err(Refusal::TooMany);
-        }
-        let joint = def.make();
-        self.joint_handles.reserve_one()?;
-        self.joints.reserve_one()?;
-        self.colours.reserve(1, self.bodies.bodies().len())?;
-        let handle = self.joint_handles.insert()?;
-        self.joints.put(handle.slot, joint);
-        join(&mut self.colours, self.bodies.bodies(), handle, &joint);
-        self.calls += 1;
-        Ok(Reply::Joint(handle))
-    }
-
-    fn destroy_joint(&mut self, handle: Handle) -> Result<Reply, Refusal>
-        requires { self.old.plain.calls < 2 ^ 40 }
-        ensures { Answers (apply_unjoin self.old.plain handle) self.old result self.new }
-    {
-        if !self.joint_handles.is_live(handle) {
-            return Err(Refusal::StaleHandle);
-        }
-        unjoin(
-            &mut self.joint_handles,
-            &mut self.joints,
-            &mut self.colours,
-            handle,
-        );
-        self.calls += 1;
-        Ok(Reply::Done)
-    }
-
-    fn push(&mut self, handle: Handle, by: Vec2, offset: Vec2) -> Result<Reply, Refusal>
-        requires { self.old.plain.calls < 2 ^ 40 }
-        ensures { Answers (apply_push self.old.plain handle by offset) self.old result self.new }
-    {
-        let momenta = momenta_after(&self.handles, self.bodies.bodies(), handle, by, offset)?;
-        self.ledger.reserve(1)?;
-        book(
-            &mut self.ledger,
-            self.calls + 1,
-            Cause::Command,
-            gain_of(by),
-        );
-        self.bodies.change(handle.slot, &momenta);
-        self.calls += 1;
-        Ok(Reply::Done)
-    }
-
-    fn set_pose(&mut self, handle: Handle, pose: Pose) -> Result<Reply, Refusal>
-        requires { self.old.plain.calls < 2 ^ 40 }
-        ensures { Answers (apply_pose self.old.plain handle pose) self.old result self.new }
-    {
-        let pose = pose_after(&self.handles, self.bodies.bodies(), handle, pose)?;
-        self.bodies.change(handle.slot, &pose);
-        self.calls += 1;
-        Ok(Reply::Done)
-    }
-
-    fn set_velocity(&mut self, handle: Handle, course: Course) -> Result<Reply, Refusal>
-        requires { self.old.plain.calls < 2 ^ 40 }
-        ensures { Answers (apply_velocity self.old.plain handle course) self.old result self.new }
-    {
-        let course = course_after(&self.handles, self.bodies.bodies(), handle, course)?;
-        self.bodies.change(handle.slot, &course);
-        self.calls += 1;
-        Ok(Reply::Done)
-    }
-
-    fn set_gravity(&mut self, gravity: Vec2) -> Result<Reply, Refusal>
-        requires { self.old.plain.calls < 2 ^ 40 }
-        ensures { Answers (apply_gravity self.old.plain gravity) self.old result self.new }
-    {
-        if !is_within(gravity, MAX_GRAVITY) {
-            return Err(Refusal::OutOfRange);
-        }
-        self.gravity = gravity;
-        self.calls += 1;
-        Ok(Reply::Done)
-    }
-
-    fn step(&mut self, ticks: i64) -> Result<Reply, Refusal>
-        requires { self.old.plain.calls < 2 ^ 40 }
-        ensures { Answers (apply_step self.old.plain ticks) self.old result self.new }
-    {
-        if ticks < 1 || ticks > MAX_TICKS {
-            return Err(Refusal::OutOfRange);
-        }
-        let alloc = self.bodies.allocator();
-        self.ledger.reserve(3)?;
-        let changes = collide(
-            alloc,
-            &mut self.broad,
-            self.bodies.bodies(),
-            &self.joints,
-            &self.contacts,
-        )?;
-        self.colours
-            .reserve(changes.begin.len(), self.bodies.bodies().len())?;
-        let most = count_with(&self.colours, changes.begin.len())?;
-        self.rows.reserve(most, COLOURS + 1)?;
-        turn_colours(
-            &mut self.colours,
-            self.bodies.bodies(),
-            &changes.begin,
-            &changes.end,
-        );
-        self.events = events_of(alloc, changes.begin, changes.end);
-        self.contacts = changes.now;
-        gather_rows(
-            &mut self.rows,
-            self.bodies.states(),
-            self.joints.joints(),
-            self.contacts.as_slice(),
-            &self.colours,
-        );
-        let sums = self
-            .bodies
-            .run(&mut self.rows, self.gravity, ticks.unsigned_abs());
-        put_impulses(&mut self.joints, &mut self.contacts, self.rows.as_slice());
-        book_step(&mut self.ledger, self.calls + 1, sums);
-        self.steps += 1;
-        self.calls += 1;
-        Ok(Reply::Stepped(self.steps))
     }
 
     /// What can be seen of a body; `None` where the handle names none that lives.
@@ -369,7 +200,7 @@ impl WorldCore {
     pub fn colour_of(&self, constraint: Constraint) -> Option<u8>
         ensures { result ≡ colour_of constraint self.now.plain.colours }
     {
-        self.colours.colour_of(constraint)
+        self.sets.colours().colour_of(constraint)
     }
 
     /// The ledger. Its total is the movers' momentum.
@@ -404,13 +235,15 @@ impl WorldCore {
         joints.extend_from_slice(self.joints.joints())?;
         let mut contacts = Vec::new(alloc);
         contacts.extend_from_slice(self.contacts.as_slice())?;
-        let colours = copy_ids(alloc, &self.colours)?;
+        let islands = self.sets.islands().list_labels()?;
+        let colours = copy_ids(alloc, self.sets.colours())?;
         Ok(Plain::new(
             places,
             bodies,
             joint_places,
             joints,
             contacts,
+            islands,
             colours,
             self.gravity,
             self.steps,
@@ -418,17 +251,22 @@ impl WorldCore {
         ))
     }
 
-    /// What stands in each solver set: each live body once, where it stands. Refused 1 where memory is
+    /// What stands in each solver set: each live body, each joint and each contact is listed once, in the one set in which it
+    /// stands, and nothing else is. There is a sleeping set for each name under which a body sleeps. Refused 1 where memory is
     /// wanting.
     pub fn census(&self) -> Result<Census, Refusal>
-        ensures census { IfOk result (λ census. IsCensus self.now.plain.places self.now.plain.bodies census) }
-        ensures value { IfOk result (λ census. census ≡ census_of self.now.plain.places self.now.plain.bodies) }
+        ensures value { IfOk result (λ census. census ≡ census_of self.now.plain.places self.now.plain.bodies (joints_of self.now.plain) self.now.plain.contacts) }
+        ensures census { IfOk result (λ census. IsCensus (standings_of self.now.plain.places self.now.plain.bodies (joints_of self.now.plain) self.now.plain.contacts) census) }
+        ensures each_once { IfOk result (λ census. ListsEachOnce self.now.plain.places self.now.plain.bodies (joints_of self.now.plain) self.now.plain.contacts census) }
         ensures memory_only { IsOkUnless result Refusal.NoMemory }
     {
         take_census(
             self.bodies.allocator(),
             self.handles.places(),
             self.bodies.bodies(),
+            self.joint_handles.places(),
+            self.joints.joints(),
+            self.contacts.as_slice(),
         )
     }
 

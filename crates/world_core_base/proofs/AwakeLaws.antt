@@ -14,13 +14,13 @@ use Rattle.colour_solver.specs.States.{AreAllStates, AreSameBeside, HasCourse, H
 use Rattle.colour_solver.proofs.CourseLaws.{course_at}
 use Rattle.colour_solver.proofs.PlaceLaws.{IsNext, IsReached, map_still, places_low, reached, reached_at_first, reached_first, reached_last, reached_more, reached_next, reached_there}
 use Rattle.plain_world.specs.declared.body.Body.{Body}
-use Rattle.plain_world.specs.Bodies.{AreBodies, IsBody, is_carried, is_mover}
+use Rattle.plain_world.specs.Bodies.{AreBodies, IsBody, is_awake, is_carried}
 use Rattle.plain_world.specs.Fats.{renewed_boxes}
 use Rattle.plain_world.proofs.KindLaws.{carried_enabled, carried_rests}
-use Rattle.world_core_base.specs.Carried.{carried_to, solver_mass}
+use Rattle.world_core_base.specs.Carried.{carried_to, solver_mass, carried_motion}
 use Rattle.world_core_base.specs.Gather.{begun, state_of, states_of}
 use Rattle.world_core_base.specs.Moved.{FitsState, moved_entry}
-use Rattle.world_core_base.proofs.GatherLaws.{IsLike, carried_like, carried_state, fits_state, like_first, mass_carried, state_at, tail_same}
+use Rattle.world_core_base.proofs.GatherLaws.{IsLike, carried_like, carried_state, fits_state, like_first, mass_carried, state_at, tail_same, length-states, carried_no_mover}
 use Rattle.world_core_base.proofs.MovingLaws.{begun_where, begun_where_one, bodies_still, length-moved_so_far, moved_bodies, moved_where, moved_where_one, moved_whole, next_moved, still_there}
 
 -- ---- one body
@@ -32,17 +32,17 @@ whole_state : (s : BodyState) (m : Bool) (w : MassData) (r : Reciprocals) → s.
 whole_state s m w r e f g = rw (e, f, g) refl
 
 -- the mass that an awake mover shows is its own
-mass_on : (b : Body) → is_mover b ≡ true → solver_mass b ≡ b.mass
+mass_on : (b : Body) → is_awake b ≡ true → solver_mass b ≡ b.mass
 mass_on b on1 = rw on1 refl
 
-state_on : (b : Body) → is_mover b ≡ true → state_of (Some b) ≡ state_with true b.mass b.motion (reciprocals_of b.mass)
+state_on : (b : Body) → is_awake b ≡ true → state_of (Some b) ≡ state_with true b.mass b.motion (reciprocals_of b.mass)
 state_on b on1 = rw on1 refl
 
 -- an awake mover with the motion that its state has
 abbrev with_state_of : BodyState → Body → Body
 with_state_of s b = record b { motion = s.motion; fats = renewed_boxes (record { x = s.motion.x; rot = s.motion.rot }) b.shapes b.fats }
 
-moved_on : (b : Body) (s : BodyState) → is_mover b ≡ true → moved_entry s (Some b) ≡ Some (with_state_of s b)
+moved_on : (b : Body) (s : BodyState) → is_awake b ≡ true → moved_entry s (Some b) ≡ Some (with_state_of s b)
 moved_on b s on1 = rw (on1, on1) refl
 
 -- a body that is carried along, with the motion that its state has
@@ -51,7 +51,7 @@ carried_with s b = record (carried_to s.motion b) { fats = renewed_boxes (record
 
 moved_along : (b : Body) (s : BodyState) → is_carried b ≡ true → moved_entry s (Some b) ≡ Some (carried_with s b)
 moved_along b s on1 =
-    let rests : is_mover b ≡ false = carried_rests b.enabled b.kind on1 in
+    let rests : is_awake b ≡ false = carried_no_mover b on1 in
     let enabled : b.enabled ≡ true = carried_enabled b.enabled b.kind on1 in
     rw (rests, on1, enabled) refl
 
@@ -63,13 +63,13 @@ state_along b s on1 =
 -- ---- one slot
 
 -- what moves by its state moves
-awake_like : (b : Body) (s : BodyState) → IsLike (state_of (Some b)) s → s.movable ≡ is_mover b
+awake_like : (b : Body) (s : BodyState) → IsLike (state_of (Some b)) s → s.movable ≡ is_awake b
 awake_like b s like = like.movable
 
 entry_other : (o : Option Body) (s : BodyState) → IsLike (state_of o) s → s.movable ≡ false → step.is_carried s ≡ false → moved_entry s o ≡ o
 entry_other None s like off1 still = refl
 entry_other (Some b) s like off1 still =
-    let rests : is_mover b ≡ false = sym (awake_like b s like) ∙ off1 in
+    let rests : is_awake b ≡ false = sym (awake_like b s like) ∙ off1 in
     let stands : is_carried b ≡ false = sym (carried_like (state_of (Some b)) s like ∙ carried_state b) ∙ still in
     rw (rests, stands, rests, stands) refl
 
@@ -92,7 +92,7 @@ entry_both o s like = elim (cases_Bool s.movable) [
 state_moved : (o : Option Body) (s : BodyState) → IsLike (state_of o) s → s.movable ≡ true → begun s ≡ state_of (moved_entry s o)
 state_moved None s like on1 = absurd (let both : true ≡ false = sym on1 ∙ like.movable in cc both)
 state_moved (Some b) s like on1 =
-    let awake : is_mover b ≡ true = sym (awake_like b s like) ∙ on1 in
+    let awake : is_awake b ≡ true = sym (awake_like b s like) ∙ on1 in
     sym (ap state_of (moved_on b s awake) ∙ state_on (with_state_of s b) awake ∙ whole_state s true b.mass (reciprocals_of b.mass) on1 (like.mass ∙ mass_on b awake) (like.reciprocals ∙ ap reciprocals_of (mass_on b awake)))
 
 state_carried : (o : Option Body) (s : BodyState) → IsLike (state_of o) s → s.movable ≡ false → step.is_carried s ≡ true → begun s ≡ state_of (moved_entry s o)

@@ -1,5 +1,5 @@
 -- The rows of a step's contacts, and the impulses given back to the contacts.
-use Rattle.std.proofs.Common.{◌≡◌, append_assoc, ℕ, zero, suc, ◌+◌, ◌*◌, ◌^◌, ◌<◌, ◌≤◌, ◌==◌, List, [], ◌∷◌, ◌++◌, length, get_or, drop, map, is_some, Option, Some, None, Bool, true, false, cond, arith, refl, sym, ap, ◌∙◌, subst, All, add-one, inl, inr, ◌⊎◌, slice_index_or}
+use Rattle.std.proofs.Common.{◌≡◌, append_assoc, ℕ, zero, suc, ◌+◌, ◌*◌, ◌^◌, ◌<◌, ◌≤◌, ◌==◌, List, [], ◌∷◌, ◌++◌, length, get_or, drop, map, is_some, Option, Some, None, Bool, true, false, cond, arith, refl, sym, ap, ◌∙◌, subst, All, add-one}
 use Rattle.std.specs.Prelude.{option_map}
 use Rattle.std.specs.Option.{ForSome, option_to_list}
 use Rattle.std.specs.List.{slice_get, cons_option, filter_map}
@@ -23,10 +23,9 @@ use Rattle.colour_solver_base.specs.declared.row.Bodies as pairs
 use Rattle.colour_solver_base.specs.declared.row.ContactRow.{ContactRow}
 use Rattle.colour_solver_base.specs.declared.row.PointRow.{PointRow}
 use Rattle.colour_solver_base.specs.Rows.{IsPointRow, IsRow, contact_row, is_springy, point_row, row_from}
-use Rattle.colour_solver.specs.States.{nobody}
 use Rattle.plain_world.specs.declared.body.Body.{Body}
-use Rattle.world_core_base.specs.Gather.{AreContactsOf, AreContactsOn, IsContactOf, IsContactOn, IsContactRowBelow, bodies_of, impulses_of, moves, put_row, row_in, row_of, states_of, with_row, with_rows}
-use Rattle.world_core_base.proofs.GatherLaws.{length-states, movable_at}
+use Rattle.world_core_base.specs.Gather.{AreContactsOf, AreContactsOn, IsContactOf, IsContactOn, IsContactRowBelow, bodies_of, impulses_of, put_row, row_in, row_of, states_of, with_row, with_rows}
+use Rattle.world_core_base.proofs.GatherLaws.{length-states}
 
 -- ---- the place of a key
 
@@ -183,10 +182,6 @@ touches_with_row r e = some_mapped (with_impulses (impulses_of r.first)) e.conta
 
 -- ---- the contacts as a step finds them
 
-mover_on : (bodies : List (Option Body)) (a b : ℕ) → (moves bodies a ≡ true) ⊎ (moves bodies b ≡ true) → ((slice_index_or (states_of bodies) a nobody).movable ≡ true) ⊎ ((slice_index_or (states_of bodies) b nobody).movable ≡ true)
-mover_on bodies a b (inl e) = inl (movable_at bodies a e)
-mover_on bodies a b (inr e) = inr (movable_at bodies b e)
-
 pub contacts_on : (bodies : List (Option Body)) (contacts : List ContactEntry) → AreContacts contacts → AreContactsOf bodies contacts → AreContactsOn (states_of bodies) contacts
 contacts_on bodies contacts is all = λ k d lt.
     let e = get_or contacts k d in
@@ -196,7 +191,6 @@ contacts_on bodies contacts is all = λ k d lt.
       first = omega (arith, of.first, long);
       second = omega (arith, of.second, long);
       apart = of.apart;
-      mover = mover_on bodies e.key.first.slot e.key.second.slot of.mover;
       surface = is.surfaces k d lt;
       contact = of.contact;
     }

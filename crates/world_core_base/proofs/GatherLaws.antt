@@ -1,6 +1,7 @@
 -- What a step gathers from bodies and contacts, and what it writes back to the bodies.
 use Rattle.std.proofs.Common.{◌≡◌, inl, inr, ◌⊎◌, ℕ, zero, suc, ◌<◌, List, [], ◌∷◌, length, Option, Some, None, Bool, true, false, cond, not, ◌||◌, ◌≤◌, ℤ, pos, unsigned_abs, int_eq, arith, refl, sym, ap, ◌∙◌, subst, is_some, slice_index_or}
 use Rattle.std.specs.Prelude.{All, option_map, slice_get}
+use Rattle.std.specs.Option.{is_none}
 use Rattle.std.proofs.lemmas.Bool.Decides.{Decides-int_eq}
 use Rattle.std.proofs.lemmas.Int.{ints}
 use Rattle.std.proofs.lemmas.Option.{slice_get-get_or}
@@ -23,16 +24,17 @@ use Rattle.plain_world.specs.declared.kind.Kind.{Kind}
 use Rattle.plain_world.specs.declared.kind.Kind.TheVariants.{Static, Kinematic, Dynamic}
 use Rattle.plain_world.specs.declared.kind.Course.{Course}
 use Rattle.plain_world.specs.Kinds.{IsCourseOf, carried_by, is_dynamic, is_kinematic, is_moving, is_static}
-use Rattle.plain_world.proofs.KindLaws.{carried_enabled, carried_kinematic, carried_rests, mass_as, static_as}
+use Rattle.plain_world.proofs.KindLaws.{awake_moves, carried_enabled, carried_kinematic, carried_rests, carried_still, mass_as, not_awake, static_as}
 use Rattle.shapes.specs.Shapes.{IsShapeDef, shapes_refusal}
 use Rattle.shapes.specs.Poses.{IsPose}
 use Rattle.shapes.specs.declared.pose.Pose.{Pose}
-use Rattle.plain_world.specs.Bodies.{AreBodies, IsAtRest, IsBody, IsMassOf, is_carried, is_mover, momentum_x, momentum_y, p_x, p_y, pose_of}
+use Rattle.plain_world.specs.Bodies.{AreBodies, IsAtRest, IsBody, IsMassOf, is_awake, is_carried, is_mover, momentum_x, momentum_y, p_x, p_y, pose_of}
 use Rattle.plain_world.specs.Fats.{AreFatBoxes}
+use Rattle.plain_world.specs.Changes.{is_awake_in}
 use Rattle.plain_world.specs.Slots.{HaveSameSlots, body_at, shapes_in}
 use Rattle.world_core_base.specs.Carried.{carried_motion, carried_to, solver_mass, solver_motion}
 use Rattle.world_core_base.specs.Moved.{FitsState}
-use Rattle.world_core_base.specs.Gather.{ends_at, moves, state_of, states_of, with_motion, with_motions}
+use Rattle.world_core_base.specs.Gather.{ends_at, moves, moves_in, state_of, states_of, with_motion, with_motions}
 
 -- ---- the bodies as states
 
@@ -54,8 +56,8 @@ is_standing : IsMass standing
 is_standing = record { positive = omega (arith, ints); mass = omega arith; nonnegative = omega (arith, ints); inertia = omega arith }
 
 -- the mass and the motion that a body shows the solver
-mass_shown : (m c : Bool) (b : Body) → is_mover b ≡ m → IsBody b → IsMass (cond m b.mass (cond c carrier standing))
-mass_shown true c b e is = mass_at b.kind b.enabled b.mass e is.mass
+mass_shown : (m c : Bool) (b : Body) → is_awake b ≡ m → IsBody b → IsMass (cond m b.mass (cond c carrier standing))
+mass_shown true c b e is = mass_at b.kind b.enabled b.mass (awake_moves (is_mover b) (is_none b.asleep) e) is.mass
 mass_shown false true b e is = is_carrier
 mass_shown false false b e is = is_standing
 
@@ -119,7 +121,7 @@ is_state : (o : Option Body) → ((b : Body) → o ≡ Some b → IsBody b) → 
 is_state None is = is_nobody
 is_state (Some b) is =
     let body : IsBody b = is b refl in
-    record { mass = mass_shown (is_mover b) (is_carried b) b refl body; reciprocals = refl; motion = motion_shown (is_mover b) (is_carried b) b refl body; start = body.motion.x }
+    record { mass = mass_shown (is_awake b) (is_carried b) b refl body; reciprocals = refl; motion = motion_shown (is_awake b) (is_carried b) b refl body; start = body.motion.x }
 
 pub states-all : (bodies : List (Option Body)) → AreBodies bodies → AreAllStates (states_of bodies)
 states-all [] all slot s e = cc
@@ -129,20 +131,26 @@ states-all (o ∷ os) all (suc slot) s e = states-all os (λ k b f. all (suc k) 
 -- ---- the bodies that are carried along
 
 pub carried_state : (b : Body) → step.is_carried (state_of (Some b)) ≡ is_carried b
-carried_state b = by b.enabled b.kind b.mass
+carried_state b = by b.enabled b.kind b.mass (is_none b.asleep)
   where
-    by : (e : Bool) (k : Kind) (m : MassData) → cond (cond e (is_dynamic k) false) false (not (int_eq (cond (cond e (is_dynamic k) false) m (cond (cond e (is_kinematic k) false) carrier standing)).inertia (pos 0))) ≡ cond e (is_kinematic k) false
-    by true Static m = refl
-    by true (Kinematic course) m = refl
-    by true Dynamic m = refl
-    by false k m = refl
+    by : (e : Bool) (k : Kind) (m : MassData) (a : Bool)
+        → cond (cond (cond e (is_dynamic k) false) a false) false (not (int_eq (cond (cond (cond e (is_dynamic k) false) a false) m (cond (cond e (is_kinematic k) false) carrier standing)).inertia (pos 0))) ≡ cond e (is_kinematic k) false
+    by true Static m a = refl
+    by true (Kinematic course) m a = refl
+    by true Dynamic m true = refl
+    by true Dynamic m false = refl
+    by false k m a = refl
+
+-- what is carried along isn't an awake mover
+pub carried_no_mover : (b : Body) → is_carried b ≡ true → is_awake b ≡ false
+carried_no_mover b on1 = carried_still b.enabled b.kind (is_none b.asleep) on1
 
 -- the mass and the motion that such a body shows
 pub mass_carried : (b : Body) → is_carried b ≡ true → solver_mass b ≡ carrier
-mass_carried b on1 = let rests : is_mover b ≡ false = carried_rests b.enabled b.kind on1 in rw (rests, on1) refl
+mass_carried b on1 = let rests : is_awake b ≡ false = carried_no_mover b on1 in rw (rests, on1) refl
 
 motion_carried : (b : Body) → is_carried b ≡ true → solver_motion b ≡ carried_motion b
-motion_carried b on1 = let rests : is_mover b ≡ false = carried_rests b.enabled b.kind on1 in rw rests refl
+motion_carried b on1 = let rests : is_awake b ≡ false = carried_no_mover b on1 in rw rests refl
 
 course_shown : (o : Option Body) → ((b : Body) → o ≡ Some b → IsBody b) → step.is_carried (state_of o) ≡ true → HasCourse (state_of o)
 course_shown None is on1 = absurd (cc on1)
@@ -163,29 +171,40 @@ courses-all (o ∷ os) all (suc slot) s e = courses-all os (λ k b f. all (suc k
 
 -- ---- the momentum
 
-x_of : (o : Option Body) → step.p_x (state_of o) ≡ p_x o
-x_of None = refl
-x_of (Some b) = x_shown (is_mover b) b
-  where
-    x_shown : (m : Bool) (b : Body) → cond m (cond m b.motion (carried_motion b)).p.x (pos 0) ≡ cond m b.motion.p.x (pos 0)
-    x_shown true b = refl
-    x_shown false b = refl
+-- what is at rest has no part in the momentum, whether it is a mover or not
+pub no_part : (m : Bool) (z : ℤ) → z ≡ pos 0 → cond m z (pos 0) ≡ pos 0
+no_part true z h = h
+no_part false z h = refl
 
-y_of : (o : Option Body) → step.p_y (state_of o) ≡ p_y o
-y_of None = refl
-y_of (Some b) = y_shown (is_mover b) b
-  where
-    y_shown : (m : Bool) (b : Body) → cond m (cond m b.motion (carried_motion b)).p.y (pos 0) ≡ cond m b.motion.p.y (pos 0)
-    y_shown true b = refl
-    y_shown false b = refl
+x_shown : (a : Bool) (b : Body) → is_awake b ≡ a → IsBody b → cond a (cond a b.motion (carried_motion b)).p.x (pos 0) ≡ p_x (Some b)
+x_shown true b e is = sym (let moves : is_mover b ≡ true = awake_moves (is_mover b) (is_none b.asleep) e in λ j. cond (moves j) b.motion.p.x (pos 0))
+x_shown false b e is = sym (no_part (is_mover b) b.motion.p.x (is.rest e).x)
 
-pub total_x-gathered : (bodies : List (Option Body)) → total_x (states_of bodies) ≡ momentum_x bodies
-total_x-gathered [] = refl
-total_x-gathered (o ∷ os) = let first = x_of o in let rest = total_x-gathered os in omega (arith, ints, first, rest)
+x_of : (o : Option Body) → ((b : Body) → o ≡ Some b → IsBody b) → step.p_x (state_of o) ≡ p_x o
+x_of None is = refl
+x_of (Some b) is = x_shown (is_awake b) b refl (is b refl)
 
-pub total_y-gathered : (bodies : List (Option Body)) → total_y (states_of bodies) ≡ momentum_y bodies
-total_y-gathered [] = refl
-total_y-gathered (o ∷ os) = let first = y_of o in let rest = total_y-gathered os in omega (arith, ints, first, rest)
+pub total_x-gathered : (bodies : List (Option Body)) → AreBodies bodies → total_x (states_of bodies) ≡ momentum_x bodies
+total_x-gathered [] all = refl
+total_x-gathered (o ∷ os) all =
+    let first = x_of o (λ b f. all zero b (ap Some f)) in
+    let rest = total_x-gathered os (λ k b f. all (suc k) b f) in
+    omega (arith, ints, first, rest)
+
+y_shown : (a : Bool) (b : Body) → is_awake b ≡ a → IsBody b → cond a (cond a b.motion (carried_motion b)).p.y (pos 0) ≡ p_y (Some b)
+y_shown true b e is = sym (let moves : is_mover b ≡ true = awake_moves (is_mover b) (is_none b.asleep) e in λ j. cond (moves j) b.motion.p.y (pos 0))
+y_shown false b e is = sym (no_part (is_mover b) b.motion.p.y (is.rest e).y)
+
+y_of : (o : Option Body) → ((b : Body) → o ≡ Some b → IsBody b) → step.p_y (state_of o) ≡ p_y o
+y_of None is = refl
+y_of (Some b) is = y_shown (is_awake b) b refl (is b refl)
+
+pub total_y-gathered : (bodies : List (Option Body)) → AreBodies bodies → total_y (states_of bodies) ≡ momentum_y bodies
+total_y-gathered [] all = refl
+total_y-gathered (o ∷ os) all =
+    let first = y_of o (λ b f. all zero b (ap Some f)) in
+    let rest = total_y-gathered os (λ k b f. all (suc k) b f) in
+    omega (arith, ints, first, rest)
 
 -- ---- the bodies of a contact
 
@@ -195,16 +214,20 @@ state_at states slot d all h = all slot (slice_index_or states slot d) (slice_ge
 pub are_states : (states : List BodyState) (key : ContactKey) → AreAllStates states → key.first.slot < length states → key.second.slot < length states → AreStates (ends_at states key)
 are_states states key all first second = record { a = state_at states key.first.slot nobody all first; b = state_at states key.second.slot nobody all second }
 
-pub movable_at : (bodies : List (Option Body)) (slot : ℕ) → moves bodies slot ≡ true → (slice_index_or (states_of bodies) slot nobody).movable ≡ true
-movable_at [] slot e = e
-movable_at (None ∷ os) zero e = e
-movable_at (Some b ∷ os) zero e = e
-movable_at (o ∷ os) (suc slot) e = movable_at os slot e
+-- just the awake movers are movable
+pub movable_is : (bodies : List (Option Body)) (slot : ℕ) → (slice_index_or (states_of bodies) slot nobody).movable ≡ is_awake_in (body_at bodies slot)
+movable_is [] slot = refl
+movable_is (None ∷ os) zero = refl
+movable_is (Some b ∷ os) zero = refl
+movable_is (o ∷ os) (suc slot) = movable_is os slot
 
-pub one_movable : (bodies : List (Option Body)) (states : List BodyState) (key : ContactKey) → states ≡ states_of bodies → (moves bodies key.first.slot ≡ true) ⊎ (moves bodies key.second.slot ≡ true)
-    → ((ends_at states key).a.movable ≡ true) ⊎ ((ends_at states key).b.movable ≡ true)
-one_movable bodies states key same (inl e) = inl (rw same (movable_at bodies key.first.slot e))
-one_movable bodies states key same (inr e) = inr (rw same (movable_at bodies key.second.slot e))
+awake_where : (o : Option Body) → moves_in o ≡ true → ((b : Body) → o ≡ Some b → b.asleep ≡ None) → is_awake_in o ≡ true
+awake_where None e up = e
+awake_where (Some b) e up = λ j. cond (e j) (is_none (up b refl j)) false
+
+-- a mover that doesn't sleep moves in a step
+pub movable_at : (bodies : List (Option Body)) (slot : ℕ) → moves bodies slot ≡ true → ((b : Body) → body_at bodies slot ≡ Some b → b.asleep ≡ None) → (slice_index_or (states_of bodies) slot nobody).movable ≡ true
+movable_at bodies slot e up = movable_is bodies slot ∙ awake_where (body_at bodies slot) e up
 
 pub length-states : (bodies : List (Option Body)) → length (states_of bodies) ≡ length bodies
 length-states [] = refl
@@ -217,16 +240,17 @@ pub record IsMovedBody (b : Body) : Type 0 where
   pub before : Pose
   pub mass : IsMassOf b.kind b.mass
   pub motion : IsMotion b.mass b.motion
-  pub rest : is_mover b ≡ false → IsAtRest b.motion
+  pub rest : is_awake b ≡ false → IsAtRest b.motion
+  pub asleep : is_mover b ≡ false → b.asleep ≡ None
   pub course : IsCourseOf b.kind
   pub halted : b.enabled ≡ false → is_moving (carried_by b.kind) ≡ false
   pub shapes : shapes_refusal (is_static b.kind) b.shapes ≡ None
   pub forms : All IsShapeDef b.shapes
   pub fats : AreFatBoxes before b.shapes b.fats
-  pub still : is_mover b ≡ false → is_carried b ≡ false → AreFatBoxes (pose_of b) b.shapes b.fats
+  pub still : is_awake b ≡ false → is_carried b ≡ false → AreFatBoxes (pose_of b) b.shapes b.fats
 
 unmoved : (b : Body) → IsBody b → IsMovedBody b
-unmoved b is = record { before = pose_of b; mass = is.mass; motion = is.motion; rest = is.rest; course = is.course; halted = is.halted; shapes = is.shapes; forms = is.forms; fats = is.fats; still = λ e f. is.fats }
+unmoved b is = record { before = pose_of b; mass = is.mass; motion = is.motion; rest = is.rest; asleep = is.asleep; course = is.course; halted = is.halted; shapes = is.shapes; forms = is.forms; fats = is.fats; still = λ e f. is.fats }
 
 true_false : (t : Bool) → t ≡ true → t ≡ false → ⊥
 true_false t e f = let both : true ≡ false = sym e ∙ f in cc both
@@ -240,7 +264,8 @@ carried_body b s on1 is state has =
       before = pose_of b;
       mass = mass_as b.kind course b.mass kinematic is.mass;
       motion = record { p = is.motion.p; l = is.motion.l; still = is.motion.still; x = state.motion.x; facing = state.motion.facing };
-      rest = λ e. let at_rest : IsAtRest b.motion = is.rest (carried_rests b.enabled b.kind on1) in record { x = at_rest.x; y = at_rest.y; l = at_rest.l };
+      rest = λ e. let at_rest : IsAtRest b.motion = is.rest (carried_no_mover b on1) in record { x = at_rest.x; y = at_rest.y; l = at_rest.l };
+      asleep = λ e. is.asleep (carried_rests b.enabled b.kind on1);
       course = record { velocity = has.velocity; spin = has.spin };
       halted = λ off. absurd (true_false b.enabled (carried_enabled b.enabled b.kind on1) off);
       shapes = rw (← static_as b.kind course kinematic) is.shapes;
@@ -254,19 +279,20 @@ carried_body b s on1 is state has =
     stays_off false h = refl
 
 -- of the body b, as its state s has left it
-moved_if : (m c : Bool) (b : Body) (s : BodyState) → is_mover b ≡ m → is_carried b ≡ c → IsBody b → IsState s → s.mass ≡ cond m b.mass (cond c carrier standing) → (c ≡ true → HasCourse s)
+moved_if : (m c : Bool) (b : Body) (s : BodyState) → is_awake b ≡ m → is_carried b ≡ c → IsBody b → IsState s → s.mass ≡ cond m b.mass (cond c carrier standing) → (c ≡ true → HasCourse s)
     → IsMovedBody (cond m (record b { motion = s.motion }) (cond c (carried_to s.motion b) b))
 moved_if true c b s e f is state same has = record {
   before = pose_of b;
   mass = is.mass;
   motion = rw same at state.motion;
-  rest = λ still. absurd (true_false (is_mover b) e still);
+  rest = λ still. absurd (true_false (is_awake b) e still);
+  asleep = is.asleep;
   course = is.course;
   halted = is.halted;
   shapes = is.shapes;
   forms = is.forms;
   fats = is.fats;
-  still = λ still g. absurd (true_false (is_mover b) e still);
+  still = λ still g. absurd (true_false (is_awake b) e still);
 }
 moved_if false true b s e f is state same has = carried_body b s f is state (has refl)
 moved_if false false b s e f is state same has = unmoved b is
@@ -290,7 +316,7 @@ entry_moved None s b is state has like e = cc
 entry_moved (Some a) s b is state has like e =
     let now : with_motion s a ≡ b = cc in
     let fits : FitsState s a = fits_state a s (is a refl) state has like in
-    subst IsMovedBody now (moved_if (is_mover a) (is_carried a) a s refl refl (is a refl) state like.mass fits.course)
+    subst IsMovedBody now (moved_if (is_awake a) (is_carried a) a s refl refl (is a refl) state like.mass fits.course)
 
 abbrev pub AreMovedBodies : List (Option Body) → Type 0
 AreMovedBodies bodies = (slot : ℕ) (b : Body) → slice_get bodies slot ≡ Some (Some b) → IsMovedBody b
@@ -309,7 +335,7 @@ bodies-moved (o ∷ os) (s ∷ ss) all given has same (suc slot) b e = bodies-mo
 
 -- what a body is made of stays, and it stands in a place of the world
 pub forms_moved : (b : Body) (s : BodyState) → IsBody b → All IsShapeDef (with_motion s b).shapes
-forms_moved b s is = by (is_mover b) (is_carried b)
+forms_moved b s is = by (is_awake b) (is_carried b)
   where
     by : (m c : Bool) → All IsShapeDef (cond m (record b { motion = s.motion }) (cond c (carried_to s.motion b) b)).shapes
     by true c = is.forms
@@ -317,7 +343,7 @@ forms_moved b s is = by (is_mover b) (is_carried b)
     by false false = is.forms
 
 pub pose_moved : (b : Body) (s : BodyState) → FitsState s b → IsPose (pose_of (with_motion s b))
-pose_moved b s fits = by (is_mover b) (is_carried b)
+pose_moved b s fits = by (is_awake b) (is_carried b)
   where
     by : (m c : Bool) → IsPose (pose_of (cond m (record b { motion = s.motion }) (cond c (carried_to s.motion b) b)))
     by true c = record { x = fits.state.motion.x; rot = fits.state.motion.facing }
@@ -325,7 +351,7 @@ pose_moved b s fits = by (is_mover b) (is_carried b)
     by false false = record { x = fits.body.motion.x; rot = fits.body.motion.facing }
 
 pub boxes_moved : (b : Body) (s : BodyState) → IsBody b → length (with_motion s b).fats ≡ length (with_motion s b).shapes
-boxes_moved b s is = by (is_mover b) (is_carried b)
+boxes_moved b s is = by (is_awake b) (is_carried b)
   where
     by : (m c : Bool) → length (cond m (record b { motion = s.motion }) (cond c (carried_to s.motion b) b)).fats ≡ length (cond m (record b { motion = s.motion }) (cond c (carried_to s.motion b) b)).shapes
     by true c = is.fats.long
@@ -338,7 +364,7 @@ none_either false = refl
 
 -- the same bodies are movers
 pub mover_moved : (s : BodyState) (b : Body) → is_mover (with_motion s b) ≡ is_mover b
-mover_moved s b = by (is_mover b) (is_carried b) refl
+mover_moved s b = by (is_awake b) (is_carried b) refl
   where
     by : (m c : Bool) → is_carried b ≡ c → is_mover (cond m (record b { motion = s.motion }) (cond c (carried_to s.motion b) b)) ≡ is_mover b
     by true c on1 = refl
@@ -369,7 +395,7 @@ shapes_if false false b s = refl
 
 same_shapes : (o : Option Body) (s : BodyState) → shapes_in (option_map (with_motion s) o) ≡ shapes_in o
 same_shapes None s = refl
-same_shapes (Some b) s = shapes_if (is_mover b) (is_carried b) b s
+same_shapes (Some b) s = shapes_if (is_awake b) (is_carried b) b s
 
 shapes-moved : (bodies : List (Option Body)) (states : List BodyState) (slot : ℕ) → shapes_in (body_at (with_motions bodies states) slot) ≡ shapes_in (body_at bodies slot)
 shapes-moved [] states slot = refl
@@ -382,38 +408,38 @@ slots-moved bodies states = record { slots = length-moved bodies states; taken =
 
 -- ---- the momentum is that of the states
 
-x_if : (m c : Bool) (b : Body) (s : BodyState) → is_mover b ≡ m → s.movable ≡ m → p_x (Some (cond m (record b { motion = s.motion }) (cond c (carried_to s.motion b) b))) ≡ step.p_x s
-x_if true c b s e f = rw (e, f)
-x_if false true b s e f = rw (none_either b.enabled, f) refl
-x_if false false b s e f = rw (e, f)
+x_if : (m c : Bool) (b : Body) (s : BodyState) → is_awake b ≡ m → IsBody b → s.movable ≡ m → p_x (Some (cond m (record b { motion = s.motion }) (cond c (carried_to s.motion b) b))) ≡ step.p_x s
+x_if true c b s e is f = let moves : is_mover b ≡ true = awake_moves (is_mover b) (is_none b.asleep) e in rw (moves, f) refl
+x_if false true b s e is f = rw (none_either b.enabled, f) refl
+x_if false false b s e is f = rw f (no_part (is_mover b) b.motion.p.x (is.rest e).x)
 
-y_if : (m c : Bool) (b : Body) (s : BodyState) → is_mover b ≡ m → s.movable ≡ m → p_y (Some (cond m (record b { motion = s.motion }) (cond c (carried_to s.motion b) b))) ≡ step.p_y s
-y_if true c b s e f = rw (e, f)
-y_if false true b s e f = rw (none_either b.enabled, f) refl
-y_if false false b s e f = rw (e, f)
+y_if : (m c : Bool) (b : Body) (s : BodyState) → is_awake b ≡ m → IsBody b → s.movable ≡ m → p_y (Some (cond m (record b { motion = s.motion }) (cond c (carried_to s.motion b) b))) ≡ step.p_y s
+y_if true c b s e is f = let moves : is_mover b ≡ true = awake_moves (is_mover b) (is_none b.asleep) e in rw (moves, f) refl
+y_if false true b s e is f = rw (none_either b.enabled, f) refl
+y_if false false b s e is f = rw f (no_part (is_mover b) b.motion.p.y (is.rest e).y)
 
-x_moved : (o : Option Body) (s : BodyState) → s.movable ≡ (state_of o).movable → p_x (option_map (with_motion s) o) ≡ step.p_x s
-x_moved None s e = rw e
-x_moved (Some b) s e = x_if (is_mover b) (is_carried b) b s refl e
+x_moved : (o : Option Body) (s : BodyState) → ((b : Body) → o ≡ Some b → IsBody b) → s.movable ≡ (state_of o).movable → p_x (option_map (with_motion s) o) ≡ step.p_x s
+x_moved None s is e = rw e
+x_moved (Some b) s is e = x_if (is_awake b) (is_carried b) b s refl (is b refl) e
 
-y_moved : (o : Option Body) (s : BodyState) → s.movable ≡ (state_of o).movable → p_y (option_map (with_motion s) o) ≡ step.p_y s
-y_moved None s e = rw e
-y_moved (Some b) s e = y_if (is_mover b) (is_carried b) b s refl e
+y_moved : (o : Option Body) (s : BodyState) → ((b : Body) → o ≡ Some b → IsBody b) → s.movable ≡ (state_of o).movable → p_y (option_map (with_motion s) o) ≡ step.p_y s
+y_moved None s is e = rw e
+y_moved (Some b) s is e = y_if (is_awake b) (is_carried b) b s refl (is b refl) e
 
-pub momentum_x-moved : (bodies : List (Option Body)) (states : List BodyState) → AreSameBeside (states_of bodies) states → momentum_x (with_motions bodies states) ≡ total_x states
-momentum_x-moved [] [] same = refl
-momentum_x-moved [] (s ∷ ss) same = let whole = same.long in absurd (omega (arith, whole))
-momentum_x-moved (o ∷ os) [] same = let whole = same.long in absurd (omega (arith, whole))
-momentum_x-moved (o ∷ os) (s ∷ ss) same =
-    let first = x_moved o s (same.movable zero) in
-    let rest = momentum_x-moved os ss (tail_same o os s ss same) in
+pub momentum_x-moved : (bodies : List (Option Body)) (states : List BodyState) → AreBodies bodies → AreSameBeside (states_of bodies) states → momentum_x (with_motions bodies states) ≡ total_x states
+momentum_x-moved [] [] all same = refl
+momentum_x-moved [] (s ∷ ss) all same = let whole = same.long in absurd (omega (arith, whole))
+momentum_x-moved (o ∷ os) [] all same = let whole = same.long in absurd (omega (arith, whole))
+momentum_x-moved (o ∷ os) (s ∷ ss) all same =
+    let first = x_moved o s (λ b f. all zero b (ap Some f)) (same.movable zero) in
+    let rest = momentum_x-moved os ss (λ k b f. all (suc k) b f) (tail_same o os s ss same) in
     omega (arith, ints, first, rest)
 
-pub momentum_y-moved : (bodies : List (Option Body)) (states : List BodyState) → AreSameBeside (states_of bodies) states → momentum_y (with_motions bodies states) ≡ total_y states
-momentum_y-moved [] [] same = refl
-momentum_y-moved [] (s ∷ ss) same = let whole = same.long in absurd (omega (arith, whole))
-momentum_y-moved (o ∷ os) [] same = let whole = same.long in absurd (omega (arith, whole))
-momentum_y-moved (o ∷ os) (s ∷ ss) same =
-    let first = y_moved o s (same.movable zero) in
-    let rest = momentum_y-moved os ss (tail_same o os s ss same) in
+pub momentum_y-moved : (bodies : List (Option Body)) (states : List BodyState) → AreBodies bodies → AreSameBeside (states_of bodies) states → momentum_y (with_motions bodies states) ≡ total_y states
+momentum_y-moved [] [] all same = refl
+momentum_y-moved [] (s ∷ ss) all same = let whole = same.long in absurd (omega (arith, whole))
+momentum_y-moved (o ∷ os) [] all same = let whole = same.long in absurd (omega (arith, whole))
+momentum_y-moved (o ∷ os) (s ∷ ss) all same =
+    let first = y_moved o s (λ b f. all zero b (ap Some f)) (same.movable zero) in
+    let rest = momentum_y-moved os ss (λ k b f. all (suc k) b f) (tail_same o os s ss same) in
     omega (arith, ints, first, rest)

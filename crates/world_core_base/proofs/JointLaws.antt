@@ -1,5 +1,5 @@
 -- The joints as a step finds them, and the impulses given back to them.
-use Rattle.std.proofs.Common.{ℤ, ◌≡◌, inl, inr, ◌⊎◌, ℕ, zero, suc, ◌<◌, List, [], ◌∷◌, length, Option, Some, None, All, true, is_some, arith, refl, sym, ap, ◌∙◌, subst, slice_set, slice_index_or}
+use Rattle.std.proofs.Common.{ℤ, ◌≡◌, inl, inr, ℕ, zero, suc, ◌<◌, List, [], ◌∷◌, length, Option, Some, None, All, true, is_some, arith, refl, sym, ap, ◌∙◌, subst, slice_set}
 use Rattle.std.specs.Prelude.{option_map}
 use Rattle.std.specs.Option.{ForSome}
 use Rattle.std.proofs.lemmas.Bool.{cases_eq}
@@ -21,8 +21,8 @@ use Rattle.plain_world.specs.declared.joint.BodyJoint.{BodyJoint}
 use Rattle.plain_world.specs.Joints.{AreJoints, IsBodyJoint, impulse_set, joint_at, with_impulse}
 use Rattle.plain_world.specs.Slots.{body_at}
 use Rattle.world_core_base.specs.ConstraintRows.{IsJointOn, IsJointThere, contacts_among, joint_bodies, joint_ends, joint_row_in, joints_among, put_joint_row, with_joint_rows}
-use Rattle.world_core_base.specs.Gather.{IsContactRowBelow, moves, states_of, with_rows}
-use Rattle.world_core_base.proofs.GatherLaws.{length-states, movable_at, state_at}
+use Rattle.world_core_base.specs.Gather.{HasMovable, IsContactRowBelow, states_of, with_rows}
+use Rattle.world_core_base.proofs.GatherLaws.{length-states, state_at}
 use Rattle.world_core_base.proofs.SolvingJoints.{bare_joints, bare_put, joint_put_other, joint_put_same}
 
 -- ---- the rows of joints, and those of contacts
@@ -77,21 +77,17 @@ joints_stay bodies joints (r ∷ rs) whole all =
 
 -- ---- the joints as a step finds them
 
-moving_slot : (bodies : List (Option Body)) (a b : ℕ) → (moves bodies a ≡ true) ⊎ (moves bodies b ≡ true) → ((slice_index_or (states_of bodies) a nobody).movable ≡ true) ⊎ ((slice_index_or (states_of bodies) b nobody).movable ≡ true)
-moving_slot bodies a b (inl e) = inl (movable_at bodies a e)
-moving_slot bodies a b (inr e) = inr (movable_at bodies b e)
-
 slot_low : (bodies : List (Option Body)) (slot : ℕ) → is_some (body_at bodies slot) ≡ true → slot < length bodies
 slot_low [] slot e = absurd (cc e)
 slot_low (o ∷ os) zero e = omega arith
 slot_low (o ∷ os) (suc slot) e = let rest : slot < length os = slot_low os slot e in omega (arith, rest)
 
-pub joint_on : (bodies : List (Option Body)) (j : BodyJoint) → IsBodyJoint bodies j → (moves bodies j.a ≡ true) ⊎ (moves bodies j.b ≡ true) → IsJointOn (states_of bodies) j
+pub joint_on : (bodies : List (Option Body)) (j : BodyJoint) → IsBodyJoint bodies j → HasMovable (states_of bodies) j.a j.b → IsJointOn (states_of bodies) j
 joint_on bodies j is mover =
     let long = length-states bodies in
     let a : j.a < length bodies = slot_low bodies j.a is.first in
     let b : j.b < length bodies = slot_low bodies j.b is.second in
-    record { first = omega (arith, a, long); second = omega (arith, b, long); apart = is.apart; mover = moving_slot bodies j.a j.b mover; joint = is.joint }
+    record { first = omega (arith, a, long); second = omega (arith, b, long); apart = is.apart; mover = mover; joint = is.joint }
 
 pub joint_states : (states : List BodyState) (j : BodyJoint) → AreAllStates states → j.a < length states → j.b < length states → AreStates (joint_ends states j)
 joint_states states j all first second = record { a = state_at states j.a nobody all first; b = state_at states j.b nobody all second }

@@ -6,6 +6,9 @@ pub mod ContactLaws
 pub mod AwakeLaws
 pub mod SlotsRising
 pub mod TableLaws
+pub mod TellLaws
+pub mod TimeLaws
+pub mod StandingLaws
 mod ColourLists
 pub mod RowColourLaws
 pub mod SolvingContacts

@@ -92,8 +92,8 @@ slots-both bodies states =
     let second : HaveSameSlots (with_motions bodies states) (moved_bodies bodies states) = slots-renewed (with_motions bodies states) in
     record { slots = second.slots ∙ first.slots; taken = λ slot. second.taken slot ∙ first.taken slot; shapes = λ slot. second.shapes slot ∙ first.shapes slot }
 
-pub momentum_x-both : (bodies : List (Option Body)) (states : List BodyState) → AreSameBeside (states_of bodies) states → momentum_x (moved_bodies bodies states) ≡ total_x states
-momentum_x-both bodies states same = momentum_x-renewed (with_motions bodies states) ∙ momentum_x-moved bodies states same
+pub momentum_x-both : (bodies : List (Option Body)) (states : List BodyState) → AreBodies bodies → AreSameBeside (states_of bodies) states → momentum_x (moved_bodies bodies states) ≡ total_x states
+momentum_x-both bodies states all same = momentum_x-renewed (with_motions bodies states) ∙ momentum_x-moved bodies states all same
 
-pub momentum_y-both : (bodies : List (Option Body)) (states : List BodyState) → AreSameBeside (states_of bodies) states → momentum_y (moved_bodies bodies states) ≡ total_y states
-momentum_y-both bodies states same = momentum_y-renewed (with_motions bodies states) ∙ momentum_y-moved bodies states same
+pub momentum_y-both : (bodies : List (Option Body)) (states : List BodyState) → AreBodies bodies → AreSameBeside (states_of bodies) states → momentum_y (moved_bodies bodies states) ≡ total_y states
+momentum_y-both bodies states all same = momentum_y-renewed (with_motions bodies states) ∙ momentum_y-moved bodies states all same

@@ -3,7 +3,7 @@ use Rattle.std.proofs.Common.{◌≡◌, ℕ, zero, suc, List, [], ◌∷◌, le
 use Rattle.std.specs.Prelude.{option_map}
 use Rattle.std.proofs.lemmas.Int.{ints}
 use Rattle.plain_world.specs.declared.body.Body.{Body}
-use Rattle.plain_world.specs.Bodies.{can_move, is_carried, is_mover, pose_of, IsBody, AreBodies, p_x, p_y, momentum_x, momentum_y}
+use Rattle.plain_world.specs.Bodies.{can_move, is_awake, is_carried, pose_of, IsBody, AreBodies, p_x, p_y, momentum_x, momentum_y}
 use Rattle.plain_world.specs.Fats.{renewed_boxes}
 use Rattle.plain_world.proofs.BoxLemmas.{renewed_are}
 use Rattle.world_core_base.proofs.GatherLaws.{AreMovedBodies, IsMovedBody}
@@ -15,6 +15,7 @@ renewed_body b is = record {
   mass = is.mass;
   motion = is.motion;
   rest = is.rest;
+  asleep = is.asleep;
   course = is.course;
   halted = is.halted;
   shapes = is.shapes;
@@ -22,13 +23,13 @@ renewed_body b is = record {
   fats = renewed_are is.before (pose_of b) b.shapes b.fats is.forms (record { x = is.motion.x; rot = is.motion.facing }) is.fats;
 }
 
-kept_if : (m c : Bool) (b : Body) → is_mover b ≡ m → is_carried b ≡ c → IsMovedBody b → IsBody (cond (m || c) (record b { fats = renewed_boxes (pose_of b) b.shapes b.fats }) b)
+kept_if : (m c : Bool) (b : Body) → is_awake b ≡ m → is_carried b ≡ c → IsMovedBody b → IsBody (cond (m || c) (record b { fats = renewed_boxes (pose_of b) b.shapes b.fats }) b)
 kept_if true c b e f is = renewed_body b is
 kept_if false true b e f is = renewed_body b is
-kept_if false false b e f is = record { mass = is.mass; motion = is.motion; rest = is.rest; course = is.course; halted = is.halted; shapes = is.shapes; forms = is.forms; fats = is.still e f }
+kept_if false false b e f is = record { mass = is.mass; motion = is.motion; rest = is.rest; asleep = is.asleep; course = is.course; halted = is.halted; shapes = is.shapes; forms = is.forms; fats = is.still e f }
 
 is_body : (b : Body) → IsMovedBody b → IsBody (with_renewed b)
-is_body b is = kept_if (is_mover b) (is_carried b) b refl refl is
+is_body b is = kept_if (is_awake b) (is_carried b) b refl refl is
 
 entry_body : (o : Option Body) (b : Body) → ((a : Body) → o ≡ Some a → IsMovedBody a) → option_map with_renewed o ≡ Some b → IsBody b
 entry_body None b is e = cc

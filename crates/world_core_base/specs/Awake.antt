@@ -1,5 +1,5 @@
 -- The slots of the movers and of the bodies that are carried along, ascending, and the states by slot: what a step goes over, kept beside the bodies.
-use Rattle.std.specs.Prelude.{◌≡◌, ℕ, ◌<◌, ◌≤◌, ◌==◌, not, cond, nat_lt, List, [], ◌∷◌, ◌++◌, length, Option, slice_set}
+use Rattle.std.specs.Prelude.{◌≡◌, ℕ, ◌<◌, ◌≤◌, ◌==◌, not, cond, nat_lt, List, [], ◌∷◌, ◌++◌, length, Option, slice_set, ◌+◌, Bool}
 use Rattle.std.specs.List.{AllPairs, filter}
 use Rattle.momenta.specs.declared.state.BodyState.{BodyState}
 use Rattle.colour_solver.specs.States.{carried_of, movers_of}
@@ -26,12 +26,13 @@ pub record Bodies : Type 0 where
   pub bodies : List (Option Body)
   pub room : ℕ
 
--- What a table keeps beside its bodies: their states, the slots of the movers and of the bodies that are carried along, and room in each of its lists.
-pub record IsBodyTable (bodies : List (Option Body)) (ss : List BodyState) (slots along : List ℕ) (room bodies_left states_left awake_left carried_left : ℕ) : Type 0 where
+-- What a table keeps beside its bodies: their states, the slots of the awake movers and of the bodies that are carried along, and room in each of its lists. The two lists of slots
+-- have room for all bodies, so that those that wake and those that are enabled take no memory.
+pub record IsBodyTable (bodies : List (Option Body)) (ss : List BodyState) (slots along : List ℕ) (room bodies_left states_left awake_room carried_room : ℕ) : Type 0 where
   pub states : ss ≡ states_of bodies
   pub awake : slots ≡ movers_of ss
   pub carried : along ≡ carried_of ss
   pub for_bodies : room ≤ bodies_left
   pub for_states : room ≤ states_left
-  pub for_awake : room ≤ awake_left
-  pub for_carried : room ≤ carried_left
+  pub for_awake : length bodies + room ≤ awake_room
+  pub for_carried : length bodies + room ≤ carried_room

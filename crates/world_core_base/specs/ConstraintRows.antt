@@ -1,5 +1,5 @@
 -- The rows of a step's constraints, gathered from joints and contacts in solve order, and written back to them.
-use Rattle.std.specs.Prelude.{◌≡◌, ℕ, ◌<◌, ◌⊎◌, ◌≢◌, true, List, [], ◌∷◌, length, All, Option, Some, None, option_map, slice_index_or}
+use Rattle.std.specs.Prelude.{◌≡◌, ℕ, ◌<◌, ◌≢◌, List, [], ◌∷◌, length, All, Option, Some, None, option_map, slice_index_or}
 use Rattle.std.specs.List.{filter_map, flat_map}
 use Rattle.momenta.specs.declared.state.BodyState.{BodyState}
 use Rattle.momenta.specs.declared.state.Ends.{Ends}
@@ -17,7 +17,7 @@ use Rattle.colour_solver.specs.declared.constraint_row.ConstraintRow.{Constraint
 use Rattle.colour_solver.specs.declared.constraint_row.ConstraintRow.TheVariants as rows
 use Rattle.plain_world.specs.declared.joint.BodyJoint.{BodyJoint}
 use Rattle.plain_world.specs.Joints.{impulse_set, joint_at}
-use Rattle.world_core_base.specs.Gather.{row_of}
+use Rattle.world_core_base.specs.Gather.{HasMovable, row_of}
 
 -- ---- joints
 
@@ -84,7 +84,7 @@ pub record IsJointOn (states : List BodyState) (j : BodyJoint) : Type 0 where
   pub first : j.a < length states
   pub second : j.b < length states
   pub apart : j.a ≢ j.b
-  pub mover : ((slice_index_or states j.a nobody).movable ≡ true) ⊎ ((slice_index_or states j.b nobody).movable ≡ true)
+  pub mover : HasMovable states j.a j.b
   pub joint : IsJoint j.joint
 
 abbrev pub IsJointThere : List BodyState → Option BodyJoint → Type 0
@@ -97,3 +97,13 @@ HasJointOn states joints (constraints.Contact key) = Unit {0}
 
 abbrev pub HaveJointsOn : List BodyState → List (Option BodyJoint) → List (Member Constraint) → Type 0
 HaveJointsOn states joints members = All (λ m. HasJointOn states joints m.id) members
+
+-- ---- what must hold of the contacts
+
+-- if the constraint is a contact, one of its bodies is movable
+abbrev pub IsMovable : List BodyState → Constraint → Type 0
+IsMovable states (constraints.Joint h) = Unit {0}
+IsMovable states (constraints.Contact key) = HasMovable states key.first.slot key.second.slot
+
+abbrev pub HaveMovable : List BodyState → List (Member Constraint) → Type 0
+HaveMovable states members = All (λ m. IsMovable states m.id) members

@@ -106,12 +106,15 @@ pub record IsContactOf (bodies : List (Option Body)) (e : ContactEntry) : Type 0
 abbrev pub AreContactsOf : List (Option Body) → List ContactEntry → Type 0
 AreContactsOf bodies contacts = All (IsContactOf bodies) contacts
 
--- a contact of two different states, one of them movable, with its numbers within their limits
+-- one of the two states is movable
+abbrev pub HasMovable : List BodyState → ℕ → ℕ → Type 0
+HasMovable states a b = ((slice_index_or states a nobody).movable ≡ true) ⊎ ((slice_index_or states b nobody).movable ≡ true)
+
+-- a contact of two different states, with its numbers within their limits
 pub record IsContactOn (states : List BodyState) (e : ContactEntry) : Type 0 where
   pub first : e.key.first.slot < length states
   pub second : e.key.second.slot < length states
   pub apart : e.key.first.slot ≢ e.key.second.slot
-  pub mover : ((slice_index_or states e.key.first.slot nobody).movable ≡ true) ⊎ ((slice_index_or states e.key.second.slot nobody).movable ≡ true)
   pub surface : IsSurface e.surface
   pub contact : IsContact e.contact
 

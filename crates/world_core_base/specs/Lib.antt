@@ -4,6 +4,8 @@ pub mod Gather
 pub mod ConstraintRows
 pub mod Moved
 pub mod Awake
+pub mod Telling
 pub mod RowColours
 pub mod Solving
 pub mod SolvingArrays
+pub mod Standing

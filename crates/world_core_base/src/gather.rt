@@ -14,8 +14,8 @@ ghost use Rattle.colour_solver.specs.ConstraintTurns.{AreRowsBelow, IsRowBelow};
 ghost use Rattle.graph_colours.specs.Colours.{all_members};
 ghost use Rattle.plain_world.specs.Bodies.{AreBodies};
 ghost use Rattle.contacts_base.specs.Surfaces.{IsSurface};
-ghost use Rattle.world_core_base.specs.Gather.{AreContactsOf, AreContactsOn, IsContactOn, IsContactRowBelow, bodies_of, ends_at, impulses_of, row_in, row_of, state_of, with_rows};
-ghost use Rattle.world_core_base.specs.ConstraintRows.{HasJointOn, HaveJointsOn, constraint_row, contacts_among, joints_among, rows_in, rows_of, with_joint_rows};
+ghost use Rattle.world_core_base.specs.Gather.{AreContactsOf, AreContactsOn, IsContactOn, IsContactRowBelow, HasMovable, bodies_of, ends_at, impulses_of, row_in, row_of, state_of, with_rows};
+ghost use Rattle.world_core_base.specs.ConstraintRows.{HasJointOn, HaveJointsOn, HaveMovable, IsMovable, constraint_row, contacts_among, joints_among, rows_in, rows_of, with_joint_rows};
 ghost use Rattle.plain_world.specs.Joints.{AreJoints};
 ghost use Rattle.world_core_base.specs.Carried.{solver_mass, solver_motion};
 
@@ -159,6 +159,7 @@ fn row_in(
     requires all_states { AreAllStates states.now }
     requires contact { IsContactOn states.now (record { key = own; surface = surface; contact = contact.now }) }
     requires same { key_number own ≡ key_number key }
+    requires movable { HasMovable states.now key.first.slot key.second.slot }
     ensures value { result ≡ row_in states.now key index (Some (record { key = own; surface = surface; contact = contact.now })) }
     ensures row { ForSome result (IsContactRowBelow (length states.now)) }
 {
@@ -178,6 +179,7 @@ fn row_of(
     requires all_states { AreAllStates states.now }
     requires rising { AreKeysRising contacts.now }
     requires contacts { AreContactsOn states.now contacts.now }
+    requires movable { IsMovable states.now id }
     ensures value { result ≡ row_of states.now contacts.now id }
     ensures row { ForSome result (IsContactRowBelow (length states.now)) }
 {
@@ -234,6 +236,7 @@ fn add_row(
     requires joint { HasJointOn states.now joints.now id }
     requires rising { AreKeysRising contacts.now }
     requires contacts { AreContactsOn states.now contacts.now }
+    requires movable { IsMovable states.now id }
     requires room { 1 ≤ rows.old.room }
     ensures colours { rows.new.colours ≡ rows.old.colours }
     ensures left { rows.new.left ≡ rows.old.left ++ option_to_list (constraint_row states.now joints.now contacts.now id) }
@@ -263,6 +266,7 @@ fn gather_colour(
     requires joints { HaveJointsOn states.now joints.now members.now }
     requires rising { AreKeysRising contacts.now }
     requires contacts { AreContactsOn states.now contacts.now }
+    requires movable { HaveMovable states.now members.now }
     requires rows { AreRowsBelow (length states.now) rows.old.left }
     requires room { length members.now ≤ rows.old.room }
     ensures colours { rows.new.colours ≡ rows.old.colours }
@@ -291,6 +295,7 @@ pub fn gather_rows(
     requires joints { All (HaveJointsOn states.now joints.now) colours.now.lists }
     requires rising { AreKeysRising contacts.now }
     requires contacts { AreContactsOn states.now contacts.now }
+    requires movable { All (HaveMovable states.now) colours.now.lists }
     requires room { length (all_members colours.now.lists) ≤ rows.old.room }
     requires more { COLOURS + 1 ≤ rows.old.more }
     ensures colours { rows.new.colours ≡ map (rows_in states.now joints.now contacts.now) colours.now.lists }

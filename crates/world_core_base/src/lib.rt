@@ -10,6 +10,8 @@ mod joint_row;
 mod laws;
 mod moving;
 mod table;
+mod telling;
+mod timing;
 
 pub use gather::{gather_rows, put_impulses};
 pub use laws::{arrays_are_solving, rows_are_colours};

@@ -8,6 +8,7 @@ ghost use Rattle.plain_world.specs.Bodies.{AreBodies, momentum_x, momentum_y};
 ghost use Rattle.world_core_base.specs.Gather.{begun, states_of, with_motion, with_motions};
 ghost use Rattle.world_core_base.specs.Moved.{FitsState, moved_entry};
 ghost use Rattle.world_core_base.specs.Renewal.{renewed_bodies, with_renewed};
+ghost use Rattle.world_core_base.specs.Standing.{HaveSameStanding};
 ghost use Rattle.plain_world.specs.Slots.{HaveSameSlots};
 
 use momenta::BodyState;
@@ -94,6 +95,7 @@ pub fn move_bodies(
     ensures carried { carried.now ≡ carried_of states.new.items }
     ensures bodies { AreBodies bodies.new.items }
     ensures slots { HaveSameSlots bodies.old.items bodies.new.items }
+    ensures standing { HaveSameStanding bodies.old.items bodies.new.items }
     ensures momentum_x { momentum_x bodies.new.items ≡ total_x states.old.items }
     ensures momentum_y { momentum_y bodies.new.items ≡ total_y states.old.items }
 {

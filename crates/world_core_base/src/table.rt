@@ -1,6 +1,6 @@
 //! The bodies of a world by slot, with what a step goes over: their states, and the movers' slots.
 
-ghost use Rattle.std.specs.Prelude.{◌≡◌, ◌+◌, ◌-◌, ◌<◌, ◌≤◌, ◌^◌, ◌+ℤ◌, [], None, IfOk, OnOk, length, slice_set, vec_len, vec_capacity};
+ghost use Rattle.std.specs.Prelude.{◌≡◌, ◌+◌, ◌-◌, ◌<◌, ◌≤◌, ◌^◌, ◌+ℤ◌, [], None, false, IfOk, OnOk, length, slice_set, vec_len, vec_capacity};
 ghost use Rattle.std.specs.Option.{ForSome};
 ghost use Rattle.std.specs.Result.{IsOkUnless};
 ghost use Rattle.fixed_geom.specs.Vectors.{IsWithin};
@@ -13,17 +13,25 @@ ghost use Rattle.world_core_base.specs.Awake.{with_state};
 ghost use Rattle.plain_world.specs.Bodies.{AreBodies, momentum_x, momentum_y};
 ghost use Rattle.world_core_base.specs.Gather.{state_of, states_of, with_motions};
 ghost use Rattle.world_core_base.specs.Renewal.{renewed_bodies};
-ghost use Rattle.plain_world.specs.Changes.{changed_at};
+ghost use Rattle.world_core_base.specs.Standing.{HaveSameStanding};
+ghost use Rattle.momenta.specs.Gains.{IsGain};
+ghost use Rattle.plain_world.specs.Changes.{changed_at, disabled_body, enabled_body, is_carried_in};
+ghost use Rattle.plain_world.specs.Sleep.{AreTimersWithin, timed_bodies, told};
 ghost use Rattle.plain_world.specs.Slots.{HaveSameSlots, body_at, with_body};
 
-use crate::awake::{add_if, drop_slot};
+use crate::awake::{add_if, copy_in_room, drop_slot, list_movers, reserve_in_all};
 use crate::gather::{NOBODY, body_state};
 use crate::moving::move_bodies;
+use crate::telling::tell_bodies;
+use crate::timing::time_bodies;
 use body_handles::MAX_SLOTS;
 use colour_solver::{ConstraintRow, Rows, StepSums, run_step};
 use fixed_geom::{Refusal, Vec2};
-use momenta::BodyState;
-use plain_world::{Body, BodyChange, change_slot, clear_slot, copy_bodies, put_item};
+use islands::Islands;
+use momenta::{BodyState, Gain};
+use plain_world::{
+    Body, BodyChange, change_slot, clear_slot, copy_bodies, disable_slot, enable_slot, put_item,
+};
 use std::alloc::Global;
 use std::marker::Model;
 
@@ -49,7 +57,7 @@ impl Model for BodyTable {
 
     ghost view = { λ a. record { bodies = a.bodies.items; room = a.room } };
 
-    ghost invariant = { λ a. IsBodyTable a.bodies.items a.states.items a.awake.items a.carried.items a.room (vec_capacity a.bodies - vec_len a.bodies) (vec_capacity a.states - vec_len a.states) (vec_capacity a.awake - vec_len a.awake) (vec_capacity a.carried - vec_len a.carried) };
+    ghost invariant = { λ a. IsBodyTable a.bodies.items a.states.items a.awake.items a.carried.items a.room (vec_capacity a.bodies - vec_len a.bodies) (vec_capacity a.states - vec_len a.states) (vec_capacity a.awake) (vec_capacity a.carried) };
 }
 
 /// Puts a state into a slot, or into a new one at the end, for which there is room.
@@ -71,6 +79,16 @@ fn renew_state(states: &mut Vec<BodyState>, bodies: &[Option<Body>], slot: usize
     ensures { states.new.items ≡ slice_set states.old.items slot (state_of (body_at bodies.now slot)) }
 {
     states[slot] = crate::gather::state_of(&bodies[slot]);
+}
+
+/// Whether a body that is carried along is in a slot.
+fn is_carried_in(entry: &Option<Body>) -> bool
+    ensures { result ≡ is_carried_in entry.now }
+{
+    match entry {
+        None => false,
+        Some(body) => body.is_carried(),
+    }
 }
 
 impl BodyTable {
@@ -115,8 +133,8 @@ impl BodyTable {
         self.room = 0;
         self.bodies.reserve(1)?;
         self.states.reserve(1)?;
-        self.awake.reserve(1)?;
-        self.carried.reserve(1)?;
+        reserve_in_all(&mut self.awake, self.bodies.len() + 1)?;
+        reserve_in_all(&mut self.carried, self.bodies.len() + 1)?;
         self.room = 1;
         Ok(())
     }
@@ -159,6 +177,66 @@ impl BodyTable {
         renew_state(&mut self.states, &self.bodies, slot as usize);
     }
 
+    /// Disables the body in a slot, if one is there: it comes to a halt, and sleeps no more.
+    pub fn disable(&mut self, slot: u32)
+        requires { slot < length self.old.bodies }
+        ensures bodies { self.new.bodies ≡ changed_at disabled_body self.old.bodies slot }
+    {
+        self.room = 0;
+        drop_slot(&mut self.awake, slot);
+        drop_slot(&mut self.carried, slot);
+        disable_slot(&mut self.bodies, slot as usize);
+        renew_state(&mut self.states, &self.bodies, slot as usize);
+    }
+
+    /// Enables the body in a slot, if one is there, which is disabled: a mover is awake, and its timer 0. Takes no memory.
+    pub fn enable(&mut self, slot: u32)
+        requires slot { slot < length self.old.bodies }
+        requires disabled { ForSome (body_at self.old.bodies slot) (λ b. b.enabled ≡ false) }
+        ensures bodies { self.new.bodies ≡ changed_at enabled_body self.old.bodies slot }
+    {
+        self.room = 0;
+        enable_slot(&mut self.bodies, slot as usize);
+        renew_state(&mut self.states, &self.bodies, slot as usize);
+        let awake = self.states[slot as usize].movable;
+        let carried = is_carried_in(&self.bodies[slot as usize]);
+        add_if(&mut self.awake, slot, awake);
+        add_if(&mut self.carried, slot, carried);
+    }
+
+    /// Tells the bodies the labels of their islands: movers of a sleeping one are put to rest, and those of any other are awake. Answers what the movers'
+    /// momentum gains, since those that are put to rest lose theirs. Takes no memory.
+    pub fn tell(&mut self, islands: &Islands) -> Gain
+        requires few { length self.old.bodies ≤ MAX_SLOTS }
+        requires bodies { AreBodies self.old.bodies }
+        ensures bodies { self.new.bodies ≡ told islands.now.labels self.old.bodies }
+        ensures all_bodies { AreBodies self.new.bodies }
+        ensures slots { HaveSameSlots self.old.bodies self.new.bodies }
+        ensures standing { HaveSameStanding self.old.bodies self.new.bodies }
+        ensures x { momentum_x self.new.bodies ≡ momentum_x self.old.bodies +ℤ result.x }
+        ensures y { momentum_y self.new.bodies ≡ momentum_y self.old.bodies +ℤ result.y }
+        ensures small { IsGain (2 ^ 78) result }
+    {
+        self.room = 0;
+        let gain = tell_bodies(&mut self.bodies, &mut self.states, islands);
+        list_movers(&mut self.awake, &self.states);
+        gain
+    }
+
+    /// Lets so many ticks pass: the timer of an awake mover that is slow grows by them, and that of any other awake mover begins anew.
+    pub fn time(&mut self, ticks: u64)
+        requires bodies { AreBodies self.old.bodies }
+        requires timers { AreTimersWithin (2 ^ 44) self.old.bodies }
+        requires ticks { ticks ≤ 2 ^ 44 }
+        ensures bodies { self.new.bodies ≡ timed_bodies ticks self.old.bodies }
+        ensures all_bodies { AreBodies self.new.bodies }
+        ensures slots { HaveSameSlots self.old.bodies self.new.bodies }
+        ensures standing { HaveSameStanding self.old.bodies self.new.bodies }
+    {
+        self.room = 0;
+        time_bodies(&mut self.bodies, &self.awake, ticks);
+    }
+
     /// Runs the ticks of a step, 0 to 8, and its restitution, over the movers, the bodies that are carried along, and the constraints in
     /// solve order; fat boxes that their shapes have left are then made anew. Answers what was added to the movers' momentum, by cause.
     pub fn run(&mut self, rows: &mut Rows<ConstraintRow>, gravity: Vec2, count: u64) -> StepSums
@@ -172,6 +250,7 @@ impl BodyTable {
         ensures rows { AreRowsBelow (length self.old.bodies) (all_rows rows.new) }
         ensures all_bodies { AreBodies self.new.bodies }
         ensures slots { HaveSameSlots self.old.bodies self.new.bodies }
+        ensures standing { HaveSameStanding self.old.bodies self.new.bodies }
         ensures small { AreSums (2 ^ 83) result }
         ensures momentum_x { momentum_x self.new.bodies ≡ momentum_x self.old.bodies +ℤ added_x result }
         ensures momentum_y { momentum_y self.new.bodies ≡ momentum_y self.old.bodies +ℤ added_y result }
@@ -203,10 +282,8 @@ impl BodyTable {
         let bodies = copy_bodies(alloc, &self.bodies)?;
         let mut states = Vec::new(alloc);
         states.extend_from_slice(&self.states)?;
-        let mut awake = Vec::new(alloc);
-        awake.extend_from_slice(&self.awake)?;
-        let mut carried = Vec::new(alloc);
-        carried.extend_from_slice(&self.carried)?;
+        let awake = copy_in_room(alloc, &self.awake, bodies.len())?;
+        let carried = copy_in_room(alloc, &self.carried, bodies.len())?;
         Ok(BodyTable {
             bodies,
             states,

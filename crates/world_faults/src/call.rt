@@ -17,10 +17,21 @@ pub enum Call {
     Census,
     TryCopy,
     Replay,
+    /// A sleeper is disabled, which wakes its island.
+    Disable,
+    /// A body is enabled that is jointed to a sleeper.
+    Enable,
+    Wake,
+    /// A loose island is split, and a part of it put to rest.
+    Sleep,
+    /// A static body is destroyed that a sleeper is jointed to.
+    DestroyWaking,
+    /// A step that wakes and merges islands, splits one, and puts its parts to rest.
+    StepOfIslands,
 }
 
 /// Every call.
-pub const ALL: [Call; 14] = [
+pub const ALL: [Call; 20] = [
     Call::Create,
     Call::CreateManyShapes,
     Call::Push,
@@ -35,6 +46,12 @@ pub const ALL: [Call; 14] = [
     Call::Census,
     Call::TryCopy,
     Call::Replay,
+    Call::Disable,
+    Call::Enable,
+    Call::Wake,
+    Call::Sleep,
+    Call::DestroyWaking,
+    Call::StepOfIslands,
 ];
 
 impl Call {
@@ -55,6 +72,12 @@ impl Call {
             "census" => Some(Call::Census),
             "try_copy" => Some(Call::TryCopy),
             "replay" => Some(Call::Replay),
+            "disable" => Some(Call::Disable),
+            "enable" => Some(Call::Enable),
+            "wake" => Some(Call::Wake),
+            "sleep" => Some(Call::Sleep),
+            "destroy_waking" => Some(Call::DestroyWaking),
+            "step_of_islands" => Some(Call::StepOfIslands),
             _ => None,
         }
     }

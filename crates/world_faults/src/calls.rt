@@ -3,7 +3,7 @@
 use event_feed::Events;
 use fixed_geom::{Refusal, Vec2};
 use impulse_ledger::Ledger;
-use plain_world::Census;
+use solver_sets::Census;
 use std::alloc::Global;
 use world_core::{Command, Plain, Reply, WorldCore};
 

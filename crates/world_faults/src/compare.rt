@@ -2,7 +2,8 @@ use crate::calls::{events_of, ledger_of, lists_of};
 use crate::stop::{Moment, Part, Stop};
 use graph_colours::COLOURS;
 use impulse_ledger::{Cause, Ledger};
-use plain_world::{Body, Census};
+use plain_world::Body;
+use solver_sets::{Census, SleepingSet};
 use world_core::{Events, Plain, WorldCore};
 
 const CAUSES: [Cause; 6] = [
@@ -113,17 +114,25 @@ fn difference_of_lists(first: &Plain, second: &Plain) -> Option<Part> {
     lists.expect(Part::Joints, first.joints() == second.joints());
     lists.expect(Part::Contacts, first.contacts() == second.contacts());
     lists.expect(Part::Colours, are_same_colours(first, second));
+    lists.expect(Part::Islands, first.islands() == second.islands());
     lists.expect(Part::Gravity, first.gravity() == second.gravity());
     lists.expect(Part::Steps, first.steps() == second.steps());
     lists.expect(Part::Calls, first.calls() == second.calls());
     lists.found
 }
 
-/// Whether the two list the same bodies in each set.
+/// Whether the two list the same in each set.
 pub fn are_same_censuses(first: &Census, second: &Census) -> bool {
     first.static_set() == second.static_set()
         && first.disabled() == second.disabled()
         && first.awake() == second.awake()
+        && are_same_sleepers(first.sleeping(), second.sleeping())
+}
+
+fn are_same_sleepers(first: &[SleepingSet], second: &[SleepingSet]) -> bool {
+    first.len() == second.len()
+        && first.iter().zip(second).all(|(set, other)| set.name() == other.name()
+            && set.items() == other.items())
 }
 
 fn are_same_bodies(first: &[Option<Body>], second: &[Option<Body>]) -> bool {
@@ -151,6 +160,7 @@ fn have_same_numbers(first: &Body, second: &Body) -> bool {
         && first.mass == second.mass
         && first.motion == second.motion
         && first.timer == second.timer
+        && first.asleep == second.asleep
         && first.enabled == second.enabled
 }
 

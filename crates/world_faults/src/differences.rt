@@ -1,6 +1,7 @@
 //! What the comparison finds in worlds that differ: one that found nothing would let every trial through.
 
-use crate::scene;
+use crate::resting;
+use crate::scene::{self, Setting};
 use crate::stop::Stop;
 use crate::worlds::Worlds;
 use body_handles::Handle;
@@ -17,6 +18,10 @@ pub enum Difference {
     Pushed,
     /// A joint was made.
     Joined,
+    /// An island may have come apart.
+    Loosened,
+    /// Sleepers woke.
+    Woken,
     /// Gravity is another.
     Pulled,
     /// Two pushes came in the other order.
@@ -26,10 +31,12 @@ pub enum Difference {
 }
 
 /// Every difference.
-pub const ALL: [Difference; 6] = [
+pub const ALL: [Difference; 8] = [
     Difference::Created,
     Difference::Pushed,
     Difference::Joined,
+    Difference::Loosened,
+    Difference::Woken,
     Difference::Pulled,
     Difference::Order,
     Difference::Nothing,
@@ -45,9 +52,18 @@ const PUSHED: Handle = Handle {
     generation: 1,
 };
 
+/// The world in which the difference can come about.
+fn setting_of(difference: Difference) -> Setting {
+    match difference {
+        Difference::Loosened => Setting::Resting,
+        Difference::Woken => Setting::Resting,
+        _ => Setting::Moving,
+    }
+}
+
 /// Compares two worlds that differ so, and stops where something is found.
 pub fn compare(alloc: Global, difference: Difference) -> Result<(), Stop> {
-    let mut worlds = Worlds::new(alloc)?;
+    let mut worlds = Worlds::of(alloc, setting_of(difference))?;
     compare_in(&mut worlds, alloc, difference)
 }
 
@@ -56,6 +72,8 @@ fn compare_in(worlds: &mut Worlds, alloc: Global, difference: Difference) -> Res
         Difference::Created => compare_after(worlds, &scene::create(alloc)?),
         Difference::Pushed => compare_after(worlds, &scene::push()),
         Difference::Joined => compare_after(worlds, &scene::create_joint()),
+        Difference::Loosened => compare_after_both(worlds, &resting::loosen()),
+        Difference::Woken => compare_after(worlds, &resting::wake()),
         Difference::Pulled => compare_after(worlds, &scene::gravity()),
         Difference::Order => compare_orders(worlds),
         Difference::Nothing => worlds.expect_kept(),
@@ -66,6 +84,12 @@ fn compare_in(worlds: &mut Worlds, alloc: Global, difference: Difference) -> Res
 fn compare_after(worlds: &mut Worlds, command: &Command) -> Result<(), Stop> {
     worlds.apply(command)?;
     worlds.expect_kept()
+}
+
+/// The same with two commands.
+fn compare_after_both(worlds: &mut Worlds, commands: &[Command; 2]) -> Result<(), Stop> {
+    worlds.apply(&commands[0])?;
+    compare_after(worlds, &commands[1])
 }
 
 /// Compares two worlds in which a body was pushed twice, in the one order and in the other.

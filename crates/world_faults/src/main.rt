@@ -3,15 +3,17 @@
 //! no refusal, `outside` where something beside the call met it, and else what differs.
 //!
 //! `world_faults CALL` makes that call; without a word it makes each in turn, a line for each, and then tells
-//! what it finds in worlds that differ in a known way. What refuses the memory is beside the program: `faults/run`.
+//! what it finds in worlds that differ in a known way, and what the step of islands tells. What refuses the memory is beside the program: `faults/run`.
 #![tactic(auto)]
 
 mod call;
 mod calls;
 mod compare;
 mod differences;
+mod resting;
 mod scene;
 mod stop;
+mod told;
 mod trial;
 mod worlds;
 
@@ -21,6 +23,7 @@ use std::process::ExitCode;
 use std::rt::Env;
 use std::{env, io};
 use stop::Stop;
+use told::{Told, told_by_step};
 use trial::{Outcome, trial};
 
 /// Which calls the program's words ask for.
@@ -58,6 +61,22 @@ fn print_difference<R: AllocGlobal + Print>(rt: &R, difference: Difference) -> i
     }
 }
 
+/// What the step of the scene with sleepers tells, which shows that its growths are those of islands that merge, wake, split and
+/// fall asleep.
+fn print_events<R: AllocGlobal + Print>(rt: &R) -> io::Result<()> {
+    match told_by_step(rt.alloc()) {
+        Ok(
+            Told {
+                begun,
+                ended,
+                slept,
+                woke,
+            },
+        ) => println!(rt; "{begun} begun, {ended} ended, {slept} slept, {woke} woke"),
+        Err(stop) => println!(rt; "{stop}"),
+    }
+}
+
 fn print_each<R: AllocGlobal + Print>(rt: &R) -> io::Result<()> {
     for call in ALL {
         print_trial(rt, call)?;
@@ -65,7 +84,7 @@ fn print_each<R: AllocGlobal + Print>(rt: &R) -> io::Result<()> {
     for difference in differences::ALL {
         print_difference(rt, difference)?;
     }
-    Ok(())
+    print_events(rt)
 }
 
 /// Makes the calls that are asked for. An unknown word is the only fault that has no line.

@@ -1,4 +1,5 @@
 use crate::calls::{apply, copy_of, new_world, step};
+use crate::resting;
 use body_handles::Handle;
 use fixed_geom::{Refusal, Rot, UNIT, Vec2};
 use momenta::MassData;
@@ -143,7 +144,7 @@ fn joint(a: Handle, b: Handle, length: i64) -> Command {
 
 /// A world that is being made, and the first refusal that it met; what is asked after that doesn't matter any more.
 #[derive(Drop)]
-struct Scene<'a> {
+pub struct Scene<'a> {
     alloc: Global,
     world: &'a mut WorldCore,
     refusal: Option<Refusal>,
@@ -156,19 +157,23 @@ impl Scene<'_> {
         }
     }
 
-    fn apply(&mut self, command: &Command) {
+    pub fn alloc(&self) -> Global {
+        self.alloc
+    }
+
+    pub fn apply(&mut self, command: &Command) {
         let answer = apply(self.world, command);
         self.note(answer);
     }
 
-    fn create(&mut self, command: Result<Command, Refusal>) {
+    pub fn create(&mut self, command: Result<Command, Refusal>) {
         match command {
             Ok(command) => self.apply(&command),
             Err(refusal) => self.note::<()>(Err(refusal)),
         }
     }
 
-    fn step(&mut self, ticks: i64) {
+    pub fn step(&mut self, ticks: i64) {
         let answer = step(self.world, ticks);
         self.note(answer);
     }
@@ -198,7 +203,7 @@ impl Scene<'_> {
         self.step(1);
     }
 
-    fn fill(&mut self) {
+    fn fill_with_movers(&mut self) {
         self.add_bodies();
         self.let_pass();
         self.create(mover(self.alloc, METRE / 2, 1));
@@ -207,25 +212,42 @@ impl Scene<'_> {
 }
 
 /// Fills an empty world, and makes a copy of it.
-fn filled(alloc: Global, world: &mut WorldCore) -> Result<WorldCore, Refusal> {
+fn filled(alloc: Global, world: &mut WorldCore, setting: Setting) -> Result<WorldCore, Refusal> {
     let mut scene = Scene {
         alloc,
         world,
         refusal: None,
     };
-    scene.fill();
+    match setting {
+        Setting::Moving => scene.fill_with_movers(),
+        Setting::Resting => resting::fill(&mut scene),
+    }
     match scene.refusal {
         None => copy_of(scene.world),
         Some(refusal) => Err(refusal),
     }
 }
 
-/// A world with a static body, movers that were pushed and fell, a slot that is free again, and entries
-/// of several causes in its ledger. Its next step sees a contact end and another begin. Its lists have no spare room, so that
-/// whatever grows asks for memory.
-pub fn world(alloc: Global) -> Result<WorldCore, Refusal> {
-    match new_world(alloc, GRAVITY) {
-        Ok(mut world) => filled(alloc, &mut world),
+/// Which world the calls are made in. Its lists have no spare room, so that whatever grows asks for memory.
+#[derive(Clone, Copy, Debug, PartialEq, Eq)]
+pub enum Setting {
+    /// A static body, movers that were pushed and fell, a slot that is free again, and entries of several causes in the ledger. The
+    /// next step sees a contact end and another begin.
+    Moving,
+    /// Islands that sleep, a loose one that is about to, and shapes that are about to meet and to part.
+    Resting,
+}
+
+fn gravity_in(setting: Setting) -> Vec2 {
+    match setting {
+        Setting::Moving => GRAVITY,
+        Setting::Resting => Vec2 { x: 0, y: 0 },
+    }
+}
+
+pub fn world(alloc: Global, setting: Setting) -> Result<WorldCore, Refusal> {
+    match new_world(alloc, gravity_in(setting)) {
+        Ok(mut world) => filled(alloc, &mut world, setting),
         Err(refusal) => Err(refusal),
     }
 }

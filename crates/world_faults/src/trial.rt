@@ -1,11 +1,12 @@
 use crate::call::Call;
 use crate::calls::{Answer, census_of, copy_of, lists_of, replay};
 use crate::compare::{are_same_censuses, expect, expect_same_lists, expect_same_worlds};
-use crate::scene;
+use crate::resting;
+use crate::scene::{self, Setting};
 use crate::stop::{Moment, Part, Stop};
 use crate::worlds::Worlds;
 use fixed_geom::Refusal;
-use plain_world::Census;
+use solver_sets::Census;
 use std::alloc::Global;
 use world_core::{Command, Plain, Reply};
 
@@ -36,6 +37,12 @@ pub fn trial(alloc: Global, call: Call) -> Result<Outcome, Stop> {
         Call::Census => try_census(alloc),
         Call::TryCopy => try_copy(alloc),
         Call::Replay => try_replay(alloc),
+        Call::Disable => try_at_rest(alloc, &resting::disable()),
+        Call::Enable => try_at_rest(alloc, &resting::enable()),
+        Call::Wake => try_at_rest(alloc, &resting::wake()),
+        Call::Sleep => try_at_rest(alloc, &resting::sleep()),
+        Call::DestroyWaking => try_at_rest(alloc, &resting::destroy()),
+        Call::StepOfIslands => try_at_rest(alloc, &resting::step_command()),
     }
 }
 
@@ -51,6 +58,12 @@ fn met(compared: Result<(), Stop>) -> Result<bool, Stop> {
 fn again(is_accepted: bool) -> Result<Outcome, Stop> {
     expect(Moment::Accepted, Part::Answer, is_accepted)?;
     Ok(Outcome::Kept)
+}
+
+/// Tries a command in the world with sleepers.
+fn try_at_rest(alloc: Global, command: &Command) -> Result<Outcome, Stop> {
+    let mut worlds = Worlds::of(alloc, Setting::Resting)?;
+    apply_twice(&mut worlds, command)
 }
 
 fn try_command(alloc: Global, command: &Command) -> Result<Outcome, Stop> {

@@ -1,6 +1,6 @@
 use crate::calls::{Answer, apply, calls_of, copy_of, replay};
 use crate::compare::expect_same_worlds;
-use crate::scene;
+use crate::scene::{self, Setting};
 use crate::stop::{Moment, Stop};
 use fixed_geom::Refusal;
 use std::alloc::Global;
@@ -18,16 +18,21 @@ pub struct Worlds {
 }
 
 impl Worlds {
-    /// The scene's world, three times.
+    /// The world of movers, three times.
     pub fn new(alloc: Global) -> Result<Worlds, Refusal> {
-        match scene::world(alloc) {
-            Ok(world) => Worlds::with(alloc, world),
+        Worlds::of(alloc, Setting::Moving)
+    }
+
+    /// A scene's world, three times.
+    pub fn of(alloc: Global, setting: Setting) -> Result<Worlds, Refusal> {
+        match scene::world(alloc, setting) {
+            Ok(world) => Worlds::with(alloc, world, setting),
             Err(refusal) => Err(refusal),
         }
     }
 
-    fn with(alloc: Global, world: WorldCore) -> Result<Worlds, Refusal> {
-        match (copy_of(&world), scene::world(alloc)) {
+    fn with(alloc: Global, world: WorldCore, setting: Setting) -> Result<Worlds, Refusal> {
+        match (copy_of(&world), scene::world(alloc, setting)) {
             (Ok(before), Ok(reference)) => Ok(Worlds {
                 world,
                 before,

@@ -6,13 +6,13 @@ use Rattle.std.proofs.lemmas.List.Elements.{All-nil}
 use Rattle.impulse_ledger.specs.Sums.{HaveSameTotals}
 use Rattle.seat_book.specs.History.{IsPast, known}
 use Rattle.plain_world.specs.Plain.{Plain}
-use Rattle.world_core.specs.declared.command.Command.{Command}
-use Rattle.world_core.specs.declared.command.Reply.{Reply}
-use Rattle.world_core.specs.World.{World, book_of}
-use Rattle.world_core.specs.Apply.{apply}
-use Rattle.world_core.specs.Replay.{after, answer_of}
+use Rattle.world_rules.specs.declared.command.Command.{Command}
+use Rattle.world_rules.specs.declared.command.Reply.{Reply}
+use Rattle.world_rules.specs.World.{World, book_of}
+use Rattle.world_rules.specs.Apply.{apply}
+use Rattle.world_rules.specs.Replay.{after, answer_of}
 use Rattle.world_core.specs.Frames.{settled_world}
-use Rattle.world_core.specs.Laws.{EachCallCounts, PushesAreSmall, impulse_of}
+use Rattle.world_rules.specs.Laws.{EachCallCounts, PushesAreSmall, impulse_of}
 use Rattle.world_lock.specs.declared.tally.Tally.{Tally}
 use Rattle.world_lock.specs.Journals.{Beginning, IsLegal, IsLike, Journalled, KeepsHeadline, Line, command_of, journalled, left_by, line, reply_of}
 use Rattle.world_lock.specs.Tallies.{IsTally, calls_of, no_calls, pushed_x, pushed_y, tallies_of, tally_of, with_call}

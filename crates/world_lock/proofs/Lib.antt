@@ -1,3 +1,4 @@
+mod HeadlineLaws
 pub mod Tallying
 pub mod Replaying
 pub mod Holding

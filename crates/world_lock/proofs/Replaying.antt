@@ -10,14 +10,14 @@ use Rattle.fixed_geom.specs.declared.refusal.Refusal.TheVariants.{NoMemory}
 use Rattle.impulse_ledger.specs.declared.entry.Entry as ledger
 use Rattle.impulse_ledger.specs.Sums.{HaveSameTotals, totals_of}
 use Rattle.impulse_ledger.proofs.SumLemmas.{sum_x-append, sum_y-append, sum_of_x-append, sum_of_y-append}
-use Rattle.world_core.specs.declared.command.Command.{Command}
-use Rattle.world_core.specs.declared.command.Reply.{Reply}
-use Rattle.world_core.specs.World.{World, book_of}
+use Rattle.world_rules.specs.declared.command.Command.{Command}
+use Rattle.world_rules.specs.declared.command.Reply.{Reply}
+use Rattle.world_rules.specs.World.{World, book_of}
 use Rattle.plain_world.specs.Plain.{Plain}
-use Rattle.world_core.specs.Apply.{Answers, Applied, apply, world_with}
-use Rattle.world_core.specs.Replay.{after, after_one, answer_of, answers_to, replay}
-use Rattle.world_core.specs.Laws.{EachCallCounts, PushesAreSmall, impulse_of}
-use Rattle.world_core.specs.Sound.{IsSound}
+use Rattle.world_rules.specs.Apply.{Answers, Applied, apply, world_with}
+use Rattle.world_rules.specs.Replay.{after, after_one, answer_of, answers_to, replay}
+use Rattle.world_rules.specs.Laws.{EachCallCounts, PushesAreSmall, impulse_of}
+use Rattle.world_rules.specs.Sound.{IsSound}
 use Rattle.world_lock.specs.Journals.{Beginning, IsJournalled, IsLegal, IsLike, Journalled, KeepsHeadline, Line, booked_by, command_of, commands_of, entries_of, left_by, opening_of, replies_of, reply_of}
 
 -- ---- one answer

@@ -6,7 +6,7 @@ use Rattle.std.proofs.lemmas.List.{append-nil}
 use Rattle.fixed_geom.specs.Vectors.{IsWithin}
 use Rattle.fixed_geom.specs.declared.vectors.Vec2.{Vec2}
 use Rattle.seat_book.specs.History.{IsOther, IsPast}
-use Rattle.world_core.specs.Laws.{impulse_of}
+use Rattle.world_rules.specs.Laws.{impulse_of}
 use Rattle.world_lock.specs.declared.tally.Tally.{Tally}
 use Rattle.world_lock.specs.Journals.{Line, command_of}
 use Rattle.world_lock.specs.Tallies.{IsTally, calls_of, no_calls, pushed_x, pushed_y, tallies_from, tally_of, with_call}

@@ -5,11 +5,11 @@ use Rattle.fixed_geom.specs.declared.refusal.Refusal.TheVariants.{NoMemory}
 use Rattle.event_feed.specs.Events.{EventLists}
 use Rattle.seat_book.specs.declared.rule.Known as book
 use Rattle.seat_book.specs.History.{IsPast, known}
-use Rattle.world_core.specs.declared.command.Command.{Command}
-use Rattle.world_core.specs.declared.command.Reply.{Reply}
-use Rattle.world_core.specs.World.{World}
-use Rattle.world_core.specs.Apply.{apply}
-use Rattle.world_core.specs.Replay.{answer_of}
+use Rattle.world_rules.specs.declared.command.Command.{Command}
+use Rattle.world_rules.specs.declared.command.Reply.{Reply}
+use Rattle.world_rules.specs.World.{World}
+use Rattle.world_rules.specs.Apply.{apply}
+use Rattle.world_rules.specs.Replay.{answer_of}
 use Rattle.world_core.specs.Frames.{View, frame_of}
 use Rattle.world_lock.specs.declared.seat.Receipt.{Receipt}
 use Rattle.world_lock.specs.declared.tally.Tally.{Tally}

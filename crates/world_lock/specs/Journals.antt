@@ -8,12 +8,12 @@ use Rattle.event_feed.specs.Events.{EventLists}
 use Rattle.seat_book.specs.declared.call.Entry.{Entry}
 use Rattle.seat_book.specs.History.{entry}
 use Rattle.plain_world.specs.Plain.{Plain}
-use Rattle.world_core.specs.declared.command.Command.{Command}
-use Rattle.world_core.specs.declared.command.Reply.{Reply}
-use Rattle.world_core.specs.World.{World, book_of}
-use Rattle.world_core.specs.Apply.{Applied, apply}
-use Rattle.world_core.specs.Replay.{after, answers_to, replay}
-use Rattle.world_core.specs.Sound.{IsSound}
+use Rattle.world_rules.specs.declared.command.Command.{Command}
+use Rattle.world_rules.specs.declared.command.Reply.{Reply}
+use Rattle.world_rules.specs.World.{World, book_of}
+use Rattle.world_rules.specs.Apply.{Applied, apply}
+use Rattle.world_rules.specs.Replay.{after, answers_to, replay}
+use Rattle.world_rules.specs.Sound.{IsSound}
 
 -- ---- lists of calls
 
@@ -61,8 +61,8 @@ pub record Journalled : Type 0 where
   pub opening : World
   pub journal : List Line
 
--- Each body stands in exactly one solver set, no two constraints of a colour share a mover, and the movers' momentum is the ledger's total (all this is
--- `IsSound`); and the world, with its ledger and its events, is the replay of the journal on one thread, which gives the journal's replies.
+-- The world is sound, from which each part of the headline on its solver sets, colours, islands and momentum follows (`Headline`); and the world, with its
+-- ledger and its events, is the replay of the journal on one thread, which gives the journal's replies.
 pub record KeepsHeadline (j : Journalled) : Type 0 where
   pub sound : IsSound j.world
   pub replay : j.world ≡ left_by j.opening j.journal

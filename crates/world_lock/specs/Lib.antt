@@ -1,3 +1,4 @@
 pub mod Journals
+pub mod Headline
 pub mod Tallies
 pub mod Histories

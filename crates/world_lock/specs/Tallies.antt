@@ -2,7 +2,7 @@
 use Rattle.std.specs.Prelude.{ℕ, zero, suc, ◌+◌, ◌*◌, ◌^◌, ◌≤◌, ◌==◌, cond, List, [], ◌∷◌, length, ℤ, pos, ◌+ℤ◌, unsigned_abs}
 use Rattle.fixed_geom.specs.declared.vectors.Vec2.{Vec2}
 use Rattle.impulse_ledger.specs.Totals.{zero_total}
-use Rattle.world_core.specs.Laws.{impulse_of}
+use Rattle.world_rules.specs.Laws.{impulse_of}
 use Rattle.world_lock.specs.declared.tally.Tally.{Tally}
 use Rattle.world_lock.specs.Journals.{Line, command_of}
 

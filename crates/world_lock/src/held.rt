@@ -2,14 +2,13 @@
 
 ghost use Rattle.std.specs.Prelude.{◌≡◌, ◌+◌, ◌<◌, ◌≤◌, [], ◌∷◌, ◌++◌, All, Ok, IfOk, OnErr, OnOk, MatchResult, drop, length, replicate};
 ghost use Rattle.std.specs.Result.{IsOkUnless};
-ghost use Rattle.world_core.specs.Apply.{apply};
+ghost use Rattle.world_rules.specs.Apply.{apply};
 ghost use Rattle.world_core.specs.Frames.{settled_world};
-ghost use Rattle.world_core.specs.Replay.{after, answer_of};
+ghost use Rattle.world_rules.specs.Replay.{after, answer_of};
 ghost use Rattle.impulse_ledger.specs.Sums.{total_x, total_y};
 ghost use Rattle.plain_world.specs.Bodies.{momentum_x, momentum_y};
-ghost use Rattle.plain_world.specs.Census.{IsCensus, census_of};
-ghost use Rattle.world_core.specs.Colouring.{AreColoured, members_of};
-ghost use Rattle.world_core.specs.World.{book_of, joints_of};
+ghost use Rattle.world_rules.specs.World.{book_of};
+ghost use Rattle.world_lock.specs.Headline.{EachHasOneColour, EachSleepingSetIsOneComponent, EachStandsInOneSet, LinkedShareAnIsland, LinkedStandTogether, NoColourSharesAMover, WhatActsIsColoured};
 ghost use Rattle.world_lock.specs.Journals.{IsLegal, booked_by, commands_of, left_by, line};
 ghost use Rattle.world_lock.specs.Tallies.{no_calls};
 ghost use Rattle.world_lock.specs.Histories.{Called, IsClosed, IsPastFor, Met, Refused, Shown, Told, next_number};
@@ -21,8 +20,13 @@ use crate::shared::Closed;
 use crate::tally::{Tally, calls_in, count_call};
 use fixed_geom::Refusal;
 use seat_book::{Book, Keeper};
+use solver_sets::laws::{lists_are_census, ties_are_named};
 use std::marker::Model;
 use world_core::{Command, Events, Frame, Reply, each_call_counts};
+use world_rules::{
+    colours_are_apart, each_stands_in_one_set, linked_movers_stand_together,
+    sleeping_sets_are_components, what_acts_has_a_colour,
+};
 
 /// What the lock of a shared world guards: the world with its journal, what each seat did, and the keeper of the history.
 #[derive(Drop)]
@@ -70,19 +74,34 @@ impl<N: Opened> Held<N> {
         }
     }
 
-    /// The journal. Its contract is the headline: each body stands in exactly one solver set; no two constraints of a colour share
-    /// a mover; the movers' momentum is the ledger's total; the world is the one-thread replay of the journal from the opening
-    /// world, which gives the journal's replies; and the ledger's entries since the opening are those of the replay.
+    /// The journal. Its contract is the headline, which holds whenever the lock is free: each body, joint and contact stands in exactly
+    /// one solver set; no two constraints of a colour share a mover, what acts has a colour, and each just one; touching or jointed
+    /// movers share an island, awake or asleep together; each sleeping set is one connected component; the movers' momentum is
+    /// the ledger's total; and the world is the one-thread replay of the journal from the opening world, which gives the journal's
+    /// replies, and whose entries are the ledger's since the opening.
     pub fn headline(&self) -> &[JournalEntry]
         ensures journal { result.now ≡ self.now.journal }
-        ensures sets { IsCensus self.now.world.plain.places self.now.world.plain.bodies (census_of self.now.world.plain.places self.now.world.plain.bodies) }
-        ensures colours { AreColoured self.now.world.plain.bodies (joints_of self.now.world.plain) self.now.world.plain.contacts (members_of self.now.world.plain.bodies (joints_of self.now.world.plain) self.now.world.plain.colours) }
-        ensures total_x { momentum_x self.now.world.plain.bodies ≡ total_x (book_of self.now.world) }
-        ensures total_y { momentum_y self.now.world.plain.bodies ≡ total_y (book_of self.now.world) }
-        ensures replay { self.now.world ≡ left_by self.now.opening self.now.journal }
+        ensures each_stands_in_one_set { EachStandsInOneSet self.now.world }
+        ensures no_colour_shares_a_mover { NoColourSharesAMover self.now.world }
+        ensures what_acts_is_coloured { WhatActsIsColoured self.now.world }
+        ensures each_has_one_colour { EachHasOneColour self.now.world }
+        ensures linked_share_an_island { LinkedShareAnIsland self.now.world }
+        ensures linked_stand_together { LinkedStandTogether self.now.world }
+        ensures each_sleeping_set_is_one_component { EachSleepingSetIsOneComponent self.now.world }
+        ensures momentum_x_is_booked { momentum_x self.now.world.plain.bodies ≡ total_x (book_of self.now.world) }
+        ensures momentum_y_is_booked { momentum_y self.now.world.plain.bodies ≡ total_y (book_of self.now.world) }
+        ensures is_the_replay { self.now.world ≡ left_by self.now.opening self.now.journal }
         ensures replies { IsLegal self.now.opening self.now.journal }
         ensures entries { drop (length self.now.opening.entries) self.now.world.entries ≡ booked_by self.now.opening (commands_of self.now.journal) }
     {
+        // What a sound world is, in the headline's words.
+        lists_are_census();
+        each_stands_in_one_set();
+        colours_are_apart();
+        what_acts_has_a_colour();
+        ties_are_named();
+        linked_movers_stand_together();
+        sleeping_sets_are_components();
         self.journalled.journal()
     }
 

@@ -3,11 +3,11 @@
 ghost use Rattle.std.specs.Prelude.{◌≡◌, ◌⊎◌, ◌≤◌, [], ◌∷◌, ◌++◌, Ok, Err, IfOk, OnOk, OnErr, MatchResult, length};
 ghost use Rattle.std.specs.Result.{IsOkUnless};
 ghost use Rattle.impulse_ledger.specs.Sums.{HaveSameTotals};
-ghost use Rattle.world_core.specs.World.{book_of};
-ghost use Rattle.world_core.specs.Apply.{apply};
+ghost use Rattle.world_rules.specs.World.{book_of};
+ghost use Rattle.world_rules.specs.Apply.{apply};
 ghost use Rattle.world_core.specs.Frames.{settled_world};
-ghost use Rattle.world_core.specs.Replay.{after, answer_of};
-ghost use Rattle.world_core.specs.Sound.{IsSound};
+ghost use Rattle.world_rules.specs.Replay.{after, answer_of};
+ghost use Rattle.world_rules.specs.Sound.{IsSound};
 ghost use Rattle.world_lock.specs.Journals.{KeepsHeadline, beginning_at, journalled, line};
 
 use crate::opening::Opening;

@@ -6,7 +6,7 @@ use std::marker::Brand;
 /// Names a shared world: its roster, and the world that it was opened with. It has no calls: whoever opens a world is generic
 /// in its name, and is called at `Brand`.
 pub trait Opened: Named {
-    ghost use Rattle.world_core.specs.World.{World};
+    ghost use Rattle.world_rules.specs.World.{World};
 
     // The world at `open`.
     ghost opening: { World };
@@ -14,7 +14,7 @@ pub trait Opened: Named {
 
 impl Opened for Brand {
     ghost use Rattle.std.specs.Prelude.{pos};
-    ghost use Rattle.world_core.specs.Apply.{empty_world};
+    ghost use Rattle.world_rules.specs.Apply.{empty_world};
 
     ghost opening = { empty_world (record { x = pos 0; y = pos 0 }) };
 }

@@ -3,8 +3,8 @@
 ghost use Rattle.std.specs.Prelude.{◌≡◌, IfOk};
 ghost use Rattle.std.specs.Result.{IsOkUnless};
 ghost use Rattle.impulse_ledger.specs.Sums.{totals_of};
-ghost use Rattle.world_core.specs.Sound.{IsSound};
-ghost use Rattle.world_core.specs.World.{book_of};
+ghost use Rattle.world_rules.specs.Sound.{IsSound};
+ghost use Rattle.world_rules.specs.World.{book_of};
 ghost use Rattle.world_lock.specs.Journals.{beginning_at};
 
 use fixed_geom::Refusal;

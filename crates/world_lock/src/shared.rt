@@ -3,7 +3,7 @@
 ghost use Rattle.std.specs.Prelude.{◌≡◌, [], All, IfOk, MatchBool, MatchResult, replicate};
 ghost use Rattle.std.specs.Result.{IsOkUnless};
 ghost use Rattle.seat_book.specs.Seats.{newcomers};
-ghost use Rattle.world_core.specs.Sound.{IsSound};
+ghost use Rattle.world_rules.specs.Sound.{IsSound};
 ghost use Rattle.world_lock.specs.Journals.{beginning_at};
 ghost use Rattle.world_lock.specs.Tallies.{no_calls};
 ghost use Rattle.world_lock.specs.Histories.{Called, HasAll, IsClosed, Met, Misses, Refused, Shown, Told, has_seat};

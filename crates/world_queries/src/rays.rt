@@ -2,7 +2,7 @@ ghost use Rattle.std.specs.Prelude.{◌≡◌};
 ghost use Rattle.plain_world.specs.Slots.{body_at};
 ghost use Rattle.shapes.specs.Rays.{IsBeam, beam_of};
 ghost use Rattle.shape_rays.specs.Hits.{first_hit};
-ghost use Rattle.world_core.specs.Sound.{IsSound};
+ghost use Rattle.world_rules.specs.Sound.{IsSound};
 ghost use Rattle.world_queries.specs.Placed.{shapes_at, placed_shapes};
 
 use crate::shapes_in::placed_shape;

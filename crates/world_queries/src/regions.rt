@@ -2,7 +2,7 @@ ghost use Rattle.std.specs.Prelude.{◌≡◌, [], ◌∷◌, ◌++◌, IfOk, On
 ghost use Rattle.std.specs.Result.{IsOkUnless};
 ghost use Rattle.plain_world.specs.Slots.{body_at};
 ghost use Rattle.shape_rays.specs.Hits.{IsPlacedShape, region};
-ghost use Rattle.world_core.specs.Sound.{IsSound};
+ghost use Rattle.world_rules.specs.Sound.{IsSound};
 ghost use Rattle.world_queries.specs.Placed.{shapes_at, placed_shapes};
 
 use crate::shapes_in::placed_shape;

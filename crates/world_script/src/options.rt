@@ -21,6 +21,7 @@ const REQUESTS: &str =
   set_pose  body, at, facing
   set_velocity  body, velocity, spin
   gravity   by
+  disable, enable, wake, sleep  body
   step      ticks
   show      body
   ledger

@@ -25,15 +25,26 @@ fn fall(alloc: Global, world: &mut WorldCore) -> Result<Option<BodyView>, Refusa
     Ok(world.body(handle))
 }
 
+fn new_world(alloc: Global) -> Result<WorldCore, Refusal> {
+    WorldCore::new(alloc, Vec2 { x: 0, y: -157 })
+}
+
 fn fallen(alloc: Global) -> Result<Option<BodyView>, Refusal> {
-    let mut world = new_world(alloc, PULL)?;
+    let mut world = new_world(alloc)?;
     fall(alloc, &mut world)
 }
 
 #[test]
 fn readme_example(rt: HostRuntime) -> Result<(), Fail> {
     let seen = fallen(rt.alloc())?;
-    let expected = awake(Vec2 { x: 0, y: -1570 }, Vec2 { x: 0, y: -160_768 });
+    let expected = Some(BodyView {
+        at: Vec2 { x: 0, y: -1570 },
+        facing: Rot { c: 1 << 30, s: 0 },
+        p: Vec2 { x: 0, y: -160_768 },
+        l: 0,
+        course: None,
+        set: SetName::Awake,
+    });
     assert_eq!(rt; seen, expected);
     Ok(())
 }

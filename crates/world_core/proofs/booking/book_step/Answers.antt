@@ -1,8 +1,8 @@
 use Rattle.std.proofs.Common.{◌≡◌, ◌++◌, List, ap, ◌∙◌}
 use Rattle.impulse_ledger.specs.declared.entry.Cause.TheVariants.{Gravity, Immovable}
 use Rattle.impulse_ledger.specs.declared.entry.Entry.{Entry}
-use Rattle.world_core.specs.Apply.{booked}
-use Rattle.world_core.proofs.BookLemmas.{Fits-roomy, Fits-after, Fits-last}
+use Rattle.world_rules.specs.Apply.{booked}
+use Rattle.world_rules.proofs.BookLemmas.{Fits-roomy, Fits-after, Fits-last}
 use Rattle.world_core.proofs.booking.book_step.Goals as goal
 
 pub book-requires-clause-fits : goal.book-requires-clause-fits

@@ -3,7 +3,7 @@ use Rattle.std.specs.Prelude.{IfOk}
 use Rattle.contacts_base.specs.declared.contact.ContactEntry.{ContactEntry}
 use Rattle.contacts.specs.Changes.{contacts_of, keys_touching_only_in}
 use Rattle.contacts.specs.Forbidden.{allowed_codes}
-use Rattle.world_core.specs.Collide.{contacts_after}
+use Rattle.world_rules.specs.Collide.{contacts_after}
 use Rattle.world_core.proofs.CollideLaws.{contacts_same, if_ok_both}
 use Rattle.world_core.proofs.collide.collide.Goals as goal
 

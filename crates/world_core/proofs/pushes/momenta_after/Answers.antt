@@ -1,6 +1,6 @@
 use Rattle.std.proofs.Common.{sym}
 use Rattle.body_handles.specs.Places.{is_live}
-use Rattle.world_core.proofs.Kept.{named}
+use Rattle.world_core.proofs.Whole.{named}
 use Rattle.world_core.proofs.pushes.momenta_after.Goals as goal
 
 pub pushed-requires : goal.pushed-requires

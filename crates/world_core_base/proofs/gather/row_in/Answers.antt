@@ -3,7 +3,6 @@ use Rattle.momenta.specs.declared.state.Ends.{Ends}
 use Rattle.contacts_base.specs.declared.key.ContactKey.{ContactKey}
 use Rattle.colour_solver_base.specs.declared.row.Bodies as pairs
 use Rattle.colour_solver_base.specs.Rows.{contact_row}
-use Rattle.world_core_base.specs.Gather.{ends_at}
 use Rattle.world_core_base.proofs.ContactLaws.{row_below, same_keys}
 use Rattle.world_core_base.proofs.gather.row_in.Goals as goal
 
@@ -34,18 +33,7 @@ ends_at-ends-requires-clause-second c =
     subst (λ (k : ContactKey). k.second.slot < length c.args.states.now) same c.requires.contact.second
 
 pub contact_row-requires-clause-mover : goal.contact_row-requires-clause-mover
-contact_row-requires-clause-mover c =
-    let key = c.args.key in
-    let own = c.args.own in
-    let a : Fits w8 own.first.index = search rules in
-    let b : Fits w8 own.second.index = search rules in
-    let s : Fits w32 own.second.slot = search rules in
-    let f : Fits w8 key.first.index = search rules in
-    let g : Fits w8 key.second.index = search rules in
-    let t : Fits w32 key.second.slot = search rules in
-    let same : own ≡ key = same_keys own key c.requires.same a.fits b.fits s.fits f.fits g.fits t.fits in
-    let mover = subst (λ (k : ContactKey). ((ends_at c.args.states.now k).a.movable ≡ true) ⊎ ((ends_at c.args.states.now k).b.movable ≡ true)) same c.requires.contact.mover in
-    subst (λ (e : Ends). (e.a.movable ≡ true) ⊎ (e.b.movable ≡ true)) (sym c.ends_at-ends.ensures.value) mover
+contact_row-requires-clause-mover c = subst (λ (e : Ends). (e.a.movable ≡ true) ⊎ (e.b.movable ≡ true)) (sym c.ends_at-ends.ensures.value) c.requires.movable
 
 pub returns-clause-row : goal.returns-clause-row
 returns-clause-row c = λ x e.

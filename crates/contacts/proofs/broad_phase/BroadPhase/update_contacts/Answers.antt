@@ -1,4 +1,3 @@
-use Rattle.std.proofs.Common.{List, ℕ, subst, sym}
 use Rattle.contacts.proofs.ForbiddenLemmas.{allowed_are_pairs}
 use Rattle.contacts.proofs.PairLemmas.{near_are_pairs}
 use Rattle.contacts.proofs.broad_phase.BroadPhase.update_contacts.Goals as goal

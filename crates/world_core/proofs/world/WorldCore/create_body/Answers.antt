@@ -1,13 +1,38 @@
-use Rattle.std.proofs.Common.{◌≡◌, ◌<◌, ◌≤◌, ◌^◌, length, arith}
+use Rattle.std.proofs.Common.{◌≡◌, ◌<◌, ◌≤◌, ◌^◌, length, ◌∙◌, arith}
 use Rattle.body_handles.proofs.LowestLemmas.{lowest-le-length}
 use Rattle.body_handles.specs.Places.{lowest}
 use Rattle.body_handles.specs.declared.places.TheConstants.{MAX_SLOTS}
 use Rattle.plain_world.specs.Bodies.{IsBody, made}
-use Rattle.world_core.specs.World.{World}
+use Rattle.solver_sets.specs.Joining.{handle_at}
+use Rattle.world_rules.specs.World.{World}
+use Rattle.world_rules.proofs.KeptMade.{free_slot}
+use Rattle.world_rules.proofs.PartsLeft.{create_left}
 use Rattle.world_core.specs.contracts.world.WorldCore.{the_view}
-use Rattle.world_core.proofs.Kept.{create_whole, free_slot}
-use Rattle.world_core.proofs.SoundLaws.{kept_sound}
+use Rattle.world_core.proofs.PartLaws.{create_answers, free_label, kept_of, same_handle, whole}
 use Rattle.world_core.proofs.world.WorldCore.create_body.Goals as goal
+
+pub come-requires-clause-fresh : goal.come-requires-clause-fresh
+come-requires-clause-fresh c =
+    rw (c.in_ok-reserve.ensures.acting, c.in_ok-handle.ensures.slot, c.in_ok-reserve_one.ensures.kept) (free_label (the_view c.self.inside) (kept_of _ _ c.self.invariant))
+
+pub come-requires-clause-below : goal.come-requires-clause-below
+come-requires-clause-below c =
+    let w : World = the_view c.self.inside in
+    let least : lowest w.plain.places ≤ length w.plain.places = lowest-le-length w.plain.places in
+    let slots : length w.plain.places ≡ length w.plain.bodies = (kept_of _ _ c.self.invariant).matched.slots in
+    let room = rw (c.bodies.ensures, c.in_ok-reserve_one-2.ensures.bodies) at c.in_ok-reserve.ensures.slots_made in
+    rw (c.in_ok-handle.ensures.slot, c.in_ok-reserve_one.ensures.kept) (omega (arith, least, slots, room))
+
+pub put-requires-clause-next : goal.put-requires-clause-next
+put-requires-clause-next c =
+    let w : World = the_view c.self.inside in
+    let least : lowest w.plain.places ≤ length w.plain.places = lowest-le-length w.plain.places in
+    let slots : length w.plain.places ≡ length w.plain.bodies = (kept_of _ _ c.self.invariant).matched.slots in
+    rw (c.in_ok-handle.ensures.slot, c.in_ok-reserve_one.ensures.kept, c.in_ok-reserve_one-2.ensures.bodies) (omega (arith, least, slots))
+
+pub put-requires-clause-free : goal.put-requires-clause-free
+put-requires-clause-free c =
+    rw (c.in_ok-handle.ensures.slot, c.in_ok-reserve_one.ensures.kept, c.in_ok-reserve_one-2.ensures.bodies) (free_slot (the_view c.self.inside) (kept_of _ _ c.self.invariant))
 
 pub invariant_of-self-2 : goal.invariant_of-self-2
 invariant_of-self-2 c =
@@ -15,16 +40,18 @@ invariant_of-self-2 c =
     let calls : c.self.inside.calls < 2 ^ 40 = rw (← c.self.view_is) at c.requires in
     let free : lowest c.self.inside.handles.places < MAX_SLOTS = rw (c.in_ok-handle.ensures.slot, c.in_ok-reserve_one.ensures.kept) at c.in_ok-handle.ensures.slot_below in
     let body : IsBody (made c.args.def.now) = rw c.in_ok-body.ensures.made at c.in_ok-body.ensures.body in
-    rw (c.in_ok-handle.ensures.given_out, c.put.ensures, c.in_ok-handle.ensures.slot, c.in_ok-reserve_one.ensures.kept, c.in_ok-body.ensures.made, c.in_ok-reserve_one-2.ensures.bodies)
-    (create_whole w c.self.inside.colours.lists c.args.def.now c.self.invariant calls free body)
+    rw (c.come.ensures.acting, c.is_mover.ensures, c.in_ok-handle.ensures.given_out, c.put.ensures, c.in_ok-handle.ensures.slot, c.in_ok-reserve_one.ensures.kept, c.in_ok-body.ensures.made, c.in_ok-reserve_one-2.ensures.bodies, c.in_ok-reserve.ensures.acting)
+    (whole w _ _ _ (create_left w c.self.inside.sets.acting c.args.def.now (kept_of _ _ c.self.invariant) c.self.invariant.same calls free body))
 
-pub put-requires-clause-next : goal.put-requires-clause-next
-put-requires-clause-next c =
+pub returns : goal.returns
+returns c =
     let w : World = the_view c.self.inside in
-    let least : lowest w.plain.places ≤ length w.plain.places = lowest-le-length w.plain.places in
-    let slots : length w.plain.places ≡ length w.plain.bodies = (kept_sound _ c.self.invariant.sound).matched.slots in
-    rw (c.in_ok-handle.ensures.slot, c.in_ok-reserve_one.ensures.kept, c.in_ok-reserve_one-2.ensures.bodies) (omega (arith, least, slots))
-
-pub put-requires-clause-free : goal.put-requires-clause-free
-put-requires-clause-free c =
-    rw (c.in_ok-handle.ensures.slot, c.in_ok-reserve_one.ensures.kept, c.in_ok-reserve_one-2.ensures.bodies) (free_slot (the_view c.self.inside) (kept_sound _ c.self.invariant.sound))
+    let calls : c.self.inside.calls < 2 ^ 40 = rw (← c.self.view_is) at c.requires in
+    let free : lowest c.self.inside.handles.places < MAX_SLOTS = rw (c.in_ok-handle.ensures.slot, c.in_ok-reserve_one.ensures.kept) at c.in_ok-handle.ensures.slot_below in
+    let body : IsBody (made c.args.def.now) = rw c.in_ok-body.ensures.made at c.in_ok-body.ensures.body in
+    let slot = rw c.in_ok-reserve_one.ensures.kept at c.in_ok-handle.ensures.slot in
+    let generation = rw c.in_ok-reserve_one.ensures.kept at c.in_ok-handle.ensures.generation in
+    rw (← c.self.view_is)
+    (create_answers w c.args.def.now c.in_ok-handle.handle _ c.come.new.sets.acting c.in_ok-check.ensures.refusal free (same_handle _ (handle_at w.plain.places (lowest w.plain.places)) slot generation)
+    (rw (c.come.ensures.acting, c.is_mover.ensures, c.in_ok-handle.ensures.given_out, c.put.ensures, c.in_ok-handle.ensures.slot, c.in_ok-reserve_one.ensures.kept, c.in_ok-body.ensures.made, c.in_ok-reserve_one-2.ensures.bodies, c.in_ok-reserve.ensures.acting)
+    (create_left w c.self.inside.sets.acting c.args.def.now (kept_of _ _ c.self.invariant) c.self.invariant.same calls free body)))

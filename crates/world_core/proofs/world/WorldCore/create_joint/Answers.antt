@@ -1,36 +1,52 @@
-use Rattle.std.proofs.Common.{◌≡◌, ◌<◌, ◌≤◌, ◌^◌, length, None, arith}
+use Rattle.std.proofs.Common.{◌≡◌, ◌<◌, ◌≤◌, ◌^◌, length, ◌∙◌, ap, refl, arith}
 use Rattle.body_handles.proofs.LowestLemmas.{lowest-le-length}
 use Rattle.body_handles.specs.Places.{lowest}
 use Rattle.body_handles.specs.declared.places.TheConstants.{MAX_SLOTS}
 use Rattle.plain_world.specs.Joints.{IsBodyJoint, joint_made}
-use Rattle.plain_world.specs.Slots as slots
-use Rattle.world_core.specs.Apply.{join_refusal}
-use Rattle.world_core.specs.World.{World}
+use Rattle.sleep_wake.specs.Acting.{Acting}
+use Rattle.solver_sets.specs.Ties.{JointSlots}
+use Rattle.world_rules.specs.World.{World}
+use Rattle.world_rules.proofs.PartsLeft.{join_left, next_joint}
 use Rattle.world_core.specs.contracts.world.WorldCore.{the_view}
-use Rattle.world_core.proofs.JoinedLaws.{free_joint, same_handle}
-use Rattle.world_core.proofs.Kept.{join_answers, join_whole, new_uncoloured}
-use Rattle.world_core.proofs.SoundLaws.{kept_sound}
+use Rattle.world_core.proofs.Whole.{told_whole}
+use Rattle.world_core.proofs.PartLaws.{can_join_from, free_joint, join_answers, kept_of, same_handle, whole, woken_room}
 use Rattle.world_core.proofs.world.WorldCore.create_joint.Goals as goal
+
+pub wake_named-requires-clause-told : goal.wake_named-requires-clause-told
+wake_named-requires-clause-told c = rw c.in_ok-reserve.ensures.acting (told_whole (the_view c.self.inside) _ c.self.invariant)
+
+pub begin_with-requires-clause-fresh : goal.begin_with-requires-clause-fresh
+begin_with-requires-clause-fresh c =
+    let w : World = the_view c.self.inside in
+    let slot = rw c.in_ok-reserve_one.ensures.kept at c.in_ok-handle.ensures.slot in
+    let generation = rw c.in_ok-reserve_one.ensures.kept at c.in_ok-handle.ensures.generation in
+    let free : lowest w.plain.joint_places < MAX_SLOTS = rw slot at c.in_ok-handle.ensures.slot_below in
+    rw (same_handle c.in_ok-handle.handle (next_joint w.plain) slot generation, c.wake_named.ensures.acting, c.deref.ensures.value, c.in_ok-names.ensures.value, c.in_ok-reserve.ensures.acting, c.make-joint.ensures)
+    (can_join_from w c.self.inside.sets.acting (joint_made c.args.def.now) c.self.invariant free).fresh
+
+pub begin_with-requires-clause-awake : goal.begin_with-requires-clause-awake
+begin_with-requires-clause-awake c =
+    let w : World = the_view c.self.inside in
+    let slot = rw c.in_ok-reserve_one.ensures.kept at c.in_ok-handle.ensures.slot in
+    let free : lowest w.plain.joint_places < MAX_SLOTS = rw slot at c.in_ok-handle.ensures.slot_below in
+    rw (c.joint_movers-movers.ensures, c.bodies-2.ensures, c.wake_named.ensures.told, c.wake_named.ensures.acting, c.deref.ensures.value, c.in_ok-names.ensures.value, c.in_ok-reserve.ensures.acting, c.make-joint.ensures)
+    (can_join_from w c.self.inside.sets.acting (joint_made c.args.def.now) c.self.invariant free).awake
+
+pub begin_with-requires-clause-room : goal.begin_with-requires-clause-room
+begin_with-requires-clause-room c =
+    let room = c.in_ok-reserve.ensures.room_made in
+    rw (c.wake_named.ensures.room, c.wake_named.ensures.acting, c.in_ok-reserve.ensures.acting, woken_room c.deref.result.now c.self.inside.sets.acting) (omega (arith, room))
 
 pub put-requires-clause-next : goal.put-requires-clause-next
 put-requires-clause-next c =
     let w : World = the_view c.self.inside in
     let least : lowest w.plain.joint_places ≤ length w.plain.joint_places = lowest-le-length w.plain.joint_places in
-    let slots : length w.plain.joint_places ≡ length w.plain.joints = (kept_sound _ c.self.invariant.sound).joint_slots.slots in
+    let slots : length w.plain.joint_places ≡ length w.plain.joints = (kept_of _ _ c.self.invariant).joint_slots.slots in
     rw (c.in_ok-handle.ensures.slot, c.in_ok-reserve_one.ensures.kept, c.in_ok-reserve_one-2.ensures.joints) (omega (arith, least, slots))
 
 pub put-requires-clause-free : goal.put-requires-clause-free
 put-requires-clause-free c =
-    let w : World = the_view c.self.inside in
-    rw (c.in_ok-handle.ensures.slot, c.in_ok-reserve_one.ensures.kept, c.in_ok-reserve_one-2.ensures.joints) (free_joint w.plain.joint_places w.plain.joints (kept_sound _ c.self.invariant.sound).joint_slots)
-
-pub join-requires-clause-absent : goal.join-requires-clause-absent
-join-requires-clause-absent c =
-    let w : World = the_view c.self.inside in
-    let slot = rw c.in_ok-reserve_one.ensures.kept at c.in_ok-handle.ensures.slot in
-    let generation = rw c.in_ok-reserve_one.ensures.kept at c.in_ok-handle.ensures.generation in
-    let free : lowest w.plain.joint_places < MAX_SLOTS = rw slot at c.in_ok-handle.ensures.slot_below in
-    rw (same_handle w.plain.joint_places c.in_ok-handle.handle slot generation, c.in_ok-reserve.ensures.lists) (new_uncoloured w c.self.inside.colours.lists c.self.invariant free)
+    rw (c.in_ok-handle.ensures.slot, c.in_ok-reserve_one.ensures.kept, c.in_ok-reserve_one-2.ensures.joints) (free_joint (the_view c.self.inside) (kept_of _ _ c.self.invariant))
 
 pub invariant_of-self-2 : goal.invariant_of-self-2
 invariant_of-self-2 c =
@@ -40,15 +56,17 @@ invariant_of-self-2 c =
     let generation = rw c.in_ok-reserve_one.ensures.kept at c.in_ok-handle.ensures.generation in
     let free : lowest w.plain.joint_places < MAX_SLOTS = rw slot at c.in_ok-handle.ensures.slot_below in
     let is : IsBodyJoint w.plain.bodies (joint_made c.args.def.now) = rw c.bodies.ensures at c.in_ok-check_join.ensures.joint in
-    rw (c.in_ok-handle.ensures.given_out, c.put.ensures, c.join.ensures.lists, same_handle w.plain.joint_places c.in_ok-handle.handle slot generation, c.in_ok-reserve.ensures.lists, c.in_ok-reserve_one.ensures.kept, c.in_ok-reserve_one-2.ensures.joints, c.make-joint.ensures, c.bodies-3.ensures)
-    (join_whole w c.self.inside.colours.lists (joint_made c.args.def.now) c.self.invariant calls free is)
+    rw (c.in_ok-handle.ensures.given_out, c.put.ensures, c.begin_with.ensures.acting, same_handle c.in_ok-handle.handle (next_joint w.plain) slot generation, c.joint_movers-movers.ensures, c.bodies-2.ensures, c.wake_named.ensures.told, c.wake_named.ensures.acting, c.deref.ensures.value, c.in_ok-names.ensures.value, c.in_ok-reserve.ensures.acting, c.in_ok-reserve_one.ensures.kept, c.in_ok-reserve_one-2.ensures.joints, c.make-joint.ensures)
+    (whole w _ _ _ (join_left w c.self.inside.sets.acting c.args.def.now (kept_of _ _ c.self.invariant) c.self.invariant.same calls free is))
 
 pub returns : goal.returns
 returns c =
     let w : World = the_view c.self.inside in
+    let calls : c.self.inside.calls < 2 ^ 40 = rw (← c.self.view_is) at c.requires in
     let slot = rw c.in_ok-reserve_one.ensures.kept at c.in_ok-handle.ensures.slot in
     let generation = rw c.in_ok-reserve_one.ensures.kept at c.in_ok-handle.ensures.generation in
     let free : lowest w.plain.joint_places < MAX_SLOTS = rw slot at c.in_ok-handle.ensures.slot_below in
-    let due : None ≡ join_refusal (slots.body_of c.self.inside.handles.places c.self.inside.bodies.bodies c.args.def.now.a) (slots.body_of c.self.inside.handles.places c.self.inside.bodies.bodies c.args.def.now.b) c.args.def.now = rw (← c.bodies.ensures) c.in_ok-check_join.ensures.refusal in
-    rw (← c.self.view_is, c.in_ok-handle.ensures.given_out, c.put.ensures, c.join.ensures.lists, same_handle w.plain.joint_places c.in_ok-handle.handle slot generation, c.in_ok-reserve.ensures.lists, c.in_ok-reserve_one.ensures.kept, c.in_ok-reserve_one-2.ensures.joints, c.make-joint.ensures, c.bodies-3.ensures)
-    (join_answers w c.self.inside.colours.lists c.args.def.now c.self.invariant.members free due)
+    let is : IsBodyJoint w.plain.bodies (joint_made c.args.def.now) = rw c.bodies.ensures at c.in_ok-check_join.ensures.joint in
+    let due = rw c.bodies.ensures at c.in_ok-check_join.ensures.refusal in
+    rw (← c.self.view_is, c.in_ok-handle.ensures.given_out, c.put.ensures, c.begin_with.ensures.acting, same_handle c.in_ok-handle.handle (next_joint w.plain) slot generation, c.joint_movers-movers.ensures, c.bodies-2.ensures, c.wake_named.ensures.told, c.wake_named.ensures.acting, c.deref.ensures.value, c.in_ok-names.ensures.value, c.in_ok-reserve.ensures.acting, c.in_ok-reserve_one.ensures.kept, c.in_ok-reserve_one-2.ensures.joints, c.make-joint.ensures)
+    (join_answers w c.args.def.now (next_joint w.plain) _ _ due free refl (join_left w c.self.inside.sets.acting c.args.def.now (kept_of _ _ c.self.invariant) c.self.invariant.same calls free is))

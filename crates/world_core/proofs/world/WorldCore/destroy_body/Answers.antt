@@ -1,36 +1,84 @@
-use Rattle.std.proofs.Common.{◌≡◌, ◌<◌, ◌^◌, Ok, ap, sym, arith}
+use Rattle.std.proofs.Common.{◌≡◌, ◌∙◌, ◌<◌, ◌^◌, None, Some, sym, ap, arith}
 use Rattle.std.proofs.lemmas.Int.{ints}
-use Rattle.plain_world.specs.Slots as slots
-use Rattle.world_core.specs.Joining.{Joined}
-use Rattle.world_core.specs.World.{World}
+use Rattle.solver_sets.specs.Ties.{JointSlots, is_mover_in}
+use Rattle.world_rules.specs.World.{World, body_of}
+use Rattle.world_rules.proofs.BookLemmas.{Fits-roomy}
+use Rattle.world_rules.proofs.KeptChanges.{IsRoomy-kept, IsRoomy-same, named_at}
+use Rattle.world_rules.proofs.PartsLeft.{destroy_left}
+use Rattle.world_rules.proofs.ToldLaws.{length_told}
 use Rattle.world_core.specs.contracts.world.WorldCore.{the_view}
-use Rattle.world_core.specs.Apply.{departing}
-use Rattle.world_core.proofs.BookLemmas.{Fits-roomy}
-use Rattle.world_core.proofs.Kept.{IsRoomy-sound, IsRoomy-same, destroy_answers, destroy_whole}
-use Rattle.world_core.proofs.SoundLaws.{kept_sound}
+use Rattle.world_core.proofs.Whole.{told_whole}
+use Rattle.world_core.proofs.EnableLaws.{body_below}
+use Rattle.world_core.proofs.PartLaws.{bodies_without, can_leave_from, destroy_answers, few_left, kept_of, whole}
 use Rattle.world_core.proofs.world.WorldCore.destroy_body.Goals as goal
+
+pub wake_named-requires-clause-told : goal.wake_named-requires-clause-told
+wake_named-requires-clause-told c = (told_whole (the_view c.self.inside) _ c.self.invariant)
+
+pub leave-requires-clause-can : goal.leave-requires-clause-can
+leave-requires-clause-can c =
+    let w : World = the_view c.self.inside in
+    let named : body_of w.plain c.args.handle ≡ Some c.in-Some.body.now = rw (← c.bodies.ensures) (sym c.in-Some.ensures) in
+    let ties = rw (← c.self.view_is) at c.in_ok-ties.ensures.ties in
+    let names = rw (← c.self.view_is) at c.in_ok-names.ensures.value in
+    rw (c.deref-2.ensures.value, ties, c.wake_named.ensures.acting, c.deref.ensures.value, names) (can_leave_from w c.self.inside.sets.acting c.args.handle c.in-Some.body.now c.self.invariant named).can
+
+pub leave-requires-clause-awake : goal.leave-requires-clause-awake
+leave-requires-clause-awake c =
+    let w : World = the_view c.self.inside in
+    let named : body_of w.plain c.args.handle ≡ Some c.in-Some.body.now = rw (← c.bodies.ensures) (sym c.in-Some.ensures) in
+    let ties = rw (← c.self.view_is) at c.in_ok-ties.ensures.ties in
+    let names = rw (← c.self.view_is) at c.in_ok-names.ensures.value in
+    rw (c.deref-2.ensures.value, ties, c.wake_named.ensures.acting, c.deref.ensures.value, names, c.is_mover-mover.ensures) (λ e. (can_leave_from w c.self.inside.sets.acting c.args.handle c.in-Some.body.now c.self.invariant named).awake (ap is_mover_in (named_at w.plain c.args.handle c.in-Some.body.now named) ∙ e))
+
+pub leave-requires-clause-alone : goal.leave-requires-clause-alone
+leave-requires-clause-alone c =
+    let w : World = the_view c.self.inside in
+    let named : body_of w.plain c.args.handle ≡ Some c.in-Some.body.now = rw (← c.bodies.ensures) (sym c.in-Some.ensures) in
+    let ties = rw (← c.self.view_is) at c.in_ok-ties.ensures.ties in
+    let names = rw (← c.self.view_is) at c.in_ok-names.ensures.value in
+    rw (c.deref-2.ensures.value, ties, c.wake_named.ensures.acting, c.deref.ensures.value, names) (λ e. (can_leave_from w c.self.inside.sets.acting c.args.handle c.in-Some.body.now c.self.invariant named).alone)
+
+pub clear-requires : goal.clear-requires
+clear-requires c =
+    let w : World = the_view c.self.inside in
+    let named : body_of w.plain c.args.handle ≡ Some c.in-Some.body.now = rw (← c.bodies.ensures) (sym c.in-Some.ensures) in
+    rw (c.wake_named.ensures.told, length_told c.wake_named.new.sets.acting.labels c.self.inside.bodies.bodies) (body_below w c.args.handle c.in-Some.body.now named)
+
+pub tell-requires-clause-few : goal.tell-requires-clause-few
+tell-requires-clause-few c =
+    rw (c.clear.ensures.bodies, c.wake_named.ensures.told) (few_left (the_view c.self.inside) c.wake_named.new.sets.acting.labels c.args.handle.slot _ (kept_of _ _ c.self.invariant))
+
+pub tell-requires-clause-bodies : goal.tell-requires-clause-bodies
+tell-requires-clause-bodies c = rw c.clear.ensures.bodies (bodies_without c.wake_named.new.bodies.bodies c.args.handle.slot c.wake_named.ensures.all_bodies)
 
 pub book-requires-clause-fits : goal.book-requires-clause-fits
 book-requires-clause-fits c =
-    Fits-roomy c.reserve.new.self _ (IsRoomy-same _ _ c.in_ok-reserve.ensures.entries c.in_ok-reserve.ensures.settled (IsRoomy-sound _ 0 (kept_sound _ c.self.invariant.sound)))
-    (rw c.loss_of.ensures.x (omega (arith, ints))) (rw c.loss_of.ensures.y (omega (arith, ints)))
+    Fits-roomy c.reserve.new.self _ (IsRoomy-same _ _ c.in_ok-reserve.ensures.entries c.in_ok-reserve.ensures.settled (IsRoomy-kept (the_view c.self.inside) 0 (kept_of _ _ c.self.invariant)))
+    (omega (arith, c.loss_of.ensures.small_x)) (omega (arith, c.loss_of.ensures.small_y))
 
 pub invariant_of-self-2 : goal.invariant_of-self-2
 invariant_of-self-2 c =
     let w : World = the_view c.self.inside in
+    let named : body_of w.plain c.args.handle ≡ Some c.in-Some.body.now = rw (← c.bodies.ensures) (sym c.in-Some.ensures) in
+    let ties = rw (← c.self.view_is) at c.in_ok-ties.ensures.ties in
+    let names = rw (← c.self.view_is) at c.in_ok-names.ensures.value in
     let calls : c.self.inside.calls < 2 ^ 40 = rw (← c.self.view_is) at c.requires in
-    let due : departing (slots.body_of c.self.inside.handles.places c.self.inside.bodies.bodies c.args.handle) ≡ Ok c.in_ok-p.p = rw (← c.bodies.ensures) (sym c.in_ok-p.ensures.value) in
-    let places = ap (λ (s : Joined). s.slots.places) c.unjoin_all.ensures.gone in
-    let joints = ap (λ (s : Joined). s.slots.joints) c.unjoin_all.ensures.gone in
-    let lists = ap (λ (s : Joined). s.lists) c.unjoin_all.ensures.gone in
-    rw (places, joints, c.clear.ensures.bodies, c.drop_colours.ensures.lists, lists, c.as_slice.ensures.value, c.drop_of_body.ensures, c.remove.ensures.taken_back, c.book.ensures.entries, c.book.ensures.settled, c.in_ok-reserve.ensures.entries, c.in_ok-reserve.ensures.settled)
-    (destroy_whole w c.self.inside.colours.lists c.args.handle c.in_ok-p.p _ _ _ _ c.self.invariant calls due c.loss_of.ensures.x c.loss_of.ensures.y)
+    let places = ap (λ (s : JointSlots). s.places) c.drop_joints.ensures.gone in
+    let joints = ap (λ (s : JointSlots). s.joints) c.drop_joints.ensures.gone in
+    rw (c.book.ensures.entries, c.book.ensures.settled, c.loss_of.ensures.x, c.loss_of.ensures.y, c.mover_momentum-p.ensures, c.in_ok-reserve.ensures.entries, c.in_ok-reserve.ensures.settled, c.tell.ensures.bodies, c.islands.ensures, c.clear.ensures.bodies, places, joints, c.drop_of_body.ensures, c.remove.ensures.taken_back, c.wake_named.ensures.told, c.leave.ensures.acting, c.is_mover-mover.ensures, c.deref-2.ensures.value, ties, c.wake_named.ensures.acting, c.deref.ensures.value, names)
+    (whole w _ _ _ (destroy_left w c.self.inside.sets.acting c.args.handle c.in-Some.body.now (kept_of _ _ c.self.invariant) c.self.invariant.same calls named))
 
 pub returns : goal.returns
 returns c =
-    let due : departing (slots.body_of c.self.inside.handles.places c.self.inside.bodies.bodies c.args.handle) ≡ Ok c.in_ok-p.p = rw (← c.bodies.ensures) (sym c.in_ok-p.ensures.value) in
-    let places = ap (λ (s : Joined). s.slots.places) c.unjoin_all.ensures.gone in
-    let joints = ap (λ (s : Joined). s.slots.joints) c.unjoin_all.ensures.gone in
-    let lists = ap (λ (s : Joined). s.lists) c.unjoin_all.ensures.gone in
-    rw (← c.self.view_is, places, joints, c.clear.ensures.bodies, c.drop_colours.ensures.lists, lists, c.as_slice.ensures.value, c.drop_of_body.ensures, c.remove.ensures.taken_back, c.book.ensures.entries, c.book.ensures.settled, c.in_ok-reserve.ensures.entries, c.in_ok-reserve.ensures.settled)
-    (destroy_answers (the_view c.self.inside) c.self.inside.colours.lists c.args.handle c.in_ok-p.p _ _ c.self.invariant.members due c.loss_of.ensures.x c.loss_of.ensures.y)
+    let w : World = the_view c.self.inside in
+    let named : body_of w.plain c.args.handle ≡ Some c.in-Some.body.now = rw (← c.bodies.ensures) (sym c.in-Some.ensures) in
+    let ties = rw (← c.self.view_is) at c.in_ok-ties.ensures.ties in
+    let names = rw (← c.self.view_is) at c.in_ok-names.ensures.value in
+    let calls : c.self.inside.calls < 2 ^ 40 = rw (← c.self.view_is) at c.requires in
+    let places = ap (λ (s : JointSlots). s.places) c.drop_joints.ensures.gone in
+    let joints = ap (λ (s : JointSlots). s.joints) c.drop_joints.ensures.gone in
+    rw (← c.self.view_is)
+    (destroy_answers w c.args.handle c.in-Some.body.now _ c.leave.new.sets.acting named
+    (rw (c.book.ensures.entries, c.book.ensures.settled, c.loss_of.ensures.x, c.loss_of.ensures.y, c.mover_momentum-p.ensures, c.in_ok-reserve.ensures.entries, c.in_ok-reserve.ensures.settled, c.tell.ensures.bodies, c.islands.ensures, c.clear.ensures.bodies, places, joints, c.drop_of_body.ensures, c.remove.ensures.taken_back, c.wake_named.ensures.told, c.leave.ensures.acting, c.is_mover-mover.ensures, c.deref-2.ensures.value, ties, c.wake_named.ensures.acting, c.deref.ensures.value, names)
+    (destroy_left w c.self.inside.sets.acting c.args.handle c.in-Some.body.now (kept_of _ _ c.self.invariant) c.self.invariant.same calls named)))

@@ -1,11 +1,37 @@
-use Rattle.std.proofs.Common.{◌≡◌, ◌<◌, ◌^◌, true, rules, tests}
-use Rattle.body_handles.specs.Places.{is_live}
+use Rattle.std.proofs.Common.{◌≡◌, ◌<◌, ◌^◌, sym}
+use Rattle.world_rules.specs.World.{World}
+use Rattle.world_rules.proofs.PartsLeft.{unjoin_left}
 use Rattle.world_core.specs.contracts.world.WorldCore.{the_view}
-use Rattle.world_core.proofs.Kept.{unjoin_whole}
+use Rattle.world_core.proofs.Whole.{told_whole}
+use Rattle.world_core.proofs.PartLaws.{can_unjoin_from, joint_below, kept_of, unjoin_answers, whole}
 use Rattle.world_core.proofs.world.WorldCore.destroy_joint.Goals as goal
+
+pub wake_named-requires-clause-told : goal.wake_named-requires-clause-told
+wake_named-requires-clause-told c = (told_whole (the_view c.self.inside) _ c.self.invariant)
+
+pub end_with-requires-clause-there : goal.end_with-requires-clause-there
+end_with-requires-clause-there c =
+    rw (c.joint_movers-movers.ensures, c.bodies.ensures, c.wake_named.ensures.told, c.wake_named.ensures.acting, c.deref.ensures.value, c.in_ok-names.ensures.value)
+    (can_unjoin_from (the_view c.self.inside) c.self.inside.sets.acting c.args.handle c.in-Some.joint c.self.invariant (sym c.in-Some.ensures)).there
+
+pub end_with-requires-clause-awake : goal.end_with-requires-clause-awake
+end_with-requires-clause-awake c =
+    rw (c.joint_movers-movers.ensures, c.bodies.ensures, c.wake_named.ensures.told, c.wake_named.ensures.acting, c.deref.ensures.value, c.in_ok-names.ensures.value)
+    (can_unjoin_from (the_view c.self.inside) c.self.inside.sets.acting c.args.handle c.in-Some.joint c.self.invariant (sym c.in-Some.ensures)).awake
+
+pub clear-requires : goal.clear-requires
+clear-requires c = joint_below (the_view c.self.inside) c.args.handle c.in-Some.joint (kept_of _ _ c.self.invariant) (sym c.in-Some.ensures)
 
 pub invariant_of-self : goal.invariant_of-self
 invariant_of-self c =
+    let w : World = the_view c.self.inside in
     let calls : c.self.inside.calls < 2 ^ 40 = rw (← c.self.view_is) at c.requires in
-    let live : is_live c.self.inside.joint_handles.places c.args.handle ≡ true = search (rules, tests) in
-    rw (c.unjoin.ensures.places, c.unjoin.ensures.joints, c.unjoin.ensures.lists) (unjoin_whole (the_view c.self.inside) c.self.inside.colours.lists c.args.handle c.self.invariant calls live)
+    rw (c.clear.ensures, c.remove.ensures.taken_back, c.end_with.ensures.acting, c.joint_movers-movers.ensures, c.bodies.ensures, c.wake_named.ensures.told, c.wake_named.ensures.acting, c.deref.ensures.value, c.in_ok-names.ensures.value)
+    (whole w _ _ _ (unjoin_left w c.self.inside.sets.acting c.args.handle c.in-Some.joint (kept_of _ _ c.self.invariant) c.self.invariant.same calls (sym c.in-Some.ensures)))
+
+pub returns : goal.returns
+returns c =
+    let w : World = the_view c.self.inside in
+    let calls : c.self.inside.calls < 2 ^ 40 = rw (← c.self.view_is) at c.requires in
+    rw (← c.self.view_is, c.clear.ensures, c.remove.ensures.taken_back, c.end_with.ensures.acting, c.joint_movers-movers.ensures, c.bodies.ensures, c.wake_named.ensures.told, c.wake_named.ensures.acting, c.deref.ensures.value, c.in_ok-names.ensures.value)
+    (unjoin_answers w c.args.handle c.in-Some.joint _ _ (sym c.in-Some.ensures) (unjoin_left w c.self.inside.sets.acting c.args.handle c.in-Some.joint (kept_of _ _ c.self.invariant) c.self.invariant.same calls (sym c.in-Some.ensures)))

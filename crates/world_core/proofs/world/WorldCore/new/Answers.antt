@@ -1,13 +1,11 @@
-use Rattle.std.proofs.Common.{◌^◌, ◌+◌, [], replicate, refl, rules, tests}
+use Rattle.std.proofs.Common.{◌^◌, [], replicate, refl, rules, tests}
 use Rattle.fixed_geom.specs.Vectors.{IsWithin}
-use Rattle.graph_colours.specs.declared.limits.TheConstants.{COLOURS}
-use Rattle.world_core.specs.Apply.{empty_world}
-use Rattle.world_core.proofs.Kept.{new_sound, whole}
-use Rattle.world_core.proofs.TiedLaws.{tied_empty}
+use Rattle.world_rules.specs.Apply.{empty_world}
+use Rattle.world_core.proofs.Whole.{empty_whole}
 use Rattle.world_core.proofs.world.WorldCore.new.Goals as goal
 
 pub invariant_of-result : goal.invariant_of-result
 invariant_of-result c =
     let within : IsWithin (2 ^ 16) c.args.gravity = search (rules, tests) in
-    rw (c.new.ensures, c.new-2.ensures, c.new-3.ensures, c.new-4.ensures, c.new-5.ensures, c.in_ok-new.ensures.lists, c.new-9.ensures.entries, c.new-9.ensures.settled, c.new-10.ensures)
-    (whole (empty_world c.args.gravity) (replicate (COLOURS + 1) []) (new_sound c.args.gravity within) refl tied_empty.colours)
+    rw (c.new.ensures, c.new-2.ensures, c.new-3.ensures, c.new-4.ensures, c.new-5.ensures, c.in_ok-new.ensures.acting, c.new-9.ensures.entries, c.new-9.ensures.settled, c.new-10.ensures)
+    (empty_whole c.args.gravity within)

@@ -1,6 +1,6 @@
 use Rattle.std.proofs.Common.{◌+◌}
-use Rattle.world_core.specs.Replay.{IsPartOf}
-use Rattle.world_core.proofs.ReplayLemmas.{exact, replay_more, answers_more, on_err}
+use Rattle.world_rules.specs.Replay.{IsPartOf}
+use Rattle.world_rules.proofs.ReplayLemmas.{exact, replay_more, answers_more, on_err}
 use Rattle.world_core.proofs.world.WorldCore.replay.Goals as goal
 
 pub returns-in_err-push-clause-err : goal.returns-in_err-push-clause-err

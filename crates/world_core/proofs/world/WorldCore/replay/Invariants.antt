@@ -1,5 +1,5 @@
 use Rattle.std.proofs.Common.{◌≡◌, ◌++◌, take, drop}
-use Rattle.world_core.specs.Replay.{replay, answers_to}
+use Rattle.world_rules.specs.Replay.{replay, answers_to}
 use Rattle.world_core.proofs.world.WorldCore.replay.Given as goal
 
 abbrev pub invariant-loop-command : goal.invariant-loop-command

@@ -1,114 +1,201 @@
-use Rattle.std.proofs.Common.{rules, tests, true, pos, unsigned_abs, ◌≡◌, ◌<◌, ◌^◌, ◌∙◌, List, refl, sym, ap, subst, length, arith}
+use Rattle.std.proofs.Common.{rules, tests, true, pos, Err, unsigned_abs, ◌≡◌, ◌<◌, ◌≤◌, ◌^◌, ◌∙◌, List, length, map, refl, sym, ap, subst, arith}
 use Rattle.std.proofs.lemmas.Int.{to_z-of_z}
+use Rattle.std.specs.Vec.{vec_capacity}
+use Rattle.std.specs.List.Sorted.{IsStrictlyIncreasing}
+use Rattle.body_handles.specs.declared.handle.Handle.{Handle}
+use Rattle.event_feed.specs.Orders.{slot_of}
+use Rattle.fixed_geom.specs.declared.refusal.Refusal.TheVariants.{NoMemory}
+use Rattle.contacts_base.specs.declared.key.ContactKey.{ContactKey}
 use Rattle.shapes.specs.Shapes.{is_between}
-use Rattle.contacts_base.specs.declared.contact.ContactEntry.{ContactEntry}
-use Rattle.contacts_base.specs.Contacts.{AreKeysRising}
-use Rattle.colour_solver.specs.ColourRows.{all_rows}
-use Rattle.colour_solver.specs.declared.ticks.StepSums.{StepSums}
-use Rattle.colour_solver.specs.Ticks.{Run, ran, run_of, start}
-use Rattle.colour_solver.proofs.TickLaws.{rows_as_long}
-use Rattle.colour_solver.specs.declared.constraint_row.ConstraintRow.{ConstraintRow}
-use Rattle.world_core_base.specs.ConstraintRows.{contacts_among}
-use Rattle.world_core_base.specs.Gather.{states_of, with_motions, with_rows}
-use Rattle.world_core_base.specs.Gather.{AreContactsOf}
-use Rattle.world_core_base.proofs.ContactLaws.{contacts_on}
-use Rattle.world_core_base.proofs.GatherLaws.{length-states, states-all}
-use Rattle.world_core_base.specs.Renewal.{renewed_bodies}
+use Rattle.world_rules.specs.World.{World}
+use Rattle.world_rules.proofs.AcceptedAll.{few_ticks}
+use Rattle.world_rules.proofs.KeptChanges.{IsRoomy-kept, IsRoomy-same}
+use Rattle.world_rules.proofs.KeptStep.{collided_in}
 use Rattle.world_core.specs.contracts.world.WorldCore.{the_view}
-use Rattle.world_core.specs.World.{World, joints_of}
-use Rattle.world_core.specs.Collide.{contacts_after}
-use Rattle.world_core.specs.Colouring.{AreColoured, Lists, turned}
-use Rattle.world_core.proofs.ColouringLaws.{absent}
-use Rattle.world_core.proofs.PairLaws.{contacts_of_after}
-use Rattle.world_core.proofs.Kept.{IsRoomy-sound, IsRoomy-same, IsStep}
-use Rattle.world_core.proofs.ImpulseLaws.{joints_there}
-use Rattle.world_core.proofs.StepLemmas.{collided_in, joints_left, contacts_left, lists_in, ran_in, step_answers, step_whole, tied_in}
-use Rattle.world_core.proofs.SoundLaws.{kept_sound}
+use Rattle.world_core.proofs.PartLaws.{kept_of, whole}
+use Rattle.world_core.proofs.StepLaws.{AreFound, AreLeft, AreTicks, HasSolved, HasTurned, bodies_turned, can_solve_turned, can_turn_found, few_solved, few_turned, has_solved, has_turned, is_refusal, room_found, room_turned, slept_rise, step_answers, step_is_left, step_refused, timers_room, timers_solved, woke_rise}
 use Rattle.world_core.proofs.world.WorldCore.step.Goals as goal
 
 pub collide-requires-clause-bodies : goal.collide-requires-clause-bodies
-collide-requires-clause-bodies c = rw c.bodies.ensures (kept_sound _ c.self.invariant.sound).bodies
+collide-requires-clause-bodies c = rw c.bodies.ensures (kept_of _ _ c.self.invariant).bodies
 
-pub turn_colours-requires-clause-absent : goal.turn_colours-requires-clause-absent
-turn_colours-requires-clause-absent c =
-    rw (c.deref.ensures.value, c.in_ok-changes.ensures.begin, c.bodies.ensures, c.in_ok-reserve-2.ensures.lists)
-    (absent c.self.inside.bodies.bodies (joints_of (the_view c.self.inside).plain) c.self.inside.contacts (contacts_after c.self.inside.bodies.bodies c.self.inside.joints.joints c.self.inside.contacts) c.self.inside.colours.lists (subst (AreColoured c.self.inside.bodies.bodies (joints_of (the_view c.self.inside).plain) c.self.inside.contacts) (sym c.self.invariant.members) (kept_sound _ c.self.invariant.sound).colours))
+pub returns-in_err-turns : goal.returns-in_err-turns
+returns-in_err-turns c =
+    let between : is_between (pos 1) (pos 8) c.args.ticks ≡ true = search (rules, tests) in
+    let refused : c.from_residual-in_err-turns.result ≡ Err NoMemory = is_refusal _ _ c.from_residual-in_err-turns.ensures.0 c.from_residual-in_err-turns.ensures.1 c.in_err-turns.ensures.memory_only in
+    rw (← c.self.view_is) (step_refused (the_view c.self.inside) _ c.args.ticks _ between refused (rw (c.in_ok-reserve.ensures.entries, c.in_ok-reserve.ensures.settled) refl))
 
-pub gather_rows-requires-clause-all_states : goal.gather_rows-requires-clause-all_states
-gather_rows-requires-clause-all_states c = rw c.states.ensures (states-all c.self.inside.bodies.bodies (kept_sound _ c.self.invariant.sound).bodies)
+pub returns-in_err-reserve-2 : goal.returns-in_err-reserve-2
+returns-in_err-reserve-2 c =
+    let between : is_between (pos 1) (pos 8) c.args.ticks ≡ true = search (rules, tests) in
+    let refused : c.from_residual-in_err-reserve-2.result ≡ Err NoMemory = is_refusal _ _ c.from_residual-in_err-reserve-2.ensures.0 c.from_residual-in_err-reserve-2.ensures.1 c.in_err-reserve-2.ensures.memory_only in
+    rw (← c.self.view_is) (step_refused (the_view c.self.inside) _ c.args.ticks _ between refused (rw (c.reserve-2.ensures.acting, c.in_ok-reserve.ensures.entries, c.in_ok-reserve.ensures.settled) refl))
 
-pub gather_rows-requires-clause-rising : goal.gather_rows-requires-clause-rising
-gather_rows-requires-clause-rising c = c.as_slice.ensures.contacts.rising
+pub returns-in_err-reserve-3 : goal.returns-in_err-reserve-3
+returns-in_err-reserve-3 c =
+    let between : is_between (pos 1) (pos 8) c.args.ticks ≡ true = search (rules, tests) in
+    let refused : c.from_residual-in_err-reserve-3.result ≡ Err NoMemory = is_refusal _ _ c.from_residual-in_err-reserve-3.ensures.0 c.from_residual-in_err-reserve-3.ensures.1 c.in_err-reserve-3.ensures.memory_only in
+    rw (← c.self.view_is) (step_refused (the_view c.self.inside) _ c.args.ticks _ between refused (rw (c.in_ok-reserve-2.ensures.acting, c.in_ok-reserve.ensures.entries, c.in_ok-reserve.ensures.settled) refl))
 
-pub gather_rows-requires-clause-contacts : goal.gather_rows-requires-clause-contacts
-gather_rows-requires-clause-contacts c =
-    let bodies = c.self.inside.bodies.bodies in
-    let of : AreContactsOf bodies c.as_slice.result.now =
-    rw (c.as_slice.ensures.value, c.in_ok-changes.ensures.now, c.bodies.ensures) (contacts_of_after bodies c.self.inside.joints.joints c.self.inside.contacts (kept_sound _ c.self.invariant.sound).bodies (kept_sound _ c.self.invariant.sound).matched.few (kept_sound _ c.self.invariant.sound).pairs) in
-    rw c.states.ensures (contacts_on bodies c.as_slice.result.now c.as_slice.ensures.contacts of)
+pub returns-in_err-scratch : goal.returns-in_err-scratch
+returns-in_err-scratch c =
+    let between : is_between (pos 1) (pos 8) c.args.ticks ≡ true = search (rules, tests) in
+    let refused : c.from_residual-in_err-scratch.result ≡ Err NoMemory = is_refusal _ _ c.from_residual-in_err-scratch.ensures.0 c.from_residual-in_err-scratch.ensures.1 c.in_err-scratch.ensures.memory_only in
+    rw (← c.self.view_is) (step_refused (the_view c.self.inside) _ c.args.ticks _ between refused (rw (c.in_ok-reserve-2.ensures.acting, c.in_ok-reserve.ensures.entries, c.in_ok-reserve.ensures.settled) refl))
 
-pub gather_rows-requires-clause-joints : goal.gather_rows-requires-clause-joints
-gather_rows-requires-clause-joints c =
+-- ---- the collide
+
+is_found : (c : goal.After-deref-3) → AreFound (the_view c.self.inside) c.deref-3.result.now
+is_found c =
+    let listed = c.deref-3.ensures.value ∙ c.in_ok-turns.ensures.changes in
+    rw (c.bodies-2.ensures, c.deref.ensures.value, c.deref-2.ensures.value, c.in_ok-changes.ensures.begin, c.in_ok-changes.ensures.end, c.bodies.ensures) at listed
+
+pub turn_all-requires-clause-can : goal.turn_all-requires-clause-can
+turn_all-requires-clause-can c = can_turn_found (the_view c.self.inside) c.self.inside.sets.acting c.reserve-2.new.self.acting c.deref-3.result.now c.self.invariant c.in_ok-reserve-2.ensures.acting (is_found c)
+
+pub turn_all-requires-clause-room : goal.turn_all-requires-clause-room
+turn_all-requires-clause-room c =
     let w : World = the_view c.self.inside in
-    let bodies = c.self.inside.bodies.bodies in
-    let is_now : c.in_ok-changes.changes.now ≡ contacts_after bodies c.self.inside.joints.joints c.self.inside.contacts = rw c.bodies.ensures at c.in_ok-changes.ensures.now in
-    let rises : AreKeysRising (contacts_after bodies c.self.inside.joints.joints c.self.inside.contacts) = subst AreKeysRising (c.as_slice.ensures.value ∙ is_now) c.as_slice.ensures.contacts.rising in
-    let turned_to : c.turn_colours.new.colours.lists ≡ turned bodies c.self.inside.colours.lists (collided_in w).begin (collided_in w).end =
-    rw (c.bodies-3.ensures, c.in_ok-reserve-2.ensures.lists, c.deref.ensures.value, c.deref-2.ensures.value, c.in_ok-changes.ensures.begin, c.in_ok-changes.ensures.end, c.bodies.ensures) at c.turn_colours.ensures.lists in
-    let is_lists : c.turn_colours.new.colours.lists ≡ lists_in w = turned_to ∙ ap (λ (old : Lists). turned bodies old (collided_in w).begin (collided_in w).end) c.self.invariant.members in
-    rw (c.states.ensures, c.joints.ensures, is_lists) (joints_there bodies (joints_of w.plain) (contacts_after bodies c.self.inside.joints.joints c.self.inside.contacts) (lists_in w) (tied_in w (kept_sound w c.self.invariant.sound) rises))
+    let begun : c.deref.result.now ≡ (collided_in w).begin = rw c.bodies.ensures at (c.deref.ensures.value ∙ c.in_ok-changes.ensures.begin) in
+    let long : length c.deref.result.now ≡ length (collided_in w).begin = ap (λ (keys : List ContactKey). length keys) begun in
+    let count : c.len.result ≡ length (collided_in w).begin = omega (arith, c.len.ensures, c.deref.ensures.len, long) in
+    room_found w c.self.inside.sets.acting c.reserve-2.new.self.acting c.deref-3.result.now c.len.result c.reserve-2.new.self.room c.self.invariant c.in_ok-reserve-2.ensures.acting (is_found c) count c.in_ok-reserve-2.ensures.room_made
 
-pub run-sums-requires-clause-rows : goal.run-sums-requires-clause-rows
-run-sums-requires-clause-rows c =
-    let long : length c.self.inside.bodies.bodies ≡ length c.states.result.now = rw c.states.ensures (sym (length-states c.self.inside.bodies.bodies)) in
-    rows_as_long (length c.self.inside.bodies.bodies) (length c.states.result.now) (all_rows c.gather_rows.new.rows) long c.gather_rows.ensures.rows
+-- ---- the ticks
 
-pub book_step-requires-clause-roomy : goal.book_step-requires-clause-roomy
-book_step-requires-clause-roomy c = IsRoomy-same _ _ c.in_ok-reserve.ensures.entries c.in_ok-reserve.ensures.settled (IsRoomy-sound _ 0 (kept_sound _ c.self.invariant.sound))
+is_turned : (c : goal.After-unsigned_abs) → HasTurned (the_view c.self.inside) c.turn_all.new.sets.acting c.turn_all.new.bodies.bodies c.in_ok-changes.changes.now
+is_turned c =
+    let listed = c.deref-3.ensures.value ∙ c.in_ok-turns.ensures.changes in
+    let found : AreFound (the_view c.self.inside) c.deref-3.result.now = rw (c.bodies-2.ensures, c.deref.ensures.value, c.deref-2.ensures.value, c.in_ok-changes.ensures.begin, c.in_ok-changes.ensures.end, c.bodies.ensures) at listed in
+    has_turned (the_view c.self.inside) c.self.inside.sets.acting c.reserve-2.new.self.acting c.turn_all.new.sets.acting c.deref-3.result.now c.turn_all.new.bodies.bodies c.in_ok-changes.changes.now c.self.invariant c.in_ok-reserve-2.ensures.acting found
+    c.turn_all.ensures.acting c.turn_all.ensures.bodies (rw c.bodies.ensures at c.in_ok-changes.ensures.now)
+
+pub solve-sums-requires-clause-few : goal.solve-sums-requires-clause-few
+solve-sums-requires-clause-few c = few_turned (the_view c.self.inside) c.self.inside.sets.acting c.turn_all.new.sets.acting c.turn_all.new.bodies.bodies c.in_ok-changes.changes.now c.self.invariant (is_turned c)
+
+pub solve-sums-requires-clause-bodies : goal.solve-sums-requires-clause-bodies
+solve-sums-requires-clause-bodies c = bodies_turned (the_view c.self.inside) c.self.inside.sets.acting c.turn_all.new.sets.acting c.turn_all.new.bodies.bodies c.in_ok-changes.changes.now c.self.invariant (is_turned c)
+
+pub solve-sums-requires-clause-can : goal.solve-sums-requires-clause-can
+solve-sums-requires-clause-can c = rw c.colours.ensures (can_solve_turned (the_view c.self.inside) c.self.inside.sets.acting c.turn_all.new.sets.acting c.turn_all.new.bodies.bodies c.in_ok-changes.changes.now c.self.invariant (is_turned c))
+
+pub solve-sums-requires-clause-room : goal.solve-sums-requires-clause-room
+solve-sums-requires-clause-room c =
+    let w : World = the_view c.self.inside in
+    let begun : c.deref.result.now ≡ (collided_in w).begin = rw c.bodies.ensures at (c.deref.ensures.value ∙ c.in_ok-changes.ensures.begin) in
+    let long : length c.deref.result.now ≡ length (collided_in w).begin = ap (λ (keys : List ContactKey). length keys) begun in
+    let count : c.len-2.result ≡ length (collided_in w).begin = omega (arith, c.len-2.ensures, c.deref.ensures.len, long) in
+    let room = rw c.ties.ensures.value at c.in_ok-reserve-3.ensures.room in
+    rw c.colours.ensures (room_turned w c.self.inside.sets.acting c.reserve-2.new.self.acting c.turn_all.new.sets.acting c.turn_all.new.bodies.bodies c.in_ok-changes.changes.now c.len-2.result c.reserve-3.new.self.room c.self.invariant (is_turned c) c.in_ok-reserve-2.ensures.acting count room)
+
+-- ---- the sleep phase
+
+is_solved : (c : goal.After-unsigned_abs-2) → HasSolved (the_view c.self.inside) c.unsigned_abs.result c.solve-sums.new.bodies.bodies c.solve-sums.new.joints.joints c.solve-sums.new.contacts c.solve-sums.result
+is_solved c =
+    let w : World = the_view c.self.inside in
+    let listed = c.deref-3.ensures.value ∙ c.in_ok-turns.ensures.changes in
+    let found : AreFound w c.deref-3.result.now = rw (c.bodies-2.ensures, c.deref.ensures.value, c.deref-2.ensures.value, c.in_ok-changes.ensures.begin, c.in_ok-changes.ensures.end, c.bodies.ensures) at listed in
+    let turned : HasTurned w c.turn_all.new.sets.acting c.turn_all.new.bodies.bodies c.in_ok-changes.changes.now =
+    has_turned w c.self.inside.sets.acting c.reserve-2.new.self.acting c.turn_all.new.sets.acting c.deref-3.result.now c.turn_all.new.bodies.bodies c.in_ok-changes.changes.now c.self.invariant c.in_ok-reserve-2.ensures.acting found
+    c.turn_all.ensures.acting c.turn_all.ensures.bodies (rw c.bodies.ensures at c.in_ok-changes.ensures.now) in
+    let to_bodies = rw c.colours.ensures at c.solve-sums.ensures.bodies in
+    let to_joints = rw c.colours.ensures at c.solve-sums.ensures.joints in
+    let to_contacts = rw c.colours.ensures at c.solve-sums.ensures.contacts in
+    let to_sums = rw c.colours.ensures at c.solve-sums.ensures.sums in
+    let are : AreTicks c.turn_all.new.bodies.bodies c.solve-sums.new.bodies.bodies c.solve-sums.new.joints.joints c.solve-sums.new.contacts c.solve-sums.result = record {
+      bodies = c.solve-sums.ensures.all_bodies;
+      slots = c.solve-sums.ensures.slots;
+      small = c.solve-sums.ensures.small;
+      gain_x = c.solve-sums.ensures.momentum_x;
+      gain_y = c.solve-sums.ensures.momentum_y;
+      joints = c.solve-sums.ensures.all_joints;
+      pairs = c.solve-sums.ensures.pairs;
+    } in
+    has_solved w c.unsigned_abs.result c.self.inside.sets.acting c.turn_all.new.sets.acting c.turn_all.new.bodies.bodies c.solve-sums.new.bodies.bodies c.solve-sums.new.joints.joints c.in_ok-changes.changes.now c.solve-sums.new.contacts c.solve-sums.result c.self.invariant turned to_bodies to_joints to_contacts to_sums are
+
+pub rest_ready-rest-requires-clause-few_bodies : goal.rest_ready-rest-requires-clause-few_bodies
+rest_ready-rest-requires-clause-few_bodies c = few_solved (the_view c.self.inside) c.unsigned_abs.result c.self.inside.sets.acting c.solve-sums.new.bodies.bodies c.solve-sums.new.joints.joints c.solve-sums.new.contacts c.solve-sums.result c.self.invariant (is_solved c)
+
+pub rest_ready-rest-requires-clause-within : goal.rest_ready-rest-requires-clause-within
+rest_ready-rest-requires-clause-within c = timers_solved (the_view c.self.inside) c.unsigned_abs.result c.self.inside.sets.acting c.solve-sums.new.bodies.bodies c.solve-sums.new.joints.joints c.solve-sums.new.contacts c.solve-sums.result c.self.invariant (is_solved c)
+
+pub rest_ready-rest-requires-clause-ticks : goal.rest_ready-rest-requires-clause-ticks
+rest_ready-rest-requires-clause-ticks c =
+    let between : is_between (pos 1) (pos 8) c.args.ticks ≡ true = search (rules, tests) in
+    let count : c.unsigned_abs-2.result ≡ unsigned_abs c.args.ticks = grind (arith, to_z-of_z) in
+    rw count (few_ticks c.args.ticks between)
+
+pub rest_ready-rest-requires-clause-timers : goal.rest_ready-rest-requires-clause-timers
+rest_ready-rest-requires-clause-timers c =
+    let room : length c.self.inside.bodies.bodies ≤ vec_capacity c.in_ok-scratch.scratch.timers = rw c.bodies-3.ensures at c.in_ok-scratch.ensures.timers in
+    let long = timers_room (the_view c.self.inside) c.unsigned_abs.result c.self.inside.sets.acting c.solve-sums.new.bodies.bodies c.solve-sums.new.joints.joints c.solve-sums.new.contacts c.solve-sums.result c.self.invariant (is_solved c) in
+    rw long room
+
+pub book_rest-requires-clause-roomy : goal.book_rest-requires-clause-roomy
+book_rest-requires-clause-roomy c = IsRoomy-same _ _ c.in_ok-reserve.ensures.entries c.in_ok-reserve.ensures.settled (IsRoomy-kept (the_view c.self.inside) 0 (kept_of _ _ c.self.invariant))
+
+-- ---- the whole
+
+are_left : (c : goal.After-drop-changes-3) → AreLeft (the_view c.self.inside) c.unsigned_abs.result c.turn_all.new.sets.acting c.rest_ready-rest.new.sets.acting c.turn_all.new.bodies.bodies c.solve-sums.new.bodies.bodies c.rest_ready-rest.new.bodies.bodies c.solve-sums.new.joints.joints c.in_ok-changes.changes.now c.solve-sums.new.contacts
+    c.solve-sums.result c.rest_ready-rest.result.x c.rest_ready-rest.result.y c.from_lists.result
+are_left c =
+    let w : World = the_view c.self.inside in
+    let listed = c.deref-3.ensures.value ∙ c.in_ok-turns.ensures.changes in
+    let found : AreFound w c.deref-3.result.now = rw (c.bodies-2.ensures, c.deref.ensures.value, c.deref-2.ensures.value, c.in_ok-changes.ensures.begin, c.in_ok-changes.ensures.end, c.bodies.ensures) at listed in
+    let turned : HasTurned w c.turn_all.new.sets.acting c.turn_all.new.bodies.bodies c.in_ok-changes.changes.now =
+    has_turned w c.self.inside.sets.acting c.reserve-2.new.self.acting c.turn_all.new.sets.acting c.deref-3.result.now c.turn_all.new.bodies.bodies c.in_ok-changes.changes.now c.self.invariant c.in_ok-reserve-2.ensures.acting found
+    c.turn_all.ensures.acting c.turn_all.ensures.bodies (rw c.bodies.ensures at c.in_ok-changes.ensures.now) in
+    let to_bodies = rw c.colours.ensures at c.solve-sums.ensures.bodies in
+    let to_joints = rw c.colours.ensures at c.solve-sums.ensures.joints in
+    let to_contacts = rw c.colours.ensures at c.solve-sums.ensures.contacts in
+    let to_sums = rw c.colours.ensures at c.solve-sums.ensures.sums in
+    let are : AreTicks c.turn_all.new.bodies.bodies c.solve-sums.new.bodies.bodies c.solve-sums.new.joints.joints c.solve-sums.new.contacts c.solve-sums.result = record {
+      bodies = c.solve-sums.ensures.all_bodies;
+      slots = c.solve-sums.ensures.slots;
+      small = c.solve-sums.ensures.small;
+      gain_x = c.solve-sums.ensures.momentum_x;
+      gain_y = c.solve-sums.ensures.momentum_y;
+      joints = c.solve-sums.ensures.all_joints;
+      pairs = c.solve-sums.ensures.pairs;
+    } in
+    let ticks : HasSolved w c.unsigned_abs.result c.solve-sums.new.bodies.bodies c.solve-sums.new.joints.joints c.solve-sums.new.contacts c.solve-sums.result =
+    has_solved w c.unsigned_abs.result c.self.inside.sets.acting c.turn_all.new.sets.acting c.turn_all.new.bodies.bodies c.solve-sums.new.bodies.bodies c.solve-sums.new.joints.joints c.in_ok-changes.changes.now c.solve-sums.new.contacts c.solve-sums.result c.self.invariant turned to_bodies to_joints to_contacts to_sums are in
+    let twice : c.unsigned_abs-2.result ≡ c.unsigned_abs.result = c.unsigned_abs-2.ensures.value ∙ sym c.unsigned_abs.ensures.value in
+    let fell = rw (twice, c.places-2.ensures) at c.rest_ready-rest.ensures.slept in
+    let woken = rw (← c.rest_ready-rest.ensures.woke, c.places.ensures) at c.turn_all.ensures.woke in
+    record {
+      collide = turned;
+      ticks = ticks;
+      phase = rw (twice, c.joints.ensures, c.as_slice.ensures.value) at c.rest_ready-rest.ensures.acting;
+      bodies = rw twice at c.rest_ready-rest.ensures.bodies;
+      gain_x = rw twice at c.rest_ready-rest.ensures.x;
+      gain_y = rw twice at c.rest_ready-rest.ensures.y;
+      begin = c.from_lists.ensures.begin_kept c.in_ok-changes.ensures.begin_rises ∙ rw c.bodies.ensures at c.in_ok-changes.ensures.begin;
+      end = c.from_lists.ensures.end_kept c.in_ok-changes.ensures.end_rises ∙ rw c.bodies.ensures at c.in_ok-changes.ensures.end;
+      slept = c.from_lists.ensures.slept_kept (subst (λ (hs : List Handle). IsStrictlyIncreasing (map slot_of hs)) (sym fell) (slept_rise w c.unsigned_abs.result c.self.inside.sets.acting c.solve-sums.new.bodies.bodies c.solve-sums.new.joints.joints c.solve-sums.new.contacts c.solve-sums.result c.rest_ready-rest.new.sets.acting.labels c.self.invariant ticks)) ∙ fell;
+      woke = c.from_lists.ensures.woke_kept (subst (λ (hs : List Handle). IsStrictlyIncreasing (map slot_of hs)) (sym woken) (woke_rise w c.self.inside.sets.acting c.turn_all.new.sets.acting c.turn_all.new.bodies.bodies c.in_ok-changes.changes.now c.self.invariant turned)) ∙ woken;
+    }
 
 pub invariant_of-self-2 : goal.invariant_of-self-2
 invariant_of-self-2 c =
     let w : World = the_view c.self.inside in
-    let bodies = c.self.inside.bodies.bodies in
-    let sums : StepSums = c.run-sums.result in
     let calls : c.self.inside.calls < 2 ^ 40 = rw (← c.self.view_is) at c.requires in
-    let r : Run = ran c.unsigned_abs.result c.self.inside.gravity (start (states_of bodies) (all_rows c.gather_rows.new.rows)) in
-    let is_now : c.in_ok-changes.changes.now ≡ contacts_after bodies c.self.inside.joints.joints c.self.inside.contacts = rw c.bodies.ensures at c.in_ok-changes.ensures.now in
-    let left : List ConstraintRow = all_rows c.run-sums.new.rows in
-    let is_joints : c.put_impulses.new.joints.joints ≡ joints_left w left = rw c.as_slice-2.ensures at c.put_impulses.ensures.joints in
-    let put : c.put_impulses.new.contacts ≡ with_rows c.in_ok-changes.changes.now (contacts_among left) = rw c.as_slice-2.ensures at c.put_impulses.ensures.value in
-    let is_contacts : c.put_impulses.new.contacts ≡ contacts_left w left = put ∙ ap (λ (es : List ContactEntry). with_rows es (contacts_among left)) is_now in
-    let turned_to : c.turn_colours.new.colours.lists ≡ turned bodies c.self.inside.colours.lists (collided_in w).begin (collided_in w).end =
-    rw (c.bodies-3.ensures, c.in_ok-reserve-2.ensures.lists, c.deref.ensures.value, c.deref-2.ensures.value, c.in_ok-changes.ensures.begin, c.in_ok-changes.ensures.end, c.bodies.ensures) at c.turn_colours.ensures.lists in
-    let is_lists : c.turn_colours.new.colours.lists ≡ lists_in w = turned_to ∙ ap (λ (old : Lists). turned bodies old (collided_in w).begin (collided_in w).end) c.self.invariant.members in
-    let step : IsStep bodies c.run-sums.new.self.bodies sums = record {
-      bodies = c.run-sums.ensures.all_bodies;
-      slots = c.run-sums.ensures.slots;
-      small = c.run-sums.ensures.small;
-      momentum_x = c.run-sums.ensures.momentum_x;
-      momentum_y = c.run-sums.ensures.momentum_y;
-    } in
-    rw (c.book_step.ensures.entries, c.book_step.ensures.settled, c.in_ok-reserve.ensures.entries, c.in_ok-reserve.ensures.settled)
-    (step_whole w c.self.inside.colours.lists c.run-sums.new.self.bodies c.put_impulses.new.joints.joints c.put_impulses.new.contacts c.turn_colours.new.colours.lists r.states left sums c.events_of.result (length bodies)
-    c.run-sums.ensures.bodies is_joints is_contacts is_lists c.self.invariant calls step (subst AreKeysRising (c.as_slice.ensures.value ∙ is_now) c.as_slice.ensures.contacts.rising) c.run-sums.ensures.rows)
+    let between : is_between (pos 1) (pos 8) c.args.ticks ≡ true = search (rules, tests) in
+    let count : c.unsigned_abs.result ≡ unsigned_abs c.args.ticks = grind (arith, to_z-of_z) in
+    let few : c.unsigned_abs.result ≤ 8 = rw count (few_ticks c.args.ticks between) in
+    rw (c.book_rest.ensures.entries, c.book_rest.ensures.settled, c.in_ok-reserve.ensures.entries, c.in_ok-reserve.ensures.settled)
+    (whole w _ _ _ (step_is_left w c.unsigned_abs.result c.self.inside.sets.acting c.turn_all.new.sets.acting c.rest_ready-rest.new.sets.acting c.turn_all.new.bodies.bodies c.solve-sums.new.bodies.bodies c.rest_ready-rest.new.bodies.bodies c.solve-sums.new.joints.joints c.in_ok-changes.changes.now c.solve-sums.new.contacts
+    c.solve-sums.result c.rest_ready-rest.result.x c.rest_ready-rest.result.y c.from_lists.result c.self.invariant calls few (are_left c)))
 
 pub returns : goal.returns
 returns c =
     let w : World = the_view c.self.inside in
-    let bodies = c.self.inside.bodies.bodies in
+    let calls : c.self.inside.calls < 2 ^ 40 = rw (← c.self.view_is) at c.requires in
     let between : is_between (pos 1) (pos 8) c.args.ticks ≡ true = search (rules, tests) in
     let count : c.unsigned_abs.result ≡ unsigned_abs c.args.ticks = grind (arith, to_z-of_z) in
-    let before : Run = ran c.unsigned_abs.result c.self.inside.gravity (start (states_of bodies) (all_rows c.gather_rows.new.rows)) in
-    let r : Run = ran_in w (unsigned_abs c.args.ticks) in
-    let turned_to : c.turn_colours.new.colours.lists ≡ turned bodies c.self.inside.colours.lists (collided_in w).begin (collided_in w).end =
-    rw (c.bodies-3.ensures, c.in_ok-reserve-2.ensures.lists, c.deref.ensures.value, c.deref-2.ensures.value, c.in_ok-changes.ensures.begin, c.in_ok-changes.ensures.end, c.bodies.ensures) at c.turn_colours.ensures.lists in
-    let is_lists : c.turn_colours.new.colours.lists ≡ lists_in w = turned_to ∙ ap (λ (old : Lists). turned bodies old (collided_in w).begin (collided_in w).end) c.self.invariant.members in
-    let same : before ≡ r =
-    rw (count, c.gather_rows.ensures.value, c.states.ensures, c.joints.ensures, c.as_slice.ensures.value, is_lists, c.in_ok-changes.ensures.now, c.bodies.ensures) refl in
-    let is_now : c.in_ok-changes.changes.now ≡ contacts_after bodies c.self.inside.joints.joints c.self.inside.contacts = rw c.bodies.ensures at c.in_ok-changes.ensures.now in
-    let rises : AreKeysRising (contacts_after bodies c.self.inside.joints.joints c.self.inside.contacts) = subst AreKeysRising (c.as_slice.ensures.value ∙ is_now) c.as_slice.ensures.contacts.rising in
-    let run : run_of r.states (all_rows c.run-sums.new.rows) c.run-sums.result ≡ r = subst (λ (q : Run). run_of q.states (all_rows c.run-sums.new.rows) c.run-sums.result ≡ q) same c.run-sums.ensures.run in
-    let is_bodies : c.run-sums.new.self.bodies ≡ renewed_bodies (with_motions bodies r.states) = c.run-sums.ensures.bodies ∙ ap (λ (q : Run). renewed_bodies (with_motions bodies q.states)) same in
-    let is_joints : c.put_impulses.new.joints.joints ≡ joints_left w (all_rows c.run-sums.new.rows) = rw c.as_slice-2.ensures at c.put_impulses.ensures.joints in
-    rw (← c.self.view_is, c.events_of.ensures, is_bodies, is_joints, c.put_impulses.ensures.value, c.as_slice-2.ensures, is_lists, c.in_ok-changes.ensures.now, c.in_ok-changes.ensures.begin, c.in_ok-changes.ensures.end, c.bodies.ensures, c.book_step.ensures.entries, c.book_step.ensures.settled, c.in_ok-reserve.ensures.entries, c.in_ok-reserve.ensures.settled)
-    (step_answers w c.args.ticks r.states (all_rows c.run-sums.new.rows) c.run-sums.result (kept_sound w c.self.invariant.sound) rises between run)
+    let few : c.unsigned_abs.result ≤ 8 = rw count (few_ticks c.args.ticks between) in
+    rw (← c.self.view_is)
+    (step_answers w c.args.ticks c.unsigned_abs.result _ c.rest_ready-rest.new.sets.acting between count
+    (rw (c.book_rest.ensures.entries, c.book_rest.ensures.settled, c.in_ok-reserve.ensures.entries, c.in_ok-reserve.ensures.settled)
+    (step_is_left w c.unsigned_abs.result c.self.inside.sets.acting c.turn_all.new.sets.acting c.rest_ready-rest.new.sets.acting c.turn_all.new.bodies.bodies c.solve-sums.new.bodies.bodies c.rest_ready-rest.new.bodies.bodies c.solve-sums.new.joints.joints c.in_ok-changes.changes.now c.solve-sums.new.contacts
+    c.solve-sums.result c.rest_ready-rest.result.x c.rest_ready-rest.result.y c.from_lists.result c.self.invariant calls few (are_left c))))

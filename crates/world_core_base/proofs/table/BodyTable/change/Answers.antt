@@ -1,5 +1,6 @@
 use Rattle.std.proofs.Common.{◌≡◌, ◌<◌, length, Option, ap, sym, ◌∙◌, arith}
 use Rattle.std.specs.Prelude.{option_map}
+use Rattle.std.proofs.lemmas.List.{length-set}
 use Rattle.colour_solver.specs.States.{carried_of, movers_of}
 use Rattle.plain_world.specs.declared.body.Body.{Body}
 use Rattle.world_core_base.specs.Gather.{states_of}
@@ -23,6 +24,6 @@ invariant_of-self g c =
       carried = c.self.invariant.carried ∙ ap carried_of c.self.invariant.states ∙ changed_carried bodies c.args.slot o there (rw c.change_slot.ensures.value at c.change_slot.ensures.carried) ∙ ap carried_of (sym now);
       for_bodies = omega arith;
       for_states = omega arith;
-      for_awake = omega arith;
-      for_carried = omega arith;
+      for_awake = let long = length-set bodies c.args.slot o in let same = ap length c.change_slot.ensures.value in omega (arith, long, same, c.self.invariant.for_awake);
+      for_carried = let long = length-set bodies c.args.slot o in let same = ap length c.change_slot.ensures.value in omega (arith, long, same, c.self.invariant.for_carried);
     }

@@ -34,10 +34,12 @@ returns-clause-rows c =
 
 pub returns-clause-momentum_x : goal.returns-clause-momentum_x
 returns-clause-momentum_x c =
+    let bodies : AreBodies c.self.inside.bodies.items = rw (← c.self.view_is) at c.requires.bodies in
     rw (← c.self.view_is)
-    (c.move_bodies.ensures.momentum_x ∙ c.run_step-sums.ensures.momentum_x ∙ ap (λ (z : ℤ). z +ℤ added_x c.run_step-sums.result) (ap total_x c.self.invariant.states ∙ total_x-gathered c.self.inside.bodies.items))
+    (c.move_bodies.ensures.momentum_x ∙ c.run_step-sums.ensures.momentum_x ∙ ap (λ (z : ℤ). z +ℤ added_x c.run_step-sums.result) (ap total_x c.self.invariant.states ∙ total_x-gathered c.self.inside.bodies.items bodies))
 
 pub returns-clause-momentum_y : goal.returns-clause-momentum_y
 returns-clause-momentum_y c =
+    let bodies : AreBodies c.self.inside.bodies.items = rw (← c.self.view_is) at c.requires.bodies in
     rw (← c.self.view_is)
-    (c.move_bodies.ensures.momentum_y ∙ c.run_step-sums.ensures.momentum_y ∙ ap (λ (z : ℤ). z +ℤ added_y c.run_step-sums.result) (ap total_y c.self.invariant.states ∙ total_y-gathered c.self.inside.bodies.items))
+    (c.move_bodies.ensures.momentum_y ∙ c.run_step-sums.ensures.momentum_y ∙ ap (λ (z : ℤ). z +ℤ added_y c.run_step-sums.result) (ap total_y c.self.invariant.states ∙ total_y-gathered c.self.inside.bodies.items bodies))

@@ -1,9 +1,9 @@
 use Rattle.std.proofs.Common.{◌≡◌, ◌∷◌, ◌++◌, [], ◌+◌, ◌-◌, ◌<◌, ◌≤◌, ◌^◌, ℕ, List, length, arith, sym, ap, ◌∙◌, subst, length-append}
 use Rattle.std.specs.Prelude.{slice_index_or, slice_set}
 use Rattle.seat_book.specs.History.{IsPast, entry, known}
-use Rattle.world_core.specs.World.{World}
-use Rattle.world_core.specs.Replay.{after}
-use Rattle.world_core.specs.Laws.{impulse_of}
+use Rattle.world_rules.specs.World.{World}
+use Rattle.world_rules.specs.Replay.{after}
+use Rattle.world_rules.specs.Laws.{impulse_of}
 use Rattle.world_lock.specs.Journals.{Line, line}
 use Rattle.world_lock.specs.Tallies.{no_calls, with_call}
 use Rattle.world_lock.specs.Histories.{Known, next_number, standing}

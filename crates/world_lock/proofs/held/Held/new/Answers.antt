@@ -1,5 +1,5 @@
 use Rattle.std.proofs.Common.{◌≤◌, ◌^◌, subst, ap}
-use Rattle.world_core.specs.World.{World}
+use Rattle.world_rules.specs.World.{World}
 use Rattle.world_lock.proofs.Holding.{held_new}
 use Rattle.world_lock.proofs.held.Held.new.Goals as goal
 

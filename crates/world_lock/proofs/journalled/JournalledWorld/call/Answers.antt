@@ -1,5 +1,5 @@
 use Rattle.std.proofs.Common.{◌≡◌, ◌∷◌, ◌++◌, [], ap, ◌∙◌, subst}
-use Rattle.world_core.specs.Sound.{IsSound}
+use Rattle.world_rules.specs.Sound.{IsSound}
 use Rattle.world_lock.specs.Journals.{line, opening_of}
 use Rattle.world_lock.proofs.Replaying.{journalled_call, opening_stays}
 use Rattle.world_lock.proofs.journalled.JournalledWorld.call.Goals as goal

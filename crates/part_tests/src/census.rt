@@ -1,0 +1,151 @@
+//! The census: a static body, a disabled one, an awake one and two sleeping sets, with joints and contacts.
+
+use body_handles::{Handle, Place};
+use contacts_base::{Contact, ContactEntry, ContactKey, ContactPoint, ShapeId, Surface};
+use fixed_geom::{Refusal, Rot, Vec2};
+use joint_rows::Joint;
+use momenta::{MassData, Motion};
+use plain_world::{Body, BodyJoint, FatBoxes, Kind};
+use shapes::Shapes;
+use solver_sets::{Census, Item, take_census};
+use std::alloc::Global;
+use std::test::Fail;
+
+const ORIGIN: Vec2 = Vec2 { x: 0, y: 0 };
+
+const PLACE: Place = Place {
+    generation: 1,
+    live: true,
+};
+
+const NO_MASS: MassData = MassData {
+    mass: 0,
+    inertia: 0,
+};
+
+fn body(alloc: Global, kind: Kind, enabled: bool, asleep: Option<u32>) -> Body {
+    Body {
+        kind,
+        mass: NO_MASS,
+        motion: Motion::at_rest(ORIGIN, Rot { c: 1 << 30, s: 0 }),
+        shapes: Shapes::new(alloc),
+        fats: FatBoxes::new(alloc),
+        timer: 0,
+        enabled,
+        asleep,
+    }
+}
+
+fn joint(a: u32, b: u32) -> BodyJoint {
+    BodyJoint {
+        a,
+        b,
+        collide: false,
+        joint: Joint {
+            from: ORIGIN,
+            to: ORIGIN,
+            length: 0,
+            impulse: 0,
+        },
+    }
+}
+
+fn key(a: u32, b: u32) -> ContactKey {
+    ContactKey {
+        first: ShapeId { slot: a, index: 0 },
+        second: ShapeId { slot: b, index: 0 },
+    }
+}
+
+fn apart(a: u32, b: u32) -> ContactEntry {
+    ContactEntry {
+        key: key(a, b),
+        surface: Surface {
+            friction: 0,
+            restitution: 0,
+        },
+        contact: Contact {
+            first: None,
+            second: None,
+        },
+    }
+}
+
+fn touching(a: u32, b: u32) -> ContactEntry {
+    let point = ContactPoint {
+        normal: ORIGIN,
+        separation: 0,
+        ra: ORIGIN,
+        rb: ORIGIN,
+        normal_impulse: 0,
+        tangent_impulse: 0,
+        candidate: 0,
+    };
+    ContactEntry {
+        contact: Contact {
+            first: Some(point),
+            second: None,
+        },
+        ..apart(a, b)
+    }
+}
+
+/// The ground, a disabled mover, an awake one, a pair that sleeps under 3, and one that sleeps under 5.
+fn census(alloc: Global) -> Result<Census, Refusal> {
+    let bodies = [
+        Some(body(alloc, Kind::Static, true, None)),
+        Some(body(alloc, Kind::Dynamic, false, None)),
+        Some(body(alloc, Kind::Dynamic, true, None)),
+        Some(body(alloc, Kind::Dynamic, true, Some(3))),
+        Some(body(alloc, Kind::Dynamic, true, Some(3))),
+        Some(body(alloc, Kind::Dynamic, true, Some(5))),
+    ];
+    let places = [PLACE, PLACE, PLACE, PLACE, PLACE, PLACE];
+    let joints = [Some(joint(3, 4)), Some(joint(1, 2)), Some(joint(0, 2))];
+    let joint_places = [PLACE, PLACE, PLACE];
+    let contacts = [apart(0, 2), touching(0, 5), apart(3, 5)];
+    take_census(alloc, &places, &bodies, &joint_places, &joints, &contacts)
+}
+
+fn of_body(slot: u32) -> Item {
+    Item::Body(Handle {
+        slot,
+        generation: 1,
+    })
+}
+
+fn of_joint(slot: u32) -> Item {
+    Item::Joint(Handle {
+        slot,
+        generation: 1,
+    })
+}
+
+#[test]
+fn lists_what_stands_in_each_set(rt: HostRuntime) -> Result<(), Fail> {
+    let census = census(rt.alloc())?;
+    assert_eq!(rt; census.static_set(), [of_body(0)].as_slice());
+    let disabled = [of_body(1), of_joint(1), Item::Contact(key(3, 5))];
+    assert_eq!(rt; census.disabled(), disabled.as_slice());
+    let awake = [of_body(2), of_joint(2), Item::Contact(key(0, 2))];
+    assert_eq!(rt; census.awake(), awake.as_slice());
+    Ok(())
+}
+
+#[test]
+fn lists_sleeping_sets_by_name(rt: HostRuntime) -> Result<(), Fail> {
+    let census = census(rt.alloc())?;
+    let sleeping = census.sleeping();
+    assert_eq!(rt; sleeping.len(), 2);
+    assert_eq!(rt; sleeping[0].name(), 3);
+    assert_eq!(rt;
+        sleeping[0].items(),
+        [of_body(3), of_body(4), of_joint(0)].as_slice()
+    );
+    assert_eq!(rt; sleeping[1].name(), 5);
+    assert_eq!(rt;
+        sleeping[1].items(),
+        [of_body(5), Item::Contact(key(0, 5))].as_slice()
+    );
+    Ok(())
+}

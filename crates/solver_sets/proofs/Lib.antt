@@ -1,0 +1,16 @@
+pub mod SlotLemmas
+pub mod ListLaws
+pub mod BondLaws
+pub mod TieLaws
+pub mod MemberLaws
+pub mod JoinLaws
+pub mod BodyLaws
+pub mod CollideLaws
+pub mod ToldLaws
+pub mod ListingLaws
+pub mod MergeLaws
+pub mod TimerLaws
+pub mod SleptLaws
+pub mod CensusLaws
+pub mod ListedOnce
+pub mod EachOnceLaws

@@ -1,0 +1,9 @@
+pub mod Ties
+pub mod Joining
+pub mod Beside
+pub mod Slept
+pub mod Merging
+pub mod Tied
+pub mod Laws
+pub mod Census
+pub mod EachOnce

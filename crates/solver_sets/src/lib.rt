@@ -1,0 +1,26 @@
+//! Which constraints a world has, who stands beside whom, and what that means for the sets in which bodies sleep and wake, after Box2D's solver sets.
+//!
+//! The constraints of a world, its ties, are its joints by slot and then its touching contacts by key, each with those of its two bodies that are movers
+//! (`Ties.ties_of`). The crate says what each change of bodies, joints and contacts does to them ([`laws`]), so that what is known of ties, islands and colours
+//! in general applies to a world; which movers a change wakes (`Beside`); and which bodies have fallen asleep or woken (`Slept`).
+#![tactic(auto)]
+
+mod beside;
+mod census;
+mod changes;
+pub mod laws;
+mod sets;
+mod slept;
+mod ties;
+mod timers;
+
+pub use beside::{list_joined, list_neighbours, list_stirred};
+pub use census::{Census, Item, SleepingSet, standing_of_contact, standing_of_joint, take_census};
+pub use changes::list_changes;
+pub use sets::{begin_with, end_with};
+pub use slept::{fill_newly_asleep, fill_newly_awake};
+pub use ties::{
+    contact_movers, fill_joint_ties, joint_movers, list_joint_ties, list_ties, movers_with,
+    tie_with,
+};
+pub use timers::fill_timers;

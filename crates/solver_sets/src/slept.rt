@@ -1,0 +1,108 @@
+//! Which bodies have fallen asleep or woken since they were told last.
+
+ghost use Rattle.std.specs.Prelude.{◌≡◌, ◌≤◌, ◌<◌, ◌+◌, ◌++◌, ◌∷◌, ◌&&◌, [], cond, not, length, vec_len, vec_capacity};
+ghost use Rattle.solver_sets.specs.Slept.{handles_where, newly_asleep, newly_awake, sleeps, was_asleep};
+
+use body_handles::{Handle, Place};
+use islands::Islands;
+use plain_world::{Body, item_at};
+
+/// Whether the mover in the slot sleeps.
+fn sleeps(islands: &Islands, slot: u32) -> bool
+    ensures { result ≡ sleeps islands.now.labels slot }
+{
+    match islands.label_of(slot) {
+        None => false,
+        Some(label) => label.state.is_asleep(),
+    }
+}
+
+/// Whether the body in the slot was told that it sleeps.
+fn was_asleep(bodies: &[Option<Body>], slot: u32) -> bool
+    ensures { result ≡ was_asleep bodies.now slot }
+{
+    match item_at(bodies, slot as usize) {
+        None => false,
+        Some(body) => body.asleep.is_some(),
+    }
+}
+
+/// Adds a handle, if it passes. There is room.
+fn push_if(handles: &mut Vec<Handle>, passes: bool, handle: Handle)
+    requires { vec_len handles.old < vec_capacity handles.old }
+    ensures items { handles.new.items ≡ handles.old.items ++ cond passes (handle ∷ []) [] }
+    ensures len { vec_len handles.new ≤ vec_len handles.old + 1 }
+    ensures capacity { vec_capacity handles.old ≤ vec_capacity handles.new }
+{
+    if passes {
+        let _ = handles.push(handle);
+    }
+}
+
+/// Whether the mover in the slot sleeps, and wasn't told so yet.
+fn is_newly_asleep(bodies: &[Option<Body>], islands: &Islands, slot: u32) -> bool
+    ensures { result ≡ (sleeps islands.now.labels slot && not (was_asleep bodies.now slot)) }
+{
+    sleeps(islands, slot) && !was_asleep(bodies, slot)
+}
+
+/// Whether the body in the slot was told that it sleeps, and is awake.
+fn is_newly_awake(bodies: &[Option<Body>], islands: &Islands, slot: u32) -> bool
+    ensures { result ≡ (was_asleep bodies.now slot && not (sleeps islands.now.labels slot)) }
+{
+    was_asleep(bodies, slot) && !sleeps(islands, slot)
+}
+
+/// Lists who sleeps and wasn't told so yet, ascending. There is room for as many handles as there are slots.
+#[tactic(auto, unfolding(crate::specs::Slept::newly_asleep))]
+pub fn fill_newly_asleep(
+    handles: &mut Vec<Handle>,
+    places: &[Place],
+    bodies: &[Option<Body>],
+    islands: &Islands,
+)
+    requires room { length places.now ≤ vec_capacity handles.old }
+    requires few { length places.now ≤ 65536 }
+    ensures handles { handles.new.items ≡ newly_asleep places.now bodies.now islands.now.labels }
+    ensures capacity { vec_capacity handles.old ≤ vec_capacity handles.new }
+{
+    handles.clear();
+    for index in 0..places.len() {
+        let handle = Handle {
+            slot: index as u32,
+            generation: places[index].generation,
+        };
+        push_if(
+            handles,
+            is_newly_asleep(bodies, islands, handle.slot),
+            handle,
+        );
+    }
+}
+
+/// Lists who was told that it sleeps and is awake, ascending. There is room for as many handles as there are slots.
+#[tactic(auto, unfolding(crate::specs::Slept::newly_awake))]
+pub fn fill_newly_awake(
+    handles: &mut Vec<Handle>,
+    places: &[Place],
+    bodies: &[Option<Body>],
+    islands: &Islands,
+)
+    requires room { length places.now ≤ vec_capacity handles.old }
+    requires few { length places.now ≤ 65536 }
+    ensures handles { handles.new.items ≡ newly_awake places.now bodies.now islands.now.labels }
+    ensures capacity { vec_capacity handles.old ≤ vec_capacity handles.new }
+{
+    handles.clear();
+    for index in 0..places.len() {
+        let handle = Handle {
+            slot: index as u32,
+            generation: places[index].generation,
+        };
+        push_if(
+            handles,
+            is_newly_awake(bodies, islands, handle.slot),
+            handle,
+        );
+    }
+}

@@ -1,0 +1,387 @@
+//! A check under way. What it asks for is told as it comes, and nothing ends it early, so that each check is a list of calls.
+
+use crate::calls::{
+    Answer, apply, census_of, colour_of, copy_of, entries_of, events_of, first_static, frame_of,
+    lists_of, new_world, replay, settle, step, total, total_of, view_of,
+};
+use crate::making::{NO_GRAVITY, body_of, create_of};
+use crate::seen::{Line, Seen};
+use std::alloc::Global;
+use world_core::{
+    Body, Cause, Command, Constraint, Course, Handle, JointDef, Kind, MassData, Plain, Pose,
+    Refusal, ShapeDef, Vec2, WorldCore,
+};
+
+/// The world of a check, and the lines of all checks so far.
+#[derive(Drop)]
+pub struct Check {
+    alloc: Global,
+    world: WorldCore,
+    lines: Vec<Line>,
+    /// Memory was wanting for something that had to be seen.
+    is_cut: bool,
+}
+
+impl Check {
+    pub fn new(alloc: Global) -> Result<Check, Refusal> {
+        match new_world(alloc, NO_GRAVITY) {
+            Ok(world) => Ok(Check {
+                alloc,
+                world,
+                lines: Vec::new(alloc),
+                is_cut: false,
+            }),
+            Err(refusal) => Err(refusal),
+        }
+    }
+
+    pub fn lines(&self) -> &[Line] {
+        self.lines.as_slice()
+    }
+
+    pub fn is_cut(&self) -> bool {
+        self.is_cut
+    }
+
+    fn tell(&mut self, line: Line) {
+        if self.lines.push(line).is_err() {
+            self.is_cut = true;
+        }
+    }
+
+    /// Tells a value.
+    pub fn see(&mut self, seen: Seen) {
+        self.tell(Line::Saw(seen));
+    }
+
+    /// A check of this name begins, in an empty world.
+    pub fn begin(&mut self, name: &'static str, gravity: Vec2) {
+        self.tell(Line::Name(name));
+        match new_world(self.alloc, gravity) {
+            Ok(world) => self.world = world,
+            Err(_) => self.is_cut = true,
+        }
+    }
+
+    /// Applies a command, and tells what it answers.
+    pub fn ask(&mut self, command: &Command) {
+        let answer = apply(&mut self.world, command);
+        self.see(Seen::Answer(answer));
+    }
+
+    /// Applies a command, and tells what it answers only where it is refused.
+    pub fn apply(&mut self, command: &Command) {
+        let answer = apply(&mut self.world, command);
+        self.expect(answer);
+    }
+
+    fn expect(&mut self, answer: Answer) {
+        if answer.is_err() {
+            self.see(Seen::Answer(answer));
+        }
+    }
+
+    fn ask_made(&mut self, made: Result<Command, Refusal>) {
+        match made {
+            Ok(command) => self.ask(&command),
+            Err(_) => self.is_cut = true,
+        }
+    }
+
+    fn apply_made(&mut self, made: Result<Command, Refusal>) {
+        match made {
+            Ok(command) => self.apply(&command),
+            Err(_) => self.is_cut = true,
+        }
+    }
+
+    /// Adds a body of one shape, a static one where the mass is 0, and tells the answer.
+    pub fn ask_add(&mut self, mass: i64, x: Vec2, shape: ShapeDef) {
+        let made = create_of(self.alloc, mass, x, shape);
+        self.ask_made(made);
+    }
+
+    /// Adds such a body.
+    pub fn add(&mut self, mass: i64, x: Vec2, shape: ShapeDef) {
+        let made = create_of(self.alloc, mass, x, shape);
+        self.apply_made(made);
+    }
+
+    /// Adds a body of any kind at the origin.
+    pub fn add_of(&mut self, kind: Kind, mass: MassData, x: Vec2, shape: ShapeDef) {
+        let made = body_of(self.alloc, kind, mass, x, shape);
+        self.apply_made(made);
+    }
+
+    pub fn join(&mut self, def: JointDef) {
+        self.apply(&Command::CreateJoint(def));
+    }
+
+    pub fn push(&mut self, handle: Handle, x: i64, y: i64) {
+        self.apply(&Command::Push(handle, Vec2 { x, y }));
+    }
+
+    /// Pushes, and tells what it answers.
+    pub fn ask_push(&mut self, handle: Handle, x: i64, y: i64) {
+        self.ask(&Command::Push(handle, Vec2 { x, y }));
+    }
+
+    pub fn put(&mut self, handle: Handle, pose: Pose) {
+        self.apply(&Command::SetPose(handle, pose));
+    }
+
+    pub fn steer(&mut self, handle: Handle, course: Course) {
+        self.apply(&Command::SetVelocity(handle, course));
+    }
+
+    /// Lets ticks pass.
+    pub fn step(&mut self, ticks: i64) {
+        let answer = step(&mut self.world, ticks);
+        self.expect(answer);
+    }
+
+    /// Lets ticks pass, and tells what it answers.
+    pub fn ask_step(&mut self, ticks: i64) {
+        let answer = step(&mut self.world, ticks);
+        self.see(Seen::Answer(answer));
+    }
+
+    /// Takes so many steps.
+    pub fn steps(&mut self, count: u32, ticks: i64) {
+        for _ in 0..count {
+            self.step(ticks);
+        }
+    }
+
+    /// Replays commands, and tells what each answers.
+    pub fn replay(&mut self, commands: &[Command]) {
+        match replay(self.alloc, &mut self.world, commands) {
+            Ok(answers) => self.see_answers(answers.as_slice()),
+            Err(_) => self.is_cut = true,
+        }
+    }
+
+    fn see_answers(&mut self, answers: &[Answer]) {
+        for answer in answers {
+            self.see(Seen::Answer(*answer));
+        }
+    }
+
+    /// Goes on in a copy of the world, and gives back the world itself.
+    pub fn go_on_in_copy(&mut self) -> Option<WorldCore> {
+        match copy_of(&self.world) {
+            Ok(copy) => Some(self.exchange(copy)),
+            Err(_) => {
+                self.is_cut = true;
+                None
+            }
+        }
+    }
+
+    /// Goes back to a world that was left for its copy, and tells whether the copy still has the world's entries.
+    pub fn go_back_to(&mut self, left: Option<WorldCore>) {
+        match left {
+            Some(world) => {
+                let copy = self.exchange(world);
+                self.compare_entries(&copy);
+            }
+            None => self.is_cut = true,
+        }
+    }
+
+    fn exchange(&mut self, world: WorldCore) -> WorldCore {
+        std::mem::replace(&mut self.world, world)
+    }
+
+    fn compare_entries(&mut self, copy: &WorldCore) {
+        let are_same = entries_of(copy) == entries_of(&self.world);
+        self.see(Seen::Truth("the entries are those of the copy", are_same));
+    }
+
+    pub fn settle(&mut self) {
+        settle(&mut self.world);
+    }
+
+    pub fn see_body(&mut self, handle: Handle) {
+        let view = view_of(&self.world, handle);
+        self.see(Seen::Body(view));
+    }
+
+    pub fn see_colour(&mut self, constraint: Constraint) {
+        let colour = colour_of(&self.world, constraint);
+        self.see(Seen::Colour(colour));
+    }
+
+    pub fn see_total(&mut self) {
+        let total = total(&self.world);
+        self.see(Seen::Total(None, total));
+    }
+
+    pub fn see_total_of(&mut self, cause: Cause) {
+        let total = total_of(&self.world, cause);
+        self.see(Seen::Total(Some(cause), total));
+    }
+
+    /// Tells the entries of the book but the first ones, so many, or that there are none.
+    pub fn see_entries_after(&mut self, skipped: usize) {
+        let count = entries_of(&self.world).len();
+        if count <= skipped {
+            self.see(Seen::Count("entries", 0));
+        }
+        for index in skipped..count {
+            if let Some(entry) = entries_of(&self.world).get(index).copied() {
+                self.see(Seen::Entry(entry));
+            }
+        }
+    }
+
+    /// Tells all entries of the book, or that there are none.
+    pub fn see_entries(&mut self) {
+        self.see_entries_after(0);
+    }
+
+    /// Tells what the last step told.
+    pub fn see_events(&mut self) {
+        let before = self.lines.len();
+        self.see_meetings();
+        self.see_sleepers();
+        if self.lines.len() == before {
+            self.see(Seen::NoEvents);
+        }
+    }
+
+    fn see_meetings(&mut self) {
+        for index in 0..events_of(&self.world).begin().len() {
+            if let Some(key) = events_of(&self.world).begin().get(index).copied() {
+                self.see(Seen::Begun(key));
+            }
+        }
+        for index in 0..events_of(&self.world).end().len() {
+            if let Some(key) = events_of(&self.world).end().get(index).copied() {
+                self.see(Seen::Ended(key));
+            }
+        }
+    }
+
+    fn see_sleepers(&mut self) {
+        for index in 0..events_of(&self.world).slept().len() {
+            if let Some(handle) = events_of(&self.world).slept().get(index).copied() {
+                self.see(Seen::Slept(handle));
+            }
+        }
+        for index in 0..events_of(&self.world).woke().len() {
+            if let Some(handle) = events_of(&self.world).woke().get(index).copied() {
+                self.see(Seen::Woke(handle));
+            }
+        }
+    }
+
+    /// Tells what stands in the plain lists: how many places, bodies, contacts and touching contacts, steps and calls.
+    pub fn see_counts(&mut self) {
+        match lists_of(&self.world) {
+            Ok(lists) => self.see_counts_of(&lists),
+            Err(_) => self.is_cut = true,
+        }
+    }
+
+    fn see_counts_of(&mut self, lists: &Plain) {
+        self.see(Seen::Count("places", lists.places().len() as u64));
+        self.see(Seen::Count("bodies", lists.bodies().len() as u64));
+        self.see(Seen::Count("steps", lists.steps()));
+        self.see(Seen::Count("calls", lists.calls()));
+    }
+
+    /// Tells how many contacts there are, and how many of them touch.
+    pub fn see_contacts(&mut self) {
+        match lists_of(&self.world) {
+            Ok(lists) => self.see_contacts_of(&lists),
+            Err(_) => self.is_cut = true,
+        }
+    }
+
+    fn see_contacts_of(&mut self, lists: &Plain) {
+        let contacts = lists.contacts();
+        let touching = contacts
+            .iter()
+            .filter(|entry| entry.contact.is_touching())
+            .count();
+        self.see(Seen::Count("contacts", contacts.len() as u64));
+        self.see(Seen::Count("touching", touching as u64));
+    }
+
+    /// Tells the islands of the first bodies, so many.
+    pub fn see_islands(&mut self, slots: u32) {
+        match lists_of(&self.world) {
+            Ok(lists) => self.see_islands_of(&lists, slots),
+            Err(_) => self.is_cut = true,
+        }
+    }
+
+    fn see_islands_of(&mut self, lists: &Plain, slots: u32) {
+        for slot in 0..slots {
+            let label = lists.islands().get(slot as usize).copied().flatten();
+            self.see(Seen::Island(slot, label));
+        }
+    }
+
+    /// Tells the first body's timer and the fat box of its first shape.
+    pub fn see_fat_box(&mut self) {
+        match lists_of(&self.world) {
+            Ok(lists) => self.see_fat_box_of(lists.bodies()),
+            Err(_) => self.is_cut = true,
+        }
+    }
+
+    fn see_fat_box_of(&mut self, bodies: &[Option<Body>]) {
+        let fat = match bodies.first() {
+            Some(Some(body)) => body.fats.as_slice().first().copied(),
+            _ => None,
+        };
+        self.see(Seen::FatBox(fat));
+    }
+
+    /// Tells for how many ticks the first body was slow.
+    pub fn see_timer(&mut self) {
+        match lists_of(&self.world) {
+            Ok(lists) => self.see_timer_of(lists.bodies()),
+            Err(_) => self.is_cut = true,
+        }
+    }
+
+    fn see_timer_of(&mut self, bodies: &[Option<Body>]) {
+        if let Some(Some(body)) = bodies.first() {
+            self.see(Seen::Count("ticks slow", body.timer));
+        }
+    }
+
+    /// Tells the first body of the static set, and how many stand in the others.
+    pub fn see_census(&mut self) {
+        match census_of(&self.world) {
+            Ok(census) => {
+                self.see(Seen::Listed(first_static(&census)));
+                self.see(Seen::Count("static", census.static_set().len() as u64));
+                self.see(Seen::Count("disabled", census.disabled().len() as u64));
+                self.see(Seen::Count("awake", census.awake().len() as u64));
+            }
+            Err(_) => self.is_cut = true,
+        }
+    }
+
+    /// Tells what a frame shows: where the first body is, how many shapes it has, the momentum, the total and the number of calls.
+    pub fn see_frame(&mut self, handle: Handle) {
+        match frame_of(&self.world) {
+            Ok(frame) => {
+                let shapes = match frame.bodies().get(handle.slot as usize) {
+                    Some(Some(body)) => body.shapes.as_slice().len(),
+                    _ => 0,
+                };
+                self.see(Seen::Pose(frame.pose(handle)));
+                self.see(Seen::Count("shapes", shapes as u64));
+                self.see(Seen::Shown("momentum", frame.momentum()));
+                self.see(Seen::Shown("booked", frame.booked()));
+                self.see(Seen::Count("calls", frame.calls()));
+            }
+            Err(_) => self.is_cut = true,
+        }
+    }
+}

@@ -1,0 +1,61 @@
+//! Worlds whose values were worked by hand: each check makes a world of its own, gives it commands, and tells what it saw, a name on a
+//! line and each value on one of its own. The gate compares the lines with the stored ones.
+//!
+//! They are lines and no tests, since a test that calls a world costs the proof minutes, and a line none.
+#![tactic(auto)]
+
+mod calls;
+mod check;
+mod fat_boxes;
+mod frames;
+mod islands_apart;
+mod joints;
+mod making;
+mod meetings;
+mod one_body;
+mod parts;
+mod platforms;
+mod seen;
+mod sleeping;
+
+use check::Check;
+use std::io;
+use std::process::ExitCode;
+
+fn run_all(check: &mut Check) {
+    one_body::run(check);
+    meetings::run(check);
+    joints::run(check);
+    fat_boxes::run(check);
+    frames::run(check);
+    sleeping::run(check);
+    islands_apart::run(check);
+    parts::run(check);
+    platforms::run(check);
+}
+
+fn print<R: AllocGlobal + Print>(rt: &R, check: &Check) -> io::Result<()> {
+    for line in check.lines() {
+        println!(rt; "{line}")?;
+    }
+    Ok(())
+}
+
+/// Runs all checks. Status 3 where memory is wanting, and 1 where a line can't be written.
+fn start<R: AllocGlobal + Print>(rt: &R) -> ExitCode {
+    let Ok(mut check) = Check::new(rt.alloc()) else {
+        return ExitCode::from(3);
+    };
+    run_all(&mut check);
+    if print(rt, &check).is_err() {
+        return ExitCode::from(1);
+    }
+    if check.is_cut() {
+        return ExitCode::from(3);
+    }
+    ExitCode::SUCCESS
+}
+
+fn main(rt: HostRuntime) -> ExitCode {
+    start(&rt)
+}

@@ -1,0 +1,30 @@
+-- The colour of a constraint, found among the members of the colours and among their names.
+use Rattle.std.proofs.Common.{◌≡◌, ◌∙◌, ℕ, List, [], ◌∷◌, map, Bool, refl, sym, ap}
+use Rattle.std.specs.Prelude.{◌==◌, ◌||◌}
+use Rattle.std.specs.List.{list_any, position_or_len}
+use Rattle.std.proofs.lemmas.List.{length-map}
+use Rattle.graph_colours.specs.Colours as colours
+use Rattle.graph_colours.specs.Members.{has_id}
+use Rattle.graph_colours.proofs.SearchLemmas.{found_in_map}
+use Rattle.contacts.specs.Constraints.{constraint_number}
+use Rattle.plain_world.specs.Plain as plain
+use Rattle.plain_world.specs.Plain.{has_constraint}
+use Rattle.graph_colours.specs.declared.member.Member.{Member}
+use Rattle.graph_colours.specs.Colours.{ids_of}
+use Rattle.contacts.specs.declared.constraint.Constraint.{Constraint}
+use Rattle.solver_sets.specs.Ties.{Lists}
+
+any_id : (c : Constraint) (ms : List (Member Constraint)) → list_any (λ (m : Member Constraint). constraint_number m.id == constraint_number c) ms ≡ has_constraint c (map (λ (m : Member Constraint). m.id) ms)
+any_id c [] = refl
+any_id c (m ∷ ms) = ap (λ (rest : Bool). (constraint_number m.id == constraint_number c) || rest) (any_id c ms)
+
+id_there : (c : Constraint) (ms : List (Member Constraint)) → has_id constraint_number c ms ≡ has_constraint c (map (λ (m : Member Constraint). m.id) ms)
+unfolding has_id
+id_there c ms = any_id c ms
+
+pub colour_by_ids : (c : Constraint) (lists : Lists) → colours.colour_of constraint_number c lists ≡ plain.colour_of c (ids_of lists)
+unfolding colours.colour_of plain.colour_of
+colour_by_ids c lists =
+    let ids : List (Member Constraint) → List Constraint = map (λ (m : Member Constraint). m.id) in
+    let same : position_or_len (has_constraint c) (map ids lists) ≡ position_or_len (has_id constraint_number c) lists = found_in_map ids (has_constraint c) (has_id constraint_number c) lists (λ ms. sym (id_there c ms)) in
+    rw (same, length-map lists ids) refl

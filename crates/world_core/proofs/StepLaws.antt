@@ -1,0 +1,285 @@
+-- A step's calls, one after another: what each asks for, and that what they leave together is the world that is due.
+use Rattle.std.proofs.Common.{◌≡◌, ℕ, ◌+◌, ◌<◌, ◌≤◌, ◌^◌, ◌++◌, Bool, true, cond, List, length, map, Option, Result, Ok, Err, ℤ, pos, ◌+ℤ◌, unsigned_abs, refl, sym, ap, ◌∙◌, subst, arith}
+use Rattle.std.specs.Result.{IsErr, IsErrAnd}
+use Rattle.fixed_geom.specs.declared.refusal.Refusal.{Refusal}
+use Rattle.fixed_geom.specs.declared.refusal.Refusal.TheVariants.{NoMemory, OutOfRange}
+use Rattle.std.specs.List.Sorted.{IsStrictlyIncreasing}
+use Rattle.body_handles.specs.declared.handle.Handle.{Handle}
+use Rattle.body_handles.specs.declared.places.TheConstants.{MAX_SLOTS}
+use Rattle.colour_solver.specs.declared.ticks.StepSums.{StepSums}
+use Rattle.colour_solver.specs.Ticks.{AreSums, Run, added_x, added_y, ran, start}
+use Rattle.contacts.specs.Constraints.{constraint_number}
+use Rattle.contacts.specs.declared.constraint.Constraint.{Constraint}
+use Rattle.contacts_base.specs.Contacts.{AreKeysRising}
+use Rattle.contacts_base.specs.declared.contact.ContactEntry.{ContactEntry}
+use Rattle.event_feed.specs.Events.{EventLists}
+use Rattle.event_feed.specs.Orders.{slot_of}
+use Rattle.graph_colours.specs.Colours.{all_members, ids_of}
+use Rattle.impulse_ledger.specs.declared.entry.Cause.TheVariants as causes
+use Rattle.islands.specs.Labels.{Labels}
+use Rattle.plain_world.specs.declared.body.Body.{Body}
+use Rattle.plain_world.specs.declared.joint.BodyJoint.{BodyJoint}
+use Rattle.plain_world.specs.Bodies.{AreBodies, momentum_x, momentum_y}
+use Rattle.plain_world.specs.Joints.{AreJoints}
+use Rattle.plain_world.specs.Sleep.{AreTimersWithin, timed_bodies, told}
+use Rattle.plain_world.specs.Slots.{HaveSameSlots}
+use Rattle.shapes.specs.Shapes.{is_between}
+use Rattle.sleep_wake.specs.Acting.{Acting}
+use Rattle.sleep_wake.specs.Changes.{AreChanges, begin_count, turned}
+use Rattle.sleep_wake.specs.declared.change.Change.{Change}
+use Rattle.solver_sets.specs.Slept.{asleep_only_in, newly_asleep, newly_awake}
+use Rattle.solver_sets.specs.Ties.{key_changes}
+use Rattle.solver_sets.proofs.SleptLaws.{told_bodies_tell}
+use Rattle.world_core_base.specs.ConstraintRows.{rows_of}
+use Rattle.world_core_base.specs.Gather.{AreContactsOf, states_of}
+use Rattle.world_core_base.specs.Renewal.{renewed_bodies}
+use Rattle.world_core_base.specs.Solving.{Solving, bodies_of, solve_order, solved}
+use Rattle.world_core_base.proofs.SolvingLaws.{arrays_are_solving}
+use Rattle.world_core.specs.Inside.{IsWhole}
+use Rattle.world_core.proofs.PartLaws.{kept_of}
+use Rattle.world_core.proofs.RisingLaws.{contacts_after_rise}
+use Rattle.world_rules.specs.Apply.{Answers, Applied, apply_step, bodies_ticked, booked, events_of, gained_x, gained_y, rest_entries, rested_acting, step_done, step_entries, world_with}
+use Rattle.world_rules.specs.declared.command.Reply.{Reply}
+use Rattle.world_rules.specs.declared.command.Reply.TheVariants as replies
+use Rattle.world_rules.specs.Gathering.{CanGather}
+use Rattle.world_rules.specs.Sets.{acting_of}
+use Rattle.world_rules.specs.Sound.{AreTold}
+use Rattle.world_rules.specs.World.{World}
+use Rattle.world_rules.proofs.AcceptedAll.{solved_in}
+use Rattle.world_rules.proofs.ChangeLemmas.{tied_alike}
+use Rattle.world_rules.proofs.GatherLaws.{can_gather_collided}
+use Rattle.world_rules.proofs.KeptStep.{IsTicked, collide_kept, collided_in, collided_world, turned_in}
+use Rattle.world_rules.proofs.PartsLeft.{IsLeft}
+use Rattle.world_rules.proofs.SoundLaws.{IsKept, kept_sound}
+use Rattle.world_rules.proofs.ToldLaws.{length_told}
+use Rattle.world_rules.proofs.StepCalls.{CanTurn, can_turn, step_left, timers_within, woke_is}
+use Rattle.world_rules.proofs.StepParts.{asleep_rise, ticked_in, told_as}
+use Rattle.world_rules.proofs.TickedLaws.{AreInSameCondition, alike_then, moved_conditions, timed_alike, timed_told, told_conditions}
+
+-- ---- the collide
+
+-- the contacts that the collide finds ascend
+rises_in : (w : World) (s : Acting Constraint) → IsWhole w s → AreKeysRising (collided_in w).now
+rises_in w s is = contacts_after_rise w.plain.bodies w.plain.joints w.plain.contacts (kept_of w s is).matched.few (kept_of w s is).bodies
+
+-- the changes are those that the collide finds
+abbrev pub AreFound : World → List (Change Constraint) → Type 0
+AreFound w changes = changes ≡ key_changes w.plain.bodies (collided_in w).begin (collided_in w).end
+
+pub can_turn_found : (w : World) (s t : Acting Constraint) (changes : List (Change Constraint)) → IsWhole w s → t ≡ s → AreFound w changes → AreChanges constraint_number t.labels t.ties changes
+can_turn_found w s t changes is same found =
+    let acting : t ≡ acting_of w.plain = same ∙ is.same in
+    subst (λ (a : Acting Constraint). AreChanges constraint_number a.labels a.ties changes) (sym acting)
+    (subst (λ (cs : List (Change Constraint)). AreChanges constraint_number (acting_of w.plain).labels (acting_of w.plain).ties cs) (sym found) (can_turn w (kept_of w s is) (rises_in w s is)).changes)
+
+-- there is room for what begins
+pub room_found : (w : World) (s t : Acting Constraint) (changes : List (Change Constraint)) (n room : ℕ) → IsWhole w s → t ≡ s → AreFound w changes → n ≡ length (collided_in w).begin
+    → length s.ties + n ≤ room → length t.ties + begin_count changes ≤ room
+room_found w s t changes n room is same found count h =
+    let few : begin_count changes ≤ length (collided_in w).begin = subst (λ (cs : List (Change Constraint)). begin_count cs ≤ length (collided_in w).begin) (sym found) (can_turn w (kept_of w s is) (rises_in w s is)).count in
+    let long : length t.ties ≡ length s.ties = ap (λ (a : Acting Constraint). length a.ties) same in
+    omega (arith, few, long, count, h)
+
+-- what acts, the bodies and the contacts, once all that begins and ends had its turn
+pub record HasTurned (w : World) (now : Acting Constraint) (there : List (Option Body)) (found : List ContactEntry) : Type 0 where
+  pub acting : now ≡ turned_in w
+  pub bodies : there ≡ (collided_world w).plain.bodies
+  pub contacts : found ≡ (collided_in w).now
+
+pub has_turned : (w : World) (s t now : Acting Constraint) (changes : List (Change Constraint)) (bodies : List (Option Body)) (contacts : List ContactEntry) → IsWhole w s → t ≡ s → AreFound w changes
+    → now ≡ turned constraint_number changes t → bodies ≡ told now.labels w.plain.bodies → contacts ≡ (collided_in w).now → HasTurned w now bodies contacts
+has_turned w s t now changes bodies contacts is same found turn tell are =
+    let acting : t ≡ acting_of w.plain = same ∙ is.same in
+    let all : now ≡ turned_in w = turn ∙ ap (λ (cs : List (Change Constraint)). turned constraint_number cs t) found ∙ ap (turned constraint_number (key_changes w.plain.bodies (collided_in w).begin (collided_in w).end)) acting in
+    record {
+      acting = all;
+      bodies = tell ∙ ap (λ (a : Acting Constraint). told a.labels w.plain.bodies) all;
+      contacts = are;
+    }
+
+-- ---- what the ticks ask for
+
+pub few_turned : (w : World) (s now : Acting Constraint) (bodies : List (Option Body)) (contacts : List ContactEntry) → IsWhole w s → HasTurned w now bodies contacts → length bodies ≤ MAX_SLOTS
+few_turned w s now bodies contacts is h = subst (λ (bs : List (Option Body)). length bs ≤ MAX_SLOTS) (sym h.bodies) (collide_kept w (kept_of w s is) (rises_in w s is)).kept.matched.few
+
+pub bodies_turned : (w : World) (s now : Acting Constraint) (bodies : List (Option Body)) (contacts : List ContactEntry) → IsWhole w s → HasTurned w now bodies contacts → AreBodies bodies
+bodies_turned w s now bodies contacts is h = subst AreBodies (sym h.bodies) (collide_kept w (kept_of w s is) (rises_in w s is)).kept.bodies
+
+pub can_solve_turned : (w : World) (s now : Acting Constraint) (bodies : List (Option Body)) (contacts : List ContactEntry) → IsWhole w s → HasTurned w now bodies contacts → CanGather bodies w.plain.joints contacts now.lists
+can_solve_turned w s now bodies contacts is h =
+    subst (λ (bs : List (Option Body)). CanGather bs w.plain.joints contacts now.lists) (sym h.bodies)
+    (subst (λ (es : List ContactEntry). CanGather (collided_world w).plain.bodies w.plain.joints es now.lists) (sym h.contacts)
+    (subst (λ (a : Acting Constraint). CanGather (collided_world w).plain.bodies w.plain.joints (collided_in w).now a.lists) (sym h.acting) (can_gather_collided w (kept_of w s is) (rises_in w s is))))
+
+pub room_turned : (w : World) (s t now : Acting Constraint) (bodies : List (Option Body)) (contacts : List ContactEntry) (n room : ℕ) → IsWhole w s → HasTurned w now bodies contacts → t ≡ s
+    → n ≡ length (collided_in w).begin → length t.ties + n ≤ room → length (all_members now.lists) ≤ room
+room_turned w s t now bodies contacts n room is h same count enough =
+    let few : length (all_members now.lists) ≤ length (acting_of w.plain).ties + length (collided_in w).begin =
+    subst (λ (a : Acting Constraint). length (all_members a.lists) ≤ length (acting_of w.plain).ties + length (collided_in w).begin) (sym h.acting) (can_turn w (kept_of w s is) (rises_in w s is)).coloured in
+    let long : length t.ties ≡ length (acting_of w.plain).ties = ap (λ (a : Acting Constraint). length a.ties) (same ∙ is.same) in
+    omega (arith, few, long, count, enough)
+
+-- ---- what the ticks leave
+
+-- the bodies, the joints, the contacts and the sums after the ticks
+pub record HasSolved (w : World) (n : ℕ) (left : List (Option Body)) (js : List (Option BodyJoint)) (es : List ContactEntry) (added : StepSums) : Type 0 where
+  pub bodies : left ≡ renewed_bodies (bodies_of (solved_in w n))
+  pub joints : js ≡ (solved_in w n).joints
+  pub contacts : es ≡ (solved_in w n).contacts
+  pub sums : added ≡ (solved_in w n).sums
+  pub ticked : IsTicked (collided_world w).plain (renewed_bodies (bodies_of (solved_in w n))) (solved_in w n).joints (solved_in w n).contacts (solved_in w n).sums
+
+-- what the ticks leave of bodies and contacts
+abbrev pub solved_from : World → ℕ → Acting Constraint → List (Option Body) → List ContactEntry → Solving
+solved_from w n now bodies contacts = solved n w.plain.gravity (solve_order (ids_of now.lists)) bodies w.plain.joints contacts
+
+-- what the code's call answers of it
+pub record AreTicks (before left : List (Option Body)) (js : List (Option BodyJoint)) (es : List ContactEntry) (sums : StepSums) : Type 0 where
+  pub bodies : AreBodies left
+  pub slots : HaveSameSlots before left
+  pub small : AreSums (2 ^ 83) sums
+  pub gain_x : momentum_x left ≡ momentum_x before +ℤ added_x sums
+  pub gain_y : momentum_y left ≡ momentum_y before +ℤ added_y sums
+  pub joints : AreJoints before js
+  pub pairs : AreContactsOf before es
+
+pub has_solved : (w : World) (n : ℕ) (s now : Acting Constraint) (before bodies : List (Option Body)) (joints : List (Option BodyJoint)) (found contacts : List ContactEntry) (sums : StepSums) → IsWhole w s
+    → HasTurned w now before found → bodies ≡ renewed_bodies (bodies_of (solved_from w n now before found)) → joints ≡ (solved_from w n now before found).joints → contacts ≡ (solved_from w n now before found).contacts → sums ≡ (solved_from w n now before found).sums
+    → AreTicks before bodies joints contacts sums → HasSolved w n bodies joints contacts sums
+has_solved w n s now before bodies joints found contacts sums is h is_bodies is_joints is_contacts is_sums t =
+    let same : solved_from w n now before found ≡ solved_in w n =
+    ap (λ (a : Acting Constraint). solved_from w n a before found) h.acting ∙ ap (λ (bs : List (Option Body)). solved_from w n (turned_in w) bs found) h.bodies ∙ ap (solved_from w n (turned_in w) (collided_world w).plain.bodies) h.contacts in
+    let to_bodies : bodies ≡ renewed_bodies (bodies_of (solved_in w n)) = is_bodies ∙ ap (λ (q : Solving). renewed_bodies (bodies_of q)) same in
+    let to_joints : joints ≡ (solved_in w n).joints = is_joints ∙ ap (λ (q : Solving). q.joints) same in
+    let to_contacts : contacts ≡ (solved_in w n).contacts = is_contacts ∙ ap (λ (q : Solving). q.contacts) same in
+    let to_sums : sums ≡ (solved_in w n).sums = is_sums ∙ ap (λ (q : Solving). q.sums) same in
+    let u : AreTicks (collided_world w).plain.bodies bodies joints contacts sums = subst (λ (bs : List (Option Body)). AreTicks bs bodies joints contacts sums) h.bodies t in
+    record {
+      bodies = to_bodies;
+      joints = to_joints;
+      contacts = to_contacts;
+      sums = to_sums;
+      ticked = ticked_in w n bodies joints contacts sums (kept_of w s is) (rises_in w s is) to_bodies to_joints to_contacts to_sums u.bodies u.slots u.small u.gain_x u.gain_y u.joints u.pairs;
+    }
+
+-- ---- what the sleep phase asks for
+
+pub few_solved : (w : World) (n : ℕ) (s : Acting Constraint) (bodies : List (Option Body)) (joints : List (Option BodyJoint)) (contacts : List ContactEntry) (sums : StepSums) → IsWhole w s → HasSolved w n bodies joints contacts sums → length bodies ≤ MAX_SLOTS
+few_solved w n s bodies joints contacts sums is h =
+    let few : length (collided_world w).plain.bodies ≤ MAX_SLOTS = (collide_kept w (kept_of w s is) (rises_in w s is)).kept.matched.few in
+    let long : length bodies ≡ length (collided_world w).plain.bodies = ap (λ (bs : List (Option Body)). length bs) h.bodies ∙ h.ticked.slots.slots in
+    omega (arith, few, long)
+
+pub timers_room : (w : World) (n : ℕ) (s : Acting Constraint) (bodies : List (Option Body)) (joints : List (Option BodyJoint)) (contacts : List ContactEntry) (sums : StepSums) → IsWhole w s → HasSolved w n bodies joints contacts sums → length bodies ≡ length w.plain.bodies
+timers_room w n s bodies joints contacts sums is h = ap (λ (bs : List (Option Body)). length bs) h.bodies ∙ h.ticked.slots.slots ∙ length_told (turned_in w).labels w.plain.bodies
+
+pub timers_solved : (w : World) (n : ℕ) (s : Acting Constraint) (bodies : List (Option Body)) (joints : List (Option BodyJoint)) (contacts : List ContactEntry) (sums : StepSums) → IsWhole w s → HasSolved w n bodies joints contacts sums → AreTimersWithin (2 ^ 44) bodies
+timers_solved w n s bodies joints contacts sums is h = subst (AreTimersWithin (2 ^ 44)) (sym h.bodies) (timers_within w (renewed_bodies (bodies_of (solved_in w n))) (kept_of w s is) h.ticked.timers)
+
+-- ---- who fell asleep
+
+-- the ticks leave the bodies told as they were
+solved_told : (w : World) (n : ℕ) → IsKept w → AreKeysRising (collided_in w).now → AreTold (renewed_bodies (bodies_of (solved_in w n))) (turned_in w).labels
+solved_told w n k rises =
+    let now : World = collided_world w in
+    let can = can_gather_collided w k rises in
+    let run = arrays_are_solving n w.plain.gravity now.plain.bodies now.plain.joints now.plain.contacts (turned_in w).lists can.once in
+    let r : Run = ran n w.plain.gravity (start (states_of now.plain.bodies) (rows_of (states_of now.plain.bodies) now.plain.joints now.plain.contacts (turned_in w).lists)) in
+    let same : AreInSameCondition now.plain.bodies (renewed_bodies (bodies_of (solved_in w n))) = subst (λ (bs : List (Option Body)). AreInSameCondition now.plain.bodies (renewed_bodies bs)) run.bodies_left (moved_conditions now.plain.bodies r.states) in
+    told_conditions now.plain.bodies (renewed_bodies (bodies_of (solved_in w n))) (turned_in w).labels same (collide_kept w k rises).kept.told
+
+slept_is : (w : World) (n : ℕ) (labels : Labels) (js : List (Option BodyJoint)) (es : List ContactEntry) (sums : StepSums) → IsKept w → AreKeysRising (collided_in w).now → IsTicked (collided_world w).plain (renewed_bodies (bodies_of (solved_in w n))) js es sums
+    → newly_asleep w.plain.places (bodies_ticked n (solved_in w n)) labels ≡ asleep_only_in w.plain.places (turned_in w).labels labels
+slept_is w n labels js es sums k rises t =
+    let now : World = collided_world w in
+    let left : List (Option Body) = renewed_bodies (bodies_of (solved_in w n)) in
+    let alike = alike_then now.plain.bodies left (timed_bodies n left) t.alike (timed_alike n left) in
+    let tied = tied_alike now.plain.bodies (timed_bodies n left) (turned_in w).labels alike (collide_kept w k rises).kept.tied in
+    (told_bodies_tell w.plain.places (timed_bodies n left) (turned_in w).labels labels (told_as (timed_bodies n left) (turned_in w).labels tied (timed_told n left (turned_in w).labels (solved_told w n k rises)))).0
+
+-- they rise by slot, as those do that woke
+pub slept_rise : (w : World) (n : ℕ) (s : Acting Constraint) (bodies : List (Option Body)) (joints : List (Option BodyJoint)) (contacts : List ContactEntry) (sums : StepSums) (labels : Labels) → IsWhole w s → HasSolved w n bodies joints contacts sums
+    → IsStrictlyIncreasing (map slot_of (newly_asleep w.plain.places (timed_bodies n bodies) labels))
+slept_rise w n s bodies joints contacts sums labels is h =
+    let q : Solving = solved_in w n in
+    let same : newly_asleep w.plain.places (timed_bodies n bodies) labels ≡ asleep_only_in w.plain.places (turned_in w).labels labels =
+    ap (λ (bs : List (Option Body)). newly_asleep w.plain.places (timed_bodies n bs) labels) h.bodies ∙ slept_is w n labels q.joints q.contacts q.sums (kept_of w s is) (rises_in w s is) h.ticked in
+    subst (λ (hs : List Handle). IsStrictlyIncreasing (map slot_of hs)) (sym same) (asleep_rise w.plain.places (turned_in w).labels labels)
+
+pub woke_rise : (w : World) (s now : Acting Constraint) (bodies : List (Option Body)) (contacts : List ContactEntry) → IsWhole w s → HasTurned w now bodies contacts → IsStrictlyIncreasing (map slot_of (newly_awake w.plain.places w.plain.bodies now.labels))
+woke_rise w s now bodies contacts is h =
+    let same : newly_awake w.plain.places w.plain.bodies now.labels ≡ asleep_only_in w.plain.places (turned_in w).labels w.plain.islands =
+    ap (λ (a : Acting Constraint). newly_awake w.plain.places w.plain.bodies a.labels) h.acting ∙ woke_is w (kept_of w s is) in
+    subst (λ (hs : List Handle). IsStrictlyIncreasing (map slot_of hs)) (sym same) (asleep_rise w.plain.places (turned_in w).labels w.plain.islands)
+
+-- ---- the whole step
+
+-- what a step's calls have left, one after another
+pub record AreLeft (w : World) (n : ℕ) (now rested : Acting Constraint) (before left new : List (Option Body)) (joints : List (Option BodyJoint)) (found contacts : List ContactEntry) (sums : StepSums) (x y : ℤ) (events : EventLists) : Type 0 where
+  pub collide : HasTurned w now before found
+  pub ticks : HasSolved w n left joints contacts sums
+  pub phase : rested ≡ rested_acting (timed_bodies n left) joints contacts now
+  pub bodies : new ≡ told rested.labels (timed_bodies n left)
+  pub gain_x : x ≡ gained_x (timed_bodies n left) new
+  pub gain_y : y ≡ gained_y (timed_bodies n left) new
+  pub begin : events.begin ≡ (collided_in w).begin
+  pub end : events.end ≡ (collided_in w).end
+  pub slept : events.slept ≡ newly_asleep w.plain.places (timed_bodies n left) rested.labels
+  pub woke : events.woke ≡ newly_awake w.plain.places w.plain.bodies now.labels
+
+-- the world of the code's parts
+abbrev pub world_left : World → Acting Constraint → List (Option Body) → List (Option BodyJoint) → List ContactEntry → StepSums → ℤ → ℤ → EventLists → World
+world_left w rested bodies joints contacts sums x y events = record w {
+  plain = record w.plain { bodies = bodies; joints = joints; contacts = contacts; islands = rested.labels; colours = ids_of rested.lists; steps = w.plain.steps + 1; calls = w.plain.calls + 1 };
+  entries = w.entries ++ (step_entries (w.plain.calls + 1) sums ++ booked (w.plain.calls + 1) causes.Rest x y);
+  events = events;
+}
+
+pub step_is_left : (w : World) (n : ℕ) (s now rested : Acting Constraint) (before left new : List (Option Body)) (joints : List (Option BodyJoint)) (found contacts : List ContactEntry) (sums : StepSums) (x y : ℤ) (events : EventLists) → IsWhole w s → w.plain.calls < 2 ^ 40 → n ≤ 8
+    → AreLeft w n now rested before left new joints found contacts sums x y events → IsLeft w (step_done w.plain n (collided_in w)) (world_left w rested new joints contacts sums x y events) rested
+step_is_left w n s now rested before left new joints found contacts sums x y events is few ticks h =
+    let k = kept_of w s is in
+    let q : Solving = solved_in w n in
+    let ticked : List (Option Body) = bodies_ticked n q in
+    let final : Acting Constraint = rested_acting ticked q.joints q.contacts (turned_in w) in
+    let timed : timed_bodies n left ≡ ticked = ap (timed_bodies n) h.ticks.bodies in
+    let rest : rested ≡ final =
+    h.phase ∙ ap (λ (bs : List (Option Body)). rested_acting bs joints contacts now) timed ∙ ap (λ (js : List (Option BodyJoint)). rested_acting ticked js contacts now) h.ticks.joints
+    ∙ ap (λ (es : List ContactEntry). rested_acting ticked q.joints es now) h.ticks.contacts ∙ ap (rested_acting ticked q.joints q.contacts) h.collide.acting in
+    let bodies : new ≡ told final.labels ticked = h.bodies ∙ ap (λ (bs : List (Option Body)). told rested.labels bs) timed ∙ ap (λ (a : Acting Constraint). told a.labels ticked) rest in
+    let gain_x : x ≡ gained_x ticked (told final.labels ticked) = h.gain_x ∙ ap (λ (bs : List (Option Body)). gained_x bs new) timed ∙ ap (gained_x ticked) bodies in
+    let gain_y : y ≡ gained_y ticked (told final.labels ticked) = h.gain_y ∙ ap (λ (bs : List (Option Body)). gained_y bs new) timed ∙ ap (gained_y ticked) bodies in
+    let slept : events.slept ≡ asleep_only_in w.plain.places (turned_in w).labels final.labels =
+    h.slept ∙ ap (λ (bs : List (Option Body)). newly_asleep w.plain.places bs rested.labels) timed ∙ ap (λ (a : Acting Constraint). newly_asleep w.plain.places ticked a.labels) rest ∙ slept_is w n final.labels q.joints q.contacts q.sums k (rises_in w s is) h.ticks.ticked in
+    let woke : events.woke ≡ asleep_only_in w.plain.places (turned_in w).labels w.plain.islands = h.woke ∙ ap (λ (a : Acting Constraint). newly_awake w.plain.places w.plain.bodies a.labels) h.collide.acting ∙ woke_is w k in
+    let told_of : events ≡ events_of w.plain (collided_in w) (turned_in w).labels final.labels = λ j. record { begin = h.begin j; end = h.end j; slept = slept j; woke = woke j } in
+    let is_left = step_left w n q k few ticks (rises_in w s is) h.ticks.ticked in
+    record {
+      same = λ j. world_left w (rest j) (bodies j) (h.ticks.joints j) (h.ticks.contacts j) (h.ticks.sums j) (gain_x j) (gain_y j) (told_of j);
+      kept = kept_sound (world_with w (step_done w.plain n (collided_in w))) is_left.sound;
+      acting = rest ∙ is_left.same;
+    }
+
+-- ---- the answer
+
+accepted : (t : Bool) (w : World) (a : Applied) (now : World) → t ≡ true → now ≡ world_with w a → Answers (cond t (Ok a) (Err OutOfRange)) w (Ok a.reply) now
+accepted t w a now e s = rw e (refl, s)
+
+pub step_answers : (w : World) (ticks : ℤ) (n : ℕ) (now : World) (s : Acting Constraint) → is_between (pos 1) (pos 8) ticks ≡ true → n ≡ unsigned_abs ticks → IsLeft w (step_done w.plain n (collided_in w)) now s
+    → Answers (apply_step w.plain ticks) w (Ok (replies.Stepped (w.plain.steps + 1))) now
+step_answers w ticks n now s between count l =
+    accepted (is_between (pos 1) (pos 8) ticks) w (step_done w.plain (unsigned_abs ticks) (collided_in w)) now between
+    (l.same ∙ ap (λ (m : ℕ). world_with w (step_done w.plain m (collided_in w))) count)
+
+-- ---- a refusal
+
+refused_when : (t : Bool) (a : Applied) (w new : World) (r : Result Reply Refusal) → t ≡ true → r ≡ Err NoMemory → new ≡ w → Answers (cond t (Ok a) (Err OutOfRange)) w r new
+refused_when t a w new r between is same = rw (between, is) (refl, same)
+
+pub is_refusal : (r : Result Reply Refusal) (x : Refusal) → IsErr r → IsErrAnd r (λ e. e ≡ x) → x ≡ NoMemory → r ≡ Err NoMemory
+is_refusal (Ok reply) x h k e = cc
+is_refusal (Err d) x h k e = ap Err (k ∙ e)
+
+-- where memory is wanting, nothing is changed
+pub step_refused : (w new : World) (ticks : ℤ) (r : Result Reply Refusal) → is_between (pos 1) (pos 8) ticks ≡ true → r ≡ Err NoMemory → new ≡ w → Answers (apply_step w.plain ticks) w r new
+step_refused w new ticks r between is same = refused_when (is_between (pos 1) (pos 8) ticks) (step_done w.plain (unsigned_abs ticks) (collided_in w)) w new r between is same

@@ -1,0 +1,191 @@
+-- What a command leaves is whole: the world is sound, and what acts in it is kept beside its lists.
+use Rattle.std.proofs.Common.{◌≡◌, ℕ, ℤ, arith, ◌+ℤ◌, ◌+◌, ◌<◌, ◌^◌, ◌++◌, Bool, true, false, cond, List, [], ◌∷◌, Option, Some, None, Ok, replicate, refl, sym, ap, ◌∙◌, subst}
+use Rattle.std.proofs.lemmas.Int.{ints}
+use Rattle.fixed_geom.specs.Vectors.{IsWithin}
+use Rattle.fixed_geom.specs.declared.vectors.Vec2.{Vec2}
+use Rattle.body_handles.specs.declared.handle.Handle.{Handle}
+use Rattle.contacts.specs.Constraints.{constraint_number}
+use Rattle.contacts.specs.declared.constraint.Constraint.{Constraint}
+use Rattle.graph_colours.specs.Colours.{ids_of}
+use Rattle.impulse_ledger.specs.declared.entry.Cause.TheVariants as causes
+use Rattle.islands.specs.declared.label.Label.{Label}
+use Rattle.islands.specs.Labels.{Labels, label_at}
+use Rattle.plain_world.specs.Kinds.{is_kinematic}
+use Rattle.std.specs.Prelude.{option_map}
+use Rattle.std.specs.Option.{ForSome}
+use Rattle.momenta.specs.declared.motion.Momenta.{Momenta}
+use Rattle.shapes.specs.Poses.{IsPose}
+use Rattle.shapes.specs.declared.pose.Pose.{Pose}
+use Rattle.plain_world.specs.declared.body.Body.{Body}
+use Rattle.plain_world.specs.declared.kind.Course.{Course}
+use Rattle.plain_world.specs.Bodies.{AreBodies, IsBody, momentum_x, momentum_y}
+use Rattle.plain_world.specs.Slots.{body_at}
+use Rattle.plain_world.specs.Changes.{CanPose}
+use Rattle.plain_world.specs.Changes.{put_course, put_momenta, put_pose}
+use Rattle.plain_world.specs.Plain.{Plain}
+use Rattle.plain_world.specs.Sleep.{told, told_body}
+use Rattle.sleep_wake.specs.Acting.{Acting, acting}
+use Rattle.graph_colours.specs.declared.limits.TheConstants.{COLOURS}
+use Rattle.solver_sets.specs.Ties as ties
+use Rattle.world_rules.proofs.KeptEmpty.{empty_kept}
+use Rattle.sleep_wake.specs.Sleeping.{islands_woken, names_of, slept_at}
+use Rattle.solver_sets.specs.Beside.{stirred_by}
+use Rattle.world_rules.specs.declared.command.Reply.TheVariants as replies
+use Rattle.world_rules.specs.Apply.{Answers, apply_sleep, mover_refusal, body_changed, booked, counted, empty_world, gained_x, gained_y, posed, pushed, rest_entries, steered}
+use Rattle.world_rules.specs.Sets.{acting_of, stirred, with_acting, woken}
+use Rattle.world_rules.specs.World.{World, body_of}
+use Rattle.world_rules.proofs.ActingLaws.{IsActed, acted, waking_kept}
+use Rattle.world_rules.proofs.KeptChanges.{can_pose, counted_acting, gravity_acting, gravity_kept, pose_acting, pose_kept, push_acting, push_kept, velocity_acting, velocity_kept, wake_kept}
+use Rattle.world_rules.proofs.KeptSleep.{sleep_kept, slept_acting}
+use Rattle.world_rules.proofs.SlotLemmas.{body_at-in}
+use Rattle.world_rules.proofs.ToldLaws.{body_told, told_is, told_stays}
+use Rattle.world_rules.proofs.SoundLaws.{IsKept, kept_sound, sound_kept}
+use Rattle.world_core.specs.Inside.{IsWhole}
+
+pub whole_kept : (w : World) (acting : Acting Constraint) → IsWhole w acting → IsKept w
+whole_kept w acting is = kept_sound w is.sound
+
+pub whole : (w : World) (acting : Acting Constraint) → IsKept w → acting ≡ acting_of w.plain → IsWhole w acting
+whole w acting k same = record { sound = sound_kept w k; same = same }
+
+labels_of : (w : Plain) → (acting_of w).labels ≡ w.islands
+unfolding acting_of
+labels_of w = refl
+
+-- the bodies have been told
+pub told_whole : (w : World) (acting : Acting Constraint) → IsWhole w acting → told acting.labels w.plain.bodies ≡ w.plain.bodies
+told_whole w acting is =
+    let k = whole_kept w acting is in
+    ap (λ (s : Acting Constraint). told s.labels w.plain.bodies) is.same ∙ ap (λ (ls : Labels). told ls w.plain.bodies) (labels_of w.plain) ∙ told_stays w.plain.islands w.plain.bodies k.bodies k.told
+
+-- a body that is named is one of the bodies
+found_at : (live : Bool) (o : Option Body) (b : Body) → cond live o None ≡ Some b → o ≡ Some b
+found_at true o b e = e
+found_at false o b e = cc
+
+pub named : (live : Bool) (bodies : List (Option Body)) (slot : ℕ) (b : Body) → AreBodies bodies → cond live (body_at bodies slot) None ≡ Some b → IsBody b
+named live bodies slot b all e = all slot b (body_at-in bodies slot b (found_at live (body_at bodies slot) b e))
+
+-- ---- islands that were woken first
+
+-- what acts, and the bodies, once some islands were woken
+pub record HasWoken (w : World) (slots : List ℕ) (now : Acting Constraint) (there : List (Option Body)) : Type 0 where
+  pub is : now ≡ islands_woken constraint_number (names_of w.plain.islands slots) (acting_of w.plain)
+  pub acting : now ≡ acting_of (woken w.plain slots)
+  pub bodies : there ≡ (woken w.plain slots).bodies
+
+pub has_woken : (w : World) (slots names : List ℕ) (acting now : Acting Constraint) (bodies : List (Option Body)) → IsWhole w acting → names ≡ names_of acting.labels slots
+    → now ≡ islands_woken constraint_number names acting → bodies ≡ told now.labels w.plain.bodies → HasWoken w slots now bodies
+has_woken w slots names acting now bodies is named woke tell =
+    let same : names ≡ names_of w.plain.islands slots = named ∙ ap (λ (ls : Labels). names_of ls slots) (ap (λ (s : Acting Constraint). s.labels) is.same ∙ labels_of w.plain) in
+    let all : now ≡ islands_woken constraint_number (names_of w.plain.islands slots) (acting_of w.plain) =
+    woke ∙ ap (λ (ns : List ℕ). islands_woken constraint_number ns acting) same ∙ ap (λ (s : Acting Constraint). islands_woken constraint_number (names_of w.plain.islands slots) s) is.same in
+    record {
+      is = all;
+      acting = all ∙ sym (waking_kept w slots (whole_kept w acting is)).acting;
+      bodies = tell ∙ ap (λ (s : Acting Constraint). told s.labels w.plain.bodies) all;
+    }
+
+-- a pose that can be given before islands were woken can be given after
+pub can_pose_woken : (w : World) (slots : List ℕ) (acting now : Acting Constraint) (bodies : List (Option Body)) (slot : ℕ) (o : Pose) → IsWhole w acting → HasWoken w slots now bodies → IsPose o → ForSome (body_at bodies slot) (CanPose o)
+can_pose_woken w slots acting now bodies slot o is woke pose =
+    subst (λ (bs : List (Option Body)). ForSome (body_at bs slot) (CanPose o)) (sym woke.bodies) (can_pose (record w { plain = woken w.plain slots }) slot o (waking_kept w slots (whole_kept w acting is)).kept pose)
+
+-- a kinematic body stays one when islands are woken
+kinematic_told : (label : Option Label) (o : Option Body) → ForSome o (λ (b : Body). is_kinematic b.kind ≡ true) → ForSome (option_map (told_body label) o) (λ (b : Body). is_kinematic b.kind ≡ true)
+kinematic_told label None h x e = cc
+kinematic_told label (Some b) h x e =
+    let same : told_body label b ≡ x = cc in
+    subst (λ (c : Body). is_kinematic c.kind ≡ true) same (ap is_kinematic (told_is label b).kind ∙ h b refl)
+
+pub can_steer_woken : (w : World) (now : Acting Constraint) (bodies : List (Option Body)) (slot : ℕ) → bodies ≡ told now.labels w.plain.bodies → ForSome (body_at w.plain.bodies slot) (λ (b : Body). is_kinematic b.kind ≡ true)
+    → ForSome (body_at bodies slot) (λ (b : Body). is_kinematic b.kind ≡ true)
+can_steer_woken w now bodies slot tell h =
+    subst (λ (o : Option Body). ForSome o (λ (b : Body). is_kinematic b.kind ≡ true)) (sym (ap (λ (bs : List (Option Body)). body_at bs slot) tell ∙ body_told now.labels w.plain.bodies slot))
+    (kinematic_told (label_at now.labels slot) (body_at w.plain.bodies slot) h)
+
+-- the world's lists with these
+abbrev pub lists_with : Plain → Acting Constraint → List (Option Body) → Plain
+lists_with w now bodies = record w { bodies = bodies; islands = now.labels; colours = ids_of now.lists }
+
+pub woken_lists : (w : World) (slots : List ℕ) (now : Acting Constraint) (bodies : List (Option Body)) → HasWoken w slots now bodies → lists_with w.plain now bodies ≡ woken w.plain slots
+woken_lists w slots now bodies h =
+    ap (λ (bs : List (Option Body)). lists_with w.plain now bs) h.bodies ∙ ap (λ (s : Acting Constraint). lists_with w.plain s (woken w.plain slots).bodies) h.is
+
+-- ---- commands
+
+pub wake_whole : (w : World) (slot : ℕ) (acting now : Acting Constraint) (bodies : List (Option Body)) → IsWhole w acting → w.plain.calls < 2 ^ 40 → HasWoken w (slot ∷ []) now bodies
+    → IsWhole (record w { plain = counted (lists_with w.plain now bodies) }) now
+wake_whole w slot acting now bodies is few h =
+    subst (λ (p : Plain). IsWhole (record w { plain = counted p }) now) (sym (woken_lists w (slot ∷ []) now bodies h))
+    (whole (record w { plain = counted (woken w.plain (slot ∷ [])) }) now (wake_kept w slot (whole_kept w acting is) few) (h.acting ∙ sym (counted_acting (woken w.plain (slot ∷ [])))))
+
+pub gravity_whole : (w : World) (g : Vec2) (acting : Acting Constraint) → IsWhole w acting → w.plain.calls < 2 ^ 40 → IsWithin (2 ^ 16) g → IsWhole (record w { plain = counted (record w.plain { gravity = g }) }) acting
+gravity_whole w g acting is few small = whole (record w { plain = counted (record w.plain { gravity = g }) }) acting (gravity_kept w g (whole_kept w acting is) few small) (is.same ∙ sym (gravity_acting w.plain g))
+
+pub push_whole : (w : World) (h : Handle) (j r : Vec2) (m : Momenta) (acting now : Acting Constraint) (bodies : List (Option Body)) → IsWhole w acting → w.plain.calls < 2 ^ 40 → HasWoken w (h.slot ∷ []) now bodies
+    → pushed (body_of w.plain h) j r ≡ Ok m → IsWhole (record w { plain = counted (body_changed (put_momenta m) h.slot (lists_with w.plain now bodies)); entries = w.entries ++ booked (w.plain.calls + 1) causes.Command j.x j.y }) now
+push_whole w h j r m acting now bodies is few woke due =
+    let k = whole_kept w acting is in
+    subst (λ (p : Plain). IsWhole (record w { plain = counted (body_changed (put_momenta m) h.slot p); entries = w.entries ++ booked (w.plain.calls + 1) causes.Command j.x j.y }) now) (sym (woken_lists w (h.slot ∷ []) now bodies woke))
+    (whole _ now (push_kept w h j r m (w.plain.calls + 1) causes.Command k few due) (woke.acting ∙ sym (push_acting w h j r m k due)))
+
+pub pose_whole : (w : World) (h : Handle) (asked given : Pose) (acting now : Acting Constraint) (bodies : List (Option Body)) → IsWhole w acting → w.plain.calls < 2 ^ 40
+    → HasWoken w (stirred_by w.plain.bodies w.plain.joints w.plain.contacts h.slot) now bodies → posed (body_of w.plain h) asked ≡ Ok given → IsPose given
+    → IsWhole (record w { plain = counted (body_changed (put_pose given) h.slot (lists_with w.plain now bodies)) }) now
+pose_whole w h asked given acting now bodies is few woke due pose =
+    let k = whole_kept w acting is in
+    subst (λ (p : Plain). IsWhole (record w { plain = counted (body_changed (put_pose given) h.slot p) }) now) (sym (woken_lists w (stirred_by w.plain.bodies w.plain.joints w.plain.contacts h.slot) now bodies woke))
+    (whole _ now (pose_kept w h asked given k few due pose) (woke.acting ∙ sym (pose_acting w h asked given k due pose)))
+
+pub velocity_whole : (w : World) (h : Handle) (asked given : Course) (acting now : Acting Constraint) (bodies : List (Option Body)) → IsWhole w acting → w.plain.calls < 2 ^ 40
+    → HasWoken w (stirred_by w.plain.bodies w.plain.joints w.plain.contacts h.slot) now bodies → steered (body_of w.plain h) asked ≡ Ok given
+    → IsWhole (record w { plain = counted (body_changed (put_course given) h.slot (lists_with w.plain now bodies)) }) now
+velocity_whole w h asked given acting now bodies is few woke due =
+    let k = whole_kept w acting is in
+    subst (λ (p : Plain). IsWhole (record w { plain = counted (body_changed (put_course given) h.slot p) }) now) (sym (woken_lists w (stirred_by w.plain.bodies w.plain.joints w.plain.contacts h.slot) now bodies woke))
+    (whole _ now (velocity_kept w h asked given k few due) (woke.acting ∙ sym (velocity_acting w h asked given k due)))
+
+-- ---- an island put to rest
+
+pub sleep_whole : (w : World) (slot : ℕ) (acting now : Acting Constraint) (bodies : List (Option Body)) → IsWhole w acting → w.plain.calls < 2 ^ 40
+    → now ≡ slept_at constraint_number slot acting → bodies ≡ told now.labels w.plain.bodies
+    → IsWhole (record w { plain = counted (lists_with w.plain now bodies); entries = w.entries ++ rest_entries (w.plain.calls + 1) now.labels w.plain.bodies }) now
+sleep_whole w slot acting now bodies is few slept tell =
+    let k = whole_kept w acting is in
+    let s : Acting Constraint = slept_at constraint_number slot (acting_of w.plain) in
+    let same : now ≡ s = slept ∙ ap (slept_at constraint_number slot) is.same in
+    let put : IsActed w.plain s = acted w.plain s k.bodies (slept_acting w slot k) in
+    subst (λ (bs : List (Option Body)). IsWhole (record w { plain = counted (lists_with w.plain now bs); entries = w.entries ++ rest_entries (w.plain.calls + 1) now.labels w.plain.bodies }) now) (sym tell)
+    (subst (λ (a : Acting Constraint). IsWhole (record w { plain = counted (with_acting a w.plain); entries = w.entries ++ rest_entries (w.plain.calls + 1) a.labels w.plain.bodies }) a) (sym same)
+    (whole _ s (sleep_kept w slot k few) (sym put.acting ∙ sym (counted_acting (with_acting s w.plain)))))
+
+-- ---- a new world
+
+empty_acting : (g : Vec2) → acting [] [] (replicate (COLOURS + 1) []) ≡ acting_of (empty_world g).plain
+unfolding acting_of ties.ties_of ties.members_of
+empty_acting g = refl
+
+pub empty_whole : (g : Vec2) → IsWithin (2 ^ 16) g → IsWhole (empty_world g) (acting [] [] (replicate (COLOURS + 1) []))
+empty_whole g h = whole (empty_world g) (acting [] [] (replicate (COLOURS + 1) [])) (empty_kept g h) (empty_acting g)
+
+-- ---- what is booked
+
+pub rest_booked : (call : ℕ) (labels : Labels) (bodies new : List (Option Body)) (x y : ℤ) → new ≡ told labels bodies → momentum_x new ≡ momentum_x bodies +ℤ x → momentum_y new ≡ momentum_y bodies +ℤ y
+    → booked call causes.Rest x y ≡ rest_entries call labels bodies
+rest_booked call labels bodies new x y tell by_x by_y =
+    let sx : momentum_x (told labels bodies) ≡ momentum_x bodies +ℤ x = subst (λ (bs : List (Option Body)). momentum_x bs ≡ momentum_x bodies +ℤ x) tell by_x in
+    let sy : momentum_y (told labels bodies) ≡ momentum_y bodies +ℤ y = subst (λ (bs : List (Option Body)). momentum_y bs ≡ momentum_y bodies +ℤ y) tell by_y in
+    let gx : x ≡ gained_x bodies (told labels bodies) = omega (arith, ints, sx) in
+    let gy : y ≡ gained_y bodies (told labels bodies) = omega (arith, ints, sy) in
+    ap (λ (z : ℤ). booked call causes.Rest z y) gx ∙ ap (λ (z : ℤ). booked call causes.Rest (gained_x bodies (told labels bodies)) z) gy
+
+-- ---- what is answered
+
+-- an island put to rest is what was due
+pub sleep_answers : (w : World) (h : Handle) (acting now : Acting Constraint) (bodies : List (Option Body)) → IsWhole w acting → None ≡ mover_refusal (body_of w.plain h) → now ≡ slept_at constraint_number h.slot acting → bodies ≡ told now.labels w.plain.bodies
+    → Answers (apply_sleep w.plain h) w (Ok replies.Done) (record w { plain = counted (lists_with w.plain now bodies); entries = w.entries ++ rest_entries (w.plain.calls + 1) now.labels w.plain.bodies })
+sleep_answers w h acting now bodies is due slept tell =
+    let s : Acting Constraint = slept_at constraint_number h.slot (acting_of w.plain) in
+    let same : now ≡ s = slept ∙ ap (slept_at constraint_number h.slot) is.same in
+    rw (← due, tell, same) (refl, refl)

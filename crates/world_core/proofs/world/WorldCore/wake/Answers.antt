@@ -1,0 +1,14 @@
+use Rattle.std.proofs.Common.{◌<◌, ◌^◌, [], ◌∷◌}
+use Rattle.world_core.specs.contracts.world.WorldCore.{the_view}
+use Rattle.world_core.proofs.Whole.{HasWoken, has_woken, told_whole, wake_whole}
+use Rattle.world_core.proofs.world.WorldCore.wake.Goals as goal
+
+pub wake_named-requires-clause-told : goal.wake_named-requires-clause-told
+wake_named-requires-clause-told c = (told_whole (the_view c.self.inside) _ c.self.invariant)
+
+pub invariant_of-self : goal.invariant_of-self
+invariant_of-self c =
+    let calls : c.self.inside.calls < 2 ^ 40 = rw (← c.self.view_is) at c.requires in
+    let woke : HasWoken (the_view c.self.inside) (c.args.handle.slot ∷ []) c.wake_named.new.sets.acting c.wake_named.new.bodies.bodies =
+    has_woken (the_view c.self.inside) (c.args.handle.slot ∷ []) _ c.self.inside.sets.acting _ _ c.self.invariant c.in_ok-names.ensures.value (rw c.deref.ensures.value at c.wake_named.ensures.acting) c.wake_named.ensures.told in
+    wake_whole (the_view c.self.inside) c.args.handle.slot c.self.inside.sets.acting _ _ c.self.invariant calls woke

@@ -1,0 +1,38 @@
+//! What a plain world has of the colours and the islands.
+
+ghost use Rattle.std.specs.Prelude.{◌≡◌, IfOk, map};
+ghost use Rattle.std.specs.Result.{IsOkUnless};
+ghost use Rattle.graph_colours.specs.Colours.{ids_of};
+ghost use Rattle.plain_world.specs.Plain.{constraints_of};
+
+use contacts::Constraint;
+use fixed_geom::Refusal;
+use graph_colours::{Colours, Member, OVERFLOW};
+use std::alloc::Global;
+
+/// The ids of a colour's members. Refused 1 where memory is wanting.
+fn copy_colour(alloc: Global, members: &[Member<Constraint>]) -> Result<Vec<Constraint>, Refusal>
+    ensures ids { IfOk result (λ ids. ids.items ≡ map (λ m. m.id) members.now) }
+    ensures memory_only { IsOkUnless result Refusal.NoMemory }
+{
+    let mut ids = Vec::with_capacity(alloc, members.len())?;
+    for member in members {
+        ids.push(member.id)?;
+    }
+    Ok(ids)
+}
+
+/// The constraints of each colour, those in the overflow last. Refused 1 where memory is wanting.
+pub fn copy_ids(
+    alloc: Global,
+    colours: &Colours<Constraint>,
+) -> Result<Vec<Vec<Constraint>>, Refusal>
+    ensures ids { IfOk result (λ copied. constraints_of copied.items ≡ ids_of colours.now.lists) }
+    ensures memory_only { IsOkUnless result Refusal.NoMemory }
+{
+    let mut copied = Vec::new(alloc);
+    for colour in 0..OVERFLOW + 1 {
+        copied.push(copy_colour(alloc, colours.members(colour))?)?;
+    }
+    Ok(copied)
+}

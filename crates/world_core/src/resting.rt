@@ -1,0 +1,51 @@
+//! The end of a step: timers grow, and islands that have been slow for long enough fall asleep.
+
+ghost use Rattle.std.specs.Prelude.{◌≡◌, ◌≤◌, ◌^◌, length, vec_capacity};
+ghost use Rattle.momenta.specs.Gains.{IsGain};
+ghost use Rattle.plain_world.specs.Bodies.{AreBodies};
+ghost use Rattle.plain_world.specs.Sleep.{AreTimersWithin, timed_bodies, told};
+ghost use Rattle.solver_sets.specs.Slept.{newly_asleep};
+ghost use Rattle.world_rules.specs.Apply.{gained_x, gained_y, rested_acting};
+
+use crate::scratch::Scratch;
+use body_handles::{MAX_SLOTS, Place};
+use contacts::Constraint;
+use contacts_base::ContactEntry;
+use momenta::Gain;
+use plain_world::BodyJoint;
+use sleep_wake::Sets;
+use solver_sets::{fill_newly_asleep, fill_timers};
+use world_core_base::BodyTable;
+
+/// Lets so many ticks pass for the timers, puts the islands to rest that are ready, lists who has fallen asleep by that, and tells the
+/// bodies. Answers what the movers' momentum gains, since those that fall asleep lose theirs. Takes no memory.
+pub fn rest_ready(
+    bodies: &mut BodyTable,
+    sets: &mut Sets<Constraint>,
+    scratch: &mut Scratch,
+    places: &[Place],
+    joints: &[Option<BodyJoint>],
+    contacts: &[ContactEntry],
+    ticks: u64,
+) -> Gain
+    requires few { length places.now ≤ MAX_SLOTS }
+    requires few_bodies { length bodies.old.bodies ≤ MAX_SLOTS }
+    requires bodies { AreBodies bodies.old.bodies }
+    requires within { AreTimersWithin (2 ^ 44) bodies.old.bodies }
+    requires ticks { ticks ≤ 8 }
+    requires timers { length bodies.old.bodies ≤ vec_capacity scratch.old.timers }
+    requires slept { length places.now ≤ vec_capacity scratch.old.slept }
+    ensures acting { sets.new.acting ≡ rested_acting (timed_bodies ticks bodies.old.bodies) joints.now contacts.now sets.old.acting }
+    ensures bodies { bodies.new.bodies ≡ told sets.new.acting.labels (timed_bodies ticks bodies.old.bodies) }
+    ensures slept { scratch.new.slept.items ≡ newly_asleep places.now (timed_bodies ticks bodies.old.bodies) sets.new.acting.labels }
+    ensures woke { scratch.new.woke ≡ scratch.old.woke }
+    ensures x { result.x ≡ gained_x (timed_bodies ticks bodies.old.bodies) bodies.new.bodies }
+    ensures y { result.y ≡ gained_y (timed_bodies ticks bodies.old.bodies) bodies.new.bodies }
+    ensures small { IsGain (2 ^ 78) result }
+{
+    bodies.time(ticks);
+    fill_timers(&mut scratch.timers, bodies.bodies(), joints, contacts);
+    sets.sleep_phase(&scratch.timers);
+    fill_newly_asleep(&mut scratch.slept, places, bodies.bodies(), sets.islands());
+    bodies.tell(sets.islands())
+}

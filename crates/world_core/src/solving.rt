@@ -1,0 +1,64 @@
+//! The ticks of a step, over what acts.
+
+ghost use Rattle.std.specs.Prelude.{◌≡◌, ◌≤◌, ◌+◌, ◌^◌, ◌+ℤ◌, length};
+ghost use Rattle.fixed_geom.specs.Vectors.{IsWithin};
+ghost use Rattle.colour_solver.specs.Ticks.{AreSums, added_x, added_y};
+ghost use Rattle.graph_colours.specs.Colours.{all_members, ids_of};
+ghost use Rattle.plain_world.specs.Bodies.{AreBodies, momentum_x, momentum_y};
+ghost use Rattle.plain_world.specs.Joints.{AreJoints};
+ghost use Rattle.plain_world.specs.Slots.{HaveSameSlots};
+ghost use Rattle.world_core_base.specs.Gather.{AreContactsOf};
+ghost use Rattle.world_core_base.specs.Renewal.{renewed_bodies};
+ghost use Rattle.world_core_base.specs.Solving.{bodies_of, solve_order, solved};
+ghost use Rattle.world_rules.specs.Gathering.{CanGather};
+
+use body_handles::MAX_SLOTS;
+use colour_solver::{ConstraintRow, Rows, StepSums};
+use contacts::Constraint;
+use contacts_base::Contacts;
+use fixed_geom::Vec2;
+use graph_colours::{COLOURS, Colours};
+use plain_world::JointTable;
+use world_core_base::{BodyTable, gather_rows, put_impulses};
+
+/// Gathers what acts, lets so many ticks pass, and gives joints and contacts the impulses that they have left. Answers what was
+/// added to the movers' momentum, by cause. Takes no memory.
+pub fn solve(
+    rows: &mut Rows<ConstraintRow>,
+    bodies: &mut BodyTable,
+    joints: &mut JointTable,
+    contacts: &mut Contacts,
+    colours: &Colours<Constraint>,
+    gravity: Vec2,
+    ticks: u64,
+) -> StepSums
+    requires few { length bodies.old.bodies ≤ MAX_SLOTS }
+    requires bodies { AreBodies bodies.old.bodies }
+    requires can { CanGather bodies.old.bodies joints.old.joints contacts.old colours.now.lists }
+    requires gravity { IsWithin (2 ^ 16) gravity }
+    requires ticks { ticks ≤ 8 }
+    requires room { length (all_members colours.now.lists) ≤ rows.old.room }
+    requires more { COLOURS + 1 ≤ rows.old.more }
+    ensures bodies { bodies.new.bodies ≡ renewed_bodies (bodies_of (solved ticks gravity (solve_order (ids_of colours.now.lists)) bodies.old.bodies joints.old.joints contacts.old)) }
+    ensures joints { joints.new.joints ≡ (solved ticks gravity (solve_order (ids_of colours.now.lists)) bodies.old.bodies joints.old.joints contacts.old).joints }
+    ensures contacts { contacts.new ≡ (solved ticks gravity (solve_order (ids_of colours.now.lists)) bodies.old.bodies joints.old.joints contacts.old).contacts }
+    ensures sums { result ≡ (solved ticks gravity (solve_order (ids_of colours.now.lists)) bodies.old.bodies joints.old.joints contacts.old).sums }
+    ensures all_bodies { AreBodies bodies.new.bodies }
+    ensures slots { HaveSameSlots bodies.old.bodies bodies.new.bodies }
+    ensures small { AreSums (2 ^ 83) result }
+    ensures momentum_x { momentum_x bodies.new.bodies ≡ momentum_x bodies.old.bodies +ℤ added_x result }
+    ensures momentum_y { momentum_y bodies.new.bodies ≡ momentum_y bodies.old.bodies +ℤ added_y result }
+    ensures all_joints { AreJoints bodies.old.bodies joints.new.joints }
+    ensures pairs { AreContactsOf bodies.old.bodies contacts.new }
+{
+    gather_rows(
+        rows,
+        bodies.states(),
+        joints.joints(),
+        contacts.as_slice(),
+        colours,
+    );
+    let sums = bodies.run(rows, gravity, ticks);
+    put_impulses(joints, contacts, rows.as_slice());
+    sums
+}

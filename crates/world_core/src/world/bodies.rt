@@ -1,0 +1,110 @@
+//! Bodies that come and go, and that are changed one by one.
+
+ghost use Rattle.std.specs.Prelude.{◌≡◌, ◌<◌, ◌^◌};
+ghost use Rattle.world_rules.specs.Apply.{Answers, apply_create, apply_destroy, apply_push, apply_pose, apply_velocity};
+
+use super::WorldCore;
+use crate::booking::{book, gain_of, loss_of};
+use crate::joining::drop_joints;
+use crate::leaving::{come, leave};
+use crate::pushes::{course_after, momenta_after, mover_momentum, pose_after};
+use crate::waking::wake_named;
+use body_handles::Handle;
+use fixed_geom::{Refusal, Vec2};
+use impulse_ledger::Cause;
+use plain_world::{BodyDef, Course, body_of};
+use shapes::Pose;
+use world_rules::Reply;
+
+impl WorldCore {
+    pub(super) fn create_body(&mut self, def: &BodyDef) -> Result<Reply, Refusal>
+        requires { self.old.plain.calls < 2 ^ 40 }
+        ensures { Answers (apply_create self.old.plain def.now) self.old result self.new }
+    {
+        def.check()?;
+        if self.handles.is_full() {
+            return Err(Refusal::TooMany);
+        }
+        let body = def.make(self.bodies.allocator())?;
+        self.handles.reserve_one()?;
+        self.bodies.reserve_one()?;
+        self.sets.reserve(0, self.bodies.bodies().len() + 1)?;
+        let handle = self.handles.insert()?;
+        come(&mut self.sets, handle.slot, body.is_mover());
+        self.bodies.put(handle.slot, body);
+        self.calls += 1;
+        Ok(Reply::Body(handle))
+    }
+
+    pub(super) fn destroy_body(&mut self, handle: Handle) -> Result<Reply, Refusal>
+        requires { self.old.plain.calls < 2 ^ 40 }
+        ensures { Answers (apply_destroy self.old.plain handle) self.old result self.new }
+    {
+        let Some(body) = body_of(&self.handles, self.bodies.bodies(), handle) else {
+            return Err(Refusal::StaleHandle);
+        };
+        let mover = body.is_mover();
+        let p = mover_momentum(body);
+        let names = self.names_stirred(handle.slot)?;
+        let ties = self.ties_at(handle.slot)?;
+        self.ledger.reserve(1)?;
+        wake_named(&mut self.sets, &mut self.bodies, &names);
+        leave(&mut self.sets, handle.slot, mover, &ties);
+        drop_joints(&mut self.joint_handles, &mut self.joints, handle.slot);
+        self.bodies.clear(handle.slot);
+        self.contacts.drop_of_body(handle.slot);
+        self.handles.remove(handle);
+        self.bodies.tell(self.sets.islands());
+        book(
+            &mut self.ledger,
+            self.calls + 1,
+            Cause::Departed,
+            loss_of(p),
+        );
+        self.calls += 1;
+        Ok(Reply::Done)
+    }
+
+    pub(super) fn push(&mut self, handle: Handle, by: Vec2, offset: Vec2) -> Result<Reply, Refusal>
+        requires { self.old.plain.calls < 2 ^ 40 }
+        ensures { Answers (apply_push self.old.plain handle by offset) self.old result self.new }
+    {
+        let momenta = momenta_after(&self.handles, self.bodies.bodies(), handle, by, offset)?;
+        let names = self.sets.names_of(&[handle.slot])?;
+        self.ledger.reserve(1)?;
+        wake_named(&mut self.sets, &mut self.bodies, &names);
+        self.bodies.change(handle.slot, &momenta);
+        book(
+            &mut self.ledger,
+            self.calls + 1,
+            Cause::Command,
+            gain_of(by),
+        );
+        self.calls += 1;
+        Ok(Reply::Done)
+    }
+
+    pub(super) fn set_pose(&mut self, handle: Handle, pose: Pose) -> Result<Reply, Refusal>
+        requires { self.old.plain.calls < 2 ^ 40 }
+        ensures { Answers (apply_pose self.old.plain handle pose) self.old result self.new }
+    {
+        let pose = pose_after(&self.handles, self.bodies.bodies(), handle, pose)?;
+        let names = self.names_stirred(handle.slot)?;
+        wake_named(&mut self.sets, &mut self.bodies, &names);
+        self.bodies.change(handle.slot, &pose);
+        self.calls += 1;
+        Ok(Reply::Done)
+    }
+
+    pub(super) fn set_velocity(&mut self, handle: Handle, course: Course) -> Result<Reply, Refusal>
+        requires { self.old.plain.calls < 2 ^ 40 }
+        ensures { Answers (apply_velocity self.old.plain handle course) self.old result self.new }
+    {
+        let course = course_after(&self.handles, self.bodies.bodies(), handle, course)?;
+        let names = self.names_stirred(handle.slot)?;
+        wake_named(&mut self.sets, &mut self.bodies, &names);
+        self.bodies.change(handle.slot, &course);
+        self.calls += 1;
+        Ok(Reply::Done)
+    }
+}

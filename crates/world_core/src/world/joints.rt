@@ -1,0 +1,55 @@
+//! Joints that are made and that go.
+
+ghost use Rattle.std.specs.Prelude.{◌≡◌, ◌<◌, ◌^◌};
+ghost use Rattle.world_rules.specs.Apply.{Answers, apply_join, apply_unjoin};
+
+use super::WorldCore;
+use crate::joining::{check_join, joint_of};
+use crate::waking::wake_named;
+use body_handles::Handle;
+use contacts::Constraint;
+use fixed_geom::Refusal;
+use plain_world::JointDef;
+use solver_sets::{begin_with, end_with, joint_movers};
+use world_rules::Reply;
+
+impl WorldCore {
+    pub(super) fn create_joint(&mut self, def: &JointDef) -> Result<Reply, Refusal>
+        requires { self.old.plain.calls < 2 ^ 40 }
+        ensures { Answers (apply_join self.old.plain def.now) self.old result self.new }
+    {
+        check_join(&self.handles, self.bodies.bodies(), def)?;
+        if self.joint_handles.is_full() {
+            return Err(Refusal::TooMany);
+        }
+        let joint = def.make();
+        self.joint_handles.reserve_one()?;
+        self.joints.reserve_one()?;
+        self.sets.reserve(1, 0)?;
+        let names = self.sets.names_of(&[joint.a, joint.b])?;
+        wake_named(&mut self.sets, &mut self.bodies, &names);
+        let handle = self.joint_handles.insert()?;
+        let movers = joint_movers(self.bodies.bodies(), &joint);
+        begin_with(&mut self.sets, Constraint::Joint(handle), movers);
+        self.joints.put(handle.slot, joint);
+        self.calls += 1;
+        Ok(Reply::Joint(handle))
+    }
+
+    pub(super) fn destroy_joint(&mut self, handle: Handle) -> Result<Reply, Refusal>
+        requires { self.old.plain.calls < 2 ^ 40 }
+        ensures { Answers (apply_unjoin self.old.plain handle) self.old result self.new }
+    {
+        let Some(joint) = joint_of(&self.joint_handles, &self.joints, handle) else {
+            return Err(Refusal::StaleHandle);
+        };
+        let names = self.sets.names_of(&[joint.a, joint.b])?;
+        wake_named(&mut self.sets, &mut self.bodies, &names);
+        let movers = joint_movers(self.bodies.bodies(), &joint);
+        end_with(&mut self.sets, Constraint::Joint(handle), movers);
+        self.joints.clear(handle.slot);
+        self.joint_handles.remove(handle);
+        self.calls += 1;
+        Ok(Reply::Done)
+    }
+}

@@ -1,0 +1,77 @@
+//! Islands that are woken and put to rest, by commands and by what commands change.
+
+ghost use Rattle.std.specs.Prelude.{◌≡◌, ◌<◌, ◌^◌, IfOk};
+ghost use Rattle.std.specs.Result.{IsOkUnless};
+ghost use Rattle.sleep_wake.specs.Sleeping.{names_of};
+ghost use Rattle.solver_sets.specs.Beside.{stirred_by};
+ghost use Rattle.solver_sets.specs.Ties.{ties_at};
+ghost use Rattle.world_rules.specs.World.{joints_of};
+ghost use Rattle.world_rules.specs.Apply.{Answers, apply_wake, apply_sleep};
+
+use super::WorldCore;
+use crate::booking::book;
+use crate::pushes::check_mover;
+use crate::waking::wake_named;
+use body_handles::Handle;
+use contacts::Constraint;
+use fixed_geom::Refusal;
+use graph_colours::Member;
+use impulse_ledger::Cause;
+use solver_sets::{list_stirred, list_ties};
+use world_rules::Reply;
+
+impl WorldCore {
+    /// The names of the sleeping islands that a change of the body in a slot wakes. Refused 1 where memory is wanting.
+    pub(super) fn names_stirred(&self, slot: u32) -> Result<Vec<u32>, Refusal>
+        ensures value { IfOk result (λ names. names.items ≡ names_of self.now.plain.islands (stirred_by self.now.plain.bodies self.now.plain.joints self.now.plain.contacts slot)) }
+        ensures memory_only { IsOkUnless result Refusal.NoMemory }
+    {
+        let slots = list_stirred(
+            self.bodies.allocator(),
+            self.bodies.bodies(),
+            self.joints.joints(),
+            self.contacts.as_slice(),
+            slot,
+        )?;
+        self.sets.names_of(&slots)
+    }
+
+    /// The constraints of the body in a slot, ascending. Refused 1 where memory is wanting.
+    pub(super) fn ties_at(&self, slot: u32) -> Result<Vec<Member<Constraint>>, Refusal>
+        ensures ties { IfOk result (λ ties. ties.items ≡ ties_at slot self.now.plain.bodies (joints_of self.now.plain) self.now.plain.contacts) }
+        ensures memory_only { IsOkUnless result Refusal.NoMemory }
+    {
+        list_ties(
+            self.bodies.allocator(),
+            self.bodies.bodies(),
+            self.joint_handles.places(),
+            self.joints.joints(),
+            self.contacts.as_slice(),
+            slot,
+        )
+    }
+
+    pub(super) fn wake(&mut self, handle: Handle) -> Result<Reply, Refusal>
+        requires { self.old.plain.calls < 2 ^ 40 }
+        ensures { Answers (apply_wake self.old.plain handle) self.old result self.new }
+    {
+        check_mover(&self.handles, self.bodies.bodies(), handle)?;
+        let names = self.sets.names_of(&[handle.slot])?;
+        wake_named(&mut self.sets, &mut self.bodies, &names);
+        self.calls += 1;
+        Ok(Reply::Done)
+    }
+
+    pub(super) fn sleep(&mut self, handle: Handle) -> Result<Reply, Refusal>
+        requires { self.old.plain.calls < 2 ^ 40 }
+        ensures { Answers (apply_sleep self.old.plain handle) self.old result self.new }
+    {
+        check_mover(&self.handles, self.bodies.bodies(), handle)?;
+        self.ledger.reserve(1)?;
+        self.sets.sleep(handle.slot);
+        let rest = self.bodies.tell(self.sets.islands());
+        book(&mut self.ledger, self.calls + 1, Cause::Rest, rest);
+        self.calls += 1;
+        Ok(Reply::Done)
+    }
+}

@@ -1,0 +1,86 @@
+//! The gravity, and a step: the collide, the ticks, and the sleep phase.
+
+ghost use Rattle.std.specs.Prelude.{◌≡◌, ◌<◌, ◌^◌};
+ghost use Rattle.world_rules.specs.Apply.{Answers, apply_gravity, apply_step};
+
+use super::{MAX_GRAVITY, MAX_TICKS, WorldCore};
+use crate::booking::book_rest;
+use crate::collide::collide;
+use crate::resting::rest_ready;
+use crate::scratch::make_scratch;
+use crate::solving::solve;
+use crate::turning::turn_all;
+use event_feed::Events;
+use fixed_geom::{Refusal, Vec2, is_within};
+use graph_colours::COLOURS;
+use solver_sets::list_changes;
+use world_rules::Reply;
+
+impl WorldCore {
+    pub(super) fn set_gravity(&mut self, gravity: Vec2) -> Result<Reply, Refusal>
+        requires { self.old.plain.calls < 2 ^ 40 }
+        ensures { Answers (apply_gravity self.old.plain gravity) self.old result self.new }
+    {
+        if !is_within(gravity, MAX_GRAVITY) {
+            return Err(Refusal::OutOfRange);
+        }
+        self.gravity = gravity;
+        self.calls += 1;
+        Ok(Reply::Done)
+    }
+
+    pub(super) fn step(&mut self, ticks: i64) -> Result<Reply, Refusal>
+        requires { self.old.plain.calls < 2 ^ 40 }
+        ensures { Answers (apply_step self.old.plain ticks) self.old result self.new }
+    {
+        if ticks < 1 || ticks > MAX_TICKS {
+            return Err(Refusal::OutOfRange);
+        }
+        let alloc = self.bodies.allocator();
+        self.ledger.reserve(4)?;
+        let changes = collide(
+            alloc,
+            &mut self.broad,
+            self.bodies.bodies(),
+            &self.joints,
+            &self.contacts,
+        )?;
+        let turns = list_changes(alloc, self.bodies.bodies(), &changes.begin, &changes.end)?;
+        self.sets.reserve(changes.begin.len(), 0)?;
+        self.rows
+            .reserve(self.sets.ties().len() + changes.begin.len(), COLOURS + 1)?;
+        let mut scratch = make_scratch(alloc, self.bodies.bodies().len())?;
+        turn_all(
+            &mut self.sets,
+            &mut self.bodies,
+            &mut scratch.woke,
+            self.handles.places(),
+            &turns,
+        );
+        self.contacts = changes.now;
+        let sums = solve(
+            &mut self.rows,
+            &mut self.bodies,
+            &mut self.joints,
+            &mut self.contacts,
+            self.sets.colours(),
+            self.gravity,
+            ticks.unsigned_abs(),
+        );
+        let rest = rest_ready(
+            &mut self.bodies,
+            &mut self.sets,
+            &mut scratch,
+            self.handles.places(),
+            self.joints.joints(),
+            self.contacts.as_slice(),
+            ticks.unsigned_abs(),
+        );
+        let call = self.calls + 1;
+        book_rest(&mut self.ledger, call, sums, rest);
+        self.events = Events::from_lists(changes.begin, changes.end, scratch.slept, scratch.woke);
+        self.steps += 1;
+        self.calls = call;
+        Ok(Reply::Stepped(self.steps))
+    }
+}

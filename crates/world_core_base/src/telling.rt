@@ -1,0 +1,89 @@
+//! The bodies told by the islands: movers that fall asleep, and movers that wake.
+
+ghost use Rattle.std.specs.Prelude.{◌≡◌, ◌<◌, ◌≤◌, ◌^◌, ◌+ℤ◌, ◌-ℤ◌, None, length, option_map, slice_index_or, slice_set};
+ghost use Rattle.std.specs.Option.{ForSome};
+ghost use Rattle.fixed_geom.specs.Vectors.{IsWithin};
+ghost use Rattle.momenta.specs.Gains.{IsGain};
+ghost use Rattle.plain_world.specs.Bodies.{AreBodies, IsBody, momentum_x, momentum_y, p_x, p_y};
+ghost use Rattle.plain_world.specs.Sleep.{told, told_body};
+ghost use Rattle.world_core_base.specs.Gather.{state_of, states_of};
+ghost use Rattle.world_core_base.specs.Telling.{momentum_in};
+
+use crate::gather::state_of;
+use body_handles::MAX_SLOTS;
+use fixed_geom::Vec2;
+use islands::{Islands, Label};
+use momenta::{BodyState, Gain, NOTHING, gain_between, plus};
+use plain_world::Body;
+
+/// The part that the body in a slot has in the movers' momentum, in mass·u/tick.
+fn momentum_in(entry: &Option<Body>) -> Vec2
+    ensures { result ≡ momentum_in entry.now }
+{
+    match entry {
+        None => Vec2 { x: 0, y: 0 },
+        Some(body) => {
+            if body.is_mover() {
+                body.motion.p
+            } else {
+                Vec2 { x: 0, y: 0 }
+            }
+        }
+    }
+}
+
+fn tell_entry(entry: &mut Option<Body>, label: Option<Label>)
+    ensures { entry.new ≡ option_map (told_body label) entry.old }
+{
+    if let Some(body) = entry {
+        body.tell(label);
+    }
+}
+
+/// Tells the body in a slot the label of its island, and takes its state anew. Answers what the movers' momentum gains.
+fn tell_slot(
+    bodies: &mut Vec<Option<Body>>,
+    states: &mut Vec<BodyState>,
+    slot: usize,
+    label: Option<Label>,
+) -> Gain
+    requires slot { slot < length bodies.old.items }
+    requires state { slot < length states.old.items }
+    requires body { ForSome (slice_index_or bodies.old.items slot None) IsBody }
+    ensures bodies { bodies.new.items ≡ slice_set bodies.old.items slot (option_map (told_body label) (slice_index_or bodies.old.items slot None)) }
+    ensures states { states.new.items ≡ slice_set states.old.items slot (state_of (option_map (told_body label) (slice_index_or bodies.old.items slot None))) }
+    ensures x { result.x ≡ p_x (option_map (told_body label) (slice_index_or bodies.old.items slot None)) -ℤ p_x (slice_index_or bodies.old.items slot None) }
+    ensures y { result.y ≡ p_y (option_map (told_body label) (slice_index_or bodies.old.items slot None)) -ℤ p_y (slice_index_or bodies.old.items slot None) }
+    ensures small { IsGain (2 ^ 62) result }
+{
+    let before = momentum_in(&bodies[slot]);
+    tell_entry(&mut bodies[slot], label);
+    states[slot] = state_of(&bodies[slot]);
+    gain_between(before, momentum_in(&bodies[slot]))
+}
+
+/// Puts the movers of sleeping islands to rest, wakes those of the others, and takes all states anew. Answers what the movers' momentum
+/// gains: that of those that fall asleep is lost.
+pub fn tell_bodies(
+    bodies: &mut Vec<Option<Body>>,
+    states: &mut Vec<BodyState>,
+    islands: &Islands,
+) -> Gain
+    requires few { length bodies.old.items ≤ MAX_SLOTS }
+    requires bodies { AreBodies bodies.old.items }
+    requires states { states.old.items ≡ states_of bodies.old.items }
+    ensures bodies { bodies.new.items ≡ told islands.now.labels bodies.old.items }
+    ensures states { states.new.items ≡ states_of bodies.new.items }
+    ensures x { momentum_x bodies.new.items ≡ momentum_x bodies.old.items +ℤ result.x }
+    ensures y { momentum_y bodies.new.items ≡ momentum_y bodies.old.items +ℤ result.y }
+    ensures small { IsGain (2 ^ 78) result }
+{
+    let mut gain = NOTHING;
+    for slot in 0..bodies.len() {
+        gain = plus(
+            gain,
+            tell_slot(bodies, states, slot, islands.label_of(slot as u32)),
+        );
+    }
+    gain
+}

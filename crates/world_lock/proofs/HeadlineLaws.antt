@@ -1,0 +1,85 @@
+-- The parts of the headline, of a sound world.
+use Rattle.std.proofs.Common.{◌≡◌, List, [], ◌∷◌, Option, Some, None, All, map, inl, inr, sym, ap, ◌∙◌}
+use Rattle.std.specs.Prelude.{Contains}
+use Rattle.std.specs.List.{filter_map}
+use Rattle.std.proofs.lemmas.List.Elements.{All-weaker}
+use Rattle.std.proofs.lemmas.Option.{none-some, same_Some}
+use Rattle.contacts.proofs.Members.{IsIn, in_append, in_from_contains}
+use Rattle.contacts.specs.declared.constraint.Constraint.{Constraint}
+use Rattle.contacts_base.specs.declared.contact.ContactEntry.{ContactEntry}
+use Rattle.graph_colours.specs.Colours.{all_members}
+use Rattle.graph_colours.specs.declared.member.Member.{Member}
+use Rattle.graph_colours.specs.declared.member.Movers.{Movers}
+use Rattle.plain_world.specs.declared.body.Body.{Body}
+use Rattle.solver_sets.proofs.ListLaws.{in_map}
+use Rattle.solver_sets.specs.Census.{IsCensus, census_of, standings_of}
+use Rattle.solver_sets.specs.Laws.{ListsAreCensus, TiesAreNamed}
+use Rattle.solver_sets.specs.Tied.{AreJointSlots}
+use Rattle.solver_sets.specs.Ties.{IsNamed, JointSlots, member_of, members_of, movers_of, tie_with}
+use Rattle.world_rules.specs.Laws as rules
+use Rattle.world_rules.specs.Laws.{ColoursAreApart, LinkedMoversStandTogether, SleepingSetsAreComponents, WhatActsHasAColour}
+use Rattle.world_rules.specs.Sets.{acting_of}
+use Rattle.world_rules.specs.Sound.{HasBodies, IsSound}
+use Rattle.world_rules.specs.World.{World, joints_of}
+use Rattle.world_lock.specs.Headline.{EachHasOneColour, EachSleepingSetIsOneComponent, EachStandsInOneSet, LinkedShareAnIsland, LinkedStandTogether, NoColourSharesAMover, WhatActsIsColoured, census_in}
+
+-- ---- solver sets
+
+census_is : ListsAreCensus → (w : World) → IsCensus (standings_of w.plain.places w.plain.bodies (joints_of w.plain) w.plain.contacts) (census_in w)
+unfolding census_of
+census_is law w = law (standings_of w.plain.places w.plain.bodies (joints_of w.plain) w.plain.contacts)
+
+pub in_one_set : ListsAreCensus → rules.EachStandsInOneSet → (w : World) → IsSound w → EachStandsInOneSet w
+in_one_set are law w s = record { once = law w s; census = census_is are w }
+
+-- ---- colours
+
+pub no_colour_shares : ColoursAreApart → (w : World) → IsSound w → NoColourSharesAMover w
+no_colour_shares law w s = law w s
+
+pub acts_coloured : WhatActsHasAColour → (w : World) → IsSound w → WhatActsIsColoured w
+acts_coloured law w s m = law w m s
+
+-- what is made of a name has this name, and its movers
+made_of : (id : Constraint) (o : Option Movers) (m : Member Constraint) → tie_with id o ≡ Some m → (m.id ≡ id) × (o ≡ Some m.movers)
+made_of id None m e = absurd (none-some m e)
+made_of id (Some v) m e = let same = same_Some (record { id = id; movers = v }) m e in (sym (ap (λ (x : Member Constraint). x.id) same), ap (λ (x : Member Constraint). Some x.movers) same)
+
+-- what is listed was made of a name
+made_in : (f : Constraint → Option (Member Constraint)) (colours : List (List Constraint)) (m : Member Constraint) → IsIn m (all_members (map (filter_map f) colours)) → (id : Constraint) × (f id ≡ Some m)
+made_in f [] m h = absurd h
+made_in f (ids ∷ colours) m h = elim (in_append m (filter_map f ids) (all_members (map (filter_map f) colours)) h) [
+  | inl p ↦ let o = in_map f ids m p in (o.of, o.gives)
+  | inr q ↦ made_in f colours m q
+]
+
+has_movers : (bodies : List (Option Body)) (s : JointSlots) (colours : List (List Constraint)) (m : Member Constraint) → Contains (all_members (members_of bodies s colours)) m → movers_of bodies s m.id ≡ Some m.movers
+unfolding members_of
+has_movers bodies s colours m h =
+    let o = made_in (member_of bodies s) colours m (in_from_contains (all_members (map (filter_map (member_of bodies s)) colours)) m h) in
+    let p = made_of o.0 (movers_of bodies s o.0) m o.1 in
+    ap (movers_of bodies s) p.0 ∙ p.1
+
+pub has_one_colour : TiesAreNamed → (w : World) → IsSound w → EachHasOneColour w
+unfolding acting_of
+has_one_colour law w s =
+    let settled = s.promises.settled in
+    let slots : AreJointSlots (joints_of w.plain) = record { matched = s.formed.joint_slots; places = s.formed.joint_places } in
+    let named : All (λ (e : ContactEntry). IsNamed e.key) w.plain.contacts = All-weaker (HasBodies w.plain.bodies) (λ (e : ContactEntry). IsNamed e.key) (λ e h. h.named) w.plain.contacts s.formed.there in
+    record {
+      colouring = settled.colouring;
+      named = λ m h. law w.plain.bodies (joints_of w.plain) w.plain.contacts m slots named ((settled.acting m).0 h).0;
+      movers = λ m h. has_movers w.plain.bodies (joints_of w.plain) w.plain.colours m h;
+    }
+
+-- ---- islands
+
+pub share_island : (w : World) → IsSound w → LinkedShareAnIsland w
+unfolding acting_of
+share_island w s a b linked = s.promises.settled.islands.together a b linked
+
+pub stand_together : LinkedMoversStandTogether → (w : World) → IsSound w → LinkedStandTogether w
+stand_together law w s a b x y linked at_x at_y = law w a b x y s linked at_x at_y
+
+pub one_component : SleepingSetsAreComponents → (w : World) → IsSound w → EachSleepingSetIsOneComponent w
+one_component law w s name slot other sleeps = law w name slot other s sleeps

@@ -1,0 +1,56 @@
+-- What the headline says of a world whose lock is free, part by part.
+use Rattle.std.specs.Prelude.{◌≡◌, ℕ, ◌↔◌, true, All, Contains, Some, take}
+use Rattle.contacts.specs.Constraints.{constraint_number}
+use Rattle.contacts.specs.declared.constraint.Constraint.{Constraint}
+use Rattle.graph_colours.specs.Colours.{IsColouring, all_members, ids_of}
+use Rattle.graph_colours.specs.Members.{AreApart}
+use Rattle.graph_colours.specs.declared.limits.TheConstants.{COLOURS}
+use Rattle.graph_colours.specs.declared.member.Member.{Member}
+use Rattle.islands.specs.Labels.{label_at}
+use Rattle.islands.specs.Links.{Joined}
+use Rattle.islands.specs.declared.label.Label.{Label}
+use Rattle.plain_world.specs.declared.body.Body.{Body}
+use Rattle.plain_world.specs.Bodies.{standing_of}
+use Rattle.plain_world.specs.Slots.{body_at}
+use Rattle.solver_sets.specs.Census.{Census, IsCensus, census_of, standings_of}
+use Rattle.solver_sets.specs.EachOnce.{ListsEachOnce}
+use Rattle.solver_sets.specs.Ties.{IsNamedConstraint, movers_of}
+use Rattle.world_rules.specs.Laws.{AreLinked, SleepsIn, coloured_in, movers_awake, ties_in}
+use Rattle.world_rules.specs.World.{World, joints_of}
+
+-- the lists of its solver sets
+abbrev pub census_in : World → Census
+census_in w = census_of w.plain.places w.plain.bodies (joints_of w.plain) w.plain.contacts
+
+-- Each body, joint and contact stands in exactly one solver set: in the lists of all sets together none occurs twice, and each is in the list of the set in
+-- which it stands. In each list bodies come first, by slot, then joints by slot, then contacts by key.
+pub record EachStandsInOneSet (w : World) : Type 0 where
+  pub once : ListsEachOnce w.plain.places w.plain.bodies (joints_of w.plain) w.plain.contacts (census_in w)
+  pub census : IsCensus (standings_of w.plain.places w.plain.bodies (joints_of w.plain) w.plain.contacts) (census_in w)
+
+-- No two constraints of a colour share a mover: those with a colour are those that the world lists.
+abbrev pub NoColourSharesAMover : World → Type 0
+NoColourSharesAMover w = (ids_of (coloured_in w) ≡ w.plain.colours) × All AreApart (take COLOURS (coloured_in w))
+
+-- A constraint has a colour, or stands in the overflow, just if its movers are awake.
+abbrev pub WhatActsIsColoured : World → Type 0
+WhatActsIsColoured w = (m : Member Constraint) → Contains (all_members (coloured_in w)) m ↔ (Contains (ties_in w) m × (movers_awake w.plain.bodies m.movers ≡ true))
+
+-- Each has one colour: there is a list for each colour and one for the overflow, in each of which constraints ascend by number, and none stands twice in
+-- them all. Their names are within their ranges, so that no two have one number; and each stands there with the movers that its bodies give it.
+pub record EachHasOneColour (w : World) : Type 0 where
+  pub colouring : IsColouring constraint_number (coloured_in w)
+  pub named : (m : Member Constraint) → Contains (all_members (coloured_in w)) m → IsNamedConstraint m.id
+  pub movers : (m : Member Constraint) → Contains (all_members (coloured_in w)) m → movers_of w.plain.bodies (joints_of w.plain) m.id ≡ Some m.movers
+
+-- Movers that touch or are jointed share an island.
+abbrev pub LinkedShareAnIsland : World → Type 0
+LinkedShareAnIsland w = (a b : ℕ) → AreLinked w a b → (l : Label) × (label_at w.plain.islands a ≡ Some l) × (label_at w.plain.islands b ≡ Some l)
+
+-- They are awake or asleep together.
+abbrev pub LinkedStandTogether : World → Type 0
+LinkedStandTogether w = (a b : ℕ) (x y : Body) → AreLinked w a b → body_at w.plain.bodies a ≡ Some x → body_at w.plain.bodies b ≡ Some y → standing_of x ≡ standing_of y
+
+-- Each sleeping set is one connected component: those that sleep in it are just those that links join to one of them.
+abbrev pub EachSleepingSetIsOneComponent : World → Type 0
+EachSleepingSetIsOneComponent w = (name slot other : ℕ) → SleepsIn w.plain.bodies name slot → SleepsIn w.plain.bodies name other ↔ Joined (AreLinked w) slot other

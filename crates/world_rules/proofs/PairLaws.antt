@@ -1,0 +1,383 @@
+-- The contacts that a collide makes are of bodies that are there, one of them a mover, and their numbers are within their limits.
+use Rattle.std.proofs.Common.{◌≡◌, ℕ, suc, ◌+◌, ◌*◌, ◌^◌, ◌<◌, ◌≤◌, Bool, true, false, cond, ℤ, pos, ◌≤ℤ◌, unsigned_abs, List, [], ◌∷◌, length, Option, Some, None, option_map, IfSome, All, ◌⊎◌, inl, inr, arith, refl, sym, ap, ◌∙◌, subst, is_some, length-append}
+use Rattle.std.specs.Prelude.{◌==◌, ◌||◌, ◌≢◌, int_lt, nat_le}
+use Rattle.std.specs.List.{list_all}
+use Rattle.fixed_geom.specs.declared.refusal.Refusal.TheVariants.{BadShape, OutOfRange}
+use Rattle.std.specs.Option.{ForSome}
+use Rattle.std.proofs.lemmas.Bool.{eqb-false, leb-true}
+use Rattle.std.proofs.lemmas.Grind.{common_steps}
+use Rattle.std.proofs.lemmas.List.Elements.{All-filter, All-head, All-tail, All-map, All-weaker}
+use Rattle.fixed_geom.specs.declared.boxes.Box2.{Box2}
+use Rattle.fixed_geom.specs.Boxes.{overlaps}
+use Rattle.shapes.specs.declared.points.Point.{Point}
+use Rattle.shapes.specs.declared.points.Manifold.{Manifold}
+use Rattle.shapes.specs.declared.shape.ShapeDef.{ShapeDef}
+use Rattle.shapes.specs.Shapes.{IsShape, IsShapeDef, are_forms_allowed, is_form_allowed, is_in_range, shapes_refusal}
+use Rattle.shapes.specs.Filters.{should_collide}
+use Rattle.shapes.specs.Poses.{IsPose}
+use Rattle.shapes.specs.Manifolds.{manifold_of, IsPointWithin, IsSecond}
+use Rattle.shapes.proofs.SecondLemmas.{manifold_has_second}
+use Rattle.shapes.proofs.TouchLemmas.{has_touching}
+use Rattle.contacts_base.specs.declared.key.ContactKey.{ContactKey}
+use Rattle.contacts_base.specs.declared.contact.Contact.{Contact}
+use Rattle.contacts_base.specs.declared.contact.ContactPoint.{ContactPoint}
+use Rattle.contacts_base.specs.declared.contact.ContactEntry.{ContactEntry}
+use Rattle.contacts_base.specs.declared.evaluation.Impulses.{Impulses}
+use Rattle.contacts_base.specs.declared.near.Proxy.{Proxy}
+use Rattle.contacts_base.specs.Keys.{key_number}
+use Rattle.contacts_base.specs.Contacts.{number_of, lookup}
+use Rattle.contacts_base.specs.Evaluate.{apart, impulses_at, first_of, kept, kept_point, evaluated}
+use Rattle.contacts_base.specs.Limits.{IsContactPoint, IsContact}
+use Rattle.contacts_base.specs.Near.{is_near, one_stirs, pair_code, near_from, near_codes}
+use Rattle.contacts.specs.Pairs.{no_proxy, proxy_at}
+use Rattle.contacts.specs.Pairs.{first_place, second_place, key_of}
+use Rattle.contacts.specs.Changes.{entry_with, entry_of, entry_at, kept_contact}
+use Rattle.contacts.proofs.Members.{Each, each_in, each_from, each_append, all_from_each}
+use Rattle.contacts.proofs.NearLemmas.{IsNearFrom, from_is}
+use Rattle.body_handles.specs.declared.places.TheConstants.{MAX_SLOTS}
+use Rattle.plain_world.specs.declared.body.Body.{Body}
+use Rattle.plain_world.specs.declared.joint.BodyJoint.{BodyJoint}
+use Rattle.plain_world.specs.Joints.{forbidden_pairs}
+use Rattle.contacts.specs.Forbidden.{allowed_codes, is_allowed}
+use Rattle.plain_world.specs.Bodies.{is_mover, pose_of, stirs, IsBody, AreBodies}
+use Rattle.plain_world.specs.Kinds.{is_dynamic}
+use Rattle.plain_world.specs.Formed.{HasPoints, IsShapeOf}
+use Rattle.plain_world.specs.Slots.{body_at, shapes_in}
+use Rattle.world_core_base.specs.Gather.{moves_in, moves, IsContactOf, AreContactsOf}
+use Rattle.world_rules.specs.Collide.{shape_proxies, body_proxies, entry_proxies, proxies_from, proxies_of, contacts_after}
+use Rattle.world_rules.specs.Sound.{HasBodies}
+use Rattle.world_rules.proofs.SlotLemmas.{below_length}
+
+-- ---- a body has eight shapes at most
+
+count_if : (few some forms : Bool) → cond some (cond few forms false) false ≡ true → few ≡ true
+count_if true some forms e = refl
+count_if false true forms e = cc
+count_if false false forms e = cc
+
+allowed_if : (forms range : Bool) → cond forms (cond range None (Some OutOfRange)) (Some BadShape) ≡ None → forms ≡ true
+allowed_if true range e = refl
+allowed_if false range e = cc
+
+pub eight_at_most : (segments : Bool) (defs : List ShapeDef) → shapes_refusal segments defs ≡ None → length defs ≤ 8
+unfolding shapes_refusal
+eight_at_most segments defs e =
+    leb-true _ _ (count_if (nat_le (length defs) 8) (nat_le 1 (length defs)) (list_all (λ d. is_form_allowed segments d.shape) defs) (allowed_if (are_forms_allowed segments defs) (list_all is_in_range defs) e))
+
+-- ---- the shapes that the collide reads
+
+-- a shape of the body, which is enabled
+pub record IsProxyOf (b : Body) (p : Proxy) : Type 0 where
+  pub index : p.id.index < 8
+  pub own : p.id.index < length b.shapes
+  pub enabled : b.enabled ≡ true
+  pub dynamic : p.dynamic ≡ is_dynamic b.kind
+  pub shape : IsShape p.shape
+  pub pose : IsPose p.pose
+
+-- a shape of the body in its slot, the first of the bodies having the slot n
+pub record IsProxyIn (n : ℕ) (bodies : List (Option Body)) (p : Proxy) : Type 0 where
+  pub place : ℕ
+  pub slot : p.id.slot ≡ n + place
+  pub body : Body
+  pub there : body_at bodies place ≡ Some body
+  pub is : IsProxyOf body p
+
+each_weaker : {X : Type 0} (P Q : X → Type 0) → ((x : X) → P x → Q x) → (xs : List X) → Each P xs → Each Q xs
+each_weaker P Q f xs h = each_from Q xs (λ x i. f x (each_in P x xs h i))
+
+record IsProxyAt (slot : ℕ) (b : Body) (p : Proxy) : Type 0 where
+  slot_is : p.id.slot ≡ slot
+  is : IsProxyOf b p
+
+shapes_are : (slot : ℕ) (b : Body) (index : ℕ) (defs : List ShapeDef) (fats : List Box2) → IsBody b → b.enabled ≡ true → index + length defs ≤ 8 → index + length defs ≤ length b.shapes → All IsShapeDef defs
+    → Each (IsProxyAt slot b) (shape_proxies slot (is_dynamic b.kind) (stirs b) (pose_of b) index defs fats)
+shapes_are slot b index [] fats is on few own forms = tt
+shapes_are slot b index (d ∷ defs) [] is on few own forms = tt
+shapes_are slot b index (d ∷ defs) (fat ∷ fats) is on few own forms = (
+  record {
+    slot_is = refl;
+    is = record { index = omega (arith, few); own = omega (arith, own); enabled = on; dynamic = refl; shape = (All-head IsShapeDef d defs forms).shape; pose = record { x = is.motion.x; rot = is.motion.facing } };
+  },
+  shapes_are slot b (suc index) defs fats is on (omega (arith, few)) (omega (arith, own)) (All-tail IsShapeDef d defs forms),
+)
+
+if_enabled : (P : Proxy → Type 0) (t : Bool) (ps : List Proxy) → (t ≡ true → Each P ps) → Each P (cond t ps [])
+if_enabled P true ps h = h refl
+if_enabled P false ps h = tt
+
+body_are : (slot : ℕ) (b : Body) → IsBody b → Each (IsProxyAt slot b) (body_proxies slot b)
+body_are slot b is =
+    if_enabled (IsProxyAt slot b) b.enabled (shape_proxies slot (is_dynamic b.kind) (stirs b) (pose_of b) 0 b.shapes b.fats)
+    (λ on. let few = eight_at_most _ _ is.shapes in shapes_are slot b 0 b.shapes b.fats is on (omega (arith, few)) (omega arith) is.forms)
+
+entry_are : (n : ℕ) (o : Option Body) (bodies : List (Option Body)) → AreBodies (o ∷ bodies) → Each (IsProxyIn n (o ∷ bodies)) (entry_proxies n o)
+entry_are n None bodies all = tt
+entry_are n (Some b) bodies all =
+    each_weaker (IsProxyAt n b) (IsProxyIn n (Some b ∷ bodies)) (λ p h. let s : p.id.slot ≡ n = h.slot_is in record { place = 0; slot = omega arith; body = b; there = refl; is = h.is })
+    (body_proxies n b) (body_are n b (all 0 b refl))
+
+later : (n : ℕ) (o : Option Body) (bodies : List (Option Body)) (p : Proxy) → IsProxyIn (suc n) bodies p → IsProxyIn n (o ∷ bodies) p
+later n o bodies p h = let s : p.id.slot ≡ suc n + h.place = h.slot in record { place = suc h.place; slot = omega arith; body = h.body; there = h.there; is = h.is }
+
+rest_bodies : (o : Option Body) (bodies : List (Option Body)) → AreBodies (o ∷ bodies) → AreBodies bodies
+rest_bodies o bodies all = λ slot b e. all (suc slot) b e
+
+-- each is of an enabled body that is there
+pub proxies_are : (n : ℕ) (bodies : List (Option Body)) → AreBodies bodies → Each (IsProxyIn n bodies) (proxies_from n bodies)
+proxies_are n [] all = tt
+proxies_are n (o ∷ bodies) all =
+    each_append (IsProxyIn n (o ∷ bodies)) (entry_proxies n o) (proxies_from (suc n) bodies) (entry_are n o bodies all)
+    (each_weaker (IsProxyIn (suc n) bodies) (IsProxyIn n (o ∷ bodies)) (later n o bodies) (proxies_from (suc n) bodies) (proxies_are (suc n) bodies (rest_bodies o bodies all)))
+
+-- ---- there are eight a body at most
+
+shapes_few : (slot : ℕ) (b : Body) (index : ℕ) (defs : List ShapeDef) (fats : List Box2) → length (shape_proxies slot (is_dynamic b.kind) (stirs b) (pose_of b) index defs fats) ≤ length defs
+shapes_few slot b index [] fats = omega arith
+shapes_few slot b index (d ∷ defs) [] = omega arith
+shapes_few slot b index (d ∷ defs) (fat ∷ fats) = omega (arith, shapes_few slot b (suc index) defs fats)
+
+few_if : (t : Bool) (ps : List Proxy) → length ps ≤ 8 → length (cond t ps []) ≤ 8
+few_if true ps h = h
+few_if false ps h = omega arith
+
+entry_few : (n : ℕ) (o : Option Body) (bodies : List (Option Body)) → AreBodies (o ∷ bodies) → length (entry_proxies n o) ≤ 8
+entry_few n None bodies all = omega arith
+entry_few n (Some b) bodies all =
+    few_if b.enabled (shape_proxies n (is_dynamic b.kind) (stirs b) (pose_of b) 0 b.shapes b.fats) (let few = eight_at_most _ _ (all 0 b refl).shapes in omega (arith, few, shapes_few n b 0 b.shapes b.fats))
+
+pub proxies_few : (n : ℕ) (bodies : List (Option Body)) → AreBodies bodies → length (proxies_from n bodies) ≤ length bodies * 8
+proxies_few n [] all = omega arith
+proxies_few n (o ∷ bodies) all =
+    omega (arith, length-append (entry_proxies n o) (proxies_from (suc n) bodies), entry_few n o bodies all, proxies_few (suc n) bodies (rest_bodies o bodies all))
+
+-- ---- near pairs
+
+-- the code of two places of the list, the lesser first, whose shapes are near
+pub record IsNearPair (ps : List Proxy) (code : ℕ) : Type 0 where
+  pub before : first_place code < second_place code
+  pub within : second_place code < length ps
+  pub near : is_near (proxy_at ps (first_place code)) (proxy_at ps (second_place code)) ≡ true
+
+near_pair_from : (ps : List Proxy) (code : ℕ) → length ps ≤ 2 ^ 32 → IsNearFrom 0 ps code → IsNearPair ps code
+near_pair_from ps code few h =
+    let e : code ≡ pair_code (0 + h.i) (0 + h.j) = h.is in
+    let b : h.i < h.j = h.before in
+    let w : h.j < length ps = h.within in
+    let first : first_place code ≡ h.i = omega arith in
+    let second : second_place code ≡ h.j = omega arith in
+    record { before = rw (first, second) b; within = rw second w; near = rw (first, second) h.near }
+
+pub near_codes_are : (ps : List Proxy) → length ps ≤ 2 ^ 32 → Each (IsNearPair ps) (near_codes ps)
+unfolding near_codes
+near_codes_are ps few = each_from (IsNearPair ps) (near_from 0 ps) (λ c i. near_pair_from ps c few (from_is 0 ps c i))
+
+near_if : (same a b collide over : Bool) → cond same false (cond (a || b) (cond collide over false) false) ≡ true → (same ≡ false) × ((a ≡ true) ⊎ (b ≡ true))
+near_if true a b collide over e = cc
+near_if false true b collide over e = (refl, inl refl)
+near_if false false true collide over e = (refl, inr refl)
+near_if false false false collide over e = cc
+
+-- shapes that are near are of different bodies, one of them dynamic at least
+pub record AreApart (p q : Proxy) : Type 0 where
+  pub slots : p.id.slot ≢ q.id.slot
+  pub dynamic : (p.dynamic ≡ true) ⊎ (q.dynamic ≡ true)
+
+pub near_apart : (p q : Proxy) → is_near p q ≡ true → AreApart p q
+unfolding is_near
+near_apart p q e = let t = near_if (p.id.slot == q.id.slot) p.dynamic q.dynamic (should_collide p.filter q.filter) (overlaps p.fat q.fat) e in record { slots = eqb-false _ _ t.0; dynamic = t.1 }
+
+-- ---- the contact that is found by its key
+
+abbrev HasContact : ContactEntry → Type 0
+HasContact e = IsContact e.contact
+
+found_within : (t : Bool) (e : ContactEntry) (o : Option ContactEntry) → HasContact e → ForSome o HasContact → ForSome (cond t (Some e) o) HasContact
+found_within true e o is rest = λ x h. let same : e ≡ x = cc in subst HasContact same is
+found_within false e o is rest = rest
+
+pub lookup_within : (bodies : List (Option Body)) (old : List ContactEntry) (key : ContactKey) → AreContactsOf bodies old → ForSome (lookup old key) HasContact
+lookup_within bodies [] key all = λ x e. cc
+lookup_within bodies (e ∷ es) key all =
+    found_within (number_of e == key_number key) e (lookup es key) (All-head (IsContactOf bodies) e es all).contact (lookup_within bodies es key (All-tail (IsContactOf bodies) e es all))
+
+-- ---- the contact that is evaluated
+
+record AreImpulses (i : Impulses) : Type 0 where
+  normal_impulse_low : pos 0 ≤ℤ i.normal_impulse
+  normal_impulse_high : unsigned_abs i.normal_impulse ≤ 2 ^ 42
+  tangent_impulse : unsigned_abs i.tangent_impulse ≤ 2 ^ 43
+
+chosen_within : (t : Bool) (i : Impulses) → AreImpulses i → ForSome (cond t (Some i) None) AreImpulses
+chosen_within true i is = λ x e. let same : i ≡ x = cc in subst AreImpulses same is
+chosen_within false i is = λ x e. cc
+
+impulses_within : (o : Option ContactPoint) (candidate : ℕ) → ForSome o IsContactPoint → ForSome (impulses_at o candidate) AreImpulses
+impulses_within None candidate h = λ x e. cc
+impulses_within (Some p) candidate h =
+    let is : IsContactPoint p = h p refl in
+    chosen_within (p.candidate == candidate) (record { normal_impulse = p.normal_impulse; tangent_impulse = p.tangent_impulse }) (record { normal_impulse_low = is.normal_impulse_low; normal_impulse_high = is.normal_impulse_high; tangent_impulse = is.tangent_impulse })
+
+first_within : (o other : Option Impulses) → ForSome o AreImpulses → ForSome other AreImpulses → AreImpulses (first_of o other)
+first_within (Some i) other h l = h i refl
+first_within None (Some i) h l = l i refl
+first_within None None h l = record { normal_impulse_low = omega arith; normal_impulse_high = omega arith; tangent_impulse = omega arith }
+
+kept_within : (old : Option ContactEntry) (candidate : ℕ) → ForSome old HasContact → AreImpulses (kept old candidate)
+kept_within None candidate h = record { normal_impulse_low = omega arith; normal_impulse_high = omega arith; tangent_impulse = omega arith }
+kept_within (Some e) candidate h =
+    let is : IsContact e.contact = h e refl in
+    first_within (impulses_at e.contact.first candidate) (impulses_at e.contact.second candidate) (impulses_within e.contact.first candidate is.first) (impulses_within e.contact.second candidate is.second)
+
+point_within : (old : Option ContactEntry) (p : Point) → ForSome old HasContact → IsPointWithin (2 ^ 27) p → IsContactPoint (kept_point old p)
+point_within old p h is =
+    let i = kept_within old p.candidate h in
+    record { normal = is.normal; separation = is.separation; ra = is.ra; rb = is.rb; normal_impulse_low = i.normal_impulse_low; normal_impulse_high = i.normal_impulse_high; tangent_impulse = i.tangent_impulse }
+
+second_within : (old : Option ContactEntry) (o : Option Point) → ForSome old HasContact → IfSome o (λ p. IsPointWithin (2 ^ 27) p) → ForSome (option_map (kept_point old) o) IsContactPoint
+second_within old None h is = λ x e. cc
+second_within old (Some p) h is = λ x e. let same : kept_point old p ≡ x = cc in subst IsContactPoint same (point_within old p h is)
+
+apart_within : IsContact apart
+apart_within = record { first = λ x e. cc; second = λ x e. cc }
+
+touching_within : (old : Option ContactEntry) (m : Manifold) → ForSome old HasContact → IsPointWithin (2 ^ 27) m.first → IfSome m.second (λ p. IsPointWithin (2 ^ 27) p)
+    → IsContact (record { first = Some (kept_point old m.first); second = option_map (kept_point old) m.second })
+touching_within old m h first second = record {
+  first = λ x e. let same : kept_point old m.first ≡ x = cc in subst IsContactPoint same (point_within old m.first h first);
+  second = second_within old m.second h second;
+}
+
+either_within : (t : Bool) (c d : Contact) → IsContact c → (t ≡ false → IsContact d) → IsContact (cond t c d)
+either_within true c d h l = h
+either_within false c d h l = l refl
+
+not_above : (z : ℤ) → int_lt (pos 0) z ≡ false → z ≤ℤ pos 0
+not_above z e = grind (arith, common_steps)
+
+-- its numbers are within their limits, where those of the manifold's points are, and those of the old contact
+pub evaluated_within : (old : Option ContactEntry) (m : Manifold) → ForSome old HasContact → (m.first.separation ≤ℤ pos 0 → IsPointWithin (2 ^ 27) m.first) → IfSome m.second (λ p. IsPointWithin (2 ^ 27) p)
+    → IsContact (evaluated old m)
+unfolding evaluated
+evaluated_within old m h first second =
+    either_within (int_lt (pos 0) m.first.separation) apart (record { first = Some (kept_point old m.first); second = option_map (kept_point old) m.second }) apart_within
+    (λ e. touching_within old m h (first (not_above m.first.separation e)) second)
+
+-- a contact that is kept
+contact_within : (o : Option ContactEntry) → ForSome o HasContact → IsContact (kept_contact o)
+contact_within None h = apart_within
+contact_within (Some e) h = h e refl
+
+-- ---- all contacts
+
+body_there : (bodies : List (Option Body)) (p : Proxy) (h : IsProxyIn 0 bodies p) → body_at bodies p.id.slot ≡ Some h.body
+body_there bodies p h = let s : p.id.slot ≡ h.place = h.slot ∙ omega arith in rw s h.there
+
+mover_if : (b : Body) → b.enabled ≡ true → is_dynamic b.kind ≡ true → is_mover b ≡ true
+mover_if b on d = rw (on, d) refl
+
+dynamic_moves : (bodies : List (Option Body)) (p : Proxy) → IsProxyIn 0 bodies p → p.dynamic ≡ true → moves bodies p.id.slot ≡ true
+dynamic_moves bodies p h d = ap moves_in (body_there bodies p h) ∙ mover_if h.body h.is.enabled (sym h.is.dynamic ∙ d)
+
+pub entry_within : (bodies : List (Option Body)) (old : List ContactEntry) (p q : Proxy) → IsProxyIn 0 bodies p → IsProxyIn 0 bodies q → is_near p q ≡ true → AreContactsOf bodies old → IsContactOf bodies (entry_of old p q)
+unfolding entry_of entry_with
+entry_within bodies old p q hp hq near all =
+    let apart = near_apart p q near in
+    let touching = has_touching p.shape p.pose q.shape q.pose hp.is.shape hp.is.pose hq.is.shape hq.is.pose in
+    record {
+      first = below_length bodies p.id.slot hp.body (body_there bodies p hp);
+      second = below_length bodies q.id.slot hq.body (body_there bodies q hq);
+      apart = apart.slots;
+      mover = elim apart.dynamic [ inl d ↦ inl (dynamic_moves bodies p hp d) | inr d ↦ inr (dynamic_moves bodies q hq d) ];
+      contact = either_within (one_stirs p q) (evaluated (lookup old (key_of p q)) (manifold_of p.shape p.pose q.shape q.pose)) (kept_contact (lookup old (key_of p q)))
+          (evaluated_within (lookup old (key_of p q)) (manifold_of p.shape p.pose q.shape q.pose) (lookup_within bodies old (key_of p q) all) touching.first touching.second)
+          (λ e. contact_within (lookup old (key_of p q)) (lookup_within bodies old (key_of p q) all));
+    }
+
+-- ---- the points of the contact that is evaluated
+
+candidate_within : (old : Option ContactEntry) (o : Option Point) → IfSome o (λ p. IsPointWithin (2 ^ 27) p) → ForSome (option_map (kept_point old) o) (λ p. p.candidate ≤ 3)
+candidate_within old None is = λ x e. cc
+candidate_within old (Some p) is = λ x e. let same : kept_point old p ≡ x = cc in subst (λ (q : ContactPoint). q.candidate ≤ 3) same is.candidate
+
+second_beside : (old : Option ContactEntry) (first : Point) (o : Option Point) → IfSome o (λ p. IsSecond first p) → (q : ContactPoint) → option_map (kept_point old) o ≡ Some q
+    → (p : ContactPoint) × (Some (kept_point old first) ≡ Some p) × ((q.candidate == p.candidate) ≡ false)
+second_beside old first None is q e = cc
+second_beside old first (Some p) is q e =
+    let same : kept_point old p ≡ q = cc in
+    (kept_point old first, refl, subst (λ (r : ContactPoint). (r.candidate == first.candidate) ≡ false) same is.other)
+
+apart_points : HasPoints apart
+apart_points = record { first = λ x e. cc; second = λ x e. cc; beside = λ q e. cc }
+
+either_points : (t : Bool) (c d : Contact) → HasPoints c → (t ≡ false → HasPoints d) → HasPoints (cond t c d)
+either_points true c d h l = h
+either_points false c d h l = l refl
+
+pub evaluated_points : (old : Option ContactEntry) (m : Manifold) → (m.first.separation ≤ℤ pos 0 → IsPointWithin (2 ^ 27) m.first) → IfSome m.second (λ p. IsPointWithin (2 ^ 27) p) → IfSome m.second (λ p. IsSecond m.first p)
+    → HasPoints (evaluated old m)
+unfolding evaluated
+evaluated_points old m first second other =
+    either_points (int_lt (pos 0) m.first.separation) apart (record { first = Some (kept_point old m.first); second = option_map (kept_point old) m.second }) apart_points
+    (λ e. record { first = candidate_within old (Some m.first) (first (not_above m.first.separation e)); second = candidate_within old m.second second; beside = second_beside old m.first m.second other })
+
+-- the points of a contact that is kept
+had_points : (o : Option ContactEntry) → ForSome o (λ e. HasPoints e.contact) → HasPoints (kept_contact o)
+had_points None h = apart_points
+had_points (Some e) h = h e refl
+
+looked_if : (P : ContactEntry → Type 0) (t : Bool) (e : ContactEntry) (o : Option ContactEntry) → P e → ForSome o P → ForSome (cond t (Some e) o) P
+looked_if P true e o is rest = λ x h. let same : e ≡ x = cc in subst P same is
+looked_if P false e o is rest = rest
+
+looked_up : (P : ContactEntry → Type 0) (es : List ContactEntry) (key : ContactKey) → All P es → ForSome (lookup es key) P
+looked_up P [] key all = λ x h. cc
+looked_up P (e ∷ es) key all = looked_if P (number_of e == key_number key) e (lookup es key) (All-head P e es all) (looked_up P es key (All-tail P e es all))
+
+shapes_on : (b : Body) (index : ℕ) → b.enabled ≡ true → index < length b.shapes → index < shapes_in (Some b)
+shapes_on b index on h = rw on h
+
+shape_of : (bodies : List (Option Body)) (p : Proxy) → IsProxyIn 0 bodies p → IsShapeOf bodies p.id
+shape_of bodies p h = subst (λ (o : Option Body). p.id.index < shapes_in o) (sym (body_there bodies p h)) (shapes_on h.body p.id.index h.is.enabled h.is.own)
+
+-- the bodies of both its shapes are there, and the shapes are theirs
+pub entry_has_bodies : (bodies : List (Option Body)) (old : List ContactEntry) (p q : Proxy) → length bodies ≤ MAX_SLOTS → All (HasBodies bodies) old → IsProxyIn 0 bodies p → IsProxyIn 0 bodies q → HasBodies bodies (entry_of old p q)
+unfolding entry_of entry_with
+entry_has_bodies bodies old p q few all hp hq =
+    let touching = has_touching p.shape p.pose q.shape q.pose hp.is.shape hp.is.pose hq.is.shape hq.is.pose in
+    let a = hp.is.index in
+    let b = hq.is.index in
+    let slot = below_length bodies q.id.slot hq.body (body_there bodies q hq) in
+    record {
+      first = ap is_some (body_there bodies p hp);
+      second = ap is_some (body_there bodies q hq);
+      first_shape = shape_of bodies p hp;
+      second_shape = shape_of bodies q hq;
+      named = record { first = omega (arith, a); second = omega (arith, b); slot = omega (arith, slot, few) };
+      points = either_points (one_stirs p q) (evaluated (lookup old (key_of p q)) (manifold_of p.shape p.pose q.shape q.pose)) (kept_contact (lookup old (key_of p q)))
+          (evaluated_points (lookup old (key_of p q)) (manifold_of p.shape p.pose q.shape q.pose) touching.first touching.second (manifold_has_second p.shape p.pose q.shape q.pose (manifold_of p.shape p.pose q.shape q.pose) refl))
+          (λ e. had_points (lookup old (key_of p q)) (looked_up (λ e. HasPoints e.contact) old (key_of p q) (All-weaker (HasBodies bodies) (λ e. HasPoints e.contact) (λ e h. h.points) old all)));
+    }
+
+-- what holds of the contact of each two near shapes of bodies holds of all contacts
+pub all_after : (P : ContactEntry → Type 0) (bodies : List (Option Body)) (joints : List (Option BodyJoint)) (old : List ContactEntry) → AreBodies bodies → length bodies ≤ MAX_SLOTS
+    → ((p q : Proxy) → IsProxyIn 0 bodies p → IsProxyIn 0 bodies q → is_near p q ≡ true → P (entry_of old p q)) → All P (contacts_after bodies joints old)
+unfolding contacts_after
+all_after P bodies joints old all few each =
+    let ps = proxies_of bodies in
+    let are : All (IsProxyIn 0 bodies) ps = all_from_each (IsProxyIn 0 bodies) ps (proxies_are 0 bodies all) in
+    let short : length ps ≤ 2 ^ 32 = omega (arith, few, proxies_few 0 bodies all) in
+    let pair : (code : ℕ) → IsNearPair ps code → P (entry_at old ps code) = λ code h.
+    let b = h.before in
+    let w = h.within in
+    each (proxy_at ps (first_place code)) (proxy_at ps (second_place code)) (are (first_place code) no_proxy (omega (arith, b, w))) (are (second_place code) no_proxy w) h.near in
+    All-map P (entry_at old ps) (allowed_codes (forbidden_pairs joints) ps)
+    (All-filter (is_allowed (forbidden_pairs joints) ps) (λ c. P (entry_at old ps c)) (near_codes ps)
+    (all_from_each (λ c. P (entry_at old ps c)) (near_codes ps) (each_weaker (IsNearPair ps) (λ c. P (entry_at old ps c)) pair (near_codes ps) (near_codes_are ps short))))
+
+pub contacts_of_after : (bodies : List (Option Body)) (joints : List (Option BodyJoint)) (old : List ContactEntry) → AreBodies bodies → length bodies ≤ MAX_SLOTS → AreContactsOf bodies old → AreContactsOf bodies (contacts_after bodies joints old)
+contacts_of_after bodies joints old all few pairs =
+    all_after (IsContactOf bodies) bodies joints old all few (λ p q hp hq near. entry_within bodies old p q hp hq near pairs)
+
+pub has_bodies_after : (bodies : List (Option Body)) (joints : List (Option BodyJoint)) (old : List ContactEntry) → AreBodies bodies → length bodies ≤ MAX_SLOTS → All (HasBodies bodies) old → All (HasBodies bodies) (contacts_after bodies joints old)
+has_bodies_after bodies joints old all few there = all_after (HasBodies bodies) bodies joints old all few (λ p q hp hq near. entry_has_bodies bodies old p q few there hp hq)

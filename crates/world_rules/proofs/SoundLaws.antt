@@ -1,0 +1,92 @@
+-- A sound world, part by part: what each command's law keeps, and what follows from it.
+use Rattle.std.proofs.Common.{◌≡◌, ℕ, ◌+◌, ◌*◌, ◌^◌, ◌≤◌, All}
+use Rattle.fixed_geom.specs.Vectors.{IsWithin}
+use Rattle.impulse_ledger.specs.Sums.{total_x, total_y}
+use Rattle.contacts_base.specs.Contacts.{AreKeysRising}
+use Rattle.contacts.specs.Constraints.{constraint_number}
+use Rattle.graph_colours.specs.Colours.{ids_of}
+use Rattle.body_handles.specs.Places.{IsPlace}
+use Rattle.plain_world.specs.Bodies.{AreBodies, momentum_x, momentum_y}
+use Rattle.plain_world.specs.Joints.{AreJoints}
+use Rattle.plain_world.specs.Slots.{AreMatched}
+use Rattle.sleep_wake.specs.Acting.{IsSettled}
+use Rattle.solver_sets.specs.Tied.{AreTied}
+use Rattle.solver_sets.specs.Ties.{members_of}
+use Rattle.world_core_base.specs.Gather.{AreContactsOf}
+use Rattle.world_rules.specs.Sets.{acting_of}
+use Rattle.world_rules.specs.Sound.{AreSmall, AreTimers, AreTold, HasBodies, IsSound}
+use Rattle.world_rules.specs.World.{World, book_of, joints_of}
+use Rattle.world_rules.proofs.SlotLemmas.{body_at-in}
+
+-- the parts from which the others follow
+pub record IsKept (w : World) : Type 0 where
+  pub total_x : momentum_x w.plain.bodies ≡ total_x (book_of w)
+  pub total_y : momentum_y w.plain.bodies ≡ total_y (book_of w)
+  pub causes : AreSmall (2 ^ 126 + w.plain.calls * 2 ^ 83) (book_of w)
+  pub bodies : AreBodies w.plain.bodies
+  pub timers : AreTimers w.plain.steps w.plain.bodies
+  pub matched : AreMatched w.plain.places w.plain.bodies
+  pub joint_slots : AreMatched w.plain.joint_places w.plain.joints
+  pub joint_places : All IsPlace w.plain.joint_places
+  pub joints : AreJoints w.plain.bodies w.plain.joints
+  pub contacts : AreKeysRising w.plain.contacts
+  pub pairs : AreContactsOf w.plain.bodies w.plain.contacts
+  pub there : All (HasBodies w.plain.bodies) w.plain.contacts
+  pub settled : IsSettled constraint_number (acting_of w.plain)
+  pub tied : AreTied w.plain.bodies w.plain.islands
+  pub told : AreTold w.plain.bodies w.plain.islands
+  pub moved : ids_of (members_of w.plain.bodies (joints_of w.plain) w.plain.colours) ≡ w.plain.colours
+  pub gravity : IsWithin (2 ^ 16) w.plain.gravity
+  pub steps : w.plain.steps ≤ w.plain.calls
+  pub calls : w.plain.calls ≤ 2 ^ 40
+
+pub kept_sound : (w : World) → IsSound w → IsKept w
+kept_sound w s = record {
+  total_x = s.promises.total_x;
+  total_y = s.promises.total_y;
+  causes = s.formed.causes;
+  bodies = s.formed.bodies;
+  timers = s.formed.timers;
+  matched = s.formed.matched;
+  joint_slots = s.formed.joint_slots;
+  joint_places = s.formed.joint_places;
+  joints = s.formed.joints;
+  contacts = s.formed.contacts;
+  pairs = s.formed.pairs;
+  there = s.formed.there;
+  settled = s.promises.settled;
+  tied = s.promises.tied;
+  told = s.promises.told;
+  moved = s.formed.moved;
+  gravity = s.formed.gravity;
+  steps = s.formed.steps;
+  calls = s.formed.calls;
+}
+
+pub sound_kept : (w : World) → IsKept w → IsSound w
+sound_kept w k = record {
+  promises = record {
+    settled = k.settled;
+    tied = k.tied;
+    told = k.told;
+    total_x = k.total_x;
+    total_y = k.total_y;
+    rest = λ slot b there still. (k.bodies slot b (body_at-in w.plain.bodies slot b there)).rest still;
+  };
+  formed = record {
+    matched = k.matched;
+    bodies = k.bodies;
+    timers = k.timers;
+    joint_slots = k.joint_slots;
+    joint_places = k.joint_places;
+    joints = k.joints;
+    contacts = k.contacts;
+    pairs = k.pairs;
+    there = k.there;
+    moved = k.moved;
+    causes = k.causes;
+    gravity = k.gravity;
+    steps = k.steps;
+    calls = k.calls;
+  };
+}

@@ -1,0 +1,439 @@
+-- Bodies that are told who sleeps: what they keep, what becomes of their momentum, and when they stay as they are.
+use Rattle.std.proofs.Common.{◌≡◌, ℕ, zero, suc, ◌+◌, ◌*◌, ◌≤◌, Bool, true, false, cond, is_some, List, [], ◌∷◌, length, Option, Some, None, ℤ, pos, ◌+ℤ◌, refl, sym, ap, ◌∙◌, subst, arith}
+use Rattle.std.specs.Prelude.{option_map, slice_get, slice_set}
+use Rattle.std.specs.Option.{is_none}
+use Rattle.std.proofs.lemmas.Option.{none-some, same_Some}
+use Rattle.fixed_geom.specs.declared.vectors.Vec2.{Vec2}
+use Rattle.islands.specs.declared.label.Label.{Label}
+use Rattle.islands.specs.Labels.{Labels, label_at}
+use Rattle.plain_world.specs.declared.body.Body.{Body}
+use Rattle.plain_world.specs.Bodies.{AreBodies, IsAtRest, IsBody, is_awake, is_mover, momentum_x, momentum_y, p_x, p_y}
+use Rattle.plain_world.specs.Sleep.{put_to_rest, roused, sleeping_name, told, told_body, told_by, told_from}
+use Rattle.plain_world.specs.Slots.{HaveSameSlots, body_at, shapes_in}
+use Rattle.solver_sets.specs.Tied.{AreAlike, AreTied}
+use Rattle.solver_sets.specs.Ties.{is_enabled_in, is_mover_in}
+use Rattle.world_rules.specs.Sound.{AreTimers, AreTold}
+use Rattle.world_rules.proofs.SlotLemmas.{body_at-in}
+
+true_false : (t : Bool) → t ≡ true → t ≡ false → ⊥
+true_false t e f = let both : true ≡ false = sym e ∙ f in cc both
+
+-- ---- one body
+
+-- it is the same body, but for its momenta, its timer and its sleep
+pub record IsToldOf (b now : Body) : Type 0 where
+  pub mover : is_mover now ≡ is_mover b
+  pub enabled : now.enabled ≡ b.enabled
+  pub kind : now.kind ≡ b.kind
+  pub mass : now.mass ≡ b.mass
+  pub shapes : now.shapes ≡ b.shapes
+  pub timer : now.timer ≤ b.timer
+
+pub told_is : (o : Option Label) (b : Body) → IsToldOf b (told_body o b)
+told_is o b = by_mover (is_mover b) (sleeping_name o)
+  where
+    same : IsToldOf b b
+    same = record { mover = refl; enabled = refl; kind = refl; mass = refl; shapes = refl; timer = omega arith }
+
+    by_asleep : (a : Bool) → IsToldOf b (cond a (roused b) b)
+    by_asleep true = record { mover = refl; enabled = refl; kind = refl; mass = refl; shapes = refl; timer = omega arith }
+    by_asleep false = same
+
+    by_mover : (t : Bool) (name : Option ℕ) → IsToldOf b (cond t (told_by name b) b)
+    by_mover false name = same
+    by_mover true None = by_asleep (is_some b.asleep)
+    by_mover true (Some name) = record { mover = refl; enabled = refl; kind = refl; mass = refl; shapes = refl; timer = omega arith }
+
+rested_body : (name : ℕ) (b : Body) → is_mover b ≡ true → IsBody b → IsBody (put_to_rest name b)
+rested_body name b moves is = record {
+  mass = is.mass;
+  motion = record { p = record { x = omega arith; y = omega arith }; l = omega arith; still = λ e. refl; x = is.motion.x; facing = is.motion.facing };
+  rest = λ e. record { x = refl; y = refl; l = refl };
+  asleep = λ e. absurd (true_false (is_mover b) moves e);
+  course = is.course;
+  halted = is.halted;
+  shapes = is.shapes;
+  forms = is.forms;
+  fats = is.fats;
+}
+
+roused_body : (b : Body) → is_mover b ≡ true → IsBody b → IsBody (roused b)
+roused_body b moves is = record {
+  mass = is.mass;
+  motion = is.motion;
+  rest = λ e. absurd (true_false (is_awake (roused b)) (λ j. cond (moves j) true false) e);
+  asleep = λ e. refl;
+  course = is.course;
+  halted = is.halted;
+  shapes = is.shapes;
+  forms = is.forms;
+  fats = is.fats;
+}
+
+told_mover : (o : Option ℕ) (b : Body) → is_mover b ≡ true → IsBody b → IsBody (told_by o b)
+told_mover (Some name) b moves is = rested_body name b moves is
+told_mover None b moves is = woken (is_some b.asleep)
+  where
+    woken : (t : Bool) → IsBody (cond t (roused b) b)
+    woken true = roused_body b moves is
+    woken false = is
+
+pub told_is_body : (o : Option Label) (b : Body) → IsBody b → IsBody (told_body o b)
+told_is_body o b is = by (is_mover b) refl
+  where
+    by : (t : Bool) → is_mover b ≡ t → IsBody (cond t (told_by (sleeping_name o) b) b)
+    by true e = told_mover (sleeping_name o) b e is
+    by false e = is
+
+told_sleeps : (o : Option Label) (b : Body) → (is_mover b ≡ false → b.asleep ≡ sleeping_name o) → (told_body o b).asleep ≡ sleeping_name o
+told_sleeps o b h = by_mover (is_mover b) refl (sleeping_name o) refl
+  where
+    by_asleep : (a : Option ℕ) → b.asleep ≡ a → (cond (is_some a) (roused b) b).asleep ≡ None
+    by_asleep None e = e
+    by_asleep (Some name) e = refl
+
+    by_mover : (t : Bool) → is_mover b ≡ t → (name : Option ℕ) → sleeping_name o ≡ name → (cond t (told_by name b) b).asleep ≡ name
+    by_mover false e name q = h e ∙ q
+    by_mover true e None q = by_asleep b.asleep refl
+    by_mover true e (Some name) q = refl
+
+-- one that isn't told to sleep has the motion that it had
+pub told_motion : (o : Option Label) (b : Body) → sleeping_name o ≡ None → (told_body o b).motion ≡ b.motion
+told_motion o b e = by_mover (is_mover b) (sleeping_name o) e
+  where
+    by_asleep : (a : Bool) → (cond a (roused b) b).motion ≡ b.motion
+    by_asleep true = refl
+    by_asleep false = refl
+
+    by_mover : (t : Bool) (name : Option ℕ) → name ≡ None → (cond t (told_by name b) b).motion ≡ b.motion
+    by_mover false name f = refl
+    by_mover true None f = by_asleep (is_some b.asleep)
+    by_mover true (Some name) f = cc
+
+-- ---- by slot
+
+told_at : (n : ℕ) (labels : Labels) (bodies : List (Option Body)) (k m : ℕ) → m ≡ n + k → body_at (told_from n labels bodies) k ≡ option_map (told_body (label_at labels m)) (body_at bodies k)
+told_at n labels [] k m e = refl
+told_at n labels (o ∷ bodies) zero m e = let here : n ≡ m = omega (arith, e) in ap (λ (j : ℕ). option_map (told_body (label_at labels j)) o) here
+told_at n labels (o ∷ bodies) (suc k) m e = told_at (suc n) labels bodies k m (omega (arith, e))
+
+-- the body in a slot as its label tells
+pub body_told : (labels : Labels) (bodies : List (Option Body)) (slot : ℕ) → body_at (told labels bodies) slot ≡ option_map (told_body (label_at labels slot)) (body_at bodies slot)
+unfolding told
+body_told labels bodies slot = told_at 0 labels bodies slot slot (omega arith)
+
+-- the body before
+pub record WasBefore (o : Option Label) (before : Option Body) (b : Body) : Type 0 where
+  pub body : Body
+  pub there : before ≡ Some body
+  pub told : told_body o body ≡ b
+
+was_of : (l : Option Label) (o : Option Body) (b : Body) → option_map (told_body l) o ≡ Some b → WasBefore l o b
+was_of l None b e = absurd (none-some b e)
+was_of l (Some a) b e = record { body = a; there = refl; told = same_Some (told_body l a) b e }
+
+pub was_before : (labels : Labels) (bodies : List (Option Body)) (slot : ℕ) (b : Body) → body_at (told labels bodies) slot ≡ Some b → WasBefore (label_at labels slot) (body_at bodies slot) b
+was_before labels bodies slot b e = was_of (label_at labels slot) (body_at bodies slot) b (sym (body_told labels bodies slot) ∙ e)
+
+-- a body that stands in a slot of a list
+pub at_from_in : (bodies : List (Option Body)) (slot : ℕ) (b : Body) → slice_get bodies slot ≡ Some (Some b) → body_at bodies slot ≡ Some b
+at_from_in [] slot b e = cc
+at_from_in (a ∷ bs) zero b e = same_Some a (Some b) e
+at_from_in (a ∷ bs) (suc slot) b e = at_from_in bs slot b e
+
+-- ---- what they keep
+
+pub told_are_bodies : (labels : Labels) (bodies : List (Option Body)) → AreBodies bodies → AreBodies (told labels bodies)
+told_are_bodies labels bodies all slot b e =
+    let was = was_before labels bodies slot b (at_from_in (told labels bodies) slot b e) in
+    subst IsBody was.told (told_is_body (label_at labels slot) was.body (all slot was.body (body_at-in bodies slot was.body was.there)))
+
+pub told_timers : (labels : Labels) (bodies : List (Option Body)) (steps : ℕ) → AreTimers steps bodies → AreTimers steps (told labels bodies)
+told_timers labels bodies steps all slot b e =
+    let was = was_before labels bodies slot b e in
+    let small = all slot was.body was.there in
+    let less = (told_is (label_at labels slot) was.body).timer in
+    subst (λ (c : Body). c.timer ≤ 8 * steps) was.told (omega (arith, small, less))
+
+alike_in : (l : Option Label) (o : Option Body) → (is_mover_in (option_map (told_body l) o) ≡ is_mover_in o) × (is_enabled_in (option_map (told_body l) o) ≡ is_enabled_in o)
+alike_in l None = (refl, refl)
+alike_in l (Some b) = let is = told_is l b in (is.mover, is.enabled)
+
+-- the same slots have enabled bodies and movers
+pub told_alike : (labels : Labels) (bodies : List (Option Body)) → AreAlike bodies (told labels bodies)
+told_alike labels bodies = record {
+  enabled = λ slot. ap is_enabled_in (body_told labels bodies slot) ∙ (alike_in (label_at labels slot) (body_at bodies slot)).1;
+  movers = λ slot. ap is_mover_in (body_told labels bodies slot) ∙ (alike_in (label_at labels slot) (body_at bodies slot)).0;
+}
+
+length_from : (n : ℕ) (labels : Labels) (bodies : List (Option Body)) → length (told_from n labels bodies) ≡ length bodies
+length_from n labels [] = refl
+length_from n labels (o ∷ bodies) = ap suc (length_from (suc n) labels bodies)
+
+pub length_told : (labels : Labels) (bodies : List (Option Body)) → length (told labels bodies) ≡ length bodies
+unfolding told
+length_told labels bodies = length_from 0 labels bodies
+
+there_in : (l : Option Label) (o : Option Body) → is_some (option_map (told_body l) o) ≡ is_some o
+there_in l None = refl
+there_in l (Some b) = refl
+
+shapes_same : (l : Option Label) (o : Option Body) → shapes_in (option_map (told_body l) o) ≡ shapes_in o
+shapes_same l None = refl
+shapes_same l (Some b) = let is = told_is l b in λ j. cond (is.enabled j) (length (is.shapes j)) 0
+
+pub told_same_slots : (labels : Labels) (bodies : List (Option Body)) → HaveSameSlots bodies (told labels bodies)
+told_same_slots labels bodies = record {
+  slots = length_told labels bodies;
+  taken = λ slot. ap is_some (body_told labels bodies slot) ∙ there_in (label_at labels slot) (body_at bodies slot);
+  shapes = λ slot. ap shapes_in (body_told labels bodies slot) ∙ shapes_same (label_at labels slot) (body_at bodies slot);
+}
+
+none_sleeps : (l : Option Label) → is_some l ≡ false → sleeping_name l ≡ None
+none_sleeps None e = refl
+none_sleeps (Some l) e = cc
+
+-- they sleep as the labels say
+pub told_are_told : (labels : Labels) (bodies : List (Option Body)) → AreBodies bodies → AreTied bodies labels → AreTold (told labels bodies) labels
+told_are_told labels bodies all tied slot b e =
+    let was = was_before labels bodies slot b e in
+    let is : IsBody was.body = all slot was.body (body_at-in bodies slot was.body was.there) in
+    sym (ap (λ (c : Body). c.asleep) was.told)
+    ∙ told_sleeps (label_at labels slot) was.body (λ no. is.asleep no ∙ sym (none_sleeps (label_at labels slot) (tied slot ∙ ap is_mover_in was.there ∙ no)))
+
+pub told_tied : (labels : Labels) (bodies : List (Option Body)) → AreTied bodies labels → AreTied (told labels bodies) labels
+told_tied labels bodies tied slot = tied slot ∙ sym ((told_alike labels bodies).movers slot)
+
+-- ---- their momentum
+
+-- nobody who is awake is told to sleep
+abbrev pub NobodyFallsAsleep : List (Option Body) → Labels → Type 0
+NobodyFallsAsleep bodies labels = (slot : ℕ) (b : Body) → body_at bodies slot ≡ Some b → is_awake b ≡ true → sleeping_name (label_at labels slot) ≡ None
+
+part_of : (m : Bool) (old new : ℤ) → new ≡ old → cond m new (pos 0) ≡ cond m old (pos 0)
+part_of true old new e = e
+part_of false old new e = refl
+
+-- a body keeps its momentum, if it isn't told to sleep while it is awake
+record KeepsMomentum (b now : Body) : Type 0 where
+  x : now.motion.p.x ≡ b.motion.p.x
+  y : now.motion.p.y ≡ b.motion.p.y
+
+asleep_rests : (b : Body) (name : ℕ) → IsBody b → (is_awake b ≡ true → Some name ≡ None) → KeepsMomentum b (put_to_rest name b)
+asleep_rests b name is h = by (is_awake b) refl
+  where
+    by : (t : Bool) → is_awake b ≡ t → KeepsMomentum b (put_to_rest name b)
+    by true e = let no = h e in cc
+    by false e = record { x = sym (is.rest e).x; y = sym (is.rest e).y }
+
+told_momentum : (o : Option Label) (b : Body) → IsBody b → (is_awake b ≡ true → sleeping_name o ≡ None) → KeepsMomentum b (told_body o b)
+told_momentum o b is h = by_mover (is_mover b) (sleeping_name o) h
+  where
+    by_asleep : (a : Bool) → KeepsMomentum b (cond a (roused b) b)
+    by_asleep true = record { x = refl; y = refl }
+    by_asleep false = record { x = refl; y = refl }
+
+    by_mover : (t : Bool) (name : Option ℕ) → (is_awake b ≡ true → name ≡ None) → KeepsMomentum b (cond t (told_by name b) b)
+    by_mover false name k = record { x = refl; y = refl }
+    by_mover true None k = by_asleep (is_some b.asleep)
+    by_mover true (Some name) k = asleep_rests b name is k
+
+pub told_p_x : (l : Option Label) (o : Option Body) → ((b : Body) → o ≡ Some b → IsBody b) → ((b : Body) → o ≡ Some b → is_awake b ≡ true → sleeping_name l ≡ None) → p_x (option_map (told_body l) o) ≡ p_x o
+told_p_x l None all h = refl
+told_p_x l (Some b) all h =
+    rw (told_is l b).mover (part_of (is_mover b) b.motion.p.x (told_body l b).motion.p.x (told_momentum l b (all b refl) (h b refl)).x)
+
+pub told_p_y : (l : Option Label) (o : Option Body) → ((b : Body) → o ≡ Some b → IsBody b) → ((b : Body) → o ≡ Some b → is_awake b ≡ true → sleeping_name l ≡ None) → p_y (option_map (told_body l) o) ≡ p_y o
+told_p_y l None all h = refl
+told_p_y l (Some b) all h =
+    rw (told_is l b).mover (part_of (is_mover b) b.motion.p.y (told_body l b).motion.p.y (told_momentum l b (all b refl) (h b refl)).y)
+
+-- what is known of the list that begins with the slot n
+abbrev StayAwakeFrom : ℕ → List (Option Body) → Labels → Type 0
+StayAwakeFrom n bodies labels = (k m : ℕ) (b : Body) → m ≡ n + k → body_at bodies k ≡ Some b → is_awake b ≡ true → sleeping_name (label_at labels m) ≡ None
+
+tail_stays : (n : ℕ) (o : Option Body) (bodies : List (Option Body)) (labels : Labels) → StayAwakeFrom n (o ∷ bodies) labels → StayAwakeFrom (suc n) bodies labels
+tail_stays n o bodies labels h k m b e at up = h (suc k) m b (omega (arith, e)) at up
+
+told_from_x : (n : ℕ) (labels : Labels) (bodies : List (Option Body)) → AreBodies bodies → StayAwakeFrom n bodies labels → momentum_x (told_from n labels bodies) ≡ momentum_x bodies
+told_from_x n labels [] all h = refl
+told_from_x n labels (o ∷ bodies) all h =
+    let first = told_p_x (label_at labels n) o (λ b e. all zero b (ap Some e)) (λ b e. h zero n b (omega arith) e) in
+    let rest = told_from_x (suc n) labels bodies (λ k b e. all (suc k) b e) (tail_stays n o bodies labels h) in
+    λ j. first j +ℤ rest j
+
+told_from_y : (n : ℕ) (labels : Labels) (bodies : List (Option Body)) → AreBodies bodies → StayAwakeFrom n bodies labels → momentum_y (told_from n labels bodies) ≡ momentum_y bodies
+told_from_y n labels [] all h = refl
+told_from_y n labels (o ∷ bodies) all h =
+    let first = told_p_y (label_at labels n) o (λ b e. all zero b (ap Some e)) (λ b e. h zero n b (omega arith) e) in
+    let rest = told_from_y (suc n) labels bodies (λ k b e. all (suc k) b e) (tail_stays n o bodies labels h) in
+    λ j. first j +ℤ rest j
+
+from_zero : (bodies : List (Option Body)) (labels : Labels) → NobodyFallsAsleep bodies labels → StayAwakeFrom 0 bodies labels
+from_zero bodies labels h k m b e at up = let same : k ≡ m = omega (arith, e) in subst (λ (s : ℕ). sleeping_name (label_at labels s) ≡ None) same (h k b at up)
+
+-- where nobody falls asleep the movers' momentum stays as it is
+pub waking_momentum_x : (labels : Labels) (bodies : List (Option Body)) → AreBodies bodies → NobodyFallsAsleep bodies labels → momentum_x (told labels bodies) ≡ momentum_x bodies
+unfolding told
+waking_momentum_x labels bodies all h = told_from_x 0 labels bodies all (from_zero bodies labels h)
+
+pub waking_momentum_y : (labels : Labels) (bodies : List (Option Body)) → AreBodies bodies → NobodyFallsAsleep bodies labels → momentum_y (told labels bodies) ≡ momentum_y bodies
+unfolding told
+waking_momentum_y labels bodies all h = told_from_y 0 labels bodies all (from_zero bodies labels h)
+
+-- ---- when they stay as they are
+
+no_vector : (v : Vec2) → v.x ≡ pos 0 → v.y ≡ pos 0 → ◌≡◌ {A = Vec2} (record { x = pos 0; y = pos 0 }) v
+no_vector v x y = λ j. record { x = sym x j; y = sym y j }
+
+rest_stays : (name : ℕ) (b : Body) → b.asleep ≡ Some name → IsAtRest b.motion → put_to_rest name b ≡ b
+rest_stays name b e rest = λ j. record b { motion = record b.motion { p = no_vector b.motion.p rest.x rest.y j; l = sym rest.l j }; asleep = sym e j }
+
+awake_not : (m : Bool) (a : Option ℕ) (name : ℕ) → a ≡ Some name → cond m (is_none a) false ≡ false
+awake_not true None name e = cc
+awake_not true (Some n) name e = refl
+awake_not false a name e = refl
+
+-- a body that sleeps as it is told already
+told_stays_one : (o : Option Label) (b : Body) → IsBody b → b.asleep ≡ sleeping_name o → told_body o b ≡ b
+told_stays_one o b is e = by_mover (is_mover b) (sleeping_name o) e
+  where
+    by_asleep : (a : Option ℕ) → a ≡ None → cond (is_some a) (roused b) b ≡ b
+    by_asleep None f = refl
+    by_asleep (Some name) f = cc
+
+    by_mover : (t : Bool) (name : Option ℕ) → b.asleep ≡ name → cond t (told_by name b) b ≡ b
+    by_mover false name f = refl
+    by_mover true None f = by_asleep b.asleep f
+    by_mover true (Some name) f = rest_stays name b f (is.rest (awake_not (is_mover b) b.asleep name f))
+
+stays_in : (l : Option Label) (o : Option Body) → ((b : Body) → o ≡ Some b → IsBody b) → ((b : Body) → o ≡ Some b → b.asleep ≡ sleeping_name l) → option_map (told_body l) o ≡ o
+stays_in l None all h = refl
+stays_in l (Some b) all h = ap Some (told_stays_one l b (all b refl) (h b refl))
+
+told_from_stays : (n : ℕ) (labels : Labels) (bodies : List (Option Body)) → AreBodies bodies → ((k m : ℕ) (b : Body) → m ≡ n + k → body_at bodies k ≡ Some b → b.asleep ≡ sleeping_name (label_at labels m)) → told_from n labels bodies ≡ bodies
+told_from_stays n labels [] all h = refl
+told_from_stays n labels (o ∷ bodies) all h =
+    let first = stays_in (label_at labels n) o (λ b e. all zero b (ap Some e)) (λ b e. h zero n b (omega arith) e) in
+    let rest = told_from_stays (suc n) labels bodies (λ k b e. all (suc k) b e) (λ k m b e at. h (suc k) m b (omega (arith, e)) at) in
+    λ j. first j ∷ rest j
+
+-- bodies that are told already
+pub told_stays : (labels : Labels) (bodies : List (Option Body)) → AreBodies bodies → AreTold bodies labels → told labels bodies ≡ bodies
+unfolding told
+told_stays labels bodies all h =
+    told_from_stays 0 labels bodies all (λ k m b e at. let same : k ≡ m = omega (arith, e) in subst (λ (s : ℕ). b.asleep ≡ sleeping_name (label_at labels s)) same (h k b at))
+
+-- told twice is told once
+pub told_again : (labels : Labels) (bodies : List (Option Body)) → AreBodies bodies → AreTied bodies labels → told labels (told labels bodies) ≡ told labels bodies
+told_again labels bodies all tied = told_stays labels (told labels bodies) (told_are_bodies labels bodies all) (told_are_told labels bodies all tied)
+
+-- ---- one slot set, and bodies told
+
+set_from : (n : ℕ) (labels : Labels) (bodies : List (Option Body)) (slot m : ℕ) (o : Option Body) → m ≡ n + slot → told_from n labels (slice_set bodies slot o) ≡ slice_set (told_from n labels bodies) slot (option_map (told_body (label_at labels m)) o)
+set_from n labels [] slot m o e = refl
+set_from n labels (a ∷ bs) zero m o e = let here : n ≡ m = omega (arith, e) in ap (λ (j : ℕ). option_map (told_body (label_at labels j)) o ∷ told_from (suc n) labels bs) here
+set_from n labels (a ∷ bs) (suc slot) m o e = ap (λ (l : List (Option Body)). option_map (told_body (label_at labels n)) a ∷ l) (set_from (suc n) labels bs slot m o (omega (arith, e)))
+
+-- setting a slot and then telling is telling and then setting the slot to the body that is told
+pub told_set_slot : (labels : Labels) (bodies : List (Option Body)) (slot : ℕ) (o : Option Body) → told labels (slice_set bodies slot o) ≡ slice_set (told labels bodies) slot (option_map (told_body (label_at labels slot)) o)
+unfolding told
+told_set_slot labels bodies slot o = set_from 0 labels bodies slot slot o (omega arith)
+
+-- ---- bodies told again by other labels
+
+awake_if : (m : Bool) (a : Option ℕ) → m ≡ true → a ≡ None → cond m (is_none a) false ≡ true
+awake_if true None e f = refl
+awake_if true (Some name) e f = cc
+awake_if false a e f = cc
+
+none_of : (a : Option ℕ) → is_some a ≡ false → a ≡ None
+none_of None e = refl
+none_of (Some name) e = cc
+
+told_up : (b : Body) → is_mover b ≡ true → is_awake (told_by None b) ≡ true
+told_up b m = by (is_some b.asleep) refl
+  where
+    by : (t : Bool) → is_some b.asleep ≡ t → is_awake (cond t (roused b) b) ≡ true
+    by true e = awake_if (is_mover b) None m refl
+    by false e = awake_if (is_mover b) b.asleep m (none_of b.asleep e)
+
+twice_up : (b : Body) → told_by None (told_by None b) ≡ told_by None b
+twice_up b = by (is_some b.asleep) refl
+  where
+    by : (t : Bool) → is_some b.asleep ≡ t → told_by None (cond t (roused b) b) ≡ cond t (roused b) b
+    by true e = refl
+    by false e = λ j. cond (e j) (roused b) b
+
+-- one that is put to rest again and then woken was at rest
+roused_again : (name : ℕ) (b : Body) → IsBody b → is_mover b ≡ true → (is_awake b ≡ true → Some name ≡ None) → told_by None (put_to_rest name b) ≡ told_by None b
+roused_again name b is m h = by b.asleep refl
+  where
+    by : (o : Option ℕ) → b.asleep ≡ o → roused (put_to_rest name b) ≡ cond (is_some o) (roused b) b
+    by None e = let no = h (awake_if (is_mover b) b.asleep m e) in cc
+    by (Some n) e = let rest = is.rest (awake_not (is_mover b) b.asleep n e) in
+        λ j. record b { motion = record b.motion { p = no_vector b.motion.p rest.x rest.y j; l = sym rest.l j }; asleep = None; timer = 0 }
+
+over_mover : (first second : Option ℕ) (b : Body) → IsBody b → is_mover b ≡ true → (is_awake b ≡ true → first ≡ None) → (is_awake (told_by first b) ≡ true → second ≡ None) → told_by second (told_by first b) ≡ told_by second b
+over_mover (Some a) (Some c) b is m h k = refl
+over_mover (Some a) None b is m h k = roused_again a b is m h
+over_mover None second b is m h k = subst (λ (n : Option ℕ). told_by n (told_by None b) ≡ told_by n b) (sym (k (told_up b m))) (twice_up b)
+
+over_one : (first second : Option Label) (b : Body) → IsBody b → (is_awake b ≡ true → sleeping_name first ≡ None) → (is_awake (told_body first b) ≡ true → sleeping_name second ≡ None) → told_body second (told_body first b) ≡ told_body second b
+over_one first second b is h k = by (is_mover b) refl
+  where
+    same : (t : Bool) → is_mover b ≡ t → told_body first b ≡ cond t (told_by (sleeping_name first) b) b
+    same t e = ap (λ (u : Bool). cond u (told_by (sleeping_name first) b) b) e
+
+    mover_first : is_mover b ≡ true → is_mover (told_by (sleeping_name first) b) ≡ true
+    mover_first e = ap is_mover (sym (same true e)) ∙ (told_is first b).mover ∙ e
+
+    by : (t : Bool) → is_mover b ≡ t → told_body second (told_body first b) ≡ told_body second b
+    by false e = ap (told_body second) (same false e)
+    by true e =
+        let one : told_body first b ≡ told_by (sleeping_name first) b = same true e in
+        let two : told_body second (told_by (sleeping_name first) b) ≡ told_by (sleeping_name second) (told_by (sleeping_name first) b) = ap (λ (u : Bool). cond u (told_by (sleeping_name second) (told_by (sleeping_name first) b)) (told_by (sleeping_name first) b)) (mover_first e) in
+        let three : told_body second b ≡ told_by (sleeping_name second) b = ap (λ (u : Bool). cond u (told_by (sleeping_name second) b) b) e in
+        ap (told_body second) one ∙ two ∙ over_mover (sleeping_name first) (sleeping_name second) b is e h (λ up. k (ap is_awake one ∙ up)) ∙ sym three
+
+over_in : (first second : Option Label) (o : Option Body) → ((b : Body) → o ≡ Some b → IsBody b) → ((b : Body) → o ≡ Some b → is_awake b ≡ true → sleeping_name first ≡ None)
+    → ((b : Body) → option_map (told_body first) o ≡ Some b → is_awake b ≡ true → sleeping_name second ≡ None) → option_map (told_body second) (option_map (told_body first) o) ≡ option_map (told_body second) o
+over_in first second None all h k = refl
+over_in first second (Some b) all h k = ap Some (over_one first second b (all b refl) (h b refl) (k (told_body first b) refl))
+
+over_from : (n : ℕ) (first second : Labels) (bodies : List (Option Body)) → AreBodies bodies → StayAwakeFrom n bodies first → StayAwakeFrom n (told_from n first bodies) second → told_from n second (told_from n first bodies) ≡ told_from n second bodies
+over_from n first second [] all h k = refl
+over_from n first second (o ∷ bodies) all h k =
+    let one = over_in (label_at first n) (label_at second n) o (λ b e. all zero b (ap Some e)) (λ b e. h zero n b (omega arith) e) (λ b e. k zero n b (omega arith) e) in
+    let rest = over_from (suc n) first second bodies (λ i b e. all (suc i) b e) (tail_stays n o bodies first h) (tail_stays n (option_map (told_body (label_at first n)) o) (told_from (suc n) first bodies) second k) in
+    λ j. one j ∷ rest j
+
+-- where nobody falls asleep, neither first nor then, bodies that are told twice are as those that are told once, the last time
+pub told_over : (first second : Labels) (bodies : List (Option Body)) → AreBodies bodies → NobodyFallsAsleep bodies first → NobodyFallsAsleep (told first bodies) second → told second (told first bodies) ≡ told second bodies
+unfolding told
+told_over first second bodies all h k = over_from 0 first second bodies all (from_zero bodies first h) (from_zero (told_from 0 first bodies) second k)
+
+-- ---- a body that is told to sleep has no momentum
+
+no_part : (m : Bool) → cond m (pos 0) (pos 0) ≡ pos 0
+no_part true = refl
+no_part false = refl
+
+rested_p_x : (l : Option Label) (b : Body) (name : ℕ) → sleeping_name l ≡ Some name → p_x (Some (told_body l b)) ≡ pos 0
+rested_p_x l b name e = by (is_mover b) refl (sleeping_name l) e
+  where
+    by : (t : Bool) → is_mover b ≡ t → (o : Option ℕ) → o ≡ Some name → p_x (Some (cond t (told_by o b) b)) ≡ pos 0
+    by true m None f = cc
+    by true m (Some n) f = no_part (is_mover b)
+    by false m o f = ap (λ (u : Bool). cond u b.motion.p.x (pos 0)) m
+
+rested_p_y : (l : Option Label) (b : Body) (name : ℕ) → sleeping_name l ≡ Some name → p_y (Some (told_body l b)) ≡ pos 0
+rested_p_y l b name e = by (is_mover b) refl (sleeping_name l) e
+  where
+    by : (t : Bool) → is_mover b ≡ t → (o : Option ℕ) → o ≡ Some name → p_y (Some (cond t (told_by o b) b)) ≡ pos 0
+    by true m None f = cc
+    by true m (Some n) f = no_part (is_mover b)
+    by false m o f = ap (λ (u : Bool). cond u b.motion.p.y (pos 0)) m
+
+pub rested_momentum : (l : Option Label) (b : Body) (name : ℕ) → sleeping_name l ≡ Some name → (p_x (Some (told_body l b)) ≡ pos 0) × (p_y (Some (told_body l b)) ≡ pos 0)
+rested_momentum l b name e = (rested_p_x l b name e, rested_p_y l b name e)

@@ -1,0 +1,431 @@
+-- What each command does to the plain world, as a function.
+use Rattle.std.specs.Prelude.{◌≡◌, ℕ, ◌+◌, ◌^◌, Bool, true, false, cond, ◌&&◌, ◌==◌, nat_le, nat_lt, List, [], ◌∷◌, ◌++◌, Option, Some, None, is_some, Result, Ok, Err, ℤ, pos, neg_ℤ, ◌+ℤ◌, ◌-ℤ◌, unsigned_abs, slice_set, unwrap_or, replicate}
+use Rattle.fixed_geom.specs.Facings.{is_facing}
+use Rattle.fixed_geom.specs.Vectors.{cross, is_within, plus, zero_vector}
+use Rattle.fixed_geom.specs.declared.limits.TheConstants.{MAX_POSITION}
+use Rattle.fixed_geom.specs.declared.vectors.Vec2.{Vec2}
+use Rattle.fixed_geom.specs.declared.refusal.Refusal.{Refusal}
+use Rattle.fixed_geom.specs.declared.refusal.Refusal.TheVariants.{NoMemory, StaleHandle, TooMany, OutOfRange, SameBody, NotAMover, NotKinematic, BodyDisabled, TooFast, WornOut}
+use Rattle.body_handles.specs.declared.handle.Handle.{Handle}
+use Rattle.body_handles.specs.declared.places.TheConstants.{MAX_SLOTS}
+use Rattle.body_handles.specs.Places.{lowest, generation_at, is_live, places_with, places_without}
+use Rattle.momenta.specs.Impulses.{turned_by}
+use Rattle.momenta.specs.declared.limits.TheConstants.{MAX_ANGULAR_MOMENTUM, MAX_MOMENTUM}
+use Rattle.momenta.specs.declared.motion.Momenta.{Momenta}
+use Rattle.impulse_ledger.specs.declared.entry.Entry.{Entry}
+use Rattle.impulse_ledger.specs.declared.entry.Cause as cause
+use Rattle.impulse_ledger.specs.declared.entry.Cause.TheVariants as causes
+use Rattle.impulse_ledger.specs.Totals.{zero_totals}
+use Rattle.shapes.specs.Shapes.{is_between}
+use Rattle.shapes.specs.declared.pose.Pose.{Pose}
+use Rattle.contacts_base.specs.Contacts.{contacts_without}
+use Rattle.contacts_base.specs.declared.contact.ContactEntry.{ContactEntry}
+use Rattle.graph_colours.specs.declared.limits.TheConstants.{COLOURS}
+use Rattle.graph_colours.specs.Colours.{ids_of}
+use Rattle.contacts.specs.Constraints.{constraint_number}
+use Rattle.contacts.specs.declared.constraint.Constraint.{Constraint}
+use Rattle.contacts.specs.declared.constraint.Constraint.TheVariants.{Joint}
+use Rattle.islands.specs.Labels.{Labels}
+use Rattle.sleep_wake.specs.Acting.{Acting}
+use Rattle.sleep_wake.specs.Changes.{turned, each_begun}
+use Rattle.sleep_wake.specs.SleepPhase.{sleep_phase}
+use Rattle.sleep_wake.specs.Sleeping.{slept_at}
+use Rattle.solver_sets.specs.Beside.{joined_to, timers_of}
+use Rattle.solver_sets.specs.Joining.{handle_at, joined_with, unjoined, unjoined_all}
+use Rattle.solver_sets.specs.Slept.{asleep_only_in}
+use Rattle.solver_sets.specs.Ties.{JointSlots, begun_with, ended_with, joint_movers, joint_ties_at, key_changes}
+use Rattle.plain_world.specs.Bodies.{def_refusal, is_mover, made, momentum_x, momentum_y, p_x, p_y}
+use Rattle.plain_world.specs.Changes.{changed_at, disabled_body, enabled_body, put_course, put_momenta, put_pose}
+use Rattle.plain_world.specs.Joints.{idle_joints, joint_at, joint_made, joint_of, joint_refusal}
+use Rattle.plain_world.specs.Kinds.{is_course, is_dynamic, is_kinematic}
+use Rattle.plain_world.specs.Plain.{Plain}
+use Rattle.plain_world.specs.Sleep.{timed_bodies, told}
+use Rattle.plain_world.specs.Slots.{with_body}
+use Rattle.plain_world.specs.declared.body.Body.{Body}
+use Rattle.plain_world.specs.declared.body.BodyDef.{BodyDef}
+use Rattle.plain_world.specs.declared.joint.BodyJoint.{BodyJoint}
+use Rattle.plain_world.specs.declared.joint.JointDef.{JointDef}
+use Rattle.plain_world.specs.declared.kind.Course.{Course}
+use Rattle.colour_solver.specs.declared.ticks.StepSums.{StepSums}
+use Rattle.world_core_base.specs.Renewal.{renewed_bodies}
+use Rattle.world_core_base.specs.Solving.{Solving, bodies_of, solve_order, solved}
+use Rattle.event_feed.specs.Events.{EventLists, no_events}
+use Rattle.world_rules.specs.declared.command.Command.{Command}
+use Rattle.world_rules.specs.declared.command.Command.TheVariants.{CreateBody, DestroyBody, CreateJoint, DestroyJoint, Push, PushAt, SetPose, SetVelocity, SetGravity, Disable, Enable, Wake, Sleep, Step}
+use Rattle.world_rules.specs.declared.command.Reply.{Reply}
+use Rattle.world_rules.specs.declared.command.Reply.TheVariants as replies
+use Rattle.world_rules.specs.Collide.{Collided, collided}
+use Rattle.world_rules.specs.Sets.{acting_of, body_come, body_gone, stirred, with_acting, woken}
+use Rattle.world_rules.specs.World.{World, body_of, joints_of}
+
+-- what an accepted command leaves: the plain world, the reply, the ledger's new entries, and the events where it is a step
+pub record Applied : Type 0 where
+  pub plain : Plain
+  pub reply : Reply
+  pub entries : List Entry
+  pub events : Option EventLists
+
+-- an entry, left out where it is zero in both components
+abbrev pub booked : ℕ → cause.Cause → ℤ → ℤ → List Entry
+booked call why x y = cond (nat_le (unsigned_abs x) 0 && nat_le (unsigned_abs y) 0) [] (record { call = call; cause = why; x = x; y = y } ∷ [])
+
+-- one call more was accepted
+abbrev pub counted : Plain → Plain
+counted w = record w { calls = w.calls + 1 }
+
+-- a command that answers nothing, books nothing and is no step
+abbrev pub quietly : Plain → Applied
+quietly w = record { plain = counted w; reply = replies.Done; entries = []; events = None }
+
+-- ---- CreateBody
+
+-- the lists with the body in its slot
+abbrev pub with_made : ℕ → Body → Plain → Plain
+with_made slot b w = record w { places = places_with w.places slot; bodies = with_body w.bodies slot b }
+
+-- the body comes
+abbrev pub body_made : ℕ → Body → Plain → Plain
+body_made slot b w = with_acting (body_come slot b (acting_of w)) (with_made slot b w)
+
+abbrev pub created : Plain → BodyDef → Applied
+created w d =
+    let slot = lowest w.places in
+    record {
+      plain = counted (body_made slot (made d) w);
+      reply = replies.Body (record { slot = slot; generation = generation_at w.places slot });
+      entries = [];
+      events = None;
+    }
+
+abbrev pub create_due : Plain → BodyDef → Option Refusal → Result Applied Refusal
+create_due w d (Some e) = Err e
+create_due w d None = cond (nat_lt (lowest w.places) MAX_SLOTS) (Ok (created w d)) (Err TooMany)
+
+abbrev pub apply_create : Plain → BodyDef → Result Applied Refusal
+apply_create w d = create_due w d (def_refusal d)
+
+-- ---- DestroyBody
+
+-- the lists without a body, its joints and its contacts
+abbrev pub without_body : Handle → JointSlots → Plain → Plain
+without_body h joints w = record w { places = places_without w.places h; bodies = slice_set w.bodies h.slot None; joint_places = joints.places; joints = joints.joints; contacts = contacts_without h.slot w.contacts }
+
+-- the body goes with its joints and its contacts
+abbrev pub body_destroyed : Handle → Bool → Plain → Plain
+body_destroyed h mover w = with_acting (body_gone h.slot mover w) (without_body h (unjoined_all h.slot (joints_of w)) w)
+
+-- minus the momentum that leaves with a body
+abbrev pub departed : ℕ → Body → List Entry
+departed call b = booked call causes.Departed (neg_ℤ (p_x (Some b))) (neg_ℤ (p_y (Some b)))
+
+abbrev pub destroyed : Plain → Handle → Body → Applied
+destroyed w h b = record {
+  plain = counted (body_destroyed h (is_mover b) (stirred w h.slot));
+  reply = replies.Done;
+  entries = departed (w.calls + 1) b;
+  events = None;
+}
+
+abbrev pub destroy_due : Plain → Handle → Option Body → Result Applied Refusal
+destroy_due w h None = Err StaleHandle
+destroy_due w h (Some b) = Ok (destroyed w h b)
+
+abbrev pub apply_destroy : Plain → Handle → Result Applied Refusal
+apply_destroy w h = destroy_due w h (body_of w h)
+
+-- ---- CreateJoint and DestroyJoint
+
+abbrev pub with_joints : JointSlots → Plain → Plain
+with_joints joints w = record w { joint_places = joints.places; joints = joints.joints }
+
+-- the first reason why two bodies can't be joined
+abbrev pub join_refusal : Option Body → Option Body → JointDef → Option Refusal
+join_refusal None b d = Some StaleHandle
+join_refusal (Some a) None d = Some StaleHandle
+join_refusal (Some a) (Some b) d = cond (d.a.slot == d.b.slot) (Some SameBody) (cond a.enabled (cond b.enabled (joint_refusal d) (Some BodyDisabled)) (Some BodyDisabled))
+
+-- the joint comes, and begins
+abbrev pub joint_come : Handle → BodyJoint → Plain → Plain
+joint_come h j w = with_acting (begun_with (Joint h) (joint_movers w.bodies j) (acting_of w)) (with_joints (joined_with j (joints_of w)) w)
+
+-- the islands of both its ends wake first
+abbrev pub joined : Plain → JointDef → Handle → Applied
+joined w d h = record {
+  plain = counted (joint_come h (joint_made d) (woken w (d.a.slot ∷ d.b.slot ∷ [])));
+  reply = replies.Joint h;
+  entries = [];
+  events = None;
+}
+
+abbrev pub join_due : Plain → JointDef → Option Refusal → Result Applied Refusal
+join_due w d (Some e) = Err e
+join_due w d None = cond (nat_lt (lowest w.joint_places) MAX_SLOTS) (Ok (joined w d (handle_at w.joint_places (lowest w.joint_places)))) (Err TooMany)
+
+abbrev pub apply_join : Plain → JointDef → Result Applied Refusal
+apply_join w d = join_due w d (join_refusal (body_of w d.a) (body_of w d.b) d)
+
+-- the joint ends, and goes
+abbrev pub joint_gone : Handle → BodyJoint → Plain → Plain
+joint_gone h j w = with_acting (ended_with (Joint h) (joint_movers w.bodies j) (acting_of w)) (with_joints (unjoined h (joints_of w)) w)
+
+-- the islands of its movers wake first
+abbrev pub unjoin_due : Plain → Handle → Option BodyJoint → Result Applied Refusal
+unjoin_due w h None = Err StaleHandle
+unjoin_due w h (Some j) = Ok (quietly (joint_gone h j (woken w (j.a ∷ j.b ∷ []))))
+
+abbrev pub apply_unjoin : Plain → Handle → Result Applied Refusal
+apply_unjoin w h = unjoin_due w h (joint_of w.joint_places w.joints h)
+
+-- ---- Push and PushAt
+
+-- the momenta of a body with the impulse j, given at the offset r: the angular momentum grows by the moment r × j, if the body turns
+abbrev pub with_impulse : Vec2 → Vec2 → Body → Momenta
+with_impulse j r b = record { p = plus b.motion.p j; l = turned_by b.mass.inertia b.motion.l (cross r j) }
+
+-- they are within their limits
+abbrev pub are_momenta : Momenta → Bool
+are_momenta m = is_within (unsigned_abs MAX_MOMENTUM) m.p && nat_le (unsigned_abs m.l) (unsigned_abs MAX_ANGULAR_MOMENTUM)
+
+-- an impulse and the offset at which it is given are within their limits
+abbrev pub is_push : Vec2 → Vec2 → Bool
+is_push j r = is_within (2 ^ 40) j && is_within (2 ^ 26) r
+
+-- the momenta that a push leaves, or the first reason why there are none
+abbrev pub pushed : Option Body → Vec2 → Vec2 → Result Momenta Refusal
+pushed None j r = Err StaleHandle
+pushed (Some b) j r = cond (is_dynamic b.kind) (cond b.enabled (cond (is_push j r) (cond (are_momenta (with_impulse j r b)) (Ok (with_impulse j r b)) (Err TooFast)) (Err OutOfRange)) (Err BodyDisabled)) (Err NotAMover)
+
+-- the body in the slot changed
+abbrev pub body_changed : (Body → Body) → ℕ → Plain → Plain
+body_changed f slot w = record w { bodies = changed_at f w.bodies slot }
+
+-- the mover's island wakes first
+abbrev pub push_due : Plain → Handle → Vec2 → Result Momenta Refusal → Result Applied Refusal
+push_due w h j (Err e) = Err e
+push_due w h j (Ok m) = Ok (record {
+  plain = counted (body_changed (put_momenta m) h.slot (woken w (h.slot ∷ [])));
+  reply = replies.Done;
+  entries = booked (w.calls + 1) causes.Command j.x j.y;
+  events = None;
+})
+
+-- a push at the centre has the offset 0
+abbrev pub apply_push : Plain → Handle → Vec2 → Vec2 → Result Applied Refusal
+apply_push w h j r = push_due w h j (pushed (body_of w h) j r)
+
+-- ---- SetPose and SetVelocity
+
+-- a command that changes one body and books nothing: those whom the change wakes wake first
+abbrev pub changed : Plain → Handle → (Body → Body) → Applied
+changed w h f = quietly (body_changed f h.slot (stirred w h.slot))
+
+-- the pose that a body gets, or the first reason why it gets none
+abbrev pub posed : Option Body → Pose → Result Pose Refusal
+posed None o = Err StaleHandle
+posed (Some b) o = cond (is_within (unsigned_abs MAX_POSITION) o.x) (cond (is_facing o.rot) (Ok o) (Err OutOfRange)) (Err OutOfRange)
+
+abbrev pub pose_due : Plain → Handle → Result Pose Refusal → Result Applied Refusal
+pose_due w h (Err e) = Err e
+pose_due w h (Ok o) = Ok (changed w h (put_pose o))
+
+abbrev pub apply_pose : Plain → Handle → Pose → Result Applied Refusal
+apply_pose w h o = pose_due w h (posed (body_of w h) o)
+
+-- the course that a body gets, or the first reason why it gets none
+abbrev pub steered : Option Body → Course → Result Course Refusal
+steered None course = Err StaleHandle
+steered (Some b) course = cond (is_kinematic b.kind) (cond b.enabled (cond (is_course course) (Ok course) (Err OutOfRange)) (Err BodyDisabled)) (Err NotKinematic)
+
+abbrev pub course_due : Plain → Handle → Result Course Refusal → Result Applied Refusal
+course_due w h (Err e) = Err e
+course_due w h (Ok course) = Ok (changed w h (put_course course))
+
+abbrev pub apply_velocity : Plain → Handle → Course → Result Applied Refusal
+apply_velocity w h course = course_due w h (steered (body_of w h) course)
+
+-- ---- SetGravity
+
+abbrev pub apply_gravity : Plain → Vec2 → Result Applied Refusal
+apply_gravity w g = cond (is_within (2 ^ 16) g) (Ok (quietly (record w { gravity = g }))) (Err OutOfRange)
+
+-- ---- Disable and Enable
+
+-- the lists in which the body takes no part: its contacts are gone, and its joints have no impulse
+abbrev pub without_part : Handle → Plain → Plain
+without_part h w = record w { bodies = changed_at disabled_body w.bodies h.slot; joints = idle_joints h.slot w.joints; contacts = contacts_without h.slot w.contacts }
+
+-- it leaves, as one that is destroyed does
+abbrev pub body_disabled : Handle → Bool → Plain → Plain
+body_disabled h mover w = with_acting (body_gone h.slot mover w) (without_part h w)
+
+abbrev pub disabled : Plain → Handle → Body → Applied
+disabled w h b = record {
+  plain = counted (body_disabled h (is_mover b) (stirred w h.slot));
+  reply = replies.Done;
+  entries = departed (w.calls + 1) b;
+  events = None;
+}
+
+abbrev pub disable_due : Plain → Handle → Option Body → Result Applied Refusal
+disable_due w h None = Err StaleHandle
+disable_due w h (Some b) = cond b.enabled (Ok (disabled w h b)) (Err BodyDisabled)
+
+abbrev pub apply_disable : Plain → Handle → Result Applied Refusal
+apply_disable w h = disable_due w h (body_of w h)
+
+-- the lists in which the body takes part again
+abbrev pub with_part : Handle → Plain → Plain
+with_part h w = record w { bodies = changed_at enabled_body w.bodies h.slot }
+
+-- a mover has an island of its own, and the body's joints begin by slot
+abbrev pub taken_up : Handle → Body → Plain → Acting Constraint
+taken_up h b w = each_begun constraint_number (joint_ties_at h.slot (with_part h w).bodies (joints_of w)) (body_come h.slot b (acting_of w))
+
+abbrev pub body_enabled : Handle → Body → Plain → Plain
+body_enabled h b w = with_acting (taken_up h b w) (with_part h w)
+
+-- the movers at its joints wake first
+abbrev pub enabled : Plain → Handle → Body → Plain
+enabled w h b = cond b.enabled w (body_enabled h (enabled_body b) (woken w (joined_to w.bodies w.joints h.slot)))
+
+abbrev pub enable_due : Plain → Handle → Option Body → Result Applied Refusal
+enable_due w h None = Err StaleHandle
+enable_due w h (Some b) = Ok (quietly (enabled w h b))
+
+abbrev pub apply_enable : Plain → Handle → Result Applied Refusal
+apply_enable w h = enable_due w h (body_of w h)
+
+-- ---- Wake and Sleep
+
+-- why a body's island can't be woken or put to rest
+abbrev pub mover_refusal : Option Body → Option Refusal
+mover_refusal None = Some StaleHandle
+mover_refusal (Some b) = cond (is_dynamic b.kind) (cond b.enabled None (Some BodyDisabled)) (Some NotAMover)
+
+abbrev pub wake_due : Plain → Handle → Option Refusal → Result Applied Refusal
+wake_due w h (Some e) = Err e
+wake_due w h None = Ok (quietly (woken w (h.slot ∷ [])))
+
+abbrev pub apply_wake : Plain → Handle → Result Applied Refusal
+apply_wake w h = wake_due w h (mover_refusal (body_of w h))
+
+-- what the movers' momentum has gained between two lists of bodies
+abbrev pub gained_x : List (Option Body) → List (Option Body) → ℤ
+gained_x before after = momentum_x after -ℤ momentum_x before
+
+abbrev pub gained_y : List (Option Body) → List (Option Body) → ℤ
+gained_y before after = momentum_y after -ℤ momentum_y before
+
+-- the momentum that bodies lose as they are told to rest
+abbrev pub rest_entries : ℕ → Labels → List (Option Body) → List Entry
+rest_entries call labels bodies = booked call causes.Rest (gained_x bodies (told labels bodies)) (gained_y bodies (told labels bodies))
+
+abbrev pub put_to_sleep : Plain → Acting Constraint → Applied
+put_to_sleep w s = record { plain = counted (with_acting s w); reply = replies.Done; entries = rest_entries (w.calls + 1) s.labels w.bodies; events = None }
+
+abbrev pub sleep_due : Plain → Handle → Option Refusal → Result Applied Refusal
+sleep_due w h (Some e) = Err e
+sleep_due w h None = Ok (put_to_sleep w (slept_at constraint_number h.slot (acting_of w)))
+
+-- the island is split if it is loose, and that of the body is put to rest; one that sleeps stays as it is
+abbrev pub apply_sleep : Plain → Handle → Result Applied Refusal
+apply_sleep w h = sleep_due w h (mover_refusal (body_of w h))
+
+-- ---- Step
+
+-- the contacts that began and that ended, each in its turn: sleepers wake, islands merge and get loose, colours are taken and given up
+abbrev pub turned_acting : Plain → Collided → Acting Constraint
+turned_acting w c = turned constraint_number (key_changes w.bodies c.begin c.end) (acting_of w)
+
+-- the bodies as the ticks find them: those awake that the collide has woken
+abbrev pub bodies_woken : Plain → Acting Constraint → List (Option Body)
+bodies_woken w s = told s.labels w.bodies
+
+-- the ticks and the restitution, over the bodies by slot and over the constraints in solve order
+abbrev pub solved_after : Plain → ℕ → Collided → Acting Constraint → Solving
+solved_after w n c s = solved n w.gravity (solve_order (ids_of s.lists)) (bodies_woken w s) w.joints c.now
+
+-- the bodies that the ticks have left, with their fat boxes and their timers
+abbrev pub bodies_ticked : ℕ → Solving → List (Option Body)
+bodies_ticked n s = timed_bodies n (renewed_bodies (bodies_of s))
+
+-- islands that have been slow for long enough are split and put to rest, but none beside a kinematic body that moves
+abbrev pub rested_acting : List (Option Body) → List (Option BodyJoint) → List ContactEntry → Acting Constraint → Acting Constraint
+rested_acting bodies joints contacts s = sleep_phase constraint_number (timers_of bodies joints contacts) s
+
+-- what the step has added to the movers' momentum, by cause
+abbrev pub step_entries : ℕ → StepSums → List Entry
+step_entries call sums = booked call causes.Gravity sums.gravity.x sums.gravity.y ++ (booked call causes.Immovable sums.immovable.x sums.immovable.y ++ booked call causes.Clamp sums.clamp.x sums.clamp.y)
+
+-- who fell asleep in the sleep phase, and who woke in the collide
+abbrev pub events_of : Plain → Collided → Labels → Labels → EventLists
+events_of w c woken rested = record { begin = c.begin; end = c.end; slept = asleep_only_in w.places woken rested; woke = asleep_only_in w.places woken w.islands }
+
+-- the bodies, joints and contacts that the ticks have left, and then the sleep phase
+abbrev pub stepped : Plain → ℕ → Collided → Acting Constraint → Solving → Acting Constraint → Applied
+stepped w n c woken s rested = record {
+  plain = counted (record w { bodies = told rested.labels (bodies_ticked n s); joints = s.joints; contacts = s.contacts; islands = rested.labels; colours = ids_of rested.lists; steps = w.steps + 1 });
+  reply = replies.Stepped (w.steps + 1);
+  entries = step_entries (w.calls + 1) s.sums ++ rest_entries (w.calls + 1) rested.labels (bodies_ticked n s);
+  events = Some (events_of w c woken.labels rested.labels);
+}
+
+abbrev pub step_solved : Plain → ℕ → Collided → Acting Constraint → Solving → Applied
+step_solved w n c woken s = stepped w n c woken s (rested_acting (bodies_ticked n s) s.joints s.contacts woken)
+
+-- first the collide, then the ticks, then the sleep phase
+abbrev pub step_done : Plain → ℕ → Collided → Applied
+step_done w n c = step_solved w n c (turned_acting w c) (solved_after w n c (turned_acting w c))
+
+abbrev pub apply_step : Plain → ℤ → Result Applied Refusal
+apply_step w n = cond (is_between (pos 1) (pos 8) n) (Ok (step_done w (unsigned_abs n) (collided w.bodies w.joints w.contacts))) (Err OutOfRange)
+
+-- ---- a new world
+
+abbrev pub gravity_refusal : Vec2 → Option Refusal
+gravity_refusal g = cond (is_within (2 ^ 16) g) None (Some OutOfRange)
+
+abbrev pub empty_world : Vec2 → World
+empty_world g = record { plain = record { places = []; bodies = []; joint_places = []; joints = []; contacts = []; islands = []; colours = replicate (COLOURS + 1) []; gravity = g; steps = 0; calls = 0 }; entries = []; settled = zero_totals; events = no_events }
+
+-- just what is due; or, where nothing keeps the world from being made, want of memory
+abbrev pub IsMade : Option Refusal → World → Result World Refusal → Type 0
+IsMade None w (Ok made) = made ≡ w
+IsMade None w (Err e) = e ≡ NoMemory
+IsMade (Some due) w (Ok made) = ⊥
+IsMade (Some due) w (Err e) = e ≡ due
+
+-- ---- all commands
+
+abbrev pub apply_accepted : Plain → Command → Result Applied Refusal
+apply_accepted w (CreateBody d) = apply_create w d
+apply_accepted w (DestroyBody h) = apply_destroy w h
+apply_accepted w (CreateJoint d) = apply_join w d
+apply_accepted w (DestroyJoint h) = apply_unjoin w h
+apply_accepted w (Push h j) = apply_push w h j zero_vector
+apply_accepted w (PushAt h j r) = apply_push w h j r
+apply_accepted w (SetPose h o) = apply_pose w h o
+apply_accepted w (SetVelocity h course) = apply_velocity w h course
+apply_accepted w (SetGravity g) = apply_gravity w g
+apply_accepted w (Disable h) = apply_disable w h
+apply_accepted w (Enable h) = apply_enable w h
+apply_accepted w (Wake h) = apply_wake w h
+apply_accepted w (Sleep h) = apply_sleep w h
+apply_accepted w (Step n) = apply_step w n
+
+-- the new plain world, the reply, the entries and the events, or the refusal that comes first
+abbrev pub apply : Plain → Command → Result Applied Refusal
+apply w c = cond (nat_lt w.calls (2 ^ 40)) (apply_accepted w c) (Err WornOut)
+
+-- ---- what a call of the code may answer, and leave, given what is due
+
+-- the world with what an accepted command leaves
+abbrev pub world_with : World → Applied → World
+world_with old a = record old { plain = a.plain; entries = old.entries ++ a.entries; events = unwrap_or a.events old.events }
+
+-- just what is due; or, where a command is due to be accepted, want of memory with nothing changed
+abbrev pub Answers : Result Applied Refusal → World → Result Reply Refusal → World → Type 0
+Answers (Ok a) old (Ok reply) new = (reply ≡ a.reply) × (new ≡ world_with old a)
+Answers (Ok a) old (Err e) new = (e ≡ NoMemory) × (new ≡ old)
+Answers (Err due) old (Err e) new = (e ≡ due) × (new ≡ old)
+Answers (Err due) old (Ok reply) new = ⊥

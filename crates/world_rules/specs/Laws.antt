@@ -1,0 +1,105 @@
+-- What holds of each accepted command, whichever it is, and what being sound means.
+use Rattle.std.specs.Prelude.{◌≡◌, ℕ, ◌+◌, ◌^◌, ◌&&◌, ◌↔◌, Bool, true, false, List, Option, Some, None, All, Contains, Ok, pos, take}
+use Rattle.fixed_geom.specs.Vectors.{IsWithin}
+use Rattle.fixed_geom.specs.declared.vectors.Vec2.{Vec2}
+use Rattle.contacts.specs.declared.constraint.Constraint.{Constraint}
+use Rattle.graph_colours.specs.Colours.{all_members, ids_of}
+use Rattle.graph_colours.specs.Members.{AreApart}
+use Rattle.graph_colours.specs.declared.limits.TheConstants.{COLOURS}
+use Rattle.graph_colours.specs.declared.member.Member.{Member}
+use Rattle.graph_colours.specs.declared.member.Movers.{Movers}
+use Rattle.islands.specs.Links.{Joined, Linked}
+use Rattle.plain_world.specs.declared.body.Body.{Body}
+use Rattle.plain_world.specs.Bodies.{is_awake, standing_of}
+use Rattle.plain_world.specs.Plain.{Plain}
+use Rattle.plain_world.specs.Slots.{body_at}
+use Rattle.sleep_wake.specs.Acting.{links_of}
+use Rattle.solver_sets.specs.Census.{census_of}
+use Rattle.solver_sets.specs.EachOnce.{ListsEachOnce}
+use Rattle.solver_sets.specs.Ties.{members_of, ties_of}
+use Rattle.world_rules.specs.declared.command.Command.{Command}
+use Rattle.world_rules.specs.declared.command.Command.TheVariants.{CreateBody, DestroyBody, CreateJoint, DestroyJoint, Push, PushAt, SetPose, SetVelocity, SetGravity, Disable, Enable, Wake, Sleep, Step}
+use Rattle.world_rules.specs.Apply.{Applied, apply}
+use Rattle.world_rules.specs.Sound.{IsSound}
+use Rattle.world_rules.specs.World.{World, joints_of}
+
+-- the impulse that a command gives a body by itself: that of a push
+abbrev pub impulse_of : Command → Vec2
+impulse_of (CreateBody d) = record { x = pos 0; y = pos 0 }
+impulse_of (DestroyBody h) = record { x = pos 0; y = pos 0 }
+impulse_of (CreateJoint d) = record { x = pos 0; y = pos 0 }
+impulse_of (DestroyJoint h) = record { x = pos 0; y = pos 0 }
+impulse_of (Push h j) = j
+impulse_of (PushAt h j r) = j
+impulse_of (SetPose h o) = record { x = pos 0; y = pos 0 }
+impulse_of (SetVelocity h course) = record { x = pos 0; y = pos 0 }
+impulse_of (SetGravity g) = record { x = pos 0; y = pos 0 }
+impulse_of (Disable h) = record { x = pos 0; y = pos 0 }
+impulse_of (Enable h) = record { x = pos 0; y = pos 0 }
+impulse_of (Wake h) = record { x = pos 0; y = pos 0 }
+impulse_of (Sleep h) = record { x = pos 0; y = pos 0 }
+impulse_of (Step n) = record { x = pos 0; y = pos 0 }
+
+-- it counts one call more
+abbrev pub EachCallCounts : Type 0
+EachCallCounts = (w : Plain) (c : Command) (a : Applied) → apply w c ≡ Ok a → a.plain.calls ≡ w.calls + 1
+
+-- its impulse is in its range
+abbrev pub PushesAreSmall : Type 0
+PushesAreSmall = (w : Plain) (c : Command) (a : Applied) → apply w c ≡ Ok a → IsWithin (2 ^ 40) (impulse_of c)
+
+-- ---- what being sound means for those who touch, or are joined
+
+-- the constraints of a world: joints and touching contacts, whether their movers are awake or not
+abbrev pub ties_in : World → List (Member Constraint)
+ties_in w = ties_of w.plain.bodies (joints_of w.plain) w.plain.contacts
+
+-- two movers between which a constraint is
+abbrev pub AreLinked : World → ℕ → ℕ → Type 0
+AreLinked w a b = Linked (links_of (ties_in w)) a b
+
+-- Linked movers stand together: both are awake, or both sleep in one set.
+abbrev pub LinkedMoversStandTogether : Type 0
+LinkedMoversStandTogether = (w : World) (a b : ℕ) (x y : Body) → IsSound w → AreLinked w a b → body_at w.plain.bodies a ≡ Some x → body_at w.plain.bodies b ≡ Some y → standing_of x ≡ standing_of y
+
+-- a body sleeps in the set of this name
+pub record SleepsIn (bodies : List (Option Body)) (name slot : ℕ) : Type 0 where
+  pub body : Body
+  pub there : body_at bodies slot ≡ Some body
+  pub asleep : body.asleep ≡ Some name
+
+-- A sleeping set is one component: those that sleep in it are just those that constraints join to one of them.
+abbrev pub SleepingSetsAreComponents : Type 0
+SleepingSetsAreComponents = (w : World) (name slot other : ℕ) → IsSound w → SleepsIn w.plain.bodies name slot → SleepsIn w.plain.bodies name other ↔ Joined (AreLinked w) slot other
+
+-- ---- and for the colours
+
+-- the constraints that have a colour, with their movers, colour by colour, and last those in the overflow
+abbrev pub coloured_in : World → List (List (Member Constraint))
+coloured_in w = members_of w.plain.bodies (joints_of w.plain) w.plain.colours
+
+-- They are those that the world names, and no two of one colour share a mover.
+abbrev pub ColoursAreApart : Type 0
+ColoursAreApart = (w : World) → IsSound w → (ids_of (coloured_in w) ≡ w.plain.colours) × All AreApart (take COLOURS (coloured_in w))
+
+abbrev pub awake_in : Option Body → Bool
+awake_in None = false
+awake_in (Some b) = is_awake b
+
+abbrev pub second_awake_in : List (Option Body) → Option ℕ → Bool
+second_awake_in bodies None = true
+second_awake_in bodies (Some slot) = awake_in (body_at bodies slot)
+
+-- all movers of a constraint are awake
+abbrev pub movers_awake : List (Option Body) → Movers → Bool
+movers_awake bodies m = awake_in (body_at bodies m.first) && second_awake_in bodies m.second
+
+-- What acts has a colour, and nothing else has: a constraint whose movers are awake.
+abbrev pub WhatActsHasAColour : Type 0
+WhatActsHasAColour = (w : World) (m : Member Constraint) → IsSound w → Contains (all_members (coloured_in w)) m ↔ (Contains (ties_in w) m × (movers_awake w.plain.bodies m.movers ≡ true))
+
+-- ---- and for the census
+
+-- Each body, joint and contact stands in exactly one solver set, and the census of the world lists it there, once.
+abbrev pub EachStandsInOneSet : Type 0
+EachStandsInOneSet = (w : World) → IsSound w → ListsEachOnce w.plain.places w.plain.bodies (joints_of w.plain) w.plain.contacts (census_of w.plain.places w.plain.bodies (joints_of w.plain) w.plain.contacts)

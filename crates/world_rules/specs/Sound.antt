@@ -1,0 +1,92 @@
+-- What each world keeps: what it promises, and how its lists and numbers are formed.
+use Rattle.std.specs.Prelude.{◌≡◌, ℕ, ◌+◌, ◌*◌, ◌≤◌, ◌^◌, true, false, List, Option, Some, All, is_some, unsigned_abs}
+use Rattle.fixed_geom.specs.Vectors.{IsWithin}
+use Rattle.impulse_ledger.specs.declared.entry.Cause.{Cause}
+use Rattle.impulse_ledger.specs.Sums.{Book, total_x, total_y, total_of_x, total_of_y}
+use Rattle.body_handles.specs.Places.{IsPlace}
+use Rattle.contacts_base.specs.declared.contact.ContactEntry.{ContactEntry}
+use Rattle.contacts_base.specs.Contacts.{AreKeysRising}
+use Rattle.contacts.specs.Constraints.{constraint_number}
+use Rattle.graph_colours.specs.Colours.{ids_of}
+use Rattle.plain_world.specs.declared.body.Body.{Body}
+use Rattle.plain_world.specs.Bodies.{AreBodies, IsAtRest, is_awake, momentum_x, momentum_y}
+use Rattle.plain_world.specs.Formed.{HasPoints, IsShapeOf}
+use Rattle.plain_world.specs.Joints.{AreJoints}
+use Rattle.plain_world.specs.Slots.{AreMatched, body_at}
+use Rattle.sleep_wake.specs.Acting.{IsSettled}
+use Rattle.solver_sets.specs.Ties.{IsNamed, members_of}
+use Rattle.solver_sets.specs.Tied.{AreTied}
+use Rattle.islands.specs.Labels.{Labels, label_at}
+use Rattle.plain_world.specs.Sleep.{sleeping_name}
+use Rattle.world_core_base.specs.Gather.{AreContactsOf}
+use Rattle.world_rules.specs.Sets.{acting_of}
+use Rattle.world_rules.specs.World.{World, book_of, joints_of}
+
+-- no cause's total is beyond n
+pub record AreSmall (n : ℕ) (b : Book) : Type 0 where
+  pub x : (cause : Cause) → unsigned_abs (total_of_x cause b) ≤ n
+  pub y : (cause : Cause) → unsigned_abs (total_of_y cause b) ≤ n
+
+-- the bodies of both its shapes are there, the shapes are theirs, their names are within their ranges, and so are its points
+pub record HasBodies (bodies : List (Option Body)) (e : ContactEntry) : Type 0 where
+  pub first : is_some (body_at bodies e.key.first.slot) ≡ true
+  pub second : is_some (body_at bodies e.key.second.slot) ≡ true
+  pub first_shape : IsShapeOf bodies e.key.first
+  pub second_shape : IsShapeOf bodies e.key.second
+  pub named : IsNamed e.key
+  pub points : HasPoints e.contact
+
+-- ---- what a world promises
+
+-- a body that isn't an awake mover is at rest
+abbrev pub AreAtRest : List (Option Body) → Type 0
+AreAtRest bodies = (slot : ℕ) (b : Body) → body_at bodies slot ≡ Some b → is_awake b ≡ false → IsAtRest b.motion
+
+-- a body sleeps just if the island of its mover does, under its name
+abbrev pub AreTold : List (Option Body) → Labels → Type 0
+AreTold bodies labels = (slot : ℕ) (b : Body) → body_at bodies slot ≡ Some b → b.asleep ≡ sleeping_name (label_at labels slot)
+
+-- The islands of the movers are those that its constraints' links make, and the constraints that have a colour are just those whose movers are awake,
+-- no two of one colour with a mover in common. A mover sleeps just if its island does. The movers' momentum is the ledger's total. What isn't an awake mover is at rest.
+pub record KeepsPromises (w : World) : Type 0 where
+  pub settled : IsSettled constraint_number (acting_of w.plain)
+  pub tied : AreTied w.plain.bodies w.plain.islands
+  pub told : AreTold w.plain.bodies w.plain.islands
+  pub total_x : momentum_x w.plain.bodies ≡ total_x (book_of w)
+  pub total_y : momentum_y w.plain.bodies ≡ total_y (book_of w)
+  pub rest : AreAtRest w.plain.bodies
+
+-- ---- what its lists and numbers keep
+
+-- a mover has been slow for no longer than the steps so far can have lasted
+abbrev pub AreTimers : ℕ → List (Option Body) → Type 0
+AreTimers steps bodies = (slot : ℕ) (b : Body) → body_at bodies slot ≡ Some b → b.timer ≤ 8 * steps
+
+-- There is a body just in the slots that are taken, and its numbers, its shapes and their fat boxes are within their limits. There is a joint just in the
+-- joints' slots that are taken, whose generations are within their range, between two different bodies that are there, with its numbers within their limits. The contacts' keys ascend;
+-- each is of two bodies that are there, one of them a mover, and of shapes of theirs. Each constraint with a colour has movers. All sums have room.
+pub record IsWellFormed (w : World) : Type 0 where
+  pub matched : AreMatched w.plain.places w.plain.bodies
+  pub bodies : AreBodies w.plain.bodies
+  pub timers : AreTimers w.plain.steps w.plain.bodies
+  pub joint_slots : AreMatched w.plain.joint_places w.plain.joints
+  pub joint_places : All IsPlace w.plain.joint_places
+  pub joints : AreJoints w.plain.bodies w.plain.joints
+  pub contacts : AreKeysRising w.plain.contacts
+  pub pairs : AreContactsOf w.plain.bodies w.plain.contacts
+  pub there : All (HasBodies w.plain.bodies) w.plain.contacts
+  pub moved : ids_of (members_of w.plain.bodies (joints_of w.plain) w.plain.colours) ≡ w.plain.colours
+  pub causes : AreSmall (2 ^ 126 + w.plain.calls * 2 ^ 83) (book_of w)
+  pub gravity : IsWithin (2 ^ 16) w.plain.gravity
+  pub steps : w.plain.steps ≤ w.plain.calls
+  pub calls : w.plain.calls ≤ 2 ^ 40
+
+pub record IsSound (w : World) : Type 0 where
+  pub promises : KeepsPromises w
+  pub formed : IsWellFormed w
+
+-- there is room in the numbers for the entries of one more call
+pub record IsRoomy (b : Book) : Type 0 where
+  pub x : unsigned_abs (total_x b) ≤ 2 ^ 100
+  pub y : unsigned_abs (total_y b) ≤ 2 ^ 100
+  pub causes : AreSmall (2 ^ 126 + 2 ^ 123) b

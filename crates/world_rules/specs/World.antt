@@ -1,0 +1,30 @@
+-- What contracts see of a world.
+use Rattle.std.specs.Prelude.{List, Option}
+use Rattle.body_handles.specs.declared.handle.Handle.{Handle}
+use Rattle.impulse_ledger.specs.declared.entry.Entry.{Entry}
+use Rattle.impulse_ledger.specs.declared.totals.Totals.{Totals}
+use Rattle.impulse_ledger.specs.Sums.{Book}
+use Rattle.plain_world.specs.Plain.{Plain}
+use Rattle.plain_world.specs.Slots as slots
+use Rattle.plain_world.specs.declared.body.Body.{Body}
+use Rattle.event_feed.specs.Events.{EventLists}
+use Rattle.solver_sets.specs.Ties.{JointSlots}
+
+-- what contracts see of a world: its plain lists, its ledger, and the events of its last step
+pub record World : Type 0 where
+  pub plain : Plain
+  pub entries : List Entry
+  pub settled : Totals
+  pub events : EventLists
+
+-- the slots of its joints, and the joints in them
+abbrev pub joints_of : Plain → JointSlots
+joints_of w = record { places = w.joint_places; joints = w.joints }
+
+-- the body that a handle names
+abbrev pub body_of : Plain → Handle → Option Body
+body_of w h = slots.body_of w.places w.bodies h
+
+-- its ledger's book, of which no room is known
+abbrev pub book_of : World → Book
+book_of w = record { entries = w.entries; settled = w.settled; room = 0 }
