@@ -1,4 +1,5 @@
-//! The calls of a world, in functions that promise nothing: no proof of this program has to read what a world promises.
+//! A world by the calls that are made of it, in methods that promise nothing. The checks are generic over it, so that no proof of this program has to
+//! read what a world promises or keeps, but for those of the methods.
 
 use impulse_ledger::Entry;
 use std::alloc::Global;
@@ -10,36 +11,100 @@ use world_core::{
 /// What a world answers to a command.
 pub type Answer = Result<Reply, Refusal>;
 
-pub fn new_world(alloc: Global, gravity: Vec2) -> Result<WorldCore, Refusal> {
-    WorldCore::new(alloc, gravity)
+/// The calls of a world.
+pub trait World: Drop {
+    /// A world without bodies.
+    fn empty(alloc: Global, gravity: Vec2) -> Result<Self, Refusal>;
+
+    fn copied(&self) -> Result<Self, Refusal>;
+
+    fn apply(&mut self, command: &Command) -> Answer;
+
+    fn step(&mut self, ticks: i64) -> Answer;
+
+    fn replay(&mut self, alloc: Global, commands: &[Command]) -> Result<Vec<Answer>, Refusal>;
+
+    fn settle(&mut self);
+
+    fn lists(&self) -> Result<Plain, Refusal>;
+
+    fn census(&self) -> Result<Census, Refusal>;
+
+    fn frame(&self) -> Result<Frame, Refusal>;
+
+    fn view(&self, handle: Handle) -> Option<BodyView>;
+
+    fn colour(&self, constraint: Constraint) -> Option<u8>;
+
+    fn events(&self) -> &Events;
+
+    fn entries(&self) -> &[Entry];
+
+    fn total_of(&self, cause: Cause) -> Total;
+
+    fn total(&self) -> Total;
 }
 
-pub fn apply(world: &mut WorldCore, command: &Command) -> Answer {
-    world.apply(command)
-}
+impl World for WorldCore {
+    fn empty(alloc: Global, gravity: Vec2) -> Result<WorldCore, Refusal> {
+        WorldCore::new(alloc, gravity)
+    }
 
-pub fn step(world: &mut WorldCore, ticks: i64) -> Answer {
-    world.step_one(ticks)
-}
+    fn copied(&self) -> Result<WorldCore, Refusal> {
+        self.try_copy()
+    }
 
-pub fn replay(
-    alloc: Global,
-    world: &mut WorldCore,
-    commands: &[Command],
-) -> Result<Vec<Answer>, Refusal> {
-    world.replay(alloc, commands)
-}
+    fn apply(&mut self, command: &Command) -> Answer {
+        WorldCore::apply(self, command)
+    }
 
-pub fn copy_of(world: &WorldCore) -> Result<WorldCore, Refusal> {
-    world.try_copy()
-}
+    fn step(&mut self, ticks: i64) -> Answer {
+        self.step_one(ticks)
+    }
 
-pub fn lists_of(world: &WorldCore) -> Result<Plain, Refusal> {
-    world.plain()
-}
+    fn replay(&mut self, alloc: Global, commands: &[Command]) -> Result<Vec<Answer>, Refusal> {
+        WorldCore::replay(self, alloc, commands)
+    }
 
-pub fn census_of(world: &WorldCore) -> Result<Census, Refusal> {
-    world.census()
+    fn settle(&mut self) {
+        self.settle_ledger();
+    }
+
+    fn lists(&self) -> Result<Plain, Refusal> {
+        self.plain()
+    }
+
+    fn census(&self) -> Result<Census, Refusal> {
+        WorldCore::census(self)
+    }
+
+    fn frame(&self) -> Result<Frame, Refusal> {
+        WorldCore::frame(self)
+    }
+
+    fn view(&self, handle: Handle) -> Option<BodyView> {
+        self.body(handle)
+    }
+
+    fn colour(&self, constraint: Constraint) -> Option<u8> {
+        self.colour_of(constraint)
+    }
+
+    fn events(&self) -> &Events {
+        WorldCore::events(self)
+    }
+
+    fn entries(&self) -> &[Entry] {
+        self.ledger().entries()
+    }
+
+    fn total_of(&self, cause: Cause) -> Total {
+        self.ledger().total_of(cause)
+    }
+
+    fn total(&self) -> Total {
+        self.ledger().total()
+    }
 }
 
 /// The first body of the static set.
@@ -48,36 +113,4 @@ pub fn first_static(census: &Census) -> Option<Handle> {
         Some(Item::Body(handle)) => Some(*handle),
         _ => None,
     }
-}
-
-pub fn frame_of(world: &WorldCore) -> Result<Frame, Refusal> {
-    world.frame()
-}
-
-pub fn settle(world: &mut WorldCore) {
-    world.settle_ledger();
-}
-
-pub fn view_of(world: &WorldCore, handle: Handle) -> Option<BodyView> {
-    world.body(handle)
-}
-
-pub fn colour_of(world: &WorldCore, constraint: Constraint) -> Option<u8> {
-    world.colour_of(constraint)
-}
-
-pub fn events_of(world: &WorldCore) -> &Events {
-    world.events()
-}
-
-pub fn entries_of(world: &WorldCore) -> &[Entry] {
-    world.ledger().entries()
-}
-
-pub fn total_of(world: &WorldCore, cause: Cause) -> Total {
-    world.ledger().total_of(cause)
-}
-
-pub fn total(world: &WorldCore) -> Total {
-    world.ledger().total()
 }

@@ -1,30 +1,27 @@
 //! A check under way. What it asks for is told as it comes, and nothing ends it early, so that each check is a list of calls.
 
-use crate::calls::{
-    Answer, apply, census_of, colour_of, copy_of, entries_of, events_of, first_static, frame_of,
-    lists_of, new_world, replay, settle, step, total, total_of, view_of,
-};
+use crate::calls::{Answer, World, first_static};
 use crate::making::{NO_GRAVITY, body_of, create_of};
 use crate::seen::{Line, Seen};
 use std::alloc::Global;
 use world_core::{
     Body, Cause, Command, Constraint, Course, Handle, JointDef, Kind, MassData, Plain, Pose,
-    Refusal, ShapeDef, Vec2, WorldCore,
+    Refusal, ShapeDef, Vec2,
 };
 
 /// The world of a check, and the lines of all checks so far.
 #[derive(Drop)]
-pub struct Check {
+pub struct Check<W: World> {
     alloc: Global,
-    world: WorldCore,
+    world: W,
     lines: Vec<Line>,
     /// Memory was wanting for something that had to be seen.
     is_cut: bool,
 }
 
-impl Check {
-    pub fn new(alloc: Global) -> Result<Check, Refusal> {
-        match new_world(alloc, NO_GRAVITY) {
+impl<W: World> Check<W> {
+    pub fn new(alloc: Global) -> Result<Check<W>, Refusal> {
+        match W::empty(alloc, NO_GRAVITY) {
             Ok(world) => Ok(Check {
                 alloc,
                 world,
@@ -57,7 +54,7 @@ impl Check {
     /// A check of this name begins, in an empty world.
     pub fn begin(&mut self, name: &'static str, gravity: Vec2) {
         self.tell(Line::Name(name));
-        match new_world(self.alloc, gravity) {
+        match W::empty(self.alloc, gravity) {
             Ok(world) => self.world = world,
             Err(_) => self.is_cut = true,
         }
@@ -65,13 +62,13 @@ impl Check {
 
     /// Applies a command, and tells what it answers.
     pub fn ask(&mut self, command: &Command) {
-        let answer = apply(&mut self.world, command);
+        let answer = self.world.apply(command);
         self.see(Seen::Answer(answer));
     }
 
     /// Applies a command, and tells what it answers only where it is refused.
     pub fn apply(&mut self, command: &Command) {
-        let answer = apply(&mut self.world, command);
+        let answer = self.world.apply(command);
         self.expect(answer);
     }
 
@@ -136,13 +133,13 @@ impl Check {
 
     /// Lets ticks pass.
     pub fn step(&mut self, ticks: i64) {
-        let answer = step(&mut self.world, ticks);
+        let answer = self.world.step(ticks);
         self.expect(answer);
     }
 
     /// Lets ticks pass, and tells what it answers.
     pub fn ask_step(&mut self, ticks: i64) {
-        let answer = step(&mut self.world, ticks);
+        let answer = self.world.step(ticks);
         self.see(Seen::Answer(answer));
     }
 
@@ -155,7 +152,7 @@ impl Check {
 
     /// Replays commands, and tells what each answers.
     pub fn replay(&mut self, commands: &[Command]) {
-        match replay(self.alloc, &mut self.world, commands) {
+        match self.world.replay(self.alloc, commands) {
             Ok(answers) => self.see_answers(answers.as_slice()),
             Err(_) => self.is_cut = true,
         }
@@ -168,8 +165,8 @@ impl Check {
     }
 
     /// Goes on in a copy of the world, and gives back the world itself.
-    pub fn go_on_in_copy(&mut self) -> Option<WorldCore> {
-        match copy_of(&self.world) {
+    pub fn go_on_in_copy(&mut self) -> Option<W> {
+        match self.world.copied() {
             Ok(copy) => Some(self.exchange(copy)),
             Err(_) => {
                 self.is_cut = true;
@@ -179,7 +176,7 @@ impl Check {
     }
 
     /// Goes back to a world that was left for its copy, and tells whether the copy still has the world's entries.
-    pub fn go_back_to(&mut self, left: Option<WorldCore>) {
+    pub fn go_back_to(&mut self, left: Option<W>) {
         match left {
             Some(world) => {
                 let copy = self.exchange(world);
@@ -189,47 +186,47 @@ impl Check {
         }
     }
 
-    fn exchange(&mut self, world: WorldCore) -> WorldCore {
+    fn exchange(&mut self, world: W) -> W {
         std::mem::replace(&mut self.world, world)
     }
 
-    fn compare_entries(&mut self, copy: &WorldCore) {
-        let are_same = entries_of(copy) == entries_of(&self.world);
+    fn compare_entries(&mut self, copy: &W) {
+        let are_same = copy.entries() == self.world.entries();
         self.see(Seen::Truth("the entries are those of the copy", are_same));
     }
 
     pub fn settle(&mut self) {
-        settle(&mut self.world);
+        self.world.settle();
     }
 
     pub fn see_body(&mut self, handle: Handle) {
-        let view = view_of(&self.world, handle);
+        let view = self.world.view(handle);
         self.see(Seen::Body(view));
     }
 
     pub fn see_colour(&mut self, constraint: Constraint) {
-        let colour = colour_of(&self.world, constraint);
+        let colour = self.world.colour(constraint);
         self.see(Seen::Colour(colour));
     }
 
     pub fn see_total(&mut self) {
-        let total = total(&self.world);
+        let total = self.world.total();
         self.see(Seen::Total(None, total));
     }
 
     pub fn see_total_of(&mut self, cause: Cause) {
-        let total = total_of(&self.world, cause);
+        let total = self.world.total_of(cause);
         self.see(Seen::Total(Some(cause), total));
     }
 
     /// Tells the entries of the book but the first ones, so many, or that there are none.
     pub fn see_entries_after(&mut self, skipped: usize) {
-        let count = entries_of(&self.world).len();
+        let count = self.world.entries().len();
         if count <= skipped {
             self.see(Seen::Count("entries", 0));
         }
         for index in skipped..count {
-            if let Some(entry) = entries_of(&self.world).get(index).copied() {
+            if let Some(entry) = self.world.entries().get(index).copied() {
                 self.see(Seen::Entry(entry));
             }
         }
@@ -251,26 +248,26 @@ impl Check {
     }
 
     fn see_meetings(&mut self) {
-        for index in 0..events_of(&self.world).begin().len() {
-            if let Some(key) = events_of(&self.world).begin().get(index).copied() {
+        for index in 0..self.world.events().begin().len() {
+            if let Some(key) = self.world.events().begin().get(index).copied() {
                 self.see(Seen::Begun(key));
             }
         }
-        for index in 0..events_of(&self.world).end().len() {
-            if let Some(key) = events_of(&self.world).end().get(index).copied() {
+        for index in 0..self.world.events().end().len() {
+            if let Some(key) = self.world.events().end().get(index).copied() {
                 self.see(Seen::Ended(key));
             }
         }
     }
 
     fn see_sleepers(&mut self) {
-        for index in 0..events_of(&self.world).slept().len() {
-            if let Some(handle) = events_of(&self.world).slept().get(index).copied() {
+        for index in 0..self.world.events().slept().len() {
+            if let Some(handle) = self.world.events().slept().get(index).copied() {
                 self.see(Seen::Slept(handle));
             }
         }
-        for index in 0..events_of(&self.world).woke().len() {
-            if let Some(handle) = events_of(&self.world).woke().get(index).copied() {
+        for index in 0..self.world.events().woke().len() {
+            if let Some(handle) = self.world.events().woke().get(index).copied() {
                 self.see(Seen::Woke(handle));
             }
         }
@@ -278,7 +275,7 @@ impl Check {
 
     /// Tells what stands in the plain lists: how many places, bodies, contacts and touching contacts, steps and calls.
     pub fn see_counts(&mut self) {
-        match lists_of(&self.world) {
+        match self.world.lists() {
             Ok(lists) => self.see_counts_of(&lists),
             Err(_) => self.is_cut = true,
         }
@@ -293,7 +290,7 @@ impl Check {
 
     /// Tells how many contacts there are, and how many of them touch.
     pub fn see_contacts(&mut self) {
-        match lists_of(&self.world) {
+        match self.world.lists() {
             Ok(lists) => self.see_contacts_of(&lists),
             Err(_) => self.is_cut = true,
         }
@@ -311,7 +308,7 @@ impl Check {
 
     /// Tells the islands of the first bodies, so many.
     pub fn see_islands(&mut self, slots: u32) {
-        match lists_of(&self.world) {
+        match self.world.lists() {
             Ok(lists) => self.see_islands_of(&lists, slots),
             Err(_) => self.is_cut = true,
         }
@@ -326,7 +323,7 @@ impl Check {
 
     /// Tells the first body's timer and the fat box of its first shape.
     pub fn see_fat_box(&mut self) {
-        match lists_of(&self.world) {
+        match self.world.lists() {
             Ok(lists) => self.see_fat_box_of(lists.bodies()),
             Err(_) => self.is_cut = true,
         }
@@ -342,7 +339,7 @@ impl Check {
 
     /// Tells for how many ticks the first body was slow.
     pub fn see_timer(&mut self) {
-        match lists_of(&self.world) {
+        match self.world.lists() {
             Ok(lists) => self.see_timer_of(lists.bodies()),
             Err(_) => self.is_cut = true,
         }
@@ -356,7 +353,7 @@ impl Check {
 
     /// Tells the first body of the static set, and how many stand in the others.
     pub fn see_census(&mut self) {
-        match census_of(&self.world) {
+        match self.world.census() {
             Ok(census) => {
                 self.see(Seen::Listed(first_static(&census)));
                 self.see(Seen::Count("static", census.static_set().len() as u64));
@@ -369,7 +366,7 @@ impl Check {
 
     /// Tells what a frame shows: where the first body is, how many shapes it has, the momentum, the total and the number of calls.
     pub fn see_frame(&mut self, handle: Handle) {
-        match frame_of(&self.world) {
+        match self.world.frame() {
             Ok(frame) => {
                 let shapes = match frame.bodies().get(handle.slot as usize) {
                     Some(Some(body)) => body.shapes.as_slice().len(),

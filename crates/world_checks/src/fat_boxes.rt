@@ -1,9 +1,10 @@
 //! When a fat box is made anew: a circle of 100 u flies in its box, which leaves 131,072 u round it, and out of it.
 
+use crate::calls::World;
 use crate::check::Check;
 use crate::making::{FIRST, NO_GRAVITY, ORIGIN, circle};
 
-pub fn run(check: &mut Check) {
+pub fn run<W: World>(check: &mut Check<W>) {
     check.begin(
         "a fat box stays while the circle touches its side",
         NO_GRAVITY,
@@ -14,7 +15,7 @@ pub fn run(check: &mut Check) {
 }
 
 /// The fat box of a circle before a tick and after it, where a push moves the circle to the right by as much.
-fn fly(check: &mut Check, by: i64) {
+fn fly<W: World>(check: &mut Check<W>, by: i64) {
     check.add(1, ORIGIN, circle(100));
     check.see_fat_box();
     check.push(FIRST, by, 0);

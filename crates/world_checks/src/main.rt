@@ -18,11 +18,13 @@ mod platforms;
 mod seen;
 mod sleeping;
 
+use calls::World;
 use check::Check;
 use std::io;
 use std::process::ExitCode;
+use world_core::WorldCore;
 
-fn run_all(check: &mut Check) {
+fn run_all<W: World>(check: &mut Check<W>) {
     one_body::run(check);
     meetings::run(check);
     joints::run(check);
@@ -34,7 +36,7 @@ fn run_all(check: &mut Check) {
     platforms::run(check);
 }
 
-fn print<R: AllocGlobal + Print>(rt: &R, check: &Check) -> io::Result<()> {
+fn print<R: AllocGlobal + Print, W: World>(rt: &R, check: &Check<W>) -> io::Result<()> {
     for line in check.lines() {
         println!(rt; "{line}")?;
     }
@@ -43,7 +45,7 @@ fn print<R: AllocGlobal + Print>(rt: &R, check: &Check) -> io::Result<()> {
 
 /// Runs all checks. Status 3 where memory is wanting, and 1 where a line can't be written.
 fn start<R: AllocGlobal + Print>(rt: &R) -> ExitCode {
-    let Ok(mut check) = Check::new(rt.alloc()) else {
+    let Ok(mut check) = Check::<WorldCore>::new(rt.alloc()) else {
         return ExitCode::from(3);
     };
     run_all(&mut check);

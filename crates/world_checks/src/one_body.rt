@@ -1,5 +1,6 @@
 //! One body: falls, pushes, limits, other poses and velocities, and what a list, a copy and a census show of it.
 
+use crate::calls::World;
 use crate::check::Check;
 use crate::making::{
     FIRST, NO_GRAVITY, ORIGIN, PULL, RADIUS, SECOND, STALE, UPRIGHT, circle, on_floor, right,
@@ -20,7 +21,7 @@ const LIGHT: MassData = MassData {
     inertia: 1,
 };
 
-pub fn run(check: &mut Check) {
+pub fn run<W: World>(check: &mut Check<W>) {
     an_empty_world_steps(check);
     a_circle_falls(check);
     a_fast_circle_is_limited_and_departs(check);
@@ -36,14 +37,14 @@ pub fn run(check: &mut Check) {
     only_a_kinematic_body_is_steered(check);
 }
 
-fn an_empty_world_steps(check: &mut Check) {
+fn an_empty_world_steps<W: World>(check: &mut Check<W>) {
     check.begin("an empty world steps", NO_GRAVITY);
     check.ask_step(4);
     check.see_entries();
     check.see_events();
 }
 
-fn a_circle_falls(check: &mut Check) {
+fn a_circle_falls<W: World>(check: &mut Check<W>) {
     check.begin("a circle falls", NO_GRAVITY);
     check.ask(&Command::SetGravity(PULL));
     check.ask_add(256, ORIGIN, circle(RADIUS));
@@ -52,7 +53,7 @@ fn a_circle_falls(check: &mut Check) {
     check.see_entries();
 }
 
-fn fly(check: &mut Check, x: i64, by: i64) {
+fn fly<W: World>(check: &mut Check<W>, x: i64, by: i64) {
     check.ask_add(1, right(x), circle(RADIUS));
     check.ask_push(FIRST, by, 0);
     check.ask_step(1);
@@ -60,7 +61,7 @@ fn fly(check: &mut Check, x: i64, by: i64) {
     check.see_total_of(Cause::Clamp);
 }
 
-fn a_fast_circle_is_limited_and_departs(check: &mut Check) {
+fn a_fast_circle_is_limited_and_departs<W: World>(check: &mut Check<W>) {
     check.begin("a fast circle is limited and departs", NO_GRAVITY);
     fly(check, 0, 2_097_152);
     check.ask(&Command::DestroyBody(FIRST));
@@ -68,12 +69,12 @@ fn a_fast_circle_is_limited_and_departs(check: &mut Check) {
     check.see_total();
 }
 
-fn a_circle_stops_at_the_edge(check: &mut Check) {
+fn a_circle_stops_at_the_edge<W: World>(check: &mut Check<W>) {
     check.begin("a circle stops at the edge", NO_GRAVITY);
     fly(check, 68_719_476_735, 10);
 }
 
-fn a_push_is_refused(check: &mut Check) {
+fn a_push_is_refused<W: World>(check: &mut Check<W>) {
     check.begin("a push is refused", NO_GRAVITY);
     check.ask_add(1, ORIGIN, circle(RADIUS));
     check.ask_add(0, ORIGIN, circle(RADIUS));
@@ -82,7 +83,7 @@ fn a_push_is_refused(check: &mut Check) {
     check.ask_push(STALE, TOO_FAR, 0);
 }
 
-fn steps_and_masses_have_limits(check: &mut Check) {
+fn steps_and_masses_have_limits<W: World>(check: &mut Check<W>) {
     check.begin("steps and masses have limits", NO_GRAVITY);
     check.ask_step(0);
     check.ask_step(9);
@@ -90,12 +91,12 @@ fn steps_and_masses_have_limits(check: &mut Check) {
     check.ask(&Command::DestroyBody(FIRST));
 }
 
-fn a_replay_answers_each_command(check: &mut Check) {
+fn a_replay_answers_each_command<W: World>(check: &mut Check<W>) {
     check.begin("a replay answers each command", NO_GRAVITY);
     check.replay(&[Command::Step(0), Command::Step(2)]);
 }
 
-fn a_copy_is_the_world(check: &mut Check) {
+fn a_copy_is_the_world<W: World>(check: &mut Check<W>) {
     check.begin("a copy is the world", NO_GRAVITY);
     check.ask_add(1, ORIGIN, circle(RADIUS));
     check.ask_push(FIRST, 5, 0);
@@ -104,18 +105,18 @@ fn a_copy_is_the_world(check: &mut Check) {
     check.go_back_to(left);
 }
 
-fn lists_and_census_are_the_world(check: &mut Check) {
+fn lists_and_census_are_the_world<W: World>(check: &mut Check<W>) {
     check.begin("lists and census are the world", NO_GRAVITY);
     check.ask_add(0, ORIGIN, circle(RADIUS));
     check.see_counts();
     check.see_census();
 }
 
-fn push_at(check: &mut Check, by: Vec2, offset: Vec2) {
+fn push_at<W: World>(check: &mut Check<W>, by: Vec2, offset: Vec2) {
     check.ask(&Command::PushAt(FIRST, by, offset));
 }
 
-fn a_push_beside_the_centre_turns(check: &mut Check) {
+fn a_push_beside_the_centre_turns<W: World>(check: &mut Check<W>) {
     check.begin("a push beside the centre turns", NO_GRAVITY);
     check.add_of(Kind::Dynamic, LIGHT, ORIGIN, circle(100));
     push_at(check, Vec2 { x: 0, y: 300 }, right(500));
@@ -125,7 +126,7 @@ fn a_push_beside_the_centre_turns(check: &mut Check) {
     check.see_total_of(Cause::Command);
 }
 
-fn pushes_have_limits(check: &mut Check) {
+fn pushes_have_limits<W: World>(check: &mut Check<W>) {
     check.begin("pushes have limits", NO_GRAVITY);
     check.add_of(Kind::Dynamic, LIGHT, ORIGIN, circle(100));
     let farthest = 1 << 26;
@@ -141,7 +142,7 @@ fn pushes_have_limits(check: &mut Check) {
     push_at(check, right(1), Vec2 { x: 0, y: farthest });
 }
 
-fn a_body_put_elsewhere_keeps_its_momentum(check: &mut Check) {
+fn a_body_put_elsewhere_keeps_its_momentum<W: World>(check: &mut Check<W>) {
     check.begin(
         "a body put elsewhere keeps its momentum and touches no more",
         PULL,
@@ -159,13 +160,13 @@ fn a_body_put_elsewhere_keeps_its_momentum(check: &mut Check) {
     check.see_events();
 }
 
-fn steer(check: &mut Check, kind: Kind, mass: MassData) {
+fn steer<W: World>(check: &mut Check<W>, kind: Kind, mass: MassData) {
     check.add_of(kind, mass, ORIGIN, circle(100));
     check.ask(&Command::SetVelocity(FIRST, NO_COURSE));
     check.see_body(FIRST);
 }
 
-fn only_a_kinematic_body_is_steered(check: &mut Check) {
+fn only_a_kinematic_body_is_steered<W: World>(check: &mut Check<W>) {
     let one = MassData {
         mass: 1,
         inertia: 0,

@@ -1,5 +1,6 @@
 //! What lies beside a kinematic body that moves doesn't fall asleep by itself.
 
+use crate::calls::World;
 use crate::check::Check;
 use crate::making::{FIRST, NO_GRAVITY, ORIGIN, SECOND, circle, contact, right};
 use world_core::{Course, Kind, MassData};
@@ -13,7 +14,7 @@ fn to_the_right(x: i64) -> Course {
 
 /// A kinematic circle shoves another one along by ten u a tick. Once it stands, the other falls asleep in the next step, since it was
 /// slow all the time; steered again, it wakes it.
-pub fn run(check: &mut Check) {
+pub fn run<W: World>(check: &mut Check<W>) {
     let none = MassData {
         mass: 0,
         inertia: 0,
@@ -38,7 +39,7 @@ pub fn run(check: &mut Check) {
     see_both(check);
 }
 
-fn see_both(check: &mut Check) {
+fn see_both<W: World>(check: &mut Check<W>) {
     check.see_body(FIRST);
     check.see_body(SECOND);
 }

@@ -1,4 +1,5 @@
-//! The calls of a world, in functions that promise nothing: no proof of this program has to read what a world promises.
+//! A world by the calls that are made of it, in methods that promise nothing. The trials are generic over it, so that no proof of this program has to
+//! read what a world promises or keeps, but for those of the methods.
 
 use event_feed::Events;
 use fixed_geom::{Refusal, Vec2};
@@ -10,50 +11,70 @@ use world_core::{Command, Plain, Reply, WorldCore};
 /// What a world answers to a command.
 pub type Answer = Result<Reply, Refusal>;
 
-pub fn new_world(alloc: Global, gravity: Vec2) -> Result<WorldCore, Refusal> {
-    WorldCore::new(alloc, gravity)
+/// The calls of a world.
+pub trait World: Drop {
+    /// A world without bodies.
+    fn empty(alloc: Global, gravity: Vec2) -> Result<Self, Refusal>;
+
+    fn copied(&self) -> Result<Self, Refusal>;
+
+    fn apply(&mut self, command: &Command) -> Answer;
+
+    fn step(&mut self, ticks: i64) -> Answer;
+
+    fn replay(&mut self, alloc: Global, commands: &[Command]) -> Result<Vec<Answer>, Refusal>;
+
+    fn lists(&self) -> Result<Plain, Refusal>;
+
+    fn census(&self) -> Result<Census, Refusal>;
+
+    fn ledger(&self) -> &Ledger;
+
+    fn events(&self) -> &Events;
 }
 
-pub fn apply(world: &mut WorldCore, command: &Command) -> Answer {
-    world.apply(command)
-}
+impl World for WorldCore {
+    fn empty(alloc: Global, gravity: Vec2) -> Result<WorldCore, Refusal> {
+        WorldCore::new(alloc, gravity)
+    }
 
-pub fn step(world: &mut WorldCore, ticks: i64) -> Answer {
-    world.step_one(ticks)
-}
+    fn copied(&self) -> Result<WorldCore, Refusal> {
+        self.try_copy()
+    }
 
-pub fn replay(
-    alloc: Global,
-    world: &mut WorldCore,
-    commands: &[Command],
-) -> Result<Vec<Answer>, Refusal> {
-    world.replay(alloc, commands)
-}
+    fn apply(&mut self, command: &Command) -> Answer {
+        WorldCore::apply(self, command)
+    }
 
-pub fn copy_of(world: &WorldCore) -> Result<WorldCore, Refusal> {
-    world.try_copy()
-}
+    fn step(&mut self, ticks: i64) -> Answer {
+        self.step_one(ticks)
+    }
 
-pub fn lists_of(world: &WorldCore) -> Result<Plain, Refusal> {
-    world.plain()
-}
+    fn replay(&mut self, alloc: Global, commands: &[Command]) -> Result<Vec<Answer>, Refusal> {
+        WorldCore::replay(self, alloc, commands)
+    }
 
-/// How many calls it accepted.
-pub fn calls_of(world: &WorldCore) -> Result<u64, Refusal> {
-    match world.plain() {
-        Ok(lists) => Ok(lists.calls()),
-        Err(refusal) => Err(refusal),
+    fn lists(&self) -> Result<Plain, Refusal> {
+        self.plain()
+    }
+
+    fn census(&self) -> Result<Census, Refusal> {
+        WorldCore::census(self)
+    }
+
+    fn ledger(&self) -> &Ledger {
+        WorldCore::ledger(self)
+    }
+
+    fn events(&self) -> &Events {
+        WorldCore::events(self)
     }
 }
 
-pub fn census_of(world: &WorldCore) -> Result<Census, Refusal> {
-    world.census()
-}
-
-pub fn ledger_of(world: &WorldCore) -> &Ledger {
-    world.ledger()
-}
-
-pub fn events_of(world: &WorldCore) -> &Events {
-    world.events()
+/// How many calls it accepted.
+pub fn calls_of<W: World>(world: &W) -> Result<u64, Refusal> {
+    match world.lists() {
+        Ok(lists) => Ok(lists.calls()),
+        Err(refusal) => Err(refusal),
+    }
 }

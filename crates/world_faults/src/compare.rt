@@ -1,10 +1,10 @@
-use crate::calls::{events_of, ledger_of, lists_of};
+use crate::calls::World;
 use crate::stop::{Moment, Part, Stop};
 use graph_colours::COLOURS;
 use impulse_ledger::{Cause, Ledger};
 use plain_world::Body;
 use solver_sets::{Census, SleepingSet};
-use world_core::{Events, Plain, WorldCore};
+use world_core::{Events, Plain};
 
 const CAUSES: [Cause; 6] = [
     Cause::Command,
@@ -51,45 +51,41 @@ impl Comparison {
 }
 
 /// Stops where the two worlds differ: in their plain lists, their ledgers or their events.
-pub fn expect_same_worlds(
-    moment: Moment,
-    first: &WorldCore,
-    second: &WorldCore,
-) -> Result<(), Stop> {
-    match lists_of(first) {
+pub fn expect_same_worlds<W: World>(moment: Moment, first: &W, second: &W) -> Result<(), Stop> {
+    match first.lists() {
         Ok(lists) => expect_world_of(moment, &lists, first, second),
         Err(refusal) => Err(Stop::from(refusal)),
     }
 }
 
 /// Stops where the second world differs from the first, whose lists these are.
-fn expect_world_of(
+fn expect_world_of<W: World>(
     moment: Moment,
     lists: &Plain,
-    first: &WorldCore,
-    second: &WorldCore,
+    first: &W,
+    second: &W,
 ) -> Result<(), Stop> {
     expect_lists_of(moment, lists, second)?;
     expect_none(moment, difference_of_books(first, second))
 }
 
 /// Stops where these aren't the world's lists.
-fn expect_lists_of(moment: Moment, lists: &Plain, world: &WorldCore) -> Result<(), Stop> {
-    match lists_of(world) {
+fn expect_lists_of<W: World>(moment: Moment, lists: &Plain, world: &W) -> Result<(), Stop> {
+    match world.lists() {
         Ok(others) => expect_same_lists(moment, lists, &others),
         Err(refusal) => Err(Stop::from(refusal)),
     }
 }
 
 /// In what the two worlds differ of their ledgers and their events.
-fn difference_of_books(first: &WorldCore, second: &WorldCore) -> Option<Part> {
+fn difference_of_books<W: World>(first: &W, second: &W) -> Option<Part> {
     let mut books = Comparison::new();
-    let (ledger, other) = (ledger_of(first), ledger_of(second));
+    let (ledger, other) = (first.ledger(), second.ledger());
     books.expect(Part::Entries, ledger.entries() == other.entries());
     books.expect(Part::Totals, are_same_totals(ledger, other));
     books.expect(
         Part::Events,
-        are_same_events(events_of(first), events_of(second)),
+        are_same_events(first.events(), second.events()),
     );
     books.found
 }

@@ -1,5 +1,6 @@
 //! What the comparison finds in worlds that differ: one that found nothing would let every trial through.
 
+use crate::calls::World;
 use crate::resting;
 use crate::scene::{self, Setting};
 use crate::stop::Stop;
@@ -62,12 +63,16 @@ fn setting_of(difference: Difference) -> Setting {
 }
 
 /// Compares two worlds that differ so, and stops where something is found.
-pub fn compare(alloc: Global, difference: Difference) -> Result<(), Stop> {
-    let mut worlds = Worlds::of(alloc, setting_of(difference))?;
+pub fn compare<W: World>(alloc: Global, difference: Difference) -> Result<(), Stop> {
+    let mut worlds: Worlds<W> = Worlds::of(alloc, setting_of(difference))?;
     compare_in(&mut worlds, alloc, difference)
 }
 
-fn compare_in(worlds: &mut Worlds, alloc: Global, difference: Difference) -> Result<(), Stop> {
+fn compare_in<W: World>(
+    worlds: &mut Worlds<W>,
+    alloc: Global,
+    difference: Difference,
+) -> Result<(), Stop> {
     match difference {
         Difference::Created => compare_after(worlds, &scene::create(alloc)?),
         Difference::Pushed => compare_after(worlds, &scene::push()),
@@ -81,19 +86,22 @@ fn compare_in(worlds: &mut Worlds, alloc: Global, difference: Difference) -> Res
 }
 
 /// Compares a world to which the command was applied with the one before it.
-fn compare_after(worlds: &mut Worlds, command: &Command) -> Result<(), Stop> {
+fn compare_after<W: World>(worlds: &mut Worlds<W>, command: &Command) -> Result<(), Stop> {
     worlds.apply(command)?;
     worlds.expect_kept()
 }
 
 /// The same with two commands.
-fn compare_after_both(worlds: &mut Worlds, commands: &[Command; 2]) -> Result<(), Stop> {
+fn compare_after_both<W: World>(
+    worlds: &mut Worlds<W>,
+    commands: &[Command; 2],
+) -> Result<(), Stop> {
     worlds.apply(&commands[0])?;
     compare_after(worlds, &commands[1])
 }
 
 /// Compares two worlds in which a body was pushed twice, in the one order and in the other.
-fn compare_orders(worlds: &mut Worlds) -> Result<(), Stop> {
+fn compare_orders<W: World>(worlds: &mut Worlds<W>) -> Result<(), Stop> {
     worlds.apply(&FIRST)?;
     worlds.apply(&SECOND)?;
     worlds.apply_to_reference(&SECOND)?;

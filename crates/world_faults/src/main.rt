@@ -25,6 +25,7 @@ use std::{env, io};
 use stop::Stop;
 use told::{Told, told_by_step};
 use trial::{Outcome, trial};
+use world_core::WorldCore;
 
 /// Which calls the program's words ask for.
 enum Asked {
@@ -47,7 +48,7 @@ fn read_words<R: AllocGlobal + Env>(rt: &R) -> io::Result<Asked> {
 }
 
 fn print_trial<R: AllocGlobal + Print>(rt: &R, call: Call) -> io::Result<()> {
-    match trial(rt.alloc(), call) {
+    match trial::<WorldCore>(rt.alloc(), call) {
         Ok(Outcome::Kept) => println!(rt; "kept"),
         Ok(Outcome::Unmet) => println!(rt; "none"),
         Err(stop) => println!(rt; "{stop}"),
@@ -55,7 +56,7 @@ fn print_trial<R: AllocGlobal + Print>(rt: &R, call: Call) -> io::Result<()> {
 }
 
 fn print_difference<R: AllocGlobal + Print>(rt: &R, difference: Difference) -> io::Result<()> {
-    match differences::compare(rt.alloc(), difference) {
+    match differences::compare::<WorldCore>(rt.alloc(), difference) {
         Ok(()) => println!(rt; "the same"),
         Err(stop) => println!(rt; "{stop}"),
     }
@@ -64,7 +65,7 @@ fn print_difference<R: AllocGlobal + Print>(rt: &R, difference: Difference) -> i
 /// What the step of the scene with sleepers tells, which shows that its growths are those of islands that merge, wake, split and
 /// fall asleep.
 fn print_events<R: AllocGlobal + Print>(rt: &R) -> io::Result<()> {
-    match told_by_step(rt.alloc()) {
+    match told_by_step::<WorldCore>(rt.alloc()) {
         Ok(
             Told {
                 begun,

@@ -1,6 +1,7 @@
 //! A world with islands that sleep, with one that may have come apart and is about to sleep, and with shapes that are about to meet and
 //! to part.
 
+use crate::calls::World;
 use crate::scene::Scene;
 use body_handles::Handle;
 use fixed_geom::{Refusal, Rot, UNIT, Vec2};
@@ -134,18 +135,18 @@ fn put(body: Handle, x: i64) -> Command {
     Command::SetPose(body, Pose { x, rot })
 }
 
-fn add(scene: &mut Scene, x: i64) {
+fn add<W: World>(scene: &mut Scene<W>, x: i64) {
     let made = circle_at(scene.alloc(), Kind::Dynamic, 1, x);
     scene.create(made);
 }
 
 /// A post with two sleepers in a row, and a disabled mover beside them.
-fn add_sleepers(scene: &mut Scene) {
+fn add_sleepers<W: World>(scene: &mut Scene<W>) {
     let post = circle_at(scene.alloc(), Kind::Static, 0, 0);
     scene.create(post);
-    for place in 1..4 {
-        add(scene, place * APART);
-    }
+    add(scene, APART);
+    add(scene, 2 * APART);
+    add(scene, 3 * APART);
     scene.apply(&joint(SLEEPER, OTHER_SLEEPER));
     scene.apply(&joint(POST, SLEEPER));
     scene.apply(&joint(ABSENT, OTHER_SLEEPER));
@@ -155,10 +156,10 @@ fn add_sleepers(scene: &mut Scene) {
 
 /// Three movers in a row, of which the third has lost its joint. They drift so slowly that they are about to sleep. The entries of the four
 /// pushes just fill the room that a copy of the ledger has, so that one more asks for memory.
-fn add_row(scene: &mut Scene) {
-    for place in 0..3 {
-        add(scene, GROUP + place * APART);
-    }
+fn add_row<W: World>(scene: &mut Scene<W>) {
+    add(scene, GROUP);
+    add(scene, GROUP + APART);
+    add(scene, GROUP + 2 * APART);
     scene.apply(&joint(LEADER, FOLLOWER));
     scene.apply(&joint(FOLLOWER, STRAGGLER));
     scene.apply(&Command::DestroyJoint(BROKEN));
@@ -169,7 +170,7 @@ fn add_row(scene: &mut Scene) {
 }
 
 /// A sleeper and a mover that stands apart from it, and two movers that touch.
-fn add_pairs(scene: &mut Scene) {
+fn add_pairs<W: World>(scene: &mut Scene<W>) {
     add(scene, 2 * GROUP);
     add(scene, 3 * GROUP);
     add(scene, 4 * GROUP);
@@ -178,13 +179,13 @@ fn add_pairs(scene: &mut Scene) {
 }
 
 /// Two movers with a joint, after the steps.
-fn add_fresh(scene: &mut Scene) {
+fn add_fresh<W: World>(scene: &mut Scene<W>) {
     add(scene, 5 * GROUP);
     add(scene, 5 * GROUP + APART);
     scene.apply(&joint(FRESH, OTHER_FRESH));
 }
 
-pub fn fill(scene: &mut Scene) {
+pub fn fill<W: World>(scene: &mut Scene<W>) {
     add_sleepers(scene);
     add_row(scene);
     add_pairs(scene);

@@ -1,4 +1,4 @@
-use crate::calls::{apply, copy_of, new_world, step};
+use crate::calls::World;
 use crate::resting;
 use body_handles::Handle;
 use fixed_geom::{Refusal, Rot, UNIT, Vec2};
@@ -6,7 +6,7 @@ use momenta::MassData;
 use plain_world::{BodyDef, Course, JointDef, Kind};
 use shapes::{MAX_SHAPES, Pose, Shape, ShapeDef, Shapes};
 use std::alloc::Global;
-use world_core::{Command, WorldCore};
+use world_core::Command;
 
 const METRE: i64 = 1 << 20;
 
@@ -144,13 +144,13 @@ fn joint(a: Handle, b: Handle, length: i64) -> Command {
 
 /// A world that is being made, and the first refusal that it met; what is asked after that doesn't matter any more.
 #[derive(Drop)]
-pub struct Scene<'a> {
+pub struct Scene<'a, W: World> {
     alloc: Global,
-    world: &'a mut WorldCore,
+    world: &'a mut W,
     refusal: Option<Refusal>,
 }
 
-impl Scene<'_> {
+impl<W: World> Scene<'_, W> {
     fn note<T: Drop>(&mut self, answer: Result<T, Refusal>) {
         if let (Err(refusal), None) = (answer, self.refusal) {
             self.refusal = Some(refusal);
@@ -162,7 +162,7 @@ impl Scene<'_> {
     }
 
     pub fn apply(&mut self, command: &Command) {
-        let answer = apply(self.world, command);
+        let answer = self.world.apply(command);
         self.note(answer);
     }
 
@@ -174,7 +174,7 @@ impl Scene<'_> {
     }
 
     pub fn step(&mut self, ticks: i64) {
-        let answer = step(self.world, ticks);
+        let answer = self.world.step(ticks);
         self.note(answer);
     }
 
@@ -212,7 +212,7 @@ impl Scene<'_> {
 }
 
 /// Fills an empty world, and makes a copy of it.
-fn filled(alloc: Global, world: &mut WorldCore, setting: Setting) -> Result<WorldCore, Refusal> {
+fn filled<W: World>(alloc: Global, world: &mut W, setting: Setting) -> Result<W, Refusal> {
     let mut scene = Scene {
         alloc,
         world,
@@ -223,7 +223,7 @@ fn filled(alloc: Global, world: &mut WorldCore, setting: Setting) -> Result<Worl
         Setting::Resting => resting::fill(&mut scene),
     }
     match scene.refusal {
-        None => copy_of(scene.world),
+        None => scene.world.copied(),
         Some(refusal) => Err(refusal),
     }
 }
@@ -245,8 +245,8 @@ fn gravity_in(setting: Setting) -> Vec2 {
     }
 }
 
-pub fn world(alloc: Global, setting: Setting) -> Result<WorldCore, Refusal> {
-    match new_world(alloc, gravity_in(setting)) {
+pub fn world<W: World>(alloc: Global, setting: Setting) -> Result<W, Refusal> {
+    match W::empty(alloc, gravity_in(setting)) {
         Ok(mut world) => filled(alloc, &mut world, setting),
         Err(refusal) => Err(refusal),
     }

@@ -1,6 +1,6 @@
 //! What the step of the scene with sleepers tells.
 
-use crate::calls::events_of;
+use crate::calls::World;
 use crate::resting;
 use crate::scene::Setting;
 use crate::stop::Stop;
@@ -16,14 +16,14 @@ pub struct Told {
     pub woke: usize,
 }
 
-pub fn told_by_step(alloc: Global) -> Result<Told, Stop> {
-    let mut worlds = Worlds::of(alloc, Setting::Resting)?;
+pub fn told_by_step<W: World>(alloc: Global) -> Result<Told, Stop> {
+    let mut worlds: Worlds<W> = Worlds::of(alloc, Setting::Resting)?;
     told_in(&mut worlds)
 }
 
-fn told_in(worlds: &mut Worlds) -> Result<Told, Stop> {
+fn told_in<W: World>(worlds: &mut Worlds<W>) -> Result<Told, Stop> {
     worlds.apply(&resting::step_command())?;
-    let events = events_of(&worlds.world);
+    let events = worlds.world.events();
     Ok(Told {
         begun: events.begin().len(),
         ended: events.end().len(),

@@ -1,5 +1,5 @@
 use crate::call::Call;
-use crate::calls::{Answer, census_of, copy_of, lists_of, replay};
+use crate::calls::{Answer, World};
 use crate::compare::{are_same_censuses, expect, expect_same_lists, expect_same_worlds};
 use crate::resting;
 use crate::scene::{self, Setting};
@@ -21,28 +21,28 @@ pub enum Outcome {
 
 /// Makes a call in the scene's world, and once more if memory was refused to it. The reference, the copy
 /// and whatever else needs memory come before the call.
-pub fn trial(alloc: Global, call: Call) -> Result<Outcome, Stop> {
+pub fn trial<W: World>(alloc: Global, call: Call) -> Result<Outcome, Stop> {
     match call {
-        Call::Create => try_command(alloc, &scene::create(alloc)?),
-        Call::CreateManyShapes => try_command(alloc, &scene::create_many_shapes(alloc)?),
-        Call::Push => try_command(alloc, &scene::push()),
-        Call::Destroy => try_command(alloc, &scene::destroy()),
-        Call::CreateJoint => try_command(alloc, &scene::create_joint()),
-        Call::DestroyJoint => try_command(alloc, &scene::destroy_joint()),
-        Call::SetPose => try_command(alloc, &scene::set_pose()),
-        Call::SetVelocity => try_command(alloc, &scene::set_velocity()),
-        Call::Step => try_command(alloc, &scene::step_command()),
-        Call::Gravity => try_command(alloc, &scene::gravity()),
-        Call::Plain => try_plain(alloc),
-        Call::Census => try_census(alloc),
-        Call::TryCopy => try_copy(alloc),
-        Call::Replay => try_replay(alloc),
-        Call::Disable => try_at_rest(alloc, &resting::disable()),
-        Call::Enable => try_at_rest(alloc, &resting::enable()),
-        Call::Wake => try_at_rest(alloc, &resting::wake()),
-        Call::Sleep => try_at_rest(alloc, &resting::sleep()),
-        Call::DestroyWaking => try_at_rest(alloc, &resting::destroy()),
-        Call::StepOfIslands => try_at_rest(alloc, &resting::step_command()),
+        Call::Create => try_command::<W>(alloc, &scene::create(alloc)?),
+        Call::CreateManyShapes => try_command::<W>(alloc, &scene::create_many_shapes(alloc)?),
+        Call::Push => try_command::<W>(alloc, &scene::push()),
+        Call::Destroy => try_command::<W>(alloc, &scene::destroy()),
+        Call::CreateJoint => try_command::<W>(alloc, &scene::create_joint()),
+        Call::DestroyJoint => try_command::<W>(alloc, &scene::destroy_joint()),
+        Call::SetPose => try_command::<W>(alloc, &scene::set_pose()),
+        Call::SetVelocity => try_command::<W>(alloc, &scene::set_velocity()),
+        Call::Step => try_command::<W>(alloc, &scene::step_command()),
+        Call::Gravity => try_command::<W>(alloc, &scene::gravity()),
+        Call::Plain => try_plain::<W>(alloc),
+        Call::Census => try_census::<W>(alloc),
+        Call::TryCopy => try_copy::<W>(alloc),
+        Call::Replay => try_replay::<W>(alloc),
+        Call::Disable => try_at_rest::<W>(alloc, &resting::disable()),
+        Call::Enable => try_at_rest::<W>(alloc, &resting::enable()),
+        Call::Wake => try_at_rest::<W>(alloc, &resting::wake()),
+        Call::Sleep => try_at_rest::<W>(alloc, &resting::sleep()),
+        Call::DestroyWaking => try_at_rest::<W>(alloc, &resting::destroy()),
+        Call::StepOfIslands => try_at_rest::<W>(alloc, &resting::step_command()),
     }
 }
 
@@ -61,17 +61,17 @@ fn again(is_accepted: bool) -> Result<Outcome, Stop> {
 }
 
 /// Tries a command in the world with sleepers.
-fn try_at_rest(alloc: Global, command: &Command) -> Result<Outcome, Stop> {
-    let mut worlds = Worlds::of(alloc, Setting::Resting)?;
+fn try_at_rest<W: World>(alloc: Global, command: &Command) -> Result<Outcome, Stop> {
+    let mut worlds: Worlds<W> = Worlds::of(alloc, Setting::Resting)?;
     apply_twice(&mut worlds, command)
 }
 
-fn try_command(alloc: Global, command: &Command) -> Result<Outcome, Stop> {
-    let mut worlds = Worlds::new(alloc)?;
+fn try_command<W: World>(alloc: Global, command: &Command) -> Result<Outcome, Stop> {
+    let mut worlds: Worlds<W> = Worlds::new(alloc)?;
     apply_twice(&mut worlds, command)
 }
 
-fn apply_twice(worlds: &mut Worlds, command: &Command) -> Result<Outcome, Stop> {
+fn apply_twice<W: World>(worlds: &mut Worlds<W>, command: &Command) -> Result<Outcome, Stop> {
     let expected = worlds.apply_to_reference(command)?;
     if is_applied(worlds, command, expected)? {
         return Ok(Outcome::Unmet);
@@ -81,7 +81,11 @@ fn apply_twice(worlds: &mut Worlds, command: &Command) -> Result<Outcome, Stop> 
 }
 
 /// Applies the command, and stops where it is accepted and gives something else than in the reference.
-fn is_applied(worlds: &mut Worlds, command: &Command, expected: Reply) -> Result<bool, Stop> {
+fn is_applied<W: World>(
+    worlds: &mut Worlds<W>,
+    command: &Command,
+    expected: Reply,
+) -> Result<bool, Stop> {
     let answer = worlds.apply(command);
     if answer == Err(Refusal::NoMemory) {
         return Ok(false);
@@ -91,13 +95,13 @@ fn is_applied(worlds: &mut Worlds, command: &Command, expected: Reply) -> Result
     Ok(true)
 }
 
-fn try_plain(alloc: Global) -> Result<Outcome, Stop> {
-    let worlds = Worlds::new(alloc)?;
+fn try_plain<W: World>(alloc: Global) -> Result<Outcome, Stop> {
+    let worlds: Worlds<W> = Worlds::new(alloc)?;
     list_twice(&worlds)
 }
 
-fn list_twice(worlds: &Worlds) -> Result<Outcome, Stop> {
-    let expected = lists_of(&worlds.reference)?;
+fn list_twice<W: World>(worlds: &Worlds<W>) -> Result<Outcome, Stop> {
+    let expected = worlds.reference.lists()?;
     if is_listed(worlds, &expected)? {
         return Ok(Outcome::Unmet);
     }
@@ -105,20 +109,20 @@ fn list_twice(worlds: &Worlds) -> Result<Outcome, Stop> {
     again(is_listed(worlds, &expected)?)
 }
 
-fn is_listed(worlds: &Worlds, expected: &Plain) -> Result<bool, Stop> {
-    match lists_of(&worlds.world) {
+fn is_listed<W: World>(worlds: &Worlds<W>, expected: &Plain) -> Result<bool, Stop> {
+    match worlds.world.lists() {
         Ok(plain) => met(expect_same_lists(Moment::Accepted, &plain, expected)),
         Err(_) => Ok(false),
     }
 }
 
-fn try_census(alloc: Global) -> Result<Outcome, Stop> {
-    let worlds = Worlds::new(alloc)?;
+fn try_census<W: World>(alloc: Global) -> Result<Outcome, Stop> {
+    let worlds: Worlds<W> = Worlds::new(alloc)?;
     count_twice(&worlds)
 }
 
-fn count_twice(worlds: &Worlds) -> Result<Outcome, Stop> {
-    let expected = census_of(&worlds.reference)?;
+fn count_twice<W: World>(worlds: &Worlds<W>) -> Result<Outcome, Stop> {
+    let expected = worlds.reference.census()?;
     if is_counted(worlds, &expected)? {
         return Ok(Outcome::Unmet);
     }
@@ -126,8 +130,8 @@ fn count_twice(worlds: &Worlds) -> Result<Outcome, Stop> {
     again(is_counted(worlds, &expected)?)
 }
 
-fn is_counted(worlds: &Worlds, expected: &Census) -> Result<bool, Stop> {
-    match census_of(&worlds.world) {
+fn is_counted<W: World>(worlds: &Worlds<W>, expected: &Census) -> Result<bool, Stop> {
+    match worlds.world.census() {
         Ok(census) => {
             let is_same = are_same_censuses(&census, expected);
             met(expect(Moment::Accepted, Part::Answer, is_same))
@@ -136,12 +140,12 @@ fn is_counted(worlds: &Worlds, expected: &Census) -> Result<bool, Stop> {
     }
 }
 
-fn try_copy(alloc: Global) -> Result<Outcome, Stop> {
-    let worlds = Worlds::new(alloc)?;
+fn try_copy<W: World>(alloc: Global) -> Result<Outcome, Stop> {
+    let worlds: Worlds<W> = Worlds::new(alloc)?;
     copy_twice(&worlds)
 }
 
-fn copy_twice(worlds: &Worlds) -> Result<Outcome, Stop> {
+fn copy_twice<W: World>(worlds: &Worlds<W>) -> Result<Outcome, Stop> {
     if is_copied(worlds)? {
         return Ok(Outcome::Unmet);
     }
@@ -149,29 +153,33 @@ fn copy_twice(worlds: &Worlds) -> Result<Outcome, Stop> {
     again(is_copied(worlds)?)
 }
 
-fn is_copied(worlds: &Worlds) -> Result<bool, Stop> {
-    match copy_of(&worlds.world) {
+fn is_copied<W: World>(worlds: &Worlds<W>) -> Result<bool, Stop> {
+    match worlds.world.copied() {
         Ok(copied) => met(expect_same_worlds(Moment::Accepted, &copied, &worlds.reference)),
         Err(_) => Ok(false),
     }
 }
 
-fn try_replay(alloc: Global) -> Result<Outcome, Stop> {
+fn try_replay<W: World>(alloc: Global) -> Result<Outcome, Stop> {
     let commands = scene::commands(alloc)?;
-    let mut worlds = Worlds::new(alloc)?;
+    let mut worlds: Worlds<W> = Worlds::new(alloc)?;
     replay_all(alloc, &mut worlds, &commands)
 }
 
-fn replay_all(alloc: Global, worlds: &mut Worlds, commands: &[Command]) -> Result<Outcome, Stop> {
-    let expected = replay(alloc, &mut worlds.reference, commands)?;
+fn replay_all<W: World>(
+    alloc: Global,
+    worlds: &mut Worlds<W>,
+    commands: &[Command],
+) -> Result<Outcome, Stop> {
+    let expected = worlds.reference.replay(alloc, commands)?;
     replay_twice(alloc, worlds, commands, &expected)
 }
 
 /// A replay that was refused has made the commands before the one that met the refusal. The replay of
 /// the others does the rest.
-fn replay_twice(
+fn replay_twice<W: World>(
     alloc: Global,
-    worlds: &mut Worlds,
+    worlds: &mut Worlds<W>,
     commands: &[Command],
     expected: &[Answer],
 ) -> Result<Outcome, Stop> {
@@ -184,9 +192,9 @@ fn replay_twice(
 
 /// Stops where the commands before the refusal, so many, have left something else than in a world that met none; then the
 /// replay of the others.
-fn replay_rest(
+fn replay_rest<W: World>(
     alloc: Global,
-    worlds: &mut Worlds,
+    worlds: &mut Worlds<W>,
     commands: &[Command],
     expected: &[Answer],
     made: usize,
@@ -203,20 +211,20 @@ fn replay_rest(
     again(is_replayed(alloc, worlds, rest, answers)?)
 }
 
-fn is_replayed(
+fn is_replayed<W: World>(
     alloc: Global,
-    worlds: &mut Worlds,
+    worlds: &mut Worlds<W>,
     commands: &[Command],
     expected: &[Answer],
 ) -> Result<bool, Stop> {
-    match replay(alloc, &mut worlds.world, commands) {
+    match worlds.world.replay(alloc, commands) {
         Ok(answers) => expect_answers(worlds, answers.as_slice() == expected),
         Err(_) => Ok(false),
     }
 }
 
 /// Stops where the answers aren't the expected ones, or the world isn't as the reference.
-fn expect_answers(worlds: &Worlds, are_same: bool) -> Result<bool, Stop> {
+fn expect_answers<W: World>(worlds: &Worlds<W>, are_same: bool) -> Result<bool, Stop> {
     expect(Moment::Accepted, Part::Answer, are_same)?;
     worlds.expect_as_reference()?;
     Ok(true)

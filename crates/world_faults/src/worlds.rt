@@ -1,38 +1,38 @@
-use crate::calls::{Answer, apply, calls_of, copy_of, replay};
+use crate::calls::{Answer, World, calls_of};
 use crate::compare::expect_same_worlds;
 use crate::scene::{self, Setting};
 use crate::stop::{Moment, Stop};
 use fixed_geom::Refusal;
 use std::alloc::Global;
-use world_core::{Command, WorldCore};
+use world_core::Command;
 
 /// Three equal worlds.
 #[derive(Drop)]
-pub struct Worlds {
+pub struct Worlds<W: World> {
     /// The one in which the call is made that may meet a refusal.
-    pub world: WorldCore,
+    pub world: W,
     /// A copy of it, made before the call.
-    pub before: WorldCore,
+    pub before: W,
     /// One in which the call is made while all memory is there.
-    pub reference: WorldCore,
+    pub reference: W,
 }
 
-impl Worlds {
+impl<W: World> Worlds<W> {
     /// The world of movers, three times.
-    pub fn new(alloc: Global) -> Result<Worlds, Refusal> {
+    pub fn new(alloc: Global) -> Result<Worlds<W>, Refusal> {
         Worlds::of(alloc, Setting::Moving)
     }
 
     /// A scene's world, three times.
-    pub fn of(alloc: Global, setting: Setting) -> Result<Worlds, Refusal> {
+    pub fn of(alloc: Global, setting: Setting) -> Result<Worlds<W>, Refusal> {
         match scene::world(alloc, setting) {
             Ok(world) => Worlds::with(alloc, world, setting),
             Err(refusal) => Err(refusal),
         }
     }
 
-    fn with(alloc: Global, world: WorldCore, setting: Setting) -> Result<Worlds, Refusal> {
-        match (copy_of(&world), scene::world(alloc, setting)) {
+    fn with(alloc: Global, world: W, setting: Setting) -> Result<Worlds<W>, Refusal> {
+        match (world.copied(), scene::world(alloc, setting)) {
             (Ok(before), Ok(reference)) => Ok(Worlds {
                 world,
                 before,
@@ -44,12 +44,12 @@ impl Worlds {
 
     /// Applies a command to the world in which memory may be refused.
     pub fn apply(&mut self, command: &Command) -> Answer {
-        apply(&mut self.world, command)
+        self.world.apply(command)
     }
 
     /// Applies a command to the reference.
     pub fn apply_to_reference(&mut self, command: &Command) -> Answer {
-        apply(&mut self.reference, command)
+        self.reference.apply(command)
     }
 
     /// Stops where the refused call has left something else than was there before.
@@ -64,7 +64,7 @@ impl Worlds {
 
     /// Replays commands in the copy that was made before the call.
     pub fn replay_before(&mut self, alloc: Global, commands: &[Command]) -> Result<(), Refusal> {
-        match replay(alloc, &mut self.before, commands) {
+        match self.before.replay(alloc, commands) {
             Ok(_) => Ok(()),
             Err(refusal) => Err(refusal),
         }
