@@ -4,7 +4,10 @@ pub mod CollideLaws
 pub mod QueryLaws
 pub mod PartLaws
 pub mod EnableLaws
+pub mod LeavingLaws
 pub mod RisingLaws
+pub mod QuietSteps
+pub mod MovingBeside
 pub mod StepLaws
 pub mod RowColourLaws
 pub mod CountLaws

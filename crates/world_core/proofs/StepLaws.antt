@@ -24,10 +24,11 @@ use Rattle.plain_world.specs.Joints.{AreJoints}
 use Rattle.plain_world.specs.Sleep.{AreTimersWithin, timed_bodies, told}
 use Rattle.plain_world.specs.Slots.{HaveSameSlots}
 use Rattle.shapes.specs.Shapes.{is_between}
-use Rattle.sleep_wake.specs.Acting.{Acting}
+use Rattle.sleep_wake.specs.Acting.{Acting, IsSettled}
 use Rattle.sleep_wake.specs.Changes.{AreChanges, begin_count, turned}
 use Rattle.sleep_wake.specs.declared.change.Change.{Change}
 use Rattle.solver_sets.specs.Slept.{asleep_only_in, newly_asleep, newly_awake}
+use Rattle.solver_sets.specs.Tied.{AreTied}
 use Rattle.solver_sets.specs.Ties.{key_changes}
 use Rattle.solver_sets.proofs.SleptLaws.{told_bodies_tell}
 use Rattle.world_core_base.specs.ConstraintRows.{rows_of}
@@ -38,7 +39,7 @@ use Rattle.world_core_base.proofs.SolvingLaws.{arrays_are_solving}
 use Rattle.world_core.specs.Inside.{IsWhole}
 use Rattle.world_core.proofs.PartLaws.{kept_of}
 use Rattle.world_core.proofs.RisingLaws.{contacts_after_rise}
-use Rattle.world_rules.specs.Apply.{Answers, Applied, apply_step, bodies_ticked, booked, events_of, gained_x, gained_y, rest_entries, rested_acting, step_done, step_entries, world_with}
+use Rattle.world_rules.specs.Apply.{Answers, Applied, apply_step, bodies_ticked, booked, events_of, gained_x, gained_y, rested_acting, step_done, step_entries, world_with}
 use Rattle.world_rules.specs.declared.command.Reply.{Reply}
 use Rattle.world_rules.specs.declared.command.Reply.TheVariants as replies
 use Rattle.world_rules.specs.Gathering.{CanGather}
@@ -52,7 +53,7 @@ use Rattle.world_rules.proofs.KeptStep.{IsTicked, collide_kept, collided_in, col
 use Rattle.world_rules.proofs.PartsLeft.{IsLeft}
 use Rattle.world_rules.proofs.SoundLaws.{IsKept, kept_sound}
 use Rattle.world_rules.proofs.ToldLaws.{length_told}
-use Rattle.world_rules.proofs.StepCalls.{CanTurn, can_turn, step_left, timers_within, woke_is}
+use Rattle.world_rules.proofs.StepCalls.{can_turn, step_left, timers_within, woke_is}
 use Rattle.world_rules.proofs.StepParts.{asleep_rise, ticked_in, told_as}
 use Rattle.world_rules.proofs.TickedLaws.{AreInSameCondition, alike_then, moved_conditions, timed_alike, timed_told, told_conditions}
 
@@ -79,6 +80,9 @@ room_found w s t changes n room is same found count h =
     let few : begin_count changes ≤ length (collided_in w).begin = subst (λ (cs : List (Change Constraint)). begin_count cs ≤ length (collided_in w).begin) (sym found) (can_turn w (kept_of w s is) (rises_in w s is)).count in
     let long : length t.ties ≡ length s.ties = ap (λ (a : Acting Constraint). length a.ties) same in
     omega (arith, few, long, count, h)
+
+pub settled_found : (w : World) (s t : Acting Constraint) → IsWhole w s → t ≡ s → IsSettled constraint_number t
+settled_found w s t is same = subst (IsSettled constraint_number) (sym (same ∙ is.same)) (kept_of w s is).settled
 
 -- what acts, the bodies and the contacts, once all that begins and ends had its turn
 pub record HasTurned (w : World) (now : Acting Constraint) (there : List (Option Body)) (found : List ContactEntry) : Type 0 where
@@ -187,6 +191,19 @@ solved_told w n k rises =
     let r : Run = ran n w.plain.gravity (start (states_of now.plain.bodies) (rows_of (states_of now.plain.bodies) now.plain.joints now.plain.contacts (turned_in w).lists)) in
     let same : AreInSameCondition now.plain.bodies (renewed_bodies (bodies_of (solved_in w n))) = subst (λ (bs : List (Option Body)). AreInSameCondition now.plain.bodies (renewed_bodies bs)) run.bodies_left (moved_conditions now.plain.bodies r.states) in
     told_conditions now.plain.bodies (renewed_bodies (bodies_of (solved_in w n))) (turned_in w).labels same (collide_kept w k rises).kept.told
+
+pub told_solved : (w : World) (n : ℕ) (s now : Acting Constraint) (before bodies : List (Option Body)) (joints : List (Option BodyJoint)) (found contacts : List ContactEntry) (sums : StepSums) → IsWhole w s → HasTurned w now before found → HasSolved w n bodies joints contacts sums
+    → AreTold bodies now.labels
+told_solved w n s now before bodies joints found contacts sums is t h =
+    subst (λ (a : Acting Constraint). AreTold bodies a.labels) (sym t.acting) (subst (λ (bs : List (Option Body)). AreTold bs (turned_in w).labels) (sym h.bodies) (solved_told w n (kept_of w s is) (rises_in w s is)))
+
+-- they leave the movers as they were
+pub tied_solved : (w : World) (n : ℕ) (s now : Acting Constraint) (before bodies : List (Option Body)) (joints : List (Option BodyJoint)) (found contacts : List ContactEntry) (sums : StepSums) → IsWhole w s → HasTurned w now before found → HasSolved w n bodies joints contacts sums
+    → AreTied bodies now.labels
+tied_solved w n s now before bodies joints found contacts sums is t h =
+    let left : List (Option Body) = renewed_bodies (bodies_of (solved_in w n)) in
+    subst (λ (a : Acting Constraint). AreTied bodies a.labels) (sym t.acting)
+    (subst (λ (bs : List (Option Body)). AreTied bs (turned_in w).labels) (sym h.bodies) (tied_alike (collided_world w).plain.bodies left (turned_in w).labels h.ticked.alike (collide_kept w (kept_of w s is) (rises_in w s is)).kept.tied))
 
 slept_is : (w : World) (n : ℕ) (labels : Labels) (js : List (Option BodyJoint)) (es : List ContactEntry) (sums : StepSums) → IsKept w → AreKeysRising (collided_in w).now → IsTicked (collided_world w).plain (renewed_bodies (bodies_of (solved_in w n))) js es sums
     → newly_asleep w.plain.places (bodies_ticked n (solved_in w n)) labels ≡ asleep_only_in w.plain.places (turned_in w).labels labels

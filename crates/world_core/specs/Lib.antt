@@ -1,4 +1,5 @@
 pub mod Inside
+pub mod Quiet
 pub mod Frames
 pub mod Walks
 pub mod RowColours

@@ -1,6 +1,7 @@
 //! A world of bodies, changed by one command at a time.
 #![tactic(auto)]
 
+mod beside;
 mod booking;
 mod collide;
 mod copying;
@@ -10,6 +11,7 @@ mod laws;
 mod leaving;
 mod pushes;
 mod queries;
+mod readiness;
 mod replay;
 mod resting;
 mod scratch;

@@ -1,24 +1,29 @@
 //! The end of a step: timers grow, and islands that have been slow for long enough fall asleep.
 
 ghost use Rattle.std.specs.Prelude.{◌≡◌, ◌≤◌, ◌^◌, length, vec_capacity};
+ghost use Rattle.contacts_base.specs.Contacts.{AreKeysRising};
 ghost use Rattle.momenta.specs.Gains.{IsGain};
 ghost use Rattle.plain_world.specs.Bodies.{AreBodies};
 ghost use Rattle.plain_world.specs.Sleep.{AreTimersWithin, timed_bodies, told};
 ghost use Rattle.solver_sets.specs.Slept.{newly_asleep};
+ghost use Rattle.solver_sets.specs.Tied.{AreTied};
 ghost use Rattle.world_rules.specs.Apply.{gained_x, gained_y, rested_acting};
+ghost use Rattle.world_rules.specs.Sound.{AreTold};
 
+use crate::readiness::are_kept_up;
 use crate::scratch::Scratch;
 use body_handles::{MAX_SLOTS, Place};
 use contacts::Constraint;
 use contacts_base::ContactEntry;
-use momenta::Gain;
+use momenta::{Gain, NOTHING};
 use plain_world::BodyJoint;
 use sleep_wake::Sets;
 use solver_sets::{fill_newly_asleep, fill_timers};
 use world_core_base::BodyTable;
 
 /// Lets so many ticks pass for the timers, puts the islands to rest that are ready, lists who has fallen asleep by that, and tells the
-/// bodies. Answers what the movers' momentum gains, since those that fall asleep lose theirs. Takes no memory.
+/// bodies, which had been told before. Answers what the movers' momentum gains, since those that fall asleep lose theirs. Where no
+/// island is ready, it takes time by the awake movers alone. Takes no memory.
 pub fn rest_ready(
     bodies: &mut BodyTable,
     sets: &mut Sets<Constraint>,
@@ -32,8 +37,12 @@ pub fn rest_ready(
     requires few_bodies { length bodies.old.bodies ≤ MAX_SLOTS }
     requires bodies { AreBodies bodies.old.bodies }
     requires within { AreTimersWithin (2 ^ 44) bodies.old.bodies }
+    requires tied { AreTied bodies.old.bodies sets.old.acting.labels }
+    requires told { AreTold bodies.old.bodies sets.old.acting.labels }
+    requires rising { AreKeysRising contacts.now }
     requires ticks { ticks ≤ 8 }
     requires timers { length bodies.old.bodies ≤ vec_capacity scratch.old.timers }
+    requires marks { length bodies.old.bodies ≤ vec_capacity scratch.old.marks }
     requires slept { length places.now ≤ vec_capacity scratch.old.slept }
     ensures acting { sets.new.acting ≡ rested_acting (timed_bodies ticks bodies.old.bodies) joints.now contacts.now sets.old.acting }
     ensures bodies { bodies.new.bodies ≡ told sets.new.acting.labels (timed_bodies ticks bodies.old.bodies) }
@@ -44,6 +53,19 @@ pub fn rest_ready(
     ensures small { IsGain (2 ^ 78) result }
 {
     bodies.time(ticks);
+    let quiet = are_kept_up(
+        &mut scratch.marks,
+        sets.islands(),
+        bodies.bodies(),
+        bodies.awake(),
+        joints,
+        contacts,
+        sets.colours(),
+    );
+    if quiet {
+        scratch.slept.clear();
+        return NOTHING;
+    }
     fill_timers(&mut scratch.timers, bodies.bodies(), joints, contacts);
     sets.sleep_phase(&scratch.timers);
     fill_newly_asleep(&mut scratch.slept, places, bodies.bodies(), sets.islands());

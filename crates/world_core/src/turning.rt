@@ -1,11 +1,15 @@
 //! What a collide changes beside the contacts: constraints begin and end, and sleepers wake.
 
-ghost use Rattle.std.specs.Prelude.{◌≡◌, ◌≤◌, ◌+◌, length, vec_capacity};
+ghost use Rattle.std.specs.Prelude.{◌≡◌, ◌≤◌, ◌+◌, true, length, vec_capacity};
+ghost use Rattle.std.specs.List.{AllWithin};
 ghost use Rattle.contacts.specs.Constraints.{constraint_number};
 ghost use Rattle.plain_world.specs.Bodies.{AreBodies};
 ghost use Rattle.plain_world.specs.Sleep.{told};
+ghost use Rattle.sleep_wake.specs.Acting.{IsSettled, are_awake};
 ghost use Rattle.sleep_wake.specs.Changes.{AreChanges, begin_count, turned};
 ghost use Rattle.solver_sets.specs.Slept.{newly_awake};
+ghost use Rattle.world_core.specs.Quiet.{IsUp, movers_in};
+ghost use Rattle.world_rules.specs.Sound.{AreTold};
 
 use body_handles::{Handle, MAX_SLOTS, Place};
 use contacts::Constraint;
@@ -13,7 +17,30 @@ use sleep_wake::{Change, Sets};
 use solver_sets::fill_newly_awake;
 use world_core_base::BodyTable;
 
-/// Lets constraints begin and end, each in its turn, lists who has woken by that, and tells the bodies. Takes no memory.
+/// Whether all movers of the constraint that begins or ends are awake.
+fn is_up(sets: &Sets<Constraint>, change: Change<Constraint>) -> bool
+    ensures { result ≡ are_awake sets.now.acting.labels (movers_in change) }
+{
+    match change {
+        Change::Begin(member) => sets.are_awake(member.movers),
+        Change::End(member) => sets.are_awake(member.movers),
+    }
+}
+
+/// Whether all movers are awake of the constraints that begin and end, so that these wake nobody.
+fn are_up(sets: &Sets<Constraint>, changes: &[Change<Constraint>]) -> bool
+    ensures { result ≡ true → AllWithin (IsUp sets.now.acting.labels) changes.now 0 (length changes.now) }
+{
+    for place in 0..changes.len() {
+        if !is_up(sets, changes[place]) {
+            return false;
+        }
+    }
+    true
+}
+
+/// Lets constraints begin and end, each in its turn, lists who has woken by that, and tells the bodies, which had been told before.
+/// Where nobody wakes, it takes time by what begins and ends alone. Takes no memory.
 pub fn turn_all(
     sets: &mut Sets<Constraint>,
     bodies: &mut BodyTable,
@@ -22,16 +49,23 @@ pub fn turn_all(
     changes: &[Change<Constraint>],
 )
     requires can { AreChanges constraint_number sets.old.acting.labels sets.old.acting.ties changes.now }
+    requires settled { IsSettled constraint_number sets.old.acting }
     requires room { length sets.old.acting.ties + begin_count changes.now ≤ sets.old.room }
     requires few { length places.now ≤ MAX_SLOTS }
     requires few_bodies { length bodies.old.bodies ≤ MAX_SLOTS }
     requires bodies { AreBodies bodies.old.bodies }
+    requires told { AreTold bodies.old.bodies sets.old.acting.labels }
     requires woke { length places.now ≤ vec_capacity woke.old }
     ensures acting { sets.new.acting ≡ turned constraint_number changes.now sets.old.acting }
     ensures bodies { bodies.new.bodies ≡ told sets.new.acting.labels bodies.old.bodies }
     ensures woke { woke.new.items ≡ newly_awake places.now bodies.old.bodies sets.new.acting.labels }
 {
+    let quiet = are_up(sets, changes);
     sets.turn(changes);
+    if quiet {
+        woke.clear();
+        return;
+    }
     fill_newly_awake(woke, places, bodies.bodies(), sets.islands());
     let _ = bodies.tell(sets.islands());
 }

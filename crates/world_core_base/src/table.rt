@@ -5,7 +5,7 @@ ghost use Rattle.std.specs.Option.{ForSome};
 ghost use Rattle.std.specs.Result.{IsOkUnless};
 ghost use Rattle.fixed_geom.specs.Vectors.{IsWithin};
 ghost use Rattle.momenta.specs.declared.state.BodyState.{BodyState};
-ghost use Rattle.colour_solver.specs.States.{AreAllStates};
+ghost use Rattle.colour_solver.specs.States.{AreAllStates, places_from};
 ghost use Rattle.colour_solver.specs.Ticks.{AreSums, added_x, added_y, ran, run_of, start};
 ghost use Rattle.colour_solver.specs.ColourRows.{all_rows};
 ghost use Rattle.colour_solver.specs.ConstraintTurns.{AreRowsBelow};
@@ -15,7 +15,7 @@ ghost use Rattle.world_core_base.specs.Gather.{state_of, states_of, with_motions
 ghost use Rattle.world_core_base.specs.Renewal.{renewed_bodies};
 ghost use Rattle.world_core_base.specs.Standing.{HaveSameStanding};
 ghost use Rattle.momenta.specs.Gains.{IsGain};
-ghost use Rattle.plain_world.specs.Changes.{changed_at, disabled_body, enabled_body, is_carried_in};
+ghost use Rattle.plain_world.specs.Changes.{changed_at, disabled_body, enabled_body, is_awake_in, is_carried_in};
 ghost use Rattle.plain_world.specs.Sleep.{AreTimersWithin, timed_bodies, told};
 ghost use Rattle.plain_world.specs.Slots.{HaveSameSlots, body_at, with_body};
 
@@ -122,6 +122,13 @@ impl BodyTable {
         ensures { result.now ≡ states_of self.now.bodies }
     {
         self.states.as_slice()
+    }
+
+    /// The awake movers' slots, ascending.
+    pub fn awake(&self) -> &[u32]
+        ensures { result.now ≡ places_from is_awake_in 0 self.now.bodies }
+    {
+        self.awake.as_slice()
     }
 
     /// Makes room for one more body. Refused 1 where memory is wanting.

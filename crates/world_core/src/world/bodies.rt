@@ -54,7 +54,6 @@ impl WorldCore {
         self.bodies.clear(handle.slot);
         self.contacts.drop_of_body(handle.slot);
         self.handles.remove(handle);
-        self.bodies.tell(self.sets.islands());
         book(
             &mut self.ledger,
             self.calls + 1,

@@ -36,7 +36,6 @@ impl WorldCore {
         self.bodies.disable(handle.slot);
         self.joints.idle(handle.slot);
         self.contacts.drop_of_body(handle.slot);
-        self.bodies.tell(self.sets.islands());
         book(
             &mut self.ledger,
             self.calls + 1,

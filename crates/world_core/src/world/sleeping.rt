@@ -11,7 +11,7 @@ ghost use Rattle.world_rules.specs.Apply.{Answers, apply_wake, apply_sleep};
 use super::WorldCore;
 use crate::booking::book;
 use crate::pushes::check_mover;
-use crate::waking::wake_named;
+use crate::waking::{put_to_sleep, wake_named};
 use body_handles::Handle;
 use contacts::Constraint;
 use fixed_geom::Refusal;
@@ -68,8 +68,7 @@ impl WorldCore {
     {
         check_mover(&self.handles, self.bodies.bodies(), handle)?;
         self.ledger.reserve(1)?;
-        self.sets.sleep(handle.slot);
-        let rest = self.bodies.tell(self.sets.islands());
+        let rest = put_to_sleep(&mut self.sets, &mut self.bodies, handle.slot);
         book(&mut self.ledger, self.calls + 1, Cause::Rest, rest);
         self.calls += 1;
         Ok(Reply::Done)

@@ -6,25 +6,26 @@ use Rattle.world_rules.proofs.BookLemmas.{Fits-roomy}
 use Rattle.world_rules.proofs.KeptChanges.{IsRoomy-kept, IsRoomy-same}
 use Rattle.world_rules.proofs.SoundLaws.{kept_sound}
 use Rattle.world_core.specs.contracts.world.WorldCore.{the_view}
-use Rattle.world_core.proofs.Whole.{rest_booked, sleep_answers, sleep_whole}
+use Rattle.world_core.proofs.Whole.{rest_booked, sleep_answers, sleep_whole, told_whole}
 use Rattle.world_core.proofs.world.WorldCore.sleep.Goals as goal
 
 pub book-requires-clause-fits : goal.book-requires-clause-fits
 book-requires-clause-fits c =
-    let small = c.tell-rest.ensures.small in
+    let small = c.put_to_sleep-rest.ensures.small in
     Fits-roomy c.reserve.new.self _ (IsRoomy-same _ _ c.in_ok-reserve.ensures.entries c.in_ok-reserve.ensures.settled (IsRoomy-kept (the_view c.self.inside) 0 (kept_sound _ c.self.invariant.sound)))
     (omega (arith, ints, small.x)) (omega (arith, ints, small.y))
+
+pub put_to_sleep-rest-requires-clause-told : goal.put_to_sleep-rest-requires-clause-told
+put_to_sleep-rest-requires-clause-told c = told_whole (the_view c.self.inside) _ c.self.invariant
 
 pub invariant_of-self-2 : goal.invariant_of-self-2
 invariant_of-self-2 c =
     let calls : c.self.inside.calls < 2 ^ 40 = rw (← c.self.view_is) at c.requires in
-    let told = rw c.islands.ensures at c.tell-rest.ensures.bodies in
-    rw (c.book.ensures.entries, c.book.ensures.settled, c.in_ok-reserve.ensures.entries, c.in_ok-reserve.ensures.settled, rest_booked (c.self.inside.calls + 1) c.sleep.new.self.acting.labels c.self.inside.bodies.bodies c.tell-rest.new.self.bodies _ _ told c.tell-rest.ensures.x c.tell-rest.ensures.y)
-    (sleep_whole (the_view c.self.inside) c.args.handle.slot c.self.inside.sets.acting c.sleep.new.self.acting _ c.self.invariant calls c.sleep.ensures.acting told)
+    rw (c.book.ensures.entries, c.book.ensures.settled, c.in_ok-reserve.ensures.entries, c.in_ok-reserve.ensures.settled, rest_booked (c.self.inside.calls + 1) c.put_to_sleep-rest.new.sets.acting.labels c.self.inside.bodies.bodies c.put_to_sleep-rest.new.bodies.bodies _ _ c.put_to_sleep-rest.ensures.told c.put_to_sleep-rest.ensures.x c.put_to_sleep-rest.ensures.y)
+    (sleep_whole (the_view c.self.inside) c.args.handle.slot c.self.inside.sets.acting c.put_to_sleep-rest.new.sets.acting _ c.self.invariant calls c.put_to_sleep-rest.ensures.acting c.put_to_sleep-rest.ensures.told)
 
 pub returns : goal.returns
 returns c =
-    let told = rw c.islands.ensures at c.tell-rest.ensures.bodies in
     let due : None ≡ mover_refusal (body_of c.self.inside.handles.places c.self.inside.bodies.bodies c.args.handle) = rw c.bodies.ensures at c.in_ok-check_mover.ensures in
-    rw (← c.self.view_is, c.book.ensures.entries, c.book.ensures.settled, c.in_ok-reserve.ensures.entries, c.in_ok-reserve.ensures.settled, rest_booked (c.self.inside.calls + 1) c.sleep.new.self.acting.labels c.self.inside.bodies.bodies c.tell-rest.new.self.bodies _ _ told c.tell-rest.ensures.x c.tell-rest.ensures.y)
-    (sleep_answers (the_view c.self.inside) c.args.handle c.self.inside.sets.acting c.sleep.new.self.acting _ c.self.invariant due c.sleep.ensures.acting told)
+    rw (← c.self.view_is, c.book.ensures.entries, c.book.ensures.settled, c.in_ok-reserve.ensures.entries, c.in_ok-reserve.ensures.settled, rest_booked (c.self.inside.calls + 1) c.put_to_sleep-rest.new.sets.acting.labels c.self.inside.bodies.bodies c.put_to_sleep-rest.new.bodies.bodies _ _ c.put_to_sleep-rest.ensures.told c.put_to_sleep-rest.ensures.x c.put_to_sleep-rest.ensures.y)
+    (sleep_answers (the_view c.self.inside) c.args.handle c.self.inside.sets.acting c.put_to_sleep-rest.new.sets.acting _ c.self.invariant due c.put_to_sleep-rest.ensures.acting c.put_to_sleep-rest.ensures.told)

@@ -13,7 +13,7 @@ use Rattle.world_rules.proofs.KeptChanges.{IsRoomy-kept, IsRoomy-same}
 use Rattle.world_rules.proofs.KeptStep.{collided_in}
 use Rattle.world_core.specs.contracts.world.WorldCore.{the_view}
 use Rattle.world_core.proofs.PartLaws.{kept_of, whole}
-use Rattle.world_core.proofs.StepLaws.{AreFound, AreLeft, AreTicks, HasSolved, HasTurned, bodies_turned, can_solve_turned, can_turn_found, few_solved, few_turned, has_solved, has_turned, is_refusal, room_found, room_turned, slept_rise, step_answers, step_is_left, step_refused, timers_room, timers_solved, woke_rise}
+use Rattle.world_core.proofs.StepLaws.{AreFound, AreLeft, AreTicks, HasSolved, HasTurned, bodies_turned, can_solve_turned, can_turn_found, few_solved, few_turned, has_solved, has_turned, is_refusal, room_found, room_turned, settled_found, slept_rise, step_answers, step_is_left, step_refused, tied_solved, timers_room, timers_solved, told_solved, woke_rise}
 use Rattle.world_core.proofs.world.WorldCore.step.Goals as goal
 
 pub collide-requires-clause-bodies : goal.collide-requires-clause-bodies
@@ -60,6 +60,12 @@ turn_all-requires-clause-room c =
     let long : length c.deref.result.now ≡ length (collided_in w).begin = ap (λ (keys : List ContactKey). length keys) begun in
     let count : c.len.result ≡ length (collided_in w).begin = omega (arith, c.len.ensures, c.deref.ensures.len, long) in
     room_found w c.self.inside.sets.acting c.reserve-2.new.self.acting c.deref-3.result.now c.len.result c.reserve-2.new.self.room c.self.invariant c.in_ok-reserve-2.ensures.acting (is_found c) count c.in_ok-reserve-2.ensures.room_made
+
+pub turn_all-requires-clause-settled : goal.turn_all-requires-clause-settled
+turn_all-requires-clause-settled c = settled_found (the_view c.self.inside) c.self.inside.sets.acting c.reserve-2.new.self.acting c.self.invariant c.in_ok-reserve-2.ensures.acting
+
+pub turn_all-requires-clause-told : goal.turn_all-requires-clause-told
+turn_all-requires-clause-told c = rw c.in_ok-reserve-2.ensures.acting (kept_of _ _ c.self.invariant).told
 
 -- ---- the ticks
 
@@ -113,11 +119,31 @@ is_solved c =
     } in
     has_solved w c.unsigned_abs.result c.self.inside.sets.acting c.turn_all.new.sets.acting c.turn_all.new.bodies.bodies c.solve-sums.new.bodies.bodies c.solve-sums.new.joints.joints c.in_ok-changes.changes.now c.solve-sums.new.contacts c.solve-sums.result c.self.invariant turned to_bodies to_joints to_contacts to_sums are
 
+turned_then : (c : goal.After-unsigned_abs-2) → HasTurned (the_view c.self.inside) c.turn_all.new.sets.acting c.turn_all.new.bodies.bodies c.in_ok-changes.changes.now
+turned_then c =
+    let listed = c.deref-3.ensures.value ∙ c.in_ok-turns.ensures.changes in
+    let found : AreFound (the_view c.self.inside) c.deref-3.result.now = rw (c.bodies-2.ensures, c.deref.ensures.value, c.deref-2.ensures.value, c.in_ok-changes.ensures.begin, c.in_ok-changes.ensures.end, c.bodies.ensures) at listed in
+    has_turned (the_view c.self.inside) c.self.inside.sets.acting c.reserve-2.new.self.acting c.turn_all.new.sets.acting c.deref-3.result.now c.turn_all.new.bodies.bodies c.in_ok-changes.changes.now c.self.invariant c.in_ok-reserve-2.ensures.acting found
+    c.turn_all.ensures.acting c.turn_all.ensures.bodies (rw c.bodies.ensures at c.in_ok-changes.ensures.now)
+
+pub rest_ready-rest-requires-clause-tied : goal.rest_ready-rest-requires-clause-tied
+rest_ready-rest-requires-clause-tied c =
+    tied_solved (the_view c.self.inside) c.unsigned_abs.result c.self.inside.sets.acting c.turn_all.new.sets.acting c.turn_all.new.bodies.bodies c.solve-sums.new.bodies.bodies c.solve-sums.new.joints.joints c.in_ok-changes.changes.now c.solve-sums.new.contacts c.solve-sums.result
+    c.self.invariant (turned_then c) (is_solved c)
+
+pub rest_ready-rest-requires-clause-told : goal.rest_ready-rest-requires-clause-told
+rest_ready-rest-requires-clause-told c =
+    told_solved (the_view c.self.inside) c.unsigned_abs.result c.self.inside.sets.acting c.turn_all.new.sets.acting c.turn_all.new.bodies.bodies c.solve-sums.new.bodies.bodies c.solve-sums.new.joints.joints c.in_ok-changes.changes.now c.solve-sums.new.contacts c.solve-sums.result
+    c.self.invariant (turned_then c) (is_solved c)
+
 pub rest_ready-rest-requires-clause-few_bodies : goal.rest_ready-rest-requires-clause-few_bodies
 rest_ready-rest-requires-clause-few_bodies c = few_solved (the_view c.self.inside) c.unsigned_abs.result c.self.inside.sets.acting c.solve-sums.new.bodies.bodies c.solve-sums.new.joints.joints c.solve-sums.new.contacts c.solve-sums.result c.self.invariant (is_solved c)
 
 pub rest_ready-rest-requires-clause-within : goal.rest_ready-rest-requires-clause-within
 rest_ready-rest-requires-clause-within c = timers_solved (the_view c.self.inside) c.unsigned_abs.result c.self.inside.sets.acting c.solve-sums.new.bodies.bodies c.solve-sums.new.joints.joints c.solve-sums.new.contacts c.solve-sums.result c.self.invariant (is_solved c)
+
+pub rest_ready-rest-requires-clause-rising : goal.rest_ready-rest-requires-clause-rising
+rest_ready-rest-requires-clause-rising c = c.as_slice.ensures.contacts.rising
 
 pub rest_ready-rest-requires-clause-ticks : goal.rest_ready-rest-requires-clause-ticks
 rest_ready-rest-requires-clause-ticks c =
@@ -128,6 +154,12 @@ rest_ready-rest-requires-clause-ticks c =
 pub rest_ready-rest-requires-clause-timers : goal.rest_ready-rest-requires-clause-timers
 rest_ready-rest-requires-clause-timers c =
     let room : length c.self.inside.bodies.bodies ≤ vec_capacity c.in_ok-scratch.scratch.timers = rw c.bodies-3.ensures at c.in_ok-scratch.ensures.timers in
+    let long = timers_room (the_view c.self.inside) c.unsigned_abs.result c.self.inside.sets.acting c.solve-sums.new.bodies.bodies c.solve-sums.new.joints.joints c.solve-sums.new.contacts c.solve-sums.result c.self.invariant (is_solved c) in
+    rw long room
+
+pub rest_ready-rest-requires-clause-marks : goal.rest_ready-rest-requires-clause-marks
+rest_ready-rest-requires-clause-marks c =
+    let room : length c.self.inside.bodies.bodies ≤ vec_capacity c.in_ok-scratch.scratch.marks = rw c.bodies-3.ensures at c.in_ok-scratch.ensures.marks in
     let long = timers_room (the_view c.self.inside) c.unsigned_abs.result c.self.inside.sets.acting c.solve-sums.new.bodies.bodies c.solve-sums.new.joints.joints c.solve-sums.new.contacts c.solve-sums.result c.self.invariant (is_solved c) in
     rw long room
 

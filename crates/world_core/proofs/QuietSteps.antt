@@ -1,0 +1,414 @@
+-- A step in which nobody wakes, and one in which nobody falls asleep, tells no body anything.
+use Rattle.std.proofs.Common.{◌≡◌, ◌≢◌, ℕ, zero, suc, ◌+◌, ◌<◌, ◌≤◌, ◌&&◌, Bool, true, false, not, cond, is_some, All, List, [], ◌∷◌, length, Option, Some, None, inl, inr, refl, sym, ap, ◌∙◌, subst, arith}
+use Rattle.std.specs.Prelude.{◌==◌, Contains, nat_lt, replicate, slice_get, slice_set}
+use Rattle.std.specs.List.{AllWithin}
+use Rattle.std.specs.Option.{is_none}
+use Rattle.std.proofs.lemmas.Bool.{cases_eq, eq-eqb, lt-leb}
+use Rattle.std.proofs.lemmas.Grind.{common_steps}
+use Rattle.std.proofs.lemmas.List.Elements.{All-contains, All-from_all_within, All-head, All-tail, All-weaker}
+use Rattle.body_handles.specs.declared.places.Place.{Place}
+use Rattle.colour_solver.specs.States.{places_from}
+use Rattle.contacts.specs.Constraints.{constraint_number}
+use Rattle.contacts.specs.declared.constraint.Constraint.{Constraint}
+use Rattle.contacts_base.specs.declared.contact.ContactEntry.{ContactEntry}
+use Rattle.graph_colours.specs.declared.member.Member.{Member}
+use Rattle.graph_colours.specs.declared.member.Movers.{Movers}
+use Rattle.islands.specs.declared.label.IslandState.{IslandState}
+use Rattle.islands.specs.declared.label.IslandState.TheVariants.{Whole, Loose, Asleep}
+use Rattle.islands.specs.declared.label.Label.{Label}
+use Rattle.islands.specs.Labels.{Labels, is_asleep, is_in, is_loose, label_at}
+use Rattle.islands.specs.Partition.{IsPartition}
+use Rattle.islands.proofs.JoinLemmas.{contains_head, contains_tail}
+use Rattle.plain_world.specs.declared.body.Body.{Body}
+use Rattle.plain_world.specs.declared.joint.BodyJoint.{BodyJoint}
+use Rattle.plain_world.specs.Bodies.{AreBodies, is_awake, is_mover}
+use Rattle.plain_world.specs.Changes.{is_awake_in}
+use Rattle.plain_world.specs.Sleep.{sleeping_name, timed_bodies, told}
+use Rattle.plain_world.specs.Slots.{body_at}
+use Rattle.sleep_wake.specs.Acting.{Acting, IsSettled, are_awake, awake_label}
+use Rattle.sleep_wake.specs.Acting as acting
+use Rattle.sleep_wake.specs.Changes.{AreChanges, begun, changed, ended, parted, turned, united}
+use Rattle.sleep_wake.specs.SleepPhase.{all_put_to_rest, is_due, is_island, is_ready, least_timer, lesser, longest_at_rest, may_be_due, picked_to_split, ready, ready_from, ready_put_to_rest, sleep_phase, split_picked, ticks_to_sleep}
+use Rattle.sleep_wake.specs.Sleeping.{rested_at, slept_at, slept_by, split_if_loose}
+use Rattle.sleep_wake.specs.Waking.{movers_woken, second_woken, set_woken, woken_at, woken_by}
+use Rattle.sleep_wake.specs.declared.change.Change.{Change}
+use Rattle.sleep_wake.specs.declared.change.Change.TheVariants.{Begin, End}
+use Rattle.sleep_wake.proofs.AwakeLemmas.{and_is, parted_awake, same_awake, united_awake}
+use Rattle.sleep_wake.proofs.FoldLemmas.{are_up, change_next}
+use Rattle.sleep_wake.proofs.PhaseLemmas.{not_is}
+use Rattle.solver_sets.specs.Beside.{is_beside_moving, timer_if, timers_from, timers_of}
+use Rattle.solver_sets.specs.Slept.{handles_where, is_asleep_in, is_asleep_label, newly_asleep, newly_awake, sleeps, was_asleep}
+use Rattle.solver_sets.specs.Tied.{AreTied}
+use Rattle.solver_sets.specs.Ties.{is_mover_in}
+use Rattle.world_rules.specs.Apply.{rested_acting}
+use Rattle.world_rules.specs.Sound.{AreTold}
+use Rattle.world_rules.proofs.ActingLaws.{awake_name}
+use Rattle.world_rules.proofs.ChangeLemmas.{tied_alike}
+use Rattle.world_rules.proofs.LowerLaws.{beginning_keeps, ending_keeps}
+use Rattle.world_rules.proofs.QuietLaws.{SleepAlike, begun_alike, ended_alike, told_by_alike}
+use Rattle.world_rules.proofs.SlotLemmas.{body_at-in}
+use Rattle.world_rules.proofs.TickedLaws.{timed_alike, timed_are_bodies, timed_told}
+use Rattle.world_rules.proofs.ToldLaws.{told_stays}
+use Rattle.world_core.specs.Quiet.{AreBusy, AreKeptUp, AreUp, HasMarked, IsShort, IsUp, TellShort, is_marked_in, is_open_by, is_short_in, marked_by, movers_in}
+
+-- ---- movers that are awake aren't woken
+
+by_label : (o : Option Label) (s : Acting Constraint) → awake_label o ≡ true → woken_by constraint_number o s ≡ s
+by_label None s h = refl
+by_label (Some l) s h = ap (λ (t : Bool). cond t (set_woken constraint_number l.name s) s) (not_is (is_asleep l.state) h)
+
+by_slot : (slot : ℕ) (s : Acting Constraint) → acting.is_awake s.labels slot ≡ true → woken_at constraint_number slot s ≡ s
+unfolding woken_at
+by_slot slot s h = by_label (label_at s.labels slot) s h
+
+by_second : (first : ℕ) (o : Option ℕ) (s : Acting Constraint) → acting.is_awake s.labels first ≡ true → ((b : ℕ) → o ≡ Some b → acting.is_awake s.labels b ≡ true) → second_woken constraint_number o (woken_at constraint_number first s) ≡ s
+by_second first None s h k = by_slot first s h
+by_second first (Some b) s h k = ap (woken_at constraint_number b) (by_slot first s h) ∙ by_slot b s (k b refl)
+
+by_movers : (m : Movers) (s : Acting Constraint) → are_awake s.labels m ≡ true → movers_woken constraint_number m s ≡ s
+by_movers m s h = let up = are_up s.labels m h in by_second m.first m.second s up.first up.second
+
+-- ---- a constraint that begins or ends while its movers are awake
+
+begun_up : (m : Member Constraint) (s : Acting Constraint) (x : Change Constraint) → IsPartition s.labels → are_awake s.labels m.movers ≡ true → IsUp s.labels x → IsUp (begun constraint_number m s).labels x
+unfolding begun
+begun_up m s x p h up =
+    let u = are_up s.labels m.movers h in
+    let same : (t : ℕ) → acting.is_awake (united m.movers.second m.movers.first s.labels) t ≡ acting.is_awake s.labels t = λ t. united_awake s.labels m.movers.first t m.movers.second p u.movers.first u.movers.second u.first u.second in
+    same_awake s.labels (united m.movers.second m.movers.first s.labels) (movers_in x).first (movers_in x).second (same (movers_in x).first) (λ b e. same b) ∙ up
+
+ended_up : (m : Member Constraint) (s : Acting Constraint) (x : Change Constraint) → IsPartition s.labels → are_awake s.labels m.movers ≡ true → IsUp s.labels x → IsUp (ended constraint_number m s).labels x
+unfolding ended
+ended_up m s x p h up =
+    let u = are_up s.labels m.movers h in
+    let same : (t : ℕ) → acting.is_awake (parted m.movers.second m.movers.first s.labels) t ≡ acting.is_awake s.labels t = λ t. parted_awake s.labels m.movers.first t m.movers.second p u.first in
+    same_awake s.labels (parted m.movers.second m.movers.first s.labels) (movers_in x).first (movers_in x).second (same (movers_in x).first) (λ b e. same b) ∙ up
+
+-- the same sleep as before, and who was awake is so
+record ChangesQuietly (s new : Acting Constraint) : Type 0 where
+  settled : IsSettled constraint_number new
+  alike : SleepAlike s.labels new.labels
+  up : (x : Change Constraint) → IsUp s.labels x → IsUp new.labels x
+
+change_quietly : (c : Change Constraint) (cs : List (Change Constraint)) (s : Acting Constraint) (old : Labels) → IsSettled constraint_number s → AreChanges constraint_number old s.ties (c ∷ cs) → IsUp s.labels c → ChangesQuietly s (changed constraint_number c s)
+change_quietly (Begin m) cs s old w can up =
+    subst (λ (a : Acting Constraint). ChangesQuietly s (begun constraint_number m a)) (sym (by_movers m.movers s up)) (record {
+      settled = beginning_keeps s m w can.0 up;
+      alike = begun_alike m s w.islands.partition up;
+      up = λ x h. begun_up m s x w.islands.partition up h;
+    })
+change_quietly (End m) cs s old w can up =
+    subst (λ (a : Acting Constraint). ChangesQuietly s (ended constraint_number m a)) (sym (by_movers m.movers s up)) (record {
+      settled = ending_keeps s m w can.0 (are_up s.labels m.movers up).first;
+      alike = ended_alike m s w.islands.partition up;
+      up = λ x h. ended_up m s x w.islands.partition up h;
+    })
+
+turned_alike : (changes : List (Change Constraint)) (s : Acting Constraint) (old : Labels) → IsSettled constraint_number s → AreChanges constraint_number old s.ties changes → AreUp s.labels changes → SleepAlike s.labels (turned constraint_number changes s).labels
+turned_alike [] s old w can up k = refl
+turned_alike (c ∷ cs) s old w can up k =
+    let now : Acting Constraint = changed constraint_number c s in
+    let one : ChangesQuietly s now = change_quietly c cs s old w can (All-head (IsUp s.labels) c cs up) in
+    let rest : AreUp now.labels cs = All-weaker (IsUp s.labels) (IsUp now.labels) one.up cs (All-tail (IsUp s.labels) c cs up) in
+    turned_alike cs now old one.settled (change_next constraint_number old s c cs can) rest k ∙ one.alike k
+
+-- ---- who is newly awake or newly asleep
+
+none_where : (test : ℕ → Bool) (n : ℕ) (places : List Place) → ((s : ℕ) → test s ≡ false) → handles_where test n places ≡ []
+none_where test n [] h = refl
+none_where test n (p ∷ places) h =
+    ap (λ (t : Bool). cond t (record { slot = n; generation = p.generation } ∷ handles_where test (suc n) places) (handles_where test (suc n) places)) (h n) ∙ none_where test (suc n) places h
+
+name_tells : (o : Option Label) → is_some (sleeping_name o) ≡ is_asleep_label o
+name_tells None = refl
+name_tells (Some l) = by_state (is_asleep l.state)
+  where
+    by_state : (t : Bool) → is_some (cond t (Some l.name) None) ≡ t
+    by_state true = refl
+    by_state false = refl
+
+not_both : (t : Bool) → (t && not t) ≡ false
+not_both true = refl
+not_both false = refl
+
+-- a body that sleeps as its label tells hasn't woken
+woken_not : (o : Option Body) (l : Option Label) → ((b : Body) → o ≡ Some b → b.asleep ≡ sleeping_name l) → (is_asleep_in o && not (is_asleep_label l)) ≡ false
+woken_not None l h = refl
+woken_not (Some b) l h = ap (λ (t : Bool). t && not (is_asleep_label l)) (ap (λ (a : Option ℕ). is_some a) (h b refl) ∙ name_tells l) ∙ not_both (is_asleep_label l)
+
+-- nor has one fallen asleep
+asleep_not : (o : Option Body) (l : Option Label) → is_some l ≡ is_mover_in o → ((b : Body) → o ≡ Some b → b.asleep ≡ sleeping_name l) → (is_asleep_label l && not (is_asleep_in o)) ≡ false
+asleep_not None None tied h = refl
+asleep_not None (Some l) tied h = cc
+asleep_not (Some b) l tied h = ap (λ (t : Bool). is_asleep_label l && not t) (ap (λ (a : Option ℕ). is_some a) (h b refl) ∙ name_tells l) ∙ not_both (is_asleep_label l)
+
+-- ---- constraints that begin and end, and wake nobody
+
+-- what they leave: the bodies are told already, and nobody is newly awake
+pub record TurnsQuietly (os : List (Option Body)) (places : List Place) (s new : Acting Constraint) : Type 0 where
+  pub bodies : os ≡ told new.labels os
+  pub woke : [] ≡ newly_awake places os new.labels
+
+pub turns_quietly : (os : List (Option Body)) (places : List Place) (s : Acting Constraint) (changes : List (Change Constraint)) → AreBodies os → AreTold os s.labels → IsSettled constraint_number s → AreChanges constraint_number s.labels s.ties changes
+    → AreUp s.labels changes → TurnsQuietly os places s (turned constraint_number changes s)
+unfolding newly_awake
+turns_quietly os places s changes all are settled can up =
+    let new : Acting Constraint = turned constraint_number changes s in
+    let alike : SleepAlike s.labels new.labels = turned_alike changes s s.labels settled can up in
+    record {
+      bodies = sym (told_by_alike s.labels new.labels os alike ∙ told_stays s.labels os all are);
+      woke = sym (none_where (λ slot. was_asleep os slot && not (sleeps new.labels slot)) 0 places (λ slot. woken_not (body_at os slot) (label_at new.labels slot) (λ b at. are slot b at ∙ sym (alike slot))));
+    }
+
+-- ---- timers
+
+pub timers_at : (beside : ℕ → Bool) (n k m : ℕ) (bodies : List (Option Body)) (b : Body) → m ≡ n + k → body_at bodies k ≡ Some b → slice_get (timers_from beside n bodies) k ≡ Some (timer_if (beside m) (Some b))
+timers_at beside n k m [] b e at = cc
+timers_at beside n zero m (o ∷ bodies) b e at =
+    let here : n ≡ m = omega (arith, e) in
+    let is : o ≡ Some b = at in
+    λ j. Some (timer_if (beside (here j)) (is j))
+timers_at beside n (suc k) m (o ∷ bodies) b e at = timers_at beside (suc n) k m bodies b (omega (arith, e)) at
+
+timer_short : (t : Bool) (b : Body) → b.timer < ticks_to_sleep → may_be_due (Some (timer_if t (Some b))) ≡ false
+timer_short true b h = refl
+timer_short false b h = lt-leb ticks_to_sleep b.timer h
+
+loose_up : (state : IslandState) → is_loose state ≡ true → not (is_asleep state) ≡ true
+loose_up Whole e = cc
+loose_up Loose e = refl
+loose_up Asleep e = cc
+
+island_up : (loose : Bool) (slot : ℕ) (o : Option Label) → is_island loose slot o ≡ true → awake_label o ≡ true
+island_up true slot None e = cc
+island_up false slot None e = cc
+island_up true slot (Some l) e = loose_up l.state (and_is (l.name == slot) (is_loose l.state) e).1
+island_up false slot (Some l) e = (and_is (not (is_loose l.state)) (not (is_asleep l.state)) (and_is (l.name == slot) (not (is_loose l.state) && not (is_asleep l.state)) e).1).1
+
+label_there : (o : Option Label) → awake_label o ≡ true → is_some o ≡ true
+label_there None e = cc
+label_there (Some l) e = refl
+
+pub mover_there : (o : Option Body) → is_mover_in o ≡ true → (b : Body) × (o ≡ Some b) × (is_mover b ≡ true)
+mover_there None e = cc
+mover_there (Some b) e = (b, refl, e)
+
+awake_if : (m : Bool) (a : Option ℕ) → m ≡ true → a ≡ None → cond m (is_none a) false ≡ true
+awake_if true None e f = refl
+awake_if true (Some name) e f = cc
+awake_if false a e f = cc
+
+-- the mover with a label that is awake
+record IsUpAt (bodies : List (Option Body)) (slot : ℕ) : Type 0 where
+  body : Body
+  there : body_at bodies slot ≡ Some body
+  up : is_awake body ≡ true
+
+up_at : (labels : Labels) (bodies : List (Option Body)) (slot : ℕ) → AreTied bodies labels → AreTold bodies labels → awake_label (label_at labels slot) ≡ true → IsUpAt bodies slot
+up_at labels bodies slot tied are up =
+    let there = mover_there (body_at bodies slot) (sym (tied slot) ∙ label_there (label_at labels slot) up) in
+    record { body = there.0; there = there.1; up = awake_if (is_mover there.0) there.0.asleep there.2 (are slot there.0 there.1 ∙ awake_name (label_at labels slot) up) }
+
+-- one whose own timer is short
+own_short : (bodies : List (Option Body)) (joints : List (Option BodyJoint)) (contacts : List ContactEntry) (slot : ℕ) (b : Body) → body_at bodies slot ≡ Some b → b.timer < ticks_to_sleep → IsShort (timers_of bodies joints contacts) slot
+unfolding timers_of
+own_short bodies joints contacts slot b at short =
+    ap may_be_due (timers_at (is_beside_moving bodies joints contacts) 0 slot slot bodies b (omega arith) at) ∙ timer_short (is_beside_moving bodies joints contacts slot) b short
+
+-- where no timer is long, each island's first mover keeps it from being ready
+pub busy_keeps_up : (labels : Labels) (bodies : List (Option Body)) (joints : List (Option BodyJoint)) (contacts : List ContactEntry) → AreTied bodies labels → AreTold bodies labels → AreBusy bodies → AreKeptUp labels (timers_of bodies joints contacts)
+busy_keeps_up labels bodies joints contacts tied are busy name up own =
+    let it : IsUpAt bodies name = up_at labels bodies name tied are up in
+    (name, own, own_short bodies joints contacts name it.body it.there (busy name it.body it.there it.up))
+
+-- the least of an island's timers is at most that of each of its movers
+abbrev IsAtMost : Option ℕ → Option ℕ → Type 0
+IsAtMost o None = Unit {0}
+IsAtMost None (Some t) = ⊥
+IsAtMost (Some m) (Some t) = m ≤ t
+
+lesser_first : (u : ℕ) (o : Option ℕ) → lesser u o ≤ u
+lesser_first u None = omega arith
+lesser_first u (Some v) = omega arith
+
+lesser_rest : (u : ℕ) (o g : Option ℕ) → IsAtMost o g → IsAtMost (Some (lesser u o)) g
+lesser_rest u o None h = tt
+lesser_rest u None (Some t) h = absurd h
+lesser_rest u (Some r) (Some t) h = omega (arith, h)
+
+at_first : (t : Bool) (u : ℕ) (rest : Option ℕ) → t ≡ true → IsAtMost (cond t (Some (lesser u rest)) rest) (Some u)
+at_first true u rest e = lesser_first u rest
+at_first false u rest e = cc
+
+at_rest : (t : Bool) (u : ℕ) (rest g : Option ℕ) → IsAtMost rest g → IsAtMost (cond t (Some (lesser u rest)) rest) g
+at_rest true u rest g h = lesser_rest u rest g h
+at_rest false u rest g h = h
+
+least_below : (name : ℕ) (labels : Labels) (timers : List ℕ) (slot : ℕ) → is_in (label_at labels slot) name ≡ true → IsAtMost (least_timer name labels timers) (slice_get timers slot)
+least_below name [] timers slot e = cc
+least_below name (o ∷ labels) [] slot e = tt
+least_below name (o ∷ labels) (t ∷ timers) zero e = at_first (is_in o name) t (least_timer name labels timers) e
+least_below name (o ∷ labels) (t ∷ timers) (suc slot) e = at_rest (is_in o name) t (least_timer name labels timers) (slice_get timers slot) (least_below name labels timers slot e)
+
+not_due : (o g : Option ℕ) → IsAtMost o g → may_be_due g ≡ false → is_due o ≡ false
+not_due None g h e = refl
+not_due (Some m) None h e = cc
+not_due (Some m) (Some t) h e = grind (arith, common_steps)
+
+-- the name of an island is the slot of one of its movers
+named_in : (loose : Bool) (slot : ℕ) (o : Option Label) → is_island loose slot o ≡ true → is_in o slot ≡ true
+named_in true slot None e = cc
+named_in false slot None e = cc
+named_in true slot (Some l) e = (and_is (l.name == slot) (is_loose l.state) e).0
+named_in false slot (Some l) e = (and_is (l.name == slot) (not (is_loose l.state) && not (is_asleep l.state)) e).0
+
+not_ready : (loose : Bool) (labels : Labels) (timers : List ℕ) (slot : ℕ) → AreKeptUp labels timers → is_ready loose labels timers slot (label_at labels slot) ≡ false
+not_ready loose labels timers slot up = by (is_island loose slot (label_at labels slot)) refl
+  where
+    never : (t : Bool) → (t && false) ≡ false
+    never true = refl
+    never false = refl
+
+    by : (t : Bool) → is_island loose slot (label_at labels slot) ≡ t → is_ready loose labels timers slot (label_at labels slot) ≡ false
+    by false e = ap (λ (t : Bool). t && is_due (least_timer slot labels timers)) e
+    by true e =
+        let keeps = up slot (island_up loose slot (label_at labels slot) e) (named_in loose slot (label_at labels slot) e) in
+        let short : is_due (least_timer slot labels timers) ≡ false = not_due (least_timer slot labels timers) (slice_get timers keeps.0) (least_below slot labels timers keeps.0 keeps.1) keeps.2 in
+        ap (λ (t : Bool). is_island loose slot (label_at labels slot) && t) short ∙ never (is_island loose slot (label_at labels slot))
+
+none_from : (loose : Bool) (labels : Labels) (timers : List ℕ) (n : ℕ) (rest : Labels) → ((k m : ℕ) → m ≡ n + k → is_ready loose labels timers m (label_at rest k) ≡ false) → ready_from loose labels timers n rest ≡ []
+none_from loose labels timers n [] h = refl
+none_from loose labels timers n (o ∷ rest) h =
+    let first : is_ready loose labels timers n o ≡ false = h zero n (omega arith) in
+    ap (λ (t : Bool). cond t (n ∷ ready_from loose labels timers (suc n) rest) (ready_from loose labels timers (suc n) rest)) first
+    ∙ none_from loose labels timers (suc n) rest (λ k m e. h (suc k) m (omega (arith, e)))
+
+none_ready : (loose : Bool) (labels : Labels) (timers : List ℕ) → AreKeptUp labels timers → ready loose labels timers ≡ []
+none_ready loose labels timers up =
+    none_from loose labels timers 0 labels (λ k m e. let same : m ≡ k = omega (arith, e) in subst (λ (n : ℕ). is_ready loose labels timers m (label_at labels n) ≡ false) same (not_ready loose labels timers m up))
+
+quiet_phase : (s : Acting Constraint) (timers : List ℕ) → ready true s.labels timers ≡ [] → ready false s.labels timers ≡ [] → sleep_phase constraint_number timers s ≡ s
+quiet_phase s timers loose whole =
+    let none : picked_to_split s.labels timers ≡ None = ap (λ (names : List ℕ). longest_at_rest (λ name. least_timer name s.labels timers) None names) loose in
+    ap (λ (o : Option ℕ). ready_put_to_rest constraint_number timers (split_picked o s)) none ∙ ap (λ (names : List ℕ). all_put_to_rest constraint_number names s) whole
+
+-- ---- the awake movers, by their slots
+
+place_if : {X : Type 0} (is : X → Bool) (t : Bool) (xs : List X) (n m : ℕ) → Contains (places_from is (suc n) xs) m → Contains (cond t (n ∷ places_from is (suc n) xs) (places_from is (suc n) xs)) m
+place_if is true xs n m h = contains_tail n (places_from is (suc n) xs) m h
+place_if is false xs n m h = h
+
+-- whoever passes the test is listed
+place_there : {X : Type 0} (is : X → Bool) (xs : List X) (n slot m : ℕ) (x : X) → m ≡ n + slot → slice_get xs slot ≡ Some x → is x ≡ true → Contains (places_from is n xs) m
+place_there is [] n slot m x e at on = cc
+place_there is (y ∷ ys) n zero m x e at on =
+    let same : y ≡ x = cc at in
+    let here : n ≡ m = omega (arith, e) in
+    let rest : List ℕ = places_from is (suc n) ys in
+    subst (λ (t : Bool). Contains (cond t (n ∷ rest) rest) m) (sym (ap is same ∙ on)) (subst (λ (v : ℕ). Contains (v ∷ rest) m) (sym here) (contains_head m rest))
+place_there is (y ∷ ys) n (suc slot) m x e at on = place_if is (is y) ys n m (place_there is ys (suc n) slot m x (omega (arith, e)) at on)
+
+pub busy_all : (bodies : List (Option Body)) (awake : List ℕ) (k : ℕ) → awake ≡ places_from is_awake_in 0 bodies → length awake ≤ k → AllWithin (λ slot. is_short_in (body_at bodies slot) ≡ true) awake 0 k → AreBusy bodies
+busy_all bodies awake k e done all slot b at up =
+    let listed : Contains awake slot = subst (λ (l : List ℕ). Contains l slot) (sym e) (place_there is_awake_in bodies 0 slot slot (Some b) (omega arith) (body_at-in bodies slot b at) up) in
+    let each : All (λ (s : ℕ). is_short_in (body_at bodies s) ≡ true) awake = λ j d lt. all j d (omega arith) (omega (arith, done, lt)) in
+    let short : nat_lt b.timer ticks_to_sleep ≡ true = sym (ap is_short_in at) ∙ All-contains (λ (s : ℕ). is_short_in (body_at bodies s) ≡ true) awake slot each listed in
+    grind (arith, common_steps)
+
+-- ---- islands that are marked
+
+pub tell_short : (bodies : List (Option Body)) (joints : List (Option BodyJoint)) (contacts : List ContactEntry) → TellShort bodies (timers_of bodies joints contacts)
+tell_short bodies joints contacts slot b at short = own_short bodies joints contacts slot b at short
+
+none_marked : (n name : ℕ) → is_marked_in (slice_get (replicate n false) name) ≡ true → ⊥
+none_marked zero name h = cc
+none_marked (suc n) zero h = cc
+none_marked (suc n) (suc name) h = none_marked n name h
+
+pub marked_first : (labels : Labels) (timers : List ℕ) (n : ℕ) → HasMarked labels timers (replicate n false)
+marked_first labels timers n name h = absurd (none_marked n name h)
+
+other_set : (marks : List Bool) (slot name : ℕ) → name ≢ slot → slice_get (slice_set marks slot true) name ≡ slice_get marks name
+other_set [] slot name off = refl
+other_set (t ∷ marks) zero zero off = absurd (off refl)
+other_set (t ∷ marks) zero (suc name) off = refl
+other_set (t ∷ marks) (suc slot) zero off = refl
+other_set (t ∷ marks) (suc slot) (suc name) off = other_set marks slot name (λ e. off (ap suc e))
+
+pub marks_keep : (labels : Labels) (timers : List ℕ) (marks : List Bool) (slot : ℕ) (o : Option Label) → label_at labels slot ≡ o → IsShort timers slot → HasMarked labels timers marks → HasMarked labels timers (marked_by o marks)
+marks_keep labels timers marks slot None e short has name h = has name h
+marks_keep labels timers marks slot (Some l) e short has name h = elim (cases_eq name l.name) [
+  | inl same ↦ (slot, ap (λ (o : Option Label). is_in o name) e ∙ eq-eqb l.name name (sym same), short)
+  | inr off ↦ has name (ap is_marked_in (sym (other_set marks l.name name off)) ∙ h)
+]
+
+marks_if : (t : Bool) (labels : Labels) (timers : List ℕ) (marks : List Bool) (slot : ℕ) → (t ≡ true → IsShort timers slot) → HasMarked labels timers marks → HasMarked labels timers (cond t (marked_by (label_at labels slot) marks) marks)
+marks_if true labels timers marks slot short has = marks_keep labels timers marks slot (label_at labels slot) refl (short refl) has
+marks_if false labels timers marks slot short has = has
+
+short_in : (o : Option Body) → is_short_in o ≡ true → (b : Body) × (o ≡ Some b) × (b.timer < ticks_to_sleep)
+short_in None h = cc
+short_in (Some b) h = (b, refl, grind (arith, common_steps))
+
+pub marked_more : (labels : Labels) (timers : List ℕ) (bodies : List (Option Body)) (marks new : List Bool) (slot : ℕ) → TellShort bodies timers → HasMarked labels timers marks
+    → new ≡ cond (is_short_in (body_at bodies slot)) (marked_by (label_at labels slot) marks) marks → HasMarked labels timers new
+marked_more labels timers bodies marks new slot tell has e =
+    subst (HasMarked labels timers) (sym e) (marks_if (is_short_in (body_at bodies slot)) labels timers marks slot (λ h. let it = short_in (body_at bodies slot) h in tell slot it.0 it.1 it.2) has)
+
+not_open : (o : Option Label) (slot : ℕ) (marked : Bool) → awake_label o ≡ true → is_in o slot ≡ true → is_open_by o slot marked ≡ false → marked ≡ true
+not_open None slot marked up own h = cc
+not_open (Some l) slot true up own h = refl
+not_open (Some l) slot false up own h = let open_now : (l.name == slot) ≡ false = sym (with_true (l.name == slot)) ∙ h in cc
+  where
+    with_true : (t : Bool) → (t && true) ≡ t
+    with_true true = refl
+    with_true false = refl
+
+-- where each awake island is marked, each has a mover that keeps it from being ready
+pub marked_keep_up : (labels : Labels) (bodies : List (Option Body)) (awake : List ℕ) (timers : List ℕ) (marks : List Bool) → awake ≡ places_from is_awake_in 0 bodies → AreTied bodies labels → AreTold bodies labels → HasMarked labels timers marks
+    → AllWithin (λ slot. is_open_by (label_at labels slot) slot (is_marked_in (slice_get marks slot)) ≡ false) awake 0 (length awake) → AreKeptUp labels timers
+marked_keep_up labels bodies awake timers marks e tied are has all name up own =
+    let it : IsUpAt bodies name = up_at labels bodies name tied are up in
+    let listed : Contains awake name = subst (λ (l : List ℕ). Contains l name) (sym e) (place_there is_awake_in bodies 0 name name (Some it.body) (omega arith) (body_at-in bodies name it.body it.there) it.up) in
+    let P : ℕ → Type 0 = λ slot. is_open_by (label_at labels slot) slot (is_marked_in (slice_get marks slot)) ≡ false in
+    let shut : P name = All-contains P awake name (All-from_all_within P awake all) listed in
+    has name (not_open (label_at labels name) name (is_marked_in (slice_get marks name)) up own shut)
+
+-- ---- a sleep phase in which no island is ready
+
+pub tied_timed : (ticks : ℕ) (os : List (Option Body)) (labels : Labels) → AreTied os labels → AreTied (timed_bodies ticks os) labels
+tied_timed ticks os labels tied = tied_alike os (timed_bodies ticks os) labels (timed_alike ticks os) tied
+
+-- what it leaves: all as it is, and nobody is newly asleep
+pub record RestsQuietly (ticks : ℕ) (os : List (Option Body)) (places : List Place) (joints : List (Option BodyJoint)) (contacts : List ContactEntry) (s : Acting Constraint) : Type 0 where
+  pub acting : s ≡ rested_acting (timed_bodies ticks os) joints contacts s
+  pub bodies : timed_bodies ticks os ≡ told s.labels (timed_bodies ticks os)
+  pub slept : [] ≡ newly_asleep places (timed_bodies ticks os) s.labels
+
+pub rests_quietly : (ticks : ℕ) (os : List (Option Body)) (places : List Place) (joints : List (Option BodyJoint)) (contacts : List ContactEntry) (s : Acting Constraint) → AreBodies os → AreTied os s.labels → AreTold os s.labels
+    → AreKeptUp s.labels (timers_of (timed_bodies ticks os) joints contacts) → RestsQuietly ticks os places joints contacts s
+unfolding newly_asleep
+rests_quietly ticks os places joints contacts s all tied are up =
+    let bodies : List (Option Body) = timed_bodies ticks os in
+    let tied_now : AreTied bodies s.labels = tied_timed ticks os s.labels tied in
+    let told_now : AreTold bodies s.labels = timed_told ticks os s.labels are in
+    record {
+      acting = sym (quiet_phase s (timers_of bodies joints contacts) (none_ready true s.labels (timers_of bodies joints contacts) up) (none_ready false s.labels (timers_of bodies joints contacts) up));
+      bodies = sym (told_stays s.labels bodies (timed_are_bodies ticks os all) told_now);
+      slept = sym (none_where (λ slot. sleeps s.labels slot && not (was_asleep bodies slot)) 0 places (λ slot. asleep_not (body_at bodies slot) (label_at s.labels slot) (tied_now slot) (told_now slot)));
+    }
+
+-- ---- a mover that sleeps is put to sleep
+
+is_not : (t : Bool) → not t ≡ false → t ≡ true
+is_not true h = refl
+is_not false h = cc
+
+slept_label : (slot : ℕ) (o : Option Label) (s : Acting Constraint) → awake_label o ≡ false → slept_by constraint_number slot o s ≡ s
+slept_label slot None s h = refl
+slept_label slot (Some l) s h = ap (λ (t : Bool). cond t s (rested_at constraint_number slot (split_if_loose l s))) (is_not (is_asleep l.state) h)
+
+-- it stays as it is
+pub slept_stays : (slot : ℕ) (s : Acting Constraint) → acting.is_awake s.labels slot ≡ false → slept_at constraint_number slot s ≡ s
+unfolding slept_at
+slept_stays slot s h = slept_label slot (label_at s.labels slot) s h

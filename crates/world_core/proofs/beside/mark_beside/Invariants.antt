@@ -1,0 +1,6 @@
+use Rattle.std.proofs.Common.{List, ℕ}
+use Rattle.world_core.specs.Quiet.{HasMarked, KeepMarks}
+use Rattle.world_core.proofs.beside.mark_beside.Given as goal
+
+abbrev pub invariant-loop-colour : goal.invariant-loop-colour
+invariant-loop-colour l = (timers : List ℕ) → KeepMarks l.islands.labels l.bodies l.joints l.contacts timers → HasMarked l.islands.labels timers l.fn.marks.items → HasMarked l.islands.labels timers l.marks.items

@@ -1,0 +1,7 @@
+use Rattle.std.proofs.Common.{sym, subst}
+use Rattle.world_core.specs.Quiet.{HasMarked}
+use Rattle.world_core.proofs.beside.mark_contact.Goals as goal
+
+pub returns : goal.returns
+returns c = λ joints timers keep has.
+    subst (HasMarked c.args.islands.now.labels timers) (sym c.mark_touched_at.ensures) (keep.touched c.seek.result c.args.marks.now.items has)

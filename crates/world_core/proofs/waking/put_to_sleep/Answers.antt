@@ -1,0 +1,6 @@
+use Rattle.std.proofs.Common.{sym, ◌∙◌}
+use Rattle.world_core.proofs.QuietSteps.{slept_stays}
+use Rattle.world_core.proofs.waking.put_to_sleep.Goals as goal
+
+pub returns-then-not-is_awake-clause-acting : goal.returns-then-not-is_awake-clause-acting
+returns-then-not-is_awake-clause-acting c = sym (slept_stays c.args.slot c.args.sets.now.acting (sym c.is_awake.ensures ∙ c.if-not-is_awake.true))
