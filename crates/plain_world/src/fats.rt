@@ -1,6 +1,6 @@
 //! The fat boxes of a body's shapes.
 
-ghost use Rattle.std.specs.Prelude.{◌≡◌, [], All, IfOk, length};
+ghost use Rattle.std.specs.Prelude.{◌≡◌, ◌∷◌, ◌++◌, [], All, IfOk, OnErr, OnOk, length};
 ghost use Rattle.std.specs.Result.{IsOkUnless};
 ghost use Rattle.shapes.specs.Shapes.{IsShape, IsShapeDef};
 ghost use Rattle.shapes.specs.Poses.{IsPose};
@@ -51,6 +51,16 @@ impl FatBoxes {
             boxes.push(fat_box_of(&def.shape, pose))?;
         }
         Ok(FatBoxes { boxes })
+    }
+
+    /// Adds a box for one more shape. Refused 1 where memory is wanting.
+    pub fn push(&mut self, fat: Box2) -> Result<(), Refusal>
+        ensures ok { OnOk result (self.new ≡ self.old ++ fat ∷ []) }
+        ensures err { OnErr result (self.new ≡ self.old) }
+        ensures memory_only { IsOkUnless result Refusal.NoMemory }
+    {
+        self.boxes.push(fat)?;
+        Ok(())
     }
 
     /// The boxes, in the shapes' order.

@@ -1,0 +1,67 @@
+//! Reads saved worlds and parts of them, one a line, and writes each again: the version's number, a tab, the part's word or `world`, a tab and the value. What is told of a
+//! line is the value that was written, or the number of the first clause that was found broken.
+#![tactic(auto)]
+
+mod parts;
+
+use parts::{Part, rewritten};
+use saved_parts::Version;
+use saved_values::Broken;
+use serde_json::Value;
+use std::alloc::Global;
+use std::io;
+
+/// The version and the part that a line names, and the text of its value.
+#[derive(Clone, Copy)]
+struct Request<'a> {
+    version: Version,
+    part: Part,
+    text: &'a str,
+}
+
+fn version_of(word: &str) -> Option<Version> {
+    match word {
+        "1" => Some(Version::First),
+        "2" => Some(Version::Second),
+        _ => None,
+    }
+}
+
+fn request_of(line: &str) -> Option<Request<'_>> {
+    let (version, rest) = line.split_once('\t')?;
+    let (part, text) = rest.split_once('\t')?;
+    Some(Request {
+        version: version_of(version)?,
+        part: Part::of_word(part)?,
+        text,
+    })
+}
+
+/// What is told of a value.
+fn answer(alloc: Global, request: &Request) -> Result<String, Broken> {
+    let Ok(value) = Value::from_str(alloc, request.text) else {
+        return Ok(format!(in alloc; "no JSON")?);
+    };
+    match rewritten(alloc, request.version, request.part, &value) {
+        Ok(written) => Ok(written.to_string(alloc)?),
+        Err(Broken::Clause(clause)) => {
+            let number = clause.number();
+            Ok(format!(in alloc; "clause {number}")?)
+        }
+        Err(Broken::NoMemory) => Err(Broken::NoMemory),
+    }
+}
+
+fn main(rt: HostRuntime) -> io::Result<()> {
+    for line in rt.lines(rt.alloc()) {
+        let line = line?;
+        match request_of(line.as_str()) {
+            Some(request) => match answer(rt.alloc(), &request) {
+                Ok(told) => println!(rt; "{told}")?,
+                Err(_) => println!(rt; "no memory")?,
+            },
+            None => println!(rt; "no part")?,
+        }
+    }
+    Ok(())
+}

@@ -1,0 +1,202 @@
+//! Saved worlds and their parts: each read, and what was read written.
+
+use body_handles::Place;
+use contacts_base::{ContactEntry, Surface};
+use fixed_geom::Refusal;
+use islands::{IslandState, Label};
+use plain_world::BodyJoint;
+use saved_parts::{
+    Membership, SavedContact, SavedJoint, Version, bodies_value, contacts_value, joints_value,
+    read_bodies, read_contacts, read_joints, read_totals, totals_value,
+};
+use saved_values::{Broken, Clause, Reader};
+use serde_json::Value;
+use std::alloc::Global;
+use world_file::{read, write};
+
+/// How many ticks a mover may have been slow.
+const MOST_TICKS: u64 = 1_000;
+
+/// The places of eight bodies.
+const PLACES: [Place; 8] = [Place {
+    generation: 1,
+    live: true,
+}; 8];
+
+/// A saved world, or a part of one.
+#[derive(Clone, Copy, Debug, PartialEq, Eq)]
+pub enum Part {
+    Bodies,
+    Joints,
+    Contacts,
+    Totals,
+    World,
+}
+
+impl Part {
+    pub fn of_word(word: &str) -> Option<Part> {
+        match word {
+            "bodies" => Some(Part::Bodies),
+            "joints" => Some(Part::Joints),
+            "contacts" => Some(Part::Contacts),
+            "ledger" => Some(Part::Totals),
+            "world" => Some(Part::World),
+            _ => None,
+        }
+    }
+}
+
+/// A part's value, read and written again, or the first clause that it breaks.
+pub fn rewritten(
+    alloc: Global,
+    version: Version,
+    part: Part,
+    value: &Value,
+) -> Result<Value, Broken> {
+    let mut reader = Reader::new();
+    let written = match part {
+        Part::Bodies => bodies(alloc, &mut reader, version, value)?,
+        Part::Joints => joints(alloc, &mut reader, version, value)?,
+        Part::Contacts => contacts(alloc, &mut reader, version, value)?,
+        Part::Totals => totals(alloc, &mut reader, value)?,
+        Part::World => world(alloc, value)?,
+    };
+    reader.settle(Clause::Momentum)?;
+    Ok(written)
+}
+
+fn written(value: Result<Value, Refusal>) -> Result<Value, Broken> {
+    match value {
+        Ok(value) => Ok(value),
+        Err(_) => Err(Broken::NoMemory),
+    }
+}
+
+fn state_of(membership: Membership) -> IslandState {
+    if membership.asleep {
+        IslandState::Asleep
+    } else if membership.loose {
+        IslandState::Loose
+    } else {
+        IslandState::Whole
+    }
+}
+
+fn label_of(membership: Membership) -> Option<Label> {
+    match membership.island {
+        Some(name) => Some(Label {
+            name,
+            state: state_of(membership),
+        }),
+        None => None,
+    }
+}
+
+fn labels_of(alloc: Global, memberships: &[Membership]) -> Result<Vec<Option<Label>>, Broken> {
+    let mut labels = Vec::new(alloc);
+    for membership in memberships {
+        labels.push(label_of(*membership))?;
+    }
+    Ok(labels)
+}
+
+fn bodies(
+    alloc: Global,
+    reader: &mut Reader,
+    version: Version,
+    value: &Value,
+) -> Result<Value, Broken> {
+    let saved = read_bodies(alloc, reader, Some(value), version, MOST_TICKS)?;
+    let labels = labels_of(alloc, &saved.memberships)?;
+    written(bodies_value(alloc, &saved.places, &saved.bodies, &labels))
+}
+
+/// The joints of what was read, and the colour of each.
+#[derive(Drop)]
+struct JointLists {
+    joints: Vec<Option<BodyJoint>>,
+    colours: Vec<Option<u8>>,
+}
+
+fn joint_lists(alloc: Global, saved: &[Option<SavedJoint>]) -> Result<JointLists, Broken> {
+    let mut lists = JointLists {
+        joints: Vec::new(alloc),
+        colours: Vec::new(alloc),
+    };
+    for entry in saved {
+        lists.joints.push(match entry {
+            Some(joint) => Some(joint.joint),
+            None => None,
+        })?;
+        lists.colours.push(match entry {
+            Some(joint) => joint.colour,
+            None => None,
+        })?;
+    }
+    Ok(lists)
+}
+
+/// The joints are written with the ids of bodies that are there for the first time.
+fn joints(
+    alloc: Global,
+    reader: &mut Reader,
+    version: Version,
+    value: &Value,
+) -> Result<Value, Broken> {
+    let saved = read_joints(alloc, reader, Some(value), version)?;
+    let lists = joint_lists(alloc, &saved.joints)?;
+    written(joints_value(alloc, &PLACES, &saved.places, &lists.joints, &lists.colours))
+}
+
+/// The contacts of what was read, and the colour of each.
+#[derive(Drop)]
+struct ContactLists {
+    contacts: Vec<ContactEntry>,
+    colours: Vec<Option<u8>>,
+}
+
+/// A contact without its surface, which no file has.
+fn entry_of(saved: &SavedContact) -> ContactEntry {
+    ContactEntry {
+        key: saved.key,
+        surface: Surface {
+            friction: 0,
+            restitution: 0,
+        },
+        contact: saved.contact,
+    }
+}
+
+fn contact_lists(alloc: Global, saved: &[SavedContact]) -> Result<ContactLists, Broken> {
+    let mut lists = ContactLists {
+        contacts: Vec::new(alloc),
+        colours: Vec::new(alloc),
+    };
+    for contact in saved {
+        lists.contacts.push(entry_of(contact))?;
+        lists.colours.push(contact.colour)?;
+    }
+    Ok(lists)
+}
+
+fn contacts(
+    alloc: Global,
+    reader: &mut Reader,
+    version: Version,
+    value: &Value,
+) -> Result<Value, Broken> {
+    let saved = read_contacts(alloc, reader, Some(value), version)?;
+    let lists = contact_lists(alloc, &saved)?;
+    written(contacts_value(alloc, &lists.contacts, &lists.colours))
+}
+
+fn totals(alloc: Global, reader: &mut Reader, value: &Value) -> Result<Value, Broken> {
+    let saved = read_totals(reader, Some(value));
+    written(totals_value(alloc, &saved))
+}
+
+/// A world says its version itself.
+fn world(alloc: Global, value: &Value) -> Result<Value, Broken> {
+    let (plain, totals) = read(alloc, value)?;
+    written(write(alloc, &plain, &totals))
+}

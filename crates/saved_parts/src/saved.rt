@@ -1,0 +1,59 @@
+//! What is read of a saved world, before its parts are held against one another.
+
+use body_handles::{Handle, Place};
+use contacts_base::{Contact, ContactKey};
+use plain_world::{Body, BodyJoint};
+
+/// What a body says of its island.
+#[derive(Clone, Copy, Debug, PartialEq, Eq)]
+pub struct Membership {
+    /// The name of the island, of a mover.
+    pub island: Option<u32>,
+    pub loose: bool,
+    pub asleep: bool,
+}
+
+/// Where no body is.
+pub const NO_MEMBERSHIP: Membership = Membership {
+    island: None,
+    loose: false,
+    asleep: false,
+};
+
+/// The bodies by slot.
+#[derive(Drop)]
+pub struct SavedBodies {
+    pub places: Vec<Place>,
+    pub bodies: Vec<Option<Body>>,
+    /// By slot what the body there says of its island.
+    pub memberships: Vec<Membership>,
+}
+
+/// A joint as it was read.
+#[derive(Clone, Copy, Debug, PartialEq, Eq)]
+pub struct SavedJoint {
+    /// The ids of its bodies, of which the joint has the slots.
+    pub a: Handle,
+    pub b: Handle,
+    pub joint: BodyJoint,
+    pub colour: Option<u8>,
+}
+
+/// The joints by slot.
+#[derive(Drop)]
+pub struct SavedJoints {
+    pub places: Vec<Place>,
+    pub joints: Vec<Option<SavedJoint>>,
+}
+
+/// A contact as it was read.
+#[derive(Clone, Copy, Debug, PartialEq, Eq)]
+pub struct SavedContact {
+    pub key: ContactKey,
+    pub touching: bool,
+    pub colour: Option<u8>,
+    /// The first two of its points.
+    pub contact: Contact,
+    /// How many points it has.
+    pub points: usize,
+}

@@ -1,0 +1,4 @@
+pub mod Asks
+pub mod Reading
+pub mod Written
+pub mod Texts

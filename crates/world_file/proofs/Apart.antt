@@ -1,0 +1,59 @@
+-- Ties from the last to the first: whose movers are marked, and whether no two of a colour share one.
+use Rattle.std.proofs.Common.{◌≡◌, ℕ, suc, ◌+◌, ◌<◌, ◌&&◌, ◌||◌, Bool, true, false, not, cond, List, ◌∷◌, length, drop, get_or, refl, sym, ap, ◌∙◌, arith, drop-cons}
+use Rattle.std.specs.Prelude.{slice_index_or}
+use Rattle.std.proofs.lemmas.Bool.{false≢true}
+use Rattle.std.specs.List.{list_any}
+use Rattle.graph_colours.specs.Marks.{AreMarks, is_marked}
+use Rattle.graph_colours.specs.Movers.{has_mover}
+use Rattle.graph_colours.specs.declared.member.Member.{Member}
+use Rattle.graph_colours.proofs.MarkLemmas.{free_is_unmarked}
+use Rattle.contacts.specs.declared.constraint.Constraint.{Constraint}
+use Rattle.world_file.specs.Fitting.{are_apart, coloured, has_colour}
+use Rattle.world_file.specs.Marked.{IsTieMarked, is_unshared}
+use Rattle.world_file.specs.declared.ties.Tie.{Tie}
+
+apart_by : (b : Bool) (t : Tie) (ms : List (Member Constraint)) (used : List Bool) → AreMarks ms used → (cond b (not (is_marked used t.member.movers)) true && are_apart ms) ≡ are_apart (cond b (t.member ∷ ms) ms)
+apart_by true t ms used marks = ap (λ x. x && are_apart ms) (free_is_unmarked ms used t.member.movers marks)
+apart_by false t ms used marks = refl
+
+marks_by : (b : Bool) (t : Tie) (ms : List (Member Constraint)) (u : Bool) (s : ℕ) → u ≡ list_any (λ m. has_mover m.movers s) ms → cond b (has_mover t.member.movers s || u) u ≡ list_any (λ m. has_mover m.movers s) (cond b (t.member ∷ ms) ms)
+marks_by true t ms u s h = ap (λ x. has_mover t.member.movers s || x) h
+marks_by false t ms u s h = h
+
+cut : (ties : List Tie) (k left : ℕ) (d : Tie) → k < length ties → k + 1 ≡ left → drop k ties ≡ get_or ties k d ∷ drop left ties
+cut ties k left d short next =
+    let at : drop k ties ≡ get_or ties k d ∷ drop (suc k) ties = drop-cons ties k d short in
+    let here : suc k ≡ left = omega arith in
+    at ∙ ap (λ n. get_or ties k d ∷ drop n ties) here
+
+apart_step : (ties : List Tie) (colour k left : ℕ) (d : Tie) (used : List Bool) (apart : Bool) → k < length ties → k + 1 ≡ left → AreMarks (coloured (drop left ties) colour) used → apart ≡ are_apart (coloured (drop left ties) colour)
+    → (is_unshared used colour (get_or ties k d) && apart) ≡ are_apart (coloured (drop k ties) colour)
+apart_step ties colour k left d used apart short next marks e =
+    let t : Tie = get_or ties k d in
+    ap (λ x. is_unshared used colour t && x) e
+    ∙ apart_by (has_colour colour t.colour) t (coloured (drop left ties) colour) used marks
+    ∙ ap (λ ts. are_apart (coloured ts colour)) (sym (cut ties k left d short next))
+
+by_true : (u apart whole : Bool) → u ≡ true → (u && apart) ≡ whole → apart ≡ whole
+by_true true apart whole h e = e
+by_true false apart whole h e = absurd (false≢true h)
+
+by_false : (u apart whole : Bool) → u ≡ false → (u && apart) ≡ whole → u ≡ whole
+by_false true apart whole h e = absurd (false≢true (sym h))
+by_false false apart whole h e = e
+
+pub apart_then : (ties : List Tie) (colour k left : ℕ) (d : Tie) (used : List Bool) (u apart : Bool) → k < length ties → k + 1 ≡ left → AreMarks (coloured (drop left ties) colour) used → apart ≡ are_apart (coloured (drop left ties) colour)
+    → u ≡ is_unshared used colour (get_or ties k d) → u ≡ true → apart ≡ are_apart (coloured (drop k ties) colour)
+apart_then ties colour k left d used u apart short next marks e is h = by_true u apart (are_apart (coloured (drop k ties) colour)) h (ap (λ x. x && apart) is ∙ apart_step ties colour k left d used apart short next marks e)
+
+pub apart_else : (ties : List Tie) (colour k left : ℕ) (d : Tie) (used : List Bool) (u apart : Bool) → k < length ties → k + 1 ≡ left → AreMarks (coloured (drop left ties) colour) used → apart ≡ are_apart (coloured (drop left ties) colour)
+    → u ≡ is_unshared used colour (get_or ties k d) → u ≡ false → u ≡ are_apart (coloured (drop k ties) colour)
+apart_else ties colour k left d used u apart short next marks e is h = by_false u apart (are_apart (coloured (drop k ties) colour)) h (ap (λ x. x && apart) is ∙ apart_step ties colour k left d used apart short next marks e)
+
+pub marks_step : (ties : List Tie) (colour k left : ℕ) (d : Tie) (used new : List Bool) → k < length ties → k + 1 ≡ left → AreMarks (coloured (drop left ties) colour) used → IsTieMarked colour (get_or ties k d) used new
+    → AreMarks (coloured (drop k ties) colour) new
+marks_step ties colour k left d used new short next marks marked s =
+    let t : Tie = get_or ties k d in
+    marked s
+    ∙ marks_by (has_colour colour t.colour) t (coloured (drop left ties) colour) (slice_index_or used s false) s (marks s)
+    ∙ ap (λ ts. list_any (λ (m : Member Constraint). has_mover m.movers s) (coloured ts colour)) (sym (cut ties k left d short next))

@@ -1,0 +1,9 @@
+pub mod Listed
+pub mod EarlyLemmas
+pub mod FewLemmas
+pub mod Apart
+pub mod Numbered
+pub mod Alone
+pub mod ReadingLaws
+pub mod SumLaws
+pub mod CountLaws

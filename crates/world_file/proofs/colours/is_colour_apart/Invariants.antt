@@ -1,0 +1,14 @@
+use Rattle.std.proofs.Common.{◌≡◌, ◌≤◌, drop, length}
+use Rattle.graph_colours.specs.Marks.{AreMarks}
+use Rattle.world_file.specs.Fitting.{are_apart, coloured}
+use Rattle.world_file.proofs.colours.is_colour_apart.Given as goal
+
+abbrev pub invariant-loop-left : goal.invariant-loop-left
+invariant-loop-left l = record {
+  below : l.left ≤ length l.ties;
+  apart : l.apart ≡ are_apart (coloured (drop l.left l.ties) l.colour);
+  marks : AreMarks (coloured (drop l.left l.ties) l.colour) l.used.items;
+}
+
+abbrev pub decreases-loop-left : goal.decreases-loop-left
+decreases-loop-left l = l.left

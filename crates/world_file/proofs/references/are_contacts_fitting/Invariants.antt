@@ -1,0 +1,7 @@
+use Rattle.std.proofs.Common.{◌≡◌, drop}
+use Rattle.std.specs.List.{list_all}
+use Rattle.world_file.specs.Fitting.{is_contact_fitting}
+use Rattle.world_file.proofs.references.are_contacts_fitting.Given as goal
+
+abbrev pub invariant-loop-saved : goal.invariant-loop-saved
+invariant-loop-saved l = list_all (is_contact_fitting l.bodies) (drop l.saved-index l.contacts) ≡ list_all (is_contact_fitting l.bodies) l.contacts

@@ -1,0 +1,75 @@
+-- Saved worlds: the value of a world, and the world of a value.
+use Rattle.std.specs.Prelude.{ℕ, suc, ◌+◌, List, [], ◌∷◌, map, Option, Some, None, codes, Result, Ok, Err}
+use Rattle.serde_json.specs.Data.{Data}
+use Rattle.contacts.specs.declared.constraint.Constraint.{Constraint}
+use Rattle.contacts.specs.declared.constraint.Constraint.TheVariants.{Joint, Contact}
+use Rattle.contacts_base.specs.declared.contact.ContactEntry.{ContactEntry}
+use Rattle.body_handles.specs.declared.places.Place.{Place}
+use Rattle.graph_colours.specs.declared.limits.TheConstants.{COLOURS}
+use Rattle.impulse_ledger.specs.declared.totals.Totals.{Totals}
+use Rattle.plain_world.specs.Plain.{Plain, colour_of}
+use Rattle.saved_values.specs.Asks.{no_asks}
+use Rattle.saved_values.specs.Written.{natural, object_of, vector_of}
+use Rattle.saved_values.specs.declared.clause.Clause.{Clause}
+use Rattle.saved_parts.specs.SavedContacts.{contacts_of}
+use Rattle.saved_parts.specs.SavedSlots.{bodies_of, joints_of}
+use Rattle.saved_parts.specs.SavedTotals.{totals_of}
+use Rattle.world_file.specs.Fitting.{entry_of, fitting_asks, ids_below, joint_kept, label_of, ties_of}
+use Rattle.world_file.specs.Saved.{Saved, parts_asks, saved_in}
+
+-- ---- the value of a world
+
+-- the colour of each contact
+abbrev pub contact_colours : List (List Constraint) → List ContactEntry → List (Option ℕ)
+contact_colours colours contacts = map (λ (e : ContactEntry). colour_of (Contact e.key) colours) contacts
+
+-- the colour of each joint, from this slot on
+abbrev pub joint_colours : List (List Constraint) → ℕ → List Place → List (Option ℕ)
+joint_colours colours slot [] = []
+joint_colours colours slot (place ∷ places) = colour_of (Joint (record { slot = slot; generation = place.generation })) colours ∷ joint_colours colours (suc slot) places
+
+-- the number of the version that is written
+abbrev pub written_version : ℕ
+written_version = 2
+
+-- a world with the totals of its ledger
+unfoldable pub value_of : Plain → Totals → Data
+value_of p t = object_of (
+    (codes "bodies", bodies_of p.places p.bodies p.islands)
+    ∷ (codes "call", natural p.calls)
+    ∷ (codes "contacts", contacts_of p.contacts (contact_colours p.colours p.contacts))
+    ∷ (codes "gravity", vector_of p.gravity)
+    ∷ (codes "joints", joints_of p.places p.joint_places p.joints (joint_colours p.colours 0 p.joint_places))
+    ∷ (codes "ledger", totals_of t)
+    ∷ (codes "step", natural p.steps)
+    ∷ (codes "version", natural written_version)
+    ∷ [])
+
+-- ---- the world of a value
+
+-- the world of what was read
+abbrev pub plain_of : Saved → Plain
+plain_of s = record {
+  places = s.places;
+  bodies = s.bodies;
+  joint_places = s.joint_places;
+  joints = map joint_kept s.joints;
+  contacts = map (entry_of s.bodies) s.contacts;
+  islands = map label_of s.memberships;
+  colours = ids_below (ties_of s) (COLOURS + 1);
+  gravity = s.gravity;
+  steps = s.steps;
+  calls = s.calls;
+}
+
+-- the first clause that a value breaks: those of its parts, and then those of the whole
+abbrev pub broken_by : Data → Option Clause
+broken_by d = (fitting_asks (saved_in d) (parts_asks d no_asks)).broken
+
+abbrev pub read_unless : Option Clause → Saved → Result (Plain × Totals) Clause
+read_unless None s = Ok (plain_of s, s.totals)
+read_unless (Some clause) s = Err clause
+
+-- a world and the totals of its ledger, or the first clause that the value breaks
+unfoldable pub read_of : Data → Result (Plain × Totals) Clause
+read_of d = read_unless (broken_by d) (saved_in d)

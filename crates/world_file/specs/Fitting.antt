@@ -1,0 +1,307 @@
+-- Whether the parts of a saved world fit together.
+use Rattle.std.specs.Prelude.{ℕ, zero, suc, ◌==◌, ◌&&◌, ◌||◌, ◌++◌, Bool, true, false, not, cond, nat_le, nat_lt, List, [], ◌∷◌, map, slice_get, Option, Some, None, is_some, option_map, unwrap_or, ℤ, pos, int_le, unsigned_abs}
+use Rattle.std.specs.List.{flat_map, list_all}
+use Rattle.std.specs.Option.{is_none}
+use Rattle.std.specs.Ordering.{int_eq}
+use Rattle.body_handles.specs.Places.{is_live}
+use Rattle.body_handles.specs.declared.places.Place.{Place}
+use Rattle.contacts.specs.declared.constraint.Constraint.{Constraint}
+use Rattle.contacts.specs.declared.constraint.Constraint.TheVariants.{Joint, Contact}
+use Rattle.contacts_base.specs.Keys.{key_number}
+use Rattle.contacts_base.specs.Surfaces.{mixed}
+use Rattle.contacts_base.specs.declared.contact.ContactEntry.{ContactEntry}
+use Rattle.contacts_base.specs.declared.contact.ContactPoint.{ContactPoint}
+use Rattle.contacts_base.specs.declared.key.ShapeId.{ShapeId}
+use Rattle.contacts_base.specs.declared.limits.TheConstants.{MAX_FRICTION, MAX_RESTITUTION}
+use Rattle.contacts_base.specs.declared.surface.Surface.{Surface}
+use Rattle.graph_colours.specs.Members.{is_free}
+use Rattle.graph_colours.specs.declared.limits.TheConstants.{COLOURS}
+use Rattle.graph_colours.specs.declared.member.Member.{Member}
+use Rattle.impulse_ledger.specs.Totals.{over_causes, total_in}
+use Rattle.impulse_ledger.specs.declared.totals.Totals.{Totals}
+use Rattle.islands.specs.Labels.{Labels, label_at, merged_all, own_label}
+use Rattle.islands.specs.Links.{Edges}
+use Rattle.islands.specs.declared.label.IslandState.{IslandState}
+use Rattle.islands.specs.declared.label.IslandState.TheVariants.{Asleep, Loose, Whole}
+use Rattle.islands.specs.declared.label.Label.{Label}
+use Rattle.plain_world.specs.Bodies.{momentum_x, momentum_y}
+use Rattle.plain_world.specs.Kinds.{is_dynamic}
+use Rattle.plain_world.specs.Slots.{body_at}
+use Rattle.plain_world.specs.declared.body.Body.{Body}
+use Rattle.plain_world.specs.declared.joint.BodyJoint.{BodyJoint}
+use Rattle.saved_values.specs.Asks.{Ask, all_asked, asked}
+use Rattle.saved_values.specs.declared.clause.Clause.TheVariants.{Colours, Islands, Links, Memberships, Momentum, References}
+use Rattle.saved_parts.specs.SavedSlots.{no_membership}
+use Rattle.saved_parts.specs.declared.saved.Membership.{Membership}
+use Rattle.saved_parts.specs.declared.saved.SavedContact.{SavedContact}
+use Rattle.saved_parts.specs.declared.saved.SavedJoint.{SavedJoint}
+use Rattle.shapes.specs.declared.shape.ShapeDef.{ShapeDef}
+use Rattle.sleep_wake.specs.Acting.{links_of}
+use Rattle.solver_sets.specs.Ties.{contact_movers, joint_movers, tie_with}
+use Rattle.world_file.specs.Saved.{Saved}
+use Rattle.world_file.specs.declared.ties.Tie.{Tie}
+
+-- ---- joints and contacts are of what is there
+
+-- a joint is between two different bodies that are there
+abbrev pub is_joint_fitting : List Place → Option SavedJoint → Bool
+is_joint_fitting places None = true
+is_joint_fitting places (Some j) = is_live places j.a && (is_live places j.b && not (j.a.slot == j.b.slot))
+
+-- one point or two of different candidates
+abbrev pub are_points : Option ContactPoint → Option ContactPoint → ℕ → Bool
+are_points None second count = false
+are_points (Some p) None count = true
+are_points (Some p) (Some q) count = (count == 2) && not (p.candidate == q.candidate)
+
+-- a contact has points just if it touches
+abbrev pub has_points : SavedContact → Bool
+has_points c = cond c.touching (are_points c.contact.first c.contact.second c.points) (c.points == 0)
+
+-- a shape of an enabled body, if there is one of this name
+abbrev pub shape_of_body : Option Body → ℕ → Option ShapeDef
+shape_of_body None index = None
+shape_of_body (Some b) index = cond b.enabled (slice_get b.shapes index) None
+
+abbrev pub shape_named : List (Option Body) → ShapeId → Option ShapeDef
+shape_named bodies id = shape_of_body (body_at bodies id.slot) id.index
+
+abbrev pub is_dynamic_body : Option Body → Bool
+is_dynamic_body None = false
+is_dynamic_body (Some b) = is_dynamic b.kind
+
+-- a contact is of shapes of two enabled bodies, the lesser first, one of them dynamic
+abbrev pub is_contact_fitting : List (Option Body) → SavedContact → Bool
+is_contact_fitting bodies c =
+    is_some (shape_named bodies c.key.first)
+    && (is_some (shape_named bodies c.key.second)
+    && (nat_lt c.key.first.slot c.key.second.slot
+    && ((is_dynamic_body (body_at bodies c.key.first.slot) || is_dynamic_body (body_at bodies c.key.second.slot))
+    && has_points c)))
+
+abbrev pub is_above : Option ℕ → ℕ → Bool
+is_above None number = true
+is_above (Some last) number = nat_lt last number
+
+-- each key is above those before it
+abbrev pub are_rising_after : Option ℕ → List SavedContact → Bool
+are_rising_after last [] = true
+are_rising_after last (c ∷ contacts) = cond (is_above last (key_number c.key)) (are_rising_after (Some (key_number c.key)) contacts) false
+
+abbrev pub references_keep : Saved → Bool
+references_keep s = list_all (is_joint_fitting s.places) s.joints && (list_all (is_contact_fitting s.bodies) s.contacts && are_rising_after None s.contacts)
+
+-- ---- the constraints that act if their movers are awake
+
+abbrev pub tie_of : Option (Member Constraint) → Option ℕ → Option Tie
+tie_of member colour = option_map (λ m. record { member = m; colour = colour }) member
+
+abbrev pub joint_tie : List (Option Body) → ℕ → Place → Option SavedJoint → Option Tie
+joint_tie bodies slot place None = None
+joint_tie bodies slot place (Some j) = tie_of (tie_with (Joint (record { slot = slot; generation = place.generation })) (joint_movers bodies j.joint)) j.colour
+
+-- those of the joints from this slot on
+abbrev pub joint_ties : List (Option Body) → ℕ → List Place → List (Option SavedJoint) → List (Option Tie)
+joint_ties bodies slot [] joints = []
+joint_ties bodies slot (place ∷ places) [] = []
+joint_ties bodies slot (place ∷ places) (o ∷ joints) = joint_tie bodies slot place o ∷ joint_ties bodies (suc slot) places joints
+
+abbrev pub contact_tie : List (Option Body) → SavedContact → Option Tie
+contact_tie bodies c = cond c.touching (tie_of (tie_with (Contact c.key) (contact_movers bodies c.key)) c.colour) None
+
+abbrev pub listed : Option Tie → List Tie
+listed None = []
+listed (Some t) = t ∷ []
+
+abbrev pub contact_listed : List (Option Body) → SavedContact → List Tie
+contact_listed bodies c = listed (contact_tie bodies c)
+
+-- joints by slot, and then contacts by key
+abbrev pub ties_in : List (Option Body) → List Place → List (Option SavedJoint) → List SavedContact → List Tie
+ties_in bodies places joints contacts = flat_map listed (joint_ties bodies 0 places joints) ++ flat_map (contact_listed bodies) contacts
+
+abbrev pub ties_of : Saved → List Tie
+ties_of s = ties_in s.bodies s.joint_places s.joints s.contacts
+
+abbrev pub members_of : List Tie → List (Member Constraint)
+members_of ties = map (λ (t : Tie). t.member) ties
+
+-- ---- islands
+
+abbrev pub membership_at : List Membership → ℕ → Membership
+membership_at memberships slot = unwrap_or (slice_get memberships slot) no_membership
+
+abbrev pub is_same_name : Option ℕ → Option ℕ → Bool
+is_same_name None None = true
+is_same_name None (Some b) = false
+is_same_name (Some a) None = false
+is_same_name (Some a) (Some b) = a == b
+
+abbrev pub is_same_truth : Bool → Bool → Bool
+is_same_truth true b = b
+is_same_truth false b = not b
+
+abbrev pub is_same_membership : Membership → Membership → Bool
+is_same_membership a b = is_same_name a.island b.island && (is_same_truth a.loose b.loose && is_same_truth a.asleep b.asleep)
+
+-- its island is named by a slot that isn't above its own, where a mover says the same of the same island
+abbrev pub is_named_well : List Membership → ℕ → Option ℕ → Membership → Bool
+is_named_well memberships slot None m = true
+is_named_well memberships slot (Some name) m = nat_le name slot && is_same_membership (membership_at memberships name) m
+
+-- from this slot on
+abbrev pub are_named_well : List Membership → ℕ → List Membership → Bool
+are_named_well memberships slot [] = true
+are_named_well memberships slot (m ∷ rest) = is_named_well memberships slot m.island m && are_named_well memberships (suc slot) rest
+
+-- the movers of a tie are in one island
+abbrev pub is_link_kept : List Membership → ℕ → Option ℕ → Bool
+is_link_kept memberships first None = true
+is_link_kept memberships first (Some second) = is_same_name (membership_at memberships first).island (membership_at memberships second).island
+
+abbrev pub is_tie_kept : List Membership → Tie → Bool
+is_tie_kept memberships t = is_link_kept memberships t.member.movers.first t.member.movers.second
+
+-- each mover for itself
+abbrev pub alone_at : ℕ → Option ℕ → Option Label
+alone_at slot island = option_map (λ name. own_label slot) island
+
+abbrev pub apart_from : ℕ → List Membership → Labels
+apart_from slot [] = []
+apart_from slot (m ∷ rest) = alone_at slot m.island ∷ apart_from (suc slot) rest
+
+-- by slot all that the links join
+abbrev pub components_of : List Membership → Edges → Labels
+components_of memberships links = merged_all (apart_from 0 memberships) links
+
+abbrev pub is_named : Option Label → ℕ → Bool
+is_named None name = false
+is_named (Some l) name = l.name == name
+
+-- an island that isn't loose is all that its links join, and one that sleeps isn't loose
+abbrev pub is_whole_at : Option Label → Option ℕ → Membership → Bool
+is_whole_at component None m = true
+is_whole_at component (Some name) m = cond m.loose (not m.asleep) (is_named component name)
+
+abbrev pub are_whole : Labels → ℕ → List Membership → Bool
+are_whole components slot [] = true
+are_whole components slot (m ∷ rest) = is_whole_at (label_at components slot) m.island m && are_whole components (suc slot) rest
+
+-- ---- colours
+
+-- what doesn't act has no colour
+abbrev pub is_colourless : Option Tie → Option ℕ → Bool
+is_colourless None colour = is_none colour
+is_colourless (Some t) colour = true
+
+abbrev pub is_contact_colourless : List (Option Body) → SavedContact → Bool
+is_contact_colourless bodies c = is_colourless (contact_tie bodies c) c.colour
+
+abbrev pub joint_colour : Option SavedJoint → Option ℕ
+joint_colour None = None
+joint_colour (Some j) = j.colour
+
+abbrev pub are_joints_colourless : List (Option Body) → ℕ → List Place → List (Option SavedJoint) → Bool
+are_joints_colourless bodies slot [] joints = true
+are_joints_colourless bodies slot (place ∷ places) [] = true
+are_joints_colourless bodies slot (place ∷ places) (o ∷ joints) = is_colourless (joint_tie bodies slot place o) (joint_colour o) && are_joints_colourless bodies (suc slot) places joints
+
+-- just the ties of awake movers have colours
+abbrev pub is_coloured_well : List Membership → Tie → Bool
+is_coloured_well memberships t = is_same_truth (is_some t.colour) (not (membership_at memberships t.member.movers.first).asleep)
+
+abbrev pub has_colour : ℕ → Option ℕ → Bool
+has_colour colour None = false
+has_colour colour (Some other) = other == colour
+
+-- the members of a colour
+abbrev pub coloured : List Tie → ℕ → List (Member Constraint)
+coloured [] colour = []
+coloured (t ∷ ties) colour = cond (has_colour colour t.colour) (t.member ∷ coloured ties colour) (coloured ties colour)
+
+-- no two of a list share a mover
+abbrev pub are_apart : List (Member Constraint) → Bool
+are_apart [] = true
+are_apart (m ∷ ms) = is_free ms m.movers && are_apart ms
+
+-- for each colour below this one the constraints that have it
+abbrev pub colours_below : List Tie → ℕ → List (List (Member Constraint))
+colours_below ties zero = []
+colours_below ties (suc n) = colours_below ties n ++ coloured ties n ∷ []
+
+abbrev pub colours_keep : Saved → Bool
+colours_keep s =
+    are_joints_colourless s.bodies 0 s.joint_places s.joints
+    && (list_all (is_contact_colourless s.bodies) s.contacts
+    && (list_all (is_coloured_well s.memberships) (ties_of s)
+    && list_all are_apart (colours_below (ties_of s) COLOURS)))
+
+-- ---- momentum
+
+-- the sum of the ledger
+abbrev pub sum_x : Totals → ℤ
+sum_x t = over_causes (λ cause. (total_in cause t).x)
+
+abbrev pub sum_y : Totals → ℤ
+sum_y t = over_causes (λ cause. (total_in cause t).y)
+
+-- the movers' momentum is the sum of the ledger
+abbrev pub momentum_fits : List (Option Body) → Totals → Bool
+momentum_fits bodies t = int_eq (momentum_x bodies) (sum_x t) && int_eq (momentum_y bodies) (sum_y t)
+
+abbrev pub momentum_keeps : Saved → Bool
+momentum_keeps s = momentum_fits s.bodies s.totals
+
+-- ---- all of it
+
+abbrev pub fitting_asks : Saved → Ask
+fitting_asks s = all_asked (
+    asked (references_keep s) References
+    ∷ asked (are_named_well s.memberships 0 s.memberships) Memberships
+    ∷ asked (list_all (is_tie_kept s.memberships) (ties_of s)) Links
+    ∷ asked (are_whole (components_of s.memberships (links_of (members_of (ties_of s)))) 0 s.memberships) Islands
+    ∷ asked (colours_keep s) Colours
+    ∷ asked (momentum_keeps s) Momentum
+    ∷ [])
+
+-- ---- what it makes
+
+abbrev pub surface_of : ShapeDef → Surface
+surface_of def = record { friction = def.friction; restitution = def.restitution }
+
+abbrev pub is_surface : Surface → Bool
+is_surface s =
+    (int_le (pos 0) s.friction && nat_le (unsigned_abs s.friction) MAX_FRICTION)
+    && (int_le (pos 0) s.restitution && nat_le (unsigned_abs s.restitution) MAX_RESTITUTION)
+
+abbrev pub no_surface : Surface
+no_surface = record { friction = pos 0; restitution = pos 0 }
+
+abbrev pub mixed_surface : Surface → Surface → Surface
+mixed_surface a b = cond (is_surface a && is_surface b) (mixed a b) no_surface
+
+-- that of the two shapes, whose numbers are within their limits
+abbrev pub mixed_of : Option ShapeDef → Option ShapeDef → Surface
+mixed_of None second = no_surface
+mixed_of (Some first) None = no_surface
+mixed_of (Some first) (Some second) = mixed_surface (surface_of first) (surface_of second)
+
+abbrev pub entry_of : List (Option Body) → SavedContact → ContactEntry
+entry_of bodies c = record { key = c.key; surface = mixed_of (shape_named bodies c.key.first) (shape_named bodies c.key.second); contact = c.contact }
+
+abbrev pub joint_kept : Option SavedJoint → Option BodyJoint
+joint_kept o = option_map (λ (j : SavedJoint). j.joint) o
+
+abbrev pub state_of : Membership → IslandState
+state_of m = cond m.asleep Asleep (cond m.loose Loose Whole)
+
+abbrev pub label_of : Membership → Option Label
+label_of m = option_map (λ name. record { name = name; state = state_of m }) m.island
+
+abbrev pub ids_coloured : List Tie → ℕ → List Constraint
+ids_coloured ties colour = map (λ (m : Member Constraint). m.id) (coloured ties colour)
+
+-- for each colour below this one the ids that have it
+abbrev pub ids_below : List Tie → ℕ → List (List Constraint)
+ids_below ties zero = []
+ids_below ties (suc n) = ids_below ties n ++ ids_coloured ties n ∷ []

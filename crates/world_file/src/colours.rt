@@ -1,0 +1,265 @@
+//! The colours of joints and contacts.
+
+ghost use Rattle.std.specs.Prelude.{◌≡◌, ◌≤◌, ◌+◌, ◌++◌, ◌∷◌, [], ℕ, Some, cond, false, nat_eq, length, map, slice_index_or, IfErr, IfOk, OnOk};
+ghost use Rattle.std.specs.List.{list_all};
+ghost use Rattle.std.specs.HashMap.{get};
+ghost use Rattle.contacts.specs.Constraints.{constraint_number};
+ghost use Rattle.contacts.specs.declared.constraint.Constraint.TheVariants.{Joint};
+ghost use Rattle.graph_colours.specs.Marks.{is_marked};
+ghost use Rattle.graph_colours.specs.declared.limits.TheConstants.{COLOURS as most_colours};
+ghost use Rattle.plain_world.specs.Plain.{constraints_of};
+ghost use Rattle.saved_values.specs.declared.clause.Broken.TheVariants.{NoMemory};
+ghost use Rattle.world_file.specs.Files.{contact_colours, joint_colours};
+ghost use Rattle.world_file.specs.Fitting.{are_apart, coloured, colours_below, has_colour, ids_below, ids_coloured};
+ghost use Rattle.world_file.specs.Marked.{
+  AreMarkedToo,
+  IsMarkedToo,
+  IsTieMarked,
+  colour_numbered,
+  contact_colours_by,
+  has_number,
+  is_unshared,
+  joint_colours_by,
+};
+
+use crate::ties::Tie;
+use body_handles::Place;
+use contacts::Constraint;
+use contacts_base::ContactEntry;
+use fixed_geom::Refusal;
+use graph_colours::{Id, Movers, OVERFLOW};
+use plain_world::Plain;
+use saved_values::Broken;
+use std::alloc::Global;
+use std::collections::HashMap;
+
+/// Whether a tie has this colour.
+fn has_colour(tie: Tie, colour: u8) -> bool
+    ensures { result ≡ has_colour colour tie.colour }
+{
+    match tie.colour {
+        Some(other) => other == colour,
+        None => false,
+    }
+}
+
+/// Makes a list of marks at least so long.
+fn grow(used: &mut Vec<bool>, slots: usize) -> Result<(), Broken>
+    ensures same { OnOk result ((s : ℕ) → slice_index_or used.new.items s false ≡ slice_index_or used.old.items s false) }
+    ensures long { OnOk result (slots ≤ length used.new.items) }
+    ensures memory { IfErr result (λ e. e ≡ NoMemory) }
+{
+    let slots = slots.max(used.len());
+    used.resize(slots, false)?;
+    Ok(())
+}
+
+/// Marks a slot.
+fn mark(used: &mut Vec<bool>, slot: u32) -> Result<(), Broken>
+    ensures marked { OnOk result (IsMarkedToo slot used.old.items used.new.items) }
+    ensures memory { IfErr result (λ e. e ≡ NoMemory) }
+{
+    let place = slot as usize;
+    grow(used, place + 1)?;
+    used[place] = true;
+    Ok(())
+}
+
+fn is_slot_marked(used: &[bool], slot: u32) -> bool
+    ensures { result ≡ slice_index_or used.now slot false }
+{
+    match used.get(slot as usize) {
+        Some(mark) => *mark,
+        None => false,
+    }
+}
+
+/// Whether one of the movers is marked.
+fn is_marked(used: &[bool], movers: Movers) -> bool
+    ensures { result ≡ is_marked used.now movers }
+{
+    match movers.second {
+        Some(second) => is_slot_marked(used, movers.first) || is_slot_marked(used, second),
+        None => is_slot_marked(used, movers.first),
+    }
+}
+
+/// Marks the movers.
+fn mark_movers(used: &mut Vec<bool>, movers: Movers) -> Result<(), Broken>
+    ensures marked { OnOk result (AreMarkedToo movers used.old.items used.new.items) }
+    ensures memory { IfErr result (λ e. e ≡ NoMemory) }
+{
+    mark(used, movers.first)?;
+    if let Some(second) = movers.second {
+        mark(used, second)?;
+    }
+    Ok(())
+}
+
+/// Marks the movers of a tie of the colour, and answers whether none of them was marked.
+fn mark_tie(used: &mut Vec<bool>, tie: Tie, colour: u8) -> Result<bool, Broken>
+    ensures unshared { IfOk result (λ unshared. unshared ≡ is_unshared used.old.items colour tie) }
+    ensures marked { OnOk result (IsTieMarked colour tie used.old.items used.new.items) }
+    ensures memory { IfErr result (λ e. e ≡ NoMemory) }
+{
+    if !has_colour(tie, colour) {
+        return Ok(true);
+    }
+    let is_shared = is_marked(used, tie.member.movers);
+    mark_movers(used, tie.member.movers)?;
+    Ok(!is_shared)
+}
+
+/// Whether no two ties of the colour share a mover.
+fn is_colour_apart(alloc: Global, ties: &[Tie], colour: u8) -> Result<bool, Broken>
+    ensures apart { IfOk result (λ apart. apart ≡ are_apart (coloured ties.now colour)) }
+    ensures memory { IfErr result (λ e. e ≡ NoMemory) }
+{
+    let mut used = Vec::new(alloc);
+    let mut apart = true;
+    let mut left = ties.len();
+    while left > 0 {
+        left -= 1;
+        let is_unshared = mark_tie(&mut used, ties[left], colour)?;
+        apart = is_unshared && apart;
+    }
+    Ok(apart)
+}
+
+/// Whether no two ties of one colour share a mover. Those in the overflow may share theirs.
+pub(crate) fn are_apart(alloc: Global, ties: &[Tie]) -> Result<bool, Broken>
+    ensures apart { IfOk result (λ apart. apart ≡ list_all are_apart (colours_below ties.now most_colours)) }
+    ensures memory { IfErr result (λ e. e ≡ NoMemory) }
+{
+    let mut apart = true;
+    for colour in 0..OVERFLOW {
+        let is_apart = is_colour_apart(alloc, ties, colour)?;
+        apart = apart && is_apart;
+    }
+    Ok(apart)
+}
+
+/// Adds the constraint of a tie, if it has the colour.
+fn push_id(ids: &mut Vec<Constraint>, tie: Tie, colour: u8) -> Result<(), Broken>
+    ensures ids { OnOk result (ids.new.items ≡ ids.old.items ++ ids_coloured (tie ∷ []) colour) }
+    ensures memory { IfErr result (λ e. e ≡ NoMemory) }
+{
+    if has_colour(tie, colour) {
+        ids.push(tie.member.id)?;
+    }
+    Ok(())
+}
+
+/// The constraints of a colour.
+fn list_colour(alloc: Global, ties: &[Tie], colour: u8) -> Result<Vec<Constraint>, Broken>
+    ensures ids { IfOk result (λ ids. ids.items ≡ ids_coloured ties.now colour) }
+    ensures memory { IfErr result (λ e. e ≡ NoMemory) }
+{
+    let mut ids = Vec::new(alloc);
+    for tie in ties {
+        push_id(&mut ids, *tie, colour)?;
+    }
+    Ok(ids)
+}
+
+/// For each colour the constraints that have it, and last those in the overflow.
+pub(crate) fn list_colours(alloc: Global, ties: &[Tie]) -> Result<Vec<Vec<Constraint>>, Broken>
+    ensures colours { IfOk result (λ colours. constraints_of colours.items ≡ ids_below ties.now (most_colours + 1)) }
+    ensures memory { IfErr result (λ e. e ≡ NoMemory) }
+{
+    let mut colours = Vec::new(alloc);
+    for colour in 0..=OVERFLOW {
+        colours.push(list_colour(alloc, ties, colour)?)?;
+    }
+    Ok(colours)
+}
+
+/// Puts down the colour of these constraints, by their numbers.
+fn put_colour(
+    by_number: &mut HashMap<u128, u8>,
+    ids: &[Constraint],
+    colour: u8,
+) -> Result<(), Refusal>
+    ensures put { OnOk result ((number : ℕ) → get nat_eq by_number.new number ≡ cond (has_number number ids.now) (Some colour) (get nat_eq by_number.old number)) }
+{
+    for id in ids {
+        by_number.insert(id.number(), colour)?;
+    }
+    Ok(())
+}
+
+/// The colours of a world's constraints by their numbers.
+fn colours_by_number(alloc: Global, plain: &Plain) -> Result<HashMap<u128, u8>, Refusal>
+    requires few { length plain.now.colours ≤ most_colours + 1 }
+    ensures colours { IfOk result (λ by_number. (number : ℕ) → get nat_eq by_number number ≡ colour_numbered number plain.now.colours) }
+{
+    let mut by_number = HashMap::new(alloc);
+    let mut left = OVERFLOW + 1;
+    while left > 0 {
+        left -= 1;
+        put_colour(&mut by_number, plain.members(left as usize), left)?;
+    }
+    Ok(by_number)
+}
+
+fn colour_at(by_number: &HashMap<u128, u8>, number: u128) -> Option<u8>
+    ensures { result ≡ get nat_eq by_number.now number }
+{
+    by_number.get(&number).copied()
+}
+
+/// The colours of the contacts by their places.
+fn list_contact_colours(
+    alloc: Global,
+    contacts: &[ContactEntry],
+    by_number: &HashMap<u128, u8>,
+) -> Result<Vec<Option<u8>>, Refusal>
+    ensures { IfOk result (λ colours. colours.items ≡ contact_colours_by (get nat_eq by_number.now) contacts.now) }
+{
+    let mut colours = Vec::new(alloc);
+    for entry in contacts {
+        colours.push(colour_at(by_number, Constraint::Contact(entry.key).number()))?;
+    }
+    Ok(colours)
+}
+
+/// The number of the joint of this generation in a slot.
+fn joint_number(slot: usize, generation: u32) -> u128
+    ensures { result ≡ constraint_number (Joint (record { slot = slot; generation = generation })) }
+{
+    slot as u128 * (1 << 32) + u128::from(generation)
+}
+
+/// The colours of the joints by their slots.
+fn list_joint_colours(
+    alloc: Global,
+    places: &[Place],
+    by_number: &HashMap<u128, u8>,
+) -> Result<Vec<Option<u8>>, Refusal>
+    ensures { IfOk result (λ colours. colours.items ≡ joint_colours_by (get nat_eq by_number.now) 0 places.now) }
+{
+    let mut colours = Vec::new(alloc);
+    for slot in 0..places.len() {
+        colours.push(colour_at(by_number, joint_number(slot, places[slot].generation)))?;
+    }
+    Ok(colours)
+}
+
+/// The colours of a world's joints by their slots, and of its contacts by their places.
+#[derive(Drop)]
+pub(crate) struct ColoursByPlace {
+    pub(crate) joints: Vec<Option<u8>>,
+    pub(crate) contacts: Vec<Option<u8>>,
+}
+
+/// The colours of a world.
+pub(crate) fn colours_of(alloc: Global, plain: &Plain) -> Result<ColoursByPlace, Refusal>
+    requires few { length plain.now.colours ≤ most_colours + 1 }
+    ensures joints { IfOk result (λ colours. colours.joints.items ≡ joint_colours plain.now.colours 0 plain.now.joint_places) }
+    ensures contacts { IfOk result (λ colours. colours.contacts.items ≡ contact_colours plain.now.colours plain.now.contacts) }
+{
+    let by_number = colours_by_number(alloc, plain)?;
+    let joints = list_joint_colours(alloc, plain.joint_places(), &by_number)?;
+    let contacts = list_contact_colours(alloc, plain.contacts(), &by_number)?;
+    Ok(ColoursByPlace { joints, contacts })
+}
