@@ -1,2 +1,2 @@
-mod Ids
+pub mod Ids
 mod Numbers

@@ -25,7 +25,7 @@ use Rattle.saved_values.specs.Written.{corners_of, decimal_of, id_of, integer, n
 use Rattle.saved_values.specs.declared.clause.Clause.{Clause}
 use Rattle.saved_values.specs.declared.clause.Clause.TheVariants.{Form, Limits}
 use Rattle.saved_values.specs.declared.reader.Reader.{Reader}
-use Rattle.saved_worlds.proofs.BackIds.{written_is_read}
+use Rattle.saved_values.proofs.Ids.{written_is_read}
 use Rattle.saved_worlds.proofs.AgainParts.{both_hold}
 
 -- a value is read as x, and nothing is broken

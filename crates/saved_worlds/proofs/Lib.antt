@@ -17,7 +17,6 @@ pub mod AgainParts
 pub mod AgainIslands
 pub mod AgainColours
 pub mod AgainWhole
-pub mod BackIds
 pub mod BackNumbers
 pub mod BackShapes
 pub mod BackParts
