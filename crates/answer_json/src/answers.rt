@@ -7,6 +7,7 @@ use event_feed::Events;
 use fixed_geom::Refusal;
 use impulse_ledger::{Ledger, Total};
 use plain_world::BodyView;
+use serde_json::Value;
 use shape_rays::Hit;
 use std::fmt;
 
@@ -36,6 +37,8 @@ pub enum Answer<'a> {
     Hit(Option<Hit>),
     /// The shapes over a region, ascending.
     Shapes(Vec<ShapeId>),
+    /// A saved world.
+    World(Value),
     /// How many calls a crowd's journal has, and what each of its seats did.
     Crowd(u64, Vec<SeatReport>),
     /// A refused request.

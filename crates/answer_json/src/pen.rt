@@ -8,6 +8,7 @@ use fixed_geom::{Refusal, Rot, Vec2};
 use impulse_ledger::{Cause, Ledger, Total};
 use line_json::Id;
 use plain_world::{BodyView, Course, SetName};
+use serde_json::Value;
 use shape_rays::Hit;
 use std::fmt;
 
@@ -50,6 +51,7 @@ impl<'a, W: fmt::Write> Pen<'a, W> {
             Answer::Ledger(ledger) => self.ledger(ledger),
             Answer::Hit(hit) => self.hit(*hit),
             Answer::Shapes(shapes) => self.shapes(shapes.as_slice()),
+            Answer::World(world) => self.world(world),
             Answer::Crowd(journal, seats) => self.crowd(*journal, seats.as_slice()),
             Answer::Refused(refusal) => self.refusal(*refusal),
             Answer::Bad(line) => self.bad(*line),
@@ -241,6 +243,12 @@ impl<'a, W: fmt::Write> Pen<'a, W> {
             self.shape(*shape);
         }
         self.text("]}");
+    }
+
+    fn world(&mut self, world: &Value) {
+        self.text("{\"world\":");
+        self.value(world);
+        self.text("}");
     }
 
     fn seat(&mut self, seat: &SeatReport) {

@@ -1,5 +1,7 @@
 //! Gives slots out and takes them back.
 
+mod from_places;
+
 ghost use Rattle.std.specs.Prelude.{◌≡◌, ◌+◌, ◌<◌, ◌≤◌, ◌↔◌, [], length, IsTrue, IfOk, IsOk, OnOk, OnErr};
 ghost use Rattle.std.specs.Result.{IsOkUnless};
 ghost use Rattle.body_handles.specs.Places.{lowest, generation_at, places_with, places_without, is_live, IsLive, IsGone};

@@ -86,11 +86,11 @@ picked_rising pick f (e ∷ es) r = cons_rising (number_of e) (pick e) (filter_m
 picked_rise : (pick : ContactEntry → Option ContactKey) → PicksKeys pick → (es : List ContactEntry) → AreKeysRising es → AreRising (filter_map pick es)
 picked_rise pick f es h = increasing_from_rising (map key_number (filter_map pick es)) (picked_rising pick f es (rising_from_increasing (map number_of es) h))
 
-unless_step : (t : Bool) (k j : ContactKey) → cond t None (Some j) ≡ Some k → key_number k ≡ key_number j
+pub unless_step : (t : Bool) (k j : ContactKey) → cond t None (Some j) ≡ Some k → key_number k ≡ key_number j
 unless_step true k j h = cc
 unless_step false k j h = cc
 
-if_step : (t : Bool) (o : Option ContactKey) (k j : ContactKey) → (o ≡ Some k → key_number k ≡ key_number j) → cond t o None ≡ Some k → key_number k ≡ key_number j
+pub if_step : (t : Bool) (o : Option ContactKey) (k j : ContactKey) → (o ≡ Some k → key_number k ≡ key_number j) → cond t o None ≡ Some k → key_number k ≡ key_number j
 if_step true o k j f h = f h
 if_step false o k j f h = cc
 
@@ -108,7 +108,7 @@ one_picked : (o : Option ContactKey) → cons_option o [] ≡ option_to_list o
 one_picked None = refl
 one_picked (Some k) = refl
 
-picked_more : (pick : ContactEntry → Option ContactKey) (es : List ContactEntry) (e : ContactEntry) (o : Option ContactKey) → pick e ≡ o → filter_map pick (es ++ e ∷ []) ≡ filter_map pick es ++ option_to_list o
+pub picked_more : (pick : ContactEntry → Option ContactKey) (es : List ContactEntry) (e : ContactEntry) (o : Option ContactKey) → pick e ≡ o → filter_map pick (es ++ e ∷ []) ≡ filter_map pick es ++ option_to_list o
 picked_more pick es e o h = filter_map-append pick es (e ∷ []) ∙ ap (λ (ks : List ContactKey). filter_map pick es ++ ks) (one_picked (pick e) ∙ ap (λ (p : Option ContactKey). option_to_list p) h)
 
 pub not_in_more : (others es : List ContactEntry) (e : ContactEntry) (found : Option ContactEntry) → found ≡ lookup others e.key → keys_not_in others (es ++ e ∷ []) ≡ keys_not_in others es ++ option_to_list (key_unless found e)

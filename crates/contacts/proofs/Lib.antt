@@ -8,3 +8,10 @@ pub mod StripLemmas
 pub mod SweepLemmas
 pub mod SurfaceLemmas
 pub mod ChangeLemmas
+pub mod MergeLaws
+pub mod KnownLemmas
+pub mod PartLemmas
+pub mod TurnLemmas
+pub mod UpdateLemmas
+pub mod FreshLemmas
+pub mod MarkLemmas

@@ -1,6 +1,10 @@
 pub mod Pairs
 pub mod Sweep
 pub mod Changes
+pub mod Merge
+pub mod Known
+pub mod Turns
+pub mod Fresh
 pub mod Constraints
 pub mod Forbidden
 pub mod Inside

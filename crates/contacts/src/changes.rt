@@ -27,7 +27,7 @@ pub struct Changes {
 }
 
 /// The key of the pair with this number.
-fn key_at(proxies: &[Proxy], code: u64) -> ContactKey
+pub(crate) fn key_at(proxies: &[Proxy], code: u64) -> ContactKey
     requires { IsPair proxies.now code }
     ensures { result ≡ pair_key proxies.now code }
 {
@@ -63,7 +63,7 @@ fn kept_contact(old: Option<&ContactEntry>) -> Contact
 }
 
 /// What the contact of two shapes becomes, which was `old` until now: evaluated anew, if the body of one of them stirs.
-fn contact_with(old: Option<&ContactEntry>, p: &Proxy, q: &Proxy) -> Contact
+pub(crate) fn contact_with(old: Option<&ContactEntry>, p: &Proxy, q: &Proxy) -> Contact
     requires first { IsProxy p.now }
     requires second { IsProxy q.now }
     ensures { result ≡ contact_with (option_copied old.entry) p.now q.now }
@@ -93,7 +93,7 @@ fn entry_with(old: Option<&ContactEntry>, p: &Proxy, q: &Proxy) -> ContactEntry
 }
 
 /// The contact of the pair with this number, whose contact until now was `old`.
-fn pair_entry(old: Option<&ContactEntry>, proxies: &[Proxy], code: u64) -> ContactEntry
+pub(crate) fn pair_entry(old: Option<&ContactEntry>, proxies: &[Proxy], code: u64) -> ContactEntry
     requires proxies { All IsProxy proxies.now }
     requires pair { IsPair proxies.now code }
     ensures { result ≡ entry_with (option_copied old.entry) (proxy_at proxies.now (first_place code)) (proxy_at proxies.now (second_place code)) }
@@ -139,7 +139,7 @@ fn key_if_new(other: Option<&ContactEntry>, entry: &ContactEntry) -> Option<Cont
 }
 
 /// Adds a key, if there is one. Refused 1 where memory is wanting.
-fn push_key(keys: &mut Vec<ContactKey>, key: Option<ContactKey>) -> Result<(), Refusal>
+pub(crate) fn push_key(keys: &mut Vec<ContactKey>, key: Option<ContactKey>) -> Result<(), Refusal>
     ensures pushed { OnOk result (keys.new.items ≡ keys.old.items ++ option_to_list key) }
     ensures memory_only { IsOkUnless result Refusal.NoMemory }
 {

@@ -21,7 +21,7 @@ pub fn pair_number(a: u32, b: u32) -> u64
 }
 
 /// Whether the bodies of two shapes are among these pairs.
-fn is_forbidden(pairs: &[u64], p: &Proxy, q: &Proxy) -> bool
+pub(crate) fn is_forbidden(pairs: &[u64], p: &Proxy, q: &Proxy) -> bool
     requires { IsNonDecreasing pairs.now }
     ensures { result ≡ is_forbidden pairs.now p.now q.now }
 {

@@ -6,10 +6,11 @@ use Rattle.std.proofs.lemmas.List.{get_or-map, length-map}
 use Rattle.std.proofs.lemmas.List.Elements.{All-filter, All-set}
 use Rattle.std.proofs.lemmas.List.Kept.{AllPairs-filter}
 use Rattle.std.proofs.lemmas.Option.{slice_get_within, slice_get-get_or, get_or_from_slice_get}
+use Rattle.contacts_base.specs.declared.contact.Contact.{Contact}
 use Rattle.contacts_base.specs.declared.contact.ContactEntry.{ContactEntry}
 use Rattle.contacts_base.specs.declared.evaluation.Impulses.{Impulses}
 use Rattle.contacts_base.specs.Surfaces.{IsSurface}
-use Rattle.contacts_base.specs.Contacts.{number_of, has_slot, contacts_without, with_points, impulses_set, AreKeysRising, AreContacts}
+use Rattle.contacts_base.specs.Contacts.{number_of, has_slot, contacts_without, with_points, impulses_set, contact_set, AreKeysRising, AreContacts}
 use Rattle.contacts_base.proofs.LookupLemmas.{keys_later}
 
 abbrev Rises : ContactEntry → ContactEntry → Type 0
@@ -59,3 +60,24 @@ pub set_is : (es : List ContactEntry) (i : ℕ) (e f : ContactEntry) (a : Impuls
 set_is es i e f a b lt is same =
     let there : slice_get es i ≡ Some e = slice_get-get_or es i e lt ∙ ap Some (sym is) in
     rw (there, same) refl
+
+-- ---- other points
+
+numbers_put : (i : ℕ) (c : Contact) (es : List ContactEntry) (o : Option ContactEntry) → slice_get es i ≡ o → map number_of (contact_set i c es o) ≡ map number_of es
+numbers_put i c es None h = refl
+numbers_put i c es (Some e) h = number_set es i e (record e { contact = c }) h refl
+
+surfaces_put : (i : ℕ) (c : Contact) (es : List ContactEntry) (o : Option ContactEntry) → slice_get es i ≡ o → All (λ e. IsSurface e.surface) es → All (λ e. IsSurface e.surface) (contact_set i c es o)
+surfaces_put i c es None h all = all
+surfaces_put i c es (Some e) h all =
+    let P : ContactEntry → Type 0 = λ f. IsSurface f.surface in
+    All-set P es i (record e { contact = c }) (subst P (get_or_from_slice_get es i e e h) (all i e (slice_get_within es i e h))) all
+
+pub contacts_put : (i : ℕ) (c : Contact) (es : List ContactEntry) → AreContacts es → AreContacts (contact_set i c es (slice_get es i))
+contacts_put i c es are = record {
+  rising = rw (numbers_put i c es (slice_get es i) refl) are.rising;
+  surfaces = surfaces_put i c es (slice_get es i) refl are.surfaces;
+}
+
+pub put_is : (es : List ContactEntry) (i : ℕ) (e : ContactEntry) (c : Contact) → i < length es → e ≡ get_or es i e → slice_set es i (record e { contact = c }) ≡ contact_set i c es (slice_get es i)
+put_is es i e c lt is = let there : slice_get es i ≡ Some e = slice_get-get_or es i e lt ∙ ap Some (sym is) in rw there refl

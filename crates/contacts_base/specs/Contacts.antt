@@ -3,6 +3,7 @@ use Rattle.std.specs.Prelude.{ℕ, suc, ◌<◌, ◌≤◌, ◌==◌, ◌||◌, 
 use Rattle.std.specs.List.{AllWithin}
 use Rattle.std.specs.List.Sorted.{IsStrictlyIncreasing}
 use Rattle.contacts_base.specs.declared.key.ContactKey.{ContactKey}
+use Rattle.contacts_base.specs.declared.contact.Contact.{Contact}
 use Rattle.contacts_base.specs.declared.contact.ContactPoint.{ContactPoint}
 use Rattle.contacts_base.specs.declared.contact.ContactEntry.{ContactEntry}
 use Rattle.contacts_base.specs.declared.evaluation.Impulses.{Impulses}
@@ -80,3 +81,8 @@ with_points first second e = record e { contact = record e.contact { first = opt
 abbrev pub impulses_set : ℕ → Impulses → Option Impulses → List ContactEntry → Option ContactEntry → List ContactEntry
 impulses_set index first second entries None = entries
 impulses_set index first second entries (Some e) = slice_set entries index (with_points first second e)
+
+-- the contact at the index, if there is one, has these points
+abbrev pub contact_set : ℕ → Contact → List ContactEntry → Option ContactEntry → List ContactEntry
+contact_set index c entries None = entries
+contact_set index c entries (Some e) = slice_set entries index (record e { contact = c })

@@ -2,9 +2,9 @@
 
 ghost use Rattle.std.specs.Prelude.{◌≡◌, [], map, slice_get, length, option_map, IfOk};
 ghost use Rattle.std.specs.Result.{IsOkUnless};
-ghost use Rattle.contacts_base.specs.Contacts.{number_of, lookup, is_touching, has_slot, contacts_without, with_points, with_impulses, impulses_set, AreContacts};
+ghost use Rattle.contacts_base.specs.Contacts.{number_of, lookup, is_touching, has_slot, contacts_without, with_points, with_impulses, impulses_set, contact_set, AreContacts};
 
-use crate::{ContactEntry, ContactKey, ContactPoint, Impulses, contact_at, seek};
+use crate::{Contact, ContactEntry, ContactKey, ContactPoint, Impulses, contact_at, seek};
 use fixed_geom::Refusal;
 use std::alloc::Global;
 use std::marker::Model;
@@ -56,6 +56,15 @@ fn set_points(entry: &mut ContactEntry, first: Impulses, second: Option<Impulses
     set_point(&mut entry.contact.first, first);
     if let Some(second) = second {
         set_point(&mut entry.contact.second, second);
+    }
+}
+
+/// Gives the contact at an index of a list these points. All stay as they are where there is none at the index.
+pub fn put_contact(entries: &mut Vec<ContactEntry>, index: usize, contact: Contact)
+    ensures { entries.new.items ≡ contact_set index contact entries.old.items (slice_get entries.old.items index) }
+{
+    if index < entries.len() {
+        entries[index].contact = contact;
     }
 }
 
@@ -130,5 +139,12 @@ impl Contacts {
         if index < self.entries.len() {
             set_points(&mut self.entries[index], first, second);
         }
+    }
+
+    /// Gives the contact at an index these points. All stay as they are where there is none at the index.
+    pub fn set_contact(&mut self, index: usize, contact: Contact)
+        ensures { self.new ≡ contact_set index contact self.old (slice_get self.old index) }
+    {
+        put_contact(&mut self.entries, index, contact);
     }
 }

@@ -12,7 +12,7 @@ pub mod near;
 pub mod surface;
 
 pub use contact::{Contact, ContactEntry, ContactPoint, contact_at, place_at, seek};
-pub use contacts::Contacts;
+pub use contacts::{Contacts, put_contact};
 pub use evaluation::{Impulses, contact_of, evaluate};
 pub use key::{ContactKey, ShapeId};
 pub use near::{Proxy, code_of, is_near, one_stirs};

@@ -10,3 +10,4 @@ pub mod ColouringLemmas
 pub mod SizeLemmas
 pub mod EmptyLemmas
 pub mod GraphLemmas
+pub mod GivenLaws

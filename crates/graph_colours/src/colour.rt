@@ -1,5 +1,7 @@
 //! One colour of the graph: constraints no two of which share a mover.
 
+mod from_members;
+
 ghost use Rattle.std.specs.Prelude.{◌≡◌, ◌<◌, ◌≤◌, true, false, [], length, OnOk, IfOk};
 ghost use Rattle.std.specs.Result.{IsOkUnless};
 ghost use Rattle.graph_colours.specs.Movers.{AreBelow};

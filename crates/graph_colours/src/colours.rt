@@ -1,5 +1,7 @@
 //! The colours and the overflow.
 
+mod from_lists;
+
 ghost use Rattle.std.specs.Prelude.{◌≡◌, ◌≢◌, ◌<◌, ◌≤◌, ◌+◌, ◌==◌, ◌∷◌, ℕ, length, map, replicate, slice_set, slice_index_or, vec_len, vec_capacity, [], All, false, OnOk, OnErr, IfOk};
 ghost use Rattle.std.specs.Result.{IsOkUnless};
 ghost use Rattle.std.specs.List.{position_or_len, count_by};

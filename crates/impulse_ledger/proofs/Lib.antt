@@ -1,3 +1,4 @@
 pub mod SumLemmas
 pub mod CauseLemmas
 pub mod KeptLemmas
+pub mod GivenLaws

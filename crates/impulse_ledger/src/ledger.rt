@@ -1,5 +1,7 @@
 //! The book: its entries, and their kept sums.
 
+mod from_totals;
+
 ghost use Rattle.std.specs.Prelude.{◌≡◌, ◌+◌, ◌≤◌, ◌^◌, unsigned_abs, [], ◌∷◌, ◌++◌, OnOk, OnErr, IfOk, IsOk};
 ghost use Rattle.std.specs.Result.{IsOkUnless};
 ghost use Rattle.impulse_ledger.specs.Totals.{zero_totals};
@@ -103,6 +105,13 @@ impl Ledger {
     {
         self.entries.clear();
         self.settled = self.by_cause;
+    }
+
+    /// The sums by cause of all entries and of what was settled.
+    pub fn totals(&self) -> Totals
+        ensures { result ≡ totals_of self.now }
+    {
+        self.by_cause
     }
 
     /// The sum of all entries and of what was settled.

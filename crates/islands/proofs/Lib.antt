@@ -11,3 +11,5 @@ pub mod ReadingLemmas
 pub mod LeftLemmas
 pub mod ListingLemmas
 pub mod AloneLemmas
+pub mod GivenLaws
+pub mod WideLemmas

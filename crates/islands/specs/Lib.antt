@@ -4,3 +4,4 @@ pub mod Partition
 pub mod Laws
 pub mod Kept
 pub mod Packed
+pub mod Given

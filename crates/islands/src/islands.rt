@@ -1,12 +1,14 @@
 //! The islands of a world.
 
-ghost use Rattle.std.specs.Prelude.{◌≡◌, ℕ, ◌<◌, ◌≤◌, ◌^◌, ◌↔◌, [], None, length, vec_capacity, IfOk, OnOk, OnErr, IsSome, IfSome, Contains, option_map};
+mod from_labels;
+
+ghost use Rattle.std.specs.Prelude.{◌≡◌, ℕ, ◌+◌, ◌<◌, ◌≤◌, ◌^◌, ◌↔◌, [], None, length, vec_capacity, IfOk, OnOk, OnErr, IsSome, IfSome, Contains, option_map};
 ghost use Rattle.std.specs.Result.{IsOkUnless};
 ghost use Rattle.std.specs.List.Sorted.{IsStrictlyIncreasing};
-ghost use Rattle.islands.specs.Labels.{label_at, IsIn, is_loose, is_asleep, added, merged, loosened, taken_out, rested, woken, split_by};
+ghost use Rattle.islands.specs.Labels.{label_at, IsIn, is_loose, is_asleep, added, merged, padded, loosened, taken_out, rested, woken, split_by};
 ghost use Rattle.islands.specs.Partition.{IsPartition, Inside, IsSplit};
 
-use crate::adding::add_part;
+use crate::adding::{add_part, widen_lists};
 use crate::joining::merge_movers;
 use crate::label::{IslandState, Label};
 use crate::leaving::leave;
@@ -90,6 +92,15 @@ impl Islands {
         ensures room { self.new.room ≡ self.old.room }
     {
         add_part(&mut self.notes, &mut self.heads, slot);
+    }
+
+    /// Lets the slots that have a label, or none, go up to this one at least.
+    pub fn widen(&mut self, slot: u32)
+        requires room { slot < self.old.room }
+        ensures labels { self.new.labels ≡ padded self.old.labels (slot + 1) }
+        ensures room { self.new.room ≡ self.old.room }
+    {
+        widen_lists(&mut self.notes, &mut self.heads, slot as usize + 1);
     }
 
     /// Makes the islands of two movers one, under the lesser name, and loose if either was. It is

@@ -215,6 +215,14 @@ impl<'a> Fields<'a> {
         mem::replace(&mut self.shapes, Shapes::new(alloc))
     }
 
+    /// The text of a JSON value of any form.
+    pub fn take_json(&mut self, key: &'a str) -> &'a str {
+        match self.take(key) {
+            Content::Json(text) => text,
+            _ => "",
+        }
+    }
+
     /// Takes a list of objects. What they are stands beside the object.
     pub fn take_each(&mut self, key: &'a str) {
         match self.take(key) {

@@ -150,7 +150,7 @@ impl<'a> Line<'a> {
     /// Reads a text that is JSON.
     fn read_text(&mut self, alloc: Global, text: &'a str, scratch: &'a mut Scratch) {
         match Reader::new(text, scratch) {
-            Ok(reader) => self.read_tokens(&mut Tokens::new(alloc, reader)),
+            Ok(reader) => self.read_tokens(&mut Tokens::new(alloc, text, reader)),
             Err(_) => self.own.note(LineFault::NoMemory),
         }
     }
@@ -175,14 +175,23 @@ impl<'a> Line<'a> {
         }
     }
 
+    /// Reads the value of a key of the line's object. That of the key `world` is a saved world, which is kept as its text.
     fn read_own_value(&mut self, tokens: &mut Tokens<'a>, key: &'a str) {
+        let content = if key == "world" {
+            tokens.json()
+        } else {
+            self.read_content(tokens, key)
+        };
+        self.own.put(key, content);
+    }
+
+    fn read_content(&mut self, tokens: &mut Tokens<'a>, key: &'a str) -> Content<'a> {
         let token = tokens.next();
-        let content = if key == "each" && matches!(token, Token::BeginArray) {
+        if key == "each" && matches!(token, Token::BeginArray) {
             self.read_each(tokens, key)
         } else {
             read_value(tokens, &mut self.own, key, token)
-        };
-        self.own.put(key, content);
+        }
     }
 
     /// Reads the rest of a list of requests. What is beyond the most of them is passed by.

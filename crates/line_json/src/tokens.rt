@@ -16,14 +16,17 @@ use std::alloc::Global;
 #[derive(Drop)]
 pub struct Tokens<'a> {
     alloc: Global,
+    text: &'a str,
     reader: Reader<'a>,
     fault: Option<LineFault<'a>>,
 }
 
 impl<'a> Tokens<'a> {
-    pub fn new(alloc: Global, reader: Reader<'a>) -> Tokens<'a> {
+    /// The tokens of a text, whose reader this is.
+    pub fn new(alloc: Global, text: &'a str, reader: Reader<'a>) -> Tokens<'a> {
         Tokens {
             alloc,
+            text,
             reader,
             fault: None,
         }
@@ -147,6 +150,18 @@ impl<'a> Tokens<'a> {
         pair
     }
 
+    /// Passes by the value that is next, and answers its text.
+    pub fn json(&mut self) -> Content<'a> {
+        let start = self.reader.offset();
+        let token = self.next();
+        let _value = self.content(token);
+        let end = self.reader.offset();
+        match self.text.get(start..end) {
+            Some(text) => Content::Json(value_in(text)),
+            None => Content::Other,
+        }
+    }
+
     /// Reads the value that begins with a token, in which no objects are looked for.
     pub fn content(&mut self, token: Token<'a>) -> Content<'a> {
         match token {
@@ -163,6 +178,15 @@ impl<'a> Tokens<'a> {
             }
             _ => Content::Other,
         }
+    }
+}
+
+/// A value's text alone, where the text up to the next token is given: white space and a comma may follow the value.
+fn value_in(text: &str) -> &str {
+    let value = text.trim_end();
+    match value.strip_suffix(',') {
+        Some(value) => value.trim_end(),
+        None => value,
     }
 }
 

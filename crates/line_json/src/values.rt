@@ -18,6 +18,8 @@ pub enum Content<'a> {
     Shapes,
     /// A list of objects.
     Each,
+    /// The text of any JSON value.
+    Json(&'a str),
     /// A list in which something is wrong.
     Faulty(Fault<'a>),
     /// Anything else.

@@ -9,7 +9,11 @@ mod colours;
 #[cfg(test)]
 mod events;
 #[cfg(test)]
+mod given_lists;
+#[cfg(test)]
 mod handles;
+#[cfg(test)]
+mod kept;
 #[cfg(test)]
 mod ledger;
 #[cfg(test)]

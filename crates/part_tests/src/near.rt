@@ -33,7 +33,13 @@ const TOGETHER: Surface = Surface {
 };
 
 /// The one shape of the body in this slot, at (x, y) and unturned.
-fn proxy_of(slot: u32, shape: Shape, x: i64, y: i64, dynamic: bool) -> Result<Proxy, Refusal>
+pub(crate) fn proxy_of(
+    slot: u32,
+    shape: Shape,
+    x: i64,
+    y: i64,
+    dynamic: bool,
+) -> Result<Proxy, Refusal>
     ensures { IfOk result IsProxy }
 {
     let defs = [ShapeDef {
@@ -63,7 +69,7 @@ fn proxy_of(slot: u32, shape: Shape, x: i64, y: i64, dynamic: bool) -> Result<Pr
 }
 
 /// Adds a shape, which has to come after all others.
-fn add(broad: &mut BroadPhase, proxy: Proxy) -> Result<(), Refusal>
+pub(crate) fn add(broad: &mut BroadPhase, proxy: Proxy) -> Result<(), Refusal>
     requires { IsProxy proxy }
 {
     let number = proxy.id.number();
@@ -105,7 +111,7 @@ const LYING: Shape = Shape::Capsule {
     radius: 20_000,
 };
 
-const BALL: Shape = Shape::Circle {
+pub(crate) const BALL: Shape = Shape::Circle {
     center: Vec2 { x: 0, y: 0 },
     radius: 32_768,
 };
@@ -114,13 +120,13 @@ const FIRST: ShapeId = ShapeId { slot: 0, index: 0 };
 
 const SECOND: ShapeId = ShapeId { slot: 1, index: 0 };
 
-const KEY: ContactKey = ContactKey {
+pub(crate) const KEY: ContactKey = ContactKey {
     first: FIRST,
     second: SECOND,
 };
 
 /// A floor, and a capsule that lies at this height.
-fn lying_at(alloc: Global, y: i64) -> Result<BroadPhase, Refusal> {
+pub(crate) fn lying_at(alloc: Global, y: i64) -> Result<BroadPhase, Refusal> {
     let mut broad = BroadPhase::new(alloc);
     let floor = proxy_of(0, FLOOR, 0, 0, false)?;
     add(

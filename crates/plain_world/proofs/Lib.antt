@@ -4,3 +4,4 @@ pub mod KindLaws
 pub mod PairNumbers
 mod ImpulseLaws
 pub mod IdleLaws
+pub mod GivenLaws

@@ -48,7 +48,7 @@ swapped xs ys zs =
 pub under : (xs ys zs : List ℕ) → IsPermutation ys zs → IsPermutation (xs ++ ys) (xs ++ zs)
 under xs ys zs h = IsPermutation-append xs xs ys zs (IsPermutation-refl xs) h
 
-listed : (o : Option BodyJoint) (joints : List (Option BodyJoint)) → forbidden_pairs (o ∷ joints) ≡ option_to_list (forbidden_in o) ++ forbidden_pairs joints
+pub listed : (o : Option BodyJoint) (joints : List (Option BodyJoint)) → forbidden_pairs (o ∷ joints) ≡ option_to_list (forbidden_in o) ++ forbidden_pairs joints
 listed o joints = by_option (forbidden_in o) (forbidden_pairs joints)
   where
     by_option : (p : Option ℕ) (rest : List ℕ) → cons_option p rest ≡ option_to_list p ++ rest

@@ -1,5 +1,7 @@
 //! The joints of a world by slot, and which pairs of bodies they keep from colliding.
 
+mod from_joints;
+
 ghost use Rattle.std.specs.Prelude.{◌≡◌, ◌≤◌, ◌<◌, [], IfOk, None, OnOk, length, option_map, slice_index_or, slice_set, vec_len};
 ghost use Rattle.std.specs.Option.{option_copied};
 ghost use Rattle.std.specs.Result.{IsOkUnless};

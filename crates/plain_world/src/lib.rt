@@ -8,6 +8,7 @@
 mod body;
 mod changes;
 mod fats;
+mod filters;
 mod joint;
 mod joint_table;
 mod kind;
@@ -23,6 +24,7 @@ pub use changes::{BodyChange, change_slot, disable_slot, enable_slot};
 pub use contacts::Constraint;
 pub use contacts_base::{ContactEntry, ContactKey, ShapeId, Surface};
 pub use fats::FatBoxes;
+pub use filters::filters_fit;
 pub use joint::{BodyJoint, JointDef};
 pub use joint_rows::Joint;
 pub use joint_table::JointTable;

@@ -20,6 +20,7 @@ use Rattle.islands.specs.Labels.{Labels, is_asleep, is_loose}
 use Rattle.islands.specs.declared.label.IslandState.{IslandState}
 use Rattle.islands.specs.declared.label.IslandState.TheVariants.{Asleep, Loose, Whole}
 use Rattle.islands.specs.declared.label.Label.{Label}
+use Rattle.plain_world.specs.Formed.{shape_named, shape_of_body}
 use Rattle.plain_world.specs.Joints.{AreJoints, IsBodyJoint}
 use Rattle.plain_world.specs.Kinds.{is_dynamic}
 use Rattle.plain_world.specs.Plain.{colour_of}
@@ -29,9 +30,9 @@ use Rattle.plain_world.specs.declared.joint.BodyJoint.{BodyJoint}
 use Rattle.saved_parts.specs.SavedJoints.{generation_of}
 use Rattle.shapes.specs.declared.shape.ShapeDef.{ShapeDef}
 use Rattle.world_core_base.specs.Gather.{IsContactOf, moves_in}
-use Rattle.world_file.specs.Fitting.{are_points, are_rising_after, entry_of, is_above, is_contact_fitting, is_dynamic_body, is_joint_fitting, joint_kept, label_of, shape_named, shape_of_body}
+use Rattle.world_file.specs.Fitting.{are_points, are_rising_after, entry_of, is_above, is_contact_fitting, is_dynamic_body, is_joint_fitting, joint_kept, label_of}
 use Rattle.world_rules.specs.Sound.{HasBodies}
-use Rattle.saved_worlds.specs.Again.{IsWholeContact, count_of, id_in, membership_of, saved_contact, saved_joint, saved_joints}
+use Rattle.saved_worlds.specs.Again.{count_of, id_in, membership_of, saved_contact, saved_joint, saved_joints}
 
 pub both_hold : (x y : Bool) → x ≡ true → y ≡ true → (x && y) ≡ true
 both_hold true y e h = h
@@ -71,7 +72,7 @@ pub labels_again : (labels : Labels) → map label_of (map membership_of labels)
 labels_again [] = refl
 labels_again (o ∷ labels) = ap₂ (λ (x : Option Label) (xs : Labels). x ∷ xs) (label_again o) (labels_again labels)
 
-pub contacts_again : (bodies : List (Option Body)) (colours : List (List Constraint)) (es : List ContactEntry) → Each (IsWholeContact bodies) es → map (entry_of bodies) (map (saved_contact colours) es) ≡ es
+pub contacts_again : (bodies : List (Option Body)) (colours : List (List Constraint)) (es : List ContactEntry) → Each (HasBodies bodies) es → map (entry_of bodies) (map (saved_contact colours) es) ≡ es
 contacts_again bodies colours [] all = refl
 contacts_again bodies colours (e ∷ es) all =
     ap₂ (λ (x : ContactEntry) (xs : List ContactEntry). x ∷ xs) (λ i. record { key = e.key; surface = sym all.0.surface i; contact = e.contact }) (contacts_again bodies colours es all.1)
@@ -146,12 +147,11 @@ points_by (Some p) (Some q) h =
     let same : p ≡ o.0 = same_Some p o.0 o.1 in
     ap (λ (b : Bool). not b) (same_back p.candidate q.candidate ∙ ap (λ (x : ContactPoint). q.candidate == x.candidate) same ∙ o.2)
 
-contact_fits : (bodies : List (Option Body)) (colours : List (List Constraint)) (e : ContactEntry) → IsContactOf bodies e → HasBodies bodies e → IsWholeContact bodies e → is_contact_fitting bodies (saved_contact colours e) ≡ true
-contact_fits bodies colours e of has whole =
-    let order = whole.order in
+contact_fits : (bodies : List (Option Body)) (colours : List (List Constraint)) (e : ContactEntry) → IsContactOf bodies e → HasBodies bodies e → is_contact_fitting bodies (saved_contact colours e) ≡ true
+contact_fits bodies colours e of has =
     both_hold (is_some (shape_named bodies e.key.first)) _ (shape_there (body_at bodies e.key.first.slot) e.key.first.index has.first_shape)
     (both_hold (is_some (shape_named bodies e.key.second)) _ (shape_there (body_at bodies e.key.second.slot) e.key.second.index has.second_shape)
-    (both_hold (nat_lt e.key.first.slot e.key.second.slot) _ (lt-ltb e.key.first.slot e.key.second.slot order)
+    (both_hold (nat_lt e.key.first.slot e.key.second.slot) _ (lt-ltb e.key.first.slot e.key.second.slot has.order)
     (both_hold (is_dynamic_body (body_at bodies e.key.first.slot) || is_dynamic_body (body_at bodies e.key.second.slot)) _
     (elim of.mover [
       | inl m ↦ either_holds (is_dynamic_body (body_at bodies e.key.first.slot)) (is_dynamic_body (body_at bodies e.key.second.slot)) (dynamic_there (body_at bodies e.key.first.slot) m)
@@ -159,10 +159,10 @@ contact_fits bodies colours e of has whole =
     ])
     (points_by e.contact.first e.contact.second has.points.beside))))
 
-pub contacts_fit : (bodies : List (Option Body)) (colours : List (List Constraint)) (es : List ContactEntry) → Each (IsContactOf bodies) es → Each (HasBodies bodies) es → Each (IsWholeContact bodies) es → list_all (is_contact_fitting bodies) (map (saved_contact colours) es) ≡ true
-contacts_fit bodies colours [] of has whole = refl
-contacts_fit bodies colours (e ∷ es) of has whole =
-    both_hold (is_contact_fitting bodies (saved_contact colours e)) (list_all (is_contact_fitting bodies) (map (saved_contact colours) es)) (contact_fits bodies colours e of.0 has.0 whole.0) (contacts_fit bodies colours es of.1 has.1 whole.1)
+pub contacts_fit : (bodies : List (Option Body)) (colours : List (List Constraint)) (es : List ContactEntry) → Each (IsContactOf bodies) es → Each (HasBodies bodies) es → list_all (is_contact_fitting bodies) (map (saved_contact colours) es) ≡ true
+contacts_fit bodies colours [] of has = refl
+contacts_fit bodies colours (e ∷ es) of has =
+    both_hold (is_contact_fitting bodies (saved_contact colours e)) (list_all (is_contact_fitting bodies) (map (saved_contact colours) es)) (contact_fits bodies colours e of.0 has.0) (contacts_fit bodies colours es of.1 has.1)
 
 -- ---- their keys ascend
 

@@ -17,6 +17,7 @@ use Rattle.momenta.specs.Motions.{IsMotion}
 use Rattle.momenta.specs.declared.limits.TheConstants.{MAX_MOMENTUM, MAX_SPEED}
 use Rattle.momenta.specs.declared.mass.MassData.{MassData}
 use Rattle.momenta.specs.declared.motion.Motion.{Motion}
+use Rattle.plain_world.specs.Formed.{HasFilter}
 use Rattle.plain_world.specs.Bodies.{IsAtRest, IsBody, IsMassOf, is_awake, is_mover, pose_of}
 use Rattle.plain_world.specs.Fats.{EachIsFatBox}
 use Rattle.plain_world.specs.Kinds.{IsCourse, carried_by, is_moving, is_static, no_course}
@@ -36,7 +37,7 @@ use Rattle.saved_values.specs.declared.reader.Reader.{Reader}
 use Rattle.saved_parts.specs.SavedBodies.{are_in_boxes, bare_kind, body_asks, body_in, body_of, course_asks, facing_in, fit_asks, island_fits, island_told, is_at_rest, is_pose, keys_asks, kind_asks, kind_in, kind_name, least_mass, mass_asks, mass_in, membership_asks, membership_in, momenta_asks, momenta_in, most_angular, most_inertia, most_mass, motion_asks, motion_in, named_kind, numbers_asks, pose_asks, pose_in, put_course, put_label, put_numbers, rest_asks, sleeping_under, told_asks, whole_body_asks, with_course}
 use Rattle.saved_parts.specs.SavedShapes.{defs_in, fats_in, shapes_asks, shapes_of}
 use Rattle.saved_parts.specs.declared.saved.Membership.{Membership}
-use Rattle.saved_worlds.specs.Again.{HasFilter, membership_of}
+use Rattle.saved_worlds.specs.Again.{membership_of}
 use Rattle.saved_worlds.proofs.AgainParts.{both_hold, each_from_all}
 use Rattle.saved_worlds.proofs.BackNumbers.{IsBack, asked_true, between_true, decimal_back, facing_true, island_back, signed_back, unsigned_back, vector_back, within_back}
 use Rattle.saved_worlds.proofs.BackShapes.{shapes_back}

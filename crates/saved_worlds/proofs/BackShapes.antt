@@ -1,6 +1,7 @@
 -- Shapes are read as they are written.
 use Rattle.std.proofs.Common.{◌≡◌, ◌^◌, List, [], ◌∷◌, length, ℤ, refl, ap, ap₂, ◌∙◌, arith}
 use Rattle.std.proofs.lemmas.Int.{ints}
+use Rattle.plain_world.specs.Formed.{HasFilter}
 use Rattle.serde_json.specs.View.{items_of}
 use Rattle.contacts.proofs.Members.{Each}
 use Rattle.fixed_geom.specs.Boxes.{IsBoxWithin}
@@ -16,7 +17,6 @@ use Rattle.saved_values.specs.Reading.{greatest_group, least_group}
 use Rattle.saved_values.specs.declared.reader.Reader.{Reader}
 use Rattle.saved_parts.specs.SavedShapes.{defs_in, fats_in, form_asks, form_in, most_bits, most_corner, shape_asks, shape_in, shape_of, shapes_asks, shapes_of}
 use Rattle.saved_parts.specs.declared.saved_shapes.SavedShape.{SavedShape}
-use Rattle.saved_worlds.specs.Again.{HasFilter}
 use Rattle.saved_worlds.proofs.BackNumbers.{between_true, corners_back, number_back, signed_back, unsigned_back, vector_back}
 
 record IsShapeBack (def : ShapeDef) (fat : Box2) : Type 0 where

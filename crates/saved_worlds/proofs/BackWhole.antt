@@ -1,5 +1,5 @@
 -- A sound world is read again as it is written.
-use Rattle.std.proofs.Common.{◌≡◌, ℕ, zero, suc, ◌+◌, ◌*◌, ◌^◌, ◌<◌, ◌≤◌, ◌==◌, ◌&&◌, Bool, true, false, nat_le, List, [], ◌∷◌, length, map, slice_get, Option, Some, None, is_some, codes, Ok, All, unsigned_abs, refl, sym, ap, ap₂, ◌∙◌, subst, arith, le-leb}
+use Rattle.std.proofs.Common.{◌≡◌, ℕ, zero, suc, ◌+◌, ◌*◌, ◌^◌, ◌<◌, ◌≤◌, ◌==◌, true, false, nat_le, List, [], ◌∷◌, length, map, slice_get, Option, Some, None, is_some, codes, Ok, All, unsigned_abs, refl, sym, ap, ap₂, ◌∙◌, arith, le-leb}
 use Rattle.std.specs.Option.{ForSome}
 use Rattle.std.proofs.lemmas.Bool.{false≢true}
 use Rattle.std.proofs.lemmas.List.{length-map}
@@ -20,17 +20,11 @@ use Rattle.contacts_base.specs.Limits.{IsContactPoint}
 use Rattle.contacts_base.specs.declared.contact.ContactEntry.{ContactEntry}
 use Rattle.contacts_base.specs.declared.contact.ContactPoint.{ContactPoint}
 use Rattle.graph_colours.specs.declared.member.Member.{Member}
-use Rattle.graph_colours.specs.declared.member.Movers.{Movers}
-use Rattle.contacts.specs.Constraints.{constraint_number}
-use Rattle.sleep_wake.specs.Acting.{AreMovers, IsSettled, acting, are_awake, awake_label, is_awake, links_of, second_awake}
-use Rattle.world_rules.specs.Sets.{acting_of}
 use Rattle.impulse_ledger.specs.Sums.{total_with}
 use Rattle.impulse_ledger.specs.declared.entry.Cause.{Cause}
 use Rattle.impulse_ledger.specs.declared.entry.Cause.TheVariants as causes
 use Rattle.impulse_ledger.specs.declared.totals.Totals.{Totals}
 use Rattle.islands.specs.Labels.{Labels, label_at}
-use Rattle.islands.specs.Links.{Linked}
-use Rattle.islands.specs.Partition.{AreIslands}
 use Rattle.islands.specs.declared.label.Label.{Label}
 use Rattle.islands.proofs.LabelLemmas.{some_short}
 use Rattle.momenta.specs.declared.limits.TheConstants.{MAX_GRAVITY}
@@ -42,31 +36,28 @@ use Rattle.plain_world.specs.declared.body.Body.{Body}
 use Rattle.plain_world.specs.declared.joint.BodyJoint.{BodyJoint}
 use Rattle.saved_values.specs.Asks.{asked, no_asks}
 use Rattle.saved_values.specs.Reading.{unsigned_asks, unsigned_in, vector_within_asks}
-use Rattle.saved_values.specs.Written.{list_of, natural, object_of, vector_of}
+use Rattle.saved_values.specs.Written.{natural, vector_of}
 use Rattle.saved_values.specs.declared.clause.Clause.{Clause}
 use Rattle.saved_values.specs.declared.clause.Clause.TheVariants.{Limits}
 use Rattle.saved_values.specs.declared.reader.Reader.{Reader}
 use Rattle.saved_parts.specs.SavedBodies.{sleeping_under}
-use Rattle.saved_parts.specs.SavedContacts.{contacts_of}
-use Rattle.saved_parts.specs.SavedTotals as saved_totals
-use Rattle.saved_parts.specs.SavedSlots as joints_data
 use Rattle.saved_parts.specs.SavedJoints.{generation_of}
-use Rattle.saved_parts.specs.SavedSlots.{bodies_asks, bodies_in, body_key, body_slot_of, body_slots, joint_key, joint_slots, joints_asks, joints_in, memberships_in, places_in, slots_asks}
+use Rattle.saved_parts.specs.SavedSlots.{bodies_asks, bodies_in, body_slots, slots_asks}
 use Rattle.saved_parts.specs.declared.version.Version.TheVariants.{Second}
-use Rattle.solver_sets.specs.Ties.{is_mover_in, moves}
+use Rattle.solver_sets.specs.Ties.{is_mover_in}
 use Rattle.solver_sets.proofs.SlotLemmas.{below_length}
 use Rattle.solver_sets.specs.Ties.{Lists, members_of}
 use Rattle.world_core_base.specs.Gather.{IsContactOf}
-use Rattle.world_file.specs.Files.{broken_by, contact_colours, joint_colours, plain_of, read_of, read_unless, value_of, written_version}
+use Rattle.world_file.specs.Files.{broken_by, plain_of, read_of, read_unless, value_of}
 use Rattle.world_file.specs.Fitting.{fitting_asks}
 use Rattle.world_file.specs.Saved.{Saved, calls_in, heads_asks, most_calls, parts_asks, saved_in, slow_ticks, steps_in}
 use Rattle.world_rules.specs.Sound.{HasBodies, IsSound}
 use Rattle.world_rules.specs.World.{World, book_of, joints_of}
 use Rattle.world_rules.proofs.SlotLemmas.{body_at-in}
-use Rattle.saved_worlds.specs.Again.{AreFiltered, IsWhole, all_labels, membership_of, saved_of, with_all_labels}
-use Rattle.saved_worlds.specs.Laws.{AllLabelsStay, IsWritable, WhatIsWrittenIsReadAgain, totals_in}
+use Rattle.saved_worlds.specs.Again.{membership_of, saved_of}
+use Rattle.saved_worlds.specs.Laws.{HasSmallTotals, WhatIsWrittenIsReadAgain, totals_in}
 use Rattle.saved_worlds.proofs.AgainParts.{each_from_all}
-use Rattle.saved_worlds.proofs.AgainWhole.{settled, what_is_written_fits, world_ties}
+use Rattle.saved_worlds.proofs.AgainWhole.{settled, what_is_written_fits}
 use Rattle.saved_worlds.proofs.BackNumbers.{asked_true, unsigned_back, within_back}
 use Rattle.saved_worlds.proofs.BackParts.{AreContactsBack, AreSmallTotals, IsContactWritten, IsJointWritten, contacts_back, totals_back}
 use Rattle.saved_worlds.proofs.BackSlots.{AreBodiesBack, AreBodiesWritten, AreJointsBack, AreJointsWritten, OnJointWritten, OnWritten, bodies_back, joints_back}
@@ -167,17 +158,17 @@ no_label : (label : Option Label) → is_some label ≡ false → label ≡ None
 no_label None e = refl
 no_label (Some l) e = absurd (false≢true (sym e))
 
-slot_written : (w : World) → IsSound w → AreFiltered w.plain.bodies → length w.plain.islands ≡ length w.plain.bodies → (k : ℕ) (o : Option Body) → body_at w.plain.bodies k ≡ o → OnWritten (w.plain.steps * 8) o (label_at w.plain.islands k)
-slot_written w h filters long k None e = no_label (label_at w.plain.islands k) (h.promises.tied k ∙ ap (λ (v : Option Body). is_mover_in v) e)
-slot_written w h filters long k (Some b) e =
+slot_written : (w : World) → IsSound w → (k : ℕ) (o : Option Body) → body_at w.plain.bodies k ≡ o → OnWritten (w.plain.steps * 8) o (label_at w.plain.islands k)
+slot_written w h k None e = no_label (label_at w.plain.islands k) (h.promises.tied k ∙ ap (λ (v : Option Body). is_mover_in v) e)
+slot_written w h k (Some b) e =
     let timer = h.formed.timers k b e in
     let few = h.formed.matched.few in
     record {
       body = h.formed.bodies k b (body_at-in w.plain.bodies k b e);
       timer = omega (arith, timer);
-      filters = filters k b e;
+      filters = h.formed.filters k b e;
       mover = h.promises.tied k ∙ ap (λ (v : Option Body). is_mover_in v) e;
-      low = λ l f. let below = some_short w.plain.islands k l f in let name = (settled w h).islands.partition.low k l f in omega (arith, below, name, long, few);
+      low = λ l f. let long = h.formed.labels in let below = some_short w.plain.islands k l f in let name = (settled w h).islands.partition.low k l f in omega (arith, below, name, long, few);
       asleep = h.promises.told k b e ∙ sleeping_same (label_at w.plain.islands k);
     }
 
@@ -193,10 +184,10 @@ bodies_by most (p ∷ ps) (o ∷ os) (l ∷ ls) e f all taken each = (
   bodies_by most ps os ls (omega arith) (omega arith) (All-tail IsPlace p ps all) (λ k. taken (suc k)) (λ k. each (suc k)),
 )
 
-bodies_written : (w : World) → IsSound w → IsWhole w.plain → AreFiltered w.plain.bodies → AreBodiesWritten (w.plain.steps * 8) w.plain.places w.plain.bodies w.plain.islands
-bodies_written w h whole filters =
-    bodies_by (w.plain.steps * 8) w.plain.places w.plain.bodies w.plain.islands h.formed.matched.slots whole.labels whole.places h.formed.matched.taken
-    (λ k. slot_written w h filters whole.labels k (body_at w.plain.bodies k) refl)
+bodies_written : (w : World) → IsSound w → AreBodiesWritten (w.plain.steps * 8) w.plain.places w.plain.bodies w.plain.islands
+bodies_written w h =
+    bodies_by (w.plain.steps * 8) w.plain.places w.plain.bodies w.plain.islands h.formed.matched.slots h.formed.labels h.formed.places h.formed.matched.taken
+    (λ k. slot_written w h k (body_at w.plain.bodies k) refl)
 
 -- ---- joints
 
@@ -212,206 +203,66 @@ some_body (Some b) h = (b, refl)
 slot_small : (bodies : List (Option Body)) (k : ℕ) → length bodies ≤ MAX_SLOTS → is_some (body_at bodies k) ≡ true → k < 2 ^ 32
 slot_small bodies k few h = let o = some_body (body_at bodies k) h in let below = below_length bodies k o.0 o.1 in omega (arith, few, below)
 
-joint_written : (w : World) → IsSound w → IsWhole w.plain → (own : Option ℕ) → IsColour own → (j : BodyJoint) → IsBodyJoint w.plain.bodies j → IsJointWritten w.plain.places own j
-joint_written w h whole own colour j is = record {
+joint_written : (w : World) → IsSound w → (own : Option ℕ) → IsColour own → (j : BodyJoint) → IsBodyJoint w.plain.bodies j → IsJointWritten w.plain.places own j
+joint_written w h own colour j is = record {
   a = slot_small w.plain.bodies j.a h.formed.matched.few is.first;
-  a_generation = generation_small w.plain.places j.a whole.places;
+  a_generation = generation_small w.plain.places j.a h.formed.places;
   b = slot_small w.plain.bodies j.b h.formed.matched.few is.second;
-  b_generation = generation_small w.plain.places j.b whole.places;
+  b_generation = generation_small w.plain.places j.b h.formed.places;
   joint = is.joint;
   colour = colour;
 }
 
-joint_slot_written : (w : World) → IsSound w → IsWhole w.plain → (own : Option ℕ) → IsColour own → (o : Option BodyJoint) → ((j : BodyJoint) → o ≡ Some j → IsBodyJoint w.plain.bodies j) → OnJointWritten w.plain.places own o
-joint_slot_written w h whole own colour None is = tt
-joint_slot_written w h whole own colour (Some j) is = joint_written w h whole own colour j (is j refl)
+joint_slot_written : (w : World) → IsSound w → (own : Option ℕ) → IsColour own → (o : Option BodyJoint) → ((j : BodyJoint) → o ≡ Some j → IsBodyJoint w.plain.bodies j) → OnJointWritten w.plain.places own o
+joint_slot_written w h own colour None is = tt
+joint_slot_written w h own colour (Some j) is = joint_written w h own colour j (is j refl)
 
-joints_by : (w : World) → IsSound w → IsWhole w.plain → (slot : ℕ) (ps : List Place) (os : List (Option BodyJoint)) → length ps ≡ length os → All IsPlace ps → ((k : ℕ) → is_some (item_at os k) ≡ is_taken ps k) → AreJoints w.plain.bodies os → AreJointsWritten w.plain.places w.plain.colours slot ps os
-joints_by w h whole slot [] [] e all taken are = tt
-joints_by w h whole slot [] (o ∷ os) e all taken are = absurd (omega arith)
-joints_by w h whole slot (p ∷ ps) [] e all taken are = absurd (omega arith)
-joints_by w h whole slot (p ∷ ps) (o ∷ os) e all taken are = (
+joints_by : (w : World) → IsSound w → (slot : ℕ) (ps : List Place) (os : List (Option BodyJoint)) → length ps ≡ length os → All IsPlace ps → ((k : ℕ) → is_some (item_at os k) ≡ is_taken ps k) → AreJoints w.plain.bodies os → AreJointsWritten w.plain.places w.plain.colours slot ps os
+joints_by w h slot [] [] e all taken are = tt
+joints_by w h slot [] (o ∷ os) e all taken are = absurd (omega arith)
+joints_by w h slot (p ∷ ps) [] e all taken are = absurd (omega arith)
+joints_by w h slot (p ∷ ps) (o ∷ os) e all taken are = (
   record {
     place = All-head IsPlace p ps all;
     live = sym (taken 0);
-    joint = joint_slot_written w h whole (colour_of (Joint (record { slot = slot; generation = p.generation })) w.plain.colours) (colour_small w h (Joint (record { slot = slot; generation = p.generation }))) o (λ j s. are 0 j s);
+    joint = joint_slot_written w h (colour_of (Joint (record { slot = slot; generation = p.generation })) w.plain.colours) (colour_small w h (Joint (record { slot = slot; generation = p.generation }))) o (λ j s. are 0 j s);
   },
-  joints_by w h whole (suc slot) ps os (omega arith) (All-tail IsPlace p ps all) (λ k. taken (suc k)) (λ k j s. are (suc k) j s),
+  joints_by w h (suc slot) ps os (omega arith) (All-tail IsPlace p ps all) (λ k. taken (suc k)) (λ k j s. are (suc k) j s),
 )
 
 -- ---- all of it
 
-small_total : (w : World) → IsWritable w → (cause : Cause) → IsSmallTotal (total_with cause (book_of w))
-small_total w ok cause = record { x = ok.totals.x cause; y = ok.totals.y cause }
+small_total : (w : World) → HasSmallTotals w → (cause : Cause) → IsSmallTotal (total_with cause (book_of w))
+small_total w small cause = record { x = small.x cause; y = small.y cause }
 
-small_totals : (w : World) → IsWritable w → AreSmallTotals (totals_in w)
-small_totals w ok = record {
-  command = small_total w ok causes.Command;
-  gravity = small_total w ok causes.Gravity;
-  immovable = small_total w ok causes.Immovable;
-  clamp = small_total w ok causes.Clamp;
-  rest = small_total w ok causes.Rest;
-  departed = small_total w ok causes.Departed;
+small_totals : (w : World) → HasSmallTotals w → AreSmallTotals (totals_in w)
+small_totals w small = record {
+  command = small_total w small causes.Command;
+  gravity = small_total w small causes.Gravity;
+  immovable = small_total w small causes.Immovable;
+  clamp = small_total w small causes.Clamp;
+  rest = small_total w small causes.Rest;
+  departed = small_total w small causes.Departed;
 }
 
-written_back : (w : World) → IsSound w → IsWhole w.plain → IsWritable w → IsWholeBack w.plain (totals_in w)
-written_back w h whole ok =
+written_back : (w : World) → IsSound w → HasSmallTotals w → IsWholeBack w.plain (totals_in w)
+written_back w h small =
     let same : (k : ℕ) → label_at w.plain.islands (0 + k) ≡ label_at w.plain.islands k = λ k. let e : 0 + k ≡ k = omega arith in ap (λ (n : ℕ). label_at w.plain.islands n) e in
     whole_back w.plain (totals_in w)
-    (bodies_back (w.plain.steps * 8) 0 w.plain.places w.plain.bodies w.plain.islands w.plain.islands (bodies_written w h whole ok.filters) same)
-    (joints_back w.plain.places w.plain.colours 0 w.plain.joint_places w.plain.joints (joints_by w h whole 0 w.plain.joint_places w.plain.joints h.formed.joint_slots.slots h.formed.joint_places h.formed.joint_slots.taken h.formed.joints))
+    (bodies_back (w.plain.steps * 8) 0 w.plain.places w.plain.bodies w.plain.islands w.plain.islands (bodies_written w h) same)
+    (joints_back w.plain.places w.plain.colours 0 w.plain.joint_places w.plain.joints (joints_by w h 0 w.plain.joint_places w.plain.joints h.formed.joint_slots.slots h.formed.joint_places h.formed.joint_slots.taken h.formed.joints))
     (contacts_back w.plain.colours w.plain.contacts (contacts_written w h w.plain.contacts (each_from_all (IsContactOf w.plain.bodies) w.plain.contacts h.formed.pairs) (each_from_all (HasBodies w.plain.bodies) w.plain.contacts h.formed.there)))
-    (small_totals w ok) h.formed.gravity h.formed.steps h.formed.calls h.formed.matched.few h.formed.joint_slots.few
+    (small_totals w small) h.formed.gravity h.formed.steps h.formed.calls h.formed.matched.few h.formed.joint_slots.few
 
 read_back : (o : Option Clause) (s : Saved) (p : Plain) (t : Totals) → o ≡ None → plain_of s ≡ p → s.totals ≡ t → read_unless o s ≡ Ok (p, t)
 read_back None s p t e f g = ap₂ (λ (x : Plain) (y : Totals). Ok (x, y)) f g
 read_back (Some clause) s p t e f g = cc
 
--- a world that has all labels is read again as it is
-exact : (w : World) → IsSound w → IsWhole w.plain → IsWritable w → read_of (value_of w.plain (totals_in w)) ≡ Ok (w.plain, totals_in w)
+pub what_is_written_is_read_again : WhatIsWrittenIsReadAgain
 unfolding read_of
-exact w h whole ok =
+what_is_written_is_read_again w h small =
     let d : Data = value_of w.plain (totals_in w) in
-    let back = written_back w h whole ok in
-    let made = what_is_written_fits w h whole in
+    let back = written_back w h small in
+    let made = what_is_written_fits w h in
     let unbroken : broken_by d ≡ None = ap (λ (r : Reader). r.broken) (ap₂ (λ (s : Saved) (r : Reader). fitting_asks s r) back.saved (back.asks no_asks) ∙ made.asks no_asks) in
     read_back (broken_by d) (saved_in d) w.plain (totals_in w) unbroken (ap (λ (s : Saved). plain_of s) back.saved ∙ made.plain) (ap (λ (s : Saved). s.totals) back.saved)
-
--- ---- labels beyond the last mover
-
-all_long : (n : ℕ) (labels : Labels) → length (all_labels n labels) ≡ n
-all_long zero labels = refl
-all_long (suc n) [] = ap (λ (k : ℕ). suc k) (all_long n [])
-all_long (suc n) (l ∷ labels) = ap (λ (k : ℕ). suc k) (all_long n labels)
-
-all_at : (n : ℕ) (labels : Labels) → ((k : ℕ) → n ≤ k → label_at labels k ≡ None) → (k : ℕ) → label_at (all_labels n labels) k ≡ label_at labels k
-all_at zero labels none k = sym (none k (omega arith))
-all_at (suc n) [] none zero = refl
-all_at (suc n) [] none (suc k) = all_at n [] (λ j h. refl) k
-all_at (suc n) (l ∷ labels) none zero = refl
-all_at (suc n) (l ∷ labels) none (suc k) = all_at n labels (λ j h. none (suc j) (omega (arith, h))) k
-
-same_all : (n : ℕ) (labels : Labels) → length labels ≡ n → all_labels n labels ≡ labels
-same_all zero [] e = refl
-same_all zero (l ∷ labels) e = absurd (omega arith)
-same_all (suc n) [] e = absurd (omega arith)
-same_all (suc n) (l ∷ labels) e = ap (λ (ls : Labels). l ∷ ls) (same_all n labels (omega arith))
-
-pub all_labels_stay : AllLabelsStay
-all_labels_stay p e = λ i. record p { islands = same_all (length p.bodies) p.islands e i }
-
-none_moves : (bodies : List (Option Body)) (k : ℕ) → length bodies ≤ k → moves bodies k ≡ false
-none_moves [] k h = refl
-none_moves (o ∷ bodies) zero h = absurd (omega arith)
-none_moves (o ∷ bodies) (suc k) h = none_moves bodies k (omega (arith, h))
-
--- the same labels, however long the lists
-abbrev AreSame : Labels → Labels → Type 0
-AreSame a b = (k : ℕ) → label_at a k ≡ label_at b k
-
-all_are_same : (w : World) → IsSound w → AreSame (all_labels (length w.plain.bodies) w.plain.islands) w.plain.islands
-all_are_same w h = all_at (length w.plain.bodies) w.plain.islands (λ k past. no_label (label_at w.plain.islands k) (h.promises.tied k ∙ none_moves w.plain.bodies k past))
-
-slots_same : (slot : ℕ) (ps : List Place) (os : List (Option Body)) (a b : Labels) → AreSame a b → body_slots slot ps os a ≡ body_slots slot ps os b
-slots_same slot [] os a b same = refl
-slots_same slot (p ∷ ps) [] a b same = refl
-slots_same slot (p ∷ ps) (o ∷ os) a b same = ap₂ (λ (l : Option Label) (ds : List Data). body_slot_of p o l ∷ ds) (same slot) (slots_same (suc slot) ps os a b same)
-
-value_same : (p : Plain) (t : Totals) (labels : Labels) → AreSame labels p.islands → value_of (record p { islands = labels }) t ≡ value_of p t
-unfolding value_of
-value_same p t labels same = ap (λ (ds : List Data). object_of (
-    (codes "bodies", list_of ds)
-    ∷ (codes "call", natural p.calls)
-    ∷ (codes "contacts", contacts_of p.contacts (contact_colours p.colours p.contacts))
-    ∷ (codes "gravity", vector_of p.gravity)
-    ∷ (codes "joints", joints_data.joints_of p.places p.joint_places p.joints (joint_colours p.colours 0 p.joint_places))
-    ∷ (codes "ledger", saved_totals.totals_of t)
-    ∷ (codes "step", natural p.steps)
-    ∷ (codes "version", natural written_version)
-    ∷ [])) (slots_same 0 p.places p.bodies labels p.islands same)
-
--- ---- what hangs on labels stays
-
-islands_same : (R : ℕ → ℕ → Type 0) (a b : Labels) → AreSame a b → AreIslands R b → AreIslands R a
-islands_same R a b same w = record {
-  partition = record {
-    low = λ s l e. w.partition.low s l (sym (same s) ∙ e);
-    named = λ s l e. same l.name ∙ w.partition.named s l (sym (same s) ∙ e);
-  };
-  together = λ s t r. let o = w.together s t r in (o.0, same s ∙ o.1, same t ∙ o.2);
-  connected = λ s t l e f n. w.connected s t l (sym (same s) ∙ e) (sym (same t) ∙ f) n;
-}
-
-awake_same : (a b : Labels) → AreSame a b → (s : ℕ) → is_awake a s ≡ is_awake b s
-awake_same a b same s = ap (λ (o : Option Label). awake_label o) (same s)
-
-second_same : (a b : Labels) → AreSame a b → (o : Option ℕ) → second_awake a o ≡ second_awake b o
-second_same a b same None = refl
-second_same a b same (Some s) = awake_same a b same s
-
-both_same : (a b : Labels) → AreSame a b → (m : Movers) → are_awake a m ≡ are_awake b m
-both_same a b same m = ap₂ (λ (x y : Bool). x && y) (awake_same a b same m.first) (second_same a b same m.second)
-
-movers_same : (a b : Labels) → AreSame a b → (m : Movers) → AreMovers b m → AreMovers a m
-movers_same a b same m h = record {
-  first = (h.first.0, same m.first ∙ h.first.1);
-  second = λ s e. let o = h.second s e in (o.0, same s ∙ o.1);
-}
-
-settled_same : (ties : List (Member Constraint)) (a b : Labels) (lists : List (List (Member Constraint))) → AreSame a b → IsSettled constraint_number (acting ties b lists) → IsSettled constraint_number (acting ties a lists)
-settled_same ties a b lists same h = record {
-  rising = h.rising;
-  movers = λ m i. movers_same a b same m.movers (h.movers m i);
-  islands = islands_same (Linked (links_of ties)) a b same h.islands;
-  colouring = h.colouring;
-  acting = λ m. (
-    (λ i. let o = (h.acting m).0 i in (o.0, both_same a b same m.movers ∙ o.1)),
-    (λ o. (h.acting m).1 (o.0, sym (both_same a b same m.movers) ∙ o.1)),
-  );
-}
-
-abbrev filled : World → World
-filled w = record w { plain = with_all_labels w.plain }
-
-settled_filled : (w : World) → IsSound w → IsSettled constraint_number (acting_of (with_all_labels w.plain))
-unfolding acting_of
-settled_filled w h = settled_same (world_ties w) (all_labels (length w.plain.bodies) w.plain.islands) w.plain.islands (lists w) (all_are_same w h) (settled w h)
-
-filled_sound : (w : World) → IsSound w → IsSound (filled w)
-filled_sound w h = record {
-  promises = record {
-    settled = settled_filled w h;
-    tied = λ k. ap (λ (o : Option Label). is_some o) (all_are_same w h k) ∙ h.promises.tied k;
-    told = λ k b e. h.promises.told k b e ∙ ap (λ (o : Option Label). sleeping_name o) (sym (all_are_same w h k));
-    total_x = h.promises.total_x;
-    total_y = h.promises.total_y;
-    rest = h.promises.rest;
-  };
-  formed = record {
-    matched = h.formed.matched;
-    bodies = h.formed.bodies;
-    timers = h.formed.timers;
-    joint_slots = h.formed.joint_slots;
-    joint_places = h.formed.joint_places;
-    joints = h.formed.joints;
-    contacts = h.formed.contacts;
-    pairs = h.formed.pairs;
-    there = h.formed.there;
-    moved = h.formed.moved;
-    causes = h.formed.causes;
-    gravity = h.formed.gravity;
-    steps = h.formed.steps;
-    calls = h.formed.calls;
-  };
-}
-
-filled_whole : (w : World) → IsWritable w → IsWhole (with_all_labels w.plain)
-filled_whole w ok = record { places = ok.places; labels = all_long (length w.plain.bodies) w.plain.islands; contacts = ok.contacts }
-
-filled_writable : (w : World) → IsWritable w → IsWritable (filled w)
-filled_writable w ok = record { places = ok.places; contacts = ok.contacts; filters = ok.filters; totals = ok.totals }
-
-pub what_is_written_is_read_again : WhatIsWrittenIsReadAgain
-what_is_written_is_read_again w h ok =
-    subst (λ (d : Data). read_of d ≡ Ok (with_all_labels w.plain, totals_in w)) (value_same w.plain (totals_in w) (all_labels (length w.plain.bodies) w.plain.islands) (all_are_same w h))
-    (exact (filled w) (filled_sound w h) (filled_whole w ok) (filled_writable w ok))

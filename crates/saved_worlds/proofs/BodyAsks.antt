@@ -15,6 +15,7 @@ use Rattle.momenta.specs.Motions.{IsMass, IsMotion}
 use Rattle.momenta.specs.declared.limits.TheConstants.{MAX_ANGULAR_MOMENTUM, MAX_MOMENTUM, MAX_SPEED}
 use Rattle.momenta.specs.declared.mass.MassData.{MassData}
 use Rattle.momenta.specs.declared.motion.Motion.{Motion}
+use Rattle.plain_world.specs.Formed.{HasFilter}
 use Rattle.plain_world.specs.Bodies.{IsAtRest, IsBody, IsMassOf, is_awake, is_mover, pose_of}
 use Rattle.plain_world.specs.Kinds.{IsCourse, carried_by, is_moving, is_static}
 use Rattle.plain_world.specs.declared.body.Body.{Body}
@@ -25,7 +26,6 @@ use Rattle.saved_values.specs.Reading.{has_keys, items_in, signed_in, text_in}
 use Rattle.saved_values.specs.declared.clause.Clause.TheVariants.{Form, Islands, Limits, Memberships}
 use Rattle.saved_parts.specs.SavedBodies.{bare_kind, body_asks, body_in, course_asks, facing_in, island_fits, island_told, is_at_rest, keys_asks, kind_asks, kind_in, least_mass, mass_asks, mass_in, membership_asks, membership_in, momenta_asks, momenta_in, most_angular, most_inertia, most_mass, motion_asks, motion_in, named_kind, numbers_asks, pose_asks, pose_in, rest_asks, sleeping_under, told_asks, whole_body_asks, with_course}
 use Rattle.saved_parts.specs.declared.saved.Membership.{Membership}
-use Rattle.saved_worlds.specs.Again.{HasFilter}
 use Rattle.saved_worlds.proofs.AskLaws.{Passes, Tells, passes, passes_decimal, passes_island, passes_list, passes_signed, passes_text, passes_truth, passes_unsigned, passes_vector, passes_within, tells}
 use Rattle.saved_worlds.proofs.ShapeAsks.{IsFit, as_many, boxes_small, fat_boxes_are, filters_small, forms_of, passes_shapes, tells_fit}
 use Rattle.saved_worlds.proofs.Tests.{IsFrom, both_true, decimal_small, either_true, equal_z, facing, not_true, signed_from, size_from, unsigned_small, vector_small}

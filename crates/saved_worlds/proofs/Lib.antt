@@ -23,4 +23,5 @@ pub mod BackParts
 pub mod BackBodies
 pub mod BackSlots
 pub mod BackWhole
-pub mod ReadWritable
+pub mod ReadSmall
+pub mod AgainSame

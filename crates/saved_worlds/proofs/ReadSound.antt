@@ -1,10 +1,13 @@
 -- A world that is read is sound.
-use Rattle.std.proofs.Common.{◌≡◌, ℕ, ◌+◌, ◌*◌, ◌^◌, ◌≤◌, true, List, map, Option, Some, None, Result, Ok, Err, Contains, ℤ, pos, ◌+ℤ◌, unsigned_abs, int_eq, refl, sym, ap, ◌∙◌, subst, arith}
+use Rattle.std.proofs.Common.{◌≡◌, ℕ, suc, length, ◌+◌, ◌*◌, ◌^◌, ◌≤◌, true, List, [], ◌∷◌, map, All, Option, Some, None, Result, Ok, Err, Contains, ℤ, pos, ◌+ℤ◌, unsigned_abs, int_eq, refl, sym, ap, ◌∙◌, subst, arith}
 use Rattle.std.specs.List.{list_all}
 use Rattle.std.proofs.lemmas.Int.{ints}
+use Rattle.std.proofs.lemmas.List.{length-map}
 use Rattle.std.proofs.lemmas.Option.{none-some, same_Some}
 use Rattle.serde_json.specs.Data.{Data}
-use Rattle.contacts.proofs.Members.{Each, IsIn, contains_from_in, in_from_contains}
+use Rattle.body_handles.specs.Places.{IsPlace}
+use Rattle.body_handles.specs.declared.places.Place.{Place}
+use Rattle.contacts.proofs.Members.{Each, IsIn, all_from_each, contains_from_in, in_from_contains}
 use Rattle.contacts_base.specs.Contacts.{AreKeysRising}
 use Rattle.contacts_base.specs.declared.contact.ContactEntry.{ContactEntry}
 use Rattle.contacts.specs.Constraints.{constraint_number}
@@ -18,12 +21,14 @@ use Rattle.impulse_ledger.specs.declared.totals.Totals.{Totals}
 use Rattle.islands.specs.Labels.{Labels}
 use Rattle.islands.specs.Partition.{AreTogether}
 use Rattle.plain_world.specs.Bodies.{AreBodies, momentum_x, momentum_y}
+use Rattle.plain_world.specs.Formed.{AreFiltered, HasFilter}
 use Rattle.plain_world.specs.Plain.{Plain}
 use Rattle.plain_world.specs.Slots.{body_at, item_in}
 use Rattle.plain_world.specs.declared.body.Body.{Body}
 use Rattle.saved_values.specs.Asks.{no_asks}
 use Rattle.saved_values.specs.declared.clause.Clause.{Clause}
 use Rattle.saved_parts.specs.declared.saved.Membership.{Membership}
+use Rattle.shapes.specs.declared.shape.ShapeDef.{ShapeDef}
 use Rattle.sleep_wake.specs.Acting.{AreMovers, IsSettled, acting, links_of}
 use Rattle.sleep_wake.proofs.ListLemmas.{link_in}
 use Rattle.solver_sets.specs.Tied.{AreJointSlots, AreTied}
@@ -37,10 +42,11 @@ use Rattle.world_file.specs.Saved.{Saved, parts_asks, saved_in}
 use Rattle.world_file.specs.declared.ties.Tie.{Tie}
 use Rattle.world_rules.specs.Sets.{acting_of}
 use Rattle.world_rules.specs.Sound.{AreSmall, AreTimers, IsSound}
+use Rattle.world_rules.specs.Settled.{settled_world}
 use Rattle.world_rules.specs.World.{book_of}
 use Rattle.world_rules.proofs.LowerLaws.{lists_are_members, ties_have_labels, ties_rise}
 use Rattle.world_rules.proofs.SoundLaws.{IsKept, sound_kept}
-use Rattle.saved_worlds.specs.Laws.{WhatIsReadIsSound, settled_world}
+use Rattle.saved_worlds.specs.Laws.{WhatIsReadIsSound}
 use Rattle.saved_worlds.proofs.BodyAsks.{IsSavedBody}
 use Rattle.saved_worlds.proofs.ReadParts.{AreFitting, HasParts, tells_fitting, tells_parts}
 use Rattle.saved_worlds.proofs.SavedColours.{IsTie, acting_is, colouring_is, ids_are, lists_are_ties, saved_lists}
@@ -48,7 +54,7 @@ use Rattle.saved_worlds.proofs.SavedContacts.{IsFittingContact, contacts_of, con
 use Rattle.saved_worlds.proofs.SavedIslands.{islands_are, tie_together, tied_is, told_is}
 use Rattle.saved_worlds.proofs.SavedJoints.{joints_are, kept_matched}
 use Rattle.saved_worlds.proofs.SavedTies.{ties_are}
-use Rattle.saved_worlds.proofs.SlotAsks.{OnBody, bodies_matched, joint_places_are, joints_matched, slot_is}
+use Rattle.saved_worlds.proofs.SlotAsks.{AreBodySlots, OnBody, bodies_matched, joint_places_are, joints_matched, slot_is}
 use Rattle.saved_worlds.proofs.TieColours.{ties_coloured}
 use Rattle.saved_worlds.proofs.Tests.{all_pass, both_true, equal_z}
 
@@ -90,6 +96,26 @@ body_in_slot s h slot b e = body_by (8 * s.steps) (body_at s.bodies slot) (membe
 
 bodies_are : (s : Saved) → HasParts s → AreBodies s.bodies
 bodies_are s h slot b e = (body_in_slot s h slot b (ap (λ (o : Option (Option Body)). item_in o) e)).body
+
+filters_are : (s : Saved) → HasParts s → AreFiltered s.bodies
+filters_are s h slot b e = all_from_each (λ (d : ShapeDef). HasFilter d.filter) b.shapes (body_in_slot s h slot b e).filters
+
+each_place : (most : ℕ) (ps : List Place) (os : List (Option Body)) (ms : List Membership) → AreBodySlots most ps os ms → Each IsPlace ps
+each_place most [] os ms are = tt
+each_place most (p ∷ ps) [] ms are = absurd are
+each_place most (p ∷ ps) (o ∷ os) [] are = absurd are
+each_place most (p ∷ ps) (o ∷ os) (m ∷ ms) are = (are.0.place, each_place most ps os ms are.1)
+
+as_long : (most : ℕ) (ps : List Place) (os : List (Option Body)) (ms : List Membership) → AreBodySlots most ps os ms → length ms ≡ length os
+as_long most [] [] [] are = refl
+as_long most [] [] (m ∷ ms) are = absurd are
+as_long most [] (o ∷ os) ms are = absurd are
+as_long most (p ∷ ps) [] ms are = absurd are
+as_long most (p ∷ ps) (o ∷ os) [] are = absurd are
+as_long most (p ∷ ps) (o ∷ os) (m ∷ ms) are = ap (λ (n : ℕ). suc n) (as_long most ps os ms are.1)
+
+places_are : (s : Saved) → HasParts s → All IsPlace s.places
+places_are s h = all_from_each IsPlace s.places (each_place (8 * s.steps) s.places s.bodies s.memberships h.bodies)
 
 timers_are : (s : Saved) → HasParts s → AreTimers s.steps s.bodies
 timers_are s h slot b e = (body_in_slot s h slot b e).timer
@@ -200,8 +226,10 @@ kept_is s h f =
       total_y = momentum.1 ∙ plus_none (sum_y s.totals);
       causes = causes_small s h;
       bodies = bodies_are s h;
+      filters = filters_are s h;
       timers = timers_are s h;
       matched = matched;
+      places = places_are s h;
       joint_slots = slots.matched;
       joint_places = slots.places;
       joints = joints_are s.places s.bodies s.joint_places s.joints matched h.joints (referred s f).joints;
@@ -211,6 +239,7 @@ kept_is s h f =
       settled = settled_is s h f;
       tied = tied s h;
       told = told_is (8 * s.steps) s.bodies s.memberships (each_slot s h);
+      labels = length-map s.memberships label_of ∙ as_long (8 * s.steps) s.places s.bodies s.memberships h.bodies;
       moved = moved_is s h f;
       gravity = h.gravity;
       steps = h.steps;

@@ -12,7 +12,7 @@ use Rattle.contacts_base.specs.Limits.{IsContact}
 use Rattle.contacts_base.specs.declared.contact.Contact.{Contact}
 use Rattle.contacts_base.specs.declared.contact.ContactPoint.{ContactPoint}
 use Rattle.graph_colours.proofs.MoverLemmas.{same_back}
-use Rattle.plain_world.specs.Formed.{HasPoints}
+use Rattle.plain_world.specs.Formed.{HasPoints, shape_named, shape_of_body}
 use Rattle.plain_world.specs.Kinds.{is_dynamic}
 use Rattle.plain_world.specs.Slots.{body_at, shapes_in}
 use Rattle.plain_world.specs.declared.body.Body.{Body}
@@ -22,7 +22,7 @@ use Rattle.shapes.specs.declared.shape.ShapeDef.{ShapeDef}
 use Rattle.solver_sets.specs.Ties.{is_enabled_in}
 use Rattle.solver_sets.proofs.SlotLemmas.{below_length}
 use Rattle.world_core_base.specs.Gather.{AreContactsOf, IsContactOf, moves_in}
-use Rattle.world_file.specs.Fitting.{are_points, are_rising_after, entry_of, has_points, is_above, is_contact_fitting, is_dynamic_body, shape_named, shape_of_body}
+use Rattle.world_file.specs.Fitting.{are_points, are_rising_after, entry_of, has_points, is_above, is_contact_fitting, is_dynamic_body}
 use Rattle.world_rules.specs.Sound.{HasBodies}
 use Rattle.saved_worlds.proofs.ContactAsks.{IsSavedContact}
 use Rattle.saved_worlds.proofs.PointAsks.{IsPoint, OnPoint}
@@ -139,7 +139,7 @@ has_bodies : (bodies : List (Option Body)) (c : SavedContact) → IsFittingConta
 has_bodies bodies c h =
     let first = is_there (body_at bodies c.key.first.slot) c.key.first.index h.first in
     let second = is_there (body_at bodies c.key.second.slot) c.key.second.index h.second in
-    record { first = first.body; second = second.body; first_shape = first.shape; second_shape = second.shape; named = h.saved.named; points = points_have bodies c h }
+    record { first = first.body; second = second.body; first_shape = first.shape; second_shape = second.shape; order = h.order; surface = refl; named = h.saved.named; points = points_have bodies c h }
 
 pub each_mapped : {X Y : Type 0} (P : Y → Type 0) (Q : X → Type 0) (f : X → Y) (xs : List X) → ((x : X) → Q x → P (f x)) → Each Q xs → Each P (map f xs)
 each_mapped P Q f [] h all = tt

@@ -11,6 +11,7 @@ use Rattle.fixed_geom.specs.declared.boxes.Box2.{Box2}
 use Rattle.fixed_geom.specs.declared.refusal.Refusal.{Refusal}
 use Rattle.fixed_geom.specs.declared.refusal.Refusal.TheVariants.{BadShape, OutOfRange}
 use Rattle.contacts.proofs.Members.{Each}
+use Rattle.plain_world.specs.Formed.{HasFilter}
 use Rattle.plain_world.specs.Fats.{AreFatBoxes, EachIsFatBox}
 use Rattle.plain_world.specs.Kinds.{is_static}
 use Rattle.plain_world.specs.declared.kind.Kind.{Kind}
@@ -25,7 +26,6 @@ use Rattle.saved_values.specs.declared.clause.Clause.TheVariants.{FatBoxes, Form
 use Rattle.saved_values.specs.declared.reader.Reader.{Reader}
 use Rattle.saved_parts.specs.SavedBodies.{are_in_boxes, fit_asks, is_pose}
 use Rattle.saved_parts.specs.SavedShapes.{capsule_asks, circle_asks, core_asks, defs_in, fats_in, form_asks, long_asks, most_bits, most_corner, round_asks, segment_asks, shape_asks, shape_in, shapes_asks}
-use Rattle.saved_worlds.specs.Again.{HasFilter}
 use Rattle.saved_worlds.proofs.AskLaws.{IsUnbroken, Passes, Tells, passes, passes_ends, passes_group, passes_number, passes_pair, passes_unsigned, passes_vector, still_broken, tells}
 use Rattle.saved_worlds.proofs.Tests.{contains_is, signed_from, unsigned_small, vector_small}
 

@@ -1,6 +1,5 @@
 -- What is written of a world, part by part.
-use Rattle.std.specs.Prelude.{◌≡◌, ℕ, zero, suc, ◌+◌, ◌-◌, ◌^◌, ◌<◌, ◌≤◌, pos, negsuc, ◌≤ℤ◌, List, [], ◌∷◌, length, map, All, Option, Some, None, option_map, slice_get}
-use Rattle.body_handles.specs.Places.{IsPlace}
+use Rattle.std.specs.Prelude.{ℕ, suc, ◌+◌, List, [], ◌∷◌, map, Option, Some, None, option_map, slice_get}
 use Rattle.body_handles.specs.declared.handle.Handle.{Handle}
 use Rattle.body_handles.specs.declared.places.Place.{Place}
 use Rattle.contacts.specs.declared.constraint.Constraint.{Constraint}
@@ -9,20 +8,15 @@ use Rattle.contacts_base.specs.Evaluate.{touches}
 use Rattle.contacts_base.specs.declared.contact.ContactEntry.{ContactEntry}
 use Rattle.contacts_base.specs.declared.contact.ContactPoint.{ContactPoint}
 use Rattle.impulse_ledger.specs.declared.totals.Totals.{Totals}
-use Rattle.islands.specs.Labels.{Labels, is_asleep, is_loose}
+use Rattle.islands.specs.Labels.{is_asleep, is_loose}
 use Rattle.islands.specs.declared.label.Label.{Label}
 use Rattle.plain_world.specs.Plain.{Plain, colour_of}
-use Rattle.plain_world.specs.declared.body.Body.{Body}
 use Rattle.plain_world.specs.declared.joint.BodyJoint.{BodyJoint}
-use Rattle.plain_world.specs.Slots.{body_at}
-use Rattle.shapes.specs.declared.filter.Filter.{Filter}
-use Rattle.shapes.specs.declared.shape.ShapeDef.{ShapeDef}
 use Rattle.saved_parts.specs.SavedJoints.{generation_of}
 use Rattle.saved_parts.specs.SavedSlots.{no_membership}
 use Rattle.saved_parts.specs.declared.saved.Membership.{Membership}
 use Rattle.saved_parts.specs.declared.saved.SavedContact.{SavedContact}
 use Rattle.saved_parts.specs.declared.saved.SavedJoint.{SavedJoint}
-use Rattle.world_file.specs.Fitting.{mixed_of, shape_named}
 use Rattle.world_file.specs.Saved.{Saved}
 
 -- what the label of a mover says of its island
@@ -70,39 +64,3 @@ saved_of p t = record {
   steps = p.steps;
   calls = p.calls;
 }
-
--- ---- what such a world has beside its being sound
-
--- the lesser shape is the first, and the surface is mixed of those of the two shapes
-pub record IsWholeContact (bodies : List (Option Body)) (e : ContactEntry) : Type 0 where
-  pub order : e.key.first.slot < e.key.second.slot
-  pub surface : e.surface ≡ mixed_of (shape_named bodies e.key.first) (shape_named bodies e.key.second)
-
--- the numbers of a filter are within the ranges of their types
-pub record HasFilter (f : Filter) : Type 0 where
-  pub category : f.category ≤ 2 ^ 64 - 1
-  pub mask : f.mask ≤ 2 ^ 64 - 1
-  pub least : negsuc (2 ^ 31 - 1) ≤ℤ f.group
-  pub most : f.group ≤ℤ pos (2 ^ 31 - 1)
-
--- so are those of each shape
-abbrev pub AreFiltered : List (Option Body) → Type 0
-AreFiltered bodies = (slot : ℕ) (b : Body) → body_at bodies slot ≡ Some b → All (λ (d : ShapeDef). HasFilter d.filter) b.shapes
-
--- The generations of its bodies are within their range, there is a label or none for each slot of a body, and its contacts are whole.
-pub record IsWhole (p : Plain) : Type 0 where
-  pub places : All IsPlace p.places
-  pub labels : length p.islands ≡ length p.bodies
-  pub contacts : All (IsWholeContact p.bodies) p.contacts
-
--- ---- labels for all bodies
-
--- the first n labels, and none for slots of which nothing is known
-abbrev pub all_labels : ℕ → Labels → Labels
-all_labels zero labels = []
-all_labels (suc n) [] = None ∷ all_labels n []
-all_labels (suc n) (l ∷ labels) = l ∷ all_labels n labels
-
--- A world with a label or none for each slot of a body. The labels of a world may end sooner, after the last mover that ever was.
-abbrev pub with_all_labels : Plain → Plain
-with_all_labels p = record p { islands = all_labels (length p.bodies) p.islands }

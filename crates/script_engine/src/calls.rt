@@ -3,6 +3,7 @@
 use fixed_geom::{Box2, Refusal, Vec2};
 use impulse_ledger::Ledger;
 use plain_world::BodyView;
+use serde_json::Value;
 use std::alloc::Global;
 use std::sync::Wait;
 use world_core::{Command, Events, Handle, Reply, ShapeId, WorldCore};
@@ -45,6 +46,19 @@ pub fn region(alloc: Global, world: &WorldCore, bounds: &Box2) -> Result<Vec<Sha
     } else {
         Err(Refusal::OutOfRange)
     }
+}
+
+/// The world as a value. Refused 1 where memory is wanting.
+pub fn save(world: &WorldCore) -> Result<Value, Refusal> {
+    world.save()
+}
+
+/// The world of a text that is JSON. Refused 12 with the first clause that it breaks, or 1 where memory is wanting.
+pub fn load(alloc: Global, text: &str) -> Result<WorldCore, Refusal> {
+    let Ok(value) = Value::from_str(alloc, text) else {
+        return Err(Refusal::NoMemory);
+    };
+    WorldCore::load(alloc, &value).map_err(|broken| broken.refusal())
 }
 
 /// Makes a call through a seat, and says whether it was accepted.

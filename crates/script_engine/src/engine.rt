@@ -1,6 +1,6 @@
 //! Lines in, answers out.
 
-use crate::calls::{apply, body_of, events_of, ledger_of, new_world, ray, region};
+use crate::calls::{apply, body_of, events_of, ledger_of, load, new_world, ray, region, save};
 use crate::crowds::crowd;
 use crate::explanation::explain;
 use crate::requests::{CrowdDef, Request, request_of};
@@ -75,6 +75,25 @@ fn answer_region<'a>(alloc: Global, world: &WorldCore, bounds: &Box2) -> Answer<
     }
 }
 
+/// The world as a value. Refused 1 where memory is wanting.
+fn answer_save<'a>(world: &WorldCore) -> Answer<'a> {
+    match save(world) {
+        Ok(value) => Answer::World(value),
+        Err(refusal) => Answer::Refused(refusal),
+    }
+}
+
+/// Puts the world of a text in place of the world. Refused 12 with the first clause that it breaks, or 1; the world stays then.
+fn answer_load<'a>(alloc: Global, world: &mut WorldCore, text: &str) -> Answer<'a> {
+    match load(alloc, text) {
+        Ok(loaded) => {
+            *world = loaded;
+            Answer::Done
+        }
+        Err(refusal) => Answer::Refused(refusal),
+    }
+}
+
 /// What a crowd of so many threads did. Refused 1 or 11.
 fn answer_crowd<'a, R: AllocGlobal + Threads + Wait + Sync>(
     rt: &R,
@@ -92,7 +111,7 @@ fn answer_crowd<'a, R: AllocGlobal + Threads + Wait + Sync>(
 fn answer<'a, R: AllocGlobal + Threads + Wait + Sync>(
     rt: &R,
     world: &'a mut WorldCore,
-    request: &Request,
+    request: &Request<'_>,
     threads: u64,
 ) -> Answer<'a> {
     match request {
@@ -101,12 +120,14 @@ fn answer<'a, R: AllocGlobal + Threads + Wait + Sync>(
         Request::Ledger => Answer::Ledger(ledger_of(world)),
         Request::Ray(from, along) => answer_ray(world, *from, *along),
         Request::Region(bounds) => answer_region(rt.alloc(), world, bounds),
+        Request::Save => answer_save(world),
+        Request::Load(text) => answer_load(rt.alloc(), world, text),
         Request::Crowd(def) => answer_crowd(rt, world, def, threads),
     }
 }
 
 /// Tells in words why a request is refused.
-fn tell<R: Eprint>(rt: &R, number: u64, request: &Request, answer: &Answer<'_>) {
+fn tell<R: Eprint>(rt: &R, number: u64, request: &Request<'_>, answer: &Answer<'_>) {
     if let Answer::Refused(refusal) = answer {
         let explanation = explain(request, *refusal);
         let _ = eprintln!(rt; "line {number}: {explanation}");
@@ -117,7 +138,7 @@ fn tell<R: Eprint>(rt: &R, number: u64, request: &Request, answer: &Answer<'_>) 
 fn answer_request<R: AllocGlobal + Eprint + Threads + Wait + Sync, O: Write>(
     rt: &R,
     world: &mut WorldCore,
-    request: &Request,
+    request: &Request<'_>,
     (number, options): (u64, Options),
     outbox: &mut Outbox<'_, O>,
 ) -> Result<(), Stop> {

@@ -88,7 +88,7 @@ fn key_of_number(command: &Command) -> Option<&'static str> {
 }
 
 /// The key of a request that a refusal speaks of, if it is of one.
-fn key_of(request: &Request, refusal: Refusal) -> Option<&'static str> {
+fn key_of(request: &Request<'_>, refusal: Refusal) -> Option<&'static str> {
     match (refusal, request) {
         (Refusal::StaleHandle, Request::Command(Command::DestroyJoint(_))) => Some("joint"),
         (Refusal::StaleHandle, Request::Command(Command::CreateJoint(_)))
@@ -100,13 +100,14 @@ fn key_of(request: &Request, refusal: Refusal) -> Option<&'static str> {
         | (Refusal::BodyDisabled, _) => Some("body"),
         (Refusal::BadShape, _) => Some("shapes"),
         (Refusal::TooFast, _) => Some("by"),
+        (Refusal::BadFile(_), _) => Some("world"),
         (Refusal::OutOfRange, Request::Command(command)) => key_of_number(command),
         _ => None,
     }
 }
 
 /// What a refusal of a request says.
-pub fn explain(request: &Request, refusal: Refusal) -> Explanation {
+pub fn explain(request: &Request<'_>, refusal: Refusal) -> Explanation {
     Explanation {
         key: key_of(request, refusal),
         refusal,

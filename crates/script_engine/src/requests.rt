@@ -22,7 +22,7 @@ pub struct CrowdDef {
 
 /// What a line asks for.
 #[derive(Drop)]
-pub enum Request {
+pub enum Request<'a> {
     /// A command, which is a call of the world.
     Command(Command),
     /// What can be seen of a body.
@@ -33,6 +33,10 @@ pub enum Request {
     Ray(Vec2, Vec2),
     /// The shapes over a region.
     Region(Box2),
+    /// The world as a value that can be loaded.
+    Save,
+    /// The text of a saved world, which is to replace the world.
+    Load(&'a str),
     /// Calls of many threads at once.
     Crowd(CrowdDef),
 }
@@ -192,12 +196,12 @@ fn take_command<'a>(alloc: Global, fields: &mut Fields<'a>, name: &str) -> Optio
     Some(command)
 }
 
-fn take_ray<'a>(fields: &mut Fields<'a>) -> Request {
+fn take_ray<'a>(fields: &mut Fields<'a>) -> Request<'a> {
     let from = fields.take_vector("from");
     Request::Ray(from, fields.take_vector("along"))
 }
 
-fn take_region<'a>(fields: &mut Fields<'a>) -> Request {
+fn take_region<'a>(fields: &mut Fields<'a>) -> Request<'a> {
     let lo = fields.take_vector("lo");
     let hi = fields.take_vector("hi");
     Request::Region(Box2 { lo, hi })
@@ -226,7 +230,7 @@ fn take_calls<'a>(alloc: Global, line: &mut Line<'a>, calls: &mut Vec<Command>) 
     }
 }
 
-fn take_crowd<'a>(alloc: Global, line: &mut Line<'a>) -> Request {
+fn take_crowd<'a>(alloc: Global, line: &mut Line<'a>) -> Request<'a> {
     line.own.take_each("each");
     let times = line.own.take_unsigned("times");
     if times < 1 || MOST_TIMES < times {
@@ -238,13 +242,15 @@ fn take_crowd<'a>(alloc: Global, line: &mut Line<'a>) -> Request {
 }
 
 /// The request of a line; `None` where something is wrong, which is noted in the line's own object then.
-fn take_request<'a>(alloc: Global, line: &mut Line<'a>) -> Option<Request> {
+fn take_request<'a>(alloc: Global, line: &mut Line<'a>) -> Option<Request<'a>> {
     let name = line.own.take_text("do");
     match name {
         "show" => Some(Request::Show(line.own.take_id("body"))),
         "ledger" => Some(Request::Ledger),
         "ray" => Some(take_ray(&mut line.own)),
         "region" => Some(take_region(&mut line.own)),
+        "save" => Some(Request::Save),
+        "load" => Some(Request::Load(line.own.take_json("world"))),
         "crowd" => Some(take_crowd(alloc, line)),
         name => match take_command(alloc, &mut line.own, name) {
             Some(command) => Some(Request::Command(command)),
@@ -261,7 +267,7 @@ pub fn request_of<'a>(
     alloc: Global,
     bytes: &'a [u8],
     scratch: &'a mut Scratch,
-) -> Result<Request, LineFault<'a>> {
+) -> Result<Request<'a>, LineFault<'a>> {
     let mut line = Line::new(alloc);
     line.read(alloc, bytes, scratch);
     let request = take_request(alloc, &mut line);

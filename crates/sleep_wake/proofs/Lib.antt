@@ -15,3 +15,5 @@ pub mod FoldLemmas
 pub mod RestLemmas
 pub mod NameLemmas
 pub mod LawLemmas
+pub mod GivenLaws
+pub mod LengthLemmas

@@ -99,7 +99,7 @@ has_from number id ms x h k e =
 
 -- ---- who has a colour
 
-flat_in : {X : Type 0} (ls : List (List X)) (l : List X) (x : X) → Contains ls l → Contains l x → Contains (flat_map (λ ms. ms) ls) x
+pub flat_in : {X : Type 0} (ls : List (List X)) (l : List X) (x : X) → Contains ls l → Contains l x → Contains (flat_map (λ ms. ms) ls) x
 flat_in {X} [] l x h k = absurd (none_in l h)
 flat_in {X} (m ∷ ls) l x h k = elim (contains_cases m ls l h) [
   | inl p ↦ let P : List X → Type 0 = λ v. Contains v x in Contains-append_left m (flat_map (λ ms. ms) ls) x (subst P (sym p) k)

@@ -3,6 +3,7 @@ pub mod Waking
 pub mod Rooms
 pub mod Changes
 pub mod Bodies
+pub mod Widened
 pub mod SleepPhase
 pub mod Sleeping
 pub mod Standing

@@ -1,5 +1,7 @@
 //! The constraints, islands and colours of a world, kept together.
 
+mod from_parts;
+
 ghost use Rattle.std.specs.Prelude.{◌≡◌, ◌<◌, ◌≤◌, ◌+◌, ◌∷◌, ℕ, true, false, length, filter, replicate, [], IfOk, OnOk, OnErr, Some, None, Contains, option_map};
 ghost use Rattle.std.specs.Result.{IsOkUnless};
 ghost use Rattle.graph_colours.specs.declared.limits.TheConstants.{COLOURS};
@@ -11,6 +13,7 @@ ghost use Rattle.sleep_wake.specs.Acting.{acting, is_awake, are_awake, AreMovers
 ghost use Rattle.sleep_wake.specs.Waking.{woken_at, movers_woken, put_to_rest};
 ghost use Rattle.sleep_wake.specs.Changes.{begun, ended, each_begun, each_ended, CanBegin, CanEnd, changed, turned, begin_count, IsChange, AreChanges};
 ghost use Rattle.sleep_wake.specs.Bodies.{mover_made, mover_gone};
+ghost use Rattle.sleep_wake.specs.Widened.{widened};
 ghost use Rattle.sleep_wake.specs.SleepPhase.{is_island, split_at, sleep_phase, ready_put_to_rest};
 ghost use Rattle.sleep_wake.specs.Sleeping.{names_of, is_whole, islands_woken, split_if_loose, rested_at, slept_at};
 
@@ -221,6 +224,16 @@ impl<C: Id> Sets<C> {
         ensures slots { self.new.slots ≡ self.old.slots }
     {
         self.islands.add(slot);
+    }
+
+    /// Lets the slots of which it is known whether they have a mover go up to this one at least.
+    pub fn widen(&mut self, slot: u32)
+        requires below { slot < self.old.slots }
+        ensures acting { self.new.acting ≡ widened slot self.old.acting }
+        ensures room { self.new.room ≡ self.old.room }
+        ensures slots { self.new.slots ≡ self.old.slots }
+    {
+        self.islands.widen(slot);
     }
 
     /// Takes an awake mover that is in no constraint out of its island. Those that it leaves behind are loose.

@@ -8,6 +8,7 @@ pub mod BodyLaws
 pub mod CollideLaws
 pub mod ToldLaws
 pub mod ListingLaws
+pub mod GivenLaws
 pub mod MergeLaws
 pub mod TimerLaws
 pub mod SleptLaws

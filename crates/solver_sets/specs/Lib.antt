@@ -1,4 +1,5 @@
 pub mod Ties
+pub mod Given
 pub mod Joining
 pub mod Beside
 pub mod Slept

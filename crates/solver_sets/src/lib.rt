@@ -8,6 +8,7 @@
 mod beside;
 mod census;
 mod changes;
+mod given;
 pub mod laws;
 mod sets;
 mod slept;
@@ -17,6 +18,7 @@ mod timers;
 pub use beside::{list_joined, list_neighbours, list_stirred};
 pub use census::{Census, Item, SleepingSet, standing_of_contact, standing_of_joint, take_census};
 pub use changes::list_changes;
+pub use given::{count_members, list_all_ties, list_members};
 pub use sets::{begin_with, end_with};
 pub use slept::{fill_newly_asleep, fill_newly_awake};
 pub use ties::{

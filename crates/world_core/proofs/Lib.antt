@@ -11,3 +11,5 @@ pub mod MovingBeside
 pub mod StepLaws
 pub mod RowColourLaws
 pub mod CountLaws
+pub mod LoadingLaws
+pub mod NamedLaws

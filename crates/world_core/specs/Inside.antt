@@ -10,7 +10,7 @@ use Rattle.world_rules.specs.World.{World}
 
 abbrev pub world_of : Inside → World
 world_of a = record {
-  plain = record { places = a.handles.places; bodies = a.bodies.bodies; joint_places = a.joint_handles.places; joints = a.joints.joints; contacts = a.contacts; islands = a.sets.acting.labels; colours = ids_of a.sets.acting.lists; gravity = a.gravity; steps = a.steps; calls = a.calls };
+  plain = record { places = a.handles.places; bodies = a.bodies.bodies; joint_places = a.joint_handles.places; joints = a.joints.joints; contacts = a.contacts.contacts; islands = a.sets.acting.labels; colours = ids_of a.sets.acting.lists; gravity = a.gravity; steps = a.steps; calls = a.calls };
   entries = a.ledger.entries;
   settled = a.ledger.settled;
   events = a.events;

@@ -3,3 +3,4 @@ pub mod Quiet
 pub mod Frames
 pub mod Walks
 pub mod RowColours
+pub mod Named

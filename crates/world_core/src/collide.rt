@@ -4,16 +4,22 @@ ghost use Rattle.contacts_base.specs.Near.{number_of};
 ghost use Rattle.contacts_base.specs.Surfaces.{IsSurface};
 ghost use Rattle.shapes.specs.Shapes.{IsShapeDef};
 ghost use Rattle.contacts.specs.Changes.{keys_touching_only_in, AreRising};
+ghost use Rattle.contacts.specs.Turns.{stirs_in};
 ghost use Rattle.plain_world.specs.Bodies.{AreBodies, IsBody};
+ghost use Rattle.contacts_base.specs.Keys.{id_number};
+ghost use Rattle.contacts.specs.Known.{found};
+ghost use Rattle.world_core.specs.Named.{shape_of};
 ghost use Rattle.world_rules.specs.Collide.{body_proxies, proxies_of, contacts_after};
 
 use body_handles::MAX_SLOTS;
-use contacts::{BroadPhase, Changes};
-use contacts_base::{Contacts, Proxy, ShapeId, Surface};
+use contacts::{BroadPhase, ShapesByName};
+use contacts_base::{Proxy, ShapeId, Surface};
 use fixed_geom::Refusal;
+use kept_contacts::{KeptContacts, Touches};
 use plain_world::{Body, JointTable};
 use shapes::ShapeDef;
 use std::alloc::Global;
+use std::marker::Model;
 
 /// The friction and the restitution of a shape.
 fn surface_of(def: &ShapeDef) -> Surface
@@ -78,25 +84,122 @@ fn gather(broad: &mut BroadPhase, bodies: &[Option<Body>]) -> Result<(), Refusal
     Ok(())
 }
 
-/// Gathers shapes from the bodies, finds the near pairs of shapes whose bodies no joint keeps from colliding, and evaluates a contact for
-/// each of which a body stirs. Refused 1 where memory is wanting.
-#[tactic(auto, unfolding(world_rules::specs::Collide::contacts_after))]
+/// The shape of a body with this name, if it has one.
+fn shape_of(body: &Body, id: ShapeId) -> Option<Proxy>
+    requires { IsBody body.now }
+    ensures { result ≡ shape_of id body.now }
+{
+    if !body.enabled {
+        return None;
+    }
+    let defs = body.shapes.as_slice();
+    let fats = body.fats.as_slice();
+    let index = usize::from(id.index);
+    if index >= defs.len() {
+        return None;
+    }
+    Some(Proxy {
+        id,
+        fat: fats[index],
+        filter: defs[index].filter,
+        dynamic: body.kind.is_dynamic(),
+        stirs: body.stirs(),
+        surface: surface_of(&defs[index]),
+        shape: defs[index].shape,
+        pose: body.pose(),
+    })
+}
+
+/// Whether a body has a shape with this name, and stirs.
+fn stirs_with(body: &Body, id: ShapeId) -> bool
+    requires { IsBody body.now }
+    ensures { result ≡ stirs_in (shape_of id body.now) }
+{
+    if !body.enabled {
+        return false;
+    }
+    if usize::from(id.index) < body.shapes.as_slice().len() {
+        body.stirs()
+    } else {
+        false
+    }
+}
+
+/// The shape with this name, if its body is there and has it.
+fn shape_named(bodies: &[Option<Body>], id: ShapeId) -> Option<Proxy>
+    requires { AreBodies bodies.now }
+    ensures { result ≡ found (proxies_of bodies.now) (id_number id) }
+{
+    match bodies.get(id.slot as usize) {
+        None => None,
+        Some(None) => None,
+        Some(Some(body)) => shape_of(body, id),
+    }
+}
+
+/// Whether there is a shape with this name, and its body stirs.
+fn stirs_named(bodies: &[Option<Body>], id: ShapeId) -> bool
+    requires { AreBodies bodies.now }
+    ensures { result ≡ stirs_in (found (proxies_of bodies.now) (id_number id)) }
+{
+    match bodies.get(id.slot as usize) {
+        None => false,
+        Some(None) => false,
+        Some(Some(body)) => stirs_with(body, id),
+    }
+}
+
+/// The bodies of a world, whose shapes a collide reads.
+#[derive(Drop)]
+pub struct BodyShapes<'a> {
+    bodies: &'a [Option<Body>],
+}
+
+impl<'a> Model for BodyShapes<'a> {
+    ghost use Rattle.std.specs.Prelude.{List, Option};
+    ghost use Rattle.plain_world.specs.declared.body.Body.{Body};
+    ghost use Rattle.world_core.specs.Named.{AreShown};
+
+    ghost Value = { List (Option Body) };
+
+    ghost view = { λ a. a.bodies.now };
+
+    ghost invariant = { λ a. AreShown a.bodies.now };
+}
+
+impl ShapesByName for BodyShapes<'_> {
+    ghost proxies = { λ s. proxies_of s };
+
+    fn shape(&self, id: ShapeId) -> Option<Proxy> {
+        shape_named(self.bodies, id)
+    }
+
+    fn stirs(&self, id: ShapeId) -> bool {
+        stirs_named(self.bodies, id)
+    }
+
+    fn gather(&self, broad: &mut BroadPhase) -> Result<(), Refusal> {
+        gather(broad, self.bodies)
+    }
+}
+
+/// Finds the near pairs of shapes whose bodies no joint keeps from colliding, and evaluates a contact for each of which a body stirs: what the
+/// contacts become is due then. Refused 1 where memory is wanting.
 pub fn collide(
     alloc: Global,
-    broad: &mut BroadPhase,
+    contacts: &mut KeptContacts,
     bodies: &[Option<Body>],
     joints: &JointTable,
-    old: &Contacts,
-) -> Result<Changes, Refusal>
+) -> Result<Touches, Refusal>
     requires few { length bodies.now ≤ MAX_SLOTS }
     requires bodies { AreBodies bodies.now }
-    ensures now { IfOk result (λ changes. changes.now ≡ contacts_after bodies.now joints.now.joints old.now) }
-    ensures begin { IfOk result (λ changes. changes.begin.items ≡ keys_touching_only_in old.now (contacts_after bodies.now joints.now.joints old.now)) }
-    ensures end { IfOk result (λ changes. changes.end.items ≡ keys_touching_only_in (contacts_after bodies.now joints.now.joints old.now) old.now) }
-    ensures begin_rises { IfOk result (λ changes. AreRising changes.begin.items) }
-    ensures end_rises { IfOk result (λ changes. AreRising changes.end.items) }
+    ensures contacts { contacts.new.contacts ≡ contacts.old.contacts }
+    ensures due { OnOk result (contacts.new.due ≡ contacts_after bodies.now joints.now.joints contacts.old.contacts) }
+    ensures begin { IfOk result (λ touches. touches.begin.items ≡ keys_touching_only_in contacts.old.contacts (contacts_after bodies.now joints.now.joints contacts.old.contacts)) }
+    ensures end { IfOk result (λ touches. touches.end.items ≡ keys_touching_only_in (contacts_after bodies.now joints.now.joints contacts.old.contacts) contacts.old.contacts) }
+    ensures begin_rises { IfOk result (λ touches. AreRising touches.begin.items) }
+    ensures end_rises { IfOk result (λ touches. AreRising touches.end.items) }
     ensures memory_only { IsOkUnless result Refusal.NoMemory }
 {
-    gather(broad, bodies)?;
-    broad.update_contacts(alloc, joints.forbidden(), old)
+    contacts.collide(alloc, &BodyShapes { bodies }, joints.forbidden())
 }

@@ -1,6 +1,6 @@
 //! What a plain world has of the colours and the islands.
 
-ghost use Rattle.std.specs.Prelude.{◌≡◌, IfOk, map};
+ghost use Rattle.std.specs.Prelude.{◌≡◌, ◌+◌, IfOk, length, map};
 ghost use Rattle.std.specs.Result.{IsOkUnless};
 ghost use Rattle.graph_colours.specs.Colours.{ids_of};
 ghost use Rattle.plain_world.specs.Plain.{constraints_of};
@@ -28,6 +28,7 @@ pub fn copy_ids(
     colours: &Colours<Constraint>,
 ) -> Result<Vec<Vec<Constraint>>, Refusal>
     ensures ids { IfOk result (λ copied. constraints_of copied.items ≡ ids_of colours.now.lists) }
+    ensures count { IfOk result (λ copied. length copied.items ≡ OVERFLOW + 1) }
     ensures memory_only { IsOkUnless result Refusal.NoMemory }
 {
     let mut copied = Vec::new(alloc);

@@ -6,6 +6,7 @@ mod booking;
 mod collide;
 mod copying;
 mod frame;
+mod impulses;
 mod joining;
 mod laws;
 mod leaving;
@@ -35,6 +36,7 @@ pub use plain_world::{
 pub use shapes::{Filter, Pose, Shape, ShapeDef, Shapes};
 pub use solver_sets::{Census, Item, SleepingSet};
 pub use world::WorldCore;
+pub use world_file::{Broken, Clause};
 pub use world_rules::{Command, Reply};
 
 #[cfg(test)]

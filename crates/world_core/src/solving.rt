@@ -12,14 +12,15 @@ ghost use Rattle.world_core_base.specs.Renewal.{renewed_bodies};
 ghost use Rattle.world_core_base.specs.Solving.{bodies_of, solve_order, solved};
 ghost use Rattle.world_rules.specs.Gathering.{CanGather};
 
+use crate::impulses::put_impulses;
 use body_handles::MAX_SLOTS;
 use colour_solver::{ConstraintRow, Rows, StepSums};
 use contacts::Constraint;
-use contacts_base::Contacts;
 use fixed_geom::Vec2;
 use graph_colours::{COLOURS, Colours};
+use kept_contacts::KeptContacts;
 use plain_world::JointTable;
-use world_core_base::{BodyTable, gather_rows, put_impulses};
+use world_core_base::{BodyTable, gather_rows};
 
 /// Gathers what acts, lets so many ticks pass, and gives joints and contacts the impulses that they have left. Answers what was
 /// added to the movers' momentum, by cause. Takes no memory.
@@ -27,29 +28,29 @@ pub fn solve(
     rows: &mut Rows<ConstraintRow>,
     bodies: &mut BodyTable,
     joints: &mut JointTable,
-    contacts: &mut Contacts,
+    contacts: &mut KeptContacts,
     colours: &Colours<Constraint>,
     gravity: Vec2,
     ticks: u64,
 ) -> StepSums
     requires few { length bodies.old.bodies ≤ MAX_SLOTS }
     requires bodies { AreBodies bodies.old.bodies }
-    requires can { CanGather bodies.old.bodies joints.old.joints contacts.old colours.now.lists }
+    requires can { CanGather bodies.old.bodies joints.old.joints contacts.old.contacts colours.now.lists }
     requires gravity { IsWithin (2 ^ 16) gravity }
     requires ticks { ticks ≤ 8 }
     requires room { length (all_members colours.now.lists) ≤ rows.old.room }
     requires more { COLOURS + 1 ≤ rows.old.more }
-    ensures bodies { bodies.new.bodies ≡ renewed_bodies (bodies_of (solved ticks gravity (solve_order (ids_of colours.now.lists)) bodies.old.bodies joints.old.joints contacts.old)) }
-    ensures joints { joints.new.joints ≡ (solved ticks gravity (solve_order (ids_of colours.now.lists)) bodies.old.bodies joints.old.joints contacts.old).joints }
-    ensures contacts { contacts.new ≡ (solved ticks gravity (solve_order (ids_of colours.now.lists)) bodies.old.bodies joints.old.joints contacts.old).contacts }
-    ensures sums { result ≡ (solved ticks gravity (solve_order (ids_of colours.now.lists)) bodies.old.bodies joints.old.joints contacts.old).sums }
+    ensures bodies { bodies.new.bodies ≡ renewed_bodies (bodies_of (solved ticks gravity (solve_order (ids_of colours.now.lists)) bodies.old.bodies joints.old.joints contacts.old.contacts)) }
+    ensures joints { joints.new.joints ≡ (solved ticks gravity (solve_order (ids_of colours.now.lists)) bodies.old.bodies joints.old.joints contacts.old.contacts).joints }
+    ensures contacts { contacts.new.contacts ≡ (solved ticks gravity (solve_order (ids_of colours.now.lists)) bodies.old.bodies joints.old.joints contacts.old.contacts).contacts }
+    ensures sums { result ≡ (solved ticks gravity (solve_order (ids_of colours.now.lists)) bodies.old.bodies joints.old.joints contacts.old.contacts).sums }
     ensures all_bodies { AreBodies bodies.new.bodies }
     ensures slots { HaveSameSlots bodies.old.bodies bodies.new.bodies }
     ensures small { AreSums (2 ^ 83) result }
     ensures momentum_x { momentum_x bodies.new.bodies ≡ momentum_x bodies.old.bodies +ℤ added_x result }
     ensures momentum_y { momentum_y bodies.new.bodies ≡ momentum_y bodies.old.bodies +ℤ added_y result }
     ensures all_joints { AreJoints bodies.old.bodies joints.new.joints }
-    ensures pairs { AreContactsOf bodies.old.bodies contacts.new }
+    ensures pairs { AreContactsOf bodies.old.bodies contacts.new.contacts }
 {
     gather_rows(
         rows,

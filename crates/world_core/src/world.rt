@@ -1,6 +1,8 @@
 mod bodies;
 mod joints;
+mod loading;
 mod parts;
+mod saving;
 mod sleeping;
 mod steps;
 
@@ -20,11 +22,11 @@ use crate::copying::copy_ids;
 use crate::frame::{Frame, show_bodies};
 use body_handles::{Handle, Handles, Place};
 use colour_solver::{ConstraintRow, Rows};
-use contacts::{BroadPhase, Constraint};
-use contacts_base::Contacts;
+use contacts::Constraint;
 use event_feed::Events;
 use fixed_geom::{Refusal, Vec2, ZERO_VECTOR, is_within};
 use impulse_ledger::Ledger;
+use kept_contacts::KeptContacts;
 use plain_world::{Body, BodyView, JointTable, Plain, body_of, copy_bodies};
 use sleep_wake::Sets;
 use solver_sets::{Census, take_census};
@@ -49,9 +51,8 @@ pub struct WorldCore {
     bodies: BodyTable,
     joint_handles: Handles,
     joints: JointTable,
-    contacts: Contacts,
-    // Room that a collide works in, kept from step to step.
-    broad: BroadPhase,
+    // The contacts, and what is known of near pairs from one collide to the next.
+    contacts: KeptContacts,
     // The constraints, the islands of their movers, and the colours of those that act.
     sets: Sets<Constraint>,
     // The rows of a step by colour, and their memory, which is kept from step to step.
@@ -90,8 +91,7 @@ impl WorldCore {
             bodies: BodyTable::new(alloc),
             joint_handles: Handles::new(alloc),
             joints: JointTable::new(alloc),
-            contacts: Contacts::new(alloc),
-            broad: BroadPhase::new(alloc),
+            contacts: KeptContacts::new(alloc),
             sets: Sets::new(alloc)?,
             rows: Rows::new(alloc),
             gravity,
@@ -112,8 +112,7 @@ impl WorldCore {
             bodies: self.bodies.try_copy()?,
             joint_handles: self.joint_handles.try_copy()?,
             joints: self.joints.try_copy()?,
-            contacts: self.contacts.try_copy()?,
-            broad: BroadPhase::new(self.bodies.allocator()),
+            contacts: self.contacts.try_copy(self.bodies.allocator())?,
             sets: self.sets.try_copy()?,
             rows: Rows::new(self.bodies.allocator()),
             gravity: self.gravity,

@@ -1,5 +1,7 @@
 //! The bodies of a world by slot, with what a step goes over: their states, and the movers' slots.
 
+mod from_bodies;
+
 ghost use Rattle.std.specs.Prelude.{◌≡◌, ◌+◌, ◌-◌, ◌<◌, ◌≤◌, ◌^◌, ◌+ℤ◌, [], None, false, IfOk, OnOk, length, slice_set, vec_len, vec_capacity};
 ghost use Rattle.std.specs.Option.{ForSome};
 ghost use Rattle.std.specs.Result.{IsOkUnless};

@@ -28,10 +28,16 @@ pub enum Call {
     DestroyWaking,
     /// A step that wakes and merges islands, splits one, and puts its parts to rest.
     StepOfIslands,
+    /// The world as a value.
+    Save,
+    /// A world that was saved.
+    Load,
+    /// The shapes over all of the world.
+    Region,
 }
 
 /// Every call.
-pub const ALL: [Call; 20] = [
+pub const ALL: [Call; 23] = [
     Call::Create,
     Call::CreateManyShapes,
     Call::Push,
@@ -52,6 +58,9 @@ pub const ALL: [Call; 20] = [
     Call::Sleep,
     Call::DestroyWaking,
     Call::StepOfIslands,
+    Call::Save,
+    Call::Load,
+    Call::Region,
 ];
 
 impl Call {
@@ -78,6 +87,9 @@ impl Call {
             "sleep" => Some(Call::Sleep),
             "destroy_waking" => Some(Call::DestroyWaking),
             "step_of_islands" => Some(Call::StepOfIslands),
+            "save" => Some(Call::Save),
+            "load" => Some(Call::Load),
+            "region" => Some(Call::Region),
             _ => None,
         }
     }

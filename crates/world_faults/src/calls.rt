@@ -2,11 +2,12 @@
 //! read what a world promises or keeps, but for those of the methods.
 
 use event_feed::Events;
-use fixed_geom::{Refusal, Vec2};
+use fixed_geom::{Box2, Refusal, Vec2};
 use impulse_ledger::Ledger;
+use serde_json::Value;
 use solver_sets::Census;
 use std::alloc::Global;
-use world_core::{Command, Plain, Reply, WorldCore};
+use world_core::{Command, Plain, Reply, ShapeId, WorldCore};
 
 /// What a world answers to a command.
 pub type Answer = Result<Reply, Refusal>;
@@ -27,6 +28,12 @@ pub trait World: Drop {
     fn lists(&self) -> Result<Plain, Refusal>;
 
     fn census(&self) -> Result<Census, Refusal>;
+
+    fn saved(&self) -> Result<Value, Refusal>;
+
+    fn loaded(alloc: Global, value: &Value) -> Result<Self, Refusal>;
+
+    fn region(&self, alloc: Global, bounds: &Box2) -> Result<Vec<ShapeId>, Refusal>;
 
     fn ledger(&self) -> &Ledger;
 
@@ -60,6 +67,25 @@ impl World for WorldCore {
 
     fn census(&self) -> Result<Census, Refusal> {
         WorldCore::census(self)
+    }
+
+    fn saved(&self) -> Result<Value, Refusal> {
+        self.save()
+    }
+
+    fn loaded(alloc: Global, value: &Value) -> Result<WorldCore, Refusal> {
+        match WorldCore::load(alloc, value) {
+            Ok(world) => Ok(world),
+            Err(broken) => Err(broken.refusal()),
+        }
+    }
+
+    fn region(&self, alloc: Global, bounds: &Box2) -> Result<Vec<ShapeId>, Refusal> {
+        if world_queries::is_region(bounds) {
+            world_queries::region(alloc, self, bounds)
+        } else {
+            Err(Refusal::OutOfRange)
+        }
     }
 
     fn ledger(&self) -> &Ledger {

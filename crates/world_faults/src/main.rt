@@ -11,6 +11,7 @@ mod calls;
 mod compare;
 mod differences;
 mod resting;
+mod saved;
 mod scene;
 mod stop;
 mod told;

@@ -2,6 +2,7 @@ use crate::call::Call;
 use crate::calls::{Answer, World};
 use crate::compare::{are_same_censuses, expect, expect_same_lists, expect_same_worlds};
 use crate::resting;
+use crate::saved::{try_load, try_region, try_save};
 use crate::scene::{self, Setting};
 use crate::stop::{Moment, Part, Stop};
 use crate::worlds::Worlds;
@@ -42,12 +43,15 @@ pub fn trial<W: World>(alloc: Global, call: Call) -> Result<Outcome, Stop> {
         Call::Wake => try_at_rest::<W>(alloc, &resting::wake()),
         Call::Sleep => try_at_rest::<W>(alloc, &resting::sleep()),
         Call::DestroyWaking => try_at_rest::<W>(alloc, &resting::destroy()),
+        Call::Save => try_save::<W>(alloc),
+        Call::Load => try_load::<W>(alloc),
+        Call::Region => try_region::<W>(alloc),
         Call::StepOfIslands => try_at_rest::<W>(alloc, &resting::step_command()),
     }
 }
 
 /// That a call met no refusal, unless what it gave differs.
-fn met(compared: Result<(), Stop>) -> Result<bool, Stop> {
+pub(crate) fn met(compared: Result<(), Stop>) -> Result<bool, Stop> {
     match compared {
         Ok(()) => Ok(true),
         Err(stop) => Err(stop),
@@ -55,7 +59,7 @@ fn met(compared: Result<(), Stop>) -> Result<bool, Stop> {
 }
 
 /// Stops where a call that was made again was refused again.
-fn again(is_accepted: bool) -> Result<Outcome, Stop> {
+pub(crate) fn again(is_accepted: bool) -> Result<Outcome, Stop> {
     expect(Moment::Accepted, Part::Answer, is_accepted)?;
     Ok(Outcome::Kept)
 }

@@ -1,5 +1,5 @@
 -- Whether the parts of a saved world fit together.
-use Rattle.std.specs.Prelude.{ℕ, zero, suc, ◌==◌, ◌&&◌, ◌||◌, ◌++◌, Bool, true, false, not, cond, nat_le, nat_lt, List, [], ◌∷◌, map, slice_get, Option, Some, None, is_some, option_map, unwrap_or, ℤ, pos, int_le, unsigned_abs}
+use Rattle.std.specs.Prelude.{ℕ, zero, suc, ◌==◌, ◌&&◌, ◌||◌, ◌++◌, Bool, true, false, not, cond, nat_le, nat_lt, List, [], ◌∷◌, map, slice_get, Option, Some, None, is_some, option_map, unwrap_or, ℤ}
 use Rattle.std.specs.List.{flat_map, list_all}
 use Rattle.std.specs.Option.{is_none}
 use Rattle.std.specs.Ordering.{int_eq}
@@ -8,12 +8,8 @@ use Rattle.body_handles.specs.declared.places.Place.{Place}
 use Rattle.contacts.specs.declared.constraint.Constraint.{Constraint}
 use Rattle.contacts.specs.declared.constraint.Constraint.TheVariants.{Joint, Contact}
 use Rattle.contacts_base.specs.Keys.{key_number}
-use Rattle.contacts_base.specs.Surfaces.{mixed}
 use Rattle.contacts_base.specs.declared.contact.ContactEntry.{ContactEntry}
 use Rattle.contacts_base.specs.declared.contact.ContactPoint.{ContactPoint}
-use Rattle.contacts_base.specs.declared.key.ShapeId.{ShapeId}
-use Rattle.contacts_base.specs.declared.limits.TheConstants.{MAX_FRICTION, MAX_RESTITUTION}
-use Rattle.contacts_base.specs.declared.surface.Surface.{Surface}
 use Rattle.graph_colours.specs.Members.{is_free}
 use Rattle.graph_colours.specs.declared.limits.TheConstants.{COLOURS}
 use Rattle.graph_colours.specs.declared.member.Member.{Member}
@@ -25,6 +21,7 @@ use Rattle.islands.specs.declared.label.IslandState.{IslandState}
 use Rattle.islands.specs.declared.label.IslandState.TheVariants.{Asleep, Loose, Whole}
 use Rattle.islands.specs.declared.label.Label.{Label}
 use Rattle.plain_world.specs.Bodies.{momentum_x, momentum_y}
+use Rattle.plain_world.specs.Formed.{mixed_of, shape_named}
 use Rattle.plain_world.specs.Kinds.{is_dynamic}
 use Rattle.plain_world.specs.Slots.{body_at}
 use Rattle.plain_world.specs.declared.body.Body.{Body}
@@ -35,7 +32,6 @@ use Rattle.saved_parts.specs.SavedSlots.{no_membership}
 use Rattle.saved_parts.specs.declared.saved.Membership.{Membership}
 use Rattle.saved_parts.specs.declared.saved.SavedContact.{SavedContact}
 use Rattle.saved_parts.specs.declared.saved.SavedJoint.{SavedJoint}
-use Rattle.shapes.specs.declared.shape.ShapeDef.{ShapeDef}
 use Rattle.sleep_wake.specs.Acting.{links_of}
 use Rattle.solver_sets.specs.Ties.{contact_movers, joint_movers, tie_with}
 use Rattle.world_file.specs.Saved.{Saved}
@@ -57,14 +53,6 @@ are_points (Some p) (Some q) count = (count == 2) && not (p.candidate == q.candi
 -- a contact has points just if it touches
 abbrev pub has_points : SavedContact → Bool
 has_points c = cond c.touching (are_points c.contact.first c.contact.second c.points) (c.points == 0)
-
--- a shape of an enabled body, if there is one of this name
-abbrev pub shape_of_body : Option Body → ℕ → Option ShapeDef
-shape_of_body None index = None
-shape_of_body (Some b) index = cond b.enabled (slice_get b.shapes index) None
-
-abbrev pub shape_named : List (Option Body) → ShapeId → Option ShapeDef
-shape_named bodies id = shape_of_body (body_at bodies id.slot) id.index
 
 abbrev pub is_dynamic_body : Option Body → Bool
 is_dynamic_body None = false
@@ -265,26 +253,6 @@ fitting_asks s = all_asked (
     ∷ [])
 
 -- ---- what it makes
-
-abbrev pub surface_of : ShapeDef → Surface
-surface_of def = record { friction = def.friction; restitution = def.restitution }
-
-abbrev pub is_surface : Surface → Bool
-is_surface s =
-    (int_le (pos 0) s.friction && nat_le (unsigned_abs s.friction) MAX_FRICTION)
-    && (int_le (pos 0) s.restitution && nat_le (unsigned_abs s.restitution) MAX_RESTITUTION)
-
-abbrev pub no_surface : Surface
-no_surface = record { friction = pos 0; restitution = pos 0 }
-
-abbrev pub mixed_surface : Surface → Surface → Surface
-mixed_surface a b = cond (is_surface a && is_surface b) (mixed a b) no_surface
-
--- that of the two shapes, whose numbers are within their limits
-abbrev pub mixed_of : Option ShapeDef → Option ShapeDef → Surface
-mixed_of None second = no_surface
-mixed_of (Some first) None = no_surface
-mixed_of (Some first) (Some second) = mixed_surface (surface_of first) (surface_of second)
 
 abbrev pub entry_of : List (Option Body) → SavedContact → ContactEntry
 entry_of bodies c = record { key = c.key; surface = mixed_of (shape_named bodies c.key.first) (shape_named bodies c.key.second); contact = c.contact }

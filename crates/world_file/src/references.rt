@@ -1,6 +1,7 @@
 //! Whether joints and contacts are of what is there, and what a world keeps of them.
 
 ghost use Rattle.std.specs.Prelude.{◌≡◌, IfErr, IfOk, IsTrue, None, map};
+ghost use Rattle.plain_world.specs.Formed.{is_surface, mixed_of, mixed_surface, shape_named, shape_of_body, surface_of};
 ghost use Rattle.plain_world.specs.Slots.{body_at};
 ghost use Rattle.std.specs.List.{list_all};
 ghost use Rattle.body_handles.specs.Places.{is_live};
@@ -15,13 +16,7 @@ ghost use Rattle.world_file.specs.Fitting.{
   is_contact_fitting,
   is_dynamic_body,
   is_joint_fitting,
-  is_surface,
   joint_kept,
-  mixed_of,
-  mixed_surface,
-  shape_named,
-  shape_of_body,
-  surface_of,
 };
 
 use body_handles::{Handle, Place};

@@ -24,6 +24,3 @@ pub use opening::Opening;
 pub use seat::{Receipt, Seat};
 pub use shared::{Closed, SharedWorld};
 pub use tally::Tally;
-
-#[cfg(test)]
-mod tests;

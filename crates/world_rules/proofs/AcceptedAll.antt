@@ -7,8 +7,10 @@ use Rattle.fixed_geom.specs.Vectors.{zero_vector}
 use Rattle.fixed_geom.specs.declared.refusal.Refusal.{Refusal}
 use Rattle.fixed_geom.specs.declared.refusal.Refusal.TheVariants.{OutOfRange, WornOut}
 use Rattle.body_handles.specs.declared.handle.Handle.{Handle}
+use Rattle.contacts.proofs.Members.{Each}
 use Rattle.contacts_base.specs.Contacts.{AreKeysRising}
 use Rattle.plain_world.specs.Bodies.{IsBody, def_refusal, made}
+use Rattle.plain_world.specs.Formed.{HaveFilters}
 use Rattle.plain_world.specs.declared.body.BodyDef.{BodyDef}
 use Rattle.shapes.specs.Poses.{IsPose}
 use Rattle.shapes.specs.Shapes.{is_between}
@@ -82,41 +84,58 @@ step_accepted w n a k few can e = by (is_between (pos 1) (pos 8) n) refl e
 
 -- ---- any command
 
-accepted_kept : (w : World) (c : Command) (a : Applied) → IsKept w → w.plain.calls < 2 ^ 40 → AreAllowed w → apply_accepted w.plain c ≡ Ok a → IsKept (world_with w a)
-accepted_kept w (CreateBody d) a k few are e = create_accepted w d a k few (are.bodies d) e
-accepted_kept w (DestroyBody h) a k few are e = destroy_accepted w h a k few e
-accepted_kept w (CreateJoint d) a k few are e = join_accepted w d a k few e
-accepted_kept w (DestroyJoint h) a k few are e = unjoin_accepted w h a k few e
-accepted_kept w (Push h j) a k few are e = push_accepted w h j zero_vector a k few e
-accepted_kept w (PushAt h j r) a k few are e = push_accepted w h j r a k few e
-accepted_kept w (SetPose h o) a k few are e = pose_accepted w h o a k few (are.poses h o) e
-accepted_kept w (SetVelocity h course) a k few are e = velocity_accepted w h course a k few e
-accepted_kept w (SetGravity g) a k few are e = gravity_accepted w g a k few e
-accepted_kept w (Disable h) a k few are e = disable_accepted w h a k few e
-accepted_kept w (Enable h) a k few are e = enable_accepted w h a k few e
-accepted_kept w (Wake h) a k few are e = wake_accepted w h a k few e
-accepted_kept w (Sleep h) a k few are e = sleep_accepted w h a k few e
-accepted_kept w (Step n) a k few are e = step_accepted w n a k few are.step e
+-- the filters of a new body's shapes are within the ranges of their types
+abbrev pub HasItsTypes : Command → Type 0
+HasItsTypes (CreateBody d) = HaveFilters d.shapes
+HasItsTypes (DestroyBody h) = Unit {0}
+HasItsTypes (CreateJoint d) = Unit {0}
+HasItsTypes (DestroyJoint h) = Unit {0}
+HasItsTypes (Push h j) = Unit {0}
+HasItsTypes (PushAt h j r) = Unit {0}
+HasItsTypes (SetPose h o) = Unit {0}
+HasItsTypes (SetVelocity h course) = Unit {0}
+HasItsTypes (SetGravity g) = Unit {0}
+HasItsTypes (Disable h) = Unit {0}
+HasItsTypes (Enable h) = Unit {0}
+HasItsTypes (Wake h) = Unit {0}
+HasItsTypes (Sleep h) = Unit {0}
+HasItsTypes (Step n) = Unit {0}
+
+accepted_kept : (w : World) (c : Command) (a : Applied) → IsKept w → w.plain.calls < 2 ^ 40 → AreAllowed w → HasItsTypes c → apply_accepted w.plain c ≡ Ok a → IsKept (world_with w a)
+accepted_kept w (CreateBody d) a k few are types e = create_accepted w d a k few (are.bodies d) types e
+accepted_kept w (DestroyBody h) a k few are types e = destroy_accepted w h a k few e
+accepted_kept w (CreateJoint d) a k few are types e = join_accepted w d a k few e
+accepted_kept w (DestroyJoint h) a k few are types e = unjoin_accepted w h a k few e
+accepted_kept w (Push h j) a k few are types e = push_accepted w h j zero_vector a k few e
+accepted_kept w (PushAt h j r) a k few are types e = push_accepted w h j r a k few e
+accepted_kept w (SetPose h o) a k few are types e = pose_accepted w h o a k few (are.poses h o) e
+accepted_kept w (SetVelocity h course) a k few are types e = velocity_accepted w h course a k few e
+accepted_kept w (SetGravity g) a k few are types e = gravity_accepted w g a k few e
+accepted_kept w (Disable h) a k few are types e = disable_accepted w h a k few e
+accepted_kept w (Enable h) a k few are types e = enable_accepted w h a k few e
+accepted_kept w (Wake h) a k few are types e = wake_accepted w h a k few e
+accepted_kept w (Sleep h) a k few are types e = sleep_accepted w h a k few e
+accepted_kept w (Step n) a k few are types e = step_accepted w n a k few are.step e
 
 -- what an accepted command leaves of a kept world is kept
-pub apply_kept : (w : World) (c : Command) (a : Applied) → IsKept w → AreAllowed w → apply w.plain c ≡ Ok a → IsKept (world_with w a)
-apply_kept w c a k are e = by (nat_lt w.plain.calls (2 ^ 40)) refl e
+pub apply_kept : (w : World) (c : Command) (a : Applied) → IsKept w → AreAllowed w → HasItsTypes c → apply w.plain c ≡ Ok a → IsKept (world_with w a)
+apply_kept w c a k are types e = by (nat_lt w.plain.calls (2 ^ 40)) refl e
   where
     by : (t : Bool) → nat_lt w.plain.calls (2 ^ 40) ≡ t → ◌≡◌ {A = Result Applied Refusal} (cond t (apply_accepted w.plain c) (Err WornOut)) (Ok a) → IsKept (world_with w a)
-    by true f g = accepted_kept w c a k (grind (arith, common_steps)) are g
+    by true f g = accepted_kept w c a k (grind (arith, common_steps)) are types g
     by false f g = cc
 
 -- ---- whole lists of commands
 
 -- a command that is refused changes nothing
-pub after_kept : (w : World) (c : Command) → IsKept w → AreAllowed w → IsKept (after w c)
-after_kept w c k are = by (apply w.plain c) refl
+pub after_kept : (w : World) (c : Command) → IsKept w → AreAllowed w → HasItsTypes c → IsKept (after w c)
+after_kept w c k are types = by (apply w.plain c) refl
   where
     by : (r : Result Applied Refusal) → apply w.plain c ≡ r → IsKept (after_one w r)
-    by (Ok a) e = apply_kept w c a k are e
+    by (Ok a) e = apply_kept w c a k are types e
     by (Err d) e = k
 
 -- a sound world is sound after any list of commands
-pub replay_sound : ((w : World) → IsSound w → AreAllowed w) → (w : World) (cs : List Command) → IsSound w → IsSound (replay w cs)
-replay_sound are w [] s = s
-replay_sound are w (c ∷ cs) s = replay_sound are (after w c) cs (sound_kept (after w c) (after_kept w c (kept_sound w s) (are w s)))
+pub replay_sound : ((w : World) → IsSound w → AreAllowed w) → (w : World) (cs : List Command) → Each HasItsTypes cs → IsSound w → IsSound (replay w cs)
+replay_sound are w [] types s = s
+replay_sound are w (c ∷ cs) types s = replay_sound are (after w c) cs types.1 (sound_kept (after w c) (after_kept w c (kept_sound w s) (are w s) types.0))

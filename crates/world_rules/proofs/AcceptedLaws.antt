@@ -17,6 +17,7 @@ use Rattle.event_feed.specs.Events.{EventLists}
 use Rattle.impulse_ledger.specs.declared.entry.Entry.{Entry}
 use Rattle.impulse_ledger.specs.declared.entry.Cause.TheVariants as causes
 use Rattle.contacts.specs.Constraints.{constraint_number}
+use Rattle.plain_world.specs.Formed.{HaveFilters}
 use Rattle.plain_world.specs.Bodies.{IsBody, def_refusal, made}
 use Rattle.plain_world.specs.Changes.{put_course, put_momenta, put_pose}
 use Rattle.plain_world.specs.Plain.{Plain}
@@ -41,8 +42,10 @@ kept_whatever_events w events k = record {
   total_y = k.total_y;
   causes = record { x = k.causes.x; y = k.causes.y };
   bodies = k.bodies;
+  filters = k.filters;
   timers = k.timers;
   matched = k.matched;
+  places = k.places;
   joint_slots = k.joint_slots;
   joint_places = k.joint_places;
   joints = k.joints;
@@ -52,6 +55,7 @@ kept_whatever_events w events k = record {
   settled = k.settled;
   tied = k.tied;
   told = k.told;
+  labels = k.labels;
   moved = k.moved;
   gravity = k.gravity;
   steps = k.steps;
@@ -125,12 +129,12 @@ sleep_accepted w h a k few e = by (mover_refusal (body_of w.plain h)) e
         let left : Applied = put_to_sleep w.plain (slept_at constraint_number h.slot (acting_of w.plain)) in
         subst (λ (b : Applied). IsKept (world_with w b)) (same_ok left a g) (kept_with w left (sleep_kept w h.slot k few))
 
-pub create_accepted : (w : World) (d : BodyDef) (a : Applied) → IsKept w → w.plain.calls < 2 ^ 40 → (def_refusal d ≡ None → IsBody (made d)) → apply_create w.plain d ≡ Ok a → IsKept (world_with w a)
-create_accepted w d a k few body e = by (def_refusal d) refl e
+pub create_accepted : (w : World) (d : BodyDef) (a : Applied) → IsKept w → w.plain.calls < 2 ^ 40 → (def_refusal d ≡ None → IsBody (made d)) → HaveFilters d.shapes → apply_create w.plain d ≡ Ok a → IsKept (world_with w a)
+create_accepted w d a k few body filters e = by (def_refusal d) refl e
   where
     room : (t : Bool) → nat_lt (lowest w.plain.places) MAX_SLOTS ≡ t → IsBody (made d) → ◌≡◌ {A = Result Applied Refusal} (cond t (Ok (created w.plain d)) (Err TooMany)) (Ok a) → IsKept (world_with w a)
     room true f is q = subst (λ (b : Applied). IsKept (world_with w b)) (same_ok (created w.plain d) a q)
-        (kept_with w (created w.plain d) (subst (λ (es : List Entry). IsKept (record w { plain = (created w.plain d).plain; entries = es })) (sym (append-nil w.entries)) (create_kept w d k few (grind (arith, common_steps)) is)))
+        (kept_with w (created w.plain d) (subst (λ (es : List Entry). IsKept (record w { plain = (created w.plain d).plain; entries = es })) (sym (append-nil w.entries)) (create_kept w d k few (grind (arith, common_steps)) is filters)))
     room false f is q = cc
 
     by : (o : Option Refusal) → def_refusal d ≡ o → create_due w.plain d o ≡ Ok a → IsKept (world_with w a)

@@ -1,5 +1,5 @@
 -- The constraints, islands and colours that a command leaves, put into the world with its bodies told: they are those of the new world, and it is settled.
-use Rattle.std.proofs.Common.{◌≡◌, ℕ, ◌+◌, ◌*◌, ◌^◌, ◌≤◌, List, [], ◌∷◌, All, Bool, true, false, cond, is_some, Option, Some, None, refl, sym, ap, ◌∙◌, subst}
+use Rattle.std.proofs.Common.{◌≡◌, ℕ, ◌+◌, ◌*◌, ◌^◌, ◌≤◌, List, [], ◌∷◌, length, All, Bool, true, false, cond, is_some, Option, Some, None, refl, sym, ap, ◌∙◌, subst}
 use Rattle.std.specs.Prelude.{Contains, not}
 use Rattle.std.specs.Option.{is_none}
 use Rattle.fixed_geom.specs.Vectors.{IsWithin}
@@ -17,6 +17,7 @@ use Rattle.plain_world.specs.Bodies.{AreBodies, is_awake, is_mover, momentum_x, 
 use Rattle.plain_world.specs.Joints.{AreJoints}
 use Rattle.plain_world.specs.Plain.{Plain}
 use Rattle.plain_world.specs.Sleep as sleep
+use Rattle.plain_world.specs.Formed.{AreFiltered}
 use Rattle.plain_world.specs.Slots.{AreMatched, HaveSameSlots, body_at}
 use Rattle.sleep_wake.specs.Acting.{Acting, IsSettled}
 use Rattle.sleep_wake.specs.Acting as acting
@@ -30,16 +31,19 @@ use Rattle.world_rules.specs.Sets.{acting_of, with_acting, woken}
 use Rattle.world_rules.specs.Sound.{AreSmall, AreTimers, AreTold, HasBodies}
 use Rattle.world_rules.specs.World.{World, book_of, joints_of}
 use Rattle.world_rules.proofs.LowerLaws.{alike_bodies_keep_ties, awake_stay_awake, lists_are_members, movers_stay, waking_named_keeps}
+use Rattle.sleep_wake.proofs.LengthLemmas.{waking_long}
 use Rattle.world_rules.proofs.KeptContacts.{contacts_of_same, has_bodies_same, joints_same, moves_alike}
+use Rattle.world_rules.proofs.ShapeLaws.{filters_same}
 use Rattle.world_rules.proofs.SlotLemmas.{AreMatched-same}
 use Rattle.world_rules.proofs.SoundLaws.{IsKept}
-use Rattle.world_rules.proofs.ToldLaws.{NobodyFallsAsleep, told_alike, told_are_bodies, told_are_told, told_same_slots, told_stays, told_tied, told_timers, waking_momentum_x, waking_momentum_y}
+use Rattle.world_rules.proofs.ToldLaws.{NobodyFallsAsleep, length_told, told_alike, told_are_bodies, told_are_told, told_same_shapes, told_same_slots, told_stays, told_tied, told_timers, waking_momentum_x, waking_momentum_y}
 
 -- the constraints, islands and colours s are those of the lists of w, but for who sleeps
 pub record IsActing (w : Plain) (s : Acting Constraint) : Type 0 where
   pub settled : IsSettled constraint_number s
   pub ties : s.ties ≡ ties_of w.bodies (joints_of w) w.contacts
   pub tied : AreTied w.bodies s.labels
+  pub long : length s.labels ≡ length w.bodies
 
 -- what follows of the world with them
 pub record IsActed (w : Plain) (s : Acting Constraint) : Type 0 where
@@ -47,6 +51,7 @@ pub record IsActed (w : Plain) (s : Acting Constraint) : Type 0 where
   pub settled : IsSettled constraint_number (acting_of (with_acting s w))
   pub tied : AreTied (sleep.told s.labels w.bodies) s.labels
   pub told : AreTold (sleep.told s.labels w.bodies) s.labels
+  pub labels : length s.labels ≡ length (sleep.told s.labels w.bodies)
   pub moved : ids_of (members_of (sleep.told s.labels w.bodies) (joints_of w) (ids_of s.lists)) ≡ ids_of s.lists
 
 -- bodies told keep the ties
@@ -69,13 +74,14 @@ acted w s bodies is = record {
   settled = subst (IsSettled constraint_number) (sym (same_acting w s is)) is.settled;
   tied = told_tied s.labels w.bodies is.tied;
   told = told_are_told s.labels w.bodies bodies is.tied;
+  labels = is.long ∙ sym (length_told s.labels w.bodies);
   moved = ap ids_of (told_lists w s is);
 }
 
 -- the acting of a kept world
 pub acting_kept : (w : World) → IsKept w → IsActing w.plain (acting_of w.plain)
 unfolding acting_of
-acting_kept w k = record { settled = k.settled; ties = refl; tied = k.tied }
+acting_kept w k = record { settled = k.settled; ties = refl; tied = k.tied; long = k.labels }
 
 -- ---- the lists of a world, beside its islands and its colours
 
@@ -85,8 +91,10 @@ pub record AreLists (w : World) : Type 0 where
   pub total_y : momentum_y w.plain.bodies ≡ total_y (book_of w)
   pub causes : AreSmall (2 ^ 126 + w.plain.calls * 2 ^ 83) (book_of w)
   pub bodies : AreBodies w.plain.bodies
+  pub filters : AreFiltered w.plain.bodies
   pub timers : AreTimers w.plain.steps w.plain.bodies
   pub matched : AreMatched w.plain.places w.plain.bodies
+  pub places : All IsPlace w.plain.places
   pub joint_slots : AreMatched w.plain.joint_places w.plain.joints
   pub joint_places : All IsPlace w.plain.joint_places
   pub joints : AreJoints w.plain.bodies w.plain.joints
@@ -103,8 +111,10 @@ lists_kept w k = record {
   total_y = k.total_y;
   causes = k.causes;
   bodies = k.bodies;
+  filters = k.filters;
   timers = k.timers;
   matched = k.matched;
+  places = k.places;
   joint_slots = k.joint_slots;
   joint_places = k.joint_places;
   joints = k.joints;
@@ -118,14 +128,16 @@ lists_kept w k = record {
 
 -- a world is kept if its lists are, and its islands and colours go with them
 pub kept_of : (w : World) → AreLists w → IsSettled constraint_number (acting_of w.plain) → AreTied w.plain.bodies w.plain.islands → AreTold w.plain.bodies w.plain.islands
-    → ids_of (members_of w.plain.bodies (joints_of w.plain) w.plain.colours) ≡ w.plain.colours → IsKept w
-kept_of w l settled tied told moved = record {
+    → length w.plain.islands ≡ length w.plain.bodies → ids_of (members_of w.plain.bodies (joints_of w.plain) w.plain.colours) ≡ w.plain.colours → IsKept w
+kept_of w l settled tied told labels moved = record {
   total_x = l.total_x;
   total_y = l.total_y;
   causes = l.causes;
   bodies = l.bodies;
+  filters = l.filters;
   timers = l.timers;
   matched = l.matched;
+  places = l.places;
   joint_slots = l.joint_slots;
   joint_places = l.joint_places;
   joints = l.joints;
@@ -135,6 +147,7 @@ kept_of w l settled tied told moved = record {
   settled = settled;
   tied = tied;
   told = told;
+  labels = labels;
   moved = moved;
   gravity = l.gravity;
   steps = l.steps;
@@ -148,20 +161,23 @@ lists_told w s l x y =
     let old = w.plain.bodies in
     let new = sleep.told s.labels old in
     let slots = told_same_slots s.labels old in
+    let shapes = told_same_shapes s.labels old in
     let moves = moves_alike old new (told_alike s.labels old) slots in
     record {
       total_x = x ∙ l.total_x;
       total_y = y ∙ l.total_y;
       causes = l.causes;
       bodies = told_are_bodies s.labels old l.bodies;
+      filters = filters_same old new shapes l.filters;
       timers = told_timers s.labels old w.plain.steps l.timers;
       matched = AreMatched-same w.plain.places old new slots l.matched;
+      places = l.places;
       joint_slots = l.joint_slots;
       joint_places = l.joint_places;
       joints = joints_same old new w.plain.joints slots l.joints;
       contacts = l.contacts;
       pairs = contacts_of_same old new w.plain.contacts moves l.pairs;
-      there = has_bodies_same old new w.plain.contacts slots l.there;
+      there = has_bodies_same old new w.plain.contacts slots (told_alike s.labels old) shapes l.there;
       gravity = l.gravity;
       steps = l.steps;
       calls = l.calls;
@@ -172,7 +188,7 @@ pub acting_put : (w : World) (s : Acting Constraint) → AreLists w → IsActing
     → IsKept (record w { plain = with_acting s w.plain })
 acting_put w s l is x y =
     let a = acted w.plain s l.bodies is in
-    kept_of (record w { plain = with_acting s w.plain }) (lists_told w s l x y) a.settled a.tied a.told a.moved
+    kept_of (record w { plain = with_acting s w.plain }) (lists_told w s l x y) a.settled a.tied a.told a.labels a.moved
 
 -- the same where nobody falls asleep
 pub awake_put : (w : World) (s : Acting Constraint) → AreLists w → IsActing w.plain s → NobodyFallsAsleep w.plain.bodies s.labels → IsKept (record w { plain = with_acting s w.plain })
@@ -247,6 +263,7 @@ woken_acting w names k =
       settled = waking_named_keeps s names k.settled;
       ties = islands_woken_ties names s;
       tied = λ slot. movers_stay.waking s names slot ∙ k.tied slot;
+      long = waking_long constraint_number names s ∙ k.labels;
     }
 
 woken_awake : (w : World) (names : List ℕ) → IsKept w → NobodyFallsAsleep w.plain.bodies (islands_woken constraint_number names (acting_of w.plain)).labels

@@ -1,5 +1,5 @@
 -- A slot gets another body, or none: what its contacts and its joints leave stays in order, and so do the bodies in other slots.
-use Rattle.std.proofs.Common.{◌≡◌, ◌≢◌, ℕ, zero, suc, ◌*◌, ◌<◌, ◌≤◌, ◌==◌, ◌||◌, Bool, true, false, not, cond, List, [], ◌∷◌, length, Option, Some, None, is_some, All, inl, inr, refl, sym, ap, ◌∙◌, subst, arith}
+use Rattle.std.proofs.Common.{◌≡◌, ◌≢◌, ℕ, zero, suc, ◌*◌, ◌<◌, ◌≤◌, ◌==◌, ◌||◌, Bool, true, false, not, cond, List, [], ◌∷◌, length, Option, Some, None, is_some, All, inl, inr, refl, sym, ap, ap₂, ◌∙◌, subst, arith}
 use Rattle.std.specs.Prelude.{option_map, pos, slice_set}
 use Rattle.std.proofs.lemmas.Bool.{cases_eq, eqb-false}
 use Rattle.std.proofs.lemmas.List.{length-set}
@@ -14,6 +14,7 @@ use Rattle.islands.specs.Labels.{Labels, label_at}
 use Rattle.plain_world.specs.declared.body.Body.{Body}
 use Rattle.plain_world.specs.declared.joint.BodyJoint.{BodyJoint}
 use Rattle.plain_world.specs.Joints.{AreJoints, IsBodyJoint, idle_if, idle_joints, is_end_in, is_joint_of, joint_at}
+use Rattle.plain_world.specs.Formed.{mixed_of, shape_of_body}
 use Rattle.plain_world.specs.Slots.{AreMatched, body_at, shapes_in}
 use Rattle.solver_sets.specs.Joining.{handle_at, unjoined, unjoined_all, unjoined_up}
 use Rattle.solver_sets.specs.Tied.{AreAlikeBeside, AreTied, HaveSameEnds, ends_in}
@@ -105,6 +106,8 @@ has_beside bodies slot o e other h =
       second = ap is_some b ∙ h.second;
       first_shape = rw (ap shapes_in a) h.first_shape;
       second_shape = rw (ap shapes_in b) h.second_shape;
+      order = h.order;
+      surface = h.surface ∙ sym (ap₂ (λ (x y : Option Body). mixed_of (shape_of_body x e.key.first.index) (shape_of_body y e.key.second.index)) a b);
       named = h.named;
       points = h.points;
     }

@@ -1,5 +1,6 @@
 -- A body that goes, or takes no part any more, leaves what acts settled: its ties end, and a mover leaves its island.
 use Rattle.std.proofs.Common.{◌≡◌, ◌≢◌, ℕ, ◌+◌, ◌<◌, ◌==◌, Bool, true, false, not, List, [], ◌∷◌, length, Option, Some, None, is_some, refl, sym, ap, ◌∙◌, subst}
+use Rattle.std.proofs.lemmas.List.{length-set}
 use Rattle.std.specs.Prelude.{Contains, filter, slice_set}
 use Rattle.graph_colours.specs.declared.member.Member.{Member}
 use Rattle.graph_colours.specs.Movers.{has_mover}
@@ -16,6 +17,7 @@ use Rattle.islands.proofs.JoinLemmas.{contains_head, contains_tail}
 use Rattle.plain_world.specs.declared.body.Body.{Body}
 use Rattle.plain_world.specs.Bodies as bodies
 use Rattle.plain_world.specs.Plain.{Plain}
+use Rattle.sleep_wake.proofs.LengthLemmas.{each_ended_long, gone_long}
 use Rattle.sleep_wake.specs.Acting.{Acting, AreMovers, IsSettled, is_awake}
 use Rattle.sleep_wake.specs.Bodies.{mover_gone}
 use Rattle.sleep_wake.specs.Changes.{CanEnd, each_without}
@@ -116,6 +118,10 @@ pub record IsGone (w : World) (u : Plain) (s : Acting Constraint) : Type 0 where
   pub acting : IsActing u s
   pub awake : NobodyFallsAsleep u.bodies s.labels
 
+ended_slots : (w : World) (slot : ℕ) → length (ties_ended slot w.plain).labels ≡ length w.plain.islands
+unfolding acting_of
+ended_slots w slot = each_ended_long constraint_number (ties_at slot w.plain.bodies (joints_of w.plain) w.plain.contacts) (acting_of w.plain)
+
 pub gone_by : (w : World) (slot : ℕ) (o : Option Body) (places : List Place) (joints : JointSlots) (t : Bool) → IsKept w → CanGo w slot → slot < length w.plain.bodies → moves w.plain.bodies slot ≡ t → is_mover_in o ≡ false
     → moves (slice_set w.plain.bodies slot o) slot ≡ false
     → ties_of (slice_set w.plain.bodies slot o) joints (contacts_without slot w.plain.contacts) ≡ each_without constraint_number (ties_at slot w.plain.bodies (joints_of w.plain) w.plain.contacts) (ties_of w.plain.bodies (joints_of w.plain) w.plain.contacts)
@@ -129,6 +135,7 @@ gone_by w slot o places joints false k go lt e still off ties rests =
         settled = is.settled;
         ties = is.ties ∙ sym ties;
         tied = tied_beside w.plain.bodies slot o w.plain.islands s.labels lt k.tied (is.tied slot ∙ e ∙ sym still) (λ j far. is.tied j ∙ sym (k.tied j));
+        long = ended_slots w slot ∙ k.labels ∙ sym (length-set w.plain.bodies slot o);
       };
       awake = others_stay w slot o s.labels k (λ j far up. is.awake j up) (λ b at up. absurd (rests b at up));
     }
@@ -147,6 +154,7 @@ gone_by w slot o places joints true k go lt e still off ties rests =
             ∙ filter_same (λ (m : Member Constraint). not (has_mover m.movers slot)) before.ties (λ m h. no_mover now joints contacts s.labels slot m tied off (subst (λ (ms : List (Member Constraint)). Contains ms m) same h))
             ∙ same;
         tied = tied;
+        long = gone_long constraint_number slot before ∙ ended_slots w slot ∙ k.labels ∙ sym (length-set w.plain.bodies slot o);
       };
       awake = others_stay w slot o s.labels k (λ j far up. gone_awake slot j before far (is.awake j up)) (λ b at up. absurd (rests b at up));
     }

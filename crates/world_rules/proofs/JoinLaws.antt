@@ -14,6 +14,7 @@ use Rattle.plain_world.specs.declared.joint.BodyJoint.{BodyJoint}
 use Rattle.plain_world.specs.Joints.{AreJoints, IsBodyJoint, joint_at}
 use Rattle.plain_world.specs.Plain.{Plain}
 use Rattle.plain_world.specs.Slots.{with_item}
+use Rattle.sleep_wake.proofs.LengthLemmas.{each_begun_long, each_ended_long}
 use Rattle.sleep_wake.specs.Acting.{Acting, IsSettled, are_awake, is_awake}
 use Rattle.sleep_wake.specs.Changes.{CanBegin, CanEnd, begun, each_begun, each_ended, each_inserted, each_without, ended}
 use Rattle.solver_sets.specs.Laws.{with_tie, without_tie}
@@ -43,13 +44,14 @@ pub record IsNext (u : Plain) (s new : Acting Constraint) : Type 0 where
   pub acting : IsActing u new
   pub awake : (k : ℕ) → is_awake s.labels k ≡ true → is_awake new.labels k ≡ true
 
-pub next_begun : (u : Plain) (s : Acting Constraint) (ms : List (Member Constraint)) → IsSettled constraint_number s → AreTied u.bodies s.labels → CanBegin constraint_number ms s → ties_of u.bodies (joints_of u) u.contacts ≡ each_inserted constraint_number ms s.ties
+pub next_begun : (u : Plain) (s : Acting Constraint) (ms : List (Member Constraint)) → IsSettled constraint_number s → AreTied u.bodies s.labels → length s.labels ≡ length u.bodies → CanBegin constraint_number ms s → ties_of u.bodies (joints_of u) u.contacts ≡ each_inserted constraint_number ms s.ties
     → IsNext u s (each_begun constraint_number ms s)
-next_begun u s ms settled tied can ties = record {
+next_begun u s ms settled tied long can ties = record {
   acting = record {
     settled = beginning_each_keeps s ms settled can;
     ties = each_begun_ties ms s ∙ sym ties;
     tied = λ k. movers_stay.begun s ms k ∙ tied k;
+    long = each_begun_long constraint_number ms s ∙ long;
   };
   awake = awake_stay_awake.begun s ms settled can;
 }
@@ -64,13 +66,14 @@ pub each_ended_ties : (ms : List (Member Constraint)) (s : Acting Constraint) �
 each_ended_ties [] s = refl
 each_ended_ties (m ∷ ms) s = each_ended_ties ms (ended constraint_number m s) ∙ ap (each_without constraint_number ms) (ended_ties m s)
 
-pub next_ended : (u : Plain) (s : Acting Constraint) (ms : List (Member Constraint)) → IsSettled constraint_number s → AreTied u.bodies s.labels → CanEnd constraint_number ms s → ties_of u.bodies (joints_of u) u.contacts ≡ each_without constraint_number ms s.ties
+pub next_ended : (u : Plain) (s : Acting Constraint) (ms : List (Member Constraint)) → IsSettled constraint_number s → AreTied u.bodies s.labels → length s.labels ≡ length u.bodies → CanEnd constraint_number ms s → ties_of u.bodies (joints_of u) u.contacts ≡ each_without constraint_number ms s.ties
     → IsNext u s (each_ended constraint_number ms s)
-next_ended u s ms settled tied can ties = record {
+next_ended u s ms settled tied long can ties = record {
   acting = record {
     settled = ending_each_keeps s ms settled can;
     ties = each_ended_ties ms s ∙ sym ties;
     tied = λ k. movers_stay.ended s ms k ∙ tied k;
+    long = each_ended_long constraint_number ms s ∙ long;
   };
   awake = awake_stay_awake.ended s ms settled can;
 }
@@ -109,18 +112,18 @@ AreUp labels o = (m : Movers) → o ≡ Some m → are_awake labels m ≡ true
 pub next_begun_with : (w : World) (joints : JointSlots) (id : Constraint) (o : Option Movers) → IsKept w → has_id constraint_number id (ties_of w.plain.bodies (joints_of w.plain) w.plain.contacts) ≡ false → AreUp w.plain.islands o
     → ties_of w.plain.bodies joints w.plain.contacts ≡ with_tie id o (ties_of w.plain.bodies (joints_of w.plain) w.plain.contacts) → IsNext (with_joints joints w.plain) (acting_of w.plain) (begun_with id o (acting_of w.plain))
 unfolding acting_of
-next_begun_with w joints id None k fresh up ties = record { acting = record { settled = k.settled; ties = sym ties; tied = k.tied }; awake = λ j h. h }
+next_begun_with w joints id None k fresh up ties = record { acting = record { settled = k.settled; ties = sym ties; tied = k.tied; long = k.labels }; awake = λ j h. h }
 next_begun_with w joints id (Some m) k fresh up ties =
     let member : Member Constraint = record { id = id; movers = m } in
-    next_begun (with_joints joints w.plain) (acting_of w.plain) (member ∷ []) k.settled k.tied (one_can_begin member (acting_of w.plain) fresh (up m refl)) ties
+    next_begun (with_joints joints w.plain) (acting_of w.plain) (member ∷ []) k.settled k.tied k.labels (one_can_begin member (acting_of w.plain) fresh (up m refl)) ties
 
 pub next_ended_with : (w : World) (joints : JointSlots) (id : Constraint) (o : Option Movers) → IsKept w → ((m : Movers) → o ≡ Some m → Contains (ties_of w.plain.bodies (joints_of w.plain) w.plain.contacts) (record { id = id; movers = m })) → AreUp w.plain.islands o
     → ties_of w.plain.bodies joints w.plain.contacts ≡ without_tie id o (ties_of w.plain.bodies (joints_of w.plain) w.plain.contacts) → IsNext (with_joints joints w.plain) (acting_of w.plain) (ended_with id o (acting_of w.plain))
 unfolding acting_of
-next_ended_with w joints id None k there up ties = record { acting = record { settled = k.settled; ties = sym ties; tied = k.tied }; awake = λ j h. h }
+next_ended_with w joints id None k there up ties = record { acting = record { settled = k.settled; ties = sym ties; tied = k.tied; long = k.labels }; awake = λ j h. h }
 next_ended_with w joints id (Some m) k there up ties =
     let member : Member Constraint = record { id = id; movers = m } in
-    next_ended (with_joints joints w.plain) (acting_of w.plain) (member ∷ []) k.settled k.tied (one_can_end member (acting_of w.plain) (there m refl) (up m refl)) ties
+    next_ended (with_joints joints w.plain) (acting_of w.plain) (member ∷ []) k.settled k.tied k.labels (one_can_end member (acting_of w.plain) (there m refl) (up m refl)) ties
 
 -- ---- the movers of two bodies that were woken
 
@@ -156,8 +159,10 @@ joints_put w joints s k slots are next =
       total_y = l.total_y;
       causes = l.causes;
       bodies = l.bodies;
+      filters = l.filters;
       timers = l.timers;
       matched = l.matched;
+      places = l.places;
       joint_slots = slots.matched;
       joint_places = slots.places;
       joints = are;

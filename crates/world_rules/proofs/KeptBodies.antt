@@ -1,5 +1,5 @@
 -- A world stays kept where a body is destroyed, and where one is disabled.
-use Rattle.std.proofs.Common.{◌≡◌, ℕ, ◌+◌, ◌*◌, ◌<◌, ◌≤◌, ◌^◌, Bool, true, false, cond, List, ◌++◌, length, Option, Some, None, ℤ, pos, neg_ℤ, unsigned_abs, refl, sym, ap, ◌∙◌, subst, arith}
+use Rattle.std.proofs.Common.{◌≡◌, ℕ, ◌+◌, ◌*◌, ◌<◌, ◌≤◌, ◌^◌, All, Bool, true, false, cond, List, ◌++◌, length, Option, Some, None, ℤ, pos, neg_ℤ, unsigned_abs, refl, sym, ap, ◌∙◌, subst, arith}
 use Rattle.std.specs.Prelude.{option_map, slice_set}
 use Rattle.std.specs.Option.{is_none}
 use Rattle.std.proofs.lemmas.Bool.{false≢true}
@@ -7,7 +7,7 @@ use Rattle.std.proofs.lemmas.Int.{ints}
 use Rattle.std.proofs.lemmas.Option.{none-some, same_Some}
 use Rattle.body_handles.specs.declared.handle.Handle.{Handle}
 use Rattle.body_handles.specs.declared.places.Place.{Place}
-use Rattle.body_handles.specs.Places.{places_without}
+use Rattle.body_handles.specs.Places.{IsPlace, places_without}
 use Rattle.impulse_ledger.specs.declared.entry.Cause.TheVariants as causes
 use Rattle.islands.specs.declared.label.Label.{Label}
 use Rattle.islands.specs.Labels.{label_at}
@@ -17,6 +17,7 @@ use Rattle.plain_world.specs.declared.kind.Kind.{Kind}
 use Rattle.plain_world.specs.declared.kind.Kind.TheVariants.{Static, Kinematic, Dynamic}
 use Rattle.plain_world.specs.Bodies.{IsBody, IsMassOf, is_awake, is_mover, p_x, p_y}
 use Rattle.plain_world.specs.Changes.{disabled_body}
+use Rattle.plain_world.specs.Formed.{HaveFilters}
 use Rattle.plain_world.specs.Joints.{AreJoints, idle_joints}
 use Rattle.plain_world.specs.Kinds.{IsCourseOf, carried_by, halted, is_moving, is_static}
 use Rattle.plain_world.specs.Sleep.{told_body}
@@ -36,6 +37,8 @@ use Rattle.world_rules.proofs.BesideLaws.{alike_beside, contacts_beside, have_bo
 use Rattle.world_rules.proofs.BookLemmas.{AreSmall-booked, AreSmall-weaker, sum_x-booked, sum_y-booked}
 use Rattle.world_rules.proofs.KeptChanges.{named_at}
 use Rattle.world_rules.proofs.GoneLaws.{CanGo, beside, gone_by}
+use Rattle.world_rules.proofs.PlaceLaws.{live_body, places_freed}
+use Rattle.world_rules.proofs.ShapeLaws.{filters_set}
 use Rattle.world_rules.proofs.SlotLemmas.{AreBodies-set, AreMatched-set, below_length, body_at-in, momentum_x-set, momentum_y-set}
 use Rattle.world_rules.proofs.PutLaws.{IsPut, both_put}
 use Rattle.world_rules.proofs.SoundLaws.{IsKept}
@@ -78,6 +81,7 @@ seen w slots slot b k at =
 -- what is in a slot after its body has left: none, or one that takes no part
 record IsOut (steps : ℕ) (o : Option Body) : Type 0 where
   body : (b : Body) → o ≡ Some b → IsBody b
+  filters : (b : Body) → o ≡ Some b → HaveFilters b.shapes
   timer : (b : Body) → o ≡ Some b → b.timer ≤ 8 * steps
   mover : is_mover_in o ≡ false
   x : p_x o ≡ pos 0
@@ -92,9 +96,9 @@ opposite_le z n h = omega (arith, ints)
 
 -- the body b has left, and its momentum with it
 out_lists : (w : World) (slot : ℕ) (b c : Body) (o : Option Body) (places : List Place) (joints : JointSlots) → IsKept w → w.plain.calls < 2 ^ 40 → body_at w.plain.bodies slot ≡ Some c → p_x (Some c) ≡ p_x (Some b) → p_y (Some c) ≡ p_y (Some b) → IsBody b
-    → IsOut w.plain.steps o → AreMatched places (slice_set w.plain.bodies slot o) → AreJointSlots joints → AreJoints (slice_set w.plain.bodies slot o) joints.joints
+    → IsOut w.plain.steps o → AreMatched places (slice_set w.plain.bodies slot o) → All IsPlace places → AreJointSlots joints → AreJoints (slice_set w.plain.bodies slot o) joints.joints
     → AreLists (record w { plain = beside slot o places joints w.plain; entries = w.entries ++ departed (w.plain.calls + 1) b })
-out_lists w slot b c o places joints k few at same_x same_y body out matched slots are =
+out_lists w slot b c o places joints k few at same_x same_y body out matched generations slots are =
     let bodies = w.plain.bodies in
     let call : ℕ = w.plain.calls + 1 in
     let lt : slot < length bodies = below_length bodies slot c at in
@@ -113,8 +117,10 @@ out_lists w slot b c o places joints k few at same_x same_y body out matched slo
           (AreSmall-booked (2 ^ 126 + w.plain.calls * 2 ^ 83) (2 ^ 60) 0 0 w.entries w.settled call causes.Departed x y k.causes
           (opposite_le (p_x (Some b)) (2 ^ 60) (part_le (is_mover b) b.motion.p.x body.motion.p.x)) (opposite_le (p_y (Some b)) (2 ^ 60) (part_le (is_mover b) b.motion.p.y body.motion.p.y)));
       bodies = AreBodies-set bodies slot o k.bodies out.body;
+      filters = filters_set bodies slot o out.filters k.filters;
       timers = timers_beside w.plain.steps bodies slot o lt out.timer k.timers;
       matched = matched;
+      places = generations;
       joint_slots = slots.matched;
       joint_places = slots.places;
       joints = are;
@@ -145,7 +151,7 @@ stirred_can_go w slot k =
 -- ---- DestroyBody
 
 none_out : (steps : ℕ) → IsOut steps None
-none_out steps = record { body = λ b e. absurd (none-some b e); timer = λ b e. absurd (none-some b e); mover = refl; x = refl; y = refl }
+none_out steps = record { body = λ b e. absurd (none-some b e); filters = λ b e. absurd (none-some b e); timer = λ b e. absurd (none-some b e); mover = refl; x = refl; y = refl }
 
 -- the world in which the body isn't there any more, before what acts is put into it
 abbrev pub destroyed_lists : World → Handle → Body → World
@@ -167,7 +173,7 @@ destroy_put w h b k few named =
     let gone = gone_by v slot None places joints (is_mover b) wk.kept (stirred_can_go w slot k) lt (wk.alike.movers slot ∙ ap is_mover_in at) refl
     (ap is_mover_in (own_item v.plain.bodies slot None lt)) went.1 (out_rests v.plain.steps None out) in
     let lists = out_lists v slot b now.body None places joints wk.kept few now.at now.x now.y (k.bodies slot b (body_at-in w.plain.bodies slot b at)) out
-    (AreMatched-set w.plain.places v.plain.bodies slot _ None refl wk.kept.matched) went.0 (joints_beside v.plain.bodies slot None (joints_of v.plain) wk.kept.joints) in
+    (AreMatched-set w.plain.places v.plain.bodies slot _ None refl wk.kept.matched) (places_freed w.plain.places h k.places (live_body w.plain h b named)) went.0 (joints_beside v.plain.bodies slot None (joints_of v.plain) wk.kept.joints) in
     both_put (record v { plain = beside slot None places joints v.plain; entries = w.entries ++ departed (w.plain.calls + 1) b }) (body_gone slot (is_mover b) v.plain) lists gone.acting gone.awake
 
 pub destroy_kept : (w : World) (h : Handle) (b : Body) → IsKept w → w.plain.calls < 2 ^ 40 → body_of w.plain h ≡ Some b → IsKept (world_with w (destroyed w.plain h b))
@@ -208,9 +214,10 @@ disabled_is b is = record {
   fats = is.fats;
 }
 
-disabled_out : (steps : ℕ) (b : Body) → IsBody b → b.timer ≤ 8 * steps → IsOut steps (Some (disabled_body b))
-disabled_out steps b is short = record {
+disabled_out : (steps : ℕ) (b : Body) → IsBody b → HaveFilters b.shapes → b.timer ≤ 8 * steps → IsOut steps (Some (disabled_body b))
+disabled_out steps b is filters short = record {
   body = λ c e. subst IsBody (same_Some (disabled_body b) c e) (disabled_is b is);
+  filters = λ c e. subst (λ (a : Body). HaveFilters a.shapes) (same_Some (disabled_body b) c e) filters;
   timer = λ c e. subst (λ (a : Body). a.timer ≤ 8 * steps) (same_Some (disabled_body b) c e) short;
   mover = refl;
   x = refl;
@@ -231,13 +238,13 @@ out_put w h b k few at now =
     let lt : slot < length v.plain.bodies = below_length v.plain.bodies slot now.body now.at in
     let joints : JointSlots = slots_of w.plain.joint_places (idle_joints slot w.plain.joints) in
     let is : IsBody now.body = wk.kept.bodies slot now.body (body_at-in v.plain.bodies slot now.body now.at) in
-    let out : IsOut v.plain.steps o = disabled_out v.plain.steps now.body is (wk.kept.timers slot now.body now.at) in
+    let out : IsOut v.plain.steps o = disabled_out v.plain.steps now.body is (wk.kept.filters slot now.body now.at) (wk.kept.timers slot now.body now.at) in
     let went = disabling_takes_ties slot v.plain.bodies (slice_set v.plain.bodies slot o) (joints_of v.plain) (idle_joints slot v.plain.joints) v.plain.contacts (joint_slots_of v wk.kept) wk.kept.contacts
     (alike_beside v.plain.bodies slot o) (ap is_enabled_in (own_item v.plain.bodies slot o lt)) (idle_ends slot v.plain.joints) in
     let gone = gone_by v slot o w.plain.places joints (is_mover b) wk.kept (stirred_can_go w slot k) lt (wk.alike.movers slot ∙ ap is_mover_in at) refl
     (ap is_mover_in (own_item v.plain.bodies slot o lt)) went (out_rests v.plain.steps o out) in
     let lists = out_lists v slot b now.body o w.plain.places joints wk.kept few now.at now.x now.y (k.bodies slot b (body_at-in w.plain.bodies slot b at)) out
-    (matched_beside w.plain.places v.plain.bodies slot now.body (disabled_body now.body) now.at wk.kept.matched)
+    (matched_beside w.plain.places v.plain.bodies slot now.body (disabled_body now.body) now.at wk.kept.matched) k.places
     (record { matched = idle_matched w.plain.joint_places slot w.plain.joints k.joint_slots; places = k.joint_places })
     (joints_taken v.plain.bodies (slice_set v.plain.bodies slot o) (idle_joints slot v.plain.joints) (taken_beside v.plain.bodies slot now.body (disabled_body now.body) now.at) (joints_idle v.plain.bodies slot v.plain.joints wk.kept.joints)) in
     both_put (record v { plain = beside slot o w.plain.places joints v.plain; entries = w.entries ++ departed (w.plain.calls + 1) b }) (body_gone slot (is_mover b) v.plain) lists gone.acting gone.awake

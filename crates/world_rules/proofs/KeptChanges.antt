@@ -4,7 +4,7 @@ use Rattle.std.specs.Prelude.{◌&&◌, nat_le, option_map, slice_set}
 use Rattle.std.specs.Option.{ForSome, is_none}
 use Rattle.std.proofs.lemmas.Int.{ints}
 use Rattle.std.proofs.lemmas.Grind.{common_steps}
-use Rattle.std.proofs.lemmas.List.{append-nil}
+use Rattle.std.proofs.lemmas.List.{append-nil, length-set}
 use Rattle.std.proofs.lemmas.List.Elements.{Contains-push}
 use Rattle.fixed_geom.specs.Facings.{is_facing}
 use Rattle.fixed_geom.specs.Vectors.{IsWithin, cross, is_within}
@@ -49,6 +49,7 @@ use Rattle.world_rules.proofs.LowerLaws.{the_named_are_awake}
 use Rattle.world_rules.proofs.BookLemmas.{AreSmall-booked, AreSmall-weaker, sum_x-booked, sum_y-booked}
 use Rattle.world_rules.proofs.ChangeLemmas.{alike_acting, alike_moved, alike_set, tied_alike, timers_set, told_set}
 use Rattle.world_rules.proofs.KeptContacts.{contacts_of_same, has_bodies_same, joints_same, moves_alike}
+use Rattle.world_rules.proofs.ShapeLaws.{HaveSameShapes, filters_same, same_shapes_set, shapes_of}
 use Rattle.world_rules.proofs.SlotLemmas.{AreBodies-set, AreMatched-same, HaveSameSlots-set, below_length, body_at-in, momentum_x-set, momentum_x_le, momentum_y-set, momentum_y_le}
 use Rattle.world_rules.proofs.SoundLaws.{IsKept}
 use Rattle.world_rules.proofs.ToldLaws.{body_told, told_is, told_motion}
@@ -75,7 +76,7 @@ IsRoomy-same b new entries settled r = record {
 
 -- ---- a command that changes one body
 
--- The body b in a slot becomes the body c, which is a mover, sleeps and has as many shapes that take part just as b. Its momentum grows by (x, y).
+-- The body b in a slot becomes the body c, which is a mover, is enabled and sleeps just as b, and has the same shapes. Its momentum grows by (x, y).
 pub record IsChanged (bodies : List (Option Body)) (slot : ℕ) (b c : Body) (x y : ℤ) : Type 0 where
   pub at : body_at bodies slot ≡ Some b
   pub body : IsBody c
@@ -83,7 +84,7 @@ pub record IsChanged (bodies : List (Option Body)) (slot : ℕ) (b c : Body) (x 
   pub enabled : c.enabled ≡ b.enabled
   pub asleep : c.asleep ≡ b.asleep
   pub timer : c.timer ≡ b.timer
-  pub shapes : shapes_in (Some c) ≡ shapes_in (Some b)
+  pub shapes : c.shapes ≡ b.shapes
   pub gain_x : p_x (Some c) ≡ p_x (Some b) +ℤ x
   pub gain_y : p_y (Some c) ≡ p_y (Some b) +ℤ y
   pub small_x : unsigned_abs x ≤ 2 ^ 40
@@ -101,8 +102,11 @@ changed_lists w slot b c x y call why s few is =
     let old_y : p_y (body_at bodies slot) ≡ p_y (Some b) = ap p_y is.at in
     let gain_x = is.gain_x in
     let gain_y = is.gain_y in
-    let slots : HaveSameSlots bodies (slice_set bodies slot (Some c)) = HaveSameSlots-set bodies slot (Some c) (sym (ap is_some is.at)) (is.shapes ∙ sym (ap shapes_in is.at)) in
-    let moves = moves_alike bodies (slice_set bodies slot (Some c)) (alike_set bodies slot b c is.at is.mover is.enabled) slots in
+    let as_many : shapes_in (Some c) ≡ shapes_in (Some b) = λ j. cond (is.enabled j) (length (is.shapes j)) 0 in
+    let slots : HaveSameSlots bodies (slice_set bodies slot (Some c)) = HaveSameSlots-set bodies slot (Some c) (sym (ap is_some is.at)) (as_many ∙ sym (ap shapes_in is.at)) in
+    let shapes : HaveSameShapes bodies (slice_set bodies slot (Some c)) = same_shapes_set bodies slot (Some c) (is.shapes ∙ sym (ap shapes_of is.at)) in
+    let alike : AreAlike bodies (slice_set bodies slot (Some c)) = alike_set bodies slot b c is.at is.mover is.enabled in
+    let moves = moves_alike bodies (slice_set bodies slot (Some c)) alike slots in
     let old_timer = s.timers slot b is.at in
     let same_timer = is.timer in
     record {
@@ -111,14 +115,16 @@ changed_lists w slot b c x y call why s few is =
       causes = AreSmall-weaker (2 ^ 126 + w.plain.calls * 2 ^ 83 + 2 ^ 40) (2 ^ 126 + (w.plain.calls + 1) * 2 ^ 83) _ (omega arith)
           (AreSmall-booked (2 ^ 126 + w.plain.calls * 2 ^ 83) (2 ^ 40) 0 0 w.entries w.settled call why x y s.causes is.small_x is.small_y);
       bodies = AreBodies-set bodies slot (Some c) s.bodies (λ d f. let same : c ≡ d = cc in subst IsBody same is.body);
+      filters = filters_same bodies (slice_set bodies slot (Some c)) shapes s.filters;
       timers = timers_set bodies slot w.plain.steps c (omega (arith, old_timer, same_timer)) s.timers;
       matched = AreMatched-same w.plain.places bodies _ slots s.matched;
+      places = s.places;
       joint_slots = s.joint_slots;
       joint_places = s.joint_places;
       joints = joints_same bodies (slice_set bodies slot (Some c)) w.plain.joints slots s.joints;
       contacts = s.contacts;
       pairs = contacts_of_same bodies (slice_set bodies slot (Some c)) w.plain.contacts moves s.pairs;
-      there = has_bodies_same bodies (slice_set bodies slot (Some c)) w.plain.contacts slots s.there;
+      there = has_bodies_same bodies (slice_set bodies slot (Some c)) w.plain.contacts slots alike shapes s.there;
       gravity = s.gravity;
       steps = omega (arith, s.steps);
       calls = omega arith;
@@ -140,6 +146,7 @@ changed_kept w slot b c x y call why s few is =
     (settled_later (record w.plain { bodies = new }) w.plain.gravity w.plain.steps (w.plain.calls + 1) (subst (IsSettled constraint_number) (sym same) s.settled))
     (tied_alike w.plain.bodies new w.plain.islands alike s.tied)
     (told_set w.plain.bodies slot b c w.plain.islands is.at is.asleep s.told)
+    (s.labels ∙ sym (length-set w.plain.bodies slot (Some c)))
     (alike_moved w new s alike)
 
 changed_is : (f : Body → Body) (o : Option Body) (b : Body) → o ≡ Some b → option_map f o ≡ Some (f b)
@@ -490,8 +497,10 @@ lists_later w g l few small = record {
   total_y = l.total_y;
   causes = AreSmall-weaker (2 ^ 126 + w.plain.calls * 2 ^ 83) (2 ^ 126 + (w.plain.calls + 1) * 2 ^ 83) (book_of w) (omega arith) l.causes;
   bodies = l.bodies;
+  filters = l.filters;
   timers = l.timers;
   matched = l.matched;
+  places = l.places;
   joint_slots = l.joint_slots;
   joint_places = l.joint_places;
   joints = l.joints;
@@ -505,7 +514,7 @@ lists_later w g l few small = record {
 
 pub gravity_kept : (w : World) (g : Vec2) → IsKept w → w.plain.calls < 2 ^ 40 → IsWithin (2 ^ 16) g → IsKept (record w { plain = counted (record w.plain { gravity = g }) })
 gravity_kept w g k few small =
-    kept_of (record w { plain = counted (record w.plain { gravity = g }) }) (lists_later w g (lists_kept w k) few small) (settled_later w.plain g w.plain.steps (w.plain.calls + 1) k.settled) k.tied k.told k.moved
+    kept_of (record w { plain = counted (record w.plain { gravity = g }) }) (lists_later w g (lists_kept w k) few small) (settled_later w.plain g w.plain.steps (w.plain.calls + 1) k.settled) k.tied k.told k.labels k.moved
 
 -- one call more
 pub counted_kept : (w : World) → IsKept w → w.plain.calls < 2 ^ 40 → IsKept (record w { plain = counted w.plain })

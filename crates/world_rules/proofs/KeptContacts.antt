@@ -1,5 +1,5 @@
 -- The contacts and the joints stay those of bodies that are there when bodies change, come and go.
-use Rattle.std.proofs.Common.{◌≡◌, ℕ, zero, suc, ◌<◌, ◌≤◌, Bool, true, false, cond, List, [], ◌∷◌, ◌++◌, length, Option, Some, None, All, inl, inr, nat_lt, arith, refl, ap, ◌∙◌, is_some, length-append}
+use Rattle.std.proofs.Common.{◌≡◌, ℕ, zero, suc, ◌<◌, ◌≤◌, Bool, true, false, cond, List, [], ◌∷◌, ◌++◌, length, Option, Some, None, All, inl, inr, nat_lt, arith, refl, sym, ap, ap₂, ◌∙◌, is_some, length-append}
 use Rattle.std.specs.Prelude.{◌==◌, ◌||◌, ◌≢◌, not, slice_set}
 use Rattle.std.proofs.lemmas.Bool.{cases_eq, eqb-false}
 use Rattle.std.proofs.lemmas.List.{length-set}
@@ -8,11 +8,13 @@ use Rattle.contacts_base.specs.declared.contact.ContactEntry.{ContactEntry}
 use Rattle.contacts_base.specs.Contacts.{contacts_without, has_slot}
 use Rattle.plain_world.specs.declared.body.Body.{Body}
 use Rattle.plain_world.specs.declared.joint.BodyJoint.{BodyJoint}
+use Rattle.plain_world.specs.Formed.{mixed_of, shape_of_body}
 use Rattle.plain_world.specs.Joints.{AreJoints, IsBodyJoint}
 use Rattle.plain_world.specs.Slots.{HaveSameSlots, body_at, shapes_in, with_body}
 use Rattle.solver_sets.specs.Tied.{AreAlike}
 use Rattle.world_core_base.specs.Gather.{AreContactsOf, IsContactOf, moves, moves_in}
 use Rattle.world_rules.specs.Sound.{HasBodies}
+use Rattle.world_rules.proofs.ShapeLaws.{HaveSameShapes, same_shape}
 use Rattle.world_rules.proofs.SlotLemmas.{item_at-set_other}
 
 -- ---- bodies that change
@@ -156,13 +158,14 @@ contacts_of_without bodies slot contacts all = all_without (IsContactOf bodies) 
 
 -- ---- the bodies of both shapes stay there
 
--- a slot's body is there as before, with as many shapes that take part
+-- a slot's body is there as before, with the same shapes that take part
 pub record IsKeptIn (old new : List (Option Body)) (slot : ℕ) : Type 0 where
   pub there : is_some (body_at new slot) ≡ true
   pub shapes : shapes_in (body_at new slot) ≡ shapes_in (body_at old slot)
+  pub named : (index : ℕ) → shape_of_body (body_at new slot) index ≡ shape_of_body (body_at old slot) index
 
 kept_at : (old new : List (Option Body)) (slot : ℕ) → is_some (body_at old slot) ≡ true → body_at new slot ≡ body_at old slot → IsKeptIn old new slot
-kept_at old new slot taken e = record { there = ap is_some e ∙ taken; shapes = ap shapes_in e }
+kept_at old new slot taken e = record { there = ap is_some e ∙ taken; shapes = ap shapes_in e; named = λ index. ap (λ (o : Option Body). shape_of_body o index) e }
 
 kept_has_bodies : (old new : List (Option Body)) (e : ContactEntry) → IsKeptIn old new e.key.first.slot → IsKeptIn old new e.key.second.slot → HasBodies old e → HasBodies new e
 kept_has_bodies old new e a b h = record {
@@ -170,6 +173,8 @@ kept_has_bodies old new e a b h = record {
   second = b.there;
   first_shape = rw a.shapes h.first_shape;
   second_shape = rw b.shapes h.second_shape;
+  order = h.order;
+  surface = h.surface ∙ sym (ap₂ mixed_of (a.named e.key.first.index) (b.named e.key.second.index));
   named = h.named;
   points = h.points;
 }
@@ -178,8 +183,9 @@ pub has_bodies_more : (old new : List (Option Body)) (contacts : List ContactEnt
 has_bodies_more old new contacts more all =
     All-weaker (HasBodies old) (HasBodies new) (λ e h. kept_has_bodies old new e (more e.key.first.slot h.first) (more e.key.second.slot h.second) h) contacts all
 
-pub has_bodies_same : (old new : List (Option Body)) (contacts : List ContactEntry) → HaveSameSlots old new → All (HasBodies old) contacts → All (HasBodies new) contacts
-has_bodies_same old new contacts h all = has_bodies_more old new contacts (λ slot taken. record { there = h.taken slot ∙ taken; shapes = h.shapes slot }) all
+pub has_bodies_same : (old new : List (Option Body)) (contacts : List ContactEntry) → HaveSameSlots old new → AreAlike old new → HaveSameShapes old new → All (HasBodies old) contacts → All (HasBodies new) contacts
+has_bodies_same old new contacts h alike same all =
+    has_bodies_more old new contacts (λ slot taken. record { there = h.taken slot ∙ taken; shapes = h.shapes slot; named = λ index. same_shape old new alike same slot index }) all
 
 pub has_bodies_with : (bodies : List (Option Body)) (slot : ℕ) (b : Body) (contacts : List ContactEntry) → body_at bodies slot ≡ None → All (HasBodies bodies) contacts → All (HasBodies (with_body bodies slot b)) contacts
 has_bodies_with bodies slot b contacts none all = has_bodies_more bodies (with_body bodies slot b) contacts (λ k taken. kept_at bodies (with_body bodies slot b) k taken (body_at-with_body bodies slot b k none taken)) all

@@ -63,8 +63,10 @@ empty_kept g h = record {
   total_y = refl;
   causes = AreSmall-weaker (2 ^ 126) (2 ^ 126 + 0 * 2 ^ 83) (book_of (empty_world g)) (omega arith) (record { x = no_total_x g; y = no_total_y g });
   bodies = λ slot b e. cc;
+  filters = λ slot b e. absurd (none-some b e);
   timers = λ slot b e. absurd (none-some b e);
   matched = record { slots = refl; few = omega arith; taken = λ slot. refl };
+  places = All-nil IsPlace;
   joint_slots = record { slots = refl; few = omega arith; taken = λ slot. refl };
   joint_places = All-nil IsPlace;
   joints = λ slot j at. absurd (none-some j at);
@@ -74,6 +76,7 @@ empty_kept g h = record {
   settled = empty_settled g;
   tied = λ slot. refl;
   told = λ slot b e. absurd (none-some b e);
+  labels = refl;
   moved = empty_moved g;
   gravity = h;
   steps = omega arith;

@@ -1,5 +1,5 @@
 -- A world stays kept where a body is enabled.
-use Rattle.std.proofs.Common.{◌≡◌, ◌≢◌, ◌⊎◌, ℕ, ◌*◌, ◌<◌, ◌≤◌, ◌^◌, Bool, true, false, cond, List, length, Option, Some, None, is_some, All, ℤ, pos, inl, inr, refl, sym, ap, ◌∙◌, subst, arith}
+use Rattle.std.proofs.Common.{◌≡◌, ◌≢◌, ◌⊎◌, ℕ, ◌*◌, ◌<◌, ◌≤◌, ◌^◌, Bool, true, false, cond, List, length, Option, Some, None, is_some, All, ℤ, pos, inl, inr, refl, sym, ap, ap₂, ◌∙◌, subst, arith}
 use Rattle.std.specs.Prelude.{Contains, option_map, slice_set}
 use Rattle.std.specs.Option.{is_none}
 use Rattle.graph_colours.specs.Members.{has_id}
@@ -20,6 +20,7 @@ use Rattle.plain_world.specs.declared.body.Body.{Body}
 use Rattle.plain_world.specs.Bodies.{IsBody, is_mover, p_x, p_y}
 use Rattle.plain_world.specs.Bodies as bodies
 use Rattle.plain_world.specs.Changes.{enabled_body}
+use Rattle.plain_world.specs.Formed.{HaveFilters, mixed_of, shape_of_body}
 use Rattle.plain_world.specs.Kinds.{is_dynamic}
 use Rattle.plain_world.specs.Plain.{Plain}
 use Rattle.plain_world.specs.Sleep.{told_body, told_by, sleeping_name}
@@ -41,7 +42,8 @@ use Rattle.world_rules.proofs.BesideLaws.{alike_beside, joints_taken, matched_be
 use Rattle.world_rules.proofs.EnableLaws.{IsMoverOf, joints_among, joints_move}
 use Rattle.world_rules.proofs.JoinLaws.{IsNext, next_begun}
 use Rattle.world_rules.proofs.KeptChanges.{IsThere, counted_kept, named_at, still_there}
-use Rattle.world_rules.proofs.KeptMade.{come_beside, come_here, come_others, come_own, come_settled, come_ties, contacts_enabled}
+use Rattle.world_rules.proofs.KeptMade.{come_beside, come_here, come_long, come_others, come_own, come_settled, come_ties, contacts_enabled}
+use Rattle.world_rules.proofs.ShapeLaws.{filters_set}
 use Rattle.world_rules.proofs.SlotLemmas.{AreBodies-set, below_length, body_at-in, item_at-set_other, momentum_x-set, momentum_y-set, none_if}
 use Rattle.world_rules.proofs.PutLaws.{IsPut, both_put}
 use Rattle.world_rules.proofs.SoundLaws.{IsKept}
@@ -125,6 +127,8 @@ bodies_stay bodies slot o e off on h =
       second = ap is_some b ∙ h.second;
       first_shape = rw (ap shapes_in a) h.first_shape;
       second_shape = rw (ap shapes_in b) h.second_shape;
+      order = h.order;
+      surface = h.surface ∙ sym (ap₂ (λ (x y : Option Body). mixed_of (shape_of_body x e.key.first.index) (shape_of_body y e.key.second.index)) a b);
       named = h.named;
       points = h.points;
     }
@@ -153,8 +157,10 @@ part_lists w slot b k at off =
       total_y = let t = k.total_y in omega (arith, ints, my, old_y, new_y, t);
       causes = k.causes;
       bodies = AreBodies-set old slot (Some c) k.bodies (λ d e. subst IsBody (same_Some c d e) (enabled_is b is off));
+      filters = filters_set old slot (Some c) (λ d e. subst (λ (a : Body). HaveFilters a.shapes) (same_Some c d e) (k.filters slot b at)) k.filters;
       timers = timers_beside w.plain.steps old slot (Some c) lt (λ d e. subst (λ (a : Body). a.timer ≤ 8 * w.plain.steps) (same_Some c d e) (timer_le (is_dynamic b.kind) b.timer (8 * w.plain.steps) (k.timers slot b at))) k.timers;
       matched = matched_beside w.plain.places old slot b c at k.matched;
+      places = k.places;
       joint_slots = k.joint_slots;
       joint_places = k.joint_places;
       joints = joints_taken old (slice_set old slot (Some c)) w.plain.joints (taken_beside old slot b c at) k.joints;
@@ -212,6 +218,7 @@ up_plain w slot o = record (woken w.plain (joined_to w.plain.bodies w.plain.join
 pub record CanStart (w : World) (slot : ℕ) (c : Body) : Type 0 where
   pub settled : IsSettled constraint_number (up_acting w slot c)
   pub tied : AreTied (up_bodies w slot (Some c)) (up_acting w slot c).labels
+  pub long : length (up_acting w slot c).labels ≡ length (up_bodies w slot (Some c))
   pub can : CanBegin constraint_number (joint_ties_at slot (up_bodies w slot (Some c)) (joints_of w.plain)) (up_acting w slot c)
   pub ties : ties_of (up_bodies w slot (Some c)) (joints_of w.plain) w.plain.contacts ≡ each_inserted constraint_number (joint_ties_at slot (up_bodies w slot (Some c)) (joints_of w.plain)) (up_acting w slot c).ties
 
@@ -235,6 +242,7 @@ can_start w slot b k at off =
     record {
       settled = come_settled (is_mover c) slot (acting_of v.plain) wk.kept.settled none;
       tied = tied_beside old slot (Some c) v.plain.islands s.labels lt wk.kept.tied (come_here (is_mover c) slot (acting_of v.plain) none) (λ j far. come_beside (is_mover c) slot j (acting_of v.plain) far);
+      long = come_long (is_mover c) slot (acting_of v.plain) (subst (λ (n : ℕ). slot < n) (sym wk.kept.labels) lt) ∙ wk.kept.labels ∙ sym (length-set old slot (Some c));
       can = record {
         rising = taken.rising;
         fresh = λ m h. subst (λ (ties : List (Member Constraint)). has_id constraint_number m.id ties ≡ false) (sym same) (taken.fresh m h);
@@ -248,7 +256,7 @@ up_next : (w : World) (slot : ℕ) (b : Body) → IsKept w → body_at (woken w.
 up_next w slot b k at off =
     let c : Body = enabled_body b in
     let start : CanStart w slot c = can_start w slot b k at off in
-    next_begun (up_plain w slot (Some c)) (up_acting w slot c) (joint_ties_at slot (up_bodies w slot (Some c)) (joints_of w.plain)) start.settled start.tied start.can start.ties
+    next_begun (up_plain w slot (Some c)) (up_acting w slot c) (joint_ties_at slot (up_bodies w slot (Some c)) (joints_of w.plain)) start.settled start.tied start.long start.can start.ties
 
 -- ---- Enable
 

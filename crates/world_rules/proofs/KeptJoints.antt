@@ -8,12 +8,11 @@ use Rattle.std.proofs.lemmas.Option.{none-some}
 use Rattle.body_handles.specs.declared.handle.Handle.{Handle}
 use Rattle.body_handles.specs.declared.places.Place.{Place}
 use Rattle.body_handles.specs.declared.places.TheConstants.{MAX_SLOTS}
-use Rattle.body_handles.specs.Places.{IsLive, is_live, is_live_at, lowest}
+use Rattle.body_handles.specs.Places.{IsLive, is_live, lowest}
 use Rattle.fixed_geom.specs.Vectors.{IsWithin, is_within}
 use Rattle.fixed_geom.specs.declared.vectors.Vec2.{Vec2}
 use Rattle.fixed_geom.specs.declared.refusal.Refusal.{Refusal}
 use Rattle.fixed_geom.specs.declared.refusal.Refusal.TheVariants.{BodyDisabled, OutOfRange, SameBody}
-use Rattle.graph_colours.proofs.PlaceLemmas.{same_from}
 use Rattle.contacts.specs.declared.constraint.Constraint.TheVariants.{Joint}
 use Rattle.islands.proofs.JoinLemmas.{contains_head, contains_tail}
 use Rattle.joint_rows.specs.Joints.{IsJoint}
@@ -32,6 +31,7 @@ use Rattle.world_rules.proofs.ActingLaws.{IsWoken, waking_kept}
 use Rattle.world_rules.proofs.LowerLaws.{joining_adds_ties, unjoining_takes_ties}
 use Rattle.world_rules.proofs.JoinLaws.{AreUp, ends_up, joints_gone, joints_put, joints_with, next_begun_with, next_ended_with, woken_up}
 use Rattle.world_rules.proofs.KeptChanges.{counted_kept, named_at}
+use Rattle.world_rules.proofs.PlaceLaws.{live_at}
 use Rattle.world_rules.proofs.PutLaws.{IsPut}
 use Rattle.world_rules.proofs.SoundLaws.{IsKept}
 use Rattle.world_rules.proofs.StirLaws.{joint_slots_of}
@@ -125,14 +125,6 @@ pub join_allowed : (w : World) (d : JointDef) → join_refusal (body_of w.plain 
 join_allowed w d h = ends_allowed w d (body_of w.plain d.a) (body_of w.plain d.b) refl refl h
 
 -- ---- DestroyJoint
-
-live_place : (n g : ℕ) (live : Bool) → (live && (n == g)) ≡ true → ◌≡◌ {A = Option Place} (Some (record { generation = n; live = live })) (Some (record { generation = g; live = true }))
-live_place n g true e = ap (λ (k : ℕ). Some (record { generation = k; live = true })) (same_from n g e)
-live_place n g false e = absurd (false≢true e)
-
-live_at : (o : Option Place) (g : ℕ) → is_live_at o g ≡ true → o ≡ Some (record { generation = g; live = true })
-live_at None g e = absurd (false≢true e)
-live_at (Some p) g e = live_place p.generation g p.live e
 
 named_joint : (live : Bool) (o : Option BodyJoint) (j : BodyJoint) → cond live o None ≡ Some j → (live ≡ true) × (o ≡ Some j)
 named_joint true o j e = (refl, e)

@@ -1,33 +1,38 @@
 -- A body that is made keeps a world: no constraint changes, and a mover has an awake island of its own.
-use Rattle.std.proofs.Common.{◌≡◌, ◌≢◌, ◌⊎◌, ℕ, zero, suc, ◌*◌, ◌<◌, ◌≤◌, ◌^◌, List, [], ◌∷◌, ◌++◌, length, Option, Some, None, All, Bool, true, false, cond, pos, inl, inr, arith, refl, sym, ap, ◌∙◌, subst, is_some, nat_lt, eq-eqb, ne_eqb}
+use Rattle.std.proofs.Common.{◌≡◌, ◌≢◌, ◌⊎◌, ℕ, zero, suc, ◌+◌, ◌-◌, ◌*◌, ◌<◌, ◌≤◌, ◌^◌, List, [], ◌∷◌, ◌++◌, length, Option, Some, None, All, Bool, true, false, cond, pos, inl, inr, arith, refl, sym, ap, ◌∙◌, subst, is_some, nat_lt, eq-eqb, ne_eqb}
 use Rattle.std.specs.Prelude.{◌||◌, if◌then◌else◌, slice_set}
 use Rattle.std.specs.Option.{is_none}
 use Rattle.std.proofs.lemmas.Int.{ints}
 use Rattle.std.proofs.lemmas.Bool.{cases_eq}
 use Rattle.std.proofs.lemmas.Grind.{common_steps}
-use Rattle.std.proofs.lemmas.List.Elements.{All-weaker}
+use Rattle.std.proofs.lemmas.List.Elements.{All-push, All-set, All-weaker}
 use Rattle.std.proofs.lemmas.Option.{same_Some}
 use Rattle.body_handles.specs.declared.places.Place.{Place}
 use Rattle.body_handles.specs.declared.places.TheConstants.{MAX_SLOTS}
-use Rattle.body_handles.specs.Places.{generation_at, lowest}
+use Rattle.body_handles.specs.Places.{IsPlace, generation_at, lowest}
 use Rattle.body_handles.proofs.LowestLemmas.{lowest-le-length}
+use Rattle.body_handles.proofs.TableLemmas.{IsPlace-given}
 use Rattle.contacts_base.specs.declared.contact.ContactEntry.{ContactEntry}
 use Rattle.contacts.specs.Constraints.{constraint_number}
 use Rattle.contacts.specs.declared.constraint.Constraint.{Constraint}
 use Rattle.graph_colours.specs.Colours.{ids_of}
-use Rattle.islands.specs.Labels.{label_at}
+use Rattle.islands.specs.Labels.{label_at, padded}
 use Rattle.islands.specs.declared.label.Label.{Label}
 use Rattle.islands.proofs.LabelLemmas.{added_here, added_other}
 use Rattle.plain_world.specs.declared.body.Body.{Body}
 use Rattle.plain_world.specs.declared.body.BodyDef.{BodyDef}
 use Rattle.plain_world.specs.declared.joint.BodyJoint.{BodyJoint}
 use Rattle.plain_world.specs.Bodies.{IsBody, is_awake, is_mover, made, p_x, p_y}
+use Rattle.plain_world.specs.Formed.{HaveFilters}
 use Rattle.plain_world.specs.Joints.{AreJoints}
 use Rattle.plain_world.specs.Sleep.{sleeping_name, told}
 use Rattle.plain_world.specs.Slots.{body_at, item_in, shapes_in, with_body}
 use Rattle.sleep_wake.specs.Acting.{Acting, IsSettled}
 use Rattle.sleep_wake.specs.Acting as acting
 use Rattle.sleep_wake.specs.Bodies.{mover_made}
+use Rattle.sleep_wake.specs.Widened.{widened}
+use Rattle.islands.proofs.WideLemmas.{wide_at}
+use Rattle.sleep_wake.proofs.LengthLemmas.{made_long, wide_long, wide_settled}
 use Rattle.solver_sets.specs.Tied.{AreTied, IsBetweenEnabled}
 use Rattle.solver_sets.specs.Ties.{is_enabled_in, is_mover_in, members_of, moves}
 use Rattle.world_core_base.specs.Gather.{AreContactsOf}
@@ -40,6 +45,7 @@ use Rattle.world_rules.proofs.LowerLaws.{coming_keeps_ties, making_keeps, movers
 use Rattle.world_rules.proofs.ChangeLemmas.{set_case}
 use Rattle.world_rules.proofs.KeptChanges.{counted_kept}
 use Rattle.world_rules.proofs.KeptContacts.{MovesMore-with_body, contacts_of_more, has_bodies_with, joints_with}
+use Rattle.world_rules.proofs.ShapeLaws.{filters_push, filters_set}
 use Rattle.world_rules.proofs.SlotLemmas.{AreBodies-push, AreBodies-set, AreMatched-push, AreMatched-set, lowest-free, momentum_x-push, momentum_x-set, momentum_y-push, momentum_y-set, none_if, slice_get-with, slice_get-with_own}
 use Rattle.world_rules.proofs.PutLaws.{IsPut, both_put}
 use Rattle.world_rules.proofs.SoundLaws.{IsKept}
@@ -97,11 +103,12 @@ pub record IsNew (b : Body) : Type 0 where
   pub x : p_x (Some b) ≡ pos 0
   pub y : p_y (Some b) ≡ pos 0
   pub timer : b.timer ≡ 0
+  pub filters : HaveFilters b.shapes
 
-lists_by : (t : Bool) (w : World) (slot : ℕ) (place : Place) (b : Body) → IsKept w → (t ≡ true → slot < length w.plain.bodies) → (t ≡ false → length w.plain.bodies < MAX_SLOTS) → place.live ≡ true → IsNew b → body_at w.plain.bodies slot ≡ None
+lists_by : (t : Bool) (w : World) (slot : ℕ) (place : Place) (b : Body) → IsKept w → (t ≡ true → slot < length w.plain.bodies) → (t ≡ false → length w.plain.bodies < MAX_SLOTS) → place.live ≡ true → IsPlace place → IsNew b → body_at w.plain.bodies slot ≡ None
     → AreTimers w.plain.steps (cond t (slice_set w.plain.bodies slot (Some b)) (w.plain.bodies ++ Some b ∷ [])) → AreOf (cond t (slice_set w.plain.bodies slot (Some b)) (w.plain.bodies ++ Some b ∷ [])) w.plain.joints w.plain.contacts
     → AreLists (record w { plain = record w.plain { places = (if t then slice_set w.plain.places slot place else w.plain.places ++ place ∷ []); bodies = cond t (slice_set w.plain.bodies slot (Some b)) (w.plain.bodies ++ Some b ∷ []) } })
-lists_by true w slot place b s below past live is none timers of =
+lists_by true w slot place b s below past live given is none timers of =
     let mx = momentum_x-set w.plain.bodies slot (Some b) (below refl) in
     let my = momentum_y-set w.plain.bodies slot (Some b) (below refl) in
     let old_x : p_x (body_at w.plain.bodies slot) ≡ pos 0 = ap p_x none in
@@ -111,8 +118,10 @@ lists_by true w slot place b s below past live is none timers of =
       total_y = let t = s.total_y in let y = is.y in omega (arith, ints, my, old_y, y, t);
       causes = s.causes;
       bodies = AreBodies-set w.plain.bodies slot (Some b) s.bodies (λ c f. let same : b ≡ c = cc in subst IsBody same is.body);
+      filters = filters_set w.plain.bodies slot (Some b) (λ c f. subst (λ (x : Body). HaveFilters x.shapes) (same_Some b c f) is.filters) s.filters;
       timers = timers;
       matched = AreMatched-set w.plain.places w.plain.bodies slot place (Some b) (sym live) s.matched;
+      places = All-set IsPlace w.plain.places slot place given s.places;
       joint_slots = s.joint_slots;
       joint_places = s.joint_places;
       joints = of.joints_there;
@@ -123,7 +132,7 @@ lists_by true w slot place b s below past live is none timers of =
       steps = s.steps;
       calls = s.calls;
     }
-lists_by false w slot place b s below past live is none timers of =
+lists_by false w slot place b s below past live given is none timers of =
     let mx = momentum_x-push w.plain.bodies (Some b) in
     let my = momentum_y-push w.plain.bodies (Some b) in
     record {
@@ -131,8 +140,10 @@ lists_by false w slot place b s below past live is none timers of =
       total_y = let t = s.total_y in let y = is.y in omega (arith, ints, my, y, t);
       causes = s.causes;
       bodies = AreBodies-push w.plain.bodies (Some b) s.bodies (λ c f. let same : b ≡ c = cc in subst IsBody same is.body);
+      filters = filters_push w.plain.bodies (Some b) (λ c f. subst (λ (x : Body). HaveFilters x.shapes) (same_Some b c f) is.filters) s.filters;
       timers = timers;
       matched = AreMatched-push w.plain.places w.plain.bodies place (Some b) (sym live) (past refl) s.matched;
+      places = All-push IsPlace w.plain.places place s.places given;
       joint_slots = s.joint_slots;
       joint_places = s.joint_places;
       joints = of.joints_there;
@@ -151,7 +162,7 @@ made_lists w b k free is =
     let le = free_below w k in
     let same = k.matched.slots in
     rw same (lists_by (nat_lt slot (length w.plain.bodies)) w slot (record { generation = generation_at w.plain.places slot; live = true }) b k
-    (λ e. grind (arith, common_steps)) (λ e. let past : slot ≡ length w.plain.bodies = past_is slot (length w.plain.bodies) le e in omega arith) refl is none
+    (λ e. grind (arith, common_steps)) (λ e. let past : slot ≡ length w.plain.bodies = past_is slot (length w.plain.bodies) le e in omega arith) refl (IsPlace-given w.plain.places k.places) is none
     (timers_with w.plain.bodies slot w.plain.steps b le is.timer k.timers) (are_of w slot b k none))
 
 -- ---- the constraints, the islands and the colours
@@ -186,6 +197,10 @@ pub come_settled : (m : Bool) (slot : ℕ) (s : Acting Constraint) → IsSettled
 come_settled true slot s settled none = making_keeps s slot settled none
 come_settled false slot s settled none = settled
 
+pub come_long : (m : Bool) (slot : ℕ) (s : Acting Constraint) → slot < length s.labels → length (cond m (mover_made slot s) s).labels ≡ length s.labels
+come_long true slot s lt = made_long slot s lt
+come_long false slot s lt = refl
+
 -- just the new one is a mover more, if it is one
 pub come_here : (m : Bool) (slot : ℕ) (s : Acting Constraint) → label_at s.labels slot ≡ None → is_some (label_at (cond m (mover_made slot s) s).labels slot) ≡ m
 come_here true slot s none = movers_come_and_go.made s slot slot ∙ ap (λ (t : Bool). t || is_some (label_at s.labels slot)) (eq-eqb slot slot refl)
@@ -208,16 +223,27 @@ come_tied bodies slot b s le none tied k = elim (cases_eq k slot) [
   | inr ne ↦ come_beside (is_mover b) slot k s ne ∙ tied k ∙ sym (ap is_mover_in (other_body bodies slot k b le ne))
 ]
 
-come_acting : (w : World) (b : Body) → IsKept w → IsActing (with_made (lowest w.plain.places) b w.plain) (body_come (lowest w.plain.places) b (acting_of w.plain))
+-- the labels with a new slot, if it is one
+come_labels : (m : Bool) (slot n : ℕ) (s : Acting Constraint) → length s.labels ≡ n → length (padded (cond m (mover_made slot s) s).labels (slot + 1)) ≡ n + (slot + 1 - n)
+unfolding mover_made
+come_labels true slot n s e = wide_long true s.labels slot n e
+come_labels false slot n s e = wide_long false s.labels slot n e
+
+with_long : (t : Bool) (bodies : List (Option Body)) (slot : ℕ) (o : Option Body) → nat_lt slot (length bodies) ≡ t → slot ≤ length bodies → length (cond t (slice_set bodies slot o) (bodies ++ o ∷ [])) ≡ length bodies + (slot + 1 - length bodies)
+with_long true bodies slot o e le = grind (arith, common_steps)
+with_long false bodies slot o e le = grind (arith, common_steps)
+
+come_acting : (w : World) (b : Body) → IsKept w → IsActing (with_made (lowest w.plain.places) b w.plain) (widened (lowest w.plain.places) (body_come (lowest w.plain.places) b (acting_of w.plain)))
 unfolding acting_of
 come_acting w b k =
     let slot = lowest w.plain.places in
     let s = acting_of w.plain in
     record {
-      settled = come_settled (is_mover b) slot s k.settled (free_label w k);
+      settled = wide_settled constraint_number slot (body_come slot b s) (come_settled (is_mover b) slot s k.settled (free_label w k));
       ties = come_ties (is_mover b) slot s
           ∙ sym (coming_keeps_ties w.plain.bodies (joints_of w.plain) w.plain.contacts slot b (free_slot w k) (free_below w k) k.joints (contacts_enabled w.plain.bodies w.plain.contacts k.there));
-      tied = come_tied w.plain.bodies slot b s (free_below w k) (free_label w k) k.tied;
+      tied = λ n. ap (λ (o : Option Label). is_some o) (wide_at (body_come slot b s).labels (slot + 1) n) ∙ come_tied w.plain.bodies slot b s (free_below w k) (free_label w k) k.tied n;
+      long = come_labels (is_mover b) slot (length w.plain.bodies) s k.labels ∙ sym (with_long (nat_lt slot (length w.plain.bodies)) w.plain.bodies slot (Some b) refl (free_below w k));
     }
 
 -- ---- who is awake
@@ -248,11 +274,16 @@ come_awake w b k n d at up =
           come_others (is_mover b) slot n s apart (awake_label w.plain.bodies w.plain.islands n d k.tied k.told there up)
     ])
 
+-- the same with the slot
+wide_awake : (w : World) (b : Body) → IsKept w → NobodyFallsAsleep (with_body w.plain.bodies (lowest w.plain.places) b) (widened (lowest w.plain.places) (body_come (lowest w.plain.places) b (acting_of w.plain))).labels
+wide_awake w b k n d at up =
+    ap (λ (o : Option Label). sleeping_name o) (wide_at (body_come (lowest w.plain.places) b (acting_of w.plain)).labels (lowest w.plain.places + 1) n) ∙ come_awake w b k n d at up
+
 -- ---- CreateBody
 
 -- a new body comes
-pub body_made_put : (w : World) (b : Body) → IsKept w → lowest w.plain.places < MAX_SLOTS → IsNew b → IsPut (record w { plain = with_made (lowest w.plain.places) b w.plain }) (body_come (lowest w.plain.places) b (acting_of w.plain))
-body_made_put w b k free is = both_put (record w { plain = with_made (lowest w.plain.places) b w.plain }) (body_come (lowest w.plain.places) b (acting_of w.plain)) (made_lists w b k free is) (come_acting w b k) (come_awake w b k)
+pub body_made_put : (w : World) (b : Body) → IsKept w → lowest w.plain.places < MAX_SLOTS → IsNew b → IsPut (record w { plain = with_made (lowest w.plain.places) b w.plain }) (widened (lowest w.plain.places) (body_come (lowest w.plain.places) b (acting_of w.plain)))
+body_made_put w b k free is = both_put (record w { plain = with_made (lowest w.plain.places) b w.plain }) (widened (lowest w.plain.places) (body_come (lowest w.plain.places) b (acting_of w.plain))) (made_lists w b k free is) (come_acting w b k) (wide_awake w b k)
 
 pub body_made_kept : (w : World) (b : Body) → IsKept w → lowest w.plain.places < MAX_SLOTS → IsNew b → IsKept (record w { plain = body_made (lowest w.plain.places) b w.plain })
 body_made_kept w b k free is = (body_made_put w b k free is).kept
@@ -261,12 +292,12 @@ resting_part : (m : Bool) → cond m (pos 0) (pos 0) ≡ pos 0
 resting_part true = refl
 resting_part false = refl
 
-pub made_new : (d : BodyDef) → IsBody (made d) → IsNew (made d)
-made_new d is = record { body = is; x = resting_part (is_mover (made d)); y = resting_part (is_mover (made d)); timer = refl }
+pub made_new : (d : BodyDef) → IsBody (made d) → HaveFilters d.shapes → IsNew (made d)
+made_new d is filters = record { body = is; x = resting_part (is_mover (made d)); y = resting_part (is_mover (made d)); timer = refl; filters = filters }
 
-pub create_kept : (w : World) (d : BodyDef) → IsKept w → w.plain.calls < 2 ^ 40 → lowest w.plain.places < MAX_SLOTS → IsBody (made d)
+pub create_kept : (w : World) (d : BodyDef) → IsKept w → w.plain.calls < 2 ^ 40 → lowest w.plain.places < MAX_SLOTS → IsBody (made d) → HaveFilters d.shapes
     → IsKept (record w { plain = counted (body_made (lowest w.plain.places) (made d) w.plain) })
-create_kept w d k few free is = counted_kept (record w { plain = body_made (lowest w.plain.places) (made d) w.plain }) (body_made_kept w (made d) k free (made_new d is)) few
+create_kept w d k few free is filters = counted_kept (record w { plain = body_made (lowest w.plain.places) (made d) w.plain }) (body_made_kept w (made d) k free (made_new d is filters)) few
 
 -- ---- the bodies are told already
 
@@ -306,12 +337,16 @@ come_lists w b k = by (is_mover b)
     by true = refl
     by false = refl
 
+wide_told : (w : World) (b : Body) → IsKept w → b.asleep ≡ None → AreTold (with_body w.plain.bodies (lowest w.plain.places) b) (widened (lowest w.plain.places) (body_come (lowest w.plain.places) b (acting_of w.plain))).labels
+wide_told w b k up n d at =
+    come_told w b k up n d at ∙ ap (λ (o : Option Label). sleeping_name o) (sym (wide_at (body_come (lowest w.plain.places) b (acting_of w.plain)).labels (lowest w.plain.places + 1) n))
+
 -- A new body that is awake leaves the other bodies and the colours as they are.
 pub body_made_is : (w : World) (b : Body) → IsKept w → lowest w.plain.places < MAX_SLOTS → IsNew b → b.asleep ≡ None
-    → body_made (lowest w.plain.places) b w.plain ≡ record (with_made (lowest w.plain.places) b w.plain) { islands = (body_come (lowest w.plain.places) b (acting_of w.plain)).labels }
+    → body_made (lowest w.plain.places) b w.plain ≡ record (with_made (lowest w.plain.places) b w.plain) { islands = (widened (lowest w.plain.places) (body_come (lowest w.plain.places) b (acting_of w.plain))).labels }
 body_made_is w b k free is up =
     let slot = lowest w.plain.places in
-    let s = body_come slot b (acting_of w.plain) in
-    let bodies : told s.labels (with_body w.plain.bodies slot b) ≡ with_body w.plain.bodies slot b = told_stays s.labels (with_body w.plain.bodies slot b) (made_lists w b k free is).bodies (come_told w b k up) in
+    let s = widened slot (body_come slot b (acting_of w.plain)) in
+    let bodies : told s.labels (with_body w.plain.bodies slot b) ≡ with_body w.plain.bodies slot b = told_stays s.labels (with_body w.plain.bodies slot b) (made_lists w b k free is).bodies (wide_told w b k up) in
     let colours : ids_of s.lists ≡ w.plain.colours = ap ids_of (come_lists w b k) ∙ k.moved in
     λ j. record (with_made slot b w.plain) { bodies = bodies j; islands = s.labels; colours = colours j }

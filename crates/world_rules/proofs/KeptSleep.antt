@@ -12,6 +12,7 @@ use Rattle.plain_world.specs.declared.body.Body.{Body}
 use Rattle.plain_world.specs.Bodies.{AreBodies, momentum_x, momentum_y}
 use Rattle.plain_world.specs.Sleep.{told}
 use Rattle.sleep_wake.specs.Acting.{Acting}
+use Rattle.sleep_wake.proofs.LengthLemmas.{slept_long}
 use Rattle.sleep_wake.specs.SleepPhase.{split_at}
 use Rattle.sleep_wake.specs.Sleeping.{rested_at, rested_by, slept_at, slept_by, split_if_loose}
 use Rattle.sleep_wake.specs.Waking.{put_to_rest}
@@ -23,9 +24,10 @@ use Rattle.world_rules.proofs.LowerLaws.{movers_stay, sleep_keeps}
 use Rattle.world_rules.proofs.BookLemmas.{AreSmall-booked, AreSmall-weaker, sum_x-booked, sum_y-booked}
 use Rattle.world_rules.proofs.KeptChanges.{settled_later}
 use Rattle.world_rules.proofs.KeptContacts.{contacts_of_same, has_bodies_same, joints_same, moves_alike}
+use Rattle.world_rules.proofs.ShapeLaws.{filters_same}
 use Rattle.world_rules.proofs.SlotLemmas.{AreMatched-same, momentum_x_le, momentum_y_le}
 use Rattle.world_rules.proofs.SoundLaws.{IsKept}
-use Rattle.world_rules.proofs.ToldLaws.{length_told, told_alike, told_are_bodies, told_same_slots, told_timers}
+use Rattle.world_rules.proofs.ToldLaws.{length_told, told_alike, told_are_bodies, told_same_shapes, told_same_slots, told_timers}
 
 -- ---- what is booked
 
@@ -57,6 +59,7 @@ lists_rested w s l few =
     let old = w.plain.bodies in
     let new = told s.labels old in
     let slots = told_same_slots s.labels old in
+    let shapes = told_same_shapes s.labels old in
     let moves = moves_alike old new (told_alike s.labels old) slots in
     let small = rest_small s.labels old l.bodies l.matched.few in
     let call = w.plain.calls + 1 in
@@ -70,14 +73,16 @@ lists_rested w s l few =
       causes = AreSmall-weaker (2 ^ 126 + w.plain.calls * 2 ^ 83 + 2 ^ 77) (2 ^ 126 + (w.plain.calls + 1) * 2 ^ 83) _ (omega arith)
           (AreSmall-booked (2 ^ 126 + w.plain.calls * 2 ^ 83) (2 ^ 77) 0 0 w.entries w.settled call causes.Rest x y l.causes small_x small_y);
       bodies = told_are_bodies s.labels old l.bodies;
+      filters = filters_same old new shapes l.filters;
       timers = told_timers s.labels old w.plain.steps l.timers;
       matched = AreMatched-same w.plain.places old new slots l.matched;
+      places = l.places;
       joint_slots = l.joint_slots;
       joint_places = l.joint_places;
       joints = joints_same old new w.plain.joints slots l.joints;
       contacts = l.contacts;
       pairs = contacts_of_same old new w.plain.contacts moves l.pairs;
-      there = has_bodies_same old new w.plain.contacts slots l.there;
+      there = has_bodies_same old new w.plain.contacts slots (told_alike s.labels old) shapes l.there;
       gravity = l.gravity;
       steps = omega (arith, l.steps);
       calls = omega arith;
@@ -88,7 +93,7 @@ pub rest_put : (w : World) (s : Acting Constraint) → AreLists w → IsActing w
 rest_put w s l is few =
     let a = acted w.plain s l.bodies is in
     kept_of (record w { plain = counted (with_acting s w.plain); entries = w.entries ++ rest_entries (w.plain.calls + 1) s.labels w.plain.bodies })
-    (lists_rested w s l few) (settled_later (with_acting s w.plain) w.plain.gravity w.plain.steps (w.plain.calls + 1) a.settled) a.tied a.told a.moved
+    (lists_rested w s l few) (settled_later (with_acting s w.plain) w.plain.gravity w.plain.steps (w.plain.calls + 1) a.settled) a.tied a.told a.labels a.moved
 
 -- ---- Sleep
 
@@ -127,6 +132,7 @@ slept_acting w slot k =
       settled = sleep_keeps s slot k.settled;
       ties = slept_ties slot s;
       tied = λ other. movers_stay.slept s slot k.settled other ∙ k.tied other;
+      long = slept_long constraint_number slot s ∙ k.labels;
     }
 
 -- a mover's island is put to rest

@@ -18,6 +18,7 @@ use Rattle.plain_world.specs.Joints.{AreJoints}
 use Rattle.plain_world.specs.Plain.{Plain}
 use Rattle.plain_world.specs.Sleep.{timed_bodies, told}
 use Rattle.plain_world.specs.Slots.{AreMatched, HaveSameSlots, item_at}
+use Rattle.sleep_wake.proofs.LengthLemmas.{phase_long, turned_long}
 use Rattle.sleep_wake.specs.Acting.{Acting, IsSettled}
 use Rattle.sleep_wake.specs.Changes.{turned}
 use Rattle.sleep_wake.specs.SleepPhase.{all_put_to_rest, picked_to_split, ready, sleep_phase, split_at, split_picked}
@@ -41,11 +42,12 @@ use Rattle.world_rules.proofs.ChangeLemmas.{tied_alike}
 use Rattle.world_rules.proofs.KeptContacts.{contacts_of_same, has_bodies_same, joints_same, moves_alike}
 use Rattle.world_rules.proofs.KeptSleep.{IsSmallRest, rest_small}
 use Rattle.world_rules.proofs.PairLaws.{contacts_of_after, has_bodies_after}
+use Rattle.world_rules.proofs.ShapeLaws.{HaveSameShapes, filters_same, shapes_then}
 use Rattle.world_rules.proofs.SlotLemmas.{AreMatched-same}
 use Rattle.world_rules.proofs.SoundLaws.{IsKept}
 use Rattle.world_rules.proofs.StepBook.{AreSmall-stepped, sum_x-stepped, sum_y-stepped}
-use Rattle.world_rules.proofs.TickedLaws.{alike_then, slots_then, timed_alike, timed_are_bodies, timed_momentum_x, timed_momentum_y, timed_same_slots, timed_timers}
-use Rattle.world_rules.proofs.ToldLaws.{NobodyFallsAsleep, told_alike, told_are_bodies, told_same_slots, told_timers}
+use Rattle.world_rules.proofs.TickedLaws.{alike_then, slots_then, timed_alike, timed_are_bodies, timed_momentum_x, timed_momentum_y, timed_same_shapes, timed_same_slots, timed_timers}
+use Rattle.world_rules.proofs.ToldLaws.{NobodyFallsAsleep, told_alike, told_are_bodies, told_same_shapes, told_same_slots, told_timers}
 
 -- ---- the collide
 
@@ -101,6 +103,7 @@ turned_acting_is w k rises =
       settled = into.0;
       ties = into.1;
       tied = λ slot. movers_stay.turned (acting_of w.plain) (key_changes w.plain.bodies (collided_in w).begin (collided_in w).end) slot ∙ k.tied slot;
+      long = turned_long constraint_number (key_changes w.plain.bodies (collided_in w).begin (collided_in w).end) (acting_of w.plain) ∙ k.labels;
     }
 
 turned_awake : (w : World) → IsKept w → AreKeysRising (collided_in w).now → NobodyFallsAsleep w.plain.bodies (turned_in w).labels
@@ -116,8 +119,10 @@ lists_collided w k rises = record {
   total_y = k.total_y;
   causes = k.causes;
   bodies = k.bodies;
+  filters = k.filters;
   timers = k.timers;
   matched = k.matched;
+  places = k.places;
   joint_slots = k.joint_slots;
   joint_places = k.joint_places;
   joints = k.joints;
@@ -148,6 +153,7 @@ collide_kept w k rises =
 pub record IsTicked (w : Plain) (new : List (Option Body)) (js : List (Option BodyJoint)) (es : List ContactEntry) (sums : StepSums) : Type 0 where
   pub bodies : AreBodies new
   pub slots : HaveSameSlots w.bodies new
+  pub shapes : HaveSameShapes w.bodies new
   pub alike : AreAlike w.bodies new
   pub timers : AreTimers w.steps new
   pub small : AreSums (2 ^ 83) sums
@@ -236,6 +242,7 @@ rested_is w n bodies joints contacts sums k t =
       settled = sleep_phase_keeps s timers k.settled;
       ties = phase_ties timers s ∙ sym (ticked_ties w.plain (timed_bodies n bodies) bodies joints contacts sums alike t);
       tied = λ slot. movers_stay.phase s timers k.settled slot ∙ tied_alike w.plain.bodies (timed_bodies n bodies) w.plain.islands alike k.tied slot;
+      long = phase_long constraint_number timers s ∙ k.labels ∙ sym (slots_then w.plain.bodies bodies (timed_bodies n bodies) t.slots (timed_same_slots n bodies)).slots;
     }
 
 -- what is booked is what the momentum has gained
@@ -252,6 +259,7 @@ lists_stepped w n bodies joints contacts sums s events k few ticks t =
     let are : AreBodies timed = timed_are_bodies n bodies t.bodies in
     let so_far : HaveSameSlots old timed = slots_then old bodies timed t.slots (timed_same_slots n bodies) in
     let slots : HaveSameSlots old new = slots_then old timed new so_far (told_same_slots s.labels timed) in
+    let shapes : HaveSameShapes old new = shapes_then old timed new (shapes_then old bodies timed t.shapes (timed_same_shapes n bodies)) (told_same_shapes s.labels timed) in
     let alike : AreAlike old new = alike_then old timed new (ticked_alike w.plain n bodies joints contacts sums t) (told_alike s.labels timed) in
     let moves = moves_alike old new alike slots in
     let small : IsSmallRest s.labels timed = rest_small s.labels timed are (rw so_far.slots k.matched.few) in
@@ -266,14 +274,16 @@ lists_stepped w n bodies joints contacts sums s events k few ticks t =
       causes = AreSmall-weaker (2 ^ 126 + w.plain.calls * 2 ^ 83 + 2 ^ 83) (2 ^ 126 + (w.plain.calls + 1) * 2 ^ 83) _ (omega arith)
           (AreSmall-stepped (2 ^ 126 + w.plain.calls * 2 ^ 83) (2 ^ 83) w.entries w.settled call sums x y t.small (omega (arith, small_x)) (omega (arith, small_y)) k.causes);
       bodies = told_are_bodies s.labels timed are;
+      filters = filters_same old new shapes k.filters;
       timers = told_timers s.labels timed (w.plain.steps + 1) (timed_timers n bodies w.plain.steps ticks t.timers);
       matched = AreMatched-same w.plain.places old new slots k.matched;
+      places = k.places;
       joint_slots = matched_ends w.plain.joint_places w.plain.joints joints t.ends k.joint_slots;
       joint_places = k.joint_places;
       joints = joints_same old new joints slots t.joints;
       contacts = t.rising;
       pairs = contacts_of_same old new contacts moves t.pairs;
-      there = has_bodies_same old new contacts slots t.there;
+      there = has_bodies_same old new contacts slots alike shapes t.there;
       gravity = k.gravity;
       steps = omega (arith, k.steps);
       calls = omega arith;
@@ -288,7 +298,7 @@ ticked_kept w n bodies joints contacts sums s events k few ticks t e =
     let is : IsActing after s = subst (IsActing after) (sym e) (rested_is w n bodies joints contacts sums k t) in
     let a = acted after s (timed_are_bodies n bodies t.bodies) is in
     kept_of (record w { plain = with_acting s after; entries = w.entries ++ (step_entries (w.plain.calls + 1) sums ++ rest_entries (w.plain.calls + 1) s.labels (timed_bodies n bodies)); events = events })
-    (lists_stepped w n bodies joints contacts sums s events k few ticks t) a.settled a.tied a.told a.moved
+    (lists_stepped w n bodies joints contacts sums s events k few ticks t) a.settled a.tied a.told a.labels a.moved
 
 -- ---- the whole step
 

@@ -1,5 +1,7 @@
 pub mod LowerLaws
 pub mod SlotLemmas
+pub mod ShapeLaws
+pub mod PlaceLaws
 pub mod BookLemmas
 pub mod SoundLaws
 pub mod ToldLaws
@@ -40,3 +42,4 @@ pub mod GatherLaws
 pub mod StepParts
 pub mod StepCalls
 pub mod StandLaws
+pub mod SameAnswers

@@ -1,16 +1,19 @@
 -- The contacts that a collide makes are of bodies that are there, one of them a mover, and their numbers are within their limits.
-use Rattle.std.proofs.Common.{◌≡◌, ℕ, suc, ◌+◌, ◌*◌, ◌^◌, ◌<◌, ◌≤◌, Bool, true, false, cond, ℤ, pos, ◌≤ℤ◌, unsigned_abs, List, [], ◌∷◌, length, Option, Some, None, option_map, IfSome, All, ◌⊎◌, inl, inr, arith, refl, sym, ap, ◌∙◌, subst, is_some, length-append}
-use Rattle.std.specs.Prelude.{◌==◌, ◌||◌, ◌≢◌, int_lt, nat_le}
+use Rattle.std.proofs.Common.{◌≡◌, ℕ, zero, suc, ◌+◌, ◌*◌, ◌^◌, ◌<◌, ◌≤◌, Bool, true, false, cond, ℤ, pos, ◌≤ℤ◌, unsigned_abs, List, [], ◌∷◌, ◌++◌, length, Option, Some, None, option_map, IfSome, All, ◌⊎◌, inl, inr, arith, refl, sym, ap, ap₂, ◌∙◌, subst, is_some, length-append, le-leb}
+use Rattle.std.specs.Prelude.{◌==◌, ◌&&◌, ◌||◌, ◌≢◌, int_le, int_lt, nat_le, slice_get}
 use Rattle.std.specs.List.{list_all}
 use Rattle.fixed_geom.specs.declared.refusal.Refusal.TheVariants.{BadShape, OutOfRange}
 use Rattle.std.specs.Option.{ForSome}
 use Rattle.std.proofs.lemmas.Bool.{eqb-false, leb-true}
+use Rattle.std.proofs.lemmas.Bool.Decides.{nat_tests}
 use Rattle.std.proofs.lemmas.Grind.{common_steps}
+use Rattle.std.proofs.lemmas.Int.{ints}
 use Rattle.std.proofs.lemmas.List.Elements.{All-filter, All-head, All-tail, All-map, All-weaker}
 use Rattle.fixed_geom.specs.declared.boxes.Box2.{Box2}
 use Rattle.fixed_geom.specs.Boxes.{overlaps}
 use Rattle.shapes.specs.declared.points.Point.{Point}
 use Rattle.shapes.specs.declared.points.Manifold.{Manifold}
+use Rattle.shapes.specs.declared.pose.Pose.{Pose}
 use Rattle.shapes.specs.declared.shape.ShapeDef.{ShapeDef}
 use Rattle.shapes.specs.Shapes.{IsShape, IsShapeDef, are_forms_allowed, is_form_allowed, is_in_range, shapes_refusal}
 use Rattle.shapes.specs.Filters.{should_collide}
@@ -25,15 +28,19 @@ use Rattle.contacts_base.specs.declared.contact.ContactEntry.{ContactEntry}
 use Rattle.contacts_base.specs.declared.evaluation.Impulses.{Impulses}
 use Rattle.contacts_base.specs.declared.near.Proxy.{Proxy}
 use Rattle.contacts_base.specs.Keys.{key_number}
+use Rattle.contacts_base.specs.Surfaces.{mixed}
+use Rattle.contacts_base.specs.declared.limits.TheConstants.{MAX_FRICTION, MAX_RESTITUTION}
+use Rattle.contacts_base.specs.declared.surface.Surface.{Surface}
 use Rattle.contacts_base.specs.Contacts.{number_of, lookup}
 use Rattle.contacts_base.specs.Evaluate.{apart, impulses_at, first_of, kept, kept_point, evaluated}
 use Rattle.contacts_base.specs.Limits.{IsContactPoint, IsContact}
 use Rattle.contacts_base.specs.Near.{is_near, one_stirs, pair_code, near_from, near_codes}
 use Rattle.contacts.specs.Pairs.{no_proxy, proxy_at}
 use Rattle.contacts.specs.Pairs.{first_place, second_place, key_of}
-use Rattle.contacts.specs.Changes.{entry_with, entry_of, entry_at, kept_contact}
+use Rattle.contacts.specs.Changes.{entry_with, entry_of, entry_at, kept_contact, surface_with}
 use Rattle.contacts.proofs.Members.{Each, each_in, each_from, each_append, all_from_each}
 use Rattle.contacts.proofs.NearLemmas.{IsNearFrom, from_is}
+use Rattle.graph_colours.proofs.PlaceLemmas.{same_from}
 use Rattle.body_handles.specs.declared.places.TheConstants.{MAX_SLOTS}
 use Rattle.plain_world.specs.declared.body.Body.{Body}
 use Rattle.plain_world.specs.declared.joint.BodyJoint.{BodyJoint}
@@ -41,8 +48,10 @@ use Rattle.plain_world.specs.Joints.{forbidden_pairs}
 use Rattle.contacts.specs.Forbidden.{allowed_codes, is_allowed}
 use Rattle.plain_world.specs.Bodies.{is_mover, pose_of, stirs, IsBody, AreBodies}
 use Rattle.plain_world.specs.Kinds.{is_dynamic}
-use Rattle.plain_world.specs.Formed.{HasPoints, IsShapeOf}
+use Rattle.plain_world.specs.Formed.{HasPoints, IsShapeOf, is_surface, mixed_of, mixed_surface, no_surface, shape_named, shape_of_body, surface_of}
 use Rattle.plain_world.specs.Slots.{body_at, shapes_in}
+use Rattle.solver_sets.specs.Ties.{IsNamed}
+use Rattle.solver_sets.proofs.CollideLaws.{same_key}
 use Rattle.world_core_base.specs.Gather.{moves_in, moves, IsContactOf, AreContactsOf}
 use Rattle.world_rules.specs.Collide.{shape_proxies, body_proxies, entry_proxies, proxies_from, proxies_of, contacts_after}
 use Rattle.world_rules.specs.Sound.{HasBodies}
@@ -71,6 +80,10 @@ pub record IsProxyOf (b : Body) (p : Proxy) : Type 0 where
   pub index : p.id.index < 8
   pub own : p.id.index < length b.shapes
   pub enabled : b.enabled ≡ true
+  pub form : ShapeDef
+  pub formed : slice_get b.shapes p.id.index ≡ Some form
+  pub allowed : IsShapeDef form
+  pub surface : p.surface ≡ surface_of form
   pub dynamic : p.dynamic ≡ is_dynamic b.kind
   pub shape : IsShape p.shape
   pub pose : IsPose p.pose
@@ -90,16 +103,20 @@ record IsProxyAt (slot : ℕ) (b : Body) (p : Proxy) : Type 0 where
   slot_is : p.id.slot ≡ slot
   is : IsProxyOf b p
 
-shapes_are : (slot : ℕ) (b : Body) (index : ℕ) (defs : List ShapeDef) (fats : List Box2) → IsBody b → b.enabled ≡ true → index + length defs ≤ 8 → index + length defs ≤ length b.shapes → All IsShapeDef defs
+-- these are the body's shapes from an index on
+abbrev AreFrom : Body → ℕ → List ShapeDef → Type 0
+AreFrom b index defs = (k place : ℕ) → place ≡ index + k → slice_get b.shapes place ≡ slice_get defs k
+
+shapes_are : (slot : ℕ) (b : Body) (index : ℕ) (defs : List ShapeDef) (fats : List Box2) → IsBody b → b.enabled ≡ true → index + length defs ≤ 8 → index + length defs ≤ length b.shapes → AreFrom b index defs → All IsShapeDef defs
     → Each (IsProxyAt slot b) (shape_proxies slot (is_dynamic b.kind) (stirs b) (pose_of b) index defs fats)
-shapes_are slot b index [] fats is on few own forms = tt
-shapes_are slot b index (d ∷ defs) [] is on few own forms = tt
-shapes_are slot b index (d ∷ defs) (fat ∷ fats) is on few own forms = (
+shapes_are slot b index [] fats is on few own from forms = tt
+shapes_are slot b index (d ∷ defs) [] is on few own from forms = tt
+shapes_are slot b index (d ∷ defs) (fat ∷ fats) is on few own from forms = (
   record {
     slot_is = refl;
-    is = record { index = omega (arith, few); own = omega (arith, own); enabled = on; dynamic = refl; shape = (All-head IsShapeDef d defs forms).shape; pose = record { x = is.motion.x; rot = is.motion.facing } };
+    is = record { index = omega (arith, few); own = omega (arith, own); enabled = on; form = d; formed = from 0 index (omega arith); allowed = All-head IsShapeDef d defs forms; surface = refl; dynamic = refl; shape = (All-head IsShapeDef d defs forms).shape; pose = record { x = is.motion.x; rot = is.motion.facing } };
   },
-  shapes_are slot b (suc index) defs fats is on (omega (arith, few)) (omega (arith, own)) (All-tail IsShapeDef d defs forms),
+  shapes_are slot b (suc index) defs fats is on (omega (arith, few)) (omega (arith, own)) (λ k place e. from (suc k) place (omega (arith, e))) (All-tail IsShapeDef d defs forms),
 )
 
 if_enabled : (P : Proxy → Type 0) (t : Bool) (ps : List Proxy) → (t ≡ true → Each P ps) → Each P (cond t ps [])
@@ -109,7 +126,7 @@ if_enabled P false ps h = tt
 body_are : (slot : ℕ) (b : Body) → IsBody b → Each (IsProxyAt slot b) (body_proxies slot b)
 body_are slot b is =
     if_enabled (IsProxyAt slot b) b.enabled (shape_proxies slot (is_dynamic b.kind) (stirs b) (pose_of b) 0 b.shapes b.fats)
-    (λ on. let few = eight_at_most _ _ is.shapes in shapes_are slot b 0 b.shapes b.fats is on (omega (arith, few)) (omega arith) is.forms)
+    (λ on. let few = eight_at_most _ _ is.shapes in shapes_are slot b 0 b.shapes b.fats is on (omega (arith, few)) (omega arith) (λ k place e. let same : place ≡ k = omega (arith, e) in ap (λ (n : ℕ). slice_get b.shapes n) same) is.forms)
 
 entry_are : (n : ℕ) (o : Option Body) (bodies : List (Option Body)) → AreBodies (o ∷ bodies) → Each (IsProxyIn n (o ∷ bodies)) (entry_proxies n o)
 entry_are n None bodies all = tt
@@ -129,6 +146,58 @@ proxies_are n [] all = tt
 proxies_are n (o ∷ bodies) all =
     each_append (IsProxyIn n (o ∷ bodies)) (entry_proxies n o) (proxies_from (suc n) bodies) (entry_are n o bodies all)
     (each_weaker (IsProxyIn (suc n) bodies) (IsProxyIn n (o ∷ bodies)) (later n o bodies) (proxies_from (suc n) bodies) (proxies_are (suc n) bodies (rest_bodies o bodies all)))
+
+-- ---- they ascend by slot
+
+abbrev IsAt : ℕ → Proxy → Type 0
+IsAt slot p = p.id.slot ≡ slot
+
+abbrev IsFrom : ℕ → Proxy → Type 0
+IsFrom slot p = slot ≤ p.id.slot
+
+-- none is in a lesser slot than those before it
+abbrev AreAscending : List Proxy → Type 0
+AreAscending [] = Unit {0}
+AreAscending (p ∷ ps) = Each (IsFrom p.id.slot) ps × AreAscending ps
+
+shapes_at : (slot : ℕ) (dynamic stirs : Bool) (pose : Pose) (index : ℕ) (defs : List ShapeDef) (fats : List Box2) → Each (IsAt slot) (shape_proxies slot dynamic stirs pose index defs fats)
+shapes_at slot dynamic stirs pose index [] fats = tt
+shapes_at slot dynamic stirs pose index (d ∷ defs) [] = tt
+shapes_at slot dynamic stirs pose index (d ∷ defs) (fat ∷ fats) = (refl, shapes_at slot dynamic stirs pose (suc index) defs fats)
+
+in_slot : (slot : ℕ) (o : Option Body) → Each (IsAt slot) (entry_proxies slot o)
+in_slot slot None = tt
+in_slot slot (Some b) =
+    if_enabled (IsAt slot) b.enabled (shape_proxies slot (is_dynamic b.kind) (stirs b) (pose_of b) 0 b.shapes b.fats) (λ on. shapes_at slot (is_dynamic b.kind) (stirs b) (pose_of b) 0 b.shapes b.fats)
+
+from_next : (slot : ℕ) (ps : List Proxy) → Each (IsFrom (suc slot)) ps → Each (IsFrom slot) ps
+from_next slot ps h = each_weaker (IsFrom (suc slot)) (IsFrom slot) (λ p low. omega (arith, low)) ps h
+
+all_from : (slot : ℕ) (bodies : List (Option Body)) → Each (IsFrom slot) (proxies_from slot bodies)
+all_from slot [] = tt
+all_from slot (o ∷ bodies) =
+    each_append (IsFrom slot) (entry_proxies slot o) (proxies_from (suc slot) bodies)
+    (each_weaker (IsAt slot) (IsFrom slot) (λ p e. omega (arith, e)) (entry_proxies slot o) (in_slot slot o))
+    (from_next slot (proxies_from (suc slot) bodies) (all_from (suc slot) bodies))
+
+ascend_both : (slot : ℕ) (ps qs : List Proxy) → Each (IsAt slot) ps → Each (IsFrom slot) qs → AreAscending qs → AreAscending (ps ++ qs)
+ascend_both slot [] qs at from up = up
+ascend_both slot (p ∷ ps) qs at from up =
+    let here : p.id.slot ≡ slot = at.0 in (
+      each_append (IsFrom p.id.slot) ps qs (each_weaker (IsAt slot) (IsFrom p.id.slot) (λ q e. omega (arith, e, here)) ps at.1) (each_weaker (IsFrom slot) (IsFrom p.id.slot) (λ q low. omega (arith, low, here)) qs from),
+      ascend_both slot ps qs at.1 from up,
+    )
+
+proxies_ascend : (slot : ℕ) (bodies : List (Option Body)) → AreAscending (proxies_from slot bodies)
+proxies_ascend slot [] = tt
+proxies_ascend slot (o ∷ bodies) =
+    ascend_both slot (entry_proxies slot o) (proxies_from (suc slot) bodies) (in_slot slot o) (from_next slot (proxies_from (suc slot) bodies) (all_from (suc slot) bodies)) (proxies_ascend (suc slot) bodies)
+
+ascend_at : (ps : List Proxy) (i j : ℕ) → AreAscending ps → i < j → j < length ps → (proxy_at ps i).id.slot ≤ (proxy_at ps j).id.slot
+ascend_at [] i j up before within = absurd (omega arith)
+ascend_at (p ∷ ps) i zero up before within = absurd (omega arith)
+ascend_at (p ∷ ps) zero (suc j) up before within = all_from_each (IsFrom p.id.slot) ps up.0 j no_proxy (omega (arith, within))
+ascend_at (p ∷ ps) (suc i) (suc j) up before within = ascend_at ps i j up.1 (omega (arith, before)) (omega (arith, within))
 
 -- ---- there are eight a body at most
 
@@ -340,28 +409,84 @@ shapes_on b index on h = rw on h
 shape_of : (bodies : List (Option Body)) (p : Proxy) → IsProxyIn 0 bodies p → IsShapeOf bodies p.id
 shape_of bodies p h = subst (λ (o : Option Body). p.id.index < shapes_in o) (sym (body_there bodies p h)) (shapes_on h.body p.id.index h.is.enabled h.is.own)
 
+-- ---- the surface
+
+on_body : (b : Body) (index : ℕ) → b.enabled ≡ true → shape_of_body (Some b) index ≡ slice_get b.shapes index
+on_body b index on = ap (λ (t : Bool). cond t (slice_get b.shapes index) None) on
+
+named_shape : (bodies : List (Option Body)) (p : Proxy) (h : IsProxyIn 0 bodies p) → shape_named bodies p.id ≡ Some h.is.form
+named_shape bodies p h = ap (λ (o : Option Body). shape_of_body o p.id.index) (body_there bodies p h) ∙ on_body h.body p.id.index h.is.enabled ∙ h.is.formed
+
+both_pass : (s t u v : Bool) → s ≡ true → t ≡ true → u ≡ true → v ≡ true → ((s && t) && (u && v)) ≡ true
+both_pass s t u v a b c d = rw (a, b, c, d) refl
+
+not_negative : (z : ℤ) → pos 0 ≤ℤ z → int_le (pos 0) z ≡ true
+not_negative z h = grind (arith, ints, nat_tests, common_steps)
+
+-- the numbers of a shape are within their limits
+good_surface : (d : ShapeDef) → IsShapeDef d → is_surface (surface_of d) ≡ true
+good_surface d is =
+    let friction = is.friction_small in
+    let restitution = is.restitution_small in
+    both_pass (int_le (pos 0) d.friction) (nat_le (unsigned_abs d.friction) MAX_FRICTION) (int_le (pos 0) d.restitution) (nat_le (unsigned_abs d.restitution) MAX_RESTITUTION)
+    (not_negative d.friction is.friction) (le-leb (unsigned_abs d.friction) MAX_FRICTION (omega (arith, friction)))
+    (not_negative d.restitution is.restitution) (le-leb (unsigned_abs d.restitution) MAX_RESTITUTION (omega (arith, restitution)))
+
+good_mixed : (a b : Surface) → is_surface a ≡ true → is_surface b ≡ true → mixed_surface a b ≡ mixed a b
+good_mixed a b e f = ap₂ (λ (s t : Bool). cond (s && t) (mixed a b) no_surface) e f
+
+-- a new contact has what the surfaces of its two shapes mix to
+new_surface : (bodies : List (Option Body)) (p q : Proxy) → IsProxyIn 0 bodies p → IsProxyIn 0 bodies q → mixed p.surface q.surface ≡ mixed_of (shape_named bodies p.id) (shape_named bodies q.id)
+new_surface bodies p q hp hq =
+    ap₂ (λ (s t : Surface). mixed s t) hp.is.surface hq.is.surface
+    ∙ sym (good_mixed (surface_of hp.is.form) (surface_of hq.is.form) (good_surface hp.is.form hp.is.allowed) (good_surface hq.is.form hq.is.allowed))
+    ∙ sym (ap₂ mixed_of (named_shape bodies p hp) (named_shape bodies q hq))
+
+number_if : (t : Bool) (e : ContactEntry) (o : Option ContactEntry) (key : ContactKey) → (number_of e == key_number key) ≡ t → ForSome o (λ x. number_of x ≡ key_number key) → ForSome (cond t (Some e) o) (λ x. number_of x ≡ key_number key)
+number_if true e o key is rest = λ x h. let same : e ≡ x = cc in subst (λ (y : ContactEntry). number_of y ≡ key_number key) same (same_from (number_of e) (key_number key) is)
+number_if false e o key is rest = rest
+
+-- a contact that is found by a key has the key's number
+number_looked_up : (es : List ContactEntry) (key : ContactKey) → ForSome (lookup es key) (λ x. number_of x ≡ key_number key)
+number_looked_up [] key = λ x h. cc
+number_looked_up (e ∷ es) key = number_if (number_of e == key_number key) e (lookup es key) key refl (number_looked_up es key)
+
+-- and so it is that of the two shapes
+old_surface : (bodies : List (Option Body)) (old : List ContactEntry) (p q : Proxy) → All (HasBodies bodies) old → IsNamed (key_of p q) → (e : ContactEntry) → lookup old (key_of p q) ≡ Some e → e.surface ≡ mixed_of (shape_named bodies p.id) (shape_named bodies q.id)
+old_surface bodies old p q all named e at =
+    let has : HasBodies bodies e = looked_up (HasBodies bodies) old (key_of p q) all e at in
+    let same : e.key ≡ key_of p q = same_key e.key (key_of p q) has.named named (number_looked_up old (key_of p q) e at) in
+    has.surface ∙ ap (λ (k : ContactKey). mixed_of (shape_named bodies k.first) (shape_named bodies k.second)) same
+
+either_surface : (o : Option ContactEntry) (p q : Proxy) (s : Surface) → mixed p.surface q.surface ≡ s → ((e : ContactEntry) → o ≡ Some e → e.surface ≡ s) → surface_with o p q ≡ s
+either_surface None p q s new kept = new
+either_surface (Some e) p q s new kept = kept e refl
+
 -- the bodies of both its shapes are there, and the shapes are theirs
-pub entry_has_bodies : (bodies : List (Option Body)) (old : List ContactEntry) (p q : Proxy) → length bodies ≤ MAX_SLOTS → All (HasBodies bodies) old → IsProxyIn 0 bodies p → IsProxyIn 0 bodies q → HasBodies bodies (entry_of old p q)
+pub entry_has_bodies : (bodies : List (Option Body)) (old : List ContactEntry) (p q : Proxy) → length bodies ≤ MAX_SLOTS → All (HasBodies bodies) old → IsProxyIn 0 bodies p → IsProxyIn 0 bodies q → p.id.slot < q.id.slot → HasBodies bodies (entry_of old p q)
 unfolding entry_of entry_with
-entry_has_bodies bodies old p q few all hp hq =
+entry_has_bodies bodies old p q few all hp hq order =
     let touching = has_touching p.shape p.pose q.shape q.pose hp.is.shape hp.is.pose hq.is.shape hq.is.pose in
     let a = hp.is.index in
     let b = hq.is.index in
     let slot = below_length bodies q.id.slot hq.body (body_there bodies q hq) in
+    let named : IsNamed (key_of p q) = record { first = omega (arith, a); second = omega (arith, b); slot = omega (arith, slot, few) } in
     record {
       first = ap is_some (body_there bodies p hp);
       second = ap is_some (body_there bodies q hq);
       first_shape = shape_of bodies p hp;
       second_shape = shape_of bodies q hq;
-      named = record { first = omega (arith, a); second = omega (arith, b); slot = omega (arith, slot, few) };
+      order = order;
+      surface = either_surface (lookup old (key_of p q)) p q (mixed_of (shape_named bodies p.id) (shape_named bodies q.id)) (new_surface bodies p q hp hq) (old_surface bodies old p q all named);
+      named = named;
       points = either_points (one_stirs p q) (evaluated (lookup old (key_of p q)) (manifold_of p.shape p.pose q.shape q.pose)) (kept_contact (lookup old (key_of p q)))
           (evaluated_points (lookup old (key_of p q)) (manifold_of p.shape p.pose q.shape q.pose) touching.first touching.second (manifold_has_second p.shape p.pose q.shape q.pose (manifold_of p.shape p.pose q.shape q.pose) refl))
           (λ e. had_points (lookup old (key_of p q)) (looked_up (λ e. HasPoints e.contact) old (key_of p q) (All-weaker (HasBodies bodies) (λ e. HasPoints e.contact) (λ e h. h.points) old all)));
     }
 
--- what holds of the contact of each two near shapes of bodies holds of all contacts
+-- what holds of the contact of each two near shapes of bodies, the first in no greater slot, holds of all contacts
 pub all_after : (P : ContactEntry → Type 0) (bodies : List (Option Body)) (joints : List (Option BodyJoint)) (old : List ContactEntry) → AreBodies bodies → length bodies ≤ MAX_SLOTS
-    → ((p q : Proxy) → IsProxyIn 0 bodies p → IsProxyIn 0 bodies q → is_near p q ≡ true → P (entry_of old p q)) → All P (contacts_after bodies joints old)
+    → ((p q : Proxy) → IsProxyIn 0 bodies p → IsProxyIn 0 bodies q → p.id.slot ≤ q.id.slot → is_near p q ≡ true → P (entry_of old p q)) → All P (contacts_after bodies joints old)
 unfolding contacts_after
 all_after P bodies joints old all few each =
     let ps = proxies_of bodies in
@@ -370,14 +495,15 @@ all_after P bodies joints old all few each =
     let pair : (code : ℕ) → IsNearPair ps code → P (entry_at old ps code) = λ code h.
     let b = h.before in
     let w = h.within in
-    each (proxy_at ps (first_place code)) (proxy_at ps (second_place code)) (are (first_place code) no_proxy (omega (arith, b, w))) (are (second_place code) no_proxy w) h.near in
+    each (proxy_at ps (first_place code)) (proxy_at ps (second_place code)) (are (first_place code) no_proxy (omega (arith, b, w))) (are (second_place code) no_proxy w) (ascend_at ps (first_place code) (second_place code) (proxies_ascend 0 bodies) b w) h.near in
     All-map P (entry_at old ps) (allowed_codes (forbidden_pairs joints) ps)
     (All-filter (is_allowed (forbidden_pairs joints) ps) (λ c. P (entry_at old ps c)) (near_codes ps)
     (all_from_each (λ c. P (entry_at old ps c)) (near_codes ps) (each_weaker (IsNearPair ps) (λ c. P (entry_at old ps c)) pair (near_codes ps) (near_codes_are ps short))))
 
 pub contacts_of_after : (bodies : List (Option Body)) (joints : List (Option BodyJoint)) (old : List ContactEntry) → AreBodies bodies → length bodies ≤ MAX_SLOTS → AreContactsOf bodies old → AreContactsOf bodies (contacts_after bodies joints old)
 contacts_of_after bodies joints old all few pairs =
-    all_after (IsContactOf bodies) bodies joints old all few (λ p q hp hq near. entry_within bodies old p q hp hq near pairs)
+    all_after (IsContactOf bodies) bodies joints old all few (λ p q hp hq up near. entry_within bodies old p q hp hq near pairs)
 
 pub has_bodies_after : (bodies : List (Option Body)) (joints : List (Option BodyJoint)) (old : List ContactEntry) → AreBodies bodies → length bodies ≤ MAX_SLOTS → All (HasBodies bodies) old → All (HasBodies bodies) (contacts_after bodies joints old)
-has_bodies_after bodies joints old all few there = all_after (HasBodies bodies) bodies joints old all few (λ p q hp hq near. entry_has_bodies bodies old p q few there hp hq)
+has_bodies_after bodies joints old all few there =
+    all_after (HasBodies bodies) bodies joints old all few (λ p q hp hq up near. let apart = (near_apart p q near).slots in entry_has_bodies bodies old p q few there hp hq (omega (arith, up, apart)))

@@ -22,7 +22,9 @@ use Rattle.plain_world.specs.Changes.{changed_at, disabled_body, enabled_body}
 use Rattle.plain_world.specs.Joints.{IsBodyJoint, idle_joints, joint_made, joint_of}
 use Rattle.plain_world.specs.Plain.{Plain}
 use Rattle.plain_world.specs.Sleep.{told}
+use Rattle.plain_world.specs.Formed.{HaveFilters}
 use Rattle.plain_world.specs.Slots.{body_at, with_body}
+use Rattle.sleep_wake.specs.Widened.{widened}
 use Rattle.sleep_wake.specs.Acting.{Acting, are_awake}
 use Rattle.sleep_wake.specs.Bodies.{mover_gone, mover_made}
 use Rattle.sleep_wake.specs.Changes.{each_begun, each_ended}
@@ -176,27 +178,31 @@ disable_left w s h b k e few named =
 abbrev pub come_from : ℕ → Bool → Acting Constraint → Acting Constraint
 come_from slot mover s = cond mover (mover_made slot s) s
 
+-- the same of a body that is made, which may come into a new slot
+abbrev pub made_from : ℕ → Bool → Acting Constraint → Acting Constraint
+made_from slot mover s = widened slot (come_from slot mover s)
+
 abbrev pub created_now : World → Acting Constraint → BodyDef → World
 created_now w s d = record w { plain = counted (record (with_made (lowest w.plain.places) (made d) w.plain) { islands = s.labels; colours = ids_of s.lists }) }
 
-created_at : (w : World) (d : BodyDef) → IsKept w → w.plain.calls < 2 ^ 40 → lowest w.plain.places < MAX_SLOTS → IsBody (made d)
-    → IsLeft w (created w.plain d) (created_now w (come_from (lowest w.plain.places) (is_mover (made d)) (acting_of w.plain)) d) (come_from (lowest w.plain.places) (is_mover (made d)) (acting_of w.plain))
-created_at w d k few free is =
+created_at : (w : World) (d : BodyDef) → IsKept w → w.plain.calls < 2 ^ 40 → lowest w.plain.places < MAX_SLOTS → IsBody (made d) → HaveFilters d.shapes
+    → IsLeft w (created w.plain d) (created_now w (made_from (lowest w.plain.places) (is_mover (made d)) (acting_of w.plain)) d) (made_from (lowest w.plain.places) (is_mover (made d)) (acting_of w.plain))
+created_at w d k few free is filters =
     let slot : ℕ = lowest w.plain.places in
-    let s : Acting Constraint = come_from slot (is_mover (made d)) (acting_of w.plain) in
-    let put = body_made_put w (made d) k free (made_new d is) in
-    let told_is = body_made_is w (made d) k free (made_new d is) refl in
+    let s : Acting Constraint = made_from slot (is_mover (made d)) (acting_of w.plain) in
+    let put = body_made_put w (made d) k free (made_new d is filters) in
+    let told_is = body_made_is w (made d) k free (made_new d is filters) refl in
     let bodies : told s.labels (with_body w.plain.bodies slot (made d)) ≡ with_body w.plain.bodies slot (made d) = ap (λ (p : Plain). p.bodies) told_is in
     record {
       same = ap (λ (bs : List (Option Body)). record (created_now w s d) { plain = record (created_now w s d).plain { bodies = bs } }) (sym bodies) ∙ no_entries w (created w.plain d).plain;
-      kept = nothing_more w (created w.plain d).plain (create_kept w d k few free is);
+      kept = nothing_more w (created w.plain d).plain (create_kept w d k few free is filters);
       acting = sym (acting_counted (with_acting s (with_made slot (made d) w.plain)) ∙ put.acting);
     }
 
-pub create_left : (w : World) (s : Acting Constraint) (d : BodyDef) → IsKept w → s ≡ acting_of w.plain → w.plain.calls < 2 ^ 40 → lowest w.plain.places < MAX_SLOTS → IsBody (made d)
-    → IsLeft w (created w.plain d) (created_now w (come_from (lowest w.plain.places) (is_mover (made d)) s) d) (come_from (lowest w.plain.places) (is_mover (made d)) s)
-create_left w s d k e few free is =
-    subst (λ (a : Acting Constraint). IsLeft w (created w.plain d) (created_now w (come_from (lowest w.plain.places) (is_mover (made d)) a) d) (come_from (lowest w.plain.places) (is_mover (made d)) a)) (sym e) (created_at w d k few free is)
+pub create_left : (w : World) (s : Acting Constraint) (d : BodyDef) → IsKept w → s ≡ acting_of w.plain → w.plain.calls < 2 ^ 40 → lowest w.plain.places < MAX_SLOTS → IsBody (made d) → HaveFilters d.shapes
+    → IsLeft w (created w.plain d) (created_now w (made_from (lowest w.plain.places) (is_mover (made d)) s) d) (made_from (lowest w.plain.places) (is_mover (made d)) s)
+create_left w s d k e few free is filters =
+    subst (λ (a : Acting Constraint). IsLeft w (created w.plain d) (created_now w (made_from (lowest w.plain.places) (is_mover (made d)) a) d) (made_from (lowest w.plain.places) (is_mover (made d)) a)) (sym e) (created_at w d k few free is filters)
 
 -- ---- CreateJoint and DestroyJoint
 

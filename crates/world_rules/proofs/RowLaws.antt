@@ -33,7 +33,7 @@ use Rattle.world_rules.specs.Sound.{HasBodies}
 use Rattle.world_rules.specs.World.{World}
 use Rattle.world_rules.proofs.KeptStep.{IsTicked}
 use Rattle.world_rules.proofs.SoundLaws.{IsKept}
-use Rattle.world_rules.proofs.TickedLaws.{alike_conditions, moved_conditions, timers_conditions}
+use Rattle.world_rules.proofs.TickedLaws.{alike_conditions, moved_conditions, moved_same_shapes, timers_conditions}
 
 -- ---- joints
 
@@ -146,7 +146,7 @@ row_points r e h = record {
 
 pub has_bodies_rows : (bodies : List (Option Body)) (contacts : List ContactEntry) (rows : List ContactRow) → All (HasBodies bodies) contacts → All (HasBodies bodies) (with_rows contacts rows)
 has_bodies_rows bodies contacts rows all =
-    all_rows (HasBodies bodies) (λ r e h. record { first = h.first; second = h.second; first_shape = h.first_shape; second_shape = h.second_shape; named = h.named; points = row_points r e h.points }) contacts rows all
+    all_rows (HasBodies bodies) (λ r e h. record { first = h.first; second = h.second; first_shape = h.first_shape; second_shape = h.second_shape; order = h.order; surface = h.surface; named = h.named; points = row_points r e h.points }) contacts rows all
 
 -- ---- what the arrays of a step leave
 
@@ -162,6 +162,7 @@ ticked_of w states rows sums k bodies slots small x y joints pairs =
     record {
       bodies = bodies;
       slots = slots;
+      shapes = moved_same_shapes w.plain.bodies states;
       alike = alike_conditions w.plain.bodies new same;
       timers = timers_conditions w.plain.bodies new w.plain.steps same k.timers;
       small = small;

@@ -1,5 +1,5 @@
 -- A sound world, part by part: what each command's law keeps, and what follows from it.
-use Rattle.std.proofs.Common.{◌≡◌, ℕ, ◌+◌, ◌*◌, ◌^◌, ◌≤◌, All}
+use Rattle.std.proofs.Common.{◌≡◌, ℕ, ◌+◌, ◌*◌, ◌^◌, ◌≤◌, All, length}
 use Rattle.fixed_geom.specs.Vectors.{IsWithin}
 use Rattle.impulse_ledger.specs.Sums.{total_x, total_y}
 use Rattle.contacts_base.specs.Contacts.{AreKeysRising}
@@ -7,6 +7,7 @@ use Rattle.contacts.specs.Constraints.{constraint_number}
 use Rattle.graph_colours.specs.Colours.{ids_of}
 use Rattle.body_handles.specs.Places.{IsPlace}
 use Rattle.plain_world.specs.Bodies.{AreBodies, momentum_x, momentum_y}
+use Rattle.plain_world.specs.Formed.{AreFiltered}
 use Rattle.plain_world.specs.Joints.{AreJoints}
 use Rattle.plain_world.specs.Slots.{AreMatched}
 use Rattle.sleep_wake.specs.Acting.{IsSettled}
@@ -24,8 +25,10 @@ pub record IsKept (w : World) : Type 0 where
   pub total_y : momentum_y w.plain.bodies ≡ total_y (book_of w)
   pub causes : AreSmall (2 ^ 126 + w.plain.calls * 2 ^ 83) (book_of w)
   pub bodies : AreBodies w.plain.bodies
+  pub filters : AreFiltered w.plain.bodies
   pub timers : AreTimers w.plain.steps w.plain.bodies
   pub matched : AreMatched w.plain.places w.plain.bodies
+  pub places : All IsPlace w.plain.places
   pub joint_slots : AreMatched w.plain.joint_places w.plain.joints
   pub joint_places : All IsPlace w.plain.joint_places
   pub joints : AreJoints w.plain.bodies w.plain.joints
@@ -35,6 +38,7 @@ pub record IsKept (w : World) : Type 0 where
   pub settled : IsSettled constraint_number (acting_of w.plain)
   pub tied : AreTied w.plain.bodies w.plain.islands
   pub told : AreTold w.plain.bodies w.plain.islands
+  pub labels : length w.plain.islands ≡ length w.plain.bodies
   pub moved : ids_of (members_of w.plain.bodies (joints_of w.plain) w.plain.colours) ≡ w.plain.colours
   pub gravity : IsWithin (2 ^ 16) w.plain.gravity
   pub steps : w.plain.steps ≤ w.plain.calls
@@ -46,8 +50,10 @@ kept_sound w s = record {
   total_y = s.promises.total_y;
   causes = s.formed.causes;
   bodies = s.formed.bodies;
+  filters = s.formed.filters;
   timers = s.formed.timers;
   matched = s.formed.matched;
+  places = s.formed.places;
   joint_slots = s.formed.joint_slots;
   joint_places = s.formed.joint_places;
   joints = s.formed.joints;
@@ -57,6 +63,7 @@ kept_sound w s = record {
   settled = s.promises.settled;
   tied = s.promises.tied;
   told = s.promises.told;
+  labels = s.formed.labels;
   moved = s.formed.moved;
   gravity = s.formed.gravity;
   steps = s.formed.steps;
@@ -75,7 +82,9 @@ sound_kept w k = record {
   };
   formed = record {
     matched = k.matched;
+    places = k.places;
     bodies = k.bodies;
+    filters = k.filters;
     timers = k.timers;
     joint_slots = k.joint_slots;
     joint_places = k.joint_places;
@@ -83,6 +92,7 @@ sound_kept w k = record {
     contacts = k.contacts;
     pairs = k.pairs;
     there = k.there;
+    labels = k.labels;
     moved = k.moved;
     causes = k.causes;
     gravity = k.gravity;

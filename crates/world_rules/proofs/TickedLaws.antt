@@ -18,6 +18,7 @@ use Rattle.world_core_base.specs.Gather.{with_motion, with_motions}
 use Rattle.world_core_base.specs.Renewal.{renewed_bodies, with_renewed}
 use Rattle.islands.specs.Labels.{Labels}
 use Rattle.world_rules.specs.Sound.{AreTimers, AreTold}
+use Rattle.world_rules.proofs.ShapeLaws.{HaveSameShapes, shapes_of}
 
 -- ---- what no tick changes
 
@@ -130,6 +131,43 @@ moved_conditions (o ∷ os) [] slot = still_conditions (o ∷ os) slot
 moved_conditions (o ∷ os) (s ∷ ss) zero = entry_condition s o
 moved_conditions (o ∷ os) (s ∷ ss) (suc slot) = moved_conditions os ss slot
 
+-- ---- the same shapes
+
+moved_shapes : (s : BodyState) (b : Body) → (with_motion s b).shapes ≡ b.shapes
+moved_shapes s b = by (is_awake b) (is_carried b)
+  where
+    by : (m c : Bool) → (cond m (record b { motion = s.motion }) (cond c (carried_to s.motion b) b)).shapes ≡ b.shapes
+    by true c = refl
+    by false true = refl
+    by false false = refl
+
+renewed_shapes : (b : Body) → (with_renewed b).shapes ≡ b.shapes
+renewed_shapes b = by (can_move b)
+  where
+    by : (t : Bool) → (cond t (record b { fats = renewed_boxes (pose_of b) b.shapes b.fats }) b).shapes ≡ b.shapes
+    by true = refl
+    by false = refl
+
+entry_shapes : (s : BodyState) (o : Option Body) → shapes_of (option_map with_renewed (option_map (with_motion s) o)) ≡ shapes_of o
+entry_shapes s None = refl
+entry_shapes s (Some b) = renewed_shapes (with_motion s b) ∙ moved_shapes s b
+
+still_shapes : (o : Option Body) → shapes_of (option_map with_renewed o) ≡ shapes_of o
+still_shapes None = refl
+still_shapes (Some b) = renewed_shapes b
+
+renewed_same_shapes : (bodies : List (Option Body)) → HaveSameShapes bodies (renewed_bodies bodies)
+renewed_same_shapes [] slot = refl
+renewed_same_shapes (o ∷ os) zero = still_shapes o
+renewed_same_shapes (o ∷ os) (suc slot) = renewed_same_shapes os slot
+
+-- a step leaves each body its shapes
+pub moved_same_shapes : (bodies : List (Option Body)) (states : List BodyState) → HaveSameShapes bodies (renewed_bodies (with_motions bodies states))
+moved_same_shapes [] states slot = refl
+moved_same_shapes (o ∷ os) [] slot = renewed_same_shapes (o ∷ os) slot
+moved_same_shapes (o ∷ os) (s ∷ ss) zero = entry_shapes s o
+moved_same_shapes (o ∷ os) (s ∷ ss) (suc slot) = moved_same_shapes os ss slot
+
 -- ---- timers
 
 -- the body with another timer
@@ -155,6 +193,7 @@ record IsTimedOf (ticks : ℕ) (b now : Body) : Type 0 where
   enabled : now.enabled ≡ b.enabled
   asleep : now.asleep ≡ b.asleep
   shapes : shapes_in (Some now) ≡ shapes_in (Some b)
+  forms : now.shapes ≡ b.shapes
   x : p_x (Some now) ≡ p_x (Some b)
   y : p_y (Some now) ≡ p_y (Some b)
   timer : now.timer ≤ b.timer + ticks
@@ -167,8 +206,8 @@ timed_is : (ticks : ℕ) (b : Body) → IsTimedOf ticks b (timed ticks b)
 timed_is ticks b = by (is_awake b)
   where
     by : (t : Bool) → IsTimedOf ticks b (cond t (record b { timer = cond (is_slow b.mass b.motion) (b.timer + ticks) 0 }) b)
-    by true = record { mover = refl; enabled = refl; asleep = refl; shapes = refl; x = refl; y = refl; timer = slow_at_most (is_slow b.mass b.motion) b.timer ticks }
-    by false = record { mover = refl; enabled = refl; asleep = refl; shapes = refl; x = refl; y = refl; timer = omega arith }
+    by true = record { mover = refl; enabled = refl; asleep = refl; shapes = refl; forms = refl; x = refl; y = refl; timer = slow_at_most (is_slow b.mass b.motion) b.timer ticks }
+    by false = record { mover = refl; enabled = refl; asleep = refl; shapes = refl; forms = refl; x = refl; y = refl; timer = omega arith }
 
 timed_at : (ticks : ℕ) (bodies : List (Option Body)) (slot : ℕ) → body_at (timed_bodies ticks bodies) slot ≡ option_map (timed ticks) (body_at bodies slot)
 timed_at ticks [] slot = refl
@@ -206,6 +245,13 @@ timed_there ticks (Some b) = refl
 timed_shapes : (ticks : ℕ) (o : Option Body) → shapes_in (option_map (timed ticks) o) ≡ shapes_in o
 timed_shapes ticks None = refl
 timed_shapes ticks (Some b) = (timed_is ticks b).shapes
+
+timed_forms : (ticks : ℕ) (o : Option Body) → shapes_of (option_map (timed ticks) o) ≡ shapes_of o
+timed_forms ticks None = refl
+timed_forms ticks (Some b) = (timed_is ticks b).forms
+
+pub timed_same_shapes : (ticks : ℕ) (bodies : List (Option Body)) → HaveSameShapes bodies (timed_bodies ticks bodies)
+timed_same_shapes ticks bodies slot = ap shapes_of (timed_at ticks bodies slot) ∙ timed_forms ticks (body_at bodies slot)
 
 timed_length : (ticks : ℕ) (bodies : List (Option Body)) → length (timed_bodies ticks bodies) ≡ length bodies
 timed_length ticks [] = refl

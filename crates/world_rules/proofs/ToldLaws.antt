@@ -13,6 +13,7 @@ use Rattle.plain_world.specs.Slots.{HaveSameSlots, body_at, shapes_in}
 use Rattle.solver_sets.specs.Tied.{AreAlike, AreTied}
 use Rattle.solver_sets.specs.Ties.{is_enabled_in, is_mover_in}
 use Rattle.world_rules.specs.Sound.{AreTimers, AreTold}
+use Rattle.world_rules.proofs.ShapeLaws.{HaveSameShapes, shapes_of}
 use Rattle.world_rules.proofs.SlotLemmas.{body_at-in}
 
 true_false : (t : Bool) → t ≡ true → t ≡ false → ⊥
@@ -188,6 +189,13 @@ told_same_slots labels bodies = record {
   taken = λ slot. ap is_some (body_told labels bodies slot) ∙ there_in (label_at labels slot) (body_at bodies slot);
   shapes = λ slot. ap shapes_in (body_told labels bodies slot) ∙ shapes_same (label_at labels slot) (body_at bodies slot);
 }
+
+shapes_stay : (l : Option Label) (o : Option Body) → shapes_of (option_map (told_body l) o) ≡ shapes_of o
+shapes_stay l None = refl
+shapes_stay l (Some b) = (told_is l b).shapes
+
+pub told_same_shapes : (labels : Labels) (bodies : List (Option Body)) → HaveSameShapes bodies (told labels bodies)
+told_same_shapes labels bodies slot = ap shapes_of (body_told labels bodies slot) ∙ shapes_stay (label_at labels slot) (body_at bodies slot)
 
 none_sleeps : (l : Option Label) → is_some l ≡ false → sleeping_name l ≡ None
 none_sleeps None e = refl

@@ -26,6 +26,7 @@ use Rattle.contacts.specs.Constraints.{constraint_number}
 use Rattle.contacts.specs.declared.constraint.Constraint.{Constraint}
 use Rattle.contacts.specs.declared.constraint.Constraint.TheVariants.{Joint}
 use Rattle.islands.specs.Labels.{Labels}
+use Rattle.sleep_wake.specs.Widened.{widened}
 use Rattle.sleep_wake.specs.Acting.{Acting}
 use Rattle.sleep_wake.specs.Changes.{turned, each_begun}
 use Rattle.sleep_wake.specs.SleepPhase.{sleep_phase}
@@ -83,9 +84,9 @@ quietly w = record { plain = counted w; reply = replies.Done; entries = []; even
 abbrev pub with_made : ℕ → Body → Plain → Plain
 with_made slot b w = record w { places = places_with w.places slot; bodies = with_body w.bodies slot b }
 
--- the body comes
+-- the body comes, and with it a label of its island, or none, for its slot
 abbrev pub body_made : ℕ → Body → Plain → Plain
-body_made slot b w = with_acting (body_come slot b (acting_of w)) (with_made slot b w)
+body_made slot b w = with_acting (widened slot (body_come slot b (acting_of w))) (with_made slot b w)
 
 abbrev pub created : Plain → BodyDef → Applied
 created w d =

@@ -20,6 +20,7 @@ use Rattle.solver_sets.specs.Ties.{members_of, ties_of}
 use Rattle.world_rules.specs.declared.command.Command.{Command}
 use Rattle.world_rules.specs.declared.command.Command.TheVariants.{CreateBody, DestroyBody, CreateJoint, DestroyJoint, Push, PushAt, SetPose, SetVelocity, SetGravity, Disable, Enable, Wake, Sleep, Step}
 use Rattle.world_rules.specs.Apply.{Applied, apply}
+use Rattle.world_rules.specs.Replay.{answers_to, replay}
 use Rattle.world_rules.specs.Sound.{IsSound}
 use Rattle.world_rules.specs.World.{World, joints_of}
 
@@ -103,3 +104,14 @@ WhatActsHasAColour = (w : World) (m : Member Constraint) → IsSound w → Conta
 -- Each body, joint and contact stands in exactly one solver set, and the census of the world lists it there, once.
 abbrev pub EachStandsInOneSet : Type 0
 EachStandsInOneSet = (w : World) → IsSound w → ListsEachOnce w.plain.places w.plain.bodies (joints_of w.plain) w.plain.contacts (census_of w.plain.places w.plain.bodies (joints_of w.plain) w.plain.contacts)
+
+-- ---- and for worlds that were put away and taken up again
+
+-- from now on all commands have the same answers in both, and their plain lists are the same after each
+pub record GoOnTheSame (v w : World) : Type 0 where
+  pub answers : (commands : List Command) → answers_to v commands ≡ answers_to w commands
+  pub plains : (commands : List Command) → (replay v commands).plain ≡ (replay w commands).plain
+
+-- What becomes of a world, and what is answered, rests on its plain lists alone: not on its ledger, and not on its events.
+abbrev pub PlainListsTellAll : Type 0
+PlainListsTellAll = (v w : World) → v.plain ≡ w.plain → GoOnTheSame v w

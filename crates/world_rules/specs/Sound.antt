@@ -1,5 +1,5 @@
 -- What each world keeps: what it promises, and how its lists and numbers are formed.
-use Rattle.std.specs.Prelude.{◌≡◌, ℕ, ◌+◌, ◌*◌, ◌≤◌, ◌^◌, true, false, List, Option, Some, All, is_some, unsigned_abs}
+use Rattle.std.specs.Prelude.{◌≡◌, ℕ, ◌+◌, ◌*◌, ◌<◌, ◌≤◌, ◌^◌, true, false, List, length, Option, Some, All, is_some, unsigned_abs}
 use Rattle.fixed_geom.specs.Vectors.{IsWithin}
 use Rattle.impulse_ledger.specs.declared.entry.Cause.{Cause}
 use Rattle.impulse_ledger.specs.Sums.{Book, total_x, total_y, total_of_x, total_of_y}
@@ -10,7 +10,7 @@ use Rattle.contacts.specs.Constraints.{constraint_number}
 use Rattle.graph_colours.specs.Colours.{ids_of}
 use Rattle.plain_world.specs.declared.body.Body.{Body}
 use Rattle.plain_world.specs.Bodies.{AreBodies, IsAtRest, is_awake, momentum_x, momentum_y}
-use Rattle.plain_world.specs.Formed.{HasPoints, IsShapeOf}
+use Rattle.plain_world.specs.Formed.{AreFiltered, HasPoints, IsShapeOf, mixed_of, shape_named}
 use Rattle.plain_world.specs.Joints.{AreJoints}
 use Rattle.plain_world.specs.Slots.{AreMatched, body_at}
 use Rattle.sleep_wake.specs.Acting.{IsSettled}
@@ -27,12 +27,15 @@ pub record AreSmall (n : ℕ) (b : Book) : Type 0 where
   pub x : (cause : Cause) → unsigned_abs (total_of_x cause b) ≤ n
   pub y : (cause : Cause) → unsigned_abs (total_of_y cause b) ≤ n
 
--- the bodies of both its shapes are there, the shapes are theirs, their names are within their ranges, and so are its points
+-- The bodies of both its shapes are there, the shapes are theirs, and the one in the lesser slot is the first. Its surface is what those of the two shapes mix to.
+-- Their names are within their ranges, and so are its points.
 pub record HasBodies (bodies : List (Option Body)) (e : ContactEntry) : Type 0 where
   pub first : is_some (body_at bodies e.key.first.slot) ≡ true
   pub second : is_some (body_at bodies e.key.second.slot) ≡ true
   pub first_shape : IsShapeOf bodies e.key.first
   pub second_shape : IsShapeOf bodies e.key.second
+  pub order : e.key.first.slot < e.key.second.slot
+  pub surface : e.surface ≡ mixed_of (shape_named bodies e.key.first) (shape_named bodies e.key.second)
   pub named : IsNamed e.key
   pub points : HasPoints e.contact
 
@@ -62,12 +65,15 @@ pub record KeepsPromises (w : World) : Type 0 where
 abbrev pub AreTimers : ℕ → List (Option Body) → Type 0
 AreTimers steps bodies = (slot : ℕ) (b : Body) → body_at bodies slot ≡ Some b → b.timer ≤ 8 * steps
 
--- There is a body just in the slots that are taken, and its numbers, its shapes and their fat boxes are within their limits. There is a joint just in the
--- joints' slots that are taken, whose generations are within their range, between two different bodies that are there, with its numbers within their limits. The contacts' keys ascend;
--- each is of two bodies that are there, one of them a mover, and of shapes of theirs. Each constraint with a colour has movers. All sums have room.
+-- There is a body just in the slots that are taken, whose generations are within their range, and its numbers, its shapes with their filters, and their fat boxes are within their limits.
+-- There is a joint just in the joints' slots that are taken, whose generations are within their range, between two different bodies that are there, with its numbers within their limits.
+-- The contacts' keys ascend; each is of two bodies that are there, one of them a mover, and of shapes of theirs, with the surface that these mix to. There is a label of an
+-- island, or none, for each slot of a body. Each constraint with a colour has movers. All sums have room.
 pub record IsWellFormed (w : World) : Type 0 where
   pub matched : AreMatched w.plain.places w.plain.bodies
+  pub places : All IsPlace w.plain.places
   pub bodies : AreBodies w.plain.bodies
+  pub filters : AreFiltered w.plain.bodies
   pub timers : AreTimers w.plain.steps w.plain.bodies
   pub joint_slots : AreMatched w.plain.joint_places w.plain.joints
   pub joint_places : All IsPlace w.plain.joint_places
@@ -75,6 +81,7 @@ pub record IsWellFormed (w : World) : Type 0 where
   pub contacts : AreKeysRising w.plain.contacts
   pub pairs : AreContactsOf w.plain.bodies w.plain.contacts
   pub there : All (HasBodies w.plain.bodies) w.plain.contacts
+  pub labels : length w.plain.islands ≡ length w.plain.bodies
   pub moved : ids_of (members_of w.plain.bodies (joints_of w.plain) w.plain.colours) ≡ w.plain.colours
   pub causes : AreSmall (2 ^ 126 + w.plain.calls * 2 ^ 83) (book_of w)
   pub gravity : IsWithin (2 ^ 16) w.plain.gravity

@@ -27,6 +27,8 @@ const REQUESTS: &str =
   ledger
   ray       from, along
   region    lo, hi
+  save
+  load      world (what save answered)
   crowd     each (1 to 16 of the requests create to step), times (1 to 1000)
 
 Shapes are {\"circle\":[x,y],\"radius\":r}, {\"capsule\":[[x,y],[x,y]],\"radius\":r} and {\"segment\":[[x,y],[x,y]]}, each with

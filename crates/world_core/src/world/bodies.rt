@@ -12,7 +12,7 @@ use crate::waking::wake_named;
 use body_handles::Handle;
 use fixed_geom::{Refusal, Vec2};
 use impulse_ledger::Cause;
-use plain_world::{BodyDef, Course, body_of};
+use plain_world::{BodyDef, Course, body_of, filters_fit};
 use shapes::Pose;
 use world_rules::Reply;
 
@@ -22,6 +22,7 @@ impl WorldCore {
         ensures { Answers (apply_create self.old.plain def.now) self.old result self.new }
     {
         def.check()?;
+        filters_fit(def.shapes.as_slice());
         if self.handles.is_full() {
             return Err(Refusal::TooMany);
         }
@@ -31,6 +32,7 @@ impl WorldCore {
         self.sets.reserve(0, self.bodies.bodies().len() + 1)?;
         let handle = self.handles.insert()?;
         come(&mut self.sets, handle.slot, body.is_mover());
+        self.sets.widen(handle.slot);
         self.bodies.put(handle.slot, body);
         self.calls += 1;
         Ok(Reply::Body(handle))

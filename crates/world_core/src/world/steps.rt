@@ -40,10 +40,9 @@ impl WorldCore {
         self.ledger.reserve(4)?;
         let changes = collide(
             alloc,
-            &mut self.broad,
+            &mut self.contacts,
             self.bodies.bodies(),
             &self.joints,
-            &self.contacts,
         )?;
         let turns = list_changes(alloc, self.bodies.bodies(), &changes.begin, &changes.end)?;
         self.sets.reserve(changes.begin.len(), 0)?;
@@ -57,7 +56,7 @@ impl WorldCore {
             self.handles.places(),
             &turns,
         );
-        self.contacts = changes.now;
+        self.contacts.carry_out();
         let sums = solve(
             &mut self.rows,
             &mut self.bodies,

@@ -16,10 +16,10 @@ pub gather_rows-requires-clause-all_states : goal.gather_rows-requires-clause-al
 gather_rows-requires-clause-all_states c = rw c.states.ensures (states-all c.args.bodies.now.bodies c.requires.bodies)
 
 -- what the arrays leave is what the definition of a step leaves
-left : (c : goal.After-put_impulses) → IsLeft c.args.bodies.now.bodies c.args.joints.now.joints c.args.contacts.now (ran c.args.ticks c.args.gravity (start (states_of c.args.bodies.now.bodies) (all_rows c.gather_rows.new.rows))).states (all_rows c.run-sums.new.rows) c.run-sums.result (solved c.args.ticks c.args.gravity (solve_order (ids_of c.args.colours.now.lists)) c.args.bodies.now.bodies c.args.joints.now.joints c.args.contacts.now)
+left : (c : goal.After-put_impulses) → IsLeft c.args.bodies.now.bodies c.args.joints.now.joints c.args.contacts.now.contacts (ran c.args.ticks c.args.gravity (start (states_of c.args.bodies.now.bodies) (all_rows c.gather_rows.new.rows))).states (all_rows c.run-sums.new.rows) c.run-sums.result (solved c.args.ticks c.args.gravity (solve_order (ids_of c.args.colours.now.lists)) c.args.bodies.now.bodies c.args.joints.now.joints c.args.contacts.now.contacts)
 left c =
-    let gathered : all_rows c.gather_rows.new.rows ≡ rows_of (states_of c.args.bodies.now.bodies) c.args.joints.now.joints c.args.contacts.now c.args.colours.now.lists = rw (c.states.ensures, c.joints.ensures, c.as_slice.ensures.value) at c.gather_rows.ensures.value in
-    arrays_left c.args.ticks c.args.gravity c.args.bodies.now.bodies c.args.joints.now.joints c.args.contacts.now c.args.colours.now.lists (all_rows c.gather_rows.new.rows) (all_rows c.run-sums.new.rows) c.run-sums.result c.requires.can.once gathered c.run-sums.ensures.run
+    let gathered : all_rows c.gather_rows.new.rows ≡ rows_of (states_of c.args.bodies.now.bodies) c.args.joints.now.joints c.args.contacts.now.contacts c.args.colours.now.lists = rw (c.states.ensures, c.joints.ensures, c.as_slice.ensures.value) at c.gather_rows.ensures.value in
+    arrays_left c.args.ticks c.args.gravity c.args.bodies.now.bodies c.args.joints.now.joints c.args.contacts.now.contacts c.args.colours.now.lists (all_rows c.gather_rows.new.rows) (all_rows c.run-sums.new.rows) c.run-sums.result c.requires.can.once gathered c.run-sums.ensures.run
 
 pub returns-clause-bodies : goal.returns-clause-bodies
 returns-clause-bodies c = c.run-sums.ensures.bodies ∙ ap renewed_bodies (left c).bodies_left
@@ -28,7 +28,7 @@ pub returns-clause-joints : goal.returns-clause-joints
 returns-clause-joints c = c.put_impulses.ensures.joints ∙ ap (λ (l : List ConstraintRow). with_joint_rows c.args.joints.now.joints (joints_among l)) c.as_slice-2.ensures ∙ (left c).joints_left
 
 pub returns-clause-contacts : goal.returns-clause-contacts
-returns-clause-contacts c = c.put_impulses.ensures.value ∙ ap (λ (l : List ConstraintRow). with_rows c.args.contacts.now (contacts_among l)) c.as_slice-2.ensures ∙ (left c).contacts_left
+returns-clause-contacts c = c.put_impulses.ensures.value ∙ ap (λ (l : List ConstraintRow). with_rows c.args.contacts.now.contacts (contacts_among l)) c.as_slice-2.ensures ∙ (left c).contacts_left
 
 pub returns-clause-sums : goal.returns-clause-sums
 returns-clause-sums c = (left c).sums_left

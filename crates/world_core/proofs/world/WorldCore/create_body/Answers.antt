@@ -3,6 +3,7 @@ use Rattle.body_handles.proofs.LowestLemmas.{lowest-le-length}
 use Rattle.body_handles.specs.Places.{lowest}
 use Rattle.body_handles.specs.declared.places.TheConstants.{MAX_SLOTS}
 use Rattle.plain_world.specs.Bodies.{IsBody, made}
+use Rattle.plain_world.specs.Formed.{HaveFilters}
 use Rattle.solver_sets.specs.Joining.{handle_at}
 use Rattle.world_rules.specs.World.{World}
 use Rattle.world_rules.proofs.KeptMade.{free_slot}
@@ -40,8 +41,9 @@ invariant_of-self-2 c =
     let calls : c.self.inside.calls < 2 ^ 40 = rw (← c.self.view_is) at c.requires in
     let free : lowest c.self.inside.handles.places < MAX_SLOTS = rw (c.in_ok-handle.ensures.slot, c.in_ok-reserve_one.ensures.kept) at c.in_ok-handle.ensures.slot_below in
     let body : IsBody (made c.args.def.now) = rw c.in_ok-body.ensures.made at c.in_ok-body.ensures.body in
-    rw (c.come.ensures.acting, c.is_mover.ensures, c.in_ok-handle.ensures.given_out, c.put.ensures, c.in_ok-handle.ensures.slot, c.in_ok-reserve_one.ensures.kept, c.in_ok-body.ensures.made, c.in_ok-reserve_one-2.ensures.bodies, c.in_ok-reserve.ensures.acting)
-    (whole w _ _ _ (create_left w c.self.inside.sets.acting c.args.def.now (kept_of _ _ c.self.invariant) c.self.invariant.same calls free body))
+    let filters : HaveFilters c.args.def.now.shapes = rw c.as_slice.ensures at c.filters_fit.ensures in
+    rw (c.widen.ensures.acting, c.come.ensures.acting, c.is_mover.ensures, c.in_ok-handle.ensures.given_out, c.put.ensures, c.in_ok-handle.ensures.slot, c.in_ok-reserve_one.ensures.kept, c.in_ok-body.ensures.made, c.in_ok-reserve_one-2.ensures.bodies, c.in_ok-reserve.ensures.acting)
+    (whole w _ _ _ (create_left w c.self.inside.sets.acting c.args.def.now (kept_of _ _ c.self.invariant) c.self.invariant.same calls free body filters))
 
 pub returns : goal.returns
 returns c =
@@ -49,9 +51,18 @@ returns c =
     let calls : c.self.inside.calls < 2 ^ 40 = rw (← c.self.view_is) at c.requires in
     let free : lowest c.self.inside.handles.places < MAX_SLOTS = rw (c.in_ok-handle.ensures.slot, c.in_ok-reserve_one.ensures.kept) at c.in_ok-handle.ensures.slot_below in
     let body : IsBody (made c.args.def.now) = rw c.in_ok-body.ensures.made at c.in_ok-body.ensures.body in
+    let filters : HaveFilters c.args.def.now.shapes = rw c.as_slice.ensures at c.filters_fit.ensures in
     let slot = rw c.in_ok-reserve_one.ensures.kept at c.in_ok-handle.ensures.slot in
     let generation = rw c.in_ok-reserve_one.ensures.kept at c.in_ok-handle.ensures.generation in
     rw (← c.self.view_is)
-    (create_answers w c.args.def.now c.in_ok-handle.handle _ c.come.new.sets.acting c.in_ok-check.ensures.refusal free (same_handle _ (handle_at w.plain.places (lowest w.plain.places)) slot generation)
-    (rw (c.come.ensures.acting, c.is_mover.ensures, c.in_ok-handle.ensures.given_out, c.put.ensures, c.in_ok-handle.ensures.slot, c.in_ok-reserve_one.ensures.kept, c.in_ok-body.ensures.made, c.in_ok-reserve_one-2.ensures.bodies, c.in_ok-reserve.ensures.acting)
-    (create_left w c.self.inside.sets.acting c.args.def.now (kept_of _ _ c.self.invariant) c.self.invariant.same calls free body)))
+    (create_answers w c.args.def.now c.in_ok-handle.handle _ c.widen.new.self.acting c.in_ok-check.ensures.refusal free (same_handle _ (handle_at w.plain.places (lowest w.plain.places)) slot generation)
+    (rw (c.widen.ensures.acting, c.come.ensures.acting, c.is_mover.ensures, c.in_ok-handle.ensures.given_out, c.put.ensures, c.in_ok-handle.ensures.slot, c.in_ok-reserve_one.ensures.kept, c.in_ok-body.ensures.made, c.in_ok-reserve_one-2.ensures.bodies, c.in_ok-reserve.ensures.acting)
+    (create_left w c.self.inside.sets.acting c.args.def.now (kept_of _ _ c.self.invariant) c.self.invariant.same calls free body filters)))
+
+pub widen-requires : goal.widen-requires
+widen-requires c =
+    let w : World = the_view c.self.inside in
+    let least : lowest w.plain.places ≤ length w.plain.places = lowest-le-length w.plain.places in
+    let slots : length w.plain.places ≡ length w.plain.bodies = (kept_of _ _ c.self.invariant).matched.slots in
+    let room = rw (c.bodies.ensures, c.in_ok-reserve_one-2.ensures.bodies) at c.in_ok-reserve.ensures.slots_made in
+    rw (c.come.ensures.slots, c.in_ok-handle.ensures.slot, c.in_ok-reserve_one.ensures.kept) (omega (arith, least, slots, room))

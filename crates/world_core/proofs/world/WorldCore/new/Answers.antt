@@ -7,5 +7,5 @@ use Rattle.world_core.proofs.world.WorldCore.new.Goals as goal
 pub invariant_of-result : goal.invariant_of-result
 invariant_of-result c =
     let within : IsWithin (2 ^ 16) c.args.gravity = search (rules, tests) in
-    rw (c.new.ensures, c.new-2.ensures, c.new-3.ensures, c.new-4.ensures, c.new-5.ensures, c.in_ok-new.ensures.acting, c.new-9.ensures.entries, c.new-9.ensures.settled, c.new-10.ensures)
+    rw (c.new.ensures, c.new-2.ensures, c.new-3.ensures, c.new-4.ensures, c.new-5.ensures, c.in_ok-new.ensures.acting, c.new-8.ensures.entries, c.new-8.ensures.settled, c.new-9.ensures)
     (empty_whole c.args.gravity within)

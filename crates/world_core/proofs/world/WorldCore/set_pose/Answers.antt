@@ -14,7 +14,7 @@ change-requires-clause-slot c = rw (c.wake_named.ensures.count, ← c.bodies.ens
 
 pub change-requires-clause-fits : goal.change-requires-clause-fits
 change-requires-clause-fits c =
-    let woke : HasWoken (the_view c.self.inside) (stirred_by c.self.inside.bodies.bodies c.self.inside.joints.joints c.self.inside.contacts c.args.handle.slot) c.wake_named.new.sets.acting c.wake_named.new.bodies.bodies =
+    let woke : HasWoken (the_view c.self.inside) (stirred_by c.self.inside.bodies.bodies c.self.inside.joints.joints c.self.inside.contacts.contacts c.args.handle.slot) c.wake_named.new.sets.acting c.wake_named.new.bodies.bodies =
     has_woken (the_view c.self.inside) _ _ c.self.inside.sets.acting _ _ c.self.invariant (rw (← c.self.view_is) at c.in_ok-names.ensures.value) (rw c.deref.ensures.value at c.wake_named.ensures.acting) c.wake_named.ensures.told in
     can_pose_woken (the_view c.self.inside) _ c.self.inside.sets.acting _ _ c.args.handle.slot c.in_ok-pose.pose c.self.invariant woke c.in_ok-pose.ensures.pose
 
@@ -22,6 +22,6 @@ pub invariant_of-self : goal.invariant_of-self
 invariant_of-self c =
     let calls : c.self.inside.calls < 2 ^ 40 = rw (← c.self.view_is) at c.requires in
     let due : posed (slots.body_of c.self.inside.handles.places c.self.inside.bodies.bodies c.args.handle) c.args.pose ≡ Ok c.in_ok-pose.pose = rw (← c.bodies.ensures) (sym c.in_ok-pose.ensures.value) in
-    let woke : HasWoken (the_view c.self.inside) (stirred_by c.self.inside.bodies.bodies c.self.inside.joints.joints c.self.inside.contacts c.args.handle.slot) c.wake_named.new.sets.acting c.wake_named.new.bodies.bodies =
+    let woke : HasWoken (the_view c.self.inside) (stirred_by c.self.inside.bodies.bodies c.self.inside.joints.joints c.self.inside.contacts.contacts c.args.handle.slot) c.wake_named.new.sets.acting c.wake_named.new.bodies.bodies =
     has_woken (the_view c.self.inside) _ _ c.self.inside.sets.acting _ _ c.self.invariant (rw (← c.self.view_is) at c.in_ok-names.ensures.value) (rw c.deref.ensures.value at c.wake_named.ensures.acting) c.wake_named.ensures.told in
     rw c.change.ensures.bodies (pose_whole (the_view c.self.inside) c.args.handle c.args.pose c.in_ok-pose.pose c.self.inside.sets.acting _ _ c.self.invariant calls woke due c.in_ok-pose.ensures.pose)

@@ -20,6 +20,6 @@ pub invariant_of-self : goal.invariant_of-self
 invariant_of-self c =
     let calls : c.self.inside.calls < 2 ^ 40 = rw (← c.self.view_is) at c.requires in
     let due : steered (slots.body_of c.self.inside.handles.places c.self.inside.bodies.bodies c.args.handle) c.args.course ≡ Ok c.in_ok-course.course = rw (← c.bodies.ensures) (sym c.in_ok-course.ensures.value) in
-    let woke : HasWoken (the_view c.self.inside) (stirred_by c.self.inside.bodies.bodies c.self.inside.joints.joints c.self.inside.contacts c.args.handle.slot) c.wake_named.new.sets.acting c.wake_named.new.bodies.bodies =
+    let woke : HasWoken (the_view c.self.inside) (stirred_by c.self.inside.bodies.bodies c.self.inside.joints.joints c.self.inside.contacts.contacts c.args.handle.slot) c.wake_named.new.sets.acting c.wake_named.new.bodies.bodies =
     has_woken (the_view c.self.inside) _ _ c.self.inside.sets.acting _ _ c.self.invariant (rw (← c.self.view_is) at c.in_ok-names.ensures.value) (rw c.deref.ensures.value at c.wake_named.ensures.acting) c.wake_named.ensures.told in
     rw c.change.ensures.bodies (velocity_whole (the_view c.self.inside) c.args.handle c.args.course c.in_ok-course.course c.self.inside.sets.acting _ _ c.self.invariant calls woke due)

@@ -23,25 +23,25 @@ pub returns-in_err-turns : goal.returns-in_err-turns
 returns-in_err-turns c =
     let between : is_between (pos 1) (pos 8) c.args.ticks ≡ true = search (rules, tests) in
     let refused : c.from_residual-in_err-turns.result ≡ Err NoMemory = is_refusal _ _ c.from_residual-in_err-turns.ensures.0 c.from_residual-in_err-turns.ensures.1 c.in_err-turns.ensures.memory_only in
-    rw (← c.self.view_is) (step_refused (the_view c.self.inside) _ c.args.ticks _ between refused (rw (c.in_ok-reserve.ensures.entries, c.in_ok-reserve.ensures.settled) refl))
+    rw (← c.self.view_is) (step_refused (the_view c.self.inside) _ c.args.ticks _ between refused (rw (c.in_ok-changes.ensures.contacts, c.in_ok-reserve.ensures.entries, c.in_ok-reserve.ensures.settled) refl))
 
 pub returns-in_err-reserve-2 : goal.returns-in_err-reserve-2
 returns-in_err-reserve-2 c =
     let between : is_between (pos 1) (pos 8) c.args.ticks ≡ true = search (rules, tests) in
     let refused : c.from_residual-in_err-reserve-2.result ≡ Err NoMemory = is_refusal _ _ c.from_residual-in_err-reserve-2.ensures.0 c.from_residual-in_err-reserve-2.ensures.1 c.in_err-reserve-2.ensures.memory_only in
-    rw (← c.self.view_is) (step_refused (the_view c.self.inside) _ c.args.ticks _ between refused (rw (c.reserve-2.ensures.acting, c.in_ok-reserve.ensures.entries, c.in_ok-reserve.ensures.settled) refl))
+    rw (← c.self.view_is) (step_refused (the_view c.self.inside) _ c.args.ticks _ between refused (rw (c.in_ok-changes.ensures.contacts, c.reserve-2.ensures.acting, c.in_ok-reserve.ensures.entries, c.in_ok-reserve.ensures.settled) refl))
 
 pub returns-in_err-reserve-3 : goal.returns-in_err-reserve-3
 returns-in_err-reserve-3 c =
     let between : is_between (pos 1) (pos 8) c.args.ticks ≡ true = search (rules, tests) in
     let refused : c.from_residual-in_err-reserve-3.result ≡ Err NoMemory = is_refusal _ _ c.from_residual-in_err-reserve-3.ensures.0 c.from_residual-in_err-reserve-3.ensures.1 c.in_err-reserve-3.ensures.memory_only in
-    rw (← c.self.view_is) (step_refused (the_view c.self.inside) _ c.args.ticks _ between refused (rw (c.in_ok-reserve-2.ensures.acting, c.in_ok-reserve.ensures.entries, c.in_ok-reserve.ensures.settled) refl))
+    rw (← c.self.view_is) (step_refused (the_view c.self.inside) _ c.args.ticks _ between refused (rw (c.in_ok-changes.ensures.contacts, c.in_ok-reserve-2.ensures.acting, c.in_ok-reserve.ensures.entries, c.in_ok-reserve.ensures.settled) refl))
 
 pub returns-in_err-scratch : goal.returns-in_err-scratch
 returns-in_err-scratch c =
     let between : is_between (pos 1) (pos 8) c.args.ticks ≡ true = search (rules, tests) in
     let refused : c.from_residual-in_err-scratch.result ≡ Err NoMemory = is_refusal _ _ c.from_residual-in_err-scratch.ensures.0 c.from_residual-in_err-scratch.ensures.1 c.in_err-scratch.ensures.memory_only in
-    rw (← c.self.view_is) (step_refused (the_view c.self.inside) _ c.args.ticks _ between refused (rw (c.in_ok-reserve-2.ensures.acting, c.in_ok-reserve.ensures.entries, c.in_ok-reserve.ensures.settled) refl))
+    rw (← c.self.view_is) (step_refused (the_view c.self.inside) _ c.args.ticks _ between refused (rw (c.in_ok-changes.ensures.contacts, c.in_ok-reserve-2.ensures.acting, c.in_ok-reserve.ensures.entries, c.in_ok-reserve.ensures.settled) refl))
 
 -- ---- the collide
 
@@ -69,21 +69,21 @@ turn_all-requires-clause-told c = rw c.in_ok-reserve-2.ensures.acting (kept_of _
 
 -- ---- the ticks
 
-is_turned : (c : goal.After-unsigned_abs) → HasTurned (the_view c.self.inside) c.turn_all.new.sets.acting c.turn_all.new.bodies.bodies c.in_ok-changes.changes.now
+is_turned : (c : goal.After-unsigned_abs) → HasTurned (the_view c.self.inside) c.turn_all.new.sets.acting c.turn_all.new.bodies.bodies c.carry_out.new.self.contacts
 is_turned c =
     let listed = c.deref-3.ensures.value ∙ c.in_ok-turns.ensures.changes in
     let found : AreFound (the_view c.self.inside) c.deref-3.result.now = rw (c.bodies-2.ensures, c.deref.ensures.value, c.deref-2.ensures.value, c.in_ok-changes.ensures.begin, c.in_ok-changes.ensures.end, c.bodies.ensures) at listed in
-    has_turned (the_view c.self.inside) c.self.inside.sets.acting c.reserve-2.new.self.acting c.turn_all.new.sets.acting c.deref-3.result.now c.turn_all.new.bodies.bodies c.in_ok-changes.changes.now c.self.invariant c.in_ok-reserve-2.ensures.acting found
-    c.turn_all.ensures.acting c.turn_all.ensures.bodies (rw c.bodies.ensures at c.in_ok-changes.ensures.now)
+    has_turned (the_view c.self.inside) c.self.inside.sets.acting c.reserve-2.new.self.acting c.turn_all.new.sets.acting c.deref-3.result.now c.turn_all.new.bodies.bodies c.carry_out.new.self.contacts c.self.invariant c.in_ok-reserve-2.ensures.acting found
+    c.turn_all.ensures.acting c.turn_all.ensures.bodies (c.carry_out.ensures ∙ rw c.bodies.ensures at c.in_ok-changes.ensures.due)
 
 pub solve-sums-requires-clause-few : goal.solve-sums-requires-clause-few
-solve-sums-requires-clause-few c = few_turned (the_view c.self.inside) c.self.inside.sets.acting c.turn_all.new.sets.acting c.turn_all.new.bodies.bodies c.in_ok-changes.changes.now c.self.invariant (is_turned c)
+solve-sums-requires-clause-few c = few_turned (the_view c.self.inside) c.self.inside.sets.acting c.turn_all.new.sets.acting c.turn_all.new.bodies.bodies c.carry_out.new.self.contacts c.self.invariant (is_turned c)
 
 pub solve-sums-requires-clause-bodies : goal.solve-sums-requires-clause-bodies
-solve-sums-requires-clause-bodies c = bodies_turned (the_view c.self.inside) c.self.inside.sets.acting c.turn_all.new.sets.acting c.turn_all.new.bodies.bodies c.in_ok-changes.changes.now c.self.invariant (is_turned c)
+solve-sums-requires-clause-bodies c = bodies_turned (the_view c.self.inside) c.self.inside.sets.acting c.turn_all.new.sets.acting c.turn_all.new.bodies.bodies c.carry_out.new.self.contacts c.self.invariant (is_turned c)
 
 pub solve-sums-requires-clause-can : goal.solve-sums-requires-clause-can
-solve-sums-requires-clause-can c = rw c.colours.ensures (can_solve_turned (the_view c.self.inside) c.self.inside.sets.acting c.turn_all.new.sets.acting c.turn_all.new.bodies.bodies c.in_ok-changes.changes.now c.self.invariant (is_turned c))
+solve-sums-requires-clause-can c = rw c.colours.ensures (can_solve_turned (the_view c.self.inside) c.self.inside.sets.acting c.turn_all.new.sets.acting c.turn_all.new.bodies.bodies c.carry_out.new.self.contacts c.self.invariant (is_turned c))
 
 pub solve-sums-requires-clause-room : goal.solve-sums-requires-clause-room
 solve-sums-requires-clause-room c =
@@ -92,23 +92,23 @@ solve-sums-requires-clause-room c =
     let long : length c.deref.result.now ≡ length (collided_in w).begin = ap (λ (keys : List ContactKey). length keys) begun in
     let count : c.len-2.result ≡ length (collided_in w).begin = omega (arith, c.len-2.ensures, c.deref.ensures.len, long) in
     let room = rw c.ties.ensures.value at c.in_ok-reserve-3.ensures.room in
-    rw c.colours.ensures (room_turned w c.self.inside.sets.acting c.reserve-2.new.self.acting c.turn_all.new.sets.acting c.turn_all.new.bodies.bodies c.in_ok-changes.changes.now c.len-2.result c.reserve-3.new.self.room c.self.invariant (is_turned c) c.in_ok-reserve-2.ensures.acting count room)
+    rw c.colours.ensures (room_turned w c.self.inside.sets.acting c.reserve-2.new.self.acting c.turn_all.new.sets.acting c.turn_all.new.bodies.bodies c.carry_out.new.self.contacts c.len-2.result c.reserve-3.new.self.room c.self.invariant (is_turned c) c.in_ok-reserve-2.ensures.acting count room)
 
 -- ---- the sleep phase
 
-is_solved : (c : goal.After-unsigned_abs-2) → HasSolved (the_view c.self.inside) c.unsigned_abs.result c.solve-sums.new.bodies.bodies c.solve-sums.new.joints.joints c.solve-sums.new.contacts c.solve-sums.result
+is_solved : (c : goal.After-unsigned_abs-2) → HasSolved (the_view c.self.inside) c.unsigned_abs.result c.solve-sums.new.bodies.bodies c.solve-sums.new.joints.joints c.solve-sums.new.contacts.contacts c.solve-sums.result
 is_solved c =
     let w : World = the_view c.self.inside in
     let listed = c.deref-3.ensures.value ∙ c.in_ok-turns.ensures.changes in
     let found : AreFound w c.deref-3.result.now = rw (c.bodies-2.ensures, c.deref.ensures.value, c.deref-2.ensures.value, c.in_ok-changes.ensures.begin, c.in_ok-changes.ensures.end, c.bodies.ensures) at listed in
-    let turned : HasTurned w c.turn_all.new.sets.acting c.turn_all.new.bodies.bodies c.in_ok-changes.changes.now =
-    has_turned w c.self.inside.sets.acting c.reserve-2.new.self.acting c.turn_all.new.sets.acting c.deref-3.result.now c.turn_all.new.bodies.bodies c.in_ok-changes.changes.now c.self.invariant c.in_ok-reserve-2.ensures.acting found
-    c.turn_all.ensures.acting c.turn_all.ensures.bodies (rw c.bodies.ensures at c.in_ok-changes.ensures.now) in
+    let turned : HasTurned w c.turn_all.new.sets.acting c.turn_all.new.bodies.bodies c.carry_out.new.self.contacts =
+    has_turned w c.self.inside.sets.acting c.reserve-2.new.self.acting c.turn_all.new.sets.acting c.deref-3.result.now c.turn_all.new.bodies.bodies c.carry_out.new.self.contacts c.self.invariant c.in_ok-reserve-2.ensures.acting found
+    c.turn_all.ensures.acting c.turn_all.ensures.bodies (c.carry_out.ensures ∙ rw c.bodies.ensures at c.in_ok-changes.ensures.due) in
     let to_bodies = rw c.colours.ensures at c.solve-sums.ensures.bodies in
     let to_joints = rw c.colours.ensures at c.solve-sums.ensures.joints in
     let to_contacts = rw c.colours.ensures at c.solve-sums.ensures.contacts in
     let to_sums = rw c.colours.ensures at c.solve-sums.ensures.sums in
-    let are : AreTicks c.turn_all.new.bodies.bodies c.solve-sums.new.bodies.bodies c.solve-sums.new.joints.joints c.solve-sums.new.contacts c.solve-sums.result = record {
+    let are : AreTicks c.turn_all.new.bodies.bodies c.solve-sums.new.bodies.bodies c.solve-sums.new.joints.joints c.solve-sums.new.contacts.contacts c.solve-sums.result = record {
       bodies = c.solve-sums.ensures.all_bodies;
       slots = c.solve-sums.ensures.slots;
       small = c.solve-sums.ensures.small;
@@ -117,30 +117,30 @@ is_solved c =
       joints = c.solve-sums.ensures.all_joints;
       pairs = c.solve-sums.ensures.pairs;
     } in
-    has_solved w c.unsigned_abs.result c.self.inside.sets.acting c.turn_all.new.sets.acting c.turn_all.new.bodies.bodies c.solve-sums.new.bodies.bodies c.solve-sums.new.joints.joints c.in_ok-changes.changes.now c.solve-sums.new.contacts c.solve-sums.result c.self.invariant turned to_bodies to_joints to_contacts to_sums are
+    has_solved w c.unsigned_abs.result c.self.inside.sets.acting c.turn_all.new.sets.acting c.turn_all.new.bodies.bodies c.solve-sums.new.bodies.bodies c.solve-sums.new.joints.joints c.carry_out.new.self.contacts c.solve-sums.new.contacts.contacts c.solve-sums.result c.self.invariant turned to_bodies to_joints to_contacts to_sums are
 
-turned_then : (c : goal.After-unsigned_abs-2) → HasTurned (the_view c.self.inside) c.turn_all.new.sets.acting c.turn_all.new.bodies.bodies c.in_ok-changes.changes.now
+turned_then : (c : goal.After-unsigned_abs-2) → HasTurned (the_view c.self.inside) c.turn_all.new.sets.acting c.turn_all.new.bodies.bodies c.carry_out.new.self.contacts
 turned_then c =
     let listed = c.deref-3.ensures.value ∙ c.in_ok-turns.ensures.changes in
     let found : AreFound (the_view c.self.inside) c.deref-3.result.now = rw (c.bodies-2.ensures, c.deref.ensures.value, c.deref-2.ensures.value, c.in_ok-changes.ensures.begin, c.in_ok-changes.ensures.end, c.bodies.ensures) at listed in
-    has_turned (the_view c.self.inside) c.self.inside.sets.acting c.reserve-2.new.self.acting c.turn_all.new.sets.acting c.deref-3.result.now c.turn_all.new.bodies.bodies c.in_ok-changes.changes.now c.self.invariant c.in_ok-reserve-2.ensures.acting found
-    c.turn_all.ensures.acting c.turn_all.ensures.bodies (rw c.bodies.ensures at c.in_ok-changes.ensures.now)
+    has_turned (the_view c.self.inside) c.self.inside.sets.acting c.reserve-2.new.self.acting c.turn_all.new.sets.acting c.deref-3.result.now c.turn_all.new.bodies.bodies c.carry_out.new.self.contacts c.self.invariant c.in_ok-reserve-2.ensures.acting found
+    c.turn_all.ensures.acting c.turn_all.ensures.bodies (c.carry_out.ensures ∙ rw c.bodies.ensures at c.in_ok-changes.ensures.due)
 
 pub rest_ready-rest-requires-clause-tied : goal.rest_ready-rest-requires-clause-tied
 rest_ready-rest-requires-clause-tied c =
-    tied_solved (the_view c.self.inside) c.unsigned_abs.result c.self.inside.sets.acting c.turn_all.new.sets.acting c.turn_all.new.bodies.bodies c.solve-sums.new.bodies.bodies c.solve-sums.new.joints.joints c.in_ok-changes.changes.now c.solve-sums.new.contacts c.solve-sums.result
+    tied_solved (the_view c.self.inside) c.unsigned_abs.result c.self.inside.sets.acting c.turn_all.new.sets.acting c.turn_all.new.bodies.bodies c.solve-sums.new.bodies.bodies c.solve-sums.new.joints.joints c.carry_out.new.self.contacts c.solve-sums.new.contacts.contacts c.solve-sums.result
     c.self.invariant (turned_then c) (is_solved c)
 
 pub rest_ready-rest-requires-clause-told : goal.rest_ready-rest-requires-clause-told
 rest_ready-rest-requires-clause-told c =
-    told_solved (the_view c.self.inside) c.unsigned_abs.result c.self.inside.sets.acting c.turn_all.new.sets.acting c.turn_all.new.bodies.bodies c.solve-sums.new.bodies.bodies c.solve-sums.new.joints.joints c.in_ok-changes.changes.now c.solve-sums.new.contacts c.solve-sums.result
+    told_solved (the_view c.self.inside) c.unsigned_abs.result c.self.inside.sets.acting c.turn_all.new.sets.acting c.turn_all.new.bodies.bodies c.solve-sums.new.bodies.bodies c.solve-sums.new.joints.joints c.carry_out.new.self.contacts c.solve-sums.new.contacts.contacts c.solve-sums.result
     c.self.invariant (turned_then c) (is_solved c)
 
 pub rest_ready-rest-requires-clause-few_bodies : goal.rest_ready-rest-requires-clause-few_bodies
-rest_ready-rest-requires-clause-few_bodies c = few_solved (the_view c.self.inside) c.unsigned_abs.result c.self.inside.sets.acting c.solve-sums.new.bodies.bodies c.solve-sums.new.joints.joints c.solve-sums.new.contacts c.solve-sums.result c.self.invariant (is_solved c)
+rest_ready-rest-requires-clause-few_bodies c = few_solved (the_view c.self.inside) c.unsigned_abs.result c.self.inside.sets.acting c.solve-sums.new.bodies.bodies c.solve-sums.new.joints.joints c.solve-sums.new.contacts.contacts c.solve-sums.result c.self.invariant (is_solved c)
 
 pub rest_ready-rest-requires-clause-within : goal.rest_ready-rest-requires-clause-within
-rest_ready-rest-requires-clause-within c = timers_solved (the_view c.self.inside) c.unsigned_abs.result c.self.inside.sets.acting c.solve-sums.new.bodies.bodies c.solve-sums.new.joints.joints c.solve-sums.new.contacts c.solve-sums.result c.self.invariant (is_solved c)
+rest_ready-rest-requires-clause-within c = timers_solved (the_view c.self.inside) c.unsigned_abs.result c.self.inside.sets.acting c.solve-sums.new.bodies.bodies c.solve-sums.new.joints.joints c.solve-sums.new.contacts.contacts c.solve-sums.result c.self.invariant (is_solved c)
 
 pub rest_ready-rest-requires-clause-rising : goal.rest_ready-rest-requires-clause-rising
 rest_ready-rest-requires-clause-rising c = c.as_slice.ensures.contacts.rising
@@ -154,13 +154,13 @@ rest_ready-rest-requires-clause-ticks c =
 pub rest_ready-rest-requires-clause-timers : goal.rest_ready-rest-requires-clause-timers
 rest_ready-rest-requires-clause-timers c =
     let room : length c.self.inside.bodies.bodies ≤ vec_capacity c.in_ok-scratch.scratch.timers = rw c.bodies-3.ensures at c.in_ok-scratch.ensures.timers in
-    let long = timers_room (the_view c.self.inside) c.unsigned_abs.result c.self.inside.sets.acting c.solve-sums.new.bodies.bodies c.solve-sums.new.joints.joints c.solve-sums.new.contacts c.solve-sums.result c.self.invariant (is_solved c) in
+    let long = timers_room (the_view c.self.inside) c.unsigned_abs.result c.self.inside.sets.acting c.solve-sums.new.bodies.bodies c.solve-sums.new.joints.joints c.solve-sums.new.contacts.contacts c.solve-sums.result c.self.invariant (is_solved c) in
     rw long room
 
 pub rest_ready-rest-requires-clause-marks : goal.rest_ready-rest-requires-clause-marks
 rest_ready-rest-requires-clause-marks c =
     let room : length c.self.inside.bodies.bodies ≤ vec_capacity c.in_ok-scratch.scratch.marks = rw c.bodies-3.ensures at c.in_ok-scratch.ensures.marks in
-    let long = timers_room (the_view c.self.inside) c.unsigned_abs.result c.self.inside.sets.acting c.solve-sums.new.bodies.bodies c.solve-sums.new.joints.joints c.solve-sums.new.contacts c.solve-sums.result c.self.invariant (is_solved c) in
+    let long = timers_room (the_view c.self.inside) c.unsigned_abs.result c.self.inside.sets.acting c.solve-sums.new.bodies.bodies c.solve-sums.new.joints.joints c.solve-sums.new.contacts.contacts c.solve-sums.result c.self.invariant (is_solved c) in
     rw long room
 
 pub book_rest-requires-clause-roomy : goal.book_rest-requires-clause-roomy
@@ -168,20 +168,20 @@ book_rest-requires-clause-roomy c = IsRoomy-same _ _ c.in_ok-reserve.ensures.ent
 
 -- ---- the whole
 
-are_left : (c : goal.After-drop-changes-3) → AreLeft (the_view c.self.inside) c.unsigned_abs.result c.turn_all.new.sets.acting c.rest_ready-rest.new.sets.acting c.turn_all.new.bodies.bodies c.solve-sums.new.bodies.bodies c.rest_ready-rest.new.bodies.bodies c.solve-sums.new.joints.joints c.in_ok-changes.changes.now c.solve-sums.new.contacts
+are_left : (c : goal.After-drop-turns-2) → AreLeft (the_view c.self.inside) c.unsigned_abs.result c.turn_all.new.sets.acting c.rest_ready-rest.new.sets.acting c.turn_all.new.bodies.bodies c.solve-sums.new.bodies.bodies c.rest_ready-rest.new.bodies.bodies c.solve-sums.new.joints.joints c.carry_out.new.self.contacts c.solve-sums.new.contacts.contacts
     c.solve-sums.result c.rest_ready-rest.result.x c.rest_ready-rest.result.y c.from_lists.result
 are_left c =
     let w : World = the_view c.self.inside in
     let listed = c.deref-3.ensures.value ∙ c.in_ok-turns.ensures.changes in
     let found : AreFound w c.deref-3.result.now = rw (c.bodies-2.ensures, c.deref.ensures.value, c.deref-2.ensures.value, c.in_ok-changes.ensures.begin, c.in_ok-changes.ensures.end, c.bodies.ensures) at listed in
-    let turned : HasTurned w c.turn_all.new.sets.acting c.turn_all.new.bodies.bodies c.in_ok-changes.changes.now =
-    has_turned w c.self.inside.sets.acting c.reserve-2.new.self.acting c.turn_all.new.sets.acting c.deref-3.result.now c.turn_all.new.bodies.bodies c.in_ok-changes.changes.now c.self.invariant c.in_ok-reserve-2.ensures.acting found
-    c.turn_all.ensures.acting c.turn_all.ensures.bodies (rw c.bodies.ensures at c.in_ok-changes.ensures.now) in
+    let turned : HasTurned w c.turn_all.new.sets.acting c.turn_all.new.bodies.bodies c.carry_out.new.self.contacts =
+    has_turned w c.self.inside.sets.acting c.reserve-2.new.self.acting c.turn_all.new.sets.acting c.deref-3.result.now c.turn_all.new.bodies.bodies c.carry_out.new.self.contacts c.self.invariant c.in_ok-reserve-2.ensures.acting found
+    c.turn_all.ensures.acting c.turn_all.ensures.bodies (c.carry_out.ensures ∙ rw c.bodies.ensures at c.in_ok-changes.ensures.due) in
     let to_bodies = rw c.colours.ensures at c.solve-sums.ensures.bodies in
     let to_joints = rw c.colours.ensures at c.solve-sums.ensures.joints in
     let to_contacts = rw c.colours.ensures at c.solve-sums.ensures.contacts in
     let to_sums = rw c.colours.ensures at c.solve-sums.ensures.sums in
-    let are : AreTicks c.turn_all.new.bodies.bodies c.solve-sums.new.bodies.bodies c.solve-sums.new.joints.joints c.solve-sums.new.contacts c.solve-sums.result = record {
+    let are : AreTicks c.turn_all.new.bodies.bodies c.solve-sums.new.bodies.bodies c.solve-sums.new.joints.joints c.solve-sums.new.contacts.contacts c.solve-sums.result = record {
       bodies = c.solve-sums.ensures.all_bodies;
       slots = c.solve-sums.ensures.slots;
       small = c.solve-sums.ensures.small;
@@ -190,8 +190,8 @@ are_left c =
       joints = c.solve-sums.ensures.all_joints;
       pairs = c.solve-sums.ensures.pairs;
     } in
-    let ticks : HasSolved w c.unsigned_abs.result c.solve-sums.new.bodies.bodies c.solve-sums.new.joints.joints c.solve-sums.new.contacts c.solve-sums.result =
-    has_solved w c.unsigned_abs.result c.self.inside.sets.acting c.turn_all.new.sets.acting c.turn_all.new.bodies.bodies c.solve-sums.new.bodies.bodies c.solve-sums.new.joints.joints c.in_ok-changes.changes.now c.solve-sums.new.contacts c.solve-sums.result c.self.invariant turned to_bodies to_joints to_contacts to_sums are in
+    let ticks : HasSolved w c.unsigned_abs.result c.solve-sums.new.bodies.bodies c.solve-sums.new.joints.joints c.solve-sums.new.contacts.contacts c.solve-sums.result =
+    has_solved w c.unsigned_abs.result c.self.inside.sets.acting c.turn_all.new.sets.acting c.turn_all.new.bodies.bodies c.solve-sums.new.bodies.bodies c.solve-sums.new.joints.joints c.carry_out.new.self.contacts c.solve-sums.new.contacts.contacts c.solve-sums.result c.self.invariant turned to_bodies to_joints to_contacts to_sums are in
     let twice : c.unsigned_abs-2.result ≡ c.unsigned_abs.result = c.unsigned_abs-2.ensures.value ∙ sym c.unsigned_abs.ensures.value in
     let fell = rw (twice, c.places-2.ensures) at c.rest_ready-rest.ensures.slept in
     let woken = rw (← c.rest_ready-rest.ensures.woke, c.places.ensures) at c.turn_all.ensures.woke in
@@ -204,8 +204,8 @@ are_left c =
       gain_y = rw twice at c.rest_ready-rest.ensures.y;
       begin = c.from_lists.ensures.begin_kept c.in_ok-changes.ensures.begin_rises ∙ rw c.bodies.ensures at c.in_ok-changes.ensures.begin;
       end = c.from_lists.ensures.end_kept c.in_ok-changes.ensures.end_rises ∙ rw c.bodies.ensures at c.in_ok-changes.ensures.end;
-      slept = c.from_lists.ensures.slept_kept (subst (λ (hs : List Handle). IsStrictlyIncreasing (map slot_of hs)) (sym fell) (slept_rise w c.unsigned_abs.result c.self.inside.sets.acting c.solve-sums.new.bodies.bodies c.solve-sums.new.joints.joints c.solve-sums.new.contacts c.solve-sums.result c.rest_ready-rest.new.sets.acting.labels c.self.invariant ticks)) ∙ fell;
-      woke = c.from_lists.ensures.woke_kept (subst (λ (hs : List Handle). IsStrictlyIncreasing (map slot_of hs)) (sym woken) (woke_rise w c.self.inside.sets.acting c.turn_all.new.sets.acting c.turn_all.new.bodies.bodies c.in_ok-changes.changes.now c.self.invariant turned)) ∙ woken;
+      slept = c.from_lists.ensures.slept_kept (subst (λ (hs : List Handle). IsStrictlyIncreasing (map slot_of hs)) (sym fell) (slept_rise w c.unsigned_abs.result c.self.inside.sets.acting c.solve-sums.new.bodies.bodies c.solve-sums.new.joints.joints c.solve-sums.new.contacts.contacts c.solve-sums.result c.rest_ready-rest.new.sets.acting.labels c.self.invariant ticks)) ∙ fell;
+      woke = c.from_lists.ensures.woke_kept (subst (λ (hs : List Handle). IsStrictlyIncreasing (map slot_of hs)) (sym woken) (woke_rise w c.self.inside.sets.acting c.turn_all.new.sets.acting c.turn_all.new.bodies.bodies c.carry_out.new.self.contacts c.self.invariant turned)) ∙ woken;
     }
 
 pub invariant_of-self-2 : goal.invariant_of-self-2
@@ -216,7 +216,7 @@ invariant_of-self-2 c =
     let count : c.unsigned_abs.result ≡ unsigned_abs c.args.ticks = grind (arith, to_z-of_z) in
     let few : c.unsigned_abs.result ≤ 8 = rw count (few_ticks c.args.ticks between) in
     rw (c.book_rest.ensures.entries, c.book_rest.ensures.settled, c.in_ok-reserve.ensures.entries, c.in_ok-reserve.ensures.settled)
-    (whole w _ _ _ (step_is_left w c.unsigned_abs.result c.self.inside.sets.acting c.turn_all.new.sets.acting c.rest_ready-rest.new.sets.acting c.turn_all.new.bodies.bodies c.solve-sums.new.bodies.bodies c.rest_ready-rest.new.bodies.bodies c.solve-sums.new.joints.joints c.in_ok-changes.changes.now c.solve-sums.new.contacts
+    (whole w _ _ _ (step_is_left w c.unsigned_abs.result c.self.inside.sets.acting c.turn_all.new.sets.acting c.rest_ready-rest.new.sets.acting c.turn_all.new.bodies.bodies c.solve-sums.new.bodies.bodies c.rest_ready-rest.new.bodies.bodies c.solve-sums.new.joints.joints c.carry_out.new.self.contacts c.solve-sums.new.contacts.contacts
     c.solve-sums.result c.rest_ready-rest.result.x c.rest_ready-rest.result.y c.from_lists.result c.self.invariant calls few (are_left c)))
 
 pub returns : goal.returns
@@ -229,5 +229,5 @@ returns c =
     rw (← c.self.view_is)
     (step_answers w c.args.ticks c.unsigned_abs.result _ c.rest_ready-rest.new.sets.acting between count
     (rw (c.book_rest.ensures.entries, c.book_rest.ensures.settled, c.in_ok-reserve.ensures.entries, c.in_ok-reserve.ensures.settled)
-    (step_is_left w c.unsigned_abs.result c.self.inside.sets.acting c.turn_all.new.sets.acting c.rest_ready-rest.new.sets.acting c.turn_all.new.bodies.bodies c.solve-sums.new.bodies.bodies c.rest_ready-rest.new.bodies.bodies c.solve-sums.new.joints.joints c.in_ok-changes.changes.now c.solve-sums.new.contacts
+    (step_is_left w c.unsigned_abs.result c.self.inside.sets.acting c.turn_all.new.sets.acting c.rest_ready-rest.new.sets.acting c.turn_all.new.bodies.bodies c.solve-sums.new.bodies.bodies c.rest_ready-rest.new.bodies.bodies c.solve-sums.new.joints.joints c.carry_out.new.self.contacts c.solve-sums.new.contacts.contacts
     c.solve-sums.result c.rest_ready-rest.result.x c.rest_ready-rest.result.y c.from_lists.result c.self.invariant calls few (are_left c))))

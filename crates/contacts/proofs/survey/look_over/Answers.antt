@@ -1,0 +1,20 @@
+use Rattle.std.proofs.Common.{refl}
+use Rattle.contacts.specs.Turns.{moved_by}
+use Rattle.contacts.proofs.TurnLemmas.{begun_step, ended_step, gone_step, notes_step}
+use Rattle.contacts.proofs.survey.look_over.Goals as goal
+
+pub loop-place-preserved : goal.loop-place-preserved
+loop-place-preserved g c =
+    let ps = g.S.ShapesByName.proxies c.args.shapes.now in
+    let moved = moved_by c.args.marks.now in
+    let pairs = c.args.forbidden.now in
+    let old = c.args.old.now in
+    let place = c.loop-place.place in
+    let turn = c.turn_of-turn.result in
+    let lt = c.loop-place-test.true in
+    record {
+      notes = notes_step moved pairs ps old place _ _ turn _ _ lt refl c.turn_of-turn.ensures c.loop-place.invariant.notes c.in_ok-note.ensures.noted;
+      gone = gone_step moved pairs ps old place _ _ turn _ _ _ lt refl c.turn_of-turn.ensures c.gone_key.ensures c.loop-place.invariant.gone c.in_ok-push_key.ensures.pushed;
+      begin = begun_step moved pairs ps old place _ _ turn _ _ _ lt refl c.turn_of-turn.ensures c.begun_key.ensures c.loop-place.invariant.begin c.in_ok-push_key-2.ensures.pushed;
+      end = ended_step moved pairs ps old place _ _ turn _ _ _ lt refl c.turn_of-turn.ensures c.ended_key.ensures c.loop-place.invariant.end c.in_ok-push_key-3.ensures.pushed;
+    }

@@ -1,0 +1,94 @@
+-- What becomes in a collide of the contacts that there are.
+use Rattle.std.specs.Prelude.{◌≡◌, ℕ, ◌/◌, Bool, true, false, ◌||◌, cond, List, [], ◌∷◌, ◌++◌, drop, Option, Some, None, slice_get, slice_index_or}
+use Rattle.std.specs.List.{filter_map}
+use Rattle.contacts_base.specs.declared.near.Proxy.{Proxy}
+use Rattle.contacts_base.specs.declared.key.ContactKey.{ContactKey}
+use Rattle.contacts_base.specs.declared.contact.ContactEntry.{ContactEntry}
+use Rattle.contacts_base.specs.Contacts.{contact_set, number_of as entry_number}
+use Rattle.contacts_base.specs.Keys.{id_number}
+use Rattle.contacts.specs.declared.turns.Turn.{Turn}
+use Rattle.contacts.specs.declared.turns.Turn.TheVariants.{Stays, Goes, Renewed}
+use Rattle.contacts.specs.declared.turns.Renewal.{Renewal}
+use Rattle.contacts.specs.Changes.{contacts_of, key_if_new, key_unless, keys_touching_only_in}
+use Rattle.contacts.specs.Forbidden.{allowed_codes}
+use Rattle.contacts.specs.Known.{again, found, stays}
+use Rattle.contacts.specs.Merge.{below_of, beyond_of}
+
+-- a shape has moved if its body's slot is marked, or is beyond the marks
+abbrev pub moved_by : List Bool → ℕ → Bool
+moved_by marks n = slice_index_or marks (n / 256) true
+
+-- the shape is there, and its body stirs
+abbrev pub stirs_in : Option Proxy → Bool
+stirs_in None = false
+stirs_in (Some p) = p.stirs
+
+-- the body of one of the contact's shapes stirs
+abbrev pub one_stirs_of : List Proxy → ContactKey → Bool
+one_stirs_of ps k = stirs_in (found ps (id_number k.first)) || stirs_in (found ps (id_number k.second))
+
+-- ---- one contact
+
+-- what the contact is after its turn, if it is still there
+abbrev pub turned : ContactEntry → Turn → Option ContactEntry
+turned e Stays = Some e
+turned e Goes = None
+turned e (Renewed c) = Some (record e { contact = c })
+
+-- what becomes of the contact: evaluated anew in its place, or gone
+abbrev pub outcome : (ℕ → Bool) → List ℕ → List Proxy → ContactEntry → Option ContactEntry
+outcome moved pairs ps e = cond (stays moved pairs ps e) (Some (again ps e)) None
+
+-- evaluated anew if it stays, and else as it was
+abbrev pub settled : (ℕ → Bool) → List ℕ → List Proxy → ContactEntry → ContactEntry
+settled moved pairs ps e = cond (stays moved pairs ps e) (again ps e) e
+
+-- its key, if it touches after its turn and didn't before
+abbrev pub key_if_begun : ContactEntry → Option ContactEntry → Option ContactKey
+key_if_begun e None = None
+key_if_begun e (Some f) = key_if_new (Some e) f
+
+-- ---- all of them
+
+-- the keys of those that go
+abbrev pub gone_keys : (ℕ → Bool) → List ℕ → List Proxy → List ContactEntry → List ContactKey
+gone_keys moved pairs ps old = filter_map (λ e. key_unless (outcome moved pairs ps e) e) old
+
+-- of those that begin to touch
+abbrev pub begun_keys : (ℕ → Bool) → List ℕ → List Proxy → List ContactEntry → List ContactKey
+begun_keys moved pairs ps old = filter_map (λ e. key_if_begun e (outcome moved pairs ps e)) old
+
+-- of those that touched, and don't any more or are gone
+abbrev pub ended_keys : (ℕ → Bool) → List ℕ → List Proxy → List ContactEntry → List ContactKey
+ended_keys moved pairs ps old = filter_map (λ e. key_if_new (outcome moved pairs ps e) e) old
+
+-- what a turn notes of the contact at a place
+abbrev pub noted : ℕ → Turn → List Renewal
+noted place Stays = []
+noted place Goes = []
+noted place (Renewed c) = record { place = place; contact = c } ∷ []
+
+-- the contacts with what was noted of them
+abbrev pub renewed : List Renewal → List ContactEntry → List ContactEntry
+renewed [] es = es
+renewed (r ∷ rs) es = renewed rs (contact_set r.place r.contact es (slice_get es r.place))
+
+-- the whole list, where there is one
+abbrev pub whole_or : Option (List ContactEntry) → List ContactEntry → List ContactEntry
+whole_or None es = es
+whole_or (Some all) es = all
+
+-- ---- the list made anew
+
+-- what becomes of a contact, with the fresh ones before it, is added to a list: `place` fresh ones were in it before, and `next` are after
+abbrev pub IsAdded : Option ContactEntry → List ContactEntry → ℕ → ℕ → List ContactEntry → List ContactEntry → Type 0
+IsAdded None fresh place next all more = (more ≡ all) × (next ≡ place)
+IsAdded (Some f) fresh place next all more = (more ≡ (all ++ below_of entry_number f (drop place fresh)) ++ f ∷ []) × (drop next fresh ≡ beyond_of entry_number f (drop place fresh))
+
+-- ---- both ways
+
+-- what a collide makes of the contacts, and which begin and end to touch
+pub record IsMade (pairs : List ℕ) (ps : List Proxy) (old now : List ContactEntry) (begin end : List ContactKey) : Type 0 where
+  pub now_is : now ≡ contacts_of old ps (allowed_codes pairs ps)
+  pub begin_is : begin ≡ keys_touching_only_in old (contacts_of old ps (allowed_codes pairs ps))
+  pub end_is : end ≡ keys_touching_only_in (contacts_of old ps (allowed_codes pairs ps)) old

@@ -1,0 +1,165 @@
+//! The contacts after a collide as a new list: those that stay, and the fresh ones.
+
+ghost use Rattle.std.specs.Prelude.{◌≡◌, ◌≤◌, IfOk, Some, None, length, map};
+ghost use Rattle.std.specs.List.{filter_map};
+ghost use Rattle.std.specs.List.Sorted.{IsNonDecreasing};
+ghost use Rattle.std.specs.Result.{IsOkUnless};
+ghost use Rattle.contacts_base.specs.Contacts.{AreContacts, number_of};
+ghost use Rattle.contacts_base.specs.Near.{IsProxyList};
+ghost use Rattle.contacts.specs.Changes.{contacts_of, key_if_new};
+ghost use Rattle.contacts.specs.Known.{IsKnown, again, fresh as fresh_codes, staying};
+ghost use Rattle.contacts.specs.Merge.{AreAscending, merged};
+ghost use Rattle.contacts.specs.Turns.{IsAdded, IsMade, begun_keys, ended_keys, moved_by, turned};
+
+use crate::changes::push_key;
+use crate::merge::{merge, push_below};
+use crate::turns::{ShapesByName, Turn, begun_key, ended_key, turn_of};
+use contacts_base::{ContactEntry, ContactKey, Contacts};
+use fixed_geom::Refusal;
+use std::alloc::Global;
+
+/// All contacts, and the keys of those of the old ones that begin to touch and that end.
+#[derive(Drop)]
+struct Survivors {
+    all: Vec<ContactEntry>,
+    begin: Vec<ContactKey>,
+    end: Vec<ContactKey>,
+}
+
+/// All contacts, and the keys of those that begin to touch and that end.
+#[derive(Drop)]
+pub(crate) struct Rebuilt {
+    pub all: Contacts,
+    pub begin: Vec<ContactKey>,
+    pub end: Vec<ContactKey>,
+}
+
+/// Adds a contact, and before it the fresh ones from a place on that come first. Answers the place of the next fresh one. Refused 1 where
+/// memory is wanting.
+fn push_with(
+    all: &mut Vec<ContactEntry>,
+    fresh: &[ContactEntry],
+    place: usize,
+    entry: &ContactEntry,
+) -> Result<usize, Refusal>
+    requires { place ≤ length fresh.now }
+    ensures within { IfOk result (λ next. next ≤ length fresh.now) }
+    ensures added { IfOk result (λ next. IsAdded (Some entry.now) fresh.now place next all.old.items all.new.items) }
+    ensures memory_only { IsOkUnless result Refusal.NoMemory }
+{
+    let next = push_below(all, fresh, place, entry)?;
+    all.push(*entry)?;
+    Ok(next)
+}
+
+/// Adds what a contact becomes, if it stays, and before it the fresh ones from a place on that come first. Answers the place of the next
+/// fresh one. Refused 1 where memory is wanting.
+fn push_turned(
+    all: &mut Vec<ContactEntry>,
+    fresh: &[ContactEntry],
+    place: usize,
+    entry: &ContactEntry,
+    turn: &Turn,
+) -> Result<usize, Refusal>
+    requires { place ≤ length fresh.now }
+    ensures within { IfOk result (λ next. next ≤ length fresh.now) }
+    ensures added { IfOk result (λ next. IsAdded (turned entry.now turn.now) fresh.now place next all.old.items all.new.items) }
+    ensures memory_only { IsOkUnless result Refusal.NoMemory }
+{
+    match turn {
+        Turn::Stays => push_with(all, fresh, place, entry),
+        Turn::Goes => Ok(place),
+        Turn::Renewed(contact) => {
+            let renewed = ContactEntry {
+                key: entry.key,
+                surface: entry.surface,
+                contact: *contact,
+            };
+            push_with(all, fresh, place, &renewed)
+        }
+    }
+}
+
+/// Goes over the old contacts once, and adds the fresh ones in their places. Refused 1 where memory is wanting.
+fn turn_each<S: ShapesByName>(
+    alloc: Global,
+    shapes: &S,
+    marks: &[bool],
+    forbidden: &[u64],
+    old: &[ContactEntry],
+    fresh: &[ContactEntry],
+) -> Result<Survivors, Refusal>
+    requires shapes { IsProxyList (S.proxies shapes.now) }
+    requires sorted { IsNonDecreasing forbidden.now }
+    requires old { AreContacts old.now }
+    requires fresh { AreAscending number_of fresh.now }
+    ensures all { IfOk result (λ found. found.all.items ≡ merged number_of (map (again (S.proxies shapes.now)) (staying (moved_by marks.now) forbidden.now (S.proxies shapes.now) old.now)) fresh.now) }
+    ensures begin { IfOk result (λ found. found.begin.items ≡ begun_keys (moved_by marks.now) forbidden.now (S.proxies shapes.now) old.now) }
+    ensures end { IfOk result (λ found. found.end.items ≡ ended_keys (moved_by marks.now) forbidden.now (S.proxies shapes.now) old.now) }
+    ensures memory_only { IsOkUnless result Refusal.NoMemory }
+{
+    let mut all = Vec::with_capacity(alloc, old.len().saturating_add(fresh.len()))?;
+    let mut begin = Vec::new(alloc);
+    let mut end = Vec::new(alloc);
+    let mut next = 0;
+    for place in 0..old.len() {
+        let entry = &old[place];
+        let turn = turn_of(shapes, marks, forbidden, entry);
+        next = push_turned(&mut all, fresh, next, entry, &turn)?;
+        push_key(&mut begin, begun_key(entry, &turn))?;
+        push_key(&mut end, ended_key(entry, &turn))?;
+    }
+    all.extend_from_slice(&fresh[next..])?;
+    Ok(Survivors { all, begin, end })
+}
+
+/// The contact's key, if it touches.
+#[tactic(auto, unfolding(crate::specs::Changes::key_if_new))]
+fn key_of_touching(entry: &ContactEntry) -> Option<ContactKey>
+    ensures { result ≡ key_if_new None entry.now }
+{
+    if entry.contact.is_touching() {
+        Some(entry.key)
+    } else {
+        None
+    }
+}
+
+/// The keys of those contacts that touch. Refused 1 where memory is wanting.
+fn keys_of_touching(alloc: Global, fresh: &[ContactEntry]) -> Result<Vec<ContactKey>, Refusal>
+    ensures value { IfOk result (λ keys. keys.items ≡ filter_map (key_if_new None) fresh.now) }
+    ensures memory_only { IsOkUnless result Refusal.NoMemory }
+{
+    let mut keys = Vec::new(alloc);
+    for place in 0..fresh.len() {
+        push_key(&mut keys, key_of_touching(&fresh[place]))?;
+    }
+    Ok(keys)
+}
+
+/// The contacts after a collide, of those that there were and the fresh ones. Refused 1 where memory is wanting.
+pub(crate) fn rebuild<S: ShapesByName>(
+    alloc: Global,
+    shapes: &S,
+    marks: &[bool],
+    forbidden: &[u64],
+    old: &[ContactEntry],
+    fresh: &[ContactEntry],
+) -> Result<Rebuilt, Refusal>
+    requires shapes { IsProxyList (S.proxies shapes.now) }
+    requires sorted { IsNonDecreasing forbidden.now }
+    requires old { AreContacts old.now }
+    requires known { IsKnown (moved_by marks.now) forbidden.now (S.proxies shapes.now) old.now }
+    requires fresh { fresh.now ≡ contacts_of old.now (S.proxies shapes.now) (fresh_codes (moved_by marks.now) forbidden.now (S.proxies shapes.now) old.now) }
+    ensures made { IfOk result (λ rebuilt. IsMade forbidden.now (S.proxies shapes.now) old.now rebuilt.all rebuilt.begin.items rebuilt.end.items) }
+    ensures memory_only { IsOkUnless result Refusal.NoMemory }
+{
+    let survivors = turn_each(alloc, shapes, marks, forbidden, old, fresh)?;
+    let new_keys = keys_of_touching(alloc, fresh)?;
+    let begin = merge(alloc, &new_keys, &survivors.begin)?;
+    Ok(Rebuilt {
+        all: Contacts::from_entries(survivors.all),
+        begin,
+        end: survivors.end,
+    })
+}

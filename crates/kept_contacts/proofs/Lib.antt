@@ -1,0 +1,3 @@
+pub mod MarkLaws
+pub mod AlikeLaws
+pub mod SameLaws

@@ -1,0 +1,159 @@
+//! Worlds, and worlds that seats share, by the calls that are made of them, in methods that promise nothing. The checks are generic over them, so that
+//! no proof of this program has to read what a world promises or keeps, but for those of the methods.
+
+use impulse_ledger::Ledger;
+use std::alloc::Global;
+use std::sync::Wait;
+use world_core::{Command, Events, Frame, Plain, Refusal, Reply, Vec2, WorldCore};
+use world_lock::{Closed, JournalEntry, Opened, Receipt, Seat, SharedWorld, Tally};
+
+/// What a seat is answered.
+pub type Answer = Result<(Reply, Receipt), Refusal>;
+
+/// What is left of a shared world that was closed, and what was seen while it was open.
+#[derive(Drop)]
+pub struct Left<W: World> {
+    pub world: W,
+    pub journal: Vec<JournalEntry>,
+    pub settled: Vec<Tally>,
+    /// Whether each seat was told what it should be.
+    pub honest: bool,
+    /// How long the seats worked.
+    pub nanos: u128,
+    /// What the seats have to tell, in a line.
+    pub told: String,
+}
+
+/// What became of a world that was to be shared.
+#[derive(Drop)]
+pub enum Shut<W: World> {
+    Closed(Left<W>),
+    /// It couldn't be opened, and came back.
+    Unopened(W, Refusal),
+    Lost(Refusal),
+}
+
+/// The calls of a world.
+pub trait World: Drop {
+    /// A world without bodies.
+    fn empty(alloc: Global, gravity: Vec2) -> Result<Self, Refusal>;
+
+    fn copied(&self) -> Result<Self, Refusal>;
+
+    fn apply(&mut self, command: &Command) -> Result<Reply, Refusal>;
+
+    fn settle(&mut self);
+
+    fn lists(&self) -> Result<Plain, Refusal>;
+
+    fn frame(&self) -> Result<Frame, Refusal>;
+
+    fn events(&self) -> &Events;
+
+    fn ledger(&self) -> &Ledger;
+}
+
+/// The calls of a world that seats of this type share.
+pub trait Shared<T: Drop>: Drop {
+    type World: World;
+
+    fn call<R: Wait>(&self, rt: &R, seat: &mut T, command: Command) -> Answer;
+
+    fn settle<R: Wait>(&self, rt: &R) -> Result<u64, Refusal>;
+
+    fn frame<R: Wait>(&self, rt: &R, seat: &mut T) -> Result<Frame, Refusal>;
+
+    fn events<R: Wait>(&self, rt: &R, seat: &mut T) -> Result<Events, Refusal>;
+
+    fn number(seat: &T) -> u64;
+
+    /// Closes the world, or gives it back with its seats.
+    fn close(self, seats: Vec<T>) -> Result<Left<Self::World>, (Self, Vec<T>, Refusal)>;
+}
+
+impl World for WorldCore {
+    fn empty(alloc: Global, gravity: Vec2) -> Result<WorldCore, Refusal> {
+        WorldCore::new(alloc, gravity)
+    }
+
+    fn copied(&self) -> Result<WorldCore, Refusal> {
+        self.try_copy()
+    }
+
+    fn apply(&mut self, command: &Command) -> Result<Reply, Refusal> {
+        WorldCore::apply(self, command)
+    }
+
+    fn settle(&mut self) {
+        self.settle_ledger();
+    }
+
+    fn lists(&self) -> Result<Plain, Refusal> {
+        self.plain()
+    }
+
+    fn frame(&self) -> Result<Frame, Refusal> {
+        WorldCore::frame(self)
+    }
+
+    fn events(&self) -> &Events {
+        WorldCore::events(self)
+    }
+
+    fn ledger(&self) -> &Ledger {
+        WorldCore::ledger(self)
+    }
+}
+
+impl<N: Opened> Shared<Seat<N>> for SharedWorld<N> {
+    type World = WorldCore;
+
+    fn call<R: Wait>(&self, rt: &R, seat: &mut Seat<N>, command: Command) -> Answer {
+        SharedWorld::call(self, rt, seat, command)
+    }
+
+    fn settle<R: Wait>(&self, rt: &R) -> Result<u64, Refusal> {
+        SharedWorld::settle(self, rt)
+    }
+
+    fn frame<R: Wait>(&self, rt: &R, seat: &mut Seat<N>) -> Result<Frame, Refusal> {
+        SharedWorld::frame(self, rt, seat)
+    }
+
+    fn events<R: Wait>(&self, rt: &R, seat: &mut Seat<N>) -> Result<Events, Refusal> {
+        SharedWorld::events(self, rt, seat)
+    }
+
+    fn number(seat: &Seat<N>) -> u64 {
+        seat.number()
+    }
+
+    fn close(
+        self,
+        seats: Vec<Seat<N>>,
+    ) -> Result<Left<WorldCore>, (SharedWorld<N>, Vec<Seat<N>>, Refusal)> {
+        match SharedWorld::close(self, seats) {
+            Ok(closed) => Ok(left_of(closed)),
+            Err(back) => Err(back),
+        }
+    }
+}
+
+/// What is left of a closed world.
+fn left_of(closed: Closed) -> Left<WorldCore> {
+    let Closed {
+        world,
+        opening: _,
+        journal,
+        settled,
+    } = closed;
+    let told = String::new(*journal.allocator());
+    Left {
+        world,
+        journal,
+        settled,
+        honest: true,
+        nanos: 0,
+        told,
+    }
+}

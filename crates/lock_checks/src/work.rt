@@ -1,0 +1,172 @@
+//! What seats do with the world that they share.
+
+use crate::calls::{Left, Shared, Shut};
+use crate::chance::Hand;
+use crate::refused::{Call, try_call};
+use crate::scene::FIRST;
+use crate::turns::take_turns;
+use crate::worker::Worker;
+use std::alloc::Global;
+use std::sync::Wait;
+use std::thread;
+use std::thread::Threads;
+use std::time::Clock;
+use world_core::{Command, Refusal, Vec2, WorldCore};
+use world_lock::{Opened, Seat, SharedWorld};
+
+/// What the seats of a world do.
+#[derive(Clone, Copy)]
+pub enum Work {
+    /// The first seat makes this call while memory may be refused to it; the others do nothing.
+    Try(Call),
+    /// Two seats take turns on one thread.
+    Turns,
+    /// Each pushes the first body by 1 so many times, on a thread of its own.
+    Push(u64),
+    /// Each makes so many calls by chance, on a thread of its own.
+    Mix { seed: u64, calls: u64 },
+}
+
+/// Pushes the first body so many times.
+fn push_often<T: Drop, S: Shared<T>, R: Wait>(
+    rt: &R,
+    shared: &S,
+    worker: &mut Worker<T>,
+    times: u64,
+) {
+    for _ in 0..times {
+        let push = Command::Push(FIRST, Vec2 { x: 1, y: 0 });
+        if worker.call(rt, shared, push).is_none() {
+            worker.honest = false;
+        }
+    }
+}
+
+/// Makes a call by chance, after a look at the world now and then.
+fn call_by_chance<T: Drop, S: Shared<T>, R: Wait>(
+    rt: &R,
+    alloc: Global,
+    shared: &S,
+    worker: &mut Worker<T>,
+    hand: &mut Hand,
+) {
+    match hand.looks() {
+        Some(true) => worker.look(rt, shared),
+        Some(false) => worker.hear(rt, shared),
+        None => {}
+    }
+    if let Ok(command) = hand.command(alloc) {
+        if let Some(reply) = worker.call(rt, shared, command) {
+            hand.take(reply);
+        }
+    }
+}
+
+fn mix<T: Drop, S: Shared<T>, R: Wait>(
+    rt: &R,
+    alloc: Global,
+    shared: &S,
+    worker: &mut Worker<T>,
+    seed: u64,
+    calls: u64,
+) {
+    let mut hand = Hand::new(seed.wrapping_mul(64).wrapping_add(worker.number));
+    for _ in 0..calls {
+        call_by_chance(rt, alloc, shared, worker, &mut hand);
+    }
+}
+
+/// What one seat does. Answers the seat, and whether it was told what it should be.
+fn work_alone<T: Drop, S: Shared<T>, R: Wait>(
+    rt: &R,
+    alloc: Global,
+    shared: &S,
+    seat: T,
+    work: Work,
+) -> (T, bool) {
+    let number = S::number(&seat);
+    let mut worker = Worker::new(seat, number);
+    match work {
+        Work::Push(times) => push_often(rt, shared, &mut worker, times),
+        Work::Mix { seed, calls } => mix(rt, alloc, shared, &mut worker, seed, calls),
+        _ => {}
+    }
+    worker.into_parts()
+}
+
+/// Takes the seats out of what the threads answered. Answers whether all of them were told what they should be.
+fn gather<T: Drop>(answers: Vec<(T, bool)>, seats: &mut Vec<T>) -> Result<bool, Refusal> {
+    let mut honest = true;
+    for (seat, is_honest) in answers {
+        honest = honest && is_honest;
+        seats.push(seat)?;
+    }
+    Ok(honest)
+}
+
+/// The time since some start, in nanoseconds.
+pub fn now<R: Clock>(rt: &R) -> u128 {
+    match rt.monotonic() {
+        Ok(time) => time.as_nanos(),
+        Err(_) => 0,
+    }
+}
+
+/// Closes a world with all its seats.
+pub fn close<T: Drop, S: Shared<T>>(shared: S, seats: Vec<T>) -> Result<Left<S::World>, Refusal> {
+    match shared.close(seats) {
+        Ok(left) => Ok(left),
+        Err((_, _, refusal)) => Err(refusal),
+    }
+}
+
+/// All seats work at once, each on a thread of its own.
+fn work_at_once<N: Opened + Send + Sync, R: Threads + Wait + Clock + Sync>(
+    rt: &R,
+    alloc: Global,
+    shared: SharedWorld<N>,
+    seats: Vec<Seat<N>>,
+    work: Work,
+) -> Result<Left<WorldCore>, Refusal> {
+    let start = now(rt);
+    let answers = thread::map_vec(
+        rt,
+        seats,
+        &|seat| { work_alone(rt, alloc, &shared, seat, work) },
+    )?;
+    let nanos = now(rt).saturating_sub(start);
+    let mut seats = Vec::new(alloc);
+    let honest = gather(answers, &mut seats)?;
+    let mut left = close(shared, seats)?;
+    left.honest = honest;
+    left.nanos = nanos;
+    Ok(left)
+}
+
+fn work_all<N: Opened + Send + Sync, R: Threads + Wait + Clock + Sync>(
+    rt: &R,
+    alloc: Global,
+    shared: SharedWorld<N>,
+    seats: Vec<Seat<N>>,
+    work: Work,
+) -> Result<Left<WorldCore>, Refusal> {
+    match work {
+        Work::Turns => take_turns(rt, alloc, shared, seats),
+        Work::Try(call) => try_call(rt, alloc, shared, seats, call),
+        _ => work_at_once(rt, alloc, shared, seats, work),
+    }
+}
+
+/// Lets the seats of an open world work, and closes it.
+pub fn let_work<N: Opened + Send + Sync, R: Threads + Wait + Clock + Sync>(
+    rt: &R,
+    alloc: Global,
+    shared: SharedWorld<N>,
+    seats: Vec<Seat<N>>,
+    work: Work,
+) -> Shut<WorldCore> {
+    match work_all(rt, alloc, shared, seats, work) {
+        Ok(left) => Shut::Closed(left),
+        Err(refusal) => Shut::Lost(refusal),
+    }
+}

@@ -1,0 +1,22 @@
+use Rattle.std.proofs.Common.{◌≡◌, refl, sym, subst, arith}
+use Rattle.std.specs.Vec.{vec_capacity}
+use Rattle.sleep_wake.specs.Acting.{Acting, acting, IsSettled}
+use Rattle.sleep_wake.specs.Widened.{widened}
+use Rattle.sleep_wake.proofs.LengthLemmas.{wide_fits, wide_is, wide_settled}
+use Rattle.sleep_wake.proofs.StandLemmas.{stands}
+use Rattle.sleep_wake.proofs.sets.Sets.widen.Goals as goal
+
+pub invariant_of-self : goal.invariant_of-self
+invariant_of-self g c =
+    let a = c.self.inside in
+    let n = g.C.Id.number in
+    let s : Acting g.row.C.Denot = acting a.ties.items a.islands.labels a.colours.lists in
+    let new : Acting g.row.C.Denot = acting a.ties.items c.widen.new.self.labels a.colours.lists in
+    let is : new ≡ widened c.args.slot s = wide_is c.args.slot s c.widen.new.self.labels c.widen.ensures.labels in
+    let below = rw (← c.self.view_is) at c.requires.below in
+    let P : Acting g.row.C.Denot → Type 0 = λ v. IsSettled n v in
+    stands n s new a.room a.slots (record { ties = vec_capacity a.ties; colours = a.colours.room; colour_slots = a.colours.slots; islands = a.islands.room; edges = vec_capacity a.edges; scratch_slots = a.scratch.slots; links = a.scratch.links }) (record { ties = vec_capacity a.ties; colours = a.colours.room; colour_slots = a.colours.slots; islands = c.widen.new.self.room; edges = vec_capacity a.edges; scratch_slots = a.scratch.slots; links = a.scratch.links }) c.self.invariant
+    (subst P (sym is) (wide_settled n c.args.slot s c.self.invariant.settled))
+    c.self.invariant.enough
+    (rw c.widen.ensures.labels (wide_fits a.islands.labels c.args.slot a.slots below c.self.invariant.few))
+    (record { ties = omega arith; colours = refl; colour_slots = refl; islands = c.widen.ensures.room; edges = omega arith; scratch_slots = refl; links = refl })

@@ -1,0 +1,59 @@
+//! The sets from their parts, as a saved world has them.
+
+ghost use Rattle.std.specs.Prelude.{◌≡◌, ◌≤◌, ◌^◌, IfOk, length};
+ghost use Rattle.std.specs.Result.{IsOkUnless};
+ghost use Rattle.graph_colours.specs.Colours.{all_members};
+ghost use Rattle.graph_colours.specs.Given.{members_of};
+ghost use Rattle.sleep_wake.specs.Acting.{acting, IsSettled};
+
+use crate::growing::grow;
+use crate::sets::Sets;
+use fixed_geom::Refusal;
+use graph_colours::{Colours, Id, Member};
+use islands::{Islands, Label, SplitScratch};
+use std::alloc::Global;
+
+impl<C: Id> Sets<C> {
+    /// The sets of these constraints, with the islands of their movers by slot, and the constraints of each colour, those in the overflow last; `count`
+    /// says how many have a colour. There is room for no more of them. Refused 1 where memory is wanting.
+    pub fn from_parts(
+        alloc: Global,
+        ties: &[Member<C>],
+        labels: &[Option<Label>],
+        lists: &[Vec<Member<C>>],
+        count: usize,
+    ) -> Result<Sets<C>, Refusal>
+        requires settled { IsSettled C.number (acting ties.now labels.now (members_of lists.now)) }
+        requires few { length labels.now ≤ 2 ^ 32 }
+        requires count { count ≡ length (all_members (members_of lists.now)) }
+        ensures acting { IfOk result (λ made. made.acting ≡ acting ties.now labels.now (members_of lists.now)) }
+        ensures room { IfOk result (λ made. made.room ≡ length ties.now) }
+        ensures slots { IfOk result (λ made. made.slots ≡ length labels.now) }
+        ensures memory_only { IsOkUnless result Refusal.NoMemory }
+    {
+        let slots = labels.len();
+        let mut kept = Vec::from_slice(alloc, ties)?;
+        let mut colours = Colours::from_lists(alloc, lists, count, slots)?;
+        let mut islands = Islands::from_labels(alloc, labels)?;
+        let mut edges = Vec::new(alloc);
+        let mut scratch = SplitScratch::new(alloc);
+        let room = grow(
+            &mut kept,
+            &mut colours,
+            &mut islands,
+            &mut edges,
+            &mut scratch,
+            0,
+            slots,
+        )?;
+        Ok(Sets {
+            ties: kept,
+            colours,
+            islands,
+            edges,
+            scratch,
+            room,
+            slots,
+        })
+    }
+}

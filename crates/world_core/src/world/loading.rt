@@ -1,0 +1,101 @@
+//! A world that is made of plain lists, and one that is read of a saved world.
+
+ghost use Rattle.std.specs.Prelude.{◌≡◌, ◌≤◌, ◌^◌, IfErr, IfOk, Ok, length};
+ghost use Rattle.std.specs.Result.{IsOkUnless};
+ghost use Rattle.serde_json.specs.View.{view};
+ghost use Rattle.contacts.specs.Constraints.{constraint_number};
+ghost use Rattle.contacts_base.specs.Contacts.{AreContacts};
+ghost use Rattle.plain_world.specs.Slots.{AreMatched};
+ghost use Rattle.sleep_wake.specs.Acting.{IsSettled};
+ghost use Rattle.world_file.specs.Answers.{IsRefusedBy};
+ghost use Rattle.world_file.specs.Files.{read_of};
+ghost use Rattle.world_rules.specs.Sets.{acting_of};
+ghost use Rattle.world_rules.specs.Sound.{IsSound};
+ghost use Rattle.world_rules.specs.Settled.{settled_world};
+
+use super::WorldCore;
+use body_handles::Handles;
+use colour_solver::Rows;
+use contacts::Constraint;
+use contacts_base::Contacts;
+use event_feed::Events;
+use fixed_geom::Refusal;
+use impulse_ledger::{Ledger, Totals};
+use kept_contacts::KeptContacts;
+use plain_world::{JointTable, Plain};
+use serde_json::Value;
+use sleep_wake::Sets;
+use solver_sets::{count_members, list_all_ties, list_members};
+use std::alloc::Global;
+use world_core_base::BodyTable;
+use world_file::{Broken, read};
+
+/// The contacts of a plain world. Refused 1 where memory is wanting.
+fn contacts_of(alloc: Global, plain: &Plain) -> Result<Contacts, Refusal>
+    requires { AreContacts plain.now.contacts }
+    ensures contacts { IfOk result (λ made. made ≡ plain.now.contacts) }
+    ensures memory_only { IsOkUnless result Refusal.NoMemory }
+{
+    Ok(Contacts::from_entries(Vec::from_slice(alloc, plain.contacts())?))
+}
+
+/// The constraints of a plain world, the islands of their movers, and the colours of those that act. Refused 1 where memory is wanting.
+fn sets_of(alloc: Global, plain: &Plain) -> Result<Sets<Constraint>, Refusal>
+    requires settled { IsSettled constraint_number (acting_of plain.now) }
+    requires joints { AreMatched plain.now.joint_places plain.now.joints }
+    requires few { length plain.now.islands ≤ 2 ^ 32 }
+    ensures acting { IfOk result (λ made. made.acting ≡ acting_of plain.now) }
+    ensures memory_only { IsOkUnless result Refusal.NoMemory }
+{
+    let ties = list_all_ties(
+        alloc,
+        plain.bodies(),
+        plain.joint_places(),
+        plain.joints(),
+        plain.contacts(),
+    )?;
+    let lists = list_members(alloc, plain)?;
+    let count = count_members(&lists);
+    Sets::from_parts(alloc, &ties, plain.islands(), &lists, count)
+}
+
+impl WorldCore {
+    /// The world of these plain lists, with these totals in its ledger, all settled; it has no events. Costs by their size. Refused 1 where
+    /// memory is wanting.
+    pub fn from_plain(alloc: Global, plain: &Plain, totals: Totals) -> Result<WorldCore, Refusal>
+        requires sound { IsSound (settled_world plain.now totals) }
+        ensures made { IfOk result (λ made. made ≡ settled_world plain.now totals) }
+        ensures memory_only { IsOkUnless result Refusal.NoMemory }
+    {
+        Ok(WorldCore {
+            handles: Handles::from_places(alloc, plain.places())?,
+            bodies: BodyTable::from_bodies(alloc, plain.bodies())?,
+            joint_handles: Handles::from_places(alloc, plain.joint_places())?,
+            joints: JointTable::from_joints(alloc, plain.joints())?,
+            contacts: KeptContacts::from_contacts(alloc, contacts_of(alloc, plain)?),
+            sets: sets_of(alloc, plain)?,
+            rows: Rows::new(alloc),
+            gravity: plain.gravity(),
+            steps: plain.steps(),
+            calls: plain.calls(),
+            ledger: Ledger::from_totals(alloc, totals),
+            events: Events::new(alloc),
+        })
+    }
+
+    /// The world that a value of version 1 or 2 saves: its plain lists, with the totals of its ledger, all settled; it has no events. The
+    /// first of the clauses that the value breaks is answered, or that memory was wanting.
+    pub fn load(alloc: Global, value: &Value) -> Result<WorldCore, Broken>
+        ensures loaded { IfOk result (λ made. read_of (view value.now) ≡ Ok (made.plain, made.settled)) }
+        ensures settled { IfOk result (λ made. made ≡ settled_world made.plain made.settled) }
+        ensures refused { IfErr result (λ e. IsRefusedBy (read_of (view value.now)) e) }
+    {
+        match read(alloc, value) {
+            Ok((plain, totals)) => match WorldCore::from_plain(alloc, &plain, totals) {
+                Ok(made) => Ok(made),
+                Err(_) => Err(Broken::NoMemory),
+            },
+            Err(broken) => Err(broken),
+        }
+    }
+}

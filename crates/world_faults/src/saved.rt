@@ -1,0 +1,105 @@
+//! Trials of worlds that are saved and loaded, and of regions.
+
+use crate::calls::World;
+use crate::compare::expect;
+use crate::stop::{Moment, Part, Stop};
+use crate::trial::{Outcome, again, met};
+use crate::worlds::Worlds;
+use contacts_base::ShapeId;
+use fixed_geom::{Box2, Vec2};
+use serde_json::Value;
+use std::alloc::Global;
+
+/// A region over all of a scene.
+const ALL_OVER: Box2 = Box2 {
+    lo: Vec2 {
+        x: -(1 << 30),
+        y: -(1 << 30),
+    },
+    hi: Vec2 {
+        x: 1 << 30,
+        y: 1 << 30,
+    },
+};
+
+/// Saves the scene's world.
+pub fn try_save<W: World>(alloc: Global) -> Result<Outcome, Stop> {
+    let worlds: Worlds<W> = Worlds::new(alloc)?;
+    save_twice(&worlds)
+}
+
+fn save_twice<W: World>(worlds: &Worlds<W>) -> Result<Outcome, Stop> {
+    let expected = worlds.reference.saved()?;
+    if is_saved(worlds, &expected)? {
+        return Ok(Outcome::Unmet);
+    }
+    worlds.expect_kept()?;
+    again(is_saved(worlds, &expected)?)
+}
+
+fn is_saved<W: World>(worlds: &Worlds<W>, expected: &Value) -> Result<bool, Stop> {
+    match worlds.world.saved() {
+        Ok(value) => met(expect(Moment::Accepted, Part::Answer, value == *expected)),
+        Err(_) => Ok(false),
+    }
+}
+
+/// Loads the world that the scene's saved.
+pub fn try_load<W: World>(alloc: Global) -> Result<Outcome, Stop> {
+    let worlds: Worlds<W> = Worlds::new(alloc)?;
+    load_twice(alloc, &worlds)
+}
+
+fn load_twice<W: World>(alloc: Global, worlds: &Worlds<W>) -> Result<Outcome, Stop> {
+    let value = worlds.reference.saved()?;
+    if is_loaded::<W>(alloc, &value)? {
+        return Ok(Outcome::Unmet);
+    }
+    worlds.expect_kept()?;
+    again(is_loaded::<W>(alloc, &value)?)
+}
+
+/// Whether the value is loaded. Stops where the loaded world is saved as another value.
+fn is_loaded<W: World>(alloc: Global, value: &Value) -> Result<bool, Stop> {
+    match W::loaded(alloc, value) {
+        Ok(world) => is_saved_as(&world, value),
+        Err(_) => Ok(false),
+    }
+}
+
+fn is_saved_as<W: World>(world: &W, value: &Value) -> Result<bool, Stop> {
+    match world.saved() {
+        Ok(saved) => met(expect(Moment::Accepted, Part::Answer, saved == *value)),
+        Err(refusal) => Err(Stop::from(refusal)),
+    }
+}
+
+/// Asks for the shapes over all of the scene.
+pub fn try_region<W: World>(alloc: Global) -> Result<Outcome, Stop> {
+    let worlds: Worlds<W> = Worlds::new(alloc)?;
+    ask_twice(alloc, &worlds)
+}
+
+fn ask_twice<W: World>(alloc: Global, worlds: &Worlds<W>) -> Result<Outcome, Stop> {
+    let expected = worlds.reference.region(alloc, &ALL_OVER)?;
+    if is_answered(alloc, worlds, &expected)? {
+        return Ok(Outcome::Unmet);
+    }
+    worlds.expect_kept()?;
+    again(is_answered(alloc, worlds, &expected)?)
+}
+
+fn is_answered<W: World>(
+    alloc: Global,
+    worlds: &Worlds<W>,
+    expected: &[ShapeId],
+) -> Result<bool, Stop> {
+    match worlds.world.region(alloc, &ALL_OVER) {
+        Ok(shapes) => met(expect(
+            Moment::Accepted,
+            Part::Answer,
+            shapes.as_slice() == expected,
+        )),
+        Err(_) => Ok(false),
+    }
+}
