@@ -76,23 +76,44 @@ fn a_ledger_has_the_sums_that_it_is_given(rt: HostRuntime) -> Result<(), Fail> {
     Ok(())
 }
 
+/// Adds a mover where there is none yet, after making room for it.
+fn add(islands: &mut Islands, slot: u32) -> Result<(), Refusal> {
+    islands.reserve(slot as usize + 1)?;
+    if islands.label_of(slot).is_some() {
+        return Err(Refusal::OutOfRange);
+    }
+    islands.add(slot);
+    Ok(())
+}
+
+/// Merges the islands of two movers that are there.
+fn merge(islands: &mut Islands, a: u32, b: u32) -> Result<(), Refusal> {
+    if islands.label_of(a).is_none() {
+        return Err(Refusal::OutOfRange);
+    }
+    if islands.label_of(b).is_none() {
+        return Err(Refusal::OutOfRange);
+    }
+    islands.merge(a, b);
+    Ok(())
+}
+
 /// Four movers, of which the first and the last are in one loose island.
 fn an_island_and_two(alloc: Global) -> Result<Islands, Refusal> {
     let mut islands = Islands::new(alloc);
-    islands.reserve(4)?;
     for slot in 0..4 {
-        if islands.label_of(slot).is_some() {
-            return Err(Refusal::OutOfRange);
-        }
-        islands.add(slot);
+        add(&mut islands, slot)?;
     }
-    islands.merge(0, 3);
+    merge(&mut islands, 0, 3)?;
     Ok(islands)
 }
 
 /// The islands made anew of their labels.
 fn made_anew(alloc: Global, islands: &Islands) -> Result<Islands, Refusal> {
     let labels = islands.list_labels()?;
+    if labels.len() > 4 {
+        return Err(Refusal::OutOfRange);
+    }
     let _ = islands.label_of(0);
     Islands::from_labels(alloc, &labels)
 }
