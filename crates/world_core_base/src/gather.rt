@@ -1,36 +1,30 @@
-//! What a step works on: the bodies by slot, and the joints and the touching contacts in solve order, gathered when it begins and
-//! written back when it ends.
+//! What a step works on: the bodies by slot, and the joints and the touching contacts in solve order, gathered when it begins.
 
-ghost use Rattle.std.specs.Prelude.{◌≡◌, ◌<◌, ◌≤◌, ◌≢◌, ◌⊎◌, ◌+◌, ◌++◌, ◌∷◌, ℕ, List, [], All, Option, Some, true, length, map, option_map, slice_get};
-ghost use Rattle.std.specs.Option.{ForSome, option_copied, option_to_list};
-ghost use Rattle.contacts_base.specs.Contacts.{AreKeysRising, number_of};
+ghost use Rattle.std.specs.Prelude.{◌≡◌, ◌<◌, ◌≤◌, ◌≢◌, ◌⊎◌, ◌+◌, ◌++◌, ◌∷◌, [], All, Option, Some, length, map, option_map};
+ghost use Rattle.std.specs.Option.{ForSome, option_to_list};
+ghost use Rattle.contacts_base.specs.Contacts.{AreKeysRising};
 ghost use Rattle.contacts_base.specs.Keys.{key_number};
 ghost use Rattle.momenta.specs.Impulses.{AreStates};
 ghost use Rattle.colour_solver_base.specs.Rows.{AreSurfaces};
 ghost use Rattle.colour_solver.specs.States.{AreAllStates};
 ghost use Rattle.colour_solver.specs.ColourRows.{all_rows};
-ghost use Rattle.colour_solver_base.specs.Rows.{IsRow};
 ghost use Rattle.colour_solver.specs.ConstraintTurns.{AreRowsBelow, IsRowBelow};
 ghost use Rattle.graph_colours.specs.Colours.{all_members};
-ghost use Rattle.plain_world.specs.Bodies.{AreBodies};
 ghost use Rattle.contacts_base.specs.Surfaces.{IsSurface};
-ghost use Rattle.world_core_base.specs.Gather.{AreContactsOf, AreContactsOn, IsContactOn, IsContactRowBelow, HasMovable, bodies_of, ends_at, impulses_of, row_in, row_of, state_of, with_rows};
-ghost use Rattle.world_core_base.specs.ConstraintRows.{HasJointOn, HaveJointsOn, HaveMovable, IsMovable, constraint_row, contacts_among, joints_among, rows_in, rows_of, with_joint_rows};
-ghost use Rattle.plain_world.specs.Joints.{AreJoints};
+ghost use Rattle.world_core_base.specs.Gather.{AreContactsOn, IsContactOn, IsContactRowBelow, HasMovable, bodies_of, ends_at, row_in, row_of, state_of};
+ghost use Rattle.world_core_base.specs.ConstraintRows.{HasJointOn, HaveJointsOn, HaveMovable, IsMovable, constraint_row, rows_in, rows_of};
 ghost use Rattle.world_core_base.specs.Carried.{solver_mass, solver_motion};
 
 use crate::joint_row::joint_row_at;
 use colour_solver::{ConstraintRow, Rows};
-use colour_solver_base::{Bodies, ContactRow, PointRow, contact_row};
+use colour_solver_base::{Bodies, ContactRow, contact_row};
 use contacts::Constraint;
-use contacts_base::{
-    Contact, ContactEntry, ContactKey, Contacts, Impulses, Surface, place_at, seek,
-};
+use contacts_base::{Contact, ContactEntry, ContactKey, Surface, place_at, seek};
 use fixed_geom::{Rot, UNIT, Vec2};
 use graph_colours::{COLOURS, Colours, Member, OVERFLOW};
 use joint_rows::JointRow;
 use momenta::{BodyState, Ends, MassData, Motion, Reciprocals, reciprocals_of};
-use plain_world::{Body, BodyJoint, JointTable};
+use plain_world::{Body, BodyJoint};
 
 /// The mass of a body that is carried along: with it the momentum is the velocity itself, and the angular momentum the spin.
 const CARRIER: MassData = MassData {
@@ -307,59 +301,5 @@ pub fn gather_rows(
     for colour in 0..OVERFLOW + 1 {
         gather_colour(rows, states, joints, contacts, colours.members(colour));
         rows.end_colour();
-    }
-}
-
-/// The impulses of a point's row.
-#[inline(always)]
-fn impulses_of(row: &PointRow) -> Impulses
-    ensures { result ≡ impulses_of row.now }
-{
-    Impulses {
-        normal_impulse: row.normal_impulse,
-        tangent_impulse: row.tangent_impulse,
-    }
-}
-
-/// Those of the second point's row, if there is one.
-#[inline(always)]
-fn second_impulses(row: &Option<PointRow>) -> Option<Impulses>
-    ensures { result ≡ option_map impulses_of row.now }
-{
-    match row {
-        None => None,
-        Some(row) => Some(impulses_of(row)),
-    }
-}
-
-/// Gives the joint or the contact of a row the impulses that the step has left it.
-#[inline(always)]
-fn put_row(joints: &mut JointTable, contacts: &mut Contacts, row: &ConstraintRow)
-    ensures joints { joints.new.joints ≡ with_joint_rows joints.old.joints (joints_among (row.now ∷ [])) }
-    ensures contacts { contacts.new ≡ with_rows contacts.old (contacts_among (row.now ∷ [])) }
-{
-    match row {
-        ConstraintRow::Joint(row) => {
-            joints.set_impulse(row.bodies.index, row.impulse);
-        }
-        ConstraintRow::Contact(row) => {
-            contacts.set_impulses(
-                row.bodies.index,
-                impulses_of(&row.first),
-                second_impulses(&row.second),
-            );
-        }
-    }
-}
-
-/// Gives each joint and each contact the impulses that the step has left it.
-pub fn put_impulses(joints: &mut JointTable, contacts: &mut Contacts, rows: &[ConstraintRow])
-    ensures joints { joints.new.joints ≡ with_joint_rows joints.old.joints (joints_among rows.now) }
-    ensures value { contacts.new ≡ with_rows contacts.old (contacts_among rows.now) }
-    ensures all_joints { (bodies : List (Option Body)) (n : ℕ) → AreRowsBelow n rows.now → AreJoints bodies joints.old.joints → AreJoints bodies joints.new.joints }
-    ensures contacts { (bodies : List (Option Body)) (n : ℕ) → AreRowsBelow n rows.now → AreContactsOf bodies contacts.old → AreContactsOf bodies contacts.new }
-{
-    for row in rows {
-        put_row(joints, contacts, row);
     }
 }

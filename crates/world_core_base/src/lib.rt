@@ -1,7 +1,7 @@
 //! What a step works on.
 //!
 //! The bodies of a world by slot with what a step goes over (`BodyTable`: their states, and the slots of the awake movers and of the bodies that are carried along), and
-//! what a step gathers of joints and contacts (`gather_rows`) and writes back to them (`put_impulses`).
+//! what a step gathers of joints and contacts (`gather_rows`).
 #![tactic(auto)]
 
 mod awake;
@@ -13,6 +13,6 @@ mod table;
 mod telling;
 mod timing;
 
-pub use gather::{gather_rows, put_impulses};
+pub use gather::gather_rows;
 pub use laws::{arrays_are_solving, rows_are_colours};
 pub use table::BodyTable;
