@@ -12,6 +12,7 @@ use contacts_base::ContactKey;
 use fixed_geom::Refusal;
 use std::alloc::Global;
 use std::marker::Model;
+use std::mem;
 
 /// What happened in the last accepted step, each list ascending: the contacts that began and ended, and
 /// the bodies that fell asleep and woke.
@@ -49,6 +50,16 @@ fn ascending_bodies(mut bodies: Vec<Handle>) -> Vec<Handle>
 {
     bodies.sort_unstable();
     bodies
+}
+
+/// Puts a list of bodies, made ascending, in the place of another, which it gets.
+fn exchange(told: &mut Vec<Handle>, bodies: &mut Vec<Handle>)
+    ensures same_items { IsPermutation bodies.old.items told.new.items }
+    ensures ascends { IsSorted handle_cmp told.new.items }
+    ensures kept { IsStrictlyIncreasing (map slot_of bodies.old.items) → told.new.items ≡ bodies.old.items }
+{
+    mem::swap(told, bodies);
+    told.sort_unstable();
 }
 
 impl Events {
@@ -93,6 +104,34 @@ impl Events {
             slept: ascending_bodies(slept),
             woke: ascending_bodies(woke),
         }
+    }
+
+    /// Makes these lists the events in place of those that there are, each made ascending as by [`Events::from_lists`]. The lists of bodies go over with their
+    /// memory, and what is left in their place is the memory of the lists before. It takes no memory.
+    pub fn renew(
+        &mut self,
+        begin: Vec<ContactKey>,
+        end: Vec<ContactKey>,
+        slept: &mut Vec<Handle>,
+        woke: &mut Vec<Handle>,
+    )
+        ensures begin_items { IsPermutation begin.items self.new.begin }
+        ensures begin_ascends { IsNonDecreasingBy key_number self.new.begin }
+        ensures begin_kept { IsStrictlyIncreasing (map key_number begin.items) → self.new.begin ≡ begin.items }
+        ensures end_items { IsPermutation end.items self.new.end }
+        ensures end_ascends { IsNonDecreasingBy key_number self.new.end }
+        ensures end_kept { IsStrictlyIncreasing (map key_number end.items) → self.new.end ≡ end.items }
+        ensures slept_items { IsPermutation slept.old.items self.new.slept }
+        ensures slept_ascends { IsSorted handle_cmp self.new.slept }
+        ensures slept_kept { IsStrictlyIncreasing (map slot_of slept.old.items) → self.new.slept ≡ slept.old.items }
+        ensures woke_items { IsPermutation woke.old.items self.new.woke }
+        ensures woke_ascends { IsSorted handle_cmp self.new.woke }
+        ensures woke_kept { IsStrictlyIncreasing (map slot_of woke.old.items) → self.new.woke ≡ woke.old.items }
+    {
+        self.begin = ascending_contacts(begin);
+        self.end = ascending_contacts(end);
+        exchange(&mut self.slept, slept);
+        exchange(&mut self.woke, woke);
     }
 
     /// The contacts that began, ascending.

@@ -22,15 +22,16 @@ colouring_of_none {C} number =
       once = λ n. omega arith;
     }
 
-pub graph_of_none : {C : Type 0} (number : C → ℕ) (colours : List (Bucket C)) (overflow : List (Member C)) (capacity : ℕ) → map members_in colours ≡ replicate COLOURS [] → overflow ≡ [] → IsGraph number colours overflow capacity 0 0 0
+pub graph_of_none : {C : Type 0} (number : C → ℕ) (colours : List (Bucket C)) (overflow : List (Member C)) (capacity : ℕ) → map members_in colours ≡ replicate COLOURS [] → overflow ≡ [] → IsGraph number colours overflow capacity (record { count = 0; total = 0; slots = 0 })
 graph_of_none {C} number colours overflow capacity none no_overflow =
     let lists : List (List (Member C)) → List (Member C) → List (List (Member C)) = λ ls o. ls ++ o ∷ [] in
     let e : lists_of colours overflow ≡ replicate (COLOURS + 1) [] = ap (λ ls. lists ls overflow) none ∙ ap (λ o. lists (replicate COLOURS []) o) no_overflow in
     let P : List (List (Member C)) → Type 0 = λ l. IsColouring number l in
     record {
       colouring = subst P (sym e) (colouring_of_none number);
-      count = sym (length-map colours members_in) ∙ ap length none;
-      size = sym (ap (λ (ls : List (List (Member C))). length (all_members ls)) e);
+      colours_count = sym (length-map colours members_in) ∙ ap length none;
+      few = omega arith;
+      members = sym (ap (λ (ls : List (List (Member C))). length (all_members ls)) e);
       rooms = λ k d lt. record { enough = omega arith; below = omega arith };
       overflow_room = omega arith;
     }

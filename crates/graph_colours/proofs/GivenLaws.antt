@@ -72,16 +72,17 @@ lists_given {C} colours overflow lists count same last =
     let both : List (List (Member C)) → List (Member C) → List (List (Member C)) = λ ls o. ls ++ o ∷ [] in
     ap (λ ls. both ls overflow) same ∙ ap (λ o. both (take COLOURS lists) o) last ∙ split_last COLOURS lists [] count
 
-pub graph_given : {C : Type 0} (number : C → ℕ) (colours : List (Bucket C)) (overflow : List (Member C)) (lists : List (List (Member C))) (capacity count slots : ℕ) → IsColouring number lists → lists_of colours overflow ≡ lists → count ≡ length (all_members lists) → All (HasRoom count slots) colours → count ≤ capacity → IsGraph number colours overflow capacity count 0 slots
+pub graph_given : {C : Type 0} (number : C → ℕ) (colours : List (Bucket C)) (overflow : List (Member C)) (lists : List (List (Member C))) (capacity count slots : ℕ) → IsColouring number lists → lists_of colours overflow ≡ lists → count ≡ length (all_members lists) → All (HasRoom count slots) colours → count ≤ capacity → IsGraph number colours overflow capacity (record { count = count; total = count; slots = slots })
 graph_given {C} number colours overflow lists capacity count slots colouring same size rooms room =
     let P : List (List (Member C)) → Type 0 = λ l. IsColouring number l in
     record {
       colouring = subst P (sym same) colouring;
-      count = let long : length (lists_of colours overflow) ≡ length colours + 1 = length_from colours overflow in
+      colours_count = let long : length (lists_of colours overflow) ≡ length colours + 1 = length_from colours overflow in
           let all : length (lists_of colours overflow) ≡ COLOURS + 1 = ap (λ (ls : List (List (Member C))). length ls) same ∙ colouring.count in omega (arith, long, all);
-      size = size ∙ sym (ap (λ (ls : List (List (Member C))). length (all_members ls)) same);
-      rooms = let R : ℕ → Type 0 = λ n. All (HasRoom n slots) colours in subst R (let none : count ≡ 0 + count = omega arith in none) rooms;
-      overflow_room = omega (arith, room);
+      few = omega arith;
+      members = size ∙ sym (ap (λ (ls : List (List (Member C))). length (all_members ls)) same);
+      rooms = rooms;
+      overflow_room = room;
     }
 
 -- ---- what is known of a list of a vector

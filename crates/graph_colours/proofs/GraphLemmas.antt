@@ -4,6 +4,7 @@ use Rattle.std.specs.List.{All, position_or_len}
 use Rattle.std.proofs.lemmas.List.{length-map, length-set, get_or-take}
 use Rattle.std.proofs.lemmas.List.Elements.{All-nil, All-head, All-tail, All-cons}
 use Rattle.std.proofs.lemmas.List.Folds.{position_or_len_push}
+use Rattle.graph_colours.specs.declared.colours.Size.{Size}
 use Rattle.graph_colours.specs.declared.limits.TheConstants.{COLOURS}
 use Rattle.graph_colours.specs.declared.member.Member.{Member}
 use Rattle.graph_colours.specs.Members.{AreRising, AreApart, is_free, has_id, inserted, without}
@@ -22,26 +23,27 @@ lists_right P [] overflow each = All-head P overflow [] each
 lists_right P (b ∷ bs) overflow each = lists_right P bs overflow (All-tail P b.members (lists_of bs overflow) each)
 
 -- a graph of the same lists
-pub graph_same : {C : Type 0} (number : C → ℕ) (bs cs : List (Bucket C)) (overflow over : List (Member C)) (capacity count room slots left more below : ℕ) → IsGraph number bs overflow capacity count room slots → map members_in cs ≡ map members_in bs → over ≡ overflow → All (HasRoom (more + count) below) cs → more + count ≤ left → IsGraph number cs over left count more below
-graph_same {C} number bs cs overflow over capacity count room slots left more below graph same is rooms le =
+pub graph_same : {C : Type 0} (number : C → ℕ) (bs cs : List (Bucket C)) (overflow over : List (Member C)) (capacity left : ℕ) (size other : Size) → IsGraph number bs overflow capacity size → map members_in cs ≡ map members_in bs → over ≡ overflow → other.count ≡ size.count → other.count ≤ other.total → All (HasRoom other.total other.slots) cs → other.total ≤ left → IsGraph number cs over left other
+graph_same {C} number bs cs overflow over capacity left size other graph same is count few rooms le =
     let lists : List (List (Member C)) → List (Member C) → List (List (Member C)) = λ ls o. ls ++ o ∷ [] in
     let e : lists_of cs over ≡ lists_of bs overflow = ap (λ ls. lists ls over) same ∙ ap (λ o. lists (map members_in bs) o) is in
     let P : List (List (Member C)) → Type 0 = λ l. IsColouring number l in
     record {
       colouring = subst P (sym e) graph.colouring;
-      count = sym (length-map cs members_in) ∙ ap length same ∙ length-map bs members_in ∙ graph.count;
-      size = graph.size ∙ sym (ap (λ (ls : List (List (Member C))). length (all_members ls)) e);
+      colours_count = sym (length-map cs members_in) ∙ ap length same ∙ length-map bs members_in ∙ graph.colours_count;
+      members = count ∙ graph.members ∙ sym (ap (λ (ls : List (List (Member C))). length (all_members ls)) e);
+      few = few;
       rooms = rooms;
       overflow_room = le;
     }
 
 -- room for the greater of two numbers
-pub rooms_both : {C : Type 0} (a b s t n : ℕ) (bs : List (Bucket C)) → All (HasRoom (a + n) s) bs → All (HasRoom (b + n) t) bs → All (HasRoom (max a b + n) (max s t)) bs
-rooms_both {C} a b s t n bs first second k d lt =
-    let x : HasRoom (a + n) s (get_or bs k d) = first k d lt in
-    let y : HasRoom (b + n) t (get_or bs k d) = second k d lt in
+pub rooms_both : {C : Type 0} (a b s t : ℕ) (bs : List (Bucket C)) → All (HasRoom a s) bs → All (HasRoom b t) bs → All (HasRoom (max a b) (max s t)) bs
+rooms_both {C} a b s t bs first second k d lt =
+    let x : HasRoom a s (get_or bs k d) = first k d lt in
+    let y : HasRoom b t (get_or bs k d) = second k d lt in
     record {
-      enough = let p : a + n ≤ (get_or bs k d).capacity = x.enough in let q : b + n ≤ (get_or bs k d).capacity = y.enough in omega arith;
+      enough = let p : a ≤ (get_or bs k d).capacity = x.enough in let q : b ≤ (get_or bs k d).capacity = y.enough in omega arith;
       below = let p : s ≤ (get_or bs k d).slots = x.below in let q : t ≤ (get_or bs k d).slots = y.below in omega arith;
     }
 

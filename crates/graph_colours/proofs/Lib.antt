@@ -11,3 +11,5 @@ pub mod SizeLemmas
 pub mod EmptyLemmas
 pub mod GraphLemmas
 pub mod GivenLaws
+pub mod EditLemmas
+pub mod PlanLemmas

@@ -8,9 +8,11 @@ use Rattle.graph_colours.specs.declared.member.Movers.{Movers}
 use Rattle.graph_colours.specs.declared.member.Member.{Member}
 use Rattle.graph_colours.specs.Movers.{AreBelow, has_mover, has_second, shares}
 use Rattle.graph_colours.specs.Members.{AreRising, AreApart, is_free, has_id, inserted, without, movers_of}
-use Rattle.graph_colours.specs.Marks.{set_marks, is_marked_second, is_marked, AreMarks, IsKept}
+use Rattle.graph_colours.specs.Marks.{set_marks, is_marked_second, is_marked, second_has_mark, are_marked, may_have, AreMarks, IsKept}
+use Rattle.graph_colours.specs.Recolouring.{AreOwn}
 use Rattle.graph_colours.proofs.Cases.{or_pairs, or_false, not_false, true_or_false, not_true_then}
-use Rattle.graph_colours.proofs.PlaceLemmas.{not_same, is_same, without_none}
+use Rattle.std.proofs.lemmas.List.Elements.{All-head, All-tail}
+use Rattle.graph_colours.proofs.PlaceLemmas.{not_same, is_same, same_from, without_none}
 use Rattle.graph_colours.proofs.MoverLemmas.{unshared}
 use Rattle.graph_colours.proofs.ListLemmas.{any_false, any_inserted, rising_inserted, apart_inserted, rising_without, apart_without, pairs_head, pairs_tail}
 
@@ -172,3 +174,33 @@ resized [] (suc n) j k le = none_beyond j k
 resized (u ∷ us) zero j k le = absurd (omega arith)
 resized (u ∷ us) (suc n) j zero le = refl
 resized (u ∷ us) (suc n) j (suc k) le = resized us n j k (omega arith)
+
+-- ---- what the marks tell of an id
+
+-- one that has the id has these movers
+any_own : {C : Type 0} (number : C → ℕ) (id : C) (p : Movers → Bool) (ms : List (Member C)) (v : Movers) → has_id number id ms ≡ true → AreOwn number id (Some v) ms → p v ≡ true → list_any (λ m. p m.movers) ms ≡ true
+unfolding has_id
+any_own number id p [] v has own h = absurd (true_or_false false has refl)
+any_own {C} number id p (x ∷ xs) v has own h =
+    let P : Member C → Type 0 = λ m. number m.id ≡ number id → m.movers ≡ v in
+    let here : number x.id ≡ number id → list_any (λ m. p m.movers) (x ∷ xs) ≡ true = λ q. let same : p x.movers ≡ true = ap p (own 0 x (omega arith) q) ∙ h in rw same refl in
+    let there : (number x.id ≡ number id → ⊥) → list_any (λ m. p m.movers) (x ∷ xs) ≡ true = λ off.
+    let rest : list_any (λ m. number m.id == number id) xs ≡ true = rw (not_same (number x.id) (number id) off) at has in
+    let later : list_any (λ m. p m.movers) xs ≡ true = any_own number id p xs v rest (λ k d lt. own (suc k) d (omega arith)) h in
+    ap (λ t. p x.movers || t) later ∙ or_true (p x.movers) in
+    elim (cases_eq (number x.id) (number id)) [ inl q ↦ here q | inr off ↦ there off ]
+
+marked_own : {C : Type 0} (number : C → ℕ) (id : C) (ms : List (Member C)) (used : List Bool) (first : ℕ) (second : Option ℕ) → AreMarks ms used → has_id number id ms ≡ true → let v : Movers = record { first = first; second = second } in AreOwn number id (Some v) ms → are_marked used v ≡ true
+marked_own number id ms used first None marks has own =
+    let v : Movers = record { first = first; second = None } in
+    let at : list_any (λ m. has_mover m.movers first) ms ≡ true = any_own number id (λ o. has_mover o first) ms v has own (ap (λ t. t || false) (has_itself first)) in
+    ap (λ t. t && true) (marks first ∙ at)
+marked_own number id ms used first (Some s) marks has own =
+    let v : Movers = record { first = first; second = Some s } in
+    let at : list_any (λ m. has_mover m.movers first) ms ≡ true = any_own number id (λ o. has_mover o first) ms v has own (ap (λ t. t || (s == first)) (has_itself first)) in
+    let by : list_any (λ m. has_mover m.movers s) ms ≡ true = any_own number id (λ o. has_mover o s) ms v has own (ap (λ t. (first == s) || t) (has_itself s) ∙ or_true (first == s)) in
+    rw (marks first ∙ at, marks s ∙ by) refl
+
+pub not_had : {C : Type 0} (number : C → ℕ) (id : C) (ms : List (Member C)) (used : List Bool) (o : Option Movers) → AreMarks ms used → may_have used o ≡ false → AreOwn number id o ms → has_id number id ms ≡ false
+not_had number id ms used None marks off own = absurd (true_or_false true refl off)
+not_had number id ms used (Some v) marks off own = not_true_then (has_id number id ms) (λ has. true_or_false (are_marked used v) (marked_own number id ms used v.first v.second marks has own) off)

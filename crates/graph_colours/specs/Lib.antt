@@ -1,5 +1,7 @@
 pub mod Movers
 pub mod Members
 pub mod Colours
+pub mod Edits
 pub mod Marks
 pub mod Given
+pub mod Recolouring

@@ -34,3 +34,8 @@ without number id ms = filter (λ m. not (number m.id == number id)) ms
 abbrev pub movers_of : {C : Type 0} → (C → ℕ) → C → List (Member C) → Option Movers
 movers_of number id [] = None
 movers_of number id (x ∷ xs) = cond (number x.id == number id) (Some x.movers) (movers_of number id xs)
+
+-- the first member has the number
+abbrev pub is_at : {C : Type 0} → (C → ℕ) → ℕ → List (Member C) → Bool
+is_at number n [] = false
+is_at number n (x ∷ xs) = number x.id == n

@@ -6,8 +6,10 @@ ghost use Rattle.std.specs.Prelude.{◌≡◌, ◌<◌, ◌≤◌, true, false, 
 ghost use Rattle.std.specs.Result.{IsOkUnless};
 ghost use Rattle.graph_colours.specs.Movers.{AreBelow};
 ghost use Rattle.graph_colours.specs.Members.{is_free, has_id, inserted, without};
+ghost use Rattle.graph_colours.specs.Recolouring.{AreOwn};
 
-use crate::marks::{is_marked, set_marks};
+use crate::edited::EditedList;
+use crate::marks::{is_marked, may_have, set_marks};
 use crate::{Id, Member, Movers, member};
 use fixed_geom::Refusal;
 use std::alloc::Global;
@@ -17,17 +19,17 @@ use std::marker::Model;
 /// there.
 #[derive(Drop)]
 pub struct Colour<C: Id> {
-    members: Vec<Member<C>>,
+    members: EditedList<C>,
     used: Vec<bool>,
 }
 
 impl<C: Id> Model for Colour<C> {
-    ghost use Rattle.std.specs.Prelude.{length, vec_capacity};
+    ghost use Rattle.std.specs.Prelude.{length};
     ghost use Rattle.graph_colours.specs.Marks.{Bucket, IsKept};
 
     ghost Value = { Bucket C };
 
-    ghost view = { λ a. record { members = a.members.items; capacity = vec_capacity a.members; slots = length a.used.items } };
+    ghost view = { λ a. record { members = a.members.items; capacity = a.members.capacity; pending = a.members.pending; slots = length a.used.items } };
 
     ghost invariant = { λ a. IsKept C.number a.members.items a.used.items };
 }
@@ -35,23 +37,25 @@ impl<C: Id> Model for Colour<C> {
 impl<C: Id> Colour<C> {
     /// No members.
     pub(crate) fn new(alloc: Global) -> Colour<C>
-        ensures { result.members ≡ [] }
+        ensures members { result.members ≡ [] }
+        ensures pending { result.pending ≡ 0 }
     {
         Colour {
-            members: Vec::new(alloc),
+            members: EditedList::new(alloc),
             used: Vec::new(alloc),
         }
     }
 
     /// A copy of its own, with no promise on room. Refused 1 where memory is wanting.
-    pub(crate) fn try_copy(&self) -> Result<Colour<C>, Refusal>
+    pub(crate) fn try_copy(&self, alloc: Global) -> Result<Colour<C>, Refusal>
+        requires { self.now.pending ≡ 0 }
         ensures members { IfOk result (λ copied. copied.members ≡ self.now.members) }
         ensures slots { IfOk result (λ copied. copied.slots ≡ self.now.slots) }
+        ensures pending { IfOk result (λ copied. copied.pending ≡ 0) }
         ensures memory_only { IsOkUnless result Refusal.NoMemory }
     {
-        let alloc = *self.members.allocator();
         Ok(Colour {
-            members: Vec::from_slice(alloc, self.members.as_slice())?,
+            members: EditedList::from_members(alloc, self.members.as_slice())?,
             used: Vec::from_slice(alloc, self.used.as_slice())?,
         })
     }
@@ -62,12 +66,12 @@ impl<C: Id> Colour<C> {
         ensures room_made { OnOk result (constraints ≤ self.new.capacity) }
         ensures slots_made { OnOk result (slots ≤ self.new.slots) }
         ensures members { self.new.members ≡ self.old.members }
+        ensures pending { self.new.pending ≡ self.old.pending }
         ensures capacity { self.old.capacity ≤ self.new.capacity }
         ensures slots { self.old.slots ≤ self.new.slots }
         ensures memory_only { IsOkUnless result Refusal.NoMemory }
     {
-        let more = constraints.max(self.members.len()) - self.members.len();
-        self.members.reserve(more)?;
+        self.members.reserve(constraints)?;
         self.used.resize(slots.max(self.used.len()), false)?;
         Ok(())
     }
@@ -82,13 +86,14 @@ impl<C: Id> Colour<C> {
 
     /// Whether a member has the id.
     pub(crate) fn has_id(&self, id: C) -> bool
+        requires { self.now.pending ≡ 0 }
         ensures { result ≡ has_id C.number id self.now.members }
     {
-        member::has_id(&self.members, id)
+        member::has_id(self.members.as_slice(), id)
     }
 
     /// Adds a member that shares no mover with the others, and for which there is room.
-    pub(crate) fn insert(&mut self, member: Member<C>)
+    pub(crate) fn insert(&mut self, member: Member<C>, spare: &mut Vec<Member<C>>)
         requires free { is_free self.old.members member.movers ≡ true }
         requires absent { has_id C.number member.id self.old.members ≡ false }
         requires below { AreBelow self.old.slots member.movers }
@@ -97,26 +102,47 @@ impl<C: Id> Colour<C> {
         ensures capacity { self.old.capacity ≤ self.new.capacity }
         ensures slots { self.new.slots ≡ self.old.slots }
     {
-        member::insert(&mut self.members, member);
+        self.members.insert(member, spare);
         set_marks(&mut self.used, member.movers, true);
     }
 
-    /// Takes out the member that has the id, and answers whether there was one.
-    pub(crate) fn remove(&mut self, id: C) -> bool
+    /// Takes out the member that has the id, and answers whether there was one. Where its movers are told, their marks are
+    /// looked at first.
+    pub(crate) fn remove(
+        &mut self,
+        id: C,
+        movers: Option<Movers>,
+        spare: &mut Vec<Member<C>>,
+    ) -> bool
+        requires { AreOwn C.number id movers self.old.members }
         ensures value { result ≡ has_id C.number id self.old.members }
         ensures members { self.new.members ≡ without C.number id self.old.members }
         ensures capacity { self.old.capacity ≤ self.new.capacity }
         ensures slots { self.new.slots ≡ self.old.slots }
     {
-        let Some(movers) = member::remove(&mut self.members, id) else {
+        if !may_have(&self.used, movers) {
+            return false;
+        }
+        let Some(movers) = self.members.remove(id, spare) else {
             return false;
         };
         set_marks(&mut self.used, movers, false);
         true
     }
 
+    /// Makes the edits that were put off.
+    pub(crate) fn settle(&mut self, spare: &mut Vec<Member<C>>)
+        ensures members { self.new.members ≡ self.old.members }
+        ensures pending { self.new.pending ≡ 0 }
+        ensures capacity { self.old.capacity ≤ self.new.capacity }
+        ensures slots { self.new.slots ≡ self.old.slots }
+    {
+        self.members.settle(spare);
+    }
+
     /// The members, ascending by id.
     pub(crate) fn members(&self) -> &[Member<C>]
+        requires { self.now.pending ≡ 0 }
         ensures { result.now ≡ self.now.members }
     {
         self.members.as_slice()

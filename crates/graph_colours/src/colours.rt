@@ -6,12 +6,17 @@ ghost use Rattle.std.specs.Prelude.{◌≡◌, ◌≢◌, ◌<◌, ◌≤◌, �
 ghost use Rattle.std.specs.Result.{IsOkUnless};
 ghost use Rattle.std.specs.List.{position_or_len, count_by};
 ghost use Rattle.std.specs.List.Sorted.{IsPermutation};
+ghost use Rattle.graph_colours.specs.declared.limits.TheConstants.{COLOURS};
+ghost use Rattle.graph_colours.specs.declared.colours.Size.{Size as TheSize};
 ghost use Rattle.graph_colours.specs.Movers.{AreBelow};
 ghost use Rattle.graph_colours.specs.Members.{AreRising, AreApart, is_free, has_id, inserted, without};
-ghost use Rattle.graph_colours.specs.Marks.{HasRoom, members_in, lists_of};
+ghost use Rattle.graph_colours.specs.Marks.{HasRoom, members_in, lists_of, IsGraph, AreAtRest};
+ghost use Rattle.graph_colours.specs.Recolouring.{AreOwn, IsRecolouring, CanRecolour, recoloured, all_recoloured};
 ghost use Rattle.graph_colours.specs.Colours.{list_at, all_members, least_colour, placed, released, colour_of, IsColouring};
 
 use crate::colour::Colour;
+use crate::edited::EditedList;
+use crate::edits::Edit;
 use crate::limits::{COLOURS, OVERFLOW};
 use crate::{Id, Member, Movers, member};
 use fixed_geom::Refusal;
@@ -24,28 +29,36 @@ use std::marker::Model;
 #[derive(Drop)]
 pub struct Colours<C: Id> {
     colours: Vec<Colour<C>>,
-    overflow: Vec<Member<C>>,
-    // How many constraints there are; and for how many more, and below which slot, each list has room.
+    overflow: EditedList<C>,
+    // Where the members of a list lie while it is edited.
+    spare: Vec<Member<C>>,
+    size: Size,
+}
+
+/// How many constraints there are, for how many in all each list has room, and the bound below which their movers' slots are.
+#[derive(Clone, Copy)]
+struct Size {
     count: usize,
-    room: usize,
+    total: usize,
     slots: usize,
 }
 
 impl<C: Id> Model for Colours<C> {
-    ghost use Rattle.std.specs.Prelude.{vec_capacity};
+    ghost use Rattle.std.specs.Prelude.{◌-◌};
     ghost use Rattle.graph_colours.specs.Colours.{Coloured};
-    ghost use Rattle.graph_colours.specs.Marks.{lists_of, IsGraph};
+    ghost use Rattle.graph_colours.specs.Marks.{lists_of, IsRestingGraph};
 
     ghost Value = { Coloured C };
 
-    ghost view = { λ a. record { lists = lists_of a.colours.items a.overflow.items; room = a.room; slots = a.slots } };
+    ghost view = { λ a. record { lists = lists_of a.colours.items a.overflow.items; room = a.size.total - a.size.count; slots = a.size.slots } };
 
-    ghost invariant = { λ a. IsGraph C.number a.colours.items a.overflow.items (vec_capacity a.overflow) a.count a.room a.slots };
+    ghost invariant = { λ a. IsRestingGraph C.number a.colours.items a.overflow.items a.overflow.capacity a.overflow.pending a.size };
 }
 
 /// As many colours as there are, with no members. Refused 1 where memory is wanting.
 fn no_colours<C: Id>(alloc: Global) -> Result<Vec<Colour<C>>, Refusal>
     ensures lists { IfOk result (λ colours. map members_in colours.items ≡ replicate COLOURS []) }
+    ensures rest { IfOk result (λ colours. All (λ b. b.pending ≡ 0) colours.items) }
     ensures memory_only { IsOkUnless result Refusal.NoMemory }
 {
     let mut colours = Vec::new(alloc);
@@ -57,12 +70,14 @@ fn no_colours<C: Id>(alloc: Global) -> Result<Vec<Colour<C>>, Refusal>
 
 /// Copies of the colours. Refused 1 where memory is wanting.
 fn copies<C: Id>(alloc: Global, colours: &[Colour<C>]) -> Result<Vec<Colour<C>>, Refusal>
+    requires { All (λ b. b.pending ≡ 0) colours.now }
     ensures lists { IfOk result (λ copied. map members_in copied.items ≡ map members_in colours.now) }
+    ensures rest { IfOk result (λ copied. All (λ b. b.pending ≡ 0) copied.items) }
     ensures memory_only { IsOkUnless result Refusal.NoMemory }
 {
     let mut copied = Vec::new(alloc);
-    for colour in colours {
-        copied.push(colour.try_copy()?)?;
+    for place in 0..colours.len() {
+        copied.push(colours[place].try_copy(alloc)?)?;
     }
     Ok(copied)
 }
@@ -76,6 +91,7 @@ fn reserve_all<C: Id>(
     ensures made { OnOk result (All (HasRoom constraints slots) colours.new.items) }
     ensures kept { (room below : ℕ) → All (HasRoom room below) colours.old.items → All (HasRoom room below) colours.new.items }
     ensures lists { map members_in colours.new.items ≡ map members_in colours.old.items }
+    ensures rest { All (λ b. b.pending ≡ 0) colours.old.items → All (λ b. b.pending ≡ 0) colours.new.items }
     ensures memory_only { IsOkUnless result Refusal.NoMemory }
 {
     for place in 0..colours.len() {
@@ -87,7 +103,7 @@ fn reserve_all<C: Id>(
 /// Makes room in each colour and in the overflow for that many members in all. Refused 1 where memory is wanting.
 fn reserve_lists<C: Id>(
     colours: &mut Vec<Colour<C>>,
-    overflow: &mut Vec<Member<C>>,
+    overflow: &mut EditedList<C>,
     constraints: usize,
     slots: usize,
 ) -> Result<(), Refusal>
@@ -95,12 +111,13 @@ fn reserve_lists<C: Id>(
     ensures kept { (room below : ℕ) → All (HasRoom room below) colours.old.items → All (HasRoom room below) colours.new.items }
     ensures lists { map members_in colours.new.items ≡ map members_in colours.old.items }
     ensures overflow { overflow.new.items ≡ overflow.old.items }
-    ensures overflow_made { OnOk result (constraints ≤ vec_capacity overflow.new) }
-    ensures capacity { vec_capacity overflow.old ≤ vec_capacity overflow.new }
+    ensures overflow_made { OnOk result (constraints ≤ overflow.new.capacity) }
+    ensures capacity { overflow.old.capacity ≤ overflow.new.capacity }
+    ensures rest { AreAtRest colours.old.items overflow.old.pending → AreAtRest colours.new.items overflow.new.pending }
     ensures memory_only { IsOkUnless result Refusal.NoMemory }
 {
     reserve_all(colours, constraints, slots)?;
-    overflow.reserve(constraints.max(overflow.len()) - overflow.len())?;
+    overflow.reserve(constraints)?;
     Ok(())
 }
 
@@ -119,6 +136,7 @@ fn first_free<C: Id>(colours: &[Colour<C>], movers: Movers) -> usize
 
 /// The place of the first colour that has the id, or their number.
 fn first_with<C: Id>(colours: &[Colour<C>], id: C) -> usize
+    requires { All (λ b. b.pending ≡ 0) colours.now }
     ensures { result ≡ position_or_len (λ colour. has_id C.number id colour.members) colours.now }
 {
     for (place, colour) in colours.iter().enumerate() {
@@ -133,22 +151,24 @@ fn first_with<C: Id>(colours: &[Colour<C>], id: C) -> usize
 /// how many members went.
 fn remove_from_first<C: Id>(
     colours: &mut Vec<Colour<C>>,
-    overflow: &mut Vec<Member<C>>,
+    overflow: &mut EditedList<C>,
     id: C,
+    movers: Option<Movers>,
+    spare: &mut Vec<Member<C>>,
 ) -> usize
-    requires { IsColouring C.number (lists_of colours.old.items overflow.old.items) }
+    requires colouring { IsColouring C.number (lists_of colours.old.items overflow.old.items) }
+    requires own { AreOwn C.number id movers (all_members (lists_of colours.old.items overflow.old.items)) }
     ensures gone { result ≡ count_by (λ m. C.number m.id == C.number id) (all_members (lists_of colours.old.items overflow.old.items)) }
     ensures lists { lists_of colours.new.items overflow.new.items ≡ released C.number id (lists_of colours.old.items overflow.old.items) }
     ensures kept { (room below : ℕ) → All (HasRoom room below) colours.old.items → All (HasRoom room below) colours.new.items }
-    ensures len { vec_len overflow.new ≤ vec_len overflow.old }
-    ensures capacity { vec_capacity overflow.new ≡ vec_capacity overflow.old }
+    ensures capacity { overflow.old.capacity ≤ overflow.new.capacity }
 {
     for colour in 0..colours.len() {
-        if colours[colour].remove(id) {
+        if colours[colour].remove(id, movers, spare) {
             return 1;
         }
     }
-    match member::remove(overflow, id) {
+    match overflow.remove(id, spare) {
         Some(_) => 1,
         None => 0,
     }
@@ -157,26 +177,152 @@ fn remove_from_first<C: Id>(
 /// Adds a member to the colour at this place, or to the overflow where there is none.
 fn put<C: Id>(
     colours: &mut Vec<Colour<C>>,
-    overflow: &mut Vec<Member<C>>,
+    overflow: &mut EditedList<C>,
     place: usize,
     member: Member<C>,
+    spare: &mut Vec<Member<C>>,
 )
     requires place { place ≡ position_or_len (λ colour. is_free colour.members member.movers) colours.old.items }
     requires absent { All (λ colour. has_id C.number member.id colour.members ≡ false) colours.old.items }
-    requires rising { AreRising C.number overflow.old.items }
+    requires absent_overflow { has_id C.number member.id overflow.old.items ≡ false }
     requires below { All (λ colour. AreBelow colour.slots member.movers) colours.old.items }
     requires room { All (λ colour. length colour.members < colour.capacity) colours.old.items }
-    requires overflow_room { vec_len overflow.old < vec_capacity overflow.old }
+    requires overflow_room { length overflow.old.items < overflow.old.capacity }
     ensures lists { lists_of colours.new.items overflow.new.items ≡ slice_set (lists_of colours.old.items overflow.old.items) place (inserted C.number member (list_at (lists_of colours.old.items overflow.old.items) place)) }
     ensures kept { (room below : ℕ) → All (HasRoom room below) colours.old.items → All (HasRoom room below) colours.new.items }
-    ensures len { vec_len overflow.new ≤ vec_len overflow.old + 1 }
-    ensures capacity { vec_capacity overflow.old ≤ vec_capacity overflow.new }
+    ensures capacity { overflow.old.capacity ≤ overflow.new.capacity }
 {
     if place < colours.len() {
-        colours[place].insert(member);
+        colours[place].insert(member, spare);
     } else {
-        member::insert(overflow, member);
+        overflow.insert(member, spare);
     }
+}
+
+/// Makes the edits of all colours that were put off.
+fn settle_all<C: Id>(colours: &mut Vec<Colour<C>>, spare: &mut Vec<Member<C>>)
+    ensures lists { map members_in colours.new.items ≡ map members_in colours.old.items }
+    ensures kept { (room below : ℕ) → All (HasRoom room below) colours.old.items → All (HasRoom room below) colours.new.items }
+    ensures rest { All (λ b. b.pending ≡ 0) colours.new.items }
+{
+    for place in 0..colours.len() {
+        colours[place].settle(spare);
+    }
+}
+
+/// Makes the edits of all lists that were put off.
+fn settle_lists<C: Id>(
+    colours: &mut Vec<Colour<C>>,
+    overflow: &mut EditedList<C>,
+    spare: &mut Vec<Member<C>>,
+)
+    ensures lists { lists_of colours.new.items overflow.new.items ≡ lists_of colours.old.items overflow.old.items }
+    ensures graph { (size : TheSize) → IsGraph C.number colours.old.items overflow.old.items overflow.old.capacity size → IsGraph C.number colours.new.items overflow.new.items overflow.new.capacity size }
+    ensures rest { AreAtRest colours.new.items overflow.new.pending }
+{
+    settle_all(colours, spare);
+    overflow.settle(spare);
+}
+
+/// The constraint takes the least colour that is free, and answers its place.
+fn place_in<C: Id>(
+    colours: &mut Vec<Colour<C>>,
+    overflow: &mut EditedList<C>,
+    size: Size,
+    member: Member<C>,
+    spare: &mut Vec<Member<C>>,
+) -> usize
+    requires graph { IsGraph C.number colours.old.items overflow.old.items overflow.old.capacity size }
+    requires absent { colour_of C.number member.id (lists_of colours.old.items overflow.old.items) ≡ None }
+    requires below { AreBelow size.slots member.movers }
+    requires room { size.count < size.total }
+    ensures colour { result ≡ least_colour (lists_of colours.old.items overflow.old.items) member.movers }
+    ensures most { result ≤ COLOURS }
+    ensures lists { lists_of colours.new.items overflow.new.items ≡ placed C.number member (lists_of colours.old.items overflow.old.items) }
+    ensures graph { IsGraph C.number colours.new.items overflow.new.items overflow.new.capacity (record { count = size.count + 1; total = size.total; slots = size.slots }) }
+{
+    let colour = first_free(colours, member.movers);
+    put(colours, overflow, colour, member, spare);
+    colour
+}
+
+/// The constraint gives up its colour. Answers how many went.
+fn release_in<C: Id>(
+    colours: &mut Vec<Colour<C>>,
+    overflow: &mut EditedList<C>,
+    size: Size,
+    id: C,
+    movers: Option<Movers>,
+    spare: &mut Vec<Member<C>>,
+) -> Size
+    requires graph { IsGraph C.number colours.old.items overflow.old.items overflow.old.capacity size }
+    requires own { AreOwn C.number id movers (all_members (lists_of colours.old.items overflow.old.items)) }
+    ensures lists { lists_of colours.new.items overflow.new.items ≡ released C.number id (lists_of colours.old.items overflow.old.items) }
+    ensures graph { IsGraph C.number colours.new.items overflow.new.items overflow.new.capacity result }
+    ensures total { result.total ≡ size.total }
+    ensures slots { result.slots ≡ size.slots }
+{
+    let gone = remove_from_first(colours, overflow, id, movers, spare);
+    Size {
+        count: size.count - gone,
+        ..size
+    }
+}
+
+/// The constraint takes its colour, or gives it up. Answers how many there are then.
+fn recolour<C: Id>(
+    colours: &mut Vec<Colour<C>>,
+    overflow: &mut EditedList<C>,
+    size: Size,
+    edit: Edit<C>,
+    spare: &mut Vec<Member<C>>,
+) -> Size
+    requires graph { IsGraph C.number colours.old.items overflow.old.items overflow.old.capacity size }
+    requires can { IsRecolouring C.number size.total size.slots edit (lists_of colours.old.items overflow.old.items) }
+    ensures lists { lists_of colours.new.items overflow.new.items ≡ recoloured C.number edit (lists_of colours.old.items overflow.old.items) }
+    ensures graph { IsGraph C.number colours.new.items overflow.new.items overflow.new.capacity result }
+    ensures total { result.total ≡ size.total }
+    ensures slots { result.slots ≡ size.slots }
+{
+    let member = edit.member;
+    if edit.adds {
+        let _ = place_in(colours, overflow, size, member, spare);
+        Size {
+            count: size.count + 1,
+            ..size
+        }
+    } else {
+        release_in(
+            colours,
+            overflow,
+            size,
+            member.id,
+            Some(member.movers),
+            spare,
+        )
+    }
+}
+
+/// Constraints take their colours and give them up, one after the other. Answers how many there are then.
+fn recolour_each<C: Id>(
+    colours: &mut Vec<Colour<C>>,
+    overflow: &mut EditedList<C>,
+    size: Size,
+    edits: &[Edit<C>],
+    spare: &mut Vec<Member<C>>,
+) -> Size
+    requires graph { IsGraph C.number colours.old.items overflow.old.items overflow.old.capacity size }
+    requires can { CanRecolour C.number size.total size.slots edits.now (lists_of colours.old.items overflow.old.items) }
+    ensures lists { lists_of colours.new.items overflow.new.items ≡ all_recoloured C.number edits.now (lists_of colours.old.items overflow.old.items) }
+    ensures graph { IsGraph C.number colours.new.items overflow.new.items overflow.new.capacity result }
+    ensures total { result.total ≡ size.total }
+    ensures slots { result.slots ≡ size.slots }
+{
+    let mut left = size;
+    for place in 0..edits.len() {
+        left = recolour(colours, overflow, left, edits[place], spare);
+    }
+    left
 }
 
 impl<C: Id> Colours<C> {
@@ -189,10 +335,13 @@ impl<C: Id> Colours<C> {
     {
         Ok(Colours {
             colours: no_colours(alloc)?,
-            overflow: Vec::new(alloc),
-            count: 0,
-            room: 0,
-            slots: 0,
+            overflow: EditedList::new(alloc),
+            spare: Vec::new(alloc),
+            size: Size {
+                count: 0,
+                total: 0,
+                slots: 0,
+            },
         })
     }
 
@@ -203,16 +352,19 @@ impl<C: Id> Colours<C> {
         ensures slots { IfOk result (λ copied. copied.slots ≡ 0) }
         ensures memory_only { IsOkUnless result Refusal.NoMemory }
     {
-        let alloc = *self.overflow.allocator();
+        let alloc = *self.spare.allocator();
         let mut colours = copies(alloc, &self.colours)?;
-        let mut overflow = Vec::from_slice(alloc, self.overflow.as_slice())?;
-        reserve_lists(&mut colours, &mut overflow, self.count, 0)?;
+        let mut overflow = EditedList::from_members(alloc, self.overflow.as_slice())?;
+        reserve_lists(&mut colours, &mut overflow, self.size.count, 0)?;
         Ok(Colours {
             colours,
             overflow,
-            count: self.count,
-            room: 0,
-            slots: 0,
+            spare: Vec::new(alloc),
+            size: Size {
+                count: self.size.count,
+                total: self.size.count,
+                slots: 0,
+            },
         })
     }
 
@@ -220,7 +372,7 @@ impl<C: Id> Colours<C> {
     pub fn count(&self) -> usize
         ensures { result ≡ length (all_members self.now.lists) }
     {
-        self.count
+        self.size.count
     }
 
     /// Makes room for that many more constraints, whose movers' slots are below `slots`. Refused 1
@@ -234,12 +386,14 @@ impl<C: Id> Colours<C> {
         ensures refused { OnErr result (self.new ≡ self.old) }
         ensures memory_only { IsOkUnless result Refusal.NoMemory }
     {
-        let Some(total) = self.count.checked_add(constraints) else {
+        let Some(total) = self.size.count.checked_add(constraints) else {
             return Err(Refusal::NoMemory);
         };
+        self.spare.clear();
+        self.spare.reserve(total)?;
         reserve_lists(&mut self.colours, &mut self.overflow, total, slots)?;
-        self.room = self.room.max(constraints);
-        self.slots = self.slots.max(slots);
+        self.size.total = self.size.total.max(total);
+        self.size.slots = self.size.slots.max(slots);
         Ok(())
     }
 
@@ -259,15 +413,15 @@ impl<C: Id> Colours<C> {
         ensures others { (other : C) → C.number other ≢ C.number id → colour_of C.number other self.new.lists ≡ colour_of C.number other self.old.lists }
         ensures members { IsPermutation (record { id = id; movers = movers } ∷ all_members self.old.lists) (all_members self.new.lists) }
     {
-        let colour = first_free(&self.colours, movers);
-        put(
+        let colour = place_in(
             &mut self.colours,
             &mut self.overflow,
-            colour,
+            self.size,
             Member { id, movers },
+            &mut self.spare,
         );
-        self.room -= 1;
-        self.count += 1;
+        settle_lists(&mut self.colours, &mut self.overflow, &mut self.spare);
+        self.size.count += 1;
         colour as u8
     }
 
@@ -283,9 +437,39 @@ impl<C: Id> Colours<C> {
         ensures others { (other : C) → C.number other ≢ C.number id → colour_of C.number other self.new.lists ≡ colour_of C.number other self.old.lists }
         ensures members { all_members self.new.lists ≡ without C.number id (all_members self.old.lists) }
     {
-        let gone = remove_from_first(&mut self.colours, &mut self.overflow, id);
-        self.room += gone;
-        self.count -= gone;
+        self.size = release_in(
+            &mut self.colours,
+            &mut self.overflow,
+            self.size,
+            id,
+            None,
+            &mut self.spare,
+        );
+        settle_lists(&mut self.colours, &mut self.overflow, &mut self.spare);
+    }
+
+    /// Constraints take their colours and give them up, one after the other. Each list is gone through once.
+    pub fn recolour_all(&mut self, edits: &[Edit<C>])
+        requires { CanRecolour C.number (self.old.room + length (all_members self.old.lists)) self.old.slots edits.now self.old.lists }
+        ensures lists { self.new.lists ≡ all_recoloured C.number edits.now self.old.lists }
+        ensures total { self.new.room + length (all_members self.new.lists) ≡ self.old.room + length (all_members self.old.lists) }
+        ensures slots { self.new.slots ≡ self.old.slots }
+    {
+        self.size = recolour_each(
+            &mut self.colours,
+            &mut self.overflow,
+            self.size,
+            edits,
+            &mut self.spare,
+        );
+        settle_lists(&mut self.colours, &mut self.overflow, &mut self.spare);
+    }
+
+    /// What every colouring keeps: a law.
+    pub fn keeps(&self)
+        ensures { IsColouring C.number self.now.lists }
+    {
+        let _ = self.members(OVERFLOW);
     }
 
     /// The colour of the constraint, 0 to `OVERFLOW`; `None` where it has none.
@@ -296,7 +480,7 @@ impl<C: Id> Colours<C> {
         if colour < self.colours.len() {
             return Some(colour as u8);
         }
-        if member::has_id(&self.overflow, id) {
+        if member::has_id(self.overflow.as_slice(), id) {
             return Some(OVERFLOW);
         }
         None

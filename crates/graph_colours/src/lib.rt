@@ -8,10 +8,16 @@
 
 mod colour;
 mod colours;
+mod edited;
+mod edited_colours;
+mod edits;
 mod limits;
 mod marks;
 pub mod member;
 
 pub use colours::Colours;
+pub use edited::EditedList;
+pub use edited_colours::EditedColours;
+pub use edits::Edit;
 pub use limits::{COLOURS, OVERFLOW};
 pub use member::{Id, Member, Movers};

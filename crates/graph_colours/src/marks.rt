@@ -1,8 +1,8 @@
 //! For each slot, whether a colour has the mover there.
 
-ghost use Rattle.std.specs.Prelude.{◌≡◌, length, vec_len};
+ghost use Rattle.std.specs.Prelude.{◌≡◌, length, vec_len, slice_index_or, false};
 ghost use Rattle.graph_colours.specs.Movers.{AreBelow};
-ghost use Rattle.graph_colours.specs.Marks.{set_marks, is_marked};
+ghost use Rattle.graph_colours.specs.Marks.{set_marks, is_marked, are_marked, may_have};
 
 use crate::Movers;
 
@@ -14,6 +14,36 @@ pub(crate) fn is_marked(used: &[bool], movers: Movers) -> bool
     match movers.second {
         None => used[movers.first as usize],
         Some(second) => used[movers.first as usize] || used[second as usize],
+    }
+}
+
+/// Whether the slot has a mark.
+fn has_mark(used: &[bool], slot: u32) -> bool
+    ensures { result ≡ slice_index_or used.now slot false }
+{
+    match used.get(slot as usize) {
+        Some(mark) => *mark,
+        None => false,
+    }
+}
+
+/// Whether all movers of the constraint are marked.
+fn are_marked(used: &[bool], movers: Movers) -> bool
+    ensures { result ≡ are_marked used.now movers }
+{
+    match movers.second {
+        None => has_mark(used, movers.first),
+        Some(second) => has_mark(used, movers.first) && has_mark(used, second),
+    }
+}
+
+/// Whether a constraint of these movers may be there, as far as the marks tell: they are marked, or aren't known.
+pub(crate) fn may_have(used: &[bool], movers: Option<Movers>) -> bool
+    ensures { result ≡ may_have used.now movers }
+{
+    match movers {
+        None => true,
+        Some(movers) => are_marked(used, movers),
     }
 }
 

@@ -50,6 +50,19 @@ pub fn has_id<C: Id>(members: &[Member<C>], id: C) -> bool
     }
 }
 
+/// The movers of the member that has the id.
+pub fn movers_of<C: Id>(members: &[Member<C>], id: C) -> Option<Movers>
+    requires { AreRising C.number members.now }
+    ensures { result ≡ movers_of C.number id members.now }
+{
+    let wanted = id.number();
+    let member = *members.get(place_from(members, wanted))?;
+    if member.id.number() != wanted {
+        return None;
+    }
+    Some(member.movers)
+}
+
 /// Adds a member, for which there is room.
 pub fn insert<C: Id>(members: &mut Vec<Member<C>>, member: Member<C>)
     requires rising { AreRising C.number members.old.items }

@@ -1,5 +1,5 @@
 -- How many slots have a label or none stays, whoever wakes or sleeps, and whatever begins, ends or goes.
-use Rattle.std.proofs.Common.{◌≡◌, ℕ, zero, suc, ◌+◌, ◌-◌, ◌<◌, ◌≤◌, ◌&&◌, Bool, true, false, cond, nat_lt, List, [], ◌∷◌, ◌++◌, length, replicate, Option, Some, None, refl, sym, ap, ap₂, ◌∙◌, arith}
+use Rattle.std.proofs.Common.{◌≡◌, ℕ, ◌+◌, ◌-◌, ◌<◌, ◌≤◌, ◌&&◌, Bool, true, false, cond, nat_lt, List, [], ◌∷◌, length, Option, Some, None, refl, sym, ap, ap₂, ◌∙◌, arith}
 use Rattle.std.specs.Prelude.{slice_set}
 use Rattle.std.proofs.lemmas.Grind.{common_steps}
 use Rattle.std.proofs.lemmas.List.{length-map, length-set}
@@ -7,7 +7,7 @@ use Rattle.graph_colours.specs.declared.member.Member.{Member}
 use Rattle.graph_colours.specs.declared.member.Movers.{Movers}
 use Rattle.islands.specs.declared.label.IslandState.TheVariants.{Whole, Loose, Asleep}
 use Rattle.islands.specs.declared.label.Label.{Label}
-use Rattle.islands.specs.Labels.{Labels, added, is_asleep, is_loose, label_at, left_behind, loosened, loosened_by, lowest, merged, merged_all, merged_by, padded, relabel, relabelled, rested, scattered_from, split_by, taken_out, without, woken}
+use Rattle.islands.specs.Labels.{Labels, added, is_asleep, is_loose, label_at, loosened, loosened_by, lowest, merged, merged_all, merged_by, padded, relabel, relabelled, rested, scattered_from, split_by, taken_out, without, woken}
 use Rattle.islands.specs.Links.{Edges, Linked}
 use Rattle.islands.specs.Partition.{AreIslands}
 use Rattle.islands.proofs.SplitLemmas.{scattered_size}
@@ -125,7 +125,7 @@ rest_long : {C : Type 0} (number : C → ℕ) (name : ℕ) (s : Acting C) → Is
 unfolding put_to_rest rested
 rest_long number name s = relabelled_long name name (record { name = name; state = Asleep }) s.labels
 
-all_rest_long : {C : Type 0} (number : C → ℕ) (names : List ℕ) (s : Acting C) → IsAsLong s (all_put_to_rest number names s)
+pub all_rest_long : {C : Type 0} (number : C → ℕ) (names : List ℕ) (s : Acting C) → IsAsLong s (all_put_to_rest number names s)
 all_rest_long number [] s = refl
 all_rest_long number (name ∷ names) s = all_rest_long number names (put_to_rest number name s) ∙ rest_long number name s
 

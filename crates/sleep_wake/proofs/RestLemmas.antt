@@ -1,7 +1,7 @@
 -- Islands fall asleep one after the other, and none of them makes another more ready, or less.
 use Rattle.std.proofs.Common.{◌≡◌, ◌≢◌, ℕ, zero, suc, ◌+◌, ◌<◌, ◌≤◌, ◌==◌, ◌&&◌, ◌||◌, Bool, true, false, not, cond, List, [], ◌∷◌, Option, Some, None, length, map, drop, refl, sym, ap, ◌∙◌, arith}
 use Rattle.std.proofs.lemmas.Bool.{false≢true, eqb-true, eq-eqb}
-use Rattle.std.proofs.lemmas.List.{drop_more}
+use Rattle.std.proofs.lemmas.List.{drop_more, length-map}
 use Rattle.graph_colours.proofs.PlaceLemmas.{not_same}
 use Rattle.islands.specs.declared.label.IslandState.{IslandState}
 use Rattle.islands.specs.declared.label.IslandState.TheVariants.{Asleep}
@@ -10,27 +10,22 @@ use Rattle.islands.specs.Labels.{Labels, label_at, is_in, is_loose, is_asleep, r
 use Rattle.islands.proofs.LabelLemmas.{in_of}
 use Rattle.islands.proofs.SplitLemmas.{split_is}
 use Rattle.sleep_wake.specs.Acting.{Acting, IsSettled}
-use Rattle.sleep_wake.specs.Waking.{put_to_rest}
-use Rattle.sleep_wake.specs.SleepPhase.{least_timer, is_due, is_island, is_ready, ready_from, all_put_to_rest, split_at, edges_of}
+use Rattle.sleep_wake.specs.SleepPhase.{is_due, is_island, split_at, edges_of}
+use Rattle.sleep_wake.specs.Resting.{is_due_island, due_from, all_rested}
 use Rattle.sleep_wake.specs.Sleeping.{is_whole, split_if_loose}
 use Rattle.sleep_wake.proofs.EdgeLemmas.{edges_inside}
 
 -- what an island's rest does to the label of a slot
-abbrev asleep_in : ℕ → Option Label → Option Label
+abbrev pub asleep_in : ℕ → Option Label → Option Label
 asleep_in name o = relabel name name (record { name = name; state = Asleep }) o
 
 in_rested_by : (name n : ℕ) (l : Label) (t : Bool) → (l.name == name) ≡ t → is_in (cond (t || t) (Some (record { name = name; state = Asleep })) (Some l)) n ≡ is_in (Some l) n
 in_rested_by name n l true e = ap (λ k. k == n) (sym (eqb-true l.name name e))
 in_rested_by name n l false e = refl
 
-in_rested : (name n : ℕ) (o : Option Label) → is_in (asleep_in name o) n ≡ is_in o n
+pub in_rested : (name n : ℕ) (o : Option Label) → is_in (asleep_in name o) n ≡ is_in o n
 in_rested name n None = refl
 in_rested name n (Some l) = in_rested_by name n l (l.name == name) refl
-
-least_rested : (name n : ℕ) (labels : Labels) (timers : List ℕ) → least_timer n (map (asleep_in name) labels) timers ≡ least_timer n labels timers
-least_rested name n [] timers = refl
-least_rested name n (o ∷ labels) [] = refl
-least_rested name n (o ∷ labels) (t ∷ timers) = rw (in_rested name n o, least_rested name n labels timers) refl
 
 island_rested_by : (name slot : ℕ) (l : Label) (t : Bool) → (l.name == name) ≡ t → slot ≢ name → is_island false slot (cond (t || t) (Some (record { name = name; state = Asleep })) (Some l)) ≡ is_island false slot (Some l)
 island_rested_by name slot l true e far =
@@ -43,13 +38,12 @@ island_rested : (name slot : ℕ) (o : Option Label) → slot ≢ name → is_is
 island_rested name slot None far = refl
 island_rested name slot (Some l) far = island_rested_by name slot l (l.name == name) refl far
 
-ready_rested : (name : ℕ) (labels : Labels) (timers : List ℕ) (slot : ℕ) (rest : Labels) → name < slot → ready_from false (map (asleep_in name) labels) timers slot (map (asleep_in name) rest) ≡ ready_from false labels timers slot rest
-ready_rested name labels timers slot [] lt = refl
-ready_rested name labels timers slot (o ∷ rest) lt =
+due_rested : (timer : ℕ → Option ℕ) (name slot : ℕ) (rest : Labels) → name < slot → due_from false timer slot (map (asleep_in name) rest) ≡ due_from false timer slot rest
+due_rested timer name slot [] lt = refl
+due_rested timer name slot (o ∷ rest) lt =
     let here : is_island false slot (asleep_in name o) ≡ is_island false slot o = island_rested name slot o (λ e. omega (arith, e, lt)) in
-    let due : least_timer slot (map (asleep_in name) labels) timers ≡ least_timer slot labels timers = least_rested name slot labels timers in
-    let more : ready_from false (map (asleep_in name) labels) timers (suc slot) (map (asleep_in name) rest) ≡ ready_from false labels timers (suc slot) rest = ready_rested name labels timers (suc slot) rest (omega (arith, lt)) in
-    rw (here, due, more) refl
+    let more : due_from false timer (suc slot) (map (asleep_in name) rest) ≡ due_from false timer (suc slot) rest = due_rested timer name (suc slot) rest (omega (arith, lt)) in
+    rw (here, more) refl
 
 drop_map : {X Y : Type 0} (f : X → Y) (n : ℕ) (xs : List X) → drop n (map f xs) ≡ map f (drop n xs)
 drop_map f zero xs = refl
@@ -57,31 +51,35 @@ drop_map f (suc n) [] = refl
 drop_map f (suc n) (x ∷ xs) = drop_map f n xs
 
 -- the islands that are still to fall asleep, from a slot on
-abbrev pub still_ready : List ℕ → Labels → ℕ → List ℕ
-still_ready timers labels slot = ready_from false labels timers slot (drop slot labels)
+abbrev pub still_due : (ℕ → Option ℕ) → Labels → ℕ → List ℕ
+still_due timer labels slot = due_from false timer slot (drop slot labels)
 
 next_slot : (labels : Labels) (slot : ℕ) → slot < length labels → drop slot labels ≡ label_at labels slot ∷ drop (slot + 1) labels
 next_slot labels slot lt = drop_more labels slot None lt
 
-ready_there : (timers : List ℕ) (labels : Labels) (slot : ℕ) → slot < length labels → still_ready timers labels slot ≡ cond (is_ready false labels timers slot (label_at labels slot)) (slot ∷ still_ready timers labels (slot + 1)) (still_ready timers labels (slot + 1))
-ready_there timers labels slot lt =
+due_there : (timer : ℕ → Option ℕ) (labels : Labels) (slot : ℕ) → slot < length labels → still_due timer labels slot ≡ cond (is_due_island false timer slot (label_at labels slot)) (slot ∷ still_due timer labels (slot + 1)) (still_due timer labels (slot + 1))
+due_there timer labels slot lt =
     let same : suc slot ≡ slot + 1 = omega arith in
-    ap (λ rest. ready_from false labels timers slot rest) (next_slot labels slot lt)
-    ∙ ap (λ n. cond (is_ready false labels timers slot (label_at labels slot)) (slot ∷ ready_from false labels timers n (drop (slot + 1) labels)) (ready_from false labels timers n (drop (slot + 1) labels))) same
+    ap (λ rest. due_from false timer slot rest) (next_slot labels slot lt)
+    ∙ ap (λ n. cond (is_due_island false timer slot (label_at labels slot)) (slot ∷ due_from false timer n (drop (slot + 1) labels)) (due_from false timer n (drop (slot + 1) labels))) same
 
 -- one that isn't ready stays as it is
-pub not_ready : {C : Type 0} (number : C → ℕ) (timers : List ℕ) (slot : ℕ) (s : Acting C) → slot < length s.labels → is_ready false s.labels timers slot (label_at s.labels slot) ≡ false → all_put_to_rest number (still_ready timers s.labels (slot + 1)) s ≡ all_put_to_rest number (still_ready timers s.labels slot) s
-not_ready number timers slot s lt h = let passed : still_ready timers s.labels slot ≡ still_ready timers s.labels (slot + 1) = ready_there timers s.labels slot lt ∙ rw h refl in ap (λ names. all_put_to_rest number names s) (sym passed)
+pub not_due : (timer : ℕ → Option ℕ) (slot : ℕ) (labels : Labels) → slot < length labels → is_due_island false timer slot (label_at labels slot) ≡ false → all_rested (still_due timer labels (slot + 1)) labels ≡ all_rested (still_due timer labels slot) labels
+not_due timer slot labels lt h = let passed : still_due timer labels slot ≡ still_due timer labels (slot + 1) = due_there timer labels slot lt ∙ rw h refl in ap (λ names. all_rested names labels) (sym passed)
 
 -- one that is ready falls asleep, and then those after it
-pub then_ready : {C : Type 0} (number : C → ℕ) (timers : List ℕ) (slot : ℕ) (s : Acting C) → slot < length s.labels → is_ready false s.labels timers slot (label_at s.labels slot) ≡ true → all_put_to_rest number (still_ready timers (put_to_rest number slot s).labels (slot + 1)) (put_to_rest number slot s) ≡ all_put_to_rest number (still_ready timers s.labels slot) s
-unfolding put_to_rest rested
-then_ready {C} number timers slot s lt h =
-    let new : Acting C = put_to_rest number slot s in
-    let same : still_ready timers (map (asleep_in slot) s.labels) (slot + 1) ≡ still_ready timers s.labels (slot + 1) =
-    ap (λ rest. ready_from false (map (asleep_in slot) s.labels) timers (slot + 1) rest) (drop_map (asleep_in slot) (slot + 1) s.labels) ∙ ready_rested slot s.labels timers (slot + 1) (drop (slot + 1) s.labels) (omega arith) in
-    let front : still_ready timers s.labels slot ≡ slot ∷ still_ready timers s.labels (slot + 1) = ready_there timers s.labels slot lt ∙ rw h refl in
-    ap (λ names. all_put_to_rest number names new) same ∙ ap (λ names. all_put_to_rest number names s) (sym front)
+pub then_due : (timer : ℕ → Option ℕ) (slot : ℕ) (labels : Labels) → slot < length labels → is_due_island false timer slot (label_at labels slot) ≡ true → all_rested (still_due timer (rested labels slot) (slot + 1)) (rested labels slot) ≡ all_rested (still_due timer labels slot) labels
+unfolding rested
+then_due timer slot labels lt h =
+    let new : Labels = map (asleep_in slot) labels in
+    let same : still_due timer new (slot + 1) ≡ still_due timer labels (slot + 1) =
+    ap (λ rest. due_from false timer (slot + 1) rest) (drop_map (asleep_in slot) (slot + 1) labels) ∙ due_rested timer slot (slot + 1) (drop (slot + 1) labels) (omega arith) in
+    let front : still_due timer labels slot ≡ slot ∷ still_due timer labels (slot + 1) = due_there timer labels slot lt ∙ rw h refl in
+    ap (λ names. all_rested names new) same ∙ ap (λ names. all_rested names labels) (sym front)
+
+pub rested_long : (labels : Labels) (slot : ℕ) → length (rested labels slot) ≡ length labels
+unfolding rested
+rested_long labels slot = length-map labels (asleep_in slot)
 
 -- past the last slot none is ready
 past_all : (labels : Labels) (slot : ℕ) → length labels ≤ slot → drop slot labels ≡ []
@@ -90,16 +88,20 @@ past_all [] (suc slot) le = refl
 past_all (o ∷ labels) zero le = absurd (omega (arith, le))
 past_all (o ∷ labels) (suc slot) le = past_all labels slot (omega (arith, le))
 
-pub none_ready : {C : Type 0} (number : C → ℕ) (timers : List ℕ) (slot : ℕ) (s : Acting C) → length s.labels ≤ slot → all_put_to_rest number (still_ready timers s.labels slot) s ≡ s
-none_ready number timers slot s le = ap (λ rest. all_put_to_rest number (ready_from false s.labels timers slot rest) s) (past_all s.labels slot le)
+pub none_due : (timer : ℕ → Option ℕ) (slot : ℕ) (labels : Labels) → length labels ≤ slot → all_rested (still_due timer labels slot) labels ≡ labels
+none_due timer slot labels le = ap (λ rest. all_rested (due_from false timer slot rest) labels) (past_all labels slot le)
 
 both_are : (x y : Bool) → (x && y) ≡ true → x ≡ true
 both_are true y h = refl
 both_are false y h = absurd (false≢true h)
 
+named_by : (slot : ℕ) (o : Option Label) → is_island false slot o ≡ true → is_in o slot ≡ true
+named_by slot None h = absurd (false≢true h)
+named_by slot (Some l) h = both_are (l.name == slot) (not (is_loose l.state) && not (is_asleep l.state)) h
+
 -- one that is ready is an island
-pub ready_is : (labels : Labels) (timers : List ℕ) (slot : ℕ) → is_ready false labels timers slot (label_at labels slot) ≡ true → is_island false slot (label_at labels slot) ≡ true
-ready_is labels timers slot h = both_are (is_island false slot (label_at labels slot)) (is_due (least_timer slot labels timers)) h
+pub due_is_island : (timer : ℕ → Option ℕ) (slot : ℕ) (o : Option Label) → is_due_island false timer slot o ≡ true → is_in o slot ≡ true
+due_is_island timer slot o h = named_by slot o (both_are (is_island false slot o) (is_due (timer slot)) h)
 
 -- ---- one mover falls asleep
 

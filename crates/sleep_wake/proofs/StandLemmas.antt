@@ -20,6 +20,9 @@ pub record SameRoom (coloured after : ℕ) (c d : Capacity) : Type 0 where
   pub edges : c.edges ≤ d.edges
   pub scratch_slots : d.scratch_slots ≡ c.scratch_slots
   pub links : d.links ≡ c.links
+  pub leasts : c.leasts ≤ d.leasts
+  pub ties_settled : d.ties_pending ≡ 0
+  pub colours_settled : d.colours_pending ≡ 0
 
 pub stands : {C : Type 0} (number : C → ℕ) (s new : Acting C) (room slots : ℕ) (c d : Capacity) → IsStanding number s room slots c → IsSettled number new → length new.ties ≤ room → length new.labels ≤ slots → SameRoom (length (all_members s.lists)) (length (all_members new.lists)) c d → IsStanding number new room slots d
 stands number s new room slots c d w settled enough few r = record {
@@ -34,6 +37,9 @@ stands number s new room slots c d w settled enough few r = record {
     edges = omega (arith, w.rooms.edges, r.edges);
     scratch_slots = omega (arith, w.rooms.scratch_slots, r.scratch_slots);
     links = omega (arith, w.rooms.links, r.links);
+    leasts = omega (arith, w.rooms.leasts, r.leasts);
+    ties_settled = r.ties_settled;
+    colours_settled = r.colours_settled;
   };
 }
 

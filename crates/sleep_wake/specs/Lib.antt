@@ -5,6 +5,7 @@ pub mod Changes
 pub mod Bodies
 pub mod Widened
 pub mod SleepPhase
+pub mod Resting
 pub mod Sleeping
 pub mod Standing
 pub mod Laws

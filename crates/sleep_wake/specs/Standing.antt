@@ -1,5 +1,5 @@
 -- What contracts see of the sets, and what the sets keep.
-use Rattle.std.specs.Prelude.{ℕ, ◌≤◌, ◌+◌, length}
+use Rattle.std.specs.Prelude.{◌≡◌, ℕ, ◌≤◌, ◌+◌, length}
 use Rattle.graph_colours.specs.Colours.{all_members}
 use Rattle.sleep_wake.specs.Acting.{Acting, IsSettled}
 
@@ -10,7 +10,7 @@ pub record Standing (C : Type 0) : Type 0 where
   pub room : ℕ
   pub slots : ℕ
 
--- for how much the parts have room
+-- for how much the parts have room, and what is put off in them
 pub record Capacity : Type 0 where
   pub ties : ℕ
   pub colours : ℕ
@@ -19,8 +19,11 @@ pub record Capacity : Type 0 where
   pub edges : ℕ
   pub scratch_slots : ℕ
   pub links : ℕ
+  pub leasts : ℕ
+  pub ties_pending : ℕ
+  pub colours_pending : ℕ
 
--- each part has room for all constraints, also where all movers wake, and for movers in all slots
+-- each part has room for all constraints, also where all movers wake, and for movers in all slots, and nothing is put off
 pub record HasRoomFor (coloured room slots : ℕ) (c : Capacity) : Type 0 where
   pub ties : room ≤ c.ties
   pub colours : room ≤ c.colours + coloured
@@ -29,6 +32,9 @@ pub record HasRoomFor (coloured room slots : ℕ) (c : Capacity) : Type 0 where
   pub edges : room ≤ c.edges
   pub scratch_slots : slots ≤ c.scratch_slots
   pub links : room ≤ c.links
+  pub leasts : slots ≤ c.leasts
+  pub ties_settled : c.ties_pending ≡ 0
+  pub colours_settled : c.colours_pending ≡ 0
 
 -- the sets are settled, no more constraints and slots are there than there is room for, and the parts have that room
 pub record IsStanding {C : Type 0} (number : C → ℕ) (s : Acting C) (room slots : ℕ) (c : Capacity) : Type 0 where

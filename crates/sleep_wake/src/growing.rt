@@ -5,26 +5,32 @@ ghost use Rattle.std.specs.Result.{IsOkUnless};
 ghost use Rattle.graph_colours.specs.Colours.{all_members};
 
 use fixed_geom::Refusal;
-use graph_colours::{Colours, Id, Member};
+use graph_colours::{EditedColours, EditedList, Id, Member};
 use islands::{Islands, SplitScratch};
 
 /// Makes room for that many more constraints, and for movers in slots below `slots`, and answers for how many constraints
 /// in all there is room then. Refused 1 where memory is wanting. Changes no constraint, no island and no colour.
 pub(crate) fn grow<C: Id>(
-    ties: &mut Vec<Member<C>>,
-    colours: &mut Colours<C>,
+    ties: &mut EditedList<C>,
+    spare: &mut Vec<Member<C>>,
+    colours: &mut EditedColours<C>,
     islands: &mut Islands,
     edges: &mut Vec<(u32, u32)>,
     scratch: &mut SplitScratch,
+    leasts: &mut Vec<Option<u64>>,
     constraints: usize,
     slots: usize,
 ) -> Result<usize, Refusal>
+    requires settled { ties.old.pending ≡ 0 }
+    requires colours_settled { colours.old.pending ≡ 0 }
     ensures value { IfOk result (λ room. room ≡ length ties.old.items + constraints) }
     ensures ties { ties.new.items ≡ ties.old.items }
     ensures lists { colours.new.lists ≡ colours.old.lists }
     ensures labels { islands.new.labels ≡ islands.old.labels }
-    ensures ties_kept { vec_capacity ties.old ≤ vec_capacity ties.new }
-    ensures ties_made { IfOk result (λ room. room ≤ vec_capacity ties.new) }
+    ensures ties_kept { ties.old.capacity ≤ ties.new.capacity }
+    ensures ties_made { IfOk result (λ room. room ≤ ties.new.capacity) }
+    ensures ties_settled { ties.new.pending ≡ 0 }
+    ensures colours_settled { colours.new.pending ≡ 0 }
     ensures colours_kept { colours.old.room ≤ colours.new.room }
     ensures colours_made { IfOk result (λ room. room ≤ colours.new.room + length (all_members colours.new.lists)) }
     ensures colour_slots_kept { colours.old.slots ≤ colours.new.slots }
@@ -37,14 +43,22 @@ pub(crate) fn grow<C: Id>(
     ensures scratch_made { OnOk result (slots ≤ scratch.new.slots) }
     ensures links_kept { scratch.old.links ≤ scratch.new.links }
     ensures links_made { IfOk result (λ room. room ≤ scratch.new.links) }
+    ensures leasts_kept { vec_capacity leasts.old ≤ vec_capacity leasts.new }
+    ensures leasts_made { OnOk result (slots ≤ vec_capacity leasts.new) }
     ensures memory_only { IsOkUnless result Refusal.NoMemory }
 {
-    ties.reserve(constraints)?;
-    let room = ties.len() + constraints;
-    colours.reserve(room - colours.count().min(room), slots)?;
+    let Some(room) = ties.as_slice().len().checked_add(constraints) else {
+        return Err(Refusal::NoMemory);
+    };
+    ties.reserve(room)?;
+    spare.clear();
+    spare.reserve(room)?;
+    colours.reserve(room - colours.colours().count().min(room), slots)?;
     islands.reserve(slots)?;
     edges.clear();
     edges.reserve(room)?;
     scratch.reserve(slots, room)?;
+    leasts.clear();
+    leasts.reserve(slots)?;
     Ok(room)
 }

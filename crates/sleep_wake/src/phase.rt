@@ -1,15 +1,75 @@
-//! Which island a sleep phase splits.
+//! The islands that are ready to sleep, by the timers of their movers.
 
-ghost use Rattle.std.specs.Prelude.{◌≡◌, ◌&&◌, true, false, cond, Some};
-ghost use Rattle.std.specs.List.{slice_get};
+ghost use Rattle.std.specs.Prelude.{◌≡◌, ◌≤◌, ◌<◌, ◌&&◌, true, false, cond, length, slice_set, replicate, vec_capacity, None, Some};
 ghost use Rattle.islands.specs.Labels.{label_at};
-ghost use Rattle.sleep_wake.specs.SleepPhase.{lesser, least_timer, is_due, may_be_due, is_island, is_ready, is_less, longer_at_rest, weighed, picked_to_split};
+ghost use Rattle.sleep_wake.specs.SleepPhase.{lesser, is_due, is_island, is_less, longer_at_rest, picked_to_split};
+ghost use Rattle.sleep_wake.specs.Resting.{AreLeast, least_at, lowered, is_due_island, weighed_by, longest_due, rests_by, second_rests, movers_rest, due_names, all_rested};
 
-use crate::waking::is_in;
+use graph_colours::Movers;
 use islands::Islands;
 
 /// For how many ticks each mover of an island has to have been slow, before it is ready to sleep.
 pub const TICKS_TO_SLEEP: u64 = 128;
+
+// ---- the least timer of each island
+
+fn lesser(timer: u64, least: Option<u64>) -> u64
+    ensures { result ≡ lesser timer least }
+{
+    match least {
+        None => timer,
+        Some(least) => timer.min(least),
+    }
+}
+
+/// The island of this name has a mover with this timer.
+fn lower(leasts: &mut Vec<Option<u64>>, name: u32, timer: u64)
+    requires { name < length leasts.old.items }
+    ensures items { leasts.new.items ≡ lowered leasts.old.items name timer }
+    ensures capacity { vec_capacity leasts.old ≤ vec_capacity leasts.new }
+{
+    let least = lesser(timer, leasts[name as usize]);
+    leasts[name as usize] = Some(least);
+}
+
+/// No island is known yet, in so many slots, for which there is room.
+fn clear_to(leasts: &mut Vec<Option<u64>>, slots: usize)
+    requires { slots ≤ vec_capacity leasts.old }
+    ensures items { leasts.new.items ≡ replicate slots None }
+    ensures capacity { vec_capacity leasts.old ≤ vec_capacity leasts.new }
+{
+    leasts.clear();
+    let _ = leasts.resize(slots, None);
+}
+
+/// Lists by name the least timer of each island, in ticks; `None` where no island has the name. There is room. All islands are gone through together,
+/// so that it takes time by the slots alone, however many islands there are.
+pub(crate) fn list_leasts(leasts: &mut Vec<Option<u64>>, islands: &Islands, timers: &[u64])
+    requires room { length islands.now.labels ≤ vec_capacity leasts.old }
+    ensures least { AreLeast islands.now.labels timers.now leasts.new.items }
+    ensures capacity { vec_capacity leasts.old ≤ vec_capacity leasts.new }
+{
+    clear_to(leasts, islands.slots());
+    let mut slot = islands.slots().min(timers.len());
+    while slot > 0 {
+        slot -= 1;
+        if let Some(label) = islands.label_of(slot as u32) {
+            lower(leasts, label.name, timers[slot]);
+        }
+    }
+}
+
+/// The least timer of the island of this name.
+fn least_at(leasts: &[Option<u64>], name: u32) -> Option<u64>
+    ensures { result ≡ least_at leasts.now name }
+{
+    match leasts.get(name as usize) {
+        None => None,
+        Some(least) => *least,
+    }
+}
+
+// ---- which islands are ready
 
 /// Whether the slot names a whole island that is awake.
 fn is_whole_island(islands: &Islands, slot: u32) -> bool
@@ -31,73 +91,6 @@ fn is_loose_island(islands: &Islands, slot: u32) -> bool
     }
 }
 
-/// Whether the mover in a slot, if it has a timer, has been slow for long enough. An island whose first mover hasn't isn't ready,
-/// whatever the timers of the others are.
-fn may_be_due(timers: &[u64], slot: u32) -> bool
-    ensures { result ≡ may_be_due (slice_get timers.now slot) }
-{
-    match timers.get(slot as usize) {
-        None => true,
-        Some(timer) => TICKS_TO_SLEEP <= *timer,
-    }
-}
-
-/// Whether the island that the slot names has been slow for long enough. Its first mover is asked before the others, so that an island that
-/// moves costs a look at one timer.
-fn has_rested(islands: &Islands, timers: &[u64], slot: u32) -> bool
-    ensures { result ≡ (may_be_due (slice_get timers.now slot) && is_due (least_timer slot islands.now.labels timers.now)) }
-{
-    may_be_due(timers, slot) && is_due(least_timer(islands, timers, slot))
-}
-
-/// Whether the slot names a whole island that is awake and has been slow for long enough.
-pub(crate) fn is_ready(islands: &Islands, timers: &[u64], slot: u32) -> bool
-    ensures { result ≡ is_ready false islands.now.labels timers.now slot (label_at islands.now.labels slot) }
-{
-    is_whole_island(islands, slot) && has_rested(islands, timers, slot)
-}
-
-/// Whether the slot names a loose island that has been slow for long enough.
-fn is_ready_to_split(islands: &Islands, timers: &[u64], slot: u32) -> bool
-    ensures { result ≡ is_ready true islands.now.labels timers.now slot (label_at islands.now.labels slot) }
-{
-    is_loose_island(islands, slot) && has_rested(islands, timers, slot)
-}
-
-fn lesser(timer: u64, least: Option<u64>) -> u64
-    ensures { result ≡ lesser timer least }
-{
-    match least {
-        None => timer,
-        Some(least) => timer.min(least),
-    }
-}
-
-/// The least timer, once that of one slot more was looked at.
-fn with_timer(counts: bool, timer: u64, least: Option<u64>) -> Option<u64>
-    ensures { result ≡ cond counts (Some (lesser timer least)) least }
-{
-    if counts {
-        Some(lesser(timer, least))
-    } else {
-        least
-    }
-}
-
-/// The least timer of an island, in ticks; `None` where it has no movers.
-fn least_timer(islands: &Islands, timers: &[u64], name: u32) -> Option<u64>
-    ensures { result ≡ least_timer name islands.now.labels timers.now }
-{
-    let mut slot = islands.slots().min(timers.len());
-    let mut least = None;
-    while slot > 0 {
-        slot -= 1;
-        let counts = is_in(islands, name, slot as u32);
-        least = with_timer(counts, timers[slot], least);
-    }
-    least
-}
-
 fn is_due(timer: Option<u64>) -> bool
     ensures { result ≡ is_due timer }
 {
@@ -106,6 +99,22 @@ fn is_due(timer: Option<u64>) -> bool
         Some(timer) => TICKS_TO_SLEEP <= timer,
     }
 }
+
+/// Whether the slot names a whole island that is awake and has been slow for long enough.
+fn is_ready(islands: &Islands, leasts: &[Option<u64>], slot: u32) -> bool
+    ensures { result ≡ is_due_island false (least_at leasts.now) slot (label_at islands.now.labels slot) }
+{
+    is_whole_island(islands, slot) && is_due(least_at(leasts, slot))
+}
+
+/// Whether the slot names a loose island that has been slow for long enough.
+fn is_ready_to_split(islands: &Islands, leasts: &[Option<u64>], slot: u32) -> bool
+    ensures { result ≡ is_due_island true (least_at leasts.now) slot (label_at islands.now.labels slot) }
+{
+    is_loose_island(islands, slot) && is_due(least_at(leasts, slot))
+}
+
+// ---- the island to split
 
 fn is_less(a: Option<u64>, b: Option<u64>) -> bool
     ensures { result ≡ is_less a b }
@@ -117,14 +126,13 @@ fn is_less(a: Option<u64>, b: Option<u64>) -> bool
 }
 
 /// Of two islands the one that has been slow for longer, the best so far where they are equal.
-fn longer_at_rest(islands: &Islands, timers: &[u64], best: Option<u32>, name: u32) -> Option<u32>
-    ensures { result ≡ longer_at_rest (λ n. least_timer n islands.now.labels timers.now) best name }
+fn longer_at_rest(leasts: &[Option<u64>], best: Option<u32>, name: u32) -> Option<u32>
+    ensures { result ≡ longer_at_rest (least_at leasts.now) best name }
 {
     let Some(best) = best else {
         return Some(name);
     };
-    let timer = least_timer(islands, timers, best);
-    if is_less(timer, least_timer(islands, timers, name)) {
+    if is_less(least_at(leasts, best), least_at(leasts, name)) {
         Some(name)
     } else {
         Some(best)
@@ -132,24 +140,82 @@ fn longer_at_rest(islands: &Islands, timers: &[u64], best: Option<u32>, name: u3
 }
 
 /// The best so far, once a slot more was looked at.
-fn weighed(islands: &Islands, timers: &[u64], best: Option<u32>, slot: u32) -> Option<u32>
-    ensures { result ≡ weighed islands.now.labels timers.now best slot (label_at islands.now.labels slot) }
+fn weighed(islands: &Islands, leasts: &[Option<u64>], best: Option<u32>, slot: u32) -> Option<u32>
+    ensures { result ≡ weighed_by (least_at leasts.now) best slot (label_at islands.now.labels slot) }
 {
-    if is_ready_to_split(islands, timers, slot) {
-        longer_at_rest(islands, timers, best, slot)
+    if is_ready_to_split(islands, leasts, slot) {
+        longer_at_rest(leasts, best, slot)
     } else {
         best
     }
 }
 
 /// The loose island that a sleep phase splits: of those that are ready the one with the greatest least
-/// timer, and of these the lowest. Timers are by slot, in ticks. `None` where none is ready.
-pub(crate) fn pick_split(islands: &Islands, timers: &[u64]) -> Option<u32>
-    ensures { result ≡ picked_to_split islands.now.labels timers.now }
+/// timer, and of these the lowest. `None` where none is ready.
+fn longest_due(islands: &Islands, leasts: &[Option<u64>]) -> Option<u32>
+    ensures { result ≡ longest_due (least_at leasts.now) islands.now.labels }
 {
     let mut best = None;
     for slot in 0..islands.slots() {
-        best = weighed(islands, timers, best, slot as u32);
+        best = weighed(islands, leasts, best, slot as u32);
     }
     best
+}
+
+/// The loose island that a sleep phase splits, by the timers of the movers by slot, in ticks. There is room for the least timers.
+pub(crate) fn pick_split(
+    leasts: &mut Vec<Option<u64>>,
+    islands: &Islands,
+    timers: &[u64],
+) -> Option<u32>
+    requires room { length islands.now.labels ≤ vec_capacity leasts.old }
+    ensures picked { result ≡ picked_to_split islands.now.labels timers.now }
+    ensures capacity { vec_capacity leasts.old ≤ vec_capacity leasts.new }
+{
+    list_leasts(leasts, islands, timers);
+    longest_due(islands, leasts)
+}
+
+// ---- the islands that fall asleep
+
+/// Whether the mover in the slot is in a whole island that is awake and has been slow for long enough.
+fn is_resting(islands: &Islands, leasts: &[Option<u64>], slot: u32) -> bool
+    ensures { result ≡ rests_by (least_at leasts.now) (label_at islands.now.labels slot) }
+{
+    match islands.label_of(slot) {
+        None => false,
+        Some(label) => {
+            !label.state.is_loose()
+                && !label.state.is_asleep()
+                && is_due(least_at(leasts, label.name))
+        }
+    }
+}
+
+fn is_second_resting(islands: &Islands, leasts: &[Option<u64>], slot: Option<u32>) -> bool
+    ensures { result ≡ second_rests (least_at leasts.now) islands.now.labels slot }
+{
+    match slot {
+        None => false,
+        Some(slot) => is_resting(islands, leasts, slot),
+    }
+}
+
+/// Whether a mover of the constraint is in an island that is ready.
+pub(crate) fn are_resting(islands: &Islands, leasts: &[Option<u64>], movers: Movers) -> bool
+    ensures { result ≡ movers_rest (least_at leasts.now) islands.now.labels movers }
+{
+    is_resting(islands, leasts, movers.first) || is_second_resting(islands, leasts, movers.second)
+}
+
+/// Puts each whole island that is ready to rest.
+pub(crate) fn rest_each(islands: &mut Islands, leasts: &[Option<u64>])
+    ensures labels { islands.new.labels ≡ all_rested (due_names false (least_at leasts.now) islands.old.labels) islands.old.labels }
+    ensures room { islands.new.room ≡ islands.old.room }
+{
+    for slot in 0..islands.slots() {
+        if is_ready(islands, leasts, slot as u32) {
+            islands.rest(slot as u32);
+        }
+    }
 }

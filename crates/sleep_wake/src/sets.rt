@@ -14,18 +14,18 @@ ghost use Rattle.sleep_wake.specs.Waking.{woken_at, movers_woken, put_to_rest};
 ghost use Rattle.sleep_wake.specs.Changes.{begun, ended, each_begun, each_ended, CanBegin, CanEnd, changed, turned, begin_count, IsChange, AreChanges};
 ghost use Rattle.sleep_wake.specs.Bodies.{mover_made, mover_gone};
 ghost use Rattle.sleep_wake.specs.Widened.{widened};
-ghost use Rattle.sleep_wake.specs.SleepPhase.{is_island, split_at, sleep_phase, ready_put_to_rest};
+ghost use Rattle.sleep_wake.specs.SleepPhase.{is_island, split_at, picked_to_split, sleep_phase, ready_put_to_rest};
 ghost use Rattle.sleep_wake.specs.Sleeping.{names_of, is_whole, islands_woken, split_if_loose, rested_at, slept_at};
 
 use crate::change::Change;
-use crate::changing::{begin, end};
+use crate::changing::{begin_each_now, begin_now, end_each_now, end_now, turn_now};
 use crate::growing::grow;
 use crate::names::list_names;
-use crate::phase::{is_ready, pick_split};
+use crate::phase::pick_split;
 use crate::splits::split_set;
-use crate::waking::{are_awake, fall_asleep, is_awake, wake_movers, wake_set};
+use crate::waking::{are_awake, fall_asleep, is_awake, rest_ready, wake_movers, wake_set};
 use fixed_geom::Refusal;
-use graph_colours::{Colours, Id, Member, Movers, member};
+use graph_colours::{Colours, EditedColours, EditedList, Id, Member, Movers, member};
 use islands::{Islands, Label, SplitScratch};
 use std::alloc::Global;
 use std::marker::Model;
@@ -37,12 +37,16 @@ use std::marker::Model;
 #[derive(Drop)]
 pub struct Sets<C: Id> {
     // Ascending by number.
-    ties: Vec<Member<C>>,
-    colours: Colours<C>,
+    ties: EditedList<C>,
+    colours: EditedColours<C>,
     islands: Islands,
+    // Where ties lie while their list is edited.
+    spare: Vec<Member<C>>,
     // What a split works on.
     edges: Vec<(u32, u32)>,
     scratch: SplitScratch,
+    // By name the least timer of each island, in a sleep phase.
+    leasts: Vec<Option<u64>>,
     room: usize,
     slots: usize,
 }
@@ -56,7 +60,7 @@ impl<C: Id> Model for Sets<C> {
 
     ghost view = { λ a. record { acting = acting a.ties.items a.islands.labels a.colours.lists; room = a.room; slots = a.slots } };
 
-    ghost invariant = { λ a. IsStanding C.number (acting a.ties.items a.islands.labels a.colours.lists) a.room a.slots (record { ties = vec_capacity a.ties; colours = a.colours.room; colour_slots = a.colours.slots; islands = a.islands.room; edges = vec_capacity a.edges; scratch_slots = a.scratch.slots; links = a.scratch.links }) };
+    ghost invariant = { λ a. IsStanding C.number (acting a.ties.items a.islands.labels a.colours.lists) a.room a.slots (record { ties = a.ties.capacity; colours = a.colours.room; colour_slots = a.colours.slots; islands = a.islands.room; edges = vec_capacity a.edges; scratch_slots = a.scratch.slots; links = a.scratch.links; leasts = vec_capacity a.leasts; ties_pending = a.ties.pending; colours_pending = a.colours.pending }) };
 }
 
 impl<C: Id> Sets<C> {
@@ -68,11 +72,13 @@ impl<C: Id> Sets<C> {
         ensures memory_only { IsOkUnless result Refusal.NoMemory }
     {
         Ok(Sets {
-            ties: Vec::new(alloc),
-            colours: Colours::new(alloc)?,
+            ties: EditedList::new(alloc),
+            colours: EditedColours::new(alloc, Colours::new(alloc)?),
             islands: Islands::new(alloc),
+            spare: Vec::new(alloc),
             edges: Vec::new(alloc),
             scratch: SplitScratch::new(alloc),
+            leasts: Vec::new(alloc),
             room: 0,
             slots: 0,
         })
@@ -85,18 +91,22 @@ impl<C: Id> Sets<C> {
         ensures slots { IfOk result (λ copied. copied.slots ≡ self.now.slots) }
         ensures memory_only { IsOkUnless result Refusal.NoMemory }
     {
-        let alloc = *self.ties.allocator();
-        let mut ties = Vec::from_slice(alloc, self.ties.as_slice())?;
-        let mut colours = self.colours.try_copy()?;
+        let alloc = *self.spare.allocator();
+        let mut ties = EditedList::from_members(alloc, self.ties.as_slice())?;
+        let mut colours = EditedColours::new(alloc, self.colours.colours().try_copy()?);
+        let mut spare = Vec::new(alloc);
         let mut islands = self.islands.try_copy()?;
         let mut edges = Vec::new(alloc);
         let mut scratch = SplitScratch::new(alloc);
+        let mut leasts = Vec::new(alloc);
         let room = grow(
             &mut ties,
+            &mut spare,
             &mut colours,
             &mut islands,
             &mut edges,
             &mut scratch,
+            &mut leasts,
             0,
             self.slots,
         )?;
@@ -104,8 +114,10 @@ impl<C: Id> Sets<C> {
             ties,
             colours,
             islands,
+            spare,
             edges,
             scratch,
+            leasts,
             room,
             slots: self.slots,
         })
@@ -123,10 +135,12 @@ impl<C: Id> Sets<C> {
     {
         let room = grow(
             &mut self.ties,
+            &mut self.spare,
             &mut self.colours,
             &mut self.islands,
             &mut self.edges,
             &mut self.scratch,
+            &mut self.leasts,
             constraints,
             slots,
         )?;
@@ -157,7 +171,7 @@ impl<C: Id> Sets<C> {
     pub fn colours(&self) -> &Colours<C>
         ensures { result.now.lists ≡ self.now.acting.lists }
     {
-        &self.colours
+        self.colours.colours()
     }
 
     /// The islands of the movers.
@@ -200,7 +214,7 @@ impl<C: Id> Sets<C> {
     pub fn has(&self, id: C) -> bool
         ensures { result ≡ has_id C.number id self.now.acting.ties }
     {
-        member::has_id(&self.ties, id)
+        member::has_id(self.ties.as_slice(), id)
     }
 
     /// The names of the sleeping islands of the movers in these slots, ascending and each once. Refused 1 where memory is
@@ -209,7 +223,7 @@ impl<C: Id> Sets<C> {
         ensures value { IfOk result (λ names. names.items ≡ names_of self.now.acting.labels slots.now) }
         ensures memory_only { IsOkUnless result Refusal.NoMemory }
     {
-        list_names(*self.ties.allocator(), &self.islands, slots)
+        list_names(*self.spare.allocator(), &self.islands, slots)
     }
 
     // ---- movers come and go
@@ -255,7 +269,12 @@ impl<C: Id> Sets<C> {
         ensures room { self.new.room ≡ self.old.room }
         ensures slots { self.new.slots ≡ self.old.slots }
     {
-        wake_set(&mut self.islands, &mut self.colours, &self.ties, slot);
+        wake_set(
+            &mut self.islands,
+            &mut self.colours,
+            self.ties.as_slice(),
+            slot,
+        );
     }
 
     /// Wakes the islands of a constraint's movers, those that sleep, the first one's first.
@@ -264,7 +283,12 @@ impl<C: Id> Sets<C> {
         ensures room { self.new.room ≡ self.old.room }
         ensures slots { self.new.slots ≡ self.old.slots }
     {
-        wake_movers(&mut self.islands, &mut self.colours, &self.ties, movers);
+        wake_movers(
+            &mut self.islands,
+            &mut self.colours,
+            self.ties.as_slice(),
+            movers,
+        );
     }
 
     /// Wakes the islands of these names, those that sleep, one after the other.
@@ -290,7 +314,13 @@ impl<C: Id> Sets<C> {
         ensures room { self.new.room ≡ self.old.room }
         ensures slots { self.new.slots ≡ self.old.slots }
     {
-        begin(&mut self.islands, &mut self.colours, &mut self.ties, member);
+        begin_now(
+            &mut self.islands,
+            &mut self.colours,
+            &mut self.ties,
+            &mut self.spare,
+            member,
+        );
     }
 
     /// A constraint goes whose movers are awake: it gives up its colour, and the island of two movers gets loose.
@@ -301,7 +331,13 @@ impl<C: Id> Sets<C> {
         ensures room { self.new.room ≡ self.old.room }
         ensures slots { self.new.slots ≡ self.old.slots }
     {
-        end(&mut self.islands, &mut self.colours, &mut self.ties, member);
+        end_now(
+            &mut self.islands,
+            &mut self.colours,
+            &mut self.ties,
+            &mut self.spare,
+            member,
+        );
     }
 
     /// Constraints come whose movers are awake, one after the other.
@@ -312,10 +348,13 @@ impl<C: Id> Sets<C> {
         ensures room { self.new.room ≡ self.old.room }
         ensures slots { self.new.slots ≡ self.old.slots }
     {
-        for place in 0..members.len() {
-            self.settled();
-            self.begin(members[place]);
-        }
+        begin_each_now(
+            &mut self.islands,
+            &mut self.colours,
+            &mut self.ties,
+            &mut self.spare,
+            members,
+        );
     }
 
     /// Constraints go whose movers are awake, one after the other.
@@ -325,10 +364,13 @@ impl<C: Id> Sets<C> {
         ensures room { self.new.room ≡ self.old.room }
         ensures slots { self.new.slots ≡ self.old.slots }
     {
-        for place in 0..members.len() {
-            self.settled();
-            self.end(members[place]);
-        }
+        end_each_now(
+            &mut self.islands,
+            &mut self.colours,
+            &mut self.ties,
+            &mut self.spare,
+            members,
+        );
     }
 
     /// A constraint begins or ends, and its sleeping movers wake before.
@@ -360,9 +402,13 @@ impl<C: Id> Sets<C> {
         ensures room { self.new.room ≡ self.old.room }
         ensures slots { self.new.slots ≡ self.old.slots }
     {
-        for place in 0..changes.len() {
-            self.change(changes[place]);
-        }
+        turn_now(
+            &mut self.islands,
+            &mut self.colours,
+            &mut self.ties,
+            &mut self.spare,
+            changes,
+        );
     }
 
     // ---- islands fall asleep
@@ -374,7 +420,12 @@ impl<C: Id> Sets<C> {
         ensures room { self.new.room ≡ self.old.room }
         ensures slots { self.new.slots ≡ self.old.slots }
     {
-        fall_asleep(&mut self.islands, &mut self.colours, &self.ties, name);
+        fall_asleep(
+            &mut self.islands,
+            &mut self.colours,
+            self.ties.as_slice(),
+            name,
+        );
     }
 
     /// Replaces a loose island by its components, by its name. No constraint changes.
@@ -387,7 +438,7 @@ impl<C: Id> Sets<C> {
     {
         split_set(
             &mut self.islands,
-            &self.ties,
+            self.ties.as_slice(),
             name,
             &mut self.edges,
             &mut self.scratch,
@@ -444,10 +495,18 @@ impl<C: Id> Sets<C> {
         ensures room { self.new.room ≡ self.old.room }
         ensures slots { self.new.slots ≡ self.old.slots }
     {
-        if let Some(name) = pick_split(self.islands(), timers) {
+        if let Some(name) = self.pick_split(timers) {
             self.split(name);
         }
         self.rest_ready(timers);
+    }
+
+    /// The loose island that a sleep phase splits: of those that are ready the one that has been slow for longest.
+    fn pick_split(&mut self, timers: &[u64]) -> Option<u32>
+        ensures picked { result ≡ picked_to_split self.old.acting.labels timers.now }
+        ensures same { self.new ≡ self.old }
+    {
+        pick_split(&mut self.leasts, &self.islands, timers)
     }
 
     /// Each whole island that is ready falls asleep.
@@ -456,10 +515,12 @@ impl<C: Id> Sets<C> {
         ensures room { self.new.room ≡ self.old.room }
         ensures slots { self.new.slots ≡ self.old.slots }
     {
-        for slot in 0..self.islands().slots() {
-            if is_ready(self.islands(), timers, slot as u32) {
-                self.put_to_rest(slot as u32);
-            }
-        }
+        rest_ready(
+            &mut self.islands,
+            &mut self.colours,
+            self.ties.as_slice(),
+            timers,
+            &mut self.leasts,
+        );
     }
 }

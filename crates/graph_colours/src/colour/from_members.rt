@@ -6,6 +6,7 @@ ghost use Rattle.graph_colours.specs.Members.{AreRising, AreApart};
 ghost use Rattle.graph_colours.specs.Given.{AreAllBelow, marked_all};
 
 use crate::colour::Colour;
+use crate::edited::EditedList;
 use crate::marks::set_marks;
 use crate::{Id, Member};
 use fixed_geom::Refusal;
@@ -32,13 +33,14 @@ impl<C: Id> Colour<C> {
         requires apart { AreApart members.now }
         requires below { AreAllBelow slots members.now }
         ensures members { IfOk result (λ made. made.members ≡ members.now) }
+        ensures pending { IfOk result (λ made. made.pending ≡ 0) }
         ensures memory_only { IsOkUnless result Refusal.NoMemory }
     {
         let mut used = Vec::new(alloc);
         used.resize(slots, false)?;
         mark_all(&mut used, members);
         Ok(Colour {
-            members: Vec::from_slice(alloc, members)?,
+            members: EditedList::from_members(alloc, members)?,
             used,
         })
     }

@@ -8,7 +8,8 @@ ghost use Rattle.graph_colours.specs.Marks.{members_in};
 ghost use Rattle.graph_colours.specs.Given.{AreAllBelow, members_of};
 
 use crate::colour::Colour;
-use crate::colours::{Colours, reserve_lists};
+use crate::colours::{Colours, Size, reserve_lists};
+use crate::edited::EditedList;
 use crate::limits::COLOURS;
 use crate::{Id, Member};
 use fixed_geom::Refusal;
@@ -23,6 +24,7 @@ fn colours_in<C: Id>(
     requires colouring { IsColouring C.number (members_of lists.now) }
     requires below { All (AreAllBelow slots) (members_of lists.now) }
     ensures lists { IfOk result (λ colours. map members_in colours.items ≡ take COLOURS (members_of lists.now)) }
+    ensures rest { IfOk result (λ colours. All (λ b. b.pending ≡ 0) colours.items) }
     ensures memory_only { IsOkUnless result Refusal.NoMemory }
 {
     let mut colours = Vec::new(alloc);
@@ -50,14 +52,17 @@ impl<C: Id> Colours<C> {
         ensures memory_only { IsOkUnless result Refusal.NoMemory }
     {
         let mut colours = colours_in(alloc, lists, slots)?;
-        let mut overflow = Vec::from_slice(alloc, lists[COLOURS].as_slice())?;
+        let mut overflow = EditedList::from_members(alloc, lists[COLOURS].as_slice())?;
         reserve_lists(&mut colours, &mut overflow, count, slots)?;
         Ok(Colours {
             colours,
             overflow,
-            count,
-            room: 0,
-            slots,
+            spare: Vec::new(alloc),
+            size: Size {
+                count,
+                total: count,
+                slots,
+            },
         })
     }
 }

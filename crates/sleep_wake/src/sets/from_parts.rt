@@ -9,7 +9,7 @@ ghost use Rattle.sleep_wake.specs.Acting.{acting, IsSettled};
 use crate::growing::grow;
 use crate::sets::Sets;
 use fixed_geom::Refusal;
-use graph_colours::{Colours, Id, Member};
+use graph_colours::{Colours, EditedColours, EditedList, Id, Member};
 use islands::{Islands, Label, SplitScratch};
 use std::alloc::Global;
 
@@ -32,17 +32,24 @@ impl<C: Id> Sets<C> {
         ensures memory_only { IsOkUnless result Refusal.NoMemory }
     {
         let slots = labels.len();
-        let mut kept = Vec::from_slice(alloc, ties)?;
-        let mut colours = Colours::from_lists(alloc, lists, count, slots)?;
+        let mut kept = EditedList::from_members(alloc, ties)?;
+        let mut spare = Vec::new(alloc);
+        let mut colours = EditedColours::new(
+            alloc,
+            Colours::from_lists(alloc, lists, count, slots)?,
+        );
         let mut islands = Islands::from_labels(alloc, labels)?;
         let mut edges = Vec::new(alloc);
         let mut scratch = SplitScratch::new(alloc);
+        let mut leasts = Vec::new(alloc);
         let room = grow(
             &mut kept,
+            &mut spare,
             &mut colours,
             &mut islands,
             &mut edges,
             &mut scratch,
+            &mut leasts,
             0,
             slots,
         )?;
@@ -50,8 +57,10 @@ impl<C: Id> Sets<C> {
             ties: kept,
             colours,
             islands,
+            spare,
             edges,
             scratch,
+            leasts,
             room,
             slots,
         })

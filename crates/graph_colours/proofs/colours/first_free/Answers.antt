@@ -14,5 +14,5 @@ returns-then-is_free g c =
 pub returns : goal.returns
 returns g c =
     let p : Bucket g.row.C.Denot → Bool = λ b. is_free b.members c.args.movers in
-    let e : Bucket g.row.C.Denot = record { members = []; capacity = 0; slots = 0 } in
+    let e : Bucket g.row.C.Denot = record { members = []; capacity = 0; pending = 0; slots = 0 } in
     sym (position_or_len_is p c.args.colours.now (length c.args.colours.now) e (omega arith) (λ k lt. c.loop-place.invariant k e (omega arith) (omega (arith, c.loop-place-test.false))) (λ lt. absurd (omega arith)))

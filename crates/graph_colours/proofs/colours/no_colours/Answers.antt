@@ -7,4 +7,4 @@ pub returns-clause-lists : goal.returns-clause-lists
 returns-clause-lists g c =
     let n : c.loop-made._made ≡ COLOURS = omega (arith, c.loop-made-test.false, c.loop-made.auto._made-end) in
     let none : List (Member g.row.C.Denot) = [] in
-    c.loop-made.invariant ∙ ap (λ k. replicate k none) n
+    c.loop-made.invariant.lists ∙ ap (λ k. replicate k none) n

@@ -1,10 +1,9 @@
 use Rattle.std.proofs.Common.{◌≡◌, ◌+◌, ◌<◌, ◌∷◌, length, drop, sym, ◌∙◌, arith}
 use Rattle.std.specs.Prelude.{filter}
-use Rattle.graph_colours.specs.Colours.{all_members}
 use Rattle.islands.proofs.JoinLemmas.{contains_head}
 use Rattle.sleep_wake.specs.Waking.{has_mover_of, placed_all}
 use Rattle.sleep_wake.specs.Rooms.{CanPlace}
-use Rattle.sleep_wake.proofs.SetLemmas.{front_is, passed_by, placed_one, room_for_one, one_more, placed_wanted, passed_left}
+use Rattle.sleep_wake.proofs.SetLemmas.{front_is, passed_by, placed_one, room_for_one, placed_wanted, passed_left}
 use Rattle.sleep_wake.proofs.waking.place_island.Goals as goal
 use Rattle.sleep_wake.proofs.waking.place_island.Goals.{then-are_in, else-are_in}
 
@@ -39,7 +38,7 @@ loop-place-preserved g c =
         can = rw w.place.ensures.lists (placed_one g.C.Id.number (has_mover_of c.args.islands.now.labels c.args.name) m rest c.loop-place.colours.lists c.loop-place.colours.room w.place.new.self.room w.place.new.self.slots (rw w.place.ensures.slots can) (sym c.are_in.ensures ∙ w.if-are_in.true) w.place.ensures.room);
         rest = rw w.place.ensures.lists (sym (placed_wanted g.C.Id.number (has_mover_of c.args.islands.now.labels c.args.name) m rest c.loop-place.colours.lists (sym c.are_in.ensures ∙ w.if-are_in.true)) ∙ left);
         slots = w.place.ensures.slots ∙ c.loop-place.invariant.slots;
-        room = let more = one_more m (all_members c.loop-place.colours.lists) (all_members w.place.new.self.lists) w.place.ensures.members in omega (arith, more, w.place.ensures.room, c.loop-place.invariant.room);
+        room = w.place.ensures.total ∙ c.loop-place.invariant.room;
       })
       | else-are_in w ↦ rw w.colours-is (record {
         can = passed_by g.C.Id.number (has_mover_of c.args.islands.now.labels c.args.name) m rest c.loop-place.colours.lists c.loop-place.colours.room c.loop-place.colours.slots can (sym c.are_in.ensures ∙ w.if-are_in.false);

@@ -6,7 +6,7 @@ use Rattle.graph_colours.proofs.colour.Colour.reserve.Goals as goal
 pub invariant_of-self-2 : goal.invariant_of-self-2
 invariant_of-self-2 g c =
     let used = c.self.inside.used in
-    let n = c.max-2.result in
+    let n = c.max.result in
     let is = c.in_ok-resize.ensures.items in
-    let le : length used.items ≤ n = omega (arith, used.ok.0, c.max-2.ensures, c.len-3.ensures) in
+    let le : length used.items ≤ n = omega (arith, used.ok.0, c.max.ensures, c.len.ensures) in
     rw (c.in_ok-reserve.ensures.items, is) (kept_longer g.C.Id.number c.self.inside.members.items used.items (take n used.items ++ replicate (n - vec_len used) false) c.self.invariant (λ k. resized used.items n (n - vec_len used) k le))

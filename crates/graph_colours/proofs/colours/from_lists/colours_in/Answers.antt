@@ -5,6 +5,7 @@ use Rattle.graph_colours.specs.Colours.{list_at}
 use Rattle.graph_colours.specs.Given.{members_of}
 use Rattle.graph_colours.proofs.GraphLemmas.{apart_at, rising_at}
 use Rattle.graph_colours.proofs.GivenLaws.{below_at, colours_more, vector_at}
+use Rattle.graph_colours.proofs.StepLemmas.{rest_more}
 use Rattle.graph_colours.proofs.colours.from_lists.colours_in.Goals as goal
 
 pub from_members-requires-clause-rising : goal.from_members-requires-clause-rising
@@ -31,4 +32,7 @@ loop-place-preserved g c =
     let lt : place < COLOURS + 1 = omega (arith, c.loop-place-test.true) in
     let is = vector_at c.args.lists.now place (COLOURS + 1) c.index-lists-place.result c.as_slice.result.now c.requires.colouring.count lt c.index-lists-place.is c.as_slice.ensures.value in
     let pushed : c.push.new.self.items ≡ c.loop-place.colours.items ++ c.in_ok-from_members.field-0 ∷ [] = grind (arith, common_steps) in
-    colours_more c.loop-place.colours.items c.push.new.self.items c.in_ok-from_members.field-0 (members_of c.args.lists.now) place (COLOURS + 1) c.requires.colouring.count lt pushed (c.in_ok-from_members.ensures.members ∙ is) c.loop-place.invariant
+    record {
+      lists = colours_more c.loop-place.colours.items c.push.new.self.items c.in_ok-from_members.field-0 (members_of c.args.lists.now) place (COLOURS + 1) c.requires.colouring.count lt pushed (c.in_ok-from_members.ensures.members ∙ is) c.loop-place.invariant.lists;
+      rest = rest_more c.loop-place.colours.items c.push.new.self.items c.in_ok-from_members.field-0 pushed c.in_ok-from_members.ensures.pending c.loop-place.invariant.rest;
+    }

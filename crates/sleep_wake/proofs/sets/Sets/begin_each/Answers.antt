@@ -1,27 +1,36 @@
-use Rattle.std.proofs.Common.{◌≡◌, ◌+◌, ◌<◌, ◌≤◌, ◌∷◌, drop, length, sym, ap, ◌∙◌, subst, arith}
-use Rattle.sleep_wake.specs.Acting.{Acting}
-use Rattle.sleep_wake.specs.Changes.{CanBegin, each_begun}
-use Rattle.sleep_wake.proofs.SetLemmas.{front_is}
-use Rattle.sleep_wake.proofs.FoldLemmas.{begin_next, begun_more}
+use Rattle.std.proofs.Common.{◌≡◌, ◌≤◌, length, refl, sym, ap, ◌∙◌, subst, arith}
+use Rattle.std.specs.Vec.{vec_capacity}
+use Rattle.sleep_wake.specs.Acting.{Acting, acting, IsSettled}
+use Rattle.sleep_wake.specs.Changes.{each_begun}
+use Rattle.sleep_wake.proofs.StandLemmas.{stands}
+use Rattle.sleep_wake.proofs.FoldLemmas.{each_begun_few}
+use Rattle.sleep_wake.proofs.LengthLemmas.{each_begun_long}
+use Rattle.sleep_wake.proofs.LawLemmas.{beginning_each_keeps}
 use Rattle.sleep_wake.proofs.sets.Sets.begin_each.Goals as goal
 
-pub loop-place-preserved : goal.loop-place-preserved
-loop-place-preserved g c =
+pub begin_each_now-requires-clause-can : goal.begin_each_now-requires-clause-can
+begin_each_now-requires-clause-can g c = rw (← c.self.view_is) at c.requires.can
+
+pub begin_each_now-requires-clause-ties_room : goal.begin_each_now-requires-clause-ties_room
+begin_each_now-requires-clause-ties_room g c = let room = rw (← c.self.view_is) at c.requires.room in omega (arith, room, c.self.invariant.rooms.ties)
+
+pub begin_each_now-requires-clause-room : goal.begin_each_now-requires-clause-room
+begin_each_now-requires-clause-room g c = let room = rw (← c.self.view_is) at c.requires.room in omega (arith, room, c.self.invariant.rooms.colours)
+
+pub invariant_of-self : goal.invariant_of-self
+invariant_of-self g c =
+    let a = c.self.inside in
     let n = g.C.Id.number in
-    let now = c.loop-place.self.acting in
-    let m = c.index-members-place.result in
-    let rest = drop (c.loop-place.place + 1) c.args.members.now in
-    let lt : c.loop-place.place < length c.args.members.now = omega (arith, c.loop-place-test.true, c.loop-place.auto.place-end) in
-    let front : drop c.loop-place.place c.args.members.now ≡ m ∷ rest = front_is c.args.members.now c.loop-place.place m lt c.index-members-place.is in
-    let can : CanBegin n (m ∷ rest) now = rw front at c.loop-place.invariant.can in
-    let left : each_begun n (m ∷ rest) now ≡ each_begun n c.args.members.now c.args.self.now.acting = rw front at c.loop-place.invariant.rest in
-    let few : length now.ties + length (m ∷ rest) ≤ c.loop-place.self.room = rw front at c.loop-place.invariant.few in
-    let more : length c.begin.new.self.acting.ties ≡ length now.ties + 1 = ap (λ (v : Acting g.row.C.Denot). length v.ties) c.begin.ensures.acting ∙ begun_more n m now in
-    let P : Acting g.row.C.Denot → Type 0 = λ v. CanBegin n rest v in
-    record {
-      can = subst P (sym c.begin.ensures.acting) (begin_next n m rest now c.settled.ensures can);
-      rest = ap (λ (v : Acting g.row.C.Denot). each_begun n rest v) c.begin.ensures.acting ∙ left;
-      few = omega (arith, few, more, c.begin.ensures.room);
-      room = c.begin.ensures.room ∙ c.loop-place.invariant.room;
-      slots = c.begin.ensures.slots ∙ c.loop-place.invariant.slots;
-    }
+    let s : Acting g.row.C.Denot = acting a.ties.items a.islands.labels a.colours.lists in
+    let new : Acting g.row.C.Denot = acting c.begin_each_now.new.ties.items c.begin_each_now.new.islands.labels c.begin_each_now.new.colours.lists in
+    let is : new ≡ each_begun n c.args.members.now s = c.begin_each_now.ensures.begun in
+    let can = rw (← c.self.view_is) at c.requires.can in
+    let room = rw (← c.self.view_is) at c.requires.room in
+    let Q : Acting g.row.C.Denot → Type 0 = λ v. length v.ties ≤ a.room in
+    let P : Acting g.row.C.Denot → Type 0 = λ v. IsSettled n v in
+    let few : length new.labels ≡ length s.labels = ap (λ (v : Acting g.row.C.Denot). length v.labels) is ∙ each_begun_long n c.args.members.now s in
+    stands n s new a.room a.slots (record { ties = a.ties.capacity; colours = a.colours.room; colour_slots = a.colours.slots; islands = a.islands.room; edges = vec_capacity a.edges; scratch_slots = a.scratch.slots; links = a.scratch.links; leasts = vec_capacity a.leasts; ties_pending = a.ties.pending; colours_pending = a.colours.pending }) (record { ties = c.begin_each_now.new.ties.capacity; colours = c.begin_each_now.new.colours.room; colour_slots = c.begin_each_now.new.colours.slots; islands = c.begin_each_now.new.islands.room; edges = vec_capacity a.edges; scratch_slots = a.scratch.slots; links = a.scratch.links; leasts = vec_capacity a.leasts; ties_pending = c.begin_each_now.new.ties.pending; colours_pending = c.begin_each_now.new.colours.pending }) c.self.invariant
+    (subst P (sym is) (beginning_each_keeps n s c.args.members.now c.self.invariant.settled can))
+    (subst Q (sym is) (each_begun_few n c.args.members.now s a.room room))
+    (omega (arith, few, c.self.invariant.few))
+    (record { ties = c.begin_each_now.ensures.capacity; colours = c.begin_each_now.ensures.room; colour_slots = c.begin_each_now.ensures.slots; islands = c.begin_each_now.ensures.islands_room; edges = omega arith; scratch_slots = refl; links = refl; leasts = omega arith; ties_settled = c.begin_each_now.ensures.ties_settled; colours_settled = c.begin_each_now.ensures.colours_settled })

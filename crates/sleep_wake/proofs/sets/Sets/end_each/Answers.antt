@@ -1,24 +1,30 @@
-use Rattle.std.proofs.Common.{◌≡◌, ◌+◌, ◌<◌, ◌∷◌, drop, length, sym, ap, ◌∙◌, subst, arith}
-use Rattle.sleep_wake.specs.Acting.{Acting}
-use Rattle.sleep_wake.specs.Changes.{CanEnd, each_ended}
-use Rattle.sleep_wake.proofs.SetLemmas.{front_is}
-use Rattle.sleep_wake.proofs.FoldLemmas.{end_next}
+use Rattle.std.proofs.Common.{◌≡◌, ◌≤◌, length, refl, sym, ap, ◌∙◌, subst, arith}
+use Rattle.std.specs.Vec.{vec_capacity}
+use Rattle.sleep_wake.specs.Acting.{Acting, acting, IsSettled}
+use Rattle.sleep_wake.specs.Changes.{each_ended}
+use Rattle.sleep_wake.proofs.StandLemmas.{stands}
+use Rattle.sleep_wake.proofs.FoldLemmas.{each_ended_few}
+use Rattle.sleep_wake.proofs.LengthLemmas.{each_ended_long}
+use Rattle.sleep_wake.proofs.LawLemmas.{ending_each_keeps}
 use Rattle.sleep_wake.proofs.sets.Sets.end_each.Goals as goal
 
-pub loop-place-preserved : goal.loop-place-preserved
-loop-place-preserved g c =
+pub end_each_now-requires-clause-can : goal.end_each_now-requires-clause-can
+end_each_now-requires-clause-can g c = rw (← c.self.view_is) at c.requires.can
+
+pub invariant_of-self : goal.invariant_of-self
+invariant_of-self g c =
+    let a = c.self.inside in
     let n = g.C.Id.number in
-    let now = c.loop-place.self.acting in
-    let m = c.index-members-place.result in
-    let rest = drop (c.loop-place.place + 1) c.args.members.now in
-    let lt : c.loop-place.place < length c.args.members.now = omega (arith, c.loop-place-test.true, c.loop-place.auto.place-end) in
-    let front : drop c.loop-place.place c.args.members.now ≡ m ∷ rest = front_is c.args.members.now c.loop-place.place m lt c.index-members-place.is in
-    let can : CanEnd n (m ∷ rest) now = rw front at c.loop-place.invariant.can in
-    let left : each_ended n (m ∷ rest) now ≡ each_ended n c.args.members.now c.args.self.now.acting = rw front at c.loop-place.invariant.rest in
-    let P : Acting g.row.C.Denot → Type 0 = λ v. CanEnd n rest v in
-    record {
-      can = subst P (sym c.end.ensures.acting) (end_next n m rest now c.settled.ensures can);
-      rest = ap (λ (v : Acting g.row.C.Denot). each_ended n rest v) c.end.ensures.acting ∙ left;
-      room = c.end.ensures.room ∙ c.loop-place.invariant.room;
-      slots = c.end.ensures.slots ∙ c.loop-place.invariant.slots;
-    }
+    let s : Acting g.row.C.Denot = acting a.ties.items a.islands.labels a.colours.lists in
+    let new : Acting g.row.C.Denot = acting c.end_each_now.new.ties.items c.end_each_now.new.islands.labels c.end_each_now.new.colours.lists in
+    let is : new ≡ each_ended n c.args.members.now s = c.end_each_now.ensures.ended in
+    let can = rw (← c.self.view_is) at c.requires.can in
+    let fewer : length (each_ended n c.args.members.now s).ties ≤ length s.ties = each_ended_few n c.args.members.now s in
+    let same : length new.ties ≡ length (each_ended n c.args.members.now s).ties = ap (λ (v : Acting g.row.C.Denot). length v.ties) is in
+    let P : Acting g.row.C.Denot → Type 0 = λ v. IsSettled n v in
+    let few : length new.labels ≡ length s.labels = ap (λ (v : Acting g.row.C.Denot). length v.labels) is ∙ each_ended_long n c.args.members.now s in
+    stands n s new a.room a.slots (record { ties = a.ties.capacity; colours = a.colours.room; colour_slots = a.colours.slots; islands = a.islands.room; edges = vec_capacity a.edges; scratch_slots = a.scratch.slots; links = a.scratch.links; leasts = vec_capacity a.leasts; ties_pending = a.ties.pending; colours_pending = a.colours.pending }) (record { ties = c.end_each_now.new.ties.capacity; colours = c.end_each_now.new.colours.room; colour_slots = c.end_each_now.new.colours.slots; islands = c.end_each_now.new.islands.room; edges = vec_capacity a.edges; scratch_slots = a.scratch.slots; links = a.scratch.links; leasts = vec_capacity a.leasts; ties_pending = c.end_each_now.new.ties.pending; colours_pending = c.end_each_now.new.colours.pending }) c.self.invariant
+    (subst P (sym is) (ending_each_keeps n s c.args.members.now c.self.invariant.settled can))
+    (omega (arith, fewer, same, c.self.invariant.enough))
+    (omega (arith, few, c.self.invariant.few))
+    (record { ties = c.end_each_now.ensures.capacity; colours = c.end_each_now.ensures.room; colour_slots = c.end_each_now.ensures.slots; islands = c.end_each_now.ensures.islands_room; edges = omega arith; scratch_slots = refl; links = refl; leasts = omega arith; ties_settled = c.end_each_now.ensures.ties_settled; colours_settled = c.end_each_now.ensures.colours_settled })

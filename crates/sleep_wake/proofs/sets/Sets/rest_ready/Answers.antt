@@ -1,30 +1,30 @@
-use Rattle.std.proofs.Common.{◌+◌, ◌<◌, length, sym, ap, ◌∙◌, arith}
-use Rattle.sleep_wake.specs.Acting.{Acting}
-use Rattle.sleep_wake.specs.SleepPhase.{all_put_to_rest}
-use Rattle.sleep_wake.proofs.SizeLemmas.{rested_size}
-use Rattle.sleep_wake.proofs.RestLemmas.{still_ready, then_ready, not_ready}
+use Rattle.std.proofs.Common.{◌≡◌, length, refl, sym, ap, ◌∙◌, subst, arith, false}
+use Rattle.std.specs.Vec.{vec_capacity}
+use Rattle.sleep_wake.specs.Acting.{Acting, acting, IsSettled}
+use Rattle.sleep_wake.specs.SleepPhase.{ready, ready_put_to_rest}
+use Rattle.sleep_wake.proofs.StandLemmas.{stands_on}
+use Rattle.sleep_wake.proofs.PhaseLemmas.{ready_settled}
+use Rattle.sleep_wake.proofs.LengthLemmas.{all_rest_long}
+use Rattle.sleep_wake.proofs.RestingLaws.{all_ties}
+use Rattle.sleep_wake.proofs.TurnOwn.{own_of}
 use Rattle.sleep_wake.proofs.sets.Sets.rest_ready.Goals as goal
-use Rattle.sleep_wake.proofs.sets.Sets.rest_ready.Goals.{then-is_ready, else-is_ready}
 
-pub loop-slot-preserved : goal.loop-slot-preserved
-loop-slot-preserved g c =
+pub invariant_of-self : goal.invariant_of-self
+invariant_of-self g c =
+    let a = c.self.inside in
     let n = g.C.Id.number in
-    let now = c.loop-slot.self.acting in
     let timers = c.args.timers.now in
-    let slot = c.loop-slot.slot in
-    let lt : slot < length now.labels = omega (arith, c.loop-slot-test.true, c.loop-slot.auto.slot-end, c.slots-slot-end.ensures.value, ap length c.islands.ensures, c.loop-slot.invariant.size) in
-    let answer = rw c.islands-in-loop-slot.ensures at c.is_ready.ensures in
-    elim c.if-is_ready.branch [
-      | then-is_ready w ↦ rw w.self-is (record {
-        rest = ap (λ (v : Acting g.row.C.Denot). all_put_to_rest n (still_ready timers v.labels (slot + 1)) v) w.put_to_rest.ensures.acting ∙ then_ready n timers slot now lt (sym answer ∙ w.if-is_ready.true) ∙ c.loop-slot.invariant.rest;
-        size = ap (λ (v : Acting g.row.C.Denot). length v.labels) w.put_to_rest.ensures.acting ∙ rested_size n slot now ∙ c.loop-slot.invariant.size;
-        room = w.put_to_rest.ensures.room ∙ c.loop-slot.invariant.room;
-        slots = w.put_to_rest.ensures.slots ∙ c.loop-slot.invariant.slots;
-      })
-      | else-is_ready w ↦ rw w.self-is (record {
-        rest = not_ready n timers slot now lt (sym answer ∙ w.if-is_ready.false) ∙ c.loop-slot.invariant.rest;
-        size = c.loop-slot.invariant.size;
-        room = c.loop-slot.invariant.room;
-        slots = c.loop-slot.invariant.slots;
-      })
-    ]
+    let s : Acting g.row.C.Denot = acting a.ties.items a.islands.labels a.colours.lists in
+    let new : Acting g.row.C.Denot = acting a.ties.items c.rest_ready.new.islands.labels c.rest_ready.new.colours.lists in
+    let is : new ≡ ready_put_to_rest n timers s = rw c.as_slice.ensures.value at c.rest_ready.ensures.at_rest in
+    let P : Acting g.row.C.Denot → Type 0 = λ v. IsSettled n v in
+    stands_on n s new a.room a.slots (record { ties = a.ties.capacity; colours = a.colours.room; colour_slots = a.colours.slots; islands = a.islands.room; edges = vec_capacity a.edges; scratch_slots = a.scratch.slots; links = a.scratch.links; leasts = vec_capacity a.leasts; ties_pending = a.ties.pending; colours_pending = a.colours.pending }) (record { ties = a.ties.capacity; colours = c.rest_ready.new.colours.room; colour_slots = c.rest_ready.new.colours.slots; islands = c.rest_ready.new.islands.room; edges = vec_capacity a.edges; scratch_slots = a.scratch.slots; links = a.scratch.links; leasts = vec_capacity c.rest_ready.new.leasts; ties_pending = a.ties.pending; colours_pending = c.rest_ready.new.colours.pending }) c.self.invariant
+    (subst P (sym is) (ready_settled n timers s c.self.invariant.settled))
+    (ap (λ (v : Acting g.row.C.Denot). v.ties) is ∙ all_ties n (ready false s.labels timers) s)
+    (ap (λ (v : Acting g.row.C.Denot). length v.labels) is ∙ all_rest_long n (ready false s.labels timers) s)
+    (record { ties = omega arith; colours = c.rest_ready.ensures.room; colour_slots = c.rest_ready.ensures.slots; islands = c.rest_ready.ensures.islands_room; edges = omega arith; scratch_slots = refl; links = refl; leasts = c.rest_ready.ensures.capacity; ties_settled = c.self.invariant.rooms.ties_settled; colours_settled = c.rest_ready.ensures.pending })
+
+pub rest_ready-requires-clause-own : goal.rest_ready-requires-clause-own
+rest_ready-requires-clause-own g c =
+    let a = c.self.inside in
+    rw c.as_slice.ensures.value (own_of g.C.Id.number (acting a.ties.items a.islands.labels a.colours.lists) c.self.invariant.settled)

@@ -1,44 +1,36 @@
-use Rattle.std.proofs.Common.{◌≡◌, ◌+◌, ◌<◌, ◌≤◌, ◌∷◌, drop, length, sym, ap, ◌∙◌, subst, arith}
-use Rattle.sleep_wake.specs.Acting.{Acting}
-use Rattle.sleep_wake.specs.Changes.{AreChanges, turned, begin_count}
-use Rattle.sleep_wake.proofs.FoldLemmas.{Labelled, change_now, change_next, one_count, count_next, changed_labelled, first_is}
+use Rattle.std.proofs.Common.{◌≡◌, ◌≤◌, length, refl, sym, ap, ◌∙◌, subst, arith}
+use Rattle.std.specs.Vec.{vec_capacity}
+use Rattle.sleep_wake.specs.Acting.{Acting, acting, IsSettled}
+use Rattle.sleep_wake.specs.Changes.{turned}
+use Rattle.sleep_wake.proofs.StandLemmas.{stands}
+use Rattle.sleep_wake.proofs.KeptLemmas.{turning_keeps}
+use Rattle.sleep_wake.proofs.LengthLemmas.{turned_long}
+use Rattle.sleep_wake.proofs.TurnOwn.{turned_few}
 use Rattle.sleep_wake.proofs.sets.Sets.turn.Goals as goal
 
-pub change-requires-clause-can : goal.change-requires-clause-can
-change-requires-clause-can g c =
-    let m = c.index-changes-place.result in
-    let rest = drop (c.loop-place.place + 1) c.args.changes.now in
-    let lt : c.loop-place.place < length c.args.changes.now = omega (arith, c.loop-place-test.true, c.loop-place.auto.place-end) in
-    let front : drop c.loop-place.place c.args.changes.now ≡ m ∷ rest = first_is c.args.changes.now c.loop-place.place m lt c.index-changes-place.is in
-    change_now g.C.Id.number c.args.self.now.acting.labels c.loop-place.self.acting.labels c.loop-place.self.acting.ties m rest c.loop-place.invariant.labelled (rw front at c.loop-place.invariant.can)
+pub turn_now-requires-clause-can : goal.turn_now-requires-clause-can
+turn_now-requires-clause-can g c = rw (← c.self.view_is) at c.requires.can
 
-pub change-requires-clause-room : goal.change-requires-clause-room
-change-requires-clause-room g c =
-    let m = c.index-changes-place.result in
-    let rest = drop (c.loop-place.place + 1) c.args.changes.now in
-    let lt : c.loop-place.place < length c.args.changes.now = omega (arith, c.loop-place-test.true, c.loop-place.auto.place-end) in
-    let front : drop c.loop-place.place c.args.changes.now ≡ m ∷ rest = first_is c.args.changes.now c.loop-place.place m lt c.index-changes-place.is in
-    one_count (length c.loop-place.self.acting.ties) c.loop-place.self.room m rest (rw front at c.loop-place.invariant.few)
+pub turn_now-requires-clause-ties_room : goal.turn_now-requires-clause-ties_room
+turn_now-requires-clause-ties_room g c = let room = rw (← c.self.view_is) at c.requires.room in omega (arith, room, c.self.invariant.rooms.ties)
 
-pub loop-place-preserved : goal.loop-place-preserved
-loop-place-preserved g c =
+pub turn_now-requires-clause-room : goal.turn_now-requires-clause-room
+turn_now-requires-clause-room g c = let room = rw (← c.self.view_is) at c.requires.room in omega (arith, room, c.self.invariant.rooms.colours)
+
+pub invariant_of-self : goal.invariant_of-self
+invariant_of-self g c =
+    let a = c.self.inside in
     let n = g.C.Id.number in
-    let now = c.loop-place.self.acting in
-    let m = c.index-changes-place.result in
-    let rest = drop (c.loop-place.place + 1) c.args.changes.now in
-    let lt : c.loop-place.place < length c.args.changes.now = omega (arith, c.loop-place-test.true, c.loop-place.auto.place-end) in
-    let front : drop c.loop-place.place c.args.changes.now ≡ m ∷ rest = first_is c.args.changes.now c.loop-place.place m lt c.index-changes-place.is in
-    let can = change_next n c.args.self.now.acting.labels now m rest (rw front at c.loop-place.invariant.can) in
-    let few = count_next n now c.loop-place.self.room m rest (rw front at c.loop-place.invariant.few) in
-    let left : turned n (m ∷ rest) now ≡ turned n c.args.changes.now c.args.self.now.acting = rw front at c.loop-place.invariant.rest in
-    let P : Acting g.row.C.Denot → Type 0 = λ v. AreChanges n c.args.self.now.acting.labels v.ties rest in
-    let Q : Acting g.row.C.Denot → Type 0 = λ v. Labelled c.args.self.now.acting.labels v.labels in
-    let R : Acting g.row.C.Denot → Type 0 = λ v. length v.ties + begin_count rest ≤ c.change.new.self.room in
-    record {
-      can = subst P (sym c.change.ensures.acting) can;
-      labelled = subst Q (sym c.change.ensures.acting) (λ t h. changed_labelled n m now t (c.loop-place.invariant.labelled t h));
-      rest = ap (λ (v : Acting g.row.C.Denot). turned n rest v) c.change.ensures.acting ∙ left;
-      few = subst R (sym c.change.ensures.acting) (omega (arith, few, c.change.ensures.room));
-      room = c.change.ensures.room ∙ c.loop-place.invariant.room;
-      slots = c.change.ensures.slots ∙ c.loop-place.invariant.slots;
-    }
+    let s : Acting g.row.C.Denot = acting a.ties.items a.islands.labels a.colours.lists in
+    let new : Acting g.row.C.Denot = acting c.turn_now.new.ties.items c.turn_now.new.islands.labels c.turn_now.new.colours.lists in
+    let is : new ≡ turned n c.args.changes.now s = c.turn_now.ensures.turned in
+    let can = rw (← c.self.view_is) at c.requires.can in
+    let room = rw (← c.self.view_is) at c.requires.room in
+    let P : Acting g.row.C.Denot → Type 0 = λ v. IsSettled n v in
+    let Q : Acting g.row.C.Denot → Type 0 = λ v. length v.ties ≤ a.room in
+    let few : length new.labels ≡ length s.labels = ap (λ (v : Acting g.row.C.Denot). length v.labels) is ∙ turned_long n c.args.changes.now s in
+    stands n s new a.room a.slots (record { ties = a.ties.capacity; colours = a.colours.room; colour_slots = a.colours.slots; islands = a.islands.room; edges = vec_capacity a.edges; scratch_slots = a.scratch.slots; links = a.scratch.links; leasts = vec_capacity a.leasts; ties_pending = a.ties.pending; colours_pending = a.colours.pending }) (record { ties = c.turn_now.new.ties.capacity; colours = c.turn_now.new.colours.room; colour_slots = c.turn_now.new.colours.slots; islands = c.turn_now.new.islands.room; edges = vec_capacity a.edges; scratch_slots = a.scratch.slots; links = a.scratch.links; leasts = vec_capacity a.leasts; ties_pending = c.turn_now.new.ties.pending; colours_pending = c.turn_now.new.colours.pending }) c.self.invariant
+    (subst P (sym is) (turning_keeps n s c.args.changes.now c.self.invariant.settled can))
+    (subst Q (sym is) (turned_few n c.args.changes.now s a.room room))
+    (omega (arith, few, c.self.invariant.few))
+    (record { ties = c.turn_now.ensures.capacity; colours = c.turn_now.ensures.room; colour_slots = c.turn_now.ensures.slots; islands = c.turn_now.ensures.islands_room; edges = omega arith; scratch_slots = refl; links = refl; leasts = omega arith; ties_settled = c.turn_now.ensures.ties_settled; colours_settled = c.turn_now.ensures.colours_settled })

@@ -1,0 +1,70 @@
+-- All islands of a sleep phase together: the least timer of each, and what falls asleep by these.
+use Rattle.std.specs.Prelude.{◌≡◌, ℕ, suc, ◌&&◌, ◌||◌, Bool, true, false, not, cond, List, [], ◌∷◌, Option, Some, None, slice_set}
+use Rattle.std.specs.List.{slice_index_or}
+use Rattle.graph_colours.specs.declared.member.Movers.{Movers}
+use Rattle.graph_colours.specs.declared.member.Member.{Member}
+use Rattle.islands.specs.declared.label.Label.{Label}
+use Rattle.islands.specs.Labels.{Labels, label_at, is_loose, is_asleep, rested}
+use Rattle.sleep_wake.specs.SleepPhase.{lesser, least_timer, is_due, is_island, longer_at_rest, longest_at_rest}
+
+-- ---- the least timer of each island
+
+-- the least timer that a list has for the island of this name; None past the end too
+abbrev pub least_at : List (Option ℕ) → ℕ → Option ℕ
+least_at leasts name = slice_index_or leasts name None
+
+-- the island of this name has a mover with this timer too
+abbrev pub lowered : List (Option ℕ) → ℕ → ℕ → List (Option ℕ)
+lowered leasts name t = slice_set leasts name (Some (lesser t (least_at leasts name)))
+
+-- the list has the least timer of each island, by its name
+pub record AreLeast (labels : Labels) (timers : List ℕ) (leasts : List (Option ℕ)) : Type 0 where
+  pub each : (name : ℕ) → least_at leasts name ≡ least_timer name labels timers
+
+-- ---- which islands are ready, where `timer` has the least timer of each
+
+abbrev pub is_due_island : Bool → (ℕ → Option ℕ) → ℕ → Option Label → Bool
+is_due_island loose timer slot o = is_island loose slot o && is_due (timer slot)
+
+-- where the list begins with this slot
+abbrev pub due_from : Bool → (ℕ → Option ℕ) → ℕ → Labels → List ℕ
+due_from loose timer slot [] = []
+due_from loose timer slot (o ∷ rest) = cond (is_due_island loose timer slot o) (slot ∷ due_from loose timer (suc slot) rest) (due_from loose timer (suc slot) rest)
+
+-- the names of the loose islands that are ready, or of the whole ones, ascending
+abbrev pub due_names : Bool → (ℕ → Option ℕ) → Labels → List ℕ
+due_names loose timer labels = due_from loose timer 0 labels
+
+-- ---- the island to split
+
+-- the best so far, once the label in a slot was looked at too
+abbrev pub weighed_by : (ℕ → Option ℕ) → Option ℕ → ℕ → Option Label → Option ℕ
+weighed_by timer best slot o = cond (is_due_island true timer slot o) (longer_at_rest timer best slot) best
+
+-- of the loose islands that are ready, the one with the greatest least timer, the lowest of those
+abbrev pub longest_due : (ℕ → Option ℕ) → Labels → Option ℕ
+longest_due timer labels = longest_at_rest timer None (due_names true timer labels)
+
+-- ---- what falls asleep
+
+-- a mover with this label is in a whole island that is awake and ready
+abbrev pub rests_by : (ℕ → Option ℕ) → Option Label → Bool
+rests_by timer None = false
+rests_by timer (Some l) = (not (is_loose l.state) && not (is_asleep l.state)) && is_due (timer l.name)
+
+abbrev pub second_rests : (ℕ → Option ℕ) → Labels → Option ℕ → Bool
+second_rests timer labels None = false
+second_rests timer labels (Some slot) = rests_by timer (label_at labels slot)
+
+-- one of the movers is in such an island
+abbrev pub movers_rest : (ℕ → Option ℕ) → Labels → Movers → Bool
+movers_rest timer labels m = rests_by timer (label_at labels m.first) || second_rests timer labels m.second
+
+-- the constraint has such a mover
+abbrev pub is_to_rest : {C : Type 0} → (ℕ → Option ℕ) → Labels → Member C → Bool
+is_to_rest timer labels m = movers_rest timer labels m.movers
+
+-- the islands of these names fall asleep
+abbrev pub all_rested : List ℕ → Labels → Labels
+all_rested [] labels = labels
+all_rested (name ∷ names) labels = all_rested names (rested labels name)
