@@ -1,7 +1,7 @@
 -- Rows kept in one list with the ends of their colours: what is added, ended and changed.
-use Rattle.std.proofs.Common.{◌≡◌, ℕ, zero, suc, ◌+◌, ◌-◌, ◌≤◌, List, [], ◌∷◌, ◌++◌, length, take, drop, map, arith, refl, ap, ◌∙◌}
+use Rattle.std.proofs.Common.{◌≡◌, ℕ, zero, suc, ◌+◌, ◌-◌, ◌≤◌, List, [], ◌∷◌, ◌++◌, ◌<◌, length, get_or, take, drop, map, arith, refl, sym, ap, ◌∙◌}
 use Rattle.std.specs.List.{flat_map}
-use Rattle.std.proofs.lemmas.List.{append_assoc}
+use Rattle.std.proofs.lemmas.List.{append_assoc, drop-drop, length-take-le}
 use Rattle.colour_solver.specs.ColourRows.{AreEnds, cut, left_of}
 
 -- ---- lists
@@ -115,3 +115,74 @@ cut_long n (e ∷ ends) rows now h =
     let here : length (take (e - n) now) ≡ length (take (e - n) rows) = take-long (e - n) rows now h in
     let rest : map length (cut e ends (drop (e - n) now)) ≡ map length (cut e ends (drop (e - n) rows)) = cut_long e ends (drop (e - n) rows) (drop (e - n) now) (drop-long (e - n) rows now h) in
     rw (here, rest) refl
+
+-- ---- the first colours
+
+-- where the last of the colours ends
+abbrev pub last_end : ℕ → List ℕ → ℕ
+last_end n [] = n
+last_end n (e ∷ ends) = last_end e ends
+
+pub cut_count : {R : Type 0} (n : ℕ) (ends : List ℕ) (rows : List R) → length (cut n ends rows) ≡ length ends
+cut_count n [] rows = refl
+cut_count n (e ∷ ends) rows = ap suc (cut_count e ends (drop (e - n) rows))
+
+-- one colour more
+pub cut_next : {R : Type 0} (n : ℕ) (ends : List ℕ) (e : ℕ) (rows : List R) → cut n (ends ++ e ∷ []) rows ≡ cut n ends rows ++ take (e - last_end n ends) (left_of n ends rows) ∷ []
+cut_next n [] e rows = refl
+cut_next {R} n (x ∷ ends) e rows = ap (λ (l : List (List R)). take (x - n) rows ∷ l) (cut_next x ends e (drop (x - n) rows))
+
+pub last_low : (n : ℕ) (ends : List ℕ) (last : ℕ) → AreEnds n ends last → n ≤ last_end n ends
+last_low n [] last h = omega arith
+last_low n (e ∷ ends) last h = let more : e ≤ last_end e ends = last_low e ends last h.1 in omega (arith, h.0, more)
+
+pub last_high : (n : ℕ) (ends : List ℕ) (last : ℕ) → AreEnds n ends last → last_end n ends ≤ last
+last_high n [] last h = h
+last_high n (e ∷ ends) last h = last_high e ends last h.1
+
+-- what is left behind the last end is what stands from there on
+pub left_is : {R : Type 0} (n : ℕ) (ends : List ℕ) (last : ℕ) (rows : List R) → AreEnds n ends last → left_of n ends rows ≡ drop (last_end n ends - n) rows
+left_is {R} n [] last rows h = let none : 0 ≡ n - n = omega arith in ap (λ (k : ℕ). drop k rows) none
+left_is {R} n (e ∷ ends) last rows h =
+    let low : e ≤ last_end e ends = last_low e ends last h.1 in
+    let way : (e - n) + (last_end e ends - e) ≡ last_end e ends - n = omega (arith, h.0, low) in
+    left_is e ends last (drop (e - n) rows) h.1 ∙ drop-drop (last_end e ends - e) (e - n) rows ∙ ap (λ (k : ℕ). drop k rows) way
+
+pub left_from : {R : Type 0} (ends : List ℕ) (last : ℕ) (rows : List R) → AreEnds 0 ends last → left_of 0 ends rows ≡ drop (last_end 0 ends) rows
+left_from {R} ends last rows h = let from : last_end 0 ends - 0 ≡ last_end 0 ends = omega arith in left_is 0 ends last rows h ∙ ap (λ (k : ℕ). drop k rows) from
+
+pub ends_taken : (k n : ℕ) (ends : List ℕ) (last : ℕ) → AreEnds n ends last → AreEnds n (take k ends) (last_end n (take k ends))
+ends_taken zero n ends last h = omega arith
+ends_taken (suc k) n [] last h = omega arith
+ends_taken (suc k) n (e ∷ ends) last h = (h.0, ends_taken k e ends last h.1)
+
+pub taken_high : (k n : ℕ) (ends : List ℕ) (last : ℕ) → AreEnds n ends last → last_end n (take k ends) ≤ last
+taken_high zero n ends last h = ends_within n ends last h
+taken_high (suc k) n [] last h = h
+taken_high (suc k) n (e ∷ ends) last h = taken_high k e ends last h.1
+
+pub end_low : (k n : ℕ) (ends : List ℕ) (last d : ℕ) → AreEnds n ends last → k < length ends → last_end n (take k ends) ≤ get_or ends k d
+end_low zero n [] last d h lt = absurd (omega (arith, lt))
+end_low zero n (e ∷ ends) last d h lt = h.0
+end_low (suc k) n [] last d h lt = absurd (omega (arith, lt))
+end_low (suc k) n (e ∷ ends) last d h lt = end_low k e ends last d h.1 (omega (arith, lt))
+
+pub end_high : (k n : ℕ) (ends : List ℕ) (last d : ℕ) → AreEnds n ends last → k < length ends → get_or ends k d ≤ last
+end_high zero n [] last d h lt = absurd (omega (arith, lt))
+end_high zero n (e ∷ ends) last d h lt = ends_within e ends last h.1
+end_high (suc k) n [] last d h lt = absurd (omega (arith, lt))
+end_high (suc k) n (e ∷ ends) last d h lt = end_high k e ends last d h.1 (omega (arith, lt))
+
+pub last_more : (n : ℕ) (ends : List ℕ) (e : ℕ) → last_end n (ends ++ e ∷ []) ≡ e
+last_more n [] e = refl
+last_more n (x ∷ ends) e = last_more x ends e
+
+-- colours that have ended don't hang on what stands behind them
+pub cut_same : {R : Type 0} (ends : List ℕ) (rows now : List R) → AreEnds 0 ends (last_end 0 ends) → last_end 0 ends ≤ length rows → last_end 0 ends ≤ length now → take (last_end 0 ends) now ≡ take (last_end 0 ends) rows → cut 0 ends now ≡ cut 0 ends rows
+cut_same {R} ends rows now h low high same =
+    let s = last_end 0 ends in
+    let front : cut 0 ends rows ≡ cut 0 ends (take s rows) =
+    ap (cut 0 ends) (sym (take-drop s rows)) ∙ cut_more 0 ends s (take s rows) (drop s rows) h (omega (arith, length-take-le s rows low)) in
+    let front_now : cut 0 ends now ≡ cut 0 ends (take s now) =
+    ap (cut 0 ends) (sym (take-drop s now)) ∙ cut_more 0 ends s (take s now) (drop s now) h (omega (arith, length-take-le s now high)) in
+    front_now ∙ ap (cut 0 ends) same ∙ sym front

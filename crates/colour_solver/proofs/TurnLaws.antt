@@ -1,17 +1,16 @@
 -- What the turn of one row keeps, and what it adds to the movers' momentum.
-use Rattle.std.proofs.Common.{◌≡◌, ◌≢◌, ℕ, zero, suc, ◌+◌, ◌<◌, ◌≤◌, ◌*◌, ◌^◌, Bool, true, false, List, [], ◌∷◌, ◌++◌, length, get_or, set, take, drop, ℤ, pos, ◌+ℤ◌, ◌-ℤ◌, unsigned_abs, arith, refl, sym, ap, ◌∙◌, subst, inl, inr}
+use Rattle.std.proofs.Common.{◌≡◌, ◌≢◌, ℕ, zero, suc, ◌<◌, ◌≤◌, ◌*◌, ◌^◌, Bool, true, false, List, [], ◌∷◌, ◌++◌, length, get_or, set, ℤ, pos, ◌+ℤ◌, ◌-ℤ◌, unsigned_abs, arith, refl, sym, ap, ◌∙◌, subst, inl, inr}
 use Rattle.std.proofs.lemmas.Bool.{cases_Bool}
 use Rattle.std.proofs.lemmas.Int.{ints}
-use Rattle.std.proofs.lemmas.List.{append_assoc, drop-set-lt, drop_more, get_or-set_other, length-set, take_more_set}
+use Rattle.std.proofs.lemmas.List.{get_or-set_other, length-set}
 use Rattle.std.proofs.lemmas.List.Elements.{All-set}
 use Rattle.body_handles.specs.declared.places.TheConstants.{MAX_SLOTS}
 use Rattle.momenta.specs.declared.state.BodyState.{BodyState}
 use Rattle.momenta.specs.declared.state.Ends.{Ends}
 use Rattle.momenta.specs.Impulses.{AreSameBodies, IsMomentumKept, IsState}
 use Rattle.colour_solver.specs.States.{AreAllStates, p_x, p_y, total_x, total_y}
-use Rattle.colour_solver_base.specs.RowsAfter.{RowAfter}
 use Rattle.colour_solver.specs.declared.turns.Slots.{Slots}
-use Rattle.colour_solver.specs.Turns.{AreRowsOn, IsRowOn, after, ends_of, got_x, got_y, passed, rows_passed, share_x, share_y, turn_of}
+use Rattle.colour_solver.specs.Turns.{AreRowsOn, IsRowOn, after, got_x, got_y}
 
 -- ---- a body put into its slot
 
@@ -178,37 +177,6 @@ given_y-small old new given a b few few2 e = difference (total_y old) (total_y n
 
 -- ---- one row further
 
-left : {R : Type 0} (rows : List R) (i : ℕ) (r new : R) → i < length rows → r ≡ get_or rows i r → r ∷ drop (i + 1) (set rows i new) ≡ drop i rows
-left {R} rows i r new h e =
-    let rest : drop (i + 1) (set rows i new) ≡ drop (i + 1) rows = drop-set-lt (i + 1) rows i new (omega arith) in
-    ap (λ (l : List R). r ∷ l) rest ∙ ap (λ (x : R). x ∷ drop (i + 1) rows) e ∙ sym (drop_more rows i r h)
-
-pub passed_more : {R : Type 0} (at : R → Slots) (f : R → Ends → RowAfter R) (ss whole : List BodyState) (rows : List R) (i : ℕ) (r new : R) → i < length rows → r ≡ get_or rows i r → passed at f ss (drop i rows) ≡ whole
-    → passed at f (after at f ss r) (drop (i + 1) (set rows i new)) ≡ whole
-passed_more at f ss whole rows i r new h e known = ap (passed at f ss) (left rows i r new h e) ∙ known
-
-pub rows_more : {R : Type 0} (at : R → Slots) (f : R → Ends → RowAfter R) (ss : List BodyState) (rows whole : List R) (i : ℕ) (r : R) → i < length rows → r ≡ get_or rows i r → (take i rows ++ rows_passed at f ss (drop i rows)) ≡ whole
-    → (take (i + 1) (set rows i (turn_of at f ss r).row) ++ rows_passed at f (after at f ss r) (drop (i + 1) (set rows i (turn_of at f ss r).row))) ≡ whole
-rows_more {R} at f ss rows whole i r h e known =
-    let new = (turn_of at f ss r).row in
-    let rest = rows_passed at f (after at f ss r) (drop (i + 1) (set rows i new)) in
-    let front : take (i + 1) (set rows i new) ≡ take i rows ++ new ∷ [] = take_more_set rows i new h in
-    let back : new ∷ rest ≡ rows_passed at f ss (drop i rows) = ap (rows_passed at f ss) (left rows i r new h e) in
-    ap (λ (l : List R). l ++ rest) front ∙ append_assoc (take i rows) (new ∷ []) rest ∙ ap (λ (l : List R). take i rows ++ l) back ∙ known
-
-add : (given got share rest whole : ℤ) → (given +ℤ share) ≡ whole → (got +ℤ rest) ≡ share → ((given +ℤ got) +ℤ rest) ≡ whole
-add given got share rest whole h e = omega (arith, ints)
-
-pub share_x_more : {R : Type 0} (at : R → Slots) (f : R → Ends → RowAfter R) (ss : List BodyState) (rows : List R) (i : ℕ) (r new : R) (given whole : ℤ) → i < length rows → r ≡ get_or rows i r → (given +ℤ share_x at f ss (drop i rows)) ≡ whole
-    → ((given +ℤ got_x (ends_of at ss r) (turn_of at f ss r).ends) +ℤ share_x at f (after at f ss r) (drop (i + 1) (set rows i new))) ≡ whole
-share_x_more at f ss rows i r new given whole h e known =
-    add given (got_x (ends_of at ss r) (turn_of at f ss r).ends) (share_x at f ss (drop i rows)) (share_x at f (after at f ss r) (drop (i + 1) (set rows i new))) whole known (ap (share_x at f ss) (left rows i r new h e))
-
-pub share_y_more : {R : Type 0} (at : R → Slots) (f : R → Ends → RowAfter R) (ss : List BodyState) (rows : List R) (i : ℕ) (r new : R) (given whole : ℤ) → i < length rows → r ≡ get_or rows i r → (given +ℤ share_y at f ss (drop i rows)) ≡ whole
-    → ((given +ℤ got_y (ends_of at ss r) (turn_of at f ss r).ends) +ℤ share_y at f (after at f ss r) (drop (i + 1) (set rows i new))) ≡ whole
-share_y_more at f ss rows i r new given whole h e known =
-    add given (got_y (ends_of at ss r) (turn_of at f ss r).ends) (share_y at f ss (drop i rows)) (share_y at f (after at f ss r) (drop (i + 1) (set rows i new))) whole known (ap (share_y at f ss) (left rows i r new h e))
-
 pub rows_below : {R : Type 0} (at : R → Slots) (is : R → Type 0) (n m : ℕ) (rows : List R) (i : ℕ) (new : R) → n ≡ m → AreRowsOn at is m rows → IsRowOn at is n new → AreRowsOn at is n (set rows i new)
 rows_below at is n m rows i new e all here = All-set (IsRowOn at is n) rows i new here (subst (λ (k : ℕ). AreRowsOn at is k rows) (sym e) all)
 
@@ -218,6 +186,3 @@ row_at at is n rows i r all h e = subst (IsRowOn at is n) (sym e) (all i r h)
 -- a row whose slots stay
 pub row_kept : {R : Type 0} (at : R → Slots) (is : R → Type 0) (n m : ℕ) (old new : R) → m ≡ n → IsRowOn at is n old → is new → at new ≡ at old → IsRowOn at is m new
 row_kept at is n m old new long on here same = record { row = here; a = rw (same, long) on.a; b = rw (same, long) on.b; apart = rw same on.apart }
-
-pub added : (before now new given got : ℤ) → now ≡ before +ℤ given → new ≡ now +ℤ got → new ≡ before +ℤ (given +ℤ got)
-added before now new given got h e = omega (arith, ints)

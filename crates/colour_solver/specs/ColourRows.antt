@@ -1,6 +1,10 @@
--- Inner: the rows of a step by colour: one list, and where each colour ends in it.
-use Rattle.std.specs.Prelude.{ℕ, ◌-◌, ◌≤◌, List, [], ◌∷◌, ◌++◌, take, drop}
+-- Inner: the rows of a step by colour: one list of joints and one of contacts, and where each colour ends in them.
+use Rattle.std.specs.Prelude.{ℕ, ◌-◌, ◌≤◌, List, [], ◌∷◌, ◌++◌, take, drop, map}
 use Rattle.std.specs.List.{flat_map}
+use Rattle.joint_rows.specs.declared.row.JointRow.{JointRow}
+use Rattle.colour_solver_base.specs.declared.row.ContactRow.{ContactRow}
+use Rattle.colour_solver.specs.declared.constraint_row.ConstraintRow.{ConstraintRow}
+use Rattle.colour_solver.specs.declared.constraint_row.ConstraintRow.TheVariants.{Joint, Contact}
 
 -- what contracts see: the rows of each colour, those of the colour that hasn't ended yet, and for how many more rows and colours there is room
 pub record ColourRows (R : Type 0) : Type 0 where
@@ -29,3 +33,25 @@ left_of n (e ∷ ends) rows = left_of e ends (drop (e - n) rows)
 abbrev pub AreEnds : ℕ → List ℕ → ℕ → Type 0
 AreEnds n [] last = n ≤ last
 AreEnds n (e ∷ ends) last = (n ≤ e) × AreEnds e ends last
+
+-- joints, and then contacts
+abbrev pub joints_first : List JointRow → List ContactRow → List ConstraintRow
+joints_first joints contacts = map Joint joints ++ map Contact contacts
+
+-- the same of each colour
+abbrev pub each_joints_first : List (List JointRow) → List (List ContactRow) → List (List ConstraintRow)
+each_joints_first [] contacts = []
+each_joints_first (js ∷ joints) [] = []
+each_joints_first (js ∷ joints) (cs ∷ contacts) = joints_first js cs ∷ each_joints_first joints contacts
+
+-- the rows of the colours that have ended, the joints of each ending at the one list of numbers, the contacts at the other
+abbrev pub colours_of : List ℕ → List ℕ → List JointRow → List ContactRow → List (List ConstraintRow)
+colours_of joint_ends contact_ends joints contacts = each_joints_first (cut 0 joint_ends joints) (cut 0 contact_ends contacts)
+
+-- those of the colour that hasn't
+abbrev pub rows_left : List ℕ → List ℕ → List JointRow → List ContactRow → List ConstraintRow
+rows_left joint_ends contact_ends joints contacts = joints_first (left_of 0 joint_ends joints) (left_of 0 contact_ends contacts)
+
+-- all of them, in solve order
+abbrev pub rows_kept : List ℕ → List ℕ → List JointRow → List ContactRow → List ConstraintRow
+rows_kept joint_ends contact_ends joints contacts = flat_map (λ rs. rs) (colours_of joint_ends contact_ends joints contacts) ++ rows_left joint_ends contact_ends joints contacts

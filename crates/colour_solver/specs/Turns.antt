@@ -1,6 +1,6 @@
 -- Inner: a pass over rows in solve order: the left fold of one turn, and what the immovable bodies have given. A row may be of any kind: what is known of it is
 -- where its two bodies stand.
-use Rattle.std.specs.Prelude.{◌≡◌, ℕ, Bool, ◌<◌, ◌≢◌, cond, List, [], ◌∷◌, ℤ, pos, ◌+ℤ◌, ◌-ℤ◌, All, slice_set, slice_index_or}
+use Rattle.std.specs.Prelude.{◌≡◌, ℕ, Bool, ◌<◌, ◌≢◌, ◌-◌, cond, List, [], ◌∷◌, length, take, drop, ℤ, pos, ◌+ℤ◌, ◌-ℤ◌, All, slice_set, slice_index_or}
 use Rattle.momenta.specs.declared.state.BodyState.{BodyState}
 use Rattle.momenta.specs.declared.state.Ends.{Ends}
 use Rattle.momenta.specs.declared.line_64.MomentaPair64.{MomentaPair64}
@@ -9,7 +9,7 @@ use Rattle.momenta.specs.Line64.{ends_with}
 use Rattle.colour_solver_base.specs.RowsAfter.{RowAfter}
 use Rattle.colour_solver_base.specs.Row64.{both_ends}
 use Rattle.colour_solver.specs.declared.turns.Slots.{Slots}
-use Rattle.colour_solver.specs.States.{nobody}
+use Rattle.colour_solver.specs.States.{AreAllStates, AreSameStates, nobody, total_x, total_y}
 
 -- the two bodies of a row
 abbrev pub ends_of : {R : Type 0} → (R → Slots) → List BodyState → R → Ends
@@ -70,6 +70,24 @@ pub record IsRowOn {R : Type 0} (at : R → Slots) (is : R → Type 0) (n : ℕ)
 
 abbrev pub AreRowsOn : {R : Type 0} → (R → Slots) → (R → Type 0) → ℕ → List R → Type 0
 AreRowsOn at is n rows = All (IsRowOn at is n) rows
+
+-- ---- a pass over some rows
+
+-- the rows from the one with the number n up to the one with the number e
+abbrev pub between : {R : Type 0} → ℕ → ℕ → List R → List R
+between n e rows = take (e - n) (drop n rows)
+
+-- the turns f of the rows, from the bodies before them on, leave these bodies and these rows, and the movers with so much more momentum
+pub record IsPassed {R : Type 0} (at : R → Slots) (is : R → Type 0) (f : R → Ends → RowAfter R) (before : List BodyState) (rows : List R) (now : List BodyState) (turned : List R) (x y : ℤ) : Type 0 where
+  pub states : now ≡ passed at f before rows
+  pub rows_are : turned ≡ rows_passed at f before rows
+  pub share_x_is : x ≡ share_x at f before rows
+  pub share_y_is : y ≡ share_y at f before rows
+  pub all_states : AreAllStates now
+  pub all_rows : AreRowsOn at is (length now) turned
+  pub same : AreSameStates before now
+  pub momentum_x : total_x now ≡ total_x before +ℤ x
+  pub momentum_y : total_y now ≡ total_y before +ℤ y
 
 -- ---- a turn in 64 bits
 

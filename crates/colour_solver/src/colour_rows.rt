@@ -1,52 +1,161 @@
-//! The rows of a step in one dense list, colour after colour, with where each colour ends.
+//! The rows of a step in two dense lists, colour after colour, with where each colour ends in both.
 
-ghost use Rattle.std.specs.Prelude.{◌≡◌, ◌^◌, ◌≤◌, ◌+◌, ◌∷◌, ◌++◌, ◌+ℤ◌, [], length, map, OnOk};
+ghost use Rattle.std.specs.Prelude.{◌≡◌, ◌^◌, ◌≤◌, ◌+◌, ◌∷◌, ◌++◌, ◌+ℤ◌, [], length, map, take, drop, OnOk};
 ghost use Rattle.std.specs.Result.{IsOkUnless};
+ghost use Rattle.joint_rows.specs.Rows.{IsJointRow};
+ghost use Rattle.colour_solver_base.specs.Rows.{IsRow};
 ghost use Rattle.momenta.specs.Gains.{IsGain};
 ghost use Rattle.colour_solver.specs.States.{AreAllStates, AreSameStates, total_x, total_y};
-ghost use Rattle.colour_solver.specs.Turns.{AreRowsOn, passed, rows_passed, share_x, share_y};
-ghost use Rattle.colour_solver.specs.ColourRows.{all_rows};
+ghost use Rattle.colour_solver.specs.Turns.{AreRowsOn, IsPassed, between, passed, rows_passed, share_x, share_y};
+ghost use Rattle.colour_solver.specs.ConstraintTurns.{AreRowsBelow, IsConstraintRow, both_turns, constraint_slots, contact_slots, contacts_among, joint_slots, joints_among};
+ghost use Rattle.colour_solver.specs.declared.constraint_row.ConstraintRow.TheVariants.{Joint, Contact};
+ghost use Rattle.colour_solver.specs.ColourRows.{AreEnds, all_rows, joints_first, rows_kept};
 
-use crate::{Row, Turn, pass_rows};
+use crate::{Turn, pass_rows};
 use body_handles::MAX_SLOTS;
+use colour_solver_base::ContactRow;
 use fixed_geom::Refusal;
-use momenta::{BodyState, Gain};
+use joint_rows::JointRow;
+use momenta::{BodyState, Gain, NOTHING, plus};
 use std::alloc::Global;
 use std::marker::Model;
 
-/// Rows by colour. Contracts see those of each colour that has ended, those of the next one, and for how many more rows and colours
-/// there is room.
+/// How many joints and how many contacts stand in a colour and in those before it.
+#[derive(Clone, Copy)]
+struct ColourEnd {
+    joints: usize,
+    contacts: usize,
+}
+
+/// Rows by colour: in each its joints, and then its contacts. Contracts see those of each colour that has ended, those of the next one, and
+/// for how many more rows and colours there is room.
 #[derive(Drop)]
-pub struct Rows<R: Row> {
-    rows: Vec<R>,
-    // For each colour the number of rows in it and in those before it.
-    ends: Vec<usize>,
+pub struct Rows {
+    joints: Vec<JointRow>,
+    contacts: Vec<ContactRow>,
+    ends: Vec<ColourEnd>,
 }
 
-impl<R: Row> Model for Rows<R> {
-    ghost use Rattle.std.specs.Prelude.{◌-◌, length, vec_capacity, vec_len};
-    ghost use Rattle.colour_solver.specs.ColourRows.{AreEnds, ColourRows, cut, left_of};
+impl Model for Rows {
+    ghost use Rattle.std.specs.Prelude.{◌-◌, length, map, min, vec_capacity, vec_len};
+    ghost use Rattle.colour_solver.specs.declared.constraint_row.ConstraintRow.{ConstraintRow};
+    ghost use Rattle.colour_solver.specs.ColourRows.{AreEnds, ColourRows, colours_of, rows_left};
 
-    ghost Value = { ColourRows R };
+    ghost Value = { ColourRows ConstraintRow };
 
-    ghost view = { λ a. record { colours = cut 0 a.ends.items a.rows.items; left = left_of 0 a.ends.items a.rows.items; room = vec_capacity a.rows - vec_len a.rows; more = vec_capacity a.ends - vec_len a.ends } };
+    ghost view = { λ a. record {
+      colours = colours_of (map (λ e. e.joints) a.ends.items) (map (λ e. e.contacts) a.ends.items) a.joints.items a.contacts.items;
+      left = rows_left (map (λ e. e.joints) a.ends.items) (map (λ e. e.contacts) a.ends.items) a.joints.items a.contacts.items;
+      room = min (vec_capacity a.joints - vec_len a.joints) (vec_capacity a.contacts - vec_len a.contacts);
+      more = vec_capacity a.ends - vec_len a.ends;
+    } };
 
-    ghost invariant = { λ a. AreEnds 0 a.ends.items (length a.rows.items) };
+    ghost invariant = { λ a. AreEnds 0 (map (λ e. e.joints) a.ends.items) (length a.joints.items) × AreEnds 0 (map (λ e. e.contacts) a.ends.items) (length a.contacts.items) };
 }
 
-impl<R: Row> Rows<R> {
+/// One pass over the rows of a colour: over its joints, and then over its contacts.
+#[inline(always)]
+fn pass_colour<J: Turn<JointRow>, C: Turn<ContactRow>>(
+    states: &mut Vec<BodyState>,
+    joints: &mut Vec<JointRow>,
+    contacts: &mut Vec<ContactRow>,
+    start: ColourEnd,
+    end: ColourEnd,
+    joint_turn: &J,
+    contact_turn: &C,
+) -> Gain
+    requires few { length states.old.items ≤ MAX_SLOTS }
+    requires states { AreAllStates states.old.items }
+    requires joints_ascend { start.joints ≤ end.joints }
+    requires joints_end { end.joints ≤ length joints.old.items }
+    requires contacts_ascend { start.contacts ≤ end.contacts }
+    requires contacts_end { end.contacts ≤ length contacts.old.items }
+    requires joints { AreRowsOn joint_slots IsJointRow (length states.old.items) joints.old.items }
+    requires contacts { AreRowsOn contact_slots IsRow (length states.old.items) contacts.old.items }
+    ensures passed { IsPassed constraint_slots IsConstraintRow (both_turns (J.turn joint_turn.now) (C.turn contact_turn.now)) states.old.items (joints_first (between start.joints end.joints joints.old.items) (between start.contacts end.contacts contacts.old.items)) states.new.items (joints_first (between start.joints end.joints joints.new.items) (between start.contacts end.contacts contacts.new.items)) result.x result.y }
+    ensures joints_before { take start.joints joints.new.items ≡ take start.joints joints.old.items }
+    ensures joints_behind { drop end.joints joints.new.items ≡ drop end.joints joints.old.items }
+    ensures contacts_before { take start.contacts contacts.new.items ≡ take start.contacts contacts.old.items }
+    ensures contacts_behind { drop end.contacts contacts.new.items ≡ drop end.contacts contacts.old.items }
+    ensures as_many_joints { length joints.new.items ≡ length joints.old.items }
+    ensures as_many_contacts { length contacts.new.items ≡ length contacts.old.items }
+    ensures joints { AreRowsOn joint_slots IsJointRow (length states.new.items) joints.new.items }
+    ensures contacts { AreRowsOn contact_slots IsRow (length states.new.items) contacts.new.items }
+    ensures small { IsGain (2 ^ 78) result }
+{
+    let by_joints = pass_rows(states, joints, start.joints, end.joints, joint_turn);
+    let by_contacts = pass_rows(states, contacts, start.contacts, end.contacts, contact_turn);
+    plus(by_joints, by_contacts)
+}
+
+/// One pass over all rows, colour after colour, and then over those of the colour that hasn't ended.
+fn pass_colours<J: Turn<JointRow>, C: Turn<ContactRow>>(
+    states: &mut Vec<BodyState>,
+    joints: &mut Vec<JointRow>,
+    contacts: &mut Vec<ContactRow>,
+    ends: &[ColourEnd],
+    joint_turn: &J,
+    contact_turn: &C,
+) -> Gain
+    requires few { length states.old.items ≤ MAX_SLOTS }
+    requires states { AreAllStates states.old.items }
+    requires joint_ends { AreEnds 0 (map (λ e. e.joints) ends.now) (length joints.old.items) }
+    requires contact_ends { AreEnds 0 (map (λ e. e.contacts) ends.now) (length contacts.old.items) }
+    requires joints { AreRowsOn joint_slots IsJointRow (length states.old.items) joints.old.items }
+    requires contacts { AreRowsOn contact_slots IsRow (length states.old.items) contacts.old.items }
+    ensures passed { IsPassed constraint_slots IsConstraintRow (both_turns (J.turn joint_turn.now) (C.turn contact_turn.now)) states.old.items (rows_kept (map (λ e. e.joints) ends.now) (map (λ e. e.contacts) ends.now) joints.old.items contacts.old.items) states.new.items (rows_kept (map (λ e. e.joints) ends.now) (map (λ e. e.contacts) ends.now) joints.new.items contacts.new.items) result.x result.y }
+    ensures as_many_joints { length joints.new.items ≡ length joints.old.items }
+    ensures as_many_contacts { length contacts.new.items ≡ length contacts.old.items }
+    ensures small { IsGain (2 ^ 78) result }
+{
+    let mut start = ColourEnd {
+        joints: 0,
+        contacts: 0,
+    };
+    let mut given = NOTHING;
+    for end in ends {
+        let got = pass_colour(
+            states,
+            joints,
+            contacts,
+            start,
+            *end,
+            joint_turn,
+            contact_turn,
+        );
+        given = plus(given, got);
+        start = *end;
+    }
+    let end = ColourEnd {
+        joints: joints.len(),
+        contacts: contacts.len(),
+    };
+    let last = pass_colour(
+        states,
+        joints,
+        contacts,
+        start,
+        end,
+        joint_turn,
+        contact_turn,
+    );
+    plus(given, last)
+}
+
+impl Rows {
     /// No rows, and no colours.
-    pub fn new(alloc: Global) -> Rows<R>
+    pub fn new(alloc: Global) -> Rows
         ensures colours { result.colours ≡ [] }
         ensures left { result.left ≡ [] }
     {
         Rows {
-            rows: Vec::new(alloc),
+            joints: Vec::new(alloc),
+            contacts: Vec::new(alloc),
             ends: Vec::new(alloc),
         }
     }
 
-    /// Makes room for that many more rows and colours. Refused 1 where memory is wanting.
+    /// Makes room for that many more rows, of either kind, and colours. Refused 1 where memory is wanting.
     pub fn reserve(&mut self, rows: usize, colours: usize) -> Result<(), Refusal>
         ensures room { OnOk result (rows ≤ self.new.room) }
         ensures more { OnOk result (colours ≤ self.new.more) }
@@ -54,7 +163,8 @@ impl<R: Row> Rows<R> {
         ensures left { self.new.left ≡ self.old.left }
         ensures memory_only { IsOkUnless result Refusal.NoMemory }
     {
-        self.rows.reserve(rows)?;
+        self.joints.reserve(rows)?;
+        self.contacts.reserve(rows)?;
         self.ends.reserve(colours)?;
         Ok(())
     }
@@ -66,20 +176,34 @@ impl<R: Row> Rows<R> {
         ensures room { self.old.room ≤ self.new.room }
         ensures more { self.old.more ≤ self.new.more }
     {
-        self.rows.clear();
+        self.joints.clear();
+        self.contacts.clear();
         self.ends.clear();
     }
 
-    /// Adds a row, for which there is room, to the colour that hasn't ended yet.
+    /// Adds a joint, for which there is room, to the colour that hasn't ended yet, and that has no contact yet.
     #[inline(always)]
-    pub fn push(&mut self, row: R)
-        requires { 1 ≤ self.old.room }
+    pub fn push_joint(&mut self, row: JointRow)
+        requires room { 1 ≤ self.old.room }
+        requires first { contacts_among self.old.left ≡ [] }
         ensures colours { self.new.colours ≡ self.old.colours }
-        ensures left { self.new.left ≡ self.old.left ++ row ∷ [] }
+        ensures left { self.new.left ≡ self.old.left ++ Joint row ∷ [] }
         ensures room { self.old.room ≤ self.new.room + 1 }
         ensures more { self.new.more ≡ self.old.more }
     {
-        let _ = self.rows.push(row);
+        let _ = self.joints.push(row);
+    }
+
+    /// Adds a contact, for which there is room, to the colour that hasn't ended yet.
+    #[inline(always)]
+    pub fn push_contact(&mut self, row: ContactRow)
+        requires { 1 ≤ self.old.room }
+        ensures colours { self.new.colours ≡ self.old.colours }
+        ensures left { self.new.left ≡ self.old.left ++ Contact row ∷ [] }
+        ensures room { self.old.room ≤ self.new.room + 1 }
+        ensures more { self.new.more ≡ self.old.more }
+    {
+        let _ = self.contacts.push(row);
     }
 
     /// Ends a colour, for which there is room: further rows are of the next one.
@@ -90,35 +214,57 @@ impl<R: Row> Rows<R> {
         ensures room { self.new.room ≡ self.old.room }
         ensures more { self.old.more ≤ self.new.more + 1 }
     {
-        let _ = self.ends.push(self.rows.len());
+        let _ = self.ends.push(ColourEnd {
+            joints: self.joints.len(),
+            contacts: self.contacts.len(),
+        });
     }
 
-    /// All rows in solve order.
-    pub fn as_slice(&self) -> &[R]
-        ensures { result.now ≡ all_rows self.now }
+    /// The rows of all joints, in solve order.
+    pub fn joints(&self) -> &[JointRow]
+        ensures { result.now ≡ joints_among (all_rows self.now) }
     {
-        self.rows.as_slice()
+        self.joints.as_slice()
     }
 
-    /// One pass over all rows in solve order, each with the bodies as those before it left them; each row stays in its colour. Answers
-    /// what immovable bodies have given to the movers (mass·u/tick).
-    pub fn pass<T: Turn<R>>(&mut self, states: &mut Vec<BodyState>, turn: &T) -> Gain
+    /// The rows of all contacts, in solve order.
+    pub fn contacts(&self) -> &[ContactRow]
+        ensures { result.now ≡ contacts_among (all_rows self.now) }
+    {
+        self.contacts.as_slice()
+    }
+
+    /// One pass over all rows in solve order, the one turn made of joints and the other of contacts, each with the bodies as those before
+    /// it left them; each row stays in its colour. Answers what immovable bodies have given to the movers (mass·u/tick).
+    pub fn pass<J: Turn<JointRow>, C: Turn<ContactRow>>(
+        &mut self,
+        states: &mut Vec<BodyState>,
+        joint_turn: &J,
+        contact_turn: &C,
+    ) -> Gain
         requires few { length states.old.items ≤ MAX_SLOTS }
         requires states { AreAllStates states.old.items }
-        requires rows { AreRowsOn R.slots R.is_row (length states.old.items) (all_rows self.old) }
-        ensures states { states.new.items ≡ passed R.slots (T.turn turn.now) states.old.items (all_rows self.old) }
-        ensures rows { all_rows self.new ≡ rows_passed R.slots (T.turn turn.now) states.old.items (all_rows self.old) }
+        requires rows { AreRowsBelow (length states.old.items) (all_rows self.old) }
+        ensures states { states.new.items ≡ passed constraint_slots (both_turns (J.turn joint_turn.now) (C.turn contact_turn.now)) states.old.items (all_rows self.old) }
+        ensures rows { all_rows self.new ≡ rows_passed constraint_slots (both_turns (J.turn joint_turn.now) (C.turn contact_turn.now)) states.old.items (all_rows self.old) }
         ensures colours { map length self.new.colours ≡ map length self.old.colours }
-        ensures share_x { result.x ≡ share_x R.slots (T.turn turn.now) states.old.items (all_rows self.old) }
-        ensures share_y { result.y ≡ share_y R.slots (T.turn turn.now) states.old.items (all_rows self.old) }
+        ensures share_x { result.x ≡ share_x constraint_slots (both_turns (J.turn joint_turn.now) (C.turn contact_turn.now)) states.old.items (all_rows self.old) }
+        ensures share_y { result.y ≡ share_y constraint_slots (both_turns (J.turn joint_turn.now) (C.turn contact_turn.now)) states.old.items (all_rows self.old) }
         ensures all_states { AreAllStates states.new.items }
-        ensures all_rows { AreRowsOn R.slots R.is_row (length states.new.items) (all_rows self.new) }
+        ensures all_rows { AreRowsBelow (length states.new.items) (all_rows self.new) }
         ensures long { length states.new.items ≡ length states.old.items }
         ensures same { AreSameStates states.old.items states.new.items }
         ensures momentum_x { total_x states.new.items ≡ total_x states.old.items +ℤ result.x }
         ensures momentum_y { total_y states.new.items ≡ total_y states.old.items +ℤ result.y }
         ensures small { IsGain (2 ^ 78) result }
     {
-        pass_rows(states, &mut self.rows, turn)
+        pass_colours(
+            states,
+            &mut self.joints,
+            &mut self.contacts,
+            &self.ends,
+            joint_turn,
+            contact_turn,
+        )
     }
 }

@@ -1,17 +1,47 @@
-//! The row of a constraint in a step: a joint's or a contact's.
+//! The rows of the constraints of a step: joints' and contacts'.
 
 ghost use Rattle.std.specs.Prelude.{◌≡◌};
-ghost use Rattle.colour_solver.specs.ConstraintTurns.{IsConstraintRow, constraint_slots};
+ghost use Rattle.joint_rows.specs.Rows.{IsJointRow};
+ghost use Rattle.colour_solver_base.specs.Rows.{IsRow};
+ghost use Rattle.colour_solver.specs.ConstraintTurns.{IsConstraintRow, constraint_slots, contact_slots, joint_slots};
 
 use crate::{Row, Slots};
 use colour_solver_base::ContactRow;
 use joint_rows::JointRow;
 
-/// A constraint in a step: a joint, or a contact that touches.
+/// A constraint in a step: a joint, or a contact that touches. Contracts see the rows of both kinds in one list of these.
 #[derive(Clone, Copy, Debug, PartialEq, Eq)]
 pub enum ConstraintRow {
     Joint(JointRow),
     Contact(ContactRow),
+}
+
+impl Row for JointRow {
+    ghost slots = { joint_slots };
+
+    ghost is_row = { IsJointRow };
+
+    #[inline(always)]
+    fn slots(&self) -> Slots {
+        Slots {
+            a: self.bodies.a,
+            b: self.bodies.b,
+        }
+    }
+}
+
+impl Row for ContactRow {
+    ghost slots = { contact_slots };
+
+    ghost is_row = { IsRow };
+
+    #[inline(always)]
+    fn slots(&self) -> Slots {
+        Slots {
+            a: self.bodies.a,
+            b: self.bodies.b,
+        }
+    }
 }
 
 impl Row for ConstraintRow {
@@ -22,14 +52,8 @@ impl Row for ConstraintRow {
     #[inline(always)]
     fn slots(&self) -> Slots {
         match self {
-            ConstraintRow::Joint(row) => Slots {
-                a: row.bodies.a,
-                b: row.bodies.b,
-            },
-            ConstraintRow::Contact(row) => Slots {
-                a: row.bodies.a,
-                b: row.bodies.b,
-            },
+            ConstraintRow::Joint(row) => row.slots(),
+            ConstraintRow::Contact(row) => row.slots(),
         }
     }
 }

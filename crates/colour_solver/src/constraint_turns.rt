@@ -1,15 +1,13 @@
-//! The turns of a constraint: its warm start, its impulses, and its restitution, which a joint has none of.
+//! The turns of joints and contacts: the warm start, the impulses, and the restitution, which a joint has none of.
 
-ghost use Rattle.std.specs.Prelude.{◌≡◌, None, IfSome};
-ghost use Rattle.momenta.specs.Impulses.{IsState};
-ghost use Rattle.joint_rows.specs.Rows.{IsJointRow, joint_solved, joint_warmed};
+ghost use Rattle.std.specs.Prelude.{◌≡◌};
+ghost use Rattle.joint_rows.specs.Rows.{joint_solved, joint_warmed};
 ghost use Rattle.joint_rows.specs.Row64.{with_impulse};
-ghost use Rattle.colour_solver_base.specs.Rows.{IsRow, row_solved, row_warmed};
-ghost use Rattle.colour_solver_base.specs.Row64.{both_ends, with_first};
-ghost use Rattle.colour_solver.specs.Turns.{IsTurn64};
-ghost use Rattle.colour_solver.specs.ConstraintTurns.{constraint_bounced, constraint_solved, constraint_warmed, turned_joint};
+ghost use Rattle.colour_solver_base.specs.Rows.{row_bounced, row_solved, row_warmed};
+ghost use Rattle.colour_solver_base.specs.Row64.{with_first};
+ghost use Rattle.colour_solver.specs.ConstraintTurns.{joint_unbounced, turned_joint};
 
-use crate::{ConstraintRow, Turn};
+use crate::Turn;
 use colour_solver_base::{
     ContactRow, RowAfter64, bounce_row, has_no_impulses, never_bounces, solve_row, solve_row_64,
     warm_row, warm_row_64,
@@ -40,104 +38,51 @@ fn put_impulses(row: &mut ContactRow, turned: RowAfter64) -> MomentaPair64
     turned.now
 }
 
-/// The warm start of a joint in 64 bits, where there is room.
-#[inline(always)]
-fn warm_joint_narrow(row: &mut JointRow, a: &BodyState, b: &BodyState) -> Option<MomentaPair64>
-    requires row { IsJointRow row.old }
-    requires first { IsState a.now }
-    requires second { IsState b.now }
-    ensures value { IfSome result (IsTurn64 IsJointRow (turned_joint (joint_warmed row.old (both_ends a.now b.now))) a.now b.now row.new) }
-    ensures bodies { row.new.bodies ≡ row.old.bodies }
-    ensures none { result ≡ None → row.new ≡ row.old }
-{
-    match warm_joint_64(row, a, b) {
-        None => None,
-        Some(turned) => Some(put_impulse(row, turned)),
-    }
-}
-
-/// The warm start of a contact in 64 bits, where there is room.
-#[inline(always)]
-fn warm_contact_narrow(row: &mut ContactRow, a: &BodyState, b: &BodyState) -> Option<MomentaPair64>
-    requires row { IsRow row.old }
-    requires first { IsState a.now }
-    requires second { IsState b.now }
-    ensures value { IfSome result (IsTurn64 IsRow (row_warmed row.old (both_ends a.now b.now)) a.now b.now row.new) }
-    ensures bodies { row.new.bodies ≡ row.old.bodies }
-    ensures none { result ≡ None → row.new ≡ row.old }
-{
-    match warm_row_64(row, a, b) {
-        None => None,
-        Some(turned) => Some(put_impulses(row, turned)),
-    }
-}
-
-/// The impulse of a joint in 64 bits, where there is room.
-#[inline(always)]
-fn solve_joint_narrow(row: &mut JointRow, a: &BodyState, b: &BodyState) -> Option<MomentaPair64>
-    requires row { IsJointRow row.old }
-    requires first { IsState a.now }
-    requires second { IsState b.now }
-    ensures value { IfSome result (IsTurn64 IsJointRow (turned_joint (joint_solved row.old (both_ends a.now b.now))) a.now b.now row.new) }
-    ensures bodies { row.new.bodies ≡ row.old.bodies }
-    ensures none { result ≡ None → row.new ≡ row.old }
-{
-    match solve_joint_64(row, a, b) {
-        None => None,
-        Some(turned) => Some(put_impulse(row, turned)),
-    }
-}
-
-/// The impulses of a contact in 64 bits, where there is room.
-#[inline(always)]
-fn solve_contact_narrow(row: &mut ContactRow, a: &BodyState, b: &BodyState) -> Option<MomentaPair64>
-    requires row { IsRow row.old }
-    requires first { IsState a.now }
-    requires second { IsState b.now }
-    ensures value { IfSome result (IsTurn64 IsRow (row_solved row.old (both_ends a.now b.now)) a.now b.now row.new) }
-    ensures bodies { row.new.bodies ≡ row.old.bodies }
-    ensures none { result ≡ None → row.new ≡ row.old }
-{
-    match solve_row_64(row, a, b) {
-        None => None,
-        Some(turned) => Some(put_impulses(row, turned)),
-    }
-}
-
 /// The warm start of a constraint.
 #[derive(Clone, Copy)]
 pub struct Warm;
 
-impl Turn<ConstraintRow> for Warm {
-    ghost turn = { λ _ r e. constraint_warmed r e };
+impl Turn<JointRow> for Warm {
+    ghost turn = { λ _ r e. turned_joint (joint_warmed r e) };
 
     #[inline(always)]
-    fn is_idle(&self, row: &ConstraintRow) -> bool {
-        match row {
-            ConstraintRow::Joint(row) => has_no_impulse(row),
-            ConstraintRow::Contact(row) => has_no_impulses(row),
+    fn is_idle(&self, row: &JointRow) -> bool {
+        has_no_impulse(row)
+    }
+
+    #[inline(always)]
+    fn narrow(&self, row: &mut JointRow, a: &BodyState, b: &BodyState) -> Option<MomentaPair64> {
+        match warm_joint_64(row, a, b) {
+            None => None,
+            Some(turned) => Some(put_impulse(row, turned)),
         }
     }
 
     #[inline(always)]
-    fn narrow(
-        &self,
-        row: &mut ConstraintRow,
-        a: &BodyState,
-        b: &BodyState,
-    ) -> Option<MomentaPair64> {
-        match row {
-            ConstraintRow::Joint(row) => warm_joint_narrow(row, a, b),
-            ConstraintRow::Contact(row) => warm_contact_narrow(row, a, b),
+    fn turn(&self, row: &mut JointRow, ends: &mut Ends) {
+        warm_joint(row, ends);
+    }
+}
+
+impl Turn<ContactRow> for Warm {
+    ghost turn = { λ _ r e. row_warmed r e };
+
+    #[inline(always)]
+    fn is_idle(&self, row: &ContactRow) -> bool {
+        has_no_impulses(row)
+    }
+
+    #[inline(always)]
+    fn narrow(&self, row: &mut ContactRow, a: &BodyState, b: &BodyState) -> Option<MomentaPair64> {
+        match warm_row_64(row, a, b) {
+            None => None,
+            Some(turned) => Some(put_impulses(row, turned)),
         }
     }
 
     #[inline(always)]
-    fn turn(&self, row: &mut ConstraintRow, ends: &mut Ends) {
-        match row {
-            ConstraintRow::Joint(row) => warm_joint(row, ends),
-            ConstraintRow::Contact(row) => warm_row(row, ends),
-        }
+    fn turn(&self, row: &mut ContactRow, ends: &mut Ends) {
+        warm_row(row, ends);
     }
 }
 
@@ -145,33 +90,47 @@ impl Turn<ConstraintRow> for Warm {
 #[derive(Clone, Copy)]
 pub struct Solve;
 
-impl Turn<ConstraintRow> for Solve {
-    ghost turn = { λ _ r e. constraint_solved r e };
+impl Turn<JointRow> for Solve {
+    ghost turn = { λ _ r e. turned_joint (joint_solved r e) };
 
     #[inline(always)]
-    fn is_idle(&self, row: &ConstraintRow) -> bool {
+    fn is_idle(&self, row: &JointRow) -> bool {
         false
     }
 
     #[inline(always)]
-    fn narrow(
-        &self,
-        row: &mut ConstraintRow,
-        a: &BodyState,
-        b: &BodyState,
-    ) -> Option<MomentaPair64> {
-        match row {
-            ConstraintRow::Joint(row) => solve_joint_narrow(row, a, b),
-            ConstraintRow::Contact(row) => solve_contact_narrow(row, a, b),
+    fn narrow(&self, row: &mut JointRow, a: &BodyState, b: &BodyState) -> Option<MomentaPair64> {
+        match solve_joint_64(row, a, b) {
+            None => None,
+            Some(turned) => Some(put_impulse(row, turned)),
         }
     }
 
     #[inline(always)]
-    fn turn(&self, row: &mut ConstraintRow, ends: &mut Ends) {
-        match row {
-            ConstraintRow::Joint(row) => solve_joint(row, ends),
-            ConstraintRow::Contact(row) => solve_row(row, ends),
+    fn turn(&self, row: &mut JointRow, ends: &mut Ends) {
+        solve_joint(row, ends);
+    }
+}
+
+impl Turn<ContactRow> for Solve {
+    ghost turn = { λ _ r e. row_solved r e };
+
+    #[inline(always)]
+    fn is_idle(&self, row: &ContactRow) -> bool {
+        false
+    }
+
+    #[inline(always)]
+    fn narrow(&self, row: &mut ContactRow, a: &BodyState, b: &BodyState) -> Option<MomentaPair64> {
+        match solve_row_64(row, a, b) {
+            None => None,
+            Some(turned) => Some(put_impulses(row, turned)),
         }
+    }
+
+    #[inline(always)]
+    fn turn(&self, row: &mut ContactRow, ends: &mut Ends) {
+        solve_row(row, ends);
     }
 }
 
@@ -179,30 +138,38 @@ impl Turn<ConstraintRow> for Solve {
 #[derive(Clone, Copy)]
 pub struct Bounce;
 
-impl Turn<ConstraintRow> for Bounce {
-    ghost turn = { λ _ r e. constraint_bounced r e };
+impl Turn<JointRow> for Bounce {
+    ghost turn = { λ _ r e. turned_joint (joint_unbounced r e) };
 
     #[inline(always)]
-    fn is_idle(&self, row: &ConstraintRow) -> bool {
-        match row {
-            ConstraintRow::Joint(_) => true,
-            ConstraintRow::Contact(row) => never_bounces(row),
-        }
+    fn is_idle(&self, row: &JointRow) -> bool {
+        true
     }
 
-    fn narrow(
-        &self,
-        row: &mut ConstraintRow,
-        a: &BodyState,
-        b: &BodyState,
-    ) -> Option<MomentaPair64> {
+    #[inline(always)]
+    fn narrow(&self, row: &mut JointRow, a: &BodyState, b: &BodyState) -> Option<MomentaPair64> {
         None
     }
 
-    fn turn(&self, row: &mut ConstraintRow, ends: &mut Ends) {
-        match row {
-            ConstraintRow::Joint(_) => {}
-            ConstraintRow::Contact(row) => bounce_row(row, ends),
-        }
+    #[inline(always)]
+    fn turn(&self, row: &mut JointRow, ends: &mut Ends) {}
+}
+
+impl Turn<ContactRow> for Bounce {
+    ghost turn = { λ _ r e. row_bounced r e };
+
+    #[inline(always)]
+    fn is_idle(&self, row: &ContactRow) -> bool {
+        never_bounces(row)
+    }
+
+    #[inline(always)]
+    fn narrow(&self, row: &mut ContactRow, a: &BodyState, b: &BodyState) -> Option<MomentaPair64> {
+        None
+    }
+
+    #[inline(always)]
+    fn turn(&self, row: &mut ContactRow, ends: &mut Ends) {
+        bounce_row(row, ends);
     }
 }

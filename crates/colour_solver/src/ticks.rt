@@ -9,7 +9,7 @@ ghost use Rattle.colour_solver.specs.ConstraintTurns.{AreRowsBelow};
 ghost use Rattle.colour_solver.specs.Ticks.{AreSums, CanLimit, CanMove, CanPull, added_x, added_y, ran, run_of, start, tick, ticks};
 
 use crate::courses::carry_along;
-use crate::{Bounce, Change, ConstraintRow, Rows, Solve, Warm, pass_two};
+use crate::{Bounce, Change, Rows, Solve, Warm, pass_two};
 use body_handles::MAX_SLOTS;
 use fixed_geom::Vec2;
 use momenta::{
@@ -83,7 +83,7 @@ impl Change for Move {
 #[tactic(auto, unfolding(crate::specs::Ticks::tick))]
 fn tick(
     states: &mut Vec<BodyState>,
-    rows: &mut Rows<ConstraintRow>,
+    rows: &mut Rows,
     awake: &[u32],
     carried: &[u32],
     gravity: Vec2,
@@ -109,8 +109,8 @@ fn tick(
     ensures momentum_y { total_y states.new.items +ℤ added_y sums ≡ total_y states.old.items +ℤ added_y result }
 {
     let fallen = pass_two(states, awake, &Pull { gravity }, &Limit);
-    let warm = rows.pass(states, &Warm);
-    let solved = rows.pass(states, &Solve);
+    let warm = rows.pass(states, &Warm, &Warm);
+    let solved = rows.pass(states, &Solve, &Solve);
     let moved = pass_two(states, awake, &Limit, &Move);
     carry_along(states, carried);
     StepSums {
@@ -133,7 +133,7 @@ fn tick(
 #[tactic(auto, unfolding(crate::specs::Ticks::ran))]
 pub fn run_step(
     states: &mut Vec<BodyState>,
-    rows: &mut Rows<ConstraintRow>,
+    rows: &mut Rows,
     awake: &[u32],
     carried: &[u32],
     gravity: Vec2,
@@ -166,12 +166,9 @@ pub fn run_step(
     for index in 0..count {
         sums = tick(states, rows, awake, carried, gravity, sums);
     }
-    let bounced = rows.pass(states, &Bounce);
+    let bounced = rows.pass(states, &Bounce, &Bounce);
     StepSums {
         immovable: plus(sums.immovable, bounced),
         ..sums
     }
 }
-
-#[cfg(test)]
-mod tests;

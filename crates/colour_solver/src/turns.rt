@@ -1,6 +1,6 @@
 //! Rows that take turns: each row's two bodies take its turn, one row after another, in solve order.
 
-ghost use Rattle.std.specs.Prelude.{◌≡◌, ◌≢◌, ◌^◌, ◌<◌, ◌≤◌, true, None, length, ◌+ℤ◌, ◌-ℤ◌, IfSome};
+ghost use Rattle.std.specs.Prelude.{◌≡◌, ◌≢◌, ◌^◌, ◌<◌, ◌≤◌, true, None, length, take, drop, ◌+ℤ◌, ◌-ℤ◌, IfSome};
 ghost use Rattle.momenta.specs.declared.state.Ends.{Ends};
 ghost use Rattle.momenta.specs.Impulses.{AreStates, AreSameBodies, IsMomentumKept, IsSameBody, IsState};
 ghost use Rattle.momenta.specs.Line64.{with_momenta};
@@ -10,7 +10,7 @@ ghost use Rattle.colour_solver_base.specs.Row64.{both_ends};
 ghost use Rattle.fixed_geom.specs.Vectors.{IsWithin};
 ghost use Rattle.colour_solver.specs.Colour.{ColoursAreAtOnce};
 ghost use Rattle.colour_solver.specs.States.{AreAllStates, AreSameStates, total_x, total_y};
-ghost use Rattle.colour_solver.specs.Turns.{AreRowsOn, IsRowOn, IsTurn64, after, ends_of, got_by, got_x, got_y, narrow_ends, passed, rows_passed, share_x, share_y, turn_of, with_ends};
+ghost use Rattle.colour_solver.specs.Turns.{AreRowsOn, IsPassed, IsRowOn, IsTurn64, after, between, ends_of, got_by, got_x, got_y, narrow_ends, turn_of, with_ends};
 
 use body_handles::MAX_SLOTS;
 use fixed_geom::Vec2;
@@ -208,31 +208,30 @@ pub fn solve_one<R: Row, T: Turn<R>>(states: &mut Vec<BodyState>, row: &mut R, t
     }
 }
 
-/// One pass over rows in their order, each with the bodies as those before it left them. Answers what immovable
-/// bodies have given to the movers (mass·u/tick); what two movers give one another leaves their sum alone.
+/// One pass over the rows from the one with the number `start` up to the one with the number `end`, in their order, each with the bodies
+/// as those before it left them. Answers what immovable bodies have given to the movers (mass·u/tick); what two movers give one another
+/// leaves their sum alone.
 pub fn pass_rows<R: Row, T: Turn<R>>(
     states: &mut Vec<BodyState>,
     rows: &mut Vec<R>,
+    start: usize,
+    end: usize,
     turn: &T,
 ) -> Gain
     requires few { length states.old.items ≤ MAX_SLOTS }
     requires states { AreAllStates states.old.items }
     requires rows { AreRowsOn R.slots R.is_row (length states.old.items) rows.old.items }
-    ensures states { states.new.items ≡ passed R.slots (T.turn turn.now) states.old.items rows.old.items }
-    ensures rows { rows.new.items ≡ rows_passed R.slots (T.turn turn.now) states.old.items rows.old.items }
-    ensures share_x { result.x ≡ share_x R.slots (T.turn turn.now) states.old.items rows.old.items }
-    ensures share_y { result.y ≡ share_y R.slots (T.turn turn.now) states.old.items rows.old.items }
-    ensures all_states { AreAllStates states.new.items }
-    ensures all_rows { AreRowsOn R.slots R.is_row (length states.new.items) rows.new.items }
+    requires ascend { start ≤ end }
+    requires inside { end ≤ length rows.old.items }
+    ensures passed { IsPassed R.slots R.is_row (T.turn turn.now) states.old.items (between start end rows.old.items) states.new.items (between start end rows.new.items) result.x result.y }
+    ensures before { take start rows.new.items ≡ take start rows.old.items }
+    ensures behind { drop end rows.new.items ≡ drop end rows.old.items }
     ensures as_many { length rows.new.items ≡ length rows.old.items }
-    ensures long { length states.new.items ≡ length states.old.items }
-    ensures same { AreSameStates states.old.items states.new.items }
-    ensures momentum_x { total_x states.new.items ≡ total_x states.old.items +ℤ result.x }
-    ensures momentum_y { total_y states.new.items ≡ total_y states.old.items +ℤ result.y }
+    ensures all_rows { AreRowsOn R.slots R.is_row (length states.new.items) rows.new.items }
     ensures small { IsGain (2 ^ 78) result }
 {
     let mut given = NOTHING;
-    for index in 0..rows.len() {
+    for index in start..end {
         let got = solve_one(states, &mut rows[index], turn);
         given = plus(given, got);
     }

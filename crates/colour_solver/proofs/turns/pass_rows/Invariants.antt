@@ -1,27 +1,18 @@
-use Rattle.std.proofs.Common.{◌≡◌, ◌^◌, ◌++◌, ◌+ℤ◌, length, take, drop}
+use Rattle.std.proofs.Common.{◌≡◌, ◌≤◌, ◌^◌, length, take, drop}
 use Rattle.momenta.specs.Gains.{IsGain}
-use Rattle.colour_solver.specs.States.{AreAllStates, AreSameStates, total_x, total_y}
-use Rattle.colour_solver.specs.Turns.{AreRowsOn, passed, rows_passed, share_x, share_y}
+use Rattle.colour_solver.specs.Turns.{AreRowsOn, IsPassed, between}
 use Rattle.colour_solver.proofs.turns.pass_rows.Given as goal
 
 abbrev pub invariant-loop-index : goal.invariant-loop-index
 invariant-loop-index g l =
-    let at = g.R.Row.slots in
-    let f = g.T.Turn.turn l.turn in
-    let before = l.fn.states.items in
     let all = l.fn.rows.items in
-    let left = drop l.index l.rows.items in
     record {
-      states : passed at f l.states.items left ≡ passed at f before all;
-      rows : take l.index l.rows.items ++ rows_passed at f l.states.items left ≡ rows_passed at f before all;
-      share_x : (l.given.x +ℤ share_x at f l.states.items left) ≡ share_x at f before all;
-      share_y : (l.given.y +ℤ share_y at f l.states.items left) ≡ share_y at f before all;
-      all_states : AreAllStates l.states.items;
-      all_rows : AreRowsOn at g.R.Row.is_row (length l.states.items) l.rows.items;
-      long : length l.states.items ≡ length before;
-      same : AreSameStates before l.states.items;
+      passed : IsPassed g.R.Row.slots g.R.Row.is_row (g.T.Turn.turn l.turn) l.fn.states.items (between l.start l.index all) l.states.items (between l.start l.index l.rows.items) l.given.x l.given.y;
+      before : take l.start l.rows.items ≡ take l.start all;
+      behind : drop l.index l.rows.items ≡ drop l.index all;
       as_many : length l.rows.items ≡ length all;
-      momentum_x : total_x l.states.items ≡ total_x before +ℤ l.given.x;
-      momentum_y : total_y l.states.items ≡ total_y before +ℤ l.given.y;
+      all_rows : AreRowsOn g.R.Row.slots g.R.Row.is_row (length l.states.items) l.rows.items;
       small : IsGain (2 ^ 78) l.given;
+      low : l.start ≤ l.index;
+      high : l.index ≤ l.end;
     }

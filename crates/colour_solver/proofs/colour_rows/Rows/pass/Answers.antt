@@ -1,37 +1,36 @@
-use Rattle.std.proofs.Common.{◌≡◌, sym, ap, ◌∙◌, subst, length}
-use Rattle.colour_solver.specs.ColourRows.{all_rows}
-use Rattle.colour_solver.specs.Turns.{AreRowsOn, passed, rows_passed, share_x, share_y}
-use Rattle.colour_solver.proofs.ColourRowLaws.{cut_all, cut_long}
+use Rattle.std.proofs.Common.{ℕ, length, map, subst}
+use Rattle.joint_rows.specs.Rows.{IsJointRow}
+use Rattle.colour_solver_base.specs.Rows.{IsRow}
+use Rattle.colour_solver.specs.declared.colour_rows.ColourEnd.{ColourEnd}
+use Rattle.colour_solver.specs.ColourRows.{rows_kept}
+use Rattle.colour_solver.specs.Turns.{AreRowsOn}
+use Rattle.colour_solver.specs.ConstraintTurns.{AreRowsBelow, contact_slots, joint_slots}
+use Rattle.colour_solver.proofs.KeptRowLaws.{as_many_ends, colours_long, contacts_kept, joints_kept}
+use Rattle.colour_solver.proofs.KindLaws.{contacts_below, joints_below}
 use Rattle.colour_solver.proofs.colour_rows.Rows.pass.Goals as goal
 
-pub pass_rows-requires-clause-rows : goal.pass_rows-requires-clause-rows
-pass_rows-requires-clause-rows g c =
-    let all : all_rows c.args.self.now ≡ c.self.inside.rows.items = rw (← c.self.view_is) (cut_all 0 c.self.inside.ends.items c.self.inside.rows.items) in
-    subst (AreRowsOn g.R.Row.slots g.R.Row.is_row (length c.args.states.now.items)) all c.requires.rows
+abbrev joint_end : ColourEnd → ℕ
+joint_end e = e.joints
 
-pub returns-clause-states : goal.returns-clause-states
-returns-clause-states g c =
-    let all : all_rows c.args.self.now ≡ c.self.inside.rows.items = rw (← c.self.view_is) (cut_all 0 c.self.inside.ends.items c.self.inside.rows.items) in
-    c.pass_rows.ensures.states ∙ ap (passed g.R.Row.slots (g.T.Turn.turn c.args.turn.now) c.args.states.now.items) (sym all)
+abbrev contact_end : ColourEnd → ℕ
+contact_end e = e.contacts
 
-pub returns-clause-rows : goal.returns-clause-rows
-returns-clause-rows g c =
-    let all : all_rows c.args.self.now ≡ c.self.inside.rows.items = rw (← c.self.view_is) (cut_all 0 c.self.inside.ends.items c.self.inside.rows.items) in
-    cut_all 0 c.self.inside.ends.items c.pass_rows.new.rows.items ∙ c.pass_rows.ensures.rows ∙ ap (rows_passed g.R.Row.slots (g.T.Turn.turn c.args.turn.now) c.args.states.now.items) (sym all)
+pub pass_colours-requires-clause-joints : goal.pass_colours-requires-clause-joints
+pass_colours-requires-clause-joints g c =
+    let ends = c.self.inside.ends.items in
+    let n = length c.args.states.now.items in
+    let below : AreRowsBelow n (rows_kept (map joint_end ends) (map contact_end ends) c.self.inside.joints.items c.self.inside.contacts.items) = rw (← c.self.view_is) at c.requires.rows in
+    subst (AreRowsOn joint_slots IsJointRow n) (joints_kept (map joint_end ends) (map contact_end ends) c.self.inside.joints.items c.self.inside.contacts.items (as_many_ends joint_end contact_end ends)) (joints_below n _ below)
+
+pub pass_colours-requires-clause-contacts : goal.pass_colours-requires-clause-contacts
+pass_colours-requires-clause-contacts g c =
+    let ends = c.self.inside.ends.items in
+    let n = length c.args.states.now.items in
+    let below : AreRowsBelow n (rows_kept (map joint_end ends) (map contact_end ends) c.self.inside.joints.items c.self.inside.contacts.items) = rw (← c.self.view_is) at c.requires.rows in
+    subst (AreRowsOn contact_slots IsRow n) (contacts_kept (map joint_end ends) (map contact_end ends) c.self.inside.joints.items c.self.inside.contacts.items (as_many_ends joint_end contact_end ends)) (contacts_below n _ below)
 
 pub returns-clause-colours : goal.returns-clause-colours
-returns-clause-colours g c = rw (← c.self.view_is) (cut_long 0 c.self.inside.ends.items c.self.inside.rows.items c.pass_rows.new.rows.items c.pass_rows.ensures.as_many)
-
-pub returns-clause-share_x : goal.returns-clause-share_x
-returns-clause-share_x g c =
-    let all : all_rows c.args.self.now ≡ c.self.inside.rows.items = rw (← c.self.view_is) (cut_all 0 c.self.inside.ends.items c.self.inside.rows.items) in
-    c.pass_rows.ensures.share_x ∙ ap (share_x g.R.Row.slots (g.T.Turn.turn c.args.turn.now) c.args.states.now.items) (sym all)
-
-pub returns-clause-share_y : goal.returns-clause-share_y
-returns-clause-share_y g c =
-    let all : all_rows c.args.self.now ≡ c.self.inside.rows.items = rw (← c.self.view_is) (cut_all 0 c.self.inside.ends.items c.self.inside.rows.items) in
-    c.pass_rows.ensures.share_y ∙ ap (share_y g.R.Row.slots (g.T.Turn.turn c.args.turn.now) c.args.states.now.items) (sym all)
-
-pub returns-clause-all_rows : goal.returns-clause-all_rows
-returns-clause-all_rows g c =
-    subst (AreRowsOn g.R.Row.slots g.R.Row.is_row (length c.pass_rows.new.states.items)) (sym (cut_all 0 c.self.inside.ends.items c.pass_rows.new.rows.items)) c.pass_rows.ensures.all_rows
+returns-clause-colours g c =
+    let ends = c.self.inside.ends.items in
+    rw (← c.self.view_is)
+    (colours_long (map joint_end ends) (map contact_end ends) c.pass_colours.new.joints.items c.self.inside.joints.items c.pass_colours.new.contacts.items c.self.inside.contacts.items (as_many_ends joint_end contact_end ends) c.pass_colours.ensures.as_many_joints c.pass_colours.ensures.as_many_contacts)
