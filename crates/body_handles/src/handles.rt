@@ -111,6 +111,14 @@ impl Handles {
         }
     }
 
+    /// The slot that the next `insert` gives out, where one can be given out.
+    pub fn next_slot(&self) -> u32
+        requires { lowest self.now.places < MAX_SLOTS }
+        ensures { result ≡ lowest self.now.places }
+    {
+        lowest_slot(&self.places, self.first_open) as u32
+    }
+
     /// Whether no slot can be given out.
     pub fn is_full(&self) -> bool
         ensures { IsTrue result ↔ (MAX_SLOTS ≤ lowest self.now.places) }

@@ -102,6 +102,11 @@ rank_standing : (k : ℕ) (p : Place) (b : Option Box2) → IsStanding k (Some p
 rank_standing k p None h = absurd h
 rank_standing k p (Some x) h = h.rank
 
+pub ranked_place : (leaves : List Leaf) (places : List (Option Place)) (boxes : List (Option Box2)) (k : ℕ) (p : Place) → IsIndex leaves places boxes → place_at places k ≡ Some p → p.rank % MAX_KEYS ≡ k
+ranked_place leaves places boxes k p h is =
+    let s : IsStanding k (place_at places k) (box_at boxes k) = standing_here k places boxes h.standing in
+    rank_standing k p (box_at boxes k) (rw is at s)
+
 pub ranked : (leaves : List Leaf) (places : List (Option Place)) (boxes : List (Option Box2)) (e : Leaf) → IsIndex leaves places boxes → IsIn e leaves → e.rank % MAX_KEYS ≡ e.key
 ranked leaves places boxes e h i =
     let s : IsStanding e.key (place_at places e.key) (box_at boxes e.key) = standing_here e.key places boxes h.standing in
@@ -190,9 +195,7 @@ set_itself (o ∷ places) (suc k) p h = ap (λ (qs : List (Option Place)). o ∷
 -- the box changes within its loose one
 pub index_stay : (leaves : List Leaf) (places : List (Option Place)) (boxes : List (Option Box2)) (k : ℕ) (p : Place) (x : Box2) → IsIndex leaves places boxes → place_at places k ≡ Some p → Contains p.bounds x → IsIndex leaves places (slice_set boxes k (Some x))
 index_stay leaves places boxes k p x h is inside =
-    let s : IsStanding k (place_at places k) (box_at boxes k) = standing_here k places boxes h.standing in
-    let r : p.rank % MAX_KEYS ≡ k = rank_standing k p (box_at boxes k) (rw is at s) in
-    let place : IsPlaceOf k p x = record { inside = inside; rank = r } in
+    let place : IsPlaceOf k p x = record { inside = inside; rank = ranked_place leaves places boxes k p h is } in
     let set : AreStanding 0 (slice_set places k (Some p)) (slice_set boxes k (Some x)) = standing_put k (Some p) (Some x) places boxes h.standing place in
     record {
       kept = h.kept;

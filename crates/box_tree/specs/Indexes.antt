@@ -40,4 +40,4 @@ pub record IsIndex (leaves : List Leaf) (places : List (Option Place)) (boxes : 
   pub few : length boxes ≤ MAX_KEYS
 
 pub record IsBoxTree (a : Inside) : Type 0 where
-  pub index : IsIndex (leaves_of a.root) a.places.items a.boxes.items
+  pub index : IsIndex (leaves_of a.root.items) a.places.items a.boxes.items

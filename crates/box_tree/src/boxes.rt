@@ -14,7 +14,8 @@ use std::marker::Model;
 /// Boxes by key, below [`MAX_KEYS`]. Contracts see the list of boxes by key.
 #[derive(Drop)]
 pub struct BoxTree {
-    root: Option<Tree>,
+    // The tree: a list of at most one.
+    root: Vec<Tree>,
     // Where each key stands in the tree, with a loose box round its own.
     places: Vec<Option<Place>>,
     boxes: Vec<Option<Box2>>,
@@ -39,7 +40,7 @@ impl BoxTree {
         ensures { result ≡ [] }
     {
         BoxTree {
-            root: None,
+            root: Vec::new(alloc),
             places: Vec::new(alloc),
             boxes: Vec::new(alloc),
         }
@@ -111,8 +112,8 @@ impl BoxTree {
         );
     }
 
-    /// Gives a key that has a box another one. It takes no memory, and leaves the tree as it is where the new box lies
-    /// within the loose one.
+    /// Gives a key that has a box another one. It takes no memory. The tree stays as it is where the new box lies within the
+    /// loose one, and keeps its form where the new box is near.
     pub fn replace(&mut self, key: u32, bounds: &Box2)
         requires { is_some (box_at self.old key) ≡ true }
         ensures { self.new ≡ slice_set self.old key (Some bounds.now) }

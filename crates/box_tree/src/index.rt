@@ -6,7 +6,7 @@ ghost use Rattle.box_tree.specs.Tables.{place_at};
 ghost use Rattle.box_tree.specs.BoxLists.{box_at, is_over, keys_over};
 ghost use Rattle.box_tree.specs.Indexes.{IsIndex};
 
-use crate::places::{Place, place_for};
+use crate::places::{Place, place_after, place_for};
 use crate::table;
 use box_tree_base::Tree;
 use fixed_geom::{Box2, contains, overlaps};
@@ -50,17 +50,17 @@ pub(crate) fn push_none(places: &mut Vec<Option<Place>>)
 
 /// Gives a key that has none a box.
 pub(crate) fn insert(
-    root: &mut Option<Tree>,
+    root: &mut Vec<Tree>,
     places: &mut Vec<Option<Place>>,
     boxes: &mut Vec<Option<Box2>>,
     key: u32,
     bounds: &Box2,
     alloc: Global,
 ) -> Result<(), AllocError>
-    requires index { IsIndex (leaves_of root.old) places.old.items boxes.old.items }
+    requires index { IsIndex (leaves_of root.old.items) places.old.items boxes.old.items }
     requires room { key < length boxes.old.items }
     requires free { box_at boxes.old.items key ≡ None }
-    ensures index { IsIndex (leaves_of root.new) places.new.items boxes.new.items }
+    ensures index { IsIndex (leaves_of root.new.items) places.new.items boxes.new.items }
     ensures inserted { OnOk result (boxes.new.items ≡ slice_set boxes.old.items key (Some bounds.now)) }
     ensures refused { OnErr result (boxes.new.items ≡ boxes.old.items) }
 {
@@ -72,16 +72,16 @@ pub(crate) fn insert(
 
 /// Takes the box of a key that stands at this place.
 pub(crate) fn remove(
-    root: &mut Option<Tree>,
+    root: &mut Vec<Tree>,
     places: &mut Vec<Option<Place>>,
     boxes: &mut Vec<Option<Box2>>,
     key: u32,
     place: &Place,
 )
-    requires index { IsIndex (leaves_of root.old) places.old.items boxes.old.items }
+    requires index { IsIndex (leaves_of root.old.items) places.old.items boxes.old.items }
     requires room { key < length boxes.old.items }
     requires place { place_at places.old.items key ≡ Some place.now }
-    ensures index { IsIndex (leaves_of root.new) places.new.items boxes.new.items }
+    ensures index { IsIndex (leaves_of root.new.items) places.new.items boxes.new.items }
     ensures removed { boxes.new.items ≡ slice_set boxes.old.items key None }
 {
     table::remove(root, places, key, place);
@@ -90,37 +90,37 @@ pub(crate) fn remove(
 
 // Moves a key that stands at this place to where its box is now.
 fn moved(
-    root: &mut Option<Tree>,
+    root: &mut Vec<Tree>,
     places: &mut Vec<Option<Place>>,
     boxes: &mut Vec<Option<Box2>>,
     key: u32,
     old: &Place,
     bounds: &Box2,
 )
-    requires index { IsIndex (leaves_of root.old) places.old.items boxes.old.items }
+    requires index { IsIndex (leaves_of root.old.items) places.old.items boxes.old.items }
     requires room { key < length boxes.old.items }
     requires place { place_at places.old.items key ≡ Some old.now }
-    ensures index { IsIndex (leaves_of root.new) places.new.items boxes.new.items }
+    ensures index { IsIndex (leaves_of root.new.items) places.new.items boxes.new.items }
     ensures moved { boxes.new.items ≡ slice_set boxes.old.items key (Some bounds.now) }
 {
-    let place = place_for(key, bounds);
+    let place = place_after(key, old, bounds);
     table::replace(root, places, key, old, &place);
     boxes[key as usize] = Some(*bounds);
 }
 
 /// Gives a key that stands at this place another box. The tree stays as it is where the loose box holds the new one.
 pub(crate) fn replace(
-    root: &mut Option<Tree>,
+    root: &mut Vec<Tree>,
     places: &mut Vec<Option<Place>>,
     boxes: &mut Vec<Option<Box2>>,
     key: u32,
     place: &Place,
     bounds: &Box2,
 )
-    requires index { IsIndex (leaves_of root.old) places.old.items boxes.old.items }
+    requires index { IsIndex (leaves_of root.old.items) places.old.items boxes.old.items }
     requires room { key < length boxes.old.items }
     requires place { place_at places.old.items key ≡ Some place.now }
-    ensures index { IsIndex (leaves_of root.new) places.new.items boxes.new.items }
+    ensures index { IsIndex (leaves_of root.new.items) places.new.items boxes.new.items }
     ensures replaced { boxes.new.items ≡ slice_set boxes.old.items key (Some bounds.now) }
 {
     if contains(place.bounds, *bounds) {
@@ -132,7 +132,7 @@ pub(crate) fn replace(
 
 /// The keys whose boxes overlap the wanted one, ascending.
 pub(crate) fn overlapping(
-    root: &Option<Tree>,
+    root: &[Tree],
     places: &[Option<Place>],
     boxes: &[Option<Box2>],
     wanted: &Box2,

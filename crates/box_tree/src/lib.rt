@@ -9,7 +9,7 @@
 //! has a loose box so that small moves leave the tree as it is. Its leaves stand in no order; here they stand in the order of
 //! a Morton code of the box's corner, so that one way down finds the leaf of a known rank. The tree is balanced as
 //! Adelson-Velsky and Landis do it. A table gives the rank by key, with which `remove` and `replace` cost by the
-//! logarithm.
+//! logarithm. A box that moves a short way keeps its rank: its leaf stays where it is, and the boxes above it follow.
 #![tactic(auto)]
 
 mod boxes;

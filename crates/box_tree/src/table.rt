@@ -25,22 +25,22 @@ pub(crate) fn leaf_at(key: u32, place: &Place) -> Leaf
 
 /// Puts a key's leaf into the tree and its place into the table, or changes nothing.
 pub(crate) fn insert(
-    root: &mut Option<Tree>,
+    root: &mut Vec<Tree>,
     places: &mut Vec<Option<Place>>,
     key: u32,
     place: &Place,
     alloc: Global,
 ) -> Result<(), AllocError>
-    requires kept { IsKept (leaves_of root.old) places.old.items }
+    requires kept { IsKept (leaves_of root.old.items) places.old.items }
     requires free { place_at places.old.items key ≡ None }
-    requires other { Each (IsOther place.now.rank) (leaves_of root.old) }
-    requires few { length (leaves_of root.old) + 1 < 2 ^ 32 }
+    requires other { Each (IsOther place.now.rank) (leaves_of root.old.items) }
+    requires few { length (leaves_of root.old.items) + 1 < 2 ^ 32 }
     requires room { key < length places.old.items }
-    ensures kept { IsKept (leaves_of root.new) places.new.items }
+    ensures kept { IsKept (leaves_of root.new.items) places.new.items }
     ensures places { OnOk result (places.new.items ≡ slice_set places.old.items key (Some place.now)) }
-    ensures added { OnOk result (IsAdded (leaf_of key place.now) (leaves_of root.old) (leaves_of root.new)) }
+    ensures added { OnOk result (IsAdded (leaf_of key place.now) (leaves_of root.old.items) (leaves_of root.new.items)) }
     ensures refused { OnErr result (places.new.items ≡ places.old.items) }
-    ensures root { OnErr result (root.new ≡ root.old) }
+    ensures root { OnErr result (leaves_of root.new.items ≡ leaves_of root.old.items) }
 {
     roots::insert(root, &leaf_at(key, place), alloc)?;
     places[key as usize] = Some(*place);
@@ -48,19 +48,14 @@ pub(crate) fn insert(
 }
 
 /// Takes a key's leaf out of the tree and its place out of the table.
-pub(crate) fn remove(
-    root: &mut Option<Tree>,
-    places: &mut Vec<Option<Place>>,
-    key: u32,
-    place: &Place,
-)
-    requires kept { IsKept (leaves_of root.old) places.old.items }
-    requires there { IsIn (leaf_of key place.now) (leaves_of root.old) }
-    requires few { length (leaves_of root.old) < 2 ^ 32 }
+pub(crate) fn remove(root: &mut Vec<Tree>, places: &mut Vec<Option<Place>>, key: u32, place: &Place)
+    requires kept { IsKept (leaves_of root.old.items) places.old.items }
+    requires there { IsIn (leaf_of key place.now) (leaves_of root.old.items) }
+    requires few { length (leaves_of root.old.items) < 2 ^ 32 }
     requires room { key < length places.old.items }
-    ensures kept { IsKept (leaves_of root.new) places.new.items }
+    ensures kept { IsKept (leaves_of root.new.items) places.new.items }
     ensures places { places.new.items ≡ slice_set places.old.items key None }
-    ensures removed { IsAdded (leaf_of key place.now) (leaves_of root.new) (leaves_of root.old) }
+    ensures removed { IsAdded (leaf_of key place.now) (leaves_of root.new.items) (leaves_of root.old.items) }
 {
     roots::remove(root, &leaf_at(key, place));
     places[key as usize] = None;
@@ -68,20 +63,20 @@ pub(crate) fn remove(
 
 /// Gives a key another place, in the boxes of the old one.
 pub(crate) fn replace(
-    root: &mut Option<Tree>,
+    root: &mut Vec<Tree>,
     places: &mut Vec<Option<Place>>,
     key: u32,
     old: &Place,
     new: &Place,
 )
-    requires kept { IsKept (leaves_of root.old) places.old.items }
-    requires there { IsIn (leaf_of key old.now) (leaves_of root.old) }
-    requires other { (rest : List AnyLeaf) → IsAdded (leaf_of key old.now) rest (leaves_of root.old) → Each (IsOther new.now.rank) rest }
-    requires few { length (leaves_of root.old) < 2 ^ 32 }
+    requires kept { IsKept (leaves_of root.old.items) places.old.items }
+    requires there { IsIn (leaf_of key old.now) (leaves_of root.old.items) }
+    requires other { (rest : List AnyLeaf) → IsAdded (leaf_of key old.now) rest (leaves_of root.old.items) → Each (IsOther new.now.rank) rest }
+    requires few { length (leaves_of root.old.items) < 2 ^ 32 }
     requires room { key < length places.old.items }
-    ensures kept { IsKept (leaves_of root.new) places.new.items }
+    ensures kept { IsKept (leaves_of root.new.items) places.new.items }
     ensures places { places.new.items ≡ slice_set places.old.items key (Some new.now) }
-    ensures moved { IsMoved (leaf_of key old.now) (leaf_of key new.now) (leaves_of root.old) (leaves_of root.new) }
+    ensures moved { IsMoved (leaf_of key old.now) (leaf_of key new.now) (leaves_of root.old.items) (leaves_of root.new.items) }
 {
     roots::replace(root, &leaf_at(key, old), &leaf_at(key, new));
     places[key as usize] = Some(*new);
@@ -89,7 +84,7 @@ pub(crate) fn replace(
 
 /// The keys whose loose boxes overlap the wanted one, ascending.
 pub(crate) fn overlapping(
-    root: &Option<Tree>,
+    root: &[Tree],
     places: &[Option<Place>],
     wanted: &Box2,
     alloc: Global,

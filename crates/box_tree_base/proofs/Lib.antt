@@ -1,4 +1,6 @@
 pub mod DepthLemmas
 pub mod ForkLemmas
 pub mod ListLemmas
+pub mod RootLemmas
 pub mod WalkLemmas
+pub mod CrossingLemmas

@@ -1,10 +1,10 @@
 -- Lists of leaves that are joined, parted, or have one leaf more.
-use Rattle.std.proofs.Common.{◌≡◌, ℕ, ◌<◌, ◌≤◌, List, [], ◌∷◌, ◌++◌, length, refl, sym, arith, ◌⊎◌, inl, inr, append_assoc}
+use Rattle.std.proofs.Common.{◌≡◌, ℕ, ◌<◌, ◌≤◌, List, [], ◌∷◌, ◌++◌, length, refl, sym, ap, suc, arith, ◌⊎◌, inl, inr, append_assoc}
 use Rattle.std.proofs.lemmas.List.{append-nil}
 use Rattle.std.proofs.lemmas.Int.{ints, int_min_is, int_max_is}
 use Rattle.fixed_geom.specs.Boxes.{Contains}
 use Rattle.fixed_geom.specs.declared.boxes.Box2.{Box2}
-use Rattle.box_tree_base.specs.Lists.{Each, IsIn, IsAdded}
+use Rattle.box_tree_base.specs.Lists.{Each, IsIn, IsAdded, IsRefitted}
 use Rattle.box_tree_base.specs.Joins.{joined, IsBounded}
 use Rattle.box_tree_base.specs.Trees.{IsBelow, IsFrom}
 use Rattle.box_tree_base.specs.declared.leaves.Leaf.{Leaf}
@@ -115,3 +115,31 @@ first_gone e xs ys h = record { front = []; back = ys; was = refl; is = rw h ref
 
 pub last_gone : {X : Type 0} (e : X) (xs ys : List X) → ys ≡ e ∷ [] → IsAdded e xs (xs ++ ys)
 last_gone e xs ys h = record { front = xs; back = []; was = sym (append-nil xs); is = rw h refl }
+
+-- ---- one in the stead of another
+
+each_replaced : {X : Type 0} (P : X → Type 0) (out in_stead : X) (front back : List X) → P in_stead → Each P (front ++ out ∷ back) → Each P (front ++ in_stead ∷ back)
+each_replaced P out in_stead front back p a = each_append P front (in_stead ∷ back) (each_left P front (out ∷ back) a) (p, (each_right P front (out ∷ back) a).1)
+
+pub each_refitted : {X : Type 0} (P : X → Type 0) (out in_stead : X) (old new : List X) → IsRefitted out in_stead old new → P in_stead → Each P old → Each P new
+each_refitted P out in_stead old new h p a = rw h.is (each_replaced P out in_stead h.front h.back p (rw h.was at a))
+
+replaced_length : {X : Type 0} (out in_stead : X) (front back : List X) → length (front ++ in_stead ∷ back) ≡ length (front ++ out ∷ back)
+replaced_length out in_stead [] back = refl
+replaced_length out in_stead (x ∷ front) back = ap suc (replaced_length out in_stead front back)
+
+pub refitted_length : {X : Type 0} (out in_stead : X) (old new : List X) → IsRefitted out in_stead old new → length new ≡ length old
+refitted_length out in_stead old new h = rw (h.was, h.is) (replaced_length out in_stead h.front h.back)
+
+pub refitted_left : {X : Type 0} (out in_stead : X) (old new right : List X) → IsRefitted out in_stead old new → IsRefitted out in_stead (old ++ right) (new ++ right)
+refitted_left out in_stead old new right h = record { front = h.front; back = h.back ++ right; was = rw (h.was, append_assoc) refl; is = rw (h.is, append_assoc) refl }
+
+pub refitted_right : {X : Type 0} (out in_stead : X) (left old new : List X) → IsRefitted out in_stead old new → IsRefitted out in_stead (left ++ old) (left ++ new)
+refitted_right out in_stead left old new h = record { front = left ++ h.front; back = h.back; was = rw (h.was, append_assoc) refl; is = rw (h.is, append_assoc) refl }
+
+only_refitted : {X : Type 0} (out in_stead x : X) → IsIn out (x ∷ []) → IsRefitted out in_stead (x ∷ []) (in_stead ∷ [])
+only_refitted out in_stead x (inl e) = record { front = []; back = []; was = ap (λ y. y ∷ []) (sym e); is = refl }
+only_refitted out in_stead x (inr h) = absurd h
+
+pub alone_refitted : {X : Type 0} (out in_stead x : X) (all : List X) → all ≡ x ∷ [] → IsIn out all → IsRefitted out in_stead all (in_stead ∷ [])
+alone_refitted out in_stead x all e h = rw e (only_refitted out in_stead x (rw e at h))

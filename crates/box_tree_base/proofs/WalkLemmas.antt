@@ -1,7 +1,8 @@
 -- A walk may leave out what lies in a box that it doesn't meet.
-use Rattle.std.proofs.Common.{◌≡◌, ℕ, Bool, true, false, cond, ◌&&◌, List, [], ◌∷◌, ◌++◌, Option, None, refl, ap, ◌∙◌, arith, ℤ, ◌≤ℤ◌}
+use Rattle.std.proofs.Common.{◌≡◌, ℕ, Bool, true, false, cond, ◌&&◌, List, [], ◌∷◌, ◌++◌, Option, None, refl, ap, sym, ◌∙◌, arith, ℤ, ◌≤ℤ◌}
 use Rattle.std.specs.Prelude.{int_le}
 use Rattle.std.proofs.lemmas.Int.{ints}
+use Rattle.std.proofs.lemmas.List.{append_assoc, append-nil}
 use Rattle.fixed_geom.specs.Boxes.{Contains, meets, overlaps}
 use Rattle.fixed_geom.specs.declared.boxes.Box2.{Box2}
 use Rattle.box_tree_base.specs.Joins.{IsBounded}
@@ -70,3 +71,28 @@ first_among_missed reaches hit b [] best law a m h = refl
 first_among_missed reaches hit b (leaf ∷ leaves) best law a m h =
     let none : hit leaf.key ≡ None = m.0 (law b leaf.bounds a.0 h) in
     ap (λ o. first_among hit leaves (nearer best leaf.key o)) none ∙ first_among_missed reaches hit b leaves best law a.1 m.1 h
+
+-- ---- one side of a fork after the other
+
+-- a side whose box is apart from q adds nothing
+pub none_added : (b q : Box2) (leaves : List Leaf) (found : List ℕ) → Each (IsBounded b) leaves → overlaps b q ≡ false → found ≡ found ++ keys_over q leaves
+none_added b q leaves found a h = sym (ap (λ l. found ++ l) (keys_over_none b q leaves a h) ∙ append-nil found)
+
+pub both_added : (q : Box2) (left right all : List Leaf) (old middle new : List ℕ) → all ≡ left ++ right → middle ≡ old ++ keys_over q left → new ≡ middle ++ keys_over q right → new ≡ old ++ keys_over q all
+both_added q left right all old middle new is first second =
+    second
+    ∙ ap (λ l. l ++ keys_over q right) first
+    ∙ append_assoc old (keys_over q left) (keys_over q right)
+    ∙ ap (λ l. old ++ l) (sym (keys_over-append q left right))
+    ∙ ap (λ l. old ++ keys_over q l) (sym is)
+
+pub first_of_both : (hit : ℕ → Option ℕ) (left right all : List Leaf) (old middle new : Option Hit) → all ≡ left ++ right → middle ≡ first_among hit left old → new ≡ first_among hit right middle → new ≡ first_among hit all old
+first_of_both hit left right all old middle new is first second =
+    second
+    ∙ ap (first_among hit right) first
+    ∙ sym (first_among-append hit left right old)
+    ∙ ap (λ l. first_among hit l old) (sym is)
+
+-- a side whose box the ray doesn't reach has no hit
+pub none_nearer : (reaches : Box2 → Bool) (hit : ℕ → Option ℕ) (b : Box2) (leaves : List Leaf) (best : Option Hit) → ((outer inner : Box2) → Contains outer inner → reaches outer ≡ false → reaches inner ≡ false) → Each (IsBounded b) leaves → Each (IsHitWithin reaches hit) leaves → false ≡ reaches b → best ≡ first_among hit leaves best
+none_nearer reaches hit b leaves best law a m e = sym (first_among_missed reaches hit b leaves best law a m (sym e))

@@ -16,3 +16,10 @@ pub record IsAdded {X : Type 0} (e : X) (less more : List X) : Type 0 where
   pub back : List X
   pub was : less ≡ front ++ back
   pub is : more ≡ front ++ e ∷ back
+
+-- new is old with in_stead in the place of out
+pub record IsRefitted {X : Type 0} (out in_stead : X) (old new : List X) : Type 0 where
+  pub front : List X
+  pub back : List X
+  pub was : old ≡ front ++ out ∷ back
+  pub is : new ≡ front ++ in_stead ∷ back

@@ -1,8 +1,9 @@
 -- What a node is seen as, and what holds of it.
 use Rattle.std.specs.Prelude.{◌≡◌, ◌≢◌, ℕ, ◌+◌, ◌<◌, ◌≤◌, max, [], ◌∷◌, ◌++◌, length}
+use Rattle.fixed_geom.specs.declared.boxes.Box2.{Box2}
 use Rattle.box_tree_base.specs.Depths.{least_leaves}
 use Rattle.box_tree_base.specs.Outline.{Outline}
-use Rattle.box_tree_base.specs.Joins.{IsBounded}
+use Rattle.box_tree_base.specs.Joins.{joined, IsBounded}
 use Rattle.box_tree_base.specs.Lists.{Each}
 use Rattle.box_tree_base.specs.declared.leaves.Leaf.{Leaf}
 use Rattle.box_tree_base.specs.declared.tree.Node.{Node}
@@ -10,7 +11,7 @@ use Rattle.box_tree_base.specs.declared.tree.Node.TheVariants.{Tip, Fork}
 
 abbrev pub outline : Node → Outline
 outline (Tip leaf) = record { leaves = leaf ∷ []; height = 0; bounds = leaf.bounds }
-outline (Fork left stem right) = record { leaves = left.value.leaves ++ right.value.leaves; height = stem.height; bounds = stem.bounds }
+outline (Fork left stem right) = record { leaves = left.value.leaves ++ right.value.leaves; height = stem.height; bounds = joined stem.left stem.right }
 
 abbrev pub IsBelow : ℕ → Leaf → Type 0
 IsBelow split leaf = leaf.rank < split
@@ -38,8 +39,18 @@ abbrev pub AreSidesOf : Node → Type 0
 AreSidesOf (Tip leaf) = Unit {0}
 AreSidesOf (Fork left stem right) = AreSides left.value right.value stem.split stem.height
 
+-- each side lies in the box that the fork keeps of it
+pub record AreBoxed (left right : Outline) (lower upper : Box2) : Type 0 where
+  pub left_side : Each (IsBounded lower) left.leaves
+  pub right_side : Each (IsBounded upper) right.leaves
+
+abbrev pub AreBoxedIn : Node → Type 0
+AreBoxedIn (Tip leaf) = Unit {0}
+AreBoxedIn (Fork left stem right) = AreBoxed left.value right.value stem.left stem.right
+
 pub record IsTree (n : Node) : Type 0 where
   pub sides : AreSidesOf n
+  pub boxed : AreBoxedIn n
   pub round : Each (IsBounded (outline n).bounds) (outline n).leaves
   pub many : least_leaves (outline n).height ≤ length (outline n).leaves
   pub below : (outline n).height < length (outline n).leaves

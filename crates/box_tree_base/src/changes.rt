@@ -1,7 +1,7 @@
-//! A leaf put into a tree, and one taken out.
+//! A leaf put into a tree, one taken out, and one that gets another box where it stands.
 
 ghost use Rattle.std.specs.Prelude.{◌≡◌, ◌+◌, ◌^◌, ◌<◌, ◌≤◌, length};
-ghost use Rattle.box_tree_base.specs.Lists.{Each, IsIn, IsAdded};
+ghost use Rattle.box_tree_base.specs.Lists.{Each, IsIn, IsAdded, IsRefitted};
 ghost use Rattle.box_tree_base.specs.Trees.{IsOther};
 
 use crate::forks::{balanced, pair};
@@ -29,6 +29,27 @@ impl Tree {
                 } else {
                     right.insert(leaf, first, second);
                     self.node = balanced(left, stem.split, right);
+                }
+            }
+        }
+    }
+
+    /// Puts a leaf in the stead of one that is there and has its rank. The boxes of the forks above it are made anew.
+    pub fn refit(&mut self, old: &Leaf, new: &Leaf)
+        requires there { IsIn old.now self.old.leaves }
+        requires rank { new.now.rank ≡ old.now.rank }
+        ensures refitted { IsRefitted old.now new.now self.old.leaves self.new.leaves }
+        ensures height { self.new.height ≡ self.old.height }
+    {
+        match &mut self.node {
+            Node::Tip(leaf) => *leaf = *new,
+            Node::Fork(left, stem, right) => {
+                if old.rank < stem.split {
+                    left.refit(old, new);
+                    stem.left = left.bounds();
+                } else {
+                    right.refit(old, new);
+                    stem.right = right.bounds();
                 }
             }
         }

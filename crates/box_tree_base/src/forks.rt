@@ -4,7 +4,6 @@ ghost use Rattle.std.specs.Prelude.{◌≡◌, ◌≢◌, ◌+◌, ◌^◌, ◌<
 ghost use Rattle.box_tree_base.specs.Lists.{Each, IsAdded};
 ghost use Rattle.box_tree_base.specs.Trees.{outline, IsTree, IsBelow, IsFrom, DifferByAtMost, IsSettled};
 
-use crate::joins::joined;
 use crate::leaves::Leaf;
 use crate::tree::{Node, Stem, Tree, taken};
 
@@ -19,11 +18,11 @@ pub(crate) fn fork(left: Box<Tree>, split: u64, right: Box<Tree>) -> Node
     ensures height { (outline result).height ≡ max left.value.height right.value.height + 1 }
 {
     let height = left.height().max(right.height()) + 1;
-    let bounds = joined(&left.bounds(), &right.bounds());
     let stem = Stem {
         split,
         height,
-        bounds,
+        left: left.bounds(),
+        right: right.bounds(),
     };
     Node::Fork(left, stem, right)
 }

@@ -6,18 +6,21 @@ ghost use Rattle.box_tree_base.specs.Joins.{IsBounded};
 ghost use Rattle.box_tree_base.specs.Trees.{outline, IsTree};
 ghost use Rattle.box_tree_base.specs.Depths.{least_leaves};
 
+use crate::joins::joined;
 use crate::leaves::{BLANK, Leaf};
 use fixed_geom::Box2;
 use std::alloc::{AllocError, Global};
 use std::marker::Model;
 use std::mem;
 
-/// What a fork keeps of the leaves below it: those on its left have ranks below the split, those on its right from it on.
+/// What a fork keeps of the leaves below it: those on its left have ranks below the split, those on its right from it on. A box
+/// round each side stands here and not below, so that a walk that passes a side over reads nothing of it.
 #[derive(Clone, Copy)]
 pub(crate) struct Stem {
     pub split: u64,
     pub height: u64,
-    pub bounds: Box2,
+    pub left: Box2,
+    pub right: Box2,
 }
 
 /// A balanced tree of leaves in the order of their ranks. Contracts see its outline: the leaves from left to right, the
@@ -88,7 +91,7 @@ impl Tree {
     {
         match &self.node {
             Node::Tip(leaf) => leaf.bounds,
-            Node::Fork(_, stem, _) => stem.bounds,
+            Node::Fork(_, stem, _) => joined(&stem.left, &stem.right),
         }
     }
 

@@ -15,16 +15,19 @@ impl Tree {
     pub fn collect(&self, wanted: &Box2, found: &mut Vec<u32>) -> Result<(), AllocError>
         ensures { OnOk result (found.new.items ≡ found.old.items ++ keys_over wanted.now self.now.leaves) }
     {
-        if !overlaps(self.bounds(), *wanted) {
-            return Ok(());
-        }
         match &self.node {
             Node::Tip(leaf) => {
-                found.push(leaf.key)?;
+                if overlaps(leaf.bounds, *wanted) {
+                    found.push(leaf.key)?;
+                }
             }
-            Node::Fork(left, _, right) => {
-                left.collect(wanted, found)?;
-                right.collect(wanted, found)?;
+            Node::Fork(left, stem, right) => {
+                if overlaps(stem.left, *wanted) {
+                    left.collect(wanted, found)?;
+                }
+                if overlaps(stem.right, *wanted) {
+                    right.collect(wanted, found)?;
+                }
             }
         }
         Ok(())
@@ -36,14 +39,19 @@ impl Tree {
         requires { Each (IsHitWithin (R.reaches ray.now) (R.hit ray.now)) self.now.leaves }
         ensures { result ≡ first_among (R.hit ray.now) self.now.leaves best }
     {
-        if !ray.reaches(&self.bounds()) {
-            return best;
-        }
         match &self.node {
             Node::Tip(leaf) => nearer(best, leaf.key, ray.hit(leaf.key)),
-            Node::Fork(left, _, right) => {
-                let best = left.first_hit(ray, best);
-                right.first_hit(ray, best)
+            Node::Fork(left, stem, right) => {
+                let best = if ray.reaches(&stem.left) {
+                    left.first_hit(ray, best)
+                } else {
+                    best
+                };
+                if ray.reaches(&stem.right) {
+                    right.first_hit(ray, best)
+                } else {
+                    best
+                }
             }
         }
     }

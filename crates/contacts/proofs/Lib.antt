@@ -13,5 +13,6 @@ pub mod KnownLemmas
 pub mod PartLemmas
 pub mod TurnLemmas
 pub mod UpdateLemmas
-pub mod FreshLemmas
 pub mod MarkLemmas
+pub mod StirringLaws
+pub mod NearMarkedLaws

@@ -162,7 +162,7 @@ new_ones moved pairs ps old = contacts_of old ps (fresh moved pairs ps old)
 abbrev old_ones : (ℕ → Bool) → List ℕ → List Proxy → List ContactEntry → List ContactEntry
 old_ones moved pairs ps old = map (again ps) (staying moved pairs ps old)
 
-new_rise : (moved : ℕ → Bool) (pairs : List ℕ) (ps : List Proxy) (old : List ContactEntry) → IsProxyList ps → IsRising (map entry_number (new_ones moved pairs ps old))
+pub new_rise : (moved : ℕ → Bool) (pairs : List ℕ) (ps : List Proxy) (old : List ContactEntry) → IsProxyList ps → IsRising (map entry_number (new_ones moved pairs ps old))
 new_rise moved pairs ps old list = codes_rise old ps (is_fresh moved ps old) (allowed_codes pairs ps) (after_rises pairs ps old list)
 
 old_rises : (moved : ℕ → Bool) (pairs : List ℕ) (ps : List Proxy) (es : List ContactEntry) → IsRising (map entry_number es) → IsRising (map entry_number (old_ones moved pairs ps es))

@@ -4,7 +4,8 @@ pub mod Changes
 pub mod Merge
 pub mod Known
 pub mod Turns
-pub mod Fresh
+pub mod Stirring
+pub mod NearMarked
 pub mod Constraints
 pub mod Forbidden
 pub mod Inside

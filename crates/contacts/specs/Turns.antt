@@ -1,5 +1,5 @@
 -- What becomes in a collide of the contacts that there are.
-use Rattle.std.specs.Prelude.{◌≡◌, ℕ, ◌/◌, Bool, true, false, ◌||◌, cond, List, [], ◌∷◌, ◌++◌, drop, Option, Some, None, slice_get, slice_index_or}
+use Rattle.std.specs.Prelude.{◌≡◌, ℕ, ◌<◌, ◌/◌, Bool, true, false, ◌||◌, cond, List, [], ◌∷◌, ◌++◌, drop, length, Option, Some, None, is_some, slice_get, slice_index_or}
 use Rattle.std.specs.List.{filter_map}
 use Rattle.contacts_base.specs.declared.near.Proxy.{Proxy}
 use Rattle.contacts_base.specs.declared.key.ContactKey.{ContactKey}
@@ -17,6 +17,10 @@ use Rattle.contacts.specs.Merge.{below_of, beyond_of}
 -- a shape has moved if its body's slot is marked, or is beyond the marks
 abbrev pub moved_by : List Bool → ℕ → Bool
 moved_by marks n = slice_index_or marks (n / 256) true
+
+-- each shape is of a slot that the marks have
+abbrev pub AreWithin : List Bool → List Proxy → Type 0
+AreWithin marks ps = (n : ℕ) → is_some (found ps n) ≡ true → n / 256 < length marks
 
 -- the shape is there, and its body stirs
 abbrev pub stirs_in : Option Proxy → Bool

@@ -5,16 +5,13 @@ ghost use Rattle.std.specs.List.Sorted.{IsNonDecreasing};
 ghost use Rattle.std.specs.Result.{IsOkUnless};
 ghost use Rattle.contacts_base.specs.Near.{IsProxy, IsProxyList, number_of, near_codes};
 ghost use Rattle.contacts.specs.Forbidden.{allowed_codes};
-ghost use Rattle.contacts.specs.Known.{fresh as fresh_codes};
 ghost use Rattle.contacts.specs.Pairs.{ArePairs};
-ghost use Rattle.contacts.specs.Turns.{moved_by};
 ghost use Rattle.contacts.specs.Changes.{AreRising, contacts_of, keys_not_in, keys_touching_only_in};
 
 use crate::changes::{Changes, update};
 use crate::forbidden::list_allowed;
-use crate::fresh::list_fresh;
 use crate::sweep::near_pairs;
-use contacts_base::{ContactEntry, Contacts, Proxy};
+use contacts_base::{Contacts, Proxy};
 use fixed_geom::{Box2, Refusal};
 use std::alloc::Global;
 use std::marker::Model;
@@ -146,31 +143,6 @@ impl BroadPhase {
         let mut near = Vec::new(alloc);
         near.extend_from_slice(&self.near)?;
         Ok(near)
-    }
-
-    /// The contacts of those near pairs of which a shape has moved, whose bodies aren't among the forbidden pairs, and that have none among `old`;
-    /// `marks` are the slots whose bodies' shapes have moved. Refused 1 where memory is wanting.
-    pub fn fresh_contacts(
-        &mut self,
-        alloc: Global,
-        marks: &[bool],
-        forbidden: &[u64],
-        old: &Contacts,
-    ) -> Result<Vec<ContactEntry>, Refusal>
-        requires { IsNonDecreasing forbidden.now }
-        ensures kept { self.new ≡ self.old }
-        ensures value { IfOk result (λ fresh. fresh.items ≡ contacts_of old.now self.old (fresh_codes (moved_by marks.now) forbidden.now self.old old.now)) }
-        ensures memory_only { IsOkUnless result Refusal.NoMemory }
-    {
-        near_pairs(
-            &mut self.starts,
-            &mut self.near,
-            self.heights,
-            &self.proxies,
-            &self.boxes,
-        )?;
-        list_allowed(&mut self.allowed, forbidden, &self.proxies, &self.near)?;
-        list_fresh(alloc, marks, old.as_slice(), &self.proxies, &self.allowed)
     }
 
     /// The contacts of the near pairs whose bodies aren't among the forbidden pairs (numbers of `pair_number`, ascending), and what changed; `old` are the contacts until now. Refused 1 where memory is wanting.

@@ -77,7 +77,7 @@ pub(crate) fn contact_with(old: Option<&ContactEntry>, p: &Proxy, q: &Proxy) -> 
 
 /// The contact of two shapes, whose contact until now was `old`.
 #[tactic(auto, unfolding(crate::specs::Changes::entry_with))]
-fn entry_with(old: Option<&ContactEntry>, p: &Proxy, q: &Proxy) -> ContactEntry
+pub(crate) fn entry_with(old: Option<&ContactEntry>, p: &Proxy, q: &Proxy) -> ContactEntry
     requires first { IsProxy p.now }
     requires second { IsProxy q.now }
     ensures { result ≡ entry_with (option_copied old.entry) p.now q.now }

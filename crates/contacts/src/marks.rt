@@ -8,7 +8,7 @@ ghost use Rattle.contacts.specs.Turns.{moved_by};
 use contacts_base::{ContactKey, ShapeId};
 
 /// Whether the shapes of the body in a slot have moved: it is marked, or is beyond the marks.
-pub fn is_marked(marks: &[bool], id: ShapeId) -> bool
+fn is_marked(marks: &[bool], id: ShapeId) -> bool
     ensures { result ≡ moved_by marks.now (id_number id) }
 {
     match marks.get(id.slot as usize) {

@@ -1,19 +1,21 @@
 //! The contacts after a collide as a new list: those that stay, and the fresh ones.
 
-ghost use Rattle.std.specs.Prelude.{◌≡◌, ◌≤◌, IfOk, Some, None, length, map};
+ghost use Rattle.std.specs.Prelude.{◌≡◌, ◌≤◌, All, IfOk, Some, None, length, map};
 ghost use Rattle.std.specs.List.{filter_map};
 ghost use Rattle.std.specs.List.Sorted.{IsNonDecreasing};
 ghost use Rattle.std.specs.Result.{IsOkUnless};
 ghost use Rattle.contacts_base.specs.Contacts.{AreContacts, number_of};
 ghost use Rattle.contacts_base.specs.Near.{IsProxyList};
 ghost use Rattle.contacts.specs.Changes.{contacts_of, key_if_new};
-ghost use Rattle.contacts.specs.Known.{IsKnown, again, fresh as fresh_codes, staying};
+ghost use Rattle.contacts.specs.Known.{IsKnown, IsPairKey, again, fresh as fresh_codes, staying};
 ghost use Rattle.contacts.specs.Merge.{AreAscending, merged};
+ghost use Rattle.contacts.specs.Stirring.{AreQuiet};
 ghost use Rattle.contacts.specs.Turns.{IsAdded, IsMade, begun_keys, ended_keys, moved_by, turned};
 
 use crate::changes::push_key;
 use crate::merge::{merge, push_below};
-use crate::turns::{ShapesByName, Turn, begun_key, ended_key, turn_of};
+use crate::stirring::turn_in;
+use crate::turns::{ShapesByName, Turn, begun_key, ended_key};
 use contacts_base::{ContactEntry, ContactKey, Contacts};
 use fixed_geom::Refusal;
 use std::alloc::Global;
@@ -87,11 +89,14 @@ fn turn_each<S: ShapesByName>(
     marks: &[bool],
     forbidden: &[u64],
     old: &[ContactEntry],
+    flags: &[bool],
     fresh: &[ContactEntry],
 ) -> Result<Survivors, Refusal>
     requires shapes { IsProxyList (S.proxies shapes.now) }
     requires sorted { IsNonDecreasing forbidden.now }
     requires old { AreContacts old.now }
+    requires keys { All (λ e. IsPairKey e.key) old.now }
+    requires quiet { AreQuiet flags.now marks.now (S.proxies shapes.now) }
     requires fresh { AreAscending number_of fresh.now }
     ensures all { IfOk result (λ found. found.all.items ≡ merged number_of (map (again (S.proxies shapes.now)) (staying (moved_by marks.now) forbidden.now (S.proxies shapes.now) old.now)) fresh.now) }
     ensures begin { IfOk result (λ found. found.begin.items ≡ begun_keys (moved_by marks.now) forbidden.now (S.proxies shapes.now) old.now) }
@@ -104,7 +109,7 @@ fn turn_each<S: ShapesByName>(
     let mut next = 0;
     for place in 0..old.len() {
         let entry = &old[place];
-        let turn = turn_of(shapes, marks, forbidden, entry);
+        let turn = turn_in(shapes, marks, forbidden, flags, entry);
         next = push_turned(&mut all, fresh, next, entry, &turn)?;
         push_key(&mut begin, begun_key(entry, &turn))?;
         push_key(&mut end, ended_key(entry, &turn))?;
@@ -144,17 +149,19 @@ pub(crate) fn rebuild<S: ShapesByName>(
     marks: &[bool],
     forbidden: &[u64],
     old: &[ContactEntry],
+    flags: &[bool],
     fresh: &[ContactEntry],
 ) -> Result<Rebuilt, Refusal>
     requires shapes { IsProxyList (S.proxies shapes.now) }
     requires sorted { IsNonDecreasing forbidden.now }
     requires old { AreContacts old.now }
     requires known { IsKnown (moved_by marks.now) forbidden.now (S.proxies shapes.now) old.now }
+    requires quiet { AreQuiet flags.now marks.now (S.proxies shapes.now) }
     requires fresh { fresh.now ≡ contacts_of old.now (S.proxies shapes.now) (fresh_codes (moved_by marks.now) forbidden.now (S.proxies shapes.now) old.now) }
     ensures made { IfOk result (λ rebuilt. IsMade forbidden.now (S.proxies shapes.now) old.now rebuilt.all rebuilt.begin.items rebuilt.end.items) }
     ensures memory_only { IsOkUnless result Refusal.NoMemory }
 {
-    let survivors = turn_each(alloc, shapes, marks, forbidden, old, fresh)?;
+    let survivors = turn_each(alloc, shapes, marks, forbidden, old, flags, fresh)?;
     let new_keys = keys_of_touching(alloc, fresh)?;
     let begin = merge(alloc, &new_keys, &survivors.begin)?;
     Ok(Rebuilt {

@@ -1,8 +1,10 @@
 //! What becomes in a collide of one of the contacts that there are.
 
-ghost use Rattle.std.specs.Prelude.{◌≡◌, ◌++◌, List, OnOk, Some, cond, true};
+ghost use Rattle.std.specs.Prelude.{◌≡◌, ℕ, ◌/◌, ◌++◌, ◌⊎◌, All, IfOk, List, OnOk, Some, cond, true};
+ghost use Rattle.std.specs.List.{Contains};
 ghost use Rattle.std.specs.List.Sorted.{IsNonDecreasing};
 ghost use Rattle.std.specs.Result.{IsOkUnless};
+ghost use Rattle.fixed_geom.specs.Boxes.{overlaps};
 ghost use Rattle.contacts_base.specs.declared.near.Proxy.{Proxy};
 ghost use Rattle.contacts_base.specs.Keys.{id_number};
 ghost use Rattle.contacts_base.specs.Near.{IsProxyList};
@@ -16,11 +18,15 @@ use crate::changes::contact_with;
 use crate::forbidden::is_forbidden;
 use crate::marks::either_moved;
 use contacts_base::{Contact, ContactEntry, ContactKey, Proxy, ShapeId, is_near};
-use fixed_geom::Refusal;
+use fixed_geom::{Box2, Refusal};
 
 /// Where the shapes of the enabled bodies are read, one by one.
 pub trait ShapesByName {
     ghost proxies: { Self → List Proxy };
+
+    ghost awake: { Self → List ℕ };
+
+    ghost carried: { Self → List ℕ };
 
     /// The shape with this name, if there is one.
     fn shape(&self, id: ShapeId) -> Option<Proxy>
@@ -29,6 +35,20 @@ pub trait ShapesByName {
     /// Whether there is a shape with this name, and its body stirs.
     fn stirs(&self, id: ShapeId) -> bool
         ensures { result ≡ stirs_in (found (proxies self.now) (id_number id)) };
+
+    /// The slots of the awake movers.
+    fn awake(&self) -> &[u32]
+        ensures { result.now ≡ awake self.now };
+
+    /// The slots of the bodies that are carried along. A body that stirs is one of these or an awake mover.
+    fn carried(&self) -> &[u32]
+        ensures value { result.now ≡ carried self.now }
+        ensures stirring { (n : ℕ) → stirs_in (found (proxies self.now) n) ≡ true → Contains (awake self.now) (n / 256) ⊎ Contains (carried self.now) (n / 256) };
+
+    /// The slots of all bodies with a shape whose fat box overlaps the wanted one, and perhaps of others. Refused 1 where memory is wanting.
+    fn overlapping(&self, wanted: &Box2) -> Result<Vec<u32>, Refusal>
+        ensures complete { IfOk result (λ slots. All (λ p. overlaps p.fat wanted.now ≡ true → Contains slots.items p.id.slot) (proxies self.now)) }
+        ensures memory_only { IsOkUnless result Refusal.NoMemory };
 
     /// Fills a broad phase with the shapes. Refused 1 where memory is wanting.
     fn gather(&self, broad: &mut BroadPhase) -> Result<(), Refusal>
@@ -52,7 +72,7 @@ pub struct Renewal {
 }
 
 /// Whether two shapes are near, and nothing keeps their bodies from colliding.
-fn may_touch(forbidden: &[u64], p: &Proxy, q: &Proxy) -> bool
+pub(crate) fn may_touch(forbidden: &[u64], p: &Proxy, q: &Proxy) -> bool
     requires { IsNonDecreasing forbidden.now }
     ensures { result ≡ may_touch forbidden.now p.now q.now }
 {
@@ -64,6 +84,7 @@ fn may_touch(forbidden: &[u64], p: &Proxy, q: &Proxy) -> bool
 }
 
 /// Whether the shapes of a key are there, are near, and may touch.
+#[inline(always)]
 fn is_near_key<S: ShapesByName>(shapes: &S, forbidden: &[u64], key: ContactKey) -> bool
     requires { IsNonDecreasing forbidden.now }
     ensures { result ≡ near_key forbidden.now (S.proxies shapes.now) key }
@@ -102,6 +123,7 @@ fn one_stirs_of<S: ShapesByName>(shapes: &S, key: ContactKey) -> bool
 }
 
 /// The points of a contact evaluated anew, if one of its bodies stirs.
+#[inline(always)]
 fn points_again<S: ShapesByName>(shapes: &S, entry: &ContactEntry) -> Contact
     requires { IsProxyList (S.proxies shapes.now) }
     ensures { record entry.now { contact = result } ≡ again (S.proxies shapes.now) entry.now }

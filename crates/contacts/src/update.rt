@@ -8,20 +8,21 @@ ghost use Rattle.contacts_base.specs.Contacts.{AreContacts};
 ghost use Rattle.contacts_base.specs.Near.{IsProxyList};
 ghost use Rattle.contacts.specs.Changes.{AreRising, contacts_of};
 ghost use Rattle.contacts.specs.Known.{IsKnown, fresh as fresh_codes};
+ghost use Rattle.contacts.specs.Stirring.{AreQuiet, stirring_places};
 ghost use Rattle.contacts.specs.Turns.{IsMade, moved_by, renewed, whole_or};
 
 use crate::rebuild::rebuild;
+use crate::stirring::Stirring;
 use crate::survey::look_over;
 use crate::turns::{Renewal, ShapesByName};
 use contacts_base::{ContactEntry, ContactKey, Contacts};
 use fixed_geom::Refusal;
 use std::alloc::Global;
 
-/// What a collide makes of the contacts, not yet carried out: those that are evaluated anew by their places, or the whole list where
-/// some are made or go. The keys of those that begin to touch and of those that end ascend.
+/// What a collide makes of the contacts beside what it notes of them, not yet carried out: the whole list where some are made or go, and
+/// then the notes say nothing. The keys of those that begin to touch and of those that end ascend.
 #[derive(Drop)]
 pub struct Updated {
-    pub notes: Vec<Renewal>,
     pub whole: Option<Contacts>,
     pub begin: Vec<ContactKey>,
     pub end: Vec<ContactKey>,
@@ -51,29 +52,32 @@ pub fn carry_out(contacts: &mut Contacts, notes: &[Renewal], whole: Option<Conta
 /// What a collide makes of the contacts, where none is made, and none goes; `None` where one goes. Refused 1 where memory is wanting.
 fn update_in_place<S: ShapesByName>(
     alloc: Global,
+    notes: &mut Vec<Renewal>,
     shapes: &S,
     marks: &[bool],
     forbidden: &[u64],
     old: &[ContactEntry],
+    stirring: &Stirring,
     fresh: &[ContactEntry],
 ) -> Result<Option<Updated>, Refusal>
     requires shapes { IsProxyList (S.proxies shapes.now) }
     requires sorted { IsNonDecreasing forbidden.now }
     requires old { AreContacts old.now }
     requires known { IsKnown (moved_by marks.now) forbidden.now (S.proxies shapes.now) old.now }
+    requires places { stirring.now.places.items ≡ stirring_places stirring.now.flags.items old.now }
+    requires quiet { AreQuiet stirring.now.flags.items marks.now (S.proxies shapes.now) }
     requires fresh { fresh.now ≡ contacts_of old.now (S.proxies shapes.now) (fresh_codes (moved_by marks.now) forbidden.now (S.proxies shapes.now) old.now) }
-    ensures made { IfOk result (λ some. IfSome some (λ updated. IsMade forbidden.now (S.proxies shapes.now) old.now (whole_or updated.whole (renewed updated.notes.items old.now)) updated.begin.items updated.end.items)) }
+    ensures made { IfOk result (λ some. IfSome some (λ updated. IsMade forbidden.now (S.proxies shapes.now) old.now (whole_or updated.whole (renewed notes.new.items old.now)) updated.begin.items updated.end.items)) }
     ensures memory_only { IsOkUnless result Refusal.NoMemory }
 {
     if !fresh.is_empty() {
         return Ok(None);
     }
-    let found = look_over(alloc, shapes, marks, forbidden, old)?;
+    let found = look_over(alloc, notes, shapes, marks, forbidden, old, stirring)?;
     if !found.gone.is_empty() {
         return Ok(None);
     }
     Ok(Some(Updated {
-        notes: found.notes,
         whole: None,
         begin: found.begin,
         end: found.end,
@@ -83,61 +87,64 @@ fn update_in_place<S: ShapesByName>(
 /// The same as a new list. Refused 1 where memory is wanting.
 fn update_whole<S: ShapesByName>(
     alloc: Global,
+    notes: &mut Vec<Renewal>,
     shapes: &S,
     marks: &[bool],
     forbidden: &[u64],
     old: &[ContactEntry],
+    flags: &[bool],
     fresh: &[ContactEntry],
 ) -> Result<Updated, Refusal>
     requires shapes { IsProxyList (S.proxies shapes.now) }
     requires sorted { IsNonDecreasing forbidden.now }
     requires old { AreContacts old.now }
     requires known { IsKnown (moved_by marks.now) forbidden.now (S.proxies shapes.now) old.now }
+    requires quiet { AreQuiet flags.now marks.now (S.proxies shapes.now) }
     requires fresh { fresh.now ≡ contacts_of old.now (S.proxies shapes.now) (fresh_codes (moved_by marks.now) forbidden.now (S.proxies shapes.now) old.now) }
-    ensures made { IfOk result (λ updated. IsMade forbidden.now (S.proxies shapes.now) old.now (whole_or updated.whole (renewed updated.notes.items old.now)) updated.begin.items updated.end.items) }
+    ensures made { IfOk result (λ updated. IsMade forbidden.now (S.proxies shapes.now) old.now (whole_or updated.whole (renewed notes.new.items old.now)) updated.begin.items updated.end.items) }
     ensures memory_only { IsOkUnless result Refusal.NoMemory }
 {
-    let rebuilt = rebuild(alloc, shapes, marks, forbidden, old, fresh)?;
+    notes.clear();
+    let rebuilt = rebuild(alloc, shapes, marks, forbidden, old, flags, fresh)?;
     Ok(Updated {
-        notes: Vec::new(alloc),
         whole: Some(rebuilt.all),
         begin: rebuilt.begin,
         end: rebuilt.end,
     })
 }
 
-/// Whether some slot is marked.
-fn is_any_marked(marks: &[bool]) -> bool {
-    for marked in marks {
-        if *marked {
-            return true;
-        }
-    }
-    false
-}
-
-/// In place where nothing has moved, and else as a new list.
+/// In place where none is made and none goes, and else as a new list.
 fn update<S: ShapesByName>(
     alloc: Global,
+    notes: &mut Vec<Renewal>,
     shapes: &S,
     marks: &[bool],
     forbidden: &[u64],
     old: &[ContactEntry],
+    stirring: &Stirring,
     fresh: &[ContactEntry],
 ) -> Result<Updated, Refusal>
     requires shapes { IsProxyList (S.proxies shapes.now) }
     requires sorted { IsNonDecreasing forbidden.now }
     requires old { AreContacts old.now }
     requires known { IsKnown (moved_by marks.now) forbidden.now (S.proxies shapes.now) old.now }
+    requires places { stirring.now.places.items ≡ stirring_places stirring.now.flags.items old.now }
+    requires quiet { AreQuiet stirring.now.flags.items marks.now (S.proxies shapes.now) }
     requires fresh { fresh.now ≡ contacts_of old.now (S.proxies shapes.now) (fresh_codes (moved_by marks.now) forbidden.now (S.proxies shapes.now) old.now) }
-    ensures made { IfOk result (λ updated. IsMade forbidden.now (S.proxies shapes.now) old.now (whole_or updated.whole (renewed updated.notes.items old.now)) updated.begin.items updated.end.items) }
+    ensures made { IfOk result (λ updated. IsMade forbidden.now (S.proxies shapes.now) old.now (whole_or updated.whole (renewed notes.new.items old.now)) updated.begin.items updated.end.items) }
     ensures memory_only { IsOkUnless result Refusal.NoMemory }
 {
-    if is_any_marked(marks) {
-        return update_whole(alloc, shapes, marks, forbidden, old, fresh);
-    }
-    match update_in_place(alloc, shapes, marks, forbidden, old, fresh)? {
-        None => update_whole(alloc, shapes, marks, forbidden, old, fresh),
+    match update_in_place(alloc, notes, shapes, marks, forbidden, old, stirring, fresh)? {
+        None => update_whole(
+            alloc,
+            notes,
+            shapes,
+            marks,
+            forbidden,
+            old,
+            &stirring.flags,
+            fresh,
+        ),
         Some(updated) => Ok(updated),
     }
 }
@@ -149,20 +156,33 @@ fn update<S: ShapesByName>(
 /// A contact goes if one of its shapes has moved and they are no longer near. Of those that stay the ones are evaluated anew of which a body stirs.
 pub fn update_known<S: ShapesByName>(
     alloc: Global,
+    notes: &mut Vec<Renewal>,
     shapes: &S,
     marks: &[bool],
     forbidden: &[u64],
     old: &Contacts,
+    stirring: &Stirring,
     fresh: &[ContactEntry],
 ) -> Result<Updated, Refusal>
     requires shapes { IsProxyList (S.proxies shapes.now) }
     requires sorted { IsNonDecreasing forbidden.now }
     requires known { IsKnown (moved_by marks.now) forbidden.now (S.proxies shapes.now) old.now }
+    requires places { stirring.now.places.items ≡ stirring_places stirring.now.flags.items old.now }
+    requires quiet { AreQuiet stirring.now.flags.items marks.now (S.proxies shapes.now) }
     requires fresh { fresh.now ≡ contacts_of old.now (S.proxies shapes.now) (fresh_codes (moved_by marks.now) forbidden.now (S.proxies shapes.now) old.now) }
-    ensures made { IfOk result (λ updated. IsMade forbidden.now (S.proxies shapes.now) old.now (whole_or updated.whole (renewed updated.notes.items old.now)) updated.begin.items updated.end.items) }
+    ensures made { IfOk result (λ updated. IsMade forbidden.now (S.proxies shapes.now) old.now (whole_or updated.whole (renewed notes.new.items old.now)) updated.begin.items updated.end.items) }
     ensures begin_rising { IfOk result (λ updated. AreRising updated.begin.items) }
     ensures end_rising { IfOk result (λ updated. AreRising updated.end.items) }
     ensures memory_only { IsOkUnless result Refusal.NoMemory }
 {
-    update(alloc, shapes, marks, forbidden, old.as_slice(), fresh)
+    update(
+        alloc,
+        notes,
+        shapes,
+        marks,
+        forbidden,
+        old.as_slice(),
+        stirring,
+        fresh,
+    )
 }

@@ -1,3 +1,2 @@
-pub mod MarkLaws
-pub mod AlikeLaws
-pub mod SameLaws
+pub mod GoneLaws
+pub mod HeldLaws

@@ -1,29 +1,38 @@
 -- The contacts of near shapes with what is kept beside them, and what they become when the last collide is carried out.
-use Rattle.std.specs.Prelude.{◌≡◌, ℕ, List, Option, Some, None}
-use Rattle.contacts_base.specs.declared.near.Proxy.{Proxy}
+use Rattle.std.specs.Prelude.{ℕ, Bool, List}
+use Rattle.std.specs.List.Sorted.{IsNonDecreasing}
 use Rattle.contacts_base.specs.declared.contact.ContactEntry.{ContactEntry}
-use Rattle.kept_contacts.specs.declared.kept.Due.{Due}
+use Rattle.contacts_base.specs.declared.near.Proxy.{Proxy}
+use Rattle.contacts_base.specs.Near.{IsProxyList}
+use Rattle.contacts.specs.declared.turns.Renewal.{Renewal}
+use Rattle.contacts.specs.Changes.{AreRising}
+use Rattle.contacts.specs.Known.{IsKnown}
+use Rattle.contacts.specs.Stirring.{AreHeld}
+use Rattle.contacts.specs.Turns.{AreWithin, IsMade, moved_by, renewed, whole_or}
+use Rattle.slot_marks.specs.Marks.{AreListed}
+use Rattle.kept_contacts.specs.declared.kept.Made.{Made}
 use Rattle.kept_contacts.specs.declared.kept.KeptContacts.TheInside.{Inside}
-use Rattle.kept_contacts.specs.Alike.{IsKept}
-use Rattle.contacts.specs.Changes.{contacts_of}
-use Rattle.contacts.specs.Forbidden.{allowed_codes}
-use Rattle.contacts.specs.Turns.{renewed, whole_or}
 
--- the contacts, and what they become when the last collide is carried out
+-- the contacts, what they become when the last collide is carried out, and of how many bodies the contacts are still in the list that is kept
 pub record Kept : Type 0 where
   pub contacts : List ContactEntry
   pub due : List ContactEntry
+  pub pending : ℕ
 
-abbrev pub due_of : Option Due → List ContactEntry → List ContactEntry
-due_of None es = es
-due_of (Some d) es = whole_or d.whole (renewed d.notes.items es)
-
--- what is due, if anything is, are the contacts after a collide of the shapes that are known
-abbrev pub IsDue : List ℕ → List Proxy → List ContactEntry → Option Due → Type 0
-IsDue pairs ps es None = Unit {0}
-IsDue pairs ps es (Some d) = whole_or d.whole (renewed d.notes.items es) ≡ contacts_of es ps (allowed_codes pairs ps)
-
--- what the fields of a `KeptContacts` hold
+-- what the fields of a `KeptContacts` hold: the places of those contacts of which a body may stir
 pub record IsKeptContacts (a : Inside) : Type 0 where
-  pub kept : IsKept a.knowledge.marks.items a.knowledge.forbidden.items a.knowledge.broad a.contacts
-  pub due : IsDue a.knowledge.forbidden.items a.knowledge.broad a.contacts a.due
+  pub held : AreHeld a.beside.stirring a.contacts
+
+-- what a collide stands on: shapes in their order, marks for all of their bodies, and contacts that tell which of those that aren't marked are near
+pub record CanCollide (ps : List Proxy) (marks : List Bool) (marked : List ℕ) (forbidden : List ℕ) (contacts : List ContactEntry) : Type 0 where
+  pub shapes : IsProxyList ps
+  pub within : AreWithin marks ps
+  pub sorted : IsNonDecreasing forbidden
+  pub listed : AreListed marks marked
+  pub known : IsKnown (moved_by marks) forbidden ps contacts
+
+-- what a collide makes of the contacts, by what it noted and by the list that it made, if it made one; what touches by it ascends
+pub record IsMadeOf (ps : List Proxy) (forbidden : List ℕ) (contacts : List ContactEntry) (notes : List Renewal) (m : Made) : Type 0 where
+  pub made : IsMade forbidden ps contacts (whole_or m.whole (renewed notes contacts)) m.touches.begin.items m.touches.end.items
+  pub begin_rising : AreRising m.touches.begin.items
+  pub end_rising : AreRising m.touches.end.items

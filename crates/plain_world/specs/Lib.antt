@@ -10,3 +10,4 @@ pub mod JointTables
 pub mod Placement
 pub mod Plain
 pub mod Presets
+pub mod Shown

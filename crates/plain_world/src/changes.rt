@@ -1,11 +1,12 @@
 //! Changes of one body in its slot.
 
-ghost use Rattle.std.specs.Prelude.{◌≡◌, ◌<◌, true, vec_len};
+ghost use Rattle.std.specs.Prelude.{◌≡◌, ◌<◌, false, true, vec_len};
 ghost use Rattle.std.specs.Option.{ForSome};
 ghost use Rattle.plain_world.specs.declared.body.Body.{Body};
 ghost use Rattle.plain_world.specs.Bodies.{is_awake, is_carried};
 ghost use Rattle.plain_world.specs.Changes.{CanPose, changed_at, is_awake_in, is_carried_in, disabled_body, enabled_body, put_course, put_momenta, put_pose};
 ghost use Rattle.plain_world.specs.Kinds.{is_kinematic};
+ghost use Rattle.plain_world.specs.Shown.{IsShownAlike};
 ghost use Rattle.plain_world.specs.Slots.{body_at};
 
 use crate::body::Body;
@@ -26,6 +27,10 @@ pub trait BodyChange {
         ensures value { body.new ≡ after self.now body.old }
         ensures awake { is_awake body.new ≡ is_awake body.old }
         ensures carried { is_carried body.new ≡ is_carried body.old };
+
+    /// Whether the broad phase may see other shapes of the body afterwards.
+    fn moves(&self) -> bool
+        ensures alike { result ≡ false → (b : Body) → fits self.now b → IsShownAlike b (after self.now b) };
 }
 
 /// Other momenta.
@@ -38,6 +43,10 @@ impl BodyChange for Momenta {
         body.motion.p = self.p;
         body.motion.l = self.l;
     }
+
+    fn moves(&self) -> bool {
+        false
+    }
 }
 
 /// Another pose: the momenta stay, and fat boxes are made anew where the shapes' tight boxes leave them.
@@ -49,7 +58,11 @@ impl BodyChange for Pose {
     fn change(&self, body: &mut Body) {
         body.motion.x = self.x;
         body.motion.rot = self.rot;
-        body.fats.renew(body.shapes.as_slice(), *self);
+        let _ = body.fats.renew(body.shapes.as_slice(), *self);
+    }
+
+    fn moves(&self) -> bool {
+        true
     }
 }
 
@@ -61,6 +74,10 @@ impl BodyChange for Course {
 
     fn change(&self, body: &mut Body) {
         body.kind = Kind::Kinematic(*self);
+    }
+
+    fn moves(&self) -> bool {
+        false
     }
 }
 

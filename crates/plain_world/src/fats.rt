@@ -1,6 +1,6 @@
 //! The fat boxes of a body's shapes.
 
-ghost use Rattle.std.specs.Prelude.{◌≡◌, ◌∷◌, ◌++◌, [], All, IfOk, OnErr, OnOk, length};
+ghost use Rattle.std.specs.Prelude.{◌≡◌, ◌∷◌, ◌++◌, [], All, IfOk, OnErr, OnOk, false, length};
 ghost use Rattle.std.specs.Result.{IsOkUnless};
 ghost use Rattle.shapes.specs.Shapes.{IsShape, IsShapeDef};
 ghost use Rattle.shapes.specs.Poses.{IsPose};
@@ -79,14 +79,15 @@ impl FatBoxes {
         Ok(FatBoxes { boxes })
     }
 
-    /// Makes each box anew that its shape's tight box has left.
-    pub fn renew(&mut self, defs: &[ShapeDef], pose: Pose)
+    /// Makes each box anew that its shape's tight box has left. Answers whether it made one anew; the boxes are otherwise as they were.
+    pub fn renew(&mut self, defs: &[ShapeDef], pose: Pose) -> bool
         requires defs { All IsShapeDef defs.now }
         requires pose { IsPose pose }
         requires boxes { length self.old ≡ length defs.now }
-        ensures { self.new ≡ renewed_boxes pose defs.now self.old }
+        ensures boxes { self.new ≡ renewed_boxes pose defs.now self.old }
+        ensures same { result ≡ false → self.new ≡ self.old }
     {
-        renew_all(self.boxes.as_mut_slice(), defs, pose);
+        renew_all(self.boxes.as_mut_slice(), defs, pose)
     }
 }
 
@@ -98,27 +99,32 @@ fn fat_box_of(shape: &Shape, pose: Pose) -> Box2
     fat_box(tight_box(shape, pose))
 }
 
+/// Makes a box anew if the shape's tight box has left it. Answers whether it did.
 #[tactic(auto, unfolding(crate::specs::Fats::renewed))]
-fn renewed(shape: &Shape, pose: Pose, fat: Box2) -> Box2
+fn renew_box(fat: &mut Box2, shape: &Shape, pose: Pose) -> bool
     requires shape { IsShape shape.now }
     requires pose { IsPose pose }
-    ensures { result ≡ renewed shape.now pose fat }
+    ensures renewed { fat.new ≡ renewed shape.now pose fat.old }
+    ensures same { result ≡ false → fat.new ≡ fat.old }
 {
     let tight = tight_box(shape, pose);
-    if contains(fat, tight) {
-        fat
-    } else {
-        fat_box(tight)
+    if contains(*fat, tight) {
+        return false;
     }
+    *fat = fat_box(tight);
+    true
 }
 
-fn renew_all(boxes: &mut [Box2], defs: &[ShapeDef], pose: Pose)
+fn renew_all(boxes: &mut [Box2], defs: &[ShapeDef], pose: Pose) -> bool
     requires defs { All IsShapeDef defs.now }
     requires pose { IsPose pose }
     requires boxes { length boxes.old ≡ length defs.now }
-    ensures { boxes.new ≡ renewed_boxes pose defs.now boxes.old }
+    ensures renewed { boxes.new ≡ renewed_boxes pose defs.now boxes.old }
+    ensures same { result ≡ false → boxes.new ≡ boxes.old }
 {
+    let mut any = false;
     for place in 0..boxes.len() {
-        boxes[place] = renewed(&defs[place].shape, pose, boxes[place]);
+        any = renew_box(&mut boxes[place], &defs[place].shape, pose) | any;
     }
+    any
 }

@@ -15,3 +15,4 @@ pub mod SleptLaws
 pub mod CensusLaws
 pub mod ListedOnce
 pub mod EachOnceLaws
+pub mod AmongLaws

@@ -1,23 +1,19 @@
 -- What loops over joints and contacts list.
-use Rattle.std.proofs.Common.{◌≡◌, ℕ, zero, suc, ◌+◌, ◌<◌, ◌≤◌, ◌&&◌, Bool, true, false, cond, List, [], ◌∷◌, ◌++◌, length, drop, get_or, map, filter, Option, Some, None, refl, sym, ap, ap₂, ◌∙◌, subst, arith}
+use Rattle.std.proofs.Common.{◌≡◌, ℕ, zero, suc, ◌+◌, ◌<◌, ◌≤◌, Bool, true, false, cond, List, [], ◌∷◌, ◌++◌, length, drop, get_or, filter, Option, Some, None, refl, sym, ap, ◌∙◌, arith}
 use Rattle.std.proofs.Math.Seq.{drop-cons}
 use Rattle.std.proofs.lemmas.List.{length-append}
 use Rattle.std.proofs.Math.Numerals.{add-one}
 use Rattle.std.specs.List.{filter_map, cons_option}
 use Rattle.std.specs.Option.{option_to_list}
 use Rattle.std.proofs.lemmas.List.{append-nil, append_assoc}
-use Rattle.std.proofs.lemmas.List.Elements.{filter_map-append}
 use Rattle.body_handles.specs.declared.handle.Handle.{Handle}
 use Rattle.body_handles.specs.declared.places.Place.{Place}
 use Rattle.graph_colours.specs.declared.member.Member.{Member}
 use Rattle.contacts.specs.declared.constraint.Constraint.{Constraint}
-use Rattle.contacts_base.specs.declared.contact.ContactEntry.{ContactEntry}
-use Rattle.contacts_base.specs.Contacts.{has_slot}
-use Rattle.contacts_base.specs.Evaluate.{touches}
 use Rattle.plain_world.specs.declared.body.Body.{Body}
 use Rattle.plain_world.specs.declared.joint.BodyJoint.{BodyJoint}
-use Rattle.plain_world.specs.Joints.{is_joint_of, joint_at}
-use Rattle.solver_sets.specs.Ties.{Bond, JointSlots, bond_before, bonds_of, contact_bond, contact_tie_of, is_bond_of, joint_bond, joint_bonds, joint_bonds_from, joint_tie_of, joint_ties_at, slots_of, tie_of, ties_at, ties_in, touching_keys}
+use Rattle.plain_world.specs.Joints.{is_joint_of}
+use Rattle.solver_sets.specs.Ties.{Bond, bond_before, is_bond_of, joint_bond, joint_bonds_from, joint_tie_of, joint_ties_at, slots_of, tie_of, ties_in}
 
 -- ---- one element more
 
@@ -82,45 +78,15 @@ joint_ties_end bodies slot i places joints now le e =
     ∙ ap (λ (ps : List Place). now ++ ties_in bodies (filter (is_bond_of slot) (joint_bonds_from i ps (drop i joints)))) (sym (drop_past places i le))
     ∙ e
 
--- ---- ties of contacts
+-- ---- a filter over two lists
 
-contact_before : (bodies : List (Option Body)) (slot : ℕ) (e : ContactEntry) (keys : List _) → ties_in bodies (filter (is_bond_of slot) (map contact_bond (cond (touches e.contact) (e.key ∷ keys) keys))) ≡ cons_option (contact_tie_of bodies slot e) (ties_in bodies (filter (is_bond_of slot) (map contact_bond keys)))
-contact_before bodies slot e keys = by_test (touches e.contact) (has_slot slot e)
-  where
-    by_slot : (u : Bool) → ties_in bodies (cond u (contact_bond e.key ∷ filter (is_bond_of slot) (map contact_bond keys)) (filter (is_bond_of slot) (map contact_bond keys))) ≡ cons_option (cond u (tie_of bodies (contact_bond e.key)) None) (ties_in bodies (filter (is_bond_of slot) (map contact_bond keys)))
-    by_slot true = refl
-    by_slot false = refl
-
-    by_test : (t u : Bool) → ties_in bodies (filter (is_bond_of slot) (map contact_bond (cond t (e.key ∷ keys) keys))) ≡ cons_option (cond (t && has_slot slot e) (tie_of bodies (contact_bond e.key)) None) (ties_in bodies (filter (is_bond_of slot) (map contact_bond keys)))
-    by_test true u = by_slot (has_slot slot e)
-    by_test false u = refl
-
-contact_ties : (bodies : List (Option Body)) (slot : ℕ) (contacts : List ContactEntry) → ties_in bodies (filter (is_bond_of slot) (map contact_bond (touching_keys contacts))) ≡ filter_map (contact_tie_of bodies slot) contacts
-contact_ties bodies slot [] = refl
-contact_ties bodies slot (e ∷ es) =
-    ap (λ keys. ties_in bodies (filter (is_bond_of slot) (map contact_bond keys))) (keys_before (touches e.contact) e (filter (λ (e : ContactEntry). touches e.contact) es))
-    ∙ contact_before bodies slot e (touching_keys es)
-    ∙ ap (λ (l : List (Member Constraint)). cons_option (contact_tie_of bodies slot e) l) (contact_ties bodies slot es)
-  where
-    keys_before : (t : Bool) (e : ContactEntry) (es : List ContactEntry) → map (λ (e : ContactEntry). e.key) (cond t (e ∷ es) es) ≡ cond t (e.key ∷ map (λ (e : ContactEntry). e.key) es) (map (λ (e : ContactEntry). e.key) es)
-    keys_before true e es = refl
-    keys_before false e es = refl
-
-filter_append : {X : Type 0} (p : X → Bool) (xs ys : List X) → filter p (xs ++ ys) ≡ filter p xs ++ filter p ys
+pub filter_append : {X : Type 0} (p : X → Bool) (xs ys : List X) → filter p (xs ++ ys) ≡ filter p xs ++ filter p ys
 filter_append p [] ys = refl
 filter_append p (x ∷ xs) ys = by_test (p x) x (filter p xs) (filter p ys) (filter p (xs ++ ys)) (filter_append p xs ys)
   where
     by_test : {X : Type 0} (t : Bool) (x : X) (xs ys zs : List X) → zs ≡ xs ++ ys → cond t (x ∷ zs) zs ≡ cond t (x ∷ xs) xs ++ ys
     by_test true x xs ys zs e = ap (λ (l : List _). x ∷ l) e
     by_test false x xs ys zs e = e
-
-pub ties_at_all : (bodies : List (Option Body)) (slot : ℕ) (s : JointSlots) (contacts : List ContactEntry) → joint_ties_at slot bodies s ++ filter_map (contact_tie_of bodies slot) contacts ≡ ties_at slot bodies s contacts
-unfolding joint_ties_at ties_at
-ties_at_all bodies slot s contacts = sym (
-    ap (ties_in bodies) (filter_append (is_bond_of slot) (joint_bonds s) (map contact_bond (touching_keys contacts)))
-    ∙ filter_map-append (tie_of bodies) (filter (is_bond_of slot) (joint_bonds s)) (filter (is_bond_of slot) (map contact_bond (touching_keys contacts)))
-    ∙ ap (λ (l : List (Member Constraint)). ties_in bodies (filter (is_bond_of slot) (joint_bonds s)) ++ l) (contact_ties bodies slot contacts)
-    )
 
 -- ---- how long a list gets
 

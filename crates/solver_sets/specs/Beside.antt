@@ -1,14 +1,16 @@
 -- Who stands beside a body: joined to it by a joint, or touching it.
-use Rattle.std.specs.Prelude.{ℕ, suc, ◌==◌, ◌||◌, Bool, true, false, cond, List, [], ◌∷◌, ◌++◌, slice_set, Option, Some, None}
+use Rattle.std.specs.Prelude.{ℕ, suc, ◌==◌, ◌||◌, Bool, true, false, cond, List, [], ◌∷◌, ◌++◌, map, slice_set, Option, Some, None}
 use Rattle.std.specs.List.{filter_map, list_any}
 use Rattle.contacts_base.specs.declared.contact.ContactEntry.{ContactEntry}
 use Rattle.contacts_base.specs.Evaluate.{touches}
+use Rattle.contacts.specs.declared.constraint.Constraint.{Constraint}
+use Rattle.graph_colours.specs.declared.member.Member.{Member}
 use Rattle.plain_world.specs.declared.body.Body.{Body}
 use Rattle.plain_world.specs.declared.joint.BodyJoint.{BodyJoint}
 use Rattle.plain_world.specs.Bodies.{is_mover}
 use Rattle.plain_world.specs.Kinds.{carried_by, is_moving}
 use Rattle.plain_world.specs.Slots.{body_at}
-use Rattle.solver_sets.specs.Ties.{moves}
+use Rattle.solver_sets.specs.Ties.{moves, ties_among}
 
 -- ---- which movers are beside a body
 
@@ -45,6 +47,14 @@ stirred_if (Some b) slot beside = cond (is_mover b) (slot ∷ []) (cond b.enable
 
 unfoldable pub stirred_by : List (Option Body) → List (Option BodyJoint) → List ContactEntry → ℕ → List ℕ
 stirred_by bodies joints contacts slot = stirred_if (body_at bodies slot) slot (neighbours bodies joints contacts slot)
+
+-- the first mover of each tie
+abbrev pub first_movers : List (Member Constraint) → List ℕ
+first_movers ties = map (λ (m : Member Constraint). m.movers.first) ties
+
+-- whom it wakes by all ties that there are
+unfoldable pub stirred_among : List (Option Body) → List (Option BodyJoint) → List (Member Constraint) → ℕ → List ℕ
+stirred_among bodies joints ties slot = stirred_if (body_at bodies slot) slot (first_movers (ties_among slot joints ties))
 
 -- ---- who is kept awake by a kinematic body that moves
 

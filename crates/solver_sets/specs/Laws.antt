@@ -26,11 +26,11 @@ use Rattle.plain_world.specs.Sleep.{told}
 use Rattle.plain_world.specs.Slots.{AreMatched, body_at, with_body}
 use Rattle.solver_sets.specs.Census.{IsCensus, Standing, census_in, census_of}
 use Rattle.solver_sets.specs.EachOnce.{ListsEachOnce}
-use Rattle.solver_sets.specs.Beside.{neighbours, joined_to}
+use Rattle.solver_sets.specs.Beside.{neighbours, joined_to, stirred_among, stirred_by}
 use Rattle.solver_sets.specs.Joining.{handle_at, joined_with, unjoined, unjoined_all}
 use Rattle.solver_sets.specs.Slept.{asleep_only_in, newly_asleep, newly_awake}
 use Rattle.solver_sets.specs.Tied.{AreAlike, AreAlikeBeside, AreJointSlots, AreTied, AreTold, HaveSameEnds, IsBetweenEnabled, OnlyMoversSleep}
-use Rattle.solver_sets.specs.Ties.{IsNamed, IsNamedConstraint, JointSlots, Lists, is_enabled, joint_movers, joint_ties_at, key_changes, members_of, movers_with, moves, slots_of, ties_at, ties_of, touching_keys}
+use Rattle.solver_sets.specs.Ties.{IsNamed, IsNamedConstraint, JointSlots, Lists, is_enabled, joint_movers, joint_ties_at, key_changes, members_of, movers_with, moves, slots_of, ties_among, ties_at, ties_of, touching_keys}
 
 -- ---- what ties are
 
@@ -152,6 +152,14 @@ TiesOfAMover = (slot : ℕ) (bodies : List (Option Body)) (s : JointSlots) (cont
 -- the ties of a body that is no mover have one mover each, which is beside it
 abbrev pub TiesOfNoMover : Type 0
 TiesOfNoMover = (slot : ℕ) (bodies : List (Option Body)) (s : JointSlots) (contacts : List ContactEntry) (m : Member Constraint) → moves bodies slot ≡ false → Contains (ties_at slot bodies s contacts) m → (m.movers.second ≡ None) × Contains (neighbours bodies s.joints contacts slot) m.movers.first
+
+-- the ties of a body are picked of all ties that there are
+abbrev pub TiesArePicked : Type 0
+TiesArePicked = (slot : ℕ) (bodies : List (Option Body)) (s : JointSlots) (contacts : List ContactEntry) → ties_among slot s.joints (ties_of bodies s contacts) ≡ ties_at slot bodies s contacts
+
+-- and so are those whom a change of it wakes
+abbrev pub StirredArePicked : Type 0
+StirredArePicked = (slot : ℕ) (bodies : List (Option Body)) (s : JointSlots) (contacts : List ContactEntry) → AreMatched s.places s.joints → stirred_among bodies s.joints (ties_of bodies s contacts) slot ≡ stirred_by bodies s.joints contacts slot
 
 -- one that isn't enabled has none
 abbrev pub NoTiesOfDisabled : Type 0

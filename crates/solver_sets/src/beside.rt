@@ -3,11 +3,13 @@
 ghost use Rattle.std.specs.Prelude.{◌≡◌, ◌∷◌, [], IfOk};
 ghost use Rattle.std.specs.Option.{option_copied};
 ghost use Rattle.std.specs.Result.{IsOkUnless};
-ghost use Rattle.solver_sets.specs.Beside.{joined_by, joined_to, mover_at, mover_beside, neighbours, stirred_by, stirred_if, touched_by, touched_with};
+ghost use Rattle.solver_sets.specs.Ties.{ties_among};
+ghost use Rattle.solver_sets.specs.Beside.{first_movers, joined_by, joined_to, mover_at, mover_beside, stirred_among};
 
-use crate::ties::{moves, push_some};
-use contacts_base::ContactEntry;
+use crate::ties::{moves, pick_ties, push_some};
+use contacts::Constraint;
 use fixed_geom::Refusal;
+use graph_colours::Member;
 use plain_world::{Body, BodyJoint, item_at};
 use std::alloc::Global;
 
@@ -44,17 +46,6 @@ fn joined_by(bodies: &[Option<Body>], slot: u32, joint: Option<&BodyJoint>) -> O
     }
 }
 
-/// The mover that touches the body in the slot by this contact.
-fn touched_with(bodies: &[Option<Body>], slot: u32, entry: &ContactEntry) -> Option<u32>
-    ensures { result ≡ touched_with bodies.now slot entry.now }
-{
-    if entry.contact.is_touching() {
-        mover_beside(bodies, slot, entry.key.first.slot, entry.key.second.slot)
-    } else {
-        None
-    }
-}
-
 /// The movers at the other ends of the joints of the body in a slot, in the order of the joints' slots. Refused 1 where memory
 /// is wanting.
 #[tactic(auto, unfolding(crate::specs::Beside::joined_to))]
@@ -74,23 +65,30 @@ pub fn list_joined(
     Ok(slots)
 }
 
-/// The movers that are joined to the body in a slot, and then those that touch it. Refused 1 where memory is wanting.
-#[tactic(auto, unfolding(crate::specs::Beside::touched_by))]
-pub fn list_neighbours(
-    alloc: Global,
-    bodies: &[Option<Body>],
-    joints: &[Option<BodyJoint>],
-    contacts: &[ContactEntry],
-    slot: u32,
-) -> Result<Vec<u32>, Refusal>
-    ensures slots { IfOk result (λ slots. slots.items ≡ neighbours bodies.now joints.now contacts.now slot) }
+/// The first mover of each of these ties. Refused 1 where memory is wanting.
+fn list_first(alloc: Global, ties: &[Member<Constraint>]) -> Result<Vec<u32>, Refusal>
+    ensures slots { IfOk result (λ slots. slots.items ≡ first_movers ties.now) }
     ensures memory_only { IsOkUnless result Refusal.NoMemory }
 {
-    let mut slots = list_joined(alloc, bodies, joints, slot)?;
-    for entry in contacts {
-        push_some(&mut slots, touched_with(bodies, slot, entry))?;
+    let mut slots = Vec::with_capacity(alloc, ties.len())?;
+    for place in 0..ties.len() {
+        slots.push(ties[place].movers.first)?;
     }
     Ok(slots)
+}
+
+/// The movers beside a body that is no mover: those of its ties, of which each has but one. Refused 1 where memory is wanting.
+fn list_neighbours(
+    alloc: Global,
+    ties: &[Member<Constraint>],
+    joints: &[Option<BodyJoint>],
+    slot: u32,
+) -> Result<Vec<u32>, Refusal>
+    ensures slots { IfOk result (λ slots. slots.items ≡ first_movers (ties_among slot joints.now ties.now)) }
+    ensures memory_only { IsOkUnless result Refusal.NoMemory }
+{
+    let own = pick_ties(alloc, ties, joints, slot)?;
+    list_first(alloc, &own)
 }
 
 /// The one slot. Refused 1 where memory is wanting.
@@ -103,17 +101,17 @@ fn list_one(alloc: Global, slot: u32) -> Result<Vec<u32>, Refusal>
     Ok(slots)
 }
 
-/// Whom a change of the body in a slot wakes: a mover itself; of an enabled body that is none the movers beside it; of a disabled
-/// one nobody. Refused 1 where memory is wanting.
-#[tactic(auto, unfolding(crate::specs::Beside::stirred_by))]
+/// Whom a change of the body in a slot wakes, by all ties that there are: a mover itself; of an enabled body that is none the movers beside it; of a
+/// disabled one nobody. Refused 1 where memory is wanting.
+#[tactic(auto, unfolding(crate::specs::Beside::stirred_among))]
 pub fn list_stirred(
     alloc: Global,
     bodies: &[Option<Body>],
     joints: &[Option<BodyJoint>],
-    contacts: &[ContactEntry],
+    ties: &[Member<Constraint>],
     slot: u32,
 ) -> Result<Vec<u32>, Refusal>
-    ensures slots { IfOk result (λ slots. slots.items ≡ stirred_by bodies.now joints.now contacts.now slot) }
+    ensures slots { IfOk result (λ slots. slots.items ≡ stirred_among bodies.now joints.now ties.now slot) }
     ensures memory_only { IsOkUnless result Refusal.NoMemory }
 {
     let Some(body) = item_at(bodies, slot as usize) else {
@@ -123,7 +121,7 @@ pub fn list_stirred(
         return list_one(alloc, slot);
     }
     if body.enabled {
-        return list_neighbours(alloc, bodies, joints, contacts, slot);
+        return list_neighbours(alloc, ties, joints, slot);
     }
     Ok(Vec::new(alloc))
 }

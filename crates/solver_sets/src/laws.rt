@@ -1,6 +1,6 @@
 //! What is known of the ties of any world, and what changes of its bodies, joints and contacts do to them. Each function does nothing; its contract is a law.
 
-ghost use Rattle.solver_sets.specs.Laws.{AlikeBodiesKeepTies, CensusListsEachOnce, ComingKeepsTies, DisablingTakesTies, EnablingAddsTies, FewBegin, GoingTakesTies, ImpulsesKeepTies, JoiningAddsTies, KeysCanTurn, KeysTurn, ListsAreCensus, ListsAreMembers, MoversHaveLabels, NoTiesOfDisabled, SameNamesSameTies, SameTouchingKeepTies, TiesAreNamed, TiesAtAreTies, TiesHaveLabels, TiesOfAMover, TiesOfNoMover, TellingKeepsTies, TiesRise, ToldAreTold, ToldBodiesTell, UnjoiningTakesTies};
+ghost use Rattle.solver_sets.specs.Laws.{AlikeBodiesKeepTies, CensusListsEachOnce, ComingKeepsTies, DisablingTakesTies, EnablingAddsTies, FewBegin, GoingTakesTies, ImpulsesKeepTies, JoiningAddsTies, KeysCanTurn, KeysTurn, ListsAreCensus, ListsAreMembers, MoversHaveLabels, NoTiesOfDisabled, SameNamesSameTies, SameTouchingKeepTies, StirredArePicked, TiesAreNamed, TiesArePicked, TiesAtAreTies, TiesHaveLabels, TiesOfAMover, TiesOfNoMover, TellingKeepsTies, TiesRise, ToldAreTold, ToldBodiesTell, UnjoiningTakesTies};
 
 // ---- what ties are
 
@@ -100,6 +100,16 @@ pub fn ties_of_a_mover()
 /// Each tie of a body that is no mover has one mover, which is beside it.
 pub fn ties_of_no_mover()
     ensures { TiesOfNoMover }
+{}
+
+/// The ties of a body are those of all ties that are of it.
+pub fn ties_are_picked()
+    ensures { TiesArePicked }
+{}
+
+/// Whom a change of a body wakes is told by the ties alone.
+pub fn stirred_are_picked()
+    ensures { StirredArePicked }
 {}
 
 // ---- the collide

@@ -3,15 +3,14 @@
 ghost use Rattle.std.specs.Prelude.{◌≡◌, ◌<◌, ◌≤◌, ◌+◌, ◌++◌, ◌&&◌, IfOk, OnOk, length, vec_len, vec_capacity};
 ghost use Rattle.std.specs.Option.{option_copied, option_to_list};
 ghost use Rattle.std.specs.Result.{IsOkUnless};
-ghost use Rattle.contacts_base.specs.Contacts.{has_slot};
-ghost use Rattle.plain_world.specs.Joints.{joint_at};
+ghost use Rattle.plain_world.specs.Joints.{is_end_in};
 ghost use Rattle.plain_world.specs.Slots.{AreMatched};
 ghost use Rattle.solver_sets.specs.Joining.{handle_at};
-ghost use Rattle.solver_sets.specs.Ties.{contact_movers, contact_tie_of, is_enabled, joint_movers, joint_tie_of, joint_ties_at, movers_if, movers_with, moves, slots_of, tie_with, ties_at};
+ghost use Rattle.solver_sets.specs.Ties.{contact_movers, is_enabled, is_tie_of, joint_movers, joint_tie_of, joint_ties_at, movers_if, movers_with, moves, slots_of, tie_with, ties_among};
 
 use body_handles::{Handle, Place};
 use contacts::Constraint;
-use contacts_base::{ContactEntry, ContactKey};
+use contacts_base::ContactKey;
 use fixed_geom::Refusal;
 use graph_colours::{Member, Movers};
 use plain_world::{Body, BodyJoint, item_at};
@@ -104,6 +103,16 @@ pub(crate) fn push_some<T: Copy + Drop>(items: &mut Vec<T>, item: Option<T>) -> 
     Ok(())
 }
 
+/// Whether one of the ends of a joint, if there is one, is the body in the slot.
+fn is_end_in(slot: u32, joint: Option<&BodyJoint>) -> bool
+    ensures { result ≡ is_end_in slot (option_copied joint.entry) }
+{
+    match joint {
+        None => false,
+        Some(joint) => joint.is_of(slot),
+    }
+}
+
 /// Adds an item, if there is one, for which there is room.
 fn put_some<T: Copy + Drop>(items: &mut Vec<T>, item: Option<T>)
     requires { vec_len items.old < vec_capacity items.old }
@@ -137,56 +146,6 @@ fn joint_tie(
     }
 }
 
-fn has_slot(slot: u32, entry: &ContactEntry) -> bool
-    ensures { result ≡ has_slot slot entry.now }
-{
-    entry.key.first.slot == slot || entry.key.second.slot == slot
-}
-
-/// The tie of a contact, if it touches and is of the body in the slot.
-fn contact_tie(
-    bodies: &[Option<Body>],
-    slot: u32,
-    entry: &ContactEntry,
-) -> Option<Member<Constraint>>
-    ensures { result ≡ contact_tie_of bodies.now slot entry.now }
-{
-    if entry.contact.is_touching() && has_slot(slot, entry) {
-        tie_with(
-            Constraint::Contact(entry.key),
-            contact_movers(bodies, entry.key),
-        )
-    } else {
-        None
-    }
-}
-
-/// The ties of the joints of the body in a slot, by the joints' slots. Refused 1 where memory is wanting.
-pub fn list_joint_ties(
-    alloc: Global,
-    bodies: &[Option<Body>],
-    places: &[Place],
-    joints: &[Option<BodyJoint>],
-    slot: u32,
-) -> Result<Vec<Member<Constraint>>, Refusal>
-    requires { AreMatched places.now joints.now }
-    ensures ties { IfOk result (λ ties. ties.items ≡ joint_ties_at slot bodies.now (slots_of places.now joints.now)) }
-    ensures memory_only { IsOkUnless result Refusal.NoMemory }
-{
-    let mut ties = Vec::new(alloc);
-    for index in 0..joints.len() {
-        let handle = Handle {
-            slot: index as u32,
-            generation: places[index].generation,
-        };
-        push_some(
-            &mut ties,
-            joint_tie(bodies, slot, handle, joints[index].as_ref()),
-        )?;
-    }
-    Ok(ties)
-}
-
 /// Fills a list, which has room for a tie of each joint, with the ties of the joints of the body in a slot, by the joints' slots.
 pub fn fill_joint_ties(
     ties: &mut Vec<Member<Constraint>>,
@@ -213,23 +172,32 @@ pub fn fill_joint_ties(
     }
 }
 
-/// The ties of the body in a slot: of its joints by their slots, and then of its touching contacts by their keys. Refused 1 where
-/// memory is wanting.
-pub fn list_ties(
+/// Whether one of the two bodies of a constraint is the one in the slot. Those of a joint are the ends of the joint in its own slot.
+fn is_tie_of(joints: &[Option<BodyJoint>], slot: u32, id: Constraint) -> bool
+    ensures { result ≡ is_tie_of joints.now slot id }
+{
+    match id {
+        Constraint::Joint(handle) => is_end_in(slot, item_at(joints, handle.slot as usize)),
+        Constraint::Contact(key) => key.first.slot == slot || key.second.slot == slot,
+    }
+}
+
+/// Of ties those of the body in a slot, in their order. Refused 1 where memory is wanting.
+#[tactic(auto, unfolding(crate::specs::Ties::ties_among))]
+pub fn pick_ties(
     alloc: Global,
-    bodies: &[Option<Body>],
-    places: &[Place],
+    ties: &[Member<Constraint>],
     joints: &[Option<BodyJoint>],
-    contacts: &[ContactEntry],
     slot: u32,
 ) -> Result<Vec<Member<Constraint>>, Refusal>
-    requires { AreMatched places.now joints.now }
-    ensures ties { IfOk result (λ ties. ties.items ≡ ties_at slot bodies.now (slots_of places.now joints.now) contacts.now) }
+    ensures ties { IfOk result (λ picked. picked.items ≡ ties_among slot joints.now ties.now) }
     ensures memory_only { IsOkUnless result Refusal.NoMemory }
 {
-    let mut ties = list_joint_ties(alloc, bodies, places, joints, slot)?;
-    for entry in contacts {
-        push_some(&mut ties, contact_tie(bodies, slot, entry))?;
+    let mut picked = Vec::new(alloc);
+    for place in 0..ties.len() {
+        if is_tie_of(joints, slot, ties[place].id) {
+            picked.push(ties[place])?;
+        }
     }
-    Ok(ties)
+    Ok(picked)
 }

@@ -12,4 +12,13 @@ pub mod StepLaws
 pub mod RowColourLaws
 pub mod CountLaws
 pub mod LoadingLaws
+pub mod CopyLaws
 pub mod NamedLaws
+pub mod ShownLaws
+pub mod ForbiddenLaws
+pub mod KnownLaws
+pub mod CoreLaws
+pub mod CoverLaws
+pub mod Refusals
+pub mod PickedLaws
+pub mod GoingLaws

@@ -1,11 +1,11 @@
 -- What is known of the plain lists of a sound world, of which a world is made.
 use Rattle.std.proofs.Common.{◌≡◌, ℕ, ℤ, pos, ◌+◌, ◌+ℤ◌, ◌<◌, ◌≤◌, ◌^◌, ◌&&◌, Bool, true, false, cond, nat_le, int_le, unsigned_abs, List, [], All, length, Option, Some, None, arith, refl, sym, ap, ◌∙◌, subst}
+use Rattle.std.specs.Prelude.{slice_index_or}
 use Rattle.std.proofs.lemmas.Int.{ints}
 use Rattle.std.proofs.lemmas.List.{length-map}
 use Rattle.std.proofs.lemmas.List.Elements.{All-weaker}
 use Rattle.body_handles.specs.declared.places.Place.{Place}
 use Rattle.contacts.specs.Constraints.{constraint_number}
-use Rattle.contacts.specs.Known.{IsPairKey}
 use Rattle.contacts.specs.declared.constraint.Constraint.{Constraint}
 use Rattle.contacts.proofs.SurfaceLemmas.{mixed_small}
 use Rattle.contacts_base.specs.Contacts.{AreContacts}
@@ -38,7 +38,8 @@ use Rattle.world_rules.specs.Settled.{settled_world}
 use Rattle.world_rules.specs.Sets.{acting_of}
 use Rattle.world_rules.specs.Sound.{HasBodies, IsSound}
 use Rattle.world_rules.specs.World.{World, joints_of}
-use Rattle.world_core.specs.Inside.{IsWhole}
+use Rattle.world_core.specs.Inside.{IsWhole, IsWorldCore}
+use Rattle.world_core.proofs.CoreLaws.{core_all}
 
 -- ---- the ledger
 
@@ -109,23 +110,6 @@ contacts_are p t sound = record {
   surfaces = All-weaker (HasBodies p.bodies) (λ (e : ContactEntry). IsSurface e.surface) (λ e has. subst IsSurface (sym has.surface) (mixed_is (shape_named p.bodies e.key.first) (shape_named p.bodies e.key.second))) p.contacts sound.formed.there;
 }
 
--- the keys of contacts are those of two shapes, the lesser first
-pair_key_is : (bodies : List (Option Body)) (e : ContactEntry) → HasBodies bodies e → IsPairKey e.key
-pair_key_is bodies e has =
-    let order = has.order in
-    let slot = has.named.slot in
-    let first = has.named.first in
-    let second = has.named.second in
-    record {
-      before = omega (arith, order, first);
-      small = omega (arith, slot, second);
-      first_index = first;
-      second_index = second;
-    }
-
-pub pair_keys_are : (p : Plain) (t : Totals) → IsSound (settled_world p t) → All (λ (e : ContactEntry). IsPairKey e.key) p.contacts
-pair_keys_are p t sound = All-weaker (HasBodies p.bodies) (λ (e : ContactEntry). IsPairKey e.key) (pair_key_is p.bodies) p.contacts sound.formed.there
-
 -- ---- the world
 
 -- of what a world is made
@@ -189,8 +173,12 @@ made_same p t x sound e =
     }))
     ∙ acting_same p t sound
 
-pub made_whole : (p : Plain) (t : Totals) (x : Parts) → IsSound (settled_world p t) → ArePartsOf p t x → IsWhole (world_by x) x.acts
+made_whole : (p : Plain) (t : Totals) (x : Parts) → IsSound (settled_world p t) → ArePartsOf p t x → IsWhole (world_by x) x.acts
 made_whole p t x sound e =
     let is : IsWhole (settled_world p t) (acting_of p) = record { sound = sound; same = refl } in
     let acts : IsWhole (settled_world p t) x.acts = subst (λ (s : Acting Constraint). IsWhole (settled_world p t) s) (sym e.acts_are) is in
     subst (λ (w : World). IsWhole w x.acts) (sym (made_same p t x sound e)) acts
+
+-- with all its bodies marked
+pub made_core : (p : Plain) (t : Totals) (x : Parts) (marks : List Bool) → IsSound (settled_world p t) → ArePartsOf p t x → ((slot : ℕ) → slice_index_or marks slot true ≡ true) → IsWorldCore (world_by x) x.acts marks
+made_core p t x marks sound e all = core_all (world_by x) x.acts marks (made_whole p t x sound e) all

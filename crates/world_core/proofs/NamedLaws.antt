@@ -1,6 +1,7 @@
--- The shape with a name is that of the body in its slot.
-use Rattle.std.proofs.Common.{◌≡◌, ℕ, zero, suc, ◌+◌, ◌*◌, ◌<◌, ◌≤◌, ◌==◌, Bool, true, false, cond, All, List, [], ◌∷◌, ◌++◌, length, map, get_or, Option, Some, None, refl, sym, ap, ◌∙◌, subst, arith}
-use Rattle.std.specs.Prelude.{slice_get}
+-- The shape with a name is that of the body in its slot, and it stirs if that body does.
+use Rattle.std.proofs.Common.{◌≡◌, ℕ, zero, suc, ◌+◌, ◌*◌, ◌<◌, ◌≤◌, ◌==◌, ◌||◌, ◌⊎◌, Bool, true, false, cond, All, List, [], ◌∷◌, ◌++◌, length, map, get_or, Option, Some, None, is_some, inl, inr, refl, sym, ap, ◌∙◌, subst, arith}
+use Rattle.std.specs.List.{Contains}
+use Rattle.std.specs.Prelude.{◌/◌, ◌%◌, slice_get}
 use Rattle.std.proofs.lemmas.Bool.Decides.{nat_tests}
 use Rattle.fixed_geom.specs.declared.boxes.Box2.{Box2}
 use Rattle.body_handles.specs.declared.places.TheConstants.{MAX_SLOTS}
@@ -12,15 +13,18 @@ use Rattle.contacts_base.specs.declared.key.ShapeId.{ShapeId}
 use Rattle.contacts_base.specs.declared.near.Proxy.{Proxy}
 use Rattle.contacts_base.specs.declared.surface.Surface.{Surface}
 use Rattle.contacts.specs.Known.{found}
-use Rattle.contacts.specs.Turns.{stirs_in}
-use Rattle.contacts.proofs.Members.{Each}
+use Rattle.colour_solver.specs.States.{places_from}
+use Rattle.contacts.specs.Turns.{AreWithin, stirs_in}
+use Rattle.contacts.proofs.Members.{Each, IsIn, contains_from_in, in_new, in_passed}
 use Rattle.plain_world.specs.declared.body.Body.{Body}
-use Rattle.plain_world.specs.Bodies.{AreBodies, IsBody, pose_of, stirs}
-use Rattle.plain_world.specs.Kinds.{is_dynamic}
+use Rattle.plain_world.specs.Bodies.{AreBodies, IsBody, is_awake, is_carried, pose_of, stirs}
+use Rattle.plain_world.specs.Changes.{is_awake_in, is_carried_in}
+use Rattle.plain_world.specs.Kinds.{carried_by, is_dynamic, is_moving}
 use Rattle.plain_world.specs.Slots.{body_at}
 use Rattle.world_core.proofs.CollideLaws.{eight_at_most}
 use Rattle.world_core.specs.Named.{proxy_of, shape_at, shape_in, shape_of}
 use Rattle.world_rules.specs.Collide.{body_proxies, entry_proxies, proxies_from, proxies_of, shape_proxies}
+use Rattle.world_rules.proofs.SlotLemmas.{below_length, body_at-in}
 
 abbrev named : ℕ → ℕ → ShapeId
 named slot index = record { slot = slot; index = index }
@@ -168,3 +172,62 @@ slice_there (o ∷ bodies) (suc k) e lt is = slice_there bodies k e (omega arith
 
 pub body_there : (bodies : List (Option Body)) (k : ℕ) (e : Option Body) (b : Body) → AreBodies bodies → k < length bodies → e ≡ get_or bodies k e → e ≡ Some b → IsBody b
 body_there bodies k e b all lt is so = all k b (slice_there bodies k e lt is ∙ ap (λ (x : Option Body). Some x) so)
+
+-- ---- the shape with a number
+
+found_number : (bodies : List (Option Body)) (n : ℕ) → AreBodies bodies → found (proxies_of bodies) n ≡ shape_in (named (n / 256) (n % 256)) (body_at bodies (n / 256))
+found_number bodies n all =
+    let same : n ≡ id_number (named (n / 256) (n % 256)) = omega arith in
+    let small : n % 256 < 256 = omega arith in
+    ap (found (proxies_of bodies)) same ∙ found_in bodies (named (n / 256) (n % 256)) all small
+
+shape_below : (bodies : List (Option Body)) (slot : ℕ) (i : ShapeId) (o : Option Body) → body_at bodies slot ≡ o → is_some (shape_in i o) ≡ true → slot < length bodies
+shape_below bodies slot i None at there = cc
+shape_below bodies slot i (Some b) at there = below_length bodies slot b at
+
+-- each shape is of a slot that has a mark or none, where each body has
+pub all_within : (marks : List Bool) (bodies : List (Option Body)) → AreBodies bodies → length bodies ≤ length marks → AreWithin marks (proxies_of bodies)
+all_within marks bodies all enough n there =
+    let lt : n / 256 < length bodies = shape_below bodies (n / 256) (named (n / 256) (n % 256)) (body_at bodies (n / 256)) refl (subst (λ (o : Option Proxy). is_some o ≡ true) (found_number bodies n all) there) in
+    omega (arith, lt, enough)
+
+-- ---- bodies that stir
+
+place_in : {X : Type 0} (is : X → Bool) (xs : List X) (n k : ℕ) (x : X) → slice_get xs k ≡ Some x → is x ≡ true → IsIn (n + k) (places_from is n xs)
+place_in is [] n k x e on = cc
+place_in is (y ∷ xs) n zero x e on =
+    let same : y ≡ x = cc in
+    in_new (n + zero) n (is y) (places_from is (suc n) xs) (ap is same ∙ on) (omega arith)
+place_in is (y ∷ xs) n (suc k) x e on =
+    in_passed (n + suc k) n (is y) (places_from is (suc n) xs) (subst (λ (m : ℕ). IsIn m (places_from is (suc n) xs)) (omega arith) (place_in is xs (suc n) k x e on))
+
+stirs_if : (t : Bool) (o : Option Proxy) → stirs_in (cond t o None) ≡ true → stirs_in o ≡ true
+stirs_if true o e = e
+stirs_if false o e = cc
+
+stirs_so : (i : ShapeId) (dynamic stir : Bool) (pose : Pose) (k : ℕ) (defs : List ShapeDef) (fats : List Box2) → stirs_in (shape_at i dynamic stir pose k defs fats) ≡ true → stir ≡ true
+stirs_so i dynamic stir pose k [] fats e = cc
+stirs_so i dynamic stir pose k (d ∷ defs) [] e = cc
+stirs_so i dynamic stir pose zero (d ∷ defs) (fat ∷ fats) e = e
+stirs_so i dynamic stir pose (suc k) (d ∷ defs) (fat ∷ fats) e = stirs_so i dynamic stir pose k defs fats e
+
+one_of : (s t u : Bool) → (s || cond t u false) ≡ true → (s ≡ true) ⊎ (t ≡ true)
+one_of true t u e = inl refl
+one_of false true u e = inr refl
+one_of false false u e = cc
+
+listed_as : (is : Option Body → Bool) (bodies : List (Option Body)) (slot : ℕ) (b : Body) → body_at bodies slot ≡ Some b → is (Some b) ≡ true → Contains (places_from is 0 bodies) slot
+listed_as is bodies slot b at on = contains_from_in (places_from is 0 bodies) slot (subst (λ (m : ℕ). IsIn m (places_from is 0 bodies)) (omega arith) (place_in is bodies 0 slot (Some b) (body_at-in bodies slot b at) on))
+
+stirring_in : (bodies : List (Option Body)) (slot : ℕ) (i : ShapeId) (o : Option Body) → body_at bodies slot ≡ o → stirs_in (shape_in i o) ≡ true → Contains (places_from is_awake_in 0 bodies) slot ⊎ Contains (places_from is_carried_in 0 bodies) slot
+stirring_in bodies slot i None at e = cc
+stirring_in bodies slot i (Some b) at e =
+    let stir : stirs b ≡ true = stirs_so i (is_dynamic b.kind) (stirs b) (pose_of b) i.index b.shapes b.fats (stirs_if b.enabled (shape_at i (is_dynamic b.kind) (stirs b) (pose_of b) i.index b.shapes b.fats) e) in
+    elim (one_of (is_awake b) (is_carried b) (is_moving (carried_by b.kind)) stir) [
+      | inl on ↦ inl (listed_as is_awake_in bodies slot b at on)
+      | inr on ↦ inr (listed_as is_carried_in bodies slot b at on)
+    ]
+
+-- a body that stirs is an awake mover, or is carried along
+pub stirring : (bodies : List (Option Body)) (n : ℕ) → AreBodies bodies → stirs_in (found (proxies_of bodies) n) ≡ true → Contains (places_from is_awake_in 0 bodies) (n / 256) ⊎ Contains (places_from is_carried_in 0 bodies) (n / 256)
+stirring bodies n all e = stirring_in bodies (n / 256) (named (n / 256) (n % 256)) (body_at bodies (n / 256)) refl (subst (λ (o : Option Proxy). stirs_in o ≡ true) (found_number bodies n all) e)

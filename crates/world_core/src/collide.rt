@@ -1,4 +1,5 @@
 ghost use Rattle.std.specs.Prelude.{◌≡◌, ◌<◌, ◌≤◌, ◌*◌, ◌+◌, ◌++◌, All, OnOk, IfOk, length, []};
+ghost use Rattle.colour_solver.specs.States.{places_from};
 ghost use Rattle.std.specs.Result.{IsOkUnless};
 ghost use Rattle.contacts_base.specs.Near.{number_of};
 ghost use Rattle.contacts_base.specs.Surfaces.{IsSurface};
@@ -6,22 +7,26 @@ ghost use Rattle.shapes.specs.Shapes.{IsShapeDef};
 ghost use Rattle.contacts.specs.Changes.{keys_touching_only_in, AreRising};
 ghost use Rattle.contacts.specs.Turns.{stirs_in};
 ghost use Rattle.plain_world.specs.Bodies.{AreBodies, IsBody};
+ghost use Rattle.plain_world.specs.Changes.{is_awake_in, is_carried_in};
 ghost use Rattle.contacts_base.specs.Keys.{id_number};
 ghost use Rattle.contacts.specs.Known.{found};
+ghost use Rattle.world_core.specs.Inside.{AreKnown};
 ghost use Rattle.world_core.specs.Named.{shape_of};
 ghost use Rattle.world_rules.specs.Collide.{body_proxies, proxies_of, contacts_after};
 
 use body_handles::MAX_SLOTS;
 use contacts::{BroadPhase, ShapesByName};
 use contacts_base::{Proxy, ShapeId, Surface};
-use fixed_geom::Refusal;
+use fixed_geom::{Box2, Refusal};
 use kept_contacts::{KeptContacts, Touches};
 use plain_world::{Body, JointTable};
 use shapes::ShapeDef;
 use std::alloc::Global;
 use std::marker::Model;
+use world_core_base::BodyTable;
 
 /// The friction and the restitution of a shape.
+#[inline(always)]
 fn surface_of(def: &ShapeDef) -> Surface
     requires { IsShapeDef def.now }
     ensures value { result ≡ record { friction = def.now.friction; restitution = def.now.restitution } }
@@ -84,7 +89,8 @@ fn gather(broad: &mut BroadPhase, bodies: &[Option<Body>]) -> Result<(), Refusal
     Ok(())
 }
 
-/// The shape of a body with this name, if it has one.
+/// The shape of a body with this name, if it has one. Whoever asks reads a part of it, and what isn't read isn't copied.
+#[inline(always)]
 fn shape_of(body: &Body, id: ShapeId) -> Option<Proxy>
     requires { IsBody body.now }
     ensures { result ≡ shape_of id body.now }
@@ -126,6 +132,7 @@ fn stirs_with(body: &Body, id: ShapeId) -> bool
 }
 
 /// The shape with this name, if its body is there and has it.
+#[inline(always)]
 fn shape_named(bodies: &[Option<Body>], id: ShapeId) -> Option<Proxy>
     requires { AreBodies bodies.now }
     ensures { result ≡ found (proxies_of bodies.now) (id_number id) }
@@ -149,10 +156,10 @@ fn stirs_named(bodies: &[Option<Body>], id: ShapeId) -> bool
     }
 }
 
-/// The bodies of a world, whose shapes a collide reads.
+/// The table of a world's bodies, whose shapes a collide reads.
 #[derive(Drop)]
 pub struct BodyShapes<'a> {
-    bodies: &'a [Option<Body>],
+    table: &'a BodyTable,
 }
 
 impl<'a> Model for BodyShapes<'a> {
@@ -162,44 +169,69 @@ impl<'a> Model for BodyShapes<'a> {
 
     ghost Value = { List (Option Body) };
 
-    ghost view = { λ a. a.bodies.now };
+    ghost view = { λ a. a.table.now.bodies };
 
-    ghost invariant = { λ a. AreShown a.bodies.now };
+    ghost invariant = { λ a. AreShown a.table.now.bodies };
 }
 
 impl ShapesByName for BodyShapes<'_> {
     ghost proxies = { λ s. proxies_of s };
 
+    ghost awake = { λ s. places_from is_awake_in 0 s };
+
+    ghost carried = { λ s. places_from is_carried_in 0 s };
+
+    #[inline(always)]
     fn shape(&self, id: ShapeId) -> Option<Proxy> {
-        shape_named(self.bodies, id)
+        shape_named(self.table.bodies(), id)
     }
 
     fn stirs(&self, id: ShapeId) -> bool {
-        stirs_named(self.bodies, id)
+        stirs_named(self.table.bodies(), id)
+    }
+
+    fn awake(&self) -> &[u32] {
+        self.table.awake()
+    }
+
+    fn carried(&self) -> &[u32] {
+        self.table.carried()
+    }
+
+    fn overlapping(&self, wanted: &Box2) -> Result<Vec<u32>, Refusal> {
+        self.table.boxes().overlapping(wanted)
     }
 
     fn gather(&self, broad: &mut BroadPhase) -> Result<(), Refusal> {
-        gather(broad, self.bodies)
+        gather(broad, self.table.bodies())
     }
 }
 
 /// Finds the near pairs of shapes whose bodies no joint keeps from colliding, and evaluates a contact for each of which a body stirs: what the
-/// contacts become is due then. Refused 1 where memory is wanting.
+/// contacts become is due then. Those of bodies that aren't marked are known from the contacts that there are. Refused 1 where memory is wanting.
 pub fn collide(
     alloc: Global,
     contacts: &mut KeptContacts,
-    bodies: &[Option<Body>],
+    bodies: &BodyTable,
     joints: &JointTable,
 ) -> Result<Touches, Refusal>
-    requires few { length bodies.now ≤ MAX_SLOTS }
-    requires bodies { AreBodies bodies.now }
+    requires few { length bodies.now.bodies ≤ MAX_SLOTS }
+    requires bodies { AreBodies bodies.now.bodies }
+    requires known { AreKnown bodies.now.marks bodies.now.bodies joints.now.joints contacts.old.contacts }
     ensures contacts { contacts.new.contacts ≡ contacts.old.contacts }
-    ensures due { OnOk result (contacts.new.due ≡ contacts_after bodies.now joints.now.joints contacts.old.contacts) }
-    ensures begin { IfOk result (λ touches. touches.begin.items ≡ keys_touching_only_in contacts.old.contacts (contacts_after bodies.now joints.now.joints contacts.old.contacts)) }
-    ensures end { IfOk result (λ touches. touches.end.items ≡ keys_touching_only_in (contacts_after bodies.now joints.now.joints contacts.old.contacts) contacts.old.contacts) }
+    ensures due { OnOk result (contacts.new.due ≡ contacts_after bodies.now.bodies joints.now.joints contacts.old.contacts) }
+    ensures begin { IfOk result (λ touches. touches.begin.items ≡ keys_touching_only_in contacts.old.contacts (contacts_after bodies.now.bodies joints.now.joints contacts.old.contacts)) }
+    ensures end { IfOk result (λ touches. touches.end.items ≡ keys_touching_only_in (contacts_after bodies.now.bodies joints.now.joints contacts.old.contacts) contacts.old.contacts) }
     ensures begin_rises { IfOk result (λ touches. AreRising touches.begin.items) }
     ensures end_rises { IfOk result (λ touches. AreRising touches.end.items) }
     ensures memory_only { IsOkUnless result Refusal.NoMemory }
 {
-    contacts.collide(alloc, &BodyShapes { bodies }, joints.forbidden())
+    let marks = bodies.marks();
+    contacts.collide(
+        alloc,
+        &BodyShapes { table: bodies },
+        marks.flags(),
+        marks.slots(),
+        joints.forbidden(),
+    )
 }

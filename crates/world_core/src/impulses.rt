@@ -1,15 +1,17 @@
 //! What a step's ticks leave of impulses goes back to joints and contacts.
 
-ghost use Rattle.std.specs.Prelude.{◌≡◌, ◌∷◌, ℕ, List, [], Option, option_map};
-ghost use Rattle.colour_solver.specs.ConstraintTurns.{AreRowsBelow};
+ghost use Rattle.std.specs.Prelude.{◌≡◌, ℕ, List, Option, option_map};
+ghost use Rattle.colour_solver.specs.ColourRows.{all_rows};
+ghost use Rattle.colour_solver.specs.ConstraintTurns.{AreRowsBelow, contacts_among, joints_among};
 ghost use Rattle.plain_world.specs.declared.body.Body.{Body};
 ghost use Rattle.plain_world.specs.Joints.{AreJoints};
-ghost use Rattle.world_core_base.specs.ConstraintRows.{contacts_among, joints_among, with_joint_rows};
+ghost use Rattle.world_core_base.specs.ConstraintRows.{with_joint_rows};
 ghost use Rattle.world_core_base.specs.Gather.{AreContactsOf, impulses_of, with_rows};
 
-use colour_solver::ConstraintRow;
-use colour_solver_base::PointRow;
+use colour_solver::Rows;
+use colour_solver_base::{ContactRow, PointRow};
 use contacts_base::Impulses;
+use joint_rows::JointRow;
 use kept_contacts::KeptContacts;
 use plain_world::JointTable;
 
@@ -35,38 +37,39 @@ fn second_impulses(row: &Option<PointRow>) -> Option<Impulses>
     }
 }
 
-/// Gives the joint or the contact of a row the impulses that the step has left it.
-#[inline(always)]
-fn put_row(joints: &mut JointTable, contacts: &mut KeptContacts, row: &ConstraintRow)
-    ensures joints { joints.new.joints ≡ with_joint_rows joints.old.joints (joints_among (row.now ∷ [])) }
-    ensures contacts { contacts.new.contacts ≡ with_rows contacts.old.contacts (contacts_among (row.now ∷ [])) }
+/// Gives each joint the impulse that the step has left it.
+fn put_joint_impulses(joints: &mut JointTable, rows: &[JointRow])
+    ensures { joints.new.joints ≡ with_joint_rows joints.old.joints rows.now }
 {
-    match row {
-        ConstraintRow::Joint(row) => {
-            joints.set_impulse(row.bodies.index, row.impulse);
-        }
-        ConstraintRow::Contact(row) => {
-            contacts.set_impulses(
-                row.bodies.index,
-                impulses_of(&row.first),
-                second_impulses(&row.second),
-            );
-        }
+    for row in rows {
+        joints.set_impulse(row.bodies.index, row.impulse);
+    }
+}
+
+/// Gives each contact the impulses that the step has left it.
+fn put_contact_impulses(contacts: &mut KeptContacts, rows: &[ContactRow])
+    requires { contacts.old.pending ≡ 0 }
+    ensures contacts { contacts.new.contacts ≡ with_rows contacts.old.contacts rows.now }
+    ensures pending { contacts.new.pending ≡ 0 }
+{
+    for row in rows {
+        contacts.set_impulses(
+            row.bodies.index,
+            impulses_of(&row.first),
+            second_impulses(&row.second),
+        );
     }
 }
 
 /// Gives each joint and each contact the impulses that the step has left it.
-pub(crate) fn put_impulses(
-    joints: &mut JointTable,
-    contacts: &mut KeptContacts,
-    rows: &[ConstraintRow],
-)
-    ensures joints { joints.new.joints ≡ with_joint_rows joints.old.joints (joints_among rows.now) }
-    ensures value { contacts.new.contacts ≡ with_rows contacts.old.contacts (contacts_among rows.now) }
-    ensures all_joints { (bodies : List (Option Body)) (n : ℕ) → AreRowsBelow n rows.now → AreJoints bodies joints.old.joints → AreJoints bodies joints.new.joints }
-    ensures contacts { (bodies : List (Option Body)) (n : ℕ) → AreRowsBelow n rows.now → AreContactsOf bodies contacts.old.contacts → AreContactsOf bodies contacts.new.contacts }
+pub(crate) fn put_impulses(joints: &mut JointTable, contacts: &mut KeptContacts, rows: &Rows)
+    requires { contacts.old.pending ≡ 0 }
+    ensures joints { joints.new.joints ≡ with_joint_rows joints.old.joints (joints_among (all_rows rows.now)) }
+    ensures value { contacts.new.contacts ≡ with_rows contacts.old.contacts (contacts_among (all_rows rows.now)) }
+    ensures pending { contacts.new.pending ≡ 0 }
+    ensures all_joints { (bodies : List (Option Body)) (n : ℕ) → AreRowsBelow n (all_rows rows.now) → AreJoints bodies joints.old.joints → AreJoints bodies joints.new.joints }
+    ensures contacts { (bodies : List (Option Body)) (n : ℕ) → AreRowsBelow n (all_rows rows.now) → AreContactsOf bodies contacts.old.contacts → AreContactsOf bodies contacts.new.contacts }
 {
-    for row in rows {
-        put_row(joints, contacts, row);
-    }
+    put_joint_impulses(joints, rows.joints());
+    put_contact_impulses(contacts, rows.contacts());
 }

@@ -38,6 +38,3 @@ pub use solver_sets::{Census, Item, SleepingSet};
 pub use world::WorldCore;
 pub use world_file::{Broken, Clause};
 pub use world_rules::{Command, Reply};
-
-#[cfg(test)]
-mod tests;

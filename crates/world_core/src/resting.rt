@@ -7,6 +7,7 @@ ghost use Rattle.plain_world.specs.Bodies.{AreBodies};
 ghost use Rattle.plain_world.specs.Sleep.{AreTimersWithin, timed_bodies, told};
 ghost use Rattle.solver_sets.specs.Slept.{newly_asleep};
 ghost use Rattle.solver_sets.specs.Tied.{AreTied};
+ghost use Rattle.world_core_base.specs.Marked.{AreMarked};
 ghost use Rattle.world_rules.specs.Apply.{gained_x, gained_y, rested_acting};
 ghost use Rattle.world_rules.specs.Sound.{AreTold};
 
@@ -51,6 +52,7 @@ pub fn rest_ready(
     ensures x { result.x ≡ gained_x (timed_bodies ticks bodies.old.bodies) bodies.new.bodies }
     ensures y { result.y ≡ gained_y (timed_bodies ticks bodies.old.bodies) bodies.new.bodies }
     ensures small { IsGain (2 ^ 78) result }
+    ensures marked { AreMarked bodies.old bodies.new }
 {
     bodies.time(ticks);
     let quiet = are_kept_up(

@@ -1,20 +1,22 @@
 //! The ticks of a step, over what acts.
 
-ghost use Rattle.std.specs.Prelude.{◌≡◌, ◌≤◌, ◌+◌, ◌^◌, ◌+ℤ◌, length};
+ghost use Rattle.std.specs.Prelude.{◌≡◌, ◌≤◌, ◌+◌, ◌^◌, ◌+ℤ◌, length, map};
 ghost use Rattle.fixed_geom.specs.Vectors.{IsWithin};
+ghost use Rattle.contacts_base.specs.Contacts.{number_of};
 ghost use Rattle.colour_solver.specs.Ticks.{AreSums, added_x, added_y};
 ghost use Rattle.graph_colours.specs.Colours.{all_members, ids_of};
 ghost use Rattle.plain_world.specs.Bodies.{AreBodies, momentum_x, momentum_y};
-ghost use Rattle.plain_world.specs.Joints.{AreJoints};
+ghost use Rattle.plain_world.specs.Joints.{AreJoints, forbidden_pairs};
 ghost use Rattle.plain_world.specs.Slots.{HaveSameSlots};
 ghost use Rattle.world_core_base.specs.Gather.{AreContactsOf};
+ghost use Rattle.world_core_base.specs.Marked.{AreMarked};
 ghost use Rattle.world_core_base.specs.Renewal.{renewed_bodies};
 ghost use Rattle.world_core_base.specs.Solving.{bodies_of, solve_order, solved};
 ghost use Rattle.world_rules.specs.Gathering.{CanGather};
 
 use crate::impulses::put_impulses;
 use body_handles::MAX_SLOTS;
-use colour_solver::{ConstraintRow, Rows, StepSums};
+use colour_solver::{Rows, StepSums};
 use contacts::Constraint;
 use fixed_geom::Vec2;
 use graph_colours::{COLOURS, Colours};
@@ -25,7 +27,7 @@ use world_core_base::{BodyTable, gather_rows};
 /// Gathers what acts, lets so many ticks pass, and gives joints and contacts the impulses that they have left. Answers what was
 /// added to the movers' momentum, by cause. Takes no memory.
 pub fn solve(
-    rows: &mut Rows<ConstraintRow>,
+    rows: &mut Rows,
     bodies: &mut BodyTable,
     joints: &mut JointTable,
     contacts: &mut KeptContacts,
@@ -36,6 +38,7 @@ pub fn solve(
     requires few { length bodies.old.bodies ≤ MAX_SLOTS }
     requires bodies { AreBodies bodies.old.bodies }
     requires can { CanGather bodies.old.bodies joints.old.joints contacts.old.contacts colours.now.lists }
+    requires settled { contacts.old.pending ≡ 0 }
     requires gravity { IsWithin (2 ^ 16) gravity }
     requires ticks { ticks ≤ 8 }
     requires room { length (all_members colours.now.lists) ≤ rows.old.room }
@@ -51,6 +54,10 @@ pub fn solve(
     ensures momentum_y { momentum_y bodies.new.bodies ≡ momentum_y bodies.old.bodies +ℤ added_y result }
     ensures all_joints { AreJoints bodies.old.bodies joints.new.joints }
     ensures pairs { AreContactsOf bodies.old.bodies contacts.new.contacts }
+    ensures marked { AreMarked bodies.old bodies.new }
+    ensures forbidden { forbidden_pairs joints.new.joints ≡ forbidden_pairs joints.old.joints }
+    ensures settled { contacts.new.pending ≡ 0 }
+    ensures numbers { map number_of contacts.new.contacts ≡ map number_of contacts.old.contacts }
 {
     gather_rows(
         rows,
@@ -60,6 +67,6 @@ pub fn solve(
         colours,
     );
     let sums = bodies.run(rows, gravity, ticks);
-    put_impulses(joints, contacts, rows.as_slice());
+    put_impulses(joints, contacts, rows);
     sums
 }

@@ -9,6 +9,7 @@ ghost use Rattle.sleep_wake.specs.Acting.{IsSettled, are_awake};
 ghost use Rattle.sleep_wake.specs.Changes.{AreChanges, begin_count, turned};
 ghost use Rattle.solver_sets.specs.Slept.{newly_awake};
 ghost use Rattle.world_core.specs.Quiet.{IsUp, movers_in};
+ghost use Rattle.world_core_base.specs.Marked.{AreMarked};
 ghost use Rattle.world_rules.specs.Sound.{AreTold};
 
 use body_handles::{Handle, MAX_SLOTS, Place};
@@ -59,6 +60,7 @@ pub fn turn_all(
     ensures acting { sets.new.acting ≡ turned constraint_number changes.now sets.old.acting }
     ensures bodies { bodies.new.bodies ≡ told sets.new.acting.labels bodies.old.bodies }
     ensures woke { woke.new.items ≡ newly_awake places.now bodies.old.bodies sets.new.acting.labels }
+    ensures marked { AreMarked bodies.old bodies.new }
 {
     let quiet = are_up(sets, changes);
     sets.turn(changes);

@@ -6,6 +6,7 @@ ghost use Rattle.momenta.specs.Gains.{IsGain};
 ghost use Rattle.plain_world.specs.Bodies.{AreBodies, momentum_x, momentum_y};
 ghost use Rattle.plain_world.specs.Sleep.{told};
 ghost use Rattle.sleep_wake.specs.Sleeping.{islands_woken, slept_at};
+ghost use Rattle.world_core_base.specs.Marked.{AreMarked};
 
 use body_handles::MAX_SLOTS;
 use contacts::Constraint;
@@ -24,6 +25,7 @@ pub fn wake_named(sets: &mut Sets<Constraint>, bodies: &mut BodyTable, names: &[
     ensures all_bodies { AreBodies bodies.new.bodies }
     ensures room { sets.new.room ≡ sets.old.room }
     ensures slots { sets.new.slots ≡ sets.old.slots }
+    ensures marked { AreMarked bodies.old bodies.new }
 {
     if names.is_empty() {
         return;
@@ -47,6 +49,7 @@ pub fn put_to_sleep(sets: &mut Sets<Constraint>, bodies: &mut BodyTable, slot: u
     ensures small { IsGain (2 ^ 78) result }
     ensures room { sets.new.room ≡ sets.old.room }
     ensures slots { sets.new.slots ≡ sets.old.slots }
+    ensures marked { AreMarked bodies.old bodies.new }
 {
     if !sets.is_awake(slot) {
         return Gain { x: 0, y: 0 };

@@ -13,6 +13,7 @@ ghost use Rattle.solver_sets.specs.Census.{IsCensus, census_of, standings_of};
 ghost use Rattle.solver_sets.specs.EachOnce.{ListsEachOnce};
 ghost use Rattle.plain_world.specs.Plain.{colour_of};
 ghost use Rattle.impulse_ledger.specs.Sums.{HaveSameTotals};
+ghost use Rattle.world_core_base.specs.Covers.{AreCovered};
 ghost use Rattle.world_rules.specs.World.{body_of, book_of, joints_of};
 ghost use Rattle.world_core.specs.Frames.{frame_of, settled_world};
 ghost use Rattle.world_rules.specs.Sound.{IsSound};
@@ -20,9 +21,12 @@ ghost use Rattle.world_rules.specs.Apply.{Answers, IsMade, empty_world, gravity_
 
 use crate::copying::copy_ids;
 use crate::frame::{Frame, show_bodies};
+use crate::scratch::Scratch;
 use body_handles::{Handle, Handles, Place};
-use colour_solver::{ConstraintRow, Rows};
+use box_tree::BoxTree;
+use colour_solver::Rows;
 use contacts::Constraint;
+use contacts_base::ContactEntry;
 use event_feed::Events;
 use fixed_geom::{Refusal, Vec2, ZERO_VECTOR, is_within};
 use impulse_ledger::Ledger;
@@ -51,12 +55,14 @@ pub struct WorldCore {
     bodies: BodyTable,
     joint_handles: Handles,
     joints: JointTable,
-    // The contacts, and what is known of near pairs from one collide to the next.
+    // The contacts. They tell which shapes are near, but for those of the bodies that the table marks.
     contacts: KeptContacts,
     // The constraints, the islands of their movers, and the colours of those that act.
     sets: Sets<Constraint>,
     // The rows of a step by colour, and their memory, which is kept from step to step.
-    rows: Rows<ConstraintRow>,
+    rows: Rows,
+    // Lists that a step fills, whose memory is kept from step to step.
+    scratch: Scratch,
     gravity: Vec2,
     steps: u64,
     calls: u64,
@@ -69,11 +75,11 @@ impl Model for WorldCore {
 
     ghost Value = { World };
 
-    ghost use Rattle.world_core.specs.Inside.{IsWhole, world_of};
+    ghost use Rattle.world_core.specs.Inside.{IsWorldCore, world_of};
 
     ghost view = { λ a. world_of a };
 
-    ghost invariant = { λ a. IsWhole (world_of a) a.sets.acting };
+    ghost invariant = { λ a. IsWorldCore (world_of a) a.sets.acting a.bodies.marks };
 }
 
 impl WorldCore {
@@ -94,6 +100,7 @@ impl WorldCore {
             contacts: KeptContacts::new(alloc),
             sets: Sets::new(alloc)?,
             rows: Rows::new(alloc),
+            scratch: Scratch::new(alloc),
             gravity,
             steps: 0,
             calls: 0,
@@ -115,6 +122,7 @@ impl WorldCore {
             contacts: self.contacts.try_copy(self.bodies.allocator())?,
             sets: self.sets.try_copy()?,
             rows: Rows::new(self.bodies.allocator()),
+            scratch: Scratch::new(self.bodies.allocator()),
             gravity: self.gravity,
             steps: self.steps,
             calls: self.calls,
@@ -218,6 +226,15 @@ impl WorldCore {
         &self.events
     }
 
+    /// Boxes by slot: that of each slot with a body holds the body's fat boxes, whether it is enabled or not. A slot without a body may have
+    /// a box or none.
+    pub fn boxes(&self) -> &BoxTree
+        ensures covered { AreCovered self.now.plain.bodies result.now }
+        ensures sound { IsSound self.now }
+    {
+        self.bodies.boxes()
+    }
+
     /// The world as plain lists. Refused 1 where memory is wanting.
     pub fn plain(&self) -> Result<Plain, Refusal>
         ensures plain { IfOk result (λ plain. plain ≡ self.now.plain) }
@@ -232,8 +249,7 @@ impl WorldCore {
         joint_places.extend_from_slice(self.joint_handles.places())?;
         let mut joints = Vec::new(alloc);
         joints.extend_from_slice(self.joints.joints())?;
-        let mut contacts = Vec::new(alloc);
-        contacts.extend_from_slice(self.contacts.as_slice())?;
+        let contacts = self.contacts.to_entries(alloc)?;
         let islands = self.sets.islands().list_labels()?;
         let colours = copy_ids(alloc, self.sets.colours())?;
         Ok(Plain::new(
@@ -259,13 +275,28 @@ impl WorldCore {
         ensures each_once { IfOk result (λ census. ListsEachOnce self.now.plain.places self.now.plain.bodies (joints_of self.now.plain) self.now.plain.contacts census) }
         ensures memory_only { IsOkUnless result Refusal.NoMemory }
     {
+        if self.contacts.is_settled() {
+            return self.census_with(self.contacts.as_slice());
+        }
+        let contacts = self.contacts.to_entries(self.bodies.allocator())?;
+        self.census_with(&contacts)
+    }
+
+    /// The census, with the contacts as a list. Refused 1 where memory is wanting.
+    fn census_with(&self, contacts: &[ContactEntry]) -> Result<Census, Refusal>
+        requires { contacts.now ≡ self.now.plain.contacts }
+        ensures value { IfOk result (λ census. census ≡ census_of self.now.plain.places self.now.plain.bodies (joints_of self.now.plain) self.now.plain.contacts) }
+        ensures census { IfOk result (λ census. IsCensus (standings_of self.now.plain.places self.now.plain.bodies (joints_of self.now.plain) self.now.plain.contacts) census) }
+        ensures each_once { IfOk result (λ census. ListsEachOnce self.now.plain.places self.now.plain.bodies (joints_of self.now.plain) self.now.plain.contacts census) }
+        ensures memory_only { IsOkUnless result Refusal.NoMemory }
+    {
         take_census(
             self.bodies.allocator(),
             self.handles.places(),
             self.bodies.bodies(),
             self.joint_handles.places(),
             self.joints.joints(),
-            self.contacts.as_slice(),
+            contacts,
         )
     }
 

@@ -16,11 +16,11 @@ use Rattle.colour_solver.proofs.PlaceLaws.{IsNext, IsReached, map_still, places_
 use Rattle.plain_world.specs.declared.body.Body.{Body}
 use Rattle.plain_world.specs.Bodies.{AreBodies, IsBody, is_awake, is_carried}
 use Rattle.plain_world.specs.Fats.{renewed_boxes}
-use Rattle.plain_world.proofs.KindLaws.{carried_enabled, carried_rests}
-use Rattle.world_core_base.specs.Carried.{carried_to, solver_mass, carried_motion}
+use Rattle.plain_world.proofs.KindLaws.{carried_enabled}
+use Rattle.world_core_base.specs.Carried.{carried_to, solver_mass}
 use Rattle.world_core_base.specs.Gather.{begun, state_of, states_of}
 use Rattle.world_core_base.specs.Moved.{FitsState, moved_entry}
-use Rattle.world_core_base.proofs.GatherLaws.{IsLike, carried_like, carried_state, fits_state, like_first, mass_carried, state_at, tail_same, length-states, carried_no_mover}
+use Rattle.world_core_base.proofs.GatherLaws.{IsLike, carried_like, carried_state, fits_state, like_first, mass_carried, state_at, tail_same, carried_no_mover}
 use Rattle.world_core_base.proofs.MovingLaws.{begun_where, begun_where_one, bodies_still, length-moved_so_far, moved_bodies, moved_where, moved_where_one, moved_whole, next_moved, still_there}
 
 -- ---- one body

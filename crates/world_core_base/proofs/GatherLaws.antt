@@ -1,5 +1,5 @@
 -- What a step gathers from bodies and contacts, and what it writes back to the bodies.
-use Rattle.std.proofs.Common.{◌≡◌, inl, inr, ◌⊎◌, ℕ, zero, suc, ◌<◌, List, [], ◌∷◌, length, Option, Some, None, Bool, true, false, cond, not, ◌||◌, ◌≤◌, ℤ, pos, unsigned_abs, int_eq, arith, refl, sym, ap, ◌∙◌, subst, is_some, slice_index_or}
+use Rattle.std.proofs.Common.{◌≡◌, ℕ, zero, suc, ◌<◌, List, [], ◌∷◌, length, Option, Some, None, Bool, true, false, cond, not, ◌||◌, ◌≤◌, ℤ, pos, unsigned_abs, int_eq, arith, refl, sym, ap, ◌∙◌, subst, is_some, slice_index_or}
 use Rattle.std.specs.Prelude.{All, option_map, slice_get}
 use Rattle.std.specs.Option.{is_none}
 use Rattle.std.proofs.lemmas.Bool.Decides.{Decides-int_eq}
@@ -24,7 +24,7 @@ use Rattle.plain_world.specs.declared.kind.Kind.{Kind}
 use Rattle.plain_world.specs.declared.kind.Kind.TheVariants.{Static, Kinematic, Dynamic}
 use Rattle.plain_world.specs.declared.kind.Course.{Course}
 use Rattle.plain_world.specs.Kinds.{IsCourseOf, carried_by, is_dynamic, is_kinematic, is_moving, is_static}
-use Rattle.plain_world.proofs.KindLaws.{awake_moves, carried_enabled, carried_kinematic, carried_rests, carried_still, mass_as, not_awake, static_as}
+use Rattle.plain_world.proofs.KindLaws.{awake_moves, carried_enabled, carried_kinematic, carried_rests, carried_still, mass_as, static_as}
 use Rattle.shapes.specs.Shapes.{IsShapeDef, shapes_refusal}
 use Rattle.shapes.specs.Poses.{IsPose}
 use Rattle.shapes.specs.declared.pose.Pose.{Pose}

@@ -12,7 +12,7 @@ use Rattle.joint_rows.specs.declared.row.JointRow.{JointRow}
 use Rattle.colour_solver_base.specs.Rows.{IsRow}
 use Rattle.colour_solver_base.specs.declared.row.ContactRow.{ContactRow}
 use Rattle.colour_solver.specs.States.{AreAllStates, nobody}
-use Rattle.colour_solver.specs.ConstraintTurns.{AreRowsBelow, IsRowBelow}
+use Rattle.colour_solver.specs.ConstraintTurns.{AreRowsBelow, IsRowBelow, contacts_among, joints_among}
 use Rattle.colour_solver.specs.declared.constraint_row.ConstraintRow.{ConstraintRow}
 use Rattle.colour_solver.specs.declared.constraint_row.ConstraintRow.TheVariants as rows
 use Rattle.contacts_base.specs.declared.contact.ContactEntry.{ContactEntry}
@@ -20,7 +20,7 @@ use Rattle.plain_world.specs.declared.body.Body.{Body}
 use Rattle.plain_world.specs.declared.joint.BodyJoint.{BodyJoint}
 use Rattle.plain_world.specs.Joints.{AreJoints, IsBodyJoint, impulse_set, joint_at, with_impulse}
 use Rattle.plain_world.specs.Slots.{body_at}
-use Rattle.world_core_base.specs.ConstraintRows.{IsJointOn, IsJointThere, contacts_among, joint_bodies, joint_ends, joint_row_in, joints_among, put_joint_row, with_joint_rows}
+use Rattle.world_core_base.specs.ConstraintRows.{IsJointOn, IsJointThere, joint_bodies, joint_ends, joint_row_in, put_joint_row, with_joint_rows}
 use Rattle.world_core_base.specs.Gather.{HasMovable, IsContactRowBelow, states_of, with_rows}
 use Rattle.world_core_base.proofs.GatherLaws.{length-states, state_at}
 use Rattle.world_core_base.proofs.SolvingJoints.{bare_joints, bare_put, joint_put_other, joint_put_same}

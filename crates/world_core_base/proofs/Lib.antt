@@ -10,6 +10,7 @@ pub mod TellLaws
 pub mod TimeLaws
 pub mod StandingLaws
 mod ColourLists
+mod RowOrderLaws
 pub mod RowColourLaws
 pub mod SolvingContacts
 pub mod SolvingJoints
@@ -18,3 +19,5 @@ pub mod SolvingTurns
 pub mod SolvingRuns
 pub mod SolvingBack
 pub mod SolvingLaws
+pub mod MarkedLaws
+pub mod CoverLaws

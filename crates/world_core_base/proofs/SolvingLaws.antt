@@ -26,7 +26,8 @@ use Rattle.colour_solver.specs.declared.constraint_row.ConstraintRow.TheVariants
 use Rattle.plain_world.specs.declared.body.Body.{Body}
 use Rattle.plain_world.specs.declared.joint.BodyJoint.{BodyJoint}
 use Rattle.plain_world.specs.Joints.{joint_at}
-use Rattle.world_core_base.specs.ConstraintRows.{constraint_row, contacts_among, joint_row_in, joint_row_of, joints_among, with_joint_rows}
+use Rattle.colour_solver.specs.ConstraintTurns.{contacts_among, joints_among}
+use Rattle.world_core_base.specs.ConstraintRows.{constraint_row, joint_row_in, joint_row_of, with_joint_rows}
 use Rattle.world_core_base.specs.Gather.{row_of, states_of, with_motions, with_rows}
 use Rattle.world_core_base.specs.Solving.{Moving, Solving, Turns, begin, bounce, clamp, ends_now, ends_then, left, moving_at, pass, pull, solve, solve_order, solved, tick, ticks, turn, turn_between, turn_joined, turn_joint, warm, with_contact}
 use Rattle.world_core_base.specs.SolvingArrays.{ArraysAreSolving, IsRunOf}

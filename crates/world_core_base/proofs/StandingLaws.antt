@@ -13,8 +13,7 @@ use Rattle.world_core_base.specs.Carried.{carried_to}
 use Rattle.world_core_base.specs.Gather.{moves_in, with_motion, with_motions}
 use Rattle.world_core_base.specs.Renewal.{renewed_bodies, with_renewed}
 use Rattle.world_core_base.specs.Standing.{HaveSameStanding, is_enabled_in}
-use Rattle.world_core_base.proofs.GatherLaws.{mover_moved, slots-moved}
-use Rattle.world_core_base.proofs.RenewalLaws.{slots-renewed}
+use Rattle.world_core_base.proofs.GatherLaws.{mover_moved}
 use Rattle.world_core_base.proofs.TellLaws.{length-told}
 use Rattle.world_core_base.proofs.TimeLaws.{length-timed}
 

@@ -1,7 +1,7 @@
 -- What a table keeps beside its bodies, when one body comes, goes or changes.
 use Rattle.std.proofs.Common.{◌≡◌, ℕ, zero, suc, ◌<◌, ◌≤◌, Bool, true, false, cond, List, [], ◌∷◌, ◌++◌, length, get_or, slice_set, nat_lt, Option, Some, None, arith, refl, sym, ap, ◌∙◌, inl, inr, ◌+◌}
-use Rattle.std.proofs.lemmas.Bool.{cases_lt, cases_Bool}
-use Rattle.std.specs.Prelude.{option_map, slice_index_or}
+use Rattle.std.proofs.lemmas.Bool.{cases_lt}
+use Rattle.std.specs.Prelude.{option_map}
 use Rattle.std.specs.Option.{ForSome}
 use Rattle.std.proofs.lemmas.List.{get_or-set_same, length-append, length-set}
 use Rattle.colour_solver.proofs.PlaceLaws.{length-places}
@@ -13,7 +13,6 @@ use Rattle.std.specs.Option.{is_none}
 use Rattle.momenta.specs.declared.mass.MassData.{MassData}
 use Rattle.shapes.specs.Shapes.{shapes_refusal}
 use Rattle.shapes.specs.declared.shape.ShapeDef.{ShapeDef}
-use Rattle.plain_world.specs.declared.kind.Course.{Course}
 use Rattle.plain_world.specs.declared.kind.Kind.{Kind}
 use Rattle.plain_world.specs.declared.kind.Kind.TheVariants.{Static, Kinematic, Dynamic}
 use Rattle.plain_world.specs.Kinds.{IsCourseOf, carried_by, halted, is_dynamic, is_moving, is_static}

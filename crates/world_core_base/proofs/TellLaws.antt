@@ -1,7 +1,7 @@
 -- Bodies told the labels of their islands, slot by slot.
 use Rattle.std.proofs.Common.{◌≡◌, ℕ, zero, suc, ◌+◌, ◌*◌, ◌^◌, ◌<◌, ◌≤◌, Bool, true, false, cond, List, [], ◌∷◌, ◌++◌, length, get_or, slice_set, take, drop, Option, Some, None, ℤ, pos, ◌+ℤ◌, ◌-ℤ◌, unsigned_abs, arith, refl, sym, ap, ◌∙◌, subst, add-one}
-use Rattle.std.specs.Prelude.{is_some, option_map, slice_get}
-use Rattle.std.specs.Option.{ForSome, is_none}
+use Rattle.std.specs.Prelude.{is_some, option_map}
+use Rattle.std.specs.Option.{ForSome}
 use Rattle.std.proofs.lemmas.Int.{ints}
 use Rattle.std.proofs.lemmas.Option.{slice_get-get_or}
 use Rattle.fixed_geom.specs.Vectors.{IsWithin}
@@ -14,7 +14,7 @@ use Rattle.islands.specs.declared.label.Label.{Label}
 use Rattle.colour_solver.specs.States as step
 use Rattle.colour_solver.specs.States.{carried_of, places_from}
 use Rattle.plain_world.specs.declared.body.Body.{Body}
-use Rattle.plain_world.specs.Bodies.{AreBodies, IsAtRest, IsBody, is_awake, is_carried, is_mover, momentum_x, momentum_y, p_x, p_y}
+use Rattle.plain_world.specs.Bodies.{AreBodies, IsBody, is_awake, is_carried, is_mover, momentum_x, momentum_y, p_x, p_y}
 use Rattle.plain_world.specs.Sleep.{put_to_rest, roused, sleeping_name, told, told_body, told_by, told_from}
 use Rattle.world_core_base.specs.Gather.{state_of, states_of}
 use Rattle.world_core_base.specs.Telling.{momentum_in}

@@ -9,10 +9,11 @@ use Rattle.colour_solver.specs.States.{carried_of, moves, movers_of, places_from
 use Rattle.colour_solver.proofs.PlaceLaws.{IsNext, IsReached, map_still, reached, reached_at_first, reached_first, reached_last, reached_more, reached_next, reached_there}
 use Rattle.plain_world.specs.declared.body.Body.{Body}
 use Rattle.plain_world.specs.Bodies.{AreBodies, IsBody, is_awake}
-use Rattle.plain_world.specs.Changes.{is_awake_in}
+use Rattle.plain_world.specs.Changes.{is_awake_in, is_carried_in}
 use Rattle.plain_world.specs.Sleep.{AreTimersWithin, is_slow, timed, timed_bodies}
 use Rattle.world_core_base.specs.Gather.{state_of, states_of}
 use Rattle.world_core_base.specs.Telling.{CanTime}
+use Rattle.world_core_base.proofs.GatherLaws.{carried_state}
 
 -- ---- a walk over the places of those that pass a test, in which each is changed
 
@@ -149,3 +150,15 @@ places_as (o ∷ os) n = λ j. cond (moves_as o j) (n ∷ places_as os (suc n) j
 
 pub awake_places : (bodies : List (Option Body)) → movers_of (states_of bodies) ≡ places_from is_awake_in 0 bodies
 awake_places bodies = places_as bodies 0
+
+-- and so are those that are carried along
+carries_as : (o : Option Body) → step.is_carried (state_of o) ≡ is_carried_in o
+carries_as None = refl
+carries_as (Some b) = carried_state b
+
+carries_from : (bodies : List (Option Body)) (n : ℕ) → places_from step.is_carried n (states_of bodies) ≡ places_from is_carried_in n bodies
+carries_from [] n = refl
+carries_from (o ∷ os) n = λ j. cond (carries_as o j) (n ∷ carries_from os (suc n) j) (carries_from os (suc n) j)
+
+pub carried_places : (bodies : List (Option Body)) → carried_of (states_of bodies) ≡ places_from is_carried_in 0 bodies
+carried_places bodies = carries_from bodies 0

@@ -11,7 +11,6 @@ use Rattle.contacts_base.specs.declared.contact.ContactEntry.{ContactEntry}
 use Rattle.contacts.specs.declared.constraint.Constraint.{Constraint}
 use Rattle.contacts.specs.declared.constraint.Constraint.TheVariants as constraints
 use Rattle.graph_colours.specs.declared.member.Member.{Member}
-use Rattle.colour_solver_base.specs.declared.row.ContactRow.{ContactRow}
 use Rattle.colour_solver.specs.States.{nobody}
 use Rattle.colour_solver.specs.declared.constraint_row.ConstraintRow.{ConstraintRow}
 use Rattle.colour_solver.specs.declared.constraint_row.ConstraintRow.TheVariants as rows
@@ -53,21 +52,6 @@ unfoldable pub rows_of : List BodyState → List (Option BodyJoint) → List Con
 rows_of states joints contacts lists = flat_map (rows_in states joints contacts) lists
 
 -- ---- back to joints and contacts
-
-abbrev pub joint_in : ConstraintRow → Option JointRow
-joint_in (rows.Joint r) = Some r
-joint_in (rows.Contact r) = None
-
-abbrev pub contact_in : ConstraintRow → Option ContactRow
-contact_in (rows.Joint r) = None
-contact_in (rows.Contact r) = Some r
-
--- the rows of joints, and those of contacts
-abbrev pub joints_among : List ConstraintRow → List JointRow
-joints_among rs = filter_map joint_in rs
-
-abbrev pub contacts_among : List ConstraintRow → List ContactRow
-contacts_among rs = filter_map contact_in rs
 
 abbrev pub put_joint_row : JointRow → List (Option BodyJoint) → List (Option BodyJoint)
 put_joint_row r joints = impulse_set r.bodies.index r.impulse joints (joint_at joints r.bodies.index)

@@ -9,3 +9,5 @@ pub mod RowColours
 pub mod Solving
 pub mod SolvingArrays
 pub mod Standing
+pub mod Covers
+pub mod Marked

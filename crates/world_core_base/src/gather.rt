@@ -1,22 +1,25 @@
 //! What a step works on: the bodies by slot, and the joints and the touching contacts in solve order, gathered when it begins.
 
-ghost use Rattle.std.specs.Prelude.{◌≡◌, ◌<◌, ◌≤◌, ◌≢◌, ◌⊎◌, ◌+◌, ◌++◌, ◌∷◌, [], All, Option, Some, length, map, option_map};
+ghost use Rattle.std.specs.Prelude.{◌≡◌, ◌<◌, ◌≤◌, ◌≢◌, ◌⊎◌, ◌+◌, ◌^◌, ◌++◌, ◌∷◌, [], All, Option, Some, length, map, option_map};
 ghost use Rattle.std.specs.Option.{ForSome, option_to_list};
 ghost use Rattle.contacts_base.specs.Contacts.{AreKeysRising};
 ghost use Rattle.contacts_base.specs.Keys.{key_number};
+ghost use Rattle.contacts.specs.Constraints.{constraint_number};
 ghost use Rattle.momenta.specs.Impulses.{AreStates};
 ghost use Rattle.colour_solver_base.specs.Rows.{AreSurfaces};
 ghost use Rattle.colour_solver.specs.States.{AreAllStates};
 ghost use Rattle.colour_solver.specs.ColourRows.{all_rows};
-ghost use Rattle.colour_solver.specs.ConstraintTurns.{AreRowsBelow, IsRowBelow};
+ghost use Rattle.colour_solver.specs.ConstraintTurns.{AreRowsBelow, IsRowBelow, contacts_among};
+ghost use Rattle.colour_solver.specs.declared.constraint_row.ConstraintRow.TheVariants as kinds;
 ghost use Rattle.graph_colours.specs.Colours.{all_members};
+ghost use Rattle.graph_colours.specs.Members.{AreRising};
 ghost use Rattle.contacts_base.specs.Surfaces.{IsSurface};
 ghost use Rattle.world_core_base.specs.Gather.{AreContactsOn, IsContactOn, IsContactRowBelow, HasMovable, bodies_of, ends_at, row_in, row_of, state_of};
 ghost use Rattle.world_core_base.specs.ConstraintRows.{HasJointOn, HaveJointsOn, HaveMovable, IsMovable, constraint_row, rows_in, rows_of};
 ghost use Rattle.world_core_base.specs.Carried.{solver_mass, solver_motion};
 
 use crate::joint_row::joint_row_at;
-use colour_solver::{ConstraintRow, Rows};
+use colour_solver::Rows;
 use colour_solver_base::{Bodies, ContactRow, contact_row};
 use contacts::Constraint;
 use contacts_base::{Contact, ContactEntry, ContactKey, Surface, place_at, seek};
@@ -188,38 +191,40 @@ fn row_of(
     }
 }
 
-/// Adds a joint's row, if there is one, for which there is room.
+/// Adds a joint's row, if there is one, for which there is room, to a colour that has no contact yet.
 #[inline(always)]
-fn push_joint(rows: &mut Rows<ConstraintRow>, row: Option<JointRow>)
-    requires { 1 ≤ rows.old.room }
+fn push_joint(rows: &mut Rows, row: Option<JointRow>)
+    requires room { 1 ≤ rows.old.room }
+    requires first { contacts_among rows.old.left ≡ [] }
     ensures colours { rows.new.colours ≡ rows.old.colours }
-    ensures left { rows.new.left ≡ rows.old.left ++ option_to_list (option_map ConstraintRow.Joint row) }
+    ensures left { rows.new.left ≡ rows.old.left ++ option_to_list (option_map kinds.Joint row) }
     ensures room { rows.old.room ≤ rows.new.room + 1 }
     ensures more { rows.new.more ≡ rows.old.more }
 {
     if let Some(row) = row {
-        rows.push(ConstraintRow::Joint(row));
+        rows.push_joint(row);
     }
 }
 
 /// Adds a contact's row, if there is one, for which there is room.
 #[inline(always)]
-fn push_contact(rows: &mut Rows<ConstraintRow>, row: Option<ContactRow>)
+fn push_contact(rows: &mut Rows, row: Option<ContactRow>)
     requires { 1 ≤ rows.old.room }
     ensures colours { rows.new.colours ≡ rows.old.colours }
-    ensures left { rows.new.left ≡ rows.old.left ++ option_to_list (option_map ConstraintRow.Contact row) }
+    ensures left { rows.new.left ≡ rows.old.left ++ option_to_list (option_map kinds.Contact row) }
     ensures room { rows.old.room ≤ rows.new.room + 1 }
     ensures more { rows.new.more ≡ rows.old.more }
 {
     if let Some(row) = row {
-        rows.push(ConstraintRow::Contact(row));
+        rows.push_contact(row);
     }
 }
 
 /// Adds the row of a constraint, for which there is room: of a joint, or of a contact that touches, which is looked for from `hint` on.
+/// The numbers of all joints are below 2^80, and those of all contacts aren't, so that joints come first.
 #[inline(always)]
 fn add_row(
-    rows: &mut Rows<ConstraintRow>,
+    rows: &mut Rows,
     states: &[BodyState],
     joints: &[Option<BodyJoint>],
     contacts: &[ContactEntry],
@@ -232,6 +237,7 @@ fn add_row(
     requires contacts { AreContactsOn states.now contacts.now }
     requires movable { IsMovable states.now id }
     requires room { 1 ≤ rows.old.room }
+    requires first { constraint_number id < 2 ^ 80 → contacts_among rows.old.left ≡ [] }
     ensures colours { rows.new.colours ≡ rows.old.colours }
     ensures left { rows.new.left ≡ rows.old.left ++ option_to_list (constraint_row states.now joints.now contacts.now id) }
     ensures row { ForSome (constraint_row states.now joints.now contacts.now id) (IsRowBelow (length states.now)) }
@@ -248,9 +254,9 @@ fn add_row(
     }
 }
 
-/// Gathers the constraints of one colour, ascending, for which there is room.
+/// Gathers the constraints of one colour, ascending, for which there is room; the colour has none yet.
 fn gather_colour(
-    rows: &mut Rows<ConstraintRow>,
+    rows: &mut Rows,
     states: &[BodyState],
     joints: &[Option<BodyJoint>],
     contacts: &[ContactEntry],
@@ -261,10 +267,11 @@ fn gather_colour(
     requires rising { AreKeysRising contacts.now }
     requires contacts { AreContactsOn states.now contacts.now }
     requires movable { HaveMovable states.now members.now }
-    requires rows { AreRowsBelow (length states.now) rows.old.left }
+    requires ascend { AreRising constraint_number members.now }
+    requires none { rows.old.left ≡ [] }
     requires room { length members.now ≤ rows.old.room }
     ensures colours { rows.new.colours ≡ rows.old.colours }
-    ensures left { rows.new.left ≡ rows.old.left ++ rows_in states.now joints.now contacts.now members.now }
+    ensures left { rows.new.left ≡ rows_in states.now joints.now contacts.now members.now }
     ensures rows { AreRowsBelow (length states.now) rows.new.left }
     ensures room { rows.old.room ≤ rows.new.room + length members.now }
     ensures more { rows.new.more ≡ rows.old.more }
@@ -279,7 +286,7 @@ fn gather_colour(
 /// stands in its constraint's colour.
 #[tactic(auto, unfolding(crate::specs::ConstraintRows::rows_of))]
 pub fn gather_rows(
-    rows: &mut Rows<ConstraintRow>,
+    rows: &mut Rows,
     states: &[BodyState],
     joints: &[Option<BodyJoint>],
     contacts: &[ContactEntry],

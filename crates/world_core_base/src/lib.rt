@@ -5,6 +5,7 @@
 #![tactic(auto)]
 
 mod awake;
+mod covers;
 mod gather;
 mod joint_row;
 mod laws;

@@ -1,18 +1,24 @@
 //! The bodies as a step leaves them: the motion of each awake mover and of each body that is carried along, and the fat boxes that its
 //! shapes have left.
 
-ghost use Rattle.std.specs.Prelude.{◌≡◌, ◌<◌, None, length, slice_index_or, slice_set};
+ghost use Rattle.std.specs.Prelude.{◌≡◌, ◌<◌, None, cond, false, length, slice_index_or, slice_set};
 ghost use Rattle.std.specs.Option.{ForSome};
 ghost use Rattle.colour_solver.specs.States.{AreAllStates, AreSameBeside, HaveCourses, carried_of, movers_of, nobody, total_x, total_y};
 ghost use Rattle.plain_world.specs.Bodies.{AreBodies, momentum_x, momentum_y};
+ghost use Rattle.world_core_base.specs.Covers.{AreCovered};
+ghost use Rattle.world_core_base.specs.Marked.{AreMarkedIn, AreShownAlike};
 ghost use Rattle.world_core_base.specs.Gather.{begun, states_of, with_motion, with_motions};
 ghost use Rattle.world_core_base.specs.Moved.{FitsState, moved_entry};
 ghost use Rattle.world_core_base.specs.Renewal.{renewed_bodies, with_renewed};
 ghost use Rattle.world_core_base.specs.Standing.{HaveSameStanding};
+ghost use Rattle.plain_world.specs.Shown.{IsShownAlike};
 ghost use Rattle.plain_world.specs.Slots.{HaveSameSlots};
 
+use crate::covers::cover_again;
+use box_tree::BoxTree;
 use momenta::BodyState;
 use plain_world::{Body, Course, Kind};
+use slot_marks::Marks;
 
 /// Gives an awake mover its motion, and a body that is carried along its pose and what is left of its course.
 fn put_motion(body: &mut Body, state: &BodyState)
@@ -34,24 +40,27 @@ fn put_motion(body: &mut Body, state: &BodyState)
     body.motion.rot = state.motion.rot;
 }
 
-fn move_body(body: &mut Body, state: &BodyState)
+/// Gives a body its motion, and makes its fat boxes anew that its shapes have left. Answers whether there was such a box.
+fn move_body(body: &mut Body, state: &BodyState) -> bool
     requires { FitsState state.now body.old }
-    ensures { body.new ≡ with_renewed (with_motion state.now body.old) }
+    ensures moved { body.new ≡ with_renewed (with_motion state.now body.old) }
+    ensures alike { result ≡ false → IsShownAlike body.old body.new }
 {
     put_motion(body, state);
     if !body.can_move() {
-        return;
+        return false;
     }
     let pose = body.pose();
-    body.fats.renew(body.shapes.as_slice(), pose);
+    body.fats.renew(body.shapes.as_slice(), pose)
 }
 
-fn move_entry(entry: &mut Option<Body>, state: &BodyState)
+fn move_entry(entry: &mut Option<Body>, state: &BodyState) -> bool
     requires { ForSome entry.old (FitsState state.now) }
-    ensures { entry.new ≡ moved_entry state.now entry.old }
+    ensures moved { entry.new ≡ moved_entry state.now entry.old }
+    ensures alike { result ≡ false → AreShownAlike entry.old entry.new }
 {
     match entry {
-        None => {}
+        None => false,
         Some(body) => move_body(body, state),
     }
 }
@@ -63,23 +72,41 @@ fn begin_there(state: &mut BodyState)
     state.start = state.motion.x;
 }
 
-/// Gives the body in a slot the motion that the ticks have left it.
-fn move_slot(bodies: &mut Vec<Option<Body>>, states: &mut Vec<BodyState>, slot: usize)
+/// Gives the body in a slot the motion that the ticks have left it, and marks the slot where its fat boxes were made anew.
+fn move_slot(
+    bodies: &mut Vec<Option<Body>>,
+    states: &mut Vec<BodyState>,
+    marks: &mut Marks,
+    boxes: &mut BoxTree,
+    slot: u32,
+)
     requires body { slot < length bodies.old.items }
     requires state { slot < length states.old.items }
     requires fits { ForSome (slice_index_or bodies.old.items slot None) (FitsState (slice_index_or states.old.items slot nobody)) }
+    requires covered { AreCovered bodies.old.items boxes.old }
     ensures bodies { bodies.new.items ≡ slice_set bodies.old.items slot (moved_entry (slice_index_or states.old.items slot nobody) (slice_index_or bodies.old.items slot None)) }
     ensures states { states.new.items ≡ slice_set states.old.items slot (begun (slice_index_or states.old.items slot nobody)) }
+    ensures marked { AreMarkedIn bodies.old.items marks.old bodies.new.items marks.new }
+    ensures len { length marks.new ≡ length marks.old }
+    ensures covered { AreCovered bodies.new.items boxes.new }
+    ensures boxes { length boxes.new ≡ length boxes.old }
 {
-    move_entry(&mut bodies[slot], &states[slot]);
-    begin_there(&mut states[slot]);
+    let place = slot as usize;
+    let made = move_entry(&mut bodies[place], &states[place]);
+    begin_there(&mut states[place]);
+    marks.mark_if(slot, made);
+    cover_again(boxes, slot, &bodies[place], made);
 }
 
 /// Gives each awake mover and each body that is carried along, whose slots are `awake` and `carried`, the motion that the ticks have
-/// left it, and makes its fat boxes anew that its shapes' tight boxes have left. The states are then those of the bodies again.
+/// left it, and makes its fat boxes anew that its shapes' tight boxes have left, whose slots are then marked and have other
+/// boxes. The states are then those of
+/// the bodies again.
 pub fn move_bodies(
     bodies: &mut Vec<Option<Body>>,
     states: &mut Vec<BodyState>,
+    marks: &mut Marks,
+    boxes: &mut BoxTree,
     awake: &[u32],
     carried: &[u32],
 )
@@ -89,6 +116,7 @@ pub fn move_bodies(
     requires same { AreSameBeside (states_of bodies.old.items) states.old.items }
     requires awake { awake.now ≡ movers_of states.old.items }
     requires carried { carried.now ≡ carried_of states.old.items }
+    requires covered { AreCovered bodies.old.items boxes.old }
     ensures value { bodies.new.items ≡ renewed_bodies (with_motions bodies.old.items states.old.items) }
     ensures states { states.new.items ≡ states_of bodies.new.items }
     ensures awake { awake.now ≡ movers_of states.new.items }
@@ -98,11 +126,15 @@ pub fn move_bodies(
     ensures standing { HaveSameStanding bodies.old.items bodies.new.items }
     ensures momentum_x { momentum_x bodies.new.items ≡ total_x states.old.items }
     ensures momentum_y { momentum_y bodies.new.items ≡ total_y states.old.items }
+    ensures marked { AreMarkedIn bodies.old.items marks.old bodies.new.items marks.new }
+    ensures len { length marks.new ≡ length marks.old }
+    ensures covered { AreCovered bodies.new.items boxes.new }
+    ensures boxes { length boxes.new ≡ length boxes.old }
 {
     for place in 0..awake.len() {
-        move_slot(bodies, states, awake[place] as usize);
+        move_slot(bodies, states, marks, boxes, awake[place]);
     }
     for place in 0..carried.len() {
-        move_slot(bodies, states, carried[place] as usize);
+        move_slot(bodies, states, marks, boxes, carried[place]);
     }
 }

@@ -2,10 +2,11 @@
 
 mod from_bodies;
 
-ghost use Rattle.std.specs.Prelude.{◌≡◌, ◌+◌, ◌-◌, ◌<◌, ◌≤◌, ◌^◌, ◌+ℤ◌, [], None, false, IfOk, OnOk, length, slice_set, vec_len, vec_capacity};
+ghost use Rattle.std.specs.Prelude.{◌≡◌, ◌+◌, ◌-◌, ◌<◌, ◌≤◌, ◌^◌, ◌+ℤ◌, [], None, false, true, IfOk, OnOk, length, replicate, slice_index_or, slice_set, vec_len, vec_capacity};
 ghost use Rattle.std.specs.Option.{ForSome};
 ghost use Rattle.std.specs.Result.{IsOkUnless};
 ghost use Rattle.fixed_geom.specs.Vectors.{IsWithin};
+ghost use Rattle.box_tree.specs.BoxLists.{box_at};
 ghost use Rattle.momenta.specs.declared.state.BodyState.{BodyState};
 ghost use Rattle.colour_solver.specs.States.{AreAllStates, places_from};
 ghost use Rattle.colour_solver.specs.Ticks.{AreSums, added_x, added_y, ran, run_of, start};
@@ -14,6 +15,8 @@ ghost use Rattle.colour_solver.specs.ConstraintTurns.{AreRowsBelow};
 ghost use Rattle.world_core_base.specs.Awake.{with_state};
 ghost use Rattle.plain_world.specs.Bodies.{AreBodies, momentum_x, momentum_y};
 ghost use Rattle.world_core_base.specs.Gather.{state_of, states_of, with_motions};
+ghost use Rattle.world_core_base.specs.Covers.{AreCovered, IsCover};
+ghost use Rattle.world_core_base.specs.Marked.{AreMarked, AreMoreMarks};
 ghost use Rattle.world_core_base.specs.Renewal.{renewed_bodies};
 ghost use Rattle.world_core_base.specs.Standing.{HaveSameStanding};
 ghost use Rattle.momenta.specs.Gains.{IsGain};
@@ -22,22 +25,26 @@ ghost use Rattle.plain_world.specs.Sleep.{AreTimersWithin, timed_bodies, told};
 ghost use Rattle.plain_world.specs.Slots.{HaveSameSlots, body_at, with_body};
 
 use crate::awake::{add_if, copy_in_room, drop_slot, list_movers, reserve_in_all};
+use crate::covers::{cover, cover_again, uncover};
 use crate::gather::{NOBODY, body_state};
 use crate::moving::move_bodies;
 use crate::telling::tell_bodies;
 use crate::timing::time_bodies;
 use body_handles::MAX_SLOTS;
-use colour_solver::{ConstraintRow, Rows, StepSums, run_step};
+use box_tree::BoxTree;
+use colour_solver::{Rows, StepSums, run_step};
 use fixed_geom::{Refusal, Vec2};
 use islands::Islands;
 use momenta::{BodyState, Gain};
 use plain_world::{
     Body, BodyChange, change_slot, clear_slot, copy_bodies, disable_slot, enable_slot, put_item,
 };
+use slot_marks::Marks;
 use std::alloc::Global;
 use std::marker::Model;
 
-/// The bodies by slot. Contracts see them, and for how many more there is room.
+/// The bodies by slot, each slot marked whose body shows the broad phase other shapes than when the marks were last taken away. Contracts
+/// see the bodies, for how many more there is room, and the marks.
 #[derive(Drop)]
 pub struct BodyTable {
     bodies: Vec<Option<Body>>,
@@ -47,6 +54,10 @@ pub struct BodyTable {
     awake: Vec<u32>,
     // The slots of the bodies that are carried along, ascending.
     carried: Vec<u32>,
+    // A mark or none for each body, and for those for which there is room.
+    marks: Marks,
+    // For each slot with a body a box that holds its fat boxes, in a tree.
+    boxes: BoxTree,
     // For how many more bodies each list has room.
     room: usize,
 }
@@ -57,9 +68,9 @@ impl Model for BodyTable {
 
     ghost Value = { Bodies };
 
-    ghost view = { λ a. record { bodies = a.bodies.items; room = a.room } };
+    ghost view = { λ a. record { bodies = a.bodies.items; room = a.room; marks = a.marks; boxes = a.boxes } };
 
-    ghost invariant = { λ a. IsBodyTable a.bodies.items a.states.items a.awake.items a.carried.items a.room (vec_capacity a.bodies - vec_len a.bodies) (vec_capacity a.states - vec_len a.states) (vec_capacity a.awake) (vec_capacity a.carried) };
+    ghost invariant = { λ a. IsBodyTable a.bodies.items a.states.items a.awake.items a.carried.items a.marks a.boxes a.room (vec_capacity a.bodies - vec_len a.bodies) (vec_capacity a.states - vec_len a.states) (vec_capacity a.awake) (vec_capacity a.carried) };
 }
 
 /// Puts a state into a slot, or into a new one at the end, for which there is room.
@@ -83,6 +94,20 @@ fn renew_state(states: &mut Vec<BodyState>, bodies: &[Option<Body>], slot: usize
     states[slot] = crate::gather::state_of(&bodies[slot]);
 }
 
+/// Sees to n marks, where all but one are there at least: a new one is marked. Refused 1 where memory is wanting.
+fn reserve_mark(marks: &mut Marks, n: usize) -> Result<(), Refusal>
+    requires { n ≤ length marks.old + 1 }
+    ensures made { OnOk result (n ≤ length marks.new) }
+    ensures more { AreMoreMarks marks.old marks.new }
+    ensures len { length marks.old ≤ length marks.new }
+    ensures memory_only { IsOkUnless result Refusal.NoMemory }
+{
+    if marks.len() < n {
+        marks.grow()?;
+    }
+    Ok(())
+}
+
 /// Whether a body that is carried along is in a slot.
 fn is_carried_in(entry: &Option<Body>) -> bool
     ensures { result ≡ is_carried_in entry.now }
@@ -96,13 +121,16 @@ fn is_carried_in(entry: &Option<Body>) -> bool
 impl BodyTable {
     /// No body.
     pub fn new(alloc: Global) -> BodyTable
-        ensures { result.bodies ≡ [] }
+        ensures bodies { result.bodies ≡ [] }
+        ensures marks { result.marks ≡ [] }
     {
         BodyTable {
             bodies: Vec::new(alloc),
             states: Vec::new(alloc),
             awake: Vec::new(alloc),
             carried: Vec::new(alloc),
+            marks: Marks::new(alloc),
+            boxes: BoxTree::new(alloc),
             room: 0,
         }
     }
@@ -133,10 +161,57 @@ impl BodyTable {
         self.awake.as_slice()
     }
 
-    /// Makes room for one more body. Refused 1 where memory is wanting.
-    pub fn reserve_one(&mut self) -> Result<(), Refusal>
+    /// The slots of the bodies that are carried along, ascending.
+    pub fn carried(&self) -> &[u32]
+        ensures { result.now ≡ places_from is_carried_in 0 self.now.bodies }
+    {
+        self.carried.as_slice()
+    }
+
+    /// For each slot whether it is marked. One that has no mark here counts as marked, and has no body.
+    pub fn marks(&self) -> &Marks
+        ensures value { result.now ≡ self.now.marks }
+        ensures enough { length self.now.bodies ≤ length result.now }
+    {
+        &self.marks
+    }
+
+    /// Boxes by slot: that of each slot with a body holds the body's fat boxes, whether it is enabled or not. A slot without a body may have
+    /// a box or none.
+    pub fn boxes(&self) -> &BoxTree
+        ensures value { result.now ≡ self.now.boxes }
+        ensures covered { AreCovered self.now.bodies result.now }
+    {
+        &self.boxes
+    }
+
+    /// Marks a slot. Takes no memory.
+    pub fn mark(&mut self, slot: u32)
+        ensures bodies { self.new.bodies ≡ self.old.bodies }
+        ensures room { self.new.room ≡ self.old.room }
+        ensures marked { AreMarked self.old self.new }
+        ensures there { slice_index_or self.new.marks slot true ≡ true }
+    {
+        self.marks.mark(slot);
+    }
+
+    /// Takes all marks away, in a time that goes by their number.
+    pub fn clear_marks(&mut self)
+        ensures bodies { self.new.bodies ≡ self.old.bodies }
+        ensures room { self.new.room ≡ self.old.room }
+        ensures cleared { self.new.marks ≡ replicate (length self.old.marks) false }
+    {
+        self.marks.clear();
+    }
+
+    /// Makes room for a body that is to come into this slot. Refused 1 where memory is wanting.
+    pub fn reserve_one(&mut self, slot: u32, body: &Body) -> Result<(), Refusal>
+        requires next { slot ≤ length self.old.bodies }
+        requires free { body_at self.old.bodies slot ≡ None }
         ensures bodies { self.new.bodies ≡ self.old.bodies }
         ensures room { OnOk result (1 ≤ self.new.room) }
+        ensures covered { OnOk result (IsCover (box_at self.new.boxes slot) body.now.fats) }
+        ensures marked { AreMarked self.old self.new }
         ensures memory_only { IsOkUnless result Refusal.NoMemory }
     {
         self.room = 0;
@@ -144,6 +219,8 @@ impl BodyTable {
         self.states.reserve(1)?;
         reserve_in_all(&mut self.awake, self.bodies.len() + 1)?;
         reserve_in_all(&mut self.carried, self.bodies.len() + 1)?;
+        reserve_mark(&mut self.marks, self.bodies.len() + 1)?;
+        cover(&mut self.boxes, slot, body.fats.as_slice())?;
         self.room = 1;
         Ok(())
     }
@@ -153,10 +230,13 @@ impl BodyTable {
         requires room { 1 ≤ self.old.room }
         requires next { slot ≤ length self.old.bodies }
         requires free { body_at self.old.bodies slot ≡ None }
-        ensures { self.new.bodies ≡ with_body self.old.bodies slot body }
+        requires covered { IsCover (box_at self.old.boxes slot) body.fats }
+        ensures bodies { self.new.bodies ≡ with_body self.old.bodies slot body }
+        ensures marked { AreMarked self.old self.new }
     {
         let state = body_state(&body);
         self.room = 0;
+        self.marks.mark(slot);
         add_if(&mut self.awake, slot, state.movable);
         add_if(&mut self.carried, slot, body.is_carried());
         put_state(&mut self.states, slot as usize, state);
@@ -167,10 +247,13 @@ impl BodyTable {
     pub fn clear(&mut self, slot: u32)
         requires { slot < length self.old.bodies }
         ensures bodies { self.new.bodies ≡ slice_set self.old.bodies slot None }
+        ensures marked { AreMarked self.old self.new }
     {
         self.room = 0;
+        self.marks.mark(slot);
         drop_slot(&mut self.awake, slot);
         drop_slot(&mut self.carried, slot);
+        uncover(&mut self.boxes, slot);
         self.states[slot as usize] = NOBODY;
         clear_slot(&mut self.bodies, slot as usize);
     }
@@ -180,18 +263,24 @@ impl BodyTable {
         requires slot { slot < length self.old.bodies }
         requires fits { ForSome (body_at self.old.bodies slot) (C.fits change.now) }
         ensures bodies { self.new.bodies ≡ changed_at (C.after change.now) self.old.bodies slot }
+        ensures marked { AreMarked self.old self.new }
     {
         self.room = 0;
+        let made = change.moves();
+        self.marks.mark_if(slot, made);
         change_slot(&mut self.bodies, slot as usize, change);
         renew_state(&mut self.states, &self.bodies, slot as usize);
+        cover_again(&mut self.boxes, slot, &self.bodies[slot as usize], made);
     }
 
     /// Disables the body in a slot, if one is there: it comes to a halt, and sleeps no more.
     pub fn disable(&mut self, slot: u32)
         requires { slot < length self.old.bodies }
         ensures bodies { self.new.bodies ≡ changed_at disabled_body self.old.bodies slot }
+        ensures marked { AreMarked self.old self.new }
     {
         self.room = 0;
+        self.marks.mark(slot);
         drop_slot(&mut self.awake, slot);
         drop_slot(&mut self.carried, slot);
         disable_slot(&mut self.bodies, slot as usize);
@@ -203,8 +292,10 @@ impl BodyTable {
         requires slot { slot < length self.old.bodies }
         requires disabled { ForSome (body_at self.old.bodies slot) (λ b. b.enabled ≡ false) }
         ensures bodies { self.new.bodies ≡ changed_at enabled_body self.old.bodies slot }
+        ensures marked { AreMarked self.old self.new }
     {
         self.room = 0;
+        self.marks.mark(slot);
         enable_slot(&mut self.bodies, slot as usize);
         renew_state(&mut self.states, &self.bodies, slot as usize);
         let awake = self.states[slot as usize].movable;
@@ -225,6 +316,7 @@ impl BodyTable {
         ensures x { momentum_x self.new.bodies ≡ momentum_x self.old.bodies +ℤ result.x }
         ensures y { momentum_y self.new.bodies ≡ momentum_y self.old.bodies +ℤ result.y }
         ensures small { IsGain (2 ^ 78) result }
+        ensures marked { AreMarked self.old self.new }
     {
         self.room = 0;
         let gain = tell_bodies(&mut self.bodies, &mut self.states, islands);
@@ -241,14 +333,15 @@ impl BodyTable {
         ensures all_bodies { AreBodies self.new.bodies }
         ensures slots { HaveSameSlots self.old.bodies self.new.bodies }
         ensures standing { HaveSameStanding self.old.bodies self.new.bodies }
+        ensures marked { AreMarked self.old self.new }
     {
         self.room = 0;
         time_bodies(&mut self.bodies, &self.awake, ticks);
     }
 
     /// Runs the ticks of a step, 0 to 8, and its restitution, over the movers, the bodies that are carried along, and the constraints in
-    /// solve order; fat boxes that their shapes have left are then made anew. Answers what was added to the movers' momentum, by cause.
-    pub fn run(&mut self, rows: &mut Rows<ConstraintRow>, gravity: Vec2, count: u64) -> StepSums
+    /// solve order; fat boxes that their shapes have left are then made anew, and the slots of their bodies marked. Answers what was added to the movers' momentum, by cause.
+    pub fn run(&mut self, rows: &mut Rows, gravity: Vec2, count: u64) -> StepSums
         requires few { length self.old.bodies ≤ MAX_SLOTS }
         requires bodies { AreBodies self.old.bodies }
         requires gravity { IsWithin (2 ^ 16) gravity }
@@ -263,6 +356,7 @@ impl BodyTable {
         ensures small { AreSums (2 ^ 83) result }
         ensures momentum_x { momentum_x self.new.bodies ≡ momentum_x self.old.bodies +ℤ added_x result }
         ensures momentum_y { momentum_y self.new.bodies ≡ momentum_y self.old.bodies +ℤ added_y result }
+        ensures marked { AreMarked self.old self.new }
     {
         self.room = 0;
         let sums = run_step(
@@ -276,6 +370,8 @@ impl BodyTable {
         move_bodies(
             &mut self.bodies,
             &mut self.states,
+            &mut self.marks,
+            &mut self.boxes,
             &self.awake,
             &self.carried,
         );
@@ -285,6 +381,7 @@ impl BodyTable {
     /// A copy, with no room. Refused 1 where memory is wanting.
     pub fn try_copy(&self) -> Result<BodyTable, Refusal>
         ensures copy { IfOk result (λ copied. copied.bodies ≡ self.now.bodies) }
+        ensures marks { IfOk result (λ copied. copied.marks ≡ self.now.marks) }
         ensures memory_only { IsOkUnless result Refusal.NoMemory }
     {
         let alloc = *self.bodies.allocator();
@@ -298,6 +395,8 @@ impl BodyTable {
             states,
             awake,
             carried,
+            marks: self.marks.try_copy()?,
+            boxes: self.boxes.try_copy()?,
             room: 0,
         })
     }

@@ -1,1 +1,2 @@
+pub mod ByBoxesLaws
 pub mod PlacedLaws

@@ -92,24 +92,7 @@ ninth_in bodies slot k (Some (Some b)) e h far =
 pub no_ninth : (bodies : List (Option Body)) (slot k : ℕ) → AreBodies bodies → 8 ≤ k → left_at slot k (body_at bodies slot) ≡ []
 no_ninth bodies slot k h far = ninth_in bodies slot k (slice_get bodies slot) refl h far
 
--- ---- those of all bodies
-
-slot_suc : (bodies : List (Option Body)) (slot k : ℕ) → k < length bodies → placed_from slot (drop k bodies) ≡ shapes_at slot (body_at bodies k) ++ placed_from (suc slot) (drop (suc k) bodies)
-slot_suc [] slot k h = absurd (omega (arith, h))
-slot_suc (o ∷ bodies) slot zero h = refl
-slot_suc (o ∷ bodies) slot (suc k) h = slot_suc bodies slot k (omega (arith, h))
-
--- those from a slot on are those of its body, and then those behind it
-pub slot_left : (bodies : List (Option Body)) (slot : ℕ) → slot < length bodies → placed_from slot (drop slot bodies) ≡ shapes_at slot (body_at bodies slot) ++ placed_from (slot + 1) (drop (slot + 1) bodies)
-slot_left bodies slot h = rw add-one (slot_suc bodies slot slot h)
-
 -- ---- the first hit
-
-pub hit_more : (r : Beam) (best all : Option Hit) (now more later : List PlacedShape) → now ≡ more ++ later → nearer best (first_hit r now) ≡ all → nearer (nearer best (first_hit r more)) (first_hit r later) ≡ all
-hit_more r best all now more later e h =
-    associate best (first_hit r more) (first_hit r later)
-    ∙ ap (nearer best) (sym (ap (first_hit r) e ∙ first_of_parts r more later))
-    ∙ h
 
 pub hit_one : (r : Beam) (best all : Option Hit) (now later : List PlacedShape) (p : PlacedShape) → now ≡ p ∷ later → nearer best (first_hit r now) ≡ all → nearer (nearer best (hit_on r p)) (first_hit r later) ≡ all
 hit_one r best all now later p e h = associate best (hit_on r p) (first_hit r later) ∙ ap (nearer best) (sym (ap (first_hit r) e)) ∙ h

@@ -1,2 +1,3 @@
+pub mod ByBoxes
 pub mod Limits
 pub mod Placed

@@ -7,8 +7,6 @@ mod limits;
 mod rays;
 mod regions;
 mod shapes_in;
-#[cfg(test)]
-mod tests;
 
 pub use limits::{MAX_CORNER, is_ray, is_region};
 pub use rays::ray;

@@ -49,15 +49,16 @@ fn add_at_slot(
     Ok(())
 }
 
-/// All shapes of enabled bodies whose tight box overlaps the region, ascending by name; a box that only touches it does. Refused
-/// 1 where memory is wanting.
+/// All shapes of enabled bodies whose tight box overlaps the region, ascending by name; a box that only touches it does. It looks at the
+/// bodies whose boxes overlap the region. Refused 1 where memory is wanting.
 pub fn region(alloc: Global, world: &WorldCore, bounds: &Box2) -> Result<Vec<ShapeId>, Refusal>
     ensures shapes { IfOk result (λ found. found.items ≡ region bounds.now (placed_shapes world.now.plain.bodies)) }
     ensures memory_only { IsOkUnless result Refusal.NoMemory }
 {
+    let slots = world.boxes().overlapping(bounds)?;
     let mut found = Vec::new(alloc);
-    for slot in 0..world.slots() {
-        add_at_slot(&mut found, world, bounds, slot)?;
+    for slot in &slots {
+        add_at_slot(&mut found, world, bounds, *slot)?;
     }
     Ok(found)
 }

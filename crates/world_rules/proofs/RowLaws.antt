@@ -14,6 +14,7 @@ use Rattle.contacts_base.specs.Contacts.{AreKeysRising, number_of, with_impulses
 use Rattle.contacts_base.specs.Evaluate.{touches}
 use Rattle.colour_solver.specs.declared.constraint_row.ConstraintRow.{ConstraintRow}
 use Rattle.colour_solver.specs.declared.ticks.StepSums.{StepSums}
+use Rattle.colour_solver.specs.ConstraintTurns.{contacts_among, joints_among}
 use Rattle.colour_solver.specs.Ticks.{AreSums, added_x, added_y}
 use Rattle.colour_solver_base.specs.declared.row.ContactRow.{ContactRow}
 use Rattle.joint_rows.specs.declared.row.JointRow.{JointRow}
@@ -26,7 +27,7 @@ use Rattle.plain_world.specs.Joints.{AreJoints, impulse_set, joint_at, with_impu
 use Rattle.plain_world.specs.Slots.{HaveSameSlots}
 use Rattle.solver_sets.specs.Tied.{HaveSameEnds, ends_in}
 use Rattle.solver_sets.specs.Ties.{touching_keys}
-use Rattle.world_core_base.specs.ConstraintRows.{contacts_among, joints_among, put_joint_row, with_joint_rows}
+use Rattle.world_core_base.specs.ConstraintRows.{put_joint_row, with_joint_rows}
 use Rattle.world_core_base.specs.Gather.{AreContactsOf, impulses_of, put_row, with_motions, with_row, with_rows}
 use Rattle.world_core_base.specs.Renewal.{renewed_bodies}
 use Rattle.world_rules.specs.Sound.{HasBodies}

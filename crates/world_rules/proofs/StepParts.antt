@@ -16,6 +16,7 @@ use Rattle.contacts_base.specs.Contacts.{AreKeysRising}
 use Rattle.contacts_base.specs.declared.contact.ContactEntry.{ContactEntry}
 use Rattle.colour_solver.specs.declared.constraint_row.ConstraintRow.{ConstraintRow}
 use Rattle.colour_solver.specs.declared.ticks.StepSums.{StepSums}
+use Rattle.colour_solver.specs.ConstraintTurns.{contacts_among, joints_among}
 use Rattle.colour_solver.specs.Ticks.{AreSums, Run, added_x, added_y, ran, run_of, start}
 use Rattle.graph_colours.specs.Colours.{all_members, ids_of}
 use Rattle.impulse_ledger.specs.declared.entry.Entry.{Entry}
@@ -33,7 +34,7 @@ use Rattle.sleep_wake.specs.Changes.{begin_count, changed, turned}
 use Rattle.sleep_wake.specs.declared.change.Change.{Change}
 use Rattle.sleep_wake.proofs.FoldLemmas.{count_next}
 use Rattle.sleep_wake.proofs.StandLemmas.{fewer_coloured}
-use Rattle.world_core_base.specs.ConstraintRows.{contacts_among, joints_among, rows_of, with_joint_rows}
+use Rattle.world_core_base.specs.ConstraintRows.{rows_of, with_joint_rows}
 use Rattle.world_core_base.specs.Gather.{AreContactsOf, states_of, with_motions, with_rows}
 use Rattle.world_core_base.specs.Renewal.{renewed_bodies}
 use Rattle.fixed_geom.specs.declared.vectors.Vec2.{Vec2}

@@ -28,7 +28,7 @@ impl WorldCore {
         }
         let body = def.make(self.bodies.allocator())?;
         self.handles.reserve_one()?;
-        self.bodies.reserve_one()?;
+        self.bodies.reserve_one(self.handles.next_slot(), &body)?;
         self.sets.reserve(0, self.bodies.bodies().len() + 1)?;
         let handle = self.handles.insert()?;
         come(&mut self.sets, handle.slot, body.is_mover());
@@ -49,6 +49,7 @@ impl WorldCore {
         let p = mover_momentum(body);
         let names = self.names_stirred(handle.slot)?;
         let ties = self.ties_at(handle.slot)?;
+        self.contacts.reserve_drop(self.bodies.allocator())?;
         self.ledger.reserve(1)?;
         wake_named(&mut self.sets, &mut self.bodies, &names);
         leave(&mut self.sets, handle.slot, mover, &ties);

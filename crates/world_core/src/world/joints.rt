@@ -31,6 +31,7 @@ impl WorldCore {
         let handle = self.joint_handles.insert()?;
         let movers = joint_movers(self.bodies.bodies(), &joint);
         begin_with(&mut self.sets, Constraint::Joint(handle), movers);
+        self.bodies.mark(joint.a);
         self.joints.put(handle.slot, joint);
         self.calls += 1;
         Ok(Reply::Joint(handle))
@@ -47,6 +48,7 @@ impl WorldCore {
         wake_named(&mut self.sets, &mut self.bodies, &names);
         let movers = joint_movers(self.bodies.bodies(), &joint);
         end_with(&mut self.sets, Constraint::Joint(handle), movers);
+        self.bodies.mark(joint.b);
         self.joints.clear(handle.slot);
         self.joint_handles.remove(handle);
         self.calls += 1;

@@ -14,6 +14,7 @@ ghost use Rattle.world_rules.specs.Sound.{IsSound};
 ghost use Rattle.world_rules.specs.Settled.{settled_world};
 
 use super::WorldCore;
+use crate::scratch::Scratch;
 use body_handles::Handles;
 use colour_solver::Rows;
 use contacts::Constraint;
@@ -75,6 +76,7 @@ impl WorldCore {
             contacts: KeptContacts::from_contacts(alloc, contacts_of(alloc, plain)?),
             sets: sets_of(alloc, plain)?,
             rows: Rows::new(alloc),
+            scratch: Scratch::new(alloc),
             gravity: plain.gravity(),
             steps: plain.steps(),
             calls: plain.calls(),

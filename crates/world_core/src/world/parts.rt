@@ -30,6 +30,7 @@ impl WorldCore {
         let p = mover_momentum(body);
         let names = self.names_stirred(handle.slot)?;
         let ties = self.ties_at(handle.slot)?;
+        self.contacts.reserve_drop(self.bodies.allocator())?;
         self.ledger.reserve(1)?;
         wake_named(&mut self.sets, &mut self.bodies, &names);
         leave(&mut self.sets, handle.slot, mover, &ties);

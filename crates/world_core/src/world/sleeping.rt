@@ -17,7 +17,7 @@ use contacts::Constraint;
 use fixed_geom::Refusal;
 use graph_colours::Member;
 use impulse_ledger::Cause;
-use solver_sets::{list_stirred, list_ties};
+use solver_sets::{list_stirred, pick_ties};
 use world_rules::Reply;
 
 impl WorldCore {
@@ -30,7 +30,7 @@ impl WorldCore {
             self.bodies.allocator(),
             self.bodies.bodies(),
             self.joints.joints(),
-            self.contacts.as_slice(),
+            self.sets.ties(),
             slot,
         )?;
         self.sets.names_of(&slots)
@@ -41,12 +41,10 @@ impl WorldCore {
         ensures ties { IfOk result (λ ties. ties.items ≡ ties_at slot self.now.plain.bodies (joints_of self.now.plain) self.now.plain.contacts) }
         ensures memory_only { IsOkUnless result Refusal.NoMemory }
     {
-        list_ties(
+        pick_ties(
             self.bodies.allocator(),
-            self.bodies.bodies(),
-            self.joint_handles.places(),
+            self.sets.ties(),
             self.joints.joints(),
-            self.contacts.as_slice(),
             slot,
         )
     }

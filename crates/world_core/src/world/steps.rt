@@ -7,10 +7,8 @@ use super::{MAX_GRAVITY, MAX_TICKS, WorldCore};
 use crate::booking::book_rest;
 use crate::collide::collide;
 use crate::resting::rest_ready;
-use crate::scratch::make_scratch;
 use crate::solving::solve;
 use crate::turning::turn_all;
-use event_feed::Events;
 use fixed_geom::{Refusal, Vec2, is_within};
 use graph_colours::COLOURS;
 use solver_sets::list_changes;
@@ -38,25 +36,21 @@ impl WorldCore {
         }
         let alloc = self.bodies.allocator();
         self.ledger.reserve(4)?;
-        let changes = collide(
-            alloc,
-            &mut self.contacts,
-            self.bodies.bodies(),
-            &self.joints,
-        )?;
+        let changes = collide(alloc, &mut self.contacts, &self.bodies, &self.joints)?;
         let turns = list_changes(alloc, self.bodies.bodies(), &changes.begin, &changes.end)?;
         self.sets.reserve(changes.begin.len(), 0)?;
         self.rows
             .reserve(self.sets.ties().len() + changes.begin.len(), COLOURS + 1)?;
-        let mut scratch = make_scratch(alloc, self.bodies.bodies().len())?;
+        self.scratch.make_room(self.bodies.bodies().len())?;
+        self.contacts.carry_out();
+        self.bodies.clear_marks();
         turn_all(
             &mut self.sets,
             &mut self.bodies,
-            &mut scratch.woke,
+            &mut self.scratch.woke,
             self.handles.places(),
             &turns,
         );
-        self.contacts.carry_out();
         let sums = solve(
             &mut self.rows,
             &mut self.bodies,
@@ -69,7 +63,7 @@ impl WorldCore {
         let rest = rest_ready(
             &mut self.bodies,
             &mut self.sets,
-            &mut scratch,
+            &mut self.scratch,
             self.handles.places(),
             self.joints.joints(),
             self.contacts.as_slice(),
@@ -77,7 +71,13 @@ impl WorldCore {
         );
         let call = self.calls + 1;
         book_rest(&mut self.ledger, call, sums, rest);
-        self.events = Events::from_lists(changes.begin, changes.end, scratch.slept, scratch.woke);
+        let scratch = &mut self.scratch;
+        self.events.renew(
+            changes.begin,
+            changes.end,
+            &mut scratch.slept,
+            &mut scratch.woke,
+        );
         self.steps += 1;
         self.calls = call;
         Ok(Reply::Stepped(self.steps))

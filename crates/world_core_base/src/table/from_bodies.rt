@@ -1,17 +1,19 @@
 //! A table of bodies from a list, as a saved world has it.
 
-ghost use Rattle.std.specs.Prelude.{◌≡◌, ◌≤◌, IfOk, length, vec_capacity};
+ghost use Rattle.std.specs.Prelude.{◌≡◌, ◌≤◌, ℕ, true, IfOk, length, slice_index_or, vec_capacity};
 ghost use Rattle.std.specs.Result.{IsOkUnless};
 ghost use Rattle.colour_solver.specs.States.{carried_of, is_carried, movers_of};
 ghost use Rattle.world_core_base.specs.Gather.{states_of};
 
 use crate::awake::{list_movers, push_if};
+use crate::covers::cover_all;
 use crate::gather::state_of;
 use crate::table::BodyTable;
 use body_handles::MAX_SLOTS;
 use fixed_geom::Refusal;
 use momenta::BodyState;
 use plain_world::{Body, copy_bodies};
+use slot_marks::Marks;
 use std::alloc::Global;
 
 /// The bodies by slot as the ticks work on them. Refused 1 where memory is wanting.
@@ -60,10 +62,11 @@ fn list_awake(alloc: Global, states: &[BodyState]) -> Result<Vec<u32>, Refusal>
 }
 
 impl BodyTable {
-    /// The table with these bodies by slot, and no room for more. Refused 1 where memory is wanting.
+    /// The table with these bodies by slot, all marked, and no room for more. Refused 1 where memory is wanting.
     pub fn from_bodies(alloc: Global, bodies: &[Option<Body>]) -> Result<BodyTable, Refusal>
         requires { length bodies.now ≤ MAX_SLOTS }
         ensures bodies { IfOk result (λ made. made.bodies ≡ bodies.now) }
+        ensures all { IfOk result (λ made. (slot : ℕ) → slice_index_or made.marks slot true ≡ true) }
         ensures memory_only { IsOkUnless result Refusal.NoMemory }
     {
         let states = list_states(alloc, bodies)?;
@@ -74,6 +77,8 @@ impl BodyTable {
             states,
             awake,
             carried,
+            marks: Marks::all_marked(alloc, bodies.len())?,
+            boxes: cover_all(alloc, bodies)?,
             room: 0,
         })
     }

@@ -1,11 +1,7 @@
-use Rattle.std.proofs.Common.{◌≡◌, ◌++◌, map, take, drop}
-use Rattle.contacts.specs.Turns.{begun_keys, ended_keys, gone_keys, moved_by, renewed, settled}
+use Rattle.contacts.specs.Stirring.{one_flagged}
+use Rattle.contacts.specs.Turns.{moved_by}
+use Rattle.contacts.proofs.StirringLaws.{IsPassing}
 use Rattle.contacts.proofs.survey.look_over.Given as goal
 
-abbrev pub invariant-loop-place : goal.invariant-loop-place
-invariant-loop-place g l = record {
-  notes : renewed l.notes.items l.old ≡ map (settled (moved_by l.marks) l.forbidden (g.S.ShapesByName.proxies l.shapes)) (take l.place l.old) ++ drop l.place l.old;
-  gone : l.gone.items ≡ gone_keys (moved_by l.marks) l.forbidden (g.S.ShapesByName.proxies l.shapes) (take l.place l.old);
-  begin : l.begin.items ≡ begun_keys (moved_by l.marks) l.forbidden (g.S.ShapesByName.proxies l.shapes) (take l.place l.old);
-  end : l.end.items ≡ ended_keys (moved_by l.marks) l.forbidden (g.S.ShapesByName.proxies l.shapes) (take l.place l.old);
-}
+abbrev pub invariant-loop-index : goal.invariant-loop-index
+invariant-loop-index g l = IsPassing (moved_by l.marks) l.forbidden (g.S.ShapesByName.proxies l.shapes) l.old (one_flagged l.stirring.flags.items) l.places l.index l.notes.items l.gone.items l.begin.items l.end.items

@@ -5,10 +5,15 @@ use Rattle.contacts.specs.Changes.{contacts_of, keys_touching_only_in}
 use Rattle.contacts.specs.Forbidden.{allowed_codes}
 use Rattle.world_rules.specs.Collide.{contacts_after, proxies_of}
 use Rattle.world_core.proofs.CollideLaws.{contacts_same}
+use Rattle.contacts.specs.Turns.{moved_by}
+use Rattle.plain_world.specs.Joints.{forbidden_pairs}
+use Rattle.world_core.proofs.KnownLaws.{known_numbers}
+use Rattle.world_core.proofs.NamedLaws.{all_within}
+use Rattle.world_core.proofs.RisingLaws.{are_proxies}
 use Rattle.world_core.proofs.collide.collide.Goals as goal
 
-same : (c : goal.After-collide) → contacts_of c.args.contacts.now.contacts (proxies_of c.args.bodies.now) (allowed_codes c.forbidden.result.now (proxies_of c.args.bodies.now)) ≡ contacts_after c.args.bodies.now c.args.joints.now.joints c.args.contacts.now.contacts
-same c = contacts_same c.args.bodies.now c.args.joints.now.joints c.forbidden.result.now (proxies_of c.args.bodies.now) c.args.contacts.now.contacts refl c.forbidden.ensures.same
+same : (c : goal.After-collide) → contacts_of c.args.contacts.now.contacts (proxies_of c.args.bodies.now.bodies) (allowed_codes c.forbidden.result.now (proxies_of c.args.bodies.now.bodies)) ≡ contacts_after c.args.bodies.now.bodies c.args.joints.now.joints c.args.contacts.now.contacts
+same c = contacts_same c.args.bodies.now.bodies c.args.joints.now.joints c.forbidden.result.now (proxies_of c.args.bodies.now.bodies) c.args.contacts.now.contacts refl c.forbidden.ensures.same
 
 pub returns-clause-due : goal.returns-clause-due
 returns-clause-due c = subst (λ (l : List ContactEntry). OnOk c.collide.result (c.collide.new.self.due ≡ l)) (same c) c.collide.ensures.due
@@ -18,3 +23,17 @@ returns-clause-begin c = subst (λ (l : List ContactEntry). IfOk c.collide.resul
 
 pub returns-clause-end : goal.returns-clause-end
 returns-clause-end c = subst (λ (l : List ContactEntry). IfOk c.collide.result (λ touches. touches.end.items ≡ keys_touching_only_in l c.args.contacts.now.contacts)) (same c) c.collide.ensures.end
+
+pub collide-requires-clause-shapes : goal.collide-requires-clause-shapes
+collide-requires-clause-shapes c = are_proxies c.args.bodies.now.bodies c.requires.few c.requires.bodies
+
+pub collide-requires-clause-within : goal.collide-requires-clause-within
+collide-requires-clause-within c = rw (c.flags.ensures, c.marks-marks.ensures.value) (all_within c.args.bodies.now.marks c.args.bodies.now.bodies c.requires.bodies (rw c.marks-marks.ensures.value at c.marks-marks.ensures.enough))
+
+pub collide-requires-clause-listed : goal.collide-requires-clause-listed
+collide-requires-clause-listed c = rw c.flags.ensures c.slots.ensures.listed
+
+pub collide-requires-clause-known : goal.collide-requires-clause-known
+collide-requires-clause-known c =
+    rw (c.flags.ensures, c.marks-marks.ensures.value)
+    (known_numbers (moved_by c.args.bodies.now.marks) (forbidden_pairs c.args.joints.now.joints) c.forbidden.result.now (proxies_of c.args.bodies.now.bodies) c.args.contacts.now.contacts c.forbidden.ensures.same c.requires.known)

@@ -1,5 +1,6 @@
 use Rattle.world_rules.proofs.TickedLaws.{timed_told}
 use Rattle.world_core.proofs.QuietSteps.{RestsQuietly, rests_quietly, tied_timed}
+use Rattle.world_core.proofs.KnownLaws.{marked_after}
 use Rattle.world_core.proofs.resting.rest_ready.Goals as goal
 
 pub are_kept_up-quiet-requires-clause-tied : goal.are_kept_up-quiet-requires-clause-tied
@@ -21,3 +22,6 @@ returns-then-quiet-clause-bodies c = rw c.time.ensures.bodies (is_quiet c).bodie
 
 pub returns-then-quiet-clause-slept : goal.returns-then-quiet-clause-slept
 returns-then-quiet-clause-slept c = rw c.clear.ensures.items (is_quiet c).slept
+
+pub returns-clause-marked : goal.returns-clause-marked
+returns-clause-marked c = marked_after c.args.bodies.now c.time.new.self c.tell.new.self c.time.ensures.marked c.tell.ensures.marked

@@ -1,15 +1,21 @@
-use Rattle.std.proofs.Common.{◌≡◌, ◌∙◌, List, length, sym, ap}
-use Rattle.colour_solver.specs.declared.constraint_row.ConstraintRow.{ConstraintRow}
+use Rattle.std.proofs.Common.{◌≡◌, ◌∙◌, List, length, map, sym, ap}
 use Rattle.colour_solver.specs.ColourRows.{all_rows}
 use Rattle.colour_solver.specs.Ticks.{ran, start}
 use Rattle.plain_world.specs.declared.body.Body.{Body}
-use Rattle.world_core_base.specs.ConstraintRows.{contacts_among, joints_among, rows_of, with_joint_rows}
-use Rattle.world_core_base.specs.Gather.{states_of, with_rows}
+use Rattle.colour_solver.specs.ConstraintTurns.{contacts_among, joints_among}
+use Rattle.world_core_base.specs.ConstraintRows.{rows_of}
+use Rattle.world_core_base.specs.Gather.{states_of}
 use Rattle.world_core_base.specs.Renewal.{renewed_bodies}
 use Rattle.world_core_base.specs.Solving.{solve_order, solved}
 use Rattle.graph_colours.specs.Colours.{ids_of}
 use Rattle.world_core_base.proofs.GatherLaws.{states-all}
 use Rattle.world_rules.proofs.StepParts.{IsLeft, arrays_left}
+use Rattle.contacts_base.specs.Contacts.{number_of}
+use Rattle.contacts_base.specs.declared.contact.ContactEntry.{ContactEntry}
+use Rattle.world_core_base.proofs.ContactLaws.{keys_stay}
+use Rattle.world_core_base.proofs.JointLaws.{bare_rows}
+use Rattle.world_core_base.proofs.SolvingJoints.{bare_joints}
+use Rattle.world_core.proofs.ForbiddenLaws.{barely_pairs}
 use Rattle.world_core.proofs.solving.solve.Goals as goal
 
 pub gather_rows-requires-clause-all_states : goal.gather_rows-requires-clause-all_states
@@ -25,16 +31,22 @@ pub returns-clause-bodies : goal.returns-clause-bodies
 returns-clause-bodies c = c.run-sums.ensures.bodies ∙ ap renewed_bodies (left c).bodies_left
 
 pub returns-clause-joints : goal.returns-clause-joints
-returns-clause-joints c = c.put_impulses.ensures.joints ∙ ap (λ (l : List ConstraintRow). with_joint_rows c.args.joints.now.joints (joints_among l)) c.as_slice-2.ensures ∙ (left c).joints_left
+returns-clause-joints c = c.put_impulses.ensures.joints ∙ (left c).joints_left
 
 pub returns-clause-contacts : goal.returns-clause-contacts
-returns-clause-contacts c = c.put_impulses.ensures.value ∙ ap (λ (l : List ConstraintRow). with_rows c.args.contacts.now.contacts (contacts_among l)) c.as_slice-2.ensures ∙ (left c).contacts_left
+returns-clause-contacts c = c.put_impulses.ensures.value ∙ (left c).contacts_left
 
 pub returns-clause-sums : goal.returns-clause-sums
 returns-clause-sums c = (left c).sums_left
 
 pub returns-clause-all_joints : goal.returns-clause-all_joints
-returns-clause-all_joints c = c.put_impulses.ensures.all_joints c.args.bodies.now.bodies (length c.args.bodies.now.bodies) (rw c.as_slice-2.ensures c.run-sums.ensures.rows) c.requires.can.joints_there
+returns-clause-all_joints c = c.put_impulses.ensures.all_joints c.args.bodies.now.bodies (length c.args.bodies.now.bodies) c.run-sums.ensures.rows c.requires.can.joints_there
 
 pub returns-clause-pairs : goal.returns-clause-pairs
-returns-clause-pairs c = c.put_impulses.ensures.contacts c.args.bodies.now.bodies (length c.args.bodies.now.bodies) (rw c.as_slice-2.ensures c.run-sums.ensures.rows) c.requires.can.pairs
+returns-clause-pairs c = c.put_impulses.ensures.contacts c.args.bodies.now.bodies (length c.args.bodies.now.bodies) c.run-sums.ensures.rows c.requires.can.pairs
+
+pub returns-clause-forbidden : goal.returns-clause-forbidden
+returns-clause-forbidden c = barely_pairs c.args.joints.now.joints c.put_impulses.new.joints.joints (ap bare_joints c.put_impulses.ensures.joints ∙ bare_rows c.args.joints.now.joints (joints_among (all_rows c.run-sums.new.rows)))
+
+pub returns-clause-numbers : goal.returns-clause-numbers
+returns-clause-numbers c = ap (λ (es : List ContactEntry). map number_of es) c.put_impulses.ensures.value ∙ keys_stay c.args.contacts.now.contacts (contacts_among (all_rows c.run-sums.new.rows))

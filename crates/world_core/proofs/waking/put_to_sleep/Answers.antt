@@ -1,6 +1,10 @@
 use Rattle.std.proofs.Common.{sym, ◌∙◌}
 use Rattle.world_core.proofs.QuietSteps.{slept_stays}
+use Rattle.world_core_base.proofs.MarkedLaws.{marked_same}
 use Rattle.world_core.proofs.waking.put_to_sleep.Goals as goal
 
 pub returns-then-not-is_awake-clause-acting : goal.returns-then-not-is_awake-clause-acting
 returns-then-not-is_awake-clause-acting c = sym (slept_stays c.args.slot c.args.sets.now.acting (sym c.is_awake.ensures ∙ c.if-not-is_awake.true))
+
+pub returns-then-not-is_awake-clause-marked : goal.returns-then-not-is_awake-clause-marked
+returns-then-not-is_awake-clause-marked c = marked_same c.args.bodies.now.bodies c.args.bodies.now.marks

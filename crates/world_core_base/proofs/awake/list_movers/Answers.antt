@@ -1,4 +1,4 @@
-use Rattle.std.proofs.Common.{◌≡◌, ◌++◌, ◌∙◌, [], ◌∷◌, List, ℕ, cond, drop, get_or, suc, ap, sym, append_assoc, add-one, arith}
+use Rattle.std.proofs.Common.{◌++◌, ◌∙◌, List, ap, sym, arith}
 use Rattle.std.proofs.lemmas.List.{append-nil, drop_all}
 use Rattle.momenta.specs.declared.state.BodyState.{BodyState}
 use Rattle.colour_solver.specs.States.{moves, places_from}

@@ -1,9 +1,16 @@
-use Rattle.std.proofs.Common.{◌≡◌, ◌∙◌, length}
+use Rattle.std.proofs.Common.{rules, ◌≡◌, ◌∙◌, length, arith, Fits, w32}
 use Rattle.contacts.specs.declared.constraint.Constraint.TheVariants as constraints
 use Rattle.plain_world.specs.Joints.{joint_at}
 use Rattle.world_core_base.specs.Gather.{row_of}
 use Rattle.world_core_base.proofs.JointLaws.{contact_below, joint_below}
 use Rattle.world_core_base.proofs.gather.add_row.Goals as goal
+
+pub push_joint-requires-clause-first : goal.push_joint-requires-clause-first
+push_joint-requires-clause-first c =
+    let slot : Fits w32 c.in-Joint.handle.slot = search rules in
+    let generation : Fits w32 c.in-Joint.handle.generation = search rules in
+    let first = rw c.in-Joint.is at c.requires.first in
+    first (omega (arith, slot.fits, generation.fits))
 
 pub returns-in-Joint-clause-row : goal.returns-in-Joint-clause-row
 returns-in-Joint-clause-row c = λ x e.

@@ -4,7 +4,12 @@ use Rattle.graph_colours.specs.declared.member.Member.{Member}
 use Rattle.contacts.specs.declared.constraint.Constraint.{Constraint}
 use Rattle.world_core_base.specs.ConstraintRows.{constraint_row}
 use Rattle.world_core_base.proofs.ContactLaws.{all_more, row_more}
+use Rattle.world_core_base.proofs.RowOrderLaws.{joints_so_far}
 use Rattle.world_core_base.proofs.gather.gather_colour.Goals as goal
+
+pub add_row-requires-clause-first : goal.add_row-requires-clause-first
+add_row-requires-clause-first c = λ low.
+    joints_so_far c.args.states.now c.args.joints.now c.args.contacts.now c.args.members.now c.loop-member.member-index _ c.loop-member.rows.left c.requires.ascend c.loop-member-test.true c.loop-member.invariant.left low
 
 pub loop-member-preserved : goal.loop-member-preserved
 loop-member-preserved c =

@@ -18,7 +18,7 @@ loop-colour-preserved c =
     let ended = c.end_colour.ensures in
     let count : length lists ≡ COLOURS + 1 = c.members.ensures.colouring.count in
     let here : place < length lists = omega (arith, c.loop-colour-test.true, count) in
-    let row : c.gather_colour.new.rows.left ≡ rows_in states joints contacts (list_at lists place) = rw (known.left, c.members.ensures.value) at made.left in
+    let row : c.gather_colour.new.rows.left ≡ rows_in states joints contacts (list_at lists place) = rw c.members.ensures.value at made.left in
     let colours : c.end_colour.new.self.colours ≡ c.loop-colour.rows.colours ++ rows_in states joints contacts (list_at lists place) ∷ [] =
     rw (made.colours, row) at ended.colours in
     let rest = length_joined lists place [] here in

@@ -23,5 +23,5 @@ pub returns : goal.returns
 returns c =
     let far : 8 ≤ c.loop-index.index = omega (arith, c.loop-index-test.false) in
     hit_last c.args.cast.now c.loop-index.best _ (left_at c.args.slot c.loop-index.index (body_at c.args.world.now.plain.bodies c.args.slot))
-    (no_ninth c.args.world.now.plain.bodies c.args.slot c.loop-index.index c.requires.formed.bodies far)
+    (no_ninth c.args.world.now.plain.bodies c.args.slot c.loop-index.index c.slots.ensures.sound.formed.bodies far)
     c.loop-index.invariant.rest

@@ -1,17 +1,22 @@
-use Rattle.std.proofs.Common.{◌<◌, ◌+◌, length, drop, arith}
-use Rattle.plain_world.specs.Slots.{body_at}
-use Rattle.world_queries.specs.Placed.{placed_from, shapes_at}
-use Rattle.world_queries.proofs.PlacedLaws.{slot_left, hit_more}
+use Rattle.std.proofs.Common.{ap, sym, ◌∙◌, subst}
+use Rattle.shapes.specs.Rays.{IsBeam}
+use Rattle.world_queries.proofs.ByBoxesLaws.{hit_of, hits_within, first_of_tree}
 use Rattle.world_queries.proofs.rays.ray.Goals as goal
 
-pub loop-slot-preserved : goal.loop-slot-preserved
-loop-slot-preserved c =
-    let within : c.loop-slot.slot < length c.args.world.now.plain.bodies = omega (arith, c.loop-slot-test.true, c.slots-slot-end.ensures.slots) in
-    record {
-      rest = rw (c.nearer-best.ensures, c.hit_at_slot.ensures) (hit_more c.new-cast.result c.loop-slot.best _
-          (placed_from c.loop-slot.slot (drop c.loop-slot.slot c.args.world.now.plain.bodies))
-          (shapes_at c.loop-slot.slot (body_at c.args.world.now.plain.bodies c.loop-slot.slot))
-          (placed_from (c.loop-slot.slot + 1) (drop (c.loop-slot.slot + 1) c.args.world.now.plain.bodies))
-          (slot_left c.args.world.now.plain.bodies c.loop-slot.slot within)
-          c.loop-slot.invariant.rest);
-    }
+pub first_on_ray-requires : goal.first_on_ray-requires
+first_on_ray-requires c =
+    hits_within c.new-cast.result c.args.world.now.plain.bodies c.boxes-boxes.result.now (subst IsBeam (sym c.new-cast.ensures) c.requires)
+    c.boxes-boxes.ensures.sound.formed.bodies c.boxes-boxes.ensures.covered
+
+pub returns-in-None : goal.returns-in-None
+returns-in-None c =
+    ap (hit_of c.new-cast.result c.args.world.now.plain.bodies) (sym c.in-None.is)
+    ∙ first_of_tree c.new-cast.result _ c.args.world.now.plain.bodies c.boxes-boxes.result.now c.first_on_ray.result c.new-cast.ensures
+    c.boxes-boxes.ensures.sound.formed.bodies c.boxes-boxes.ensures.covered c.first_on_ray.ensures
+
+pub returns-in-Some : goal.returns-in-Some
+returns-in-Some c =
+    c.hit_at_slot.ensures
+    ∙ ap (hit_of c.new-cast.result c.args.world.now.plain.bodies) (sym c.in-Some.is)
+    ∙ first_of_tree c.new-cast.result _ c.args.world.now.plain.bodies c.boxes-boxes.result.now c.first_on_ray.result c.new-cast.ensures
+    c.boxes-boxes.ensures.sound.formed.bodies c.boxes-boxes.ensures.covered c.first_on_ray.ensures

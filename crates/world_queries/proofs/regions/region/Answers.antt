@@ -1,18 +1,15 @@
-use Rattle.std.proofs.Common.{◌<◌, ◌+◌, length, drop, arith}
-use Rattle.plain_world.specs.Slots.{body_at}
-use Rattle.world_queries.specs.Placed.{placed_from, shapes_at}
-use Rattle.world_queries.proofs.PlacedLaws.{slot_left, region_more}
+use Rattle.world_queries.proofs.ByBoxesLaws.{region_by_boxes, region_next, region_done}
 use Rattle.world_queries.proofs.regions.region.Goals as goal
 
+pub loop-slot-init : goal.loop-slot-init
+loop-slot-init c = record {
+  rest = rw (c.new-found.ensures.items, c.deref-slot-items.ensures.value, c.in_ok-slots.ensures.keys) (region_by_boxes c.args.bounds.now c.args.world.now.plain.bodies c.boxes.result.now c.boxes.ensures.sound.formed.bodies c.boxes.ensures.covered);
+}
+
 pub loop-slot-preserved : goal.loop-slot-preserved
-loop-slot-preserved c =
-    let within : c.loop-slot.slot < length c.args.world.now.plain.bodies = omega (arith, c.loop-slot-test.true, c.slots-slot-end.ensures.slots) in
-    record {
-      rest = region_more c.args.bounds.now c.loop-slot.found.items c.add_at_slot.new.found.items _
-          (placed_from c.loop-slot.slot (drop c.loop-slot.slot c.args.world.now.plain.bodies))
-          (shapes_at c.loop-slot.slot (body_at c.args.world.now.plain.bodies c.loop-slot.slot))
-          (placed_from (c.loop-slot.slot + 1) (drop (c.loop-slot.slot + 1) c.args.world.now.plain.bodies))
-          (slot_left c.args.world.now.plain.bodies c.loop-slot.slot within)
-          c.in_ok-add_at_slot.ensures.found
-          c.loop-slot.invariant.rest;
-    }
+loop-slot-preserved c = record {
+  rest = region_next c.args.bounds.now c.args.world.now.plain.bodies c.deref-slot-items.result.now c.loop-slot.slot-index c.loop-slot.found.items c.add_at_slot.new.found.items _ c.loop-slot-test.true c.in_ok-add_at_slot.ensures.found c.loop-slot.invariant.rest;
+}
+
+pub returns-clause-shapes : goal.returns-clause-shapes
+returns-clause-shapes c = region_done c.args.bounds.now c.args.world.now.plain.bodies c.deref-slot-items.result.now c.loop-slot.slot-index c.loop-slot.found.items _ c.loop-slot-test.false c.loop-slot.invariant.rest

@@ -3,7 +3,7 @@ use Rattle.box_tree.proofs.RayLemmas.{first_is_scan, leaves_within}
 use Rattle.box_tree.proofs.boxes.BoxTree.first_on_ray.Goals as goal
 
 pub first_hit-requires : goal.first_hit-requires
-first_hit-requires g c = leaves_within _ _ _ c.self.inside.places.items c.self.inside.boxes.items (λ outer inner. g.met.R.Ray.misses_within c.args.ray.now outer inner) c.self.invariant.index (rw (← c.self.view_is) at c.requires)
+first_hit-requires g c = rw c.deref.ensures.value (leaves_within (g.R.Ray.reaches c.args.ray.now) (g.R.Ray.hit c.args.ray.now) _ c.self.inside.places.items c.self.inside.boxes.items (λ outer inner. g.met.R.Ray.misses_within c.args.ray.now outer inner) c.self.invariant.index (rw (← c.self.view_is) at c.requires))
 
 pub returns : goal.returns
-returns g c = rw (← c.self.view_is) (c.first_hit.ensures ∙ first_is_scan _ _ c.self.inside.places.items c.self.inside.boxes.items c.self.invariant.index)
+returns g c = rw (← c.self.view_is) ((rw c.deref.ensures.value at c.first_hit.ensures) ∙ first_is_scan _ _ c.self.inside.places.items c.self.inside.boxes.items c.self.invariant.index)

@@ -1,15 +1,25 @@
-use Rattle.std.proofs.Common.{ℕ, List, refl, sym, ◌∙◌, append_assoc}
-use Rattle.std.proofs.lemmas.List.{append-nil}
-use Rattle.box_tree_base.proofs.ForkLemmas.{leaves_at}
-use Rattle.box_tree_base.proofs.WalkLemmas.{keys_over-append, keys_over_none}
+use Rattle.std.proofs.Common.{sym}
+use Rattle.box_tree_base.proofs.ForkLemmas.{leaves_at, boxed_at}
+use Rattle.box_tree_base.proofs.WalkLemmas.{none_added, both_added}
 use Rattle.box_tree_base.proofs.tree.Tree.+collect.Goals as goal
-
-pub returns-then-not-overlaps : goal.returns-then-not-overlaps
-returns-then-not-overlaps t c =
-    let none = keys_over_none c.bounds.result c.args.wanted.now c.args.self.now.leaves c.bounds.ensures.round (sym c.overlaps.ensures.value ∙ c.if-not-overlaps.true) in
-    rw none (sym (append-nil _))
+use Rattle.box_tree_base.proofs.tree.Tree.+collect.Goals.{then-overlaps-2+in_ok-collect-in-Fork, else-overlaps-2}
 
 pub returns-in_ok-collect-in-Fork-2 : goal.returns-in_ok-collect-in-Fork-2
 returns-in_ok-collect-in-Fork-2 t c =
-    let e = leaves_at c.self.view_is c.in-Fork.is in
-    rw (c.in_ok-collect-in-Fork-2.ensures, c.in_ok-collect-in-Fork.ensures, c.deref.ensures, c.deref-in-Fork.ensures, e, keys_over-append, append_assoc) (refl {A = List ℕ})
+    let boxed = boxed_at c.self.invariant c.in-Fork.is in
+    both_added c.args.wanted.now c.in-Fork.left.value.leaves c.in-Fork.right.value.leaves c.args.self.now.leaves c.args.found.now.items c.if-overlaps-2.found.items _ (leaves_at c.self.view_is c.in-Fork.is)
+    (elim c.if-overlaps-2.branch [
+      | then-overlaps-2+in_ok-collect-in-Fork w ↦ rw (w.found-is, ← w.deref.ensures) w.in_ok-collect-in-Fork.ensures
+      | else-overlaps-2 w ↦ rw w.found-is (none_added c.in-Fork.stem.left c.args.wanted.now c.in-Fork.left.value.leaves c.args.found.now.items boxed.left_side (sym w.if-overlaps-2.ensures.value))
+    ])
+    (rw (← c.deref-then-overlaps-3.ensures) c.in_ok-collect-in-Fork-2.ensures)
+
+pub returns-else-overlaps-3 : goal.returns-else-overlaps-3
+returns-else-overlaps-3 t c =
+    let boxed = boxed_at c.self.invariant c.in-Fork.is in
+    both_added c.args.wanted.now c.in-Fork.left.value.leaves c.in-Fork.right.value.leaves c.args.self.now.leaves c.args.found.now.items c.if-overlaps-2.found.items _ (leaves_at c.self.view_is c.in-Fork.is)
+    (elim c.if-overlaps-2.branch [
+      | then-overlaps-2+in_ok-collect-in-Fork w ↦ rw (w.found-is, ← w.deref.ensures) w.in_ok-collect-in-Fork.ensures
+      | else-overlaps-2 w ↦ rw w.found-is (none_added c.in-Fork.stem.left c.args.wanted.now c.in-Fork.left.value.leaves c.args.found.now.items boxed.left_side (sym w.if-overlaps-2.ensures.value))
+    ])
+    (none_added c.in-Fork.stem.right c.args.wanted.now c.in-Fork.right.value.leaves c.if-overlaps-2.found.items boxed.right_side (sym c.if-overlaps-3.ensures.value))

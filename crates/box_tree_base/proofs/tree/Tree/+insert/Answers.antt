@@ -1,8 +1,8 @@
 use Rattle.std.proofs.Common.{rules, arith, length-append}
 use Rattle.box_tree_base.proofs.ForkLemmas.{AtFork, at_fork}
-use Rattle.box_tree_base.proofs.ListLemmas.{each_left, each_right, each_added, added_right}
+use Rattle.box_tree_base.proofs.ListLemmas.{each_left, each_right, each_added, added_left, added_right}
 use Rattle.box_tree_base.proofs.tree.Tree.+insert.Goals as goal
-use Rattle.box_tree_base.proofs.tree.Tree.+insert.Goals.{in-Fork-3, in-Tip-3}
+use Rattle.box_tree_base.proofs.tree.Tree.+insert.Goals.{in-Fork-2, in-Tip-2, in-Fork-3, in-Tip-3}
 
 pub insert-requires : goal.insert-requires
 insert-requires t c =
@@ -31,4 +31,13 @@ returns-else-leaf-stem-clause-added t c =
     elim c.match-self-balanced-2.branch [
       | in-Fork-3 w ↦ rw (w.self-is, f.leaves, c.balanced-else-leaf-stem.ensures.leaves) k
       | in-Tip-3 w ↦ rw (w.self-is, f.leaves, c.balanced-else-leaf-stem.ensures.leaves) k
+    ]
+
+pub returns-then-leaf-stem-clause-added : goal.returns-then-leaf-stem-clause-added
+returns-then-leaf-stem-clause-added t c =
+    let f : AtFork c.args.self.now c.in-Fork.left.value c.in-Fork.right.value c.in-Fork.stem = at_fork c.self.view_is c.self.invariant c.replace.ensures.value c.in-Fork.is in
+    let k = added_left _ c.in-Fork.left.value.leaves _ c.in-Fork.right.value.leaves (rw c.deref_mut.ensures.value at c.insert.ensures.added) in
+    elim c.match-self-balanced.branch [
+      | in-Fork-2 w ↦ rw (w.self-is, f.leaves, c.balanced.ensures.leaves) k
+      | in-Tip-2 w ↦ rw (w.self-is, f.leaves, c.balanced.ensures.leaves) k
     ]

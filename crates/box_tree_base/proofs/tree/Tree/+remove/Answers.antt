@@ -1,6 +1,6 @@
 use Rattle.std.proofs.Common.{rules, ◌≡◌, length, arith, length-append}
 use Rattle.box_tree_base.proofs.ForkLemmas.{AtFork, at_fork}
-use Rattle.box_tree_base.proofs.ListLemmas.{each_removed, added_right, in_left, in_right, only, first_gone, last_gone}
+use Rattle.box_tree_base.proofs.ListLemmas.{each_removed, added_left, added_right, in_left, in_right, only, first_gone, last_gone}
 use Rattle.box_tree_base.proofs.tree.Tree.+remove.Goals as goal
 
 pub remove-boxes-requires : goal.remove-boxes-requires
@@ -41,3 +41,8 @@ pub returns-else-height-eq0-2-clause-removed : goal.returns-else-height-eq0-2-cl
 returns-else-height-eq0-2-clause-removed t c =
     let f : AtFork c.args.self.now c.in-Fork.left.value c.in-Fork.right.value c.in-Fork.stem = at_fork c.self.view_is c.self.invariant c.replace.ensures.value c.in-Fork.is in
     rw (c.balanced-else-height-eq0-2.ensures.leaves, f.leaves) (added_right _ _ _ _ (rw c.deref_mut-else-height-eq0-2.ensures.value at c.remove-boxes-else-height-eq0-2.ensures.removed))
+
+pub returns-else-height-eq0-clause-removed : goal.returns-else-height-eq0-clause-removed
+returns-else-height-eq0-clause-removed t c =
+    let f : AtFork c.args.self.now c.in-Fork.left.value c.in-Fork.right.value c.in-Fork.stem = at_fork c.self.view_is c.self.invariant c.replace.ensures.value c.in-Fork.is in
+    rw (c.balanced.ensures.leaves, f.leaves) (added_left _ _ _ _ (rw c.deref_mut-else-height-eq0.ensures.value at c.remove-boxes.ensures.removed))

@@ -1,4 +1,4 @@
-use Rattle.std.proofs.Common.{◌≡◌, ◌<◌, ◌≤◌, ◌^◌, length, ◌∙◌, arith}
+use Rattle.std.proofs.Common.{◌≡◌, ◌<◌, ◌≤◌, ◌^◌, length, arith, refl}
 use Rattle.body_handles.proofs.LowestLemmas.{lowest-le-length}
 use Rattle.body_handles.specs.Places.{lowest}
 use Rattle.body_handles.specs.declared.places.TheConstants.{MAX_SLOTS}
@@ -10,30 +10,47 @@ use Rattle.world_rules.proofs.KeptMade.{free_slot}
 use Rattle.world_rules.proofs.PartsLeft.{create_left}
 use Rattle.world_core.specs.contracts.world.WorldCore.{the_view}
 use Rattle.world_core.proofs.PartLaws.{create_answers, free_label, kept_of, same_handle, whole}
+use Rattle.world_core.proofs.CoreLaws.{core_bodies}
+use Rattle.world_core.proofs.KnownLaws.{marked_after}
 use Rattle.world_core.proofs.world.WorldCore.create_body.Goals as goal
 
 pub come-requires-clause-fresh : goal.come-requires-clause-fresh
 come-requires-clause-fresh c =
-    rw (c.in_ok-reserve.ensures.acting, c.in_ok-handle.ensures.slot, c.in_ok-reserve_one.ensures.kept) (free_label (the_view c.self.inside) (kept_of _ _ c.self.invariant))
+    rw (c.in_ok-reserve.ensures.acting, c.in_ok-handle.ensures.slot, c.in_ok-reserve_one.ensures.kept) (free_label (the_view c.self.inside) (kept_of _ _ c.self.invariant.whole))
 
 pub come-requires-clause-below : goal.come-requires-clause-below
 come-requires-clause-below c =
     let w : World = the_view c.self.inside in
     let least : lowest w.plain.places ≤ length w.plain.places = lowest-le-length w.plain.places in
-    let slots : length w.plain.places ≡ length w.plain.bodies = (kept_of _ _ c.self.invariant).matched.slots in
+    let slots : length w.plain.places ≡ length w.plain.bodies = (kept_of _ _ c.self.invariant.whole).matched.slots in
     let room = rw (c.bodies.ensures, c.in_ok-reserve_one-2.ensures.bodies) at c.in_ok-reserve.ensures.slots_made in
     rw (c.in_ok-handle.ensures.slot, c.in_ok-reserve_one.ensures.kept) (omega (arith, least, slots, room))
+
+pub reserve_one-requires-2-clause-next : goal.reserve_one-requires-2-clause-next
+reserve_one-requires-2-clause-next c =
+    let w : World = the_view c.self.inside in
+    let least : lowest w.plain.places ≤ length w.plain.places = lowest-le-length w.plain.places in
+    let slots : length w.plain.places ≡ length w.plain.bodies = (kept_of _ _ c.self.invariant.whole).matched.slots in
+    rw (c.next_slot.ensures, c.in_ok-reserve_one.ensures.kept) (omega (arith, least, slots))
+
+pub reserve_one-requires-2-clause-free : goal.reserve_one-requires-2-clause-free
+reserve_one-requires-2-clause-free c = rw (c.next_slot.ensures, c.in_ok-reserve_one.ensures.kept) (free_slot (the_view c.self.inside) (kept_of _ _ c.self.invariant.whole))
+
+pub put-requires-clause-covered : goal.put-requires-clause-covered
+put-requires-clause-covered c =
+    let covered = rw (c.next_slot.ensures, c.in_ok-reserve_one.ensures.kept) at c.in_ok-reserve_one-2.ensures.covered in
+    rw (c.in_ok-handle.ensures.slot, c.in_ok-reserve_one.ensures.kept) covered
 
 pub put-requires-clause-next : goal.put-requires-clause-next
 put-requires-clause-next c =
     let w : World = the_view c.self.inside in
     let least : lowest w.plain.places ≤ length w.plain.places = lowest-le-length w.plain.places in
-    let slots : length w.plain.places ≡ length w.plain.bodies = (kept_of _ _ c.self.invariant).matched.slots in
+    let slots : length w.plain.places ≡ length w.plain.bodies = (kept_of _ _ c.self.invariant.whole).matched.slots in
     rw (c.in_ok-handle.ensures.slot, c.in_ok-reserve_one.ensures.kept, c.in_ok-reserve_one-2.ensures.bodies) (omega (arith, least, slots))
 
 pub put-requires-clause-free : goal.put-requires-clause-free
 put-requires-clause-free c =
-    rw (c.in_ok-handle.ensures.slot, c.in_ok-reserve_one.ensures.kept, c.in_ok-reserve_one-2.ensures.bodies) (free_slot (the_view c.self.inside) (kept_of _ _ c.self.invariant))
+    rw (c.in_ok-handle.ensures.slot, c.in_ok-reserve_one.ensures.kept, c.in_ok-reserve_one-2.ensures.bodies) (free_slot (the_view c.self.inside) (kept_of _ _ c.self.invariant.whole))
 
 pub invariant_of-self-2 : goal.invariant_of-self-2
 invariant_of-self-2 c =
@@ -42,8 +59,11 @@ invariant_of-self-2 c =
     let free : lowest c.self.inside.handles.places < MAX_SLOTS = rw (c.in_ok-handle.ensures.slot, c.in_ok-reserve_one.ensures.kept) at c.in_ok-handle.ensures.slot_below in
     let body : IsBody (made c.args.def.now) = rw c.in_ok-body.ensures.made at c.in_ok-body.ensures.body in
     let filters : HaveFilters c.args.def.now.shapes = rw c.as_slice.ensures at c.filters_fit.ensures in
-    rw (c.widen.ensures.acting, c.come.ensures.acting, c.is_mover.ensures, c.in_ok-handle.ensures.given_out, c.put.ensures, c.in_ok-handle.ensures.slot, c.in_ok-reserve_one.ensures.kept, c.in_ok-body.ensures.made, c.in_ok-reserve_one-2.ensures.bodies, c.in_ok-reserve.ensures.acting)
-    (whole w _ _ _ (create_left w c.self.inside.sets.acting c.args.def.now (kept_of _ _ c.self.invariant) c.self.invariant.same calls free body filters))
+    core_bodies (the_view c.self.inside) _ _ _ c.self.inside.bodies c.put.new.self c.self.invariant
+    (rw (c.widen.ensures.acting, c.come.ensures.acting, c.is_mover.ensures, c.in_ok-handle.ensures.given_out, c.put.ensures.bodies, c.in_ok-handle.ensures.slot, c.in_ok-reserve_one.ensures.kept, c.in_ok-body.ensures.made, c.in_ok-reserve_one-2.ensures.bodies, c.in_ok-reserve.ensures.acting)
+    (whole w _ _ _ (create_left w c.self.inside.sets.acting c.args.def.now (kept_of _ _ c.self.invariant.whole) c.self.invariant.whole.same calls free body filters)))
+    refl refl refl refl
+    (marked_after c.self.inside.bodies c.reserve_one-2.new.self c.put.new.self c.in_ok-reserve_one-2.ensures.marked c.put.ensures.marked)
 
 pub returns : goal.returns
 returns c =
@@ -56,13 +76,13 @@ returns c =
     let generation = rw c.in_ok-reserve_one.ensures.kept at c.in_ok-handle.ensures.generation in
     rw (← c.self.view_is)
     (create_answers w c.args.def.now c.in_ok-handle.handle _ c.widen.new.self.acting c.in_ok-check.ensures.refusal free (same_handle _ (handle_at w.plain.places (lowest w.plain.places)) slot generation)
-    (rw (c.widen.ensures.acting, c.come.ensures.acting, c.is_mover.ensures, c.in_ok-handle.ensures.given_out, c.put.ensures, c.in_ok-handle.ensures.slot, c.in_ok-reserve_one.ensures.kept, c.in_ok-body.ensures.made, c.in_ok-reserve_one-2.ensures.bodies, c.in_ok-reserve.ensures.acting)
-    (create_left w c.self.inside.sets.acting c.args.def.now (kept_of _ _ c.self.invariant) c.self.invariant.same calls free body filters)))
+    (rw (c.widen.ensures.acting, c.come.ensures.acting, c.is_mover.ensures, c.in_ok-handle.ensures.given_out, c.put.ensures.bodies, c.in_ok-handle.ensures.slot, c.in_ok-reserve_one.ensures.kept, c.in_ok-body.ensures.made, c.in_ok-reserve_one-2.ensures.bodies, c.in_ok-reserve.ensures.acting)
+    (create_left w c.self.inside.sets.acting c.args.def.now (kept_of _ _ c.self.invariant.whole) c.self.invariant.whole.same calls free body filters)))
 
 pub widen-requires : goal.widen-requires
 widen-requires c =
     let w : World = the_view c.self.inside in
     let least : lowest w.plain.places ≤ length w.plain.places = lowest-le-length w.plain.places in
-    let slots : length w.plain.places ≡ length w.plain.bodies = (kept_of _ _ c.self.invariant).matched.slots in
+    let slots : length w.plain.places ≡ length w.plain.bodies = (kept_of _ _ c.self.invariant.whole).matched.slots in
     let room = rw (c.bodies.ensures, c.in_ok-reserve_one-2.ensures.bodies) at c.in_ok-reserve.ensures.slots_made in
     rw (c.come.ensures.slots, c.in_ok-handle.ensures.slot, c.in_ok-reserve_one.ensures.kept) (omega (arith, least, slots, room))

@@ -1,19 +1,20 @@
-use Rattle.std.proofs.Common.{◌≡◌, ◌<◌, ◌≤◌, ◌^◌, length, ◌∙◌, ap, refl, arith}
+use Rattle.std.proofs.Common.{◌≡◌, ◌<◌, ◌≤◌, ◌^◌, length, refl, arith, None}
 use Rattle.body_handles.proofs.LowestLemmas.{lowest-le-length}
 use Rattle.body_handles.specs.Places.{lowest}
 use Rattle.body_handles.specs.declared.places.TheConstants.{MAX_SLOTS}
-use Rattle.plain_world.specs.Joints.{IsBodyJoint, joint_made}
-use Rattle.sleep_wake.specs.Acting.{Acting}
-use Rattle.solver_sets.specs.Ties.{JointSlots}
+use Rattle.plain_world.specs.Joints.{IsBodyJoint, joint_at, joint_made}
 use Rattle.world_rules.specs.World.{World}
 use Rattle.world_rules.proofs.PartsLeft.{join_left, next_joint}
 use Rattle.world_core.specs.contracts.world.WorldCore.{the_view}
 use Rattle.world_core.proofs.Whole.{told_whole}
 use Rattle.world_core.proofs.PartLaws.{can_join_from, free_joint, join_answers, kept_of, same_handle, whole, woken_room}
+use Rattle.plain_world.specs.Slots.{with_item}
+use Rattle.world_core.proofs.CoreLaws.{core_joined}
+use Rattle.world_core.proofs.KnownLaws.{marked_after}
 use Rattle.world_core.proofs.world.WorldCore.create_joint.Goals as goal
 
 pub wake_named-requires-clause-told : goal.wake_named-requires-clause-told
-wake_named-requires-clause-told c = rw c.in_ok-reserve.ensures.acting (told_whole (the_view c.self.inside) _ c.self.invariant)
+wake_named-requires-clause-told c = rw c.in_ok-reserve.ensures.acting (told_whole (the_view c.self.inside) _ c.self.invariant.whole)
 
 pub begin_with-requires-clause-fresh : goal.begin_with-requires-clause-fresh
 begin_with-requires-clause-fresh c =
@@ -22,7 +23,7 @@ begin_with-requires-clause-fresh c =
     let generation = rw c.in_ok-reserve_one.ensures.kept at c.in_ok-handle.ensures.generation in
     let free : lowest w.plain.joint_places < MAX_SLOTS = rw slot at c.in_ok-handle.ensures.slot_below in
     rw (same_handle c.in_ok-handle.handle (next_joint w.plain) slot generation, c.wake_named.ensures.acting, c.deref.ensures.value, c.in_ok-names.ensures.value, c.in_ok-reserve.ensures.acting, c.make-joint.ensures)
-    (can_join_from w c.self.inside.sets.acting (joint_made c.args.def.now) c.self.invariant free).fresh
+    (can_join_from w c.self.inside.sets.acting (joint_made c.args.def.now) c.self.invariant.whole free).fresh
 
 pub begin_with-requires-clause-awake : goal.begin_with-requires-clause-awake
 begin_with-requires-clause-awake c =
@@ -30,7 +31,7 @@ begin_with-requires-clause-awake c =
     let slot = rw c.in_ok-reserve_one.ensures.kept at c.in_ok-handle.ensures.slot in
     let free : lowest w.plain.joint_places < MAX_SLOTS = rw slot at c.in_ok-handle.ensures.slot_below in
     rw (c.joint_movers-movers.ensures, c.bodies-2.ensures, c.wake_named.ensures.told, c.wake_named.ensures.acting, c.deref.ensures.value, c.in_ok-names.ensures.value, c.in_ok-reserve.ensures.acting, c.make-joint.ensures)
-    (can_join_from w c.self.inside.sets.acting (joint_made c.args.def.now) c.self.invariant free).awake
+    (can_join_from w c.self.inside.sets.acting (joint_made c.args.def.now) c.self.invariant.whole free).awake
 
 pub begin_with-requires-clause-room : goal.begin_with-requires-clause-room
 begin_with-requires-clause-room c =
@@ -41,12 +42,12 @@ pub put-requires-clause-next : goal.put-requires-clause-next
 put-requires-clause-next c =
     let w : World = the_view c.self.inside in
     let least : lowest w.plain.joint_places ≤ length w.plain.joint_places = lowest-le-length w.plain.joint_places in
-    let slots : length w.plain.joint_places ≡ length w.plain.joints = (kept_of _ _ c.self.invariant).joint_slots.slots in
+    let slots : length w.plain.joint_places ≡ length w.plain.joints = (kept_of _ _ c.self.invariant.whole).joint_slots.slots in
     rw (c.in_ok-handle.ensures.slot, c.in_ok-reserve_one.ensures.kept, c.in_ok-reserve_one-2.ensures.joints) (omega (arith, least, slots))
 
 pub put-requires-clause-free : goal.put-requires-clause-free
 put-requires-clause-free c =
-    rw (c.in_ok-handle.ensures.slot, c.in_ok-reserve_one.ensures.kept, c.in_ok-reserve_one-2.ensures.joints) (free_joint (the_view c.self.inside) (kept_of _ _ c.self.invariant))
+    rw (c.in_ok-handle.ensures.slot, c.in_ok-reserve_one.ensures.kept, c.in_ok-reserve_one-2.ensures.joints) (free_joint (the_view c.self.inside) (kept_of _ _ c.self.invariant.whole))
 
 pub invariant_of-self-2 : goal.invariant_of-self-2
 invariant_of-self-2 c =
@@ -56,8 +57,17 @@ invariant_of-self-2 c =
     let generation = rw c.in_ok-reserve_one.ensures.kept at c.in_ok-handle.ensures.generation in
     let free : lowest w.plain.joint_places < MAX_SLOTS = rw slot at c.in_ok-handle.ensures.slot_below in
     let is : IsBodyJoint w.plain.bodies (joint_made c.args.def.now) = rw c.bodies.ensures at c.in_ok-check_join.ensures.joint in
-    rw (c.in_ok-handle.ensures.given_out, c.put.ensures, c.begin_with.ensures.acting, same_handle c.in_ok-handle.handle (next_joint w.plain) slot generation, c.joint_movers-movers.ensures, c.bodies-2.ensures, c.wake_named.ensures.told, c.wake_named.ensures.acting, c.deref.ensures.value, c.in_ok-names.ensures.value, c.in_ok-reserve.ensures.acting, c.in_ok-reserve_one.ensures.kept, c.in_ok-reserve_one-2.ensures.joints, c.make-joint.ensures)
-    (whole w _ _ _ (join_left w c.self.inside.sets.acting c.args.def.now (kept_of _ _ c.self.invariant) c.self.invariant.same calls free is))
+    let joint : IsBodyJoint w.plain.bodies c.make-joint.result = rw c.make-joint.ensures is in
+    let put : c.put.new.self.joints ≡ with_item w.plain.joints c.in_ok-handle.handle.slot c.make-joint.result = rw c.in_ok-reserve_one-2.ensures.joints at c.put.ensures in
+    let none : joint_at w.plain.joints c.in_ok-handle.handle.slot ≡ None = rw slot (free_joint w (kept_of _ _ c.self.invariant.whole)) in
+    let least : lowest w.plain.joint_places ≤ length w.plain.joint_places = lowest-le-length w.plain.joint_places in
+    let slots : length w.plain.joint_places ≡ length w.plain.joints = (kept_of _ _ c.self.invariant.whole).joint_slots.slots in
+    let le : c.in_ok-handle.handle.slot ≤ length w.plain.joints = rw slot (omega (arith, least, slots)) in
+    core_joined w _ _ _ c.self.inside.bodies c.mark.new.self c.in_ok-handle.handle.slot c.make-joint.result c.self.invariant
+    (rw (c.in_ok-handle.ensures.given_out, c.put.ensures, c.mark.ensures.bodies, c.begin_with.ensures.acting, same_handle c.in_ok-handle.handle (next_joint w.plain) slot generation, c.joint_movers-movers.ensures, c.bodies-2.ensures, c.wake_named.ensures.told, c.wake_named.ensures.acting, c.deref.ensures.value, c.in_ok-names.ensures.value, c.in_ok-reserve.ensures.acting, c.in_ok-reserve_one.ensures.kept, c.in_ok-reserve_one-2.ensures.joints, c.make-joint.ensures)
+    (whole w _ _ _ (join_left w c.self.inside.sets.acting c.args.def.now (kept_of _ _ c.self.invariant.whole) c.self.invariant.whole.same calls free is)))
+    refl refl joint none le
+    (marked_after c.self.inside.bodies c.wake_named.new.bodies c.mark.new.self c.wake_named.ensures.marked c.mark.ensures.marked) c.mark.ensures.there put refl
 
 pub returns : goal.returns
 returns c =
@@ -68,5 +78,5 @@ returns c =
     let free : lowest w.plain.joint_places < MAX_SLOTS = rw slot at c.in_ok-handle.ensures.slot_below in
     let is : IsBodyJoint w.plain.bodies (joint_made c.args.def.now) = rw c.bodies.ensures at c.in_ok-check_join.ensures.joint in
     let due = rw c.bodies.ensures at c.in_ok-check_join.ensures.refusal in
-    rw (← c.self.view_is, c.in_ok-handle.ensures.given_out, c.put.ensures, c.begin_with.ensures.acting, same_handle c.in_ok-handle.handle (next_joint w.plain) slot generation, c.joint_movers-movers.ensures, c.bodies-2.ensures, c.wake_named.ensures.told, c.wake_named.ensures.acting, c.deref.ensures.value, c.in_ok-names.ensures.value, c.in_ok-reserve.ensures.acting, c.in_ok-reserve_one.ensures.kept, c.in_ok-reserve_one-2.ensures.joints, c.make-joint.ensures)
-    (join_answers w c.args.def.now (next_joint w.plain) _ _ due free refl (join_left w c.self.inside.sets.acting c.args.def.now (kept_of _ _ c.self.invariant) c.self.invariant.same calls free is))
+    rw (← c.self.view_is, c.in_ok-handle.ensures.given_out, c.put.ensures, c.mark.ensures.bodies, c.begin_with.ensures.acting, same_handle c.in_ok-handle.handle (next_joint w.plain) slot generation, c.joint_movers-movers.ensures, c.bodies-2.ensures, c.wake_named.ensures.told, c.wake_named.ensures.acting, c.deref.ensures.value, c.in_ok-names.ensures.value, c.in_ok-reserve.ensures.acting, c.in_ok-reserve_one.ensures.kept, c.in_ok-reserve_one-2.ensures.joints, c.make-joint.ensures)
+    (join_answers w c.args.def.now (next_joint w.plain) _ _ due free refl (join_left w c.self.inside.sets.acting c.args.def.now (kept_of _ _ c.self.invariant.whole) c.self.invariant.whole.same calls free is))

@@ -1,4 +1,4 @@
-use Rattle.std.proofs.Common.{◌≡◌, ◌<◌, ◌≤◌, ◌^◌, length, Some, sym, arith}
+use Rattle.std.proofs.Common.{◌≡◌, ◌<◌, ◌^◌, Some, sym, arith, refl}
 use Rattle.world_rules.specs.World.{World, body_of}
 use Rattle.world_rules.proofs.KeptMade.{come_ties}
 use Rattle.world_rules.proofs.PartsLeft.{enable_left, enabled_left}
@@ -7,16 +7,18 @@ use Rattle.world_core.specs.contracts.world.WorldCore.{the_view}
 use Rattle.world_core.proofs.Whole.{told_whole}
 use Rattle.world_core.proofs.EnableLaws.{body_below, can_enable_from}
 use Rattle.world_core.proofs.PartLaws.{enable_answers, kept_of, whole, woken_room}
+use Rattle.world_core.proofs.CoreLaws.{core_bodies}
+use Rattle.world_core.proofs.KnownLaws.{marked_after}
 use Rattle.world_core.proofs.world.WorldCore.enable.Goals as goal
 
 pub wake_named-requires-clause-told : goal.wake_named-requires-clause-told
-wake_named-requires-clause-told c = rw c.in_ok-reserve.ensures.acting (told_whole (the_view c.self.inside) _ c.self.invariant)
+wake_named-requires-clause-told c = rw c.in_ok-reserve.ensures.acting (told_whole (the_view c.self.inside) _ c.self.invariant.whole)
 
 pub invariant_of-self : goal.invariant_of-self
 invariant_of-self c =
     let w : World = the_view c.self.inside in
     let calls : c.self.inside.calls < 2 ^ 40 = rw (← c.self.view_is) at c.requires in
-    whole w _ _ _ (enabled_left w c.self.inside.sets.acting c.args.handle c.in-Some.body.now (kept_of _ _ c.self.invariant) c.self.invariant.same calls c.if-body.true)
+    record { whole = whole w _ _ _ (enabled_left w c.self.inside.sets.acting c.args.handle c.in-Some.body.now (kept_of _ _ c.self.invariant.whole) c.self.invariant.whole.same calls c.if-body.true); known = c.self.invariant.known }
 
 pub enable-requires-clause-slot : goal.enable-requires-clause-slot
 enable-requires-clause-slot c =
@@ -29,14 +31,14 @@ enable-requires-clause-disabled c =
     let w : World = the_view c.self.inside in
     let named : body_of w.plain c.args.handle ≡ Some c.in-Some.body.now = rw (← c.bodies.ensures) (sym c.in-Some.ensures) in
     rw (c.wake_named.ensures.told, c.wake_named.ensures.acting, c.in_ok-reserve.ensures.acting, c.deref-2.ensures.value, c.in_ok-names.ensures.value, c.deref.ensures.value, c.in_ok-joined.ensures.slots, c.bodies-2.ensures, c.joints.ensures)
-    (can_enable_from w c.self.inside.sets.acting c.args.handle c.in-Some.body.now c.self.invariant named c.if-body.false).off
+    (can_enable_from w c.self.inside.sets.acting c.args.handle c.in-Some.body.now c.self.invariant.whole named c.if-body.false).off
 
 pub come-requires-clause-fresh : goal.come-requires-clause-fresh
 come-requires-clause-fresh c =
     let w : World = the_view c.self.inside in
     let named : body_of w.plain c.args.handle ≡ Some c.in-Some.body.now = rw (← c.bodies.ensures) (sym c.in-Some.ensures) in
     rw (c.wake_named.ensures.acting, c.in_ok-reserve.ensures.acting, c.deref-2.ensures.value, c.in_ok-names.ensures.value, c.deref.ensures.value, c.in_ok-joined.ensures.slots, c.bodies-2.ensures, c.joints.ensures)
-    (can_enable_from w c.self.inside.sets.acting c.args.handle c.in-Some.body.now c.self.invariant named c.if-body.false).fresh
+    (can_enable_from w c.self.inside.sets.acting c.args.handle c.in-Some.body.now c.self.invariant.whole named c.if-body.false).fresh
 
 pub come-requires-clause-below : goal.come-requires-clause-below
 come-requires-clause-below c =
@@ -51,7 +53,7 @@ begin_each-requires-clause-can c =
     let w : World = the_view c.self.inside in
     let named : body_of w.plain c.args.handle ≡ Some c.in-Some.body.now = rw (← c.bodies.ensures) (sym c.in-Some.ensures) in
     rw (c.deref-3.ensures.value, c.fill_joint_ties.ensures.ties, c.bodies-4.ensures, c.places.ensures, c.joints-4.ensures, c.enable.ensures.bodies, c.come.ensures.acting, c.is_dynamic-mover.ensures, c.wake_named.ensures.told, c.wake_named.ensures.acting, c.in_ok-reserve.ensures.acting, c.deref-2.ensures.value, c.in_ok-names.ensures.value, c.deref.ensures.value, c.in_ok-joined.ensures.slots, c.bodies-2.ensures, c.joints.ensures)
-    (can_enable_from w c.self.inside.sets.acting c.args.handle c.in-Some.body.now c.self.invariant named c.if-body.false).can
+    (can_enable_from w c.self.inside.sets.acting c.args.handle c.in-Some.body.now c.self.invariant.whole named c.if-body.false).can
 
 pub begin_each-requires-clause-room : goal.begin_each-requires-clause-room
 begin_each-requires-clause-room c =
@@ -65,8 +67,11 @@ invariant_of-self-2 c =
     let w : World = the_view c.self.inside in
     let named : body_of w.plain c.args.handle ≡ Some c.in-Some.body.now = rw (← c.bodies.ensures) (sym c.in-Some.ensures) in
     let calls : c.self.inside.calls < 2 ^ 40 = rw (← c.self.view_is) at c.requires in
-    rw (c.begin_each.ensures.acting, c.deref-3.ensures.value, c.fill_joint_ties.ensures.ties, c.bodies-4.ensures, c.places.ensures, c.joints-4.ensures, c.enable.ensures.bodies, c.come.ensures.acting, c.is_dynamic-mover.ensures, c.wake_named.ensures.told, c.wake_named.ensures.acting, c.in_ok-reserve.ensures.acting, c.deref-2.ensures.value, c.in_ok-names.ensures.value, c.deref.ensures.value, c.in_ok-joined.ensures.slots, c.bodies-2.ensures, c.joints.ensures)
-    (whole w _ _ _ (enable_left w c.self.inside.sets.acting c.args.handle c.in-Some.body.now (kept_of _ _ c.self.invariant) c.self.invariant.same calls named c.if-body.false))
+    core_bodies (the_view c.self.inside) _ _ _ c.self.inside.bodies c.enable.new.self c.self.invariant
+    (rw (c.begin_each.ensures.acting, c.deref-3.ensures.value, c.fill_joint_ties.ensures.ties, c.bodies-4.ensures, c.places.ensures, c.joints-4.ensures, c.enable.ensures.bodies, c.come.ensures.acting, c.is_dynamic-mover.ensures, c.wake_named.ensures.told, c.wake_named.ensures.acting, c.in_ok-reserve.ensures.acting, c.deref-2.ensures.value, c.in_ok-names.ensures.value, c.deref.ensures.value, c.in_ok-joined.ensures.slots, c.bodies-2.ensures, c.joints.ensures)
+    (whole w _ _ _ (enable_left w c.self.inside.sets.acting c.args.handle c.in-Some.body.now (kept_of _ _ c.self.invariant.whole) c.self.invariant.whole.same calls named c.if-body.false)))
+    refl refl refl refl
+    (marked_after c.self.inside.bodies c.wake_named.new.bodies c.enable.new.self c.wake_named.ensures.marked c.enable.ensures.marked)
 
 pub returns : goal.returns
 returns c =
@@ -76,4 +81,4 @@ returns c =
     rw (← c.self.view_is)
     (enable_answers w c.args.handle c.in-Some.body.now _ c.begin_each.new.self.acting named
     (rw (c.begin_each.ensures.acting, c.deref-3.ensures.value, c.fill_joint_ties.ensures.ties, c.bodies-4.ensures, c.places.ensures, c.joints-4.ensures, c.enable.ensures.bodies, c.come.ensures.acting, c.is_dynamic-mover.ensures, c.wake_named.ensures.told, c.wake_named.ensures.acting, c.in_ok-reserve.ensures.acting, c.deref-2.ensures.value, c.in_ok-names.ensures.value, c.deref.ensures.value, c.in_ok-joined.ensures.slots, c.bodies-2.ensures, c.joints.ensures)
-    (enable_left w c.self.inside.sets.acting c.args.handle c.in-Some.body.now (kept_of _ _ c.self.invariant) c.self.invariant.same calls named c.if-body.false)))
+    (enable_left w c.self.inside.sets.acting c.args.handle c.in-Some.body.now (kept_of _ _ c.self.invariant.whole) c.self.invariant.whole.same calls named c.if-body.false)))

@@ -1,15 +1,10 @@
-use Rattle.std.proofs.Common.{◌∙◌, All, List, subst, sym}
-use Rattle.contacts.specs.Known.{IsPairKey}
-use Rattle.contacts_base.specs.declared.contact.ContactEntry.{ContactEntry}
-use Rattle.world_core.proofs.LoadingLaws.{Parts, contacts_are, pair_keys_are, made_same, made_whole, totals_within}
+use Rattle.std.proofs.Common.{◌∙◌}
+use Rattle.world_core.proofs.Refusals.{handed_on}
+use Rattle.world_core.proofs.LoadingLaws.{Parts, contacts_are, made_core, made_same, totals_within}
 use Rattle.world_core.proofs.world.WorldCore.from_plain.Goals as goal
 
 pub contacts_of-requires : goal.contacts_of-requires
 contacts_of-requires c = contacts_are c.args.plain.now c.args.totals c.requires.sound
-
-pub from_contacts-requires : goal.from_contacts-requires
-from_contacts-requires c =
-    subst (λ (es : List ContactEntry). All (λ (e : ContactEntry). IsPairKey e.key) es) (sym c.in_ok-contacts_of.ensures.contacts) (pair_keys_are c.args.plain.now c.args.totals c.requires.sound)
 
 pub from_totals-requires : goal.from_totals-requires
 from_totals-requires c = totals_within c.args.plain.now c.args.totals c.requires.sound
@@ -29,22 +24,23 @@ invariant_of-result c =
       calls = c.calls.result;
       entries = c.from_totals.result.entries;
       settled = c.from_totals.result.settled;
-      events = c.new-2.result;
+      events = c.new-3.result;
     } in
-    made_whole p c.args.totals x c.requires.sound (record {
+    made_core p c.args.totals x c.in_ok-from_bodies.field-0.marks c.requires.sound (record {
       places_are = c.in_ok-from_places.ensures.places ∙ c.places.ensures;
       bodies_are = c.in_ok-from_bodies.ensures.bodies ∙ c.bodies.ensures;
       joint_places_are = c.in_ok-from_places-2.ensures.places ∙ c.joint_places.ensures;
       joints_are = c.in_ok-from_joints.ensures.joints ∙ c.joints.ensures;
-      contacts_are = c.from_contacts.ensures ∙ c.in_ok-contacts_of.ensures.contacts;
+      contacts_are = c.from_contacts.ensures.contacts ∙ c.in_ok-contacts_of.ensures.contacts;
       acts_are = c.in_ok-sets_of.ensures.acting;
       gravity_is = c.gravity.ensures;
       steps_are = c.steps.ensures;
       calls_are = c.calls.ensures;
       no_entries = c.from_totals.ensures.entries;
       settled_are = c.from_totals.ensures.settled;
-      events_are = c.new-2.ensures;
+      events_are = c.new-3.ensures;
     })
+    c.in_ok-from_bodies.ensures.all
 
 pub returns-clause-made : goal.returns-clause-made
 returns-clause-made c =
@@ -61,19 +57,22 @@ returns-clause-made c =
       calls = c.calls.result;
       entries = c.from_totals.result.entries;
       settled = c.from_totals.result.settled;
-      events = c.new-2.result;
+      events = c.new-3.result;
     } in
     made_same p c.args.totals x c.requires.sound (record {
       places_are = c.in_ok-from_places.ensures.places ∙ c.places.ensures;
       bodies_are = c.in_ok-from_bodies.ensures.bodies ∙ c.bodies.ensures;
       joint_places_are = c.in_ok-from_places-2.ensures.places ∙ c.joint_places.ensures;
       joints_are = c.in_ok-from_joints.ensures.joints ∙ c.joints.ensures;
-      contacts_are = c.from_contacts.ensures ∙ c.in_ok-contacts_of.ensures.contacts;
+      contacts_are = c.from_contacts.ensures.contacts ∙ c.in_ok-contacts_of.ensures.contacts;
       acts_are = c.in_ok-sets_of.ensures.acting;
       gravity_is = c.gravity.ensures;
       steps_are = c.steps.ensures;
       calls_are = c.calls.ensures;
       no_entries = c.from_totals.ensures.entries;
       settled_are = c.from_totals.ensures.settled;
-      events_are = c.new-2.ensures;
+      events_are = c.new-3.ensures;
     })
+
+pub returns-in_err-sets_of-clause-memory_only : goal.returns-in_err-sets_of-clause-memory_only
+returns-in_err-sets_of-clause-memory_only c = handed_on _ _ c.from_residual-in_err-sets_of.ensures.0 c.from_residual-in_err-sets_of.ensures.1 c.in_err-sets_of.ensures.memory_only

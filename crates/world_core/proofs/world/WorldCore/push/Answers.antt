@@ -1,4 +1,4 @@
-use Rattle.std.proofs.Common.{◌≡◌, ◌<◌, ◌^◌, [], ◌∷◌, Ok, sym, arith}
+use Rattle.std.proofs.Common.{◌≡◌, ◌<◌, ◌^◌, [], ◌∷◌, Ok, sym, arith, refl}
 use Rattle.std.proofs.lemmas.Int.{ints}
 use Rattle.plain_world.specs.Slots as slots
 use Rattle.world_rules.specs.Apply.{pushed}
@@ -7,20 +7,22 @@ use Rattle.world_rules.proofs.KeptChanges.{IsRoomy-kept, IsRoomy-same}
 use Rattle.world_rules.proofs.SoundLaws.{kept_sound}
 use Rattle.world_core.specs.contracts.world.WorldCore.{the_view}
 use Rattle.world_core.proofs.Whole.{HasWoken, has_woken, push_whole, told_whole}
+use Rattle.world_core.proofs.CoreLaws.{core_bodies}
+use Rattle.world_core.proofs.KnownLaws.{marked_after}
 use Rattle.world_core.proofs.world.WorldCore.push.Goals as goal
 
 pub wake_named-requires-clause-told : goal.wake_named-requires-clause-told
-wake_named-requires-clause-told c = (told_whole (the_view c.self.inside) _ c.self.invariant)
+wake_named-requires-clause-told c = (told_whole (the_view c.self.inside) _ c.self.invariant.whole)
 
 pub momenta_after-requires : goal.momenta_after-requires
-momenta_after-requires c = rw c.bodies.ensures (kept_sound _ c.self.invariant.sound).bodies
+momenta_after-requires c = rw c.bodies.ensures (kept_sound _ c.self.invariant.whole.sound).bodies
 
 pub change-requires-clause-slot : goal.change-requires-clause-slot
 change-requires-clause-slot c = rw (c.wake_named.ensures.count, ← c.bodies.ensures) c.in_ok-momenta.ensures.present
 
 pub book-requires-clause-fits : goal.book-requires-clause-fits
 book-requires-clause-fits c =
-    Fits-roomy c.reserve.new.self _ (IsRoomy-same _ _ c.in_ok-reserve.ensures.entries c.in_ok-reserve.ensures.settled (IsRoomy-kept (the_view c.self.inside) 0 (kept_sound _ c.self.invariant.sound)))
+    Fits-roomy c.reserve.new.self _ (IsRoomy-same _ _ c.in_ok-reserve.ensures.entries c.in_ok-reserve.ensures.settled (IsRoomy-kept (the_view c.self.inside) 0 (kept_sound _ c.self.invariant.whole.sound)))
     (rw c.gain_of.ensures.x (omega (arith, ints))) (rw c.gain_of.ensures.y (omega (arith, ints)))
 
 pub invariant_of-self-2 : goal.invariant_of-self-2
@@ -28,6 +30,9 @@ invariant_of-self-2 c =
     let calls : c.self.inside.calls < 2 ^ 40 = rw (← c.self.view_is) at c.requires in
     let due : pushed (slots.body_of c.self.inside.handles.places c.self.inside.bodies.bodies c.args.handle) c.args.by c.args.offset ≡ Ok c.in_ok-momenta.momenta = rw (← c.bodies.ensures) (sym c.in_ok-momenta.ensures.value) in
     let woke : HasWoken (the_view c.self.inside) (c.args.handle.slot ∷ []) c.wake_named.new.sets.acting c.wake_named.new.bodies.bodies =
-    has_woken (the_view c.self.inside) (c.args.handle.slot ∷ []) _ c.self.inside.sets.acting _ _ c.self.invariant c.in_ok-names.ensures.value (rw c.deref.ensures.value at c.wake_named.ensures.acting) c.wake_named.ensures.told in
-    rw (c.change.ensures.bodies, c.book.ensures.entries, c.book.ensures.settled, c.in_ok-reserve.ensures.entries, c.in_ok-reserve.ensures.settled, c.gain_of.ensures.x, c.gain_of.ensures.y)
-    (push_whole (the_view c.self.inside) c.args.handle c.args.by c.args.offset c.in_ok-momenta.momenta c.self.inside.sets.acting _ _ c.self.invariant calls woke due)
+    has_woken (the_view c.self.inside) (c.args.handle.slot ∷ []) _ c.self.inside.sets.acting _ _ c.self.invariant.whole c.in_ok-names.ensures.value (rw c.deref.ensures.value at c.wake_named.ensures.acting) c.wake_named.ensures.told in
+    core_bodies (the_view c.self.inside) _ _ _ c.self.inside.bodies c.change.new.self c.self.invariant
+    (rw (c.change.ensures.bodies, c.book.ensures.entries, c.book.ensures.settled, c.in_ok-reserve.ensures.entries, c.in_ok-reserve.ensures.settled, c.gain_of.ensures.x, c.gain_of.ensures.y)
+    (push_whole (the_view c.self.inside) c.args.handle c.args.by c.args.offset c.in_ok-momenta.momenta c.self.inside.sets.acting _ _ c.self.invariant.whole calls woke due))
+    refl refl refl refl
+    (marked_after c.self.inside.bodies c.wake_named.new.bodies c.change.new.self c.wake_named.ensures.marked c.change.ensures.marked)

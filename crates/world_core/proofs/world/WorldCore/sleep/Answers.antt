@@ -1,4 +1,4 @@
-use Rattle.std.proofs.Common.{◌≡◌, ◌<◌, ◌≤◌, ◌^◌, ◌+◌, arith, None}
+use Rattle.std.proofs.Common.{◌≡◌, ◌<◌, ◌^◌, ◌+◌, arith, None, refl}
 use Rattle.std.proofs.lemmas.Int.{ints}
 use Rattle.plain_world.specs.Slots.{body_of}
 use Rattle.world_rules.specs.Apply.{mover_refusal}
@@ -7,25 +7,29 @@ use Rattle.world_rules.proofs.KeptChanges.{IsRoomy-kept, IsRoomy-same}
 use Rattle.world_rules.proofs.SoundLaws.{kept_sound}
 use Rattle.world_core.specs.contracts.world.WorldCore.{the_view}
 use Rattle.world_core.proofs.Whole.{rest_booked, sleep_answers, sleep_whole, told_whole}
+use Rattle.world_core.proofs.CoreLaws.{core_bodies}
 use Rattle.world_core.proofs.world.WorldCore.sleep.Goals as goal
 
 pub book-requires-clause-fits : goal.book-requires-clause-fits
 book-requires-clause-fits c =
     let small = c.put_to_sleep-rest.ensures.small in
-    Fits-roomy c.reserve.new.self _ (IsRoomy-same _ _ c.in_ok-reserve.ensures.entries c.in_ok-reserve.ensures.settled (IsRoomy-kept (the_view c.self.inside) 0 (kept_sound _ c.self.invariant.sound)))
+    Fits-roomy c.reserve.new.self _ (IsRoomy-same _ _ c.in_ok-reserve.ensures.entries c.in_ok-reserve.ensures.settled (IsRoomy-kept (the_view c.self.inside) 0 (kept_sound _ c.self.invariant.whole.sound)))
     (omega (arith, ints, small.x)) (omega (arith, ints, small.y))
 
 pub put_to_sleep-rest-requires-clause-told : goal.put_to_sleep-rest-requires-clause-told
-put_to_sleep-rest-requires-clause-told c = told_whole (the_view c.self.inside) _ c.self.invariant
+put_to_sleep-rest-requires-clause-told c = told_whole (the_view c.self.inside) _ c.self.invariant.whole
 
 pub invariant_of-self-2 : goal.invariant_of-self-2
 invariant_of-self-2 c =
     let calls : c.self.inside.calls < 2 ^ 40 = rw (← c.self.view_is) at c.requires in
-    rw (c.book.ensures.entries, c.book.ensures.settled, c.in_ok-reserve.ensures.entries, c.in_ok-reserve.ensures.settled, rest_booked (c.self.inside.calls + 1) c.put_to_sleep-rest.new.sets.acting.labels c.self.inside.bodies.bodies c.put_to_sleep-rest.new.bodies.bodies _ _ c.put_to_sleep-rest.ensures.told c.put_to_sleep-rest.ensures.x c.put_to_sleep-rest.ensures.y)
-    (sleep_whole (the_view c.self.inside) c.args.handle.slot c.self.inside.sets.acting c.put_to_sleep-rest.new.sets.acting _ c.self.invariant calls c.put_to_sleep-rest.ensures.acting c.put_to_sleep-rest.ensures.told)
+    core_bodies (the_view c.self.inside) _ _ _ c.self.inside.bodies c.put_to_sleep-rest.new.bodies c.self.invariant
+    (rw (c.book.ensures.entries, c.book.ensures.settled, c.in_ok-reserve.ensures.entries, c.in_ok-reserve.ensures.settled, rest_booked (c.self.inside.calls + 1) c.put_to_sleep-rest.new.sets.acting.labels c.self.inside.bodies.bodies c.put_to_sleep-rest.new.bodies.bodies _ _ c.put_to_sleep-rest.ensures.told c.put_to_sleep-rest.ensures.x c.put_to_sleep-rest.ensures.y)
+    (sleep_whole (the_view c.self.inside) c.args.handle.slot c.self.inside.sets.acting c.put_to_sleep-rest.new.sets.acting _ c.self.invariant.whole calls c.put_to_sleep-rest.ensures.acting c.put_to_sleep-rest.ensures.told))
+    refl refl refl refl
+    c.put_to_sleep-rest.ensures.marked
 
 pub returns : goal.returns
 returns c =
     let due : None ≡ mover_refusal (body_of c.self.inside.handles.places c.self.inside.bodies.bodies c.args.handle) = rw c.bodies.ensures at c.in_ok-check_mover.ensures in
     rw (← c.self.view_is, c.book.ensures.entries, c.book.ensures.settled, c.in_ok-reserve.ensures.entries, c.in_ok-reserve.ensures.settled, rest_booked (c.self.inside.calls + 1) c.put_to_sleep-rest.new.sets.acting.labels c.self.inside.bodies.bodies c.put_to_sleep-rest.new.bodies.bodies _ _ c.put_to_sleep-rest.ensures.told c.put_to_sleep-rest.ensures.x c.put_to_sleep-rest.ensures.y)
-    (sleep_answers (the_view c.self.inside) c.args.handle c.self.inside.sets.acting c.put_to_sleep-rest.new.sets.acting _ c.self.invariant due c.put_to_sleep-rest.ensures.acting c.put_to_sleep-rest.ensures.told)
+    (sleep_answers (the_view c.self.inside) c.args.handle c.self.inside.sets.acting c.put_to_sleep-rest.new.sets.acting _ c.self.invariant.whole due c.put_to_sleep-rest.ensures.acting c.put_to_sleep-rest.ensures.told)

@@ -1,4 +1,4 @@
-use Rattle.std.proofs.Common.{◌≡◌, ◌<◌, false, length, List, Option, get_or, ap, sym, ◌∙◌, arith, cond, ℕ}
+use Rattle.std.proofs.Common.{◌≡◌, ◌<◌, false, length, List, Option, get_or, ap, sym, ◌∙◌, arith, cond, ℕ, true, refl}
 use Rattle.std.specs.Prelude.{option_map}
 use Rattle.std.specs.Option.{ForSome}
 use Rattle.std.proofs.lemmas.List.{get_or-set_same, length-set}
@@ -11,6 +11,8 @@ use Rattle.world_core_base.specs.Awake.{with_slot}
 use Rattle.world_core_base.specs.Gather.{state_of, states_of}
 use Rattle.world_core_base.proofs.SlotsRising.{rising_places}
 use Rattle.world_core_base.proofs.TableLaws.{awake_room, carried_room, enabled_carried, enabled_movers, renewed_states, state_put}
+use Rattle.world_core_base.proofs.MarkedLaws.{marked_eq, marked_set}
+use Rattle.world_core_base.proofs.CoverLaws.{covered_eq, covered_mapped}
 use Rattle.world_core_base.proofs.table.BodyTable.enable.Goals as goal
 
 pub add_if-requires-clause-rising : goal.add_if-requires-clause-rising
@@ -51,11 +53,17 @@ invariant_of-self c =
     let old_awake : List ℕ = c.self.inside.awake.items in
     let old_carried : List ℕ = c.self.inside.carried.items in
     record {
+      covered = covered_eq _ _ _ _ c.enable_slot.ensures refl (covered_mapped enabled_body bodies c.self.inside.boxes c.args.slot (λ b. refl) c.self.invariant.covered);
+      for_boxes = omega (arith, same, c.self.invariant.for_boxes);
       states = rw c.enable_slot.ensures now;
       awake = c.add_if.ensures.items ∙ ap (λ (s : BodyState). cond s.movable (with_slot slot old_awake) old_awake) state ∙ enabled_movers bodies slot old_awake o there off (c.self.invariant.awake ∙ ap movers_of c.self.invariant.states) ∙ ap movers_of (sym now);
       carried = c.add_if-2.ensures.items ∙ (λ j. cond (carried j) (with_slot slot old_carried) old_carried) ∙ enabled_carried bodies slot old_carried o there off (c.self.invariant.carried ∙ ap carried_of c.self.invariant.states) ∙ ap carried_of (sym now);
       for_bodies = omega arith;
       for_states = omega arith;
       for_awake = omega (arith, same, c.self.invariant.for_awake, c.add_if.ensures.capacity);
+      for_marks = let marks = ap length c.mark.ensures ∙ length-set c.self.inside.marks c.args.slot true in omega (arith, same, marks, c.self.invariant.for_marks);
       for_carried = omega (arith, same, c.self.invariant.for_carried, c.add_if-2.ensures.capacity);
     }
+
+pub returns-clause-marked : goal.returns-clause-marked
+returns-clause-marked c = rw (← c.self.view_is) (marked_eq _ _ _ _ _ _ c.enable_slot.ensures c.mark.ensures (marked_set c.self.inside.bodies.items c.self.inside.marks c.args.slot (option_map enabled_body (body_at c.self.inside.bodies.items c.args.slot))))

@@ -43,3 +43,6 @@ returns-clause-momentum_y c =
     let bodies : AreBodies c.self.inside.bodies.items = rw (← c.self.view_is) at c.requires.bodies in
     rw (← c.self.view_is)
     (c.move_bodies.ensures.momentum_y ∙ c.run_step-sums.ensures.momentum_y ∙ ap (λ (z : ℤ). z +ℤ added_y c.run_step-sums.result) (ap total_y c.self.invariant.states ∙ total_y-gathered c.self.inside.bodies.items bodies))
+
+pub returns-clause-marked : goal.returns-clause-marked
+returns-clause-marked c = rw (← c.self.view_is) c.move_bodies.ensures.marked

@@ -1,4 +1,4 @@
-use Rattle.std.proofs.Common.{◌≡◌, ◌≤◌, length, List, Option, ap, subst, sym, ◌∙◌, arith}
+use Rattle.std.proofs.Common.{◌≡◌, ◌≤◌, length, List, Option, ap, subst, sym, ◌∙◌, arith, refl}
 use Rattle.body_handles.specs.declared.places.TheConstants.{MAX_SLOTS}
 use Rattle.momenta.specs.declared.state.BodyState.{BodyState}
 use Rattle.islands.specs.Labels.{Labels}
@@ -12,6 +12,8 @@ use Rattle.world_core_base.specs.Standing.{HaveSameStanding}
 use Rattle.world_core_base.proofs.StandingLaws.{slots-told, standing-told}
 use Rattle.world_core_base.proofs.GatherLaws.{length-states}
 use Rattle.world_core_base.proofs.TellLaws.{carried_told, length-told, told_bodies}
+use Rattle.world_core_base.proofs.MarkedLaws.{marked_eq, marked_told, told_all}
+use Rattle.world_core_base.proofs.CoverLaws.{covered_alike, covered_eq}
 use Rattle.world_core_base.proofs.table.BodyTable.tell.Goals as goal
 
 pub tell_bodies-gain-requires-clause-bodies : goal.tell_bodies-gain-requires-clause-bodies
@@ -38,12 +40,15 @@ invariant_of-self c =
     let now = c.tell_bodies-gain.ensures.bodies in
     let same = ap length now ∙ length-told labels bodies in
     record {
+      covered = covered_eq _ _ _ _ c.tell_bodies-gain.ensures.bodies refl (covered_alike bodies (told labels bodies) c.self.inside.boxes (told_all labels bodies) c.self.invariant.covered);
+      for_boxes = omega (arith, same, c.self.invariant.for_boxes);
       states = c.tell_bodies-gain.ensures.states;
       awake = c.list_movers.ensures.items ∙ ap movers_of c.deref.ensures.value;
       carried = c.self.invariant.carried ∙ ap carried_of c.self.invariant.states ∙ sym (carried_told labels bodies) ∙ ap (λ (os : List (Option Body)). carried_of (states_of os)) (sym now) ∙ ap carried_of (sym c.tell_bodies-gain.ensures.states);
       for_bodies = omega arith;
       for_states = omega arith;
       for_awake = omega (arith, same, c.self.invariant.for_awake, c.list_movers.ensures.capacity);
+      for_marks = omega (arith, same, c.self.invariant.for_marks);
       for_carried = omega (arith, same, c.self.invariant.for_carried);
     }
 
@@ -61,3 +66,6 @@ pub returns-clause-standing : goal.returns-clause-standing
 returns-clause-standing c =
     let bodies = c.self.inside.bodies.items in
     rw (← c.self.view_is) (subst (HaveSameStanding bodies) (sym c.tell_bodies-gain.ensures.bodies) (standing-told c.args.islands.now.labels bodies))
+
+pub returns-clause-marked : goal.returns-clause-marked
+returns-clause-marked c = rw (← c.self.view_is) (marked_eq _ _ _ _ _ _ c.tell_bodies-gain.ensures.bodies refl (marked_told c.args.islands.now.labels c.self.inside.bodies.items c.self.inside.marks))

@@ -1,10 +1,13 @@
-use Rattle.std.proofs.Common.{◌≡◌, length, ap, sym, subst, ◌∙◌, arith}
-use Rattle.colour_solver.specs.States.{carried_of, movers_of}
+use Rattle.std.proofs.Common.{length, ap, sym, subst, ◌∙◌, arith, refl}
+use Rattle.colour_solver.specs.States.{movers_of}
 use Rattle.plain_world.specs.Bodies.{AreBodies}
 use Rattle.plain_world.specs.Slots.{HaveSameSlots}
 use Rattle.world_core_base.specs.Standing.{HaveSameStanding}
 use Rattle.world_core_base.proofs.StandingLaws.{slots-timed, standing-timed}
 use Rattle.world_core_base.proofs.TimeLaws.{awake_places, length-timed, states_timed, timed_are_bodies}
+use Rattle.world_core_base.proofs.MarkedLaws.{marked_eq, marked_timed, timed_each}
+use Rattle.world_core_base.proofs.CoverLaws.{covered_alike, covered_eq}
+use Rattle.plain_world.specs.Sleep.{timed_bodies}
 use Rattle.world_core_base.proofs.table.BodyTable.time.Goals as goal
 
 pub time_bodies-requires-clause-bodies : goal.time_bodies-requires-clause-bodies
@@ -18,12 +21,15 @@ invariant_of-self c =
     let bodies = c.self.inside.bodies.items in
     let same = ap length c.time_bodies.ensures ∙ length-timed c.args.ticks bodies in
     record {
+      covered = covered_eq _ _ _ _ c.time_bodies.ensures refl (covered_alike bodies (timed_bodies c.args.ticks bodies) c.self.inside.boxes (timed_each c.args.ticks bodies) c.self.invariant.covered);
+      for_boxes = omega (arith, same, c.self.invariant.for_boxes);
       states = rw c.time_bodies.ensures (c.self.invariant.states ∙ sym (states_timed c.args.ticks bodies));
       awake = c.self.invariant.awake;
       carried = c.self.invariant.carried;
       for_bodies = omega arith;
       for_states = omega arith;
       for_awake = omega (arith, same, c.self.invariant.for_awake);
+      for_marks = omega (arith, same, c.self.invariant.for_marks);
       for_carried = omega (arith, same, c.self.invariant.for_carried);
     }
 
@@ -41,3 +47,6 @@ pub returns-clause-standing : goal.returns-clause-standing
 returns-clause-standing c =
     let bodies = c.self.inside.bodies.items in
     rw (← c.self.view_is) (subst (HaveSameStanding bodies) (sym c.time_bodies.ensures) (standing-timed c.args.ticks bodies))
+
+pub returns-clause-marked : goal.returns-clause-marked
+returns-clause-marked c = rw (← c.self.view_is) (marked_eq _ _ _ _ _ _ c.time_bodies.ensures refl (marked_timed c.args.ticks c.self.inside.bodies.items c.self.inside.marks))

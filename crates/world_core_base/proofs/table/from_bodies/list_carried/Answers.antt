@@ -1,4 +1,4 @@
-use Rattle.std.proofs.Common.{◌≡◌, ◌++◌, ◌∙◌, ◌∷◌, [], Bool, List, ap, cond, sym, arith}
+use Rattle.std.proofs.Common.{◌++◌, ◌∙◌, ◌∷◌, [], Bool, List, ap, cond, sym, arith}
 use Rattle.std.proofs.lemmas.List.{append-nil, drop_all}
 use Rattle.momenta.specs.declared.state.BodyState.{BodyState}
 use Rattle.colour_solver.specs.States.{is_carried, places_from}

@@ -1,6 +1,0 @@
-use Rattle.std.proofs.Common.{◌≡◌, ◌++◌, drop}
-use Rattle.solver_sets.proofs.ListingLaws.{joint_ties_from}
-use Rattle.solver_sets.proofs.ties.list_joint_ties.Given as goal
-
-abbrev pub invariant-loop-index : goal.invariant-loop-index
-invariant-loop-index l = l.ties.items ++ joint_ties_from l.bodies l.slot l.index (drop l.index l.places) (drop l.index l.joints) ≡ joint_ties_from l.bodies l.slot 0 l.places l.joints
