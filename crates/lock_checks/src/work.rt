@@ -12,7 +12,7 @@ use std::thread;
 use std::thread::Threads;
 use std::time::Clock;
 use world_core::{Command, Refusal, Vec2, WorldCore};
-use world_lock::{Opened, Seat, SharedWorld};
+use world_lock::{Opened, Seat, SharedWorld, may_be_shared};
 
 /// What the seats of a world do.
 #[derive(Clone, Copy)]
@@ -120,6 +120,41 @@ pub fn close<T: Drop, S: Shared<T>>(shared: S, seats: Vec<T>) -> Result<Left<S::
     }
 }
 
+/// A world at which seats of this type work.
+trait Workplace<T> {
+    /// What one seat does.
+    fn work_alone<R: Wait>(&self, rt: &R, alloc: Global, seat: T, work: Work) -> (T, bool);
+}
+
+impl<N: Opened> Workplace<Seat<N>> for SharedWorld<N> {
+    fn work_alone<R: Wait>(
+        &self,
+        rt: &R,
+        alloc: Global,
+        seat: Seat<N>,
+        work: Work,
+    ) -> (Seat<N>, bool) {
+        work_alone(rt, alloc, self, seat, work)
+    }
+}
+
+/// What the seats answer where each works on a thread of its own. It goes by any workplace and seats that may cross threads, so that whether those of a
+/// shared world may is asked by its caller, as a question of its own.
+fn answers_at_once<T: Drop + Send, S: Workplace<T> + Sync, R: Threads + Wait + Sync>(
+    rt: &R,
+    alloc: Global,
+    shared: &S,
+    seats: Vec<T>,
+    work: Work,
+) -> Result<Vec<(T, bool)>, Refusal> {
+    let answers = thread::map_vec(
+        rt,
+        seats,
+        &|seat| { shared.work_alone(rt, alloc, seat, work) },
+    )?;
+    Ok(answers)
+}
+
 /// All seats work at once, each on a thread of its own.
 fn work_at_once<N: Opened + Send + Sync, R: Threads + Wait + Clock + Sync>(
     rt: &R,
@@ -128,12 +163,9 @@ fn work_at_once<N: Opened + Send + Sync, R: Threads + Wait + Clock + Sync>(
     seats: Vec<Seat<N>>,
     work: Work,
 ) -> Result<Left<WorldCore>, Refusal> {
+    may_be_shared::<N>();
     let start = now(rt);
-    let answers = thread::map_vec(
-        rt,
-        seats,
-        &|seat| { work_alone(rt, alloc, &shared, seat, work) },
-    )?;
+    let answers = answers_at_once(rt, alloc, &shared, seats, work)?;
     let nanos = now(rt).saturating_sub(start);
     let mut seats = Vec::new(alloc);
     let honest = gather(answers, &mut seats)?;

@@ -14,7 +14,7 @@ use std::sync::Wait;
 use std::thread::{Scope, Threads};
 use std::{mem, thread};
 use world_core::{Command, Reply, WorldCore};
-use world_lock::{Closed, JournalEntry, Opened, Seat, SharedWorld};
+use world_lock::{Closed, JournalEntry, Opened, Seat, SharedWorld, may_be_shared};
 
 /// What a crowd left: how many calls were accepted, and what each seat did, in the order of the seats' numbers.
 #[derive(Drop)]
@@ -76,35 +76,50 @@ fn make_each<N: Opened, R: Wait>(
     }
 }
 
-/// What one thread does.
-fn make_calls<N: Opened, R: Wait>(
-    rt: &R,
-    shared: &SharedWorld<N>,
-    seat: &mut Seat<N>,
-    def: &CrowdDef,
-) {
-    for _ in 0..def.times {
-        make_each(rt, shared, seat, def.each.as_slice());
+/// A world that seats of this type call.
+trait Called<T> {
+    /// What one thread does.
+    fn make_calls<R: Wait>(&self, rt: &R, seat: &mut T, def: &CrowdDef);
+}
+
+impl<N: Opened> Called<Seat<N>> for SharedWorld<N> {
+    fn make_calls<R: Wait>(&self, rt: &R, seat: &mut Seat<N>, def: &CrowdDef) {
+        for _ in 0..def.times {
+            make_each(rt, self, seat, def.each.as_slice());
+        }
     }
 }
 
-/// Starts a thread for each seat, up to one that can't be started. Refused 11 then.
-fn start_all<'s, E, N: Opened + Send + Sync + 's, R: Threads + Wait + Sync>(
+/// Starts a thread for each seat, up to one that can't be started. Refused 11 then. It goes by any world and seats that may cross threads, so that
+/// whether those of a shared world may is asked by its caller, as a question of its own.
+fn start_all<'s, E, T: Send + 's, S: Called<T> + Sync + 's, R: Threads + Wait + Sync>(
     scope: &Scope<'s, E>,
     rt: &'s R,
-    shared: &'s SharedWorld<N>,
-    seats: &'s mut [Seat<N>],
+    shared: &'s S,
+    seats: &'s mut [T],
     def: &'s CrowdDef,
 ) -> Result<(), Refusal> {
     for seat in seats.iter_mut() {
         if scope
-            .spawn(move || make_calls(rt, shared, seat, def))
+            .spawn(move || shared.make_calls(rt, seat, def))
             .is_err()
         {
             return Err(Refusal::NoThread);
         }
     }
     Ok(())
+}
+
+/// The same for the seats of a shared world.
+fn start_seats<'s, E, N: Opened + Send + Sync + 's, R: Threads + Wait + Sync>(
+    scope: &Scope<'s, E>,
+    rt: &'s R,
+    shared: &'s SharedWorld<N>,
+    seats: &'s mut [Seat<N>],
+    def: &'s CrowdDef,
+) -> Result<(), Refusal> {
+    may_be_shared::<N>();
+    start_all(scope, rt, shared, seats, def)
 }
 
 /// All seats call at once, each on a thread of its own. Refused 11 where one can't be started.
@@ -115,7 +130,7 @@ fn call_at_once<N: Opened + Send + Sync, R: Threads + Wait + Sync>(
     def: &CrowdDef,
 ) -> Result<(), Refusal> {
     thread::scope(thread::scope_env(), rt, |scope| {
-        start_all(scope, rt, shared, seats, def)
+        start_seats(scope, rt, shared, seats, def)
     })
 }
 

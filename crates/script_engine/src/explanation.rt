@@ -102,6 +102,8 @@ fn key_of(request: &Request<'_>, refusal: Refusal) -> Option<&'static str> {
         (Refusal::TooFast, _) => Some("by"),
         (Refusal::BadFile(_), _) => Some("world"),
         (Refusal::OutOfRange, Request::Command(command)) => key_of_number(command),
+        (Refusal::OutOfRange, Request::Ray(_, _)) => Some("from or along"),
+        (Refusal::OutOfRange, Request::Region(_)) => Some("lo or hi"),
         _ => None,
     }
 }

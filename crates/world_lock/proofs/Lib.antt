@@ -1,4 +1,5 @@
 mod HeadlineLaws
+pub mod CrossingLaws
 pub mod Tallying
 pub mod Replaying
 pub mod Holding

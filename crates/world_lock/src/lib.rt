@@ -9,6 +9,7 @@
 //! what the seat had seen and goes on with calls of other seats alone.
 #![tactic(auto)]
 
+mod crossing;
 mod held;
 mod journalled;
 mod opened;
@@ -17,6 +18,7 @@ mod seat;
 mod shared;
 mod tally;
 
+pub use crossing::may_be_shared;
 pub use held::Held;
 pub use journalled::{JournalEntry, JournalledWorld};
 pub use opened::Opened;
