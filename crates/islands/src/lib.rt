@@ -20,8 +20,6 @@ mod room;
 mod scattering;
 mod scratch;
 mod splitting;
-#[cfg(test)]
-mod tests;
 
 pub use islands::Islands;
 pub use label::{IslandState, Label};

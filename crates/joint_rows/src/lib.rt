@@ -12,8 +12,6 @@ pub mod limits;
 pub mod row;
 pub mod row_64;
 pub mod solve;
-#[cfg(test)]
-mod tests;
 
 pub use joint::Joint;
 pub use laws::rows_are_joints;

@@ -1,5 +1,6 @@
 //! The census: a static body, a disabled one, an awake one and two sleeping sets, with joints and contacts.
 
+use crate::assertions::{same, same_items};
 use body_handles::{Handle, Place};
 use contacts_base::{Contact, ContactEntry, ContactKey, ContactPoint, ShapeId, Surface};
 use fixed_geom::{Refusal, Rot, Vec2};
@@ -7,8 +8,9 @@ use joint_rows::Joint;
 use momenta::{MassData, Motion};
 use plain_world::{Body, BodyJoint, FatBoxes, Kind};
 use shapes::Shapes;
-use solver_sets::{Census, Item, take_census};
+use solver_sets::{Census, Item, SleepingSet, take_census};
 use std::alloc::Global;
+use std::process::Abort;
 use std::test::Fail;
 
 const ORIGIN: Vec2 = Vec2 { x: 0, y: 0 };
@@ -124,28 +126,27 @@ fn of_joint(slot: u32) -> Item {
 #[test]
 fn lists_what_stands_in_each_set(rt: HostRuntime) -> Result<(), Fail> {
     let census = census(rt.alloc())?;
-    assert_eq!(rt; census.static_set(), [of_body(0)].as_slice());
+    same_items(&rt, census.static_set(), &[of_body(0)]);
     let disabled = [of_body(1), of_joint(1), Item::Contact(key(3, 5))];
-    assert_eq!(rt; census.disabled(), disabled.as_slice());
+    same_items(&rt, census.disabled(), &disabled);
     let awake = [of_body(2), of_joint(2), Item::Contact(key(0, 2))];
-    assert_eq!(rt; census.awake(), awake.as_slice());
+    same_items(&rt, census.awake(), &awake);
     Ok(())
+}
+
+/// The names of the sleeping sets, and the items of each.
+fn see_sleeping(rt: &impl Abort, sleeping: &[SleepingSet]) {
+    same(rt, &sleeping.len(), &2);
+    if let [first, second] = sleeping {
+        same(rt, &[first.name(), second.name()], &[3, 5]);
+        same_items(rt, first.items(), &[of_body(3), of_body(4), of_joint(0)]);
+        same_items(rt, second.items(), &[of_body(5), Item::Contact(key(0, 5))]);
+    }
 }
 
 #[test]
 fn lists_sleeping_sets_by_name(rt: HostRuntime) -> Result<(), Fail> {
     let census = census(rt.alloc())?;
-    let sleeping = census.sleeping();
-    assert_eq!(rt; sleeping.len(), 2);
-    assert_eq!(rt; sleeping[0].name(), 3);
-    assert_eq!(rt;
-        sleeping[0].items(),
-        [of_body(3), of_body(4), of_joint(0)].as_slice()
-    );
-    assert_eq!(rt; sleeping[1].name(), 5);
-    assert_eq!(rt;
-        sleeping[1].items(),
-        [of_body(5), Item::Contact(key(0, 5))].as_slice()
-    );
+    see_sleeping(&rt, census.sleeping());
     Ok(())
 }

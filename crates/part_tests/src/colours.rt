@@ -4,21 +4,12 @@ ghost use Rattle.std.specs.Prelude.{◌≡◌, ◌+◌, ℕ, Some, None, true, r
 ghost use Rattle.graph_colours.specs.Movers.{shares};
 ghost use Rattle.graph_colours.specs.Colours.{ids_of, least_colour, placed, released, colour_of};
 
+use crate::assertions::{same, same_items};
+use crate::joints::{Joint, between};
 use fixed_geom::Refusal;
 use graph_colours::*;
 use std::alloc::Global;
 use std::test::Fail;
-
-#[derive(Clone, Copy, Debug, PartialEq, Eq)]
-struct Joint(u32);
-
-impl Id for Joint {
-    ghost number = { λ joint. joint.0 };
-
-    fn number(&self) -> u128 {
-        self.0 as u128
-    }
-}
 
 /// Places a constraint that has no colour yet, after making room for it.
 fn place(colours: &mut Colours<Joint>, id: u32, movers: Movers) -> Result<u8, Refusal> {
@@ -34,13 +25,6 @@ fn place(colours: &mut Colours<Joint>, id: u32, movers: Movers) -> Result<u8, Re
     Ok(colours.place(Joint(id), movers))
 }
 
-fn between(first: u32, second: u32) -> Movers {
-    Movers {
-        first,
-        second: Some(second),
-    }
-}
-
 /// Constraints between the mover in slot 0 and another one each, three more than there are colours.
 fn hub(alloc: Global) -> Result<Colours<Joint>, Refusal> {
     let mut colours = Colours::new(alloc)?;
@@ -50,46 +34,91 @@ fn hub(alloc: Global) -> Result<Colours<Joint>, Refusal> {
     Ok(colours)
 }
 
+/// A constraint that has a colour.
+fn member(id: u32, movers: Movers) -> Member<Joint> {
+    Member {
+        id: Joint(id),
+        movers,
+    }
+}
+
+/// A constraint between the mover in slot 0 and the one in the slot of its own number.
+fn spoke(id: u32) -> Member<Joint> {
+    member(id, between(0, id))
+}
+
 #[test]
 fn a_hub_takes_all_colours(rt: HostRuntime) -> Result<(), Fail> {
     let colours = hub(rt.alloc())?;
     for spoke in 1..25u8 {
-        assert_eq!(rt; colours.colour_of(Joint(spoke as u32)), Some(spoke - 1));
+        same(
+            &rt,
+            &colours.colour_of(Joint(spoke as u32)),
+            &Some(spoke - 1),
+        );
     }
-    let over = colours.members(OVERFLOW);
-    assert_eq!(rt; over.len(), 3);
-    assert_eq!(rt; over[0].id, Joint(25));
-    assert_eq!(rt; over[2].id, Joint(27));
+    same_items(
+        &rt,
+        colours.members(OVERFLOW),
+        &[spoke(25), spoke(26), spoke(27)],
+    );
     Ok(())
+}
+
+/// The hub without its fourth spoke.
+fn hub_without_one(alloc: Global) -> Result<Colours<Joint>, Refusal> {
+    let mut colours = hub(alloc)?;
+    colours.release(Joint(4));
+    Ok(colours)
 }
 
 #[test]
 fn a_released_colour_is_taken_next(rt: HostRuntime) -> Result<(), Fail> {
-    let mut colours = hub(rt.alloc())?;
+    let mut colours = hub_without_one(rt.alloc())?;
+    same(&rt, &colours.colour_of(Joint(4)), &None);
+    same(&rt, &colours.colour_of(Joint(5)), &Some(4));
+    same(&rt, &colours.colour_of(Joint(25)), &Some(OVERFLOW));
+    same(&rt, &place(&mut colours, 40, between(40, 0)), &Ok(3));
+    Ok(())
+}
+
+/// A hub and its copy; the hub loses its fourth spoke and gets another constraint.
+fn hub_and_copy(alloc: Global) -> Result<[Colours<Joint>; 2], Refusal> {
+    let mut colours = hub(alloc)?;
     let before = colours.try_copy()?;
     colours.release(Joint(4));
-    assert_eq!(rt; colours.colour_of(Joint(4)), None);
-    assert_eq!(rt; colours.colour_of(Joint(5)), Some(4));
-    assert_eq!(rt; colours.colour_of(Joint(25)), Some(OVERFLOW));
-    assert_eq!(rt; place(&mut colours, 40, between(40, 0))?, 3);
-    assert_eq!(rt; before.colour_of(Joint(4)), Some(3));
-    assert_eq!(rt; before.colour_of(Joint(40)), None);
+    place(&mut colours, 40, between(40, 0))?;
+    Ok([colours, before])
+}
+
+#[test]
+fn a_copy_keeps_its_colours(rt: HostRuntime) -> Result<(), Fail> {
+    let [colours, before] = &hub_and_copy(rt.alloc())?;
+    same(&rt, &colours.colour_of(Joint(40)), &Some(3));
+    same(&rt, &before.colour_of(Joint(4)), &Some(3));
+    same(&rt, &before.colour_of(Joint(40)), &None);
     Ok(())
+}
+
+/// The movers of a constraint that acts on one.
+fn alone(first: u32) -> Movers {
+    Movers {
+        first,
+        second: None,
+    }
 }
 
 #[test]
 fn a_static_floor_does_not_count(rt: HostRuntime) -> Result<(), Fail> {
     let mut colours = Colours::new(rt.alloc())?;
-    let alone = |first: u32| Movers {
-        first,
-        second: None,
-    };
-    assert_eq!(rt; place(&mut colours, 9, alone(2))?, 0);
-    assert_eq!(rt; place(&mut colours, 7, alone(1))?, 0);
-    assert_eq!(rt; place(&mut colours, 8, between(3, 1))?, 1);
-    let members = colours.members(0);
-    assert_eq!(rt; members.len(), 2);
-    assert_eq!(rt; members[0].id, Joint(7));
+    same(&rt, &place(&mut colours, 9, alone(2)), &Ok(0));
+    same(&rt, &place(&mut colours, 7, alone(1)), &Ok(0));
+    same(&rt, &place(&mut colours, 8, between(3, 1)), &Ok(1));
+    same_items(
+        &rt,
+        colours.members(0),
+        &[member(7, alone(1)), member(9, alone(2))],
+    );
     Ok(())
 }
 

@@ -1,11 +1,15 @@
 //! What is made of lists, as a saved world has them: handles, islands, bodies, joints and sums.
 
+use crate::assertions::{same, same_items};
+use crate::handles::give;
+use crate::merging::{add, merge};
 use body_handles::*;
+use box_tree::BoxTree;
 use fixed_geom::{Refusal, Rot, Vec2, ZERO_VECTOR};
 use impulse_ledger::*;
-use islands::Islands;
+use islands::{Islands, Label};
 use joint_rows::Joint;
-use momenta::{MassData, Motion};
+use momenta::{BodyState, MassData, Motion};
 use plain_world::{Body, BodyJoint, FatBoxes, JointTable, Kind};
 use shapes::Shapes;
 use std::alloc::Global;
@@ -14,88 +18,78 @@ use world_core_base::BodyTable;
 
 const NONE: Total = Total { x: 0, y: 0 };
 
+const PLACES: [Place; 2] = [
+    Place {
+        generation: 2,
+        live: true,
+    },
+    Place {
+        generation: 5,
+        live: false,
+    },
+];
+
+fn handles_of_places(alloc: Global) -> Result<Handles, Refusal> {
+    Handles::from_places(alloc, PLACES.as_slice())
+}
+
 #[test]
 fn places_give_the_lowest_free_slot_out_first(rt: HostRuntime) -> Result<(), Fail> {
-    let places = [
-        Place {
-            generation: 2,
-            live: true,
-        },
-        Place {
-            generation: 5,
-            live: false,
-        },
-    ];
-    let mut handles = Handles::from_places(rt.alloc(), places.as_slice())?;
-    assert_eq!(rt; handles.places(), places.as_slice());
-    handles.reserve_one()?;
-    assert_eq!(rt;
-        handles.insert(),
-        Ok(Handle {
-            slot: 1,
-            generation: 5
-        })
-    );
+    let mut handles = handles_of_places(rt.alloc())?;
+    same_items(&rt, handles.places(), &PLACES);
+    let second = Handle {
+        slot: 1,
+        generation: 5,
+    };
+    same(&rt, &give(&mut handles), &Ok(second));
     Ok(())
+}
+
+const JOINT: BodyJoint = BodyJoint {
+    a: 2,
+    b: 1,
+    collide: false,
+    joint: Joint {
+        from: ZERO_VECTOR,
+        to: Vec2 { x: 1, y: 0 },
+        length: 65_536,
+        impulse: 7,
+    },
+};
+
+const JOINTS: [Option<BodyJoint>; 3] = [None, Some(JOINT), None];
+
+fn table_of_joints(alloc: Global) -> Result<JointTable, Refusal> {
+    JointTable::from_joints(alloc, JOINTS.as_slice())
 }
 
 #[test]
 fn a_table_has_the_joints_that_it_is_given(rt: HostRuntime) -> Result<(), Fail> {
-    let joint = BodyJoint {
-        a: 2,
-        b: 1,
-        collide: false,
-        joint: Joint {
-            from: ZERO_VECTOR,
-            to: Vec2 { x: 1, y: 0 },
-            length: 65_536,
-            impulse: 7,
-        },
-    };
-    let joints = [None, Some(joint), None];
-    let table = JointTable::from_joints(rt.alloc(), joints.as_slice())?;
-    assert_eq!(rt; table.joints(), joints.as_slice());
-    assert_eq!(rt; table.forbidden().len(), 1);
+    let table = table_of_joints(rt.alloc())?;
+    same_items(&rt, table.joints(), &JOINTS);
+    same(&rt, &table.forbidden().len(), &1);
     Ok(())
+}
+
+const SETTLED: Totals = Totals {
+    command: Total { x: 5, y: -7 },
+    gravity: Total { x: 0, y: -100 },
+    immovable: NONE,
+    clamp: NONE,
+    rest: NONE,
+    departed: Total { x: -5, y: 107 },
+};
+
+fn ledger_of_totals(alloc: Global) -> Ledger {
+    Ledger::from_totals(alloc, SETTLED)
 }
 
 #[test]
-fn a_ledger_has_the_sums_that_it_is_given(rt: HostRuntime) -> Result<(), Fail> {
-    let settled = Totals {
-        command: Total { x: 5, y: -7 },
-        gravity: Total { x: 0, y: -100 },
-        immovable: NONE,
-        clamp: NONE,
-        rest: NONE,
-        departed: Total { x: -5, y: 107 },
-    };
-    let ledger = Ledger::from_totals(rt.alloc(), settled);
-    assert_eq!(rt; ledger.entries().len(), 0);
-    assert_eq!(rt; ledger.total(), NONE);
-    assert_eq!(rt; ledger.total_of(Cause::Gravity), Total { x: 0, y: -100 });
-    Ok(())
-}
-
-/// Adds a mover where there is none yet, after making room for it.
-fn add(islands: &mut Islands, slot: u32) -> Result<(), Refusal> {
-    islands.reserve(slot as usize + 1)?;
-    if islands.label_of(slot).is_some() {
-        return Err(Refusal::OutOfRange);
-    }
-    islands.add(slot);
-    Ok(())
-}
-
-/// Merges the islands of two movers that are there.
-fn merge(islands: &mut Islands, a: u32, b: u32) -> Result<(), Refusal> {
-    if islands.label_of(a).is_none() {
-        return Err(Refusal::OutOfRange);
-    }
-    if islands.label_of(b).is_none() {
-        return Err(Refusal::OutOfRange);
-    }
-    islands.merge(a, b);
-    Ok(())
+fn a_ledger_has_the_sums_that_it_is_given(rt: HostRuntime) {
+    let ledger = ledger_of_totals(rt.alloc());
+    same_items(&rt, ledger.entries(), &[]);
+    same(&rt, &ledger.total(), &NONE);
+    same(&rt, &ledger.total_of(Cause::Gravity), &SETTLED.gravity);
 }
 
 /// Four movers, of which the first and the last are in one loose island.
@@ -118,15 +112,23 @@ fn made_anew(alloc: Global, islands: &Islands) -> Result<Islands, Refusal> {
     Islands::from_labels(alloc, &labels)
 }
 
+/// The labels of the four movers.
+fn labels(islands: &Islands) -> [Option<Label>; 4] {
+    [
+        islands.label_of(0),
+        islands.label_of(1),
+        islands.label_of(2),
+        islands.label_of(3),
+    ]
+}
+
 #[test]
 fn islands_have_the_labels_that_they_are_given(rt: HostRuntime) -> Result<(), Fail> {
     let islands = an_island_and_two(rt.alloc())?;
     let made = made_anew(rt.alloc(), &islands)?;
-    assert_eq!(rt; made.slots(), 4);
-    for slot in 0..4 {
-        assert_eq!(rt; made.label_of(slot), islands.label_of(slot));
-    }
-    assert_eq!(rt; made.name_of(3), Some(0));
+    same(&rt, &made.slots(), &4);
+    same(&rt, &labels(&made), &labels(&islands));
+    same(&rt, &made.name_of(3), &Some(0));
     Ok(())
 }
 
@@ -146,16 +148,35 @@ fn body(alloc: Global, kind: Kind) -> Body {
     }
 }
 
-#[test]
-fn a_table_has_the_bodies_that_it_is_given(rt: HostRuntime) -> Result<(), Fail> {
+/// A table of an empty slot, a static body and a mover.
+fn table_of_bodies(alloc: Global) -> Result<BodyTable, Refusal> {
     let bodies = [
         None,
-        Some(body(rt.alloc(), Kind::Static)),
-        Some(body(rt.alloc(), Kind::Dynamic)),
+        Some(body(alloc, Kind::Static)),
+        Some(body(alloc, Kind::Dynamic)),
     ];
-    let table = BodyTable::from_bodies(rt.alloc(), bodies.as_slice())?;
-    assert_eq!(rt; table.bodies().len(), 3);
-    assert_eq!(rt; table.awake(), [2].as_slice());
-    assert_eq!(rt; table.states()[2].movable, true);
+    BodyTable::from_bodies(alloc, bodies.as_slice())
+}
+
+fn is_last_movable(states: &[BodyState]) -> bool {
+    match states.last() {
+        Some(state) => state.movable,
+        None => false,
+    }
+}
+
+/// Whether the empty slot and the mover's have a box.
+fn have_boxes(boxes: &BoxTree) -> [bool; 2] {
+    [boxes.get(0).is_some(), boxes.get(2).is_some()]
+}
+
+#[test]
+fn a_table_has_the_bodies_that_it_is_given(rt: HostRuntime) -> Result<(), Fail> {
+    let table = table_of_bodies(rt.alloc())?;
+    same(&rt, &table.bodies().len(), &3);
+    same_items(&rt, table.awake(), &[2]);
+    same(&rt, &is_last_movable(table.states()), &true);
+    same_items(&rt, table.marks().slots(), &[0, 1, 2]);
+    same(&rt, &have_boxes(table.boxes()), &[false, true]);
     Ok(())
 }

@@ -1,66 +1,80 @@
 //! Handles: freed slots are given out again, and none beyond the limit.
 
+use crate::assertions::same;
 use body_handles::*;
 use fixed_geom::Refusal;
+use std::alloc::Global;
 use std::test::Fail;
+
+fn handle(slot: u32, generation: u32) -> Handle {
+    Handle { slot, generation }
+}
+
+/// Gives a slot out, after making room for it.
+pub(crate) fn give(handles: &mut Handles) -> Result<Handle, Refusal> {
+    handles.reserve_one()?;
+    handles.insert()
+}
+
+/// Gives out so many slots.
+fn given(alloc: Global, count: usize) -> Result<Handles, Refusal> {
+    let mut handles = Handles::new(alloc);
+    for _ in 0..count {
+        if handles.is_full() {
+            return Err(Refusal::TooMany);
+        }
+        give(&mut handles)?;
+    }
+    Ok(handles)
+}
+
+/// Takes a slot back, if it is given out.
+fn take(handles: &mut Handles, handle: Handle) {
+    if handles.is_live(handle) {
+        handles.remove(handle);
+    }
+}
+
+const SECOND: Handle = Handle {
+    slot: 1,
+    generation: 1,
+};
 
 #[test]
 fn gives_a_freed_slot_out_at_its_next_generation(rt: HostRuntime) -> Result<(), Fail> {
-    let mut handles = Handles::new(rt.alloc());
-    for slot in 0..3 {
-        handles.reserve_one()?;
-        assert_eq!(rt;
-            handles.insert(),
-            Ok(Handle {
-                slot,
-                generation: 1
-            })
-        );
-    }
-    let second = Handle {
-        slot: 1,
-        generation: 1,
-    };
-    assert!(rt; handles.is_live(second));
+    let mut handles = given(rt.alloc(), 2)?;
+    same(&rt, &give(&mut handles), &Ok(handle(2, 1)));
+    same(&rt, &handles.is_live(SECOND), &true);
+    take(&mut handles, SECOND);
+    same(&rt, &handles.is_live(SECOND), &false);
+    same(&rt, &handles.slots(), &3);
+    same(&rt, &give(&mut handles), &Ok(handle(1, 2)));
+    same(&rt, &give(&mut handles), &Ok(handle(3, 1)));
+    same(&rt, &handles.is_live(SECOND), &false);
+    same(&rt, &handles.places().len(), &4);
+    Ok(())
+}
+
+#[test]
+fn a_copy_stays_as_it_was(rt: HostRuntime) -> Result<(), Fail> {
+    let mut handles = given(rt.alloc(), 3)?;
     let before = handles.try_copy()?;
-    handles.remove(second);
-    assert!(rt; !handles.is_live(second));
-    assert!(rt; before.is_live(second));
-    assert_eq!(rt; handles.slots(), 3);
-    for (slot, generation) in [(1, 2), (3, 1)] {
-        handles.reserve_one()?;
-        assert_eq!(rt; handles.insert(), Ok(Handle { slot, generation }));
-    }
-    assert!(rt; !handles.is_live(second));
-    assert_eq!(rt; handles.places().len(), 4);
-    assert_eq!(rt; before.slots(), 3);
+    take(&mut handles, SECOND);
+    same(&rt, &before.is_live(SECOND), &true);
+    same(&rt, &give(&mut handles), &Ok(handle(1, 2)));
+    same(&rt, &before.slots(), &3);
     Ok(())
 }
 
 #[test]
 fn gives_out_every_slot_below_the_limit(rt: HostRuntime) -> Result<(), Fail> {
-    let mut handles = Handles::new(rt.alloc());
-    for _ in 0..MAX_SLOTS {
-        assert!(rt; !handles.is_full());
-        handles.reserve_one()?;
-        handles.insert()?;
-    }
-    assert!(rt; handles.is_full());
-    let last = Handle {
-        slot: 65_535,
-        generation: 1,
-    };
-    assert!(rt; handles.is_live(last));
-    handles.reserve_one()?;
-    assert_eq!(rt; handles.insert(), Err(Refusal::TooMany));
-    handles.remove(last);
-    handles.reserve_one()?;
-    assert_eq!(rt;
-        handles.insert(),
-        Ok(Handle {
-            slot: 65_535,
-            generation: 2
-        })
-    );
+    let mut handles = given(rt.alloc(), MAX_SLOTS - 1)?;
+    let last = handle(65_535, 1);
+    same(&rt, &handles.is_full(), &false);
+    same(&rt, &give(&mut handles), &Ok(last));
+    same(&rt, &handles.is_full(), &true);
+    same(&rt, &give(&mut handles), &Err(Refusal::TooMany));
+    take(&mut handles, last);
+    same(&rt, &give(&mut handles), &Ok(handle(65_535, 2)));
     Ok(())
 }

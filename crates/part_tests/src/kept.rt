@@ -1,32 +1,40 @@
 //! Contacts that are kept from collide to collide, by scenes worked by hand.
 
-ghost use Rattle.std.specs.Prelude.{◌≡◌};
+ghost use Rattle.std.specs.Prelude.{◌≡◌, ◌<◌, All, IfOk, OnOk, []};
+ghost use Rattle.std.specs.List.Sorted.{IsNonDecreasing};
 ghost use Rattle.contacts_base.specs.Keys.{id_number};
+ghost use Rattle.contacts_base.specs.Near.{IsProxyList};
 ghost use Rattle.contacts.specs.Known.{found};
 ghost use Rattle.contacts.specs.Turns.{stirs_in};
+ghost use Rattle.part_tests.specs.Scenes.{ArePairs, IsListed};
 
+use crate::assertions::{same, same_items};
 use crate::near::{BALL, KEY, add, lying_at, proxy_of};
 use contacts::*;
-use contacts_base::{ContactKey, Impulses, Proxy, ShapeId};
-use fixed_geom::Refusal;
+use contacts_base::{ContactKey, Proxy, ShapeId};
+use fixed_geom::{Box2, Refusal};
 use kept_contacts::{KeptContacts, Touches};
+use slot_marks::Marks;
 use std::alloc::Global;
 use std::marker::Model;
 use std::test::Fail;
 
-/// Shapes that are read by their names.
+/// Shapes that are read by their names: all their bodies may stir, and may be near any box.
 #[derive(Drop)]
 struct Scene {
     shapes: BroadPhase,
+    // The slots of the shapes' bodies.
+    slots: Vec<u32>,
 }
 
 impl Model for Scene {
-    ghost use Rattle.std.specs.Prelude.{List};
-    ghost use Rattle.contacts_base.specs.declared.near.Proxy.{Proxy};
+    ghost use Rattle.part_tests.specs.Scenes.{Shown, IsShown};
 
-    ghost Value = { List Proxy };
+    ghost Value = { Shown };
 
-    ghost view = { λ a. a.shapes };
+    ghost view = { λ a. record { shapes = a.shapes; slots = a.slots.items } };
+
+    ghost invariant = { λ a. IsShown a.shapes a.slots.items };
 }
 
 /// The shape with this name, if it is there.
@@ -52,7 +60,11 @@ fn stirs_in(shape: Option<Proxy>) -> bool
 }
 
 impl ShapesByName for Scene {
-    ghost proxies = { λ s. s };
+    ghost proxies = { λ s. s.shapes };
+
+    ghost awake = { λ s. s.slots };
+
+    ghost carried = { λ s. s.slots };
 
     fn shape(&self, id: ShapeId) -> Option<Proxy> {
         shape_named(self.shapes.proxies(), id)
@@ -62,91 +74,110 @@ impl ShapesByName for Scene {
         stirs_in(shape_named(self.shapes.proxies(), id))
     }
 
+    fn awake(&self) -> &[u32] {
+        self.slots.as_slice()
+    }
+
+    fn carried(&self) -> &[u32] {
+        self.slots.as_slice()
+    }
+
+    fn overlapping(&self, wanted: &Box2) -> Result<Vec<u32>, Refusal> {
+        let _ = wanted;
+        let mut slots = Vec::new(*self.slots.allocator());
+        slots.extend_from_slice(&self.slots)?;
+        Ok(slots)
+    }
+
     fn gather(&self, broad: &mut BroadPhase) -> Result<(), Refusal> {
         *broad = self.shapes.try_copy()?;
         Ok(())
     }
 }
 
+/// The slots of the shapes' bodies, which have to be below 64.
+fn slots_of(alloc: Global, shapes: &[Proxy]) -> Result<Vec<u32>, Refusal>
+    ensures { IfOk result (λ slots. All (IsListed slots.items) shapes.now) }
+{
+    let mut slots = Vec::new(alloc);
+    for place in 0..shapes.len() {
+        let slot = shapes[place].id.slot;
+        if slot >= 64 {
+            return Err(Refusal::OutOfRange);
+        }
+        slots.push(slot)?;
+    }
+    Ok(slots)
+}
+
+/// A collide of these shapes with all slots marked, carried out; the bodies of the forbidden pairs pass through one another.
 fn collide(
     alloc: Global,
     contacts: &mut KeptContacts,
     shapes: BroadPhase,
-) -> Result<Touches, Refusal> {
-    let scene = Scene { shapes };
-    contacts.collide(alloc, &scene, &[])
-}
-
-/// The same where the bodies in the slots 0 and 1 pass through one another.
-fn collide_apart(
-    alloc: Global,
-    contacts: &mut KeptContacts,
-    shapes: BroadPhase,
-) -> Result<Touches, Refusal> {
-    let scene = Scene { shapes };
-    contacts.collide(alloc, &scene, &[1])
-}
-
-/// Whether a capsule at this height on its floor begins to touch, whether it ends, and how many contacts there are when the collide was carried
-/// out.
-fn laid_at(
-    alloc: Global,
-    contacts: &mut KeptContacts,
-    y: i64,
-) -> Result<(usize, usize, usize), Refusal> {
-    let touches = collide(alloc, contacts, lying_at(alloc, y)?)?;
+    forbidden: &[u64],
+) -> Result<Touches, Refusal>
+    requires pairs { ArePairs contacts.old.contacts }
+    requires sorted { IsNonDecreasing forbidden.now }
+    ensures pairs { ArePairs contacts.new.contacts }
+    ensures settled { OnOk result (contacts.new.pending ≡ 0) }
+{
+    let slots = slots_of(alloc, shapes.proxies())?;
+    let marks = Marks::all_marked(alloc, 64)?;
+    let scene = Scene { shapes, slots };
+    let touches = contacts.collide(alloc, &scene, marks.flags(), marks.slots(), forbidden)?;
     contacts.carry_out();
-    Ok((
+    Ok(touches)
+}
+
+/// How many contacts begin and end where a capsule lies at this height on its floor, and how many there are then.
+fn laid_at(alloc: Global, contacts: &mut KeptContacts, y: i64) -> Result<[usize; 3], Refusal>
+    requires { ArePairs contacts.old.contacts }
+    ensures pairs { ArePairs contacts.new.contacts }
+    ensures settled { OnOk result (contacts.new.pending ≡ 0) }
+{
+    let touches = collide(alloc, contacts, lying_at(alloc, y)?, &[])?;
+    Ok([
         touches.begin.len(),
         touches.end.len(),
         contacts.as_slice().len(),
-    ))
+    ])
 }
 
-#[test]
-fn a_contact_is_kept_while_its_shapes_are_near(rt: HostRuntime) -> Result<(), Fail> {
-    let mut contacts = KeptContacts::new(rt.alloc());
-    assert_eq!(rt; laid_at(rt.alloc(), &mut contacts, 20_000)?, (1, 0, 1));
-    assert_eq!(rt; laid_at(rt.alloc(), &mut contacts, 20_000)?, (0, 0, 1));
-    assert_eq!(rt; laid_at(rt.alloc(), &mut contacts, 20_001)?, (0, 1, 1));
-    assert_eq!(rt; laid_at(rt.alloc(), &mut contacts, 20_000)?, (1, 0, 1));
-    assert_eq!(rt; laid_at(rt.alloc(), &mut contacts, 1_000_000)?, (0, 1, 0));
-    assert_eq!(rt; laid_at(rt.alloc(), &mut contacts, 20_000)?, (1, 0, 1));
-    Ok(())
-}
-
-#[test]
-fn a_collide_that_is_not_carried_out_changes_nothing(rt: HostRuntime) -> Result<(), Fail> {
-    let mut contacts = KeptContacts::new(rt.alloc());
-    let touches = collide(rt.alloc(), &mut contacts, lying_at(rt.alloc(), 20_000)?)?;
-    assert_eq!(rt; touches.begin.as_slice(), [KEY].as_slice());
-    assert!(rt; contacts.as_slice().is_empty());
-    let first = Impulses {
-        normal_impulse: 40,
-        tangent_impulse: -30,
-    };
-    contacts.set_impulses(0, first, None);
-    contacts.carry_out();
-    assert!(rt; contacts.as_slice().is_empty());
-    assert_eq!(rt; laid_at(rt.alloc(), &mut contacts, 20_000)?, (1, 0, 1));
-    contacts.set_impulses(0, first, None);
-    let mut copied = contacts.try_copy(rt.alloc())?;
+/// What there is of a capsule that is laid down, lifted by one, lifted far in a copy, and laid down again, and how many contacts are left
+/// without its body.
+fn kept(alloc: Global) -> Result<([[usize; 3]; 4], usize), Refusal> {
+    let mut contacts = KeptContacts::new(alloc);
+    let laid = laid_at(alloc, &mut contacts, 20_000)?;
+    let lifted = laid_at(alloc, &mut contacts, 20_001)?;
+    let mut copied = contacts.try_copy(alloc)?;
+    let gone = laid_at(alloc, &mut copied, 1_000_000)?;
+    let again = laid_at(alloc, &mut contacts, 20_000)?;
+    contacts.reserve_drop(alloc)?;
     contacts.drop_of_body(1);
-    assert!(rt; contacts.as_slice().is_empty());
-    assert_eq!(rt; laid_at(rt.alloc(), &mut contacts, 20_000)?, (1, 0, 1));
-    assert_eq!(rt; laid_at(rt.alloc(), &mut copied, 20_000)?, (0, 0, 1));
-    Ok(())
+    let left = contacts.to_entries(alloc)?.len();
+    Ok(([laid, lifted, gone, again], left))
+}
+
+#[test]
+fn a_contact_is_kept_while_its_shapes_are_near(rt: HostRuntime) {
+    let counts = [[1, 0, 1], [0, 1, 1], [0, 0, 0], [1, 0, 1]];
+    same(&rt, &kept(rt.alloc()), &Ok((counts, 0)));
+}
+
+/// The touches of a capsule on its floor once both pass through one another, and how many contacts are left.
+fn joined(alloc: Global) -> Result<(Touches, usize), Refusal> {
+    let mut contacts = KeptContacts::new(alloc);
+    laid_at(alloc, &mut contacts, 20_000)?;
+    let touches = collide(alloc, &mut contacts, lying_at(alloc, 20_000)?, &[1])?;
+    Ok((touches, contacts.as_slice().len()))
 }
 
 #[test]
 fn a_joint_that_comes_ends_a_contact(rt: HostRuntime) -> Result<(), Fail> {
-    let mut contacts = KeptContacts::new(rt.alloc());
-    assert_eq!(rt; laid_at(rt.alloc(), &mut contacts, 20_000)?, (1, 0, 1));
-    let apart = collide_apart(rt.alloc(), &mut contacts, lying_at(rt.alloc(), 20_000)?)?;
-    contacts.carry_out();
-    assert_eq!(rt; apart.end.as_slice(), [KEY].as_slice());
-    assert!(rt; contacts.as_slice().is_empty());
-    assert_eq!(rt; laid_at(rt.alloc(), &mut contacts, 20_000)?, (1, 0, 1));
+    let (touches, left) = &joined(rt.alloc())?;
+    same_items(&rt, &touches.end, &[KEY]);
+    same(&rt, left, &0);
     Ok(())
 }
 
@@ -168,22 +199,20 @@ const NEXT: ContactKey = ContactKey {
     second: ShapeId { slot: 6, index: 0 },
 };
 
+/// The touches of the row and how many contacts it has, before its ball in slot 5 moves and after it.
+fn moved(alloc: Global) -> Result<[(Touches, usize); 2], Refusal> {
+    let mut contacts = KeptContacts::new(alloc);
+    let first = collide(alloc, &mut contacts, row(alloc, 0)?, &[])?;
+    let before = contacts.as_slice().len();
+    let then = collide(alloc, &mut contacts, row(alloc, 950_000)?, &[])?;
+    Ok([(first, before), (then, contacts.as_slice().len())])
+}
+
 #[test]
 fn one_of_many_moves(rt: HostRuntime) -> Result<(), Fail> {
-    let mut contacts = KeptContacts::new(rt.alloc());
-    let first = collide(rt.alloc(), &mut contacts, row(rt.alloc(), 0)?)?;
-    contacts.carry_out();
-    assert!(rt; first.begin.is_empty() && contacts.as_slice().is_empty());
-    let met = collide(rt.alloc(), &mut contacts, row(rt.alloc(), 950_000)?)?;
-    contacts.carry_out();
-    assert_eq!(rt; met.begin.as_slice(), [NEXT].as_slice());
-    assert_eq!(rt; contacts.as_slice().len(), 1);
-    let near = collide(rt.alloc(), &mut contacts, row(rt.alloc(), 900_000)?)?;
-    contacts.carry_out();
-    assert_eq!(rt; near.end.as_slice(), [NEXT].as_slice());
-    assert_eq!(rt; contacts.as_slice().len(), 1);
-    let gone = collide(rt.alloc(), &mut contacts, row(rt.alloc(), 0)?)?;
-    contacts.carry_out();
-    assert!(rt; gone.end.is_empty() && contacts.as_slice().is_empty());
+    let [(first, before), (then, after)] = &moved(rt.alloc())?;
+    same_items(&rt, &first.begin, &[]);
+    same_items(&rt, &then.begin, &[NEXT]);
+    same(&rt, &[*before, *after], &[0, 1]);
     Ok(())
 }

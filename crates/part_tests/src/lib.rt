@@ -3,9 +3,13 @@
 #![tactic(auto)]
 
 #[cfg(test)]
+mod assertions;
+#[cfg(test)]
 mod census;
 #[cfg(test)]
 mod colours;
+#[cfg(test)]
+mod definitions;
 #[cfg(test)]
 mod events;
 #[cfg(test)]
@@ -13,9 +17,17 @@ mod given_lists;
 #[cfg(test)]
 mod handles;
 #[cfg(test)]
+mod joint_passes;
+#[cfg(test)]
+mod joints;
+#[cfg(test)]
 mod kept;
 #[cfg(test)]
 mod ledger;
+#[cfg(test)]
+mod marks;
+#[cfg(test)]
+mod merging;
 #[cfg(test)]
 mod near;
 #[cfg(test)]
@@ -31,6 +43,10 @@ mod points;
 #[cfg(test)]
 mod rays;
 #[cfg(test)]
+mod seats;
+#[cfg(test)]
 mod sleep;
+#[cfg(test)]
+mod ticks;
 #[cfg(test)]
 mod tree;

@@ -3,6 +3,7 @@
 ghost use Rattle.std.specs.Prelude.{◌≡◌, IfOk};
 ghost use Rattle.contacts_base.specs.Near.{IsProxy};
 
+use crate::assertions::{same, same_items};
 use body_handles::MAX_SLOTS;
 use contacts::*;
 use contacts_base::{
@@ -83,19 +84,6 @@ pub(crate) fn add(broad: &mut BroadPhase, proxy: Proxy) -> Result<(), Refusal>
     Err(Refusal::OutOfRange)
 }
 
-/// Adds a shape with this filter.
-fn add_filtered(
-    broad: &mut BroadPhase,
-    slot: u32,
-    shape: Shape,
-    x: i64,
-    y: i64,
-    filter: Filter,
-) -> Result<(), Refusal> {
-    let proxy = proxy_of(slot, shape, x, y, true)?;
-    add(broad, Proxy { filter, ..proxy })
-}
-
 fn collide(alloc: Global, old: &Contacts, broad: &mut BroadPhase) -> Result<Changes, Refusal> {
     broad.update_contacts(alloc, &[], old)
 }
@@ -152,25 +140,50 @@ fn point(candidate: u64, x: i64, normal_impulse: i64, tangent_impulse: i64) -> C
     }
 }
 
+/// The contact of the capsule with its floor.
+fn entry(
+    surface: Surface,
+    first: Option<ContactPoint>,
+    second: Option<ContactPoint>,
+) -> ContactEntry {
+    ContactEntry {
+        key: KEY,
+        surface,
+        contact: Contact { first, second },
+    }
+}
+
+/// How many contacts were made, are gone, begin and end.
+fn counts(changes: &Changes) -> [usize; 4] {
+    [
+        changes.made.len(),
+        changes.gone.len(),
+        changes.begin.len(),
+        changes.end.len(),
+    ]
+}
+
+/// What the capsule changes that comes to lie, and what it changes then.
+fn laid_twice(alloc: Global) -> Result<[Changes; 2], Refusal> {
+    let mut lying = lying_at(alloc, 20_000)?;
+    let laid = collide(alloc, &Contacts::new(alloc), &mut lying)?;
+    let lies = collide(alloc, &laid.now, &mut lying)?;
+    Ok([laid, lies])
+}
+
 #[test]
 fn a_capsule_comes_to_lie_on_a_segment(rt: HostRuntime) -> Result<(), Fail> {
-    let mut lying = lying_at(rt.alloc(), 20_000)?;
-    let laid = collide(rt.alloc(), &Contacts::new(rt.alloc()), &mut lying)?;
-    let contact = Contact {
-        first: Some(point(2, -50_000, 0, 0)),
-        second: Some(point(3, 50_000, 0, 0)),
-    };
-    let entry = ContactEntry {
-        key: KEY,
-        surface: TOGETHER,
-        contact,
-    };
-    assert_eq!(rt; laid.now.as_slice(), [entry].as_slice());
-    assert_eq!(rt; laid.made.as_slice(), [KEY].as_slice());
-    assert_eq!(rt; laid.begin.as_slice(), [KEY].as_slice());
-    let lies = collide(rt.alloc(), &laid.now, &mut lying)?;
-    assert!(rt; lies.made.is_empty() && lies.gone.is_empty());
-    assert!(rt; lies.begin.is_empty() && lies.end.is_empty());
+    let [laid, lies] = &laid_twice(rt.alloc())?;
+    let first = point(2, -50_000, 0, 0);
+    let second = point(3, 50_000, 0, 0);
+    same_items(
+        &rt,
+        laid.now.as_slice(),
+        &[entry(TOGETHER, Some(first), Some(second))],
+    );
+    same_items(&rt, &laid.made, &[KEY]);
+    same_items(&rt, &laid.begin, &[KEY]);
+    same(&rt, &counts(lies), &[0, 0, 0, 0]);
     Ok(())
 }
 
@@ -182,148 +195,141 @@ const KEPT: Surface = Surface {
 
 /// The contact of the capsule that lay on the floor, with what it kept.
 fn resting(alloc: Global) -> Result<Contacts, Refusal> {
-    let contact = Contact {
-        first: Some(point(3, 50_000, 7, -2)),
-        second: Some(point(2, -50_000, 5, 1)),
-    };
+    let first = point(3, 50_000, 7, -2);
+    let second = point(2, -50_000, 5, 1);
     let mut entries = Vec::new(alloc);
     entries.push(ContactEntry {
         key: KEY,
         surface: KEPT,
-        contact,
+        contact: Contact {
+            first: Some(first),
+            second: Some(second),
+        },
     })?;
     Ok(Contacts::from_entries(entries))
 }
 
-#[test]
-fn contacts_go_with_a_body(rt: HostRuntime) -> Result<(), Fail> {
-    let mut contacts = resting(rt.alloc())?;
-    assert!(rt; contacts.is_touching(KEY));
-    assert!(rt;
-        !contacts.is_touching(ContactKey {
-            first: SECOND,
-            second: FIRST
-        })
-    );
+/// Gives the first contact other impulses at its first point, and would give the second, which isn't there.
+fn change_impulses(contacts: &mut Contacts) {
     let first = Impulses {
         normal_impulse: 40,
         tangent_impulse: -30,
     };
     contacts.set_impulses(0, first, None);
     contacts.set_impulses(1, first, None);
+}
+
+const TURNED: ContactKey = ContactKey {
+    first: SECOND,
+    second: FIRST,
+};
+
+#[test]
+fn contacts_go_with_a_body(rt: HostRuntime) -> Result<(), Fail> {
+    let mut contacts = resting(rt.alloc())?;
+    same(&rt, &contacts.is_touching(KEY), &true);
+    same(&rt, &contacts.is_touching(TURNED), &false);
+    change_impulses(&mut contacts);
     let copied = contacts.try_copy()?;
     contacts.drop_of_body(2);
-    assert_eq!(rt; contacts.len(), 1);
+    same(&rt, &contacts.len(), &1);
     contacts.drop_of_body(1);
-    assert_eq!(rt; contacts.len(), 0);
-    assert!(rt; !contacts.is_touching(KEY));
-    let contact = Contact {
-        first: Some(point(3, 50_000, 40, -30)),
-        second: Some(point(2, -50_000, 5, 1)),
-    };
-    let entry = ContactEntry {
-        key: KEY,
-        surface: KEPT,
-        contact,
-    };
-    assert_eq!(rt; copied.as_slice(), [entry].as_slice());
+    same(&rt, &contacts.len(), &0);
+    same(&rt, &contacts.is_touching(KEY), &false);
+    let first = point(3, 50_000, 40, -30);
+    let second = point(2, -50_000, 5, 1);
+    same_items(
+        &rt,
+        copied.as_slice(),
+        &[entry(KEPT, Some(first), Some(second))],
+    );
     Ok(())
+}
+
+/// What the capsule that lay on the floor changes where it is at this height now.
+fn lifted(alloc: Global, y: i64) -> Result<Changes, Refusal> {
+    collide(alloc, &resting(alloc)?, &mut lying_at(alloc, y)?)
 }
 
 #[test]
 fn a_lifted_capsule_parts(rt: HostRuntime) -> Result<(), Fail> {
-    let lifted = collide(
-        rt.alloc(),
-        &resting(rt.alloc())?,
-        &mut lying_at(rt.alloc(), 20_001)?,
-    )?;
-    assert_eq!(rt; lifted.end.as_slice(), [KEY].as_slice());
-    assert!(rt; lifted.gone.is_empty());
-    let apart = Contact {
-        first: None,
-        second: None,
-    };
-    let entry = ContactEntry {
-        key: KEY,
-        surface: KEPT,
-        contact: apart,
-    };
-    assert_eq!(rt; lifted.now.as_slice(), [entry].as_slice());
+    let lifted = lifted(rt.alloc(), 20_001)?;
+    same_items(&rt, &lifted.end, &[KEY]);
+    same_items(&rt, &lifted.gone, &[]);
+    same_items(&rt, lifted.now.as_slice(), &[entry(KEPT, None, None)]);
     Ok(())
 }
 
 #[test]
 fn a_capsule_far_above_is_gone(rt: HostRuntime) -> Result<(), Fail> {
-    let gone = collide(
-        rt.alloc(),
-        &resting(rt.alloc())?,
-        &mut lying_at(rt.alloc(), 1_000_000)?,
-    )?;
-    assert_eq!(rt; gone.end.as_slice(), [KEY].as_slice());
-    assert_eq!(rt; gone.gone.as_slice(), [KEY].as_slice());
-    assert!(rt; gone.now.len() == 0);
+    let gone = lifted(rt.alloc(), 1_000_000)?;
+    same_items(&rt, &gone.end, &[KEY]);
+    same_items(&rt, &gone.gone, &[KEY]);
+    same_items(&rt, gone.now.as_slice(), &[]);
     Ok(())
 }
 
 #[test]
 fn impulses_stay_with_their_candidates(rt: HostRuntime) -> Result<(), Fail> {
-    let lies = collide(
-        rt.alloc(),
-        &resting(rt.alloc())?,
-        &mut lying_at(rt.alloc(), 20_000)?,
-    )?;
-    let contact = Contact {
-        first: Some(point(2, -50_000, 5, 1)),
-        second: Some(point(3, 50_000, 7, -2)),
-    };
-    let entry = ContactEntry {
-        key: KEY,
-        surface: KEPT,
-        contact,
-    };
-    assert_eq!(rt; lies.now.as_slice(), [entry].as_slice());
-    assert!(rt; lies.begin.is_empty() && lies.end.is_empty());
+    let lies = lifted(rt.alloc(), 20_000)?;
+    let first = point(2, -50_000, 5, 1);
+    let second = point(3, 50_000, 7, -2);
+    same_items(
+        &rt,
+        lies.now.as_slice(),
+        &[entry(KEPT, Some(first), Some(second))],
+    );
+    same(&rt, &counts(&lies), &[0, 0, 0, 0]);
     Ok(())
+}
+
+/// Five balls, whose fat boxes are 327,680 u wide: the third begins where the second and the fourth end.
+fn balls(alloc: Global) -> Result<BroadPhase, Refusal> {
+    let mut broad = BroadPhase::new(alloc);
+    for (slot, x, y) in [
+        (0, 0, 900_000),
+        (1, 0, 0),
+        (2, 327_680, 0),
+        (3, 0, 300_000),
+        (4, 655_361, 0),
+    ] {
+        add(&mut broad, proxy_of(slot, BALL, x, y, true)?)?;
+    }
+    Ok(broad)
 }
 
 #[test]
 fn boxes_that_touch_are_near(rt: HostRuntime) -> Result<(), Fail> {
-    let mut broad = BroadPhase::new(rt.alloc());
-    // Fat boxes are 327,680 u wide: the third begins where the second and the fourth end.
-    add(&mut broad, proxy_of(0, BALL, 0, 900_000, true)?)?;
-    add(&mut broad, proxy_of(1, BALL, 0, 0, true)?)?;
-    add(&mut broad, proxy_of(2, BALL, 327_680, 0, true)?)?;
-    add(&mut broad, proxy_of(3, BALL, 0, 300_000, true)?)?;
-    add(&mut broad, proxy_of(4, BALL, 655_361, 0, true)?)?;
-    let near = broad.near_pairs(rt.alloc())?;
+    let mut broad = balls(rt.alloc())?;
     let pairs = [(1 << 32) + 2, (1 << 32) + 3, (2 << 32) + 3];
-    assert_eq!(rt; near.as_slice(), pairs.as_slice());
+    same_items(&rt, &broad.near_pairs(rt.alloc())?, &pairs);
     let mut copied = broad.try_copy()?;
     broad.clear();
-    assert!(rt; broad.near_pairs(rt.alloc())?.is_empty());
-    assert_eq!(rt; copied.near_pairs(rt.alloc())?.as_slice(), pairs.as_slice());
+    same_items(&rt, &broad.near_pairs(rt.alloc())?, &[]);
+    same_items(&rt, &copied.near_pairs(rt.alloc())?, &pairs);
     Ok(())
+}
+
+/// Six balls in one place, with these filters.
+fn filtered(alloc: Global, filters: [Filter; 6]) -> Result<BroadPhase, Refusal> {
+    let mut broad = BroadPhase::new(alloc);
+    let mut slot = 0;
+    for filter in filters {
+        let proxy = proxy_of(slot, BALL, 0, 0, true)?;
+        add(&mut broad, Proxy { filter, ..proxy })?;
+        slot = slot.saturating_add(1);
+    }
+    Ok(broad)
 }
 
 #[test]
 fn filters_and_groups_decide(rt: HostRuntime) -> Result<(), Fail> {
-    let mut broad = BroadPhase::new(rt.alloc());
     let plain = Filter::default();
     let masked = Filter { mask: 2, ..plain };
     let apart = Filter { group: -1, ..plain };
-    let together = Filter {
-        mask: 2,
-        group: 1,
-        ..plain
-    };
-    add_filtered(&mut broad, 0, BALL, 0, 0, plain)?;
-    add_filtered(&mut broad, 1, BALL, 0, 0, masked)?;
-    add_filtered(&mut broad, 2, BALL, 0, 0, apart)?;
-    add_filtered(&mut broad, 3, BALL, 0, 0, apart)?;
-    add_filtered(&mut broad, 4, BALL, 0, 0, together)?;
-    add_filtered(&mut broad, 5, BALL, 0, 0, together)?;
-    let near = broad.near_pairs(rt.alloc())?;
-    let pairs = [2, 3, (4 << 32) + 5];
-    assert_eq!(rt; near.as_slice(), pairs.as_slice());
+    let together = Filter { group: 1, ..masked };
+    let filters = [plain, masked, apart, apart, together, together];
+    let mut broad = filtered(rt.alloc(), filters)?;
+    same_items(&rt, &broad.near_pairs(rt.alloc())?, &[2, 3, (4 << 32) + 5]);
     Ok(())
 }

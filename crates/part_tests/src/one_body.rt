@@ -3,6 +3,7 @@ ghost use Rattle.fixed_geom.specs.Vectors.{IsWithin};
 ghost use Rattle.momenta.specs.Impulses.{AreStates, IsLine, IsState};
 ghost use Rattle.momenta.specs.Motions.{IsMass, IsMotion};
 
+use crate::assertions::same;
 use fixed_geom::{Rot, Vec2};
 use momenta::{
     BodyState, Ends, Line, MassData, Momenta64, MomentaPair64, Motion, advance, clamp_speed,
@@ -41,12 +42,12 @@ fn a_push_beyond_the_speed_limit_is_cut(rt: HostRuntime) {
         rot: AHEAD,
     };
     let (limited, change) = clamp_speed(pushed, mass);
-    assert_eq!(rt; limited.p, at(1048576, 0));
-    assert_eq!(rt; change, at(-1048576, 0));
+    same(&rt, &limited.p, &at(1048576, 0));
+    same(&rt, &change, &at(-1048576, 0));
     let (moved, lost) = advance(limited, mass, reciprocals_of(mass));
-    assert_eq!(rt; moved.x, at(1048576, 0));
-    assert_eq!(rt; moved.p, at(1048576, 0));
-    assert_eq!(rt; lost, at(0, 0));
+    same(&rt, &moved.x, &at(1048576, 0));
+    same(&rt, &moved.p, &at(1048576, 0));
+    same(&rt, &lost, &at(0, 0));
 }
 
 #[test]
@@ -65,11 +66,11 @@ fn the_edge_stops_a_body(rt: HostRuntime) {
         rot: AHEAD,
     };
     let (slow, kept) = clamp_speed(near, mass);
-    assert_eq!(rt; kept, at(0, 0));
+    same(&rt, &kept, &at(0, 0));
     let (stopped, change) = advance(slow, mass, reciprocals_of(mass));
-    assert_eq!(rt; stopped.x, at(68719476736, 0));
-    assert_eq!(rt; stopped.p, at(0, 0));
-    assert_eq!(rt; change, at(-10, 0));
+    same(&rt, &stopped.x, &at(68719476736, 0));
+    same(&rt, &stopped.p, &at(0, 0));
+    same(&rt, &change, &at(-10, 0));
 }
 
 #[test]
@@ -84,9 +85,9 @@ fn a_body_falls_for_four_ticks(rt: HostRuntime) {
     let two = tick(one, mass, gravity);
     let three = tick(two, mass, gravity);
     let four = tick(three, mass, gravity);
-    assert_eq!(rt; four.x, at(0, -1570));
-    assert_eq!(rt; four.p, at(0, -160768));
-    assert_eq!(rt; four.rot, AHEAD);
+    same(&rt, &four.x, &at(0, -1570));
+    same(&rt, &four.p, &at(0, -160768));
+    same(&rt, &four.rot, &AHEAD);
 }
 
 #[test]
@@ -103,11 +104,11 @@ fn a_fast_spin_turns_by_its_limit(rt: HostRuntime) {
     };
     let (limited, _) = clamp_speed(start, mass);
     let (moved, change) = advance(limited, mass, reciprocals_of(mass));
-    assert_eq!(rt; moved.x, at(0, 150));
-    assert_eq!(rt; moved.rot.c, 1041682578);
-    assert_eq!(rt; moved.rot.s, 260420645);
-    assert_eq!(rt; moved.l, 150000);
-    assert_eq!(rt; change, at(0, 0));
+    same(&rt, &moved.x, &at(0, 150));
+    same(&rt, &moved.rot.c, &1041682578);
+    same(&rt, &moved.rot.s, &260420645);
+    same(&rt, &moved.l, &150000);
+    same(&rt, &change, &at(0, 0));
 }
 
 const ORIGIN: Vec2 = Vec2 { x: 0, y: 0 };
@@ -170,11 +171,15 @@ fn two_masses_that_meet_stop_one_another(rt: HostRuntime) {
         y: 0,
     };
     let mut ends = Ends { a, b };
-    assert_eq!(rt; inverse_mass(ahead, ORIGIN, ORIGIN, &ends), 916259689813);
+    same(
+        &rt,
+        &inverse_mass(ahead, ORIGIN, ORIGIN, &ends),
+        &916259689813,
+    );
     let total = push(&line(ahead, 916259689813), 0, &mut ends);
-    assert_eq!(rt; total, 24);
-    assert_eq!(rt; ends.a.motion.p, at(6, 0));
-    assert_eq!(rt; ends.b.motion.p, at(4, 0));
+    same(&rt, &total, &24);
+    same(&rt, &ends.a.motion.p, &at(6, 0));
+    same(&rt, &ends.b.motion.p, &at(4, 0));
 }
 
 #[test]
@@ -187,9 +192,9 @@ fn an_impulse_is_rounded_once_for_both(rt: HostRuntime) {
     };
     let mut ends = Ends { a, b };
     let total = push(&line(slanted, 2199023255552), 0, &mut ends);
-    assert_eq!(rt; total, 3);
-    assert_eq!(rt; ends.a.motion.p, at(8, -2));
-    assert_eq!(rt; ends.b.motion.p, at(2, 2));
+    same(&rt, &total, &3);
+    same(&rt, &ends.a.motion.p, &at(8, -2));
+    same(&rt, &ends.b.motion.p, &at(2, 2));
 }
 
 #[test]
@@ -203,9 +208,9 @@ fn an_impulse_beyond_the_limit_is_dropped(rt: HostRuntime) {
     };
     let mut ends = Ends { a, b };
     let total = push(&line(ahead, 2199023255552), limit + 5, &mut ends);
-    assert_eq!(rt; total, 0);
-    assert_eq!(rt; ends.a.motion.p, ORIGIN);
-    assert_eq!(rt; ends.b.motion.p, at(limit, 0));
+    same(&rt, &total, &0);
+    same(&rt, &ends.a.motion.p, &ORIGIN);
+    same(&rt, &ends.b.motion.p, &at(limit, 0));
 }
 
 #[test]
@@ -220,6 +225,6 @@ fn small_momenta_are_copied_and_great_ones_are_not(rt: HostRuntime) {
         },
         b: Momenta64 { p: ORIGIN, l: 0 },
     };
-    assert_eq!(rt; momenta_pair_64(&small, &still), Some(copied));
-    assert_eq!(rt; momenta_pair_64(&still, &great), None);
+    same(&rt, &momenta_pair_64(&small, &still), &Some(copied));
+    same(&rt, &momenta_pair_64(&still, &great), &None);
 }

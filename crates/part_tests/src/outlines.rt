@@ -6,6 +6,7 @@ ghost use Rattle.fixed_geom.specs.Vectors.{IsWithin};
 ghost use Rattle.shapes.specs.Shapes.{IsShape};
 ghost use Rattle.shapes.specs.Poses.{IsPose};
 
+use crate::assertions::same;
 use fixed_geom::{Box2, Refusal, Rot, UNIT, Vec2};
 use shapes::*;
 use std::test::Fail;
@@ -83,83 +84,93 @@ fn forms_are_refused_before_ranges(rt: HostRuntime) {
     let ball = def(circle(0, 0, 0));
     let bar = def(capsule(0, 0, 5, 0, 1));
     let line = def(segment(0, 0, 5, 0));
-    assert_eq!(rt; check(&[ball, bar, line], true), Ok(()));
-    assert_eq!(rt; check(&[ball, bar, line], false), Err(Refusal::BadShape));
-    assert_eq!(rt;
-        check(&[def(capsule(0, 0, 5, 0, 0))], true),
-        Err(Refusal::BadShape)
+    same(&rt, &check(&[ball, bar, line], true), &Ok(()));
+    same(
+        &rt,
+        &check(&[ball, bar, line], false),
+        &Err(Refusal::BadShape),
     );
-    assert_eq!(rt;
-        check(&[def(capsule(5, 0, 5, 0, 1))], true),
-        Err(Refusal::BadShape)
+    same(
+        &rt,
+        &check(&[def(capsule(0, 0, 5, 0, 0))], true),
+        &Err(Refusal::BadShape),
     );
-    assert_eq!(rt;
-        check(&[def(segment(5, 7, 5, 7))], true),
-        Err(Refusal::BadShape)
+    same(
+        &rt,
+        &check(&[def(capsule(5, 0, 5, 0, 1))], true),
+        &Err(Refusal::BadShape),
     );
-    assert_eq!(rt; check(&[], true), Err(Refusal::BadShape));
-    assert_eq!(rt; check(&[ball; 8], false), Ok(()));
-    assert_eq!(rt; check(&[ball; 9], false), Err(Refusal::BadShape));
+    same(
+        &rt,
+        &check(&[def(segment(5, 7, 5, 7))], true),
+        &Err(Refusal::BadShape),
+    );
+    same(&rt, &check(&[], true), &Err(Refusal::BadShape));
+    same(&rt, &check(&[ball; 8], false), &Ok(()));
+    same(&rt, &check(&[ball; 9], false), &Err(Refusal::BadShape));
     let rough = ShapeDef {
         friction: 513,
         ..ball
     };
-    assert_eq!(rt; check(&[rough], false), Err(Refusal::OutOfRange));
-    assert_eq!(rt; check(&[rough, line], false), Err(Refusal::BadShape));
+    same(&rt, &check(&[rough], false), &Err(Refusal::OutOfRange));
+    same(&rt, &check(&[rough, line], false), &Err(Refusal::BadShape));
 }
 
 #[test]
 fn groups_decide_before_masks(rt: HostRuntime) {
     let plain = Filter::default();
     let shy = Filter { mask: 2, ..plain };
-    assert!(rt; should_collide(plain, plain));
-    assert!(rt; !should_collide(plain, shy) && !should_collide(shy, plain));
-    assert!(rt;
-        shy.meets(Filter {
-            category: 6,
-            ..plain
-        })
-    );
+    let either = [should_collide(plain, shy), should_collide(shy, plain)];
+    same(&rt, &should_collide(plain, plain), &true);
+    same(&rt, &either, &[false, false]);
+    let broad = Filter {
+        category: 6,
+        ..plain
+    };
+    same(&rt, &shy.meets(broad), &true);
     let friends = Filter { group: 3, ..shy };
-    assert!(rt; should_collide(friends, friends));
+    same(&rt, &should_collide(friends, friends), &true);
     let strangers = Filter { group: -3, ..plain };
-    assert!(rt; !should_collide(strangers, strangers));
-    assert!(rt; should_collide(strangers, plain));
+    same(&rt, &should_collide(strangers, strangers), &false);
+    same(&rt, &should_collide(strangers, plain), &true);
 }
 
 #[test]
 fn numbers_of_two_shapes_mix(rt: HostRuntime) {
-    assert_eq!(rt; mixed_friction(128, 511), 255);
-    assert_eq!(rt; mixed_friction(512, 512), 512);
-    assert_eq!(rt; mixed_restitution(7, 12), 12);
+    same(&rt, &mixed_friction(128, 511), &255);
+    same(&rt, &mixed_friction(512, 512), &512);
+    same(&rt, &mixed_restitution(7, 12), &12);
 }
 
 #[test]
 fn boxes_hold_their_shapes(rt: HostRuntime) {
     let tight = tight_box(&circle(0, 0, 100), at(0, 0));
-    assert_eq!(rt;
-        fat_box(tight),
-        Box2 {
+    same(
+        &rt,
+        &fat_box(tight),
+        &Box2 {
             lo: Vec2 {
                 x: -131172,
-                y: -131172
+                y: -131172,
             },
             hi: Vec2 {
                 x: 131172,
-                y: 131172
-            }
-        }
+                y: 131172,
+            },
+        },
     );
-    assert_eq!(rt;
-        tight_box(&capsule(7, 3, -5, 40, 2), at(100, 200)),
-        Box2 {
+    same(
+        &rt,
+        &tight_box(&capsule(7, 3, -5, 40, 2), at(100, 200)),
+        &Box2 {
             lo: Vec2 { x: 93, y: 201 },
-            hi: Vec2 { x: 109, y: 242 }
-        }
+            hi: Vec2 { x: 109, y: 242 },
+        },
     );
-    assert_eq!(rt;
-        placed(at(100, 200), Vec2 { x: -5, y: 40 }),
-        Vec2 { x: 95, y: 240 }
+    same(
+        &rt,
+        &placed(at(100, 200), Vec2 { x: -5, y: 40 }),
+        &Vec2 { x: 95, y: 240 },
     );
 }
 
@@ -169,8 +180,8 @@ fn a_list_keeps_its_shapes(rt: HostRuntime) -> Result<(), Fail> {
     shapes.push(def(circle(0, 0, 5)))?;
     shapes.push(def(segment(0, 0, 5, 0)))?;
     let copy = shapes.try_copy()?;
-    assert_eq!(rt; copy.as_slice().len(), 2);
-    assert_eq!(rt; copy.as_slice()[1].shape.radius(), 0);
+    same(&rt, &copy.as_slice().len(), &2);
+    same(&rt, &copy.as_slice()[1].shape.radius(), &0);
     Ok(())
 }
 
@@ -201,8 +212,8 @@ fn a_capsule_rests_on_a_floor(rt: HostRuntime) {
         candidate: 3,
     };
     let found = manifold(&floor, at(0, 0), &bar, at(0, 20000));
-    assert_eq!(rt; found.first, first);
-    assert_eq!(rt; found.second, Some(second));
+    same(&rt, &found.first, &first);
+    same(&rt, &found.second, &Some(second));
 }
 
 /// Cores that cross are pushed out by the end that is least far in.
@@ -218,8 +229,8 @@ fn crossing_cores_push_out(rt: HostRuntime) {
         rb: Vec2 { x: 0, y: -18 },
         candidate: 2,
     };
-    assert_eq!(rt; found.first, first);
-    assert_eq!(rt; found.second, None);
+    same(&rt, &found.first, &first);
+    same(&rt, &found.second, &None);
 }
 
 fn eighth_turn() -> Rot
@@ -251,8 +262,8 @@ fn a_turned_core_becomes_a_point(rt: HostRuntime) {
         rb: Vec2 { x: -8, y: 0 },
         candidate: 0,
     };
-    assert_eq!(rt; found.first, first);
-    assert_eq!(rt; found.second, None);
+    same(&rt, &found.first, &first);
+    same(&rt, &found.second, &None);
 }
 
 /// Where a ray from `(x, y)` along `(dx, dy)` meets a shape that stands at the origin.
@@ -275,36 +286,42 @@ fn bar() -> Shape
 #[test]
 fn rays_meet_circles_and_floors(rt: HostRuntime) {
     let ball = circle(0, 0, 100);
-    assert_eq!(rt;
-        ray(
+    same(
+        &rt,
+        &ray(
             &ball,
             at(1000, 0),
             Vec2 { x: 0, y: 0 },
-            Vec2 { x: 2000, y: 0 }
+            Vec2 { x: 2000, y: 0 },
         ),
-        Some(7549747)
+        &Some(7549747),
     );
-    assert_eq!(rt; hit(ball, -1000, 100, 2000, 0), Some(8388608));
-    assert_eq!(rt; hit(ball, -1000, 101, 2000, 0), None);
-    assert_eq!(rt; hit(circle(0, 0, 0), -1000, 0, 2000, 0), Some(8388608));
+    same(&rt, &hit(ball, -1000, 100, 2000, 0), &Some(8388608));
+    same(&rt, &hit(ball, -1000, 101, 2000, 0), &None);
+    same(
+        &rt,
+        &hit(circle(0, 0, 0), -1000, 0, 2000, 0),
+        &Some(8388608),
+    );
     let floor = segment(-1048576, 0, 1048576, 0);
-    assert_eq!(rt; hit(floor, 0, 100, 0, -400), Some(4194304));
-    assert_eq!(rt; hit(floor, 0, 100, 0, 400), None);
-    assert_eq!(rt;
-        hit(segment(-100, 0, 100, 0), -1000, 0, 2000, 0),
-        Some(7549747)
+    same(&rt, &hit(floor, 0, 100, 0, -400), &Some(4194304));
+    same(&rt, &hit(floor, 0, 100, 0, 400), &None);
+    same(
+        &rt,
+        &hit(segment(-100, 0, 100, 0), -1000, 0, 2000, 0),
+        &Some(7549747),
     );
 }
 
 #[test]
 fn rays_meet_ends_and_sides(rt: HostRuntime) {
-    assert_eq!(rt; hit(bar(), 0, 100000, 0, -200000), Some(7549747));
-    assert_eq!(rt; hit(bar(), 100000, 0, -200000, 0), Some(5033164));
-    assert_eq!(rt; hit(bar(), 37000, 100000, 0, -200000), Some(7789541));
-    assert_eq!(rt; hit(bar(), 0, 100000, 0, -90000), Some(16777216));
-    assert_eq!(rt; hit(bar(), 0, 100000, 0, -80000), None);
-    assert_eq!(rt; hit(bar(), 5, 5, 0, 0), Some(0));
-    assert_eq!(rt; hit(bar(), 50000, 0, 0, 0), None);
+    same(&rt, &hit(bar(), 0, 100000, 0, -200000), &Some(7549747));
+    same(&rt, &hit(bar(), 100000, 0, -200000, 0), &Some(5033164));
+    same(&rt, &hit(bar(), 37000, 100000, 0, -200000), &Some(7789541));
+    same(&rt, &hit(bar(), 0, 100000, 0, -90000), &Some(16777216));
+    same(&rt, &hit(bar(), 0, 100000, 0, -80000), &None);
+    same(&rt, &hit(bar(), 5, 5, 0, 0), &Some(0));
+    same(&rt, &hit(bar(), 50000, 0, 0, 0), &None);
 }
 
 /// The distance from the ray's line, times the way's length, is beyond what may be squared.
@@ -319,5 +336,5 @@ fn rays_far_off_miss(rt: HostRuntime) {
         x: 268435456,
         y: 268435456,
     };
-    assert_eq!(rt; ray(&ball, at(68719476736, 0), far, along), None);
+    same(&rt, &ray(&ball, at(68719476736, 0), far, along), &None);
 }

@@ -4,6 +4,7 @@
 ghost use Rattle.std.specs.Prelude.{◌^◌, ◌≤◌, unsigned_abs};
 ghost use Rattle.shapes.specs.Shapes.{IsShape};
 
+use crate::assertions::same;
 use crate::outlines::{at, capsule, circle, segment};
 use fixed_geom::{UNIT, Vec2};
 use shapes::*;
@@ -100,251 +101,301 @@ fn two(first: Point, second: Point) -> Manifold {
 /// Equal centres and equal directions.
 #[test]
 fn cores_along_one_another(rt: HostRuntime) {
-    assert_eq!(rt;
-        touch(ball(), ball(), 0, 0),
-        one(point(0, [0, UNIT, -20000, 0, 0, 0, 0]))
+    same(
+        &rt,
+        &touch(ball(), ball(), 0, 0),
+        &one(point(0, [0, UNIT, -20000, 0, 0, 0, 0])),
     );
-    assert_eq!(rt;
-        touch(ball(), bar(), 0, 0),
-        one(point(0, [0, UNIT, -20000, 0, 0, 0, 0]))
+    same(
+        &rt,
+        &touch(ball(), bar(), 0, 0),
+        &one(point(0, [0, UNIT, -20000, 0, 0, 0, 0])),
     );
-    assert_eq!(rt;
-        touch(ball(), line(), 0, 0),
-        one(point(0, [0, UNIT, -10000, 0, 5000, 0, 5000]))
+    same(
+        &rt,
+        &touch(ball(), line(), 0, 0),
+        &one(point(0, [0, UNIT, -10000, 0, 5000, 0, 5000])),
     );
-    assert_eq!(rt;
-        touch(bar(), ball(), 0, 0),
-        one(point(2, [0, UNIT, -20000, 0, 0, 0, 0]))
+    same(
+        &rt,
+        &touch(bar(), ball(), 0, 0),
+        &one(point(2, [0, UNIT, -20000, 0, 0, 0, 0])),
     );
-    assert_eq!(rt;
-        touch(bar(), bar(), 0, 0),
-        two(
+    same(
+        &rt,
+        &touch(bar(), bar(), 0, 0),
+        &two(
             point(0, [0, UNIT, -20000, -30000, 0, -30000, 0]),
-            point(1, [0, UNIT, -20000, 30000, 0, 30000, 0])
-        )
+            point(1, [0, UNIT, -20000, 30000, 0, 30000, 0]),
+        ),
     );
-    assert_eq!(rt;
-        touch(bar(), line(), 0, 0),
-        two(
+    same(
+        &rt,
+        &touch(bar(), line(), 0, 0),
+        &two(
             point(0, [0, UNIT, -10000, -30000, 5000, -30000, 5000]),
-            point(1, [0, UNIT, -10000, 30000, 5000, 30000, 5000])
-        )
+            point(1, [0, UNIT, -10000, 30000, 5000, 30000, 5000]),
+        ),
     );
-    assert_eq!(rt;
-        touch(line(), ball(), 0, 0),
-        one(point(2, [0, UNIT, -10000, 0, -5000, 0, -5000]))
+    same(
+        &rt,
+        &touch(line(), ball(), 0, 0),
+        &one(point(2, [0, UNIT, -10000, 0, -5000, 0, -5000])),
     );
-    assert_eq!(rt;
-        touch(line(), bar(), 0, 0),
-        two(
+    same(
+        &rt,
+        &touch(line(), bar(), 0, 0),
+        &two(
             point(0, [0, UNIT, -10000, -30000, -5000, -30000, -5000]),
-            point(1, [0, UNIT, -10000, 30000, -5000, 30000, -5000])
-        )
+            point(1, [0, UNIT, -10000, 30000, -5000, 30000, -5000]),
+        ),
     );
-    assert_eq!(rt;
-        touch(line(), line(), 0, 0),
-        two(
+    same(
+        &rt,
+        &touch(line(), line(), 0, 0),
+        &two(
             point(0, [0, UNIT, 0, -30000, 0, -30000, 0]),
-            point(1, [0, UNIT, 0, 30000, 0, 30000, 0])
-        )
+            point(1, [0, UNIT, 0, 30000, 0, 30000, 0]),
+        ),
     );
 }
 
 /// Equal centres, and cores that cross.
 #[test]
 fn cores_across_one_another(rt: HostRuntime) {
-    assert_eq!(rt;
-        touch(ball(), mast(), 0, 0),
-        one(point(0, [-UNIT, 0, -20000, 0, 0, 0, 0]))
+    same(
+        &rt,
+        &touch(ball(), mast(), 0, 0),
+        &one(point(0, [-UNIT, 0, -20000, 0, 0, 0, 0])),
     );
-    assert_eq!(rt;
-        touch(ball(), cut(), 0, 0),
-        one(point(0, [-UNIT, 0, -10000, -5000, 0, -5000, 0]))
+    same(
+        &rt,
+        &touch(ball(), cut(), 0, 0),
+        &one(point(0, [-UNIT, 0, -10000, -5000, 0, -5000, 0])),
     );
-    assert_eq!(rt;
-        touch(bar(), mast(), 0, 0),
-        one(point(2, [0, UNIT, -40000, 0, -10000, 0, -10000]))
+    same(
+        &rt,
+        &touch(bar(), mast(), 0, 0),
+        &one(point(2, [0, UNIT, -40000, 0, -10000, 0, -10000])),
     );
-    assert_eq!(rt;
-        touch(bar(), cut(), 0, 0),
-        one(point(2, [0, UNIT, -30000, 0, -5000, 0, -5000]))
+    same(
+        &rt,
+        &touch(bar(), cut(), 0, 0),
+        &one(point(2, [0, UNIT, -30000, 0, -5000, 0, -5000])),
     );
-    assert_eq!(rt;
-        touch(line(), mast(), 0, 0),
-        two(
+    same(
+        &rt,
+        &touch(line(), mast(), 0, 0),
+        &two(
             point(2, [0, UNIT, -30000, 0, -15000, 0, -15000]),
-            point(3, [0, -UNIT, -30100, 0, 15050, 0, 15050])
-        )
+            point(3, [0, -UNIT, -30100, 0, 15050, 0, 15050]),
+        ),
     );
-    assert_eq!(rt;
-        touch(line(), cut(), 0, 0),
-        one(point(2, [0, UNIT, -20000, 0, -10000, 0, -10000]))
+    same(
+        &rt,
+        &touch(line(), cut(), 0, 0),
+        &one(point(2, [0, UNIT, -20000, 0, -10000, 0, -10000])),
     );
 }
 
 /// The first end of one core on the last end of the other.
 #[test]
 fn ends_that_meet(rt: HostRuntime) {
-    assert_eq!(rt;
-        touch(ball(), post(), 0, 0),
-        one(point(0, [-UNIT, 0, -20000, 0, 0, 0, 0]))
+    same(
+        &rt,
+        &touch(ball(), post(), 0, 0),
+        &one(point(0, [-UNIT, 0, -20000, 0, 0, 0, 0])),
     );
-    assert_eq!(rt;
-        touch(ball(), wall(), 0, 0),
-        one(point(0, [-UNIT, 0, -10000, -5000, 0, -5000, 0]))
+    same(
+        &rt,
+        &touch(ball(), wall(), 0, 0),
+        &one(point(0, [-UNIT, 0, -10000, -5000, 0, -5000, 0])),
     );
-    assert_eq!(rt;
-        touch(bar(), ball(), 30000, 0),
-        one(point(1, [0, UNIT, -20000, 30000, 0, 0, 0]))
+    same(
+        &rt,
+        &touch(bar(), ball(), 30000, 0),
+        &one(point(1, [0, UNIT, -20000, 30000, 0, 0, 0])),
     );
-    assert_eq!(rt;
-        touch(bar(), post(), 30000, 0),
-        one(point(1, [-UNIT, 0, -20000, 30000, 0, 0, 0]))
+    same(
+        &rt,
+        &touch(bar(), post(), 30000, 0),
+        &one(point(1, [-UNIT, 0, -20000, 30000, 0, 0, 0])),
     );
-    assert_eq!(rt;
-        touch(bar(), wall(), 30000, 0),
-        one(point(1, [-UNIT, 0, -10000, 25000, 0, -5000, 0]))
+    same(
+        &rt,
+        &touch(bar(), wall(), 30000, 0),
+        &one(point(1, [-UNIT, 0, -10000, 25000, 0, -5000, 0])),
     );
-    assert_eq!(rt;
-        touch(line(), ball(), 30000, 0),
-        one(point(1, [0, UNIT, -10000, 30000, -5000, 0, -5000]))
+    same(
+        &rt,
+        &touch(line(), ball(), 30000, 0),
+        &one(point(1, [0, UNIT, -10000, 30000, -5000, 0, -5000])),
     );
-    assert_eq!(rt;
-        touch(line(), post(), 30000, 0),
-        one(point(1, [-UNIT, 0, -10000, 35000, 0, 5000, 0]))
+    same(
+        &rt,
+        &touch(line(), post(), 30000, 0),
+        &one(point(1, [-UNIT, 0, -10000, 35000, 0, 5000, 0])),
     );
-    assert_eq!(rt;
-        touch(line(), wall(), 30000, 0),
-        one(point(1, [-UNIT, 0, 0, 30000, 0, 0, 0]))
+    same(
+        &rt,
+        &touch(line(), wall(), 30000, 0),
+        &one(point(1, [-UNIT, 0, 0, 30000, 0, 0, 0])),
     );
 }
 
 /// Parallel cores.
 #[test]
 fn cores_side_by_side(rt: HostRuntime) {
-    assert_eq!(rt;
-        touch(ball(), ball(), 5000, 15000),
-        one(point(0, [339555317, 1018665952, -4189, 2500, 7500, -2500, -7500]))
+    same(
+        &rt,
+        &touch(ball(), ball(), 5000, 15000),
+        &one(point(0, [339555317, 1018665952, -4189, 2500, 7500, -2500, -7500])),
     );
-    assert_eq!(rt;
-        touch(ball(), bar(), 5000, 15000),
-        one(point(0, [0, UNIT, -5000, 0, 7500, -5000, -7500]))
+    same(
+        &rt,
+        &touch(ball(), bar(), 5000, 15000),
+        &one(point(0, [0, UNIT, -5000, 0, 7500, -5000, -7500])),
     );
-    assert_eq!(rt;
-        touch(ball(), line(), 5000, 15000),
-        one(point(0, [0, UNIT, 5000, 0, 12500, -5000, -2500]))
+    same(
+        &rt,
+        &touch(ball(), line(), 5000, 15000),
+        &one(point(0, [0, UNIT, 5000, 0, 12500, -5000, -2500])),
     );
-    assert_eq!(rt;
-        touch(bar(), ball(), 5000, 15000),
-        one(point(2, [0, UNIT, -5000, 5000, 7500, 0, -7500]))
+    same(
+        &rt,
+        &touch(bar(), ball(), 5000, 15000),
+        &one(point(2, [0, UNIT, -5000, 5000, 7500, 0, -7500])),
     );
-    assert_eq!(rt;
-        touch(bar(), bar(), 5000, 15000),
-        two(
+    same(
+        &rt,
+        &touch(bar(), bar(), 5000, 15000),
+        &two(
             point(1, [0, UNIT, -5000, 30000, 7500, 25000, -7500]),
-            point(2, [0, UNIT, -5000, -25000, 7500, -30000, -7500])
-        )
+            point(2, [0, UNIT, -5000, -25000, 7500, -30000, -7500]),
+        ),
     );
-    assert_eq!(rt;
-        touch(bar(), line(), 5000, 15000),
-        one(point(1, [0, UNIT, 5000, 30000, 12500, 25000, -2500]))
+    same(
+        &rt,
+        &touch(bar(), line(), 5000, 15000),
+        &one(point(1, [0, UNIT, 5000, 30000, 12500, 25000, -2500])),
     );
-    assert_eq!(rt;
-        touch(line(), ball(), 5000, 15000),
-        one(point(2, [0, UNIT, 5000, 5000, 2500, 0, -12500]))
+    same(
+        &rt,
+        &touch(line(), ball(), 5000, 15000),
+        &one(point(2, [0, UNIT, 5000, 5000, 2500, 0, -12500])),
     );
-    assert_eq!(rt;
-        touch(line(), bar(), 5000, 15000),
-        one(point(1, [0, UNIT, 5000, 30000, 2500, 25000, -12500]))
+    same(
+        &rt,
+        &touch(line(), bar(), 5000, 15000),
+        &one(point(1, [0, UNIT, 5000, 30000, 2500, 25000, -12500])),
     );
-    assert_eq!(rt;
-        touch(line(), line(), 5000, 15000),
-        one(point(1, [0, UNIT, 15000, 30000, 7500, 25000, -7500]))
+    same(
+        &rt,
+        &touch(line(), line(), 5000, 15000),
+        &one(point(1, [0, UNIT, 15000, 30000, 7500, 25000, -7500])),
     );
 }
 
 /// The first end of one core inside the other core.
 #[test]
 fn an_end_on_a_core(rt: HostRuntime) {
-    assert_eq!(rt;
-        touch(ball(), ball(), 4000, 0),
-        one(point(0, [UNIT, 0, -16000, 2000, 0, -2000, 0]))
+    same(
+        &rt,
+        &touch(ball(), ball(), 4000, 0),
+        &one(point(0, [UNIT, 0, -16000, 2000, 0, -2000, 0])),
     );
-    assert_eq!(rt;
-        touch(ball(), post(), 4000, 0),
-        one(point(0, [UNIT, 0, -16000, 2000, 0, -2000, 0]))
+    same(
+        &rt,
+        &touch(ball(), post(), 4000, 0),
+        &one(point(0, [UNIT, 0, -16000, 2000, 0, -2000, 0])),
     );
-    assert_eq!(rt;
-        touch(ball(), wall(), 4000, 0),
-        one(point(0, [UNIT, 0, -6000, 7000, 0, 3000, 0]))
+    same(
+        &rt,
+        &touch(ball(), wall(), 4000, 0),
+        &one(point(0, [UNIT, 0, -6000, 7000, 0, 3000, 0])),
     );
-    assert_eq!(rt;
-        touch(bar(), ball(), 4000, 0),
-        one(point(2, [0, UNIT, -20000, 4000, 0, 0, 0]))
+    same(
+        &rt,
+        &touch(bar(), ball(), 4000, 0),
+        &one(point(2, [0, UNIT, -20000, 4000, 0, 0, 0])),
     );
-    assert_eq!(rt;
-        touch(bar(), post(), 4000, 0),
-        one(point(2, [-UNIT, 0, -20000, 4000, 0, 0, 0]))
+    same(
+        &rt,
+        &touch(bar(), post(), 4000, 0),
+        &one(point(2, [-UNIT, 0, -20000, 4000, 0, 0, 0])),
     );
-    assert_eq!(rt;
-        touch(bar(), wall(), 4000, 0),
-        one(point(2, [-UNIT, 0, -10000, -1000, 0, -5000, 0]))
+    same(
+        &rt,
+        &touch(bar(), wall(), 4000, 0),
+        &one(point(2, [-UNIT, 0, -10000, -1000, 0, -5000, 0])),
     );
-    assert_eq!(rt;
-        touch(line(), ball(), 4000, 0),
-        one(point(2, [0, UNIT, -10000, 4000, -5000, 0, -5000]))
+    same(
+        &rt,
+        &touch(line(), ball(), 4000, 0),
+        &one(point(2, [0, UNIT, -10000, 4000, -5000, 0, -5000])),
     );
-    assert_eq!(rt;
-        touch(line(), post(), 4000, 0),
-        one(point(2, [-UNIT, 0, -10000, 9000, 0, 5000, 0]))
+    same(
+        &rt,
+        &touch(line(), post(), 4000, 0),
+        &one(point(2, [-UNIT, 0, -10000, 9000, 0, 5000, 0])),
     );
-    assert_eq!(rt;
-        touch(line(), wall(), 4000, 0),
-        one(point(2, [-UNIT, 0, 0, 4000, 0, 0, 0]))
+    same(
+        &rt,
+        &touch(line(), wall(), 4000, 0),
+        &one(point(2, [-UNIT, 0, 0, 4000, 0, 0, 0])),
     );
 }
 
 /// Both ends of the shorter core at one distance.
 #[test]
 fn ends_at_one_distance(rt: HostRuntime) {
-    assert_eq!(rt;
-        touch(ball(), ball(), 0, 12000),
-        one(point(0, [0, UNIT, -8000, 0, 6000, 0, -6000]))
+    same(
+        &rt,
+        &touch(ball(), ball(), 0, 12000),
+        &one(point(0, [0, UNIT, -8000, 0, 6000, 0, -6000])),
     );
-    assert_eq!(rt;
-        touch(ball(), bar(), 0, 12000),
-        one(point(0, [0, UNIT, -8000, 0, 6000, 0, -6000]))
+    same(
+        &rt,
+        &touch(ball(), bar(), 0, 12000),
+        &one(point(0, [0, UNIT, -8000, 0, 6000, 0, -6000])),
     );
-    assert_eq!(rt;
-        touch(ball(), line(), 0, 12000),
-        one(point(0, [0, UNIT, 2000, 0, 11000, 0, -1000]))
+    same(
+        &rt,
+        &touch(ball(), line(), 0, 12000),
+        &one(point(0, [0, UNIT, 2000, 0, 11000, 0, -1000])),
     );
-    assert_eq!(rt;
-        touch(beam(), ball(), 0, 12000),
-        one(point(2, [0, UNIT, -8000, 0, 6000, 0, -6000]))
+    same(
+        &rt,
+        &touch(beam(), ball(), 0, 12000),
+        &one(point(2, [0, UNIT, -8000, 0, 6000, 0, -6000])),
     );
-    assert_eq!(rt;
-        touch(beam(), bar(), 0, 12000),
-        two(
+    same(
+        &rt,
+        &touch(beam(), bar(), 0, 12000),
+        &two(
             point(2, [0, UNIT, -8000, -30000, 6000, -30000, -6000]),
-            point(3, [0, UNIT, -8000, 30000, 6000, 30000, -6000])
-        )
+            point(3, [0, UNIT, -8000, 30000, 6000, 30000, -6000]),
+        ),
     );
-    assert_eq!(rt;
-        touch(beam(), line(), 0, 12000),
-        one(point(2, [0, UNIT, 2000, -30000, 11000, -30000, -1000]))
+    same(
+        &rt,
+        &touch(beam(), line(), 0, 12000),
+        &one(point(2, [0, UNIT, 2000, -30000, 11000, -30000, -1000])),
     );
-    assert_eq!(rt;
-        touch(floor(), ball(), 0, 12000),
-        one(point(2, [0, UNIT, 2000, 0, 1000, 0, -11000]))
+    same(
+        &rt,
+        &touch(floor(), ball(), 0, 12000),
+        &one(point(2, [0, UNIT, 2000, 0, 1000, 0, -11000])),
     );
-    assert_eq!(rt;
-        touch(floor(), bar(), 0, 12000),
-        one(point(2, [0, UNIT, 2000, -30000, 1000, -30000, -11000]))
+    same(
+        &rt,
+        &touch(floor(), bar(), 0, 12000),
+        &one(point(2, [0, UNIT, 2000, -30000, 1000, -30000, -11000])),
     );
-    assert_eq!(rt;
-        touch(floor(), line(), 0, 12000),
-        one(point(2, [0, UNIT, 12000, -30000, 6000, -30000, -6000]))
+    same(
+        &rt,
+        &touch(floor(), line(), 0, 12000),
+        &one(point(2, [0, UNIT, 12000, -30000, 6000, -30000, -6000])),
     );
 }
 
@@ -357,30 +408,34 @@ fn slope() -> Shape
 /// Ways of up to 2^30 u, the last whose products 64 bits hold, and of one more.
 #[test]
 fn cores_near_and_far(rt: HostRuntime) {
-    assert_eq!(rt;
-        touch(ball(), slope(), 521777216, -1066741823),
-        one(point(
+    same(
+        &rt,
+        &touch(ball(), slope(), 521777216, -1066741823),
+        &one(point(
             0,
             [
-                462148594, -969195637, 1186542392, 255353815, -535515646, -266423401, 531226177
-            ]
-        ))
+                462148594, -969195637, 1186542392, 255353815, -535515646, -266423401, 531226177,
+            ],
+        )),
     );
-    assert_eq!(rt;
-        touch(ball(), slope(), 521777216, -1066741824),
-        one(point(
+    same(
+        &rt,
+        &touch(ball(), slope(), 521777216, -1066741824),
+        &one(point(
             0,
             [
-                462148594, -969195637, 1186542393, 255353815, -535515646, -266423401, 531226178
-            ]
-        ))
+                462148594, -969195637, 1186542393, 255353815, -535515646, -266423401, 531226178,
+            ],
+        )),
     );
-    assert_eq!(rt;
-        touch(line(), wall(), 1073711824, -15000),
-        one(point(1, [UNIT, 0, 1073681824, 536870912, 0, -536840912, 15000]))
+    same(
+        &rt,
+        &touch(line(), wall(), 1073711824, -15000),
+        &one(point(1, [UNIT, 0, 1073681824, 536870912, 0, -536840912, 15000])),
     );
-    assert_eq!(rt;
-        touch(line(), wall(), 1073711825, -15000),
-        one(point(1, [UNIT, 0, 1073681825, 536870912, 0, -536840913, 15000]))
+    same(
+        &rt,
+        &touch(line(), wall(), 1073711825, -15000),
+        &one(point(1, [UNIT, 0, 1073681825, 536870912, 0, -536840913, 15000])),
     );
 }

@@ -3,6 +3,7 @@ ghost use Rattle.fixed_geom.specs.Vectors.{IsWithin};
 ghost use Rattle.momenta.specs.Impulses.{AreStates, IsState};
 ghost use Rattle.colour_solver_base.specs.Rows.{IsRow};
 
+use crate::assertions::same;
 use colour_solver_base::{
     Bodies, ContactRow, PointRow, RowAfter64, bounce_row, solve_row, solve_row_64, warm_row,
     warm_row_64,
@@ -132,41 +133,41 @@ fn bounce(start_speed: i64) -> Turned
 
 #[test]
 fn an_overlap_beyond_the_slop_is_pushed_out(rt: HostRuntime) {
-    assert_eq!(rt; push_out(-5243), 0);
-    assert_eq!(rt; push_out(-5250), 0);
-    assert_eq!(rt; push_out(-5251), 1);
-    assert_eq!(rt; push_out(-200000), 16384);
+    same(&rt, &push_out(-5243), &0);
+    same(&rt, &push_out(-5250), &0);
+    same(&rt, &push_out(-5251), &1);
+    same(&rt, &push_out(-200000), &16384);
 }
 
 #[test]
 fn friction_is_at_most_its_share_of_the_push(rt: HostRuntime) {
     let after = solved(1000, Vec2 { x: 600, y: 0 });
-    assert_eq!(rt; after.row.first.normal_impulse, 1000);
-    assert_eq!(rt; after.row.first.tangent_impulse, -500);
-    assert_eq!(rt; after.ends.b.motion.p, at(100, 0));
-    assert_eq!(rt; after.ends.a.motion.p, ORIGIN);
+    same(&rt, &after.row.first.normal_impulse, &1000);
+    same(&rt, &after.row.first.tangent_impulse, &-500);
+    same(&rt, &after.ends.b.motion.p, &at(100, 0));
+    same(&rt, &after.ends.a.motion.p, &ORIGIN);
 }
 
 #[test]
 fn the_normal_impulse_comes_before_friction(rt: HostRuntime) {
     let after = solved(0, Vec2 { x: 600, y: -1000 });
-    assert_eq!(rt; after.row.first.normal_impulse, 1000);
-    assert_eq!(rt; after.row.first.tangent_impulse, -500);
-    assert_eq!(rt; after.ends.b.motion.p, at(100, 0));
+    same(&rt, &after.row.first.normal_impulse, &1000);
+    same(&rt, &after.row.first.tangent_impulse, &-500);
+    same(&rt, &after.ends.b.motion.p, &at(100, 0));
 }
 
 #[test]
 fn a_fast_meeting_bounces(rt: HostRuntime) {
     let after = bounce(-10000);
-    assert_eq!(rt; after.row.first.normal_impulse, 5001);
-    assert_eq!(rt; after.ends.b.motion.p, at(0, 5000));
+    same(&rt, &after.row.first.normal_impulse, &5001);
+    same(&rt, &after.ends.b.motion.p, &at(0, 5000));
 }
 
 #[test]
 fn a_slow_meeting_does_not_bounce(rt: HostRuntime) {
     let after = bounce(-4096);
-    assert_eq!(rt; after.row.first.normal_impulse, 1);
-    assert_eq!(rt; after.ends.b.motion.p, ORIGIN);
+    same(&rt, &after.row.first.normal_impulse, &1);
+    same(&rt, &after.ends.b.motion.p, &ORIGIN);
 }
 
 #[test]
@@ -174,8 +175,8 @@ fn a_warm_start_gives_the_kept_impulses(rt: HostRuntime) {
     let row = contact(0, 0, 1000);
     let mut ends = on_ground(ORIGIN);
     warm_row(&row, &mut ends);
-    assert_eq!(rt; row.first.normal_impulse, 1000);
-    assert_eq!(rt; ends.b.motion.p, at(0, 1000));
+    same(&rt, &row.first.normal_impulse, &1000);
+    same(&rt, &ends.b.motion.p, &at(0, 1000));
 }
 
 /// What a pass in 64 bits leaves where the first body stands and the second has the momentum `p`.
@@ -206,18 +207,18 @@ fn a_pass_in_64_bits_is_the_pass(rt: HostRuntime) {
         after.row.first.tangent_impulse,
         after.ends.b.motion.p,
     );
-    assert_eq!(rt; expected, after_64(1000, -500, at(100, 0)));
-    assert_eq!(rt; solved_64(Vec2 { x: 600, y: -1000 }), Some(expected));
+    same(&rt, &expected, &after_64(1000, -500, at(100, 0)));
+    same(&rt, &solved_64(Vec2 { x: 600, y: -1000 }), &Some(expected));
 }
 
 #[test]
 fn great_momenta_have_no_pass_in_64_bits(rt: HostRuntime) {
-    assert_eq!(rt; solved_64(Vec2 { x: 1 << 50, y: 0 }), None);
+    same(&rt, &solved_64(Vec2 { x: 1 << 50, y: 0 }), &None);
 }
 
 #[test]
 fn a_warm_start_in_64_bits_gives_the_kept_impulses(rt: HostRuntime) {
     let ends = on_ground(ORIGIN);
     let warmed = warm_row_64(&contact(0, 0, 1000), &ends.a, &ends.b);
-    assert_eq!(rt; warmed, Some(after_64(1000, 0, at(0, 1000))));
+    same(&rt, &warmed, &Some(after_64(1000, 0, at(0, 1000))));
 }

@@ -7,6 +7,7 @@ ghost use Rattle.shapes.specs.Shapes.{IsShape};
 ghost use Rattle.shapes.specs.Poses.{IsPose};
 ghost use Rattle.shape_rays.specs.Hits.{IsPlacedShape};
 
+use crate::assertions::same;
 use contacts_base::ShapeId;
 use fixed_geom::{Box2, MAX_POSITION, Rot, UNIT, Vec2, is_facing, is_within};
 use shape_rays::*;
@@ -93,51 +94,73 @@ fn boxed(left: i64, down: i64, right: i64, up: i64) -> Box2 {
 #[test]
 fn rays_meet_circles_and_floors(rt: HostRuntime) {
     let ball = circle(0, 0, 100);
-    assert_eq!(rt; cast(0, 0, 2000, 0).hit(&ball, at(1000, 0)), Some(7549747));
+    same(
+        &rt,
+        &cast(0, 0, 2000, 0).hit(&ball, at(1000, 0)),
+        &Some(7549747),
+    );
     let floor = segment(-1048576, 0, 1048576, 0);
-    assert_eq!(rt; hit(floor, &cast(0, 100, 0, -400)), Some(4194304));
-    assert_eq!(rt; hit(floor, &cast(0, 100, 0, 400)), None);
+    same(&rt, &hit(floor, &cast(0, 100, 0, -400)), &Some(4194304));
+    same(&rt, &hit(floor, &cast(0, 100, 0, 400)), &None);
     // A start in the shape, and a ray that has no way.
-    assert_eq!(rt; hit(ball, &cast(10, -20, 5, 5)), Some(0));
-    assert_eq!(rt; hit(ball, &cast(60, 80, 0, 0)), Some(0));
-    assert_eq!(rt; hit(ball, &cast(61, 81, 0, 0)), None);
+    same(&rt, &hit(ball, &cast(10, -20, 5, 5)), &Some(0));
+    same(&rt, &hit(ball, &cast(60, 80, 0, 0)), &Some(0));
+    same(&rt, &hit(ball, &cast(61, 81, 0, 0)), &None);
     // Circles that are grazed, passed, and of no radius.
-    assert_eq!(rt; hit(ball, &cast(-1000, 100, 2000, 0)), Some(8388608));
-    assert_eq!(rt; hit(ball, &cast(-1000, 101, 2000, 0)), None);
-    assert_eq!(rt;
-        hit(circle(0, 0, 0), &cast(-1000, 0, 2000, 0)),
-        Some(8388608)
+    same(&rt, &hit(ball, &cast(-1000, 100, 2000, 0)), &Some(8388608));
+    same(&rt, &hit(ball, &cast(-1000, 101, 2000, 0)), &None);
+    same(
+        &rt,
+        &hit(circle(0, 0, 0), &cast(-1000, 0, 2000, 0)),
+        &Some(8388608),
     );
 }
 
 #[test]
 fn rays_meet_the_sides_and_ends_of_a_capsule(rt: HostRuntime) {
     let bar = capsule(-30000, 0, 30000, 0, 10000);
-    assert_eq!(rt; hit(bar, &cast(0, 100000, 0, -200000)), Some(7549747));
-    assert_eq!(rt; hit(bar, &cast(-100000, 10000, 200000, 0)), Some(5872025));
-    assert_eq!(rt; hit(bar, &cast(-100000, 10001, 200000, 0)), None);
-    assert_eq!(rt; hit(bar, &cast(100000, 0, -200000, 0)), Some(5033164));
-    assert_eq!(rt; hit(bar, &cast(-100000, 0, 200000, 0)), Some(5033164));
-    assert_eq!(rt; hit(bar, &cast(37000, 100000, 0, -200000)), Some(7789541));
+    same(&rt, &hit(bar, &cast(0, 100000, 0, -200000)), &Some(7549747));
+    same(
+        &rt,
+        &hit(bar, &cast(-100000, 10000, 200000, 0)),
+        &Some(5872025),
+    );
+    same(&rt, &hit(bar, &cast(-100000, 10001, 200000, 0)), &None);
+    same(&rt, &hit(bar, &cast(100000, 0, -200000, 0)), &Some(5033164));
+    same(&rt, &hit(bar, &cast(-100000, 0, 200000, 0)), &Some(5033164));
+    same(
+        &rt,
+        &hit(bar, &cast(37000, 100000, 0, -200000)),
+        &Some(7789541),
+    );
+}
+
+/// Boxes, and whether the ray from the origin to (100000, 100000) reaches them.
+fn on_the_way() -> [(Box2, bool); 9] {
+    [
+        (boxed(60000, 60000, 70000, 70000), true),
+        // Two corners at the end of the slack, and just beyond it.
+        (boxed(60000, 49872, 70000, 59872), true),
+        (boxed(60000, 49871, 70000, 59871), false),
+        (boxed(100064, 100064, 200000, 200000), true),
+        (boxed(100065, 100065, 200000, 200000), false),
+        (boxed(-200, -200, -64, -64), true),
+        (boxed(-200, -200, -65, -65), false),
+        // A box of all places, and one inside out.
+        (boxed(i64::MIN, i64::MIN, i64::MAX, i64::MAX), true),
+        (boxed(i64::MAX, i64::MAX, i64::MIN, i64::MIN), false),
+    ]
 }
 
 #[test]
 fn boxes_off_the_way_are_passed_over(rt: HostRuntime) {
     let across = cast(0, 0, 100000, 100000);
-    assert!(rt; across.reaches(&boxed(60000, 60000, 70000, 70000)));
-    // Two corners at the end of the slack, and just beyond it.
-    assert!(rt; across.reaches(&boxed(60000, 49872, 70000, 59872)));
-    assert!(rt; !across.reaches(&boxed(60000, 49871, 70000, 59871)));
-    assert!(rt; across.reaches(&boxed(100064, 100064, 200000, 200000)));
-    assert!(rt; !across.reaches(&boxed(100065, 100065, 200000, 200000)));
-    assert!(rt; across.reaches(&boxed(-200, -200, -64, -64)));
-    assert!(rt; !across.reaches(&boxed(-200, -200, -65, -65)));
-    // A box of all places, and one inside out.
-    assert!(rt; across.reaches(&boxed(i64::MIN, i64::MIN, i64::MAX, i64::MAX)));
-    assert!(rt; !across.reaches(&boxed(i64::MAX, i64::MAX, i64::MIN, i64::MIN)));
+    for case in on_the_way() {
+        same(&rt, &(case.0, across.reaches(&case.0)), &case);
+    }
     let nowhere = cast(5, 5, 0, 0);
-    assert!(rt; nowhere.reaches(&boxed(0, 0, 10, 10)));
-    assert!(rt; !nowhere.reaches(&boxed(70, 0, 80, 10)));
+    same(&rt, &nowhere.reaches(&boxed(0, 0, 10, 10)), &true);
+    same(&rt, &nowhere.reaches(&boxed(70, 0, 80, 10)), &false);
 }
 
 fn named(slot: u32, index: u8, shape: Shape, pose: Pose) -> PlacedShape
@@ -174,13 +197,16 @@ fn the_first_hit_is_the_nearest_and_then_of_the_lesser_name(rt: HostRuntime) {
     let near = named(7, 1, ball, at(1000, 0));
     let twin = named(7, 0, ball, at(1000, 0));
     let far = named(2, 0, ball, at(1500, 0));
-    assert_eq!(rt; first_of(&ray, far, near), on(7549747, 7, 1));
-    assert_eq!(rt; first_of(&ray, near, twin), on(7549747, 7, 0));
-    assert_eq!(rt; first_of(&ray, twin, near), on(7549747, 7, 0));
-    assert_eq!(rt; first_of(&cast(0, 0, -2000, 0), twin, near), None);
-    assert_eq!(rt; nearer(on(5, 3, 0), on(5, 2, 4)), on(5, 2, 4));
-    assert!(rt; is_over(&ball, at(1000, 0), &boxed(0, 0, 900, 5)));
-    assert!(rt; !is_over(&ball, at(1000, 0), &boxed(0, 0, 899, 5)));
+    same(&rt, &first_of(&ray, far, near), &on(7549747, 7, 1));
+    same(&rt, &first_of(&ray, near, twin), &on(7549747, 7, 0));
+    same(&rt, &first_of(&ray, twin, near), &on(7549747, 7, 0));
+    same(&rt, &first_of(&cast(0, 0, -2000, 0), twin, near), &None);
+    same(&rt, &nearer(on(5, 3, 0), on(5, 2, 4)), &on(5, 2, 4));
+    let over = [
+        is_over(&ball, at(1000, 0), &boxed(0, 0, 900, 5)),
+        is_over(&ball, at(1000, 0), &boxed(0, 0, 899, 5)),
+    ];
+    same(&rt, &over, &[true, false]);
 }
 
 /// A shape, the position and facing of its body, the start and way of a ray, and where that hits.
@@ -372,6 +398,6 @@ fn answer(case: &Case) -> Option<Option<u32>> {
 #[test]
 fn rays_meet_what_a_model_says(rt: HostRuntime) {
     for case in &cases() {
-        assert_eq!(rt; answer(case), Some(case.3));
+        same(&rt, &answer(case), &Some(case.3));
     }
 }

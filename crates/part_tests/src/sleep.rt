@@ -1,21 +1,12 @@
 //! Worked by hand: two movers with a joint between them and a third one, which fall asleep and wake.
 
+use crate::assertions::{same, same_items};
+use crate::joints::{Joint, between};
 use fixed_geom::Refusal;
-use graph_colours::{Id, Member, Movers};
+use graph_colours::{Member, Movers};
 use sleep_wake::Sets;
 use std::alloc::Global;
 use std::test::Fail;
-
-#[derive(Clone, Copy, Debug, PartialEq, Eq)]
-struct Joint(u32);
-
-impl Id for Joint {
-    ghost number = { λ joint. joint.0 };
-
-    fn number(&self) -> u128 {
-        self.0 as u128
-    }
-}
 
 /// Adds a mover where there is none yet, after making room for it.
 fn add(sets: &mut Sets<Joint>, slot: u32) -> Result<(), Refusal> {
@@ -43,11 +34,7 @@ fn a_pair_and_one(alloc: Global) -> Result<Sets<Joint>, Refusal> {
     for slot in 0..3 {
         add(&mut sets, slot)?;
     }
-    let movers = Movers {
-        first: 0,
-        second: Some(1),
-    };
-    join(&mut sets, Joint(5), movers)?;
+    join(&mut sets, Joint(5), between(0, 1))?;
     Ok(sets)
 }
 
@@ -60,29 +47,40 @@ fn colour(sets: &Sets<Joint>) -> Option<u8> {
     sets.colours().colour_of(Joint(5))
 }
 
+/// Wakes the sets of three movers, and tells their names.
+fn wake_all(sets: &mut Sets<Joint>) -> Result<Vec<u32>, Refusal> {
+    let names = sets.names_of(&[2, 1, 0])?;
+    sets.wake_named(&names);
+    Ok(names)
+}
+
 #[test]
 fn sleeps_and_wakes_with_its_constraints(rt: HostRuntime) -> Result<(), Fail> {
     let mut sets = a_pair_and_one(rt.alloc())?;
-    assert_eq!(rt; colour(&sets), Some(0));
+    same(&rt, &colour(&sets), &Some(0));
     sets.sleep(1);
-    assert_eq!(rt; awake(&sets), [false, false, true]);
-    assert_eq!(rt; colour(&sets), None);
-    let names = sets.names_of(&[2, 1, 0])?;
-    assert_eq!(rt; names.as_slice(), [0].as_slice());
-    sets.wake_named(&names);
-    assert_eq!(rt; awake(&sets), [true, true, true]);
-    assert_eq!(rt; colour(&sets), Some(0));
+    same(&rt, &awake(&sets), &[false, false, true]);
+    same(&rt, &colour(&sets), &None);
+    let names = wake_all(&mut sets)?;
+    same_items(&rt, &names, &[0]);
+    same(&rt, &awake(&sets), &[true, true, true]);
+    same(&rt, &colour(&sets), &Some(0));
     Ok(())
+}
+
+/// The pair and the one after the one was slow for 128 ticks, and a copy after the pair was too.
+fn slow_and_copied(alloc: Global) -> Result<[Sets<Joint>; 2], Refusal> {
+    let mut sets = a_pair_and_one(alloc)?;
+    sets.sleep_phase(&[127, 200, 128]);
+    let mut copy = sets.try_copy()?;
+    copy.sleep_phase(&[128, 200, 0]);
+    Ok([sets, copy])
 }
 
 #[test]
 fn sleeps_when_all_were_slow_for_long(rt: HostRuntime) -> Result<(), Fail> {
-    let mut sets = a_pair_and_one(rt.alloc())?;
-    sets.sleep_phase(&[127, 200, 128]);
-    assert_eq!(rt; awake(&sets), [true, true, false]);
-    let mut copy = sets.try_copy()?;
-    copy.sleep_phase(&[128, 200, 0]);
-    assert_eq!(rt; awake(&copy), [false, false, false]);
-    assert_eq!(rt; awake(&sets), [true, true, false]);
+    let [sets, copy] = &slow_and_copied(rt.alloc())?;
+    same(&rt, &awake(sets), &[true, true, false]);
+    same(&rt, &awake(copy), &[false, false, false]);
     Ok(())
 }

@@ -2,6 +2,7 @@
 
 ghost use Rattle.std.specs.Prelude.{◌≡◌, true, cond, nat_lt, None, Some};
 
+use crate::assertions::{same, same_items};
 use box_tree::*;
 use fixed_geom::{Box2, Refusal, Vec2};
 use std::alloc::Global;
@@ -48,31 +49,36 @@ fn tree_of(alloc: Global, keys: u32) -> Result<BoxTree, Fail> {
     Ok(tree)
 }
 
-#[test]
-fn touching_boxes_overlap(rt: HostRuntime) -> Result<(), Fail> {
-    let mut tree = tree_of(rt.alloc(), 4)?;
+/// The keys of the boxes that overlap one, or touch it.
+fn over(tree: &BoxTree, left: i64, down: i64, right: i64, up: i64) -> Result<Vec<u32>, Fail> {
+    Ok(tree.overlapping(&boxed(left, down, right, up))?)
+}
+
+/// Two boxes that touch at a corner.
+fn touching(alloc: Global) -> Result<BoxTree, Fail> {
+    let mut tree = tree_of(alloc, 4)?;
     put(&mut tree, 2, &boxed(10, 10, 20, 20))?;
     put(&mut tree, 1, &boxed(0, 0, 10, 10))?;
-    assert_eq!(rt;
-        tree.overlapping(&boxed(10, 10, 10, 10))?.as_slice(),
-        [1, 2].as_slice()
-    );
-    assert_eq!(rt; tree.overlapping(&boxed(11, 0, 20, 9))?.len(), 0);
+    Ok(tree)
+}
+
+#[test]
+fn touching_boxes_overlap(rt: HostRuntime) -> Result<(), Fail> {
+    let tree = touching(rt.alloc())?;
+    same_items(&rt, &over(&tree, 10, 10, 10, 10)?, &[1, 2]);
+    same_items(&rt, &over(&tree, 11, 0, 20, 9)?, &[]);
+    Ok(())
+}
+
+#[test]
+fn boxes_move_and_go_and_a_copy_keeps_its_own(rt: HostRuntime) -> Result<(), Fail> {
+    let mut tree = touching(rt.alloc())?;
     let copy = tree.try_copy()?;
     shift(&mut tree, 1, &boxed(50_000_000, 0, 50_000_010, 10));
-    assert_eq!(rt;
-        tree.overlapping(&boxed(0, 0, 20, 20))?.as_slice(),
-        [2].as_slice()
-    );
+    same_items(&rt, &over(&tree, 0, 0, 20, 20)?, &[2]);
     take(&mut tree, 2);
-    assert_eq!(rt;
-        tree.overlapping(&boxed(0, 0, 60_000_000, 20))?.as_slice(),
-        [1].as_slice()
-    );
-    assert_eq!(rt;
-        copy.overlapping(&boxed(0, 0, 20, 20))?.as_slice(),
-        [1, 2].as_slice()
-    );
+    same_items(&rt, &over(&tree, 0, 0, 60_000_000, 20)?, &[1]);
+    same_items(&rt, &over(&copy, 0, 0, 20, 20)?, &[1, 2]);
     Ok(())
 }
 
@@ -107,8 +113,7 @@ fn first(tree: &BoxTree, from: u32) -> Option<Hit> {
 fn row_of(alloc: Global, boxes: u32) -> Result<BoxTree, Fail> {
     let mut tree = tree_of(alloc, boxes)?;
     for key in 0..boxes {
-        let left = i64::from(key) * 1000;
-        put(&mut tree, key, &boxed(left, 0, left + 1000, 1000))?;
+        put(&mut tree, key, &in_row(key, 0))?;
     }
     Ok(tree)
 }
@@ -116,43 +121,65 @@ fn row_of(alloc: Global, boxes: u32) -> Result<BoxTree, Fail> {
 /// How many boxes stand in the row. `rt try` takes too long for so many; the built test takes under a second.
 const ROW: u32 = 131_072;
 
-#[test]
-fn a_row_in_ascending_order_is_found_moved_and_taken(rt: HostRuntime) -> Result<(), Fail> {
-    let mut tree = row_of(rt.alloc(), ROW)?;
-    assert!(rt; tree.depth() <= 28);
-    assert!(rt; tree.depth() > 17);
+/// The box in the row that has this key, or the one as far above it.
+fn in_row(key: u32, up: u32) -> Box2 {
+    let left = i64::from(key) * 1000;
+    let down = i64::from(up);
+    boxed(left, down, left + 1000, down + 1000)
+}
+
+/// Whether every ninety-seventh key is found with the one before it, where their boxes touch.
+fn are_found(tree: &BoxTree) -> Result<bool, Fail> {
     for key in 1..ROW {
         if key % 97 == 0 {
             let left = i64::from(key) * 1000;
-            let found = tree.overlapping(&boxed(left, 0, left + 1, 1000))?;
-            assert_eq!(rt; found.as_slice(), [key - 1, key].as_slice());
+            let found = over(tree, left, 0, left + 1, 1000)?;
+            if found.as_slice() != [key - 1, key].as_slice() {
+                return Ok(false);
+            }
         }
     }
-    assert_eq!(rt;
-        first(&tree, 5),
-        Some(Hit {
+    Ok(true)
+}
+
+/// How high the row is moved.
+const HIGH: u32 = 10_000_000;
+
+fn lift(tree: &mut BoxTree) {
+    for key in 0..ROW {
+        shift(tree, key, &in_row(key, HIGH));
+    }
+}
+
+fn take_all(tree: &mut BoxTree) {
+    for key in 0..ROW {
+        take(tree, key);
+    }
+}
+
+#[test]
+fn a_row_in_ascending_order_is_found_moved_and_taken(rt: HostRuntime) -> Result<(), Fail> {
+    let mut tree = row_of(rt.alloc(), ROW)?;
+    same(&rt, &(tree.depth() <= 28), &true);
+    same(&rt, &(tree.depth() > 17), &true);
+    same(&rt, &are_found(&tree)?, &true);
+    same(
+        &rt,
+        &first(&tree, 5),
+        &Some(Hit {
             fraction: 7,
-            key: 5
-        })
+            key: 5,
+        }),
     );
-    for key in 0..ROW {
-        let left = i64::from(key) * 1000;
-        shift(
-            &mut tree,
-            key,
-            &boxed(left, 10_000_000, left + 1000, 10_001_000),
-        );
-    }
-    assert_eq!(rt; tree.overlapping(&boxed(0, 0, 1 << 40, 1000))?.len(), 0);
-    assert_eq!(rt;
-        tree.overlapping(&boxed(0, 10_000_000, 500, 10_000_000))?
-            .as_slice(),
-        [0].as_slice()
+    lift(&mut tree);
+    same_items(&rt, &over(&tree, 0, 0, 1 << 40, 1000)?, &[]);
+    same_items(
+        &rt,
+        &over(&tree, 0, i64::from(HIGH), 500, i64::from(HIGH))?,
+        &[0],
     );
-    for key in 0..ROW {
-        take(&mut tree, key);
-    }
-    assert_eq!(rt; tree.depth(), 0);
-    assert_eq!(rt; first(&tree, 5), None);
+    take_all(&mut tree);
+    same(&rt, &tree.depth(), &0);
+    same(&rt, &first(&tree, 5), &None);
     Ok(())
 }

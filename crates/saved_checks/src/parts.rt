@@ -24,7 +24,7 @@ const PLACES: [Place; 8] = [Place {
 }; 8];
 
 /// A saved world, or a part of one.
-#[derive(Clone, Copy, Debug, PartialEq, Eq)]
+#[derive(Clone, Copy)]
 pub enum Part {
     Bodies,
     Joints,

@@ -14,8 +14,6 @@ mod call;
 mod named;
 mod roster;
 mod rule;
-#[cfg(test)]
-mod tests;
 
 pub use book::{Book, Keeper, Pass};
 pub use call::{Call, Entry};

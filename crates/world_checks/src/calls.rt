@@ -1,12 +1,14 @@
 //! A world by the calls that are made of it, in methods that promise nothing. The checks are generic over it, so that no proof of this program has to
 //! read what a world promises or keeps, but for those of the methods.
 
+use fixed_geom::Box2;
 use impulse_ledger::Entry;
 use std::alloc::Global;
 use world_core::{
     BodyView, Cause, Census, Command, Constraint, Events, Frame, Handle, Item, Plain, Refusal,
-    Reply, Total, Vec2, WorldCore,
+    Reply, ShapeId, Total, Vec2, WorldCore,
 };
+use world_queries::Hit;
 
 /// What a world answers to a command.
 pub type Answer = Result<Reply, Refusal>;
@@ -20,8 +22,6 @@ pub trait World: Drop {
 
     fn apply(&mut self, command: &Command) -> Answer;
 
-    fn step(&mut self, ticks: i64) -> Answer;
-
     fn replay(&mut self, alloc: Global, commands: &[Command]) -> Result<Vec<Answer>, Refusal>;
 
     fn settle(&mut self);
@@ -32,7 +32,7 @@ pub trait World: Drop {
 
     fn frame(&self) -> Result<Frame, Refusal>;
 
-    fn view(&self, handle: Handle) -> Option<BodyView>;
+    fn body(&self, handle: Handle) -> Option<BodyView>;
 
     fn colour(&self, constraint: Constraint) -> Option<u8>;
 
@@ -43,6 +43,12 @@ pub trait World: Drop {
     fn total_of(&self, cause: Cause) -> Total;
 
     fn total(&self) -> Total;
+
+    /// What a ray hits first, if its numbers are within their limits.
+    fn hit(&self, from: Vec2, along: Vec2) -> Option<Hit>;
+
+    /// The shapes that lie over a box.
+    fn over(&self, alloc: Global, bounds: &Box2) -> Result<Vec<ShapeId>, Refusal>;
 }
 
 impl World for WorldCore {
@@ -56,10 +62,6 @@ impl World for WorldCore {
 
     fn apply(&mut self, command: &Command) -> Answer {
         WorldCore::apply(self, command)
-    }
-
-    fn step(&mut self, ticks: i64) -> Answer {
-        self.step_one(ticks)
     }
 
     fn replay(&mut self, alloc: Global, commands: &[Command]) -> Result<Vec<Answer>, Refusal> {
@@ -82,8 +84,8 @@ impl World for WorldCore {
         WorldCore::frame(self)
     }
 
-    fn view(&self, handle: Handle) -> Option<BodyView> {
-        self.body(handle)
+    fn body(&self, handle: Handle) -> Option<BodyView> {
+        WorldCore::body(self, handle)
     }
 
     fn colour(&self, constraint: Constraint) -> Option<u8> {
@@ -104,6 +106,22 @@ impl World for WorldCore {
 
     fn total(&self) -> Total {
         self.ledger().total()
+    }
+
+    fn hit(&self, from: Vec2, along: Vec2) -> Option<Hit> {
+        if world_queries::is_ray(from, along) {
+            world_queries::ray(self, from, along)
+        } else {
+            None
+        }
+    }
+
+    fn over(&self, alloc: Global, bounds: &Box2) -> Result<Vec<ShapeId>, Refusal> {
+        if world_queries::is_region(bounds) {
+            world_queries::region(alloc, self, bounds)
+        } else {
+            Err(Refusal::OutOfRange)
+        }
     }
 }
 

@@ -1,13 +1,28 @@
 //! A check under way. What it asks for is told as it comes, and nothing ends it early, so that each check is a list of calls.
 
 use crate::calls::{Answer, World, first_static};
-use crate::making::{NO_GRAVITY, body_of, create_of};
+use crate::making::{NO_GRAVITY, ORIGIN, body_of, create_of};
+use crate::readme::fall;
 use crate::seen::{Line, Seen};
+use contacts_base::ContactEntry;
+use fixed_geom::Box2;
+use islands::Label;
 use std::alloc::Global;
 use world_core::{
     Body, Cause, Command, Constraint, Course, Handle, JointDef, Kind, MassData, Plain, Pose,
     Refusal, ShapeDef, Vec2,
 };
+
+/// What a check asks of the plain lists.
+#[derive(Clone, Copy)]
+enum Excerpt {
+    Counts,
+    Contacts,
+    /// The islands of the first bodies, so many.
+    Islands(u32),
+    FatBox,
+    Timer,
+}
 
 /// The world of a check, and the lines of all checks so far.
 #[derive(Drop)]
@@ -60,15 +75,15 @@ impl<W: World> Check<W> {
         }
     }
 
-    /// Applies a command, and tells what it answers.
-    pub fn ask(&mut self, command: &Command) {
-        let answer = self.world.apply(command);
+    /// Applies a command, and tells what it answers. The command is given away, so that whoever asks for many has none of them to drop.
+    pub fn ask(&mut self, command: Command) {
+        let answer = self.world.apply(&command);
         self.see(Seen::Answer(answer));
     }
 
     /// Applies a command, and tells what it answers only where it is refused.
-    pub fn apply(&mut self, command: &Command) {
-        let answer = self.world.apply(command);
+    pub fn apply(&mut self, command: Command) {
+        let answer = self.world.apply(&command);
         self.expect(answer);
     }
 
@@ -80,14 +95,14 @@ impl<W: World> Check<W> {
 
     fn ask_made(&mut self, made: Result<Command, Refusal>) {
         match made {
-            Ok(command) => self.ask(&command),
+            Ok(command) => self.ask(command),
             Err(_) => self.is_cut = true,
         }
     }
 
     fn apply_made(&mut self, made: Result<Command, Refusal>) {
         match made {
-            Ok(command) => self.apply(&command),
+            Ok(command) => self.apply(command),
             Err(_) => self.is_cut = true,
         }
     }
@@ -111,36 +126,34 @@ impl<W: World> Check<W> {
     }
 
     pub fn join(&mut self, def: JointDef) {
-        self.apply(&Command::CreateJoint(def));
+        self.apply(Command::CreateJoint(def));
     }
 
     pub fn push(&mut self, handle: Handle, x: i64, y: i64) {
-        self.apply(&Command::Push(handle, Vec2 { x, y }));
+        self.apply(Command::Push(handle, Vec2 { x, y }));
     }
 
     /// Pushes, and tells what it answers.
     pub fn ask_push(&mut self, handle: Handle, x: i64, y: i64) {
-        self.ask(&Command::Push(handle, Vec2 { x, y }));
+        self.ask(Command::Push(handle, Vec2 { x, y }));
     }
 
     pub fn put(&mut self, handle: Handle, pose: Pose) {
-        self.apply(&Command::SetPose(handle, pose));
+        self.apply(Command::SetPose(handle, pose));
     }
 
     pub fn steer(&mut self, handle: Handle, course: Course) {
-        self.apply(&Command::SetVelocity(handle, course));
+        self.apply(Command::SetVelocity(handle, course));
     }
 
     /// Lets ticks pass.
     pub fn step(&mut self, ticks: i64) {
-        let answer = self.world.step(ticks);
-        self.expect(answer);
+        self.apply(Command::Step(ticks));
     }
 
     /// Lets ticks pass, and tells what it answers.
     pub fn ask_step(&mut self, ticks: i64) {
-        let answer = self.world.step(ticks);
-        self.see(Seen::Answer(answer));
+        self.ask(Command::Step(ticks));
     }
 
     /// Takes so many steps.
@@ -200,8 +213,30 @@ impl<W: World> Check<W> {
     }
 
     pub fn see_body(&mut self, handle: Handle) {
-        let view = self.world.view(handle);
+        let view = self.world.body(handle);
         self.see(Seen::Body(view));
+    }
+
+    /// Lets the circle of the README fall, and tells what is seen of it.
+    pub fn see_fall(&mut self) {
+        match fall(self.alloc, &mut self.world) {
+            Ok(view) => self.see(Seen::Body(view)),
+            Err(refusal) => self.see(Seen::Answer(Err(refusal))),
+        }
+    }
+
+    /// Tells what a ray from the origin hits first.
+    pub fn see_hit(&mut self, along: Vec2) {
+        let hit = self.world.hit(ORIGIN, along);
+        self.see(Seen::Hit(hit));
+    }
+
+    /// Tells how many shapes lie over the box from the origin to this corner.
+    pub fn see_over(&mut self, hi: Vec2) {
+        match self.world.over(self.alloc, &Box2 { lo: ORIGIN, hi }) {
+            Ok(shapes) => self.see(Seen::Count("shapes over the box", shapes.len() as u64)),
+            Err(_) => self.is_cut = true,
+        }
     }
 
     pub fn see_colour(&mut self, constraint: Constraint) {
@@ -273,11 +308,46 @@ impl<W: World> Check<W> {
         }
     }
 
-    /// Tells what stands in the plain lists: how many places, bodies, contacts and touching contacts, steps and calls.
+    /// Tells what stands in the plain lists: how many places, bodies, steps and calls.
     pub fn see_counts(&mut self) {
+        self.see_lists(Excerpt::Counts);
+    }
+
+    /// Tells how many contacts there are, and how many of them touch.
+    pub fn see_contacts(&mut self) {
+        self.see_lists(Excerpt::Contacts);
+    }
+
+    /// Tells the islands of the first bodies, so many.
+    pub fn see_islands(&mut self, slots: u32) {
+        self.see_lists(Excerpt::Islands(slots));
+    }
+
+    /// Tells the first body's timer and the fat box of its first shape.
+    pub fn see_fat_box(&mut self) {
+        self.see_lists(Excerpt::FatBox);
+    }
+
+    /// Tells for how many ticks the first body was slow.
+    pub fn see_timer(&mut self) {
+        self.see_lists(Excerpt::Timer);
+    }
+
+    /// Makes the plain lists, and tells an excerpt of them.
+    fn see_lists(&mut self, excerpt: Excerpt) {
         match self.world.lists() {
-            Ok(lists) => self.see_counts_of(&lists),
+            Ok(lists) => self.see_excerpt(&lists, excerpt),
             Err(_) => self.is_cut = true,
+        }
+    }
+
+    fn see_excerpt(&mut self, lists: &Plain, excerpt: Excerpt) {
+        match excerpt {
+            Excerpt::Counts => self.see_counts_of(lists),
+            Excerpt::Contacts => self.see_contacts_of(lists.contacts()),
+            Excerpt::Islands(slots) => self.see_islands_of(lists.islands(), slots),
+            Excerpt::FatBox => self.see_fat_box_of(lists.bodies()),
+            Excerpt::Timer => self.see_timer_of(lists.bodies()),
         }
     }
 
@@ -288,16 +358,7 @@ impl<W: World> Check<W> {
         self.see(Seen::Count("calls", lists.calls()));
     }
 
-    /// Tells how many contacts there are, and how many of them touch.
-    pub fn see_contacts(&mut self) {
-        match self.world.lists() {
-            Ok(lists) => self.see_contacts_of(&lists),
-            Err(_) => self.is_cut = true,
-        }
-    }
-
-    fn see_contacts_of(&mut self, lists: &Plain) {
-        let contacts = lists.contacts();
+    fn see_contacts_of(&mut self, contacts: &[ContactEntry]) {
         let touching = contacts
             .iter()
             .filter(|entry| entry.contact.is_touching())
@@ -306,26 +367,10 @@ impl<W: World> Check<W> {
         self.see(Seen::Count("touching", touching as u64));
     }
 
-    /// Tells the islands of the first bodies, so many.
-    pub fn see_islands(&mut self, slots: u32) {
-        match self.world.lists() {
-            Ok(lists) => self.see_islands_of(&lists, slots),
-            Err(_) => self.is_cut = true,
-        }
-    }
-
-    fn see_islands_of(&mut self, lists: &Plain, slots: u32) {
+    fn see_islands_of(&mut self, labels: &[Option<Label>], slots: u32) {
         for slot in 0..slots {
-            let label = lists.islands().get(slot as usize).copied().flatten();
+            let label = labels.get(slot as usize).copied().flatten();
             self.see(Seen::Island(slot, label));
-        }
-    }
-
-    /// Tells the first body's timer and the fat box of its first shape.
-    pub fn see_fat_box(&mut self) {
-        match self.world.lists() {
-            Ok(lists) => self.see_fat_box_of(lists.bodies()),
-            Err(_) => self.is_cut = true,
         }
     }
 
@@ -335,14 +380,6 @@ impl<W: World> Check<W> {
             _ => None,
         };
         self.see(Seen::FatBox(fat));
-    }
-
-    /// Tells for how many ticks the first body was slow.
-    pub fn see_timer(&mut self) {
-        match self.world.lists() {
-            Ok(lists) => self.see_timer_of(lists.bodies()),
-            Err(_) => self.is_cut = true,
-        }
     }
 
     fn see_timer_of(&mut self, bodies: &[Option<Body>]) {

@@ -30,8 +30,8 @@ fn a_frame_is_the_same_once_the_ledger_is_settled<W: World>(check: &mut Check<W>
 fn a_sleeper_is_shown_and_a_disabled_body_is_not<W: World>(check: &mut Check<W>) {
     check.begin("a sleeper is shown and a disabled body is not", NO_GRAVITY);
     let_move(check);
-    check.apply(&Command::Sleep(FIRST));
+    check.apply(Command::Sleep(FIRST));
     check.see_frame(FIRST);
-    check.apply(&Command::Disable(FIRST));
+    check.apply(Command::Disable(FIRST));
     check.see_frame(FIRST);
 }

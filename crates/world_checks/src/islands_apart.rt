@@ -29,7 +29,7 @@ fn a_row_without_its_middle_sleeps_in_two_sets<W: World>(check: &mut Check<W>) {
     check.begin("a row without its middle sleeps in two sets", NO_GRAVITY);
     add_three(check);
     check.see_islands(3);
-    check.apply(&Command::DestroyBody(SECOND));
+    check.apply(Command::DestroyBody(SECOND));
     check.see_islands(3);
     check.steps(15, 8);
     check.see_events();
@@ -46,9 +46,9 @@ fn a_joint_that_goes_wakes_and_loosens<W: World>(check: &mut Check<W>) {
     check.add(1, ORIGIN, circle(100));
     check.add(1, right(1_000), circle(100));
     check.join(between(FIRST, SECOND, 1_000));
-    check.apply(&Command::Sleep(SECOND));
+    check.apply(Command::Sleep(SECOND));
     check.see_islands(2);
-    check.ask(&Command::DestroyJoint(FIRST));
+    check.ask(Command::DestroyJoint(FIRST));
     check.see_islands(2);
     check.steps(16, 8);
     check.see_events();
@@ -59,9 +59,9 @@ fn a_joint_that_goes_wakes_and_loosens<W: World>(check: &mut Check<W>) {
 fn sleep_by_command_splits_first<W: World>(check: &mut Check<W>) {
     check.begin("sleep by command splits first", NO_GRAVITY);
     add_three(check);
-    check.apply(&Command::DestroyJoint(FIRST));
+    check.apply(Command::DestroyJoint(FIRST));
     check.see_islands(3);
-    check.ask(&Command::Sleep(SECOND));
+    check.ask(Command::Sleep(SECOND));
     check.see_islands(3);
 }
 
@@ -76,7 +76,7 @@ fn a_contact_of_sleepers_that_ends_wakes_both<W: World>(check: &mut Check<W>) {
     check.see_colour(contact(0, 1));
     let x = right(10_000_000);
     check.put(SECOND, Pose { x, rot: UPRIGHT });
-    check.apply(&Command::Sleep(SECOND));
+    check.apply(Command::Sleep(SECOND));
     check.see_islands(2);
     check.see_colour(contact(0, 1));
     check.ask_step(1);
@@ -96,7 +96,7 @@ fn a_floor_that_goes_wakes_all_that_lie_on_it<W: World>(check: &mut Check<W>) {
     check.see_events();
     check.see_islands(4);
     check.see_contacts();
-    check.ask(&Command::DestroyBody(FIRST));
+    check.ask(Command::DestroyBody(FIRST));
     check.see_islands(4);
     check.see_contacts();
     check.see_colour(contact(0, 1));

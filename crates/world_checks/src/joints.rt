@@ -14,11 +14,11 @@ pub fn run<W: World>(check: &mut Check<W>) {
 }
 
 fn ask_join<W: World>(check: &mut Check<W>, def: JointDef) {
-    check.ask(&Command::CreateJoint(def));
+    check.ask(Command::CreateJoint(def));
 }
 
 fn ask_unjoin<W: World>(check: &mut Check<W>, joint: Handle) {
-    check.ask(&Command::DestroyJoint(joint));
+    check.ask(Command::DestroyJoint(joint));
 }
 
 /// A hub and twenty-five movers beside it, each jointed to it.
@@ -89,7 +89,7 @@ fn joined_bodies_do_not_collide<W: World>(check: &mut Check<W>) {
     see_a_tick(check);
     check.join(between(FIRST, SECOND, 150));
     see_a_tick(check);
-    check.apply(&Command::DestroyJoint(FIRST));
+    check.apply(Command::DestroyJoint(FIRST));
     see_a_tick(check);
 }
 
@@ -111,7 +111,7 @@ fn let_go<W: World>(check: &mut Check<W>, mass: i64) {
     add_pair(check, mass);
     check.join(between(FIRST, SECOND, 1_000));
     check.see_colour(Constraint::Joint(FIRST));
-    check.apply(&Command::DestroyBody(SECOND));
+    check.apply(Command::DestroyBody(SECOND));
     ask_unjoin(check, FIRST);
 }
 

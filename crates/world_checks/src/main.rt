@@ -15,6 +15,8 @@ mod meetings;
 mod one_body;
 mod parts;
 mod platforms;
+mod queries;
+mod readme;
 mod seen;
 mod sleeping;
 
@@ -34,6 +36,8 @@ fn run_all<W: World>(check: &mut Check<W>) {
     islands_apart::run(check);
     parts::run(check);
     platforms::run(check);
+    queries::run(check);
+    readme::run(check);
 }
 
 fn print<R: AllocGlobal + Print, W: World>(rt: &R, check: &Check<W>) -> io::Result<()> {
@@ -43,13 +47,10 @@ fn print<R: AllocGlobal + Print, W: World>(rt: &R, check: &Check<W>) -> io::Resu
     Ok(())
 }
 
-/// Runs all checks. Status 3 where memory is wanting, and 1 where a line can't be written.
-fn start<R: AllocGlobal + Print>(rt: &R) -> ExitCode {
-    let Ok(mut check) = Check::<WorldCore>::new(rt.alloc()) else {
-        return ExitCode::from(3);
-    };
-    run_all(&mut check);
-    if print(rt, &check).is_err() {
+/// Runs all checks, and prints what they told. Status 3 where memory is wanting, and 1 where a line can't be written.
+fn run_and_print<R: AllocGlobal + Print, W: World>(rt: &R, check: &mut Check<W>) -> ExitCode {
+    run_all(check);
+    if print(rt, check).is_err() {
         return ExitCode::from(1);
     }
     if check.is_cut() {
@@ -58,6 +59,13 @@ fn start<R: AllocGlobal + Print>(rt: &R) -> ExitCode {
     ExitCode::SUCCESS
 }
 
+fn start<R: AllocGlobal + Print, W: World>(rt: &R) -> ExitCode {
+    match Check::<W>::new(rt.alloc()) {
+        Ok(mut check) => run_and_print(rt, &mut check),
+        Err(_) => ExitCode::from(3),
+    }
+}
+
 fn main(rt: HostRuntime) -> ExitCode {
-    start(&rt)
+    start::<_, WorldCore>(&rt)
 }

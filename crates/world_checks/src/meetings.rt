@@ -83,7 +83,7 @@ fn a_destroyed_body_takes_its_contacts_along<W: World>(check: &mut Check<W>) {
     check.step(1);
     check.see_contacts();
     check.see_colour(contact(0, 1));
-    check.apply(&Command::DestroyBody(SECOND));
+    check.apply(Command::DestroyBody(SECOND));
     check.see_contacts();
     check.see_colour(contact(0, 1));
     see_a_tick(check);

@@ -46,7 +46,7 @@ fn an_empty_world_steps<W: World>(check: &mut Check<W>) {
 
 fn a_circle_falls<W: World>(check: &mut Check<W>) {
     check.begin("a circle falls", NO_GRAVITY);
-    check.ask(&Command::SetGravity(PULL));
+    check.ask(Command::SetGravity(PULL));
     check.ask_add(256, ORIGIN, circle(RADIUS));
     check.ask_step(4);
     check.see_body(FIRST);
@@ -64,7 +64,7 @@ fn fly<W: World>(check: &mut Check<W>, x: i64, by: i64) {
 fn a_fast_circle_is_limited_and_departs<W: World>(check: &mut Check<W>) {
     check.begin("a fast circle is limited and departs", NO_GRAVITY);
     fly(check, 0, 2_097_152);
-    check.ask(&Command::DestroyBody(FIRST));
+    check.ask(Command::DestroyBody(FIRST));
     check.see_total_of(Cause::Departed);
     check.see_total();
 }
@@ -88,7 +88,7 @@ fn steps_and_masses_have_limits<W: World>(check: &mut Check<W>) {
     check.ask_step(0);
     check.ask_step(9);
     check.ask_add((1 << 20) + 1, ORIGIN, circle(RADIUS));
-    check.ask(&Command::DestroyBody(FIRST));
+    check.ask(Command::DestroyBody(FIRST));
 }
 
 fn a_replay_answers_each_command<W: World>(check: &mut Check<W>) {
@@ -113,7 +113,7 @@ fn lists_and_census_are_the_world<W: World>(check: &mut Check<W>) {
 }
 
 fn push_at<W: World>(check: &mut Check<W>, by: Vec2, offset: Vec2) {
-    check.ask(&Command::PushAt(FIRST, by, offset));
+    check.ask(Command::PushAt(FIRST, by, offset));
 }
 
 fn a_push_beside_the_centre_turns<W: World>(check: &mut Check<W>) {
@@ -154,7 +154,7 @@ fn a_body_put_elsewhere_keeps_its_momentum<W: World>(check: &mut Check<W>) {
         x: 0,
         y: 10_000_000,
     };
-    check.ask(&Command::SetPose(FIRST, Pose { x, rot: UPRIGHT }));
+    check.ask(Command::SetPose(FIRST, Pose { x, rot: UPRIGHT }));
     check.see_body(FIRST);
     check.step(1);
     check.see_events();
@@ -162,7 +162,7 @@ fn a_body_put_elsewhere_keeps_its_momentum<W: World>(check: &mut Check<W>) {
 
 fn steer<W: World>(check: &mut Check<W>, kind: Kind, mass: MassData) {
     check.add_of(kind, mass, ORIGIN, circle(100));
-    check.ask(&Command::SetVelocity(FIRST, NO_COURSE));
+    check.ask(Command::SetVelocity(FIRST, NO_COURSE));
     check.see_body(FIRST);
 }
 

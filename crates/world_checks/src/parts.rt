@@ -32,13 +32,13 @@ fn a_disabled_body_leaves_and_comes_again<W: World>(check: &mut Check<W>) {
     check.begin("a disabled body leaves and comes again", NO_GRAVITY);
     add_joined(check);
     check.push(FIRST, 5, 0);
-    check.ask(&Command::Disable(FIRST));
+    check.ask(Command::Disable(FIRST));
     check.see_entries();
     see_pair(check);
     check.ask_push(FIRST, 1, 0);
-    check.ask(&Command::Enable(FIRST));
+    check.ask(Command::Enable(FIRST));
     see_pair(check);
-    check.ask(&Command::Enable(FIRST));
+    check.ask(Command::Enable(FIRST));
     see_pair(check);
     check.steps(15, 8);
     check.see_events();
@@ -52,23 +52,23 @@ fn a_disabled_body_leaves_and_comes_again<W: World>(check: &mut Check<W>) {
 fn a_disabled_sleeper_wakes_its_neighbour<W: World>(check: &mut Check<W>) {
     check.begin("a disabled sleeper wakes its neighbour", NO_GRAVITY);
     add_joined(check);
-    check.apply(&Command::Sleep(FIRST));
+    check.apply(Command::Sleep(FIRST));
     see_pair(check);
-    check.ask(&Command::Disable(FIRST));
+    check.ask(Command::Disable(FIRST));
     see_pair(check);
-    check.apply(&Command::Sleep(SECOND));
+    check.apply(Command::Sleep(SECOND));
     see_pair(check);
-    check.ask(&Command::Enable(FIRST));
+    check.ask(Command::Enable(FIRST));
     see_pair(check);
     check.see_entries();
 }
 
 /// What the four commands answer of a body.
 fn ask_all<W: World>(check: &mut Check<W>, handle: Handle) {
-    check.ask(&Command::Disable(handle));
-    check.ask(&Command::Wake(handle));
-    check.ask(&Command::Sleep(handle));
-    check.ask(&Command::Enable(handle));
+    check.ask(Command::Disable(handle));
+    check.ask(Command::Wake(handle));
+    check.ask(Command::Sleep(handle));
+    check.ask(Command::Enable(handle));
 }
 
 /// A refused command is no call.
@@ -90,8 +90,8 @@ fn bodies_that_do_not_move_are_refused<W: World>(check: &mut Check<W>) {
     check.add(0, ORIGIN, circle(100));
     check.add_of(Kind::Kinematic(NO_COURSE), none, right(1_000), circle(100));
     for handle in [FIRST, SECOND] {
-        check.ask(&Command::Wake(handle));
-        check.ask(&Command::Sleep(handle));
+        check.ask(Command::Wake(handle));
+        check.ask(Command::Sleep(handle));
         ask_all(check, handle);
         check.see_body(handle);
     }
@@ -101,7 +101,7 @@ fn bodies_that_do_not_move_are_refused<W: World>(check: &mut Check<W>) {
 fn disabled_bodies_are_refused<W: World>(check: &mut Check<W>) {
     check.begin("disabled bodies are refused", NO_GRAVITY);
     check.add(1, ORIGIN, circle(100));
-    check.apply(&Command::Disable(FIRST));
+    check.apply(Command::Disable(FIRST));
     check.see_body(FIRST);
     check.ask_push(FIRST, (1 << 40) + 1, 0);
     ask_all(check, FIRST);

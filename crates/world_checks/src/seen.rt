@@ -8,15 +8,18 @@ use std::fmt;
 use world_core::{
     BodyView, Cause, ContactKey, Course, Handle, Pose, Reply, Rot, SetName, ShapeId, Total, Vec2,
 };
+use world_queries::Hit;
 
 /// A value that a check saw.
-#[derive(Clone, Copy, Debug, PartialEq, Eq)]
+#[derive(Clone, Copy)]
 pub enum Seen {
     Answer(Answer),
     Body(Option<BodyView>),
     /// A number of things of a kind.
     Count(&'static str, u64),
     Colour(Option<u8>),
+    /// What a ray hits first.
+    Hit(Option<Hit>),
     Begun(ContactKey),
     Ended(ContactKey),
     Slept(Handle),
@@ -38,7 +41,7 @@ pub enum Seen {
 }
 
 /// A line of output.
-#[derive(Clone, Copy, Debug, PartialEq, Eq)]
+#[derive(Clone, Copy)]
 pub enum Line {
     /// The name of a check, which begins.
     Name(&'static str),
@@ -205,6 +208,16 @@ fn write_colour<W: fmt::Write>(f: &mut fmt::Formatter<W>, colour: Option<u8>) ->
     }
 }
 
+fn write_hit<W: fmt::Write>(f: &mut fmt::Formatter<W>, hit: Option<Hit>) -> fmt::Result {
+    match hit {
+        Some(Hit { fraction, shape }) => {
+            let shape = Name(shape);
+            write!(f, "hit {shape} at {fraction}")
+        }
+        None => f.write_str("no hit"),
+    }
+}
+
 fn write_entry<W: fmt::Write>(f: &mut fmt::Formatter<W>, entry: Entry) -> fmt::Result {
     let Entry { call, cause, x, y } = entry;
     let cause = Why(cause);
@@ -292,6 +305,7 @@ impl fmt::Display for Seen {
             Seen::Body(None) => f.write_str("no body"),
             Seen::Count(what, count) => write!(f, "{count} {what}"),
             Seen::Colour(colour) => write_colour(f, colour),
+            Seen::Hit(hit) => write_hit(f, hit),
             Seen::Begun(key) => write_key(f, "begun", key),
             Seen::Ended(key) => write_key(f, "ended", key),
             Seen::Slept(handle) => write_handle(f, "slept", handle),

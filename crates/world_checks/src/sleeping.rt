@@ -81,16 +81,16 @@ fn commands_put_to_rest_and_wake<W: World>(check: &mut Check<W>) {
     check.begin("commands put to rest and wake", NO_GRAVITY);
     check.add(1, ORIGIN, circle(100));
     check.push(FIRST, 7, 0);
-    check.ask(&Command::Sleep(FIRST));
+    check.ask(Command::Sleep(FIRST));
     check.see_body(FIRST);
     check.see_islands(1);
     check.see_events();
-    check.ask(&Command::Sleep(FIRST));
+    check.ask(Command::Sleep(FIRST));
     check.see_body(FIRST);
-    check.ask(&Command::Wake(FIRST));
+    check.ask(Command::Wake(FIRST));
     check.see_body(FIRST);
     check.see_islands(1);
-    check.ask(&Command::Wake(FIRST));
+    check.ask(Command::Wake(FIRST));
     check.see_body(FIRST);
     check.see_entries();
     check.see_total();
@@ -102,9 +102,9 @@ fn a_woken_circle_begins_anew<W: World>(check: &mut Check<W>) {
     check.begin("a woken circle begins anew", NO_GRAVITY);
     check.add(1, ORIGIN, circle(100));
     check.steps(3, 4);
-    check.apply(&Command::Sleep(FIRST));
+    check.apply(Command::Sleep(FIRST));
     check.see_timer();
-    check.apply(&Command::Wake(FIRST));
+    check.apply(Command::Wake(FIRST));
     check.see_timer();
     check.steps(15, 8);
     check.see_body(FIRST);
@@ -133,7 +133,7 @@ fn a_joint_keeps_two_asleep_together<W: World>(check: &mut Check<W>) {
     see_pair(check);
     check.push(SECOND, 3, 0);
     see_pair(check);
-    check.apply(&Command::Sleep(FIRST));
+    check.apply(Command::Sleep(FIRST));
     see_pair(check);
     check.see_entries();
 }
@@ -164,8 +164,8 @@ fn a_touch_wakes_a_sleeper<W: World>(check: &mut Check<W>) {
 fn other_commands_wake_or_do_not<W: World>(check: &mut Check<W>) {
     check.begin("gravity lets sleepers sleep and a pose wakes", NO_GRAVITY);
     check.add(1, ORIGIN, circle(100));
-    check.apply(&Command::Sleep(FIRST));
-    check.apply(&Command::SetGravity(PULL));
+    check.apply(Command::Sleep(FIRST));
+    check.apply(Command::SetGravity(PULL));
     check.step(8);
     check.see_body(FIRST);
     check.see_entries();

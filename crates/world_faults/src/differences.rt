@@ -6,12 +6,12 @@ use crate::scene::{self, Setting};
 use crate::stop::Stop;
 use crate::worlds::Worlds;
 use body_handles::Handle;
-use fixed_geom::Vec2;
+use fixed_geom::{Refusal, Vec2};
 use std::alloc::Global;
 use world_core::Command;
 
 /// In what a world differs from the one that it is compared with.
-#[derive(Clone, Copy, Debug, PartialEq, Eq)]
+#[derive(Clone, Copy)]
 pub enum Difference {
     /// A body was created.
     Created,
@@ -43,9 +43,9 @@ pub const ALL: [Difference; 8] = [
     Difference::Nothing,
 ];
 
-const FIRST: Command = Command::Push(PUSHED, Vec2 { x: 5, y: 6 });
+const FIRST: Vec2 = Vec2 { x: 5, y: 6 };
 
-const SECOND: Command = Command::Push(PUSHED, Vec2 { x: -7, y: 8 });
+const SECOND: Vec2 = Vec2 { x: -7, y: 8 };
 
 /// The mover that is pushed twice.
 const PUSHED: Handle = Handle {
@@ -74,21 +74,34 @@ fn compare_in<W: World>(
     difference: Difference,
 ) -> Result<(), Stop> {
     match difference {
-        Difference::Created => compare_after(worlds, &scene::create(alloc)?),
-        Difference::Pushed => compare_after(worlds, &scene::push()),
-        Difference::Joined => compare_after(worlds, &scene::create_joint()),
+        Difference::Created => compare_after_made(worlds, scene::create(alloc)),
+        Difference::Pushed => compare_after(worlds, scene::push()),
+        Difference::Joined => compare_after(worlds, scene::create_joint()),
         Difference::Loosened => compare_after_both(worlds, &resting::loosen()),
-        Difference::Woken => compare_after(worlds, &resting::wake()),
-        Difference::Pulled => compare_after(worlds, &scene::gravity()),
+        Difference::Woken => compare_after(worlds, resting::wake()),
+        Difference::Pulled => compare_after(worlds, scene::gravity()),
         Difference::Order => compare_orders(worlds),
         Difference::Nothing => worlds.expect_kept(),
     }
 }
 
-/// Compares a world to which the command was applied with the one before it.
-fn compare_after<W: World>(worlds: &mut Worlds<W>, command: &Command) -> Result<(), Stop> {
-    worlds.apply(command)?;
-    worlds.expect_kept()
+/// Compares a world to which the command was applied with the one before it. The command is given away, so that whoever chooses one has
+/// none to drop.
+fn compare_after<W: World>(worlds: &mut Worlds<W>, command: Command) -> Result<(), Stop> {
+    match worlds.apply(&command) {
+        Ok(_) => worlds.expect_kept(),
+        Err(refusal) => Err(Stop::from(refusal)),
+    }
+}
+
+fn compare_after_made<W: World>(
+    worlds: &mut Worlds<W>,
+    made: Result<Command, Refusal>,
+) -> Result<(), Stop> {
+    match made {
+        Ok(command) => compare_after(worlds, command),
+        Err(refusal) => Err(Stop::from(refusal)),
+    }
 }
 
 /// The same with two commands.
@@ -97,14 +110,25 @@ fn compare_after_both<W: World>(
     commands: &[Command; 2],
 ) -> Result<(), Stop> {
     worlds.apply(&commands[0])?;
-    compare_after(worlds, &commands[1])
+    worlds.apply(&commands[1])?;
+    worlds.expect_kept()
+}
+
+fn push_once<W: World>(world: &mut W, by: Vec2) -> Result<(), Refusal> {
+    match world.apply(&Command::Push(PUSHED, by)) {
+        Ok(_) => Ok(()),
+        Err(refusal) => Err(refusal),
+    }
+}
+
+fn push_twice<W: World>(world: &mut W, first: Vec2, second: Vec2) -> Result<(), Refusal> {
+    push_once(world, first)?;
+    push_once(world, second)
 }
 
 /// Compares two worlds in which a body was pushed twice, in the one order and in the other.
 fn compare_orders<W: World>(worlds: &mut Worlds<W>) -> Result<(), Stop> {
-    worlds.apply(&FIRST)?;
-    worlds.apply(&SECOND)?;
-    worlds.apply_to_reference(&SECOND)?;
-    worlds.apply_to_reference(&FIRST)?;
+    push_twice(&mut worlds.world, FIRST, SECOND)?;
+    push_twice(&mut worlds.reference, SECOND, FIRST)?;
     worlds.expect_as_reference()
 }

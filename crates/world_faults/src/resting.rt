@@ -147,11 +147,11 @@ fn add_sleepers<W: World>(scene: &mut Scene<W>) {
     add(scene, APART);
     add(scene, 2 * APART);
     add(scene, 3 * APART);
-    scene.apply(&joint(SLEEPER, OTHER_SLEEPER));
-    scene.apply(&joint(POST, SLEEPER));
-    scene.apply(&joint(ABSENT, OTHER_SLEEPER));
-    scene.apply(&Command::Disable(ABSENT));
-    scene.apply(&Command::Sleep(SLEEPER));
+    scene.apply(joint(SLEEPER, OTHER_SLEEPER));
+    scene.apply(joint(POST, SLEEPER));
+    scene.apply(joint(ABSENT, OTHER_SLEEPER));
+    scene.apply(Command::Disable(ABSENT));
+    scene.apply(Command::Sleep(SLEEPER));
 }
 
 /// Three movers in a row, of which the third has lost its joint. They drift so slowly that they are about to sleep. The entries of the four
@@ -160,13 +160,13 @@ fn add_row<W: World>(scene: &mut Scene<W>) {
     add(scene, GROUP);
     add(scene, GROUP + APART);
     add(scene, GROUP + 2 * APART);
-    scene.apply(&joint(LEADER, FOLLOWER));
-    scene.apply(&joint(FOLLOWER, STRAGGLER));
-    scene.apply(&Command::DestroyJoint(BROKEN));
-    scene.apply(&Command::Push(LEADER, Vec2 { x: 2, y: 4 }));
-    scene.apply(&Command::Push(LEADER, Vec2 { x: 1, y: 0 }));
-    scene.apply(&Command::Push(FOLLOWER, Vec2 { x: 1, y: -2 }));
-    scene.apply(&Command::Push(STRAGGLER, Vec2 { x: 1, y: -1 }));
+    scene.apply(joint(LEADER, FOLLOWER));
+    scene.apply(joint(FOLLOWER, STRAGGLER));
+    scene.apply(Command::DestroyJoint(BROKEN));
+    scene.apply(Command::Push(LEADER, Vec2 { x: 2, y: 4 }));
+    scene.apply(Command::Push(LEADER, Vec2 { x: 1, y: 0 }));
+    scene.apply(Command::Push(FOLLOWER, Vec2 { x: 1, y: -2 }));
+    scene.apply(Command::Push(STRAGGLER, Vec2 { x: 1, y: -1 }));
 }
 
 /// A sleeper and a mover that stands apart from it, and two movers that touch.
@@ -175,14 +175,14 @@ fn add_pairs<W: World>(scene: &mut Scene<W>) {
     add(scene, 3 * GROUP);
     add(scene, 4 * GROUP);
     add(scene, 4 * GROUP + TOUCHING);
-    scene.apply(&Command::Sleep(LONE));
+    scene.apply(Command::Sleep(LONE));
 }
 
 /// Two movers with a joint, after the steps.
 fn add_fresh<W: World>(scene: &mut Scene<W>) {
     add(scene, 5 * GROUP);
     add(scene, 5 * GROUP + APART);
-    scene.apply(&joint(FRESH, OTHER_FRESH));
+    scene.apply(joint(FRESH, OTHER_FRESH));
 }
 
 pub fn fill<W: World>(scene: &mut Scene<W>) {
@@ -192,8 +192,8 @@ pub fn fill<W: World>(scene: &mut Scene<W>) {
     for _ in 0..STEPS {
         scene.step(TICKS);
     }
-    scene.apply(&put(VISITOR, 2 * GROUP + TOUCHING));
-    scene.apply(&put(LEAVER, 6 * GROUP));
+    scene.apply(put(VISITOR, 2 * GROUP + TOUCHING));
+    scene.apply(put(LEAVER, 6 * GROUP));
     add_fresh(scene);
 }
 

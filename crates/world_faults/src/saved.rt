@@ -29,12 +29,18 @@ pub fn try_save<W: World>(alloc: Global) -> Result<Outcome, Stop> {
 }
 
 fn save_twice<W: World>(worlds: &Worlds<W>) -> Result<Outcome, Stop> {
-    let expected = worlds.reference.saved()?;
-    if is_saved(worlds, &expected)? {
+    match worlds.reference.saved() {
+        Ok(expected) => expect_saved_twice(worlds, &expected),
+        Err(refusal) => Err(Stop::from(refusal)),
+    }
+}
+
+fn expect_saved_twice<W: World>(worlds: &Worlds<W>, expected: &Value) -> Result<Outcome, Stop> {
+    if is_saved(worlds, expected)? {
         return Ok(Outcome::Unmet);
     }
     worlds.expect_kept()?;
-    again(is_saved(worlds, &expected)?)
+    again(is_saved(worlds, expected)?)
 }
 
 fn is_saved<W: World>(worlds: &Worlds<W>, expected: &Value) -> Result<bool, Stop> {
@@ -51,12 +57,22 @@ pub fn try_load<W: World>(alloc: Global) -> Result<Outcome, Stop> {
 }
 
 fn load_twice<W: World>(alloc: Global, worlds: &Worlds<W>) -> Result<Outcome, Stop> {
-    let value = worlds.reference.saved()?;
-    if is_loaded::<W>(alloc, &value)? {
+    match worlds.reference.saved() {
+        Ok(value) => load_value_twice(alloc, worlds, &value),
+        Err(refusal) => Err(Stop::from(refusal)),
+    }
+}
+
+fn load_value_twice<W: World>(
+    alloc: Global,
+    worlds: &Worlds<W>,
+    value: &Value,
+) -> Result<Outcome, Stop> {
+    if is_loaded::<W>(alloc, value)? {
         return Ok(Outcome::Unmet);
     }
     worlds.expect_kept()?;
-    again(is_loaded::<W>(alloc, &value)?)
+    again(is_loaded::<W>(alloc, value)?)
 }
 
 /// Whether the value is loaded. Stops where the loaded world is saved as another value.

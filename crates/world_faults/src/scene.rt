@@ -161,14 +161,15 @@ impl<W: World> Scene<'_, W> {
         self.alloc
     }
 
-    pub fn apply(&mut self, command: &Command) {
-        let answer = self.world.apply(command);
+    /// Applies a command, which is given away, so that a scene of many has none of them to drop.
+    pub fn apply(&mut self, command: Command) {
+        let answer = self.world.apply(&command);
         self.note(answer);
     }
 
     pub fn create(&mut self, command: Result<Command, Refusal>) {
         match command {
-            Ok(command) => self.apply(&command),
+            Ok(command) => self.apply(command),
             Err(refusal) => self.note::<()>(Err(refusal)),
         }
     }
@@ -186,20 +187,20 @@ impl<W: World> Scene<'_, W> {
         }
         self.create(mover(self.alloc, LAST + METRE / 2, 1));
         self.create(lift(self.alloc));
-        self.apply(&joint(NEIGHBOUR, PUSHED, METRE));
-        self.apply(&joint(CARRIED, LIFT, METRE));
+        self.apply(joint(NEIGHBOUR, PUSHED, METRE));
+        self.apply(joint(CARRIED, LIFT, METRE));
     }
 
     /// Pushes, and steps after which the two that overlap have just parted.
     fn let_pass(&mut self) {
-        self.apply(&Command::Push(PUSHED, Vec2 { x: 70_000, y: 9 }));
-        self.apply(&Command::Push(DESTROYED, Vec2 { x: -5, y: 11 }));
+        self.apply(Command::Push(PUSHED, Vec2 { x: 70_000, y: 9 }));
+        self.apply(Command::Push(DESTROYED, Vec2 { x: -5, y: 11 }));
         self.step(4);
         let away = Vec2 {
             x: MASS * METRE,
             y: 0,
         };
-        self.apply(&Command::Push(PARTNER, away));
+        self.apply(Command::Push(PARTNER, away));
         self.step(1);
     }
 
@@ -207,7 +208,7 @@ impl<W: World> Scene<'_, W> {
         self.add_bodies();
         self.let_pass();
         self.create(mover(self.alloc, METRE / 2, 1));
-        self.apply(&Command::DestroyBody(DESTROYED));
+        self.apply(Command::DestroyBody(DESTROYED));
     }
 }
 
@@ -229,7 +230,7 @@ fn filled<W: World>(alloc: Global, world: &mut W, setting: Setting) -> Result<W,
 }
 
 /// Which world the calls are made in. Its lists have no spare room, so that whatever grows asks for memory.
-#[derive(Clone, Copy, Debug, PartialEq, Eq)]
+#[derive(Clone, Copy)]
 pub enum Setting {
     /// A static body, movers that were pushed and fell, a slot that is free again, and entries of several causes in the ledger. The
     /// next step sees a contact end and another begin.

@@ -2,7 +2,7 @@ use fixed_geom::Refusal;
 use std::fmt;
 
 /// When two worlds were compared.
-#[derive(Clone, Copy, Debug, PartialEq, Eq)]
+#[derive(Clone, Copy)]
 pub enum Moment {
     /// After the refused call, with the world before it.
     Refused,
@@ -11,7 +11,7 @@ pub enum Moment {
 }
 
 /// What was compared.
-#[derive(Clone, Copy, Debug, PartialEq, Eq)]
+#[derive(Clone, Copy)]
 pub enum Part {
     Answer,
     Places,
@@ -30,7 +30,7 @@ pub enum Part {
 }
 
 /// Why a trial ended early.
-#[derive(Clone, Copy, Debug, PartialEq, Eq)]
+#[derive(Clone, Copy)]
 pub enum Stop {
     /// Memory was refused to something beside the call.
     Outside,

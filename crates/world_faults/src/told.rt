@@ -8,7 +8,7 @@ use crate::worlds::Worlds;
 use std::alloc::Global;
 
 /// How many contacts began and ended, and how many bodies fell asleep and woke.
-#[derive(Clone, Copy, Debug, PartialEq, Eq)]
+#[derive(Clone, Copy)]
 pub struct Told {
     pub begun: usize,
     pub ended: usize,

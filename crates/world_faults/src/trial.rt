@@ -1,4 +1,4 @@
-use crate::call::Call;
+use crate::call::{Call, Change};
 use crate::calls::{Answer, World};
 use crate::compare::{are_same_censuses, expect, expect_same_lists, expect_same_worlds};
 use crate::resting;
@@ -12,7 +12,7 @@ use std::alloc::Global;
 use world_core::{Command, Plain, Reply};
 
 /// How a call went that did what it should.
-#[derive(Clone, Copy, Debug, PartialEq, Eq)]
+#[derive(Clone, Copy)]
 pub enum Outcome {
     /// It was refused, left everything as it was, and succeeded when it was made again.
     Kept,
@@ -24,29 +24,48 @@ pub enum Outcome {
 /// and whatever else needs memory come before the call.
 pub fn trial<W: World>(alloc: Global, call: Call) -> Result<Outcome, Stop> {
     match call {
-        Call::Create => try_command::<W>(alloc, &scene::create(alloc)?),
-        Call::CreateManyShapes => try_command::<W>(alloc, &scene::create_many_shapes(alloc)?),
-        Call::Push => try_command::<W>(alloc, &scene::push()),
-        Call::Destroy => try_command::<W>(alloc, &scene::destroy()),
-        Call::CreateJoint => try_command::<W>(alloc, &scene::create_joint()),
-        Call::DestroyJoint => try_command::<W>(alloc, &scene::destroy_joint()),
-        Call::SetPose => try_command::<W>(alloc, &scene::set_pose()),
-        Call::SetVelocity => try_command::<W>(alloc, &scene::set_velocity()),
-        Call::Step => try_command::<W>(alloc, &scene::step_command()),
-        Call::Gravity => try_command::<W>(alloc, &scene::gravity()),
+        Call::Apply(change) => try_command::<W>(alloc, change),
         Call::Plain => try_plain::<W>(alloc),
         Call::Census => try_census::<W>(alloc),
         Call::TryCopy => try_copy::<W>(alloc),
         Call::Replay => try_replay::<W>(alloc),
-        Call::Disable => try_at_rest::<W>(alloc, &resting::disable()),
-        Call::Enable => try_at_rest::<W>(alloc, &resting::enable()),
-        Call::Wake => try_at_rest::<W>(alloc, &resting::wake()),
-        Call::Sleep => try_at_rest::<W>(alloc, &resting::sleep()),
-        Call::DestroyWaking => try_at_rest::<W>(alloc, &resting::destroy()),
         Call::Save => try_save::<W>(alloc),
         Call::Load => try_load::<W>(alloc),
         Call::Region => try_region::<W>(alloc),
-        Call::StepOfIslands => try_at_rest::<W>(alloc, &resting::step_command()),
+    }
+}
+
+/// The world in which a command is applied: that with sleepers, or that of movers.
+fn setting_of(change: Change) -> Setting {
+    match change {
+        Change::Disable
+        | Change::Enable
+        | Change::Wake
+        | Change::Sleep
+        | Change::DestroyWaking
+        | Change::StepOfIslands => Setting::Resting,
+        _ => Setting::Moving,
+    }
+}
+
+fn command_of(alloc: Global, change: Change) -> Result<Command, Refusal> {
+    match change {
+        Change::Create => scene::create(alloc),
+        Change::CreateManyShapes => scene::create_many_shapes(alloc),
+        Change::Push => Ok(scene::push()),
+        Change::Destroy => Ok(scene::destroy()),
+        Change::CreateJoint => Ok(scene::create_joint()),
+        Change::DestroyJoint => Ok(scene::destroy_joint()),
+        Change::SetPose => Ok(scene::set_pose()),
+        Change::SetVelocity => Ok(scene::set_velocity()),
+        Change::Step => Ok(scene::step_command()),
+        Change::Gravity => Ok(scene::gravity()),
+        Change::Disable => Ok(resting::disable()),
+        Change::Enable => Ok(resting::enable()),
+        Change::Wake => Ok(resting::wake()),
+        Change::Sleep => Ok(resting::sleep()),
+        Change::DestroyWaking => Ok(resting::destroy()),
+        Change::StepOfIslands => Ok(resting::step_command()),
     }
 }
 
@@ -64,14 +83,15 @@ pub(crate) fn again(is_accepted: bool) -> Result<Outcome, Stop> {
     Ok(Outcome::Kept)
 }
 
-/// Tries a command in the world with sleepers.
-fn try_at_rest<W: World>(alloc: Global, command: &Command) -> Result<Outcome, Stop> {
-    let mut worlds: Worlds<W> = Worlds::of(alloc, Setting::Resting)?;
-    apply_twice(&mut worlds, command)
+fn try_command<W: World>(alloc: Global, change: Change) -> Result<Outcome, Stop> {
+    match command_of(alloc, change) {
+        Ok(command) => try_in::<W>(alloc, setting_of(change), &command),
+        Err(refusal) => Err(Stop::from(refusal)),
+    }
 }
 
-fn try_command<W: World>(alloc: Global, command: &Command) -> Result<Outcome, Stop> {
-    let mut worlds: Worlds<W> = Worlds::new(alloc)?;
+fn try_in<W: World>(alloc: Global, setting: Setting, command: &Command) -> Result<Outcome, Stop> {
+    let mut worlds: Worlds<W> = Worlds::of(alloc, setting)?;
     apply_twice(&mut worlds, command)
 }
 
@@ -105,12 +125,18 @@ fn try_plain<W: World>(alloc: Global) -> Result<Outcome, Stop> {
 }
 
 fn list_twice<W: World>(worlds: &Worlds<W>) -> Result<Outcome, Stop> {
-    let expected = worlds.reference.lists()?;
-    if is_listed(worlds, &expected)? {
+    match worlds.reference.lists() {
+        Ok(expected) => expect_lists_twice(worlds, &expected),
+        Err(refusal) => Err(Stop::from(refusal)),
+    }
+}
+
+fn expect_lists_twice<W: World>(worlds: &Worlds<W>, expected: &Plain) -> Result<Outcome, Stop> {
+    if is_listed(worlds, expected)? {
         return Ok(Outcome::Unmet);
     }
     worlds.expect_kept()?;
-    again(is_listed(worlds, &expected)?)
+    again(is_listed(worlds, expected)?)
 }
 
 fn is_listed<W: World>(worlds: &Worlds<W>, expected: &Plain) -> Result<bool, Stop> {
@@ -126,12 +152,18 @@ fn try_census<W: World>(alloc: Global) -> Result<Outcome, Stop> {
 }
 
 fn count_twice<W: World>(worlds: &Worlds<W>) -> Result<Outcome, Stop> {
-    let expected = worlds.reference.census()?;
-    if is_counted(worlds, &expected)? {
+    match worlds.reference.census() {
+        Ok(expected) => expect_census_twice(worlds, &expected),
+        Err(refusal) => Err(Stop::from(refusal)),
+    }
+}
+
+fn expect_census_twice<W: World>(worlds: &Worlds<W>, expected: &Census) -> Result<Outcome, Stop> {
+    if is_counted(worlds, expected)? {
         return Ok(Outcome::Unmet);
     }
     worlds.expect_kept()?;
-    again(is_counted(worlds, &expected)?)
+    again(is_counted(worlds, expected)?)
 }
 
 fn is_counted<W: World>(worlds: &Worlds<W>, expected: &Census) -> Result<bool, Stop> {

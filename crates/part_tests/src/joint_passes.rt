@@ -1,3 +1,5 @@
+//! Joints between two bodies, as the solver passes over them: worked by hand.
+
 ghost use Rattle.std.specs.Prelude.{◌≡◌, ◌^◌, ◌≤◌, ◌⊎◌, ◌≤ℤ◌, true, pos, unsigned_abs};
 ghost use Rattle.fixed_geom.specs.Facings.{IsFacing};
 ghost use Rattle.fixed_geom.specs.Vectors.{IsWithin};
@@ -5,11 +7,12 @@ ghost use Rattle.momenta.specs.Impulses.{AreStates, IsState};
 ghost use Rattle.joint_rows.specs.Joints.{IsJoint};
 ghost use Rattle.joint_rows.specs.Rows.{IsJointRow};
 
-use crate::{
+use crate::assertions::same;
+use fixed_geom::{Rot, Vec2};
+use joint_rows::{
     Joint, JointAfter, JointBodies, JointRow, joint_row, solve_joint, solve_joint_64, warm_joint,
     warm_joint_64,
 };
-use fixed_geom::{Rot, Vec2};
 use momenta::{
     BodyState, Ends, Exerted64, MassData, Momenta64, MomentaPair64, Motion, reciprocals_of,
 };
@@ -123,15 +126,15 @@ fn left_by(after: &JointAfter) -> (i64, Vec2, Vec2) {
 #[test]
 fn a_stretched_joint_pulls_its_bodies_together(rt: HostRuntime) {
     let after = solved(joint(984, 0), two_movers(ORIGIN, ORIGIN));
-    assert_eq!(rt; after.row.stretch, 16);
-    assert_eq!(rt; after.row.line.direction, at(1 << 30, 0));
-    assert_eq!(rt; left_by(&after), (-1, at(1, 0), at(-1, 0)));
+    same(&rt, &after.row.stretch, &16);
+    same(&rt, &after.row.line.direction, &at(1 << 30, 0));
+    same(&rt, &left_by(&after), &(-1, at(1, 0), at(-1, 0)));
 }
 
 #[test]
 fn a_pressed_joint_pushes_its_bodies_apart(rt: HostRuntime) {
     let after = solved(joint(1016, 0), two_movers(ORIGIN, ORIGIN));
-    assert_eq!(rt; left_by(&after), (1, at(-1, 0), at(1, 0)));
+    same(&rt, &left_by(&after), &(1, at(-1, 0), at(1, 0)));
 }
 
 #[test]
@@ -141,7 +144,7 @@ fn a_far_stretched_joint_has_the_greatest_bias(rt: HostRuntime) {
         b: body(true, Vec2 { x: 0, y: 1 << 20 }, AHEAD, ORIGIN),
     };
     let after = solved(joint(0, 0), ends);
-    assert_eq!(rt; left_by(&after), (-8192, at(0, 8192), at(0, -8192)));
+    same(&rt, &left_by(&after), &(-8192, at(0, 8192), at(0, -8192)));
 }
 
 #[test]
@@ -151,7 +154,7 @@ fn an_immovable_end_gets_nothing(rt: HostRuntime) {
         b: body(true, Vec2 { x: 1000, y: 0 }, AHEAD, ORIGIN),
     };
     let after = solved(joint(984, 0), ends);
-    assert_eq!(rt; left_by(&after), (-2, ORIGIN, at(-2, 0)));
+    same(&rt, &left_by(&after), &(-2, ORIGIN, at(-2, 0)));
 }
 
 #[test]
@@ -167,18 +170,18 @@ fn anchors_at_one_point_part_upwards(rt: HostRuntime) {
         b: body(true, Vec2 { x: 1000, y: 0 }, AHEAD, ORIGIN),
     };
     let after = solved(pinned, ends);
-    assert_eq!(rt; after.row.line.ra, at(1000, 0));
-    assert_eq!(rt; after.row.stretch, -16);
-    assert_eq!(rt; left_by(&after), (1, at(0, -1), at(0, 1)));
+    same(&rt, &after.row.line.ra, &at(1000, 0));
+    same(&rt, &after.row.stretch, &-16);
+    same(&rt, &left_by(&after), &(1, at(0, -1), at(0, 1)));
 }
 
 #[test]
 fn an_impulse_beyond_a_limit_is_dropped(rt: HostRuntime) {
     let fast = Vec2 { x: 1 << 60, y: 0 };
     let after = solved(joint(984, 0), two_movers(fast, fast));
-    assert_eq!(rt; left_by(&after), (0, at(1 << 60, 0), at(1 << 60, 0)));
+    same(&rt, &left_by(&after), &(0, at(1 << 60, 0), at(1 << 60, 0)));
     let after = warmed(joint(1000, 5), two_movers(ORIGIN, fast));
-    assert_eq!(rt; left_by(&after), (5, ORIGIN, at(1 << 60, 0)));
+    same(&rt, &left_by(&after), &(5, ORIGIN, at(1 << 60, 0)));
 }
 
 /// A row of two movers that have parted by 16 u since the step began, after a pass.
@@ -192,13 +195,13 @@ fn solved_apart() -> JointAfter {
 
 #[test]
 fn an_error_grows_as_the_centres_part(rt: HostRuntime) {
-    assert_eq!(rt; left_by(&solved_apart()), (-2, at(2, 0), at(-2, 0)));
+    same(&rt, &left_by(&solved_apart()), &(-2, at(2, 0), at(-2, 0)));
 }
 
 #[test]
 fn a_warm_start_gives_the_kept_impulse(rt: HostRuntime) {
     let after = warmed(joint(1000, -5), two_movers(ORIGIN, ORIGIN));
-    assert_eq!(rt; left_by(&after), (-5, at(5, 0), at(-5, 0)));
+    same(&rt, &left_by(&after), &(-5, at(5, 0), at(-5, 0)));
 }
 
 /// What a pass in 64 bits leaves of two bodies that don't turn.
@@ -216,9 +219,10 @@ fn after_64(total: i64, p: Vec2, q: Vec2) -> Option<Exerted64> {
 fn a_pass_in_64_bits_is_the_pass(rt: HostRuntime) {
     let ends = two_movers(ORIGIN, ORIGIN);
     let row = row_of(joint(984, 0), &ends);
-    assert_eq!(rt;
-        solve_joint_64(&row, &ends.a, &ends.b),
-        after_64(-1, at(1, 0), at(-1, 0))
+    same(
+        &rt,
+        &solve_joint_64(&row, &ends.a, &ends.b),
+        &after_64(-1, at(1, 0), at(-1, 0)),
     );
 }
 
@@ -226,9 +230,10 @@ fn a_pass_in_64_bits_is_the_pass(rt: HostRuntime) {
 fn a_warm_start_in_64_bits_gives_the_kept_impulse(rt: HostRuntime) {
     let ends = two_movers(ORIGIN, ORIGIN);
     let row = row_of(joint(1000, -5), &ends);
-    assert_eq!(rt;
-        warm_joint_64(&row, &ends.a, &ends.b),
-        after_64(-5, at(5, 0), at(-5, 0))
+    same(
+        &rt,
+        &warm_joint_64(&row, &ends.a, &ends.b),
+        &after_64(-5, at(5, 0), at(-5, 0)),
     );
 }
 
@@ -236,5 +241,5 @@ fn a_warm_start_in_64_bits_gives_the_kept_impulse(rt: HostRuntime) {
 fn great_momenta_have_no_pass_in_64_bits(rt: HostRuntime) {
     let ends = two_movers(ORIGIN, Vec2 { x: 1 << 50, y: 0 });
     let row = row_of(joint(984, 0), &ends);
-    assert_eq!(rt; solve_joint_64(&row, &ends.a, &ends.b), None);
+    same(&rt, &solve_joint_64(&row, &ends.a, &ends.b), &None);
 }

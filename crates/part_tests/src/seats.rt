@@ -1,11 +1,14 @@
+//! Rosters of seats, and two seats that take turns.
+
 ghost use Rattle.std.specs.Prelude.{◌≡◌, [], ◌∷◌};
 ghost use Rattle.seat_book.specs.History.{entry, known};
 
-use super::*;
+use crate::assertions::same;
 use fixed_geom::Refusal;
+use seat_book::{Book, Call, Keeper, Named, Pass, Roster, open};
 use std::alloc::Global;
 use std::marker::Brand;
-use std::test::*;
+use std::test::Fail;
 
 type Push = Call<i64, u64>;
 
@@ -21,10 +24,10 @@ fn call(number: u64, command: i64, reply: u64) -> Push
 
 #[test]
 fn sizes_of_rosters(rt: HostRuntime) -> Result<(), Fail> {
-    assert_eq!(rt; refusal_of(rt.alloc(), 0), Some(Refusal::OutOfRange));
-    assert_eq!(rt; refusal_of(rt.alloc(), 1), None);
-    assert_eq!(rt; refusal_of(rt.alloc(), 64), None);
-    assert_eq!(rt; refusal_of(rt.alloc(), 65), Some(Refusal::OutOfRange));
+    same(&rt, &refusal_of(rt.alloc(), 0), &Some(Refusal::OutOfRange));
+    same(&rt, &refusal_of(rt.alloc(), 1), &None);
+    same(&rt, &refusal_of(rt.alloc(), 64), &None);
+    same(&rt, &refusal_of(rt.alloc(), 65), &Some(Refusal::OutOfRange));
     Ok(())
 }
 
@@ -35,8 +38,8 @@ fn refusal_of(alloc: Global, seats: u64) -> Option<Refusal> {
 #[test]
 fn two_seats_take_turns(rt: HostRuntime) -> Result<(), Fail> {
     let roster = Roster::<i64, u64>::new(rt.alloc(), 2).map_err(|_| "a roster")?;
-    assert_eq!(rt; roster.seats(), 2);
-    assert_eq!(rt; open_two::<Brand>(rt.alloc(), roster), Ok((0, 1)));
+    same(&rt, &roster.seats(), &2);
+    same(&rt, &open_two::<Brand>(rt.alloc(), roster), &Ok((0, 1)));
     Ok(())
 }
 

@@ -1,4 +1,4 @@
-use Rattle.seat_book.proofs.tests.two_seats_take_turns.Given as goal
+use Rattle.part_tests.proofs.seats.two_seats_take_turns.Given as goal
 
 -- the roster that was just made
 abbrev pub ghosts-open_two : goal.ghosts-open_two

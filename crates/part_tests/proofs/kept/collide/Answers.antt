@@ -1,0 +1,16 @@
+use Rattle.std.proofs.Common.{◌∙◌, subst}
+use Rattle.contacts_base.specs.Near.{IsProxyList}
+use Rattle.part_tests.proofs.SceneLaws.{nothing_known, pairs_after, shown_of, within_shown}
+use Rattle.part_tests.proofs.kept.collide.Goals as goal
+
+pub invariant_of-scene : goal.invariant_of-scene
+invariant_of-scene c = shown_of c.args.shapes c.proxies.result.now _ c.proxies.ensures.value c.proxies.ensures.list c.in_ok-slots.ensures
+
+pub collide-requires-clause-within : goal.collide-requires-clause-within
+collide-requires-clause-within c = within_shown c.args.shapes c.proxies.result.now _ _ _ c.proxies.ensures.value c.proxies.ensures.list c.in_ok-slots.ensures c.flags.ensures c.in_ok-marks.ensures.marked
+
+pub collide-requires-clause-known : goal.collide-requires-clause-known
+collide-requires-clause-known c = nothing_known _ _ _ _ (c.flags.ensures ∙ c.in_ok-marks.ensures.marked) c.requires.pairs
+
+pub returns-clause-pairs : goal.returns-clause-pairs
+returns-clause-pairs c = pairs_after c.args.forbidden.now c.args.shapes c.args.contacts.now.contacts _ (subst IsProxyList c.proxies.ensures.value c.proxies.ensures.list) (c.carry_out.ensures.contacts ∙ c.in_ok-touches.ensures.due)

@@ -1,0 +1,7 @@
+use Rattle.std.proofs.Common.{ℕ, sym, subst}
+use Rattle.colour_solver.specs.ColourRows.{all_rows}
+use Rattle.colour_solver.specs.ConstraintTurns.{AreRowsBelow}
+use Rattle.part_tests.proofs.ticks.bounced.Goals as goal
+
+pub run_step-sums-requires-clause-rows : goal.run_step-sums-requires-clause-rows
+run_step-sums-requires-clause-rows c = subst (λ (n : ℕ). AreRowsBelow n (all_rows c.in_ok-rows.rows)) (sym c.in_ok-states.ensures.long) c.in_ok-rows.ensures

@@ -1,0 +1,229 @@
+//! Steps of points, worked by hand.
+
+ghost use Rattle.std.specs.Prelude.{◌≡◌, ◌^◌, ◌≤◌, [], ◌∷◌, length, IfOk, true, false, pos, neg_ℤ, ◌≤ℤ◌, unsigned_abs};
+ghost use Rattle.fixed_geom.specs.Vectors.{IsWithin};
+ghost use Rattle.momenta.specs.Impulses.{IsState};
+ghost use Rattle.colour_solver_base.specs.Rows.{IsRow};
+ghost use Rattle.colour_solver.specs.States.{AreAllStates, HaveCourses, carried_of, is_carried, movers_of};
+ghost use Rattle.colour_solver.specs.ColourRows.{all_rows};
+ghost use Rattle.colour_solver.specs.ConstraintTurns.{AreRowsBelow, IsRowBelow};
+ghost use Rattle.colour_solver.specs.declared.constraint_row.ConstraintRow.TheVariants.{Contact};
+ghost use Rattle.colour_solver.specs.Ticks.{start, ticks};
+
+use crate::assertions::same;
+use colour_solver::{Rows, StepSums, run_step};
+use colour_solver_base::{Bodies, ContactRow, PointRow};
+use fixed_geom::{Refusal, Rot, Vec2};
+use momenta::{BodyState, Gain, MassData, Motion, inverse_reciprocal, reciprocals_of};
+use std::alloc::Global;
+use std::test::Fail;
+
+const ORIGIN: Vec2 = Vec2 { x: 0, y: 0 };
+
+const AHEAD: Rot = Rot { c: 1 << 30, s: 0 };
+
+fn at(x: i64, y: i64) -> Vec2
+    ensures { result ≡ record { x = x; y = y } }
+{
+    Vec2 { x, y }
+}
+
+/// A point of this mass and momentum, at the origin.
+fn point(movable: bool, mass: i64, p: Vec2) -> BodyState
+    requires positive { pos 1 ≤ℤ mass }
+    requires mass { unsigned_abs mass ≤ 2 ^ 20 }
+    requires slow { IsWithin (2 ^ 60) p }
+    ensures state { IsState result }
+    ensures movable { result.movable ≡ movable }
+    ensures stands { is_carried result ≡ false }
+{
+    let weight = MassData { mass, inertia: 0 };
+    BodyState {
+        movable,
+        mass: weight,
+        motion: Motion {
+            p,
+            l: 0,
+            x: ORIGIN,
+            rot: AHEAD,
+        },
+        start: ORIGIN,
+        reciprocals: reciprocals_of(weight),
+    }
+}
+
+fn one_body(alloc: Global, state: BodyState) -> Result<Vec<BodyState>, Refusal>
+    requires state { IsState state }
+    requires stands { is_carried state ≡ false }
+    ensures items { IfOk result (λ states. states.items ≡ state ∷ []) }
+    ensures states { IfOk result (λ states. AreAllStates states.items) }
+    ensures courses { IfOk result (λ states. HaveCourses states.items) }
+{
+    let mut states = Vec::with_capacity(alloc, 1)?;
+    states.push(state)?;
+    Ok(states)
+}
+
+fn no_rows(alloc: Global) -> Rows
+    ensures { all_rows result ≡ [] }
+{
+    Rows::new(alloc)
+}
+
+/// What a step has added, and what it leaves.
+#[derive(Drop)]
+struct After {
+    sums: StepSums,
+    states: Vec<BodyState>,
+    rows: Rows,
+}
+
+const NOTHING: Gain = Gain { x: 0, y: 0 };
+
+/// Where a body is, and its momentum.
+fn motion_of(after: &After, place: usize) -> Option<(Vec2, Vec2)> {
+    match after.states.get(place) {
+        Some(state) => Some((state.motion.x, state.motion.p)),
+        None => None,
+    }
+}
+
+fn fallen(alloc: Global) -> Result<After, Refusal> {
+    let mut states = one_body(alloc, point(true, 256, ORIGIN))?;
+    let mut rows = no_rows(alloc);
+    let sums = run_step(&mut states, &mut rows, &[0], &[], at(0, -157), 4);
+    Ok(After { sums, states, rows })
+}
+
+#[test]
+fn a_point_falls_for_four_ticks(rt: HostRuntime) -> Result<(), Fail> {
+    let after = fallen(rt.alloc())?;
+    let sums = StepSums {
+        gravity: Gain { x: 0, y: -160768 },
+        immovable: NOTHING,
+        clamp: NOTHING,
+    };
+    same(&rt, &after.sums, &sums);
+    same(
+        &rt,
+        &motion_of(&after, 0),
+        &Some((at(0, -1570), at(0, -160768))),
+    );
+    Ok(())
+}
+
+fn limited(alloc: Global) -> Result<After, Refusal> {
+    let mut states = one_body(alloc, point(true, 1, at(2097152, 0)))?;
+    let mut rows = no_rows(alloc);
+    let sums = run_step(&mut states, &mut rows, &[0], &[], ORIGIN, 1);
+    Ok(After { sums, states, rows })
+}
+
+#[test]
+fn the_speed_limit_is_booked_as_clamp(rt: HostRuntime) -> Result<(), Fail> {
+    let after = limited(rt.alloc())?;
+    let sums = StepSums {
+        gravity: NOTHING,
+        immovable: NOTHING,
+        clamp: Gain { x: -1048576, y: 0 },
+    };
+    same(&rt, &after.sums, &sums);
+    same(
+        &rt,
+        &motion_of(&after, 0),
+        &Some((at(1048576, 0), at(1048576, 0))),
+    );
+    Ok(())
+}
+
+/// The contact of a point of mass 1 that comes down on an immovable body at 8,192 u a tick, and bounces in full.
+fn landing() -> ContactRow
+    ensures { IsRowBelow 2 (Contact result) }
+{
+    let point = PointRow {
+        normal: Vec2 { x: 0, y: 1 << 30 },
+        ra: ORIGIN,
+        rb: ORIGIN,
+        normal_inverse: 1 << 40,
+        tangent_inverse: 1 << 40,
+        normal_reciprocal: inverse_reciprocal(1 << 40),
+        tangent_reciprocal: inverse_reciprocal(1 << 40),
+        separation: 0,
+        start_speed: -8192,
+        normal_impulse: 0,
+        tangent_impulse: 0,
+    };
+    ContactRow {
+        bodies: Bodies {
+            index: 0,
+            a: 0,
+            b: 1,
+            friction: 0,
+            restitution: 256,
+        },
+        first: point,
+        second: None,
+    }
+}
+
+fn two_bodies(alloc: Global) -> Result<Vec<BodyState>, Refusal>
+    ensures long { IfOk result (λ states. length states.items ≡ 2) }
+    ensures states { IfOk result (λ states. AreAllStates states.items) }
+    ensures movers { IfOk result (λ states. movers_of states.items ≡ 1 ∷ []) }
+    ensures carried { IfOk result (λ states. carried_of states.items ≡ []) }
+    ensures courses { IfOk result (λ states. HaveCourses states.items) }
+{
+    let mut states = one_body(alloc, point(false, 1, ORIGIN))?;
+    states.push(point(true, 1, at(0, -8192)))?;
+    Ok(states)
+}
+
+fn one_row(alloc: Global) -> Result<Rows, Refusal>
+    ensures { IfOk result (λ rows. AreRowsBelow 2 (all_rows rows)) }
+{
+    let mut rows = Rows::new(alloc);
+    rows.reserve(1, 1)?;
+    rows.push_contact(landing());
+    rows.end_colour();
+    Ok(rows)
+}
+
+fn bounced(alloc: Global) -> Result<After, Refusal> {
+    let mut states = two_bodies(alloc)?;
+    let mut rows = one_row(alloc)?;
+    let sums = run_step(&mut states, &mut rows, &[1], &[], ORIGIN, 1);
+    Ok(After { sums, states, rows })
+}
+
+/// The normal impulse at the first point of the first contact.
+fn first_impulse(after: &After) -> Option<i64> {
+    match after.rows.contacts().first() {
+        Some(contact) => Some(contact.first.normal_impulse),
+        None => None,
+    }
+}
+
+#[test]
+fn a_point_bounces_off_an_immovable_body(rt: HostRuntime) -> Result<(), Fail> {
+    let after = bounced(rt.alloc())?;
+    let sums = StepSums {
+        gravity: NOTHING,
+        immovable: Gain { x: 0, y: 16384 },
+        clamp: NOTHING,
+    };
+    same(&rt, &after.sums, &sums);
+    same(&rt, &motion_of(&after, 0), &Some((ORIGIN, ORIGIN)));
+    same(&rt, &motion_of(&after, 1), &Some((ORIGIN, at(0, 8192))));
+    same(&rt, &first_impulse(&after), &Some(16384));
+    Ok(())
+}
+
+/// The definitions give the same values, computed by themselves: a fall, the speed limit, the edge.
+#[tactic(auto, unfolding(fixed_geom::specs::Numbers::rdiv, fixed_geom::specs::Facings::turn, momenta::specs::Motions::velocity, momenta::specs::Motions::spin, momenta::specs::Motions::pulled, momenta::specs::Motions::clamped, momenta::specs::Motions::aim, momenta::specs::Motions::advanced, colour_solver::specs::Ticks::tick))]
+fn definitions_compute()
+    ensures falls { (ticks 4 (record { x = pos 0; y = neg_ℤ (pos 157) }) (start ((record { movable = true; mass = record { mass = pos 256; inertia = pos 0 }; motion = record { p = record { x = pos 0; y = pos 0 }; l = pos 0; x = record { x = pos 0; y = pos 0 }; rot = record { c = pos 1073741824; s = pos 0 } }; start = record { x = pos 0; y = pos 0 }; reciprocals = record { mass = pos 0; inertia = pos 0 } }) ∷ []) [])).states ≡ (record { movable = true; mass = record { mass = pos 256; inertia = pos 0 }; motion = record { p = record { x = pos 0; y = neg_ℤ (pos 160768) }; l = pos 0; x = record { x = pos 0; y = neg_ℤ (pos 1570) }; rot = record { c = pos 1073741824; s = pos 0 } }; start = record { x = pos 0; y = pos 0 }; reciprocals = record { mass = pos 0; inertia = pos 0 } }) ∷ [] }
+    ensures pulled { (ticks 4 (record { x = pos 0; y = neg_ℤ (pos 157) }) (start ((record { movable = true; mass = record { mass = pos 256; inertia = pos 0 }; motion = record { p = record { x = pos 0; y = pos 0 }; l = pos 0; x = record { x = pos 0; y = pos 0 }; rot = record { c = pos 1073741824; s = pos 0 } }; start = record { x = pos 0; y = pos 0 }; reciprocals = record { mass = pos 0; inertia = pos 0 } }) ∷ []) [])).gravity_y ≡ neg_ℤ (pos 160768) }
+    ensures limited { (ticks 1 (record { x = pos 0; y = pos 0 }) (start ((record { movable = true; mass = record { mass = pos 1; inertia = pos 0 }; motion = record { p = record { x = pos 2097152; y = pos 0 }; l = pos 0; x = record { x = pos 0; y = pos 0 }; rot = record { c = pos 1073741824; s = pos 0 } }; start = record { x = pos 0; y = pos 0 }; reciprocals = record { mass = pos 0; inertia = pos 0 } }) ∷ []) [])).states ≡ (record { movable = true; mass = record { mass = pos 1; inertia = pos 0 }; motion = record { p = record { x = pos 1048576; y = pos 0 }; l = pos 0; x = record { x = pos 1048576; y = pos 0 }; rot = record { c = pos 1073741824; s = pos 0 } }; start = record { x = pos 0; y = pos 0 }; reciprocals = record { mass = pos 0; inertia = pos 0 } }) ∷ [] }
+    ensures booked { (ticks 1 (record { x = pos 0; y = pos 0 }) (start ((record { movable = true; mass = record { mass = pos 1; inertia = pos 0 }; motion = record { p = record { x = pos 2097152; y = pos 0 }; l = pos 0; x = record { x = pos 0; y = pos 0 }; rot = record { c = pos 1073741824; s = pos 0 } }; start = record { x = pos 0; y = pos 0 }; reciprocals = record { mass = pos 0; inertia = pos 0 } }) ∷ []) [])).clamp_x ≡ neg_ℤ (pos 1048576) }
+    ensures edge { (ticks 1 (record { x = pos 0; y = pos 0 }) (start ((record { movable = true; mass = record { mass = pos 1; inertia = pos 0 }; motion = record { p = record { x = pos 10; y = pos 0 }; l = pos 0; x = record { x = pos 68719476735; y = pos 0 }; rot = record { c = pos 1073741824; s = pos 0 } }; start = record { x = pos 0; y = pos 0 }; reciprocals = record { mass = pos 0; inertia = pos 0 } }) ∷ []) [])).states ≡ (record { movable = true; mass = record { mass = pos 1; inertia = pos 0 }; motion = record { p = record { x = pos 0; y = pos 0 }; l = pos 0; x = record { x = pos 68719476736; y = pos 0 }; rot = record { c = pos 1073741824; s = pos 0 } }; start = record { x = pos 0; y = pos 0 }; reciprocals = record { mass = pos 0; inertia = pos 0 } }) ∷ [] }
+{}
