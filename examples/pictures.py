@@ -53,8 +53,9 @@ class Body:
         return self.in_world(first), self.in_world(second), shape.get("radius", 0) / METRE
 
 
-def is_ended(request, answer):
-    return request["do"] == "destroy" and answer.get("done")
+def is_gone(request, answer):
+    """Whether the request has taken a body out of the play, whose contacts go with it."""
+    return request["do"] in ("destroy", "disable") and answer.get("done")
 
 
 class Scene:
@@ -66,9 +67,10 @@ class Scene:
     def take(self, request, answer):
         if request["do"] == "create" and "body" in answer:
             self.bodies[answer["body"]] = Body(request)
-        elif is_ended(request, answer):
+        elif is_gone(request, answer):
             slot = int(request["body"].split(".")[0])
-            del self.bodies[request["body"]]
+            if request["do"] == "destroy":
+                del self.bodies[request["body"]]
             self.touching = {pair for pair in self.touching if slot not in (pair[0][0], pair[1][0])}
         elif request["do"] == "step" and "step" in answer:
             pairs = lambda key: {(tuple(first), tuple(second)) for first, second in answer[key]}
@@ -196,6 +198,8 @@ def pictures(script, wanted, folder):
 
 
 def main(words):
+    if not os.path.exists(PROGRAM):
+        sys.exit("there is no built program: `cd crates/world_script && rt run` builds it")
     if words:
         script, wanted, folder = words
         pictures(script, [int(step) for step in wanted.split(",")], folder)
