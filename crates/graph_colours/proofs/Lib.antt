@@ -13,3 +13,4 @@ pub mod GraphLemmas
 pub mod GivenLaws
 pub mod EditLemmas
 pub mod PlanLemmas
+pub mod RemovalLemmas

@@ -3,9 +3,10 @@
 ghost use Rattle.std.specs.Prelude.{◌≡◌, ◌<◌, ◌≤◌, ◌+◌, [], true, false, All, length, vec_len, vec_capacity, IfOk, OnOk};
 ghost use Rattle.std.specs.Result.{IsOkUnless};
 ghost use Rattle.graph_colours.specs.Members.{AreRising, has_id, inserted, without, movers_of};
-ghost use Rattle.graph_colours.specs.Edits.{edit_number, AreInOrder};
+ghost use Rattle.graph_colours.specs.Edits.{edit_number, all_edited, AreInOrder, IsEdited};
 
 use crate::edits::{Edit, edit_all};
+use crate::removals::{are_removals, remove_all};
 use crate::{Id, Member, Movers, member};
 use fixed_geom::Refusal;
 use std::alloc::Global;
@@ -49,6 +50,19 @@ fn can_wait<C: Id>(list: &Vec<Member<C>>, edits: &Vec<Edit<C>>, number: u128) ->
     match edits.last() {
         Some(last) => last.member.id.number() < number,
         None => true,
+    }
+}
+
+/// Makes all edits of a list: where it stands, if none of them adds a member, else by way of `spare`.
+fn make_all<C: Id>(list: &mut Vec<Member<C>>, edits: &[Edit<C>], spare: &mut Vec<Member<C>>)
+    requires edited { IsEdited C.number list.old.items edits.now (vec_capacity list.old) }
+    ensures items { list.new.items ≡ all_edited C.number edits.now list.old.items }
+    ensures capacity { vec_capacity list.old ≤ vec_capacity list.new }
+{
+    if are_removals(edits) {
+        remove_all(list, edits);
+    } else {
+        edit_all(list, edits, spare);
     }
 }
 
@@ -155,7 +169,7 @@ impl<C: Id> EditedList<C> {
         ensures pending { self.new.pending ≡ 0 }
         ensures capacity { self.old.capacity ≤ self.new.capacity }
     {
-        edit_all(&mut self.list, &self.edits, spare);
+        make_all(&mut self.list, &self.edits, spare);
         self.edits.clear();
     }
 

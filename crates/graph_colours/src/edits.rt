@@ -17,7 +17,7 @@ pub struct Edit<C> {
 }
 
 /// Whether the member in this place has the number.
-fn is_at<C: Id>(members: &[Member<C>], place: usize, number: u128) -> bool
+pub(crate) fn is_at<C: Id>(members: &[Member<C>], place: usize, number: u128) -> bool
     ensures { result ≡ is_at C.number number (drop place members.now) }
 {
     match members.get(place) {

@@ -14,6 +14,7 @@ mod edits;
 mod limits;
 mod marks;
 pub mod member;
+mod removals;
 
 pub use colours::Colours;
 pub use edited::EditedList;
