@@ -15,7 +15,7 @@ use Rattle.islands.specs.Labels.{Labels, label_at, is_in, IsIn}
 use Rattle.islands.specs.Packed.{Notes, note_at, Heads, head_at, in_part, InPart, part_in, name_of, label_in, labels_of, IsPart, IsPacked, IsNamedPart, AreMembers}
 use Rattle.islands.proofs.JoinLemmas.{contains_head, contains_tail}
 use Rattle.islands.proofs.LabelLemmas.{in_case, in_is}
-use Rattle.islands.proofs.PartLemmas.{labels_at, label_of_part, packed_partition, in_name}
+use Rattle.islands.proofs.PartLemmas.{labels_at, label_of_part, packed_partition, in_name, count_few}
 use Rattle.islands.proofs.ReadingLemmas.{Passed, GoesOn, none_passed, all_passed}
 
 -- the list has the members that were passed
@@ -103,3 +103,11 @@ nobody_listed notes heads name members e none s = (λ h. absurd (let P : List �
 
 pub all_listed : (notes : Notes) (heads : Heads) (name part : ℕ) (members : List ℕ) → IsPacked notes heads → IsNamedPart notes heads name (Some part) → ((s : ℕ) → Contains members s ↔ InPart notes part s) → (s : ℕ) → Contains members s ↔ IsIn (labels_of notes heads) name s
 all_listed notes heads name part members p named all s = (λ h. named_test notes heads name part s p named.0 named.1 ∙ (all s).0 h, λ h. (all s).1 (sym (named_test notes heads name part s p named.0 named.1) ∙ h))
+
+pub none_twice : (members : List ℕ) → members ≡ [] → IsDistinct nat_eq members
+unfolding IsDistinct
+none_twice members e = rw e tt
+
+-- there is room for a part where there is room for all slots
+pub part_room : (notes : Notes) (heads : Heads) (part capacity : ℕ) → IsPacked notes heads → InPart notes part part → length notes ≤ capacity → (head_at heads part).count ≤ capacity
+part_room notes heads part capacity p h room = let size = (p.parts part part h).size in let few = count_few part notes in omega (arith, size, few, room)

@@ -2,8 +2,9 @@
 
 mod from_labels;
 
-ghost use Rattle.std.specs.Prelude.{◌≡◌, ℕ, ◌+◌, ◌<◌, ◌≤◌, ◌^◌, ◌↔◌, [], None, length, vec_capacity, IfOk, OnOk, OnErr, IsSome, IfSome, Contains, option_map};
+ghost use Rattle.std.specs.Prelude.{◌≡◌, ℕ, ◌+◌, ◌<◌, ◌≤◌, ◌^◌, ◌↔◌, [], None, nat_eq, length, vec_capacity, IfOk, OnOk, OnErr, IsSome, IfSome, Contains, option_map};
 ghost use Rattle.std.specs.Result.{IsOkUnless};
+ghost use Rattle.std.specs.List.{IsDistinct};
 ghost use Rattle.std.specs.List.Sorted.{IsStrictlyIncreasing};
 ghost use Rattle.islands.specs.Labels.{label_at, IsIn, is_loose, is_asleep, added, merged, padded, loosened, taken_out, rested, woken, split_by};
 ghost use Rattle.islands.specs.Partition.{IsPartition, Inside, IsSplit};
@@ -12,7 +13,7 @@ use crate::adding::{add_part, widen_lists};
 use crate::joining::merge_movers;
 use crate::label::{IslandState, Label};
 use crate::leaving::leave;
-use crate::listing::members_of;
+use crate::listing::{fill_members, members_of};
 use crate::parts::{Head, Note, label_in, part_at, set_state};
 use crate::room::reserve_in_all;
 use crate::scratch::SplitScratch;
@@ -219,6 +220,17 @@ impl Islands {
         ensures memory_only { IsOkUnless result Refusal.NoMemory }
     {
         members_of(*self.notes.allocator(), &self.notes, &self.heads, name)
+    }
+
+    /// Lists the movers of an island, in no order that is promised; none where there is no such island. There is room for
+    /// as many as there are slots. Takes no memory.
+    pub fn fill_members(&self, name: u32, members: &mut Vec<u32>)
+        requires room { length self.now.labels ≤ vec_capacity members.old }
+        ensures members { (slot : ℕ) → Contains members.new.items slot ↔ IsIn self.now.labels name slot }
+        ensures once { IsDistinct nat_eq members.new.items }
+        ensures capacity { vec_capacity members.old ≤ vec_capacity members.new }
+    {
+        fill_members(&self.notes, &self.heads, name, members);
     }
 
     /// By slot the label of the mover's island. Refused 1 where memory is wanting.

@@ -1,7 +1,8 @@
 //! The members of a part, as a list.
 
-ghost use Rattle.std.specs.Prelude.{◌≡◌, ◌≤◌, ◌↔◌, ℕ, vec_capacity, Contains, IfOk};
+ghost use Rattle.std.specs.Prelude.{◌≡◌, ◌≤◌, ◌↔◌, ℕ, nat_eq, length, vec_capacity, Contains, IfOk};
 ghost use Rattle.std.specs.Result.{IsOkUnless};
+ghost use Rattle.std.specs.List.{IsDistinct};
 ghost use Rattle.std.specs.List.Sorted.{IsStrictlyIncreasing};
 ghost use Rattle.islands.specs.Labels.{IsIn};
 ghost use Rattle.islands.specs.Packed.{IsPacked, InPart, AreMembers, head_at, labels_of};
@@ -68,5 +69,25 @@ pub(crate) fn members_of(
     match part_named(notes, heads, name) {
         None => Ok(Vec::new(alloc)),
         Some(part) => sorted_members(alloc, notes, heads, part),
+    }
+}
+
+/// Lists the movers of an island, in no order that is promised; none where there is no such island. There is room for as many as
+/// there are slots.
+pub(crate) fn fill_members(
+    notes: &[Option<Note>],
+    heads: &[Head],
+    name: u32,
+    members: &mut Vec<u32>,
+)
+    requires packed { IsPacked notes.now heads.now }
+    requires room { length notes.now ≤ vec_capacity members.old }
+    ensures members { (slot : ℕ) → Contains members.new.items slot ↔ IsIn (labels_of notes.now heads.now) name slot }
+    ensures once { IsDistinct nat_eq members.new.items }
+    ensures capacity { vec_capacity members.old ≤ vec_capacity members.new }
+{
+    match part_named(notes, heads, name) {
+        None => members.clear(),
+        Some(part) => list_members(notes, heads, part, members),
     }
 }

@@ -68,12 +68,19 @@ fn sleeps_and_wakes_with_its_constraints(rt: HostRuntime) -> Result<(), Fail> {
     Ok(())
 }
 
+/// Lets a sleep phase pass, with these timers.
+fn pass_phase(sets: &mut Sets<Joint>, timers: &[u64]) -> Result<(), Refusal> {
+    let awake = sets.awake_slots()?;
+    sets.sleep_phase(timers, &awake);
+    Ok(())
+}
+
 /// The pair and the one after the one was slow for 128 ticks, and a copy after the pair was too.
 fn slow_and_copied(alloc: Global) -> Result<[Sets<Joint>; 2], Refusal> {
     let mut sets = a_pair_and_one(alloc)?;
-    sets.sleep_phase(&[127, 200, 128]);
+    pass_phase(&mut sets, &[127, 200, 128])?;
     let mut copy = sets.try_copy()?;
-    copy.sleep_phase(&[128, 200, 0]);
+    pass_phase(&mut copy, &[128, 200, 0])?;
     Ok([sets, copy])
 }
 

@@ -12,9 +12,14 @@ pub mod SizeLemmas
 pub mod StandLemmas
 pub mod FoldLemmas
 pub mod RestLemmas
+pub mod AwakeSlotsLaws
+pub mod AgreeLaws
 pub mod RestingLaws
+pub mod ReleasingLaws
 pub mod NameLemmas
 pub mod LawLemmas
+pub mod IndexLemmas
 pub mod GivenLaws
 pub mod LengthLemmas
 pub mod TurnOwn
+pub mod GatherLemmas

@@ -234,19 +234,19 @@ splitting_keeps {C} number s name l w e k a =
 
 -- ---- the sleep phase
 
-and_is : (x y : Bool) → (x && y) ≡ true → (x ≡ true) × (y ≡ true)
+pub and_is : (x y : Bool) → (x && y) ≡ true → (x ≡ true) × (y ≡ true)
 and_is true y h = (refl, h)
 and_is false y h = absurd (false≢true h)
 
 -- an island of this name, in the state that is asked for
-abbrev IsNamedIsland : Bool → Labels → ℕ → Type 0
+abbrev pub IsNamedIsland : Bool → Labels → ℕ → Type 0
 IsNamedIsland loose labels name = is_island loose name (label_at labels name) ≡ true
 
-abbrev AreAll : (ℕ → Type 0) → List ℕ → Type 0
+abbrev pub AreAll : (ℕ → Type 0) → List ℕ → Type 0
 AreAll P [] = Unit {0}
 AreAll P (n ∷ ns) = P n × AreAll P ns
 
-all_if : (P : ℕ → Type 0) (t : Bool) (n : ℕ) (ns : List ℕ) → (t ≡ true → P n) → AreAll P ns → AreAll P (cond t (n ∷ ns) ns)
+pub all_if : (P : ℕ → Type 0) (t : Bool) (n : ℕ) (ns : List ℕ) → (t ≡ true → P n) → AreAll P ns → AreAll P (cond t (n ∷ ns) ns)
 all_if P true n ns f h = (f refl, h)
 all_if P false n ns f h = h
 
@@ -289,7 +289,7 @@ next_best : (P : ℕ → Type 0) (t : Bool) (b m : ℕ) → P b → P m → (k :
 next_best P true b m h i k q = let same : m ≡ k = cc in subst P same i
 next_best P false b m h i k q = let same : b ≡ k = cc in subst P same h
 
-longer_is : (P : ℕ → Type 0) (timer : ℕ → Option ℕ) (best : Option ℕ) (m : ℕ) → ((n : ℕ) → best ≡ Some n → P n) → P m → (k : ℕ) → longer_at_rest timer best m ≡ Some k → P k
+pub longer_is : (P : ℕ → Type 0) (timer : ℕ → Option ℕ) (best : Option ℕ) (m : ℕ) → ((n : ℕ) → best ≡ Some n → P n) → P m → (k : ℕ) → longer_at_rest timer best m ≡ Some k → P k
 longer_is P timer None m f h k q = let same : m ≡ k = cc in subst P same h
 longer_is P timer (Some b) m f h k q = next_best P (is_less (timer b) (timer m)) b m (f b refl) h k q
 
@@ -301,7 +301,7 @@ longest_of P timer best (m ∷ ns) f h n e = longest_of P timer (longer_at_rest 
 pub picked_is : (labels : Labels) (timers : List ℕ) (n : ℕ) → picked_to_split labels timers ≡ Some n → is_island true n (label_at labels n) ≡ true
 picked_is labels timers n e = longest_of (IsNamedIsland true labels) (λ name. least_timer name labels timers) None (ready true labels timers) (λ k q. absurd (let no : None ≡ Some k = q in cc)) (ready_all true labels timers) n e
 
-split_keeps : {C : Type 0} (number : C → ℕ) (s : Acting C) (o : Option ℕ) → IsSettled number s → ((n : ℕ) → o ≡ Some n → IsNamedIsland true s.labels n) → IsSettled number (split_picked o s)
+pub split_keeps : {C : Type 0} (number : C → ℕ) (s : Acting C) (o : Option ℕ) → IsSettled number s → ((n : ℕ) → o ≡ Some n → IsNamedIsland true s.labels n) → IsSettled number (split_picked o s)
 split_keeps number s None w f = w
 split_keeps number s (Some name) w f = let o = names s.labels name true (f name refl) in splitting_keeps number s name o.l w o.at o.named o.awake
 
@@ -317,7 +317,7 @@ may_after labels other name o = elim (either_case other other (label_at labels n
   | inr h ↦ (o.0, others_stay other other (record { name = other; state = Asleep }) labels name h ∙ o.1, o.2, o.3)
 ]
 
-all_on : (P Q : ℕ → Type 0) (ns : List ℕ) → ((n : ℕ) → P n → Q n) → AreAll P ns → AreAll Q ns
+pub all_on : (P Q : ℕ → Type 0) (ns : List ℕ) → ((n : ℕ) → P n → Q n) → AreAll P ns → AreAll Q ns
 all_on P Q [] f h = tt
 all_on P Q (n ∷ ns) f h = (f n h.0, all_on P Q ns f h.1)
 

@@ -34,62 +34,9 @@ island_rested_by name slot l true e far =
     rw (a, b) refl
 island_rested_by name slot l false e far = refl
 
-island_rested : (name slot : ℕ) (o : Option Label) → slot ≢ name → is_island false slot (asleep_in name o) ≡ is_island false slot o
+pub island_rested : (name slot : ℕ) (o : Option Label) → slot ≢ name → is_island false slot (asleep_in name o) ≡ is_island false slot o
 island_rested name slot None far = refl
 island_rested name slot (Some l) far = island_rested_by name slot l (l.name == name) refl far
-
-due_rested : (timer : ℕ → Option ℕ) (name slot : ℕ) (rest : Labels) → name < slot → due_from false timer slot (map (asleep_in name) rest) ≡ due_from false timer slot rest
-due_rested timer name slot [] lt = refl
-due_rested timer name slot (o ∷ rest) lt =
-    let here : is_island false slot (asleep_in name o) ≡ is_island false slot o = island_rested name slot o (λ e. omega (arith, e, lt)) in
-    let more : due_from false timer (suc slot) (map (asleep_in name) rest) ≡ due_from false timer (suc slot) rest = due_rested timer name (suc slot) rest (omega (arith, lt)) in
-    rw (here, more) refl
-
-drop_map : {X Y : Type 0} (f : X → Y) (n : ℕ) (xs : List X) → drop n (map f xs) ≡ map f (drop n xs)
-drop_map f zero xs = refl
-drop_map f (suc n) [] = refl
-drop_map f (suc n) (x ∷ xs) = drop_map f n xs
-
--- the islands that are still to fall asleep, from a slot on
-abbrev pub still_due : (ℕ → Option ℕ) → Labels → ℕ → List ℕ
-still_due timer labels slot = due_from false timer slot (drop slot labels)
-
-next_slot : (labels : Labels) (slot : ℕ) → slot < length labels → drop slot labels ≡ label_at labels slot ∷ drop (slot + 1) labels
-next_slot labels slot lt = drop_more labels slot None lt
-
-due_there : (timer : ℕ → Option ℕ) (labels : Labels) (slot : ℕ) → slot < length labels → still_due timer labels slot ≡ cond (is_due_island false timer slot (label_at labels slot)) (slot ∷ still_due timer labels (slot + 1)) (still_due timer labels (slot + 1))
-due_there timer labels slot lt =
-    let same : suc slot ≡ slot + 1 = omega arith in
-    ap (λ rest. due_from false timer slot rest) (next_slot labels slot lt)
-    ∙ ap (λ n. cond (is_due_island false timer slot (label_at labels slot)) (slot ∷ due_from false timer n (drop (slot + 1) labels)) (due_from false timer n (drop (slot + 1) labels))) same
-
--- one that isn't ready stays as it is
-pub not_due : (timer : ℕ → Option ℕ) (slot : ℕ) (labels : Labels) → slot < length labels → is_due_island false timer slot (label_at labels slot) ≡ false → all_rested (still_due timer labels (slot + 1)) labels ≡ all_rested (still_due timer labels slot) labels
-not_due timer slot labels lt h = let passed : still_due timer labels slot ≡ still_due timer labels (slot + 1) = due_there timer labels slot lt ∙ rw h refl in ap (λ names. all_rested names labels) (sym passed)
-
--- one that is ready falls asleep, and then those after it
-pub then_due : (timer : ℕ → Option ℕ) (slot : ℕ) (labels : Labels) → slot < length labels → is_due_island false timer slot (label_at labels slot) ≡ true → all_rested (still_due timer (rested labels slot) (slot + 1)) (rested labels slot) ≡ all_rested (still_due timer labels slot) labels
-unfolding rested
-then_due timer slot labels lt h =
-    let new : Labels = map (asleep_in slot) labels in
-    let same : still_due timer new (slot + 1) ≡ still_due timer labels (slot + 1) =
-    ap (λ rest. due_from false timer (slot + 1) rest) (drop_map (asleep_in slot) (slot + 1) labels) ∙ due_rested timer slot (slot + 1) (drop (slot + 1) labels) (omega arith) in
-    let front : still_due timer labels slot ≡ slot ∷ still_due timer labels (slot + 1) = due_there timer labels slot lt ∙ rw h refl in
-    ap (λ names. all_rested names new) same ∙ ap (λ names. all_rested names labels) (sym front)
-
-pub rested_long : (labels : Labels) (slot : ℕ) → length (rested labels slot) ≡ length labels
-unfolding rested
-rested_long labels slot = length-map labels (asleep_in slot)
-
--- past the last slot none is ready
-past_all : (labels : Labels) (slot : ℕ) → length labels ≤ slot → drop slot labels ≡ []
-past_all [] zero le = refl
-past_all [] (suc slot) le = refl
-past_all (o ∷ labels) zero le = absurd (omega (arith, le))
-past_all (o ∷ labels) (suc slot) le = past_all labels slot (omega (arith, le))
-
-pub none_due : (timer : ℕ → Option ℕ) (slot : ℕ) (labels : Labels) → length labels ≤ slot → all_rested (still_due timer labels slot) labels ≡ labels
-none_due timer slot labels le = ap (λ rest. all_rested (due_from false timer slot rest) labels) (past_all labels slot le)
 
 both_are : (x y : Bool) → (x && y) ≡ true → x ≡ true
 both_are true y h = refl

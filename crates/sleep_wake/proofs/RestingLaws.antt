@@ -16,13 +16,14 @@ use Rattle.sleep_wake.specs.Acting.{Acting, acting}
 use Rattle.sleep_wake.specs.Waking.{second_in, has_mover_of, ties_of, released_all, put_to_rest}
 use Rattle.sleep_wake.specs.SleepPhase.{is_due, all_put_to_rest, ready_put_to_rest}
 use Rattle.sleep_wake.specs.Resting.{least_at, AreLeast, is_due_island, due_from, due_names, rests_by, second_rests, is_to_rest, all_rested}
-use Rattle.sleep_wake.proofs.LeastLemmas.{due_are}
+use Rattle.sleep_wake.proofs.LeastLemmas.{timer_in, due_are}
+use Rattle.sleep_wake.proofs.AgreeLaws.{same_due, same_rests}
 use Rattle.sleep_wake.proofs.RestLemmas.{asleep_in, in_rested}
 
 -- ---- constraints taken out of the colours together
 
 -- without those that have the id of one of these
-abbrev Others : {C : Type 0} → (C → ℕ) → List (Member C) → List (Member C) → List (Member C)
+abbrev pub Others : {C : Type 0} → (C → ℕ) → List (Member C) → List (Member C) → List (Member C)
 Others number ms l = filter (λ m. not (has_id number m.id ms)) l
 
 abbrev pub cleared : {C : Type 0} → (C → ℕ) → List (Member C) → List (List (Member C)) → List (List (Member C))
@@ -223,14 +224,19 @@ pub rests_together : {C : Type 0} (number : C → ℕ) (timers : List ℕ) (leas
     → labels ≡ all_rested (due_names false (least_at leasts) s.labels) s.labels
     → acting s.ties labels lists ≡ ready_put_to_rest number timers s
 rests_together {C} number timers leasts s labels lists p w is_lists is_labels =
-    let names : List ℕ = due_names false (least_at leasts) s.labels in
-    let test : of_any {C = C} s.labels names ≡ is_to_rest (least_at leasts) s.labels = λ i m. rests_are (least_at leasts) s.labels m p i in
+    let timer : ℕ → Option ℕ = timer_in s.labels timers in
+    let names : List ℕ = due_names false timer s.labels in
+    let test : of_any {C = C} s.labels names ≡ is_to_rest timer s.labels = λ i m. rests_are timer s.labels m p i in
+    let told : is_to_rest {C = C} (least_at leasts) s.labels ≡ is_to_rest timer s.labels = same_rests s.labels (least_at leasts) timer w.each in
     let now : Acting C = all_put_to_rest number names s in
     let t : s.ties ≡ now.ties = sym (all_ties number names s) in
-    let l : labels ≡ now.labels = is_labels ∙ sym (all_labels number names s) in
+    let l : labels ≡ now.labels = is_labels
+    ∙ ap (λ (ns : List ℕ). all_rested ns s.labels) (same_due false s.labels (least_at leasts) timer w.each)
+    ∙ sym (all_labels number names s) in
     let c : lists ≡ now.lists = is_lists
-    ∙ cleared_is number (filter (is_to_rest (least_at leasts) s.labels) s.ties) s.lists
+    ∙ ap (λ (q : Member C → Bool). released_all number s.lists (filter q s.ties)) told
+    ∙ cleared_is number (filter (is_to_rest timer s.labels) s.ties) s.lists
     ∙ ap (λ (q : Member C → Bool). cleared number (filter q s.ties) s.lists) (sym test)
     ∙ sym (all_lists number names s) in
     let each : acting s.ties labels lists ≡ now = λ i. record { ties = t i; labels = l i; lists = c i } in
-    each ∙ ap (λ (ns : List ℕ). all_put_to_rest number ns s) (due_are false s.labels timers leasts w)
+    each ∙ ap (λ (ns : List ℕ). all_put_to_rest number ns s) (due_are false s.labels timers)

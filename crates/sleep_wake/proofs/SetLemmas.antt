@@ -13,7 +13,7 @@ use Rattle.islands.specs.declared.label.Label.{Label}
 use Rattle.islands.specs.Labels.{label_at, IsIn, is_asleep}
 use Rattle.islands.proofs.JoinLemmas.{contains_tail}
 use Rattle.sleep_wake.specs.Acting.{Acting, IsSettled, is_awake, are_awake}
-use Rattle.sleep_wake.specs.Waking.{has_mover_of, placed_all}
+use Rattle.sleep_wake.specs.Waking.{has_mover_of}
 use Rattle.sleep_wake.specs.Rooms.{CanPlace}
 use Rattle.sleep_wake.proofs.ListLemmas.{above_head, one_of, absent_from}
 use Rattle.sleep_wake.proofs.CountLemmas.{counted}
@@ -23,34 +23,18 @@ use Rattle.sleep_wake.proofs.AwakeLemmas.{awake_first, of_island, awake_as}
 pub front_is : {C : Type 0} (ms : List (Member C)) (i : ℕ) (m : Member C) → i < length ms → m ≡ get_or ms i m → drop i ms ≡ m ∷ drop (i + 1) ms
 front_is {C} ms i m lt e = drop_more ms i m lt ∙ ap (λ (x : Member C). x ∷ drop (i + 1) ms) (sym e)
 
--- one that isn't wanted is passed by
-pub passed_by : {C : Type 0} (number : C → ℕ) (wanted : Member C → Bool) (m : Member C) (ms : List (Member C)) (lists : List (List (Member C))) (room slots : ℕ) → CanPlace number wanted (m ∷ ms) lists room slots → wanted m ≡ false → CanPlace number wanted ms lists room slots
-passed_by number wanted m ms lists room slots w off = record {
+-- one gets a colour, and the others are without as before
+pub placed_one : {C : Type 0} (number : C → ℕ) (m : Member C) (ms : List (Member C)) (lists : List (List (Member C))) (room left slots : ℕ) → CanPlace number (m ∷ ms) lists room slots → room ≡ left + 1 → CanPlace number ms (placed number m lists) left slots
+placed_one number m ms lists room left slots w r = record {
   rising = pairs_tail (λ a b. number a.id < number b.id) m ms w.rising;
-  absent = λ x h q. w.absent x (contains_tail m ms x h) q;
+  absent = λ x h. let lt : number m.id < number x.id = above_head number m ms x w.rising h in
+      placed_others number m lists x.id (λ e. omega (arith, lt, e)) ∙ w.absent x (contains_tail m ms x h);
   below = λ x h. w.below x (contains_tail m ms x h);
-  enough = rw off at w.enough;
+  enough = let e : suc (length ms) ≤ room = w.enough in omega (arith, e, r);
 }
 
--- one that is wanted gets a colour, and the others are without as before
-pub placed_one : {C : Type 0} (number : C → ℕ) (wanted : Member C → Bool) (m : Member C) (ms : List (Member C)) (lists : List (List (Member C))) (room left slots : ℕ) → CanPlace number wanted (m ∷ ms) lists room slots → wanted m ≡ true → room ≡ left + 1 → CanPlace number wanted ms (placed number m lists) left slots
-placed_one number wanted m ms lists room left slots w on r = record {
-  rising = pairs_tail (λ a b. number a.id < number b.id) m ms w.rising;
-  absent = λ x h q. let lt : number m.id < number x.id = above_head number m ms x w.rising h in
-      placed_others number m lists x.id (λ e. omega (arith, lt, e)) ∙ w.absent x (contains_tail m ms x h) q;
-  below = λ x h. w.below x (contains_tail m ms x h);
-  enough = let e : suc (length (filter wanted ms)) ≤ room = rw on at w.enough in omega (arith, e, r);
-}
-
-pub room_for_one : {C : Type 0} (number : C → ℕ) (wanted : Member C → Bool) (m : Member C) (ms : List (Member C)) (lists : List (List (Member C))) (room slots : ℕ) → CanPlace number wanted (m ∷ ms) lists room slots → wanted m ≡ true → 1 ≤ room
-room_for_one number wanted m ms lists room slots w on = let e : suc (length (filter wanted ms)) ≤ room = rw on at w.enough in omega (arith, e)
-
--- what is left to place, by the test of the first
-pub placed_wanted : {C : Type 0} (number : C → ℕ) (wanted : Member C → Bool) (m : Member C) (ms : List (Member C)) (lists : List (List (Member C))) → wanted m ≡ true → placed_all number lists (filter wanted (m ∷ ms)) ≡ placed_all number (placed number m lists) (filter wanted ms)
-placed_wanted number wanted m ms lists h = rw h refl
-
-pub passed_left : {C : Type 0} (number : C → ℕ) (wanted : Member C → Bool) (m : Member C) (ms : List (Member C)) (lists : List (List (Member C))) → wanted m ≡ false → placed_all number lists (filter wanted ms) ≡ placed_all number lists (filter wanted (m ∷ ms))
-passed_left number wanted m ms lists h = rw h refl
+pub room_for_one : {C : Type 0} (number : C → ℕ) (m : Member C) (ms : List (Member C)) (lists : List (List (Member C))) (room slots : ℕ) → CanPlace number (m ∷ ms) lists room slots → 1 ≤ room
+room_for_one number m ms lists room slots w = let e : suc (length ms) ≤ room = w.enough in omega (arith, e)
 
 -- no constraint of an island that sleeps has a colour
 pub sleepers_absent : {C : Type 0} (number : C → ℕ) (s : Acting C) (name : ℕ) (l : Label) → IsSettled number s → label_at s.labels name ≡ Some l → l.name ≡ name → is_asleep l.state ≡ true

@@ -20,6 +20,8 @@ pub record SameRoom (coloured after : ℕ) (c d : Capacity) : Type 0 where
   pub edges : c.edges ≤ d.edges
   pub scratch_slots : d.scratch_slots ≡ c.scratch_slots
   pub links : d.links ≡ c.links
+  pub gathering_ties : c.gathering_ties ≤ d.gathering_ties
+  pub gathering_slots : c.gathering_slots ≤ d.gathering_slots
   pub leasts : c.leasts ≤ d.leasts
   pub ties_settled : d.ties_pending ≡ 0
   pub colours_settled : d.colours_pending ≡ 0
@@ -37,6 +39,8 @@ stands number s new room slots c d w settled enough few r = record {
     edges = omega (arith, w.rooms.edges, r.edges);
     scratch_slots = omega (arith, w.rooms.scratch_slots, r.scratch_slots);
     links = omega (arith, w.rooms.links, r.links);
+    gathering_ties = omega (arith, w.rooms.gathering_ties, r.gathering_ties);
+    gathering_slots = omega (arith, w.rooms.gathering_slots, r.gathering_slots);
     leasts = omega (arith, w.rooms.leasts, r.leasts);
     ties_settled = r.ties_settled;
     colours_settled = r.colours_settled;

@@ -1,12 +1,15 @@
 pub mod Acting
 pub mod Waking
 pub mod Rooms
+pub mod Indexed
 pub mod Changes
 pub mod Bodies
 pub mod Widened
 pub mod SleepPhase
+pub mod AwakeSlots
 pub mod Resting
 pub mod Sleeping
 pub mod Standing
 pub mod Laws
 pub mod Examples
+pub mod Gathered

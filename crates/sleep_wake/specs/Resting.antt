@@ -1,5 +1,5 @@
 -- All islands of a sleep phase together: the least timer of each, and what falls asleep by these.
-use Rattle.std.specs.Prelude.{◌≡◌, ℕ, suc, ◌&&◌, ◌||◌, Bool, true, false, not, cond, List, [], ◌∷◌, Option, Some, None, slice_set}
+use Rattle.std.specs.Prelude.{◌≡◌, ℕ, suc, ◌&&◌, ◌||◌, Bool, true, false, not, cond, nat_lt, List, [], ◌∷◌, length, Option, Some, None, slice_set}
 use Rattle.std.specs.List.{slice_index_or}
 use Rattle.graph_colours.specs.declared.member.Movers.{Movers}
 use Rattle.graph_colours.specs.declared.member.Member.{Member}
@@ -17,9 +17,19 @@ least_at leasts name = slice_index_or leasts name None
 abbrev pub lowered : List (Option ℕ) → ℕ → ℕ → List (Option ℕ)
 lowered leasts name t = slice_set leasts name (Some (lesser t (least_at leasts name)))
 
--- the list has the least timer of each island, by its name
+-- the mover in the slot, which has this label, has a timer, and that is one of its island's
+abbrev pub noted : Option Label → List ℕ → ℕ → List (Option ℕ) → List (Option ℕ)
+noted None timers slot leasts = leasts
+noted (Some l) timers slot leasts = cond (nat_lt slot (length timers)) (lowered leasts l.name (slice_index_or timers slot 0)) leasts
+
+-- nothing is known of what stands in these slots
+abbrev pub forgotten : List ℕ → List (Option ℕ) → List (Option ℕ)
+forgotten [] leasts = leasts
+forgotten (slot ∷ slots) leasts = forgotten slots (slice_set leasts slot None)
+
+-- the list has the least timer of each awake island, by its name; what it has for others means nothing
 pub record AreLeast (labels : Labels) (timers : List ℕ) (leasts : List (Option ℕ)) : Type 0 where
-  pub each : (name : ℕ) → least_at leasts name ≡ least_timer name labels timers
+  pub each : (slot : ℕ) (l : Label) → label_at labels slot ≡ Some l → is_asleep l.state ≡ false → least_at leasts l.name ≡ least_timer l.name labels timers
 
 -- ---- which islands are ready, where `timer` has the least timer of each
 

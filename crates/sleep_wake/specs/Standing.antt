@@ -19,6 +19,8 @@ pub record Capacity : Type 0 where
   pub edges : ℕ
   pub scratch_slots : ℕ
   pub links : ℕ
+  pub gathering_ties : ℕ
+  pub gathering_slots : ℕ
   pub leasts : ℕ
   pub ties_pending : ℕ
   pub colours_pending : ℕ
@@ -32,6 +34,8 @@ pub record HasRoomFor (coloured room slots : ℕ) (c : Capacity) : Type 0 where
   pub edges : room ≤ c.edges
   pub scratch_slots : slots ≤ c.scratch_slots
   pub links : room ≤ c.links
+  pub gathering_ties : room ≤ c.gathering_ties
+  pub gathering_slots : slots ≤ c.gathering_slots
   pub leasts : slots ≤ c.leasts
   pub ties_settled : c.ties_pending ≡ 0
   pub colours_settled : c.colours_pending ≡ 0

@@ -10,8 +10,10 @@ ghost use Rattle.sleep_wake.specs.Waking.{movers_woken};
 ghost use Rattle.sleep_wake.specs.Changes.{united, parted, begun, ended, each_begun, each_ended, CanBegin, CanEnd, changed, turned, begin_count, IsChange, AreChanges};
 
 use crate::change::Change;
+use crate::gathering::Gathering;
+use crate::ties::Ties;
 use crate::waking::{are_awake, wake_movers};
-use graph_colours::{EditedColours, EditedList, Id, Member, Movers};
+use graph_colours::{EditedColours, Id, Member, Movers};
 use islands::Islands;
 
 /// Merges the islands of two movers that get a link.
@@ -41,7 +43,7 @@ fn part(islands: &mut Islands, movers: Movers)
 fn begin<C: Id>(
     islands: &mut Islands,
     colours: &mut EditedColours<C>,
-    ties: &mut EditedList<C>,
+    ties: &mut Ties<C>,
     spare: &mut Vec<Member<C>>,
     member: Member<C>,
 )
@@ -67,7 +69,7 @@ fn begin<C: Id>(
 fn end<C: Id>(
     islands: &mut Islands,
     colours: &mut EditedColours<C>,
-    ties: &mut EditedList<C>,
+    ties: &mut Ties<C>,
     spare: &mut Vec<Member<C>>,
     member: Member<C>,
 )
@@ -88,7 +90,7 @@ fn end<C: Id>(
 pub(crate) fn begin_now<C: Id>(
     islands: &mut Islands,
     colours: &mut EditedColours<C>,
-    ties: &mut EditedList<C>,
+    ties: &mut Ties<C>,
     spare: &mut Vec<Member<C>>,
     member: Member<C>,
 )
@@ -115,7 +117,7 @@ pub(crate) fn begin_now<C: Id>(
 pub(crate) fn end_now<C: Id>(
     islands: &mut Islands,
     colours: &mut EditedColours<C>,
-    ties: &mut EditedList<C>,
+    ties: &mut Ties<C>,
     spare: &mut Vec<Member<C>>,
     member: Member<C>,
 )
@@ -138,7 +140,7 @@ pub(crate) fn end_now<C: Id>(
 fn begin_each<C: Id>(
     islands: &mut Islands,
     colours: &mut EditedColours<C>,
-    ties: &mut EditedList<C>,
+    ties: &mut Ties<C>,
     spare: &mut Vec<Member<C>>,
     members: &[Member<C>],
 )
@@ -162,7 +164,7 @@ fn begin_each<C: Id>(
 fn end_each<C: Id>(
     islands: &mut Islands,
     colours: &mut EditedColours<C>,
-    ties: &mut EditedList<C>,
+    ties: &mut Ties<C>,
     spare: &mut Vec<Member<C>>,
     members: &[Member<C>],
 )
@@ -183,7 +185,7 @@ fn end_each<C: Id>(
 pub(crate) fn begin_each_now<C: Id>(
     islands: &mut Islands,
     colours: &mut EditedColours<C>,
-    ties: &mut EditedList<C>,
+    ties: &mut Ties<C>,
     spare: &mut Vec<Member<C>>,
     members: &[Member<C>],
 )
@@ -209,7 +211,7 @@ pub(crate) fn begin_each_now<C: Id>(
 pub(crate) fn end_each_now<C: Id>(
     islands: &mut Islands,
     colours: &mut EditedColours<C>,
-    ties: &mut EditedList<C>,
+    ties: &mut Ties<C>,
     spare: &mut Vec<Member<C>>,
     members: &[Member<C>],
 )
@@ -232,15 +234,20 @@ pub(crate) fn end_each_now<C: Id>(
 fn wake_for<C: Id>(
     islands: &mut Islands,
     colours: &mut EditedColours<C>,
-    ties: &mut EditedList<C>,
+    ties: &mut Ties<C>,
     spare: &mut Vec<Member<C>>,
+    gathering: &mut Gathering<C>,
     movers: Movers,
 )
     requires settled { IsSettled C.number (acting ties.old.items islands.old.labels colours.old.lists) }
     requires below { length islands.old.labels ≤ colours.old.slots }
+    requires gathering_ties { length ties.old.items ≤ gathering.old.ties }
+    requires gathering_slots { length islands.old.labels ≤ gathering.old.slots }
     requires room { length ties.old.items ≤ colours.old.room + length (all_members colours.old.lists) }
     ensures woken { acting ties.new.items islands.new.labels colours.new.lists ≡ movers_woken C.number movers (acting ties.old.items islands.old.labels colours.old.lists) }
     ensures capacity { ties.old.capacity ≤ ties.new.capacity }
+    ensures gathering_ties { gathering.old.ties ≤ gathering.new.ties }
+    ensures gathering_slots { gathering.old.slots ≤ gathering.new.slots }
     ensures islands_room { islands.new.room ≡ islands.old.room }
     ensures slots { colours.new.slots ≡ colours.old.slots }
     ensures room { colours.new.room + length (all_members colours.new.lists) ≡ colours.old.room + length (all_members colours.old.lists) }
@@ -249,29 +256,34 @@ fn wake_for<C: Id>(
         return;
     }
     ties.settle(spare);
-    wake_movers(islands, colours, ties.as_slice(), movers);
+    wake_movers(islands, colours, ties, gathering, movers);
 }
 
 /// A constraint begins whose movers wake before, if they sleep.
 fn begin_awake<C: Id>(
     islands: &mut Islands,
     colours: &mut EditedColours<C>,
-    ties: &mut EditedList<C>,
+    ties: &mut Ties<C>,
     spare: &mut Vec<Member<C>>,
+    gathering: &mut Gathering<C>,
     member: Member<C>,
 )
     requires settled { IsSettled C.number (acting ties.old.items islands.old.labels colours.old.lists) }
     requires can { IsChange C.number islands.old.labels ties.old.items (Begin member) }
     requires below { length islands.old.labels ≤ colours.old.slots }
+    requires gathering_ties { length ties.old.items ≤ gathering.old.ties }
+    requires gathering_slots { length islands.old.labels ≤ gathering.old.slots }
     requires ties_room { length ties.old.items < ties.old.capacity }
     requires room { length ties.old.items < colours.old.room + length (all_members colours.old.lists) }
     ensures changed { acting ties.new.items islands.new.labels colours.new.lists ≡ changed C.number (Begin member) (acting ties.old.items islands.old.labels colours.old.lists) }
     ensures capacity { ties.old.capacity ≤ ties.new.capacity }
+    ensures gathering_ties { gathering.old.ties ≤ gathering.new.ties }
+    ensures gathering_slots { gathering.old.slots ≤ gathering.new.slots }
     ensures islands_room { islands.new.room ≡ islands.old.room }
     ensures slots { colours.new.slots ≡ colours.old.slots }
     ensures room { colours.new.room + length (all_members colours.new.lists) ≡ colours.old.room + length (all_members colours.old.lists) }
 {
-    wake_for(islands, colours, ties, spare, member.movers);
+    wake_for(islands, colours, ties, spare, gathering, member.movers);
     begin(islands, colours, ties, spare, member);
 }
 
@@ -279,21 +291,26 @@ fn begin_awake<C: Id>(
 fn end_awake<C: Id>(
     islands: &mut Islands,
     colours: &mut EditedColours<C>,
-    ties: &mut EditedList<C>,
+    ties: &mut Ties<C>,
     spare: &mut Vec<Member<C>>,
+    gathering: &mut Gathering<C>,
     member: Member<C>,
 )
     requires settled { IsSettled C.number (acting ties.old.items islands.old.labels colours.old.lists) }
     requires can { IsChange C.number islands.old.labels ties.old.items (End member) }
     requires below { length islands.old.labels ≤ colours.old.slots }
+    requires gathering_ties { length ties.old.items ≤ gathering.old.ties }
+    requires gathering_slots { length islands.old.labels ≤ gathering.old.slots }
     requires room { length ties.old.items ≤ colours.old.room + length (all_members colours.old.lists) }
     ensures changed { acting ties.new.items islands.new.labels colours.new.lists ≡ changed C.number (End member) (acting ties.old.items islands.old.labels colours.old.lists) }
     ensures capacity { ties.old.capacity ≤ ties.new.capacity }
+    ensures gathering_ties { gathering.old.ties ≤ gathering.new.ties }
+    ensures gathering_slots { gathering.old.slots ≤ gathering.new.slots }
     ensures islands_room { islands.new.room ≡ islands.old.room }
     ensures slots { colours.new.slots ≡ colours.old.slots }
     ensures room { colours.new.room + length (all_members colours.new.lists) ≡ colours.old.room + length (all_members colours.old.lists) }
 {
-    wake_for(islands, colours, ties, spare, member.movers);
+    wake_for(islands, colours, ties, spare, gathering, member.movers);
     end(islands, colours, ties, spare, member);
 }
 
@@ -301,24 +318,29 @@ fn end_awake<C: Id>(
 fn change<C: Id>(
     islands: &mut Islands,
     colours: &mut EditedColours<C>,
-    ties: &mut EditedList<C>,
+    ties: &mut Ties<C>,
     spare: &mut Vec<Member<C>>,
+    gathering: &mut Gathering<C>,
     change: Change<C>,
 )
     requires settled { IsSettled C.number (acting ties.old.items islands.old.labels colours.old.lists) }
     requires can { IsChange C.number islands.old.labels ties.old.items change }
     requires below { length islands.old.labels ≤ colours.old.slots }
+    requires gathering_ties { length ties.old.items ≤ gathering.old.ties }
+    requires gathering_slots { length islands.old.labels ≤ gathering.old.slots }
     requires ties_room { length ties.old.items + begin_count (change ∷ []) ≤ ties.old.capacity }
     requires room { length ties.old.items + begin_count (change ∷ []) ≤ colours.old.room + length (all_members colours.old.lists) }
     ensures changed { acting ties.new.items islands.new.labels colours.new.lists ≡ changed C.number change (acting ties.old.items islands.old.labels colours.old.lists) }
     ensures capacity { ties.old.capacity ≤ ties.new.capacity }
+    ensures gathering_ties { gathering.old.ties ≤ gathering.new.ties }
+    ensures gathering_slots { gathering.old.slots ≤ gathering.new.slots }
     ensures islands_room { islands.new.room ≡ islands.old.room }
     ensures slots { colours.new.slots ≡ colours.old.slots }
     ensures room { colours.new.room + length (all_members colours.new.lists) ≡ colours.old.room + length (all_members colours.old.lists) }
 {
     match change {
-        Change::Begin(member) => begin_awake(islands, colours, ties, spare, member),
-        Change::End(member) => end_awake(islands, colours, ties, spare, member),
+        Change::Begin(member) => begin_awake(islands, colours, ties, spare, gathering, member),
+        Change::End(member) => end_awake(islands, colours, ties, spare, gathering, member),
     }
 }
 
@@ -326,23 +348,28 @@ fn change<C: Id>(
 fn turn<C: Id>(
     islands: &mut Islands,
     colours: &mut EditedColours<C>,
-    ties: &mut EditedList<C>,
+    ties: &mut Ties<C>,
     spare: &mut Vec<Member<C>>,
+    gathering: &mut Gathering<C>,
     changes: &[Change<C>],
 )
     requires settled { IsSettled C.number (acting ties.old.items islands.old.labels colours.old.lists) }
     requires can { AreChanges C.number islands.old.labels ties.old.items changes.now }
     requires below { length islands.old.labels ≤ colours.old.slots }
+    requires gathering_ties { length ties.old.items + begin_count changes.now ≤ gathering.old.ties }
+    requires gathering_slots { length islands.old.labels ≤ gathering.old.slots }
     requires ties_room { length ties.old.items + begin_count changes.now ≤ ties.old.capacity }
     requires room { length ties.old.items + begin_count changes.now ≤ colours.old.room + length (all_members colours.old.lists) }
     ensures turned { acting ties.new.items islands.new.labels colours.new.lists ≡ turned C.number changes.now (acting ties.old.items islands.old.labels colours.old.lists) }
     ensures capacity { ties.old.capacity ≤ ties.new.capacity }
+    ensures gathering_ties { gathering.old.ties ≤ gathering.new.ties }
+    ensures gathering_slots { gathering.old.slots ≤ gathering.new.slots }
     ensures islands_room { islands.new.room ≡ islands.old.room }
     ensures slots { colours.new.slots ≡ colours.old.slots }
     ensures room { colours.new.room + length (all_members colours.new.lists) ≡ colours.old.room + length (all_members colours.old.lists) }
 {
     for place in 0..changes.len() {
-        change(islands, colours, ties, spare, changes[place]);
+        change(islands, colours, ties, spare, gathering, changes[place]);
     }
 }
 
@@ -350,24 +377,29 @@ fn turn<C: Id>(
 pub(crate) fn turn_now<C: Id>(
     islands: &mut Islands,
     colours: &mut EditedColours<C>,
-    ties: &mut EditedList<C>,
+    ties: &mut Ties<C>,
     spare: &mut Vec<Member<C>>,
+    gathering: &mut Gathering<C>,
     changes: &[Change<C>],
 )
     requires settled { IsSettled C.number (acting ties.old.items islands.old.labels colours.old.lists) }
     requires can { AreChanges C.number islands.old.labels ties.old.items changes.now }
     requires below { length islands.old.labels ≤ colours.old.slots }
+    requires gathering_ties { length ties.old.items + begin_count changes.now ≤ gathering.old.ties }
+    requires gathering_slots { length islands.old.labels ≤ gathering.old.slots }
     requires ties_room { length ties.old.items + begin_count changes.now ≤ ties.old.capacity }
     requires room { length ties.old.items + begin_count changes.now ≤ colours.old.room + length (all_members colours.old.lists) }
     ensures turned { acting ties.new.items islands.new.labels colours.new.lists ≡ turned C.number changes.now (acting ties.old.items islands.old.labels colours.old.lists) }
     ensures capacity { ties.old.capacity ≤ ties.new.capacity }
+    ensures gathering_ties { gathering.old.ties ≤ gathering.new.ties }
+    ensures gathering_slots { gathering.old.slots ≤ gathering.new.slots }
     ensures islands_room { islands.new.room ≡ islands.old.room }
     ensures slots { colours.new.slots ≡ colours.old.slots }
     ensures room { colours.new.room + length (all_members colours.new.lists) ≡ colours.old.room + length (all_members colours.old.lists) }
     ensures ties_settled { ties.new.pending ≡ 0 }
     ensures colours_settled { colours.new.pending ≡ 0 }
 {
-    turn(islands, colours, ties, spare, changes);
+    turn(islands, colours, ties, spare, gathering, changes);
     ties.settle(spare);
     colours.settle();
 }

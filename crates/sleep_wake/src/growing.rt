@@ -4,19 +4,22 @@ ghost use Rattle.std.specs.Prelude.{◌≡◌, ◌≤◌, ◌+◌, length, vec_c
 ghost use Rattle.std.specs.Result.{IsOkUnless};
 ghost use Rattle.graph_colours.specs.Colours.{all_members};
 
+use crate::gathering::Gathering;
+use crate::ties::Ties;
 use fixed_geom::Refusal;
-use graph_colours::{EditedColours, EditedList, Id, Member};
+use graph_colours::{EditedColours, Id, Member};
 use islands::{Islands, SplitScratch};
 
 /// Makes room for that many more constraints, and for movers in slots below `slots`, and answers for how many constraints
 /// in all there is room then. Refused 1 where memory is wanting. Changes no constraint, no island and no colour.
 pub(crate) fn grow<C: Id>(
-    ties: &mut EditedList<C>,
+    ties: &mut Ties<C>,
     spare: &mut Vec<Member<C>>,
     colours: &mut EditedColours<C>,
     islands: &mut Islands,
     edges: &mut Vec<(u32, u32)>,
     scratch: &mut SplitScratch,
+    gathering: &mut Gathering<C>,
     leasts: &mut Vec<Option<u64>>,
     constraints: usize,
     slots: usize,
@@ -43,6 +46,10 @@ pub(crate) fn grow<C: Id>(
     ensures scratch_made { OnOk result (slots ≤ scratch.new.slots) }
     ensures links_kept { scratch.old.links ≤ scratch.new.links }
     ensures links_made { IfOk result (λ room. room ≤ scratch.new.links) }
+    ensures gathering_ties_kept { gathering.old.ties ≤ gathering.new.ties }
+    ensures gathering_ties_made { IfOk result (λ room. room ≤ gathering.new.ties) }
+    ensures gathering_slots_kept { gathering.old.slots ≤ gathering.new.slots }
+    ensures gathering_slots_made { OnOk result (slots ≤ gathering.new.slots) }
     ensures leasts_kept { vec_capacity leasts.old ≤ vec_capacity leasts.new }
     ensures leasts_made { OnOk result (slots ≤ vec_capacity leasts.new) }
     ensures memory_only { IsOkUnless result Refusal.NoMemory }
@@ -58,7 +65,7 @@ pub(crate) fn grow<C: Id>(
     edges.clear();
     edges.reserve(room)?;
     scratch.reserve(slots, room)?;
-    leasts.clear();
-    leasts.reserve(slots)?;
+    gathering.reserve(room, slots)?;
+    leasts.reserve(slots.max(leasts.len()) - leasts.len())?;
     Ok(room)
 }

@@ -10,15 +10,20 @@
 //! it and what follows from it.
 #![tactic(auto)]
 
+mod by_mover;
 mod change;
 mod changing;
 pub mod examples;
+mod gathering;
 mod growing;
 pub mod laws;
+mod listing;
 mod names;
 mod phase;
+mod resting;
 mod sets;
 mod splits;
+mod ties;
 mod waking;
 
 pub use change::Change;

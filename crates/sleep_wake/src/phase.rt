@@ -1,9 +1,11 @@
 //! The islands that are ready to sleep, by the timers of their movers.
 
-ghost use Rattle.std.specs.Prelude.{◌≡◌, ◌≤◌, ◌<◌, ◌&&◌, true, false, cond, length, slice_set, replicate, vec_capacity, None, Some};
+ghost use Rattle.std.specs.Prelude.{◌≡◌, ℕ, ◌≤◌, ◌<◌, ◌&&◌, true, false, cond, length, slice_set, vec_capacity, None, Some, Contains};
 ghost use Rattle.islands.specs.Labels.{label_at};
+ghost use Rattle.islands.specs.Partition.{IsPartition};
 ghost use Rattle.sleep_wake.specs.SleepPhase.{lesser, is_due, is_island, is_less, longer_at_rest, picked_to_split};
-ghost use Rattle.sleep_wake.specs.Resting.{AreLeast, least_at, lowered, is_due_island, weighed_by, longest_due, rests_by, second_rests, movers_rest, due_names, all_rested};
+ghost use Rattle.sleep_wake.specs.AwakeSlots.{AreAwakeSlots};
+ghost use Rattle.sleep_wake.specs.Resting.{AreLeast, least_at, lowered, forgotten, noted, is_due_island, weighed_by, longest_due, rests_by, second_rests, movers_rest, due_names, all_rested};
 
 use graph_colours::Movers;
 use islands::Islands;
@@ -32,30 +34,61 @@ fn lower(leasts: &mut Vec<Option<u64>>, name: u32, timer: u64)
     leasts[name as usize] = Some(least);
 }
 
-/// No island is known yet, in so many slots, for which there is room.
-fn clear_to(leasts: &mut Vec<Option<u64>>, slots: usize)
+/// Makes the list as long as there are slots, where it is shorter. There is room.
+fn widen_to(leasts: &mut Vec<Option<u64>>, slots: usize)
     requires { slots ≤ vec_capacity leasts.old }
-    ensures items { leasts.new.items ≡ replicate slots None }
+    ensures long { slots ≤ length leasts.new.items }
     ensures capacity { vec_capacity leasts.old ≤ vec_capacity leasts.new }
 {
-    leasts.clear();
-    let _ = leasts.resize(slots, None);
+    if leasts.len() < slots {
+        let _ = leasts.resize(slots, None);
+    }
 }
 
-/// Lists by name the least timer of each island, in ticks; `None` where no island has the name. There is room. All islands are gone through together,
-/// so that it takes time by the slots alone, however many islands there are.
-pub(crate) fn list_leasts(leasts: &mut Vec<Option<u64>>, islands: &Islands, timers: &[u64])
+/// What stood in these slots is forgotten.
+fn forget(leasts: &mut Vec<Option<u64>>, slots: &[u32])
+    requires { (slot : ℕ) → Contains slots.now slot → slot < length leasts.old.items }
+    ensures items { leasts.new.items ≡ forgotten slots.now leasts.old.items }
+    ensures capacity { vec_capacity leasts.old ≤ vec_capacity leasts.new }
+{
+    for place in 0..slots.len() {
+        leasts[slots[place] as usize] = None;
+    }
+}
+
+/// The timer of the mover in the slot, if both are there, is one of its island's.
+fn note(leasts: &mut Vec<Option<u64>>, islands: &Islands, timers: &[u64], slot: u32)
+    requires { length islands.now.labels ≤ length leasts.old.items }
+    ensures items { leasts.new.items ≡ noted (label_at islands.now.labels slot) timers.now slot leasts.old.items }
+    ensures capacity { vec_capacity leasts.old ≤ vec_capacity leasts.new }
+{
+    if let Some(label) = islands.label_of(slot)
+        && (slot as usize) < timers.len()
+    {
+        lower(leasts, label.name, timers[slot as usize]);
+    }
+}
+
+/// Lists by name the least timer of each awake island, in ticks; what the list has for others means nothing. There is room. Only the awake movers are
+/// gone through, whose slots are told.
+pub(crate) fn list_leasts(
+    leasts: &mut Vec<Option<u64>>,
+    islands: &Islands,
+    timers: &[u64],
+    awake: &[u32],
+)
+    requires partition { IsPartition islands.now.labels }
     requires room { length islands.now.labels ≤ vec_capacity leasts.old }
+    requires awake { AreAwakeSlots islands.now.labels awake.now }
     ensures least { AreLeast islands.now.labels timers.now leasts.new.items }
     ensures capacity { vec_capacity leasts.old ≤ vec_capacity leasts.new }
 {
-    clear_to(leasts, islands.slots());
-    let mut slot = islands.slots().min(timers.len());
-    while slot > 0 {
-        slot -= 1;
-        if let Some(label) = islands.label_of(slot as u32) {
-            lower(leasts, label.name, timers[slot]);
-        }
+    widen_to(leasts, islands.slots());
+    forget(leasts, awake);
+    let mut place = awake.len();
+    while place > 0 {
+        place -= 1;
+        note(leasts, islands, timers, awake[place]);
     }
 }
 
@@ -152,28 +185,33 @@ fn weighed(islands: &Islands, leasts: &[Option<u64>], best: Option<u32>, slot: u
 
 /// The loose island that a sleep phase splits: of those that are ready the one with the greatest least
 /// timer, and of these the lowest. `None` where none is ready.
-fn longest_due(islands: &Islands, leasts: &[Option<u64>]) -> Option<u32>
+fn longest_due(islands: &Islands, leasts: &[Option<u64>], awake: &[u32]) -> Option<u32>
+    requires { AreAwakeSlots islands.now.labels awake.now }
     ensures { result ≡ longest_due (least_at leasts.now) islands.now.labels }
 {
     let mut best = None;
-    for slot in 0..islands.slots() {
-        best = weighed(islands, leasts, best, slot as u32);
+    for place in 0..awake.len() {
+        best = weighed(islands, leasts, best, awake[place]);
     }
     best
 }
 
-/// The loose island that a sleep phase splits, by the timers of the movers by slot, in ticks. There is room for the least timers.
+/// The loose island that a sleep phase splits, by the timers of the movers by slot, in ticks, and by the slots of those that are awake. There is room
+/// for the least timers.
 pub(crate) fn pick_split(
     leasts: &mut Vec<Option<u64>>,
     islands: &Islands,
     timers: &[u64],
+    awake: &[u32],
 ) -> Option<u32>
+    requires partition { IsPartition islands.now.labels }
     requires room { length islands.now.labels ≤ vec_capacity leasts.old }
+    requires awake { AreAwakeSlots islands.now.labels awake.now }
     ensures picked { result ≡ picked_to_split islands.now.labels timers.now }
     ensures capacity { vec_capacity leasts.old ≤ vec_capacity leasts.new }
 {
-    list_leasts(leasts, islands, timers);
-    longest_due(islands, leasts)
+    list_leasts(leasts, islands, timers, awake);
+    longest_due(islands, leasts, awake)
 }
 
 // ---- the islands that fall asleep
@@ -209,13 +247,15 @@ pub(crate) fn are_resting(islands: &Islands, leasts: &[Option<u64>], movers: Mov
 }
 
 /// Puts each whole island that is ready to rest.
-pub(crate) fn rest_each(islands: &mut Islands, leasts: &[Option<u64>])
+pub(crate) fn rest_each(islands: &mut Islands, leasts: &[Option<u64>], awake: &[u32])
+    requires awake { AreAwakeSlots islands.old.labels awake.now }
     ensures labels { islands.new.labels ≡ all_rested (due_names false (least_at leasts.now) islands.old.labels) islands.old.labels }
     ensures room { islands.new.room ≡ islands.old.room }
 {
-    for slot in 0..islands.slots() {
-        if is_ready(islands, leasts, slot as u32) {
-            islands.rest(slot as u32);
+    for place in 0..awake.len() {
+        let slot = awake[place];
+        if is_ready(islands, leasts, slot) {
+            islands.rest(slot);
         }
     }
 }

@@ -2,7 +2,7 @@
 
 mod from_parts;
 
-ghost use Rattle.std.specs.Prelude.{◌≡◌, ◌<◌, ◌≤◌, ◌+◌, ◌∷◌, ℕ, true, false, length, filter, replicate, [], IfOk, OnOk, OnErr, Some, None, Contains, option_map};
+ghost use Rattle.std.specs.Prelude.{◌≡◌, ◌<◌, ◌≤◌, ◌+◌, ◌∷◌, ℕ, List, true, false, length, filter, replicate, [], IfOk, OnOk, OnErr, Some, None, Contains, option_map};
 ghost use Rattle.std.specs.Result.{IsOkUnless};
 ghost use Rattle.graph_colours.specs.declared.limits.TheConstants.{COLOURS};
 ghost use Rattle.graph_colours.specs.declared.member.Member.{Member as TheMember};
@@ -14,30 +14,35 @@ ghost use Rattle.sleep_wake.specs.Waking.{woken_at, movers_woken, put_to_rest};
 ghost use Rattle.sleep_wake.specs.Changes.{begun, ended, each_begun, each_ended, CanBegin, CanEnd, changed, turned, begin_count, IsChange, AreChanges};
 ghost use Rattle.sleep_wake.specs.Bodies.{mover_made, mover_gone};
 ghost use Rattle.sleep_wake.specs.Widened.{widened};
-ghost use Rattle.sleep_wake.specs.SleepPhase.{is_island, split_at, picked_to_split, sleep_phase, ready_put_to_rest};
+ghost use Rattle.sleep_wake.specs.SleepPhase.{is_island, split_at, picked_to_split, split_picked, sleep_phase, ready_put_to_rest};
+ghost use Rattle.sleep_wake.specs.AwakeSlots.{AreAwakeSlots, AgreeAwake};
 ghost use Rattle.sleep_wake.specs.Sleeping.{names_of, is_whole, islands_woken, split_if_loose, rested_at, slept_at};
 
 use crate::change::Change;
 use crate::changing::{begin_each_now, begin_now, end_each_now, end_now, turn_now};
+use crate::gathering::Gathering;
 use crate::growing::grow;
+use crate::listing::list_awake;
 use crate::names::list_names;
 use crate::phase::pick_split;
+use crate::resting::rest_ready;
 use crate::splits::split_set;
-use crate::waking::{are_awake, fall_asleep, is_awake, rest_ready, wake_movers, wake_set};
+use crate::ties::Ties;
+use crate::waking::{are_awake, fall_asleep, is_awake, wake_movers, wake_set};
 use fixed_geom::Refusal;
-use graph_colours::{Colours, EditedColours, EditedList, Id, Member, Movers, member};
+use graph_colours::{Colours, EditedColours, Id, Member, Movers, member};
 use islands::{Islands, Label, SplitScratch};
 use std::alloc::Global;
 use std::marker::Model;
 
 /// All constraints between movers, awake or asleep, with the islands of the movers and the colours of the constraints
 /// that act. Contracts see these three (`acting`), how many constraints may stand with no memory, those that do counted
-/// (`room`), and the bound below which a mover's slot must be (`slots`). Only `new`, `try_copy`, `reserve` and `names_of`
-/// take memory.
+/// (`room`), and the bound below which a mover's slot must be (`slots`). Only `new`, `try_copy`, `reserve`, `names_of`,
+/// `ties_of` and `awake_slots` can be refused memory.
 #[derive(Drop)]
 pub struct Sets<C: Id> {
     // Ascending by number.
-    ties: EditedList<C>,
+    ties: Ties<C>,
     colours: EditedColours<C>,
     islands: Islands,
     // Where ties lie while their list is edited.
@@ -45,6 +50,8 @@ pub struct Sets<C: Id> {
     // What a split works on.
     edges: Vec<(u32, u32)>,
     scratch: SplitScratch,
+    // Where the constraints of an island are gathered.
+    gathering: Gathering<C>,
     // By name the least timer of each island, in a sleep phase.
     leasts: Vec<Option<u64>>,
     room: usize,
@@ -60,7 +67,7 @@ impl<C: Id> Model for Sets<C> {
 
     ghost view = { λ a. record { acting = acting a.ties.items a.islands.labels a.colours.lists; room = a.room; slots = a.slots } };
 
-    ghost invariant = { λ a. IsStanding C.number (acting a.ties.items a.islands.labels a.colours.lists) a.room a.slots (record { ties = a.ties.capacity; colours = a.colours.room; colour_slots = a.colours.slots; islands = a.islands.room; edges = vec_capacity a.edges; scratch_slots = a.scratch.slots; links = a.scratch.links; leasts = vec_capacity a.leasts; ties_pending = a.ties.pending; colours_pending = a.colours.pending }) };
+    ghost invariant = { λ a. IsStanding C.number (acting a.ties.items a.islands.labels a.colours.lists) a.room a.slots (record { ties = a.ties.capacity; colours = a.colours.room; colour_slots = a.colours.slots; islands = a.islands.room; edges = vec_capacity a.edges; scratch_slots = a.scratch.slots; links = a.scratch.links; gathering_ties = a.gathering.ties; gathering_slots = a.gathering.slots; leasts = vec_capacity a.leasts; ties_pending = a.ties.pending; colours_pending = a.colours.pending }) };
 }
 
 impl<C: Id> Sets<C> {
@@ -72,12 +79,13 @@ impl<C: Id> Sets<C> {
         ensures memory_only { IsOkUnless result Refusal.NoMemory }
     {
         Ok(Sets {
-            ties: EditedList::new(alloc),
+            ties: Ties::new(alloc),
             colours: EditedColours::new(alloc, Colours::new(alloc)?),
             islands: Islands::new(alloc),
             spare: Vec::new(alloc),
             edges: Vec::new(alloc),
             scratch: SplitScratch::new(alloc),
+            gathering: Gathering::new(alloc),
             leasts: Vec::new(alloc),
             room: 0,
             slots: 0,
@@ -92,12 +100,13 @@ impl<C: Id> Sets<C> {
         ensures memory_only { IsOkUnless result Refusal.NoMemory }
     {
         let alloc = *self.spare.allocator();
-        let mut ties = EditedList::from_members(alloc, self.ties.as_slice())?;
+        let mut ties = Ties::from_members(alloc, self.ties.as_slice())?;
         let mut colours = EditedColours::new(alloc, self.colours.colours().try_copy()?);
         let mut spare = Vec::new(alloc);
         let mut islands = self.islands.try_copy()?;
         let mut edges = Vec::new(alloc);
         let mut scratch = SplitScratch::new(alloc);
+        let mut gathering = Gathering::new(alloc);
         let mut leasts = Vec::new(alloc);
         let room = grow(
             &mut ties,
@@ -106,6 +115,7 @@ impl<C: Id> Sets<C> {
             &mut islands,
             &mut edges,
             &mut scratch,
+            &mut gathering,
             &mut leasts,
             0,
             self.slots,
@@ -117,6 +127,7 @@ impl<C: Id> Sets<C> {
             spare,
             edges,
             scratch,
+            gathering,
             leasts,
             room,
             slots: self.slots,
@@ -140,12 +151,14 @@ impl<C: Id> Sets<C> {
             &mut self.islands,
             &mut self.edges,
             &mut self.scratch,
+            &mut self.gathering,
             &mut self.leasts,
             constraints,
             slots,
         )?;
         self.room = self.room.max(room);
         self.slots = self.slots.max(slots);
+        self.ties.index(self.slots);
         Ok(())
     }
 
@@ -158,6 +171,14 @@ impl<C: Id> Sets<C> {
         ensures enough { length self.now.acting.ties ≤ self.now.room }
     {
         self.ties.as_slice()
+    }
+
+    /// The constraints of the mover in the slot, ascending. Refused 1 where memory is wanting.
+    pub fn ties_of(&self, slot: u32) -> Result<Vec<Member<C>>, Refusal>
+        ensures ties { IfOk result (λ ties. ties.items ≡ filter (λ m. has_mover m.movers slot) self.now.acting.ties) }
+        ensures memory_only { IsOkUnless result Refusal.NoMemory }
+    {
+        self.ties.ties_of(*self.spare.allocator(), slot)
     }
 
     /// What holds of all sets: a law, for loops over their calls.
@@ -226,6 +247,14 @@ impl<C: Id> Sets<C> {
         list_names(*self.spare.allocator(), &self.islands, slots)
     }
 
+    /// The slots of the awake movers, ascending, as a sleep phase is told them. All slots are gone through. Refused 1 where memory is wanting.
+    pub fn awake_slots(&self) -> Result<Vec<u32>, Refusal>
+        ensures awake { IfOk result (λ slots. AreAwakeSlots self.now.acting.labels slots.items) }
+        ensures memory_only { IsOkUnless result Refusal.NoMemory }
+    {
+        list_awake(*self.spare.allocator(), &self.islands)
+    }
+
     // ---- movers come and go
 
     /// Makes a mover an island of its own, awake and not loose.
@@ -272,7 +301,8 @@ impl<C: Id> Sets<C> {
         wake_set(
             &mut self.islands,
             &mut self.colours,
-            self.ties.as_slice(),
+            &self.ties,
+            &mut self.gathering,
             slot,
         );
     }
@@ -286,7 +316,8 @@ impl<C: Id> Sets<C> {
         wake_movers(
             &mut self.islands,
             &mut self.colours,
-            self.ties.as_slice(),
+            &self.ties,
+            &mut self.gathering,
             movers,
         );
     }
@@ -407,6 +438,7 @@ impl<C: Id> Sets<C> {
             &mut self.colours,
             &mut self.ties,
             &mut self.spare,
+            &mut self.gathering,
             changes,
         );
     }
@@ -423,7 +455,8 @@ impl<C: Id> Sets<C> {
         fall_asleep(
             &mut self.islands,
             &mut self.colours,
-            self.ties.as_slice(),
+            &self.ties,
+            &mut self.gathering,
             name,
         );
     }
@@ -438,7 +471,8 @@ impl<C: Id> Sets<C> {
     {
         split_set(
             &mut self.islands,
-            self.ties.as_slice(),
+            &self.ties,
+            &mut self.gathering,
             name,
             &mut self.edges,
             &mut self.scratch,
@@ -489,28 +523,43 @@ impl<C: Id> Sets<C> {
     /// The sleep phase of a step, with the timers of the movers by slot, in ticks: of the loose islands that are ready one is
     /// split, the one that has been slow for longest, and then each whole one that is ready falls asleep. An island is
     /// ready where the timers of all its movers are at least `TICKS_TO_SLEEP`; one with a mover that may not sleep is kept
-    /// awake by a timer of 0 there.
-    pub fn sleep_phase(&mut self, timers: &[u64])
-        ensures acting { self.new.acting ≡ sleep_phase C.number timers.now self.old.acting }
+    /// awake by a timer of 0 there. The awake movers' slots are told, and of the timers only theirs matter, so that it takes time by the awake movers and
+    /// by the constraints that act.
+    pub fn sleep_phase(&mut self, timers: &[u64], awake: &[u32])
+        requires awake { AreAwakeSlots self.old.acting.labels awake.now }
+        ensures acting { (all : List ℕ) → AgreeAwake self.old.acting.labels timers.now all → self.new.acting ≡ sleep_phase C.number all self.old.acting }
         ensures room { self.new.room ≡ self.old.room }
         ensures slots { self.new.slots ≡ self.old.slots }
     {
-        if let Some(name) = self.pick_split(timers) {
+        self.settled();
+        self.split_ready(timers, awake);
+        self.rest_ready(timers, awake);
+    }
+
+    /// Splits the loose island that is ready, if there is one.
+    fn split_ready(&mut self, timers: &[u64], awake: &[u32])
+        requires awake { AreAwakeSlots self.old.acting.labels awake.now }
+        ensures acting { self.new.acting ≡ split_picked (picked_to_split self.old.acting.labels timers.now) self.old.acting }
+        ensures room { self.new.room ≡ self.old.room }
+        ensures slots { self.new.slots ≡ self.old.slots }
+    {
+        if let Some(name) = self.pick_split(timers, awake) {
             self.split(name);
         }
-        self.rest_ready(timers);
     }
 
     /// The loose island that a sleep phase splits: of those that are ready the one that has been slow for longest.
-    fn pick_split(&mut self, timers: &[u64]) -> Option<u32>
+    fn pick_split(&mut self, timers: &[u64], awake: &[u32]) -> Option<u32>
+        requires awake { AreAwakeSlots self.old.acting.labels awake.now }
         ensures picked { result ≡ picked_to_split self.old.acting.labels timers.now }
         ensures same { self.new ≡ self.old }
     {
-        pick_split(&mut self.leasts, &self.islands, timers)
+        pick_split(&mut self.leasts, &self.islands, timers, awake)
     }
 
     /// Each whole island that is ready falls asleep.
-    fn rest_ready(&mut self, timers: &[u64])
+    fn rest_ready(&mut self, timers: &[u64], awake: &[u32])
+        requires awake { AreAwakeSlots self.old.acting.labels awake.now }
         ensures acting { self.new.acting ≡ ready_put_to_rest C.number timers.now self.old.acting }
         ensures room { self.new.room ≡ self.old.room }
         ensures slots { self.new.slots ≡ self.old.slots }
@@ -520,7 +569,9 @@ impl<C: Id> Sets<C> {
             &mut self.colours,
             self.ties.as_slice(),
             timers,
+            awake,
             &mut self.leasts,
+            &mut self.spare,
         );
     }
 }

@@ -62,11 +62,11 @@ ties_picked slot bodies s contacts = picked_in slot bodies s.joints (bonds_of s 
 
 -- ---- the movers beside a body that is enabled and no mover
 
-if_both : (t u : Bool) → cond t u false ≡ true → t ≡ true
+pub if_both : (t u : Bool) → cond t u false ≡ true → t ≡ true
 if_both true u e = refl
 if_both false u e = cc
 
-movers_enabled : (o : Option Body) → is_mover_in o ≡ true → is_enabled_in o ≡ true
+pub movers_enabled : (o : Option Body) → is_mover_in o ≡ true → is_enabled_in o ≡ true
 movers_enabled None e = cc
 movers_enabled (Some b) e = if_both b.enabled (is_dynamic b.kind) e
 

@@ -11,6 +11,7 @@ pub mod ListingLaws
 pub mod GivenLaws
 pub mod MergeLaws
 pub mod TimerLaws
+pub mod MovingLaws
 pub mod SleptLaws
 pub mod CensusLaws
 pub mod ListedOnce

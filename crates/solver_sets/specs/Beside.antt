@@ -1,15 +1,20 @@
 -- Who stands beside a body: joined to it by a joint, or touching it.
-use Rattle.std.specs.Prelude.{ℕ, suc, ◌==◌, ◌||◌, Bool, true, false, cond, List, [], ◌∷◌, ◌++◌, map, slice_set, Option, Some, None}
+use Rattle.std.specs.Prelude.{◌≡◌, ℕ, suc, ◌==◌, ◌||◌, Bool, true, false, cond, is_none, List, [], ◌∷◌, ◌++◌, map, slice_set, Option, Some, None}
 use Rattle.std.specs.List.{filter_map, list_any}
 use Rattle.contacts_base.specs.declared.contact.ContactEntry.{ContactEntry}
 use Rattle.contacts_base.specs.Evaluate.{touches}
 use Rattle.contacts.specs.declared.constraint.Constraint.{Constraint}
+use Rattle.contacts.specs.declared.constraint.Constraint.TheVariants.{Joint, Contact}
 use Rattle.graph_colours.specs.declared.member.Member.{Member}
+use Rattle.graph_colours.specs.Colours.{all_members}
+use Rattle.islands.specs.Labels.{Labels}
 use Rattle.plain_world.specs.declared.body.Body.{Body}
 use Rattle.plain_world.specs.declared.joint.BodyJoint.{BodyJoint}
 use Rattle.plain_world.specs.Bodies.{is_mover}
+use Rattle.plain_world.specs.Joints.{joint_at}
 use Rattle.plain_world.specs.Kinds.{carried_by, is_moving}
 use Rattle.plain_world.specs.Slots.{body_at}
+use Rattle.sleep_wake.specs.Acting.{is_awake}
 use Rattle.solver_sets.specs.Ties.{moves, ties_among}
 
 -- ---- which movers are beside a body
@@ -98,7 +103,7 @@ timers_from beside slot (o ∷ bodies) = timer_if (beside slot) o ∷ timers_fro
 unfoldable pub timers_of : List (Option Body) → List (Option BodyJoint) → List ContactEntry → List ℕ
 timers_of bodies joints contacts = timers_from (is_beside_moving bodies joints contacts) 0 bodies
 
--- ---- timers that are put to 0, one after the other
+-- ---- timers that are put to 0
 
 abbrev pub stilled : Bool → ℕ → List ℕ → List ℕ
 stilled moving slot timers = cond moving (slice_set timers slot 0) timers
@@ -111,18 +116,38 @@ abbrev pub stilled_by : List (Option Body) → Option BodyJoint → List ℕ →
 stilled_by bodies None timers = timers
 stilled_by bodies (Some j) timers = stilled_pair bodies j.a j.b timers
 
-abbrev pub stilled_with : List (Option Body) → ContactEntry → List ℕ → List ℕ
-stilled_with bodies e timers = cond (touches e.contact) (stilled_pair bodies e.key.first.slot e.key.second.slot timers) timers
+-- ---- the same by the constraints that act
 
-abbrev pub stilled_joined : List (Option Body) → List (Option BodyJoint) → List ℕ → List ℕ
-stilled_joined bodies [] timers = timers
-stilled_joined bodies (o ∷ joints) timers = stilled_joined bodies joints (stilled_by bodies o timers)
+-- the mover of a constraint that has but one, if the other of its two bodies moves
+abbrev pub stilled_alone : List (Option Body) → List (Option BodyJoint) → Constraint → List ℕ → List ℕ
+stilled_alone bodies joints (Joint h) timers = stilled_by bodies (joint_at joints h.slot) timers
+stilled_alone bodies joints (Contact key) timers = stilled_pair bodies key.first.slot key.second.slot timers
 
-abbrev pub stilled_touched : List (Option Body) → List ContactEntry → List ℕ → List ℕ
-stilled_touched bodies [] timers = timers
-stilled_touched bodies (e ∷ es) timers = stilled_touched bodies es (stilled_with bodies e timers)
+abbrev pub stilled_tie : List (Option Body) → List (Option BodyJoint) → Member Constraint → List ℕ → List ℕ
+stilled_tie bodies joints m timers = cond (is_none m.movers.second) (stilled_alone bodies joints m.id timers) timers
 
--- the timers of the bodies alone
-abbrev pub own_timers : List (Option Body) → List ℕ
-own_timers [] = []
-own_timers (o ∷ bodies) = timer_if false o ∷ own_timers bodies
+abbrev pub stilled_ties : List (Option Body) → List (Option BodyJoint) → List (Member Constraint) → List ℕ → List ℕ
+stilled_ties bodies joints [] timers = timers
+stilled_ties bodies joints (m ∷ ms) timers = stilled_ties bodies joints ms (stilled_tie bodies joints m timers)
+
+-- of one colour after the other
+abbrev pub stilled_lists : List (Option Body) → List (Option BodyJoint) → List (List (Member Constraint)) → List ℕ → List ℕ
+stilled_lists bodies joints [] timers = timers
+stilled_lists bodies joints (ms ∷ lists) timers = stilled_lists bodies joints lists (stilled_ties bodies joints ms timers)
+
+-- the timers of the bodies in these slots alone are written down
+abbrev pub own_set : List (Option Body) → List ℕ → List ℕ → List ℕ
+own_set bodies [] timers = timers
+own_set bodies (slot ∷ slots) timers = own_set bodies slots (slice_set timers slot (timer_if false (body_at bodies slot)))
+
+-- the constraint is between the body in the slot and one that moves
+abbrev pub is_to_moving : List (Option Body) → List (Option BodyJoint) → ℕ → Constraint → Bool
+is_to_moving bodies joints slot (Joint h) = is_joined_to_moving bodies slot (joint_at joints h.slot)
+is_to_moving bodies joints slot (Contact key) = is_stirred_between bodies slot key.first.slot key.second.slot
+
+abbrev pub ties_to_moving : List (Option Body) → List (Option BodyJoint) → ℕ → Member Constraint → Bool
+ties_to_moving bodies joints slot m = cond (is_none m.movers.second) (is_to_moving bodies joints slot m.id) false
+
+-- the constraints with a colour tell of each awake mover whether it is beside a body that moves
+abbrev pub TellMoving : List (Option Body) → List (Option BodyJoint) → List ContactEntry → Labels → List (List (Member Constraint)) → Type 0
+TellMoving bodies joints contacts labels lists = (slot : ℕ) → is_awake labels slot ≡ true → list_any (ties_to_moving bodies joints slot) (all_members lists) ≡ is_beside_moving bodies joints contacts slot

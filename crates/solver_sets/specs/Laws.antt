@@ -17,7 +17,7 @@ use Rattle.contacts.specs.declared.constraint.Constraint.TheVariants.{Joint}
 use Rattle.contacts.specs.Constraints.{constraint_number}
 use Rattle.contacts.specs.Changes.{keys_touching_only_in}
 use Rattle.islands.specs.Labels.{Labels}
-use Rattle.sleep_wake.specs.Acting.{AreMovers}
+use Rattle.sleep_wake.specs.Acting.{Acting, AreMovers, IsSettled}
 use Rattle.sleep_wake.specs.Changes.{AreChanges, begin_count, changes_between, each_inserted, each_without}
 use Rattle.plain_world.specs.declared.body.Body.{Body}
 use Rattle.plain_world.specs.declared.joint.BodyJoint.{BodyJoint}
@@ -26,7 +26,7 @@ use Rattle.plain_world.specs.Sleep.{told}
 use Rattle.plain_world.specs.Slots.{AreMatched, body_at, with_body}
 use Rattle.solver_sets.specs.Census.{IsCensus, Standing, census_in, census_of}
 use Rattle.solver_sets.specs.EachOnce.{ListsEachOnce}
-use Rattle.solver_sets.specs.Beside.{neighbours, joined_to, stirred_among, stirred_by}
+use Rattle.solver_sets.specs.Beside.{TellMoving, neighbours, joined_to, stirred_among, stirred_by}
 use Rattle.solver_sets.specs.Joining.{handle_at, joined_with, unjoined, unjoined_all}
 use Rattle.solver_sets.specs.Slept.{asleep_only_in, newly_asleep, newly_awake}
 use Rattle.solver_sets.specs.Tied.{AreAlike, AreAlikeBeside, AreJointSlots, AreTied, AreTold, HaveSameEnds, IsBetweenEnabled, OnlyMoversSleep}
@@ -82,6 +82,13 @@ ToldAreTold = (bodies : List (Option Body)) (labels : Labels) → AreTied bodies
 -- bodies that were told labels fall asleep and wake as these and the labels now differ
 abbrev pub ToldBodiesTell : Type 0
 ToldBodiesTell = (places : List Place) (bodies : List (Option Body)) (old labels : Labels) → AreTold bodies old → (newly_asleep places bodies labels ≡ asleep_only_in places old labels) × (newly_awake places bodies labels ≡ asleep_only_in places labels old)
+
+-- ---- who is beside a body that moves
+
+-- just the movers that a constraint which acts holds to it
+abbrev pub ActingTellMoving : Type 0
+ActingTellMoving = (bodies : List (Option Body)) (s : JointSlots) (contacts : List ContactEntry) (a : Acting Constraint) → AreTied bodies a.labels → length s.places ≡ length s.joints → IsSettled constraint_number a → a.ties ≡ ties_of bodies s contacts
+    → TellMoving bodies s.joints contacts a.labels a.lists
 
 -- ---- joints
 

@@ -12,6 +12,11 @@ abbrev pub handles_where : (ℕ → Bool) → ℕ → List Place → List Handle
 handles_where test slot [] = []
 handles_where test slot (p ∷ places) = cond (test slot) (record { slot = slot; generation = p.generation } ∷ handles_where test (suc slot) places) (handles_where test (suc slot) places)
 
+-- that of the slot, if it passes and there is a place in it
+abbrev pub handle_if : Bool → ℕ → Option Place → Option Handle
+handle_if passes slot None = None
+handle_if passes slot (Some p) = cond passes (Some (record { slot = slot; generation = p.generation })) None
+
 abbrev pub is_asleep_label : Option Label → Bool
 is_asleep_label None = false
 is_asleep_label (Some l) = is_asleep l.state

@@ -1,6 +1,6 @@
 //! What is known of the ties of any world, and what changes of its bodies, joints and contacts do to them. Each function does nothing; its contract is a law.
 
-ghost use Rattle.solver_sets.specs.Laws.{AlikeBodiesKeepTies, CensusListsEachOnce, ComingKeepsTies, DisablingTakesTies, EnablingAddsTies, FewBegin, GoingTakesTies, ImpulsesKeepTies, JoiningAddsTies, KeysCanTurn, KeysTurn, ListsAreCensus, ListsAreMembers, MoversHaveLabels, NoTiesOfDisabled, SameNamesSameTies, SameTouchingKeepTies, StirredArePicked, TiesAreNamed, TiesArePicked, TiesAtAreTies, TiesHaveLabels, TiesOfAMover, TiesOfNoMover, TellingKeepsTies, TiesRise, ToldAreTold, ToldBodiesTell, UnjoiningTakesTies};
+ghost use Rattle.solver_sets.specs.Laws.{ActingTellMoving, AlikeBodiesKeepTies, CensusListsEachOnce, ComingKeepsTies, DisablingTakesTies, EnablingAddsTies, FewBegin, GoingTakesTies, ImpulsesKeepTies, JoiningAddsTies, KeysCanTurn, KeysTurn, ListsAreCensus, ListsAreMembers, MoversHaveLabels, NoTiesOfDisabled, SameNamesSameTies, SameTouchingKeepTies, StirredArePicked, TiesAreNamed, TiesArePicked, TiesAtAreTies, TiesHaveLabels, TiesOfAMover, TiesOfNoMover, TellingKeepsTies, TiesRise, ToldAreTold, ToldBodiesTell, UnjoiningTakesTies};
 
 // ---- what ties are
 
@@ -149,6 +149,13 @@ pub fn told_are_told()
 /// Between what bodies were told and the labels now, those fall asleep and wake that do between the two labellings.
 pub fn told_bodies_tell()
     ensures { ToldBodiesTell }
+{}
+
+// ---- who is beside a body that moves
+
+/// An awake mover is beside a kinematic body that moves just if a constraint that acts is between them.
+pub fn acting_tell_moving()
+    ensures { ActingTellMoving }
 {}
 
 // ---- the census

@@ -22,4 +22,4 @@ pub use given::{count_members, list_all_ties, list_members};
 pub use sets::{begin_with, end_with};
 pub use slept::{fill_newly_asleep, fill_newly_awake};
 pub use ties::{contact_movers, fill_joint_ties, joint_movers, movers_with, pick_ties, tie_with};
-pub use timers::fill_timers;
+pub use timers::fill_awake_timers;

@@ -1,7 +1,9 @@
 //! Which bodies have fallen asleep or woken since they were told last.
 
-ghost use Rattle.std.specs.Prelude.{◌≡◌, ◌≤◌, ◌<◌, ◌+◌, ◌++◌, ◌∷◌, ◌&&◌, [], cond, not, length, vec_len, vec_capacity};
-ghost use Rattle.solver_sets.specs.Slept.{handles_where, newly_asleep, newly_awake, sleeps, was_asleep};
+ghost use Rattle.std.specs.Prelude.{◌≡◌, ◌≤◌, ◌<◌, ◌+◌, ◌++◌, ◌∷◌, ◌&&◌, ℕ, [], Contains, cond, not, length, slice_get, true, vec_len, vec_capacity};
+ghost use Rattle.std.specs.List.Sorted.{IsStrictlyIncreasing};
+ghost use Rattle.std.specs.Option.{option_to_list};
+ghost use Rattle.solver_sets.specs.Slept.{handle_if, handles_where, newly_asleep, newly_awake, sleeps, was_asleep};
 
 use body_handles::{Handle, Place};
 use islands::Islands;
@@ -53,29 +55,63 @@ fn is_newly_awake(bodies: &[Option<Body>], islands: &Islands, slot: u32) -> bool
     was_asleep(bodies, slot) && !sleeps(islands, slot)
 }
 
-/// Lists who sleeps and wasn't told so yet, ascending. There is room for as many handles as there are slots.
+/// The handle of who is in the slot, if they sleep and weren't told so yet.
+fn newly_asleep_at(
+    places: &[Place],
+    bodies: &[Option<Body>],
+    islands: &Islands,
+    slot: u32,
+) -> Option<Handle>
+    ensures { result ≡ handle_if (sleeps islands.now.labels slot && not (was_asleep bodies.now slot)) slot (slice_get places.now slot) }
+{
+    match places.get(slot as usize) {
+        None => None,
+        Some(place) => {
+            if is_newly_asleep(bodies, islands, slot) {
+                Some(Handle {
+                    slot,
+                    generation: place.generation,
+                })
+            } else {
+                None
+            }
+        }
+    }
+}
+
+/// Adds a handle, if there is one. There is room.
+fn push_some(handles: &mut Vec<Handle>, handle: Option<Handle>)
+    requires { vec_len handles.old < vec_capacity handles.old }
+    ensures items { handles.new.items ≡ handles.old.items ++ option_to_list handle }
+    ensures len { vec_len handles.new ≤ vec_len handles.old + 1 }
+    ensures capacity { vec_capacity handles.old ≤ vec_capacity handles.new }
+{
+    if let Some(handle) = handle {
+        let _ = handles.push(handle);
+    }
+}
+
+/// Lists who sleeps and wasn't told so yet, ascending. Each of them is in one of the slots `awake`, of those who were awake before, so that it
+/// costs by their number. There is room for as many handles as there are such slots.
 #[tactic(auto, unfolding(crate::specs::Slept::newly_asleep))]
 pub fn fill_newly_asleep(
     handles: &mut Vec<Handle>,
     places: &[Place],
     bodies: &[Option<Body>],
     islands: &Islands,
+    awake: &[u32],
 )
-    requires room { length places.now ≤ vec_capacity handles.old }
-    requires few { length places.now ≤ 65536 }
+    requires room { length awake.now ≤ vec_capacity handles.old }
+    requires rising { IsStrictlyIncreasing awake.now }
+    requires all { (slot : ℕ) → (sleeps islands.now.labels slot && not (was_asleep bodies.now slot)) ≡ true → Contains awake.now slot }
     ensures handles { handles.new.items ≡ newly_asleep places.now bodies.now islands.now.labels }
     ensures capacity { vec_capacity handles.old ≤ vec_capacity handles.new }
 {
     handles.clear();
-    for index in 0..places.len() {
-        let handle = Handle {
-            slot: index as u32,
-            generation: places[index].generation,
-        };
-        push_if(
+    for place in 0..awake.len() {
+        push_some(
             handles,
-            is_newly_asleep(bodies, islands, handle.slot),
-            handle,
+            newly_asleep_at(places, bodies, islands, awake[place]),
         );
     }
 }

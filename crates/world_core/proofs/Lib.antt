@@ -7,6 +7,7 @@ pub mod EnableLaws
 pub mod LeavingLaws
 pub mod RisingLaws
 pub mod QuietSteps
+pub mod RestLaws
 pub mod MovingBeside
 pub mod StepLaws
 pub mod RowColourLaws
@@ -22,3 +23,5 @@ pub mod CoverLaws
 pub mod Refusals
 pub mod PickedLaws
 pub mod GoingLaws
+pub mod TellingLaws
+pub mod MoverTies

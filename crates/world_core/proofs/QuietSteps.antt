@@ -199,12 +199,12 @@ awake_if true (Some name) e f = cc
 awake_if false a e f = cc
 
 -- the mover with a label that is awake
-record IsUpAt (bodies : List (Option Body)) (slot : ℕ) : Type 0 where
-  body : Body
-  there : body_at bodies slot ≡ Some body
-  up : is_awake body ≡ true
+pub record IsUpAt (bodies : List (Option Body)) (slot : ℕ) : Type 0 where
+  pub body : Body
+  pub there : body_at bodies slot ≡ Some body
+  pub up : is_awake body ≡ true
 
-up_at : (labels : Labels) (bodies : List (Option Body)) (slot : ℕ) → AreTied bodies labels → AreTold bodies labels → awake_label (label_at labels slot) ≡ true → IsUpAt bodies slot
+pub up_at : (labels : Labels) (bodies : List (Option Body)) (slot : ℕ) → AreTied bodies labels → AreTold bodies labels → awake_label (label_at labels slot) ≡ true → IsUpAt bodies slot
 up_at labels bodies slot tied are up =
     let there = mover_there (body_at bodies slot) (sym (tied slot) ∙ label_there (label_at labels slot) up) in
     record { body = there.0; there = there.1; up = awake_if (is_mover there.0) there.0.asleep there.2 (are slot there.0 there.1 ∙ awake_name (label_at labels slot) up) }
@@ -299,7 +299,7 @@ place_if is true xs n m h = contains_tail n (places_from is (suc n) xs) m h
 place_if is false xs n m h = h
 
 -- whoever passes the test is listed
-place_there : {X : Type 0} (is : X → Bool) (xs : List X) (n slot m : ℕ) (x : X) → m ≡ n + slot → slice_get xs slot ≡ Some x → is x ≡ true → Contains (places_from is n xs) m
+pub place_there : {X : Type 0} (is : X → Bool) (xs : List X) (n slot m : ℕ) (x : X) → m ≡ n + slot → slice_get xs slot ≡ Some x → is x ≡ true → Contains (places_from is n xs) m
 place_there is [] n slot m x e at on = cc
 place_there is (y ∷ ys) n zero m x e at on =
     let same : y ≡ x = cc at in

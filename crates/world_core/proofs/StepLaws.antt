@@ -1,5 +1,5 @@
 -- A step's calls, one after another: what each asks for, and that what they leave together is the world that is due.
-use Rattle.std.proofs.Common.{◌≡◌, ℕ, ◌+◌, ◌<◌, ◌≤◌, ◌^◌, ◌++◌, Bool, true, cond, List, length, map, Option, Result, Ok, Err, ℤ, pos, ◌+ℤ◌, unsigned_abs, refl, sym, ap, ◌∙◌, subst, arith}
+use Rattle.std.proofs.Common.{◌≡◌, ℕ, suc, ◌+◌, ◌<◌, ◌≤◌, ◌^◌, ◌++◌, Bool, true, cond, List, [], ◌∷◌, length, map, Option, Result, Ok, Err, ℤ, pos, ◌+ℤ◌, unsigned_abs, refl, sym, ap, ◌∙◌, subst, arith}
 use Rattle.std.specs.Result.{IsErr, IsErrAnd}
 use Rattle.fixed_geom.specs.declared.refusal.Refusal.{Refusal}
 use Rattle.fixed_geom.specs.declared.refusal.Refusal.TheVariants.{NoMemory, OutOfRange}
@@ -22,14 +22,17 @@ use Rattle.plain_world.specs.declared.joint.BodyJoint.{BodyJoint}
 use Rattle.plain_world.specs.Bodies.{AreBodies, momentum_x, momentum_y}
 use Rattle.plain_world.specs.Joints.{AreJoints}
 use Rattle.plain_world.specs.Sleep.{AreTimersWithin, timed_bodies, told}
-use Rattle.plain_world.specs.Slots.{HaveSameSlots}
+use Rattle.plain_world.specs.Plain.{Plain}
+use Rattle.plain_world.specs.Slots.{AreMatched, HaveSameSlots}
 use Rattle.shapes.specs.Shapes.{is_between}
 use Rattle.sleep_wake.specs.Acting.{Acting, IsSettled}
 use Rattle.sleep_wake.specs.Changes.{AreChanges, begin_count, turned}
 use Rattle.sleep_wake.specs.declared.change.Change.{Change}
+use Rattle.solver_sets.specs.Beside.{TellMoving}
 use Rattle.solver_sets.specs.Slept.{asleep_only_in, newly_asleep, newly_awake}
-use Rattle.solver_sets.specs.Tied.{AreTied}
-use Rattle.solver_sets.specs.Ties.{key_changes}
+use Rattle.solver_sets.specs.Tied.{AreAlike, AreTied, ends_in}
+use Rattle.solver_sets.specs.Ties.{JointSlots, key_changes, slots_of, ties_of}
+use Rattle.solver_sets.proofs.MovingLaws.{tell_moving}
 use Rattle.solver_sets.proofs.SleptLaws.{told_bodies_tell}
 use Rattle.world_core_base.specs.ConstraintRows.{rows_of}
 use Rattle.world_core_base.specs.Gather.{AreContactsOf, states_of}
@@ -45,11 +48,12 @@ use Rattle.world_rules.specs.declared.command.Reply.TheVariants as replies
 use Rattle.world_rules.specs.Gathering.{CanGather}
 use Rattle.world_rules.specs.Sets.{acting_of}
 use Rattle.world_rules.specs.Sound.{AreTold}
-use Rattle.world_rules.specs.World.{World}
+use Rattle.world_rules.specs.World.{World, joints_of}
 use Rattle.world_rules.proofs.AcceptedAll.{solved_in}
 use Rattle.world_rules.proofs.ChangeLemmas.{tied_alike}
 use Rattle.world_rules.proofs.GatherLaws.{can_gather_collided}
 use Rattle.world_rules.proofs.KeptStep.{IsTicked, collide_kept, collided_in, collided_world, turned_in}
+use Rattle.world_rules.proofs.LowerLaws.{alike_bodies_keep_ties, impulses_keep_ties, same_touching_keep_ties}
 use Rattle.world_rules.proofs.PartsLeft.{IsLeft}
 use Rattle.world_rules.proofs.SoundLaws.{IsKept, kept_sound}
 use Rattle.world_rules.proofs.ToldLaws.{length_told}
@@ -204,6 +208,48 @@ tied_solved w n s now before bodies joints found contacts sums is t h =
     let left : List (Option Body) = renewed_bodies (bodies_of (solved_in w n)) in
     subst (λ (a : Acting Constraint). AreTied bodies a.labels) (sym t.acting)
     (subst (λ (bs : List (Option Body)). AreTied bs (turned_in w).labels) (sym h.bodies) (tied_alike (collided_world w).plain.bodies left (turned_in w).labels h.ticked.alike (collide_kept w (kept_of w s is) (rises_in w s is)).kept.tied))
+
+-- what acts is settled
+pub settled_turned : (w : World) (s now : Acting Constraint) (bodies : List (Option Body)) (contacts : List ContactEntry) → IsWhole w s → HasTurned w now bodies contacts → IsSettled constraint_number now
+settled_turned w s now bodies contacts is t =
+    let k = collide_kept w (kept_of w s is) (rises_in w s is) in
+    subst (IsSettled constraint_number) (k.acting ∙ sym t.acting) k.kept.settled
+
+length-ends : (joints : List (Option BodyJoint)) → length (map ends_in joints) ≡ length joints
+length-ends [] = refl
+length-ends (o ∷ os) = ap suc (length-ends os)
+
+-- it is what the joints and contacts make that the ticks leave
+ticked_tell : (w : Plain) (n : ℕ) (left : List (Option Body)) (js : List (Option BodyJoint)) (es : List ContactEntry) (sums : StepSums) → AreTied w.bodies w.islands → AreMatched w.joint_places w.joints → IsSettled constraint_number (acting_of w) → IsTicked w left js es sums
+    → TellMoving (timed_bodies n left) js es (acting_of w).labels (acting_of w).lists
+unfolding acting_of
+ticked_tell w n left js es sums tied matched settled t =
+    let alike : AreAlike w.bodies (timed_bodies n left) = alike_then w.bodies left (timed_bodies n left) t.alike (timed_alike n left) in
+    let now : JointSlots = slots_of w.joint_places js in
+    let long : length w.joint_places ≡ length js = matched.slots ∙ sym (length-ends w.joints) ∙ sym (ap (λ (l : List (Option (ℕ × ℕ))). length l) t.ends) ∙ length-ends js in
+    let ties : ties_of (timed_bodies n left) now es ≡ ties_of w.bodies (joints_of w) w.contacts =
+    alike_bodies_keep_ties w.bodies (timed_bodies n left) now es alike ∙ impulses_keep_ties w.bodies (joints_of w) now es refl t.ends ∙ same_touching_keep_ties w.bodies (joints_of w) w.contacts es t.touching in
+    tell_moving (timed_bodies n left) now es (acting_of w) (tied_alike w.bodies (timed_bodies n left) w.islands alike tied) long settled (sym ties)
+
+solved_tell : (w : World) (n : ℕ) → (k : IsKept w) → (rises : AreKeysRising (collided_in w).now) → IsTicked (collided_world w).plain (renewed_bodies (bodies_of (solved_in w n))) (solved_in w n).joints (solved_in w n).contacts (solved_in w n).sums
+    → TellMoving (timed_bodies n (renewed_bodies (bodies_of (solved_in w n)))) (solved_in w n).joints (solved_in w n).contacts (turned_in w).labels (turned_in w).lists
+solved_tell w n k rises t =
+    let q : Solving = solved_in w n in
+    let is = collide_kept w k rises in
+    subst (λ (a : Acting Constraint). TellMoving (timed_bodies n (renewed_bodies (bodies_of q))) q.joints q.contacts a.labels a.lists) is.acting
+    (ticked_tell (collided_world w).plain n (renewed_bodies (bodies_of q)) q.joints q.contacts q.sums is.kept.tied is.kept.joint_slots is.kept.settled t)
+
+pub tell_solved : (w : World) (n : ℕ) (s now : Acting Constraint) (before bodies : List (Option Body)) (joints : List (Option BodyJoint)) (found contacts : List ContactEntry) (sums : StepSums) → IsWhole w s → HasTurned w now before found → HasSolved w n bodies joints contacts sums
+    → TellMoving (timed_bodies n bodies) joints contacts now.labels now.lists
+tell_solved w n s now before bodies joints found contacts sums is t h =
+    let q : Solving = solved_in w n in
+    let at_bodies : TellMoving (timed_bodies n bodies) q.joints q.contacts (turned_in w).labels (turned_in w).lists =
+    subst (λ (bs : List (Option Body)). TellMoving (timed_bodies n bs) q.joints q.contacts (turned_in w).labels (turned_in w).lists) (sym h.bodies) (solved_tell w n (kept_of w s is) (rises_in w s is) h.ticked) in
+    let at_joints : TellMoving (timed_bodies n bodies) joints q.contacts (turned_in w).labels (turned_in w).lists =
+    subst (λ (js : List (Option BodyJoint)). TellMoving (timed_bodies n bodies) js q.contacts (turned_in w).labels (turned_in w).lists) (sym h.joints) at_bodies in
+    let at_contacts : TellMoving (timed_bodies n bodies) joints contacts (turned_in w).labels (turned_in w).lists =
+    subst (λ (es : List ContactEntry). TellMoving (timed_bodies n bodies) joints es (turned_in w).labels (turned_in w).lists) (sym h.contacts) at_joints in
+    subst (λ (a : Acting Constraint). TellMoving (timed_bodies n bodies) joints contacts a.labels a.lists) (sym t.acting) at_contacts
 
 slept_is : (w : World) (n : ℕ) (labels : Labels) (js : List (Option BodyJoint)) (es : List ContactEntry) (sums : StepSums) → IsKept w → AreKeysRising (collided_in w).now → IsTicked (collided_world w).plain (renewed_bodies (bodies_of (solved_in w n))) js es sums
     → newly_asleep w.plain.places (bodies_ticked n (solved_in w n)) labels ≡ asleep_only_in w.plain.places (turned_in w).labels labels

@@ -4,3 +4,4 @@ pub mod Frames
 pub mod Walks
 pub mod RowColours
 pub mod Named
+pub mod Waking

@@ -1,20 +1,22 @@
 //! Lists that a step fills, for which there is room before it changes anything.
 
-ghost use Rattle.std.specs.Prelude.{◌≤◌, OnOk, vec_capacity};
+ghost use Rattle.std.specs.Prelude.{◌≡◌, ◌<◌, ◌≤◌, ◌+◌, ◌++◌, ◌∷◌, [], OnOk, length, vec_len, vec_capacity};
 ghost use Rattle.std.specs.Result.{IsOkUnless};
+ghost use Rattle.world_core.specs.Waking.{slots_of};
 
 use body_handles::Handle;
 use fixed_geom::Refusal;
 use std::alloc::Global;
 
-/// The movers' timers by slot, marks by slot, and the handles of the bodies that woke and of those that fell asleep. Their memory is kept from
-/// step to step.
+/// The movers' timers by slot, marks by slot, the handles of the bodies that woke and of those that fell asleep, and the slots of either. Their
+/// memory is kept from step to step.
 #[derive(Drop)]
 pub struct Scratch {
     pub timers: Vec<u64>,
     pub marks: Vec<bool>,
     pub woke: Vec<Handle>,
     pub slept: Vec<Handle>,
+    pub slots: Vec<u32>,
 }
 
 /// Empties a list, and makes room in it for so many items. Refused 1 where memory is wanting.
@@ -27,6 +29,39 @@ fn make_room<T: Drop>(list: &mut Vec<T>, count: usize) -> Result<(), Refusal>
     Ok(())
 }
 
+/// Makes room in a list for so many items in all, and leaves those that are in it. Refused 1 where memory is wanting.
+fn keep_room<T: Drop>(list: &mut Vec<T>, count: usize) -> Result<(), Refusal>
+    ensures room { OnOk result (count ≤ vec_capacity list.new) }
+    ensures memory_only { IsOkUnless result Refusal.NoMemory }
+{
+    if list.len() < count {
+        list.reserve(count - list.len())?;
+    }
+    Ok(())
+}
+
+/// Adds a slot behind the others, for which there is room.
+fn push_slot(slots: &mut Vec<u32>, slot: u32)
+    requires { vec_len slots.old < vec_capacity slots.old }
+    ensures items { slots.new.items ≡ slots.old.items ++ slot ∷ [] }
+    ensures len { vec_len slots.new ≤ vec_len slots.old + 1 }
+    ensures capacity { vec_capacity slots.old ≤ vec_capacity slots.new }
+{
+    let _ = slots.push(slot);
+}
+
+/// Lists the slots of the bodies with these handles, for which there is room.
+pub fn fill_slots(slots: &mut Vec<u32>, handles: &[Handle])
+    requires { length handles.now ≤ vec_capacity slots.old }
+    ensures slots { slots.new.items ≡ slots_of handles.now }
+    ensures capacity { vec_capacity slots.old ≤ vec_capacity slots.new }
+{
+    slots.clear();
+    for place in 0..handles.len() {
+        push_slot(slots, handles[place].slot);
+    }
+}
+
 impl Scratch {
     /// Lists with no room.
     pub fn new(alloc: Global) -> Scratch {
@@ -35,20 +70,24 @@ impl Scratch {
             marks: Vec::new(alloc),
             woke: Vec::new(alloc),
             slept: Vec::new(alloc),
+            slots: Vec::new(alloc),
         }
     }
 
-    /// Empties the lists, and makes room in each for so many slots. Refused 1 where memory is wanting.
+    /// Makes room in each list for so many slots, and empties all but that of the timers: of these a step writes down the awake movers', and what else
+    /// is in the list means nothing. Refused 1 where memory is wanting.
     pub fn make_room(&mut self, slots: usize) -> Result<(), Refusal>
         ensures timers { OnOk result (slots ≤ vec_capacity self.new.timers) }
         ensures marks { OnOk result (slots ≤ vec_capacity self.new.marks) }
         ensures woke { OnOk result (slots ≤ vec_capacity self.new.woke) }
         ensures slept { OnOk result (slots ≤ vec_capacity self.new.slept) }
+        ensures slots { OnOk result (slots ≤ vec_capacity self.new.slots) }
         ensures memory_only { IsOkUnless result Refusal.NoMemory }
     {
-        make_room(&mut self.timers, slots)?;
+        keep_room(&mut self.timers, slots)?;
         make_room(&mut self.marks, slots)?;
         make_room(&mut self.woke, slots)?;
-        make_room(&mut self.slept, slots)
+        make_room(&mut self.slept, slots)?;
+        make_room(&mut self.slots, slots)
     }
 }

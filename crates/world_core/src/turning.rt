@@ -12,6 +12,7 @@ ghost use Rattle.world_core.specs.Quiet.{IsUp, movers_in};
 ghost use Rattle.world_core_base.specs.Marked.{AreMarked};
 ghost use Rattle.world_rules.specs.Sound.{AreTold};
 
+use crate::scratch::fill_slots;
 use body_handles::{Handle, MAX_SLOTS, Place};
 use contacts::Constraint;
 use sleep_wake::{Change, Sets};
@@ -40,12 +41,13 @@ fn are_up(sets: &Sets<Constraint>, changes: &[Change<Constraint>]) -> bool
     true
 }
 
-/// Lets constraints begin and end, each in its turn, lists who has woken by that, and tells the bodies, which had been told before.
-/// Where nobody wakes, it takes time by what begins and ends alone. Takes no memory.
+/// Lets constraints begin and end, each in its turn, lists who has woken by that, with their slots, and tells those; all bodies had been told
+/// before. Where nobody wakes, it takes time by what begins and ends alone. It is refused no memory.
 pub fn turn_all(
     sets: &mut Sets<Constraint>,
     bodies: &mut BodyTable,
     woke: &mut Vec<Handle>,
+    slots: &mut Vec<u32>,
     places: &[Place],
     changes: &[Change<Constraint>],
 )
@@ -56,10 +58,13 @@ pub fn turn_all(
     requires few_bodies { length bodies.old.bodies ≤ MAX_SLOTS }
     requires bodies { AreBodies bodies.old.bodies }
     requires told { AreTold bodies.old.bodies sets.old.acting.labels }
+    requires places { length bodies.old.bodies ≤ length places.now }
     requires woke { length places.now ≤ vec_capacity woke.old }
+    requires slots { length places.now ≤ vec_capacity slots.old }
     ensures acting { sets.new.acting ≡ turned constraint_number changes.now sets.old.acting }
     ensures bodies { bodies.new.bodies ≡ told sets.new.acting.labels bodies.old.bodies }
     ensures woke { woke.new.items ≡ newly_awake places.now bodies.old.bodies sets.new.acting.labels }
+    ensures slots { vec_capacity slots.old ≤ vec_capacity slots.new }
     ensures marked { AreMarked bodies.old bodies.new }
 {
     let quiet = are_up(sets, changes);
@@ -69,5 +74,6 @@ pub fn turn_all(
         return;
     }
     fill_newly_awake(woke, places, bodies.bodies(), sets.islands());
-    let _ = bodies.tell(sets.islands());
+    fill_slots(slots, woke);
+    let _ = bodies.tell_some(slots, sets.islands());
 }

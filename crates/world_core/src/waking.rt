@@ -1,21 +1,64 @@
 //! Islands that are woken or put to sleep, with their bodies.
 
-ghost use Rattle.std.specs.Prelude.{◌≡◌, ◌≤◌, ◌^◌, ◌+ℤ◌, length};
+ghost use Rattle.std.specs.Prelude.{◌≡◌, ◌≤◌, ◌^◌, ◌+ℤ◌, length, IfOk, OnOk};
+ghost use Rattle.std.specs.Result.{IsOkUnless};
 ghost use Rattle.contacts.specs.Constraints.{constraint_number};
 ghost use Rattle.momenta.specs.Gains.{IsGain};
 ghost use Rattle.plain_world.specs.Bodies.{AreBodies, momentum_x, momentum_y};
 ghost use Rattle.plain_world.specs.Sleep.{told};
+ghost use Rattle.sleep_wake.specs.Acting.{IsSettled};
 ghost use Rattle.sleep_wake.specs.Sleeping.{islands_woken, slept_at};
+ghost use Rattle.world_core.specs.Waking.{HasIsland, HasIslands, IsExtended};
 ghost use Rattle.world_core_base.specs.Marked.{AreMarked};
 
 use body_handles::MAX_SLOTS;
 use contacts::Constraint;
+use fixed_geom::Refusal;
 use momenta::Gain;
 use sleep_wake::Sets;
+use std::alloc::Global;
 use world_core_base::BodyTable;
 
-/// Wakes the islands of these names, and tells the bodies, which had been told before. Where there are no names, it takes no time.
-pub fn wake_named(sets: &mut Sets<Constraint>, bodies: &mut BodyTable, names: &[u32])
+/// Adds the movers of the island of the mover in a slot, if one is there. Refused 1 where memory is wanting.
+fn add_island(movers: &mut Vec<u32>, sets: &Sets<Constraint>, slot: u32) -> Result<(), Refusal>
+    ensures island { OnOk result (HasIsland sets.now.acting.labels movers.new.items slot) }
+    ensures extended { OnOk result (IsExtended movers.old.items movers.new.items) }
+    ensures memory_only { IsOkUnless result Refusal.NoMemory }
+{
+    let Some(name) = sets.name_of(slot) else {
+        return Ok(());
+    };
+    let island = sets.islands().members(name)?;
+    movers.extend_from_slice(&island)?;
+    Ok(())
+}
+
+/// The movers of the islands of the movers in these slots, such as those that islands are named after. Where there are no slots, it takes no
+/// memory. Refused 1 where memory is wanting.
+pub fn list_movers(
+    alloc: Global,
+    sets: &Sets<Constraint>,
+    slots: &[u32],
+) -> Result<Vec<u32>, Refusal>
+    ensures islands { IfOk result (λ movers. HasIslands sets.now.acting.labels slots.now movers.items) }
+    ensures memory_only { IsOkUnless result Refusal.NoMemory }
+{
+    let mut movers = Vec::new(alloc);
+    for place in 0..slots.len() {
+        add_island(&mut movers, sets, slots[place])?;
+    }
+    Ok(movers)
+}
+
+/// Wakes the islands of these names, and tells their movers, which are listed. All bodies had been told before. Where there are no names, it takes
+/// no time.
+pub fn wake_named(
+    sets: &mut Sets<Constraint>,
+    bodies: &mut BodyTable,
+    names: &[u32],
+    movers: &[u32],
+)
+    requires movers { HasIslands sets.old.acting.labels names.now movers.now }
     requires few { length bodies.old.bodies ≤ MAX_SLOTS }
     requires bodies { AreBodies bodies.old.bodies }
     requires told { told sets.old.acting.labels bodies.old.bodies ≡ bodies.old.bodies }
@@ -31,12 +74,19 @@ pub fn wake_named(sets: &mut Sets<Constraint>, bodies: &mut BodyTable, names: &[
         return;
     }
     sets.wake_named(names);
-    bodies.tell(sets.islands());
+    bodies.tell_some(movers, sets.islands());
 }
 
-/// Puts the mover in a slot to sleep with its island, and tells the bodies, which had been told before. Answers what the movers' momentum gains. Where
-/// the mover sleeps already, it takes no time.
-pub fn put_to_sleep(sets: &mut Sets<Constraint>, bodies: &mut BodyTable, slot: u32) -> Gain
+/// Puts the mover in a slot to sleep with its island, and tells the movers of the island in which it was, which are listed. All bodies had been
+/// told before. Answers what the movers' momentum gains. Where the mover sleeps already, it takes no time.
+pub fn put_to_sleep(
+    sets: &mut Sets<Constraint>,
+    bodies: &mut BodyTable,
+    slot: u32,
+    movers: &[u32],
+) -> Gain
+    requires movers { HasIsland sets.old.acting.labels movers.now slot }
+    requires settled { IsSettled constraint_number sets.old.acting }
     requires few { length bodies.old.bodies ≤ MAX_SLOTS }
     requires bodies { AreBodies bodies.old.bodies }
     requires told { told sets.old.acting.labels bodies.old.bodies ≡ bodies.old.bodies }
@@ -55,5 +105,5 @@ pub fn put_to_sleep(sets: &mut Sets<Constraint>, bodies: &mut BodyTable, slot: u
         return Gain { x: 0, y: 0 };
     }
     sets.sleep(slot);
-    bodies.tell(sets.islands())
+    bodies.tell_some(movers, sets.islands())
 }

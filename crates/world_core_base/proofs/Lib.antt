@@ -7,6 +7,7 @@ pub mod AwakeLaws
 pub mod SlotsRising
 pub mod TableLaws
 pub mod TellLaws
+pub mod TellSomeLaws
 pub mod TimeLaws
 pub mod StandingLaws
 mod ColourLists

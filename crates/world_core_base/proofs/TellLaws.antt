@@ -161,12 +161,12 @@ whole_told labels n (o ∷ os) (suc i) h = ap (λ (l : List (Option Body)). told
 
 -- ---- the momentum
 
-momentum_x-put : (bodies : List (Option Body)) (i : ℕ) (o d : Option Body) → i < length bodies → momentum_x (slice_set bodies i o) ≡ momentum_x bodies +ℤ (p_x o -ℤ p_x (get_or bodies i d))
+pub momentum_x-put : (bodies : List (Option Body)) (i : ℕ) (o d : Option Body) → i < length bodies → momentum_x (slice_set bodies i o) ≡ momentum_x bodies +ℤ (p_x o -ℤ p_x (get_or bodies i d))
 momentum_x-put [] i o d h = absurd (omega (arith, h))
 momentum_x-put (a ∷ os) zero o d h = omega (arith, ints)
 momentum_x-put (a ∷ os) (suc i) o d h = let rest = momentum_x-put os i o d (omega (arith, h)) in omega (arith, ints, rest)
 
-momentum_y-put : (bodies : List (Option Body)) (i : ℕ) (o d : Option Body) → i < length bodies → momentum_y (slice_set bodies i o) ≡ momentum_y bodies +ℤ (p_y o -ℤ p_y (get_or bodies i d))
+pub momentum_y-put : (bodies : List (Option Body)) (i : ℕ) (o d : Option Body) → i < length bodies → momentum_y (slice_set bodies i o) ≡ momentum_y bodies +ℤ (p_y o -ℤ p_y (get_or bodies i d))
 momentum_y-put [] i o d h = absurd (omega (arith, h))
 momentum_y-put (a ∷ os) zero o d h = omega (arith, ints)
 momentum_y-put (a ∷ os) (suc i) o d h = let rest = momentum_y-put os i o d (omega (arith, h)) in omega (arith, ints, rest)

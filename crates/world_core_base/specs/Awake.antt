@@ -19,6 +19,10 @@ with_slot slot (s ∷ slots) = cond (nat_lt s slot) (s ∷ with_slot slot slots)
 abbrev pub without_slot : ℕ → List ℕ → List ℕ
 without_slot slot slots = filter (λ s. not (s == slot)) slots
 
+-- with the slot of what moves now, or without it, where it moved before or not
+abbrev pub relisted : ℕ → Bool → Bool → List ℕ → List ℕ
+relisted slot moved moves slots = cond moved (cond moves slots (without_slot slot slots)) (cond moves (with_slot slot slots) slots)
+
 -- a state put into a slot, or into a new one at the end
 abbrev pub with_state : List BodyState → ℕ → BodyState → List BodyState
 with_state states slot s = cond (nat_lt slot (length states)) (slice_set states slot s) (states ++ s ∷ [])

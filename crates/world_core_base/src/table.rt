@@ -19,6 +19,7 @@ ghost use Rattle.world_core_base.specs.Covers.{AreCovered, IsCover};
 ghost use Rattle.world_core_base.specs.Marked.{AreMarked, AreMoreMarks};
 ghost use Rattle.world_core_base.specs.Renewal.{renewed_bodies};
 ghost use Rattle.world_core_base.specs.Standing.{HaveSameStanding};
+ghost use Rattle.world_core_base.specs.Telling.{AreToldBeside};
 ghost use Rattle.momenta.specs.Gains.{IsGain};
 ghost use Rattle.plain_world.specs.Changes.{changed_at, disabled_body, enabled_body, is_awake_in, is_carried_in};
 ghost use Rattle.plain_world.specs.Sleep.{AreTimersWithin, timed_bodies, told};
@@ -28,7 +29,7 @@ use crate::awake::{add_if, copy_in_room, drop_slot, list_movers, reserve_in_all}
 use crate::covers::{cover, cover_again, uncover};
 use crate::gather::{NOBODY, body_state};
 use crate::moving::move_bodies;
-use crate::telling::tell_bodies;
+use crate::telling::{tell_bodies, tell_listed};
 use crate::timing::time_bodies;
 use body_handles::MAX_SLOTS;
 use box_tree::BoxTree;
@@ -106,6 +107,13 @@ fn reserve_mark(marks: &mut Marks, n: usize) -> Result<(), Refusal>
         marks.grow()?;
     }
     Ok(())
+}
+
+/// Whether it takes less time to tell so many bodies one by one than to tell all, where so many movers are awake.
+fn are_few(count: usize, awake: usize, all: usize) -> bool
+    ensures { result ≡ true → count ≤ all }
+{
+    count <= all / (awake / 2048 + 2)
 }
 
 /// Whether a body that is carried along is in a slot.
@@ -322,6 +330,53 @@ impl BodyTable {
         let gain = tell_bodies(&mut self.bodies, &mut self.states, islands);
         list_movers(&mut self.awake, &self.states);
         gain
+    }
+
+    /// Tells the bodies in these slots the labels of their islands, where those in all other slots stay as they are when they are told, so
+    /// that all bodies are told then. A slot may be listed more than once, and may be that of no body. Answers what the movers' momentum
+    /// gains. It takes time by the slots that are listed alone, where these are few. Takes no memory.
+    pub fn tell_some(&mut self, slots: &[u32], islands: &Islands) -> Gain
+        requires few { length self.old.bodies ≤ MAX_SLOTS }
+        requires bodies { AreBodies self.old.bodies }
+        requires others { AreToldBeside slots.now islands.now.labels self.old.bodies }
+        ensures bodies { self.new.bodies ≡ told islands.now.labels self.old.bodies }
+        ensures all_bodies { AreBodies self.new.bodies }
+        ensures slots { HaveSameSlots self.old.bodies self.new.bodies }
+        ensures standing { HaveSameStanding self.old.bodies self.new.bodies }
+        ensures x { momentum_x self.new.bodies ≡ momentum_x self.old.bodies +ℤ result.x }
+        ensures y { momentum_y self.new.bodies ≡ momentum_y self.old.bodies +ℤ result.y }
+        ensures small { IsGain (2 ^ 78) result }
+        ensures marked { AreMarked self.old self.new }
+    {
+        if are_few(slots.len(), self.awake.len(), self.bodies.len()) {
+            return self.tell_listed(slots, islands);
+        }
+        self.tell(islands)
+    }
+
+    /// The same where there are no more of them than bodies.
+    fn tell_listed(&mut self, slots: &[u32], islands: &Islands) -> Gain
+        requires few { length self.old.bodies ≤ MAX_SLOTS }
+        requires fewer { length slots.now ≤ length self.old.bodies }
+        requires bodies { AreBodies self.old.bodies }
+        requires others { AreToldBeside slots.now islands.now.labels self.old.bodies }
+        ensures bodies { self.new.bodies ≡ told islands.now.labels self.old.bodies }
+        ensures all_bodies { AreBodies self.new.bodies }
+        ensures slots { HaveSameSlots self.old.bodies self.new.bodies }
+        ensures standing { HaveSameStanding self.old.bodies self.new.bodies }
+        ensures x { momentum_x self.new.bodies ≡ momentum_x self.old.bodies +ℤ result.x }
+        ensures y { momentum_y self.new.bodies ≡ momentum_y self.old.bodies +ℤ result.y }
+        ensures small { IsGain (2 ^ 78) result }
+        ensures marked { AreMarked self.old self.new }
+    {
+        self.room = 0;
+        tell_listed(
+            &mut self.bodies,
+            &mut self.states,
+            &mut self.awake,
+            slots,
+            islands,
+        )
     }
 
     /// Lets so many ticks pass: the timer of an awake mover that is slow grows by them, and that of any other awake mover begins anew.

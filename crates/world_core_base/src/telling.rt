@@ -1,14 +1,16 @@
 //! The bodies told by the islands: movers that fall asleep, and movers that wake.
 
-ghost use Rattle.std.specs.Prelude.{◌≡◌, ◌<◌, ◌≤◌, ◌^◌, ◌+ℤ◌, ◌-ℤ◌, None, length, option_map, slice_index_or, slice_set};
+ghost use Rattle.std.specs.Prelude.{◌≡◌, ◌<◌, ◌≤◌, ◌^◌, ◌+ℤ◌, ◌-ℤ◌, None, length, option_map, slice_index_or, slice_set, vec_capacity};
 ghost use Rattle.std.specs.Option.{ForSome};
 ghost use Rattle.fixed_geom.specs.Vectors.{IsWithin};
 ghost use Rattle.momenta.specs.Gains.{IsGain};
+ghost use Rattle.colour_solver.specs.States.{movers_of};
 ghost use Rattle.plain_world.specs.Bodies.{AreBodies, IsBody, momentum_x, momentum_y, p_x, p_y};
 ghost use Rattle.plain_world.specs.Sleep.{told, told_body};
 ghost use Rattle.world_core_base.specs.Gather.{state_of, states_of};
-ghost use Rattle.world_core_base.specs.Telling.{momentum_in};
+ghost use Rattle.world_core_base.specs.Telling.{AreToldBeside, momentum_in};
 
+use crate::awake::relist;
 use crate::gather::state_of;
 use body_handles::MAX_SLOTS;
 use fixed_geom::Vec2;
@@ -83,6 +85,71 @@ pub fn tell_bodies(
         gain = plus(
             gain,
             tell_slot(bodies, states, slot, islands.label_of(slot as u32)),
+        );
+    }
+    gain
+}
+
+/// Tells the body in a slot, if there is one, the label of its island, and keeps its state and the slots of the awake movers. Answers what
+/// the movers' momentum gains.
+fn tell_one(
+    bodies: &mut Vec<Option<Body>>,
+    states: &mut Vec<BodyState>,
+    awake: &mut Vec<u32>,
+    slot: u32,
+    label: Option<Label>,
+) -> Gain
+    requires bodies { AreBodies bodies.old.items }
+    requires states { states.old.items ≡ states_of bodies.old.items }
+    requires awake { awake.old.items ≡ movers_of states.old.items }
+    requires room { length bodies.old.items ≤ vec_capacity awake.old }
+    ensures bodies { bodies.new.items ≡ slice_set bodies.old.items slot (option_map (told_body label) (slice_index_or bodies.old.items slot None)) }
+    ensures states { states.new.items ≡ states_of bodies.new.items }
+    ensures awake { awake.new.items ≡ movers_of states.new.items }
+    ensures capacity { vec_capacity awake.old ≤ vec_capacity awake.new }
+    ensures x { momentum_x bodies.new.items ≡ momentum_x bodies.old.items +ℤ result.x }
+    ensures y { momentum_y bodies.new.items ≡ momentum_y bodies.old.items +ℤ result.y }
+    ensures small { IsGain (2 ^ 62) result }
+{
+    let place = slot as usize;
+    if place >= bodies.len() {
+        return NOTHING;
+    }
+    let moved = states[place].movable;
+    let gain = tell_slot(bodies, states, place, label);
+    relist(awake, slot, moved, states[place].movable);
+    gain
+}
+
+/// Tells the bodies in these slots the labels of their islands, where those in all other slots stay as they are when they are told. Keeps
+/// the states and the slots of the awake movers. Answers what the movers' momentum gains.
+pub fn tell_listed(
+    bodies: &mut Vec<Option<Body>>,
+    states: &mut Vec<BodyState>,
+    awake: &mut Vec<u32>,
+    slots: &[u32],
+    islands: &Islands,
+) -> Gain
+    requires few { length slots.now ≤ MAX_SLOTS }
+    requires bodies { AreBodies bodies.old.items }
+    requires states { states.old.items ≡ states_of bodies.old.items }
+    requires awake { awake.old.items ≡ movers_of states.old.items }
+    requires room { length bodies.old.items ≤ vec_capacity awake.old }
+    requires others { AreToldBeside slots.now islands.now.labels bodies.old.items }
+    ensures bodies { bodies.new.items ≡ told islands.now.labels bodies.old.items }
+    ensures states { states.new.items ≡ states_of bodies.new.items }
+    ensures awake { awake.new.items ≡ movers_of states.new.items }
+    ensures capacity { vec_capacity awake.old ≤ vec_capacity awake.new }
+    ensures x { momentum_x bodies.new.items ≡ momentum_x bodies.old.items +ℤ result.x }
+    ensures y { momentum_y bodies.new.items ≡ momentum_y bodies.old.items +ℤ result.y }
+    ensures small { IsGain (2 ^ 78) result }
+{
+    let mut gain = NOTHING;
+    for place in 0..slots.len() {
+        let slot = slots[place];
+        gain = plus(
+            gain,
+            tell_one(bodies, states, awake, slot, islands.label_of(slot)),
         );
     }
     gain

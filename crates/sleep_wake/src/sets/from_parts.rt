@@ -6,10 +6,12 @@ ghost use Rattle.graph_colours.specs.Colours.{all_members};
 ghost use Rattle.graph_colours.specs.Given.{members_of};
 ghost use Rattle.sleep_wake.specs.Acting.{acting, IsSettled};
 
+use crate::gathering::Gathering;
 use crate::growing::grow;
 use crate::sets::Sets;
+use crate::ties::Ties;
 use fixed_geom::Refusal;
-use graph_colours::{Colours, EditedColours, EditedList, Id, Member};
+use graph_colours::{Colours, EditedColours, Id, Member};
 use islands::{Islands, Label, SplitScratch};
 use std::alloc::Global;
 
@@ -32,7 +34,7 @@ impl<C: Id> Sets<C> {
         ensures memory_only { IsOkUnless result Refusal.NoMemory }
     {
         let slots = labels.len();
-        let mut kept = EditedList::from_members(alloc, ties)?;
+        let mut kept = Ties::from_members(alloc, ties)?;
         let mut spare = Vec::new(alloc);
         let mut colours = EditedColours::new(
             alloc,
@@ -41,6 +43,7 @@ impl<C: Id> Sets<C> {
         let mut islands = Islands::from_labels(alloc, labels)?;
         let mut edges = Vec::new(alloc);
         let mut scratch = SplitScratch::new(alloc);
+        let mut gathering = Gathering::new(alloc);
         let mut leasts = Vec::new(alloc);
         let room = grow(
             &mut kept,
@@ -49,6 +52,7 @@ impl<C: Id> Sets<C> {
             &mut islands,
             &mut edges,
             &mut scratch,
+            &mut gathering,
             &mut leasts,
             0,
             slots,
@@ -60,6 +64,7 @@ impl<C: Id> Sets<C> {
             spare,
             edges,
             scratch,
+            gathering,
             leasts,
             room,
             slots,

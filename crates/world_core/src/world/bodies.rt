@@ -8,7 +8,7 @@ use crate::booking::{book, gain_of, loss_of};
 use crate::joining::drop_joints;
 use crate::leaving::{come, leave};
 use crate::pushes::{course_after, momenta_after, mover_momentum, pose_after};
-use crate::waking::wake_named;
+use crate::waking::{list_movers, wake_named};
 use body_handles::Handle;
 use fixed_geom::{Refusal, Vec2};
 use impulse_ledger::Cause;
@@ -51,7 +51,8 @@ impl WorldCore {
         let ties = self.ties_at(handle.slot)?;
         self.contacts.reserve_drop(self.bodies.allocator())?;
         self.ledger.reserve(1)?;
-        wake_named(&mut self.sets, &mut self.bodies, &names);
+        let movers = list_movers(self.bodies.allocator(), &self.sets, &names)?;
+        wake_named(&mut self.sets, &mut self.bodies, &names, &movers);
         leave(&mut self.sets, handle.slot, mover, &ties);
         drop_joints(&mut self.joint_handles, &mut self.joints, handle.slot);
         self.bodies.clear(handle.slot);
@@ -74,7 +75,8 @@ impl WorldCore {
         let momenta = momenta_after(&self.handles, self.bodies.bodies(), handle, by, offset)?;
         let names = self.sets.names_of(&[handle.slot])?;
         self.ledger.reserve(1)?;
-        wake_named(&mut self.sets, &mut self.bodies, &names);
+        let movers = list_movers(self.bodies.allocator(), &self.sets, &names)?;
+        wake_named(&mut self.sets, &mut self.bodies, &names, &movers);
         self.bodies.change(handle.slot, &momenta);
         book(
             &mut self.ledger,
@@ -92,7 +94,8 @@ impl WorldCore {
     {
         let pose = pose_after(&self.handles, self.bodies.bodies(), handle, pose)?;
         let names = self.names_stirred(handle.slot)?;
-        wake_named(&mut self.sets, &mut self.bodies, &names);
+        let movers = list_movers(self.bodies.allocator(), &self.sets, &names)?;
+        wake_named(&mut self.sets, &mut self.bodies, &names, &movers);
         self.bodies.change(handle.slot, &pose);
         self.calls += 1;
         Ok(Reply::Done)
@@ -104,7 +107,8 @@ impl WorldCore {
     {
         let course = course_after(&self.handles, self.bodies.bodies(), handle, course)?;
         let names = self.names_stirred(handle.slot)?;
-        wake_named(&mut self.sets, &mut self.bodies, &names);
+        let movers = list_movers(self.bodies.allocator(), &self.sets, &names)?;
+        wake_named(&mut self.sets, &mut self.bodies, &names, &movers);
         self.bodies.change(handle.slot, &course);
         self.calls += 1;
         Ok(Reply::Done)

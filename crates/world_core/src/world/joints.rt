@@ -5,7 +5,7 @@ ghost use Rattle.world_rules.specs.Apply.{Answers, apply_join, apply_unjoin};
 
 use super::WorldCore;
 use crate::joining::{check_join, joint_of};
-use crate::waking::wake_named;
+use crate::waking::{list_movers, wake_named};
 use body_handles::Handle;
 use contacts::Constraint;
 use fixed_geom::Refusal;
@@ -27,7 +27,8 @@ impl WorldCore {
         self.joints.reserve_one()?;
         self.sets.reserve(1, 0)?;
         let names = self.sets.names_of(&[joint.a, joint.b])?;
-        wake_named(&mut self.sets, &mut self.bodies, &names);
+        let movers = list_movers(self.bodies.allocator(), &self.sets, &names)?;
+        wake_named(&mut self.sets, &mut self.bodies, &names, &movers);
         let handle = self.joint_handles.insert()?;
         let movers = joint_movers(self.bodies.bodies(), &joint);
         begin_with(&mut self.sets, Constraint::Joint(handle), movers);
@@ -45,7 +46,8 @@ impl WorldCore {
             return Err(Refusal::StaleHandle);
         };
         let names = self.sets.names_of(&[joint.a, joint.b])?;
-        wake_named(&mut self.sets, &mut self.bodies, &names);
+        let movers = list_movers(self.bodies.allocator(), &self.sets, &names)?;
+        wake_named(&mut self.sets, &mut self.bodies, &names, &movers);
         let movers = joint_movers(self.bodies.bodies(), &joint);
         end_with(&mut self.sets, Constraint::Joint(handle), movers);
         self.bodies.mark(joint.b);

@@ -7,7 +7,7 @@ use super::WorldCore;
 use crate::booking::{book, loss_of};
 use crate::leaving::{come, leave};
 use crate::pushes::mover_momentum;
-use crate::waking::wake_named;
+use crate::waking::{list_movers, wake_named};
 use body_handles::Handle;
 use fixed_geom::Refusal;
 use impulse_ledger::Cause;
@@ -32,7 +32,8 @@ impl WorldCore {
         let ties = self.ties_at(handle.slot)?;
         self.contacts.reserve_drop(self.bodies.allocator())?;
         self.ledger.reserve(1)?;
-        wake_named(&mut self.sets, &mut self.bodies, &names);
+        let movers = list_movers(self.bodies.allocator(), &self.sets, &names)?;
+        wake_named(&mut self.sets, &mut self.bodies, &names, &movers);
         leave(&mut self.sets, handle.slot, mover, &ties);
         self.bodies.disable(handle.slot);
         self.joints.idle(handle.slot);
@@ -69,7 +70,8 @@ impl WorldCore {
         let mut ties = Vec::with_capacity(self.bodies.allocator(), self.joints.joints().len())?;
         self.sets
             .reserve(self.joints.joints().len(), self.bodies.bodies().len())?;
-        wake_named(&mut self.sets, &mut self.bodies, &names);
+        let movers = list_movers(self.bodies.allocator(), &self.sets, &names)?;
+        wake_named(&mut self.sets, &mut self.bodies, &names, &movers);
         self.bodies.enable(handle.slot);
         fill_joint_ties(
             &mut ties,

@@ -4,19 +4,20 @@ ghost use Rattle.std.specs.Prelude.{◌≡◌, ◌<◌, ◌^◌, IfOk};
 ghost use Rattle.std.specs.Result.{IsOkUnless};
 ghost use Rattle.sleep_wake.specs.Sleeping.{names_of};
 ghost use Rattle.solver_sets.specs.Beside.{stirred_by};
-ghost use Rattle.solver_sets.specs.Ties.{ties_at};
+ghost use Rattle.solver_sets.specs.Ties.{moves, ties_at};
 ghost use Rattle.world_rules.specs.World.{joints_of};
 ghost use Rattle.world_rules.specs.Apply.{Answers, apply_wake, apply_sleep};
 
 use super::WorldCore;
 use crate::booking::book;
 use crate::pushes::check_mover;
-use crate::waking::{put_to_sleep, wake_named};
+use crate::waking::{list_movers, put_to_sleep, wake_named};
 use body_handles::Handle;
 use contacts::Constraint;
 use fixed_geom::Refusal;
 use graph_colours::Member;
 use impulse_ledger::Cause;
+use plain_world::{Body, item_at};
 use solver_sets::{list_stirred, pick_ties};
 use world_rules::Reply;
 
@@ -36,17 +37,22 @@ impl WorldCore {
         self.sets.names_of(&slots)
     }
 
-    /// The constraints of the body in a slot, ascending. Refused 1 where memory is wanting.
+    /// The constraints of the body in a slot, ascending: those of a mover are at hand, those of another body are picked from all. Refused 1 where memory
+    /// is wanting.
     pub(super) fn ties_at(&self, slot: u32) -> Result<Vec<Member<Constraint>>, Refusal>
         ensures ties { IfOk result (λ ties. ties.items ≡ ties_at slot self.now.plain.bodies (joints_of self.now.plain) self.now.plain.contacts) }
         ensures memory_only { IsOkUnless result Refusal.NoMemory }
     {
-        pick_ties(
-            self.bodies.allocator(),
-            self.sets.ties(),
-            self.joints.joints(),
-            slot,
-        )
+        if is_mover_at(self.bodies.bodies(), slot) {
+            self.sets.ties_of(slot)
+        } else {
+            pick_ties(
+                self.bodies.allocator(),
+                self.sets.ties(),
+                self.joints.joints(),
+                slot,
+            )
+        }
     }
 
     pub(super) fn wake(&mut self, handle: Handle) -> Result<Reply, Refusal>
@@ -55,7 +61,8 @@ impl WorldCore {
     {
         check_mover(&self.handles, self.bodies.bodies(), handle)?;
         let names = self.sets.names_of(&[handle.slot])?;
-        wake_named(&mut self.sets, &mut self.bodies, &names);
+        let movers = list_movers(self.bodies.allocator(), &self.sets, &names)?;
+        wake_named(&mut self.sets, &mut self.bodies, &names, &movers);
         self.calls += 1;
         Ok(Reply::Done)
     }
@@ -66,9 +73,20 @@ impl WorldCore {
     {
         check_mover(&self.handles, self.bodies.bodies(), handle)?;
         self.ledger.reserve(1)?;
-        let rest = put_to_sleep(&mut self.sets, &mut self.bodies, handle.slot);
+        let movers = list_movers(self.bodies.allocator(), &self.sets, &[handle.slot])?;
+        let rest = put_to_sleep(&mut self.sets, &mut self.bodies, handle.slot, &movers);
         book(&mut self.ledger, self.calls + 1, Cause::Rest, rest);
         self.calls += 1;
         Ok(Reply::Done)
+    }
+}
+
+/// Whether a mover is in the slot.
+fn is_mover_at(bodies: &[Option<Body>], slot: u32) -> bool
+    ensures { result ≡ moves bodies.now slot }
+{
+    match item_at(bodies, slot as usize) {
+        None => false,
+        Some(body) => body.is_mover(),
     }
 }

@@ -48,6 +48,7 @@ impl WorldCore {
             &mut self.sets,
             &mut self.bodies,
             &mut self.scratch.woke,
+            &mut self.scratch.slots,
             self.handles.places(),
             &turns,
         );

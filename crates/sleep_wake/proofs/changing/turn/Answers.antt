@@ -40,6 +40,18 @@ change-requires-clause-room g c =
     let front : drop c.loop-place.place c.args.changes.now ≡ m ∷ rest = first_is c.args.changes.now c.loop-place.place m lt c.index-changes-place.is in
     one_count (length now.ties) (c.loop-place.colours.room + length (all_members c.loop-place.colours.lists)) m rest (rw front at c.loop-place.invariant.room)
 
+pub change-requires-clause-gathering_ties : goal.change-requires-clause-gathering_ties
+change-requires-clause-gathering_ties g c =
+    let n = g.C.Id.number in
+    let old = c.args.islands.now.labels in
+    let m = c.index-changes-place.result in
+    let rest = drop (c.loop-place.place + 1) c.args.changes.now in
+    let now : Acting g.row.C.Denot = acting c.loop-place.ties.items c.loop-place.islands.labels c.loop-place.colours.lists in
+    let lt : c.loop-place.place < length c.args.changes.now = omega (arith, c.loop-place-test.true, c.loop-place.auto.place-end) in
+    let front : drop c.loop-place.place c.args.changes.now ≡ m ∷ rest = first_is c.args.changes.now c.loop-place.place m lt c.index-changes-place.is in
+    let few : length now.ties + begin_count (m ∷ []) ≤ c.loop-place.gathering.ties = one_count (length now.ties) c.loop-place.gathering.ties m rest (rw front at c.loop-place.invariant.gathering_room) in
+    omega (arith, few)
+
 pub loop-place-preserved : goal.loop-place-preserved
 loop-place-preserved g c =
     let n = g.C.Id.number in
@@ -57,6 +69,7 @@ loop-place-preserved g c =
     let long : length next.labels ≡ length now.labels = ap (λ (v : Acting g.row.C.Denot). length v.labels) is ∙ turned_long n (m ∷ []) now in
     let few : length next.ties + begin_count rest ≤ c.loop-place.ties.capacity = subst (λ (v : Acting g.row.C.Denot). length v.ties + begin_count rest ≤ c.loop-place.ties.capacity) (sym is) (count_next n now c.loop-place.ties.capacity m rest (rw front at c.loop-place.invariant.ties_room)) in
     let room : length next.ties + begin_count rest ≤ c.loop-place.colours.room + length (all_members c.loop-place.colours.lists) = subst (λ (v : Acting g.row.C.Denot). length v.ties + begin_count rest ≤ c.loop-place.colours.room + length (all_members c.loop-place.colours.lists)) (sym is) (count_next n now (c.loop-place.colours.room + length (all_members c.loop-place.colours.lists)) m rest (rw front at c.loop-place.invariant.room)) in
+    let gathered : length next.ties + begin_count rest ≤ c.loop-place.gathering.ties = subst (λ (v : Acting g.row.C.Denot). length v.ties + begin_count rest ≤ c.loop-place.gathering.ties) (sym is) (count_next n now c.loop-place.gathering.ties m rest (rw front at c.loop-place.invariant.gathering_room)) in
     let P : Acting g.row.C.Denot → Type 0 = λ v. AreChanges n old v.ties rest in
     let Q : Acting g.row.C.Denot → Type 0 = λ v. Labelled old v.labels in
     let S : Acting g.row.C.Denot → Type 0 = λ v. IsSettled n v in
@@ -68,6 +81,10 @@ loop-place-preserved g c =
       below = omega (arith, long, c.loop-place.invariant.below, c.change.ensures.slots);
       ties_room = omega (arith, few, c.change.ensures.capacity);
       room = omega (arith, room, c.change.ensures.room);
+      gathering_room = omega (arith, gathered, c.change.ensures.gathering_ties);
+      gathering_below = omega (arith, long, c.loop-place.invariant.gathering_below, c.change.ensures.gathering_slots);
+      gathering_ties = omega (arith, c.loop-place.invariant.gathering_ties, c.change.ensures.gathering_ties);
+      gathering_slots = omega (arith, c.loop-place.invariant.gathering_slots, c.change.ensures.gathering_slots);
       capacity = omega (arith, c.loop-place.invariant.capacity, c.change.ensures.capacity);
       islands_room = c.change.ensures.islands_room ∙ c.loop-place.invariant.islands_room;
       slots = c.change.ensures.slots ∙ c.loop-place.invariant.slots;

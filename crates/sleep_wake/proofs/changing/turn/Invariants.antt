@@ -14,6 +14,10 @@ invariant-loop-place g l = record {
   below : length l.islands.labels ≤ l.colours.slots;
   ties_room : length l.ties.items + begin_count (drop l.place l.changes) ≤ l.ties.capacity;
   room : length l.ties.items + begin_count (drop l.place l.changes) ≤ l.colours.room + length (all_members l.colours.lists);
+  gathering_room : length l.ties.items + begin_count (drop l.place l.changes) ≤ l.gathering.ties;
+  gathering_below : length l.islands.labels ≤ l.gathering.slots;
+  gathering_ties : l.fn.gathering.ties ≤ l.gathering.ties;
+  gathering_slots : l.fn.gathering.slots ≤ l.gathering.slots;
   capacity : l.fn.ties.capacity ≤ l.ties.capacity;
   islands_room : l.islands.room ≡ l.fn.islands.room;
   slots : l.colours.slots ≡ l.fn.colours.slots;

@@ -12,24 +12,23 @@ returns-then-are_awake-clause-woken g c = sym (nobody_wakes g.C.Id.number c.args
 
 pub wake_movers-requires-clause-settled : goal.wake_movers-requires-clause-settled
 wake_movers-requires-clause-settled g c =
-    let same : c.as_slice.result.now ≡ c.args.ties.now.items = c.as_slice.ensures.value ∙ c.settle.ensures.items in
     let P : List (Member g.row.C.Denot) → Type 0 = λ v. IsSettled g.C.Id.number (acting v c.args.islands.now.labels c.args.colours.now.lists) in
-    subst P (sym same) c.requires.settled
+    subst P (sym c.settle.ensures.items) c.requires.settled
 
 pub wake_movers-requires-clause-below : goal.wake_movers-requires-clause-below
 wake_movers-requires-clause-below g c = λ m h.
-    let same : c.as_slice.result.now ≡ c.args.ties.now.items = c.as_slice.ensures.value ∙ c.settle.ensures.items in
     let P : List (Member g.row.C.Denot) → Type 0 = λ v. Contains v m in
-    are_below c.args.islands.now.labels c.args.colours.now.slots m.movers c.requires.below (c.requires.settled.movers m (subst P same h))
+    are_below c.args.islands.now.labels c.args.colours.now.slots m.movers c.requires.below (c.requires.settled.movers m (subst P c.settle.ensures.items h))
 
 pub wake_movers-requires-clause-room : goal.wake_movers-requires-clause-room
 wake_movers-requires-clause-room g c =
-    let same : length c.as_slice.result.now ≡ length c.args.ties.now.items = ap (λ (v : List (Member g.row.C.Denot)). length v) (c.as_slice.ensures.value ∙ c.settle.ensures.items) in
+    let same : length c.settle.new.self.items ≡ length c.args.ties.now.items = ap (λ (v : List (Member g.row.C.Denot)). length v) c.settle.ensures.items in
     omega (arith, same, c.requires.room)
 
+pub wake_movers-requires-clause-gathering_ties : goal.wake_movers-requires-clause-gathering_ties
+wake_movers-requires-clause-gathering_ties g c =
+    let same : length c.settle.new.self.items ≡ length c.args.ties.now.items = ap (λ (v : List (Member g.row.C.Denot)). length v) c.settle.ensures.items in
+    omega (arith, same, c.requires.gathering_ties)
+
 pub returns-clause-woken : goal.returns-clause-woken
-returns-clause-woken g c =
-    let n = g.C.Id.number in
-    let same : c.as_slice.result.now ≡ c.args.ties.now.items = c.as_slice.ensures.value ∙ c.settle.ensures.items in
-    let P : List (Member g.row.C.Denot) → Type 0 = λ v. acting v c.wake_movers.new.islands.labels c.wake_movers.new.colours.lists ≡ movers_woken n c.args.movers (acting v c.args.islands.now.labels c.args.colours.now.lists) in
-    ap (λ (v : List (Member g.row.C.Denot)). acting v c.wake_movers.new.islands.labels c.wake_movers.new.colours.lists) c.settle.ensures.items ∙ subst P same c.wake_movers.ensures.woken
+returns-clause-woken g c = c.wake_movers.ensures.woken ∙ ap (λ (v : List (Member g.row.C.Denot)). movers_woken g.C.Id.number c.args.movers (acting v c.args.islands.now.labels c.args.colours.now.lists)) c.settle.ensures.items

@@ -1,59 +1,49 @@
-use Rattle.std.proofs.Common.{◌≡◌, ◌<◌, ◌+◌, ◌-◌, ◌≤◌, Option, ℕ, List, Some, None, get_or, length, min, sym, ap, ◌∙◌, arith, replicate}
-use Rattle.std.proofs.lemmas.List.{length-replicate, length-set}
-use Rattle.islands.specs.declared.label.Label.{Label}
+use Rattle.std.proofs.Common.{◌≡◌, ◌<◌, ◌+◌, ◌-◌, [], ◌∷◌, ℕ, List, Option, get_or, length, drop, ap, ◌∙◌, arith}
+use Rattle.std.proofs.lemmas.List.{drop_more, drop_all}
 use Rattle.islands.specs.Labels.{label_at}
-use Rattle.sleep_wake.specs.SleepPhase.{lesser}
-use Rattle.sleep_wake.specs.Resting.{least_at}
-use Rattle.sleep_wake.proofs.LeastLemmas.{least_of_none, least_with, least_without}
+use Rattle.sleep_wake.proofs.LeastLemmas.{noted_long, forgotten_long}
+use Rattle.sleep_wake.proofs.AwakeSlotsLaws.{over_none, over_more, over_all, awake_short}
 use Rattle.sleep_wake.proofs.phase.list_leasts.Goals as goal
 
-pub loop-slot-init : goal.loop-slot-init
-loop-slot-init c =
-    let n = length c.args.islands.now.labels in
-    let last : c.min-slot.result ≡ min n (length c.args.timers.now) = omega (arith, c.min-slot.ensures, c.slots-2.ensures.value) in
-    let blank : c.clear_to.new.leasts.items ≡ replicate {A = Option ℕ} n None = rw c.slots.ensures.value at c.clear_to.ensures.items in
+pub forget-requires : goal.forget-requires
+forget-requires c = λ slot h.
+    let short : slot < length c.args.islands.now.labels = awake_short c.args.islands.now.labels c.args.awake.now slot c.requires.awake h in
+    omega (arith, short, c.widen_to.ensures.long, c.slots.ensures.value)
+
+pub loop-place-init : goal.loop-place-init
+loop-place-init c =
+    let awake : List ℕ = c.args.awake.now in
+    let old : List (Option ℕ) = c.widen_to.new.leasts.items in
+    let none : drop (length awake) awake ≡ [] = drop_all (length awake) awake (omega arith) in
+    let same : length c.forget.new.leasts.items ≡ length old = ap (λ (v : List (Option ℕ)). length v) c.forget.ensures.items ∙ forgotten_long awake old in
     record {
-      least = least_of_none c.args.islands.now.labels c.args.timers.now c.min-slot.result c.clear_to.new.leasts.items last blank;
-      size = ap (λ (v : List (Option ℕ)). length v) blank ∙ length-replicate n None;
-      labels = omega (arith, last);
-      timers = omega (arith, last);
-      capacity = c.clear_to.ensures.capacity;
+      least = rw c.forget.ensures.items (over_none c.args.islands.now.labels c.args.timers.now awake (drop (length awake) awake) old none);
+      long = omega (arith, same, c.widen_to.ensures.long, c.slots.ensures.value);
+      within = omega arith;
+      capacity = omega (arith, c.widen_to.ensures.capacity, c.forget.ensures.capacity);
     }
 
-pub loop-slot-preserved-in-Some : goal.loop-slot-preserved-in-Some
-loop-slot-preserved-in-Some c =
+pub loop-place-preserved : goal.loop-place-preserved
+loop-place-preserved c =
     let labels = c.args.islands.now.labels in
-    let timers = c.args.timers.now in
-    let leasts : List (Option ℕ) = c.loop-slot.leasts.items in
-    let n = c.loop-slot.slot in
-    let l : Label = c.in-Some.label in
-    let at : label_at labels (n - 1) ≡ Some l = sym c.label_of.ensures.value ∙ c.in-Some.is in
-    let next : n ≡ n - 1 + 1 = omega (arith, c.loop-slot-test.true) in
-    let short : n - 1 < length labels = omega (arith, c.loop-slot-test.true, c.loop-slot.invariant.labels) in
-    let in_time : n - 1 < length timers = omega (arith, c.loop-slot-test.true, c.loop-slot.invariant.timers) in
-    let low : l.name ≤ n - 1 = c.label_of.ensures.partition.low (n - 1) l at in
-    let lt : l.name < length leasts = omega (arith, low, short, c.loop-slot.invariant.size) in
+    let timers : List ℕ = c.args.timers.now in
+    let awake : List ℕ = c.args.awake.now in
+    let leasts : List (Option ℕ) = c.loop-place.leasts.items in
+    let n = c.loop-place.place in
+    let slot : ℕ = get_or awake (n - 1) 0 in
+    let lt : n - 1 < length awake = omega (arith, c.loop-place-test.true, c.loop-place.invariant.within) in
+    let next : n - 1 + 1 ≡ n = omega (arith, c.loop-place-test.true) in
+    let front : drop (n - 1) awake ≡ slot ∷ drop n awake = drop_more awake (n - 1) 0 lt ∙ ap (λ (k : ℕ). slot ∷ drop k awake) next in
+    let same : length c.note.new.leasts.items ≡ length leasts = ap (λ (v : List (Option ℕ)). length v) c.note.ensures.items ∙ noted_long (label_at labels slot) timers slot leasts in
     record {
-      least = rw c.lower.ensures.items (least_with labels timers leasts n (n - 1) l next short in_time at lt c.loop-slot.invariant.least);
-      size = ap (λ (v : List (Option ℕ)). length v) c.lower.ensures.items ∙ length-set leasts l.name (Some (lesser (get_or timers (n - 1) 0) (least_at leasts l.name))) ∙ c.loop-slot.invariant.size;
-      labels = omega (arith, short);
-      timers = omega (arith, in_time);
-      capacity = omega (arith, c.lower.ensures.capacity, c.loop-slot.invariant.capacity);
+      least = rw c.note.ensures.items (over_more labels timers awake slot (drop n awake) (drop (n - 1) awake) leasts front c.requires.partition c.loop-place.invariant.long c.loop-place.invariant.least);
+      long = omega (arith, same, c.loop-place.invariant.long);
+      within = omega (arith, lt);
+      capacity = omega (arith, c.note.ensures.capacity, c.loop-place.invariant.capacity);
     }
 
-pub loop-slot-preserved : goal.loop-slot-preserved
-loop-slot-preserved c =
-    let labels = c.args.islands.now.labels in
-    let timers = c.args.timers.now in
-    let n = c.loop-slot.slot in
-    let at : label_at labels (n - 1) ≡ None = sym c.label_of.ensures.value ∙ c.in_default.is in
-    let next : n ≡ n - 1 + 1 = omega (arith, c.loop-slot-test.true) in
-    let short : n - 1 < length labels = omega (arith, c.loop-slot-test.true, c.loop-slot.invariant.labels) in
-    let in_time : n - 1 < length timers = omega (arith, c.loop-slot-test.true, c.loop-slot.invariant.timers) in
-    record {
-      least = least_without labels timers c.loop-slot.leasts.items n (n - 1) next short in_time at c.loop-slot.invariant.least;
-      size = c.loop-slot.invariant.size;
-      labels = omega (arith, short);
-      timers = omega (arith, in_time);
-      capacity = c.loop-slot.invariant.capacity;
-    }
+pub returns-clause-least : goal.returns-clause-least
+returns-clause-least c =
+    let awake : List ℕ = c.args.awake.now in
+    let none : c.loop-place.place ≡ 0 = omega (arith, c.loop-place-test.false) in
+    over_all c.args.islands.now.labels c.args.timers.now awake (drop c.loop-place.place awake) c.loop-place.leasts.items (ap (λ (k : ℕ). drop k awake) none) c.requires.partition c.requires.awake c.loop-place.invariant.least

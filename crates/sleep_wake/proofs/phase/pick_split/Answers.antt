@@ -1,5 +1,5 @@
 use Rattle.std.proofs.Common.{◌∙◌}
-use Rattle.sleep_wake.proofs.LeastLemmas.{picked_by_least}
+use Rattle.sleep_wake.proofs.AgreeLaws.{picked_by_least}
 use Rattle.sleep_wake.proofs.phase.pick_split.Goals as goal
 
 pub returns-clause-picked : goal.returns-clause-picked

@@ -1,31 +1,19 @@
-use Rattle.std.proofs.Common.{◌≡◌, ◌+◌, ◌<◌, ◌∷◌, length, drop, sym, ◌∙◌, arith}
-use Rattle.std.specs.Prelude.{filter}
-use Rattle.sleep_wake.specs.Waking.{has_mover_of, released_all}
+use Rattle.std.proofs.Common.{◌≡◌, ◌+◌, ◌<◌, ◌∷◌, length, drop, ◌∙◌, arith}
+use Rattle.sleep_wake.specs.Waking.{released_all}
 use Rattle.sleep_wake.proofs.SetLemmas.{front_is}
-use Rattle.sleep_wake.proofs.TurnOwn.{own_released, released_wanted, released_passed}
+use Rattle.sleep_wake.proofs.TurnOwn.{own_released}
 use Rattle.sleep_wake.proofs.waking.release_island.Goals as goal
-use Rattle.sleep_wake.proofs.waking.release_island.Goals.{then-are_in, else-are_in}
 
 pub loop-place-preserved : goal.loop-place-preserved
 loop-place-preserved g c =
-    let n = g.C.Id.number in
-    let wanted = has_mover_of c.args.islands.now.labels c.args.name in
-    let m = c.index-ties-place.result in
-    let rest = drop (c.loop-place.place + 1) c.args.ties.now in
-    let lt : c.loop-place.place < length c.args.ties.now = omega (arith, c.loop-place-test.true, c.loop-place.auto.place-end) in
-    let front : drop c.loop-place.place c.args.ties.now ≡ m ∷ rest = front_is c.args.ties.now c.loop-place.place m lt c.index-ties-place.is in
-    let left : released_all n c.loop-place.colours.lists (filter wanted (m ∷ rest)) ≡ released_all n c.args.colours.now.lists (filter wanted c.args.ties.now) = rw front at c.loop-place.invariant.rest in
-    elim c.if-are_in.branch [
-      | then-are_in w ↦ rw w.colours-is (record {
-        own = rw w.release.ensures.lists (own_released n m.id c.args.ties.now c.loop-place.colours.lists c.loop-place.invariant.own);
-        rest = rw w.release.ensures.lists (sym (released_wanted n wanted m rest c.loop-place.colours.lists (sym c.are_in.ensures ∙ w.if-are_in.true)) ∙ left);
-        slots = w.release.ensures.slots ∙ c.loop-place.invariant.slots;
-        room = w.release.ensures.total ∙ c.loop-place.invariant.room;
-      })
-      | else-are_in w ↦ rw w.colours-is (record {
-        own = c.loop-place.invariant.own;
-        rest = released_passed n wanted m rest c.loop-place.colours.lists (sym c.are_in.ensures ∙ w.if-are_in.false) ∙ left;
-        slots = c.loop-place.invariant.slots;
-        room = c.loop-place.invariant.room;
-      })
-    ]
+    let m = c.index-list-place.result in
+    let rest = drop (c.loop-place.place + 1) c.args.list.now in
+    let lt : c.loop-place.place < length c.args.list.now = omega (arith, c.loop-place-test.true, c.loop-place.auto.place-end) in
+    let front : drop c.loop-place.place c.args.list.now ≡ m ∷ rest = front_is c.args.list.now c.loop-place.place m lt c.index-list-place.is in
+    let left : released_all g.C.Id.number c.loop-place.colours.lists (m ∷ rest) ≡ released_all g.C.Id.number c.args.colours.now.lists c.args.list.now = rw front at c.loop-place.invariant.rest in
+    record {
+      own = rw c.release.ensures.lists (own_released g.C.Id.number m.id c.args.list.now c.loop-place.colours.lists c.loop-place.invariant.own);
+      rest = rw c.release.ensures.lists left;
+      slots = c.release.ensures.slots ∙ c.loop-place.invariant.slots;
+      room = c.release.ensures.total ∙ c.loop-place.invariant.room;
+    }

@@ -1,14 +1,13 @@
 use Rattle.std.proofs.Common.{◌≡◌, ◌+◌, drop, length}
-use Rattle.std.specs.Prelude.{filter}
 use Rattle.graph_colours.specs.Colours.{all_members}
-use Rattle.sleep_wake.specs.Waking.{has_mover_of, released_all}
+use Rattle.sleep_wake.specs.Waking.{released_all}
 use Rattle.sleep_wake.specs.Rooms.{OwnMovers}
 use Rattle.sleep_wake.proofs.waking.release_island.Given as goal
 
 abbrev pub invariant-loop-place : goal.invariant-loop-place
 invariant-loop-place g l = record {
-  own : OwnMovers g.C.Id.number l.ties l.colours.lists;
-  rest : released_all g.C.Id.number l.colours.lists (filter (has_mover_of l.islands.labels l.name) (drop l.place l.ties)) ≡ released_all g.C.Id.number l.fn.colours.lists (filter (has_mover_of l.islands.labels l.name) l.ties);
+  own : OwnMovers g.C.Id.number l.list l.colours.lists;
+  rest : released_all g.C.Id.number l.colours.lists (drop l.place l.list) ≡ released_all g.C.Id.number l.fn.colours.lists l.list;
   slots : l.colours.slots ≡ l.fn.colours.slots;
   room : l.colours.room + length (all_members l.colours.lists) ≡ l.fn.colours.room + length (all_members l.fn.colours.lists);
 }

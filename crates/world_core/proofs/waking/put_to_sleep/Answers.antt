@@ -1,5 +1,6 @@
 use Rattle.std.proofs.Common.{sym, ◌∙◌}
 use Rattle.world_core.proofs.QuietSteps.{slept_stays}
+use Rattle.world_core.proofs.TellingLaws.{slept_beside}
 use Rattle.world_core_base.proofs.MarkedLaws.{marked_same}
 use Rattle.world_core.proofs.waking.put_to_sleep.Goals as goal
 
@@ -8,3 +9,6 @@ returns-then-not-is_awake-clause-acting c = sym (slept_stays c.args.slot c.args.
 
 pub returns-then-not-is_awake-clause-marked : goal.returns-then-not-is_awake-clause-marked
 returns-then-not-is_awake-clause-marked c = marked_same c.args.bodies.now.bodies c.args.bodies.now.marks
+
+pub tell_some-requires-clause-others : goal.tell_some-requires-clause-others
+tell_some-requires-clause-others c = rw (c.islands.ensures, c.sleep.ensures.acting) (slept_beside c.args.slot c.args.movers.now c.args.sets.now.acting c.args.bodies.now.bodies c.requires.settled c.requires.movers c.requires.told)

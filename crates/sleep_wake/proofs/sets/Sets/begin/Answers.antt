@@ -21,11 +21,11 @@ invariant_of-self g c =
     let more : length new.ties ≡ length s.ties + 1 = ap (λ (v : Acting g.row.C.Denot). length v.ties) is ∙ begun_more n c.args.member s in
     let few : length new.labels ≡ length s.labels = ap (λ (v : Acting g.row.C.Denot). length v.labels) is ∙ begun_size n c.args.member s in
     let P : Acting g.row.C.Denot → Type 0 = λ v. IsSettled n v in
-    stands n s new a.room a.slots (record { ties = a.ties.capacity; colours = a.colours.room; colour_slots = a.colours.slots; islands = a.islands.room; edges = vec_capacity a.edges; scratch_slots = a.scratch.slots; links = a.scratch.links; leasts = vec_capacity a.leasts; ties_pending = a.ties.pending; colours_pending = a.colours.pending }) (record { ties = c.begin_now.new.ties.capacity; colours = c.begin_now.new.colours.room; colour_slots = c.begin_now.new.colours.slots; islands = c.begin_now.new.islands.room; edges = vec_capacity a.edges; scratch_slots = a.scratch.slots; links = a.scratch.links; leasts = vec_capacity a.leasts; ties_pending = c.begin_now.new.ties.pending; colours_pending = c.begin_now.new.colours.pending }) c.self.invariant
+    stands n s new a.room a.slots (record { ties = a.ties.capacity; colours = a.colours.room; colour_slots = a.colours.slots; islands = a.islands.room; edges = vec_capacity a.edges; scratch_slots = a.scratch.slots; links = a.scratch.links; gathering_ties = a.gathering.ties; gathering_slots = a.gathering.slots; leasts = vec_capacity a.leasts; ties_pending = a.ties.pending; colours_pending = a.colours.pending }) (record { ties = c.begin_now.new.ties.capacity; colours = c.begin_now.new.colours.room; colour_slots = c.begin_now.new.colours.slots; islands = c.begin_now.new.islands.room; edges = vec_capacity a.edges; scratch_slots = a.scratch.slots; links = a.scratch.links; gathering_ties = a.gathering.ties; gathering_slots = a.gathering.slots; leasts = vec_capacity a.leasts; ties_pending = c.begin_now.new.ties.pending; colours_pending = c.begin_now.new.colours.pending }) c.self.invariant
     (subst P (sym is) (beginning_keeps n s c.args.member c.self.invariant.settled fresh awake))
     (omega (arith, more, room))
     (omega (arith, few, c.self.invariant.few))
-    (record { ties = c.begin_now.ensures.capacity; colours = c.begin_now.ensures.room; colour_slots = c.begin_now.ensures.slots; islands = c.begin_now.ensures.islands_room; edges = omega arith; scratch_slots = refl; links = refl; leasts = omega arith; ties_settled = c.begin_now.ensures.ties_settled; colours_settled = c.begin_now.ensures.colours_settled })
+    (record { ties = c.begin_now.ensures.capacity; colours = c.begin_now.ensures.room; colour_slots = c.begin_now.ensures.slots; islands = c.begin_now.ensures.islands_room; edges = omega arith; scratch_slots = refl; links = refl; gathering_ties = omega arith; gathering_slots = omega arith; leasts = omega arith; ties_settled = c.begin_now.ensures.ties_settled; colours_settled = c.begin_now.ensures.colours_settled })
 
 pub begin_now-requires-clause-colours_room : goal.begin_now-requires-clause-colours_room
 begin_now-requires-clause-colours_room g c =

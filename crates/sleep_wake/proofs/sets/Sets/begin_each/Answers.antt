@@ -29,8 +29,8 @@ invariant_of-self g c =
     let Q : Acting g.row.C.Denot → Type 0 = λ v. length v.ties ≤ a.room in
     let P : Acting g.row.C.Denot → Type 0 = λ v. IsSettled n v in
     let few : length new.labels ≡ length s.labels = ap (λ (v : Acting g.row.C.Denot). length v.labels) is ∙ each_begun_long n c.args.members.now s in
-    stands n s new a.room a.slots (record { ties = a.ties.capacity; colours = a.colours.room; colour_slots = a.colours.slots; islands = a.islands.room; edges = vec_capacity a.edges; scratch_slots = a.scratch.slots; links = a.scratch.links; leasts = vec_capacity a.leasts; ties_pending = a.ties.pending; colours_pending = a.colours.pending }) (record { ties = c.begin_each_now.new.ties.capacity; colours = c.begin_each_now.new.colours.room; colour_slots = c.begin_each_now.new.colours.slots; islands = c.begin_each_now.new.islands.room; edges = vec_capacity a.edges; scratch_slots = a.scratch.slots; links = a.scratch.links; leasts = vec_capacity a.leasts; ties_pending = c.begin_each_now.new.ties.pending; colours_pending = c.begin_each_now.new.colours.pending }) c.self.invariant
+    stands n s new a.room a.slots (record { ties = a.ties.capacity; colours = a.colours.room; colour_slots = a.colours.slots; islands = a.islands.room; edges = vec_capacity a.edges; scratch_slots = a.scratch.slots; links = a.scratch.links; gathering_ties = a.gathering.ties; gathering_slots = a.gathering.slots; leasts = vec_capacity a.leasts; ties_pending = a.ties.pending; colours_pending = a.colours.pending }) (record { ties = c.begin_each_now.new.ties.capacity; colours = c.begin_each_now.new.colours.room; colour_slots = c.begin_each_now.new.colours.slots; islands = c.begin_each_now.new.islands.room; edges = vec_capacity a.edges; scratch_slots = a.scratch.slots; links = a.scratch.links; gathering_ties = a.gathering.ties; gathering_slots = a.gathering.slots; leasts = vec_capacity a.leasts; ties_pending = c.begin_each_now.new.ties.pending; colours_pending = c.begin_each_now.new.colours.pending }) c.self.invariant
     (subst P (sym is) (beginning_each_keeps n s c.args.members.now c.self.invariant.settled can))
     (subst Q (sym is) (each_begun_few n c.args.members.now s a.room room))
     (omega (arith, few, c.self.invariant.few))
-    (record { ties = c.begin_each_now.ensures.capacity; colours = c.begin_each_now.ensures.room; colour_slots = c.begin_each_now.ensures.slots; islands = c.begin_each_now.ensures.islands_room; edges = omega arith; scratch_slots = refl; links = refl; leasts = omega arith; ties_settled = c.begin_each_now.ensures.ties_settled; colours_settled = c.begin_each_now.ensures.colours_settled })
+    (record { ties = c.begin_each_now.ensures.capacity; colours = c.begin_each_now.ensures.room; colour_slots = c.begin_each_now.ensures.slots; islands = c.begin_each_now.ensures.islands_room; edges = omega arith; scratch_slots = refl; links = refl; gathering_ties = omega arith; gathering_slots = omega arith; leasts = omega arith; ties_settled = c.begin_each_now.ensures.ties_settled; colours_settled = c.begin_each_now.ensures.colours_settled })

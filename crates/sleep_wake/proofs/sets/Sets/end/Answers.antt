@@ -21,8 +21,8 @@ invariant_of-self g c =
     let same : length new.ties ≡ length (ended n c.args.member s).ties = ap (λ (v : Acting g.row.C.Denot). length v.ties) is in
     let few : length new.labels ≡ length s.labels = ap (λ (v : Acting g.row.C.Denot). length v.labels) is ∙ ended_size n c.args.member s in
     let P : Acting g.row.C.Denot → Type 0 = λ v. IsSettled n v in
-    stands n s new a.room a.slots (record { ties = a.ties.capacity; colours = a.colours.room; colour_slots = a.colours.slots; islands = a.islands.room; edges = vec_capacity a.edges; scratch_slots = a.scratch.slots; links = a.scratch.links; leasts = vec_capacity a.leasts; ties_pending = a.ties.pending; colours_pending = a.colours.pending }) (record { ties = c.end_now.new.ties.capacity; colours = c.end_now.new.colours.room; colour_slots = c.end_now.new.colours.slots; islands = c.end_now.new.islands.room; edges = vec_capacity a.edges; scratch_slots = a.scratch.slots; links = a.scratch.links; leasts = vec_capacity a.leasts; ties_pending = c.end_now.new.ties.pending; colours_pending = c.end_now.new.colours.pending }) c.self.invariant
+    stands n s new a.room a.slots (record { ties = a.ties.capacity; colours = a.colours.room; colour_slots = a.colours.slots; islands = a.islands.room; edges = vec_capacity a.edges; scratch_slots = a.scratch.slots; links = a.scratch.links; gathering_ties = a.gathering.ties; gathering_slots = a.gathering.slots; leasts = vec_capacity a.leasts; ties_pending = a.ties.pending; colours_pending = a.colours.pending }) (record { ties = c.end_now.new.ties.capacity; colours = c.end_now.new.colours.room; colour_slots = c.end_now.new.colours.slots; islands = c.end_now.new.islands.room; edges = vec_capacity a.edges; scratch_slots = a.scratch.slots; links = a.scratch.links; gathering_ties = a.gathering.ties; gathering_slots = a.gathering.slots; leasts = vec_capacity a.leasts; ties_pending = c.end_now.new.ties.pending; colours_pending = c.end_now.new.colours.pending }) c.self.invariant
     (subst P (sym is) (ending_keeps n s c.args.member c.self.invariant.settled there (are_up s.labels c.args.member.movers awake).first))
     (omega (arith, less, same, c.self.invariant.enough))
     (omega (arith, few, c.self.invariant.few))
-    (record { ties = omega (arith, c.end_now.ensures.capacity); colours = c.end_now.ensures.room; colour_slots = c.end_now.ensures.slots; islands = c.end_now.ensures.islands_room; edges = omega arith; scratch_slots = refl; links = refl; leasts = omega arith; ties_settled = c.end_now.ensures.ties_settled; colours_settled = c.end_now.ensures.colours_settled })
+    (record { ties = omega (arith, c.end_now.ensures.capacity); colours = c.end_now.ensures.room; colour_slots = c.end_now.ensures.slots; islands = c.end_now.ensures.islands_room; edges = omega arith; scratch_slots = refl; links = refl; gathering_ties = omega arith; gathering_slots = omega arith; leasts = omega arith; ties_settled = c.end_now.ensures.ties_settled; colours_settled = c.end_now.ensures.colours_settled })

@@ -23,5 +23,5 @@ invariant_of-result g c =
       settled = subst P (sym is) (empty_settled n none (colouring_of_none n) refl);
       enough = omega (arith, few);
       few = omega (arith, short);
-      rooms = record { ties = omega arith; colours = omega arith; colour_slots = omega arith; islands = omega arith; edges = omega arith; scratch_slots = omega arith; links = omega arith; leasts = omega arith; ties_settled = c.new.ensures.pending; colours_settled = c.new-3.ensures.pending };
+      rooms = record { ties = omega arith; colours = omega arith; colour_slots = omega arith; islands = omega arith; edges = omega arith; scratch_slots = omega arith; links = omega arith; gathering_ties = omega arith; gathering_slots = omega arith; leasts = omega arith; ties_settled = c.new.ensures.pending; colours_settled = c.new-3.ensures.pending };
     }

@@ -6,7 +6,6 @@ use Rattle.sleep_wake.proofs.StandLemmas.{stands_on}
 use Rattle.sleep_wake.proofs.PhaseLemmas.{ready_settled}
 use Rattle.sleep_wake.proofs.LengthLemmas.{all_rest_long}
 use Rattle.sleep_wake.proofs.RestingLaws.{all_ties}
-use Rattle.sleep_wake.proofs.TurnOwn.{own_of}
 use Rattle.sleep_wake.proofs.sets.Sets.rest_ready.Goals as goal
 
 pub invariant_of-self : goal.invariant_of-self
@@ -18,13 +17,8 @@ invariant_of-self g c =
     let new : Acting g.row.C.Denot = acting a.ties.items c.rest_ready.new.islands.labels c.rest_ready.new.colours.lists in
     let is : new ≡ ready_put_to_rest n timers s = rw c.as_slice.ensures.value at c.rest_ready.ensures.at_rest in
     let P : Acting g.row.C.Denot → Type 0 = λ v. IsSettled n v in
-    stands_on n s new a.room a.slots (record { ties = a.ties.capacity; colours = a.colours.room; colour_slots = a.colours.slots; islands = a.islands.room; edges = vec_capacity a.edges; scratch_slots = a.scratch.slots; links = a.scratch.links; leasts = vec_capacity a.leasts; ties_pending = a.ties.pending; colours_pending = a.colours.pending }) (record { ties = a.ties.capacity; colours = c.rest_ready.new.colours.room; colour_slots = c.rest_ready.new.colours.slots; islands = c.rest_ready.new.islands.room; edges = vec_capacity a.edges; scratch_slots = a.scratch.slots; links = a.scratch.links; leasts = vec_capacity c.rest_ready.new.leasts; ties_pending = a.ties.pending; colours_pending = c.rest_ready.new.colours.pending }) c.self.invariant
+    stands_on n s new a.room a.slots (record { ties = a.ties.capacity; colours = a.colours.room; colour_slots = a.colours.slots; islands = a.islands.room; edges = vec_capacity a.edges; scratch_slots = a.scratch.slots; links = a.scratch.links; gathering_ties = a.gathering.ties; gathering_slots = a.gathering.slots; leasts = vec_capacity a.leasts; ties_pending = a.ties.pending; colours_pending = a.colours.pending }) (record { ties = a.ties.capacity; colours = c.rest_ready.new.colours.room; colour_slots = c.rest_ready.new.colours.slots; islands = c.rest_ready.new.islands.room; edges = vec_capacity a.edges; scratch_slots = a.scratch.slots; links = a.scratch.links; gathering_ties = a.gathering.ties; gathering_slots = a.gathering.slots; leasts = vec_capacity c.rest_ready.new.leasts; ties_pending = a.ties.pending; colours_pending = c.rest_ready.new.colours.pending }) c.self.invariant
     (subst P (sym is) (ready_settled n timers s c.self.invariant.settled))
     (ap (λ (v : Acting g.row.C.Denot). v.ties) is ∙ all_ties n (ready false s.labels timers) s)
     (ap (λ (v : Acting g.row.C.Denot). length v.labels) is ∙ all_rest_long n (ready false s.labels timers) s)
-    (record { ties = omega arith; colours = c.rest_ready.ensures.room; colour_slots = c.rest_ready.ensures.slots; islands = c.rest_ready.ensures.islands_room; edges = omega arith; scratch_slots = refl; links = refl; leasts = c.rest_ready.ensures.capacity; ties_settled = c.self.invariant.rooms.ties_settled; colours_settled = c.rest_ready.ensures.pending })
-
-pub rest_ready-requires-clause-own : goal.rest_ready-requires-clause-own
-rest_ready-requires-clause-own g c =
-    let a = c.self.inside in
-    rw c.as_slice.ensures.value (own_of g.C.Id.number (acting a.ties.items a.islands.labels a.colours.lists) c.self.invariant.settled)
+    (record { ties = omega arith; colours = c.rest_ready.ensures.room; colour_slots = c.rest_ready.ensures.slots; islands = c.rest_ready.ensures.islands_room; edges = omega arith; scratch_slots = refl; links = refl; gathering_ties = omega arith; gathering_slots = omega arith; leasts = c.rest_ready.ensures.capacity; ties_settled = c.self.invariant.rooms.ties_settled; colours_settled = c.rest_ready.ensures.pending })

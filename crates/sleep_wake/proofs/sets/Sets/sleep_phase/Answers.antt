@@ -1,11 +1,15 @@
-use Rattle.std.proofs.Common.{◌≡◌, true, sym, ◌∙◌, subst}
-use Rattle.islands.specs.Labels.{label_at}
-use Rattle.sleep_wake.specs.SleepPhase.{is_island}
-use Rattle.sleep_wake.specs.Standing.{Standing}
-use Rattle.sleep_wake.proofs.PhaseLemmas.{picked_is}
+use Rattle.std.proofs.Common.{ap, ◌∙◌}
+use Rattle.sleep_wake.specs.Acting.{Acting}
+use Rattle.sleep_wake.specs.SleepPhase.{ready_put_to_rest}
+use Rattle.sleep_wake.proofs.AgreeLaws.{awake_after, phase_agrees}
 use Rattle.sleep_wake.proofs.sets.Sets.sleep_phase.Goals as goal
 
-pub split-requires : goal.split-requires
-split-requires g c =
-    let P : Standing g.row.C.Denot → Type 0 = λ v. is_island true c.in-Some.name (label_at v.acting.labels c.in-Some.name) ≡ true in
-    subst P (sym c.pick_split.ensures.same) (picked_is c.args.self.now.acting.labels c.args.timers.now c.in-Some.name (sym c.pick_split.ensures.picked ∙ c.in-Some.is))
+pub rest_ready-requires : goal.rest_ready-requires
+rest_ready-requires g c = record { awake = awake_after g.C.Id.number c.args.self.now.acting c.split_ready.new.self.acting c.args.timers.now c.args.awake.now c.settled.ensures c.split_ready.ensures.acting c.requires.awake }
+
+pub returns-clause-acting : goal.returns-clause-acting
+returns-clause-acting g c = λ all same.
+    let n = g.C.Id.number in
+    c.rest_ready.ensures.acting
+    ∙ ap (λ (v : Acting g.row.C.Denot). ready_put_to_rest n c.args.timers.now v) c.split_ready.ensures.acting
+    ∙ phase_agrees n c.args.self.now.acting c.args.timers.now all c.settled.ensures same

@@ -11,7 +11,11 @@ use Rattle.world_core.proofs.PartLaws.{can_join_from, free_joint, join_answers, 
 use Rattle.plain_world.specs.Slots.{with_item}
 use Rattle.world_core.proofs.CoreLaws.{core_joined}
 use Rattle.world_core.proofs.KnownLaws.{marked_after}
+use Rattle.world_core.proofs.TellingLaws.{listed_as}
 use Rattle.world_core.proofs.world.WorldCore.create_joint.Goals as goal
+
+pub wake_named-requires-clause-movers : goal.wake_named-requires-clause-movers
+wake_named-requires-clause-movers c = listed_as _ _ _ _ _ _ c.deref.ensures.value c.deref-2.ensures.value c.deref-3.ensures.value c.in_ok-movers.ensures.islands
 
 pub wake_named-requires-clause-told : goal.wake_named-requires-clause-told
 wake_named-requires-clause-told c = rw c.in_ok-reserve.ensures.acting (told_whole (the_view c.self.inside) _ c.self.invariant.whole)
@@ -22,7 +26,7 @@ begin_with-requires-clause-fresh c =
     let slot = rw c.in_ok-reserve_one.ensures.kept at c.in_ok-handle.ensures.slot in
     let generation = rw c.in_ok-reserve_one.ensures.kept at c.in_ok-handle.ensures.generation in
     let free : lowest w.plain.joint_places < MAX_SLOTS = rw slot at c.in_ok-handle.ensures.slot_below in
-    rw (same_handle c.in_ok-handle.handle (next_joint w.plain) slot generation, c.wake_named.ensures.acting, c.deref.ensures.value, c.in_ok-names.ensures.value, c.in_ok-reserve.ensures.acting, c.make-joint.ensures)
+    rw (same_handle c.in_ok-handle.handle (next_joint w.plain) slot generation, c.wake_named.ensures.acting, c.deref-2.ensures.value, c.in_ok-names.ensures.value, c.in_ok-reserve.ensures.acting, c.make-joint.ensures)
     (can_join_from w c.self.inside.sets.acting (joint_made c.args.def.now) c.self.invariant.whole free).fresh
 
 pub begin_with-requires-clause-awake : goal.begin_with-requires-clause-awake
@@ -30,13 +34,13 @@ begin_with-requires-clause-awake c =
     let w : World = the_view c.self.inside in
     let slot = rw c.in_ok-reserve_one.ensures.kept at c.in_ok-handle.ensures.slot in
     let free : lowest w.plain.joint_places < MAX_SLOTS = rw slot at c.in_ok-handle.ensures.slot_below in
-    rw (c.joint_movers-movers.ensures, c.bodies-2.ensures, c.wake_named.ensures.told, c.wake_named.ensures.acting, c.deref.ensures.value, c.in_ok-names.ensures.value, c.in_ok-reserve.ensures.acting, c.make-joint.ensures)
+    rw (c.joint_movers-movers.ensures, c.bodies-2.ensures, c.wake_named.ensures.told, c.wake_named.ensures.acting, c.deref-2.ensures.value, c.in_ok-names.ensures.value, c.in_ok-reserve.ensures.acting, c.make-joint.ensures)
     (can_join_from w c.self.inside.sets.acting (joint_made c.args.def.now) c.self.invariant.whole free).awake
 
 pub begin_with-requires-clause-room : goal.begin_with-requires-clause-room
 begin_with-requires-clause-room c =
     let room = c.in_ok-reserve.ensures.room_made in
-    rw (c.wake_named.ensures.room, c.wake_named.ensures.acting, c.in_ok-reserve.ensures.acting, woken_room c.deref.result.now c.self.inside.sets.acting) (omega (arith, room))
+    rw (c.wake_named.ensures.room, c.wake_named.ensures.acting, c.in_ok-reserve.ensures.acting, woken_room c.deref-2.result.now c.self.inside.sets.acting) (omega (arith, room))
 
 pub put-requires-clause-next : goal.put-requires-clause-next
 put-requires-clause-next c =
@@ -64,7 +68,7 @@ invariant_of-self-2 c =
     let slots : length w.plain.joint_places ≡ length w.plain.joints = (kept_of _ _ c.self.invariant.whole).joint_slots.slots in
     let le : c.in_ok-handle.handle.slot ≤ length w.plain.joints = rw slot (omega (arith, least, slots)) in
     core_joined w _ _ _ c.self.inside.bodies c.mark.new.self c.in_ok-handle.handle.slot c.make-joint.result c.self.invariant
-    (rw (c.in_ok-handle.ensures.given_out, c.put.ensures, c.mark.ensures.bodies, c.begin_with.ensures.acting, same_handle c.in_ok-handle.handle (next_joint w.plain) slot generation, c.joint_movers-movers.ensures, c.bodies-2.ensures, c.wake_named.ensures.told, c.wake_named.ensures.acting, c.deref.ensures.value, c.in_ok-names.ensures.value, c.in_ok-reserve.ensures.acting, c.in_ok-reserve_one.ensures.kept, c.in_ok-reserve_one-2.ensures.joints, c.make-joint.ensures)
+    (rw (c.in_ok-handle.ensures.given_out, c.put.ensures, c.mark.ensures.bodies, c.begin_with.ensures.acting, same_handle c.in_ok-handle.handle (next_joint w.plain) slot generation, c.joint_movers-movers.ensures, c.bodies-2.ensures, c.wake_named.ensures.told, c.wake_named.ensures.acting, c.deref-2.ensures.value, c.in_ok-names.ensures.value, c.in_ok-reserve.ensures.acting, c.in_ok-reserve_one.ensures.kept, c.in_ok-reserve_one-2.ensures.joints, c.make-joint.ensures)
     (whole w _ _ _ (join_left w c.self.inside.sets.acting c.args.def.now (kept_of _ _ c.self.invariant.whole) c.self.invariant.whole.same calls free is)))
     refl refl joint none le
     (marked_after c.self.inside.bodies c.wake_named.new.bodies c.mark.new.self c.wake_named.ensures.marked c.mark.ensures.marked) c.mark.ensures.there put refl
@@ -78,5 +82,5 @@ returns c =
     let free : lowest w.plain.joint_places < MAX_SLOTS = rw slot at c.in_ok-handle.ensures.slot_below in
     let is : IsBodyJoint w.plain.bodies (joint_made c.args.def.now) = rw c.bodies.ensures at c.in_ok-check_join.ensures.joint in
     let due = rw c.bodies.ensures at c.in_ok-check_join.ensures.refusal in
-    rw (← c.self.view_is, c.in_ok-handle.ensures.given_out, c.put.ensures, c.mark.ensures.bodies, c.begin_with.ensures.acting, same_handle c.in_ok-handle.handle (next_joint w.plain) slot generation, c.joint_movers-movers.ensures, c.bodies-2.ensures, c.wake_named.ensures.told, c.wake_named.ensures.acting, c.deref.ensures.value, c.in_ok-names.ensures.value, c.in_ok-reserve.ensures.acting, c.in_ok-reserve_one.ensures.kept, c.in_ok-reserve_one-2.ensures.joints, c.make-joint.ensures)
+    rw (← c.self.view_is, c.in_ok-handle.ensures.given_out, c.put.ensures, c.mark.ensures.bodies, c.begin_with.ensures.acting, same_handle c.in_ok-handle.handle (next_joint w.plain) slot generation, c.joint_movers-movers.ensures, c.bodies-2.ensures, c.wake_named.ensures.told, c.wake_named.ensures.acting, c.deref-2.ensures.value, c.in_ok-names.ensures.value, c.in_ok-reserve.ensures.acting, c.in_ok-reserve_one.ensures.kept, c.in_ok-reserve_one-2.ensures.joints, c.make-joint.ensures)
     (join_answers w c.args.def.now (next_joint w.plain) _ _ due free refl (join_left w c.self.inside.sets.acting c.args.def.now (kept_of _ _ c.self.invariant.whole) c.self.invariant.whole.same calls free is))

@@ -14,17 +14,21 @@ use Rattle.plain_world.specs.Slots.{body_at}
 use Rattle.world_rules.proofs.SlotLemmas.{item_at-set_none}
 use Rattle.world_core.proofs.CoreLaws.{core_destroyed}
 use Rattle.world_core.proofs.KnownLaws.{marked_after}
+use Rattle.world_core.proofs.TellingLaws.{listed_as}
 use Rattle.world_core.proofs.world.WorldCore.destroy_body.Goals as goal
+
+pub wake_named-requires-clause-movers : goal.wake_named-requires-clause-movers
+wake_named-requires-clause-movers c = listed_as _ _ _ _ _ _ c.deref.ensures.value c.deref-2.ensures.value c.deref-3.ensures.value c.in_ok-movers.ensures.islands
 
 pub wake_named-requires-clause-told : goal.wake_named-requires-clause-told
 wake_named-requires-clause-told c = (told_whole (the_view c.self.inside) _ c.self.invariant.whole)
 
-named : (c : goal.After-deref-2) → body_of (the_view c.self.inside).plain c.args.handle ≡ Some c.in-Some.body.now
+named : (c : goal.After-deref-4) → body_of (the_view c.self.inside).plain c.args.handle ≡ Some c.in-Some.body.now
 named c = rw (← c.bodies.ensures) (sym c.in-Some.ensures)
 
-going : (c : goal.After-deref-2) → IsGoing (the_view c.self.inside) c.self.inside.sets.acting c.wake_named.new.sets.acting c.args.handle c.in-Some.body.now c.is_mover-mover.result c.deref-2.result.now
+going : (c : goal.After-deref-4) → IsGoing (the_view c.self.inside) c.self.inside.sets.acting c.wake_named.new.sets.acting c.args.handle c.in-Some.body.now c.is_mover-mover.result c.deref-4.result.now
 going c =
-    is_going (the_view c.self.inside) c.self.inside.sets.acting _ c.args.handle c.in-Some.body.now _ _ c.deref.result.now c.self.invariant.whole (named c) c.is_mover-mover.ensures (c.deref-2.ensures.value ∙ rw (← c.self.view_is) at c.in_ok-ties.ensures.ties) (c.deref.ensures.value ∙ rw (← c.self.view_is) at c.in_ok-names.ensures.value)
+    is_going (the_view c.self.inside) c.self.inside.sets.acting _ c.args.handle c.in-Some.body.now _ _ c.deref-2.result.now c.self.invariant.whole (named c) c.is_mover-mover.ensures (c.deref-4.ensures.value ∙ rw (← c.self.view_is) at c.in_ok-ties.ensures.ties) (c.deref-2.ensures.value ∙ rw (← c.self.view_is) at c.in_ok-names.ensures.value)
     c.wake_named.ensures.acting
 
 pub leave-requires-clause-can : goal.leave-requires-clause-can
@@ -48,8 +52,8 @@ pub invariant_of-self-2 : goal.invariant_of-self-2
 invariant_of-self-2 c =
     let w : World = the_view c.self.inside in
     let named : body_of w.plain c.args.handle ≡ Some c.in-Some.body.now = rw (← c.bodies.ensures) (sym c.in-Some.ensures) in
-    let going : IsGoing w c.self.inside.sets.acting c.wake_named.new.sets.acting c.args.handle c.in-Some.body.now c.is_mover-mover.result c.deref-2.result.now =
-    is_going w c.self.inside.sets.acting _ c.args.handle c.in-Some.body.now _ _ c.deref.result.now c.self.invariant.whole named c.is_mover-mover.ensures (c.deref-2.ensures.value ∙ rw (← c.self.view_is) at c.in_ok-ties.ensures.ties) (c.deref.ensures.value ∙ rw (← c.self.view_is) at c.in_ok-names.ensures.value) c.wake_named.ensures.acting in
+    let going : IsGoing w c.self.inside.sets.acting c.wake_named.new.sets.acting c.args.handle c.in-Some.body.now c.is_mover-mover.result c.deref-4.result.now =
+    is_going w c.self.inside.sets.acting _ c.args.handle c.in-Some.body.now _ _ c.deref-2.result.now c.self.invariant.whole named c.is_mover-mover.ensures (c.deref-4.ensures.value ∙ rw (← c.self.view_is) at c.in_ok-ties.ensures.ties) (c.deref-2.ensures.value ∙ rw (← c.self.view_is) at c.in_ok-names.ensures.value) c.wake_named.ensures.acting in
     let calls : c.self.inside.calls < 2 ^ 40 = rw (← c.self.view_is) at c.requires in
     let places = ap (λ (s : JointSlots). s.places) c.drop_joints.ensures.gone in
     let joints = ap (λ (s : JointSlots). s.joints) c.drop_joints.ensures.gone in
@@ -64,8 +68,8 @@ pub returns : goal.returns
 returns c =
     let w : World = the_view c.self.inside in
     let named : body_of w.plain c.args.handle ≡ Some c.in-Some.body.now = rw (← c.bodies.ensures) (sym c.in-Some.ensures) in
-    let going : IsGoing w c.self.inside.sets.acting c.wake_named.new.sets.acting c.args.handle c.in-Some.body.now c.is_mover-mover.result c.deref-2.result.now =
-    is_going w c.self.inside.sets.acting _ c.args.handle c.in-Some.body.now _ _ c.deref.result.now c.self.invariant.whole named c.is_mover-mover.ensures (c.deref-2.ensures.value ∙ rw (← c.self.view_is) at c.in_ok-ties.ensures.ties) (c.deref.ensures.value ∙ rw (← c.self.view_is) at c.in_ok-names.ensures.value) c.wake_named.ensures.acting in
+    let going : IsGoing w c.self.inside.sets.acting c.wake_named.new.sets.acting c.args.handle c.in-Some.body.now c.is_mover-mover.result c.deref-4.result.now =
+    is_going w c.self.inside.sets.acting _ c.args.handle c.in-Some.body.now _ _ c.deref-2.result.now c.self.invariant.whole named c.is_mover-mover.ensures (c.deref-4.ensures.value ∙ rw (← c.self.view_is) at c.in_ok-ties.ensures.ties) (c.deref-2.ensures.value ∙ rw (← c.self.view_is) at c.in_ok-names.ensures.value) c.wake_named.ensures.acting in
     let calls : c.self.inside.calls < 2 ^ 40 = rw (← c.self.view_is) at c.requires in
     let places = ap (λ (s : JointSlots). s.places) c.drop_joints.ensures.gone in
     let joints = ap (λ (s : JointSlots). s.joints) c.drop_joints.ensures.gone in

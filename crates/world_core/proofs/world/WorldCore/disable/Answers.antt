@@ -10,17 +10,21 @@ use Rattle.world_core.proofs.LeavingLaws.{disabled_quietly}
 use Rattle.world_core.proofs.PartLaws.{disable_answers, kept_of, whole}
 use Rattle.world_core.proofs.CoreLaws.{core_disabled}
 use Rattle.world_core.proofs.KnownLaws.{marked_after}
+use Rattle.world_core.proofs.TellingLaws.{listed_as}
 use Rattle.world_core.proofs.world.WorldCore.disable.Goals as goal
+
+pub wake_named-requires-clause-movers : goal.wake_named-requires-clause-movers
+wake_named-requires-clause-movers c = listed_as _ _ _ _ _ _ c.deref.ensures.value c.deref-2.ensures.value c.deref-3.ensures.value c.in_ok-movers.ensures.islands
 
 pub wake_named-requires-clause-told : goal.wake_named-requires-clause-told
 wake_named-requires-clause-told c = (told_whole (the_view c.self.inside) _ c.self.invariant.whole)
 
-named : (c : goal.After-deref-2) → body_of (the_view c.self.inside).plain c.args.handle ≡ Some c.in-Some.body.now
+named : (c : goal.After-deref-4) → body_of (the_view c.self.inside).plain c.args.handle ≡ Some c.in-Some.body.now
 named c = rw (← c.bodies.ensures) (sym c.in-Some.ensures)
 
-going : (c : goal.After-deref-2) → IsGoing (the_view c.self.inside) c.self.inside.sets.acting c.wake_named.new.sets.acting c.args.handle c.in-Some.body.now c.is_mover-mover.result c.deref-2.result.now
+going : (c : goal.After-deref-4) → IsGoing (the_view c.self.inside) c.self.inside.sets.acting c.wake_named.new.sets.acting c.args.handle c.in-Some.body.now c.is_mover-mover.result c.deref-4.result.now
 going c =
-    is_going (the_view c.self.inside) c.self.inside.sets.acting _ c.args.handle c.in-Some.body.now _ _ c.deref.result.now c.self.invariant.whole (named c) c.is_mover-mover.ensures (c.deref-2.ensures.value ∙ rw (← c.self.view_is) at c.in_ok-ties.ensures.ties) (c.deref.ensures.value ∙ rw (← c.self.view_is) at c.in_ok-names.ensures.value)
+    is_going (the_view c.self.inside) c.self.inside.sets.acting _ c.args.handle c.in-Some.body.now _ _ c.deref-2.result.now c.self.invariant.whole (named c) c.is_mover-mover.ensures (c.deref-4.ensures.value ∙ rw (← c.self.view_is) at c.in_ok-ties.ensures.ties) (c.deref-2.ensures.value ∙ rw (← c.self.view_is) at c.in_ok-names.ensures.value)
     c.wake_named.ensures.acting
 
 pub leave-requires-clause-can : goal.leave-requires-clause-can
@@ -44,8 +48,8 @@ pub invariant_of-self-2 : goal.invariant_of-self-2
 invariant_of-self-2 c =
     let w : World = the_view c.self.inside in
     let named : body_of w.plain c.args.handle ≡ Some c.in-Some.body.now = rw (← c.bodies.ensures) (sym c.in-Some.ensures) in
-    let going : IsGoing w c.self.inside.sets.acting c.wake_named.new.sets.acting c.args.handle c.in-Some.body.now c.is_mover-mover.result c.deref-2.result.now =
-    is_going w c.self.inside.sets.acting _ c.args.handle c.in-Some.body.now _ _ c.deref.result.now c.self.invariant.whole named c.is_mover-mover.ensures (c.deref-2.ensures.value ∙ rw (← c.self.view_is) at c.in_ok-ties.ensures.ties) (c.deref.ensures.value ∙ rw (← c.self.view_is) at c.in_ok-names.ensures.value) c.wake_named.ensures.acting in
+    let going : IsGoing w c.self.inside.sets.acting c.wake_named.new.sets.acting c.args.handle c.in-Some.body.now c.is_mover-mover.result c.deref-4.result.now =
+    is_going w c.self.inside.sets.acting _ c.args.handle c.in-Some.body.now _ _ c.deref-2.result.now c.self.invariant.whole named c.is_mover-mover.ensures (c.deref-4.ensures.value ∙ rw (← c.self.view_is) at c.in_ok-ties.ensures.ties) (c.deref-2.ensures.value ∙ rw (← c.self.view_is) at c.in_ok-names.ensures.value) c.wake_named.ensures.acting in
     let calls : c.self.inside.calls < 2 ^ 40 = rw (← c.self.view_is) at c.requires in
     core_disabled w _ _ _ c.self.inside.bodies c.disable.new.self c.args.handle.slot c.in-Some.body.now c.wake_named.new.bodies.bodies c.self.invariant
     (rw (c.book.ensures.entries, c.book.ensures.settled, c.loss_of.ensures.x, c.loss_of.ensures.y, c.mover_momentum-p.ensures, c.in_ok-reserve.ensures.entries, c.in_ok-reserve.ensures.settled, c.disable.ensures.bodies, c.idle.ensures, c.drop_of_body.ensures, c.in_ok-reserve_drop.ensures.contacts, c.wake_named.ensures.told, going.bodies, c.leave.ensures.acting, going.gone)
@@ -57,8 +61,8 @@ pub returns : goal.returns
 returns c =
     let w : World = the_view c.self.inside in
     let named : body_of w.plain c.args.handle ≡ Some c.in-Some.body.now = rw (← c.bodies.ensures) (sym c.in-Some.ensures) in
-    let going : IsGoing w c.self.inside.sets.acting c.wake_named.new.sets.acting c.args.handle c.in-Some.body.now c.is_mover-mover.result c.deref-2.result.now =
-    is_going w c.self.inside.sets.acting _ c.args.handle c.in-Some.body.now _ _ c.deref.result.now c.self.invariant.whole named c.is_mover-mover.ensures (c.deref-2.ensures.value ∙ rw (← c.self.view_is) at c.in_ok-ties.ensures.ties) (c.deref.ensures.value ∙ rw (← c.self.view_is) at c.in_ok-names.ensures.value) c.wake_named.ensures.acting in
+    let going : IsGoing w c.self.inside.sets.acting c.wake_named.new.sets.acting c.args.handle c.in-Some.body.now c.is_mover-mover.result c.deref-4.result.now =
+    is_going w c.self.inside.sets.acting _ c.args.handle c.in-Some.body.now _ _ c.deref-2.result.now c.self.invariant.whole named c.is_mover-mover.ensures (c.deref-4.ensures.value ∙ rw (← c.self.view_is) at c.in_ok-ties.ensures.ties) (c.deref-2.ensures.value ∙ rw (← c.self.view_is) at c.in_ok-names.ensures.value) c.wake_named.ensures.acting in
     let calls : c.self.inside.calls < 2 ^ 40 = rw (← c.self.view_is) at c.requires in
     rw (← c.self.view_is)
     (disable_answers w c.args.handle c.in-Some.body.now _ c.leave.new.sets.acting named c.if-not-body.false

@@ -6,7 +6,11 @@ use Rattle.world_core.specs.contracts.world.WorldCore.{the_view}
 use Rattle.world_core.proofs.Whole.{HasWoken, can_pose_woken, has_woken, pose_whole, told_whole}
 use Rattle.world_core.proofs.CoreLaws.{core_bodies}
 use Rattle.world_core.proofs.KnownLaws.{marked_after}
+use Rattle.world_core.proofs.TellingLaws.{listed_as}
 use Rattle.world_core.proofs.world.WorldCore.set_pose.Goals as goal
+
+pub wake_named-requires-clause-movers : goal.wake_named-requires-clause-movers
+wake_named-requires-clause-movers c = listed_as _ _ _ _ _ _ c.deref.ensures.value c.deref-2.ensures.value c.deref-3.ensures.value c.in_ok-movers.ensures.islands
 
 pub wake_named-requires-clause-told : goal.wake_named-requires-clause-told
 wake_named-requires-clause-told c = (told_whole (the_view c.self.inside) _ c.self.invariant.whole)
@@ -17,7 +21,7 @@ change-requires-clause-slot c = rw (c.wake_named.ensures.count, ← c.bodies.ens
 pub change-requires-clause-fits : goal.change-requires-clause-fits
 change-requires-clause-fits c =
     let woke : HasWoken (the_view c.self.inside) (stirred_by c.self.inside.bodies.bodies c.self.inside.joints.joints c.self.inside.contacts.contacts c.args.handle.slot) c.wake_named.new.sets.acting c.wake_named.new.bodies.bodies =
-    has_woken (the_view c.self.inside) _ _ c.self.inside.sets.acting _ _ c.self.invariant.whole (rw (← c.self.view_is) at c.in_ok-names.ensures.value) (rw c.deref.ensures.value at c.wake_named.ensures.acting) c.wake_named.ensures.told in
+    has_woken (the_view c.self.inside) _ _ c.self.inside.sets.acting _ _ c.self.invariant.whole (rw (← c.self.view_is) at c.in_ok-names.ensures.value) (rw c.deref-2.ensures.value at c.wake_named.ensures.acting) c.wake_named.ensures.told in
     can_pose_woken (the_view c.self.inside) _ c.self.inside.sets.acting _ _ c.args.handle.slot c.in_ok-pose.pose c.self.invariant.whole woke c.in_ok-pose.ensures.pose
 
 pub invariant_of-self : goal.invariant_of-self
@@ -25,7 +29,7 @@ invariant_of-self c =
     let calls : c.self.inside.calls < 2 ^ 40 = rw (← c.self.view_is) at c.requires in
     let due : posed (slots.body_of c.self.inside.handles.places c.self.inside.bodies.bodies c.args.handle) c.args.pose ≡ Ok c.in_ok-pose.pose = rw (← c.bodies.ensures) (sym c.in_ok-pose.ensures.value) in
     let woke : HasWoken (the_view c.self.inside) (stirred_by c.self.inside.bodies.bodies c.self.inside.joints.joints c.self.inside.contacts.contacts c.args.handle.slot) c.wake_named.new.sets.acting c.wake_named.new.bodies.bodies =
-    has_woken (the_view c.self.inside) _ _ c.self.inside.sets.acting _ _ c.self.invariant.whole (rw (← c.self.view_is) at c.in_ok-names.ensures.value) (rw c.deref.ensures.value at c.wake_named.ensures.acting) c.wake_named.ensures.told in
+    has_woken (the_view c.self.inside) _ _ c.self.inside.sets.acting _ _ c.self.invariant.whole (rw (← c.self.view_is) at c.in_ok-names.ensures.value) (rw c.deref-2.ensures.value at c.wake_named.ensures.acting) c.wake_named.ensures.told in
     core_bodies (the_view c.self.inside) _ _ _ c.self.inside.bodies c.change.new.self c.self.invariant
     (rw c.change.ensures.bodies (pose_whole (the_view c.self.inside) c.args.handle c.args.pose c.in_ok-pose.pose c.self.inside.sets.acting _ _ c.self.invariant.whole calls woke due c.in_ok-pose.ensures.pose))
     refl refl refl refl

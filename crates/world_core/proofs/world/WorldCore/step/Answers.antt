@@ -1,11 +1,13 @@
-use Rattle.std.proofs.Common.{rules, tests, true, pos, Err, unsigned_abs, ◌≡◌, ◌<◌, ◌≤◌, ◌^◌, ◌∙◌, List, length, map, refl, sym, ap, subst, arith}
+use Rattle.std.proofs.Common.{rules, tests, true, pos, Err, unsigned_abs, ◌≡◌, ◌<◌, ◌≤◌, ◌^◌, ◌∙◌, List, Option, length, map, refl, sym, ap, subst, arith}
 use Rattle.std.proofs.lemmas.Int.{to_z-of_z}
 use Rattle.std.specs.Vec.{vec_capacity}
 use Rattle.std.specs.List.Sorted.{IsStrictlyIncreasing}
 use Rattle.body_handles.specs.declared.handle.Handle.{Handle}
+use Rattle.body_handles.specs.declared.places.Place.{Place}
 use Rattle.event_feed.specs.Orders.{slot_of}
 use Rattle.fixed_geom.specs.declared.refusal.Refusal.TheVariants.{NoMemory}
 use Rattle.contacts_base.specs.declared.key.ContactKey.{ContactKey}
+use Rattle.plain_world.specs.declared.body.Body.{Body}
 use Rattle.shapes.specs.Shapes.{is_between}
 use Rattle.world_rules.specs.World.{World}
 use Rattle.world_rules.proofs.AcceptedAll.{few_ticks}
@@ -13,7 +15,7 @@ use Rattle.world_rules.proofs.KeptChanges.{IsRoomy-kept, IsRoomy-same}
 use Rattle.world_rules.proofs.KeptStep.{collided_in}
 use Rattle.world_core.specs.contracts.world.WorldCore.{the_view}
 use Rattle.world_core.proofs.PartLaws.{kept_of, whole}
-use Rattle.world_core.proofs.StepLaws.{AreFound, AreLeft, AreTicks, HasSolved, HasTurned, bodies_turned, can_solve_turned, can_turn_found, few_solved, few_turned, has_solved, has_turned, is_refusal, room_found, room_turned, settled_found, slept_rise, step_answers, step_is_left, step_refused, tied_solved, timers_room, timers_solved, told_solved, woke_rise}
+use Rattle.world_core.proofs.StepLaws.{AreFound, AreLeft, AreTicks, HasSolved, HasTurned, bodies_turned, can_solve_turned, can_turn_found, few_solved, few_turned, has_solved, has_turned, is_refusal, room_found, room_turned, settled_found, settled_turned, slept_rise, step_answers, step_is_left, step_refused, tell_solved, tied_solved, timers_room, timers_solved, told_solved, woke_rise}
 use Rattle.contacts_base.specs.Contacts.{number_of}
 use Rattle.contacts_base.specs.declared.contact.ContactEntry.{ContactEntry}
 use Rattle.world_core.proofs.CoreLaws.{core_stepped}
@@ -79,6 +81,20 @@ turn_all-requires-clause-few_bodies c = rw c.clear_marks.ensures.bodies (kept_of
 
 pub turn_all-requires-clause-bodies : goal.turn_all-requires-clause-bodies
 turn_all-requires-clause-bodies c = rw c.clear_marks.ensures.bodies (kept_of _ _ c.self.invariant.whole).bodies
+
+pub turn_all-requires-clause-places : goal.turn_all-requires-clause-places
+turn_all-requires-clause-places c =
+    let slots : length c.self.inside.handles.places ≡ length c.self.inside.bodies.bodies = (kept_of _ _ c.self.invariant.whole).matched.slots in
+    let there : length c.places.result.now ≡ length c.self.inside.handles.places = ap (λ (ps : List Place). length ps) c.places.ensures in
+    let bodies : length c.clear_marks.new.self.bodies ≡ length c.self.inside.bodies.bodies = ap (λ (bs : List (Option Body)). length bs) c.clear_marks.ensures.bodies in
+    omega (arith, slots, there, bodies)
+
+pub turn_all-requires-clause-slots : goal.turn_all-requires-clause-slots
+turn_all-requires-clause-slots c =
+    let slots : length c.self.inside.handles.places ≡ length c.self.inside.bodies.bodies = (kept_of _ _ c.self.invariant.whole).matched.slots in
+    let there : length c.places.result.now ≡ length c.self.inside.handles.places = ap (λ (ps : List Place). length ps) c.places.ensures in
+    let room : length c.self.inside.bodies.bodies ≤ vec_capacity c.make_room.new.self.slots = rw c.bodies-2.ensures at c.in_ok-make_room.ensures.slots in
+    omega (arith, slots, there, room)
 
 -- ---- the ticks
 
@@ -175,6 +191,39 @@ rest_ready-rest-requires-clause-marks c =
     let room : length c.self.inside.bodies.bodies ≤ vec_capacity c.make_room.new.self.marks = rw c.bodies-2.ensures at c.in_ok-make_room.ensures.marks in
     let long = timers_room (the_view c.self.inside) c.unsigned_abs.result c.self.inside.sets.acting c.solve-sums.new.bodies.bodies c.solve-sums.new.joints.joints c.solve-sums.new.contacts.contacts c.solve-sums.result c.self.invariant.whole (is_solved c) in
     rw long room
+
+pub rest_ready-rest-requires-clause-slept : goal.rest_ready-rest-requires-clause-slept
+rest_ready-rest-requires-clause-slept c =
+    let room : length c.self.inside.bodies.bodies ≤ vec_capacity c.make_room.new.self.slept = rw c.bodies-2.ensures at c.in_ok-make_room.ensures.slept in
+    let long = timers_room (the_view c.self.inside) c.unsigned_abs.result c.self.inside.sets.acting c.solve-sums.new.bodies.bodies c.solve-sums.new.joints.joints c.solve-sums.new.contacts.contacts c.solve-sums.result c.self.invariant.whole (is_solved c) in
+    rw long room
+
+pub rest_ready-rest-requires-clause-places : goal.rest_ready-rest-requires-clause-places
+rest_ready-rest-requires-clause-places c =
+    let slots : length c.self.inside.handles.places ≡ length c.self.inside.bodies.bodies = (kept_of _ _ c.self.invariant.whole).matched.slots in
+    let there : length c.places-2.result.now ≡ length c.self.inside.handles.places = ap (λ (ps : List Place). length ps) c.places-2.ensures in
+    let room : length c.self.inside.bodies.bodies ≤ length c.places-2.result.now = omega (arith, slots, there) in
+    let long = timers_room (the_view c.self.inside) c.unsigned_abs.result c.self.inside.sets.acting c.solve-sums.new.bodies.bodies c.solve-sums.new.joints.joints c.solve-sums.new.contacts.contacts c.solve-sums.result c.self.invariant.whole (is_solved c) in
+    rw long room
+
+pub rest_ready-rest-requires-clause-slots : goal.rest_ready-rest-requires-clause-slots
+rest_ready-rest-requires-clause-slots c =
+    let slots : length c.self.inside.handles.places ≡ length c.self.inside.bodies.bodies = (kept_of _ _ c.self.invariant.whole).matched.slots in
+    let there : length c.places-2.result.now ≡ length c.self.inside.handles.places = ap (λ (ps : List Place). length ps) c.places-2.ensures in
+    let room : length c.self.inside.bodies.bodies ≤ vec_capacity c.make_room.new.self.slots = rw c.bodies-2.ensures at c.in_ok-make_room.ensures.slots in
+    let kept = c.turn_all.ensures.slots in
+    omega (arith, slots, there, room, kept)
+
+pub rest_ready-rest-requires-clause-settled : goal.rest_ready-rest-requires-clause-settled
+rest_ready-rest-requires-clause-settled c =
+    settled_turned (the_view c.self.inside) c.self.inside.sets.acting c.turn_all.new.sets.acting c.turn_all.new.bodies.bodies c.carry_out.new.self.contacts c.self.invariant.whole (turned_then c)
+
+pub rest_ready-rest-requires-clause-tells : goal.rest_ready-rest-requires-clause-tells
+rest_ready-rest-requires-clause-tells c =
+    let twice : c.unsigned_abs-2.result ≡ c.unsigned_abs.result = c.unsigned_abs-2.ensures.value ∙ sym c.unsigned_abs.ensures.value in
+    let tells = tell_solved (the_view c.self.inside) c.unsigned_abs.result c.self.inside.sets.acting c.turn_all.new.sets.acting c.turn_all.new.bodies.bodies c.solve-sums.new.bodies.bodies c.solve-sums.new.joints.joints c.carry_out.new.self.contacts c.solve-sums.new.contacts.contacts c.solve-sums.result
+    c.self.invariant.whole (turned_then c) (is_solved c) in
+    rw (twice, c.joints.ensures, c.as_slice.ensures.value) tells
 
 pub book_rest-requires-clause-roomy : goal.book_rest-requires-clause-roomy
 book_rest-requires-clause-roomy c = IsRoomy-same _ _ c.in_ok-reserve.ensures.entries c.in_ok-reserve.ensures.settled (IsRoomy-kept (the_view c.self.inside) 0 (kept_of _ _ c.self.invariant.whole))

@@ -1,7 +1,7 @@
 use Rattle.std.proofs.Common.{◌≡◌, ◌<◌, length, Option, ap, sym, ◌∙◌, arith, true, refl}
 use Rattle.std.specs.Prelude.{option_map}
 use Rattle.std.proofs.lemmas.List.{length-set}
-use Rattle.colour_solver.specs.States.{carried_of, movers_of}
+use Rattle.colour_solver.specs.States.{carried_of, is_carried, moves, movers_of}
 use Rattle.plain_world.specs.declared.body.Body.{Body}
 use Rattle.plain_world.specs.Changes.{changed_at, disabled_body}
 use Rattle.plain_world.specs.Slots.{body_at}
@@ -9,7 +9,14 @@ use Rattle.world_core_base.specs.Gather.{states_of}
 use Rattle.world_core_base.proofs.TableLaws.{disabled_carried, disabled_movers, renewed_states}
 use Rattle.world_core_base.proofs.MarkedLaws.{marked_eq, marked_set}
 use Rattle.world_core_base.proofs.CoverLaws.{covered_eq, covered_mapped}
+use Rattle.world_core_base.proofs.SlotsRising.{rising_places}
 use Rattle.world_core_base.proofs.table.BodyTable.disable.Goals as goal
+
+pub drop_slot-requires : goal.drop_slot-requires
+drop_slot-requires c = rw c.self.invariant.awake (rising_places moves c.self.inside.states.items 0)
+
+pub drop_slot-requires-2 : goal.drop_slot-requires-2
+drop_slot-requires-2 c = rw c.self.invariant.carried (rising_places is_carried c.self.inside.states.items 0)
 
 pub invariant_of-self : goal.invariant_of-self
 invariant_of-self c =

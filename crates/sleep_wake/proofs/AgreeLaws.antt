@@ -1,0 +1,166 @@
+-- A sleep phase reads the timers of the awake movers alone.
+use Rattle.std.proofs.Common.{◌≡◌, ◌≢◌, ℕ, zero, suc, ◌+◌, ◌<◌, ◌≤◌, ◌==◌, ◌&&◌, ◌||◌, Bool, true, false, not, cond, List, [], ◌∷◌, get_or, length, Option, None, Some, inl, inr, refl, sym, ap, ◌∙◌, subst, arith}
+use Rattle.std.proofs.lemmas.Bool.{false≢true, eqb-true}
+use Rattle.graph_colours.specs.declared.member.Member.{Member}
+use Rattle.islands.specs.declared.label.Label.{Label}
+use Rattle.islands.specs.Labels.{Labels, label_at, is_in, is_loose, is_asleep}
+use Rattle.islands.specs.Partition.{IsPartition}
+use Rattle.islands.proofs.LabelLemmas.{in_case}
+use Rattle.islands.proofs.SplitLemmas.{split_is}
+use Rattle.sleep_wake.specs.Acting.{Acting, IsSettled, awake_label, is_awake}
+use Rattle.sleep_wake.specs.SleepPhase.{lesser, least_timer, is_due, is_island, is_less, longer_at_rest, longest_at_rest, ready, picked_to_split, split_at, edges_of, split_picked, all_put_to_rest, ready_put_to_rest, sleep_phase}
+use Rattle.sleep_wake.specs.AwakeSlots.{AreAwakeSlots, AgreeAwake}
+use Rattle.sleep_wake.specs.Resting.{least_at, AreLeast, is_due_island, due_from, due_names, longest_due, rests_by, second_rests, is_to_rest}
+use Rattle.sleep_wake.proofs.AwakeLemmas.{awake_as}
+use Rattle.sleep_wake.proofs.EdgeLemmas.{edges_inside}
+use Rattle.sleep_wake.proofs.PhaseLemmas.{AreAll, IsNamedIsland, Names, names, all_if, all_on, and_is, longer_is, picked_is, split_keeps}
+use Rattle.sleep_wake.proofs.LeastLemmas.{timer_in, due_are}
+
+-- ---- two that tell the least timers of the awake islands
+
+abbrev pub AgreeOn : Labels → (ℕ → Option ℕ) → (ℕ → Option ℕ) → Type 0
+AgreeOn labels f g = (slot : ℕ) (l : Label) → label_at labels slot ≡ Some l → is_asleep l.state ≡ false → f l.name ≡ g l.name
+
+agree_there : (loose : Bool) (labels : Labels) (f g : ℕ → Option ℕ) (name : ℕ) → AgreeOn labels f g → IsNamedIsland loose labels name → f name ≡ g name
+agree_there loose labels f g name w h = let o = names labels name loose h in ap f (sym o.named) ∙ w name o.l o.at o.awake ∙ ap g o.named
+
+-- ---- the same islands are ready by both
+
+due_by : (loose : Bool) (f g : ℕ → Option ℕ) (slot : ℕ) (o : Option Label) (t : Bool) → (t ≡ true → f slot ≡ g slot) → (t && is_due (f slot)) ≡ (t && is_due (g slot))
+due_by loose f g slot o true h = ap is_due (h refl)
+due_by loose f g slot o false h = refl
+
+due_same : (loose : Bool) (labels : Labels) (f g : ℕ → Option ℕ) (slot : ℕ) (rest : Labels) → AgreeOn labels f g → ((k : ℕ) → label_at labels (slot + k) ≡ label_at rest k) → due_from loose f slot rest ≡ due_from loose g slot rest
+due_same loose labels f g slot [] w at = refl
+due_same loose labels f g slot (o ∷ rest) w at =
+    let first : slot ≡ slot + 0 = omega arith in
+    let here : label_at labels slot ≡ o = ap (label_at labels) first ∙ at 0 in
+    let test : is_due_island loose f slot o ≡ is_due_island loose g slot o = due_by loose f g slot o (is_island loose slot o) (λ h. agree_there loose labels f g slot w (ap (is_island loose slot) here ∙ h)) in
+    ap (λ (t : Bool). cond t (slot ∷ due_from loose f (suc slot) rest) (due_from loose f (suc slot) rest)) test
+    ∙ ap (λ (ns : List ℕ). cond (is_due_island loose g slot o) (slot ∷ ns) ns)
+    (due_same loose labels f g (suc slot) rest w (λ k. let next : suc slot + k ≡ slot + suc k = omega arith in ap (label_at labels) next ∙ at (suc k)))
+
+starts : (labels : Labels) (k : ℕ) → label_at labels (0 + k) ≡ label_at labels k
+starts labels k = let at : 0 + k ≡ k = omega arith in ap (label_at labels) at
+
+pub same_due : (loose : Bool) (labels : Labels) (f g : ℕ → Option ℕ) → AgreeOn labels f g → due_names loose f labels ≡ due_names loose g labels
+same_due loose labels f g w = due_same loose labels f g 0 labels w (starts labels)
+
+-- each of them is an island
+due_all : (loose : Bool) (labels : Labels) (f : ℕ → Option ℕ) (slot : ℕ) (rest : Labels) → ((k : ℕ) → label_at labels (slot + k) ≡ label_at rest k) → AreAll (IsNamedIsland loose labels) (due_from loose f slot rest)
+due_all loose labels f slot [] at = tt
+due_all loose labels f slot (o ∷ rest) at =
+    let first : slot ≡ slot + 0 = omega arith in
+    let here : label_at labels slot ≡ o = ap (label_at labels) first ∙ at 0 in
+    all_if (IsNamedIsland loose labels) (is_due_island loose f slot o) slot (due_from loose f (suc slot) rest)
+    (λ h. ap (is_island loose slot) here ∙ (and_is (is_island loose slot o) (is_due (f slot)) h).0)
+    (due_all loose labels f (suc slot) rest (λ k. let next : suc slot + k ≡ slot + suc k = omega arith in ap (label_at labels) next ∙ at (suc k)))
+
+-- ---- the same one is split
+
+longer_by : (f g : ℕ → Option ℕ) (best : Option ℕ) (name : ℕ) → ((k : ℕ) → best ≡ Some k → f k ≡ g k) → f name ≡ g name → longer_at_rest f best name ≡ longer_at_rest g best name
+longer_by f g None name h e = refl
+longer_by f g (Some best) name h e = rw (h best refl, e) refl
+
+longest_same : (f g : ℕ → Option ℕ) (best : Option ℕ) (ns : List ℕ) → ((k : ℕ) → best ≡ Some k → f k ≡ g k) → AreAll (λ k. f k ≡ g k) ns → longest_at_rest f best ns ≡ longest_at_rest g best ns
+longest_same f g best [] h a = refl
+longest_same f g best (name ∷ ns) h a =
+    longest_same f g (longer_at_rest f best name) ns (longer_is (λ k. f k ≡ g k) f best name h a.0) a.1
+    ∙ ap (λ (b : Option ℕ). longest_at_rest g b ns) (longer_by f g best name h a.0)
+
+pub same_longest : (labels : Labels) (f g : ℕ → Option ℕ) → AgreeOn labels f g → longest_due f labels ≡ longest_due g labels
+same_longest labels f g w =
+    longest_same f g None (due_names true f labels) (λ k e. absurd (let no : None ≡ Some k = e in cc))
+    (all_on (IsNamedIsland true labels) (λ k. f k ≡ g k) (due_names true f labels) (λ k h. agree_there true labels f g k w h) (due_all true labels f 0 labels (starts labels)))
+    ∙ ap (λ (ns : List ℕ). longest_at_rest g None ns) (same_due true labels f g w)
+
+-- by the least timers of the definition it is the definition's
+longest_picked : (labels : Labels) (timers : List ℕ) → longest_due (timer_in labels timers) labels ≡ picked_to_split labels timers
+longest_picked labels timers = ap (λ (ns : List ℕ). longest_at_rest (timer_in labels timers) None ns) (due_are true labels timers)
+
+pub picked_by_least : (labels : Labels) (timers : List ℕ) (leasts : List (Option ℕ)) → AreLeast labels timers leasts → longest_due (least_at leasts) labels ≡ picked_to_split labels timers
+picked_by_least labels timers leasts w = same_longest labels (least_at leasts) (timer_in labels timers) w.each ∙ longest_picked labels timers
+
+-- ---- the same movers rest
+
+label_rests : (labels : Labels) (f g : ℕ → Option ℕ) (slot : ℕ) (o : Option Label) → label_at labels slot ≡ o → AgreeOn labels f g → rests_by f o ≡ rests_by g o
+label_rests labels f g slot None e w = refl
+label_rests labels f g slot (Some l) e w = by_state (is_asleep l.state) refl
+  where
+    no_rest : (t a b : Bool) → ((t && false) && a) ≡ ((t && false) && b)
+    no_rest true a b = refl
+    no_rest false a b = refl
+
+    by_state : (t : Bool) → is_asleep l.state ≡ t → ((not (is_loose l.state) && not (is_asleep l.state)) && is_due (f l.name)) ≡ ((not (is_loose l.state) && not (is_asleep l.state)) && is_due (g l.name))
+    by_state true k = rw k (no_rest (not (is_loose l.state)) (is_due (f l.name)) (is_due (g l.name)))
+    by_state false k = ap (λ (v : Option ℕ). (not (is_loose l.state) && not (is_asleep l.state)) && is_due v) (w slot l e k)
+
+second_same : (labels : Labels) (f g : ℕ → Option ℕ) (o : Option ℕ) → AgreeOn labels f g → second_rests f labels o ≡ second_rests g labels o
+second_same labels f g None w = refl
+second_same labels f g (Some slot) w = label_rests labels f g slot (label_at labels slot) refl w
+
+pub same_rests : {C : Type 0} (labels : Labels) (f g : ℕ → Option ℕ) → AgreeOn labels f g → is_to_rest {C = C} f labels ≡ is_to_rest {C = C} g labels
+same_rests {C} labels f g w = λ i m. (ap (λ (t : Bool). t || second_rests f labels m.movers.second) (label_rests labels f g m.movers.first (label_at labels m.movers.first) refl w) ∙ ap (λ (t : Bool). rests_by g (label_at labels m.movers.first) || t) (second_same labels f g m.movers.second w)) i
+
+-- ---- timers that are the same for the awake movers
+
+timer_by : (t : Bool) (a b : ℕ) (least : Option ℕ) → (t ≡ true → a ≡ b) → cond t (Some (lesser a least)) least ≡ cond t (Some (lesser b least)) least
+timer_by true a b least h = ap (λ (v : ℕ). Some (lesser v least)) (h refl)
+timer_by false a b least h = refl
+
+least_same : (name : ℕ) (rest : Labels) (a b : List ℕ) → length a ≡ length b → ((k : ℕ) → is_in (label_at rest k) name ≡ true → get_or a k 0 ≡ get_or b k 0) → least_timer name rest a ≡ least_timer name rest b
+least_same name [] a b long same = refl
+least_same name (o ∷ rest) [] [] long same = refl
+least_same name (o ∷ rest) [] (u ∷ b) long same = absurd (omega (arith, long))
+least_same name (o ∷ rest) (t ∷ a) [] long same = absurd (omega (arith, long))
+least_same name (o ∷ rest) (t ∷ a) (u ∷ b) long same =
+    let more : suc (length a) ≡ suc (length b) = long in
+    ap (λ (least : Option ℕ). cond (is_in o name) (Some (lesser t least)) least) (least_same name rest a b (omega (arith, more)) (λ k. same (suc k)))
+    ∙ timer_by (is_in o name) t u (least_timer name rest b) (same 0)
+
+pub timers_agree : (labels : Labels) (a b : List ℕ) → IsPartition labels → AgreeAwake labels a b → AgreeOn labels (timer_in labels a) (timer_in labels b)
+timers_agree labels a b p w slot l e up =
+    least_same l.name labels a b w.size (λ k h. w.same k (awake_as labels l.name k l p (p.named slot l e) refl h ∙ ap not up))
+
+same_ready : (loose : Bool) (labels : Labels) (a b : List ℕ) → IsPartition labels → AgreeAwake labels a b → ready loose labels a ≡ ready loose labels b
+same_ready loose labels a b p w = sym (due_are loose labels a) ∙ same_due loose labels (timer_in labels a) (timer_in labels b) (timers_agree labels a b p w) ∙ due_are loose labels b
+
+same_picked : (labels : Labels) (a b : List ℕ) → IsPartition labels → AgreeAwake labels a b → picked_to_split labels a ≡ picked_to_split labels b
+same_picked labels a b p w = sym (longest_picked labels a) ∙ same_longest labels (timer_in labels a) (timer_in labels b) (timers_agree labels a b p w) ∙ longest_picked labels b
+
+-- ---- a split leaves who is awake
+
+split_awake : {C : Type 0} (number : C → ℕ) (s : Acting C) (name : ℕ) (slot : ℕ) → IsSettled number s → IsNamedIsland true s.labels name → is_awake (split_at name s).labels slot ≡ is_awake s.labels slot
+unfolding split_at
+split_awake number s name slot w h =
+    let o = names s.labels name true h in
+    let parts = split_is s.labels name (edges_of s name) w.islands.partition (edges_inside s.labels name s.ties w.islands) in
+    elim (in_case (label_at s.labels slot) name) [
+      | inl k ↦ ap awake_label (parts.members slot k).label ∙ sym (awake_as s.labels name slot o.l w.islands.partition o.at o.named k ∙ ap not o.awake)
+      | inr k ↦ ap awake_label (parts.others slot k)
+    ]
+
+picked_awake : {C : Type 0} (number : C → ℕ) (s : Acting C) (picked : Option ℕ) (slot : ℕ) → IsSettled number s → ((name : ℕ) → picked ≡ Some name → IsNamedIsland true s.labels name) → is_awake (split_picked picked s).labels slot ≡ is_awake s.labels slot
+picked_awake number s None slot w h = refl
+picked_awake number s (Some name) slot w h = split_awake number s name slot w (h name refl)
+
+after_split : {C : Type 0} (number : C → ℕ) (s : Acting C) (timers : List ℕ) (slot : ℕ) → IsSettled number s → is_awake (split_picked (picked_to_split s.labels timers) s).labels slot ≡ is_awake s.labels slot
+after_split number s timers slot w = picked_awake number s (picked_to_split s.labels timers) slot w (λ name e. picked_is s.labels timers name e)
+
+pub awake_after : {C : Type 0} (number : C → ℕ) (s now : Acting C) (timers awake : List ℕ) → IsSettled number s → now ≡ split_picked (picked_to_split s.labels timers) s → AreAwakeSlots s.labels awake → AreAwakeSlots now.labels awake
+awake_after {C} number s now timers awake w is a =
+    let P : Acting C → Type 0 = λ v. AreAwakeSlots v.labels awake in
+    subst P (sym is) (record {
+      rising = a.rising;
+      each = λ slot. ((λ h. after_split number s timers slot w ∙ (a.each slot).0 h), (λ h. (a.each slot).1 (sym (after_split number s timers slot w) ∙ h)));
+    })
+
+-- ---- the phase
+
+pub phase_agrees : {C : Type 0} (number : C → ℕ) (s : Acting C) (a b : List ℕ) → IsSettled number s → AgreeAwake s.labels a b → sleep_phase number a s ≡ sleep_phase number b s
+phase_agrees {C} number s a b w same =
+    let now : Acting C = split_picked (picked_to_split s.labels a) s in
+    let settled : IsSettled number now = split_keeps number s (picked_to_split s.labels a) w (λ name e. picked_is s.labels a name e) in
+    let still : AgreeAwake now.labels a b = record { size = same.size; same = λ slot h. same.same slot (sym (after_split number s a slot w) ∙ h) } in
+    ap (λ (ns : List ℕ). all_put_to_rest number ns now) (same_ready false now.labels a b settled.islands.partition still)
+    ∙ ap (λ (picked : Option ℕ). ready_put_to_rest number b (split_picked picked s)) (same_picked s.labels a b w.islands.partition same)

@@ -1,0 +1,28 @@
+-- The constraints of an island, from those of its movers.
+use Rattle.std.specs.Prelude.{ℕ, ◌==◌, ◌||◌, ◌++◌, Bool, false, List, [], ◌∷◌, filter}
+use Rattle.graph_colours.specs.declared.member.Member.{Member}
+use Rattle.graph_colours.specs.Colours.{list_at}
+
+-- the constraints that were gathered, and for how many constraints and slots there is room
+pub record Gathered (C : Type 0) : Type 0 where
+  pub list : List (Member C)
+  pub ties : ℕ
+  pub slots : ℕ
+
+-- the mover in the slot is the constraint's first
+abbrev pub is_first : {C : Type 0} → ℕ → Member C → Bool
+is_first slot m = m.movers.first == slot
+
+-- the constraint's first mover is in one of the slots
+abbrev pub is_first_of : {C : Type 0} → List ℕ → Member C → Bool
+is_first_of [] m = false
+is_first_of (slot ∷ slots) m = is_first slot m || is_first_of slots m
+
+-- those constraints in the slot's list of which the mover there is the first
+abbrev pub firsts_at : {C : Type 0} → List (List (Member C)) → ℕ → List (Member C)
+firsts_at lists slot = filter (is_first slot) (list_at lists slot)
+
+-- the same for each of the slots, one after the other
+abbrev pub firsts_of : {C : Type 0} → List (List (Member C)) → List ℕ → List (Member C)
+firsts_of lists [] = []
+firsts_of lists (slot ∷ slots) = firsts_at lists slot ++ firsts_of lists slots

@@ -1,0 +1,153 @@
+//! The whole islands that are ready fall asleep together, and their constraints give up their colours.
+
+ghost use Rattle.std.specs.Prelude.{◌≡◌, ◌≤◌, ◌+◌, ◌++◌, ◌∷◌, [], true, length, filter, vec_capacity};
+ghost use Rattle.graph_colours.specs.Colours.{all_members};
+ghost use Rattle.sleep_wake.specs.Acting.{acting, IsSettled};
+ghost use Rattle.sleep_wake.specs.Waking.{released_all};
+ghost use Rattle.sleep_wake.specs.SleepPhase.{ready_put_to_rest};
+ghost use Rattle.sleep_wake.specs.AwakeSlots.{AreAwakeSlots};
+ghost use Rattle.sleep_wake.specs.Resting.{least_at, is_to_rest};
+ghost use Rattle.sleep_wake.specs.Rooms.{OwnMovers};
+
+use crate::phase::{are_resting, list_leasts, rest_each};
+use graph_colours::{Colours, EditedColours, Id, Member, OVERFLOW};
+use islands::Islands;
+
+// ---- the constraints of what falls asleep
+
+/// Adds a constraint to the list, where there is room. Answers whether there was.
+fn list_one<C: Id>(listed: &mut Vec<Member<C>>, member: Member<C>) -> bool
+    ensures { result ≡ true → listed.new.items ≡ listed.old.items ++ member ∷ [] }
+{
+    if listed.len() == listed.capacity() {
+        return false;
+    }
+    let _ = listed.push(member);
+    true
+}
+
+/// Adds to the list those of the members that have a mover in an island that is ready. Answers whether there was room for all.
+fn list_members<C: Id>(
+    listed: &mut Vec<Member<C>>,
+    islands: &Islands,
+    leasts: &[Option<u64>],
+    members: &[Member<C>],
+) -> bool
+    ensures { result ≡ true → listed.new.items ≡ listed.old.items ++ filter (is_to_rest (least_at leasts.now) islands.now.labels) members.now }
+{
+    for place in 0..members.len() {
+        let member = members[place];
+        if are_resting(islands, leasts, member.movers) && !list_one(listed, member) {
+            return false;
+        }
+    }
+    true
+}
+
+/// Lists those of the constraints with a colour that have a mover in an island that is ready. Answers whether there was room for all.
+fn list_resting<C: Id>(
+    listed: &mut Vec<Member<C>>,
+    islands: &Islands,
+    leasts: &[Option<u64>],
+    colours: &Colours<C>,
+) -> bool
+    ensures { result ≡ true → listed.new.items ≡ filter (is_to_rest (least_at leasts.now) islands.now.labels) (all_members colours.now.lists) }
+{
+    listed.clear();
+    colours.keeps();
+    for colour in 0..OVERFLOW + 1 {
+        if !list_members(listed, islands, leasts, colours.members(colour)) {
+            return false;
+        }
+    }
+    true
+}
+
+/// Takes the colours of these constraints.
+fn release_each<C: Id>(colours: &mut EditedColours<C>, members: &[Member<C>])
+    requires own { OwnMovers C.number members.now colours.old.lists }
+    ensures lists { colours.new.lists ≡ released_all C.number colours.old.lists members.now }
+    ensures slots { colours.new.slots ≡ colours.old.slots }
+    ensures room { colours.new.room + length (all_members colours.new.lists) ≡ colours.old.room + length (all_members colours.old.lists) }
+    ensures pending { colours.new.pending ≡ 0 }
+{
+    for place in 0..members.len() {
+        let member = members[place];
+        colours.release(member);
+    }
+    colours.settle();
+}
+
+/// Takes the colours of those of the ties that have a mover in an island that is ready.
+fn release_among<C: Id>(
+    islands: &Islands,
+    colours: &mut EditedColours<C>,
+    ties: &[Member<C>],
+    leasts: &[Option<u64>],
+)
+    requires own { OwnMovers C.number ties.now colours.old.lists }
+    ensures lists { colours.new.lists ≡ released_all C.number colours.old.lists (filter (is_to_rest (least_at leasts.now) islands.now.labels) ties.now) }
+    ensures slots { colours.new.slots ≡ colours.old.slots }
+    ensures room { colours.new.room + length (all_members colours.new.lists) ≡ colours.old.room + length (all_members colours.old.lists) }
+    ensures pending { colours.new.pending ≡ 0 }
+{
+    for place in 0..ties.len() {
+        let tie = ties[place];
+        if are_resting(islands, leasts, tie.movers) {
+            colours.release(tie);
+        }
+    }
+    colours.settle();
+}
+
+/// Takes the colours of the constraints of all whole islands that are ready. They are looked for among those that act, since these islands are awake;
+/// among all ties only where the list has no room for them.
+fn release_resting<C: Id>(
+    islands: &Islands,
+    colours: &mut EditedColours<C>,
+    ties: &[Member<C>],
+    leasts: &[Option<u64>],
+    listed: &mut Vec<Member<C>>,
+)
+    requires settled { IsSettled C.number (acting ties.now islands.now.labels colours.old.lists) }
+    requires pending { colours.old.pending ≡ 0 }
+    ensures lists { colours.new.lists ≡ released_all C.number colours.old.lists (filter (is_to_rest (least_at leasts.now) islands.now.labels) ties.now) }
+    ensures slots { colours.new.slots ≡ colours.old.slots }
+    ensures room { colours.new.room + length (all_members colours.new.lists) ≡ colours.old.room + length (all_members colours.old.lists) }
+    ensures pending { colours.new.pending ≡ 0 }
+{
+    if list_resting(listed, islands, leasts, colours.colours()) {
+        release_each(colours, listed);
+    } else {
+        release_among(islands, colours, ties, leasts);
+    }
+}
+
+// ---- what falls asleep
+
+/// Puts all whole islands that are ready to rest, and takes the colours of their constraints: all together, and not one after the other, so that it
+/// takes time by the awake movers, whose slots are told, and by the constraints that act. There is room for the least timers.
+pub(crate) fn rest_ready<C: Id>(
+    islands: &mut Islands,
+    colours: &mut EditedColours<C>,
+    ties: &[Member<C>],
+    timers: &[u64],
+    awake: &[u32],
+    leasts: &mut Vec<Option<u64>>,
+    listed: &mut Vec<Member<C>>,
+)
+    requires settled { IsSettled C.number (acting ties.now islands.old.labels colours.old.lists) }
+    requires pending { colours.old.pending ≡ 0 }
+    requires leasts { length islands.old.labels ≤ vec_capacity leasts.old }
+    requires awake { AreAwakeSlots islands.old.labels awake.now }
+    ensures at_rest { acting ties.now islands.new.labels colours.new.lists ≡ ready_put_to_rest C.number timers.now (acting ties.now islands.old.labels colours.old.lists) }
+    ensures islands_room { islands.new.room ≡ islands.old.room }
+    ensures slots { colours.new.slots ≡ colours.old.slots }
+    ensures room { colours.new.room + length (all_members colours.new.lists) ≡ colours.old.room + length (all_members colours.old.lists) }
+    ensures pending { colours.new.pending ≡ 0 }
+    ensures capacity { vec_capacity leasts.old ≤ vec_capacity leasts.new }
+{
+    list_leasts(leasts, islands, timers, awake);
+    release_resting(islands, colours, ties, leasts, listed);
+    rest_each(islands, leasts, awake);
+}

@@ -1,0 +1,229 @@
+-- Bodies told in some slots alone: where all others stay as they are when they are told, all are told.
+use Rattle.std.proofs.Common.{◌≡◌, ℕ, zero, suc, ◌+◌, ◌*◌, ◌^◌, ◌<◌, ◌≤◌, Bool, true, false, cond, List, [], ◌∷◌, length, get_or, slice_set, drop, Option, Some, None, ℤ, pos, ◌+ℤ◌, ◌-ℤ◌, arith, refl, sym, ap, ◌∙◌, subst, add-one, inl, inr}
+use Rattle.std.specs.Prelude.{◌≢◌, Contains, is_some, option_map}
+use Rattle.std.specs.Option.{ForSome}
+use Rattle.std.proofs.lemmas.Bool.{cases_eq}
+use Rattle.std.proofs.lemmas.Int.{ints}
+use Rattle.std.proofs.lemmas.List.{drop_all, get_or_default, length-set}
+use Rattle.std.proofs.lemmas.Option.{slice_get-get_or}
+use Rattle.std.proofs.Math.Seq.{drop-cons}
+use Rattle.fixed_geom.proofs.Sizes.{sum_le}
+use Rattle.momenta.specs.Gains.{IsGain}
+use Rattle.momenta.specs.declared.gain.Gain.{Gain}
+use Rattle.momenta.specs.declared.state.BodyState.{BodyState}
+use Rattle.islands.specs.Labels.{Labels, label_at}
+use Rattle.islands.specs.declared.label.Label.{Label}
+use Rattle.islands.proofs.JoinLemmas.{contains_cases}
+use Rattle.colour_solver.specs.States.{moves, movers_of, nobody}
+use Rattle.plain_world.specs.declared.body.Body.{Body}
+use Rattle.plain_world.specs.Bodies.{AreBodies, IsBody, is_mover, momentum_x, momentum_y, p_x, p_y}
+use Rattle.plain_world.specs.Sleep.{put_to_rest, roused, sleeping_name, told, told_body, told_by, told_from}
+use Rattle.plain_world.specs.Slots.{body_at}
+use Rattle.world_core_base.specs.Awake.{relisted}
+use Rattle.world_core_base.specs.Gather.{state_of, states_of}
+use Rattle.world_core_base.specs.Telling.{AreToldBeside}
+use Rattle.world_core_base.proofs.GatherLaws.{length-states}
+use Rattle.world_core_base.proofs.MarkedLaws.{get_body}
+use Rattle.world_core_base.proofs.SlotsRising.{places_fewer, places-relisted}
+use Rattle.world_core_base.proofs.TableLaws.{states-set}
+use Rattle.world_core_base.proofs.TellLaws.{momentum_x-put, momentum_y-put, told_entry_body}
+
+-- ---- a body that is told twice
+
+mover_by : (o : Option ℕ) (b : Body) → is_mover (told_by o b) ≡ is_mover b
+mover_by (Some name) b = refl
+mover_by None b = by (is_some b.asleep)
+  where
+    by : (t : Bool) → is_mover (cond t (roused b) b) ≡ is_mover b
+    by true = refl
+    by false = refl
+
+twice_by : (o : Option ℕ) (b : Body) → told_by o (told_by o b) ≡ told_by o b
+twice_by (Some name) b = refl
+twice_by None b = by (is_some b.asleep) refl
+  where
+    by : (t : Bool) → is_some b.asleep ≡ t → told_by None (cond t (roused b) b) ≡ cond t (roused b) b
+    by true e = refl
+    by false e = ap (λ (t : Bool). cond t (roused b) b) e
+
+twice_body : (label : Option Label) (b : Body) → told_body label (told_body label b) ≡ told_body label b
+twice_body label b = by (is_mover b) refl
+  where
+    by : (t : Bool) → is_mover b ≡ t → told_body label (cond t (told_by (sleeping_name label) b) b) ≡ cond t (told_by (sleeping_name label) b) b
+    by true e =
+        let now : Body = told_by (sleeping_name label) b in
+        ap (λ (t : Bool). cond t (told_by (sleeping_name label) now) now) (mover_by (sleeping_name label) b ∙ e) ∙ twice_by (sleeping_name label) b
+    by false e = ap (λ (t : Bool). cond t (told_by (sleeping_name label) b) b) e
+
+twice_entry : (label : Option Label) (o : Option Body) → option_map (told_body label) (option_map (told_body label) o) ≡ option_map (told_body label) o
+twice_entry label None = refl
+twice_entry label (Some b) = ap Some (twice_body label b)
+
+-- ---- the body in one slot is told
+
+abbrev told_one : Option Label → ℕ → List (Option Body) → List (Option Body)
+told_one label slot bodies = slice_set bodies slot (option_map (told_body label) (get_or bodies slot None))
+
+told_from_one : (labels : Labels) (n k : ℕ) (bodies : List (Option Body)) (i : ℕ) → k ≡ n + i → told_from n labels (told_one (label_at labels k) i bodies) ≡ told_from n labels bodies
+told_from_one labels n k [] i e = refl
+told_from_one labels n k (o ∷ os) zero e =
+    let here : n ≡ k = omega (arith, e) in
+    let rest : List (Option Body) = told_from (suc n) labels os in
+    subst (λ (m : ℕ). (option_map (told_body (label_at labels n)) (option_map (told_body (label_at labels m)) o) ∷ rest) ≡ (option_map (told_body (label_at labels n)) o ∷ rest)) here (ap (λ (p : Option Body). p ∷ rest) (twice_entry (label_at labels n) o))
+told_from_one labels n k (o ∷ os) (suc i) e = ap (λ (l : List (Option Body)). option_map (told_body (label_at labels n)) o ∷ l) (told_from_one labels (suc n) k os i (omega (arith, e)))
+
+told_one_more : (labels : Labels) (slot : ℕ) (bodies : List (Option Body)) → told labels (told_one (label_at labels slot) slot bodies) ≡ told labels bodies
+unfolding told
+told_one_more labels slot bodies = told_from_one labels 0 slot bodies slot (omega arith)
+
+one_here : (label : Option Label) (bodies : List (Option Body)) (slot : ℕ) → body_at (told_one label slot bodies) slot ≡ option_map (told_body label) (body_at bodies slot)
+one_here label [] slot = refl
+one_here label (o ∷ os) zero = refl
+one_here label (o ∷ os) (suc slot) = one_here label os slot
+
+one_beside : (label : Option Label) (bodies : List (Option Body)) (slot other : ℕ) → other ≢ slot → body_at (told_one label slot bodies) other ≡ body_at bodies other
+one_beside label [] slot other off = refl
+one_beside label (o ∷ os) zero zero off = absurd (off refl)
+one_beside label (o ∷ os) zero (suc other) off = refl
+one_beside label (o ∷ os) (suc slot) zero off = refl
+one_beside label (o ∷ os) (suc slot) (suc other) off = one_beside label os slot other (λ e. off (ap suc e))
+
+-- one slot less is to be told
+beside_next : (labels : Labels) (slot : ℕ) (slots : List ℕ) (bodies : List (Option Body)) → AreToldBeside (slot ∷ slots) labels bodies → AreToldBeside slots labels (told_one (label_at labels slot) slot bodies)
+beside_next labels slot slots bodies others s off = elim (cases_eq s slot) [
+  | inl same ↦
+      let here : body_at (told_one (label_at labels slot) slot bodies) slot ≡ option_map (told_body (label_at labels slot)) (body_at bodies slot) = one_here (label_at labels slot) bodies slot in
+      subst (λ (k : ℕ). option_map (told_body (label_at labels k)) (body_at (told_one (label_at labels slot) slot bodies) k) ≡ body_at (told_one (label_at labels slot) slot bodies) k) (sym same)
+      (ap (option_map (told_body (label_at labels slot))) here ∙ twice_entry (label_at labels slot) (body_at bodies slot) ∙ sym here)
+  | inr apart ↦
+      let stays : body_at (told_one (label_at labels slot) slot bodies) s ≡ body_at bodies s = one_beside (label_at labels slot) bodies slot s apart in
+      ap (option_map (told_body (label_at labels s))) stays ∙ others s (λ h. elim (contains_cases slot slots s h) [ inl e ↦ apart (sym e) | inr k ↦ off k ]) ∙ sym stays
+]
+
+-- nothing is left to tell
+still_from : (labels : Labels) (n : ℕ) (bodies : List (Option Body)) → ((k slot : ℕ) → k ≡ n + slot → option_map (told_body (label_at labels k)) (body_at bodies slot) ≡ body_at bodies slot) → told_from n labels bodies ≡ bodies
+still_from labels n [] h = refl
+still_from labels n (o ∷ os) h = λ j. h n zero (omega arith) j ∷ still_from labels (suc n) os (λ k slot e. h k (suc slot) (omega (arith, e))) j
+
+none_contained : (s : ℕ) → Contains [] s → ⊥
+none_contained s h = omega (arith, h.1)
+
+still_told : (labels : Labels) (bodies : List (Option Body)) → AreToldBeside [] labels bodies → told labels bodies ≡ bodies
+unfolding told
+still_told labels bodies others = still_from labels 0 bodies (λ k slot e. let same : slot ≡ k = omega (arith, e) in subst (λ (m : ℕ). option_map (told_body (label_at labels m)) (body_at bodies slot) ≡ body_at bodies slot) same (others slot (none_contained slot)))
+
+-- ---- what one slot leaves
+
+are_bodies : (label : Option Label) (bodies : List (Option Body)) (slot : ℕ) → AreBodies bodies → AreBodies (told_one label slot bodies)
+are_bodies label [] slot all k b e = all k b e
+are_bodies label (o ∷ os) zero all zero b e = told_entry_body label o (λ a f. all zero a (ap Some f)) b (cc)
+are_bodies label (o ∷ os) zero all (suc k) b e = all (suc k) b e
+are_bodies label (o ∷ os) (suc slot) all zero b e = all zero b e
+are_bodies label (o ∷ os) (suc slot) all (suc k) b e = are_bodies label os slot (λ m c f. all (suc m) c f) k b e
+
+-- what stood in a slot that is there
+pub body_there : (bodies : List (Option Body)) (slot : ℕ) → AreBodies bodies → slot < length bodies → ForSome (get_or bodies slot None) IsBody
+body_there bodies slot all h b e = all slot b (slice_get-get_or bodies slot None h ∙ ap Some e)
+
+no_gain : (z : ℤ) → z ≡ z +ℤ pos 0
+no_gain z = omega (arith, ints)
+
+-- a slot is told
+pub record IsToldOne (label : Option Label) (slot : ℕ) (before os : List (Option Body)) (ss : List BodyState) (aw : List ℕ) (gained : Gain) : Type 0 where
+  pub bodies : os ≡ told_one label slot before
+  pub states : ss ≡ states_of os
+  pub awake : aw ≡ movers_of ss
+  pub x : momentum_x os ≡ momentum_x before +ℤ gained.x
+  pub y : momentum_y os ≡ momentum_y before +ℤ gained.y
+
+-- there is room in the list of the awake movers for one more, where a body isn't among them
+pub room_for_one : (bodies : List (Option Body)) (ss : List BodyState) (aw : List ℕ) (slot room : ℕ) (d : BodyState) → slot < length bodies → ss ≡ states_of bodies → aw ≡ movers_of ss → (get_or ss slot d).movable ≡ false → length bodies ≤ room → length aw < room
+room_for_one bodies ss aw slot room d h e f off wide =
+    let long : length ss ≡ length bodies = ap length e ∙ length-states bodies in
+    let fewer : length (movers_of ss) < length ss = places_fewer moves ss 0 slot d (omega (arith, h, long)) off in
+    let same : length aw ≡ length (movers_of ss) = ap length f in
+    omega (arith, fewer, same, long, wide)
+
+pub told_here : (label : Option Label) (slot : ℕ) (before os : List (Option Body)) (ss ss_after : List BodyState) (aw aw_after : List ℕ) (moved now : Bool) (d : BodyState) (gained : Gain) → slot < length before → ss ≡ states_of before → aw ≡ movers_of ss
+    → os ≡ told_one label slot before → ss_after ≡ slice_set ss slot (state_of (option_map (told_body label) (get_or before slot None)))
+    → gained.x ≡ p_x (option_map (told_body label) (get_or before slot None)) -ℤ p_x (get_or before slot None) → gained.y ≡ p_y (option_map (told_body label) (get_or before slot None)) -ℤ p_y (get_or before slot None)
+    → (get_or ss slot d).movable ≡ moved → (state_of (option_map (told_body label) (get_or before slot None))).movable ≡ now → aw_after ≡ relisted slot moved now aw → IsToldOne label slot before os ss_after aw_after gained
+told_here label slot before os ss ss_after aw aw_after moved now d gained h e f puts renews gains_x gains_y was is lists =
+    let o : Option Body = option_map (told_body label) (get_or before slot None) in
+    let long : length ss ≡ length before = ap length e ∙ length-states before in
+    let mx = momentum_x-put before slot o None h in
+    let my = momentum_y-put before slot o None h in
+    let now_x = ap momentum_x puts in
+    let now_y = ap momentum_y puts in
+    let below : slot < length ss = omega (arith, h, long) in
+    let moved_there : (get_or ss slot (state_of o)).movable ≡ moved = ap (λ (s : BodyState). s.movable) (get_or_default ss slot (state_of o) d below) ∙ was in
+    record {
+      bodies = puts;
+      states = renews ∙ ap (λ (l : List BodyState). slice_set l slot (state_of o)) e ∙ states-set before slot o ∙ ap states_of (sym puts);
+      awake = lists ∙ ap (relisted slot moved now) f ∙ places-relisted moves ss slot (state_of o) moved now below moved_there is ∙ ap movers_of (sym renews);
+      x = omega (arith, ints, mx, now_x, gains_x);
+      y = omega (arith, ints, my, now_y, gains_y);
+    }
+
+-- ---- the loop
+
+-- the slots before the place are told, and those behind it are all that are left
+pub record HasToldSome (labels : Labels) (slots : List ℕ) (all : List (Option Body)) (first : ℕ) (place : ℕ) (os : List (Option Body)) (ss : List BodyState) (aw : List ℕ) (wide : ℕ) (gained : Gain) : Type 0 where
+  pub told : told labels os ≡ told labels all
+  pub others : AreToldBeside (drop place slots) labels os
+  pub bodies : AreBodies os
+  pub long : length os ≡ length all
+  pub states : ss ≡ states_of os
+  pub awake : aw ≡ movers_of ss
+  pub room : first ≤ wide
+  pub x : momentum_x os ≡ momentum_x all +ℤ gained.x
+  pub y : momentum_y os ≡ momentum_y all +ℤ gained.y
+  pub small : IsGain (place * 2 ^ 62) gained
+
+pub some_first : (labels : Labels) (slots : List ℕ) (all : List (Option Body)) (ss : List BodyState) (aw : List ℕ) (room : ℕ) → AreBodies all → ss ≡ states_of all → aw ≡ movers_of ss → AreToldBeside slots labels all
+    → HasToldSome labels slots all room 0 all ss aw room (record { x = pos 0; y = pos 0 })
+some_first labels slots all ss aw room bodies e f others = record {
+  told = refl;
+  others = others;
+  bodies = bodies;
+  long = refl;
+  states = e;
+  awake = f;
+  room = omega arith;
+  x = no_gain (momentum_x all);
+  y = no_gain (momentum_y all);
+  small = record { x = omega arith; y = omega arith };
+}
+
+pub some_more : (labels : Labels) (slots : List ℕ) (all : List (Option Body)) (first place slot d : ℕ) (os os_after : List (Option Body)) (ss ss_after : List BodyState) (aw aw_after : List ℕ) (room room_after : ℕ) (gained more sum : Gain)
+    → place < length slots → slot ≡ get_or slots place d → HasToldSome labels slots all first place os ss aw room gained
+    → os_after ≡ told_one (label_at labels slot) slot os → ss_after ≡ states_of os_after → aw_after ≡ movers_of ss_after → room ≤ room_after
+    → momentum_x os_after ≡ momentum_x os +ℤ more.x → momentum_y os_after ≡ momentum_y os +ℤ more.y → IsGain (2 ^ 62) more → sum.x ≡ gained.x +ℤ more.x → sum.y ≡ gained.y +ℤ more.y
+    → HasToldSome labels slots all first (place + 1) os_after ss_after aw_after room_after sum
+some_more labels slots all first place slot d os os_after ss ss_after aw aw_after room room_after gained more sum lt at known puts states awake grows gains_x gains_y small sum_x sum_y =
+    let split : drop place slots ≡ slot ∷ drop (suc place) slots = drop-cons slots place d lt ∙ ap (λ (s : ℕ). s ∷ drop (suc place) slots) (sym at) in
+    let before : AreToldBeside (slot ∷ drop (suc place) slots) labels os = subst (λ (l : List ℕ). AreToldBeside l labels os) split known.others in
+    let after : AreToldBeside (drop (suc place) slots) labels (told_one (label_at labels slot) slot os) = beside_next labels slot (drop (suc place) slots) os before in
+    let was_x = known.x in
+    let was_y = known.y in
+    let wide = known.room in
+    rw add-one (record {
+      told = ap (told labels) puts ∙ told_one_more labels slot os ∙ known.told;
+      others = subst (AreToldBeside (drop (suc place) slots) labels) (sym puts) after;
+      bodies = subst AreBodies (sym puts) (are_bodies (label_at labels slot) os slot known.bodies);
+      long = ap length puts ∙ length-set os slot (option_map (told_body (label_at labels slot)) (get_or os slot None)) ∙ known.long;
+      states = states;
+      awake = awake;
+      room = omega (arith, wide, grows);
+      x = omega (arith, ints, was_x, gains_x, sum_x);
+      y = omega (arith, ints, was_y, gains_y, sum_y);
+      small = record {
+        x = let s = sum_le gained.x more.x (place * 2 ^ 62) (2 ^ 62) known.small.x small.x in rw sum_x (omega (arith, s));
+        y = let s = sum_le gained.y more.y (place * 2 ^ 62) (2 ^ 62) known.small.y small.y in rw sum_y (omega (arith, s));
+      };
+    })
+
+pub some_last : (labels : Labels) (slots : List ℕ) (all : List (Option Body)) (first place : ℕ) (os : List (Option Body)) (ss : List BodyState) (aw : List ℕ) (room : ℕ) (gained : Gain) → length slots ≤ place → HasToldSome labels slots all first place os ss aw room gained → os ≡ told labels all
+some_last labels slots all first place os ss aw room gained h known =
+    let none : AreToldBeside [] labels os = subst (λ (l : List ℕ). AreToldBeside l labels os) (drop_all place slots h) known.others in
+    sym (still_told labels os none) ∙ known.told
