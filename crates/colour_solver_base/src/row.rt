@@ -7,7 +7,7 @@ ghost use Rattle.momenta.specs.Impulses.{AreStates, IsLine};
 ghost use Rattle.contacts_base.specs.Limits.{IsContact, IsContactPoint};
 ghost use Rattle.colour_solver_base.specs.Rows.{AreSurfaces, IsPointRow, IsRow, contact_row, point_row, normal_line, tangent_line, start_speed, is_springy, tangent};
 
-use contacts_base::{Contact, ContactPoint};
+use contacts_base::{ContactPoint, PackedContact};
 use fixed_geom::{UNIT, Vec2};
 use momenta::{Ends, Line, inverse_mass, inverse_reciprocal, speed_along};
 
@@ -146,7 +146,7 @@ fn point_row(springy: bool, point: &ContactPoint, ends: &Ends) -> PointRow
 /// The row of a contact between two bodies, one of them movable at least, which stand as they do when the step
 /// begins. `None` where it doesn't touch.
 #[inline(always)]
-pub fn contact_row(bodies: Bodies, contact: &Contact, ends: &Ends) -> Option<ContactRow>
+pub fn contact_row(bodies: Bodies, contact: &PackedContact, ends: &Ends) -> Option<ContactRow>
     requires surfaces { AreSurfaces bodies }
     requires contact { IsContact contact.now }
     requires states { AreStates ends.now }
@@ -155,20 +155,20 @@ pub fn contact_row(bodies: Bodies, contact: &Contact, ends: &Ends) -> Option<Con
     ensures row { ForSome result IsRow }
 {
     let springy = is_springy(&bodies);
-    let first = match &contact.first {
+    let first = match contact.first() {
         None => return None,
         Some(point) => point,
     };
-    match &contact.second {
+    match contact.second() {
         None => Some(ContactRow {
             bodies,
-            first: point_row(springy, first, ends),
+            first: point_row(springy, &first, ends),
             second: None,
         }),
         Some(second) => Some(ContactRow {
             bodies,
-            first: point_row(springy, first, ends),
-            second: Some(point_row(springy, second, ends)),
+            first: point_row(springy, &first, ends),
+            second: Some(point_row(springy, &second, ends)),
         }),
     }
 }

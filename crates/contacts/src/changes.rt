@@ -9,8 +9,8 @@ ghost use Rattle.contacts.specs.Pairs.{IsPair, ArePairs, proxy_at, first_place, 
 ghost use Rattle.contacts.specs.Changes.{surface_with, contact_with, entry_with, kept_contact, contacts_of, key_unless, key_if_new, keys_not_in, keys_touching_only_in, AreRising};
 
 use contacts_base::{
-    Contact, ContactEntry, ContactKey, Contacts, Proxy, Surface, contact_at, contact_of, one_stirs,
-    seek,
+    ContactEntry, ContactKey, Contacts, PackedContact, PackedSurface, Proxy, contact_at,
+    contact_of, one_stirs, seek,
 };
 use fixed_geom::Refusal;
 use std::alloc::Global;
@@ -38,32 +38,29 @@ pub(crate) fn key_at(proxies: &[Proxy], code: u64) -> ContactKey
 }
 
 /// The surface of the contact of two shapes, whose contact until now was `old`.
-fn surface_with(old: Option<&ContactEntry>, p: &Proxy, q: &Proxy) -> Surface
+fn surface_with(old: Option<&ContactEntry>, p: &Proxy, q: &Proxy) -> PackedSurface
     requires first { IsProxy p.now }
     requires second { IsProxy q.now }
     ensures { result ≡ surface_with (option_copied old.entry) p.now q.now }
 {
     match old {
-        None => p.surface.mixed(q.surface),
+        None => PackedSurface::new(p.surface.mixed(q.surface)),
         Some(entry) => entry.surface,
     }
 }
 
 /// The points that a contact has; a new one has none.
-fn kept_contact(old: Option<&ContactEntry>) -> Contact
+fn kept_contact(old: Option<&ContactEntry>) -> PackedContact
     ensures { result ≡ kept_contact (option_copied old.entry) }
 {
     match old {
-        None => Contact {
-            first: None,
-            second: None,
-        },
+        None => PackedContact::apart(),
         Some(entry) => entry.contact,
     }
 }
 
 /// What the contact of two shapes becomes, which was `old` until now: evaluated anew, if the body of one of them stirs.
-pub(crate) fn contact_with(old: Option<&ContactEntry>, p: &Proxy, q: &Proxy) -> Contact
+pub(crate) fn contact_with(old: Option<&ContactEntry>, p: &Proxy, q: &Proxy) -> PackedContact
     requires first { IsProxy p.now }
     requires second { IsProxy q.now }
     ensures { result ≡ contact_with (option_copied old.entry) p.now q.now }

@@ -17,7 +17,7 @@ use crate::broad_phase::BroadPhase;
 use crate::changes::contact_with;
 use crate::forbidden::is_forbidden;
 use crate::marks::either_moved;
-use contacts_base::{Contact, ContactEntry, ContactKey, Proxy, ShapeId, is_near};
+use contacts_base::{ContactEntry, ContactKey, PackedContact, Proxy, ShapeId, is_near};
 use fixed_geom::{Box2, Refusal};
 
 /// Where the shapes of the enabled bodies are read, one by one.
@@ -61,14 +61,14 @@ pub trait ShapesByName {
 pub enum Turn {
     Stays,
     Goes,
-    Renewed(Contact),
+    Renewed(PackedContact),
 }
 
 /// What the contact at a place of a list becomes.
 #[derive(Clone, Copy, Debug, PartialEq, Eq)]
 pub struct Renewal {
     pub place: usize,
-    pub contact: Contact,
+    pub contact: PackedContact,
 }
 
 /// Whether two shapes are near, and nothing keeps their bodies from colliding.
@@ -124,7 +124,7 @@ fn one_stirs_of<S: ShapesByName>(shapes: &S, key: ContactKey) -> bool
 
 /// The points of a contact evaluated anew, if one of its bodies stirs.
 #[inline(always)]
-fn points_again<S: ShapesByName>(shapes: &S, entry: &ContactEntry) -> Contact
+fn points_again<S: ShapesByName>(shapes: &S, entry: &ContactEntry) -> PackedContact
     requires { IsProxyList (S.proxies shapes.now) }
     ensures { record entry.now { contact = result } ≡ again (S.proxies shapes.now) entry.now }
 {
@@ -198,7 +198,7 @@ pub(crate) fn ended_key(entry: &ContactEntry, turn: &Turn) -> Option<ContactKey>
 
 /// The contact's key, if it touches with these points, and didn't before.
 #[tactic(auto, unfolding(crate::specs::Changes::key_if_new))]
-fn key_if_begins(entry: &ContactEntry, contact: &Contact) -> Option<ContactKey>
+fn key_if_begins(entry: &ContactEntry, contact: &PackedContact) -> Option<ContactKey>
     ensures { result ≡ key_if_new (Some entry.now) (record entry.now { contact = contact.now }) }
 {
     if !contact.is_touching() {

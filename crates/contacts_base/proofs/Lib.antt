@@ -3,3 +3,4 @@ pub mod ContactsLemmas
 pub mod CircleLemmas
 pub mod PlaceLemmas
 pub mod SeekLemmas
+mod PackableLaws

@@ -5,3 +5,4 @@ pub mod Evaluate
 pub mod Near
 pub mod Circles
 pub mod Limits
+pub mod PackedPoints

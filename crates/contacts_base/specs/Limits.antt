@@ -19,3 +19,11 @@ pub record IsContactPoint (p : ContactPoint) : Type 0 where
 pub record IsContact (c : Contact) : Type 0 where
   pub first : ForSome c.first IsContactPoint
   pub second : ForSome c.second IsContactPoint
+
+-- a point with numbers in the ranges in which it is packed
+pub record IsPackable (p : ContactPoint) : Type 0 where
+  pub normal : IsWithin MAX_NORMAL p.normal
+  pub separation : unsigned_abs p.separation ≤ MAX_SEPARATION
+  pub ra : IsWithin MAX_OFFSET p.ra
+  pub rb : IsWithin MAX_OFFSET p.rb
+  pub candidate : p.candidate ≤ 3

@@ -3,10 +3,9 @@
 ghost use Rattle.std.specs.Prelude.{◌≡◌, ◌≤◌, ◌+◌, true};
 ghost use Rattle.std.specs.Option.{option_copied};
 ghost use Rattle.contacts_base.specs.Keys.{key_number};
-ghost use Rattle.contacts_base.specs.Evaluate.{touches};
 ghost use Rattle.contacts_base.specs.Contacts.{lookup, found_place, AreKeysRising, IsAllBelow, IsNoneBelow, IsFirstFrom};
 
-use crate::{ContactKey, Surface};
+use crate::{ContactKey, PackedContact, PackedSurface};
 use fixed_geom::Vec2;
 
 /// A point of a contact: the normal from the first shape to the second, times 2^30, the separation in
@@ -31,23 +30,13 @@ pub struct Contact {
     pub second: Option<ContactPoint>,
 }
 
-impl Contact {
-    /// Whether the shapes touch: then there is a first point.
-    #[inline(always)]
-    pub fn is_touching(&self) -> bool
-        ensures { result ≡ touches self.now }
-    {
-        self.first.is_some()
-    }
-}
-
 /// A contact with the names of its shapes, and the friction and restitution of the two together,
 /// which stay what they were when the shapes came near.
 #[derive(Clone, Copy, Debug, PartialEq, Eq)]
 pub struct ContactEntry {
     pub key: ContactKey,
-    pub surface: Surface,
-    pub contact: Contact,
+    pub surface: PackedSurface,
+    pub contact: PackedContact,
 }
 
 /// The place of the first contact whose key's number is at least `wanted`, by halving: those before `low` have lesser ones,

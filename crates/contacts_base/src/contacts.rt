@@ -1,10 +1,10 @@
 //! The contacts of near shapes.
 
-ghost use Rattle.std.specs.Prelude.{◌≡◌, [], map, slice_get, length, option_map, IfOk};
+ghost use Rattle.std.specs.Prelude.{◌≡◌, [], map, slice_get, length, IfOk};
 ghost use Rattle.std.specs.Result.{IsOkUnless};
-ghost use Rattle.contacts_base.specs.Contacts.{number_of, lookup, is_touching, has_slot, contacts_without, with_points, with_impulses, impulses_set, contact_set, AreContacts};
+ghost use Rattle.contacts_base.specs.Contacts.{number_of, lookup, is_touching, has_slot, contacts_without, with_points, impulses_set, contact_set, AreContacts};
 
-use crate::{Contact, ContactEntry, ContactKey, ContactPoint, Impulses, contact_at, seek};
+use crate::{ContactEntry, ContactKey, Impulses, PackedContact, contact_at, seek};
 use fixed_geom::Refusal;
 use std::alloc::Global;
 use std::marker::Model;
@@ -34,33 +34,16 @@ fn has_slot(slot: u32, entry: &ContactEntry) -> bool
     entry.key.first.slot == slot || entry.key.second.slot == slot
 }
 
-/// Gives a point, if there is one, these impulses.
-#[inline(always)]
-fn set_point(point: &mut Option<ContactPoint>, impulses: Impulses)
-    ensures { point.new ≡ option_map (with_impulses impulses) point.old }
-{
-    match point {
-        None => {}
-        Some(point) => {
-            point.normal_impulse = impulses.normal_impulse;
-            point.tangent_impulse = impulses.tangent_impulse;
-        }
-    }
-}
-
 /// Gives the points of a contact these impulses; without any for the second it stays as it is.
 #[inline(always)]
 fn set_points(entry: &mut ContactEntry, first: Impulses, second: Option<Impulses>)
     ensures { entry.new ≡ with_points first second entry.old }
 {
-    set_point(&mut entry.contact.first, first);
-    if let Some(second) = second {
-        set_point(&mut entry.contact.second, second);
-    }
+    entry.contact.set_impulses(first, second);
 }
 
 /// Gives the contact at an index of a list these points. All stay as they are where there is none at the index.
-pub fn put_contact(entries: &mut Vec<ContactEntry>, index: usize, contact: Contact)
+pub fn put_contact(entries: &mut Vec<ContactEntry>, index: usize, contact: PackedContact)
     ensures { entries.new.items ≡ contact_set index contact entries.old.items (slice_get entries.old.items index) }
 {
     if index < entries.len() {
@@ -142,7 +125,7 @@ impl Contacts {
     }
 
     /// Gives the contact at an index these points. All stay as they are where there is none at the index.
-    pub fn set_contact(&mut self, index: usize, contact: Contact)
+    pub fn set_contact(&mut self, index: usize, contact: PackedContact)
         ensures { self.new ≡ contact_set index contact self.old (slice_get self.old index) }
     {
         put_contact(&mut self.entries, index, contact);

@@ -1,13 +1,14 @@
 //! What a contact becomes when its two shapes are evaluated anew.
 
-ghost use Rattle.std.specs.Prelude.{◌≡◌};
+ghost use Rattle.std.specs.Prelude.{◌≡◌, pos, ◌≤ℤ◌, unsigned_abs, IfSome};
 ghost use Rattle.std.specs.Option.{option_copied};
-ghost use Rattle.shapes.specs.Manifolds.{manifold_of};
+ghost use Rattle.shapes.specs.Manifolds.{IsPointWithin, manifold_of};
+ghost use Rattle.fixed_geom.specs.declared.limits.TheConstants.{MAX_OFFSET};
 ghost use Rattle.contacts_base.specs.Near.{IsProxy};
 ghost use Rattle.contacts_base.specs.Evaluate.{impulses_at, kept, kept_point, evaluated};
 
 use crate::circles::are_circles_apart;
-use crate::{Contact, ContactEntry, ContactPoint, Proxy};
+use crate::{ContactEntry, ContactPoint, PackedContact, Proxy};
 use shapes::{Manifold, Point, manifold};
 
 /// The impulses that a point keeps from one step to the next, along the normal and across it, in
@@ -21,12 +22,6 @@ pub struct Impulses {
 const NO_IMPULSES: Impulses = Impulses {
     normal_impulse: 0,
     tangent_impulse: 0,
-};
-
-/// The two shapes don't touch.
-const APART: Contact = Contact {
-    first: None,
-    second: None,
 };
 
 /// The impulses of a point if it is this candidate's.
@@ -54,9 +49,9 @@ fn kept(old: Option<&ContactEntry>, candidate: u64) -> Impulses
 {
     match old {
         None => NO_IMPULSES,
-        Some(entry) => match impulses_at(&entry.contact.first, candidate) {
+        Some(entry) => match impulses_at(&entry.contact.first(), candidate) {
             Some(impulses) => impulses,
-            None => impulses_at(&entry.contact.second, candidate).unwrap_or(NO_IMPULSES),
+            None => impulses_at(&entry.contact.second(), candidate).unwrap_or(NO_IMPULSES),
         },
     }
 }
@@ -83,34 +78,31 @@ fn kept_point(old: Option<&ContactEntry>, point: &Point) -> ContactPoint
 /// manifold's points, each with the impulses that the old contact kept at the same candidate (as
 /// Box2D carries them over by feature id), or 0. One that doesn't touch has no points.
 #[tactic(auto, unfolding(crate::specs::Evaluate::evaluated))]
-pub fn evaluate(old: Option<&ContactEntry>, manifold: &Manifold) -> Contact
+pub fn evaluate(old: Option<&ContactEntry>, manifold: &Manifold) -> PackedContact
+    requires first { manifold.now.first.separation ≤ℤ pos 0 → IsPointWithin (unsigned_abs MAX_OFFSET) manifold.now.first }
+    requires second { IfSome manifold.now.second (λ p. IsPointWithin (unsigned_abs MAX_OFFSET) p) }
     ensures { result ≡ evaluated (option_copied old.entry) manifold.now }
 {
     if manifold.first.separation > 0 {
-        return APART;
+        return PackedContact::apart();
     }
+    let contact = PackedContact::apart().with_first(&kept_point(old, &manifold.first));
     match &manifold.second {
-        None => Contact {
-            first: Some(kept_point(old, &manifold.first)),
-            second: None,
-        },
-        Some(point) => Contact {
-            first: Some(kept_point(old, &manifold.first)),
-            second: Some(kept_point(old, point)),
-        },
+        None => contact,
+        Some(point) => contact.with_second(&kept_point(old, point)),
     }
 }
 
 /// What the contact of two shapes becomes, where `old` is what it was before: `evaluate` of their
 /// manifold, which isn't computed where a quick look shows that they are apart.
 #[tactic(auto, unfolding(crate::specs::Evaluate::evaluated))]
-pub fn contact_of(old: Option<&ContactEntry>, p: &Proxy, q: &Proxy) -> Contact
+pub fn contact_of(old: Option<&ContactEntry>, p: &Proxy, q: &Proxy) -> PackedContact
     requires first { IsProxy p.now }
     requires second { IsProxy q.now }
     ensures { result ≡ evaluated (option_copied old.entry) (manifold_of p.now.shape p.now.pose q.now.shape q.now.pose) }
 {
     if are_circles_apart(p, q) {
-        return APART;
+        return PackedContact::apart();
     }
     evaluate(old, &manifold(&p.shape, p.pose, &q.shape, q.pose))
 }

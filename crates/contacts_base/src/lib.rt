@@ -9,6 +9,7 @@ pub mod evaluation;
 pub mod key;
 pub mod limits;
 pub mod near;
+pub mod packed;
 pub mod surface;
 
 pub use contact::{Contact, ContactEntry, ContactPoint, contact_at, place_at, seek};
@@ -16,4 +17,5 @@ pub use contacts::{Contacts, put_contact};
 pub use evaluation::{Impulses, contact_of, evaluate};
 pub use key::{ContactKey, ShapeId};
 pub use near::{Proxy, code_of, is_near, one_stirs};
-pub use surface::Surface;
+pub use packed::PackedContact;
+pub use surface::{PackedSurface, Surface};

@@ -81,8 +81,9 @@ pub(crate) fn copy_left(
     let flags = flags_of(alloc, gone)?;
     let mut left = Vec::with_capacity(alloc, entries.len())?;
     for place in 0..entries.len() {
-        let gone = is_of_flagged(&flags, &entries[place]);
-        push_unless(&mut left, gone, &entries[place])?;
+        let entry = &entries[place];
+        let gone = is_of_flagged(&flags, entry);
+        push_unless(&mut left, gone, entry)?;
     }
     Ok(left)
 }

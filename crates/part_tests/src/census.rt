@@ -2,7 +2,9 @@
 
 use crate::assertions::{same, same_items};
 use body_handles::{Handle, Place};
-use contacts_base::{Contact, ContactEntry, ContactKey, ContactPoint, ShapeId, Surface};
+use contacts_base::{
+    ContactEntry, ContactKey, ContactPoint, PackedContact, PackedSurface, ShapeId, Surface,
+};
 use fixed_geom::{Refusal, Rot, Vec2};
 use joint_rows::Joint;
 use momenta::{MassData, Motion};
@@ -62,14 +64,11 @@ fn key(a: u32, b: u32) -> ContactKey {
 fn apart(a: u32, b: u32) -> ContactEntry {
     ContactEntry {
         key: key(a, b),
-        surface: Surface {
+        surface: PackedSurface::new(Surface {
             friction: 0,
             restitution: 0,
-        },
-        contact: Contact {
-            first: None,
-            second: None,
-        },
+        }),
+        contact: PackedContact::apart(),
     }
 }
 
@@ -84,10 +83,7 @@ fn touching(a: u32, b: u32) -> ContactEntry {
         candidate: 0,
     };
     ContactEntry {
-        contact: Contact {
-            first: Some(point),
-            second: None,
-        },
+        contact: PackedContact::apart().with_first(&point),
         ..apart(a, b)
     }
 }

@@ -1,13 +1,17 @@
 //! Scenes worked by hand, each public function on its happy path.
 
-ghost use Rattle.std.specs.Prelude.{◌≡◌, IfOk};
+ghost use Rattle.std.specs.Prelude.{◌≡◌, ◌≤◌, IfOk, unsigned_abs};
+ghost use Rattle.fixed_geom.specs.declared.limits.TheConstants.{MAX_OFFSET as most_offset};
+ghost use Rattle.contacts_base.specs.Limits.{IsPackable};
+ghost use Rattle.contacts_base.specs.Surfaces.{IsSurface};
 ghost use Rattle.contacts_base.specs.Near.{IsProxy};
 
 use crate::assertions::{same, same_items};
 use body_handles::MAX_SLOTS;
 use contacts::*;
 use contacts_base::{
-    Contact, ContactEntry, ContactKey, ContactPoint, Contacts, Impulses, Proxy, ShapeId, Surface,
+    ContactEntry, ContactKey, ContactPoint, Contacts, Impulses, PackedContact, PackedSurface,
+    Proxy, ShapeId, Surface,
 };
 use fixed_geom::{Refusal, Rot, UNIT, Vec2, is_facing, is_within};
 use shapes::{Filter, Pose, Shape, ShapeDef, check, fat_box, tight_box};
@@ -128,7 +132,11 @@ pub(crate) fn lying_at(alloc: Global, y: i64) -> Result<BroadPhase, Refusal> {
     Ok(broad)
 }
 
-fn point(candidate: u64, x: i64, normal_impulse: i64, tangent_impulse: i64) -> ContactPoint {
+fn point(candidate: u64, x: i64, normal_impulse: i64, tangent_impulse: i64) -> ContactPoint
+    requires candidate { candidate ≤ 3 }
+    requires offset { unsigned_abs x ≤ unsigned_abs most_offset }
+    ensures { IsPackable result }
+{
     ContactPoint {
         normal: Vec2 { x: 0, y: UNIT },
         separation: 0,
@@ -140,16 +148,22 @@ fn point(candidate: u64, x: i64, normal_impulse: i64, tangent_impulse: i64) -> C
     }
 }
 
+fn two_points(first: &ContactPoint, second: &ContactPoint) -> PackedContact
+    requires first { IsPackable first.now }
+    requires second { IsPackable second.now }
+{
+    PackedContact::apart().with_first(first).with_second(second)
+}
+
 /// The contact of the capsule with its floor.
-fn entry(
-    surface: Surface,
-    first: Option<ContactPoint>,
-    second: Option<ContactPoint>,
-) -> ContactEntry {
+fn entry(surface: Surface, contact: PackedContact) -> ContactEntry
+    requires { IsSurface surface }
+    ensures { IsSurface result.surface }
+{
     ContactEntry {
         key: KEY,
-        surface,
-        contact: Contact { first, second },
+        surface: PackedSurface::new(surface),
+        contact,
     }
 }
 
@@ -179,7 +193,7 @@ fn a_capsule_comes_to_lie_on_a_segment(rt: HostRuntime) -> Result<(), Fail> {
     same_items(
         &rt,
         laid.now.as_slice(),
-        &[entry(TOGETHER, Some(first), Some(second))],
+        &[entry(TOGETHER, two_points(&first, &second))],
     );
     same_items(&rt, &laid.made, &[KEY]);
     same_items(&rt, &laid.begin, &[KEY]);
@@ -198,14 +212,7 @@ fn resting(alloc: Global) -> Result<Contacts, Refusal> {
     let first = point(3, 50_000, 7, -2);
     let second = point(2, -50_000, 5, 1);
     let mut entries = Vec::new(alloc);
-    entries.push(ContactEntry {
-        key: KEY,
-        surface: KEPT,
-        contact: Contact {
-            first: Some(first),
-            second: Some(second),
-        },
-    })?;
+    entries.push(entry(KEPT, two_points(&first, &second)))?;
     Ok(Contacts::from_entries(entries))
 }
 
@@ -241,7 +248,7 @@ fn contacts_go_with_a_body(rt: HostRuntime) -> Result<(), Fail> {
     same_items(
         &rt,
         copied.as_slice(),
-        &[entry(KEPT, Some(first), Some(second))],
+        &[entry(KEPT, two_points(&first, &second))],
     );
     Ok(())
 }
@@ -256,7 +263,11 @@ fn a_lifted_capsule_parts(rt: HostRuntime) -> Result<(), Fail> {
     let lifted = lifted(rt.alloc(), 20_001)?;
     same_items(&rt, &lifted.end, &[KEY]);
     same_items(&rt, &lifted.gone, &[]);
-    same_items(&rt, lifted.now.as_slice(), &[entry(KEPT, None, None)]);
+    same_items(
+        &rt,
+        lifted.now.as_slice(),
+        &[entry(KEPT, PackedContact::apart())],
+    );
     Ok(())
 }
 
@@ -277,7 +288,7 @@ fn impulses_stay_with_their_candidates(rt: HostRuntime) -> Result<(), Fail> {
     same_items(
         &rt,
         lies.now.as_slice(),
-        &[entry(KEPT, Some(first), Some(second))],
+        &[entry(KEPT, two_points(&first, &second))],
     );
     same(&rt, &counts(&lies), &[0, 0, 0, 0]);
     Ok(())

@@ -1,7 +1,7 @@
 //! Saved worlds and their parts: each read, and what was read written.
 
 use body_handles::Place;
-use contacts_base::{ContactEntry, Surface};
+use contacts_base::{ContactEntry, PackedSurface, Surface};
 use fixed_geom::Refusal;
 use islands::{IslandState, Label};
 use plain_world::BodyJoint;
@@ -159,10 +159,10 @@ struct ContactLists {
 fn entry_of(saved: &SavedContact) -> ContactEntry {
     ContactEntry {
         key: saved.key,
-        surface: Surface {
+        surface: PackedSurface::new(Surface {
             friction: 0,
             restitution: 0,
-        },
+        }),
         contact: saved.contact,
     }
 }

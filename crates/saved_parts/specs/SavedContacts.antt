@@ -24,6 +24,10 @@ use Rattle.saved_parts.specs.declared.version.Version.{Version}
 abbrev pub size_asks : ℕ → Option Data → Ask
 size_asks most value reader = asked (nat_le (unsigned_abs (number_in value)) most) Limits (number_asks value reader)
 
+-- what is read of it, 0 if its size is beyond most
+abbrev pub size_in : ℕ → Option Data → ℤ
+size_in most value = cond (nat_le (unsigned_abs (number_in value)) most) (number_in value) (pos 0)
+
 -- the impulse along the normal, which is at least 0
 abbrev pub push_asks : Option Data → Ask
 push_asks value reader = asked (int_le (pos 0) (number_in value)) Limits (size_asks MAX_NORMAL_IMPULSE value reader)
@@ -34,7 +38,7 @@ last_candidate = 3
 unfoldable pub point_in : Data → ContactPoint
 point_in d = record {
   normal = vector_within MAX_NORMAL (get (codes "normal") d);
-  separation = number_in (get (codes "sep") d);
+  separation = size_in MAX_SEPARATION (get (codes "sep") d);
   ra = vector_within MAX_OFFSET (get (codes "ra") d);
   rb = vector_within MAX_OFFSET (get (codes "rb") d);
   normal_impulse = number_in (get (codes "push") d);

@@ -1,7 +1,7 @@
 //! What is read of a saved world, before its parts are held against one another.
 
 use body_handles::{Handle, Place};
-use contacts_base::{Contact, ContactKey};
+use contacts_base::{ContactKey, PackedContact};
 use plain_world::{Body, BodyJoint};
 
 /// What a body says of its island.
@@ -53,7 +53,7 @@ pub struct SavedContact {
     pub touching: bool,
     pub colour: Option<u8>,
     /// The first two of its points.
-    pub contact: Contact,
+    pub contact: PackedContact,
     /// How many points it has.
     pub points: usize,
 }

@@ -20,9 +20,12 @@ ghost use Rattle.saved_parts.specs.SavedContacts.{
   shape_id_in,
   shape_id_of,
   size_asks,
+  size_in,
   with_point,
   with_points,
 };
+ghost use Rattle.contacts_base.specs.Limits.{IsPackable};
+ghost use Rattle.contacts_base.specs.declared.limits.TheConstants.{MAX_SEPARATION};
 ghost use Rattle.saved_values.specs.Asks.{Ask};
 ghost use Rattle.saved_values.specs.Reading.{list_asks, number_in};
 ghost use Rattle.saved_values.specs.declared.clause.Broken.TheVariants.{NoMemory};
@@ -34,7 +37,7 @@ use crate::version::{Version, colour_value, read_colour};
 use contacts_base::limits::{
     MAX_NORMAL, MAX_NORMAL_IMPULSE, MAX_OFFSET, MAX_SEPARATION, MAX_TANGENT_IMPULSE,
 };
-use contacts_base::{Contact, ContactEntry, ContactKey, ContactPoint, ShapeId};
+use contacts_base::{ContactEntry, ContactKey, ContactPoint, PackedContact, ShapeId};
 use fixed_geom::Refusal;
 use saved_values::{
     Broken, Clause, Members, Reader, array_value, field, has_keys, item_at, pair_value,
@@ -55,6 +58,19 @@ fn read_size(reader: &mut Reader, value: Option<&Value>, most: u64) -> i64
     number
 }
 
+/// Reads the separation, 0 if it is beyond its limit.
+fn read_separation(reader: &mut Reader, value: Option<&Value>) -> i64
+    ensures value { result ≡ size_in MAX_SEPARATION (seen value.entry) }
+    ensures asked { reader.new ≡ size_asks MAX_SEPARATION (seen value.entry) reader.old }
+{
+    let number = read_size(reader, value, MAX_SEPARATION);
+    if number.unsigned_abs() <= MAX_SEPARATION {
+        number
+    } else {
+        0
+    }
+}
+
 /// Reads the impulse along the normal, which is at least 0.
 fn read_push(reader: &mut Reader, value: Option<&Value>) -> i64
     ensures value { result ≡ number_in (seen value.entry) }
@@ -73,7 +89,7 @@ fn read_point(reader: &mut Reader, value: &Value) -> ContactPoint
 {
     reader.ask(has_keys(value, 7), Clause::Form);
     let normal = reader.vector_within(field(value, "normal"), MAX_NORMAL);
-    let separation = read_size(reader, field(value, "sep"), MAX_SEPARATION);
+    let separation = read_separation(reader, field(value, "sep"));
     let ra = reader.vector_within(field(value, "ra"), MAX_OFFSET);
     let rb = reader.vector_within(field(value, "rb"), MAX_OFFSET);
     let push = read_push(reader, field(value, "push"));
@@ -91,35 +107,27 @@ fn read_point(reader: &mut Reader, value: &Value) -> ContactPoint
 }
 
 /// A contact with one more point, of which the first two are kept.
-fn with_point(contact: Contact, point: ContactPoint) -> Contact
-    ensures { result ≡ with_point contact point }
+fn with_point(contact: PackedContact, point: &ContactPoint) -> PackedContact
+    requires { IsPackable point.now }
+    ensures { result ≡ with_point contact point.now }
 {
-    if contact.first.is_none() {
-        Contact {
-            first: Some(point),
-            second: contact.second,
-        }
-    } else if contact.second.is_none() {
-        Contact {
-            first: contact.first,
-            second: Some(point),
-        }
+    if contact.first().is_none() {
+        contact.with_first(point)
+    } else if contact.second().is_none() {
+        contact.with_second(point)
     } else {
         contact
     }
 }
 
 /// Reads the points of a contact, of which the first two are kept.
-fn read_points(reader: &mut Reader, points: &[Value]) -> Contact
+fn read_points(reader: &mut Reader, points: &[Value]) -> PackedContact
     ensures value { result ≡ with_points (items_view points.now) no_points }
     ensures asked { reader.new ≡ points_asks (items_view points.now) reader.old }
 {
-    let mut contact = Contact {
-        first: None,
-        second: None,
-    };
+    let mut contact = PackedContact::apart();
     for value in points {
-        contact = with_point(contact, read_point(reader, value));
+        contact = with_point(contact, &read_point(reader, value));
     }
     contact
 }
@@ -206,15 +214,15 @@ fn point_value(alloc: Global, point: &ContactPoint) -> Result<Value, Refusal>
     Ok(members.object())
 }
 
-fn points_value(alloc: Global, contact: &Contact) -> Result<Value, Refusal>
+fn points_value(alloc: Global, contact: &PackedContact) -> Result<Value, Refusal>
     ensures { IfOk result (λ value. view value ≡ points_of contact.now) }
 {
     let mut items = Vec::with_capacity(alloc, 2)?;
-    if let Some(point) = &contact.first {
-        items.push(point_value(alloc, point)?)?;
+    if let Some(point) = contact.first() {
+        items.push(point_value(alloc, &point)?)?;
     }
-    if let Some(point) = &contact.second {
-        items.push(point_value(alloc, point)?)?;
+    if let Some(point) = contact.second() {
+        items.push(point_value(alloc, &point)?)?;
     }
     Ok(array_value(items))
 }

@@ -26,7 +26,7 @@ use Rattle.saved_values.specs.Reading.{number_asks, number_in, unsigned_asks, un
 use Rattle.saved_values.specs.Written.{integer, natural, natural_or_null}
 use Rattle.saved_values.specs.declared.clause.Clause.TheVariants.{Colours, Limits}
 use Rattle.saved_values.specs.declared.reader.Reader.{Reader}
-use Rattle.saved_parts.specs.SavedContacts.{contact_asks, contact_in, contact_of, contacts_asks, contacts_in, each_contact, last_candidate, no_points, point_asks, point_in, point_of, point_or_none, points_asks, push_asks, shape_id_asks, shape_id_in, shape_id_of, size_asks, with_points}
+use Rattle.saved_parts.specs.SavedContacts.{contact_asks, contact_in, contact_of, contacts_asks, contacts_in, each_contact, last_candidate, no_points, point_asks, point_in, point_of, point_or_none, points_asks, push_asks, shape_id_asks, shape_id_in, shape_id_of, size_asks, size_in, with_points}
 use Rattle.saved_parts.specs.SavedJoints.{generation_of, joint_asks, joint_in, joint_of}
 use Rattle.saved_parts.specs.SavedTotals as saved_totals
 use Rattle.saved_parts.specs.SavedTotals.{total_asks, total_of, totals_asks}
@@ -69,6 +69,11 @@ size_asked most z few h r =
     let o = number_back z (omega (arith, few, h)) in
     asked_true (nat_le (unsigned_abs (number_in (Some (integer z)))) most) Limits (number_asks (Some (integer z)) r) (ap (λ (v : ℤ). nat_le (unsigned_abs v) most) o.value ∙ le-leb (unsigned_abs z) most h) ∙ o.asks r
 
+size_back : (most : ℕ) (z : ℤ) → most ≤ 2 ^ 62 → unsigned_abs z ≤ most → size_in most (Some (integer z)) ≡ z
+size_back most z few h =
+    let o = number_back z (omega (arith, few, h)) in
+    ap (λ (v : ℤ). cond (nat_le (unsigned_abs v) most) v (pos 0)) o.value ∙ ap (λ (t : Bool). cond t z (pos 0)) (le-leb (unsigned_abs z) most h)
+
 low_true : (z : ℤ) → pos 0 ≤ℤ z → int_le (pos 0) z ≡ true
 low_true z h = grind (arith, ints)
 
@@ -91,12 +96,12 @@ point_back p h =
     let normal = within_back MAX_NORMAL p.normal (omega arith) point.normal in
     let first = within_back MAX_OFFSET p.ra (omega arith) point.ra in
     let second = within_back MAX_OFFSET p.rb (omega arith) point.rb in
-    let apart = number_back p.separation (omega (arith, separation)) in
+    let apart = size_back MAX_SEPARATION p.separation (omega arith) separation in
     let along = number_back p.normal_impulse (omega (arith, push)) in
     let across = number_back p.tangent_impulse (omega (arith, slip)) in
     let candidate = unsigned_back last_candidate p.candidate h.candidate in
     record {
-      value = λ i. record { normal = normal.value i; separation = apart.value i; ra = first.value i; rb = second.value i; normal_impulse = along.value i; tangent_impulse = across.value i; candidate = candidate.value i };
+      value = λ i. record { normal = normal.value i; separation = apart i; ra = first.value i; rb = second.value i; normal_impulse = along.value i; tangent_impulse = across.value i; candidate = candidate.value i };
       asks = λ r. candidate.asks _ ∙ size_asked MAX_TANGENT_IMPULSE p.tangent_impulse (omega arith) slip _ ∙ push_asked p.normal_impulse point.normal_impulse_low push _ ∙ second.asks _ ∙ first.asks _ ∙ size_asked MAX_SEPARATION p.separation (omega arith) separation _ ∙ normal.asks r;
     }
 

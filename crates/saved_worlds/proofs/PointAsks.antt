@@ -12,6 +12,7 @@ use Rattle.saved_values.specs.Reading.{has_keys, number_asks, number_in}
 use Rattle.saved_values.specs.declared.clause.Clause.TheVariants.{Form, Limits}
 use Rattle.saved_values.specs.declared.reader.Reader.{Reader}
 use Rattle.saved_parts.specs.SavedContacts.{last_candidate, no_points, point_asks, point_in, points_asks, push_asks, size_asks, with_point, with_points}
+use Rattle.saved_parts.proofs.PointLaws.{size_small}
 use Rattle.saved_worlds.proofs.AskLaws.{IsUnbroken, Tells, passes, passes_number, passes_unsigned, passes_within, tells}
 use Rattle.saved_worlds.proofs.Tests.{at_most, at_most_z, equal_n, unsigned_small, vector_small}
 
@@ -43,7 +44,7 @@ tells_point d r h =
       record {
         point = record {
           normal = vector_small MAX_NORMAL (get (codes "normal") d);
-          separation = separation.0;
+          separation = size_small MAX_SEPARATION (get (codes "sep") d);
           ra = vector_small MAX_OFFSET (get (codes "ra") d);
           rb = vector_small MAX_OFFSET (get (codes "rb") d);
           normal_impulse_low = push.0.0;

@@ -22,7 +22,7 @@ use crate::joint_row::joint_row_at;
 use colour_solver::Rows;
 use colour_solver_base::{Bodies, ContactRow, contact_row};
 use contacts::Constraint;
-use contacts_base::{Contact, ContactEntry, ContactKey, Surface, place_at, seek};
+use contacts_base::{ContactEntry, ContactKey, PackedContact, PackedSurface, place_at, seek};
 use fixed_geom::{Rot, UNIT, Vec2};
 use graph_colours::{COLOURS, Colours, Member, OVERFLOW};
 use joint_rows::JointRow;
@@ -114,11 +114,12 @@ pub fn body_state(body: &Body) -> BodyState
 
 /// Which contact it is, its bodies, and the surface that meets there.
 #[inline(always)]
-fn bodies_of(key: ContactKey, surface: Surface, index: usize) -> Bodies
+fn bodies_of(key: ContactKey, surface: PackedSurface, index: usize) -> Bodies
     requires { IsSurface surface }
     ensures value { result ≡ bodies_of key surface index }
     ensures surfaces { AreSurfaces result }
 {
+    let surface = surface.get();
     Bodies {
         index,
         a: key.first.slot,
@@ -150,8 +151,8 @@ fn row_in(
     key: ContactKey,
     index: usize,
     own: ContactKey,
-    surface: Surface,
-    contact: &Contact,
+    surface: PackedSurface,
+    contact: &PackedContact,
 ) -> Option<ContactRow>
     requires all_states { AreAllStates states.now }
     requires contact { IsContactOn states.now (record { key = own; surface = surface; contact = contact.now }) }

@@ -21,7 +21,7 @@ ghost use Rattle.world_file.specs.Fitting.{
 
 use body_handles::{Handle, Place};
 use contacts_base::limits::{MAX_FRICTION, MAX_RESTITUTION};
-use contacts_base::{ContactEntry, ContactPoint, ShapeId, Surface};
+use contacts_base::{ContactEntry, ContactPoint, PackedSurface, ShapeId, Surface};
 use plain_world::{Body, BodyJoint};
 use saved_parts::{SavedContact, SavedJoint};
 use saved_values::Broken;
@@ -78,7 +78,7 @@ fn has_points(saved: &SavedContact) -> bool
     ensures { result ≡ has_points saved.now }
 {
     if saved.touching {
-        are_points(saved.contact.first, saved.contact.second, saved.points)
+        are_points(saved.contact.first(), saved.contact.second(), saved.points)
     } else {
         saved.points == 0
     }
@@ -202,7 +202,8 @@ fn surface_of(def: ShapeDef) -> Surface
 }
 
 fn mixed_surface(first: Surface, second: Surface) -> Surface
-    ensures { result ≡ mixed_surface first second }
+    ensures value { result ≡ mixed_surface first second }
+    ensures surface { IsSurface result }
 {
     if is_surface(first) && is_surface(second) {
         first.mixed(second)
@@ -215,7 +216,8 @@ fn mixed_surface(first: Surface, second: Surface) -> Surface
 }
 
 fn mixed_of(first: Option<ShapeDef>, second: Option<ShapeDef>) -> Surface
-    ensures { result ≡ mixed_of first second }
+    ensures value { result ≡ mixed_of first second }
+    ensures surface { IsSurface result }
 {
     match (first, second) {
         (Some(first), Some(second)) => mixed_surface(surface_of(first), surface_of(second)),
@@ -234,7 +236,7 @@ fn entry_of(bodies: &[Option<Body>], saved: &SavedContact) -> ContactEntry
     let second = shape_named(bodies, saved.key.second);
     ContactEntry {
         key: saved.key,
-        surface: mixed_of(first, second),
+        surface: PackedSurface::new(mixed_of(first, second)),
         contact: saved.contact,
     }
 }

@@ -1,7 +1,7 @@
-use Rattle.std.proofs.Common.{None, refl}
+use Rattle.std.proofs.Common.{None}
 use Rattle.contacts.specs.Changes.{key_if_new}
 use Rattle.contacts.proofs.TurnLemmas.{keys_step}
 use Rattle.contacts.proofs.rebuild.keys_of_touching.Goals as goal
 
 pub loop-place-preserved : goal.loop-place-preserved
-loop-place-preserved c = keys_step (key_if_new None) c.args.fresh.now c.loop-place.place _ _ _ _ _ c.loop-place-test.true refl c.key_of_touching.ensures c.loop-place.invariant c.in_ok-push_key.ensures.pushed
+loop-place-preserved c = keys_step (key_if_new None) c.args.fresh.now c.loop-place.place c.index-fresh-place.result _ _ _ _ c.loop-place-test.true c.index-fresh-place.is c.key_of_touching.ensures c.loop-place.invariant c.in_ok-push_key.ensures.pushed

@@ -18,7 +18,7 @@ pub loop-index-preserved : goal.loop-index-preserved
 loop-index-preserved g c =
     let ps = g.S.ShapesByName.proxies c.args.shapes.now in
     let flags = c.args.stirring.now.flags.items in
-    passing_step (moved_by c.args.marks.now) c.args.forbidden.now ps c.args.old.now (one_flagged flags) c.as_slice-places.result.now c.loop-index.index _ 0 _ _ c.turn_of-turn.result _ _ _ _ _ _ _ _ _ _ _ (quiet_stays flags c.args.marks.now c.args.forbidden.now ps c.args.old.now c.requires.quiet c.requires.keys) c.loop-index-test.true refl c.loop-index.invariant refl c.turn_of-turn.ensures c.in_ok-note.ensures.noted c.gone_key.ensures c.in_ok-push_key.ensures.pushed
+    passing_step (moved_by c.args.marks.now) c.args.forbidden.now ps c.args.old.now (one_flagged flags) c.as_slice-places.result.now c.loop-index.index _ 0 c.index-old-place.result _ c.turn_of-turn.result _ _ _ _ _ _ _ _ _ _ _ (quiet_stays flags c.args.marks.now c.args.forbidden.now ps c.args.old.now c.requires.quiet c.requires.keys) c.loop-index-test.true refl c.loop-index.invariant c.index-old-place.is c.turn_of-turn.ensures c.in_ok-note.ensures.noted c.gone_key.ensures c.in_ok-push_key.ensures.pushed
     c.begun_key.ensures c.in_ok-push_key-2.ensures.pushed c.ended_key.ensures c.in_ok-push_key-3.ensures.pushed
 
 pub returns-clause-notes : goal.returns-clause-notes
