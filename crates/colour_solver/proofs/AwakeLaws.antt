@@ -1,28 +1,27 @@
 -- Passes that walk over the movers' slots alone: from one mover to the next nothing changes, and nothing is gained.
-use Rattle.std.proofs.Common.{◌≡◌, ℕ, zero, suc, ◌<◌, ◌≤◌, false, List, [], ◌∷◌, ◌++◌, length, get_or, take, drop, map, Some, ℤ, pos, ◌+ℤ◌, arith, refl, sym, ap, ◌∙◌, subst, inl, inr, slice_set, add-one}
+use Rattle.std.proofs.Common.{◌≡◌, ℕ, zero, suc, ◌<◌, ◌≤◌, false, List, [], ◌∷◌, ◌++◌, length, get_or, take, drop, map, Some, arith, refl, sym, ap, ◌∙◌, subst, inl, inr, slice_set, add-one}
 use Rattle.std.specs.List.{slice_get}
 use Rattle.std.proofs.lemmas.Bool.{cases_lt}
-use Rattle.std.proofs.lemmas.Int.{ints}
 use Rattle.body_handles.specs.declared.places.TheConstants.{MAX_SLOTS}
+use Rattle.fixed_geom.specs.Vectors.{plus, zero_vector}
+use Rattle.fixed_geom.specs.declared.vectors.Vec2.{Vec2}
 use Rattle.momenta.specs.declared.mass.MassData.{MassData}
 use Rattle.momenta.specs.declared.motion.Motion.{Motion}
 use Rattle.momenta.specs.declared.state.BodyState.{BodyState}
 use Rattle.colour_solver.specs.States.{AreSameStates, moves, movers_of, nobody, places_from}
-use Rattle.colour_solver.specs.Passes.{OnMover, OnMovers, changed, pass, one_gain_x, one_gain_y, gain_x, gain_y}
+use Rattle.colour_solver.specs.Passes.{OnMover, OnMovers, changed, pass, one_gain, gain}
 use Rattle.colour_solver.proofs.TickLaws.{changed_other}
 use Rattle.std.proofs.lemmas.Option.{slice_get_within}
-use Rattle.colour_solver.proofs.PassLaws.{both, pass_both, next_is, length_is, items_more, made_more, slice_get-get, gain_x_more, gain_y_more, gain_x_more_after, gain_y_more_after}
+use Rattle.colour_solver.proofs.PassLaws.{both, pass_both, next_is, length_is, items_more, made_more, slice_get-get, gain_more, gain_more_after}
 use Rattle.colour_solver.proofs.SameLaws.{passes_whole, same_at_last}
 use Rattle.colour_solver.proofs.PlaceLaws.{AreOthers, IsNext, IsReached, length-places, map_still, reached, reached_at_first, reached_first, reached_last, reached_more, reached_next, reached_there, sum_still}
+use Rattle.colour_solver.proofs.VectorLaws.{plus_zero, zero_plus}
 
 both_other : (f g : MassData → Motion → Motion) (s : BodyState) → s.movable ≡ false → both f g s ≡ s
 both_other f g s h = ap (changed g) (changed_other f s h) ∙ changed_other g s h
 
-none_x : (f : MassData → Motion → Motion) (s : BodyState) → s.movable ≡ false → one_gain_x f s ≡ pos 0
-none_x f s h = rw h refl
-
-none_y : (f : MassData → Motion → Motion) (s : BodyState) → s.movable ≡ false → one_gain_y f s ≡ pos 0
-none_y f s h = rw h refl
+none : (f : MassData → Motion → Motion) (s : BodyState) → s.movable ≡ false → one_gain f s ≡ zero_vector
+none f s h = rw h refl
 
 -- ---- from the slot a on to the slot m
 
@@ -32,19 +31,12 @@ items_still f g all a m h others =
     let before : (map (both f g) (take a all) ++ drop a all) ≡ pass g (pass f (take a all)) ++ drop a all = ap (λ (l : List BodyState). l ++ drop a all) (sym (pass_both f g (take a all))) in
     later ∙ map_still (both f g) all a m h (λ j s lo hi e. both_other f g s (others j s lo hi e)) ∙ before
 
-pub gain_x-still : (f : MassData → Motion → Motion) (all : List BodyState) (a m : ℕ) → a ≤ m → AreOthers moves all a m → gain_x f (drop m all) ≡ gain_x f (drop a all)
-gain_x-still f all a m h others = sum_still (gain_x f) (one_gain_x f) all a m h (λ s ss. refl) (λ j s lo hi e. none_x f s (others j s lo hi e))
+pub gain-still : (f : MassData → Motion → Motion) (all : List BodyState) (a m : ℕ) → a ≤ m → AreOthers moves all a m → gain f (drop m all) ≡ gain f (drop a all)
+gain-still f all a m h others = sum_still (gain f) (one_gain f) all a m h (λ s ss. refl) (λ j s lo hi e. none f s (others j s lo hi e))
 
-pub gain_y-still : (f : MassData → Motion → Motion) (all : List BodyState) (a m : ℕ) → a ≤ m → AreOthers moves all a m → gain_y f (drop m all) ≡ gain_y f (drop a all)
-gain_y-still f all a m h others = sum_still (gain_y f) (one_gain_y f) all a m h (λ s ss. refl) (λ j s lo hi e. none_y f s (others j s lo hi e))
-
-pub gain_x-still_after : (f g : MassData → Motion → Motion) (all : List BodyState) (a m : ℕ) → a ≤ m → AreOthers moves all a m → gain_x g (pass f (drop m all)) ≡ gain_x g (pass f (drop a all))
-gain_x-still_after f g all a m h others =
-    sum_still (λ l. gain_x g (pass f l)) (λ s. one_gain_x g (changed f s)) all a m h (λ s ss. refl) (λ j s lo hi e. let o = others j s lo hi e in ap (one_gain_x g) (changed_other f s o) ∙ none_x g s o)
-
-pub gain_y-still_after : (f g : MassData → Motion → Motion) (all : List BodyState) (a m : ℕ) → a ≤ m → AreOthers moves all a m → gain_y g (pass f (drop m all)) ≡ gain_y g (pass f (drop a all))
-gain_y-still_after f g all a m h others =
-    sum_still (λ l. gain_y g (pass f l)) (λ s. one_gain_y g (changed f s)) all a m h (λ s ss. refl) (λ j s lo hi e. let o = others j s lo hi e in ap (one_gain_y g) (changed_other f s o) ∙ none_y g s o)
+pub gain-still_after : (f g : MassData → Motion → Motion) (all : List BodyState) (a m : ℕ) → a ≤ m → AreOthers moves all a m → gain g (pass f (drop m all)) ≡ gain g (pass f (drop a all))
+gain-still_after f g all a m h others =
+    sum_still (λ l. gain g (pass f l)) (λ s. one_gain g (changed f s)) all a m h (λ s ss. refl) (λ j s lo hi e. let o = others j s lo hi e in ap (one_gain g) (changed_other f s o) ∙ none g s o)
 
 slice_get-later : (f : BodyState → BodyState) (all : List BodyState) (a j : ℕ) → a ≤ j → slice_get (map f (take a all) ++ drop a all) j ≡ slice_get all j
 slice_get-later f [] zero j h = refl
@@ -81,32 +73,28 @@ movers_same old new same = movers_same_from old new 0 same.long same.movable
 -- ---- the walk
 
 -- the state of the walk once k of the slots were seen: two passes over all slots below the next mover's, with their gains
-pub record HasWalked (f g : MassData → Motion → Motion) (P : MassData → Motion → Type 0) (all : List BodyState) (places : List ℕ) (k : ℕ) (now : List BodyState) (first_x first_y second_x second_y : ℤ) : Type 0 where
+pub record HasWalked (f g : MassData → Motion → Motion) (P : MassData → Motion → Type 0) (all : List BodyState) (places : List ℕ) (k : ℕ) (now : List BodyState) (first second : Vec2) : Type 0 where
   pub walk : IsReached moves all places k
   pub items : now ≡ pass g (pass f (take (reached places k all) all)) ++ drop (reached places k all) all
-  pub gained_x : (first_x +ℤ gain_x f (drop (reached places k all) all)) ≡ gain_x f all
-  pub gained_y : (first_y +ℤ gain_y f (drop (reached places k all) all)) ≡ gain_y f all
-  pub after_x : (second_x +ℤ gain_x g (pass f (drop (reached places k all) all))) ≡ gain_x g (pass f all)
-  pub after_y : (second_y +ℤ gain_y g (pass f (drop (reached places k all) all))) ≡ gain_y g (pass f all)
+  pub gained : plus first (gain f (drop (reached places k all) all)) ≡ gain f all
+  pub after : plus second (gain g (pass f (drop (reached places k all) all))) ≡ gain g (pass f all)
   pub made : (j : ℕ) (b : BodyState) → j < reached places k all → slice_get now j ≡ Some b → OnMover P b
 
 pub few_movers : (all : List BodyState) (places : List ℕ) → places ≡ movers_of all → length all ≤ MAX_SLOTS → length places ≤ MAX_SLOTS
 few_movers all places e few = let least : length places ≤ length all = rw e (length-places moves all 0) in omega (arith, least, few)
 
-from_none : (a b : ℤ) → b ≡ a → (pos 0 +ℤ b) ≡ a
-from_none a b e = omega (arith, ints, e)
+from_none : (a b : Vec2) → b ≡ a → plus zero_vector b ≡ a
+from_none a b e = zero_plus b ∙ e
 
-pub walked_first : (f g : MassData → Motion → Motion) (P : MassData → Motion → Type 0) (all : List BodyState) (places : List ℕ) → places ≡ movers_of all → HasWalked f g P all places 0 all (pos 0) (pos 0) (pos 0) (pos 0)
+pub walked_first : (f g : MassData → Motion → Motion) (P : MassData → Motion → Type 0) (all : List BodyState) (places : List ℕ) → places ≡ movers_of all → HasWalked f g P all places 0 all zero_vector zero_vector
 walked_first f g P all places e =
     let m = reached places 0 all in
     let first : IsNext moves all 0 m 0 m = reached_first moves all places e in
     record {
       walk = reached_at_first moves all places e;
       items = sym (items_still f g all 0 m first.from first.others);
-      gained_x = from_none (gain_x f all) (gain_x f (drop m all)) (gain_x-still f all 0 m first.from first.others);
-      gained_y = from_none (gain_y f all) (gain_y f (drop m all)) (gain_y-still f all 0 m first.from first.others);
-      after_x = from_none (gain_x g (pass f all)) (gain_x g (pass f (drop m all))) (gain_x-still_after f g all 0 m first.from first.others);
-      after_y = from_none (gain_y g (pass f all)) (gain_y g (pass f (drop m all))) (gain_y-still_after f g all 0 m first.from first.others);
+      gained = from_none (gain f all) (gain f (drop m all)) (gain-still f all 0 m first.from first.others);
+      after = from_none (gain g (pass f all)) (gain g (pass f (drop m all))) (gain-still_after f g all 0 m first.from first.others);
       made = made_still P f g all all 0 m first.others refl (λ j b lt e2. absurd (omega (arith, lt)));
     }
 
@@ -123,9 +111,9 @@ pub record IsHere (all items : List BodyState) (m : ℕ) (o : BodyState) : Type 
   pub there : slice_get all m ≡ Some o
   pub now : o ≡ get_or items m o
 
-pub here_at : (f g : MassData → Motion → Motion) (P : MassData → Motion → Type 0) (all : List BodyState) (places : List ℕ) (k slot : ℕ) (items : List BodyState) (a b c d : ℤ) (o : BodyState)
-    → HasWalked f g P all places k items a b c d → k < length places → slot ≡ get_or places k 0 → o ≡ get_or items slot o → IsHere all items slot o
-here_at f g P all places k slot items a b c d o known h at is =
+pub here_at : (f g : MassData → Motion → Motion) (P : MassData → Motion → Type 0) (all : List BodyState) (places : List ℕ) (k slot : ℕ) (items : List BodyState) (a b : Vec2) (o : BodyState)
+    → HasWalked f g P all places k items a b → k < length places → slot ≡ get_or places k 0 → o ≡ get_or items slot o → IsHere all items slot o
+here_at f g P all places k slot items a b o known h at is =
     let m = reached places k all in
     let e : slot ≡ m = at ∙ get_or-any places k 0 (length all) h in
     let here : m < length all = reached_there moves all places k h known.walk in
@@ -134,18 +122,18 @@ here_at f g P all places k slot items a b c d o known h at is =
     let long = length_is f g all items m known.items in
     subst (λ (n : ℕ). IsHere all items n o) (sym e) (record { below = here; within = omega (arith, here, long); same = same; there = slice_get-get all m o o here same; now = now })
 
-rest_of : (a b rest all : ℤ) → (a +ℤ rest) ≡ all → b ≡ rest → (a +ℤ b) ≡ all
-rest_of a b rest all e h = omega (arith, ints, e, h)
+rest_of : (a b rest all : Vec2) → plus a rest ≡ all → b ≡ rest → plus a b ≡ all
+rest_of a b rest all e h = ap (plus a) h ∙ e
 
-pub walked_more : (f g : MassData → Motion → Motion) (P : MassData → Motion → Type 0) (all : List BodyState) (places : List ℕ) (k slot : ℕ) (items : List BodyState) (a b c d ga gb gc gd : ℤ) (o new : BodyState)
-    → HasWalked f g P all places k items a b c d → k < length places → slot ≡ get_or places k 0 → o ≡ get_or items slot o → new ≡ both f g o → OnMover P new
-    → ga ≡ one_gain_x f o → gb ≡ one_gain_y f o → gc ≡ one_gain_x g (changed f o) → gd ≡ one_gain_y g (changed f o)
-    → HasWalked f g P all places (suc k) (slice_set items slot new) (a +ℤ ga) (b +ℤ gb) (c +ℤ gc) (d +ℤ gd)
-walked_more f g P all places k slot items a b c d ga gb gc gd o new known h at is makes gives ea eb ec ed =
+pub walked_more : (f g : MassData → Motion → Motion) (P : MassData → Motion → Type 0) (all : List BodyState) (places : List ℕ) (k slot : ℕ) (items : List BodyState) (a b more_a more_b : Vec2) (o new : BodyState)
+    → HasWalked f g P all places k items a b → k < length places → slot ≡ get_or places k 0 → o ≡ get_or items slot o → new ≡ both f g o → OnMover P new
+    → more_a ≡ one_gain f o → more_b ≡ one_gain g (changed f o)
+    → HasWalked f g P all places (suc k) (slice_set items slot new) (plus a more_a) (plus b more_b)
+walked_more f g P all places k slot items a b more_a more_b o new known h at is makes gives first second =
     let m = reached places k all in
     let n = reached places (suc k) all in
     let e : slot ≡ m = at ∙ get_or-any places k 0 (length all) h in
-    let here : IsHere all items m o = subst (λ (j : ℕ). IsHere all items j o) e (here_at f g P all places k slot items a b c d o known h at is) in
+    let here : IsHere all items m o = subst (λ (j : ℕ). IsHere all items j o) e (here_at f g P all places k slot items a b o known h at is) in
     let more : IsNext moves all (suc m) n (suc m) n = reached_next moves all places k h known.walk in
     let whole : slice_set items slot new ≡ pass g (pass f (take (suc m) all)) ++ drop (suc m) all =
     rw (e, makes) (rw add-one at (items_more f g all items m o here.below known.items here.now)) in
@@ -153,20 +141,18 @@ walked_more f g P all places k slot items a b c d ga gb gc gd o new known h at i
     record {
       walk = reached_more moves all places k h known.walk;
       items = whole ∙ sym (items_still f g all (suc m) n more.from more.others);
-      gained_x = rest_of (a +ℤ ga) (gain_x f (drop n all)) (gain_x f (drop (suc m) all)) (gain_x f all) (gain_x_more f all m o a ga here.below here.same known.gained_x ea) (gain_x-still f all (suc m) n more.from more.others);
-      gained_y = rest_of (b +ℤ gb) (gain_y f (drop n all)) (gain_y f (drop (suc m) all)) (gain_y f all) (gain_y_more f all m o b gb here.below here.same known.gained_y eb) (gain_y-still f all (suc m) n more.from more.others);
-      after_x = rest_of (c +ℤ gc) (gain_x g (pass f (drop n all))) (gain_x g (pass f (drop (suc m) all))) (gain_x g (pass f all)) (gain_x_more_after f g all m o c gc here.below here.same known.after_x ec) (gain_x-still_after f g all (suc m) n more.from more.others);
-      after_y = rest_of (d +ℤ gd) (gain_y g (pass f (drop n all))) (gain_y g (pass f (drop (suc m) all))) (gain_y g (pass f all)) (gain_y_more_after f g all m o d gd here.below here.same known.after_y ed) (gain_y-still_after f g all (suc m) n more.from more.others);
+      gained = rest_of (plus a more_a) (gain f (drop n all)) (gain f (drop (suc m) all)) (gain f all) (gain_more f all m o a more_a here.below here.same known.gained first) (gain-still f all (suc m) n more.from more.others);
+      after =
+          rest_of (plus b more_b) (gain g (pass f (drop n all))) (gain g (pass f (drop (suc m) all))) (gain g (pass f all)) (gain_more_after f g all m o b more_b here.below here.same known.after second)
+          (gain-still_after f g all (suc m) n more.from more.others);
       made = made_still P f g all (slice_set items slot new) (suc m) n more.others whole (λ j x lt got. below j x lt (ap (λ (i : ℕ). slice_get (slice_set items i new) j) (sym e) ∙ got));
     }
 
 -- what the walk has made once all were seen
-pub record IsWhole (f g : MassData → Motion → Motion) (P : MassData → Motion → Type 0) (all now : List BodyState) (a b c d : ℤ) : Type 0 where
+pub record IsWhole (f g : MassData → Motion → Motion) (P : MassData → Motion → Type 0) (all now : List BodyState) (a b : Vec2) : Type 0 where
   pub items : now ≡ pass g (pass f all)
-  pub gained_x : a ≡ gain_x f all
-  pub gained_y : b ≡ gain_y f all
-  pub after_x : c ≡ gain_x g (pass f all)
-  pub after_y : d ≡ gain_y g (pass f all)
+  pub gained : a ≡ gain f all
+  pub after : b ≡ gain g (pass f all)
   pub made : OnMovers P now
   pub same : AreSameStates all now
   pub movers : movers_of now ≡ movers_of all
@@ -175,12 +161,12 @@ drop_whole : {X : Type 0} (l : List X) → drop (length l) l ≡ []
 drop_whole [] = refl
 drop_whole (x ∷ l) = drop_whole l
 
-none_left : (a rest all : ℤ) → (a +ℤ rest) ≡ all → rest ≡ pos 0 → a ≡ all
-none_left a rest all e h = omega (arith, ints, e, h)
+none_left : (a rest all : Vec2) → plus a rest ≡ all → rest ≡ zero_vector → a ≡ all
+none_left a rest all e h = sym (plus_zero a) ∙ (ap (plus a) (sym h) ∙ e)
 
-pub walked_last : (f g : MassData → Motion → Motion) (P : MassData → Motion → Type 0) (all : List BodyState) (places : List ℕ) (k : ℕ) (items : List BodyState) (a b c d : ℤ)
-    → HasWalked f g P all places k items a b c d → length places ≤ k → IsWhole f g P all items a b c d
-walked_last f g P all places k items a b c d known h =
+pub walked_last : (f g : MassData → Motion → Motion) (P : MassData → Motion → Type 0) (all : List BodyState) (places : List ℕ) (k : ℕ) (items : List BodyState) (a b : Vec2)
+    → HasWalked f g P all places k items a b → length places ≤ k → IsWhole f g P all items a b
+walked_last f g P all places k items a b known h =
     let m = reached places k all in
     let e : m ≡ length all = reached_last all places k h in
     let ended : length all ≤ m = omega (arith, e) in
@@ -190,10 +176,8 @@ walked_last f g P all places k items a b c d known h =
     let long = length_is f g all items m known.items in
     record {
       items = whole;
-      gained_x = none_left a (gain_x f (drop m all)) (gain_x f all) known.gained_x (ap (gain_x f) left);
-      gained_y = none_left b (gain_y f (drop m all)) (gain_y f all) known.gained_y (ap (gain_y f) left);
-      after_x = none_left c (gain_x g (pass f (drop m all))) (gain_x g (pass f all)) known.after_x (ap (λ (l : List BodyState). gain_x g (pass f l)) left);
-      after_y = none_left d (gain_y g (pass f (drop m all))) (gain_y g (pass f all)) known.after_y (ap (λ (l : List BodyState). gain_y g (pass f l)) left);
+      gained = none_left a (gain f (drop m all)) (gain f all) known.gained (ap (gain f) left);
+      after = none_left b (gain g (pass f (drop m all))) (gain g (pass f all)) known.after (ap (λ (l : List BodyState). gain g (pass f l)) left);
       made = λ j x got. known.made j x (let within = slice_get_within items j x got in omega (arith, within, long, e)) got;
       same = same;
       movers = movers_same all items same;

@@ -1,15 +1,16 @@
 -- The colour law: the turns of a colour, made one by one, are those made at once.
-use Rattle.std.proofs.Common.{◌≡◌, ◌≢◌, ◌+ℤ◌, ℕ, ℤ, zero, suc, Bool, true, false, List, [], ◌∷◌, Some, map, get_or, set, arith, refl, sym, ap, ◌∙◌, subst}
+use Rattle.std.proofs.Common.{◌≡◌, ◌≢◌, ℕ, zero, suc, Bool, true, false, List, [], ◌∷◌, Some, map, get_or, set, arith, refl, sym, ap, ap₂, ◌∙◌, subst}
 use Rattle.std.specs.List.{slice_get}
 use Rattle.std.proofs.lemmas.List.{get_or-set_other, set-get_or}
+use Rattle.fixed_geom.specs.Vectors.{plus}
 use Rattle.momenta.specs.declared.state.BodyState.{BodyState}
 use Rattle.momenta.specs.declared.state.Ends.{Ends}
 use Rattle.momenta.specs.Impulses.{AreSameBodies}
 use Rattle.colour_solver_base.specs.RowsAfter.{RowAfter}
 use Rattle.colour_solver.specs.declared.turns.Slots.{Slots}
 use Rattle.colour_solver.specs.States.{nobody}
-use Rattle.colour_solver.specs.Turns.{after, ends_of, got_x, got_y, passed, rows_passed, share_x, share_y, turn_of, with_ends}
-use Rattle.colour_solver.specs.Colour.{AreTurnsFair, ColoursAreAtOnce, IsColour, ShareNone, is_mover, results, scatter, share_at_once_x, share_at_once_y}
+use Rattle.colour_solver.specs.Turns.{after, ends_of, got, passed, rows_passed, share, turn_of, with_ends}
+use Rattle.colour_solver.specs.Colour.{AreTurnsFair, ColoursAreAtOnce, IsColour, ShareNone, is_mover, results, scatter, share_at_once}
 
 -- a body written into the slot i leaves the slot j alone, where it is another or the body is as it was
 put_else : (ss : List BodyState) (i j : ℕ) (s : BodyState) (moves : Bool) → (moves ≡ true → i ≢ j) → (moves ≡ false → s ≡ get_or ss i nobody) → get_or (set ss i s) j nobody ≡ get_or ss j nobody
@@ -65,21 +66,13 @@ results_from at f (r ∷ rs) before now colour fair same =
     let more = results_from at f rs before (after at f now r) (rest_colour at before r rs colour) (rest_fair at f before r rs fair) (still_same at f before now r rs colour fair same) in
     cc (here, more)
 
-share_x_from : {R : Type 0} (at : R → Slots) (f : R → Ends → RowAfter R) (rows : List R) (before now : List BodyState) → IsColour at before rows → AreTurnsFair at f before rows → Same at before now rows → share_at_once_x at f before rows ≡ share_x at f now rows
-share_x_from at f [] before now colour fair same = refl
-share_x_from at f (r ∷ rs) before now colour fair same =
+share_from : {R : Type 0} (at : R → Slots) (f : R → Ends → RowAfter R) (rows : List R) (before now : List BodyState) → IsColour at before rows → AreTurnsFair at f before rows → Same at before now rows → share_at_once at f before rows ≡ share at f now rows
+share_from at f [] before now colour fair same = refl
+share_from at f (r ∷ rs) before now colour fair same =
     let ends : ends_of at now r ≡ ends_of at before r = same zero r refl in
-    let here : got_x (ends_of at before r) (turn_of at f before r).ends ≡ got_x (ends_of at now r) (turn_of at f now r).ends = ap (λ (e : Ends). got_x e (f r e).ends) (sym ends) in
-    let more = share_x_from at f rs before (after at f now r) (rest_colour at before r rs colour) (rest_fair at f before r rs fair) (still_same at f before now r rs colour fair same) in
-    ap (λ (z : ℤ). z +ℤ share_at_once_x at f before rs) here ∙ ap (λ (z : ℤ). got_x (ends_of at now r) (turn_of at f now r).ends +ℤ z) more
-
-share_y_from : {R : Type 0} (at : R → Slots) (f : R → Ends → RowAfter R) (rows : List R) (before now : List BodyState) → IsColour at before rows → AreTurnsFair at f before rows → Same at before now rows → share_at_once_y at f before rows ≡ share_y at f now rows
-share_y_from at f [] before now colour fair same = refl
-share_y_from at f (r ∷ rs) before now colour fair same =
-    let ends : ends_of at now r ≡ ends_of at before r = same zero r refl in
-    let here : got_y (ends_of at before r) (turn_of at f before r).ends ≡ got_y (ends_of at now r) (turn_of at f now r).ends = ap (λ (e : Ends). got_y e (f r e).ends) (sym ends) in
-    let more = share_y_from at f rs before (after at f now r) (rest_colour at before r rs colour) (rest_fair at f before r rs fair) (still_same at f before now r rs colour fair same) in
-    ap (λ (z : ℤ). z +ℤ share_at_once_y at f before rs) here ∙ ap (λ (z : ℤ). got_y (ends_of at now r) (turn_of at f now r).ends +ℤ z) more
+    let here : got (ends_of at before r) (turn_of at f before r).ends ≡ got (ends_of at now r) (turn_of at f now r).ends = ap (λ (e : Ends). got e (f r e).ends) (sym ends) in
+    let more = share_from at f rs before (after at f now r) (rest_colour at before r rs colour) (rest_fair at f before r rs fair) (still_same at f before now r rs colour fair same) in
+    ap₂ plus here more
 
 -- on a colour the turns one by one are those at the bodies before it
 pub results_mapped : {R : Type 0} (at : R → Slots) (f : R → Ends → RowAfter R) (states : List BodyState) (rows : List R) → IsColour at states rows → AreTurnsFair at f states rows → results at f states rows ≡ map (turn_of at f states) rows
@@ -102,6 +95,5 @@ colour_law {R} at f states rows colour fair =
       turns = mapped;
       bodies = ap (scatter at states rows) (sym mapped) ∙ scatter_results at f states rows;
       turned = ap (map (λ (t : RowAfter R). t.row)) (sym mapped) ∙ rows_results at f states rows;
-      given_x = share_x_from at f rows states states colour fair (λ k e h. refl);
-      given_y = share_y_from at f rows states states colour fair (λ k e h. refl);
+      given = share_from at f rows states states colour fair (λ k e h. refl);
     }

@@ -1,16 +1,17 @@
 -- Bodies that are carried along, from one to the next, and what stays when they move on.
-use Rattle.std.proofs.Common.{◌≡◌, ℕ, zero, suc, ◌<◌, ◌≤◌, Bool, true, false, cond, not, List, [], ◌∷◌, ◌++◌, length, get_or, set, take, drop, map, None, Some, pos, ◌+ℤ◌, unsigned_abs, int_eq, arith, refl, sym, ap, ◌∙◌, subst, inl, inr, slice_set, add-one}
+use Rattle.std.proofs.Common.{◌≡◌, ℕ, zero, suc, ◌<◌, ◌≤◌, Bool, true, false, cond, not, List, [], ◌∷◌, ◌++◌, length, get_or, set, take, drop, map, None, Some, pos, unsigned_abs, int_eq, arith, refl, sym, ap, ◌∙◌, subst, inl, inr, slice_set, add-one}
 use Rattle.std.proofs.lemmas.Bool.{cases_Bool}
 use Rattle.std.proofs.lemmas.List.{get_or_default}
 use Rattle.std.proofs.lemmas.List.Edits.{map_over_more}
 use Rattle.std.proofs.lemmas.Option.{get_or_from_slice_get, slice_get_within, slice_get-get_or}
+use Rattle.fixed_geom.specs.Vectors.{plus}
 use Rattle.fixed_geom.specs.declared.limits.TheConstants.{MAX_SPIN}
 use Rattle.momenta.specs.declared.limits.TheConstants.{MAX_SPEED}
 use Rattle.momenta.specs.declared.state.BodyState.{BodyState}
 use Rattle.momenta.specs.Motions.{advanced}
 use Rattle.momenta.proofs.Courses.{advanced_within}
 use Rattle.momenta.proofs.MotionLaws.{advanced_keeps}
-use Rattle.colour_solver.specs.States.{AreSameBeside, AreSameStates, HasCourse, HaveCourses, carried_of, is_carried, movers_of, nobody, p_x, p_y, places_from, total_x, total_y}
+use Rattle.colour_solver.specs.States.{AreSameBeside, AreSameStates, HasCourse, HaveCourses, carried_of, is_carried, movers_of, momentum_of, nobody, places_from, total}
 use Rattle.colour_solver.specs.Passes.{carried_along, carry}
 use Rattle.colour_solver.proofs.AwakeLaws.{movers_same_from}
 use Rattle.colour_solver.proofs.PlaceLaws.{IsNext, IsReached, map_still, reached, reached_at_first, reached_first, reached_last, reached_more, reached_next, reached_there}
@@ -162,25 +163,15 @@ carried_beside old new same = carried_same_from old new 0 same.long (λ slot. ca
 
 -- ---- the movers' momentum
 
-p_x_if : (s : BodyState) → p_x (carried_along s) ≡ p_x s
-p_x_if s = elim (cases_Bool (is_carried s)) [
+momentum_along : (s : BodyState) → momentum_of (carried_along s) ≡ momentum_of s
+momentum_along s = elim (cases_Bool (is_carried s)) [
   | inl h ↦ (let t = along_movable s in let f = carried_fixed s h in rw (t, f) refl)
-  | inr h ↦ ap p_x (along_other s h)
+  | inr h ↦ ap momentum_of (along_other s h)
 ]
 
-p_y_if : (s : BodyState) → p_y (carried_along s) ≡ p_y s
-p_y_if s = elim (cases_Bool (is_carried s)) [
-  | inl h ↦ (let t = along_movable s in let f = carried_fixed s h in rw (t, f) refl)
-  | inr h ↦ ap p_y (along_other s h)
-]
-
-pub total_x-carry : (ss : List BodyState) → total_x (carry ss) ≡ total_x ss
-total_x-carry [] = refl
-total_x-carry (s ∷ ss) = λ j. p_x_if s j +ℤ total_x-carry ss j
-
-pub total_y-carry : (ss : List BodyState) → total_y (carry ss) ≡ total_y ss
-total_y-carry [] = refl
-total_y-carry (s ∷ ss) = λ j. p_y_if s j +ℤ total_y-carry ss j
+pub total-carry : (ss : List BodyState) → total (carry ss) ≡ total ss
+total-carry [] = refl
+total-carry (s ∷ ss) = λ j. plus (momentum_along s j) (total-carry ss j)
 
 -- ---- the walk
 

@@ -1,9 +1,11 @@
 -- Rows kept as joints and contacts with where each colour ends in both: what is added, ended and passed over.
-use Rattle.std.proofs.Common.{◌≡◌, ℕ, ◌+◌, ◌-◌, ◌<◌, ◌≤◌, List, [], ◌∷◌, ◌++◌, length, get_or, take, drop, map, min, ℤ, pos, ◌+ℤ◌, arith, refl, sym, ap, ◌∙◌, subst}
+use Rattle.std.proofs.Common.{◌≡◌, ℕ, ◌+◌, ◌-◌, ◌<◌, ◌≤◌, List, [], ◌∷◌, ◌++◌, length, get_or, take, drop, map, min, arith, refl, sym, ap, ◌∙◌, subst}
 use Rattle.std.specs.List.{flat_map}
 use Rattle.std.proofs.lemmas.List.{append-nil, append_assoc, get_or-map, length-append, length-map, length-take, map-append, map_push, take_all, take_more, take_rest}
 use Rattle.std.proofs.lemmas.List.Concat.{flat_map-append}
 use Rattle.std.proofs.lemmas.List.Elements.{filter_map-append}
+use Rattle.fixed_geom.specs.Vectors.{plus, zero_vector}
+use Rattle.fixed_geom.specs.declared.vectors.Vec2.{Vec2}
 use Rattle.joint_rows.specs.declared.row.JointRow.{JointRow}
 use Rattle.joint_rows.specs.Rows.{IsJointRow}
 use Rattle.momenta.specs.declared.state.BodyState.{BodyState}
@@ -92,8 +94,8 @@ abbrev pub first_rows : ℕ → List ℕ → List ℕ → List JointRow → List
 first_rows k je ce joints contacts = flat_map (λ (rs : List ConstraintRow). rs) (colours_of (take k je) (take k ce) joints contacts)
 
 -- the pass from the bodies ss, the joints and the contacts at first on has come through k colours
-pub record HasPassed (f : JointRow → Ends → RowAfter JointRow) (g : ContactRow → Ends → RowAfter ContactRow) (k : ℕ) (je ce : List ℕ) (ss : List BodyState) (joints : List JointRow) (contacts : List ContactRow) (ts : List BodyState) (js : List JointRow) (cs : List ContactRow) (x y : ℤ) : Type 0 where
-  pub passed : IsPassed constraint_slots IsConstraintRow (both_turns f g) ss (first_rows k je ce joints contacts) ts (first_rows k je ce js cs) x y
+pub record HasPassed (f : JointRow → Ends → RowAfter JointRow) (g : ContactRow → Ends → RowAfter ContactRow) (k : ℕ) (je ce : List ℕ) (ss : List BodyState) (joints : List JointRow) (contacts : List ContactRow) (ts : List BodyState) (js : List JointRow) (cs : List ContactRow) (given : Vec2) : Type 0 where
+  pub passed : IsPassed constraint_slots IsConstraintRow (both_turns f g) ss (first_rows k je ce joints contacts) ts (first_rows k je ce js cs) given
   pub joints_behind : drop (last_end 0 (take k je)) js ≡ drop (last_end 0 (take k je)) joints
   pub contacts_behind : drop (last_end 0 (take k ce)) cs ≡ drop (last_end 0 (take k ce)) contacts
   pub as_many_joints : length js ≡ length joints
@@ -102,8 +104,8 @@ pub record HasPassed (f : JointRow → Ends → RowAfter JointRow) (g : ContactR
   pub all_contacts : AreRowsOn contact_slots IsRow (length ts) cs
 
 -- a pass over the rows between two places of each list: it leaves those before and behind them
-pub record HasTurned (f : JointRow → Ends → RowAfter JointRow) (g : ContactRow → Ends → RowAfter ContactRow) (n m d e : ℕ) (ss : List BodyState) (joints : List JointRow) (contacts : List ContactRow) (ts : List BodyState) (js : List JointRow) (cs : List ContactRow) (x y : ℤ) : Type 0 where
-  pub passed : IsPassed constraint_slots IsConstraintRow (both_turns f g) ss (joints_first (between n d joints) (between m e contacts)) ts (joints_first (between n d js) (between m e cs)) x y
+pub record HasTurned (f : JointRow → Ends → RowAfter JointRow) (g : ContactRow → Ends → RowAfter ContactRow) (n m d e : ℕ) (ss : List BodyState) (joints : List JointRow) (contacts : List ContactRow) (ts : List BodyState) (js : List JointRow) (cs : List ContactRow) (given : Vec2) : Type 0 where
+  pub passed : IsPassed constraint_slots IsConstraintRow (both_turns f g) ss (joints_first (between n d joints) (between m e contacts)) ts (joints_first (between n d js) (between m e cs)) given
   pub joints_before : take n js ≡ take n joints
   pub joints_behind : drop d js ≡ drop d joints
   pub contacts_before : take m cs ≡ take m contacts
@@ -173,11 +175,11 @@ between_same : {R : Type 0} (n e : ℕ) (rows all : List R) → drop n rows ≡ 
 between_same {R} n e rows all same = ap (λ (l : List R). take (e - n) l) same
 
 -- one colour more
-pub has_passed_more : (f : JointRow → Ends → RowAfter JointRow) (g : ContactRow → Ends → RowAfter ContactRow) (k : ℕ) (je ce : List ℕ) (ss ts us : List BodyState) (joints js kept : List JointRow) (contacts cs held : List ContactRow) (x y z w : ℤ)
-    → AreBothEnds je ce joints contacts → k < length je → HasPassed f g k je ce ss joints contacts ts js cs x y
-    → HasTurned f g (last_end 0 (take k je)) (last_end 0 (take k ce)) (get_or je k 0) (get_or ce k 0) ts js cs us kept held z w
-    → HasPassed f g (k + 1) je ce ss joints contacts us kept held (x +ℤ z) (y +ℤ w)
-has_passed_more f g k je ce ss ts us joints js kept contacts cs held x y z w ends lt known made =
+pub has_passed_more : (f : JointRow → Ends → RowAfter JointRow) (g : ContactRow → Ends → RowAfter ContactRow) (k : ℕ) (je ce : List ℕ) (ss ts us : List BodyState) (joints js kept : List JointRow) (contacts cs held : List ContactRow) (given more : Vec2)
+    → AreBothEnds je ce joints contacts → k < length je → HasPassed f g k je ce ss joints contacts ts js cs given
+    → HasTurned f g (last_end 0 (take k je)) (last_end 0 (take k ce)) (get_or je k 0) (get_or ce k 0) ts js cs us kept held more
+    → HasPassed f g (k + 1) je ce ss joints contacts us kept held (plus given more)
+has_passed_more f g k je ce ss ts us joints js kept contacts cs held given more ends lt known made =
     let also : k < length ce = omega (arith, lt, ends.as_many) in
     let n = last_end 0 (take k je) in
     let m = last_end 0 (take k ce) in
@@ -197,10 +199,10 @@ has_passed_more f g k je ce ss ts us joints js kept contacts cs held x y z w end
       passed =
           passed_alike constraint_slots IsConstraintRow (both_turns f g) ss us
           (first_rows k je ce joints contacts ++ joints_first (between n d js) (between m e cs)) (first_rows (k + 1) je ce joints contacts)
-          (first_rows k je ce js cs ++ joints_first (between n d kept) (between m e held)) (first_rows (k + 1) je ce kept held) (x +ℤ z) (y +ℤ w)
+          (first_rows k je ce js cs ++ joints_first (between n d kept) (between m e held)) (first_rows (k + 1) je ce kept held) (plus given more)
           (next_rows k je ce joints contacts ends lt ∙ ap (λ (l : List ConstraintRow). first_rows k je ce joints contacts ++ l) (sym old))
           (next_rows k je ce kept held now lt ∙ ap (λ (l : List ConstraintRow). l ++ joints_first (between n d kept) (between m e held)) first_now)
-          (passed_on constraint_slots IsConstraintRow (both_turns f g) ss ts us (first_rows k je ce joints contacts) (joints_first (between n d js) (between m e cs)) (first_rows k je ce js cs) (joints_first (between n d kept) (between m e held)) x y z w known.passed made.passed);
+          (passed_on constraint_slots IsConstraintRow (both_turns f g) ss ts us (first_rows k je ce joints contacts) (joints_first (between n d js) (between m e cs)) (first_rows k je ce js cs) (joints_first (between n d kept) (between m e held)) given more known.passed made.passed);
       joints_behind = subst (λ (p : ℕ). drop p kept ≡ drop p joints) (sym joint_end) (made.joints_behind ∙ drop_further n d js joints (end_low k 0 je (length joints) 0 ends.of_joints lt) known.joints_behind);
       contacts_behind = subst (λ (p : ℕ). drop p held ≡ drop p contacts) (sym contact_end) (made.contacts_behind ∙ drop_further m e cs contacts (end_low k 0 ce (length contacts) 0 ends.of_contacts also) known.contacts_behind);
       as_many_joints = many;
@@ -219,10 +221,10 @@ left_rows je ce joints contacts ends =
     ap (λ (l : List JointRow). joints_first l (left_of 0 ce contacts)) (left_between je joints ends.of_joints) ∙ ap (λ (l : List ContactRow). joints_first (between (last_end 0 je) (length joints) joints) l) (left_between ce contacts ends.of_contacts)
 
 -- all colours, and then the rows of the one that hasn't ended
-pub all_passed : (f : JointRow → Ends → RowAfter JointRow) (g : ContactRow → Ends → RowAfter ContactRow) (k : ℕ) (je ce : List ℕ) (ss ts us : List BodyState) (joints js kept : List JointRow) (contacts cs held : List ContactRow) (x y z w : ℤ)
-    → AreBothEnds je ce joints contacts → length je ≤ k → HasPassed f g k je ce ss joints contacts ts js cs x y → HasTurned f g (last_end 0 je) (last_end 0 ce) (length js) (length cs) ts js cs us kept held z w
-    → IsPassed constraint_slots IsConstraintRow (both_turns f g) ss (rows_kept je ce joints contacts) us (rows_kept je ce kept held) (x +ℤ z) (y +ℤ w)
-all_passed f g k je ce ss ts us joints js kept contacts cs held x y z w ends high known made =
+pub all_passed : (f : JointRow → Ends → RowAfter JointRow) (g : ContactRow → Ends → RowAfter ContactRow) (k : ℕ) (je ce : List ℕ) (ss ts us : List BodyState) (joints js kept : List JointRow) (contacts cs held : List ContactRow) (given more : Vec2)
+    → AreBothEnds je ce joints contacts → length je ≤ k → HasPassed f g k je ce ss joints contacts ts js cs given → HasTurned f g (last_end 0 je) (last_end 0 ce) (length js) (length cs) ts js cs us kept held more
+    → IsPassed constraint_slots IsConstraintRow (both_turns f g) ss (rows_kept je ce joints contacts) us (rows_kept je ce kept held) (plus given more)
+all_passed f g k je ce ss ts us joints js kept contacts cs held given more ends high known made =
     let n = last_end 0 je in
     let m = last_end 0 ce in
     let whole : take k je ≡ je = take_all k je high in
@@ -247,16 +249,16 @@ all_passed f g k je ce ss ts us joints js kept contacts cs held x y z w ends hig
     λ xs ys. ap (λ (l : List ℕ). flat_map (λ (rs : List ConstraintRow). rs) (colours_of l ce xs ys)) (sym whole) ∙ ap (λ (l : List ℕ). flat_map (λ (rs : List ConstraintRow). rs) (colours_of (take k je) l xs ys)) (sym whole_too) in
     passed_alike constraint_slots IsConstraintRow (both_turns f g) ss us
     (first_rows k je ce joints contacts ++ joints_first (between n (length js) js) (between m (length cs) cs)) (rows_kept je ce joints contacts)
-    (first_rows k je ce js cs ++ joints_first (between n (length js) kept) (between m (length cs) held)) (rows_kept je ce kept held) (x +ℤ z) (y +ℤ w)
+    (first_rows k je ce js cs ++ joints_first (between n (length js) kept) (between m (length cs) held)) (rows_kept je ce kept held) (plus given more)
     (ap (λ (l : List ConstraintRow). l ++ rows_left je ce joints contacts) (all_first joints contacts) ∙ ap (λ (l : List ConstraintRow). first_rows k je ce joints contacts ++ l) last_old)
     (ap (λ (l : List ConstraintRow). l ++ rows_left je ce kept held) (all_first kept held ∙ before) ∙ ap (λ (l : List ConstraintRow). first_rows k je ce js cs ++ l) last_now)
-    (passed_on constraint_slots IsConstraintRow (both_turns f g) ss ts us (first_rows k je ce joints contacts) (joints_first (between n (length js) js) (between m (length cs) cs)) (first_rows k je ce js cs) (joints_first (between n (length js) kept) (between m (length cs) held)) x y z w known.passed made.passed)
+    (passed_on constraint_slots IsConstraintRow (both_turns f g) ss ts us (first_rows k je ce joints contacts) (joints_first (between n (length js) js) (between m (length cs) cs)) (first_rows k je ce js cs) (joints_first (between n (length js) kept) (between m (length cs) held)) given more known.passed made.passed)
 
 -- no colour yet
-pub has_passed_none : (f : JointRow → Ends → RowAfter JointRow) (g : ContactRow → Ends → RowAfter ContactRow) (je ce : List ℕ) (ss : List BodyState) (joints : List JointRow) (contacts : List ContactRow) (x y : ℤ) → AreAllStates ss → x ≡ pos 0 → y ≡ pos 0
-    → AreRowsOn joint_slots IsJointRow (length ss) joints → AreRowsOn contact_slots IsRow (length ss) contacts → HasPassed f g 0 je ce ss joints contacts ss joints contacts x y
-has_passed_none f g je ce ss joints contacts x y all none_x none_y j c = record {
-  passed = passed_none constraint_slots IsConstraintRow (both_turns f g) ss x y all none_x none_y;
+pub has_passed_none : (f : JointRow → Ends → RowAfter JointRow) (g : ContactRow → Ends → RowAfter ContactRow) (je ce : List ℕ) (ss : List BodyState) (joints : List JointRow) (contacts : List ContactRow) (given : Vec2) → AreAllStates ss → given ≡ zero_vector
+    → AreRowsOn joint_slots IsJointRow (length ss) joints → AreRowsOn contact_slots IsRow (length ss) contacts → HasPassed f g 0 je ce ss joints contacts ss joints contacts given
+has_passed_none f g je ce ss joints contacts given all none j c = record {
+  passed = passed_none constraint_slots IsConstraintRow (both_turns f g) ss given all none;
   joints_behind = refl;
   contacts_behind = refl;
   as_many_joints = refl;
@@ -266,12 +268,12 @@ has_passed_none f g je ce ss joints contacts x y all none_x none_y j c = record 
 }
 
 -- the same pass, its places named otherwise
-pub turned_there : (f : JointRow → Ends → RowAfter JointRow) (g : ContactRow → Ends → RowAfter ContactRow) (n m d e a b p q : ℕ) (ss : List BodyState) (joints : List JointRow) (contacts : List ContactRow) (ts : List BodyState) (js : List JointRow) (cs : List ContactRow) (x y : ℤ)
-    → n ≡ a → m ≡ b → d ≡ p → e ≡ q → HasTurned f g n m d e ss joints contacts ts js cs x y → HasTurned f g a b p q ss joints contacts ts js cs x y
-turned_there f g n m d e a b p q ss joints contacts ts js cs x y h i j k known =
-    subst (λ (z : ℕ). HasTurned f g z b p q ss joints contacts ts js cs x y) h
-    (subst (λ (z : ℕ). HasTurned f g n z p q ss joints contacts ts js cs x y) i
-    (subst (λ (z : ℕ). HasTurned f g n m z q ss joints contacts ts js cs x y) j (subst (λ (z : ℕ). HasTurned f g n m d z ss joints contacts ts js cs x y) k known)))
+pub turned_there : (f : JointRow → Ends → RowAfter JointRow) (g : ContactRow → Ends → RowAfter ContactRow) (n m d e a b p q : ℕ) (ss : List BodyState) (joints : List JointRow) (contacts : List ContactRow) (ts : List BodyState) (js : List JointRow) (cs : List ContactRow) (given : Vec2)
+    → n ≡ a → m ≡ b → d ≡ p → e ≡ q → HasTurned f g n m d e ss joints contacts ts js cs given → HasTurned f g a b p q ss joints contacts ts js cs given
+turned_there f g n m d e a b p q ss joints contacts ts js cs given h i j k known =
+    subst (λ (z : ℕ). HasTurned f g z b p q ss joints contacts ts js cs given) h
+    (subst (λ (z : ℕ). HasTurned f g n z p q ss joints contacts ts js cs given) i
+    (subst (λ (z : ℕ). HasTurned f g n m z q ss joints contacts ts js cs given) j (subst (λ (z : ℕ). HasTurned f g n m d z ss joints contacts ts js cs given) k known)))
 
 -- ---- ends of one kind, each a part of the ends of a colour
 

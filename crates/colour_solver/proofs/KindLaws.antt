@@ -1,8 +1,10 @@
 -- Rows of joints and of contacts in one list, and in two.
-use Rattle.std.proofs.Common.{◌≡◌, ℕ, List, [], ◌∷◌, ◌++◌, length, map, ℤ, ◌+ℤ◌, arith, refl, sym, ap, ◌∙◌}
+use Rattle.std.proofs.Common.{◌≡◌, ℕ, List, [], ◌∷◌, ◌++◌, length, map, arith, refl, sym, ap, ◌∙◌}
 use Rattle.std.specs.List.{flat_map}
 use Rattle.std.proofs.lemmas.List.{append-nil}
 use Rattle.std.proofs.lemmas.List.Elements.{All-cons, All-head, All-nil, All-tail, filter_map-append}
+use Rattle.fixed_geom.specs.Vectors.{plus}
+use Rattle.fixed_geom.specs.declared.vectors.Vec2.{Vec2}
 use Rattle.joint_rows.specs.declared.row.JointRow.{JointRow}
 use Rattle.joint_rows.specs.Rows.{IsJointRow}
 use Rattle.momenta.specs.declared.state.BodyState.{BodyState}
@@ -12,7 +14,7 @@ use Rattle.colour_solver_base.specs.Rows.{IsRow}
 use Rattle.colour_solver_base.specs.RowsAfter.{RowAfter}
 use Rattle.colour_solver.specs.declared.constraint_row.ConstraintRow.{ConstraintRow}
 use Rattle.colour_solver.specs.declared.constraint_row.ConstraintRow.TheVariants.{Joint, Contact}
-use Rattle.colour_solver.specs.Turns.{AreRowsOn, IsPassed, IsRowOn, after, ends_of, got_x, got_y, passed, rows_passed, share_x, share_y, turn_of}
+use Rattle.colour_solver.specs.Turns.{AreRowsOn, IsPassed, IsRowOn, after, ends_of, got, passed, rows_passed, share, turn_of}
 use Rattle.colour_solver.specs.ConstraintTurns.{AreRowsBelow, IsConstraintRow, IsRowBelow, both_turns, constraint_slots, contact_in, contact_slots, contacts_among, joint_in, joint_slots, joints_among}
 use Rattle.colour_solver.specs.ColourRows.{each_joints_first, joints_first}
 use Rattle.colour_solver.proofs.PassedLaws.{passed_on}
@@ -35,21 +37,13 @@ contacts_turned : (f : JointRow → Ends → RowAfter JointRow) (g : ContactRow 
 contacts_turned f g ss [] = refl
 contacts_turned f g ss (r ∷ rs) = ap (λ (l : List ConstraintRow). Contact (turn_of contact_slots g ss r).row ∷ l) (contacts_turned f g (after contact_slots g ss r) rs)
 
-joints_share_x : (f : JointRow → Ends → RowAfter JointRow) (g : ContactRow → Ends → RowAfter ContactRow) (ss : List BodyState) (rs : List JointRow) → share_x constraint_slots (both_turns f g) ss (map Joint rs) ≡ share_x joint_slots f ss rs
-joints_share_x f g ss [] = refl
-joints_share_x f g ss (r ∷ rs) = ap (λ (z : ℤ). got_x (ends_of joint_slots ss r) (turn_of joint_slots f ss r).ends +ℤ z) (joints_share_x f g (after joint_slots f ss r) rs)
+joints_share : (f : JointRow → Ends → RowAfter JointRow) (g : ContactRow → Ends → RowAfter ContactRow) (ss : List BodyState) (rs : List JointRow) → share constraint_slots (both_turns f g) ss (map Joint rs) ≡ share joint_slots f ss rs
+joints_share f g ss [] = refl
+joints_share f g ss (r ∷ rs) = ap (plus (got (ends_of joint_slots ss r) (turn_of joint_slots f ss r).ends)) (joints_share f g (after joint_slots f ss r) rs)
 
-joints_share_y : (f : JointRow → Ends → RowAfter JointRow) (g : ContactRow → Ends → RowAfter ContactRow) (ss : List BodyState) (rs : List JointRow) → share_y constraint_slots (both_turns f g) ss (map Joint rs) ≡ share_y joint_slots f ss rs
-joints_share_y f g ss [] = refl
-joints_share_y f g ss (r ∷ rs) = ap (λ (z : ℤ). got_y (ends_of joint_slots ss r) (turn_of joint_slots f ss r).ends +ℤ z) (joints_share_y f g (after joint_slots f ss r) rs)
-
-contacts_share_x : (f : JointRow → Ends → RowAfter JointRow) (g : ContactRow → Ends → RowAfter ContactRow) (ss : List BodyState) (rs : List ContactRow) → share_x constraint_slots (both_turns f g) ss (map Contact rs) ≡ share_x contact_slots g ss rs
-contacts_share_x f g ss [] = refl
-contacts_share_x f g ss (r ∷ rs) = ap (λ (z : ℤ). got_x (ends_of contact_slots ss r) (turn_of contact_slots g ss r).ends +ℤ z) (contacts_share_x f g (after contact_slots g ss r) rs)
-
-contacts_share_y : (f : JointRow → Ends → RowAfter JointRow) (g : ContactRow → Ends → RowAfter ContactRow) (ss : List BodyState) (rs : List ContactRow) → share_y constraint_slots (both_turns f g) ss (map Contact rs) ≡ share_y contact_slots g ss rs
-contacts_share_y f g ss [] = refl
-contacts_share_y f g ss (r ∷ rs) = ap (λ (z : ℤ). got_y (ends_of contact_slots ss r) (turn_of contact_slots g ss r).ends +ℤ z) (contacts_share_y f g (after contact_slots g ss r) rs)
+contacts_share : (f : JointRow → Ends → RowAfter JointRow) (g : ContactRow → Ends → RowAfter ContactRow) (ss : List BodyState) (rs : List ContactRow) → share constraint_slots (both_turns f g) ss (map Contact rs) ≡ share contact_slots g ss rs
+contacts_share f g ss [] = refl
+contacts_share f g ss (r ∷ rs) = ap (plus (got (ends_of contact_slots ss r) (turn_of contact_slots g ss r).ends)) (contacts_share f g (after contact_slots g ss r) rs)
 
 -- ---- what holds of the rows
 
@@ -87,40 +81,36 @@ contacts_below n (Joint r ∷ rs) all = contacts_below n rs (All-tail (IsRowBelo
 
 -- ---- a pass over joints, and then over contacts, is one over both
 
-joints_lifted : (f : JointRow → Ends → RowAfter JointRow) (g : ContactRow → Ends → RowAfter ContactRow) (ss ts : List BodyState) (rs turned : List JointRow) (x y : ℤ) → IsPassed joint_slots IsJointRow f ss rs ts turned x y
-    → IsPassed constraint_slots IsConstraintRow (both_turns f g) ss (map Joint rs) ts (map Joint turned) x y
-joints_lifted f g ss ts rs turned x y known = record {
+joints_lifted : (f : JointRow → Ends → RowAfter JointRow) (g : ContactRow → Ends → RowAfter ContactRow) (ss ts : List BodyState) (rs turned : List JointRow) (given : Vec2) → IsPassed joint_slots IsJointRow f ss rs ts turned given
+    → IsPassed constraint_slots IsConstraintRow (both_turns f g) ss (map Joint rs) ts (map Joint turned) given
+joints_lifted f g ss ts rs turned given known = record {
   states = known.states ∙ sym (joints_passed f g ss rs);
   rows_are = ap (map Joint) known.rows_are ∙ sym (joints_turned f g ss rs);
-  share_x_is = known.share_x_is ∙ sym (joints_share_x f g ss rs);
-  share_y_is = known.share_y_is ∙ sym (joints_share_y f g ss rs);
+  share_is = known.share_is ∙ sym (joints_share f g ss rs);
   all_states = known.all_states;
   all_rows = joints_on (length ts) turned known.all_rows;
   same = known.same;
-  momentum_x = known.momentum_x;
-  momentum_y = known.momentum_y;
+  momentum = known.momentum;
 }
 
-contacts_lifted : (f : JointRow → Ends → RowAfter JointRow) (g : ContactRow → Ends → RowAfter ContactRow) (ss ts : List BodyState) (rs turned : List ContactRow) (x y : ℤ) → IsPassed contact_slots IsRow g ss rs ts turned x y
-    → IsPassed constraint_slots IsConstraintRow (both_turns f g) ss (map Contact rs) ts (map Contact turned) x y
-contacts_lifted f g ss ts rs turned x y known = record {
+contacts_lifted : (f : JointRow → Ends → RowAfter JointRow) (g : ContactRow → Ends → RowAfter ContactRow) (ss ts : List BodyState) (rs turned : List ContactRow) (given : Vec2) → IsPassed contact_slots IsRow g ss rs ts turned given
+    → IsPassed constraint_slots IsConstraintRow (both_turns f g) ss (map Contact rs) ts (map Contact turned) given
+contacts_lifted f g ss ts rs turned given known = record {
   states = known.states ∙ sym (contacts_passed f g ss rs);
   rows_are = ap (map Contact) known.rows_are ∙ sym (contacts_turned f g ss rs);
-  share_x_is = known.share_x_is ∙ sym (contacts_share_x f g ss rs);
-  share_y_is = known.share_y_is ∙ sym (contacts_share_y f g ss rs);
+  share_is = known.share_is ∙ sym (contacts_share f g ss rs);
   all_states = known.all_states;
   all_rows = contacts_on (length ts) turned known.all_rows;
   same = known.same;
-  momentum_x = known.momentum_x;
-  momentum_y = known.momentum_y;
+  momentum = known.momentum;
 }
 
-pub joints_then_contacts : (f : JointRow → Ends → RowAfter JointRow) (g : ContactRow → Ends → RowAfter ContactRow) (ss ts us : List BodyState) (joints jointed : List JointRow) (contacts turned : List ContactRow) (x y z w : ℤ)
-    → IsPassed joint_slots IsJointRow f ss joints ts jointed x y → IsPassed contact_slots IsRow g ts contacts us turned z w
-    → IsPassed constraint_slots IsConstraintRow (both_turns f g) ss (joints_first joints contacts) us (joints_first jointed turned) (x +ℤ z) (y +ℤ w)
-joints_then_contacts f g ss ts us joints jointed contacts turned x y z w first next =
-    passed_on constraint_slots IsConstraintRow (both_turns f g) ss ts us (map Joint joints) (map Contact contacts) (map Joint jointed) (map Contact turned) x y z w
-    (joints_lifted f g ss ts joints jointed x y first) (contacts_lifted f g ts us contacts turned z w next)
+pub joints_then_contacts : (f : JointRow → Ends → RowAfter JointRow) (g : ContactRow → Ends → RowAfter ContactRow) (ss ts us : List BodyState) (joints jointed : List JointRow) (contacts turned : List ContactRow) (given more : Vec2)
+    → IsPassed joint_slots IsJointRow f ss joints ts jointed given → IsPassed contact_slots IsRow g ts contacts us turned more
+    → IsPassed constraint_slots IsConstraintRow (both_turns f g) ss (joints_first joints contacts) us (joints_first jointed turned) (plus given more)
+joints_then_contacts f g ss ts us joints jointed contacts turned given more first next =
+    passed_on constraint_slots IsConstraintRow (both_turns f g) ss ts us (map Joint joints) (map Contact contacts) (map Joint jointed) (map Contact turned) given more
+    (joints_lifted f g ss ts joints jointed given first) (contacts_lifted f g ts us contacts turned more next)
 
 -- ---- the joints among the rows, and the contacts
 

@@ -1,19 +1,21 @@
 -- Passes over some of the rows: one row more, and one pass after another.
-use Rattle.std.proofs.Common.{◌≡◌, ℕ, ◌+◌, ◌-◌, ◌<◌, ◌≤◌, ◌^◌, List, [], ◌∷◌, ◌++◌, length, get_or, set, take, drop, All, ℤ, pos, ◌+ℤ◌, arith, refl, sym, ap, ◌∙◌, subst}
-use Rattle.std.proofs.lemmas.Int.{ints}
+use Rattle.std.proofs.Common.{◌≡◌, ℕ, ◌+◌, ◌-◌, ◌<◌, ◌≤◌, ◌^◌, List, [], ◌∷◌, ◌++◌, length, get_or, set, take, drop, All, arith, refl, sym, ap, ◌∙◌, subst}
 use Rattle.std.proofs.lemmas.List.{drop-drop, drop-set-add, get_or-drop, length-drop, take_more, take_more_set}
 use Rattle.std.proofs.lemmas.List.Elements.{All-append, All-cons, All-nil}
 use Rattle.body_handles.specs.declared.places.TheConstants.{MAX_SLOTS}
+use Rattle.fixed_geom.specs.Vectors.{plus, zero_vector}
+use Rattle.fixed_geom.specs.declared.vectors.Vec2.{Vec2}
 use Rattle.momenta.specs.Gains.{IsGain}
 use Rattle.momenta.specs.declared.gain.Gain.{Gain}
 use Rattle.momenta.specs.declared.state.BodyState.{BodyState}
 use Rattle.momenta.specs.declared.state.Ends.{Ends}
 use Rattle.colour_solver_base.specs.RowsAfter.{RowAfter}
 use Rattle.colour_solver.specs.declared.turns.Slots.{Slots}
-use Rattle.colour_solver.specs.States.{AreAllStates, AreSameStates, total_x, total_y}
-use Rattle.colour_solver.specs.Turns.{AreRowsOn, IsPassed, IsRowOn, after, between, ends_of, got_x, got_y, passed, rows_passed, share_x, share_y, turn_of}
+use Rattle.colour_solver.specs.States.{AreAllStates, AreSameStates, as_vector, total}
+use Rattle.colour_solver.specs.Turns.{AreRowsOn, IsPassed, IsRowOn, after, between, ends_of, got, passed, rows_passed, share, turn_of}
 use Rattle.colour_solver.proofs.SameLaws.{same_at_first, same_on}
-use Rattle.colour_solver.proofs.TurnLaws.{given_x-small, given_y-small}
+use Rattle.colour_solver.proofs.TurnLaws.{given-small}
+use Rattle.colour_solver.proofs.VectorLaws.{plus_assoc, plus_zero, zero_plus}
 
 -- ---- one row more
 
@@ -59,101 +61,80 @@ pub rows_then : {R : Type 0} (at : R → Slots) (f : R → Ends → RowAfter R) 
 rows_then at f ss [] ys = refl
 rows_then {R} at f ss (x ∷ xs) ys = ap (λ (l : List R). (turn_of at f ss x).row ∷ l) (rows_then at f (after at f ss x) xs ys)
 
-none_first : (a : ℤ) → a ≡ pos 0 +ℤ a
-none_first a = omega (arith, ints)
+pub share_then : {R : Type 0} (at : R → Slots) (f : R → Ends → RowAfter R) (ss : List BodyState) (xs ys : List R) → share at f ss (xs ++ ys) ≡ plus (share at f ss xs) (share at f (passed at f ss xs) ys)
+share_then at f ss [] ys = sym (zero_plus (share at f ss ys))
+share_then at f ss (x ∷ xs) ys =
+    ap (plus (got (ends_of at ss x) (turn_of at f ss x).ends)) (share_then at f (after at f ss x) xs ys)
+    ∙ plus_assoc (got (ends_of at ss x) (turn_of at f ss x).ends) (share at f (after at f ss x) xs) (share at f (passed at f (after at f ss x) xs) ys)
 
-added_then : (a b c : ℤ) → (a +ℤ (b +ℤ c)) ≡ (a +ℤ b) +ℤ c
-added_then a b c = omega (arith, ints)
+adds_none : (a b : Vec2) → b ≡ zero_vector → a ≡ plus a b
+adds_none a b h = sym (plus_zero a) ∙ ap (plus a) (sym h)
 
-pub share_x_then : {R : Type 0} (at : R → Slots) (f : R → Ends → RowAfter R) (ss : List BodyState) (xs ys : List R) → share_x at f ss (xs ++ ys) ≡ share_x at f ss xs +ℤ share_x at f (passed at f ss xs) ys
-share_x_then at f ss [] ys = none_first (share_x at f ss ys)
-share_x_then at f ss (x ∷ xs) ys =
-    ap (λ (z : ℤ). got_x (ends_of at ss x) (turn_of at f ss x).ends +ℤ z) (share_x_then at f (after at f ss x) xs ys)
-    ∙ added_then (got_x (ends_of at ss x) (turn_of at f ss x).ends) (share_x at f (after at f ss x) xs) (share_x at f (passed at f (after at f ss x) xs) ys)
-
-pub share_y_then : {R : Type 0} (at : R → Slots) (f : R → Ends → RowAfter R) (ss : List BodyState) (xs ys : List R) → share_y at f ss (xs ++ ys) ≡ share_y at f ss xs +ℤ share_y at f (passed at f ss xs) ys
-share_y_then at f ss [] ys = none_first (share_y at f ss ys)
-share_y_then at f ss (x ∷ xs) ys =
-    ap (λ (z : ℤ). got_y (ends_of at ss x) (turn_of at f ss x).ends +ℤ z) (share_y_then at f (after at f ss x) xs ys)
-    ∙ added_then (got_y (ends_of at ss x) (turn_of at f ss x).ends) (share_y at f (after at f ss x) xs) (share_y at f (passed at f (after at f ss x) xs) ys)
-
-adds_none : (a b : ℤ) → b ≡ pos 0 → a ≡ a +ℤ b
-adds_none a b h = omega (arith, ints)
-
-adds_both : (a b c x y : ℤ) → b ≡ a +ℤ x → c ≡ b +ℤ y → c ≡ a +ℤ (x +ℤ y)
-adds_both a b c x y h k = omega (arith, ints)
+adds_both : (a b c v w : Vec2) → b ≡ plus a v → c ≡ plus b w → c ≡ plus a (plus v w)
+adds_both a b c v w h k = k ∙ (ap (λ (u : Vec2). plus u w) h ∙ sym (plus_assoc a v w))
 
 -- nothing has been done yet
-pub passed_none : {R : Type 0} (at : R → Slots) (is : R → Type 0) (f : R → Ends → RowAfter R) (ss : List BodyState) (x y : ℤ) → AreAllStates ss → x ≡ pos 0 → y ≡ pos 0 → IsPassed at is f ss [] ss [] x y
-passed_none at is f ss x y all none_x none_y = record {
+pub passed_none : {R : Type 0} (at : R → Slots) (is : R → Type 0) (f : R → Ends → RowAfter R) (ss : List BodyState) (given : Vec2) → AreAllStates ss → given ≡ zero_vector → IsPassed at is f ss [] ss [] given
+passed_none at is f ss given all none = record {
   states = refl;
   rows_are = refl;
-  share_x_is = none_x;
-  share_y_is = none_y;
+  share_is = none;
   all_states = all;
   all_rows = All-nil (IsRowOn at is (length ss));
   same = same_at_first ss;
-  momentum_x = adds_none (total_x ss) x none_x;
-  momentum_y = adds_none (total_y ss) y none_y;
+  momentum = adds_none (total ss) given none;
 }
 
-pub passed_on : {R : Type 0} (at : R → Slots) (is : R → Type 0) (f : R → Ends → RowAfter R) (ss ts us : List BodyState) (rows more turned rest : List R) (x y z w : ℤ) → IsPassed at is f ss rows ts turned x y → IsPassed at is f ts more us rest z w
-    → IsPassed at is f ss (rows ++ more) us (turned ++ rest) (x +ℤ z) (y +ℤ w)
-passed_on {R} at is f ss ts us rows more turned rest x y z w first next = record {
+pub passed_on : {R : Type 0} (at : R → Slots) (is : R → Type 0) (f : R → Ends → RowAfter R) (ss ts us : List BodyState) (rows more turned rest : List R) (given extra : Vec2) → IsPassed at is f ss rows ts turned given → IsPassed at is f ts more us rest extra
+    → IsPassed at is f ss (rows ++ more) us (turned ++ rest) (plus given extra)
+passed_on {R} at is f ss ts us rows more turned rest given extra first next = record {
   states = next.states ∙ ap (λ (l : List BodyState). passed at f l more) first.states ∙ sym (passed_then at f ss rows more);
   rows_are =
       ap (λ (l : List R). l ++ rest) first.rows_are ∙ ap (λ (l : List R). rows_passed at f ss rows ++ l) (next.rows_are ∙ ap (λ (l : List BodyState). rows_passed at f l more) first.states) ∙ sym (rows_then at f ss rows more);
-  share_x_is =
-      ap (λ (k : ℤ). k +ℤ z) first.share_x_is ∙ ap (λ (k : ℤ). share_x at f ss rows +ℤ k) (next.share_x_is ∙ ap (λ (l : List BodyState). share_x at f l more) first.states) ∙ sym (share_x_then at f ss rows more);
-  share_y_is =
-      ap (λ (k : ℤ). k +ℤ w) first.share_y_is ∙ ap (λ (k : ℤ). share_y at f ss rows +ℤ k) (next.share_y_is ∙ ap (λ (l : List BodyState). share_y at f l more) first.states) ∙ sym (share_y_then at f ss rows more);
+  share_is =
+      ap (λ (v : Vec2). plus v extra) first.share_is ∙ ap (plus (share at f ss rows)) (next.share_is ∙ ap (λ (l : List BodyState). share at f l more) first.states) ∙ sym (share_then at f ss rows more);
   all_states = next.all_states;
   all_rows = All-append (IsRowOn at is (length us)) turned rest (subst (λ (n : ℕ). AreRowsOn at is n turned) (sym next.same.long) first.all_rows) next.all_rows;
   same = same_on ss ts us first.same next.same;
-  momentum_x = adds_both (total_x ss) (total_x ts) (total_x us) x z first.momentum_x next.momentum_x;
-  momentum_y = adds_both (total_y ss) (total_y ts) (total_y us) y w first.momentum_y next.momentum_y;
+  momentum = adds_both (total ss) (total ts) (total us) given extra first.momentum next.momentum;
 }
 
 one_of : {X : Type 0} (P : X → Type 0) (x : X) → P x → All P (x ∷ [])
 one_of P x here = All-cons P x [] here (All-nil P)
 
 -- the turn of one row
-pub passed_one : {R : Type 0} (at : R → Slots) (is : R → Type 0) (f : R → Ends → RowAfter R) (ss ts : List BodyState) (r t : R) (x y : ℤ) → ts ≡ after at f ss r → t ≡ (turn_of at f ss r).row
-    → x ≡ got_x (ends_of at ss r) (turn_of at f ss r).ends → y ≡ got_y (ends_of at ss r) (turn_of at f ss r).ends → AreAllStates ts → IsRowOn at is (length ts) t → AreSameStates ss ts
-    → total_x ts ≡ total_x ss +ℤ x → total_y ts ≡ total_y ss +ℤ y → IsPassed at is f ss (r ∷ []) ts (t ∷ []) x y
-passed_one {R} at is f ss ts r t x y are row_is x_is y_is all below same sum_x sum_y = record {
+pub passed_one : {R : Type 0} (at : R → Slots) (is : R → Type 0) (f : R → Ends → RowAfter R) (ss ts : List BodyState) (r t : R) (given : Vec2) → ts ≡ after at f ss r → t ≡ (turn_of at f ss r).row
+    → given ≡ got (ends_of at ss r) (turn_of at f ss r).ends → AreAllStates ts → IsRowOn at is (length ts) t → AreSameStates ss ts
+    → total ts ≡ plus (total ss) given → IsPassed at is f ss (r ∷ []) ts (t ∷ []) given
+passed_one {R} at is f ss ts r t given are row_is got_is all below same sum = record {
   states = are;
   rows_are = ap (λ (k : R). k ∷ []) row_is;
-  share_x_is = x_is ∙ adds_none (got_x (ends_of at ss r) (turn_of at f ss r).ends) (pos 0) refl;
-  share_y_is = y_is ∙ adds_none (got_y (ends_of at ss r) (turn_of at f ss r).ends) (pos 0) refl;
+  share_is = got_is ∙ sym (plus_zero (got (ends_of at ss r) (turn_of at f ss r).ends));
   all_states = all;
   all_rows = one_of (IsRowOn at is (length ts)) t below;
   same = same;
-  momentum_x = sum_x;
-  momentum_y = sum_y;
+  momentum = sum;
 }
 
-pub passed_alike : {R : Type 0} (at : R → Slots) (is : R → Type 0) (f : R → Ends → RowAfter R) (ss ts : List BodyState) (rows old turned new : List R) (x y : ℤ) → old ≡ rows → new ≡ turned → IsPassed at is f ss rows ts turned x y → IsPassed at is f ss old ts new x y
-passed_alike {R} at is f ss ts rows old turned new x y e h known =
-    subst (λ (l : List R). IsPassed at is f ss l ts new x y) (sym e) (subst (λ (l : List R). IsPassed at is f ss rows ts l x y) (sym h) known)
+pub passed_alike : {R : Type 0} (at : R → Slots) (is : R → Type 0) (f : R → Ends → RowAfter R) (ss ts : List BodyState) (rows old turned new : List R) (given : Vec2) → old ≡ rows → new ≡ turned → IsPassed at is f ss rows ts turned given → IsPassed at is f ss old ts new given
+passed_alike {R} at is f ss ts rows old turned new given e h known =
+    subst (λ (l : List R). IsPassed at is f ss l ts new given) (sym e) (subst (λ (l : List R). IsPassed at is f ss rows ts l given) (sym h) known)
 
 -- one row more of those from n on
-pub passed_more : {R : Type 0} (at : R → Slots) (is : R → Type 0) (f : R → Ends → RowAfter R) (ss ts us : List BodyState) (n i : ℕ) (all rows : List R) (r t : R) (x y z w : ℤ) → n ≤ i → i < length all → i < length rows → r ≡ get_or rows i r → drop i rows ≡ drop i all
-    → IsPassed at is f ss (between n i all) ts (between n i rows) x y → IsPassed at is f ts (r ∷ []) us (t ∷ []) z w → IsPassed at is f ss (between n (i + 1) all) us (between n (i + 1) (set rows i t)) (x +ℤ z) (y +ℤ w)
-passed_more {R} at is f ss ts us n i all rows r t x y z w low h there here same first next =
-    passed_alike at is f ss us (between n i all ++ r ∷ []) (between n (i + 1) all) (between n i rows ++ t ∷ []) (between n (i + 1) (set rows i t)) (x +ℤ z) (y +ℤ w)
+pub passed_more : {R : Type 0} (at : R → Slots) (is : R → Type 0) (f : R → Ends → RowAfter R) (ss ts us : List BodyState) (n i : ℕ) (all rows : List R) (r t : R) (given extra : Vec2) → n ≤ i → i < length all → i < length rows → r ≡ get_or rows i r → drop i rows ≡ drop i all
+    → IsPassed at is f ss (between n i all) ts (between n i rows) given → IsPassed at is f ts (r ∷ []) us (t ∷ []) extra → IsPassed at is f ss (between n (i + 1) all) us (between n (i + 1) (set rows i t)) (plus given extra)
+passed_more {R} at is f ss ts us n i all rows r t given extra low h there here same first next =
+    passed_alike at is f ss us (between n i all ++ r ∷ []) (between n (i + 1) all) (between n i rows ++ t ∷ []) (between n (i + 1) (set rows i t)) (plus given extra)
     (between_more n i all r low h ∙ ap (λ (k : R). between n i all ++ k ∷ []) (sym (here ∙ same_there i rows all r same)))
     (between_set n i rows t low there)
-    (passed_on at is f ss ts us (between n i all) (r ∷ []) (between n i rows) (t ∷ []) x y z w first next)
+    (passed_on at is f ss ts us (between n i all) (r ∷ []) (between n i rows) (t ∷ []) given extra first next)
 
 -- what changes the total of so few bodies is small
-pub passed_small : {R : Type 0} (at : R → Slots) (is : R → Type 0) (f : R → Ends → RowAfter R) (ss ts : List BodyState) (rows turned : List R) (g : Gain) → length ss ≤ MAX_SLOTS → AreAllStates ss → IsPassed at is f ss rows ts turned g.x g.y → IsGain (2 ^ 78) g
+pub passed_small : {R : Type 0} (at : R → Slots) (is : R → Type 0) (f : R → Ends → RowAfter R) (ss ts : List BodyState) (rows turned : List R) (g : Gain) → length ss ≤ MAX_SLOTS → AreAllStates ss → IsPassed at is f ss rows ts turned (as_vector g) → IsGain (2 ^ 78) g
 passed_small at is f ss ts rows turned g few all known =
     let still : length ts ≤ MAX_SLOTS = omega (arith, few, known.same.long) in
-    record {
-      x = given_x-small ss ts g.x all known.all_states few still known.momentum_x;
-      y = given_y-small ss ts g.y all known.all_states few still known.momentum_y;
-    }
+    let within = given-small ss ts (as_vector g) all known.all_states few still known.momentum in
+    record { x = within.x; y = within.y }
 
 -- rows that are the same from one place on are so from a later one on
 pub drop_further : {R : Type 0} (n e : ℕ) (rows all : List R) → n ≤ e → drop n rows ≡ drop n all → drop e rows ≡ drop e all

@@ -1,9 +1,11 @@
 -- The places of those in a list that pass a test, walked one after another: between one place and the next nothing changes.
-use Rattle.std.proofs.Common.{◌≡◌, ℕ, zero, suc, ◌+◌, ◌<◌, ◌≤◌, Bool, false, List, [], ◌∷◌, ◌++◌, length, get_or, take, drop, map, Some, ℤ, pos, ◌+ℤ◌, arith, refl, sym, ap, ◌∙◌, subst, inl, inr}
+use Rattle.std.proofs.Common.{◌≡◌, ℕ, zero, suc, ◌+◌, ◌<◌, ◌≤◌, Bool, false, List, [], ◌∷◌, ◌++◌, length, get_or, take, drop, map, Some, arith, refl, sym, ap, ◌∙◌, subst, inl, inr}
 use Rattle.std.specs.List.{slice_get}
 use Rattle.std.proofs.lemmas.Bool.{cases_Bool}
-use Rattle.std.proofs.lemmas.Int.{ints}
+use Rattle.fixed_geom.specs.Vectors.{plus, zero_vector}
+use Rattle.fixed_geom.specs.declared.vectors.Vec2.{Vec2}
 use Rattle.colour_solver.specs.States.{places_from}
+use Rattle.colour_solver.proofs.VectorLaws.{zero_plus}
 
 -- no place is below the first
 pub places_low : {X : Type 0} (is : X → Bool) (ys : List X) (p d : ℕ) → d ≡ p + length ys → p ≤ get_or (places_from is p ys) 0 d
@@ -173,16 +175,15 @@ map_still f (x ∷ xs) (suc a) zero h same = absurd (omega (arith, h))
 map_still f (x ∷ xs) (suc a) (suc m) h same = ap (λ l. f x ∷ l) (map_still f xs a m (omega (arith, h)) (λ j y lo hi g. same (suc j) y (omega (arith, lo)) (omega (arith, hi)) g))
 
 -- a sum over what is left doesn't change where none adds to it
-pub sum_still : {X : Type 0} (F : List X → ℤ) (g : X → ℤ) (xs : List X) (a m : ℕ) → a ≤ m → ((y : X) (ys : List X) → F (y ∷ ys) ≡ g y +ℤ F ys) → ((j : ℕ) (x : X) → a ≤ j → j < m → slice_get xs j ≡ Some x → g x ≡ pos 0) → F (drop m xs) ≡ F (drop a xs)
+pub sum_still : {X : Type 0} (F : List X → Vec2) (g : X → Vec2) (xs : List X) (a m : ℕ) → a ≤ m → ((y : X) (ys : List X) → F (y ∷ ys) ≡ plus (g y) (F ys)) → ((j : ℕ) (x : X) → a ≤ j → j < m → slice_get xs j ≡ Some x → g x ≡ zero_vector) → F (drop m xs) ≡ F (drop a xs)
 sum_still F g [] zero zero h law none = refl
 sum_still F g [] zero (suc m) h law none = refl
 sum_still F g [] (suc a) zero h law none = absurd (omega (arith, h))
 sum_still F g [] (suc a) (suc m) h law none = refl
 sum_still F g (x ∷ xs) zero zero h law none = refl
 sum_still F g (x ∷ xs) zero (suc m) h law none =
-    let first : g x ≡ pos 0 = none zero x (omega arith) (omega arith) refl in
+    let first : g x ≡ zero_vector = none zero x (omega arith) (omega arith) refl in
     let rest = sum_still F g xs zero m (omega arith) law (λ j y lo hi e. none (suc j) y (omega arith) (omega (arith, hi)) e) in
-    let whole = law x xs in
-    omega (arith, ints, first, rest, whole)
+    rest ∙ (sym (zero_plus (F xs)) ∙ (ap (λ (v : Vec2). plus v (F xs)) (sym first) ∙ sym (law x xs)))
 sum_still F g (x ∷ xs) (suc a) zero h law none = absurd (omega (arith, h))
 sum_still F g (x ∷ xs) (suc a) (suc m) h law none = sum_still F g xs a m (omega (arith, h)) law (λ j y lo hi e. none (suc j) y (omega (arith, lo)) (omega (arith, hi)) e)

@@ -1,16 +1,19 @@
 -- What two passes over the bodies keep, and what they add to the movers' momentum.
-use Rattle.std.proofs.Common.{◌*◌, ◌≡◌, zero, suc, List, [], ◌∷◌, length, true, false, ℤ, ◌+ℤ◌, arith, refl, sym, ap, ◌∙◌, subst, inl, inr, ◌≤◌, ◌^◌, ◌+◌, ℕ, unsigned_abs}
+use Rattle.std.proofs.Common.{◌*◌, ◌≡◌, zero, suc, List, [], ◌∷◌, length, true, false, ℤ, ◌+ℤ◌, arith, refl, sym, ap, ap₂, ◌∙◌, subst, inl, inr, ◌≤◌, ◌^◌, ◌+◌, ℕ, unsigned_abs}
 use Rattle.std.proofs.lemmas.Bool.{cases_Bool}
 use Rattle.std.proofs.lemmas.Int.{ints}
+use Rattle.fixed_geom.specs.Vectors.{minus, plus}
+use Rattle.fixed_geom.specs.declared.vectors.Vec2.{Vec2}
 use Rattle.momenta.specs.Impulses.{IsState}
 use Rattle.momenta.specs.Motions.{IsMotion}
 use Rattle.momenta.specs.declared.mass.MassData.{MassData}
 use Rattle.momenta.specs.declared.motion.Motion.{Motion}
 use Rattle.momenta.specs.declared.state.BodyState.{BodyState}
-use Rattle.colour_solver.specs.States.{AreAllStates, total_x, total_y}
+use Rattle.colour_solver.specs.States.{AreAllStates, momentum_of, total}
 use Rattle.colour_solver.specs.declared.constraint_row.ConstraintRow.{ConstraintRow}
 use Rattle.colour_solver.specs.ConstraintTurns.{AreRowsBelow}
-use Rattle.colour_solver.specs.Passes.{OnMover, OnMovers, changed, gain_x, gain_y, pass}
+use Rattle.colour_solver.specs.Passes.{OnMover, OnMovers, changed, gain, pass}
+use Rattle.colour_solver.proofs.VectorLaws.{same_vector, same_x, same_y}
 
 -- ---- what stays a body
 
@@ -53,32 +56,30 @@ rows_as_long n m rows e all = subst (λ (k : ℕ). AreRowsBelow k rows) (sym e) 
 
 -- ---- what a pass adds to the momentum is its gain
 
-total_x-pass : (f : MassData → Motion → Motion) (ss : List BodyState) → total_x (pass f ss) ≡ total_x ss +ℤ gain_x f ss
-total_x-pass f [] = refl
-total_x-pass f (s ∷ ss) = omega (arith, ints, total_x-pass f ss)
+grown : (a b t g u : Vec2) → u ≡ plus t g → plus b u ≡ plus (plus a t) (plus (minus b a) g)
+grown a b t g u e = same_vector _ _ (omega (arith, ints, same_x e)) (omega (arith, ints, same_y e))
 
-total_y-pass : (f : MassData → Motion → Motion) (ss : List BodyState) → total_y (pass f ss) ≡ total_y ss +ℤ gain_y f ss
-total_y-pass f [] = refl
-total_y-pass f (s ∷ ss) = omega (arith, ints, total_y-pass f ss)
+total-pass : (f : MassData → Motion → Motion) (ss : List BodyState) → total (pass f ss) ≡ plus (total ss) (gain f ss)
+total-pass f [] = refl
+total-pass f (s ∷ ss) = grown (momentum_of s) (momentum_of (changed f s)) (total ss) (gain f ss) (total (pass f ss)) (total-pass f ss)
 
-pub total_x-after : (f g : MassData → Motion → Motion) (old new : List BodyState) (a b : ℤ) → new ≡ pass g (pass f old) → a ≡ gain_x f old → b ≡ gain_x g (pass f old) → total_x new ≡ (total_x old +ℤ a) +ℤ b
-total_x-after f g old new a b e is_a is_b = rw (e, is_a, is_b) (omega (arith, ints, total_x-pass g (pass f old), total_x-pass f old))
-
-pub total_y-after : (f g : MassData → Motion → Motion) (old new : List BodyState) (a b : ℤ) → new ≡ pass g (pass f old) → a ≡ gain_y f old → b ≡ gain_y g (pass f old) → total_y new ≡ (total_y old +ℤ a) +ℤ b
-total_y-after f g old new a b e is_a is_b = rw (e, is_a, is_b) (omega (arith, ints, total_y-pass g (pass f old), total_y-pass f old))
+pub total-after : (f g : MassData → Motion → Motion) (old new : List BodyState) (a b : Vec2) → new ≡ pass g (pass f old) → a ≡ gain f old → b ≡ gain g (pass f old) → total new ≡ plus (plus (total old) a) b
+total-after f g old new a b e is_a is_b =
+    ap total e ∙ (total-pass g (pass f old) ∙ (ap (λ (t : Vec2). plus t (gain g (pass f old))) (total-pass f old) ∙ ap₂ (λ (v w : Vec2). plus (plus (total old) v) w) (sym is_a) (sym is_b)))
 
 -- the momentum before and after a tick's passes, and the sums g, i and c before them
-pub tick_adds : (t0 t1 t2 t3 t4 fallen limited warm solved again moved g i c : ℤ) → t1 ≡ (t0 +ℤ fallen) +ℤ limited → t2 ≡ t1 +ℤ warm → t3 ≡ t2 +ℤ solved → t4 ≡ (t3 +ℤ again) +ℤ moved
-    → (t4 +ℤ (g +ℤ (i +ℤ c))) ≡ t0 +ℤ ((g +ℤ fallen) +ℤ (((i +ℤ warm) +ℤ solved) +ℤ (((c +ℤ limited) +ℤ again) +ℤ moved)))
-tick_adds t0 t1 t2 t3 t4 fallen limited warm solved again moved g i c e1 e2 e3 e4 = omega (arith, ints, e1, e2, e3, e4)
+pub tick_adds : (t0 t1 t2 t3 t4 fallen limited warm solved again moved g i c : Vec2) → t1 ≡ plus (plus t0 fallen) limited → t2 ≡ plus t1 warm → t3 ≡ plus t2 solved → t4 ≡ plus (plus t3 again) moved
+    → plus t4 (plus g (plus i c)) ≡ plus t0 (plus (plus g fallen) (plus (plus (plus i warm) solved) (plus (plus (plus c limited) again) moved)))
+tick_adds t0 t1 t2 t3 t4 fallen limited warm solved again moved g i c e1 e2 e3 e4 =
+    same_vector _ _ (omega (arith, ints, same_x e1, same_x e2, same_x e3, same_x e4)) (omega (arith, ints, same_y e1, same_y e2, same_y e3, same_y e4))
 
 -- a total t, the one before it and the first one, and what the sums were and are
-pub carried_on : (t before first were are : ℤ) → (t +ℤ were) ≡ before +ℤ are → before ≡ first +ℤ were → t ≡ first +ℤ are
-carried_on t before first were are h e = omega (arith, ints)
+pub carried_on : (t before first were are : Vec2) → plus t were ≡ plus before are → before ≡ plus first were → t ≡ plus first are
+carried_on t before first were are h e = same_vector t _ (omega (arith, ints, same_x h, same_x e)) (omega (arith, ints, same_y h, same_y e))
 
 -- and what immovable bodies give last
-pub last_added : (t before first g i c more : ℤ) → t ≡ before +ℤ more → before ≡ first +ℤ (g +ℤ (i +ℤ c)) → t ≡ first +ℤ (g +ℤ ((i +ℤ more) +ℤ c))
-last_added t before first g i c more h e = omega (arith, ints, h, e)
+pub last_added : (t before first g i c more : Vec2) → t ≡ plus before more → before ≡ plus first (plus g (plus i c)) → t ≡ plus first (plus g (plus (plus i more) c))
+last_added t before first g i c more h e = same_vector t _ (omega (arith, ints, same_x h, same_x e)) (omega (arith, ints, same_y h, same_y e))
 
 -- ---- sizes
 

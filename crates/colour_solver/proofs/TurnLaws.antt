@@ -1,16 +1,19 @@
 -- What the turn of one row keeps, and what it adds to the movers' momentum.
-use Rattle.std.proofs.Common.{◌≡◌, ◌≢◌, ℕ, zero, suc, ◌<◌, ◌≤◌, ◌*◌, ◌^◌, Bool, true, false, List, [], ◌∷◌, ◌++◌, length, get_or, set, ℤ, pos, ◌+ℤ◌, ◌-ℤ◌, unsigned_abs, arith, refl, sym, ap, ◌∙◌, subst, inl, inr}
+use Rattle.std.proofs.Common.{◌≡◌, ◌≢◌, ℕ, zero, suc, ◌<◌, ◌≤◌, ◌*◌, ◌^◌, Bool, true, false, List, [], ◌∷◌, ◌++◌, length, get_or, set, ℤ, ◌+ℤ◌, unsigned_abs, cond, arith, refl, sym, ap, ap₂, ◌∙◌, subst, inl, inr}
 use Rattle.std.proofs.lemmas.Bool.{cases_Bool}
 use Rattle.std.proofs.lemmas.Int.{ints}
 use Rattle.std.proofs.lemmas.List.{get_or-set_other, length-set}
 use Rattle.std.proofs.lemmas.List.Elements.{All-set}
 use Rattle.body_handles.specs.declared.places.TheConstants.{MAX_SLOTS}
+use Rattle.fixed_geom.specs.Vectors.{IsWithin, minus, plus, zero_vector}
+use Rattle.fixed_geom.specs.declared.vectors.Vec2.{Vec2}
 use Rattle.momenta.specs.declared.state.BodyState.{BodyState}
 use Rattle.momenta.specs.declared.state.Ends.{Ends}
 use Rattle.momenta.specs.Impulses.{AreSameBodies, IsMomentumKept, IsState}
-use Rattle.colour_solver.specs.States.{AreAllStates, p_x, p_y, total_x, total_y}
+use Rattle.colour_solver.specs.States.{AreAllStates, momentum_of, total}
 use Rattle.colour_solver.specs.declared.turns.Slots.{Slots}
-use Rattle.colour_solver.specs.Turns.{AreRowsOn, IsRowOn, after, got_x, got_y}
+use Rattle.colour_solver.specs.Turns.{AreRowsOn, IsRowOn, after, got, got_by}
+use Rattle.colour_solver.proofs.VectorLaws.{plus_assoc, plus_zero, same_vector, same_x, same_y}
 
 -- ---- a body put into its slot
 
@@ -32,148 +35,84 @@ states-push [] s all is (suc k) x e = all k x e
 states-push (a ∷ ss) s all is zero x e = all zero x e
 states-push (a ∷ ss) s all is (suc k) x e = states-push ss s (λ n y f. all (suc n) y f) is k x e
 
-total_x-set : (ss : List BodyState) (i : ℕ) (s d : BodyState) → i < length ss → (total_x (set ss i s) +ℤ p_x (get_or ss i d)) ≡ total_x ss +ℤ p_x s
-total_x-set [] i s d h = absurd (omega arith)
-total_x-set (a ∷ ss) zero s d h = omega (arith, ints)
-total_x-set (a ∷ ss) (suc i) s d h = omega (arith, ints, total_x-set ss i s d (omega arith))
+-- one body in the place of another
+in_place : (a s t : Vec2) → plus (plus s t) a ≡ plus (plus a t) s
+in_place a s t = same_vector _ _ (omega (arith, ints)) (omega (arith, ints))
 
-total_y-set : (ss : List BodyState) (i : ℕ) (s d : BodyState) → i < length ss → (total_y (set ss i s) +ℤ p_y (get_or ss i d)) ≡ total_y ss +ℤ p_y s
-total_y-set [] i s d h = absurd (omega arith)
-total_y-set (a ∷ ss) zero s d h = omega (arith, ints)
-total_y-set (a ∷ ss) (suc i) s d h = omega (arith, ints, total_y-set ss i s d (omega arith))
+behind : (a t o u s : Vec2) → plus t o ≡ plus u s → plus (plus a t) o ≡ plus (plus a u) s
+behind a t o u s e = sym (plus_assoc a t o) ∙ (ap (plus a) e ∙ plus_assoc a u s)
+
+total-set : (ss : List BodyState) (i : ℕ) (s d : BodyState) → i < length ss → plus (total (set ss i s)) (momentum_of (get_or ss i d)) ≡ plus (total ss) (momentum_of s)
+total-set [] i s d h = absurd (omega arith)
+total-set (a ∷ ss) zero s d h = in_place (momentum_of a) (momentum_of s) (total ss)
+total-set (a ∷ ss) (suc i) s d h = behind (momentum_of a) (total (set ss i s)) (momentum_of (get_or ss i d)) (total ss) (momentum_of s) (total-set ss i s d (omega arith))
 
 -- ---- the momentum of the two bodies
 
-immovable_x : (s : BodyState) → s.movable ≡ false → p_x s ≡ pos 0
-immovable_x s h = rw h
+immovable : (s : BodyState) → s.movable ≡ false → momentum_of s ≡ zero_vector
+immovable s h = rw h
 
-movable_x : (s : BodyState) → s.movable ≡ true → p_x s ≡ s.motion.p.x
-movable_x s h = rw h
+movable : (s : BodyState) → s.movable ≡ true → momentum_of s ≡ s.motion.p
+movable s h = rw h
 
-immovable_y : (s : BodyState) → s.movable ≡ false → p_y s ≡ pos 0
-immovable_y s h = rw h
+-- of two bodies, of which the one moves if t says so and the other if u does
+gained_by : (t u : Bool) (p q after_p after_q : Vec2) → (t ≡ true → u ≡ true → plus after_p after_q ≡ plus p q)
+    → plus (cond t after_p zero_vector) (cond u after_q zero_vector) ≡ plus (plus (cond t p zero_vector) (cond u q zero_vector)) (got_by t u (minus after_p p) (minus after_q q))
+gained_by true true p q after_p after_q kept = kept refl refl ∙ sym (plus_zero (plus p q))
+gained_by true false p q after_p after_q kept = same_vector _ _ (omega (arith, ints)) (omega (arith, ints))
+gained_by false true p q after_p after_q kept = same_vector _ _ (omega (arith, ints)) (omega (arith, ints))
+gained_by false false p q after_p after_q kept = refl
 
-movable_y : (s : BodyState) → s.movable ≡ true → p_y s ≡ s.motion.p.y
-movable_y s h = rw h
-
-gained_x : (t u : Bool) (e after : Ends) → e.a.movable ≡ t → e.b.movable ≡ u → AreSameBodies e after → IsMomentumKept e after → (p_x after.a +ℤ p_x after.b) ≡ (p_x e.a +ℤ p_x e.b) +ℤ got_x e after
-gained_x true true e after ha hb same kept =
-    let a0 = movable_x e.a ha in
-    let b0 = movable_x e.b hb in
-    let a1 = movable_x after.a (same.a.movable ∙ ha) in
-    let b1 = movable_x after.b (same.b.movable ∙ hb) in
-    let got : got_x e after ≡ pos 0 = rw (ha, hb) in
-    omega (arith, ints, a0, b0, a1, b1, got, kept.x ha hb)
-gained_x true false e after ha hb same kept =
-    let a0 = movable_x e.a ha in
-    let b0 = immovable_x e.b hb in
-    let a1 = movable_x after.a (same.a.movable ∙ ha) in
-    let b1 = immovable_x after.b (same.b.movable ∙ hb) in
-    let got : got_x e after ≡ (after.a.motion.p.x -ℤ e.a.motion.p.x) = rw (ha, hb) in
-    omega (arith, ints, a0, b0, a1, b1, got)
-gained_x false true e after ha hb same kept =
-    let a0 = immovable_x e.a ha in
-    let b0 = movable_x e.b hb in
-    let a1 = immovable_x after.a (same.a.movable ∙ ha) in
-    let b1 = movable_x after.b (same.b.movable ∙ hb) in
-    let got : got_x e after ≡ (after.b.motion.p.x -ℤ e.b.motion.p.x) = rw (ha, hb) in
-    omega (arith, ints, a0, b0, a1, b1, got)
-gained_x false false e after ha hb same kept =
-    let a0 = immovable_x e.a ha in
-    let b0 = immovable_x e.b hb in
-    let a1 = immovable_x after.a (same.a.movable ∙ ha) in
-    let b1 = immovable_x after.b (same.b.movable ∙ hb) in
-    let got : got_x e after ≡ pos 0 = rw (ha, hb) in
-    omega (arith, ints, a0, b0, a1, b1, got)
-
-gained_y : (t u : Bool) (e after : Ends) → e.a.movable ≡ t → e.b.movable ≡ u → AreSameBodies e after → IsMomentumKept e after → (p_y after.a +ℤ p_y after.b) ≡ (p_y e.a +ℤ p_y e.b) +ℤ got_y e after
-gained_y true true e after ha hb same kept =
-    let a0 = movable_y e.a ha in
-    let b0 = movable_y e.b hb in
-    let a1 = movable_y after.a (same.a.movable ∙ ha) in
-    let b1 = movable_y after.b (same.b.movable ∙ hb) in
-    let got : got_y e after ≡ pos 0 = rw (ha, hb) in
-    omega (arith, ints, a0, b0, a1, b1, got, kept.y ha hb)
-gained_y true false e after ha hb same kept =
-    let a0 = movable_y e.a ha in
-    let b0 = immovable_y e.b hb in
-    let a1 = movable_y after.a (same.a.movable ∙ ha) in
-    let b1 = immovable_y after.b (same.b.movable ∙ hb) in
-    let got : got_y e after ≡ (after.a.motion.p.y -ℤ e.a.motion.p.y) = rw (ha, hb) in
-    omega (arith, ints, a0, b0, a1, b1, got)
-gained_y false true e after ha hb same kept =
-    let a0 = immovable_y e.a ha in
-    let b0 = movable_y e.b hb in
-    let a1 = immovable_y after.a (same.a.movable ∙ ha) in
-    let b1 = movable_y after.b (same.b.movable ∙ hb) in
-    let got : got_y e after ≡ (after.b.motion.p.y -ℤ e.b.motion.p.y) = rw (ha, hb) in
-    omega (arith, ints, a0, b0, a1, b1, got)
-gained_y false false e after ha hb same kept =
-    let a0 = immovable_y e.a ha in
-    let b0 = immovable_y e.b hb in
-    let a1 = immovable_y after.a (same.a.movable ∙ ha) in
-    let b1 = immovable_y after.b (same.b.movable ∙ hb) in
-    let got : got_y e after ≡ pos 0 = rw (ha, hb) in
-    omega (arith, ints, a0, b0, a1, b1, got)
+gained : (e after : Ends) → AreSameBodies e after → IsMomentumKept e after → plus (momentum_of after.a) (momentum_of after.b) ≡ plus (plus (momentum_of e.a) (momentum_of e.b)) (got e after)
+gained e after same kept =
+    ap₂ plus (ap (λ (t : Bool). cond t after.a.motion.p zero_vector) same.a.movable) (ap (λ (t : Bool). cond t after.b.motion.p zero_vector) same.b.movable)
+    ∙ gained_by e.a.movable e.b.movable e.a.motion.p e.b.motion.p after.a.motion.p after.b.motion.p (λ ha hb. same_vector _ _ (kept.x ha hb) (kept.y ha hb))
 
 -- two bodies, in the slots i and j of which they are known, replaced by what their turn makes of them
-told : (before one both pa pb pa1 pb1 at got : ℤ) → (one +ℤ pa) ≡ before +ℤ pa1 → (both +ℤ at) ≡ one +ℤ pb1 → at ≡ pb → (pa1 +ℤ pb1) ≡ (pa +ℤ pb) +ℤ got → both ≡ before +ℤ got
-told before one both pa pb pa1 pb1 at got first second e sum = omega (arith, ints)
+told : (before one both pa pb pa1 pb1 at got : Vec2) → plus one pa ≡ plus before pa1 → plus both at ≡ plus one pb1 → at ≡ pb → plus pa1 pb1 ≡ plus (plus pa pb) got → both ≡ plus before got
+told before one both pa pb pa1 pb1 at got first second e sum =
+    same_vector both _ (omega (arith, ints, same_x first, same_x second, same_x e, same_x sum)) (omega (arith, ints, same_y first, same_y second, same_y e, same_y sum))
 
-pub total_x-after : (ss : List BodyState) (i j : ℕ) (e after : Ends) → i < length ss → j < length ss → i ≢ j → e.a ≡ get_or ss i e.a → e.b ≡ get_or ss j e.b → AreSameBodies e after → IsMomentumKept e after
-    → total_x (set (set ss i after.a) j after.b) ≡ total_x ss +ℤ got_x e after
-total_x-after ss i j e after hi hj apart is_a is_b same kept =
-    let first : (total_x (set ss i after.a) +ℤ p_x e.a) ≡ total_x ss +ℤ p_x after.a = rw (ap p_x is_a) (total_x-set ss i after.a e.a hi) in
+pub total-after : (ss : List BodyState) (i j : ℕ) (e after : Ends) → i < length ss → j < length ss → i ≢ j → e.a ≡ get_or ss i e.a → e.b ≡ get_or ss j e.b → AreSameBodies e after → IsMomentumKept e after
+    → total (set (set ss i after.a) j after.b) ≡ plus (total ss) (got e after)
+total-after ss i j e after hi hj apart is_a is_b same kept =
+    let first : plus (total (set ss i after.a)) (momentum_of e.a) ≡ plus (total ss) (momentum_of after.a) = ap (λ (s : BodyState). plus (total (set ss i after.a)) (momentum_of s)) is_a ∙ total-set ss i after.a e.a hi in
     let long : j < length (set ss i after.a) = rw (length-set ss i after.a) hj in
-    let second = total_x-set (set ss i after.a) j after.b e.b long in
-    let at : p_x (get_or (set ss i after.a) j e.b) ≡ p_x e.b = ap p_x (get_or-set_other ss i j after.a e.b (λ h. apart (sym h)) ∙ sym is_b) in
-    told (total_x ss) (total_x (set ss i after.a)) (total_x (set (set ss i after.a) j after.b)) (p_x e.a) (p_x e.b) (p_x after.a) (p_x after.b) (p_x (get_or (set ss i after.a) j e.b)) (got_x e after)
-    first second at (gained_x e.a.movable e.b.movable e after refl refl same kept)
-
-pub total_y-after : (ss : List BodyState) (i j : ℕ) (e after : Ends) → i < length ss → j < length ss → i ≢ j → e.a ≡ get_or ss i e.a → e.b ≡ get_or ss j e.b → AreSameBodies e after → IsMomentumKept e after
-    → total_y (set (set ss i after.a) j after.b) ≡ total_y ss +ℤ got_y e after
-total_y-after ss i j e after hi hj apart is_a is_b same kept =
-    let first : (total_y (set ss i after.a) +ℤ p_y e.a) ≡ total_y ss +ℤ p_y after.a = rw (ap p_y is_a) (total_y-set ss i after.a e.a hi) in
-    let long : j < length (set ss i after.a) = rw (length-set ss i after.a) hj in
-    let second = total_y-set (set ss i after.a) j after.b e.b long in
-    let at : p_y (get_or (set ss i after.a) j e.b) ≡ p_y e.b = ap p_y (get_or-set_other ss i j after.a e.b (λ h. apart (sym h)) ∙ sym is_b) in
-    told (total_y ss) (total_y (set ss i after.a)) (total_y (set (set ss i after.a) j after.b)) (p_y e.a) (p_y e.b) (p_y after.a) (p_y after.b) (p_y (get_or (set ss i after.a) j e.b)) (got_y e after)
-    first second at (gained_y e.a.movable e.b.movable e after refl refl same kept)
+    let second = total-set (set ss i after.a) j after.b e.b long in
+    let at : momentum_of (get_or (set ss i after.a) j e.b) ≡ momentum_of e.b = ap momentum_of (get_or-set_other ss i j after.a e.b (λ h. apart (sym h)) ∙ sym is_b) in
+    told (total ss) (total (set ss i after.a)) (total (set (set ss i after.a) j after.b)) (momentum_of e.a) (momentum_of e.b) (momentum_of after.a) (momentum_of after.b) (momentum_of (get_or (set ss i after.a) j e.b)) (got e after)
+    first second at (gained e after same kept)
 
 -- ---- the momentum's size
 
-small_x : (s : BodyState) → IsState s → unsigned_abs (p_x s) ≤ 2 ^ 60
-small_x s is = elim (cases_Bool s.movable) [
-  | inl h ↦ rw (movable_x s h) is.motion.p.x
-  | inr h ↦ rw (immovable_x s h) (omega arith)
-]
-
-small_y : (s : BodyState) → IsState s → unsigned_abs (p_y s) ≤ 2 ^ 60
-small_y s is = elim (cases_Bool s.movable) [
-  | inl h ↦ rw (movable_y s h) is.motion.p.y
-  | inr h ↦ rw (immovable_y s h) (omega arith)
+small : (s : BodyState) → IsState s → IsWithin (2 ^ 60) (momentum_of s)
+small s is = elim (cases_Bool s.movable) [
+  | inl h ↦ subst (IsWithin (2 ^ 60)) (sym (movable s h)) is.motion.p
+  | inr h ↦ subst (IsWithin (2 ^ 60)) (sym (immovable s h)) (record { x = omega arith; y = omega arith })
 ]
 
 size_more : (a b : ℤ) (n : ℕ) → unsigned_abs a ≤ 2 ^ 60 → unsigned_abs b ≤ n * 2 ^ 60 → unsigned_abs (a +ℤ b) ≤ suc n * 2 ^ 60
 size_more a b n h k = omega (arith, ints)
 
-total_x-small : (ss : List BodyState) → AreAllStates ss → unsigned_abs (total_x ss) ≤ length ss * 2 ^ 60
-total_x-small [] all = omega arith
-total_x-small (s ∷ ss) all = size_more (p_x s) (total_x ss) (length ss) (small_x s (all zero s refl)) (total_x-small ss (λ k x f. all (suc k) x f))
-
-total_y-small : (ss : List BodyState) → AreAllStates ss → unsigned_abs (total_y ss) ≤ length ss * 2 ^ 60
-total_y-small [] all = omega arith
-total_y-small (s ∷ ss) all = size_more (p_y s) (total_y ss) (length ss) (small_y s (all zero s refl)) (total_y-small ss (λ k x f. all (suc k) x f))
+total-small : (ss : List BodyState) → AreAllStates ss → IsWithin (length ss * 2 ^ 60) (total ss)
+total-small [] all = record { x = omega arith; y = omega arith }
+total-small (s ∷ ss) all =
+    let first = small s (all zero s refl) in
+    let rest = total-small ss (λ k x f. all (suc k) x f) in
+    record { x = size_more (momentum_of s).x (total ss).x (length ss) first.x rest.x; y = size_more (momentum_of s).y (total ss).y (length ss) first.y rest.y }
 
 difference : (old new given : ℤ) (n m : ℕ) → new ≡ old +ℤ given → unsigned_abs old ≤ n * 2 ^ 60 → unsigned_abs new ≤ m * 2 ^ 60 → n ≤ MAX_SLOTS → m ≤ MAX_SLOTS → unsigned_abs given ≤ 2 ^ 78
 difference old new given n m e h k few few2 = omega (arith, ints)
 
 -- what changes the total of so few bodies is small
-pub given_x-small : (old new : List BodyState) (given : ℤ) → AreAllStates old → AreAllStates new → length old ≤ MAX_SLOTS → length new ≤ MAX_SLOTS → total_x new ≡ total_x old +ℤ given → unsigned_abs given ≤ 2 ^ 78
-given_x-small old new given a b few few2 e = difference (total_x old) (total_x new) given (length old) (length new) e (total_x-small old a) (total_x-small new b) few few2
-
-pub given_y-small : (old new : List BodyState) (given : ℤ) → AreAllStates old → AreAllStates new → length old ≤ MAX_SLOTS → length new ≤ MAX_SLOTS → total_y new ≡ total_y old +ℤ given → unsigned_abs given ≤ 2 ^ 78
-given_y-small old new given a b few few2 e = difference (total_y old) (total_y new) given (length old) (length new) e (total_y-small old a) (total_y-small new b) few few2
+pub given-small : (old new : List BodyState) (given : Vec2) → AreAllStates old → AreAllStates new → length old ≤ MAX_SLOTS → length new ≤ MAX_SLOTS → total new ≡ plus (total old) given → IsWithin (2 ^ 78) given
+given-small old new given a b few few2 e =
+    let before = total-small old a in
+    let after = total-small new b in
+    record {
+      x = difference (total old).x (total new).x given.x (length old) (length new) (same_x e) before.x after.x few few2;
+      y = difference (total old).y (total new).y given.y (length old) (length new) (same_y e) before.y after.y few few2;
+    }
 
 -- ---- one row further
 

@@ -1,12 +1,14 @@
 -- A colour: rows no two of which share a mover. Their turns may be made at once, each with the bodies as they are before all of them.
-use Rattle.std.specs.Prelude.{◌≡◌, ◌≢◌, ◌<◌, ℕ, Bool, true, List, [], ◌∷◌, Some, map, ℤ, pos, ◌+ℤ◌, All, slice_get, slice_index_or}
+use Rattle.std.specs.Prelude.{◌≡◌, ◌≢◌, ◌<◌, ℕ, Bool, true, List, [], ◌∷◌, Some, map, All, slice_get, slice_index_or}
+use Rattle.fixed_geom.specs.Vectors.{plus, zero_vector}
+use Rattle.fixed_geom.specs.declared.vectors.Vec2.{Vec2}
 use Rattle.momenta.specs.declared.state.BodyState.{BodyState}
 use Rattle.momenta.specs.declared.state.Ends.{Ends}
 use Rattle.momenta.specs.Impulses.{AreSameBodies}
 use Rattle.colour_solver_base.specs.RowsAfter.{RowAfter}
 use Rattle.colour_solver.specs.declared.turns.Slots.{Slots}
 use Rattle.colour_solver.specs.States.{nobody}
-use Rattle.colour_solver.specs.Turns.{after, ends_of, got_x, got_y, passed, rows_passed, share_x, share_y, turn_of, with_ends}
+use Rattle.colour_solver.specs.Turns.{after, ends_of, got, passed, rows_passed, share, turn_of, with_ends}
 
 abbrev pub is_mover : List BodyState → ℕ → Bool
 is_mover states slot = (slice_index_or states slot nobody).movable
@@ -35,13 +37,9 @@ scatter at states (r ∷ rs) [] = states
 scatter at states (r ∷ rs) (t ∷ turns) = scatter at (with_ends at states r t.ends) rs turns
 
 -- what the movers got where the other body is immovable, all bodies standing so
-abbrev pub share_at_once_x : {R : Type 0} → (R → Slots) → (R → Ends → RowAfter R) → List BodyState → List R → ℤ
-share_at_once_x at f states [] = pos 0
-share_at_once_x at f states (r ∷ rs) = got_x (ends_of at states r) (turn_of at f states r).ends +ℤ share_at_once_x at f states rs
-
-abbrev pub share_at_once_y : {R : Type 0} → (R → Slots) → (R → Ends → RowAfter R) → List BodyState → List R → ℤ
-share_at_once_y at f states [] = pos 0
-share_at_once_y at f states (r ∷ rs) = got_y (ends_of at states r) (turn_of at f states r).ends +ℤ share_at_once_y at f states rs
+abbrev pub share_at_once : {R : Type 0} → (R → Slots) → (R → Ends → RowAfter R) → List BodyState → List R → Vec2
+share_at_once at f states [] = zero_vector
+share_at_once at f states (r ∷ rs) = plus (got (ends_of at states r) (turn_of at f states r).ends) (share_at_once at f states rs)
 
 -- each turn leaves alone what an impulse does: an immovable body above all
 abbrev pub AreTurnsFair : {R : Type 0} → (R → Slots) → (R → Ends → RowAfter R) → List BodyState → List R → Type 0
@@ -52,8 +50,7 @@ pub record IsAtOnce {R : Type 0} (at : R → Slots) (f : R → Ends → RowAfter
   pub turns : results at f states rows ≡ map (turn_of at f states) rows
   pub bodies : scatter at states rows (map (turn_of at f states) rows) ≡ passed at f states rows
   pub turned : map (λ (t : RowAfter R). t.row) (map (turn_of at f states) rows) ≡ rows_passed at f states rows
-  pub given_x : share_at_once_x at f states rows ≡ share_x at f states rows
-  pub given_y : share_at_once_y at f states rows ≡ share_y at f states rows
+  pub given : share_at_once at f states rows ≡ share at f states rows
 
 abbrev pub ColoursAreAtOnce : {R : Type 0} → (R → Slots) → Type 0
 ColoursAreAtOnce {R} at = (f : R → Ends → RowAfter R) (states : List BodyState) (rows : List R) → IsColour at states rows → AreTurnsFair at f states rows → IsAtOnce at f states rows

@@ -1,10 +1,12 @@
 -- Inner: a pass over the bodies: one change of motion, made to each mover, and what it adds to the movers' momentum.
-use Rattle.std.specs.Prelude.{◌≡◌, ℕ, cond, true, List, [], ◌∷◌, Some, map, ℤ, pos, ◌+ℤ◌, ◌-ℤ◌, slice_get}
+use Rattle.std.specs.Prelude.{◌≡◌, ℕ, cond, true, List, [], ◌∷◌, Some, map, slice_get}
+use Rattle.fixed_geom.specs.Vectors.{minus, plus, zero_vector}
+use Rattle.fixed_geom.specs.declared.vectors.Vec2.{Vec2}
 use Rattle.momenta.specs.declared.mass.MassData.{MassData}
 use Rattle.momenta.specs.declared.motion.Motion.{Motion}
 use Rattle.momenta.specs.declared.state.BodyState.{BodyState}
 use Rattle.momenta.specs.Motions.{advanced}
-use Rattle.colour_solver.specs.States.{is_carried, p_x, p_y}
+use Rattle.colour_solver.specs.States.{is_carried, momentum_of}
 
 -- a mover changed, another body as it was
 abbrev pub changed : (MassData → Motion → Motion) → BodyState → BodyState
@@ -14,20 +16,13 @@ abbrev pub pass : (MassData → Motion → Motion) → List BodyState → List B
 pass f states = map (changed f) states
 
 -- what the change adds to the momentum of one body
-abbrev pub one_gain_x : (MassData → Motion → Motion) → BodyState → ℤ
-one_gain_x f s = p_x (changed f s) -ℤ p_x s
-
-abbrev pub one_gain_y : (MassData → Motion → Motion) → BodyState → ℤ
-one_gain_y f s = p_y (changed f s) -ℤ p_y s
+abbrev pub one_gain : (MassData → Motion → Motion) → BodyState → Vec2
+one_gain f s = minus (momentum_of (changed f s)) (momentum_of s)
 
 -- what the pass adds to the movers' momentum
-abbrev pub gain_x : (MassData → Motion → Motion) → List BodyState → ℤ
-gain_x f [] = pos 0
-gain_x f (s ∷ states) = one_gain_x f s +ℤ gain_x f states
-
-abbrev pub gain_y : (MassData → Motion → Motion) → List BodyState → ℤ
-gain_y f [] = pos 0
-gain_y f (s ∷ states) = one_gain_y f s +ℤ gain_y f states
+abbrev pub gain : (MassData → Motion → Motion) → List BodyState → Vec2
+gain f [] = zero_vector
+gain f (s ∷ states) = plus (one_gain f s) (gain f states)
 
 -- ---- bodies that no impulse moves
 

@@ -1,10 +1,12 @@
 -- Inner: the bodies of a step by slot, and the movers' momentum. A mover here is an awake one: of the others `movable` is false.
-use Rattle.std.specs.Prelude.{◌≡◌, ℕ, suc, ◌^◌, ◌≤◌, Bool, true, false, cond, not, List, [], ◌∷◌, Some, ℤ, pos, ◌+ℤ◌, unsigned_abs, length, slice_get, slice_index_or}
+use Rattle.std.specs.Prelude.{◌≡◌, ℕ, suc, ◌^◌, ◌≤◌, Bool, true, false, cond, not, List, [], ◌∷◌, Some, pos, unsigned_abs, length, slice_get, slice_index_or}
 use Rattle.std.specs.Ordering.{int_eq}
+use Rattle.momenta.specs.declared.gain.Gain.{Gain}
 use Rattle.momenta.specs.declared.mass.MassData.{MassData}
 use Rattle.momenta.specs.declared.state.BodyState.{BodyState}
 use Rattle.momenta.specs.Impulses.{IsState}
-use Rattle.fixed_geom.specs.Vectors.{IsWithin, zero_vector}
+use Rattle.fixed_geom.specs.Vectors.{IsWithin, plus, zero_vector}
+use Rattle.fixed_geom.specs.declared.vectors.Vec2.{Vec2}
 use Rattle.fixed_geom.specs.declared.limits.TheConstants.{MAX_SPIN}
 use Rattle.momenta.specs.declared.limits.TheConstants.{MAX_SPEED}
 use Rattle.momenta.specs.Reciprocals.{reciprocals_of}
@@ -68,19 +70,16 @@ HaveCourses states = (slot : ℕ) (s : BodyState) → slice_get states slot ≡ 
 
 -- ---- the movers' momentum
 
-abbrev pub p_x : BodyState → ℤ
-p_x s = cond s.movable s.motion.p.x (pos 0)
+-- what a change of momentum is as a vector
+abbrev pub as_vector : Gain → Vec2
+as_vector g = record { x = g.x; y = g.y }
 
-abbrev pub p_y : BodyState → ℤ
-p_y s = cond s.movable s.motion.p.y (pos 0)
+abbrev pub momentum_of : BodyState → Vec2
+momentum_of s = cond s.movable s.motion.p zero_vector
 
-abbrev pub total_x : List BodyState → ℤ
-total_x [] = pos 0
-total_x (s ∷ states) = p_x s +ℤ total_x states
-
-abbrev pub total_y : List BodyState → ℤ
-total_y [] = pos 0
-total_y (s ∷ states) = p_y s +ℤ total_y states
+abbrev pub total : List BodyState → Vec2
+total [] = zero_vector
+total (s ∷ states) = plus (momentum_of s) (total states)
 
 -- ---- what is left alone
 

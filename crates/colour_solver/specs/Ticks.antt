@@ -1,6 +1,6 @@
 -- Inner: a step's ticks and its restitution on the dense arrays: passes over the bodies and the constraints, and what each adds to the movers' momentum.
-use Rattle.std.specs.Prelude.{ℕ, zero, suc, ◌^◌, List, ℤ, pos, ◌+ℤ◌}
-use Rattle.fixed_geom.specs.Vectors.{IsWithin}
+use Rattle.std.specs.Prelude.{ℕ, zero, suc, ◌^◌, List}
+use Rattle.fixed_geom.specs.Vectors.{IsWithin, plus, zero_vector}
 use Rattle.fixed_geom.specs.declared.vectors.Vec2.{Vec2}
 use Rattle.momenta.specs.Motions.{IsMass, IsMotion, IsPulled, pulled, clamped, advanced, velocity}
 use Rattle.momenta.specs.Gains.{IsGain}
@@ -11,36 +11,32 @@ use Rattle.momenta.specs.declared.state.Ends.{Ends}
 use Rattle.colour_solver_base.specs.RowsAfter.{RowAfter}
 use Rattle.colour_solver.specs.declared.constraint_row.ConstraintRow.{ConstraintRow}
 use Rattle.colour_solver.specs.declared.ticks.StepSums.{StepSums}
-use Rattle.colour_solver.specs.Passes.{carry, pass, gain_x, gain_y}
+use Rattle.colour_solver.specs.Passes.{carry, pass, gain}
 use Rattle.colour_solver.specs.ConstraintTurns.{constraint_bounced, constraint_slots, constraint_solved, constraint_warmed}
-use Rattle.colour_solver.specs.Turns.{passed, rows_passed, share_x, share_y}
+use Rattle.colour_solver.specs.States.{as_vector}
+use Rattle.colour_solver.specs.Turns.{passed, rows_passed, share}
 
 -- the bodies and the constraints, and what gravity, immovable bodies, and the speed limit with the edge of the world have added since
 -- the step began
 pub record Run : Type 0 where
   pub states : List BodyState
   pub rows : List ConstraintRow
-  pub gravity_x : ℤ
-  pub gravity_y : ℤ
-  pub immovable_x : ℤ
-  pub immovable_y : ℤ
-  pub clamp_x : ℤ
-  pub clamp_y : ℤ
+  pub gravity : Vec2
+  pub immovable : Vec2
+  pub clamp : Vec2
 
 -- gravity, booked as such
 abbrev pub pull_all : Vec2 → Run → Run
 pull_all g r = record r {
   states = pass (pulled g) r.states;
-  gravity_x = r.gravity_x +ℤ gain_x (pulled g) r.states;
-  gravity_y = r.gravity_y +ℤ gain_y (pulled g) r.states;
+  gravity = plus r.gravity (gain (pulled g) r.states);
 }
 
 -- a change that is booked as Clamp: the speed limit, and the move with its stop at the edge of the world
 abbrev pub clamp_all : (MassData → Motion → Motion) → Run → Run
 clamp_all f r = record r {
   states = pass f r.states;
-  clamp_x = r.clamp_x +ℤ gain_x f r.states;
-  clamp_y = r.clamp_y +ℤ gain_y f r.states;
+  clamp = plus r.clamp (gain f r.states);
 }
 
 -- a pass over the constraints; what immovable bodies give is booked as Immovable
@@ -48,8 +44,7 @@ abbrev pub turn_all : (ConstraintRow → Ends → RowAfter ConstraintRow) → Ru
 turn_all f r = record r {
   states = passed constraint_slots f r.states r.rows;
   rows = rows_passed constraint_slots f r.states r.rows;
-  immovable_x = r.immovable_x +ℤ share_x constraint_slots f r.states r.rows;
-  immovable_y = r.immovable_y +ℤ share_y constraint_slots f r.states r.rows;
+  immovable = plus r.immovable (share constraint_slots f r.states r.rows);
 }
 
 -- what is carried along moves on, and adds nothing to the movers' momentum
@@ -69,11 +64,11 @@ unfoldable pub ran : ℕ → Vec2 → Run → Run
 ran n g r = turn_all constraint_bounced (ticks n g r)
 
 abbrev pub start : List BodyState → List ConstraintRow → Run
-start states rows = record { states = states; rows = rows; gravity_x = pos 0; gravity_y = pos 0; immovable_x = pos 0; immovable_y = pos 0; clamp_x = pos 0; clamp_y = pos 0 }
+start states rows = record { states = states; rows = rows; gravity = zero_vector; immovable = zero_vector; clamp = zero_vector }
 
 -- the bodies and constraints with the sums that the code has kept
 abbrev pub run_of : List BodyState → List ConstraintRow → StepSums → Run
-run_of states rows s = record { states = states; rows = rows; gravity_x = s.gravity.x; gravity_y = s.gravity.y; immovable_x = s.immovable.x; immovable_y = s.immovable.y; clamp_x = s.clamp.x; clamp_y = s.clamp.y }
+run_of states rows s = record { states = states; rows = rows; gravity = as_vector s.gravity; immovable = as_vector s.immovable; clamp = as_vector s.clamp }
 
 pub record AreSums (n : ℕ) (s : StepSums) : Type 0 where
   pub gravity : IsGain n s.gravity
@@ -81,11 +76,8 @@ pub record AreSums (n : ℕ) (s : StepSums) : Type 0 where
   pub clamp : IsGain n s.clamp
 
 -- all that has been added
-abbrev pub added_x : StepSums → ℤ
-added_x s = s.gravity.x +ℤ (s.immovable.x +ℤ s.clamp.x)
-
-abbrev pub added_y : StepSums → ℤ
-added_y s = s.gravity.y +ℤ (s.immovable.y +ℤ s.clamp.y)
+abbrev pub added : StepSums → Vec2
+added s = plus (as_vector s.gravity) (plus (as_vector s.immovable) (as_vector s.clamp))
 
 -- ---- one mover, between the changes of a tick
 

@@ -1,6 +1,8 @@
 -- Inner: a pass over rows in solve order: the left fold of one turn, and what the immovable bodies have given. A row may be of any kind: what is known of it is
 -- where its two bodies stand.
-use Rattle.std.specs.Prelude.{◌≡◌, ℕ, Bool, ◌<◌, ◌≢◌, ◌-◌, cond, List, [], ◌∷◌, length, take, drop, ℤ, pos, ◌+ℤ◌, ◌-ℤ◌, All, slice_set, slice_index_or}
+use Rattle.std.specs.Prelude.{◌≡◌, ℕ, Bool, ◌<◌, ◌≢◌, ◌-◌, cond, List, [], ◌∷◌, length, take, drop, All, slice_set, slice_index_or}
+use Rattle.fixed_geom.specs.Vectors.{minus, plus, zero_vector}
+use Rattle.fixed_geom.specs.declared.vectors.Vec2.{Vec2}
 use Rattle.momenta.specs.declared.state.BodyState.{BodyState}
 use Rattle.momenta.specs.declared.state.Ends.{Ends}
 use Rattle.momenta.specs.declared.line_64.MomentaPair64.{MomentaPair64}
@@ -9,7 +11,7 @@ use Rattle.momenta.specs.Line64.{ends_with}
 use Rattle.colour_solver_base.specs.RowsAfter.{RowAfter}
 use Rattle.colour_solver_base.specs.Row64.{both_ends}
 use Rattle.colour_solver.specs.declared.turns.Slots.{Slots}
-use Rattle.colour_solver.specs.States.{AreAllStates, AreSameStates, nobody, total_x, total_y}
+use Rattle.colour_solver.specs.States.{AreAllStates, AreSameStates, nobody, total}
 
 -- the two bodies of a row
 abbrev pub ends_of : {R : Type 0} → (R → Slots) → List BodyState → R → Ends
@@ -19,8 +21,8 @@ abbrev pub with_ends : {R : Type 0} → (R → Slots) → List BodyState → R �
 with_ends at states r e = slice_set (slice_set states (at r).a e.a) (at r).b e.b
 
 -- the two bodies with these momenta
-abbrev pub narrow_ends : {R : Type 0} → (R → Slots) → List BodyState → R → MomentaPair64 → Ends
-narrow_ends at states r n = ends_with (slice_index_or states (at r).a nobody) (slice_index_or states (at r).b nobody) n
+abbrev pub ends_64 : {R : Type 0} → (R → Slots) → List BodyState → R → MomentaPair64 → Ends
+ends_64 at states r n = ends_with (slice_index_or states (at r).a nobody) (slice_index_or states (at r).b nobody) n
 
 -- the turn of one row, the bodies standing so
 abbrev pub turn_of : {R : Type 0} → (R → Slots) → (R → Ends → RowAfter R) → List BodyState → R → RowAfter R
@@ -42,22 +44,15 @@ rows_passed at f states (r ∷ rs) = (turn_of at f states r).row ∷ rows_passed
 -- ---- what the movers got where the other body is immovable
 
 -- what the first has gained where it alone moves, or the second where that does
-abbrev pub got_by : Bool → Bool → ℤ → ℤ → ℤ
-got_by first second a b = cond first (cond second (pos 0) a) (cond second b (pos 0))
+abbrev pub got_by : Bool → Bool → Vec2 → Vec2 → Vec2
+got_by first second a b = cond first (cond second zero_vector a) (cond second b zero_vector)
 
-abbrev pub got_x : Ends → Ends → ℤ
-got_x e after = got_by e.a.movable e.b.movable (after.a.motion.p.x -ℤ e.a.motion.p.x) (after.b.motion.p.x -ℤ e.b.motion.p.x)
+abbrev pub got : Ends → Ends → Vec2
+got e after = got_by e.a.movable e.b.movable (minus after.a.motion.p e.a.motion.p) (minus after.b.motion.p e.b.motion.p)
 
-abbrev pub got_y : Ends → Ends → ℤ
-got_y e after = got_by e.a.movable e.b.movable (after.a.motion.p.y -ℤ e.a.motion.p.y) (after.b.motion.p.y -ℤ e.b.motion.p.y)
-
-abbrev pub share_x : {R : Type 0} → (R → Slots) → (R → Ends → RowAfter R) → List BodyState → List R → ℤ
-share_x at f states [] = pos 0
-share_x at f states (r ∷ rs) = got_x (ends_of at states r) (turn_of at f states r).ends +ℤ share_x at f (after at f states r) rs
-
-abbrev pub share_y : {R : Type 0} → (R → Slots) → (R → Ends → RowAfter R) → List BodyState → List R → ℤ
-share_y at f states [] = pos 0
-share_y at f states (r ∷ rs) = got_y (ends_of at states r) (turn_of at f states r).ends +ℤ share_y at f (after at f states r) rs
+abbrev pub share : {R : Type 0} → (R → Slots) → (R → Ends → RowAfter R) → List BodyState → List R → Vec2
+share at f states [] = zero_vector
+share at f states (r ∷ rs) = plus (got (ends_of at states r) (turn_of at f states r).ends) (share at f (after at f states r) rs)
 
 -- ---- what must hold of the rows
 
@@ -78,16 +73,14 @@ abbrev pub between : {R : Type 0} → ℕ → ℕ → List R → List R
 between n e rows = take (e - n) (drop n rows)
 
 -- the turns f of the rows, from the bodies before them on, leave these bodies and these rows, and the movers with so much more momentum
-pub record IsPassed {R : Type 0} (at : R → Slots) (is : R → Type 0) (f : R → Ends → RowAfter R) (before : List BodyState) (rows : List R) (now : List BodyState) (turned : List R) (x y : ℤ) : Type 0 where
+pub record IsPassed {R : Type 0} (at : R → Slots) (is : R → Type 0) (f : R → Ends → RowAfter R) (before : List BodyState) (rows : List R) (now : List BodyState) (turned : List R) (given : Vec2) : Type 0 where
   pub states : now ≡ passed at f before rows
   pub rows_are : turned ≡ rows_passed at f before rows
-  pub share_x_is : x ≡ share_x at f before rows
-  pub share_y_is : y ≡ share_y at f before rows
+  pub share_is : given ≡ share at f before rows
   pub all_states : AreAllStates now
   pub all_rows : AreRowsOn at is (length now) turned
   pub same : AreSameStates before now
-  pub momentum_x : total_x now ≡ total_x before +ℤ x
-  pub momentum_y : total_y now ≡ total_y before +ℤ y
+  pub momentum : total now ≡ plus (total before) given
 
 -- ---- a turn in 64 bits
 

@@ -1,12 +1,13 @@
 //! The rows of a step in two dense lists, colour after colour, with where each colour ends in both.
 
-ghost use Rattle.std.specs.Prelude.{◌≡◌, ◌^◌, ◌≤◌, ◌+◌, ◌∷◌, ◌++◌, ◌+ℤ◌, [], length, map, take, drop, OnOk};
+ghost use Rattle.std.specs.Prelude.{◌≡◌, ◌^◌, ◌≤◌, ◌+◌, ◌∷◌, ◌++◌, [], length, map, take, drop, OnOk};
 ghost use Rattle.std.specs.Result.{IsOkUnless};
+ghost use Rattle.fixed_geom.specs.Vectors.{plus};
 ghost use Rattle.joint_rows.specs.Rows.{IsJointRow};
 ghost use Rattle.colour_solver_base.specs.Rows.{IsRow};
 ghost use Rattle.momenta.specs.Gains.{IsGain};
-ghost use Rattle.colour_solver.specs.States.{AreAllStates, AreSameStates, total_x, total_y};
-ghost use Rattle.colour_solver.specs.Turns.{AreRowsOn, IsPassed, between, passed, rows_passed, share_x, share_y};
+ghost use Rattle.colour_solver.specs.States.{AreAllStates, AreSameStates, as_vector, total};
+ghost use Rattle.colour_solver.specs.Turns.{AreRowsOn, IsPassed, between, passed, rows_passed, share};
 ghost use Rattle.colour_solver.specs.ConstraintTurns.{AreRowsBelow, IsConstraintRow, both_turns, constraint_slots, contact_slots, contacts_among, joint_slots, joints_among};
 ghost use Rattle.colour_solver.specs.declared.constraint_row.ConstraintRow.TheVariants.{Joint, Contact};
 ghost use Rattle.colour_solver.specs.ColourRows.{AreEnds, all_rows, joints_first, rows_kept};
@@ -72,7 +73,7 @@ fn pass_colour<J: Turn<JointRow>, C: Turn<ContactRow>>(
     requires contacts_end { end.contacts ≤ length contacts.old.items }
     requires joints { AreRowsOn joint_slots IsJointRow (length states.old.items) joints.old.items }
     requires contacts { AreRowsOn contact_slots IsRow (length states.old.items) contacts.old.items }
-    ensures passed { IsPassed constraint_slots IsConstraintRow (both_turns (J.turn joint_turn.now) (C.turn contact_turn.now)) states.old.items (joints_first (between start.joints end.joints joints.old.items) (between start.contacts end.contacts contacts.old.items)) states.new.items (joints_first (between start.joints end.joints joints.new.items) (between start.contacts end.contacts contacts.new.items)) result.x result.y }
+    ensures passed { IsPassed constraint_slots IsConstraintRow (both_turns (J.turn joint_turn.now) (C.turn contact_turn.now)) states.old.items (joints_first (between start.joints end.joints joints.old.items) (between start.contacts end.contacts contacts.old.items)) states.new.items (joints_first (between start.joints end.joints joints.new.items) (between start.contacts end.contacts contacts.new.items)) (as_vector result) }
     ensures joints_before { take start.joints joints.new.items ≡ take start.joints joints.old.items }
     ensures joints_behind { drop end.joints joints.new.items ≡ drop end.joints joints.old.items }
     ensures contacts_before { take start.contacts contacts.new.items ≡ take start.contacts contacts.old.items }
@@ -103,7 +104,7 @@ fn pass_colours<J: Turn<JointRow>, C: Turn<ContactRow>>(
     requires contact_ends { AreEnds 0 (map (λ e. e.contacts) ends.now) (length contacts.old.items) }
     requires joints { AreRowsOn joint_slots IsJointRow (length states.old.items) joints.old.items }
     requires contacts { AreRowsOn contact_slots IsRow (length states.old.items) contacts.old.items }
-    ensures passed { IsPassed constraint_slots IsConstraintRow (both_turns (J.turn joint_turn.now) (C.turn contact_turn.now)) states.old.items (rows_kept (map (λ e. e.joints) ends.now) (map (λ e. e.contacts) ends.now) joints.old.items contacts.old.items) states.new.items (rows_kept (map (λ e. e.joints) ends.now) (map (λ e. e.contacts) ends.now) joints.new.items contacts.new.items) result.x result.y }
+    ensures passed { IsPassed constraint_slots IsConstraintRow (both_turns (J.turn joint_turn.now) (C.turn contact_turn.now)) states.old.items (rows_kept (map (λ e. e.joints) ends.now) (map (λ e. e.contacts) ends.now) joints.old.items contacts.old.items) states.new.items (rows_kept (map (λ e. e.joints) ends.now) (map (λ e. e.contacts) ends.now) joints.new.items contacts.new.items) (as_vector result) }
     ensures as_many_joints { length joints.new.items ≡ length joints.old.items }
     ensures as_many_contacts { length contacts.new.items ≡ length contacts.old.items }
     ensures small { IsGain (2 ^ 78) result }
@@ -248,14 +249,12 @@ impl Rows {
         ensures states { states.new.items ≡ passed constraint_slots (both_turns (J.turn joint_turn.now) (C.turn contact_turn.now)) states.old.items (all_rows self.old) }
         ensures rows { all_rows self.new ≡ rows_passed constraint_slots (both_turns (J.turn joint_turn.now) (C.turn contact_turn.now)) states.old.items (all_rows self.old) }
         ensures colours { map length self.new.colours ≡ map length self.old.colours }
-        ensures share_x { result.x ≡ share_x constraint_slots (both_turns (J.turn joint_turn.now) (C.turn contact_turn.now)) states.old.items (all_rows self.old) }
-        ensures share_y { result.y ≡ share_y constraint_slots (both_turns (J.turn joint_turn.now) (C.turn contact_turn.now)) states.old.items (all_rows self.old) }
+        ensures share { as_vector result ≡ share constraint_slots (both_turns (J.turn joint_turn.now) (C.turn contact_turn.now)) states.old.items (all_rows self.old) }
         ensures all_states { AreAllStates states.new.items }
         ensures all_rows { AreRowsBelow (length states.new.items) (all_rows self.new) }
         ensures long { length states.new.items ≡ length states.old.items }
         ensures same { AreSameStates states.old.items states.new.items }
-        ensures momentum_x { total_x states.new.items ≡ total_x states.old.items +ℤ result.x }
-        ensures momentum_y { total_y states.new.items ≡ total_y states.old.items +ℤ result.y }
+        ensures momentum { total states.new.items ≡ plus (total states.old.items) (as_vector result) }
         ensures small { IsGain (2 ^ 78) result }
     {
         pass_colours(

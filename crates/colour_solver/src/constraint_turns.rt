@@ -51,7 +51,7 @@ impl Turn<JointRow> for Warm {
     }
 
     #[inline(always)]
-    fn narrow(&self, row: &mut JointRow, a: &BodyState, b: &BodyState) -> Option<MomentaPair64> {
+    fn turn_64(&self, row: &mut JointRow, a: &BodyState, b: &BodyState) -> Option<MomentaPair64> {
         match warm_joint_64(row, a, b) {
             None => None,
             Some(turned) => Some(put_impulse(row, turned)),
@@ -73,7 +73,7 @@ impl Turn<ContactRow> for Warm {
     }
 
     #[inline(always)]
-    fn narrow(&self, row: &mut ContactRow, a: &BodyState, b: &BodyState) -> Option<MomentaPair64> {
+    fn turn_64(&self, row: &mut ContactRow, a: &BodyState, b: &BodyState) -> Option<MomentaPair64> {
         match warm_row_64(row, a, b) {
             None => None,
             Some(turned) => Some(put_impulses(row, turned)),
@@ -99,7 +99,7 @@ impl Turn<JointRow> for Solve {
     }
 
     #[inline(always)]
-    fn narrow(&self, row: &mut JointRow, a: &BodyState, b: &BodyState) -> Option<MomentaPair64> {
+    fn turn_64(&self, row: &mut JointRow, a: &BodyState, b: &BodyState) -> Option<MomentaPair64> {
         match solve_joint_64(row, a, b) {
             None => None,
             Some(turned) => Some(put_impulse(row, turned)),
@@ -121,7 +121,7 @@ impl Turn<ContactRow> for Solve {
     }
 
     #[inline(always)]
-    fn narrow(&self, row: &mut ContactRow, a: &BodyState, b: &BodyState) -> Option<MomentaPair64> {
+    fn turn_64(&self, row: &mut ContactRow, a: &BodyState, b: &BodyState) -> Option<MomentaPair64> {
         match solve_row_64(row, a, b) {
             None => None,
             Some(turned) => Some(put_impulses(row, turned)),
@@ -147,7 +147,7 @@ impl Turn<JointRow> for Bounce {
     }
 
     #[inline(always)]
-    fn narrow(&self, row: &mut JointRow, a: &BodyState, b: &BodyState) -> Option<MomentaPair64> {
+    fn turn_64(&self, row: &mut JointRow, a: &BodyState, b: &BodyState) -> Option<MomentaPair64> {
         None
     }
 
@@ -164,7 +164,7 @@ impl Turn<ContactRow> for Bounce {
     }
 
     #[inline(always)]
-    fn narrow(&self, row: &mut ContactRow, a: &BodyState, b: &BodyState) -> Option<MomentaPair64> {
+    fn turn_64(&self, row: &mut ContactRow, a: &BodyState, b: &BodyState) -> Option<MomentaPair64> {
         None
     }
 

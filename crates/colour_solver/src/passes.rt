@@ -1,13 +1,13 @@
 //! Passes over the bodies: two changes of motion, made to each awake mover in one loop.
 
-ghost use Rattle.std.specs.Prelude.{◌≡◌, ◌^◌, ◌≤◌, length, ◌+ℤ◌};
+ghost use Rattle.std.specs.Prelude.{◌≡◌, ◌^◌, ◌≤◌, length};
 ghost use Rattle.fixed_geom.specs.Vectors.{IsWithin};
 ghost use Rattle.momenta.specs.declared.mass.MassData.{MassData};
 ghost use Rattle.momenta.specs.declared.motion.Motion.{Motion};
 ghost use Rattle.momenta.specs.Gains.{IsGain};
 ghost use Rattle.momenta.specs.Reciprocals.{reciprocals_of};
-ghost use Rattle.colour_solver.specs.States.{AreSameStates, HaveReciprocals, movers_of, total_x, total_y};
-ghost use Rattle.colour_solver.specs.Passes.{OnMover, OnMovers, changed, gain_x, gain_y, one_gain_x, one_gain_y, pass};
+ghost use Rattle.colour_solver.specs.States.{AreSameStates, HaveReciprocals, as_vector, movers_of};
+ghost use Rattle.colour_solver.specs.Passes.{OnMover, OnMovers, changed, gain, one_gain, pass};
 
 use body_handles::MAX_SLOTS;
 use momenta::{BodyState, Gain, MassData, Motion, NOTHING, Reciprocals, gain_between, plus};
@@ -44,10 +44,8 @@ fn change_body<A: Change, B: Change>(body: &mut BodyState, first: &A, second: &B
     requires meets { (m : MassData) (s : Motion) → A.gives first.now m s → B.fits second.now m s }
     requires small { OnMover (λ m s. IsWithin (2 ^ 61) s.p) body.old }
     ensures body { body.new ≡ changed (B.after second.now) (changed (A.after first.now) body.old) }
-    ensures first_x { result.first.x ≡ one_gain_x (A.after first.now) body.old }
-    ensures first_y { result.first.y ≡ one_gain_y (A.after first.now) body.old }
-    ensures second_x { result.second.x ≡ one_gain_x (B.after second.now) (changed (A.after first.now) body.old) }
-    ensures second_y { result.second.y ≡ one_gain_y (B.after second.now) (changed (A.after first.now) body.old) }
+    ensures first { as_vector result.first ≡ one_gain (A.after first.now) body.old }
+    ensures second { as_vector result.second ≡ one_gain (B.after second.now) (changed (A.after first.now) body.old) }
     ensures small_first { IsGain (2 ^ 62) result.first }
     ensures small_second { IsGain (2 ^ 62) result.second }
     ensures gives { OnMover (B.gives second.now) body.new }
@@ -82,10 +80,8 @@ pub fn pass_two<A: Change, B: Change>(
     requires meets { (m : MassData) (s : Motion) → A.gives first.now m s → B.fits second.now m s }
     requires small { OnMovers (λ m s. IsWithin (2 ^ 61) s.p) states.old.items }
     ensures states { states.new.items ≡ pass (B.after second.now) (pass (A.after first.now) states.old.items) }
-    ensures first_x { result.first.x ≡ gain_x (A.after first.now) states.old.items }
-    ensures first_y { result.first.y ≡ gain_y (A.after first.now) states.old.items }
-    ensures second_x { result.second.x ≡ gain_x (B.after second.now) (pass (A.after first.now) states.old.items) }
-    ensures second_y { result.second.y ≡ gain_y (B.after second.now) (pass (A.after first.now) states.old.items) }
+    ensures first { as_vector result.first ≡ gain (A.after first.now) states.old.items }
+    ensures second { as_vector result.second ≡ gain (B.after second.now) (pass (A.after first.now) states.old.items) }
     ensures small_first { IsGain (2 ^ 78) result.first }
     ensures small_second { IsGain (2 ^ 78) result.second }
     ensures gives { OnMovers (B.gives second.now) states.new.items }

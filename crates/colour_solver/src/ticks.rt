@@ -1,12 +1,12 @@
 //! The ticks of a step, and the restitution that ends it.
 
-ghost use Rattle.std.specs.Prelude.{◌≡◌, ℕ, ◌^◌, ◌*◌, ◌+◌, ◌≤◌, ◌+ℤ◌, length, map};
-ghost use Rattle.fixed_geom.specs.Vectors.{IsWithin};
+ghost use Rattle.std.specs.Prelude.{◌≡◌, ℕ, ◌^◌, ◌*◌, ◌+◌, ◌≤◌, length, map};
+ghost use Rattle.fixed_geom.specs.Vectors.{IsWithin, plus};
 ghost use Rattle.momenta.specs.Motions.{pulled, clamped, advanced, IsMotion};
-ghost use Rattle.colour_solver.specs.States.{AreAllStates, AreSameBeside, HaveCourses, carried_of, movers_of, total_x, total_y};
+ghost use Rattle.colour_solver.specs.States.{AreAllStates, AreSameBeside, HaveCourses, carried_of, movers_of, total};
 ghost use Rattle.colour_solver.specs.ColourRows.{all_rows};
 ghost use Rattle.colour_solver.specs.ConstraintTurns.{AreRowsBelow};
-ghost use Rattle.colour_solver.specs.Ticks.{AreSums, CanLimit, CanMove, CanPull, added_x, added_y, ran, run_of, start, tick, ticks};
+ghost use Rattle.colour_solver.specs.Ticks.{AreSums, CanLimit, CanMove, CanPull, added, ran, run_of, start, tick, ticks};
 
 use crate::courses::carry_along;
 use crate::{Bounce, Change, Rows, Solve, Warm, pass_two};
@@ -105,8 +105,7 @@ fn tick(
     ensures same { AreSameBeside states.old.items states.new.items }
     ensures courses { HaveCourses states.new.items }
     ensures grown { (n : ℕ) → AreSums n sums → AreSums (n + 3 * 2 ^ 78) result }
-    ensures momentum_x { total_x states.new.items +ℤ added_x sums ≡ total_x states.old.items +ℤ added_x result }
-    ensures momentum_y { total_y states.new.items +ℤ added_y sums ≡ total_y states.old.items +ℤ added_y result }
+    ensures momentum { plus (total states.new.items) (added sums) ≡ plus (total states.old.items) (added result) }
 {
     let fallen = pass_two(states, awake, &Pull { gravity }, &Limit);
     let warm = rows.pass(states, &Warm, &Warm);
@@ -155,8 +154,7 @@ pub fn run_step(
     ensures same { AreSameBeside states.old.items states.new.items }
     ensures courses { HaveCourses states.new.items }
     ensures small { AreSums (2 ^ 83) result }
-    ensures momentum_x { total_x states.new.items ≡ total_x states.old.items +ℤ added_x result }
-    ensures momentum_y { total_y states.new.items ≡ total_y states.old.items +ℤ added_y result }
+    ensures momentum { total states.new.items ≡ plus (total states.old.items) (added result) }
 {
     let mut sums = StepSums {
         gravity: NOTHING,

@@ -1,16 +1,16 @@
 //! Rows that take turns: each row's two bodies take its turn, one row after another, in solve order.
 
-ghost use Rattle.std.specs.Prelude.{◌≡◌, ◌≢◌, ◌^◌, ◌<◌, ◌≤◌, true, None, length, take, drop, ◌+ℤ◌, ◌-ℤ◌, IfSome};
+ghost use Rattle.std.specs.Prelude.{◌≡◌, ◌≢◌, ◌^◌, ◌<◌, ◌≤◌, true, None, length, take, drop, IfSome};
 ghost use Rattle.momenta.specs.declared.state.Ends.{Ends};
 ghost use Rattle.momenta.specs.Impulses.{AreStates, AreSameBodies, IsMomentumKept, IsSameBody, IsState};
 ghost use Rattle.momenta.specs.Line64.{with_momenta};
 ghost use Rattle.momenta.specs.Gains.{IsGain};
 ghost use Rattle.colour_solver_base.specs.RowsAfter.{RowAfter};
 ghost use Rattle.colour_solver_base.specs.Row64.{both_ends};
-ghost use Rattle.fixed_geom.specs.Vectors.{IsWithin};
+ghost use Rattle.fixed_geom.specs.Vectors.{IsWithin, minus, plus};
 ghost use Rattle.colour_solver.specs.Colour.{ColoursAreAtOnce};
-ghost use Rattle.colour_solver.specs.States.{AreAllStates, AreSameStates, total_x, total_y};
-ghost use Rattle.colour_solver.specs.Turns.{AreRowsOn, IsPassed, IsRowOn, IsTurn64, after, between, ends_of, got_by, got_x, got_y, narrow_ends, turn_of, with_ends};
+ghost use Rattle.colour_solver.specs.States.{AreAllStates, AreSameStates, as_vector, total};
+ghost use Rattle.colour_solver.specs.Turns.{AreRowsOn, IsPassed, IsRowOn, IsTurn64, after, between, ends_64, ends_of, got, got_by, turn_of, with_ends};
 
 use body_handles::MAX_SLOTS;
 use fixed_geom::Vec2;
@@ -48,7 +48,7 @@ pub trait Turn<R: Row> {
 
     /// The same turn in 64 bits, where there is room: it is written into the row, and the momenta that the two bodies then have are
     /// the answer. Where there is none, the row stays as it is.
-    fn narrow(&self, row: &mut R, a: &BodyState, b: &BodyState) -> Option<MomentaPair64>
+    fn turn_64(&self, row: &mut R, a: &BodyState, b: &BodyState) -> Option<MomentaPair64>
         requires row { R.is_row row.old }
         requires first { IsState a.now }
         requires second { IsState b.now }
@@ -74,8 +74,7 @@ fn got(a: &BodyState, b: &BodyState, p: Vec2, q: Vec2) -> Gain
     requires second { IsState b.now }
     requires p { IsWithin (2 ^ 60) p }
     requires q { IsWithin (2 ^ 60) q }
-    ensures x { result.x ≡ got_by a.now.movable b.now.movable (p.x -ℤ a.now.motion.p.x) (q.x -ℤ b.now.motion.p.x) }
-    ensures y { result.y ≡ got_by a.now.movable b.now.movable (p.y -ℤ a.now.motion.p.y) (q.y -ℤ b.now.motion.p.y) }
+    ensures value { as_vector result ≡ got_by a.now.movable b.now.movable (minus p a.now.motion.p) (minus q b.now.motion.p) }
     ensures small { IsGain (2 ^ 62) result }
 {
     if a.movable {
@@ -109,14 +108,12 @@ fn turn_bodies<R: Row, T: Turn<R>>(states: &mut Vec<BodyState>, row: &mut R, tur
     requires row { IsRowOn R.slots R.is_row (length states.old.items) row.old }
     ensures states { states.new.items ≡ after R.slots (T.turn turn.now) states.old.items row.old }
     ensures row { row.new ≡ (turn_of R.slots (T.turn turn.now) states.old.items row.old).row }
-    ensures x { result.x ≡ got_x (ends_of R.slots states.old.items row.old) (turn_of R.slots (T.turn turn.now) states.old.items row.old).ends }
-    ensures y { result.y ≡ got_y (ends_of R.slots states.old.items row.old) (turn_of R.slots (T.turn turn.now) states.old.items row.old).ends }
+    ensures got { as_vector result ≡ got (ends_of R.slots states.old.items row.old) (turn_of R.slots (T.turn turn.now) states.old.items row.old).ends }
     ensures all_states { AreAllStates states.new.items }
     ensures below { IsRowOn R.slots R.is_row (length states.new.items) row.new }
     ensures long { length states.new.items ≡ length states.old.items }
     ensures same { AreSameStates states.old.items states.new.items }
-    ensures momentum_x { total_x states.new.items ≡ total_x states.old.items +ℤ result.x }
-    ensures momentum_y { total_y states.new.items ≡ total_y states.old.items +ℤ result.y }
+    ensures momentum { total states.new.items ≡ plus (total states.old.items) (as_vector result) }
     ensures small { IsGain (2 ^ 62) result }
 {
     let slots = row.slots();
@@ -135,7 +132,7 @@ fn turn_bodies<R: Row, T: Turn<R>>(states: &mut Vec<BodyState>, row: &mut R, tur
 
 /// Puts these momenta into a body.
 #[inline(always)]
-fn put_narrow(body: &mut BodyState, now: Momenta64)
+fn put_64(body: &mut BodyState, now: Momenta64)
     ensures { body.new ≡ with_momenta body.old now }
 {
     body.motion.p = now.p;
@@ -149,23 +146,22 @@ fn put_turn(states: &mut Vec<BodyState>, slots: Slots, now: MomentaPair64) -> Ga
     requires first { slots.a < length states.old.items }
     requires second { slots.b < length states.old.items }
     requires apart { slots.a ≢ slots.b }
-    requires after { AreStates (narrow_ends (λ s. s) states.old.items slots now) }
-    ensures states { states.new.items ≡ with_ends (λ s. s) states.old.items slots (narrow_ends (λ s. s) states.old.items slots now) }
-    ensures x { result.x ≡ got_x (ends_of (λ s. s) states.old.items slots) (narrow_ends (λ s. s) states.old.items slots now) }
-    ensures y { result.y ≡ got_y (ends_of (λ s. s) states.old.items slots) (narrow_ends (λ s. s) states.old.items slots now) }
+    requires after { AreStates (ends_64 (λ s. s) states.old.items slots now) }
+    ensures states { states.new.items ≡ with_ends (λ s. s) states.old.items slots (ends_64 (λ s. s) states.old.items slots now) }
+    ensures got { as_vector result ≡ got (ends_of (λ s. s) states.old.items slots) (ends_64 (λ s. s) states.old.items slots now) }
     ensures small { IsGain (2 ^ 62) result }
 {
     let a = slots.a as usize;
     let b = slots.b as usize;
     let given = got(&states[a], &states[b], now.a.p, now.b.p);
-    put_narrow(&mut states[a], now.a);
-    put_narrow(&mut states[b], now.b);
+    put_64(&mut states[a], now.a);
+    put_64(&mut states[b], now.b);
     given
 }
 
 /// The turn of one row in 64 bits, where there is room.
 #[inline(always)]
-fn narrow_turn<R: Row, T: Turn<R>>(
+fn turn_row_64<R: Row, T: Turn<R>>(
     states: &[BodyState],
     row: &mut R,
     turn: &T,
@@ -177,7 +173,7 @@ fn narrow_turn<R: Row, T: Turn<R>>(
     ensures none { result ≡ None → row.new ≡ row.old }
 {
     let slots = row.slots();
-    turn.narrow(row, &states[slots.a as usize], &states[slots.b as usize])
+    turn.turn_64(row, &states[slots.a as usize], &states[slots.b as usize])
 }
 
 /// The turn of one row with its two bodies among `states`, as the definition has it. Answers what an immovable body has given
@@ -188,21 +184,19 @@ pub fn solve_one<R: Row, T: Turn<R>>(states: &mut Vec<BodyState>, row: &mut R, t
     requires row { IsRowOn R.slots R.is_row (length states.old.items) row.old }
     ensures states { states.new.items ≡ after R.slots (T.turn turn.now) states.old.items row.old }
     ensures row { row.new ≡ (turn_of R.slots (T.turn turn.now) states.old.items row.old).row }
-    ensures x { result.x ≡ got_x (ends_of R.slots states.old.items row.old) (turn_of R.slots (T.turn turn.now) states.old.items row.old).ends }
-    ensures y { result.y ≡ got_y (ends_of R.slots states.old.items row.old) (turn_of R.slots (T.turn turn.now) states.old.items row.old).ends }
+    ensures got { as_vector result ≡ got (ends_of R.slots states.old.items row.old) (turn_of R.slots (T.turn turn.now) states.old.items row.old).ends }
     ensures all_states { AreAllStates states.new.items }
     ensures below { IsRowOn R.slots R.is_row (length states.new.items) row.new }
     ensures long { length states.new.items ≡ length states.old.items }
     ensures same { AreSameStates states.old.items states.new.items }
-    ensures momentum_x { total_x states.new.items ≡ total_x states.old.items +ℤ result.x }
-    ensures momentum_y { total_y states.new.items ≡ total_y states.old.items +ℤ result.y }
+    ensures momentum { total states.new.items ≡ plus (total states.old.items) (as_vector result) }
     ensures small { IsGain (2 ^ 62) result }
 {
     if turn.is_idle(row) {
         return NOTHING;
     }
     let slots = row.slots();
-    match narrow_turn(states, row, turn) {
+    match turn_row_64(states, row, turn) {
         None => turn_bodies(states, row, turn),
         Some(now) => put_turn(states, slots, now),
     }
@@ -223,7 +217,7 @@ pub fn pass_rows<R: Row, T: Turn<R>>(
     requires rows { AreRowsOn R.slots R.is_row (length states.old.items) rows.old.items }
     requires ascend { start ≤ end }
     requires inside { end ≤ length rows.old.items }
-    ensures passed { IsPassed R.slots R.is_row (T.turn turn.now) states.old.items (between start end rows.old.items) states.new.items (between start end rows.new.items) result.x result.y }
+    ensures passed { IsPassed R.slots R.is_row (T.turn turn.now) states.old.items (between start end rows.old.items) states.new.items (between start end rows.new.items) (as_vector result) }
     ensures before { take start rows.new.items ≡ take start rows.old.items }
     ensures behind { drop end rows.new.items ≡ drop end rows.old.items }
     ensures as_many { length rows.new.items ≡ length rows.old.items }

@@ -1,15 +1,15 @@
 -- A book that begins with its sums.
-use Rattle.std.proofs.Common.{◌≡◌, ◌≤◌, ◌+ℤ◌, ℤ, ℕ, pos, List, [], unsigned_abs, arith, ap, ◌∙◌, sym, subst}
+use Rattle.std.proofs.Common.{◌≡◌, ◌≤◌, ◌+ℤ◌, ℤ, ℕ, List, [], unsigned_abs, arith, ap, ◌∙◌}
 use Rattle.std.specs.Int.{w128, int_wrap}
-use Rattle.std.proofs.lemmas.Int.{ints, int_wrap-add_left, int_wrap_fits, fits_signed_from_abs}
+use Rattle.std.proofs.lemmas.Int.{int_wrap-add_left, int_wrap_fits, fits_signed_from_abs}
 use Rattle.impulse_ledger.specs.declared.limits.TheConstants.{MAX_TOTAL}
-use Rattle.impulse_ledger.specs.declared.entry.Cause.{Cause}
 use Rattle.impulse_ledger.specs.declared.entry.Entry.{Entry}
 use Rattle.impulse_ledger.specs.declared.totals.Total.{Total}
 use Rattle.impulse_ledger.specs.declared.totals.Totals.{Totals}
-use Rattle.impulse_ledger.specs.Totals.{total_in}
+use Rattle.impulse_ledger.specs.Totals.{total_over}
 use Rattle.impulse_ledger.specs.Sums.{book_of, IsKept}
-use Rattle.impulse_ledger.specs.Given.{AreTotalsWithin, total_over}
+use Rattle.impulse_ledger.specs.Given.{AreTotalsWithin}
+use Rattle.impulse_ledger.proofs.SumLemmas.{zero-sum_of}
 
 -- a sum that is in its range, however far the sums on the way to it are beyond
 pub wrapped_six : (a b c d e f : ℤ) → unsigned_abs (a +ℤ b +ℤ c +ℤ d +ℤ e +ℤ f) ≤ MAX_TOTAL
@@ -23,6 +23,6 @@ wrapped_six a b c d e f h =
 -- the sums are those of the book
 pub kept_given : (t : Totals) (all : Total) (entries : List Entry) (room : ℕ) → AreTotalsWithin t → entries ≡ [] → all ≡ total_over t → IsKept (book_of entries t room) t all
 kept_given t all entries room within none same = rw (none, same) (record {
-  whole = record { x_is = omega (arith, ints); y_is = omega (arith, ints); x_small = within.x; y_small = within.y };
-  each = λ cause. record { x_is = omega (arith, ints); y_is = omega (arith, ints); x_small = within.causes_x cause; y_small = within.causes_y cause };
+  whole = record { is = zero-sum_of _; x_small = within.x; y_small = within.y };
+  each = λ cause. record { is = zero-sum_of _; x_small = within.causes_x cause; y_small = within.causes_y cause };
 })

@@ -5,11 +5,7 @@ use Rattle.impulse_ledger.specs.declared.limits.TheConstants.{MAX_TOTAL, MAX_TOT
 use Rattle.impulse_ledger.specs.declared.entry.Cause.{Cause}
 use Rattle.impulse_ledger.specs.declared.totals.Total.{Total}
 use Rattle.impulse_ledger.specs.declared.totals.Totals.{Totals}
-use Rattle.impulse_ledger.specs.Totals.{total_in, over_causes}
-
--- the sum over the six causes
-abbrev pub total_over : Totals → Total
-total_over t = record { x = over_causes (λ cause. (total_in cause t).x); y = over_causes (λ cause. (total_in cause t).y) }
+use Rattle.impulse_ledger.specs.Totals.{total_in, total_over}
 
 -- the sum over the causes and that of each are in their ranges
 pub record AreTotalsWithin (t : Totals) : Type 0 where

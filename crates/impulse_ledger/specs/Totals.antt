@@ -1,5 +1,5 @@
 -- Sums of impulses for each cause.
-use Rattle.std.specs.Prelude.{ℤ, pos, ◌+ℤ◌}
+use Rattle.std.specs.Prelude.{pos, ◌+ℤ◌}
 use Rattle.impulse_ledger.specs.declared.entry.Cause.{Cause}
 use Rattle.impulse_ledger.specs.declared.entry.Cause.TheVariants.{Command, Gravity, Immovable, Clamp, Rest, Departed}
 use Rattle.impulse_ledger.specs.declared.entry.Entry.{Entry}
@@ -45,5 +45,8 @@ put_total t Rest total = record t { rest = total }
 put_total t Departed total = record t { departed = total }
 
 -- the sum over the six causes
-abbrev pub over_causes : (Cause → ℤ) → ℤ
-over_causes f = f Command +ℤ f Gravity +ℤ f Immovable +ℤ f Clamp +ℤ f Rest +ℤ f Departed
+abbrev pub over_causes : (Cause → Total) → Total
+over_causes f = sum_of (sum_of (sum_of (sum_of (sum_of (f Command) (f Gravity)) (f Immovable)) (f Clamp)) (f Rest)) (f Departed)
+
+abbrev pub total_over : Totals → Total
+total_over t = over_causes (λ cause. total_in cause t)

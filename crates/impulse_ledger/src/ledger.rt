@@ -5,7 +5,7 @@ mod from_totals;
 ghost use Rattle.std.specs.Prelude.{◌≡◌, ◌+◌, ◌≤◌, ◌^◌, unsigned_abs, [], ◌∷◌, ◌++◌, OnOk, OnErr, IfOk, IsOk};
 ghost use Rattle.std.specs.Result.{IsOkUnless};
 ghost use Rattle.impulse_ledger.specs.Totals.{zero_totals};
-ghost use Rattle.impulse_ledger.specs.Sums.{total_x, total_y, total_of_x, total_of_y, totals_of, Fits, HaveSameTotals};
+ghost use Rattle.impulse_ledger.specs.Sums.{total, total_of, totals_of, Fits, HaveSameTotals};
 
 use crate::entry::{Cause, Entry};
 use crate::limits::{MAX_TOTAL, MAX_TOTAL_OF_CAUSE};
@@ -116,8 +116,7 @@ impl Ledger {
 
     /// The sum of all entries and of what was settled.
     pub fn total(&self) -> Total
-        ensures x { result.x ≡ total_x self.now }
-        ensures y { result.y ≡ total_y self.now }
+        ensures value { result ≡ total self.now }
         ensures x_small { unsigned_abs result.x ≤ MAX_TOTAL }
         ensures y_small { unsigned_abs result.y ≤ MAX_TOTAL }
     {
@@ -126,8 +125,7 @@ impl Ledger {
 
     /// The sum of the entries of one cause, and of what was settled of it.
     pub fn total_of(&self, cause: Cause) -> Total
-        ensures x { result.x ≡ total_of_x cause self.now }
-        ensures y { result.y ≡ total_of_y cause self.now }
+        ensures value { result ≡ total_of cause self.now }
         ensures x_small { unsigned_abs result.x ≤ MAX_TOTAL_OF_CAUSE }
         ensures y_small { unsigned_abs result.y ≤ MAX_TOTAL_OF_CAUSE }
     {

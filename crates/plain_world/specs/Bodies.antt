@@ -1,5 +1,5 @@
--- Bodies: which are movers, where each stands, what may be made, and the movers' momentum.
-use Rattle.std.specs.Prelude.{◌≡◌, ℕ, ◌^◌, Bool, true, false, ◌&&◌, ◌||◌, cond, All, List, [], ◌∷◌, Option, Some, None, ℤ, pos, ◌+ℤ◌, slice_get}
+-- Bodies: which are movers, where each stands, and what may be made.
+use Rattle.std.specs.Prelude.{◌≡◌, ℕ, ◌^◌, Bool, true, false, ◌&&◌, ◌||◌, cond, All, List, Option, Some, None, pos, slice_get}
 use Rattle.std.specs.Option.{is_none}
 use Rattle.std.specs.Ordering.{int_eq}
 use Rattle.fixed_geom.specs.Vectors.{IsWithin, is_within}
@@ -128,21 +128,3 @@ pub record IsBody (b : Body) : Type 0 where
 
 abbrev pub AreBodies : List (Option Body) → Type 0
 AreBodies bodies = (slot : ℕ) (b : Body) → slice_get bodies slot ≡ Some (Some b) → IsBody b
-
--- ---- the movers' momentum
-
-abbrev pub p_x : Option Body → ℤ
-p_x None = pos 0
-p_x (Some b) = cond (is_mover b) b.motion.p.x (pos 0)
-
-abbrev pub p_y : Option Body → ℤ
-p_y None = pos 0
-p_y (Some b) = cond (is_mover b) b.motion.p.y (pos 0)
-
-abbrev pub momentum_x : List (Option Body) → ℤ
-momentum_x [] = pos 0
-momentum_x (o ∷ bodies) = p_x o +ℤ momentum_x bodies
-
-abbrev pub momentum_y : List (Option Body) → ℤ
-momentum_y [] = pos 0
-momentum_y (o ∷ bodies) = p_y o +ℤ momentum_y bodies

@@ -11,3 +11,4 @@ pub mod Placement
 pub mod Plain
 pub mod Presets
 pub mod Shown
+pub mod Momentum

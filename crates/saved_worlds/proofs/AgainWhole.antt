@@ -11,10 +11,11 @@ use Rattle.graph_colours.specs.Colours.{all_members}
 use Rattle.graph_colours.specs.Members.{AreRising}
 use Rattle.graph_colours.specs.declared.limits.TheConstants.{COLOURS}
 use Rattle.graph_colours.specs.declared.member.Member.{Member}
-use Rattle.impulse_ledger.proofs.SumLemmas.{over_causes-total_of_x, over_causes-total_of_y}
+use Rattle.impulse_ledger.specs.Totals.{total_over}
+use Rattle.impulse_ledger.proofs.SumLemmas.{over_causes-total_of, same_x, same_y}
 use Rattle.islands.specs.Links.{Linked}
 use Rattle.islands.specs.Partition.{AreIslands}
-use Rattle.plain_world.specs.Bodies.{momentum_x, momentum_y}
+use Rattle.plain_world.specs.Momentum.{momentum}
 use Rattle.plain_world.specs.Plain.{colour_of}
 use Rattle.plain_world.specs.declared.joint.BodyJoint.{BodyJoint}
 use Rattle.saved_values.specs.Asks.{asked}
@@ -29,7 +30,7 @@ use Rattle.solver_sets.specs.Ties.{Bond, joint_bonds}
 use Rattle.solver_sets.proofs.ListLaws.{mapped_in, rises_from_pairs}
 use Rattle.solver_sets.proofs.TieLaws.{tie_number}
 use Rattle.world_file.specs.Files.{plain_of}
-use Rattle.world_file.specs.Fitting.{are_apart, are_joints_colourless, are_named_well, are_rising_after, are_whole, colours_below, colours_keep, components_of, entry_of, fitting_asks, is_coloured_well, is_contact_colourless, is_contact_fitting, is_joint_fitting, is_tie_kept, joint_kept, members_of, momentum_keeps, references_keep, sum_x, sum_y, ties_of}
+use Rattle.world_file.specs.Fitting.{are_apart, are_joints_colourless, are_named_well, are_rising_after, are_whole, colours_below, colours_keep, components_of, entry_of, fitting_asks, is_coloured_well, is_contact_colourless, is_contact_fitting, is_joint_fitting, is_tie_kept, joint_kept, members_of, momentum_keeps, references_keep, ties_of}
 use Rattle.world_file.specs.Saved.{Saved}
 use Rattle.world_file.specs.declared.ties.Tie.{Tie}
 use Rattle.world_rules.specs.Sets.{acting_of}
@@ -156,11 +157,11 @@ colours w h =
 equal_is : (a b : ℤ) → a ≡ b → int_eq a b ≡ true
 equal_is a b e = (Decides-int_eq a b).1 e
 
-momentum : (w : World) → IsSound w → momentum_keeps (saved w) ≡ true
-momentum w h =
-    both_hold (int_eq (momentum_x w.plain.bodies) (sum_x (totals_in w))) (int_eq (momentum_y w.plain.bodies) (sum_y (totals_in w)))
-    (equal_is (momentum_x w.plain.bodies) (sum_x (totals_in w)) (h.promises.total_x ∙ sym (over_causes-total_of_x (book_of w))))
-    (equal_is (momentum_y w.plain.bodies) (sum_y (totals_in w)) (h.promises.total_y ∙ sym (over_causes-total_of_y (book_of w))))
+momentum_again : (w : World) → IsSound w → momentum_keeps (saved w) ≡ true
+momentum_again w h =
+    both_hold (int_eq (momentum w.plain.bodies).x (total_over (totals_in w)).x) (int_eq (momentum w.plain.bodies).y (total_over (totals_in w)).y)
+    (equal_is (momentum w.plain.bodies).x (total_over (totals_in w)).x (h.promises.total_x ∙ sym (same_x (over_causes-total_of (book_of w)))))
+    (equal_is (momentum w.plain.bodies).y (total_over (totals_in w)).y (h.promises.total_y ∙ sym (same_y (over_causes-total_of (book_of w)))))
 
 pub fits : (w : World) → IsSound w → AreFitting (saved w)
 fits w h = record {
@@ -169,7 +170,7 @@ fits w h = record {
   links = links w h;
   whole = wholes w h;
   colours = colours w h;
-  momentum = momentum w h;
+  momentum = momentum_again w h;
 }
 
 plain_again : (w : World) → IsSound w → plain_of (saved w) ≡ w.plain

@@ -20,7 +20,7 @@ use Rattle.contacts_base.specs.Limits.{IsContactPoint}
 use Rattle.contacts_base.specs.declared.contact.ContactEntry.{ContactEntry}
 use Rattle.contacts_base.specs.declared.contact.ContactPoint.{ContactPoint}
 use Rattle.graph_colours.specs.declared.member.Member.{Member}
-use Rattle.impulse_ledger.specs.Sums.{total_with}
+use Rattle.impulse_ledger.specs.Sums.{total_of}
 use Rattle.impulse_ledger.specs.declared.entry.Cause.{Cause}
 use Rattle.impulse_ledger.specs.declared.entry.Cause.TheVariants as causes
 use Rattle.impulse_ledger.specs.declared.totals.Totals.{Totals}
@@ -232,7 +232,7 @@ joints_by w h slot (p ∷ ps) (o ∷ os) e all taken are = (
 
 -- ---- all of it
 
-small_total : (w : World) → HasSmallTotals w → (cause : Cause) → IsSmallTotal (total_with cause (book_of w))
+small_total : (w : World) → HasSmallTotals w → (cause : Cause) → IsSmallTotal (total_of cause (book_of w))
 small_total w small cause = record { x = small.x cause; y = small.y cause }
 
 small_totals : (w : World) → HasSmallTotals w → AreSmallTotals (totals_in w)

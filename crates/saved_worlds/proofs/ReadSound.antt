@@ -16,11 +16,12 @@ use Rattle.graph_colours.specs.Colours.{ids_of}
 use Rattle.graph_colours.specs.Members.{AreRising}
 use Rattle.graph_colours.specs.declared.limits.TheConstants.{COLOURS}
 use Rattle.graph_colours.specs.declared.member.Member.{Member}
-use Rattle.impulse_ledger.specs.Totals.{total_in}
+use Rattle.impulse_ledger.specs.Totals.{total_in, total_over}
 use Rattle.impulse_ledger.specs.declared.totals.Totals.{Totals}
 use Rattle.islands.specs.Labels.{Labels}
 use Rattle.islands.specs.Partition.{AreTogether}
-use Rattle.plain_world.specs.Bodies.{AreBodies, momentum_x, momentum_y}
+use Rattle.plain_world.specs.Bodies.{AreBodies}
+use Rattle.plain_world.specs.Momentum.{momentum}
 use Rattle.plain_world.specs.Formed.{AreFiltered, HasFilter}
 use Rattle.plain_world.specs.Plain.{Plain}
 use Rattle.plain_world.specs.Slots.{body_at, item_in}
@@ -37,7 +38,7 @@ use Rattle.solver_sets.specs.Ties.{slots_of}
 use Rattle.solver_sets.proofs.ListLaws.{Rises, in_mapped, mapped_in, pairs_from_rises, rises_from_pairs}
 use Rattle.solver_sets.proofs.TieLaws.{tie_number}
 use Rattle.world_file.specs.Files.{broken_by, plain_of, read_of, read_unless}
-use Rattle.world_file.specs.Fitting.{are_apart, are_joints_colourless, are_rising_after, colours_below, entry_of, ids_below, is_coloured_well, is_contact_colourless, is_contact_fitting, is_joint_fitting, is_tie_kept, joint_kept, label_of, members_of, membership_at, sum_x, sum_y, ties_of}
+use Rattle.world_file.specs.Fitting.{are_apart, are_joints_colourless, are_rising_after, colours_below, entry_of, ids_below, is_coloured_well, is_contact_colourless, is_contact_fitting, is_joint_fitting, is_tie_kept, joint_kept, label_of, members_of, membership_at, ties_of}
 use Rattle.world_file.specs.Saved.{Saved, parts_asks, saved_in}
 use Rattle.world_file.specs.declared.ties.Tie.{Tie}
 use Rattle.world_rules.specs.Sets.{acting_of}
@@ -134,10 +135,10 @@ causes_small s h = record {
   y = λ cause. small_plus (total_in cause s.totals).y s.calls (h.totals cause).y;
 }
 
-momentum_is : (s : Saved) → AreFitting s → (momentum_x s.bodies ≡ sum_x s.totals) × (momentum_y s.bodies ≡ sum_y s.totals)
+momentum_is : (s : Saved) → AreFitting s → ((momentum s.bodies).x ≡ (total_over s.totals).x) × ((momentum s.bodies).y ≡ (total_over s.totals).y)
 momentum_is s f =
-    let o = both_true (int_eq (momentum_x s.bodies) (sum_x s.totals)) (int_eq (momentum_y s.bodies) (sum_y s.totals)) f.momentum in
-    (equal_z (momentum_x s.bodies) (sum_x s.totals) o.0, equal_z (momentum_y s.bodies) (sum_y s.totals) o.1)
+    let o = both_true (int_eq (momentum s.bodies).x (total_over s.totals).x) (int_eq (momentum s.bodies).y (total_over s.totals).y) f.momentum in
+    (equal_z (momentum s.bodies).x (total_over s.totals).x o.0, equal_z (momentum s.bodies).y (total_over s.totals).y o.1)
 
 -- ---- joints and contacts
 
@@ -222,8 +223,8 @@ kept_is s h f =
     let matched = bodies_matched (8 * s.steps) s.places s.bodies s.memberships h.bodies h.few_bodies in
     let slots = joint_slots_are s h in
     record {
-      total_x = momentum.0 ∙ plus_none (sum_x s.totals);
-      total_y = momentum.1 ∙ plus_none (sum_y s.totals);
+      total_x = momentum.0 ∙ plus_none (total_over s.totals).x;
+      total_y = momentum.1 ∙ plus_none (total_over s.totals).y;
       causes = causes_small s h;
       bodies = bodies_are s h;
       filters = filters_are s h;

@@ -11,7 +11,7 @@ use Rattle.body_handles.specs.Places.{is_open, lowest}
 use Rattle.body_handles.proofs.LowestLemmas.{no_place}
 use Rattle.body_handles.specs.declared.places.TheConstants.{MAX_SLOTS}
 use Rattle.plain_world.specs.declared.body.Body.{Body}
-use Rattle.plain_world.specs.Bodies.{is_mover, IsBody, AreBodies, p_x, p_y, momentum_x, momentum_y}
+use Rattle.plain_world.specs.Bodies.{is_mover, IsBody, AreBodies}
 use Rattle.plain_world.specs.Slots.{body_at, item_at, shapes_in, is_taken, AreMatched, HaveSameSlots}
 
 -- ---- the slots

@@ -18,8 +18,8 @@ use Rattle.fixed_geom.specs.declared.vectors.Vec2.{Vec2}
 use Rattle.graph_colours.specs.Colours.{all_members, ids_of}
 use Rattle.graph_colours.specs.declared.limits.TheConstants.{COLOURS}
 use Rattle.graph_colours.specs.declared.member.Member.{Member}
-use Rattle.impulse_ledger.specs.Given.{AreTotalsWithin, total_over}
-use Rattle.impulse_ledger.specs.Totals.{total_in}
+use Rattle.impulse_ledger.specs.Given.{AreTotalsWithin}
+use Rattle.impulse_ledger.specs.Totals.{total_in, total_over}
 use Rattle.impulse_ledger.specs.declared.entry.Entry.{Entry}
 use Rattle.impulse_ledger.specs.declared.totals.Totals.{Totals}
 use Rattle.islands.specs.Labels.{Labels}

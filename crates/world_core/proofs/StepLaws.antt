@@ -1,13 +1,15 @@
 -- A step's calls, one after another: what each asks for, and that what they leave together is the world that is due.
 use Rattle.std.proofs.Common.{◌≡◌, ℕ, suc, ◌+◌, ◌<◌, ◌≤◌, ◌^◌, ◌++◌, Bool, true, cond, List, [], ◌∷◌, length, map, Option, Result, Ok, Err, ℤ, pos, ◌+ℤ◌, unsigned_abs, refl, sym, ap, ◌∙◌, subst, arith}
 use Rattle.std.specs.Result.{IsErr, IsErrAnd}
+use Rattle.fixed_geom.specs.Vectors.{plus}
+use Rattle.fixed_geom.specs.declared.vectors.Vec2.{Vec2}
 use Rattle.fixed_geom.specs.declared.refusal.Refusal.{Refusal}
 use Rattle.fixed_geom.specs.declared.refusal.Refusal.TheVariants.{NoMemory, OutOfRange}
 use Rattle.std.specs.List.Sorted.{IsStrictlyIncreasing}
 use Rattle.body_handles.specs.declared.handle.Handle.{Handle}
 use Rattle.body_handles.specs.declared.places.TheConstants.{MAX_SLOTS}
 use Rattle.colour_solver.specs.declared.ticks.StepSums.{StepSums}
-use Rattle.colour_solver.specs.Ticks.{AreSums, Run, added_x, added_y, ran, start}
+use Rattle.colour_solver.specs.Ticks.{AreSums, Run, added, ran, start}
 use Rattle.contacts.specs.Constraints.{constraint_number}
 use Rattle.contacts.specs.declared.constraint.Constraint.{Constraint}
 use Rattle.contacts_base.specs.Contacts.{AreKeysRising}
@@ -19,7 +21,8 @@ use Rattle.impulse_ledger.specs.declared.entry.Cause.TheVariants as causes
 use Rattle.islands.specs.Labels.{Labels}
 use Rattle.plain_world.specs.declared.body.Body.{Body}
 use Rattle.plain_world.specs.declared.joint.BodyJoint.{BodyJoint}
-use Rattle.plain_world.specs.Bodies.{AreBodies, momentum_x, momentum_y}
+use Rattle.plain_world.specs.Bodies.{AreBodies}
+use Rattle.plain_world.specs.Momentum.{momentum}
 use Rattle.plain_world.specs.Joints.{AreJoints}
 use Rattle.plain_world.specs.Sleep.{AreTimersWithin, timed_bodies, told}
 use Rattle.plain_world.specs.Plain.{Plain}
@@ -42,7 +45,7 @@ use Rattle.world_core_base.proofs.SolvingLaws.{arrays_are_solving}
 use Rattle.world_core.specs.Inside.{IsWhole}
 use Rattle.world_core.proofs.PartLaws.{kept_of}
 use Rattle.world_core.proofs.RisingLaws.{contacts_after_rise}
-use Rattle.world_rules.specs.Apply.{Answers, Applied, apply_step, bodies_ticked, booked, events_of, gained_x, gained_y, rested_acting, step_done, step_entries, world_with}
+use Rattle.world_rules.specs.Apply.{Answers, Applied, apply_step, bodies_ticked, booked, events_of, gained, rested_acting, step_done, step_entries, world_with}
 use Rattle.world_rules.specs.declared.command.Reply.{Reply}
 use Rattle.world_rules.specs.declared.command.Reply.TheVariants as replies
 use Rattle.world_rules.specs.Gathering.{CanGather}
@@ -146,8 +149,7 @@ pub record AreTicks (before left : List (Option Body)) (js : List (Option BodyJo
   pub bodies : AreBodies left
   pub slots : HaveSameSlots before left
   pub small : AreSums (2 ^ 83) sums
-  pub gain_x : momentum_x left ≡ momentum_x before +ℤ added_x sums
-  pub gain_y : momentum_y left ≡ momentum_y before +ℤ added_y sums
+  pub gain : momentum left ≡ plus (momentum before) (added sums)
   pub joints : AreJoints before js
   pub pairs : AreContactsOf before es
 
@@ -167,7 +169,7 @@ has_solved w n s now before bodies joints found contacts sums is h is_bodies is_
       joints = to_joints;
       contacts = to_contacts;
       sums = to_sums;
-      ticked = ticked_in w n bodies joints contacts sums (kept_of w s is) (rises_in w s is) to_bodies to_joints to_contacts to_sums u.bodies u.slots u.small u.gain_x u.gain_y u.joints u.pairs;
+      ticked = ticked_in w n bodies joints contacts sums (kept_of w s is) (rises_in w s is) to_bodies to_joints to_contacts to_sums u.bodies u.slots u.small u.gain u.joints u.pairs;
     }
 
 -- ---- what the sleep phase asks for
@@ -278,29 +280,28 @@ woke_rise w s now bodies contacts is h =
 -- ---- the whole step
 
 -- what a step's calls have left, one after another
-pub record AreLeft (w : World) (n : ℕ) (now rested : Acting Constraint) (before left new : List (Option Body)) (joints : List (Option BodyJoint)) (found contacts : List ContactEntry) (sums : StepSums) (x y : ℤ) (events : EventLists) : Type 0 where
+pub record AreLeft (w : World) (n : ℕ) (now rested : Acting Constraint) (before left new : List (Option Body)) (joints : List (Option BodyJoint)) (found contacts : List ContactEntry) (sums : StepSums) (gain : Vec2) (events : EventLists) : Type 0 where
   pub collide : HasTurned w now before found
   pub ticks : HasSolved w n left joints contacts sums
   pub phase : rested ≡ rested_acting (timed_bodies n left) joints contacts now
   pub bodies : new ≡ told rested.labels (timed_bodies n left)
-  pub gain_x : x ≡ gained_x (timed_bodies n left) new
-  pub gain_y : y ≡ gained_y (timed_bodies n left) new
+  pub gain_is : gain ≡ gained (timed_bodies n left) new
   pub begin : events.begin ≡ (collided_in w).begin
   pub end : events.end ≡ (collided_in w).end
   pub slept : events.slept ≡ newly_asleep w.plain.places (timed_bodies n left) rested.labels
   pub woke : events.woke ≡ newly_awake w.plain.places w.plain.bodies now.labels
 
 -- the world of the code's parts
-abbrev pub world_left : World → Acting Constraint → List (Option Body) → List (Option BodyJoint) → List ContactEntry → StepSums → ℤ → ℤ → EventLists → World
-world_left w rested bodies joints contacts sums x y events = record w {
+abbrev pub world_left : World → Acting Constraint → List (Option Body) → List (Option BodyJoint) → List ContactEntry → StepSums → Vec2 → EventLists → World
+world_left w rested bodies joints contacts sums gain events = record w {
   plain = record w.plain { bodies = bodies; joints = joints; contacts = contacts; islands = rested.labels; colours = ids_of rested.lists; steps = w.plain.steps + 1; calls = w.plain.calls + 1 };
-  entries = w.entries ++ (step_entries (w.plain.calls + 1) sums ++ booked (w.plain.calls + 1) causes.Rest x y);
+  entries = w.entries ++ (step_entries (w.plain.calls + 1) sums ++ booked (w.plain.calls + 1) causes.Rest gain.x gain.y);
   events = events;
 }
 
-pub step_is_left : (w : World) (n : ℕ) (s now rested : Acting Constraint) (before left new : List (Option Body)) (joints : List (Option BodyJoint)) (found contacts : List ContactEntry) (sums : StepSums) (x y : ℤ) (events : EventLists) → IsWhole w s → w.plain.calls < 2 ^ 40 → n ≤ 8
-    → AreLeft w n now rested before left new joints found contacts sums x y events → IsLeft w (step_done w.plain n (collided_in w)) (world_left w rested new joints contacts sums x y events) rested
-step_is_left w n s now rested before left new joints found contacts sums x y events is few ticks h =
+pub step_is_left : (w : World) (n : ℕ) (s now rested : Acting Constraint) (before left new : List (Option Body)) (joints : List (Option BodyJoint)) (found contacts : List ContactEntry) (sums : StepSums) (gain : Vec2) (events : EventLists) → IsWhole w s → w.plain.calls < 2 ^ 40 → n ≤ 8
+    → AreLeft w n now rested before left new joints found contacts sums gain events → IsLeft w (step_done w.plain n (collided_in w)) (world_left w rested new joints contacts sums gain events) rested
+step_is_left w n s now rested before left new joints found contacts sums gain events is few ticks h =
     let k = kept_of w s is in
     let q : Solving = solved_in w n in
     let ticked : List (Option Body) = bodies_ticked n q in
@@ -310,15 +311,14 @@ step_is_left w n s now rested before left new joints found contacts sums x y eve
     h.phase ∙ ap (λ (bs : List (Option Body)). rested_acting bs joints contacts now) timed ∙ ap (λ (js : List (Option BodyJoint)). rested_acting ticked js contacts now) h.ticks.joints
     ∙ ap (λ (es : List ContactEntry). rested_acting ticked q.joints es now) h.ticks.contacts ∙ ap (rested_acting ticked q.joints q.contacts) h.collide.acting in
     let bodies : new ≡ told final.labels ticked = h.bodies ∙ ap (λ (bs : List (Option Body)). told rested.labels bs) timed ∙ ap (λ (a : Acting Constraint). told a.labels ticked) rest in
-    let gain_x : x ≡ gained_x ticked (told final.labels ticked) = h.gain_x ∙ ap (λ (bs : List (Option Body)). gained_x bs new) timed ∙ ap (gained_x ticked) bodies in
-    let gain_y : y ≡ gained_y ticked (told final.labels ticked) = h.gain_y ∙ ap (λ (bs : List (Option Body)). gained_y bs new) timed ∙ ap (gained_y ticked) bodies in
+    let lost : gain ≡ gained ticked (told final.labels ticked) = h.gain_is ∙ ap (λ (bs : List (Option Body)). gained bs new) timed ∙ ap (gained ticked) bodies in
     let slept : events.slept ≡ asleep_only_in w.plain.places (turned_in w).labels final.labels =
     h.slept ∙ ap (λ (bs : List (Option Body)). newly_asleep w.plain.places bs rested.labels) timed ∙ ap (λ (a : Acting Constraint). newly_asleep w.plain.places ticked a.labels) rest ∙ slept_is w n final.labels q.joints q.contacts q.sums k (rises_in w s is) h.ticks.ticked in
     let woke : events.woke ≡ asleep_only_in w.plain.places (turned_in w).labels w.plain.islands = h.woke ∙ ap (λ (a : Acting Constraint). newly_awake w.plain.places w.plain.bodies a.labels) h.collide.acting ∙ woke_is w k in
     let told_of : events ≡ events_of w.plain (collided_in w) (turned_in w).labels final.labels = λ j. record { begin = h.begin j; end = h.end j; slept = slept j; woke = woke j } in
     let is_left = step_left w n q k few ticks (rises_in w s is) h.ticks.ticked in
     record {
-      same = λ j. world_left w (rest j) (bodies j) (h.ticks.joints j) (h.ticks.contacts j) (h.ticks.sums j) (gain_x j) (gain_y j) (told_of j);
+      same = λ j. world_left w (rest j) (bodies j) (h.ticks.joints j) (h.ticks.contacts j) (h.ticks.sums j) (lost j) (told_of j);
       kept = kept_sound (world_with w (step_done w.plain n (collided_in w))) is_left.sound;
       acting = rest ∙ is_left.same;
     }

@@ -1,7 +1,7 @@
 -- What a command leaves is whole: the world is sound, and what acts in it is kept beside its lists.
 use Rattle.std.proofs.Common.{◌≡◌, ℕ, ℤ, arith, ◌+ℤ◌, ◌+◌, ◌<◌, ◌^◌, ◌++◌, Bool, true, false, cond, List, [], ◌∷◌, Option, Some, None, Ok, replicate, refl, sym, ap, ◌∙◌, subst}
 use Rattle.std.proofs.lemmas.Int.{ints}
-use Rattle.fixed_geom.specs.Vectors.{IsWithin}
+use Rattle.fixed_geom.specs.Vectors.{IsWithin, minus, plus}
 use Rattle.fixed_geom.specs.declared.vectors.Vec2.{Vec2}
 use Rattle.body_handles.specs.declared.handle.Handle.{Handle}
 use Rattle.contacts.specs.Constraints.{constraint_number}
@@ -10,15 +10,19 @@ use Rattle.graph_colours.specs.Colours.{ids_of}
 use Rattle.impulse_ledger.specs.declared.entry.Cause.TheVariants as causes
 use Rattle.islands.specs.declared.label.Label.{Label}
 use Rattle.islands.specs.Labels.{Labels, label_at}
+use Rattle.colour_solver.specs.States.{as_vector}
+use Rattle.colour_solver.proofs.VectorLaws.{same_vector, same_x, same_y}
 use Rattle.plain_world.specs.Kinds.{is_kinematic}
 use Rattle.std.specs.Prelude.{option_map}
 use Rattle.std.specs.Option.{ForSome}
+use Rattle.momenta.specs.declared.gain.Gain.{Gain}
 use Rattle.momenta.specs.declared.motion.Momenta.{Momenta}
 use Rattle.shapes.specs.Poses.{IsPose}
 use Rattle.shapes.specs.declared.pose.Pose.{Pose}
 use Rattle.plain_world.specs.declared.body.Body.{Body}
 use Rattle.plain_world.specs.declared.kind.Course.{Course}
-use Rattle.plain_world.specs.Bodies.{AreBodies, IsBody, momentum_x, momentum_y}
+use Rattle.plain_world.specs.Bodies.{AreBodies, IsBody}
+use Rattle.plain_world.specs.Momentum.{momentum}
 use Rattle.plain_world.specs.Slots.{body_at}
 use Rattle.plain_world.specs.Changes.{CanPose}
 use Rattle.plain_world.specs.Changes.{put_course, put_momenta, put_pose}
@@ -31,7 +35,7 @@ use Rattle.world_rules.proofs.KeptEmpty.{empty_kept}
 use Rattle.sleep_wake.specs.Sleeping.{islands_woken, names_of, slept_at}
 use Rattle.solver_sets.specs.Beside.{stirred_by}
 use Rattle.world_rules.specs.declared.command.Reply.TheVariants as replies
-use Rattle.world_rules.specs.Apply.{Answers, apply_sleep, mover_refusal, body_changed, booked, counted, empty_world, gained_x, gained_y, posed, pushed, rest_entries, steered}
+use Rattle.world_rules.specs.Apply.{Answers, apply_sleep, mover_refusal, body_changed, booked, counted, empty_world, gained, posed, pushed, rest_entries, steered}
 use Rattle.world_rules.specs.Sets.{acting_of, stirred, with_acting, woken}
 use Rattle.world_rules.specs.World.{World, body_of}
 use Rattle.world_rules.proofs.ActingLaws.{IsActed, acted, waking_kept}
@@ -171,14 +175,14 @@ empty_whole g h = whole (empty_world g) (acting [] [] (replicate (COLOURS + 1) [
 
 -- ---- what is booked
 
-pub rest_booked : (call : ℕ) (labels : Labels) (bodies new : List (Option Body)) (x y : ℤ) → new ≡ told labels bodies → momentum_x new ≡ momentum_x bodies +ℤ x → momentum_y new ≡ momentum_y bodies +ℤ y
-    → booked call causes.Rest x y ≡ rest_entries call labels bodies
-rest_booked call labels bodies new x y tell by_x by_y =
-    let sx : momentum_x (told labels bodies) ≡ momentum_x bodies +ℤ x = subst (λ (bs : List (Option Body)). momentum_x bs ≡ momentum_x bodies +ℤ x) tell by_x in
-    let sy : momentum_y (told labels bodies) ≡ momentum_y bodies +ℤ y = subst (λ (bs : List (Option Body)). momentum_y bs ≡ momentum_y bodies +ℤ y) tell by_y in
-    let gx : x ≡ gained_x bodies (told labels bodies) = omega (arith, ints, sx) in
-    let gy : y ≡ gained_y bodies (told labels bodies) = omega (arith, ints, sy) in
-    ap (λ (z : ℤ). booked call causes.Rest z y) gx ∙ ap (λ (z : ℤ). booked call causes.Rest (gained_x bodies (told labels bodies)) z) gy
+pub gained_is : (a b g : Vec2) → a ≡ plus b g → g ≡ minus a b
+gained_is a b g e = same_vector g _ (omega (arith, ints, same_x e)) (omega (arith, ints, same_y e))
+
+pub rest_booked : (call : ℕ) (labels : Labels) (bodies new : List (Option Body)) (gain : Gain) → new ≡ told labels bodies → momentum new ≡ plus (momentum bodies) (as_vector gain)
+    → booked call causes.Rest gain.x gain.y ≡ rest_entries call labels bodies
+rest_booked call labels bodies new gain tell by =
+    let is : as_vector gain ≡ gained bodies (told labels bodies) = gained_is (momentum (told labels bodies)) (momentum bodies) (as_vector gain) (ap momentum (sym tell) ∙ by) in
+    ap (λ (v : Vec2). booked call causes.Rest v.x v.y) is
 
 -- ---- what is answered
 

@@ -4,9 +4,10 @@ use Rattle.body_handles.specs.declared.handle.Handle.{Handle}
 use Rattle.body_handles.specs.declared.places.Place.{Place}
 use Rattle.body_handles.specs.Places.{generation_at}
 use Rattle.impulse_ledger.specs.declared.totals.Total.{Total}
-use Rattle.impulse_ledger.specs.Sums.{total_x, total_y, totals_of}
+use Rattle.impulse_ledger.specs.Sums.{total, totals_of}
 use Rattle.plain_world.specs.declared.body.Body.{Body}
-use Rattle.plain_world.specs.Bodies.{pose_of, momentum_x, momentum_y}
+use Rattle.plain_world.specs.Bodies.{pose_of}
+use Rattle.plain_world.specs.Momentum.{momentum}
 use Rattle.plain_world.specs.Slots.{body_at}
 use Rattle.shapes.specs.declared.pose.Pose.{Pose}
 use Rattle.world_core.specs.declared.frame.FrameBody.{FrameBody}
@@ -39,8 +40,8 @@ shown_up places bodies (suc n) = shown_up places bodies n ++ shown (record { slo
 abbrev pub frame_of : World → View
 frame_of w = record {
   bodies = shown_up w.plain.places w.plain.bodies (length w.plain.bodies);
-  momentum = record { x = momentum_x w.plain.bodies; y = momentum_y w.plain.bodies };
-  booked = record { x = total_x (book_of w); y = total_y (book_of w) };
+  momentum = record { x = (momentum w.plain.bodies).x; y = (momentum w.plain.bodies).y };
+  booked = total (book_of w);
   calls = w.plain.calls;
 }
 

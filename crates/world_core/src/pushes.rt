@@ -4,7 +4,8 @@ ghost use Rattle.std.specs.Prelude.{◌≡◌, ◌<◌, ◌≤◌, ◌^◌, true
 ghost use Rattle.std.specs.Option.{ForSome, option_copied};
 ghost use Rattle.std.specs.Result.{result_err};
 ghost use Rattle.fixed_geom.specs.Vectors.{IsWithin};
-ghost use Rattle.plain_world.specs.Bodies.{IsBody, AreBodies, p_x, p_y};
+ghost use Rattle.plain_world.specs.Bodies.{IsBody, AreBodies};
+ghost use Rattle.plain_world.specs.Momentum.{momentum_in};
 ghost use Rattle.plain_world.specs.Kinds.{is_kinematic};
 ghost use Rattle.plain_world.specs.Slots.{body_at, body_of};
 ghost use Rattle.shapes.specs.Poses.{IsPose};
@@ -188,7 +189,7 @@ pub fn check_mover(
 
 /// The momentum of a body, 0 where it is no mover.
 pub fn mover_momentum(body: &Body) -> Vec2
-    ensures { result ≡ record { x = p_x (Some body.now); y = p_y (Some body.now) } }
+    ensures { result ≡ momentum_in (Some body.now) }
 {
     if body.is_mover() {
         body.motion.p

@@ -4,6 +4,7 @@ ghost use Rattle.std.specs.Prelude.{◌≡◌, ◌≤◌, ◌^◌, length, vec_c
 ghost use Rattle.contacts.specs.Constraints.{constraint_number};
 ghost use Rattle.contacts_base.specs.Contacts.{AreKeysRising};
 ghost use Rattle.momenta.specs.Gains.{IsGain};
+ghost use Rattle.colour_solver.specs.States.{as_vector};
 ghost use Rattle.plain_world.specs.Bodies.{AreBodies};
 ghost use Rattle.plain_world.specs.Sleep.{AreTimersWithin, timed_bodies, told};
 ghost use Rattle.sleep_wake.specs.Acting.{IsSettled};
@@ -11,7 +12,7 @@ ghost use Rattle.solver_sets.specs.Beside.{TellMoving};
 ghost use Rattle.solver_sets.specs.Slept.{newly_asleep};
 ghost use Rattle.solver_sets.specs.Tied.{AreTied};
 ghost use Rattle.world_core_base.specs.Marked.{AreMarked};
-ghost use Rattle.world_rules.specs.Apply.{gained_x, gained_y, rested_acting};
+ghost use Rattle.world_rules.specs.Apply.{gained, rested_acting};
 ghost use Rattle.world_rules.specs.Sound.{AreTold};
 
 use crate::readiness::are_kept_up;
@@ -55,8 +56,7 @@ pub fn rest_ready(
     ensures bodies { bodies.new.bodies ≡ told sets.new.acting.labels (timed_bodies ticks bodies.old.bodies) }
     ensures slept { scratch.new.slept.items ≡ newly_asleep places.now (timed_bodies ticks bodies.old.bodies) sets.new.acting.labels }
     ensures woke { scratch.new.woke ≡ scratch.old.woke }
-    ensures x { result.x ≡ gained_x (timed_bodies ticks bodies.old.bodies) bodies.new.bodies }
-    ensures y { result.y ≡ gained_y (timed_bodies ticks bodies.old.bodies) bodies.new.bodies }
+    ensures gain { as_vector result ≡ gained (timed_bodies ticks bodies.old.bodies) bodies.new.bodies }
     ensures small { IsGain (2 ^ 78) result }
     ensures marked { AreMarked bodies.old bodies.new }
 {

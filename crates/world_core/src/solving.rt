@@ -1,11 +1,12 @@
 //! The ticks of a step, over what acts.
 
-ghost use Rattle.std.specs.Prelude.{◌≡◌, ◌≤◌, ◌+◌, ◌^◌, ◌+ℤ◌, length, map};
-ghost use Rattle.fixed_geom.specs.Vectors.{IsWithin};
+ghost use Rattle.std.specs.Prelude.{◌≡◌, ◌≤◌, ◌+◌, ◌^◌, length, map};
+ghost use Rattle.fixed_geom.specs.Vectors.{IsWithin, plus};
 ghost use Rattle.contacts_base.specs.Contacts.{number_of};
-ghost use Rattle.colour_solver.specs.Ticks.{AreSums, added_x, added_y};
+ghost use Rattle.colour_solver.specs.Ticks.{AreSums, added};
 ghost use Rattle.graph_colours.specs.Colours.{all_members, ids_of};
-ghost use Rattle.plain_world.specs.Bodies.{AreBodies, momentum_x, momentum_y};
+ghost use Rattle.plain_world.specs.Bodies.{AreBodies};
+ghost use Rattle.plain_world.specs.Momentum.{momentum};
 ghost use Rattle.plain_world.specs.Joints.{AreJoints, forbidden_pairs};
 ghost use Rattle.plain_world.specs.Slots.{HaveSameSlots};
 ghost use Rattle.world_core_base.specs.Gather.{AreContactsOf};
@@ -50,8 +51,7 @@ pub fn solve(
     ensures all_bodies { AreBodies bodies.new.bodies }
     ensures slots { HaveSameSlots bodies.old.bodies bodies.new.bodies }
     ensures small { AreSums (2 ^ 83) result }
-    ensures momentum_x { momentum_x bodies.new.bodies ≡ momentum_x bodies.old.bodies +ℤ added_x result }
-    ensures momentum_y { momentum_y bodies.new.bodies ≡ momentum_y bodies.old.bodies +ℤ added_y result }
+    ensures momentum { momentum bodies.new.bodies ≡ plus (momentum bodies.old.bodies) (added result) }
     ensures all_joints { AreJoints bodies.old.bodies joints.new.joints }
     ensures pairs { AreContactsOf bodies.old.bodies contacts.new.contacts }
     ensures marked { AreMarked bodies.old bodies.new }

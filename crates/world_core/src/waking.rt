@@ -1,10 +1,13 @@
 //! Islands that are woken or put to sleep, with their bodies.
 
-ghost use Rattle.std.specs.Prelude.{◌≡◌, ◌≤◌, ◌^◌, ◌+ℤ◌, length, IfOk, OnOk};
+ghost use Rattle.std.specs.Prelude.{◌≡◌, ◌≤◌, ◌^◌, length, IfOk, OnOk};
 ghost use Rattle.std.specs.Result.{IsOkUnless};
+ghost use Rattle.fixed_geom.specs.Vectors.{plus};
 ghost use Rattle.contacts.specs.Constraints.{constraint_number};
 ghost use Rattle.momenta.specs.Gains.{IsGain};
-ghost use Rattle.plain_world.specs.Bodies.{AreBodies, momentum_x, momentum_y};
+ghost use Rattle.colour_solver.specs.States.{as_vector};
+ghost use Rattle.plain_world.specs.Bodies.{AreBodies};
+ghost use Rattle.plain_world.specs.Momentum.{momentum};
 ghost use Rattle.plain_world.specs.Sleep.{told};
 ghost use Rattle.sleep_wake.specs.Acting.{IsSettled};
 ghost use Rattle.sleep_wake.specs.Sleeping.{islands_woken, slept_at};
@@ -94,8 +97,7 @@ pub fn put_to_sleep(
     ensures told { bodies.new.bodies ≡ told sets.new.acting.labels bodies.old.bodies }
     ensures count { length bodies.new.bodies ≡ length bodies.old.bodies }
     ensures all_bodies { AreBodies bodies.new.bodies }
-    ensures x { momentum_x bodies.new.bodies ≡ momentum_x bodies.old.bodies +ℤ result.x }
-    ensures y { momentum_y bodies.new.bodies ≡ momentum_y bodies.old.bodies +ℤ result.y }
+    ensures momentum { momentum bodies.new.bodies ≡ plus (momentum bodies.old.bodies) (as_vector result) }
     ensures small { IsGain (2 ^ 78) result }
     ensures room { sets.new.room ≡ sets.old.room }
     ensures slots { sets.new.slots ≡ sets.old.slots }

@@ -1,5 +1,5 @@
 -- What a step gathers from bodies and contacts, and what it writes back to the bodies.
-use Rattle.std.proofs.Common.{◌≡◌, ℕ, zero, suc, ◌<◌, List, [], ◌∷◌, length, Option, Some, None, Bool, true, false, cond, not, ◌||◌, ◌≤◌, ℤ, pos, unsigned_abs, int_eq, arith, refl, sym, ap, ◌∙◌, subst, is_some, slice_index_or}
+use Rattle.std.proofs.Common.{◌≡◌, ℕ, zero, suc, ◌<◌, List, [], ◌∷◌, length, Option, Some, None, Bool, true, false, cond, not, ◌||◌, ◌≤◌, ℤ, pos, unsigned_abs, int_eq, arith, refl, sym, ap, ap₂, ◌∙◌, subst, is_some, slice_index_or}
 use Rattle.std.specs.Prelude.{All, option_map, slice_get}
 use Rattle.std.specs.Option.{is_none}
 use Rattle.std.proofs.lemmas.Bool.Decides.{Decides-int_eq}
@@ -14,8 +14,9 @@ use Rattle.momenta.specs.declared.mass.MassData.{MassData}
 use Rattle.momenta.specs.declared.state.BodyState.{BodyState}
 use Rattle.contacts_base.specs.declared.key.ContactKey.{ContactKey}
 use Rattle.colour_solver.specs.States as step
-use Rattle.colour_solver.specs.States.{carrier, nobody, standing, AreAllStates, AreSameBeside, HasCourse, HaveCourses, total_x, total_y}
-use Rattle.fixed_geom.specs.Vectors.{IsWithin}
+use Rattle.colour_solver.specs.States.{carrier, nobody, standing, AreAllStates, AreSameBeside, HasCourse, HaveCourses, total}
+use Rattle.fixed_geom.specs.Vectors.{IsWithin, plus, zero_vector}
+use Rattle.fixed_geom.specs.declared.vectors.Vec2.{Vec2}
 use Rattle.fixed_geom.specs.declared.limits.TheConstants.{MAX_SPIN}
 use Rattle.momenta.specs.declared.limits.TheConstants.{MAX_SPEED}
 use Rattle.momenta.specs.declared.motion.Motion.{Motion}
@@ -28,7 +29,9 @@ use Rattle.plain_world.proofs.KindLaws.{awake_moves, carried_enabled, carried_ki
 use Rattle.shapes.specs.Shapes.{IsShapeDef, shapes_refusal}
 use Rattle.shapes.specs.Poses.{IsPose}
 use Rattle.shapes.specs.declared.pose.Pose.{Pose}
-use Rattle.plain_world.specs.Bodies.{AreBodies, IsAtRest, IsBody, IsMassOf, is_awake, is_carried, is_mover, momentum_x, momentum_y, p_x, p_y, pose_of}
+use Rattle.colour_solver.proofs.VectorLaws.{same_vector}
+use Rattle.plain_world.specs.Bodies.{AreBodies, IsAtRest, IsBody, IsMassOf, is_awake, is_carried, is_mover, pose_of}
+use Rattle.plain_world.specs.Momentum.{momentum, momentum_in}
 use Rattle.plain_world.specs.Fats.{AreFatBoxes}
 use Rattle.plain_world.specs.Changes.{is_awake_in}
 use Rattle.plain_world.specs.Slots.{HaveSameSlots, body_at, shapes_in}
@@ -172,39 +175,27 @@ courses-all (o ∷ os) all (suc slot) s e = courses-all os (λ k b f. all (suc k
 -- ---- the momentum
 
 -- what is at rest has no part in the momentum, whether it is a mover or not
-pub no_part : (m : Bool) (z : ℤ) → z ≡ pos 0 → cond m z (pos 0) ≡ pos 0
-no_part true z h = h
-no_part false z h = refl
+no_part : (m : Bool) (v : Vec2) → v ≡ zero_vector → cond m v zero_vector ≡ zero_vector
+no_part true v h = h
+no_part false v h = refl
 
-x_shown : (a : Bool) (b : Body) → is_awake b ≡ a → IsBody b → cond a (cond a b.motion (carried_motion b)).p.x (pos 0) ≡ p_x (Some b)
-x_shown true b e is = sym (let moves : is_mover b ≡ true = awake_moves (is_mover b) (is_none b.asleep) e in λ j. cond (moves j) b.motion.p.x (pos 0))
-x_shown false b e is = sym (no_part (is_mover b) b.motion.p.x (is.rest e).x)
+at_rest : (b : Body) → is_awake b ≡ false → IsBody b → b.motion.p ≡ zero_vector
+at_rest b e is = same_vector b.motion.p zero_vector (is.rest e).x (is.rest e).y
 
-x_of : (o : Option Body) → ((b : Body) → o ≡ Some b → IsBody b) → step.p_x (state_of o) ≡ p_x o
-x_of None is = refl
-x_of (Some b) is = x_shown (is_awake b) b refl (is b refl)
+shown : (a : Bool) (b : Body) → is_awake b ≡ a → IsBody b → cond a (cond a b.motion (carried_motion b)).p zero_vector ≡ momentum_in (Some b)
+shown true b e is = sym (let moves : is_mover b ≡ true = awake_moves (is_mover b) (is_none b.asleep) e in λ j. cond (moves j) b.motion.p zero_vector)
+shown false b e is = sym (no_part (is_mover b) b.motion.p (at_rest b e is))
 
-pub total_x-gathered : (bodies : List (Option Body)) → AreBodies bodies → total_x (states_of bodies) ≡ momentum_x bodies
-total_x-gathered [] all = refl
-total_x-gathered (o ∷ os) all =
-    let first = x_of o (λ b f. all zero b (ap Some f)) in
-    let rest = total_x-gathered os (λ k b f. all (suc k) b f) in
-    omega (arith, ints, first, rest)
+momentum-shown : (o : Option Body) → ((b : Body) → o ≡ Some b → IsBody b) → step.momentum_of (state_of o) ≡ momentum_in o
+momentum-shown None is = refl
+momentum-shown (Some b) is = shown (is_awake b) b refl (is b refl)
 
-y_shown : (a : Bool) (b : Body) → is_awake b ≡ a → IsBody b → cond a (cond a b.motion (carried_motion b)).p.y (pos 0) ≡ p_y (Some b)
-y_shown true b e is = sym (let moves : is_mover b ≡ true = awake_moves (is_mover b) (is_none b.asleep) e in λ j. cond (moves j) b.motion.p.y (pos 0))
-y_shown false b e is = sym (no_part (is_mover b) b.motion.p.y (is.rest e).y)
-
-y_of : (o : Option Body) → ((b : Body) → o ≡ Some b → IsBody b) → step.p_y (state_of o) ≡ p_y o
-y_of None is = refl
-y_of (Some b) is = y_shown (is_awake b) b refl (is b refl)
-
-pub total_y-gathered : (bodies : List (Option Body)) → AreBodies bodies → total_y (states_of bodies) ≡ momentum_y bodies
-total_y-gathered [] all = refl
-total_y-gathered (o ∷ os) all =
-    let first = y_of o (λ b f. all zero b (ap Some f)) in
-    let rest = total_y-gathered os (λ k b f. all (suc k) b f) in
-    omega (arith, ints, first, rest)
+pub total-gathered : (bodies : List (Option Body)) → AreBodies bodies → total (states_of bodies) ≡ momentum bodies
+total-gathered [] all = refl
+total-gathered (o ∷ os) all =
+    let first = momentum-shown o (λ b f. all zero b (ap Some f)) in
+    let rest = total-gathered os (λ k b f. all (suc k) b f) in
+    ap₂ plus first rest
 
 -- ---- the bodies of a contact
 
@@ -408,38 +399,20 @@ slots-moved bodies states = record { slots = length-moved bodies states; taken =
 
 -- ---- the momentum is that of the states
 
-x_if : (m c : Bool) (b : Body) (s : BodyState) → is_awake b ≡ m → IsBody b → s.movable ≡ m → p_x (Some (cond m (record b { motion = s.motion }) (cond c (carried_to s.motion b) b))) ≡ step.p_x s
-x_if true c b s e is f = let moves : is_mover b ≡ true = awake_moves (is_mover b) (is_none b.asleep) e in rw (moves, f) refl
-x_if false true b s e is f = rw (none_either b.enabled, f) refl
-x_if false false b s e is f = rw f (no_part (is_mover b) b.motion.p.x (is.rest e).x)
+momentum_if : (m c : Bool) (b : Body) (s : BodyState) → is_awake b ≡ m → IsBody b → s.movable ≡ m → momentum_in (Some (cond m (record b { motion = s.motion }) (cond c (carried_to s.motion b) b))) ≡ step.momentum_of s
+momentum_if true c b s e is f = let moves : is_mover b ≡ true = awake_moves (is_mover b) (is_none b.asleep) e in rw (moves, f) refl
+momentum_if false true b s e is f = rw (none_either b.enabled, f) refl
+momentum_if false false b s e is f = rw f (no_part (is_mover b) b.motion.p (at_rest b e is))
 
-y_if : (m c : Bool) (b : Body) (s : BodyState) → is_awake b ≡ m → IsBody b → s.movable ≡ m → p_y (Some (cond m (record b { motion = s.motion }) (cond c (carried_to s.motion b) b))) ≡ step.p_y s
-y_if true c b s e is f = let moves : is_mover b ≡ true = awake_moves (is_mover b) (is_none b.asleep) e in rw (moves, f) refl
-y_if false true b s e is f = rw (none_either b.enabled, f) refl
-y_if false false b s e is f = rw f (no_part (is_mover b) b.motion.p.y (is.rest e).y)
+momentum_one : (o : Option Body) (s : BodyState) → ((b : Body) → o ≡ Some b → IsBody b) → s.movable ≡ (state_of o).movable → momentum_in (option_map (with_motion s) o) ≡ step.momentum_of s
+momentum_one None s is e = rw e
+momentum_one (Some b) s is e = momentum_if (is_awake b) (is_carried b) b s refl (is b refl) e
 
-x_moved : (o : Option Body) (s : BodyState) → ((b : Body) → o ≡ Some b → IsBody b) → s.movable ≡ (state_of o).movable → p_x (option_map (with_motion s) o) ≡ step.p_x s
-x_moved None s is e = rw e
-x_moved (Some b) s is e = x_if (is_awake b) (is_carried b) b s refl (is b refl) e
-
-y_moved : (o : Option Body) (s : BodyState) → ((b : Body) → o ≡ Some b → IsBody b) → s.movable ≡ (state_of o).movable → p_y (option_map (with_motion s) o) ≡ step.p_y s
-y_moved None s is e = rw e
-y_moved (Some b) s is e = y_if (is_awake b) (is_carried b) b s refl (is b refl) e
-
-pub momentum_x-moved : (bodies : List (Option Body)) (states : List BodyState) → AreBodies bodies → AreSameBeside (states_of bodies) states → momentum_x (with_motions bodies states) ≡ total_x states
-momentum_x-moved [] [] all same = refl
-momentum_x-moved [] (s ∷ ss) all same = let whole = same.long in absurd (omega (arith, whole))
-momentum_x-moved (o ∷ os) [] all same = let whole = same.long in absurd (omega (arith, whole))
-momentum_x-moved (o ∷ os) (s ∷ ss) all same =
-    let first = x_moved o s (λ b f. all zero b (ap Some f)) (same.movable zero) in
-    let rest = momentum_x-moved os ss (λ k b f. all (suc k) b f) (tail_same o os s ss same) in
-    omega (arith, ints, first, rest)
-
-pub momentum_y-moved : (bodies : List (Option Body)) (states : List BodyState) → AreBodies bodies → AreSameBeside (states_of bodies) states → momentum_y (with_motions bodies states) ≡ total_y states
-momentum_y-moved [] [] all same = refl
-momentum_y-moved [] (s ∷ ss) all same = let whole = same.long in absurd (omega (arith, whole))
-momentum_y-moved (o ∷ os) [] all same = let whole = same.long in absurd (omega (arith, whole))
-momentum_y-moved (o ∷ os) (s ∷ ss) all same =
-    let first = y_moved o s (λ b f. all zero b (ap Some f)) (same.movable zero) in
-    let rest = momentum_y-moved os ss (λ k b f. all (suc k) b f) (tail_same o os s ss same) in
-    omega (arith, ints, first, rest)
+pub momentum-moved : (bodies : List (Option Body)) (states : List BodyState) → AreBodies bodies → AreSameBeside (states_of bodies) states → momentum (with_motions bodies states) ≡ total states
+momentum-moved [] [] all same = refl
+momentum-moved [] (s ∷ ss) all same = let whole = same.long in absurd (omega (arith, whole))
+momentum-moved (o ∷ os) [] all same = let whole = same.long in absurd (omega (arith, whole))
+momentum-moved (o ∷ os) (s ∷ ss) all same =
+    let first = momentum_one o s (λ b f. all zero b (ap Some f)) (same.movable zero) in
+    let rest = momentum-moved os ss (λ k b f. all (suc k) b f) (tail_same o os s ss same) in
+    ap₂ plus first rest

@@ -1,16 +1,17 @@
 -- Motions given back and fat boxes made anew, of those bodies whose states pass a test.
 use Rattle.std.proofs.Common.{◌≡◌, ℕ, zero, suc, ◌<◌, ◌≤◌, Bool, cond, false, List, [], ◌∷◌, ◌++◌, length, get_or, take, drop, map, Option, arith, refl, ap, ◌∙◌, slice_set}
 use Rattle.momenta.specs.declared.state.BodyState.{BodyState}
-use Rattle.colour_solver.specs.States.{AreAllStates, AreSameBeside, HaveCourses, total_x, total_y}
+use Rattle.colour_solver.specs.States.{AreAllStates, AreSameBeside, HaveCourses, total}
 use Rattle.colour_solver.proofs.PlaceLaws.{AreOthers}
 use Rattle.plain_world.specs.declared.body.Body.{Body}
-use Rattle.plain_world.specs.Bodies.{AreBodies, momentum_x, momentum_y}
+use Rattle.plain_world.specs.Bodies.{AreBodies}
+use Rattle.plain_world.specs.Momentum.{momentum}
 use Rattle.plain_world.specs.Slots.{HaveSameSlots}
 use Rattle.world_core_base.specs.Gather.{begun, states_of, with_motions}
 use Rattle.world_core_base.specs.Moved.{moved_entry}
 use Rattle.world_core_base.specs.Renewal.{renewed_bodies}
-use Rattle.world_core_base.proofs.GatherLaws.{bodies-moved, momentum_x-moved, momentum_y-moved, slots-moved}
-use Rattle.world_core_base.proofs.RenewalLaws.{bodies-renewed, momentum_x-renewed, momentum_y-renewed, slots-renewed}
+use Rattle.world_core_base.proofs.GatherLaws.{bodies-moved, momentum-moved, slots-moved}
+use Rattle.world_core_base.proofs.RenewalLaws.{bodies-renewed, momentum-renewed, slots-renewed}
 
 -- each body with the motion of its state, and its fat boxes made anew there
 abbrev pub moved_bodies : List (Option Body) → List BodyState → List (Option Body)
@@ -92,8 +93,5 @@ slots-both bodies states =
     let second : HaveSameSlots (with_motions bodies states) (moved_bodies bodies states) = slots-renewed (with_motions bodies states) in
     record { slots = second.slots ∙ first.slots; taken = λ slot. second.taken slot ∙ first.taken slot; shapes = λ slot. second.shapes slot ∙ first.shapes slot }
 
-pub momentum_x-both : (bodies : List (Option Body)) (states : List BodyState) → AreBodies bodies → AreSameBeside (states_of bodies) states → momentum_x (moved_bodies bodies states) ≡ total_x states
-momentum_x-both bodies states all same = momentum_x-renewed (with_motions bodies states) ∙ momentum_x-moved bodies states all same
-
-pub momentum_y-both : (bodies : List (Option Body)) (states : List BodyState) → AreBodies bodies → AreSameBeside (states_of bodies) states → momentum_y (moved_bodies bodies states) ≡ total_y states
-momentum_y-both bodies states all same = momentum_y-renewed (with_motions bodies states) ∙ momentum_y-moved bodies states all same
+pub momentum-both : (bodies : List (Option Body)) (states : List BodyState) → AreBodies bodies → AreSameBeside (states_of bodies) states → momentum (moved_bodies bodies states) ≡ total states
+momentum-both bodies states all same = momentum-renewed (with_motions bodies states) ∙ momentum-moved bodies states all same

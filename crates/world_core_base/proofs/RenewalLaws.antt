@@ -1,9 +1,10 @@
 -- Fat boxes made anew change nothing else of a body.
-use Rattle.std.proofs.Common.{◌≡◌, ℕ, zero, suc, List, [], ◌∷◌, length, Option, Some, None, Bool, true, false, cond, ◌||◌, refl, ap, arith, is_some, subst}
+use Rattle.std.proofs.Common.{◌≡◌, ℕ, zero, suc, List, [], ◌∷◌, length, Option, Some, None, Bool, true, false, cond, ◌||◌, refl, ap, ap₂, arith, is_some, subst}
 use Rattle.std.specs.Prelude.{option_map}
-use Rattle.std.proofs.lemmas.Int.{ints}
+use Rattle.fixed_geom.specs.Vectors.{plus}
 use Rattle.plain_world.specs.declared.body.Body.{Body}
-use Rattle.plain_world.specs.Bodies.{can_move, is_awake, is_carried, pose_of, IsBody, AreBodies, p_x, p_y, momentum_x, momentum_y}
+use Rattle.plain_world.specs.Bodies.{can_move, is_awake, is_carried, pose_of, IsBody, AreBodies}
+use Rattle.plain_world.specs.Momentum.{momentum, momentum_in}
 use Rattle.plain_world.specs.Fats.{renewed_boxes}
 use Rattle.plain_world.proofs.BoxLemmas.{renewed_are}
 use Rattle.world_core_base.proofs.GatherLaws.{AreMovedBodies, IsMovedBody}
@@ -70,26 +71,14 @@ shapes-renewed (o ∷ os) (suc slot) = shapes-renewed os slot
 pub slots-renewed : (bodies : List (Option Body)) → HaveSameSlots bodies (renewed_bodies bodies)
 slots-renewed bodies = record { slots = same_length bodies; taken = same_taken bodies; shapes = shapes-renewed bodies }
 
-x_if : (m : Bool) (b : Body) → p_x (Some (cond m (record b { fats = renewed_boxes (pose_of b) b.shapes b.fats }) b)) ≡ p_x (Some b)
-x_if true b = refl
-x_if false b = refl
+momentum_if : (m : Bool) (b : Body) → momentum_in (Some (cond m (record b { fats = renewed_boxes (pose_of b) b.shapes b.fats }) b)) ≡ momentum_in (Some b)
+momentum_if true b = refl
+momentum_if false b = refl
 
-y_if : (m : Bool) (b : Body) → p_y (Some (cond m (record b { fats = renewed_boxes (pose_of b) b.shapes b.fats }) b)) ≡ p_y (Some b)
-y_if true b = refl
-y_if false b = refl
+momentum_same : (o : Option Body) → momentum_in (option_map with_renewed o) ≡ momentum_in o
+momentum_same None = refl
+momentum_same (Some b) = momentum_if (can_move b) b
 
-x_same : (o : Option Body) → p_x (option_map with_renewed o) ≡ p_x o
-x_same None = refl
-x_same (Some b) = x_if (can_move b) b
-
-y_same : (o : Option Body) → p_y (option_map with_renewed o) ≡ p_y o
-y_same None = refl
-y_same (Some b) = y_if (can_move b) b
-
-pub momentum_x-renewed : (bodies : List (Option Body)) → momentum_x (renewed_bodies bodies) ≡ momentum_x bodies
-momentum_x-renewed [] = refl
-momentum_x-renewed (o ∷ os) = let first = x_same o in let rest = momentum_x-renewed os in omega (arith, ints, first, rest)
-
-pub momentum_y-renewed : (bodies : List (Option Body)) → momentum_y (renewed_bodies bodies) ≡ momentum_y bodies
-momentum_y-renewed [] = refl
-momentum_y-renewed (o ∷ os) = let first = y_same o in let rest = momentum_y-renewed os in omega (arith, ints, first, rest)
+pub momentum-renewed : (bodies : List (Option Body)) → momentum (renewed_bodies bodies) ≡ momentum bodies
+momentum-renewed [] = refl
+momentum-renewed (o ∷ os) = ap₂ plus (momentum_same o) (momentum-renewed os)

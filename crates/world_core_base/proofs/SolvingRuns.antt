@@ -1,8 +1,9 @@
 -- The passes over the arrays are those of the definition, and so is a whole step.
-use Rattle.std.proofs.Common.{◌≡◌, ℕ, zero, suc, Bool, true, false, cond, List, [], ◌∷◌, ◌++◌, map, Option, Some, None, All, neg_ℤ, ◌+ℤ◌, ◌-ℤ◌, refl, sym, ap, ◌∙◌, subst}
+use Rattle.std.proofs.Common.{◌≡◌, ℕ, zero, suc, Bool, true, false, cond, List, [], ◌∷◌, ◌++◌, map, Option, Some, None, All, neg_ℤ, ◌+ℤ◌, refl, sym, ap, ap₂, ◌∙◌, subst}
 use Rattle.std.specs.Prelude.{option_map}
 use Rattle.std.specs.List.{filter_map, flat_map, cons_option}
 use Rattle.std.proofs.lemmas.List.Elements.{filter_map-append}
+use Rattle.fixed_geom.specs.Vectors.{plus}
 use Rattle.fixed_geom.specs.declared.vectors.Vec2.{Vec2}
 use Rattle.momenta.specs.Motions.{pulled, clamped, advanced}
 use Rattle.momenta.specs.Reciprocals.{reciprocals_of}
@@ -35,9 +36,10 @@ use Rattle.colour_solver.specs.declared.constraint_row.ConstraintRow.{Constraint
 use Rattle.colour_solver.specs.ConstraintTurns.{constraint_bounced, either_turn, joint_unbounced}
 use Rattle.colour_solver.specs.Passes as arrays
 use Rattle.colour_solver.specs.States as step
-use Rattle.colour_solver.specs.States.{carrier, nobody, standing}
+use Rattle.colour_solver.specs.States.{as_vector, carrier, nobody, standing}
 use Rattle.colour_solver.specs.Ticks as runs
 use Rattle.colour_solver.specs.Ticks.{Run, carry_all, clamp_all, pull_all, ran, run_of, start, turn_all}
+use Rattle.colour_solver.proofs.VectorLaws.{minus_same}
 use Rattle.plain_world.specs.declared.body.Body.{Body}
 use Rattle.plain_world.specs.declared.joint.BodyJoint.{BodyJoint}
 use Rattle.plain_world.specs.Joints.{joint_at}
@@ -45,11 +47,11 @@ use Rattle.plain_world.specs.Bodies.{is_awake, is_carried}
 use Rattle.world_core_base.specs.Carried.{solver_mass}
 use Rattle.world_core_base.specs.ConstraintRows.{constraint_row, rows_in, rows_of}
 use Rattle.world_core_base.specs.Gather.{bodies_of, state_of, states_of}
-use Rattle.world_core_base.specs.Solving.{Moving, Solving, Turns, all_changed, along, begin, bounce, carry, changed, clamp, gain, gain_of, moving, moving_at, pass, pull, solve, solve_order, solved, state_with, tick, ticks, turn, turn_between, turn_joined, turn_joint, warm}
+use Rattle.world_core_base.specs.Solving.{Moving, Solving, Turns, all_changed, along, begin, bounce, carry, changed, clamp, gain, gain_of, gained, moving, moving_at, pass, pull, solve, solve_order, solved, state_with, tick, ticks, turn, turn_between, turn_joined, turn_joint, warm}
 use Rattle.world_core_base.specs.SolvingArrays.{CanSolve, HasEnds}
 use Rattle.world_core_base.proofs.GatherLaws.{carried_state, mass_carried}
 use Rattle.world_core_base.proofs.SolvingJoints.{all_ends_as, bare_joints}
-use Rattle.world_core_base.proofs.SolvingTurns.{AreOnce, IsJointTurnBare, IsPassed, IsTurnAlike, bare_turn, held, less_itself, pass_alike, rows_now, stood, stood_turn}
+use Rattle.world_core_base.proofs.SolvingTurns.{AreOnce, IsJointTurnBare, IsPassed, IsTurnAlike, bare_turn, held, pass_alike, rows_now, stood, stood_turn}
 
 -- the run that a solving is
 abbrev pub run_in : List (Option Body) → List Constraint → Solving → Run
@@ -123,12 +125,9 @@ same_turns f k g bodies joints order law once there = record {
       λ j. record {
         states = h.bodies j;
         rows = h.rows_left j;
-        gravity_x = (sym booked.gravity j).x;
-        gravity_y = (sym booked.gravity j).y;
-        immovable_x = h.x j;
-        immovable_y = h.y j;
-        clamp_x = (sym booked.clamp j).x;
-        clamp_y = (sym booked.clamp j).y;
+        gravity = as_vector (sym booked.gravity j);
+        immovable = h.sum j;
+        clamp = as_vector (sym booked.clamp j);
       };
   stays = λ s e. stays_pass f bodies joints order s law.joint_bare e;
 }
@@ -165,41 +164,26 @@ stood_changed f [] = refl
 stood_changed f (None ∷ ms) = ap (λ (l : List (Option Body)). None ∷ l) (stood_changed f ms)
 stood_changed f (Some m ∷ ms) = λ j. Some (body_changed_by (is_awake m.body) m (record m { motion = f m.body.mass m.motion }) refl j) ∷ stood_changed f ms j
 
-gain_x_by : (t : Bool) (f : MassData → Motion → Motion) (m : Moving) → arrays.one_gain_x f (state_if t m) ≡ (cond t (record m { motion = f m.body.mass m.motion }) m).motion.p.x -ℤ m.motion.p.x
-gain_x_by true f m = refl
-gain_x_by false f m = sym (less_itself m.motion.p.x)
+gain_by : (t : Bool) (f : MassData → Motion → Motion) (m : Moving) → arrays.one_gain f (state_if t m) ≡ as_vector (gained m.motion (cond t (record m { motion = f m.body.mass m.motion }) m).motion)
+gain_by true f m = refl
+gain_by false f m = sym (minus_same m.motion.p)
 
-gain_y_by : (t : Bool) (f : MassData → Motion → Motion) (m : Moving) → arrays.one_gain_y f (state_if t m) ≡ (cond t (record m { motion = f m.body.mass m.motion }) m).motion.p.y -ℤ m.motion.p.y
-gain_y_by true f m = refl
-gain_y_by false f m = sym (less_itself m.motion.p.y)
+one_gain : (f : MassData → Motion → Motion) (o : Option Moving) → arrays.one_gain f (held o) ≡ as_vector (gain_of f o)
+one_gain f None = refl
+one_gain f (Some m) = gain_by (is_awake m.body) f m
 
-one_gain_x : (f : MassData → Motion → Motion) (o : Option Moving) → arrays.one_gain_x f (held o) ≡ (gain_of f o).x
-one_gain_x f None = refl
-one_gain_x f (Some m) = gain_x_by (is_awake m.body) f m
-
-one_gain_y : (f : MassData → Motion → Motion) (o : Option Moving) → arrays.one_gain_y f (held o) ≡ (gain_of f o).y
-one_gain_y f None = refl
-one_gain_y f (Some m) = gain_y_by (is_awake m.body) f m
-
-gain_x : (f : MassData → Motion → Motion) (ms : List (Option Moving)) → arrays.gain_x f (map held ms) ≡ (gain f ms).x
-gain_x f [] = refl
-gain_x f (o ∷ ms) = λ j. one_gain_x f o j +ℤ gain_x f ms j
-
-gain_y : (f : MassData → Motion → Motion) (ms : List (Option Moving)) → arrays.gain_y f (map held ms) ≡ (gain f ms).y
-gain_y f [] = refl
-gain_y f (o ∷ ms) = λ j. one_gain_y f o j +ℤ gain_y f ms j
+all_gain : (f : MassData → Motion → Motion) (ms : List (Option Moving)) → arrays.gain f (map held ms) ≡ as_vector (gain f ms)
+all_gain f [] = refl
+all_gain f (o ∷ ms) = ap₂ plus (one_gain f o) (all_gain f ms)
 
 same_pull : (g : Vec2) (bodies : List (Option Body)) (joints : List (Option BodyJoint)) (order : List Constraint) → IsSamePass bodies joints order (pull_all g) (pull g)
 same_pull g bodies joints order = record {
   run = λ s e. λ j. record {
     states = all_held (pulled g) s.bodies j;
     rows = rows_now (states_of bodies) s order;
-    gravity_x = s.sums.gravity.x +ℤ gain_x (pulled g) s.bodies j;
-    gravity_y = s.sums.gravity.y +ℤ gain_y (pulled g) s.bodies j;
-    immovable_x = s.sums.immovable.x;
-    immovable_y = s.sums.immovable.y;
-    clamp_x = s.sums.clamp.x;
-    clamp_y = s.sums.clamp.y;
+    gravity = plus (as_vector s.sums.gravity) (all_gain (pulled g) s.bodies j);
+    immovable = as_vector s.sums.immovable;
+    clamp = as_vector s.sums.clamp;
   };
   stays = λ s e. record { stands = stood_changed (pulled g) s.bodies ∙ e.stands; barely = e.barely };
 }
@@ -209,12 +193,9 @@ same_clamp f bodies joints order = record {
   run = λ s e. λ j. record {
     states = all_held f s.bodies j;
     rows = rows_now (states_of bodies) s order;
-    gravity_x = s.sums.gravity.x;
-    gravity_y = s.sums.gravity.y;
-    immovable_x = s.sums.immovable.x;
-    immovable_y = s.sums.immovable.y;
-    clamp_x = s.sums.clamp.x +ℤ gain_x f s.bodies j;
-    clamp_y = s.sums.clamp.y +ℤ gain_y f s.bodies j;
+    gravity = as_vector s.sums.gravity;
+    immovable = as_vector s.sums.immovable;
+    clamp = plus (as_vector s.sums.clamp) (all_gain f s.bodies j);
   };
   stays = λ s e. record { stands = stood_changed f s.bodies ∙ e.stands; barely = e.barely };
 }
@@ -248,12 +229,9 @@ same_carry bodies joints order = record {
   run = λ s e. λ j. record {
     states = all_along s.bodies j;
     rows = rows_now (states_of bodies) s order;
-    gravity_x = s.sums.gravity.x;
-    gravity_y = s.sums.gravity.y;
-    immovable_x = s.sums.immovable.x;
-    immovable_y = s.sums.immovable.y;
-    clamp_x = s.sums.clamp.x;
-    clamp_y = s.sums.clamp.y;
+    gravity = as_vector s.sums.gravity;
+    immovable = as_vector s.sums.immovable;
+    clamp = as_vector s.sums.clamp;
   };
   stays = λ s e. record { stands = stood_along s.bodies ∙ e.stands; barely = e.barely };
 }

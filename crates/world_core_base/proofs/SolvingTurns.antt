@@ -18,6 +18,7 @@ use Rattle.momenta.specs.declared.motion.Motion.{Motion}
 use Rattle.momenta.specs.declared.reciprocals.Reciprocals.{Reciprocals}
 use Rattle.momenta.specs.declared.state.BodyState.{BodyState}
 use Rattle.momenta.specs.declared.state.Ends.{Ends}
+use Rattle.fixed_geom.specs.Vectors as vectors
 use Rattle.fixed_geom.specs.declared.vectors.Vec2.{Vec2}
 use Rattle.contacts_base.specs.Contacts.{found_place, lookup}
 use Rattle.contacts_base.specs.declared.contact.ContactEntry.{ContactEntry}
@@ -31,12 +32,13 @@ use Rattle.colour_solver_base.specs.RowsAfter.{RowAfter}
 use Rattle.colour_solver_base.specs.Rows.{contact_row, row_from}
 use Rattle.colour_solver_base.specs.ContactSolving.{AreMovedFrom, IsMovedFrom, IsRowOf, SolvedContact}
 use Rattle.colour_solver.specs.declared.ticks.StepSums.{StepSums}
-use Rattle.colour_solver.specs.States.{nobody}
+use Rattle.colour_solver.proofs.VectorLaws.{plus_assoc, plus_zero}
+use Rattle.colour_solver.specs.States.{as_vector, nobody}
 use Rattle.colour_solver.specs.declared.turns.Slots.{Slots}
 use Rattle.colour_solver.specs.declared.constraint_row.ConstraintRow.{ConstraintRow}
 use Rattle.colour_solver.specs.declared.constraint_row.ConstraintRow.TheVariants as rows
 use Rattle.colour_solver.specs.ConstraintTurns.{constraint_slots, either_turn}
-use Rattle.colour_solver.specs.Turns.{after, ends_of, got_x, got_y, passed, rows_passed, share_x, share_y, turn_of}
+use Rattle.colour_solver.specs.Turns.{after, ends_of, got, got_by, passed, rows_passed, share, turn_of}
 use Rattle.plain_world.specs.declared.body.Body.{Body}
 use Rattle.plain_world.specs.declared.joint.BodyJoint.{BodyJoint}
 use Rattle.plain_world.specs.Joints.{joint_at}
@@ -216,23 +218,14 @@ rows_turn_others f states (o ∷ todo) s id others =
 
 -- ---- what an immovable body gives
 
-given_x_by : (t u : Bool) (a b : Gain) → (cond t (cond u nothing a) (cond u b nothing)).x ≡ cond t (cond u (pos 0) a.x) (cond u b.x (pos 0))
-given_x_by true true a b = refl
-given_x_by true false a b = refl
-given_x_by false true a b = refl
-given_x_by false false a b = refl
+given_by : (t u : Bool) (a b : Gain) → as_vector (cond t (cond u nothing a) (cond u b nothing)) ≡ got_by t u (as_vector a) (as_vector b)
+given_by true true a b = refl
+given_by true false a b = refl
+given_by false true a b = refl
+given_by false false a b = refl
 
-given_y_by : (t u : Bool) (a b : Gain) → (cond t (cond u nothing a) (cond u b nothing)).y ≡ cond t (cond u (pos 0) a.y) (cond u b.y (pos 0))
-given_y_by true true a b = refl
-given_y_by true false a b = refl
-given_y_by false true a b = refl
-given_y_by false false a b = refl
-
-given_x : (e t : Ends) → (given_by_immovable e t).x ≡ got_x e t
-given_x e t = given_x_by e.a.movable e.b.movable (gained e.a.motion t.a.motion) (gained e.b.motion t.b.motion)
-
-given_y : (e t : Ends) → (given_by_immovable e t).y ≡ got_y e t
-given_y e t = given_y_by e.a.movable e.b.movable (gained e.a.motion t.a.motion) (gained e.b.motion t.b.motion)
+given : (e t : Ends) → as_vector (given_by_immovable e t) ≡ got e t
+given e t = given_by e.a.movable e.b.movable (gained e.a.motion t.a.motion) (gained e.b.motion t.b.motion)
 
 pub less_itself : (z : ℤ) → z -ℤ z ≡ pos 0
 less_itself z = omega (arith, ints)
@@ -273,8 +266,7 @@ pub record IsTurnAlike (f : Turns) (j : JointRow → Ends → JointAfter) (g : C
 record IsTurned (g : ConstraintRow → Ends → RowAfter ConstraintRow) (begun states : List BodyState) (old : Gain) (next : Solving) (id : Constraint) (r : ConstraintRow) : Type 0 where
   bodies : after constraint_slots g states r ≡ map held next.bodies
   row : constraint_row begun next.joints next.contacts id ≡ Some (turn_of constraint_slots g states r).row
-  x : next.sums.immovable.x ≡ old.x +ℤ got_x (ends_of constraint_slots states r) (turn_of constraint_slots g states r).ends
-  y : next.sums.immovable.y ≡ old.y +ℤ got_y (ends_of constraint_slots states r) (turn_of constraint_slots g states r).ends
+  sum : as_vector next.sums.immovable ≡ vectors.plus (as_vector old) (got (ends_of constraint_slots states r) (turn_of constraint_slots g states r).ends)
 
 moved_now : (a b : Moving) → AreMovedFrom (ends_then a b) (ends_now a b)
 moved_now a b = record { a = record { movable = refl; mass = refl; start = refl; reciprocals = refl }; b = record { movable = refl; mass = refl; start = refl; reciprocals = refl } }
@@ -314,8 +306,7 @@ turned_by f k g s key i e a b r law place look at_a at_b is =
           ∙ ap (λ (l : List BodyState). slice_set l key.second.slot t.ends.b) (held_put s.bodies key.first.slot t.ends.a a same.moved.a)
           ∙ held_put (slice_set s.bodies key.first.slot (Some (left_by t.ends.a a))) key.second.slot t.ends.b b same.moved.b;
       row = ap (option_map rows.Contact) row;
-      x = ap (λ (z : ℤ). s.sums.immovable.x +ℤ z) (given_x (ends_now a b) t.ends ∙ (λ j. got_x (sym now_is j) (sym ends_are j)));
-      y = ap (λ (z : ℤ). s.sums.immovable.y +ℤ z) (given_y (ends_now a b) t.ends ∙ (λ j. got_y (sym now_is j) (sym ends_are j)));
+      sum = ap (vectors.plus (as_vector s.sums.immovable)) (given (ends_now a b) t.ends ∙ (λ j. got (sym now_is j) (sym ends_are j)));
     }
 
 turned_contact : (f : Turns) (k : JointRow → Ends → JointAfter) (g : ContactRow → Ends → RowAfter ContactRow) (s : Solving) (key : ContactKey) (r : ContactRow) → IsTurnAlike f k g → HasEnds (stood s.bodies) s.joints (constraints.Contact key)
@@ -361,8 +352,7 @@ joined_by f k g s h j a b law is at_a at_b =
           ap (λ (o : Option BodyJoint). option_map rows.Joint (joint_row_in begun h.slot o)) (joint_put_same s.joints h.slot j (record j { joint = t.joint }) is)
           ∙ ap (λ (n : Ends). Some (rows.Joint (joint_row (joint_bodies h.slot j) n t.joint))) then_is
           ∙ ap (λ (n : JointAfter). Some (rows.Joint n.row)) (sym turn_is);
-      x = ap (λ (z : ℤ). s.sums.immovable.x +ℤ z) (given_x (ends_now a b) t.ends ∙ (λ i. got_x (sym now_is i) (sym ends_are i)));
-      y = ap (λ (z : ℤ). s.sums.immovable.y +ℤ z) (given_y (ends_now a b) t.ends ∙ (λ i. got_y (sym now_is i) (sym ends_are i)));
+      sum = ap (vectors.plus (as_vector s.sums.immovable)) (given (ends_now a b) t.ends ∙ (λ i. got (sym now_is i) (sym ends_are i)));
     }
 
 turned_joint : (f : Turns) (k : JointRow → Ends → JointAfter) (g : ContactRow → Ends → RowAfter ContactRow) (s : Solving) (h : Handle) (j : BodyJoint) → IsTurnAlike f k g → joint_at s.joints h.slot ≡ Some j → JointHasEnds (stood s.bodies) (Some j)
@@ -440,8 +430,7 @@ idle_turn f k g states s (constraints.Contact key) law is = by (row_of states s.
 pub record IsPassed (g : ConstraintRow → Ends → RowAfter ConstraintRow) (begun states : List BodyState) (rs : List ConstraintRow) (old : Gain) (todo : List Constraint) (last : Solving) : Type 0 where
   pub bodies : passed constraint_slots g states rs ≡ map held last.bodies
   pub rows_left : rows_passed constraint_slots g states rs ≡ filter_map (constraint_row begun last.joints last.contacts) todo
-  pub x : old.x +ℤ share_x constraint_slots g states rs ≡ last.sums.immovable.x
-  pub y : old.y +ℤ share_y constraint_slots g states rs ≡ last.sums.immovable.y
+  pub sum : vectors.plus (as_vector old) (share constraint_slots g states rs) ≡ as_vector last.sums.immovable
 
 abbrev pub AreOnce : List Constraint → Type 0
 AreOnce todo = AllPairs AreOther todo
@@ -464,10 +453,10 @@ rows_now begun s todo = filter_map (constraint_row begun s.joints s.contacts) to
 idle_first : (g : ConstraintRow → Ends → RowAfter ConstraintRow) (todo : List Constraint) (s last : Solving) (id : Constraint) (begun states : List BodyState) → constraint_row begun last.joints last.contacts id ≡ None
     → IsPassed g begun states (rows_now begun s todo) s.sums.immovable todo last → IsPassed g begun states (rows_now begun s todo) s.sums.immovable (id ∷ todo) last
 idle_first g todo s last id begun states still h =
-    record { bodies = h.bodies; rows_left = h.rows_left ∙ ap (λ (o : Option ConstraintRow). cons_option o (rows_now begun last todo)) (sym still); x = h.x; y = h.y }
+    record { bodies = h.bodies; rows_left = h.rows_left ∙ ap (λ (o : Option ConstraintRow). cons_option o (rows_now begun last todo)) (sym still); sum = h.sum }
 
-sum_after : (old got next share last : ℤ) → next ≡ old +ℤ got → next +ℤ share ≡ last → old +ℤ (got +ℤ share) ≡ last
-sum_after old got next share last e f = omega (arith, ints, e, f)
+sum_after : (old got next share last : Vec2) → next ≡ vectors.plus old got → vectors.plus next share ≡ last → vectors.plus old (vectors.plus got share) ≡ last
+sum_after old got next share last e f = plus_assoc old got share ∙ (ap (λ (v : Vec2). vectors.plus v share) (sym e) ∙ f)
 
 -- a pass that begins with one that has a row
 turned_first : (g : ConstraintRow → Ends → RowAfter ConstraintRow) (todo : List Constraint) (rs : List ConstraintRow) (old : Gain) (next last : Solving) (id : Constraint) (begun states : List BodyState) (r : ConstraintRow)
@@ -476,14 +465,15 @@ turned_first : (g : ConstraintRow → Ends → RowAfter ConstraintRow) (todo : L
 turned_first g todo rs old next last id begun states r now still h = record {
   bodies = h.bodies;
   rows_left = ap (λ (l : List ConstraintRow). (turn_of constraint_slots g states r).row ∷ l) h.rows_left ∙ ap (λ (o : Option ConstraintRow). cons_option o (rows_now begun last todo)) (sym (still ∙ now.row));
-  x = sum_after old.x (got_x (ends_of constraint_slots states r) (turn_of constraint_slots g states r).ends) next.sums.immovable.x (share_x constraint_slots g (after constraint_slots g states r) rs) last.sums.immovable.x now.x h.x;
-  y = sum_after old.y (got_y (ends_of constraint_slots states r) (turn_of constraint_slots g states r).ends) next.sums.immovable.y (share_y constraint_slots g (after constraint_slots g states r) rs) last.sums.immovable.y now.y h.y;
+  sum =
+      sum_after (as_vector old) (got (ends_of constraint_slots states r) (turn_of constraint_slots g states r).ends) (as_vector next.sums.immovable) (share constraint_slots g (after constraint_slots g states r) rs) (as_vector last.sums.immovable)
+      now.sum h.sum;
 }
 
 pub pass_alike : (f : Turns) (k : JointRow → Ends → JointAfter) (g : ContactRow → Ends → RowAfter ContactRow) (todo : List Constraint) (s : Solving) (begun states : List BodyState) → IsTurnAlike f k g
     → AreOnce todo → All (HasEnds (stood s.bodies) s.joints) todo → begun ≡ states_of (stood s.bodies) → states ≡ map held s.bodies
     → IsPassed (either_turn k g) begun states (rows_now begun s todo) s.sums.immovable todo (pass f todo s)
-pass_alike f k g [] s begun states law once there is_begun is_states = record { bodies = is_states; rows_left = refl; x = more_by_none s.sums.immovable.x; y = more_by_none s.sums.immovable.y }
+pass_alike f k g [] s begun states law once there is_begun is_states = record { bodies = is_states; rows_left = refl; sum = plus_zero (as_vector s.sums.immovable) }
 pass_alike f k g (id ∷ todo) s begun states law once there is_begun is_states =
     by (constraint_row begun s.joints s.contacts id) refl (λ t now ends e h. pass_alike f k g todo t begun now law (rest_of id todo once) ends e h)
   where

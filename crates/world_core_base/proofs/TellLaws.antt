@@ -1,10 +1,11 @@
 -- Bodies told the labels of their islands, slot by slot.
-use Rattle.std.proofs.Common.{◌≡◌, ℕ, zero, suc, ◌+◌, ◌*◌, ◌^◌, ◌<◌, ◌≤◌, Bool, true, false, cond, List, [], ◌∷◌, ◌++◌, length, get_or, slice_set, take, drop, Option, Some, None, ℤ, pos, ◌+ℤ◌, ◌-ℤ◌, unsigned_abs, arith, refl, sym, ap, ◌∙◌, subst, add-one}
+use Rattle.std.proofs.Common.{◌≡◌, ℕ, zero, suc, ◌+◌, ◌*◌, ◌^◌, ◌<◌, ◌≤◌, Bool, true, false, cond, List, [], ◌∷◌, ◌++◌, length, get_or, slice_set, take, drop, Option, Some, None, ℤ, pos, ◌+ℤ◌, ◌-ℤ◌, arith, refl, sym, ap, ap₂, ◌∙◌, subst, add-one}
 use Rattle.std.specs.Prelude.{is_some, option_map}
 use Rattle.std.specs.Option.{ForSome}
 use Rattle.std.proofs.lemmas.Int.{ints}
 use Rattle.std.proofs.lemmas.Option.{slice_get-get_or}
-use Rattle.fixed_geom.specs.Vectors.{IsWithin}
+use Rattle.fixed_geom.specs.Vectors.{IsWithin, minus, plus, zero_vector}
+use Rattle.fixed_geom.specs.declared.vectors.Vec2.{Vec2}
 use Rattle.fixed_geom.proofs.Sizes.{sum_le}
 use Rattle.momenta.specs.Gains.{IsGain}
 use Rattle.momenta.specs.declared.gain.Gain.{Gain}
@@ -12,12 +13,13 @@ use Rattle.momenta.specs.declared.state.BodyState.{BodyState}
 use Rattle.islands.specs.Labels.{Labels, label_at}
 use Rattle.islands.specs.declared.label.Label.{Label}
 use Rattle.colour_solver.specs.States as step
-use Rattle.colour_solver.specs.States.{carried_of, places_from}
+use Rattle.colour_solver.specs.States.{as_vector, carried_of, places_from}
 use Rattle.plain_world.specs.declared.body.Body.{Body}
-use Rattle.plain_world.specs.Bodies.{AreBodies, IsBody, is_awake, is_carried, is_mover, momentum_x, momentum_y, p_x, p_y}
+use Rattle.plain_world.specs.Bodies.{AreBodies, IsBody, is_awake, is_carried, is_mover}
+use Rattle.plain_world.specs.Momentum.{momentum, momentum_in}
 use Rattle.plain_world.specs.Sleep.{put_to_rest, roused, sleeping_name, told, told_body, told_by, told_from}
 use Rattle.world_core_base.specs.Gather.{state_of, states_of}
-use Rattle.world_core_base.specs.Telling.{momentum_in}
+use Rattle.colour_solver.proofs.VectorLaws.{plus_assoc, plus_zero, same_vector}
 use Rattle.world_core_base.proofs.GatherLaws.{carried_state, length-states}
 use Rattle.world_core_base.proofs.TableLaws.{states-set}
 
@@ -76,14 +78,14 @@ told_are_bodies labels n [] all slot b e = cc
 told_are_bodies labels n (o ∷ os) all zero b e = told_entry_body (label_at labels n) o (λ a f. all zero a (ap Some f)) b (cc)
 told_are_bodies labels n (o ∷ os) all (suc slot) b e = told_are_bodies labels (suc n) os (λ k c f. all (suc k) c f) slot b e
 
-part_small : (t : Bool) (z : ℤ) → unsigned_abs z ≤ 2 ^ 60 → unsigned_abs (cond t z (pos 0)) ≤ 2 ^ 61
-part_small true z h = omega (arith, h)
-part_small false z h = omega arith
+part_small : (t : Bool) (v : Vec2) → IsWithin (2 ^ 60) v → IsWithin (2 ^ 61) (cond t v zero_vector)
+part_small true v h = record { x = omega (arith, h.x); y = omega (arith, h.y) }
+part_small false v h = record { x = omega arith; y = omega arith }
 
 -- a body's part in the momentum is small, before it is told its label and after
 pub small_momentum : (o : Option Body) → ForSome o IsBody → IsWithin (2 ^ 61) (momentum_in o)
 small_momentum None is = record { x = omega arith; y = omega arith }
-small_momentum (Some b) is = let body : IsBody b = is b refl in record { x = part_small (is_mover b) b.motion.p.x body.motion.p.x; y = part_small (is_mover b) b.motion.p.y body.motion.p.y }
+small_momentum (Some b) is = let body : IsBody b = is b refl in part_small (is_mover b) b.motion.p body.motion.p
 
 pub small_told : (label : Option Label) (o : Option Body) → ForSome o IsBody → IsWithin (2 ^ 61) (momentum_in (option_map (told_body label) o))
 small_told label o is = small_momentum (option_map (told_body label) o) (told_entry_body label o is)
@@ -161,15 +163,14 @@ whole_told labels n (o ∷ os) (suc i) h = ap (λ (l : List (Option Body)). told
 
 -- ---- the momentum
 
-pub momentum_x-put : (bodies : List (Option Body)) (i : ℕ) (o d : Option Body) → i < length bodies → momentum_x (slice_set bodies i o) ≡ momentum_x bodies +ℤ (p_x o -ℤ p_x (get_or bodies i d))
-momentum_x-put [] i o d h = absurd (omega (arith, h))
-momentum_x-put (a ∷ os) zero o d h = omega (arith, ints)
-momentum_x-put (a ∷ os) (suc i) o d h = let rest = momentum_x-put os i o d (omega (arith, h)) in omega (arith, ints, rest)
+put_here : (a o t : Vec2) → plus o t ≡ plus (plus a t) (minus o a)
+put_here a o t = same_vector _ _ (omega (arith, ints)) (omega (arith, ints))
 
-pub momentum_y-put : (bodies : List (Option Body)) (i : ℕ) (o d : Option Body) → i < length bodies → momentum_y (slice_set bodies i o) ≡ momentum_y bodies +ℤ (p_y o -ℤ p_y (get_or bodies i d))
-momentum_y-put [] i o d h = absurd (omega (arith, h))
-momentum_y-put (a ∷ os) zero o d h = omega (arith, ints)
-momentum_y-put (a ∷ os) (suc i) o d h = let rest = momentum_y-put os i o d (omega (arith, h)) in omega (arith, ints, rest)
+pub momentum-put : (bodies : List (Option Body)) (i : ℕ) (o d : Option Body) → i < length bodies → momentum (slice_set bodies i o) ≡ plus (momentum bodies) (minus (momentum_in o) (momentum_in (get_or bodies i d)))
+momentum-put [] i o d h = absurd (omega (arith, h))
+momentum-put (a ∷ os) zero o d h = put_here (momentum_in a) (momentum_in o) (momentum os)
+momentum-put (a ∷ os) (suc i) o d h =
+    ap (plus (momentum_in a)) (momentum-put os i o d (omega (arith, h))) ∙ plus_assoc (momentum_in a) (momentum os) (minus (momentum_in o) (momentum_in (get_or os i d)))
 
 -- ---- the loop
 
@@ -177,15 +178,11 @@ momentum_y-put (a ∷ os) (suc i) o d h = let rest = momentum_y-put os i o d (om
 pub record HasTold (labels : Labels) (all : List (Option Body)) (i : ℕ) (os : List (Option Body)) (ss : List BodyState) (gained : Gain) : Type 0 where
   pub bodies : os ≡ told_part labels 0 all i
   pub states : ss ≡ states_of os
-  pub x : momentum_x os ≡ momentum_x all +ℤ gained.x
-  pub y : momentum_y os ≡ momentum_y all +ℤ gained.y
+  pub momentum : momentum os ≡ plus (momentum all) (as_vector gained)
   pub small : IsGain (i * 2 ^ 62) gained
 
-no_gain : (z : ℤ) → z ≡ z +ℤ pos 0
-no_gain z = omega (arith, ints)
-
 pub told_first : (labels : Labels) (all : List (Option Body)) (ss : List BodyState) → ss ≡ states_of all → HasTold labels all 0 all ss (record { x = pos 0; y = pos 0 })
-told_first labels all ss e = record { bodies = refl; states = e; x = no_gain (momentum_x all); y = no_gain (momentum_y all); small = record { x = omega arith; y = omega arith } }
+told_first labels all ss e = record { bodies = refl; states = e; momentum = sym (plus_zero (momentum all)); small = record { x = omega arith; y = omega arith } }
 
 -- the slot is there, with a body or none as it was
 pub record IsTold (labels : Labels) (all : List (Option Body)) (i : ℕ) (os : List (Option Body)) (ss : List BodyState) : Type 0 where
@@ -206,28 +203,23 @@ told_there labels all i os ss gained bodies h known =
       body = λ b e. bodies i b (slice_get-get_or all i None h ∙ ap Some (sym here ∙ e));
     }
 
-sum_of : (a b c z : ℤ) → a ≡ z +ℤ b → c ≡ a → c ≡ z +ℤ b
-sum_of a b c z e f = f ∙ e
-
 pub told_more : (labels : Labels) (all : List (Option Body)) (i : ℕ) (os os_after : List (Option Body)) (ss ss_after : List BodyState) (gained more sum : Gain) → AreBodies all → i < length all → HasTold labels all i os ss gained
     → os_after ≡ slice_set os i (option_map (told_body (label_at labels i)) (get_or os i None)) → ss_after ≡ slice_set ss i (state_of (option_map (told_body (label_at labels i)) (get_or os i None)))
-    → more.x ≡ p_x (option_map (told_body (label_at labels i)) (get_or os i None)) -ℤ p_x (get_or os i None) → more.y ≡ p_y (option_map (told_body (label_at labels i)) (get_or os i None)) -ℤ p_y (get_or os i None)
+    → more.x ≡ (momentum_in (option_map (told_body (label_at labels i)) (get_or os i None))).x -ℤ (momentum_in (get_or os i None)).x → more.y ≡ (momentum_in (option_map (told_body (label_at labels i)) (get_or os i None))).y -ℤ (momentum_in (get_or os i None)).y
     → IsGain (2 ^ 62) more → sum.x ≡ gained.x +ℤ more.x → sum.y ≡ gained.y +ℤ more.y → HasTold labels all (i + 1) os_after ss_after sum
 told_more labels all i os os_after ss ss_after gained more sum bodies h known puts renews gains_x gains_y small sum_x sum_y =
     let there = told_there labels all i os ss gained bodies h known in
     let o : Option Body = option_map (told_body (label_at labels i)) (get_or os i None) in
     let entry : o ≡ told_entry labels i (get_or all i None) = ap (told_entry labels i) there.here in
-    let mx = momentum_x-put os i o None there.bodies in
-    let my = momentum_y-put os i o None there.bodies in
-    let was_x = known.x in
-    let was_y = known.y in
-    let now_x = ap momentum_x puts in
-    let now_y = ap momentum_y puts in
+    let gains : as_vector more ≡ minus (momentum_in o) (momentum_in (get_or os i None)) = same_vector _ _ gains_x gains_y in
+    let sums : as_vector sum ≡ plus (as_vector gained) (as_vector more) = same_vector _ _ sum_x sum_y in
     record {
       bodies = rw add-one (puts ∙ (λ j. slice_set (known.bodies j) i (entry j)) ∙ next_told labels 0 i all i None (omega arith) h);
       states = renews ∙ ap (λ (l : List BodyState). slice_set l i (state_of o)) known.states ∙ states-set os i o ∙ ap states_of (sym puts);
-      x = omega (arith, ints, mx, was_x, now_x, gains_x, sum_x);
-      y = omega (arith, ints, my, was_y, now_y, gains_y, sum_y);
+      momentum =
+          ap momentum puts
+          ∙ (momentum-put os i o None there.bodies
+          ∙ (ap₂ plus known.momentum (sym gains) ∙ (sym (plus_assoc (momentum all) (as_vector gained) (as_vector more)) ∙ ap (plus (momentum all)) (sym sums))));
       small = record {
         x = let s = sum_le gained.x more.x (i * 2 ^ 62) (2 ^ 62) known.small.x small.x in rw sum_x (omega (arith, s));
         y = let s = sum_le gained.y more.y (i * 2 ^ 62) (2 ^ 62) known.small.y small.y in rw sum_y (omega (arith, s));

@@ -1,12 +1,13 @@
 -- Bodies told in some slots alone: where all others stay as they are when they are told, all are told.
-use Rattle.std.proofs.Common.{◌≡◌, ℕ, zero, suc, ◌+◌, ◌*◌, ◌^◌, ◌<◌, ◌≤◌, Bool, true, false, cond, List, [], ◌∷◌, length, get_or, slice_set, drop, Option, Some, None, ℤ, pos, ◌+ℤ◌, ◌-ℤ◌, arith, refl, sym, ap, ◌∙◌, subst, add-one, inl, inr}
+use Rattle.std.proofs.Common.{◌≡◌, ℕ, zero, suc, ◌+◌, ◌*◌, ◌^◌, ◌<◌, ◌≤◌, Bool, true, false, cond, List, [], ◌∷◌, length, get_or, slice_set, drop, Option, Some, None, pos, ◌+ℤ◌, ◌-ℤ◌, arith, refl, sym, ap, ◌∙◌, subst, add-one, inl, inr}
 use Rattle.std.specs.Prelude.{◌≢◌, Contains, is_some, option_map}
 use Rattle.std.specs.Option.{ForSome}
 use Rattle.std.proofs.lemmas.Bool.{cases_eq}
-use Rattle.std.proofs.lemmas.Int.{ints}
 use Rattle.std.proofs.lemmas.List.{drop_all, get_or_default, length-set}
 use Rattle.std.proofs.lemmas.Option.{slice_get-get_or}
 use Rattle.std.proofs.Math.Seq.{drop-cons}
+use Rattle.fixed_geom.specs.Vectors.{minus, plus}
+use Rattle.fixed_geom.specs.declared.vectors.Vec2.{Vec2}
 use Rattle.fixed_geom.proofs.Sizes.{sum_le}
 use Rattle.momenta.specs.Gains.{IsGain}
 use Rattle.momenta.specs.declared.gain.Gain.{Gain}
@@ -14,9 +15,11 @@ use Rattle.momenta.specs.declared.state.BodyState.{BodyState}
 use Rattle.islands.specs.Labels.{Labels, label_at}
 use Rattle.islands.specs.declared.label.Label.{Label}
 use Rattle.islands.proofs.JoinLemmas.{contains_cases}
-use Rattle.colour_solver.specs.States.{moves, movers_of, nobody}
+use Rattle.colour_solver.specs.States.{as_vector, moves, movers_of, nobody}
+use Rattle.colour_solver.proofs.VectorLaws.{plus_assoc, plus_zero, same_vector}
 use Rattle.plain_world.specs.declared.body.Body.{Body}
-use Rattle.plain_world.specs.Bodies.{AreBodies, IsBody, is_mover, momentum_x, momentum_y, p_x, p_y}
+use Rattle.plain_world.specs.Bodies.{AreBodies, IsBody, is_mover}
+use Rattle.plain_world.specs.Momentum.{momentum, momentum_in}
 use Rattle.plain_world.specs.Sleep.{put_to_rest, roused, sleeping_name, told, told_body, told_by, told_from}
 use Rattle.plain_world.specs.Slots.{body_at}
 use Rattle.world_core_base.specs.Awake.{relisted}
@@ -26,7 +29,7 @@ use Rattle.world_core_base.proofs.GatherLaws.{length-states}
 use Rattle.world_core_base.proofs.MarkedLaws.{get_body}
 use Rattle.world_core_base.proofs.SlotsRising.{places_fewer, places-relisted}
 use Rattle.world_core_base.proofs.TableLaws.{states-set}
-use Rattle.world_core_base.proofs.TellLaws.{momentum_x-put, momentum_y-put, told_entry_body}
+use Rattle.world_core_base.proofs.TellLaws.{momentum-put, told_entry_body}
 
 -- ---- a body that is told twice
 
@@ -125,16 +128,12 @@ are_bodies label (o ∷ os) (suc slot) all (suc k) b e = are_bodies label os slo
 pub body_there : (bodies : List (Option Body)) (slot : ℕ) → AreBodies bodies → slot < length bodies → ForSome (get_or bodies slot None) IsBody
 body_there bodies slot all h b e = all slot b (slice_get-get_or bodies slot None h ∙ ap Some e)
 
-no_gain : (z : ℤ) → z ≡ z +ℤ pos 0
-no_gain z = omega (arith, ints)
-
 -- a slot is told
 pub record IsToldOne (label : Option Label) (slot : ℕ) (before os : List (Option Body)) (ss : List BodyState) (aw : List ℕ) (gained : Gain) : Type 0 where
   pub bodies : os ≡ told_one label slot before
   pub states : ss ≡ states_of os
   pub awake : aw ≡ movers_of ss
-  pub x : momentum_x os ≡ momentum_x before +ℤ gained.x
-  pub y : momentum_y os ≡ momentum_y before +ℤ gained.y
+  pub momentum : momentum os ≡ plus (momentum before) (as_vector gained)
 
 -- there is room in the list of the awake movers for one more, where a body isn't among them
 pub room_for_one : (bodies : List (Option Body)) (ss : List BodyState) (aw : List ℕ) (slot room : ℕ) (d : BodyState) → slot < length bodies → ss ≡ states_of bodies → aw ≡ movers_of ss → (get_or ss slot d).movable ≡ false → length bodies ≤ room → length aw < room
@@ -146,23 +145,19 @@ room_for_one bodies ss aw slot room d h e f off wide =
 
 pub told_here : (label : Option Label) (slot : ℕ) (before os : List (Option Body)) (ss ss_after : List BodyState) (aw aw_after : List ℕ) (moved now : Bool) (d : BodyState) (gained : Gain) → slot < length before → ss ≡ states_of before → aw ≡ movers_of ss
     → os ≡ told_one label slot before → ss_after ≡ slice_set ss slot (state_of (option_map (told_body label) (get_or before slot None)))
-    → gained.x ≡ p_x (option_map (told_body label) (get_or before slot None)) -ℤ p_x (get_or before slot None) → gained.y ≡ p_y (option_map (told_body label) (get_or before slot None)) -ℤ p_y (get_or before slot None)
+    → gained.x ≡ (momentum_in (option_map (told_body label) (get_or before slot None))).x -ℤ (momentum_in (get_or before slot None)).x → gained.y ≡ (momentum_in (option_map (told_body label) (get_or before slot None))).y -ℤ (momentum_in (get_or before slot None)).y
     → (get_or ss slot d).movable ≡ moved → (state_of (option_map (told_body label) (get_or before slot None))).movable ≡ now → aw_after ≡ relisted slot moved now aw → IsToldOne label slot before os ss_after aw_after gained
 told_here label slot before os ss ss_after aw aw_after moved now d gained h e f puts renews gains_x gains_y was is lists =
     let o : Option Body = option_map (told_body label) (get_or before slot None) in
     let long : length ss ≡ length before = ap length e ∙ length-states before in
-    let mx = momentum_x-put before slot o None h in
-    let my = momentum_y-put before slot o None h in
-    let now_x = ap momentum_x puts in
-    let now_y = ap momentum_y puts in
+    let gains : as_vector gained ≡ minus (momentum_in o) (momentum_in (get_or before slot None)) = same_vector _ _ gains_x gains_y in
     let below : slot < length ss = omega (arith, h, long) in
     let moved_there : (get_or ss slot (state_of o)).movable ≡ moved = ap (λ (s : BodyState). s.movable) (get_or_default ss slot (state_of o) d below) ∙ was in
     record {
       bodies = puts;
       states = renews ∙ ap (λ (l : List BodyState). slice_set l slot (state_of o)) e ∙ states-set before slot o ∙ ap states_of (sym puts);
       awake = lists ∙ ap (relisted slot moved now) f ∙ places-relisted moves ss slot (state_of o) moved now below moved_there is ∙ ap movers_of (sym renews);
-      x = omega (arith, ints, mx, now_x, gains_x);
-      y = omega (arith, ints, my, now_y, gains_y);
+      momentum = ap momentum puts ∙ (momentum-put before slot o None h ∙ ap (plus (momentum before)) (sym gains));
     }
 
 -- ---- the loop
@@ -176,8 +171,7 @@ pub record HasToldSome (labels : Labels) (slots : List ℕ) (all : List (Option 
   pub states : ss ≡ states_of os
   pub awake : aw ≡ movers_of ss
   pub room : first ≤ wide
-  pub x : momentum_x os ≡ momentum_x all +ℤ gained.x
-  pub y : momentum_y os ≡ momentum_y all +ℤ gained.y
+  pub momentum : momentum os ≡ plus (momentum all) (as_vector gained)
   pub small : IsGain (place * 2 ^ 62) gained
 
 pub some_first : (labels : Labels) (slots : List ℕ) (all : List (Option Body)) (ss : List BodyState) (aw : List ℕ) (room : ℕ) → AreBodies all → ss ≡ states_of all → aw ≡ movers_of ss → AreToldBeside slots labels all
@@ -190,22 +184,20 @@ some_first labels slots all ss aw room bodies e f others = record {
   states = e;
   awake = f;
   room = omega arith;
-  x = no_gain (momentum_x all);
-  y = no_gain (momentum_y all);
+  momentum = sym (plus_zero (momentum all));
   small = record { x = omega arith; y = omega arith };
 }
 
 pub some_more : (labels : Labels) (slots : List ℕ) (all : List (Option Body)) (first place slot d : ℕ) (os os_after : List (Option Body)) (ss ss_after : List BodyState) (aw aw_after : List ℕ) (room room_after : ℕ) (gained more sum : Gain)
     → place < length slots → slot ≡ get_or slots place d → HasToldSome labels slots all first place os ss aw room gained
     → os_after ≡ told_one (label_at labels slot) slot os → ss_after ≡ states_of os_after → aw_after ≡ movers_of ss_after → room ≤ room_after
-    → momentum_x os_after ≡ momentum_x os +ℤ more.x → momentum_y os_after ≡ momentum_y os +ℤ more.y → IsGain (2 ^ 62) more → sum.x ≡ gained.x +ℤ more.x → sum.y ≡ gained.y +ℤ more.y
+    → momentum os_after ≡ plus (momentum os) (as_vector more) → IsGain (2 ^ 62) more → sum.x ≡ gained.x +ℤ more.x → sum.y ≡ gained.y +ℤ more.y
     → HasToldSome labels slots all first (place + 1) os_after ss_after aw_after room_after sum
-some_more labels slots all first place slot d os os_after ss ss_after aw aw_after room room_after gained more sum lt at known puts states awake grows gains_x gains_y small sum_x sum_y =
+some_more labels slots all first place slot d os os_after ss ss_after aw aw_after room room_after gained more sum lt at known puts states awake grows gains small sum_x sum_y =
     let split : drop place slots ≡ slot ∷ drop (suc place) slots = drop-cons slots place d lt ∙ ap (λ (s : ℕ). s ∷ drop (suc place) slots) (sym at) in
     let before : AreToldBeside (slot ∷ drop (suc place) slots) labels os = subst (λ (l : List ℕ). AreToldBeside l labels os) split known.others in
     let after : AreToldBeside (drop (suc place) slots) labels (told_one (label_at labels slot) slot os) = beside_next labels slot (drop (suc place) slots) os before in
-    let was_x = known.x in
-    let was_y = known.y in
+    let sums : as_vector sum ≡ plus (as_vector gained) (as_vector more) = same_vector _ _ sum_x sum_y in
     let wide = known.room in
     rw add-one (record {
       told = ap (told labels) puts ∙ told_one_more labels slot os ∙ known.told;
@@ -215,8 +207,7 @@ some_more labels slots all first place slot d os os_after ss ss_after aw aw_afte
       states = states;
       awake = awake;
       room = omega (arith, wide, grows);
-      x = omega (arith, ints, was_x, gains_x, sum_x);
-      y = omega (arith, ints, was_y, gains_y, sum_y);
+      momentum = gains ∙ (ap (λ (v : Vec2). plus v (as_vector more)) known.momentum ∙ (sym (plus_assoc (momentum all) (as_vector gained) (as_vector more)) ∙ ap (plus (momentum all)) (sym sums)));
       small = record {
         x = let s = sum_le gained.x more.x (place * 2 ^ 62) (2 ^ 62) known.small.x small.x in rw sum_x (omega (arith, s));
         y = let s = sum_le gained.y more.y (place * 2 ^ 62) (2 ^ 62) known.small.y small.y in rw sum_y (omega (arith, s));

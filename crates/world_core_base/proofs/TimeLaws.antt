@@ -12,7 +12,7 @@ use Rattle.plain_world.specs.Bodies.{AreBodies, IsBody, is_awake}
 use Rattle.plain_world.specs.Changes.{is_awake_in, is_carried_in}
 use Rattle.plain_world.specs.Sleep.{AreTimersWithin, is_slow, timed, timed_bodies}
 use Rattle.world_core_base.specs.Gather.{state_of, states_of}
-use Rattle.world_core_base.specs.Telling.{CanTime}
+use Rattle.world_core_base.specs.Timing.{CanTime}
 use Rattle.world_core_base.proofs.GatherLaws.{carried_state}
 
 -- ---- a walk over the places of those that pass a test, in which each is changed

@@ -4,6 +4,7 @@ pub mod Gather
 pub mod ConstraintRows
 pub mod Moved
 pub mod Awake
+pub mod Timing
 pub mod Telling
 pub mod RowColours
 pub mod Solving

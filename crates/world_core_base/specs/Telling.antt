@@ -1,20 +1,9 @@
--- What the movers' momentum gains where the body in a slot becomes another, and bodies that are told in some slots alone.
-use Rattle.std.specs.Prelude.{◌≡◌, ℕ, ◌≤◌, ◌^◌, List, Contains, Option, option_map}
-use Rattle.fixed_geom.specs.declared.vectors.Vec2.{Vec2}
+-- Bodies that are told in some slots alone.
+use Rattle.std.specs.Prelude.{◌≡◌, ℕ, List, Contains, Option, option_map}
 use Rattle.islands.specs.Labels.{Labels, label_at}
 use Rattle.plain_world.specs.declared.body.Body.{Body}
-use Rattle.plain_world.specs.Bodies.{IsBody, p_x, p_y}
 use Rattle.plain_world.specs.Sleep.{told_body}
 use Rattle.plain_world.specs.Slots.{body_at}
-
--- the part that the body in a slot has in the movers' momentum
-abbrev pub momentum_in : Option Body → Vec2
-momentum_in o = record { x = p_x o; y = p_y o }
-
--- a body of which a timer may grow
-pub record CanTime (b : Body) : Type 0 where
-  pub body : IsBody b
-  pub timer : b.timer ≤ 2 ^ 44
 
 -- in each slot beside these the body, if there is one, stays as it is when it is told
 abbrev pub AreToldBeside : List ℕ → Labels → List (Option Body) → Type 0

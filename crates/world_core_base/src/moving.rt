@@ -3,8 +3,9 @@
 
 ghost use Rattle.std.specs.Prelude.{◌≡◌, ◌<◌, None, cond, false, length, slice_index_or, slice_set};
 ghost use Rattle.std.specs.Option.{ForSome};
-ghost use Rattle.colour_solver.specs.States.{AreAllStates, AreSameBeside, HaveCourses, carried_of, movers_of, nobody, total_x, total_y};
-ghost use Rattle.plain_world.specs.Bodies.{AreBodies, momentum_x, momentum_y};
+ghost use Rattle.colour_solver.specs.States.{AreAllStates, AreSameBeside, HaveCourses, carried_of, movers_of, nobody, total};
+ghost use Rattle.plain_world.specs.Bodies.{AreBodies};
+ghost use Rattle.plain_world.specs.Momentum.{momentum};
 ghost use Rattle.world_core_base.specs.Covers.{AreCovered};
 ghost use Rattle.world_core_base.specs.Marked.{AreMarkedIn, AreShownAlike};
 ghost use Rattle.world_core_base.specs.Gather.{begun, states_of, with_motion, with_motions};
@@ -124,8 +125,7 @@ pub fn move_bodies(
     ensures bodies { AreBodies bodies.new.items }
     ensures slots { HaveSameSlots bodies.old.items bodies.new.items }
     ensures standing { HaveSameStanding bodies.old.items bodies.new.items }
-    ensures momentum_x { momentum_x bodies.new.items ≡ total_x states.old.items }
-    ensures momentum_y { momentum_y bodies.new.items ≡ total_y states.old.items }
+    ensures momentum { momentum bodies.new.items ≡ total states.old.items }
     ensures marked { AreMarkedIn bodies.old.items marks.old bodies.new.items marks.new }
     ensures len { length marks.new ≡ length marks.old }
     ensures covered { AreCovered bodies.new.items boxes.new }

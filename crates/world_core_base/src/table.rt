@@ -2,18 +2,19 @@
 
 mod from_bodies;
 
-ghost use Rattle.std.specs.Prelude.{◌≡◌, ◌+◌, ◌-◌, ◌<◌, ◌≤◌, ◌^◌, ◌+ℤ◌, [], None, false, true, IfOk, OnOk, length, replicate, slice_index_or, slice_set, vec_len, vec_capacity};
+ghost use Rattle.std.specs.Prelude.{◌≡◌, ◌+◌, ◌-◌, ◌<◌, ◌≤◌, ◌^◌, [], None, false, true, IfOk, OnOk, length, replicate, slice_index_or, slice_set, vec_len, vec_capacity};
 ghost use Rattle.std.specs.Option.{ForSome};
 ghost use Rattle.std.specs.Result.{IsOkUnless};
-ghost use Rattle.fixed_geom.specs.Vectors.{IsWithin};
+ghost use Rattle.fixed_geom.specs.Vectors.{IsWithin, plus};
 ghost use Rattle.box_tree.specs.BoxLists.{box_at};
 ghost use Rattle.momenta.specs.declared.state.BodyState.{BodyState};
-ghost use Rattle.colour_solver.specs.States.{AreAllStates, places_from};
-ghost use Rattle.colour_solver.specs.Ticks.{AreSums, added_x, added_y, ran, run_of, start};
+ghost use Rattle.colour_solver.specs.States.{AreAllStates, as_vector, places_from};
+ghost use Rattle.colour_solver.specs.Ticks.{AreSums, added, ran, run_of, start};
 ghost use Rattle.colour_solver.specs.ColourRows.{all_rows};
 ghost use Rattle.colour_solver.specs.ConstraintTurns.{AreRowsBelow};
 ghost use Rattle.world_core_base.specs.Awake.{with_state};
-ghost use Rattle.plain_world.specs.Bodies.{AreBodies, momentum_x, momentum_y};
+ghost use Rattle.plain_world.specs.Bodies.{AreBodies};
+ghost use Rattle.plain_world.specs.Momentum.{momentum};
 ghost use Rattle.world_core_base.specs.Gather.{state_of, states_of, with_motions};
 ghost use Rattle.world_core_base.specs.Covers.{AreCovered, IsCover};
 ghost use Rattle.world_core_base.specs.Marked.{AreMarked, AreMoreMarks};
@@ -321,8 +322,7 @@ impl BodyTable {
         ensures all_bodies { AreBodies self.new.bodies }
         ensures slots { HaveSameSlots self.old.bodies self.new.bodies }
         ensures standing { HaveSameStanding self.old.bodies self.new.bodies }
-        ensures x { momentum_x self.new.bodies ≡ momentum_x self.old.bodies +ℤ result.x }
-        ensures y { momentum_y self.new.bodies ≡ momentum_y self.old.bodies +ℤ result.y }
+        ensures momentum { momentum self.new.bodies ≡ plus (momentum self.old.bodies) (as_vector result) }
         ensures small { IsGain (2 ^ 78) result }
         ensures marked { AreMarked self.old self.new }
     {
@@ -343,8 +343,7 @@ impl BodyTable {
         ensures all_bodies { AreBodies self.new.bodies }
         ensures slots { HaveSameSlots self.old.bodies self.new.bodies }
         ensures standing { HaveSameStanding self.old.bodies self.new.bodies }
-        ensures x { momentum_x self.new.bodies ≡ momentum_x self.old.bodies +ℤ result.x }
-        ensures y { momentum_y self.new.bodies ≡ momentum_y self.old.bodies +ℤ result.y }
+        ensures momentum { momentum self.new.bodies ≡ plus (momentum self.old.bodies) (as_vector result) }
         ensures small { IsGain (2 ^ 78) result }
         ensures marked { AreMarked self.old self.new }
     {
@@ -364,8 +363,7 @@ impl BodyTable {
         ensures all_bodies { AreBodies self.new.bodies }
         ensures slots { HaveSameSlots self.old.bodies self.new.bodies }
         ensures standing { HaveSameStanding self.old.bodies self.new.bodies }
-        ensures x { momentum_x self.new.bodies ≡ momentum_x self.old.bodies +ℤ result.x }
-        ensures y { momentum_y self.new.bodies ≡ momentum_y self.old.bodies +ℤ result.y }
+        ensures momentum { momentum self.new.bodies ≡ plus (momentum self.old.bodies) (as_vector result) }
         ensures small { IsGain (2 ^ 78) result }
         ensures marked { AreMarked self.old self.new }
     {
@@ -409,8 +407,7 @@ impl BodyTable {
         ensures slots { HaveSameSlots self.old.bodies self.new.bodies }
         ensures standing { HaveSameStanding self.old.bodies self.new.bodies }
         ensures small { AreSums (2 ^ 83) result }
-        ensures momentum_x { momentum_x self.new.bodies ≡ momentum_x self.old.bodies +ℤ added_x result }
-        ensures momentum_y { momentum_y self.new.bodies ≡ momentum_y self.old.bodies +ℤ added_y result }
+        ensures momentum { momentum self.new.bodies ≡ plus (momentum self.old.bodies) (added result) }
         ensures marked { AreMarked self.old self.new }
     {
         self.room = 0;

@@ -1,14 +1,15 @@
 //! The bodies told by the islands: movers that fall asleep, and movers that wake.
 
-ghost use Rattle.std.specs.Prelude.{◌≡◌, ◌<◌, ◌≤◌, ◌^◌, ◌+ℤ◌, ◌-ℤ◌, None, length, option_map, slice_index_or, slice_set, vec_capacity};
+ghost use Rattle.std.specs.Prelude.{◌≡◌, ◌<◌, ◌≤◌, ◌^◌, ◌-ℤ◌, None, length, option_map, slice_index_or, slice_set, vec_capacity};
 ghost use Rattle.std.specs.Option.{ForSome};
-ghost use Rattle.fixed_geom.specs.Vectors.{IsWithin};
+ghost use Rattle.fixed_geom.specs.Vectors.{IsWithin, plus};
 ghost use Rattle.momenta.specs.Gains.{IsGain};
-ghost use Rattle.colour_solver.specs.States.{movers_of};
-ghost use Rattle.plain_world.specs.Bodies.{AreBodies, IsBody, momentum_x, momentum_y, p_x, p_y};
+ghost use Rattle.colour_solver.specs.States.{as_vector, movers_of};
+ghost use Rattle.plain_world.specs.Bodies.{AreBodies, IsBody};
+ghost use Rattle.plain_world.specs.Momentum.{momentum, momentum_in};
 ghost use Rattle.plain_world.specs.Sleep.{told, told_body};
 ghost use Rattle.world_core_base.specs.Gather.{state_of, states_of};
-ghost use Rattle.world_core_base.specs.Telling.{AreToldBeside, momentum_in};
+ghost use Rattle.world_core_base.specs.Telling.{AreToldBeside};
 
 use crate::awake::relist;
 use crate::gather::state_of;
@@ -54,8 +55,8 @@ fn tell_slot(
     requires body { ForSome (slice_index_or bodies.old.items slot None) IsBody }
     ensures bodies { bodies.new.items ≡ slice_set bodies.old.items slot (option_map (told_body label) (slice_index_or bodies.old.items slot None)) }
     ensures states { states.new.items ≡ slice_set states.old.items slot (state_of (option_map (told_body label) (slice_index_or bodies.old.items slot None))) }
-    ensures x { result.x ≡ p_x (option_map (told_body label) (slice_index_or bodies.old.items slot None)) -ℤ p_x (slice_index_or bodies.old.items slot None) }
-    ensures y { result.y ≡ p_y (option_map (told_body label) (slice_index_or bodies.old.items slot None)) -ℤ p_y (slice_index_or bodies.old.items slot None) }
+    ensures x { result.x ≡ (momentum_in (option_map (told_body label) (slice_index_or bodies.old.items slot None))).x -ℤ (momentum_in (slice_index_or bodies.old.items slot None)).x }
+    ensures y { result.y ≡ (momentum_in (option_map (told_body label) (slice_index_or bodies.old.items slot None))).y -ℤ (momentum_in (slice_index_or bodies.old.items slot None)).y }
     ensures small { IsGain (2 ^ 62) result }
 {
     let before = momentum_in(&bodies[slot]);
@@ -76,8 +77,7 @@ pub fn tell_bodies(
     requires states { states.old.items ≡ states_of bodies.old.items }
     ensures bodies { bodies.new.items ≡ told islands.now.labels bodies.old.items }
     ensures states { states.new.items ≡ states_of bodies.new.items }
-    ensures x { momentum_x bodies.new.items ≡ momentum_x bodies.old.items +ℤ result.x }
-    ensures y { momentum_y bodies.new.items ≡ momentum_y bodies.old.items +ℤ result.y }
+    ensures momentum { momentum bodies.new.items ≡ plus (momentum bodies.old.items) (as_vector result) }
     ensures small { IsGain (2 ^ 78) result }
 {
     let mut gain = NOTHING;
@@ -107,8 +107,7 @@ fn tell_one(
     ensures states { states.new.items ≡ states_of bodies.new.items }
     ensures awake { awake.new.items ≡ movers_of states.new.items }
     ensures capacity { vec_capacity awake.old ≤ vec_capacity awake.new }
-    ensures x { momentum_x bodies.new.items ≡ momentum_x bodies.old.items +ℤ result.x }
-    ensures y { momentum_y bodies.new.items ≡ momentum_y bodies.old.items +ℤ result.y }
+    ensures momentum { momentum bodies.new.items ≡ plus (momentum bodies.old.items) (as_vector result) }
     ensures small { IsGain (2 ^ 62) result }
 {
     let place = slot as usize;
@@ -140,8 +139,7 @@ pub fn tell_listed(
     ensures states { states.new.items ≡ states_of bodies.new.items }
     ensures awake { awake.new.items ≡ movers_of states.new.items }
     ensures capacity { vec_capacity awake.old ≤ vec_capacity awake.new }
-    ensures x { momentum_x bodies.new.items ≡ momentum_x bodies.old.items +ℤ result.x }
-    ensures y { momentum_y bodies.new.items ≡ momentum_y bodies.old.items +ℤ result.y }
+    ensures momentum { momentum bodies.new.items ≡ plus (momentum bodies.old.items) (as_vector result) }
     ensures small { IsGain (2 ^ 78) result }
 {
     let mut gain = NOTHING;

@@ -6,7 +6,7 @@ ghost use Rattle.colour_solver.specs.States.{places_from};
 ghost use Rattle.plain_world.specs.Bodies.{AreBodies};
 ghost use Rattle.plain_world.specs.Changes.{is_awake_in};
 ghost use Rattle.plain_world.specs.Sleep.{AreTimersWithin, timed, timed_bodies};
-ghost use Rattle.world_core_base.specs.Telling.{CanTime};
+ghost use Rattle.world_core_base.specs.Timing.{CanTime};
 
 use plain_world::Body;
 

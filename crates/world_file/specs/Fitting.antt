@@ -1,5 +1,5 @@
 -- Whether the parts of a saved world fit together.
-use Rattle.std.specs.Prelude.{ℕ, zero, suc, ◌==◌, ◌&&◌, ◌||◌, ◌++◌, Bool, true, false, not, cond, nat_le, nat_lt, List, [], ◌∷◌, map, slice_get, Option, Some, None, is_some, option_map, unwrap_or, ℤ}
+use Rattle.std.specs.Prelude.{ℕ, zero, suc, ◌==◌, ◌&&◌, ◌||◌, ◌++◌, Bool, true, false, not, cond, nat_le, nat_lt, List, [], ◌∷◌, map, slice_get, Option, Some, None, is_some, option_map, unwrap_or}
 use Rattle.std.specs.List.{flat_map, list_all}
 use Rattle.std.specs.Option.{is_none}
 use Rattle.std.specs.Ordering.{int_eq}
@@ -13,14 +13,14 @@ use Rattle.contacts_base.specs.declared.contact.ContactPoint.{ContactPoint}
 use Rattle.graph_colours.specs.Members.{is_free}
 use Rattle.graph_colours.specs.declared.limits.TheConstants.{COLOURS}
 use Rattle.graph_colours.specs.declared.member.Member.{Member}
-use Rattle.impulse_ledger.specs.Totals.{over_causes, total_in}
+use Rattle.impulse_ledger.specs.Totals.{total_over}
 use Rattle.impulse_ledger.specs.declared.totals.Totals.{Totals}
 use Rattle.islands.specs.Labels.{Labels, label_at, merged_all, own_label}
 use Rattle.islands.specs.Links.{Edges}
 use Rattle.islands.specs.declared.label.IslandState.{IslandState}
 use Rattle.islands.specs.declared.label.IslandState.TheVariants.{Asleep, Loose, Whole}
 use Rattle.islands.specs.declared.label.Label.{Label}
-use Rattle.plain_world.specs.Bodies.{momentum_x, momentum_y}
+use Rattle.plain_world.specs.Momentum.{momentum}
 use Rattle.plain_world.specs.Formed.{mixed_of, shape_named}
 use Rattle.plain_world.specs.Kinds.{is_dynamic}
 use Rattle.plain_world.specs.Slots.{body_at}
@@ -226,16 +226,9 @@ colours_keep s =
 
 -- ---- momentum
 
--- the sum of the ledger
-abbrev pub sum_x : Totals → ℤ
-sum_x t = over_causes (λ cause. (total_in cause t).x)
-
-abbrev pub sum_y : Totals → ℤ
-sum_y t = over_causes (λ cause. (total_in cause t).y)
-
 -- the movers' momentum is the sum of the ledger
 abbrev pub momentum_fits : List (Option Body) → Totals → Bool
-momentum_fits bodies t = int_eq (momentum_x bodies) (sum_x t) && int_eq (momentum_y bodies) (sum_y t)
+momentum_fits bodies t = int_eq (momentum bodies).x (total_over t).x && int_eq (momentum bodies).y (total_over t).y
 
 abbrev pub momentum_keeps : Saved → Bool
 momentum_keeps s = momentum_fits s.bodies s.totals

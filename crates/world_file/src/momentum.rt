@@ -2,8 +2,9 @@
 
 ghost use Rattle.std.specs.Prelude.{◌≡◌, ◌≤◌, ◌+◌, ◌^◌, ◌+ℤ◌, ◌*ℤ◌, ◌≤ℤ◌, pos, unsigned_abs};
 ghost use Rattle.std.specs.Ordering.{int_eq};
-ghost use Rattle.plain_world.specs.Bodies.{momentum_x, momentum_y, p_x, p_y};
-ghost use Rattle.world_file.specs.Fitting.{momentum_fits, sum_x, sum_y};
+ghost use Rattle.plain_world.specs.Momentum.{momentum, momentum_in};
+ghost use Rattle.impulse_ledger.specs.Totals.{total_over};
+ghost use Rattle.world_file.specs.Fitting.{momentum_fits};
 
 use fixed_geom::{Vec2, ZERO_VECTOR, fdiv};
 use impulse_ledger::{Total, Totals};
@@ -59,8 +60,8 @@ fn is_same(number: i128, sum: Eighths) -> bool
 
 /// What a slot adds to the movers' momentum: nothing where no mover is.
 fn momentum_in(entry: &Option<Body>) -> Vec2
-    ensures x { result.x ≡ p_x entry.now }
-    ensures y { result.y ≡ p_y entry.now }
+    ensures x { result.x ≡ (momentum_in entry.now).x }
+    ensures y { result.y ≡ (momentum_in entry.now).y }
 {
     match entry {
         Some(body) => {
@@ -91,8 +92,8 @@ fn with_more(sum: Total, more: Vec2) -> Total
 
 /// The momentum of all movers.
 fn momentum_of(bodies: &[Option<Body>]) -> Total
-    ensures x { result.x ≡ momentum_x bodies.now }
-    ensures y { result.y ≡ momentum_y bodies.now }
+    ensures x { result.x ≡ (momentum bodies.now).x }
+    ensures y { result.y ≡ (momentum bodies.now).y }
     ensures x_small { unsigned_abs result.x ≤ 2 ^ 126 }
     ensures y_small { unsigned_abs result.y ≤ 2 ^ 126 }
 {
@@ -122,7 +123,7 @@ fn sum_of_two_x(a: Total, b: Total) -> Eighths
 }
 
 fn sum_x(totals: &Totals) -> Eighths
-    ensures sum { sum_x totals.now ≡ result.whole *ℤ pos 8 +ℤ result.rest }
+    ensures sum { (total_over totals.now).x ≡ result.whole *ℤ pos 8 +ℤ result.rest }
     ensures low { pos 0 ≤ℤ result.rest }
     ensures high { result.rest ≤ℤ pos 42 }
 {
@@ -151,7 +152,7 @@ fn sum_of_two_y(a: Total, b: Total) -> Eighths
 }
 
 fn sum_y(totals: &Totals) -> Eighths
-    ensures sum { sum_y totals.now ≡ result.whole *ℤ pos 8 +ℤ result.rest }
+    ensures sum { (total_over totals.now).y ≡ result.whole *ℤ pos 8 +ℤ result.rest }
     ensures low { pos 0 ≤ℤ result.rest }
     ensures high { result.rest ≤ℤ pos 42 }
 {

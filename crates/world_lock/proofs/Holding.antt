@@ -4,6 +4,8 @@ use Rattle.std.specs.Prelude.{All, replicate, slice_index_or, slice_set}
 use Rattle.std.proofs.lemmas.List.{append-nil, drop-append-le, drop_all, take-append-drop, take-append-le, take_all}
 use Rattle.std.proofs.lemmas.List.Elements.{All-nil}
 use Rattle.impulse_ledger.specs.Sums.{HaveSameTotals}
+use Rattle.fixed_geom.specs.Vectors.{plus}
+use Rattle.colour_solver.proofs.VectorLaws.{same_x, same_y}
 use Rattle.seat_book.specs.History.{IsPast, known}
 use Rattle.plain_world.specs.Plain.{Plain}
 use Rattle.world_rules.specs.declared.command.Command.{Command}
@@ -15,9 +17,9 @@ use Rattle.world_core.specs.Frames.{settled_world}
 use Rattle.world_rules.specs.Laws.{EachCallCounts, PushesAreSmall, impulse_of}
 use Rattle.world_lock.specs.declared.tally.Tally.{Tally}
 use Rattle.world_lock.specs.Journals.{Beginning, IsLegal, IsLike, Journalled, KeepsHeadline, Line, command_of, journalled, left_by, line, reply_of}
-use Rattle.world_lock.specs.Tallies.{IsTally, calls_of, no_calls, pushed_x, pushed_y, tallies_of, tally_of, with_call}
+use Rattle.world_lock.specs.Tallies.{IsTally, calls_of, no_calls, pushed, tallies_of, tally_of, with_call}
 use Rattle.world_lock.specs.Histories.{Called, IsAllOf, IsClosed, IsHeld, IsPastFor, IsSeated, Known, Standing, next_number}
-use Rattle.world_lock.proofs.Tallying.{calls_append, past_calls, pushed_x-append, pushed_y-append, small_none, small_set, small_with, tallies_at, tallies_length, tallies_none, tallies_step}
+use Rattle.world_lock.proofs.Tallying.{calls_append, past_calls, pushed-append, small_none, small_set, small_with, tallies_at, tallies_length, tallies_none, tallies_step}
 use Rattle.world_lock.proofs.Replaying.{counts, left_push, legal_push, like_after, small_push}
 
 pub all_push : {A : Type 0} (P : A → Type 0) (xs : List A) (y : A) → All P xs → P y → All P (xs ++ y ∷ [])
@@ -74,7 +76,7 @@ held_call seats first s e h count small here ok few =
     }
 
 same_through : (u v w : World) → HaveSameTotals (book_of v) (book_of u) → HaveSameTotals (book_of w) (book_of v) → HaveSameTotals (book_of w) (book_of u)
-same_through u v w a b = record { x = b.x ∙ a.x; y = b.y ∙ a.y; of_cause_x = λ c. b.of_cause_x c ∙ a.of_cause_x c; of_cause_y = λ c. b.of_cause_y c ∙ a.of_cause_y c }
+same_through u v w a b = record { all = b.all ∙ a.all; of_cause = λ c. b.of_cause c ∙ a.of_cause c }
 
 pub held_settle : (seats : ℕ) (first : World) (s : Standing) → IsHeld seats first s → HaveSameTotals (book_of (settled_world s.world)) (book_of s.world)
     → IsHeld seats first (record {
@@ -103,7 +105,7 @@ pub held_new : (seats : ℕ) (first : World) → first.plain.calls ≤ 2 ^ 40
     → IsHeld seats first (record { world = first; opening = first; journal = []; settled = 0; tallies = replicate seats no_calls; settled_tallies = replicate seats no_calls; history = [] })
 held_new seats first few = record {
   legal = refl;
-  like = record { plain = refl; events = refl; totals = record { x = refl; y = refl; of_cause_x = λ c. refl; of_cause_y = λ c. refl } };
+  like = record { plain = refl; events = refl; totals = record { all = refl; of_cause = λ c. refl } };
   journal = refl;
   count = refl;
   calls = omega arith;
@@ -156,12 +158,13 @@ all_of seats first s k h p =
     let own : calls_of k.seat k.seen ≡ calls_of k.seat before ++ calls_of k.seat s.journal = sym (past_calls k.seat k.seen s.history p.past) ∙ ap (calls_of k.seat) (sym whole) ∙ calls_append k.seat before s.journal in
     let same : 0 + k.seat ≡ k.seat = omega arith in
     let tally : slice_index_or s.settled_tallies k.seat no_calls ≡ tally_of k.seat before = ap (λ (ts : List Tally). slice_index_or ts k.seat no_calls) h.settled_tallies ∙ tallies_at 0 seats k.seat before no_calls p.seated ∙ ap (λ (n : ℕ). tally_of n before) same in
+    let all : plus (pushed (calls_of k.seat before)) (pushed (calls_of k.seat s.journal)) ≡ pushed (calls_of k.seat k.seen) = sym (pushed-append (calls_of k.seat before) (calls_of k.seat s.journal)) ∙ ap pushed (sym own) in
     record {
       past = p.past;
       own = own;
       calls = ap (λ (t : Tally). t.calls + length (calls_of k.seat s.journal)) tally ∙ sym (length-append (calls_of k.seat before) (calls_of k.seat s.journal)) ∙ ap length (sym own);
-      pushed_x_is = ap (λ (t : Tally). t.pushed.x +ℤ pushed_x (calls_of k.seat s.journal)) tally ∙ sym (pushed_x-append (calls_of k.seat before) (calls_of k.seat s.journal)) ∙ ap pushed_x (sym own);
-      pushed_y_is = ap (λ (t : Tally). t.pushed.y +ℤ pushed_y (calls_of k.seat s.journal)) tally ∙ sym (pushed_y-append (calls_of k.seat before) (calls_of k.seat s.journal)) ∙ ap pushed_y (sym own);
+      pushed_x_is = ap (λ (t : Tally). t.pushed.x +ℤ (pushed (calls_of k.seat s.journal)).x) tally ∙ same_x all;
+      pushed_y_is = ap (λ (t : Tally). t.pushed.y +ℤ (pushed (calls_of k.seat s.journal)).y) tally ∙ same_y all;
     }
 
 pub each_of : (seats : ℕ) (first : World) (s : Standing) (ks : List Known) → IsHeld seats first s → All (IsPastFor seats s.history) ks → All (IsAllOf s.history s.journal s.settled s.settled_tallies) ks

@@ -1,15 +1,16 @@
 -- One call more at the end of a list of calls, and what it does to a world with its journal.
 use Rattle.std.proofs.Common.{◌≡◌, ◌+◌, ◌^◌, ◌≤◌, List, [], ◌∷◌, ◌++◌, length, take, drop, Result, Ok, Err, refl, sym, ap, ◌∙◌, subst, arith, append_assoc, length-append, inl, inr, ◌⊎◌}
 use Rattle.std.specs.Prelude.{MatchResult, unwrap_or}
-use Rattle.std.proofs.lemmas.Int.{ints}
 use Rattle.std.proofs.Math.Seq.{drop-append_seam}
 use Rattle.std.proofs.lemmas.List.{append-nil, map-append, take-append-le}
 use Rattle.fixed_geom.specs.Vectors.{IsWithin}
 use Rattle.fixed_geom.specs.declared.refusal.Refusal.{Refusal}
 use Rattle.fixed_geom.specs.declared.refusal.Refusal.TheVariants.{NoMemory}
 use Rattle.impulse_ledger.specs.declared.entry.Entry as ledger
-use Rattle.impulse_ledger.specs.Sums.{HaveSameTotals, totals_of}
-use Rattle.impulse_ledger.proofs.SumLemmas.{sum_x-append, sum_y-append, sum_of_x-append, sum_of_y-append}
+use Rattle.impulse_ledger.specs.declared.totals.Total.{Total}
+use Rattle.impulse_ledger.specs.Totals.{sum_of, total_in, total_over}
+use Rattle.impulse_ledger.specs.Sums.{HaveSameTotals, summed, summed_of, totals_of}
+use Rattle.impulse_ledger.proofs.SumLemmas.{sum_of-swap, summed-append, summed_of-append}
 use Rattle.world_rules.specs.declared.command.Command.{Command}
 use Rattle.world_rules.specs.declared.command.Reply.{Reply}
 use Rattle.world_rules.specs.World.{World, book_of}
@@ -60,15 +61,16 @@ legal_push first es e legal one =
 
 -- ---- worlds that differ by settled entries alone
 
+-- two sums that are the same stay so with the same more
+more_alike : (s t d e more s_more t_more : Total) → s_more ≡ sum_of s more → t_more ≡ sum_of t more → sum_of s d ≡ sum_of t e → sum_of s_more d ≡ sum_of t_more e
+more_alike s t d e more s_more t_more first second same =
+    ap (λ (u : Total). sum_of u d) first ∙ (sum_of-swap s more d ∙ (ap (λ (u : Total). sum_of u more) same ∙ (sum_of-swap t e more ∙ ap (λ (u : Total). sum_of u e) (sym second))))
+
 totals_more : (v w : World) (a : Applied) → HaveSameTotals (book_of w) (book_of v) → HaveSameTotals (book_of (world_with w a)) (book_of (world_with v a))
-totals_more v w a same =
-    let x = same.x in let y = same.y in
-    record {
-      x = omega (arith, ints, sum_x-append w.entries a.entries, sum_x-append v.entries a.entries);
-      y = omega (arith, ints, sum_y-append w.entries a.entries, sum_y-append v.entries a.entries);
-      of_cause_x = λ c. omega (arith, ints, same.of_cause_x c, sum_of_x-append c w.entries a.entries, sum_of_x-append c v.entries a.entries);
-      of_cause_y = λ c. omega (arith, ints, same.of_cause_y c, sum_of_y-append c w.entries a.entries, sum_of_y-append c v.entries a.entries);
-    }
+totals_more v w a same = record {
+  all = more_alike (summed w.entries) (summed v.entries) (total_over w.settled) (total_over v.settled) (summed a.entries) _ _ (summed-append w.entries a.entries) (summed-append v.entries a.entries) same.all;
+  of_cause = λ c. more_alike (summed_of c w.entries) (summed_of c v.entries) (total_in c w.settled) (total_in c v.settled) (summed_of c a.entries) _ _ (summed_of-append c w.entries a.entries) (summed_of-append c v.entries a.entries) (same.of_cause c);
+}
 
 like_one : (v w : World) (due : Result Applied Refusal) → IsLike v w → IsLike (after_one v due) (after_one w due)
 like_one v w (Ok a) like = record { plain = refl; events = ap (λ l. unwrap_or a.events l) like.events; totals = totals_more v w a like.totals }

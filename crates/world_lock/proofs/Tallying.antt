@@ -1,15 +1,16 @@
 -- The tallies of a longer list of calls.
-use Rattle.std.proofs.Common.{◌≡◌, ◌≢◌, ℕ, zero, suc, ◌+◌, ◌^◌, ◌<◌, ◌≤◌, eq-eqb, ne_eqb, List, [], ◌∷◌, ◌++◌, length, cond, Bool, true, false, ◌+ℤ◌, refl, sym, ap, ◌∙◌, arith, length-append}
+use Rattle.std.proofs.Common.{◌≡◌, ◌≢◌, ℕ, zero, suc, ◌+◌, ◌^◌, ◌<◌, ◌≤◌, eq-eqb, ne_eqb, List, [], ◌∷◌, ◌++◌, length, cond, Bool, true, false, refl, sym, ap, ◌∙◌, arith, length-append}
 use Rattle.std.specs.Prelude.{All, ◌==◌, replicate, slice_index_or, slice_set}
 use Rattle.std.proofs.lemmas.Int.{ints}
 use Rattle.std.proofs.lemmas.List.{append-nil}
-use Rattle.fixed_geom.specs.Vectors.{IsWithin}
+use Rattle.fixed_geom.specs.Vectors.{IsWithin, plus}
 use Rattle.fixed_geom.specs.declared.vectors.Vec2.{Vec2}
+use Rattle.colour_solver.proofs.VectorLaws.{plus_assoc, plus_zero, zero_plus}
 use Rattle.seat_book.specs.History.{IsOther, IsPast}
 use Rattle.world_rules.specs.Laws.{impulse_of}
 use Rattle.world_lock.specs.declared.tally.Tally.{Tally}
 use Rattle.world_lock.specs.Journals.{Line, command_of}
-use Rattle.world_lock.specs.Tallies.{IsTally, calls_of, no_calls, pushed_x, pushed_y, tallies_from, tally_of, with_call}
+use Rattle.world_lock.specs.Tallies.{IsTally, calls_of, no_calls, pushed, tallies_from, tally_of, with_call}
 
 -- ---- a seat's own calls
 
@@ -37,21 +38,12 @@ past_calls seat seen history p = ap (calls_of seat) p.1 ∙ calls_append seat se
 
 -- ---- one call more
 
-pub pushed_x-append : (es fs : List Line) → pushed_x (es ++ fs) ≡ pushed_x es +ℤ pushed_x fs
-pushed_x-append [] fs = omega (arith, ints)
-pushed_x-append (x ∷ xs) fs = omega (arith, ints, pushed_x-append xs fs)
+pub pushed-append : (es fs : List Line) → pushed (es ++ fs) ≡ plus (pushed es) (pushed fs)
+pushed-append [] fs = sym (zero_plus (pushed fs))
+pushed-append (x ∷ xs) fs = ap (plus (impulse_of (command_of x))) (pushed-append xs fs) ∙ plus_assoc (impulse_of (command_of x)) (pushed xs) (pushed fs)
 
-pub pushed_y-append : (es fs : List Line) → pushed_y (es ++ fs) ≡ pushed_y es +ℤ pushed_y fs
-pushed_y-append [] fs = omega (arith, ints)
-pushed_y-append (x ∷ xs) fs = omega (arith, ints, pushed_y-append xs fs)
-
-pushed_x-push : (es : List Line) (e : Line) → pushed_x (es ++ e ∷ []) ≡ pushed_x es +ℤ (impulse_of (command_of e)).x
-pushed_x-push [] e = omega (arith, ints)
-pushed_x-push (x ∷ xs) e = omega (arith, ints, pushed_x-push xs e)
-
-pushed_y-push : (es : List Line) (e : Line) → pushed_y (es ++ e ∷ []) ≡ pushed_y es +ℤ (impulse_of (command_of e)).y
-pushed_y-push [] e = omega (arith, ints)
-pushed_y-push (x ∷ xs) e = omega (arith, ints, pushed_y-push xs e)
+pushed-push : (es : List Line) (e : Line) → pushed (es ++ e ∷ []) ≡ plus (pushed es) (impulse_of (command_of e))
+pushed-push es e = pushed-append es (e ∷ []) ∙ ap (plus (pushed es)) (plus_zero (impulse_of (command_of e)))
 
 length-push : (es : List Line) (e : Line) → length (es ++ e ∷ []) ≡ length es + 1
 length-push es e = omega (arith, length-append es (e ∷ []))
@@ -59,18 +51,13 @@ length-push es e = omega (arith, length-append es (e ∷ []))
 tally_one : (seat : ℕ) (es : List Line) (e : Line) → e.seat ≡ seat → with_call (tally_of seat es) (impulse_of (command_of e)) ≡ tally_of seat (es ++ e ∷ [])
 tally_one seat es e is =
     let own : calls_of seat (es ++ e ∷ []) ≡ calls_of seat es ++ e ∷ [] = calls_append seat es (e ∷ []) ∙ ap (λ l. calls_of seat es ++ l) (own_head seat e [] is) in
-    λ i. record {
-      calls = (sym (length-push (calls_of seat es) e) ∙ ap length (sym own)) i;
-      pushed = record {
-        x = (sym (pushed_x-push (calls_of seat es) e) ∙ ap pushed_x (sym own)) i;
-        y = (sym (pushed_y-push (calls_of seat es) e) ∙ ap pushed_y (sym own)) i;
-      };
-    }
+    let all : plus (pushed (calls_of seat es)) (impulse_of (command_of e)) ≡ pushed (calls_of seat (es ++ e ∷ [])) = sym (pushed-push (calls_of seat es) e) ∙ ap pushed (sym own) in
+    λ i. record { calls = (sym (length-push (calls_of seat es) e) ∙ ap length (sym own)) i; pushed = record { x = (all i).x; y = (all i).y } }
 
 tally_other : (seat : ℕ) (es : List Line) (e : Line) → e.seat ≢ seat → tally_of seat es ≡ tally_of seat (es ++ e ∷ [])
 tally_other seat es e other =
     let same : calls_of seat (es ++ e ∷ []) ≡ calls_of seat es = calls_append seat es (e ∷ []) ∙ ap (λ l. calls_of seat es ++ l) (other_head seat e [] other) ∙ append-nil (calls_of seat es) in
-    ap (λ (own : List Line). record { calls = length own; pushed = record { x = pushed_x own; y = pushed_y own } }) (sym same)
+    ap (λ (own : List Line). record { calls = length own; pushed = record { x = (pushed own).x; y = (pushed own).y } }) (sym same)
 
 tallies_other : (start n : ℕ) (es : List Line) (e : Line) → e.seat < start → tallies_from start n es ≡ tallies_from start n (es ++ e ∷ [])
 tallies_other start zero es e below = refl

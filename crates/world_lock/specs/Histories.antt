@@ -14,7 +14,7 @@ use Rattle.world_core.specs.Frames.{View, frame_of}
 use Rattle.world_lock.specs.declared.seat.Receipt.{Receipt}
 use Rattle.world_lock.specs.declared.tally.Tally.{Tally}
 use Rattle.world_lock.specs.Journals.{Beginning, IsLegal, IsLike, Journalled, KeepsHeadline, Line, journalled, left_by, line}
-use Rattle.world_lock.specs.Tallies.{IsTally, calls_of, no_calls, pushed_x, pushed_y, tallies_of}
+use Rattle.world_lock.specs.Tallies.{IsTally, calls_of, no_calls, pushed, tallies_of}
 
 -- a seat, and the calls that it has seen
 abbrev pub Known : Type 0
@@ -112,8 +112,8 @@ pub record IsAllOf (history journal : List Line) (settled : ℕ) (tallies : List
   pub past : IsPast k.seat k.seen history
   pub own : calls_of k.seat k.seen ≡ calls_of k.seat (take settled history) ++ calls_of k.seat journal
   pub calls : (slice_index_or tallies k.seat no_calls).calls + length (calls_of k.seat journal) ≡ length (calls_of k.seat k.seen)
-  pub pushed_x_is : (slice_index_or tallies k.seat no_calls).pushed.x +ℤ pushed_x (calls_of k.seat journal) ≡ pushed_x (calls_of k.seat k.seen)
-  pub pushed_y_is : (slice_index_or tallies k.seat no_calls).pushed.y +ℤ pushed_y (calls_of k.seat journal) ≡ pushed_y (calls_of k.seat k.seen)
+  pub pushed_x_is : (slice_index_or tallies k.seat no_calls).pushed.x +ℤ (pushed (calls_of k.seat journal)).x ≡ (pushed (calls_of k.seat k.seen)).x
+  pub pushed_y_is : (slice_index_or tallies k.seat no_calls).pushed.y +ℤ (pushed (calls_of k.seat journal)).y ≡ (pushed (calls_of k.seat k.seen)).y
 
 -- The headline holds of the closed world. The history is legal from the world at `open`, and its replay gives the closed world, but for entries that were
 -- settled; the journal is what of it wasn't settled, each call of it is of one of the seats, the settled tallies are those of its settled calls, and of each

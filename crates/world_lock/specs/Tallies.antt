@@ -1,5 +1,6 @@
 -- The tallies of seats: how many calls each made, and what it pushed.
-use Rattle.std.specs.Prelude.{ℕ, zero, suc, ◌+◌, ◌*◌, ◌^◌, ◌≤◌, ◌==◌, cond, List, [], ◌∷◌, length, ℤ, pos, ◌+ℤ◌, unsigned_abs}
+use Rattle.std.specs.Prelude.{ℕ, zero, suc, ◌+◌, ◌*◌, ◌^◌, ◌≤◌, ◌==◌, cond, List, [], ◌∷◌, length, ◌+ℤ◌, unsigned_abs}
+use Rattle.fixed_geom.specs.Vectors.{plus, zero_vector}
 use Rattle.fixed_geom.specs.declared.vectors.Vec2.{Vec2}
 use Rattle.impulse_ledger.specs.Totals.{zero_total}
 use Rattle.world_rules.specs.Laws.{impulse_of}
@@ -11,18 +12,14 @@ abbrev pub calls_of : ℕ → List Line → List Line
 calls_of seat [] = []
 calls_of seat (e ∷ es) = cond (e.seat == seat) (e ∷ calls_of seat es) (calls_of seat es)
 
--- the sums of what these calls pushed
-abbrev pub pushed_x : List Line → ℤ
-pushed_x [] = pos 0
-pushed_x (e ∷ es) = (impulse_of (command_of e)).x +ℤ pushed_x es
-
-abbrev pub pushed_y : List Line → ℤ
-pushed_y [] = pos 0
-pushed_y (e ∷ es) = (impulse_of (command_of e)).y +ℤ pushed_y es
+-- the sum of what these calls pushed
+abbrev pub pushed : List Line → Vec2
+pushed [] = zero_vector
+pushed (e ∷ es) = plus (impulse_of (command_of e)) (pushed es)
 
 -- of all calls, those of a seat are counted, and their pushes summed
 abbrev pub tally_of : ℕ → List Line → Tally
-tally_of seat es = let own = calls_of seat es in record { calls = length own; pushed = record { x = pushed_x own; y = pushed_y own } }
+tally_of seat es = let own = calls_of seat es in record { calls = length own; pushed = record { x = (pushed own).x; y = (pushed own).y } }
 
 -- the tallies of so many seats, from this one on
 abbrev pub tallies_from : ℕ → ℕ → List Line → List Tally

@@ -5,8 +5,8 @@ ghost use Rattle.std.specs.Result.{IsOkUnless};
 ghost use Rattle.world_rules.specs.Apply.{apply};
 ghost use Rattle.world_core.specs.Frames.{settled_world};
 ghost use Rattle.world_rules.specs.Replay.{after, answer_of};
-ghost use Rattle.impulse_ledger.specs.Sums.{total_x, total_y};
-ghost use Rattle.plain_world.specs.Bodies.{momentum_x, momentum_y};
+ghost use Rattle.impulse_ledger.specs.Sums.{total};
+ghost use Rattle.plain_world.specs.Momentum.{momentum};
 ghost use Rattle.world_rules.specs.World.{book_of};
 ghost use Rattle.world_lock.specs.Headline.{EachHasOneColour, EachSleepingSetIsOneComponent, EachStandsInOneSet, LinkedShareAnIsland, LinkedStandTogether, NoColourSharesAMover, WhatActsIsColoured};
 ghost use Rattle.world_lock.specs.Journals.{IsLegal, booked_by, commands_of, left_by, line};
@@ -88,8 +88,8 @@ impl<N: Opened> Held<N> {
         ensures linked_share_an_island { LinkedShareAnIsland self.now.world }
         ensures linked_stand_together { LinkedStandTogether self.now.world }
         ensures each_sleeping_set_is_one_component { EachSleepingSetIsOneComponent self.now.world }
-        ensures momentum_x_is_booked { momentum_x self.now.world.plain.bodies ≡ total_x (book_of self.now.world) }
-        ensures momentum_y_is_booked { momentum_y self.now.world.plain.bodies ≡ total_y (book_of self.now.world) }
+        ensures momentum_x_is_booked { (momentum self.now.world.plain.bodies).x ≡ (total (book_of self.now.world)).x }
+        ensures momentum_y_is_booked { (momentum self.now.world.plain.bodies).y ≡ (total (book_of self.now.world)).y }
         ensures is_the_replay { self.now.world ≡ left_by self.now.opening self.now.journal }
         ensures replies { IsLegal self.now.opening self.now.journal }
         ensures entries { drop (length self.now.opening.entries) self.now.world.entries ≡ booked_by self.now.opening (commands_of self.now.journal) }

@@ -4,7 +4,7 @@ use Rattle.std.specs.Prelude.{Contains, not}
 use Rattle.std.specs.Option.{is_none}
 use Rattle.fixed_geom.specs.Vectors.{IsWithin}
 use Rattle.body_handles.specs.Places.{IsPlace}
-use Rattle.impulse_ledger.specs.Sums.{total_x, total_y}
+use Rattle.impulse_ledger.specs.Sums.{total}
 use Rattle.contacts_base.specs.Contacts.{AreKeysRising}
 use Rattle.contacts.specs.Constraints.{constraint_number}
 use Rattle.contacts.specs.declared.constraint.Constraint.{Constraint}
@@ -12,8 +12,10 @@ use Rattle.graph_colours.specs.Colours.{ids_of}
 use Rattle.graph_colours.specs.declared.member.Member.{Member}
 use Rattle.islands.specs.Labels.{Labels, is_asleep, label_at}
 use Rattle.islands.specs.declared.label.Label.{Label}
+use Rattle.colour_solver.proofs.VectorLaws.{same_x, same_y}
 use Rattle.plain_world.specs.declared.body.Body.{Body}
-use Rattle.plain_world.specs.Bodies.{AreBodies, is_awake, is_mover, momentum_x, momentum_y}
+use Rattle.plain_world.specs.Bodies.{AreBodies, is_awake, is_mover}
+use Rattle.plain_world.specs.Momentum.{momentum}
 use Rattle.plain_world.specs.Joints.{AreJoints}
 use Rattle.plain_world.specs.Plain.{Plain}
 use Rattle.plain_world.specs.Sleep as sleep
@@ -36,7 +38,7 @@ use Rattle.world_rules.proofs.KeptContacts.{contacts_of_same, has_bodies_same, j
 use Rattle.world_rules.proofs.ShapeLaws.{filters_same}
 use Rattle.world_rules.proofs.SlotLemmas.{AreMatched-same}
 use Rattle.world_rules.proofs.SoundLaws.{IsKept}
-use Rattle.world_rules.proofs.ToldLaws.{NobodyFallsAsleep, length_told, told_alike, told_are_bodies, told_are_told, told_same_shapes, told_same_slots, told_stays, told_tied, told_timers, waking_momentum_x, waking_momentum_y}
+use Rattle.world_rules.proofs.ToldLaws.{NobodyFallsAsleep, length_told, told_alike, told_are_bodies, told_are_told, told_same_shapes, told_same_slots, told_stays, told_tied, told_timers, waking_momentum}
 
 -- the constraints, islands and colours s are those of the lists of w, but for who sleeps
 pub record IsActing (w : Plain) (s : Acting Constraint) : Type 0 where
@@ -87,8 +89,8 @@ acting_kept w k = record { settled = k.settled; ties = refl; tied = k.tied; long
 
 -- what a kept world keeps of them, whoever sleeps
 pub record AreLists (w : World) : Type 0 where
-  pub total_x : momentum_x w.plain.bodies ≡ total_x (book_of w)
-  pub total_y : momentum_y w.plain.bodies ≡ total_y (book_of w)
+  pub total_x : (momentum w.plain.bodies).x ≡ (total (book_of w)).x
+  pub total_y : (momentum w.plain.bodies).y ≡ (total (book_of w)).y
   pub causes : AreSmall (2 ^ 126 + w.plain.calls * 2 ^ 83) (book_of w)
   pub bodies : AreBodies w.plain.bodies
   pub filters : AreFiltered w.plain.bodies
@@ -155,17 +157,17 @@ kept_of w l settled tied told labels moved = record {
 }
 
 -- the lists with the bodies told, if that leaves the momentum as it is
-lists_told : (w : World) (s : Acting Constraint) → AreLists w → momentum_x (sleep.told s.labels w.plain.bodies) ≡ momentum_x w.plain.bodies → momentum_y (sleep.told s.labels w.plain.bodies) ≡ momentum_y w.plain.bodies
+lists_told : (w : World) (s : Acting Constraint) → AreLists w → momentum (sleep.told s.labels w.plain.bodies) ≡ momentum w.plain.bodies
     → AreLists (record w { plain = with_acting s w.plain })
-lists_told w s l x y =
+lists_told w s l still =
     let old = w.plain.bodies in
     let new = sleep.told s.labels old in
     let slots = told_same_slots s.labels old in
     let shapes = told_same_shapes s.labels old in
     let moves = moves_alike old new (told_alike s.labels old) slots in
     record {
-      total_x = x ∙ l.total_x;
-      total_y = y ∙ l.total_y;
+      total_x = same_x still ∙ l.total_x;
+      total_y = same_y still ∙ l.total_y;
       causes = l.causes;
       bodies = told_are_bodies s.labels old l.bodies;
       filters = filters_same old new shapes l.filters;
@@ -184,15 +186,15 @@ lists_told w s l x y =
     }
 
 -- lists with the constraints, islands and colours that go with them make a kept world
-pub acting_put : (w : World) (s : Acting Constraint) → AreLists w → IsActing w.plain s → momentum_x (sleep.told s.labels w.plain.bodies) ≡ momentum_x w.plain.bodies → momentum_y (sleep.told s.labels w.plain.bodies) ≡ momentum_y w.plain.bodies
+pub acting_put : (w : World) (s : Acting Constraint) → AreLists w → IsActing w.plain s → momentum (sleep.told s.labels w.plain.bodies) ≡ momentum w.plain.bodies
     → IsKept (record w { plain = with_acting s w.plain })
-acting_put w s l is x y =
+acting_put w s l is still =
     let a = acted w.plain s l.bodies is in
-    kept_of (record w { plain = with_acting s w.plain }) (lists_told w s l x y) a.settled a.tied a.told a.labels a.moved
+    kept_of (record w { plain = with_acting s w.plain }) (lists_told w s l still) a.settled a.tied a.told a.labels a.moved
 
 -- the same where nobody falls asleep
 pub awake_put : (w : World) (s : Acting Constraint) → AreLists w → IsActing w.plain s → NobodyFallsAsleep w.plain.bodies s.labels → IsKept (record w { plain = with_acting s w.plain })
-awake_put w s l is h = acting_put w s l is (waking_momentum_x s.labels w.plain.bodies l.bodies h) (waking_momentum_y s.labels w.plain.bodies l.bodies h)
+awake_put w s l is h = acting_put w s l is (waking_momentum s.labels w.plain.bodies l.bodies h)
 
 -- ---- bodies and labels that are awake
 

@@ -1,10 +1,12 @@
 -- A world stays kept where a body is destroyed, and where one is disabled.
-use Rattle.std.proofs.Common.{◌≡◌, ℕ, ◌+◌, ◌*◌, ◌<◌, ◌≤◌, ◌^◌, All, Bool, true, false, cond, List, ◌++◌, length, Option, Some, None, ℤ, pos, neg_ℤ, unsigned_abs, refl, sym, ap, ◌∙◌, subst, arith}
+use Rattle.std.proofs.Common.{◌≡◌, ℕ, ◌+◌, ◌*◌, ◌<◌, ◌≤◌, ◌^◌, All, Bool, true, false, cond, List, ◌++◌, length, Option, Some, None, refl, sym, ap, ◌∙◌, subst, arith}
 use Rattle.std.specs.Prelude.{option_map, slice_set}
 use Rattle.std.specs.Option.{is_none}
 use Rattle.std.proofs.lemmas.Bool.{false≢true}
 use Rattle.std.proofs.lemmas.Int.{ints}
 use Rattle.std.proofs.lemmas.Option.{none-some, same_Some}
+use Rattle.fixed_geom.specs.Vectors.{IsWithin, opposite, zero_vector}
+use Rattle.fixed_geom.specs.declared.vectors.Vec2.{Vec2}
 use Rattle.body_handles.specs.declared.handle.Handle.{Handle}
 use Rattle.body_handles.specs.declared.places.Place.{Place}
 use Rattle.body_handles.specs.Places.{IsPlace, places_without}
@@ -12,10 +14,12 @@ use Rattle.impulse_ledger.specs.declared.entry.Cause.TheVariants as causes
 use Rattle.islands.specs.declared.label.Label.{Label}
 use Rattle.islands.specs.Labels.{label_at}
 use Rattle.momenta.specs.declared.mass.MassData.{MassData}
+use Rattle.colour_solver.proofs.VectorLaws.{same_x, same_y}
 use Rattle.plain_world.specs.declared.body.Body.{Body}
 use Rattle.plain_world.specs.declared.kind.Kind.{Kind}
 use Rattle.plain_world.specs.declared.kind.Kind.TheVariants.{Static, Kinematic, Dynamic}
-use Rattle.plain_world.specs.Bodies.{IsBody, IsMassOf, is_awake, is_mover, p_x, p_y}
+use Rattle.plain_world.specs.Bodies.{IsBody, IsMassOf, is_awake, is_mover}
+use Rattle.plain_world.specs.Momentum.{momentum_in}
 use Rattle.plain_world.specs.Changes.{disabled_body}
 use Rattle.plain_world.specs.Formed.{HaveFilters}
 use Rattle.plain_world.specs.Joints.{AreJoints, idle_joints}
@@ -34,16 +38,16 @@ use Rattle.world_rules.specs.World.{World, body_of, joints_of}
 use Rattle.world_rules.proofs.ActingLaws.{AreLists, IsWoken, stay_awake, waking_kept}
 use Rattle.world_rules.proofs.LowerLaws.{awake_stay_awake, disabling_takes_ties, going_takes_ties}
 use Rattle.world_rules.proofs.BesideLaws.{alike_beside, contacts_beside, have_bodies_beside, idle_ends, idle_matched, joints_beside, joints_idle, joints_taken, keys_beside, matched_beside, own_item, taken_beside, timers_beside}
-use Rattle.world_rules.proofs.BookLemmas.{AreSmall-booked, AreSmall-weaker, sum_x-booked, sum_y-booked}
+use Rattle.world_rules.proofs.BookLemmas.{AreSmall-booked, AreSmall-weaker, summed-booked}
 use Rattle.world_rules.proofs.KeptChanges.{named_at}
 use Rattle.world_rules.proofs.GoneLaws.{CanGo, beside, gone_by}
 use Rattle.world_rules.proofs.PlaceLaws.{live_body, places_freed}
 use Rattle.world_rules.proofs.ShapeLaws.{filters_set}
-use Rattle.world_rules.proofs.SlotLemmas.{AreBodies-set, AreMatched-set, below_length, body_at-in, momentum_x-set, momentum_y-set}
+use Rattle.world_rules.proofs.SlotLemmas.{AreBodies-set, AreMatched-set, below_length, body_at-in, momentum-set, part_le}
 use Rattle.world_rules.proofs.PutLaws.{IsPut, both_put}
 use Rattle.world_rules.proofs.SoundLaws.{IsKept}
 use Rattle.world_rules.proofs.StirLaws.{joint_slots_of, mover_up, stirred_can_end}
-use Rattle.world_rules.proofs.ToldLaws.{NobodyFallsAsleep, body_told, told_is, told_p_x, told_p_y}
+use Rattle.world_rules.proofs.ToldLaws.{NobodyFallsAsleep, body_told, told_is, told_part}
 
 -- ---- a body once islands were woken
 
@@ -58,8 +62,7 @@ pub record IsSeen (w : World) (slots : List ℕ) (slot : ℕ) (b : Body) : Type 
   pub at : body_at (woken w.plain slots).bodies slot ≡ Some body
   pub mover : is_mover body ≡ is_mover b
   pub enabled : body.enabled ≡ b.enabled
-  pub x : p_x (Some body) ≡ p_x (Some b)
-  pub y : p_y (Some body) ≡ p_y (Some b)
+  pub momentum : momentum_in (Some body) ≡ momentum_in (Some b)
 
 pub seen : (w : World) (slots : List ℕ) (slot : ℕ) (b : Body) → IsKept w → body_at w.plain.bodies slot ≡ Some b → IsSeen w slots slot b
 seen w slots slot b k at =
@@ -72,8 +75,7 @@ seen w slots slot b k at =
       at = body_told (woken w.plain slots).islands w.plain.bodies slot ∙ ap (option_map (told_body l)) at;
       mover = (told_is l b).mover;
       enabled = (told_is l b).enabled;
-      x = told_p_x l (Some b) is up;
-      y = told_p_y l (Some b) is up;
+      momentum = told_part l (Some b) is up;
     }
 
 -- ---- the lists
@@ -84,38 +86,28 @@ record IsOut (steps : ℕ) (o : Option Body) : Type 0 where
   filters : (b : Body) → o ≡ Some b → HaveFilters b.shapes
   timer : (b : Body) → o ≡ Some b → b.timer ≤ 8 * steps
   mover : is_mover_in o ≡ false
-  x : p_x o ≡ pos 0
-  y : p_y o ≡ pos 0
+  none : momentum_in o ≡ zero_vector
 
-part_le : (m : Bool) (z : ℤ) → unsigned_abs z ≤ 2 ^ 60 → unsigned_abs (cond m z (pos 0)) ≤ 2 ^ 60
-part_le true z h = h
-part_le false z h = omega arith
-
-opposite_le : (z : ℤ) (n : ℕ) → unsigned_abs z ≤ n → unsigned_abs (neg_ℤ z) ≤ n
-opposite_le z n h = omega (arith, ints)
+opposite_le : (v : Vec2) (n : ℕ) → IsWithin n v → IsWithin n (opposite v)
+opposite_le v n h = record { x = omega (arith, ints, h.x); y = omega (arith, ints, h.y) }
 
 -- the body b has left, and its momentum with it
-out_lists : (w : World) (slot : ℕ) (b c : Body) (o : Option Body) (places : List Place) (joints : JointSlots) → IsKept w → w.plain.calls < 2 ^ 40 → body_at w.plain.bodies slot ≡ Some c → p_x (Some c) ≡ p_x (Some b) → p_y (Some c) ≡ p_y (Some b) → IsBody b
+out_lists : (w : World) (slot : ℕ) (b c : Body) (o : Option Body) (places : List Place) (joints : JointSlots) → IsKept w → w.plain.calls < 2 ^ 40 → body_at w.plain.bodies slot ≡ Some c → momentum_in (Some c) ≡ momentum_in (Some b) → IsBody b
     → IsOut w.plain.steps o → AreMatched places (slice_set w.plain.bodies slot o) → All IsPlace places → AreJointSlots joints → AreJoints (slice_set w.plain.bodies slot o) joints.joints
     → AreLists (record w { plain = beside slot o places joints w.plain; entries = w.entries ++ departed (w.plain.calls + 1) b })
-out_lists w slot b c o places joints k few at same_x same_y body out matched generations slots are =
+out_lists w slot b c o places joints k few at same body out matched generations slots are =
     let bodies = w.plain.bodies in
     let call : ℕ = w.plain.calls + 1 in
     let lt : slot < length bodies = below_length bodies slot c at in
-    let mx = momentum_x-set bodies slot o lt in
-    let my = momentum_y-set bodies slot o lt in
-    let old_x : p_x (body_at bodies slot) ≡ p_x (Some b) = ap p_x at ∙ same_x in
-    let old_y : p_y (body_at bodies slot) ≡ p_y (Some b) = ap p_y at ∙ same_y in
-    let x : ℤ = neg_ℤ (p_x (Some b)) in
-    let y : ℤ = neg_ℤ (p_y (Some b)) in
-    let none_x = out.x in
-    let none_y = out.y in
+    let set = momentum-set bodies slot o lt in
+    let old : momentum_in (body_at bodies slot) ≡ momentum_in (Some b) = ap momentum_in at ∙ same in
+    let lost : Vec2 = opposite (momentum_in (Some b)) in
+    let small : IsWithin (2 ^ 60) lost = opposite_le (momentum_in (Some b)) (2 ^ 60) (part_le (is_mover b) b.motion.p body.motion.p) in
     record {
-      total_x = let t = k.total_x in rw (sum_x-booked w.entries call causes.Departed x y) (omega (arith, ints, mx, old_x, none_x, t));
-      total_y = let t = k.total_y in rw (sum_y-booked w.entries call causes.Departed x y) (omega (arith, ints, my, old_y, none_y, t));
+      total_x = let t = k.total_x in rw (summed-booked w.entries call causes.Departed lost.x lost.y) (omega (arith, ints, same_x set, same_x old, same_x out.none, t));
+      total_y = let t = k.total_y in rw (summed-booked w.entries call causes.Departed lost.x lost.y) (omega (arith, ints, same_y set, same_y old, same_y out.none, t));
       causes = AreSmall-weaker (2 ^ 126 + w.plain.calls * 2 ^ 83 + 2 ^ 60) (2 ^ 126 + (w.plain.calls + 1) * 2 ^ 83) _ (omega arith)
-          (AreSmall-booked (2 ^ 126 + w.plain.calls * 2 ^ 83) (2 ^ 60) 0 0 w.entries w.settled call causes.Departed x y k.causes
-          (opposite_le (p_x (Some b)) (2 ^ 60) (part_le (is_mover b) b.motion.p.x body.motion.p.x)) (opposite_le (p_y (Some b)) (2 ^ 60) (part_le (is_mover b) b.motion.p.y body.motion.p.y)));
+          (AreSmall-booked (2 ^ 126 + w.plain.calls * 2 ^ 83) (2 ^ 60) 0 0 w.entries w.settled call causes.Departed lost.x lost.y k.causes small.x small.y);
       bodies = AreBodies-set bodies slot o k.bodies out.body;
       filters = filters_set bodies slot o out.filters k.filters;
       timers = timers_beside w.plain.steps bodies slot o lt out.timer k.timers;
@@ -151,7 +143,7 @@ stirred_can_go w slot k =
 -- ---- DestroyBody
 
 none_out : (steps : ℕ) → IsOut steps None
-none_out steps = record { body = λ b e. absurd (none-some b e); filters = λ b e. absurd (none-some b e); timer = λ b e. absurd (none-some b e); mover = refl; x = refl; y = refl }
+none_out steps = record { body = λ b e. absurd (none-some b e); filters = λ b e. absurd (none-some b e); timer = λ b e. absurd (none-some b e); mover = refl; none = refl }
 
 -- the world in which the body isn't there any more, before what acts is put into it
 abbrev pub destroyed_lists : World → Handle → Body → World
@@ -172,7 +164,7 @@ destroy_put w h b k few named =
     let out : IsOut v.plain.steps None = none_out v.plain.steps in
     let gone = gone_by v slot None places joints (is_mover b) wk.kept (stirred_can_go w slot k) lt (wk.alike.movers slot ∙ ap is_mover_in at) refl
     (ap is_mover_in (own_item v.plain.bodies slot None lt)) went.1 (out_rests v.plain.steps None out) in
-    let lists = out_lists v slot b now.body None places joints wk.kept few now.at now.x now.y (k.bodies slot b (body_at-in w.plain.bodies slot b at)) out
+    let lists = out_lists v slot b now.body None places joints wk.kept few now.at now.momentum (k.bodies slot b (body_at-in w.plain.bodies slot b at)) out
     (AreMatched-set w.plain.places v.plain.bodies slot _ None refl wk.kept.matched) (places_freed w.plain.places h k.places (live_body w.plain h b named)) went.0 (joints_beside v.plain.bodies slot None (joints_of v.plain) wk.kept.joints) in
     both_put (record v { plain = beside slot None places joints v.plain; entries = w.entries ++ departed (w.plain.calls + 1) b }) (body_gone slot (is_mover b) v.plain) lists gone.acting gone.awake
 
@@ -220,8 +212,7 @@ disabled_out steps b is filters short = record {
   filters = λ c e. subst (λ (a : Body). HaveFilters a.shapes) (same_Some (disabled_body b) c e) filters;
   timer = λ c e. subst (λ (a : Body). a.timer ≤ 8 * steps) (same_Some (disabled_body b) c e) short;
   mover = refl;
-  x = refl;
-  y = refl;
+  none = refl;
 }
 
 -- the lists in which another body takes the place of one that is disabled
@@ -243,7 +234,7 @@ out_put w h b k few at now =
     (alike_beside v.plain.bodies slot o) (ap is_enabled_in (own_item v.plain.bodies slot o lt)) (idle_ends slot v.plain.joints) in
     let gone = gone_by v slot o w.plain.places joints (is_mover b) wk.kept (stirred_can_go w slot k) lt (wk.alike.movers slot ∙ ap is_mover_in at) refl
     (ap is_mover_in (own_item v.plain.bodies slot o lt)) went (out_rests v.plain.steps o out) in
-    let lists = out_lists v slot b now.body o w.plain.places joints wk.kept few now.at now.x now.y (k.bodies slot b (body_at-in w.plain.bodies slot b at)) out
+    let lists = out_lists v slot b now.body o w.plain.places joints wk.kept few now.at now.momentum (k.bodies slot b (body_at-in w.plain.bodies slot b at)) out
     (matched_beside w.plain.places v.plain.bodies slot now.body (disabled_body now.body) now.at wk.kept.matched) k.places
     (record { matched = idle_matched w.plain.joint_places slot w.plain.joints k.joint_slots; places = k.joint_places })
     (joints_taken v.plain.bodies (slice_set v.plain.bodies slot o) (idle_joints slot v.plain.joints) (taken_beside v.plain.bodies slot now.body (disabled_body now.body) now.at) (joints_idle v.plain.bodies slot v.plain.joints wk.kept.joints)) in

@@ -1,5 +1,5 @@
 -- Commands that change one body, or none, keep a world.
-use Rattle.std.proofs.Common.{◌≡◌, ℕ, ◌+◌, ◌*◌, ◌<◌, ◌≤◌, ◌^◌, List, [], ◌∷◌, ◌++◌, length, Option, Some, None, Ok, Err, Bool, true, false, cond, ℤ, pos, ◌+ℤ◌, unsigned_abs, arith, refl, sym, ap, ◌∙◌, subst, is_some}
+use Rattle.std.proofs.Common.{◌≡◌, ℕ, ◌+◌, ◌*◌, ◌<◌, ◌≤◌, ◌^◌, List, [], ◌∷◌, ◌++◌, length, Option, Some, None, Ok, Err, Bool, true, false, cond, ℤ, pos, unsigned_abs, arith, refl, sym, ap, ◌∙◌, subst, is_some}
 use Rattle.std.specs.Prelude.{◌&&◌, nat_le, option_map, slice_set}
 use Rattle.std.specs.Option.{ForSome, is_none}
 use Rattle.std.proofs.lemmas.Int.{ints}
@@ -7,7 +7,7 @@ use Rattle.std.proofs.lemmas.Grind.{common_steps}
 use Rattle.std.proofs.lemmas.List.{append-nil, length-set}
 use Rattle.std.proofs.lemmas.List.Elements.{Contains-push}
 use Rattle.fixed_geom.specs.Facings.{is_facing}
-use Rattle.fixed_geom.specs.Vectors.{IsWithin, cross, is_within}
+use Rattle.fixed_geom.specs.Vectors.{IsWithin, cross, is_within, plus, zero_vector}
 use Rattle.fixed_geom.specs.declared.vectors.Vec2.{Vec2}
 use Rattle.fixed_geom.specs.declared.refusal.Refusal.TheVariants.{OutOfRange, NotAMover, NotKinematic, BodyDisabled, TooFast}
 use Rattle.body_handles.specs.declared.handle.Handle.{Handle}
@@ -23,10 +23,12 @@ use Rattle.impulse_ledger.specs.Sums.{Book}
 use Rattle.contacts.specs.Constraints.{constraint_number}
 use Rattle.islands.specs.Labels.{label_at}
 use Rattle.islands.specs.declared.label.Label.{Label}
+use Rattle.colour_solver.proofs.VectorLaws.{plus_zero, same_x, same_y}
 use Rattle.plain_world.specs.declared.body.Body.{Body}
 use Rattle.plain_world.specs.declared.kind.Course.{Course}
 use Rattle.plain_world.specs.declared.kind.Kind.TheVariants.{Kinematic}
-use Rattle.plain_world.specs.Bodies.{IsBody, is_awake, is_mover, p_x, p_y, pose_of}
+use Rattle.plain_world.specs.Bodies.{IsBody, is_awake, is_mover, pose_of}
+use Rattle.plain_world.specs.Momentum.{momentum_in}
 use Rattle.plain_world.specs.Changes.{CanPose, put_course, put_momenta, put_pose}
 use Rattle.plain_world.specs.Kinds.{IsCourse, is_course, is_dynamic, is_kinematic}
 use Rattle.plain_world.specs.Plain.{Plain}
@@ -46,11 +48,11 @@ use Rattle.world_rules.specs.Sound.{IsRoomy}
 use Rattle.world_rules.specs.World.{World, body_of, book_of}
 use Rattle.world_rules.proofs.ActingLaws.{AreLists, awake_name, kept_of, lists_kept, waking_kept}
 use Rattle.world_rules.proofs.LowerLaws.{the_named_are_awake}
-use Rattle.world_rules.proofs.BookLemmas.{AreSmall-booked, AreSmall-weaker, sum_x-booked, sum_y-booked}
+use Rattle.world_rules.proofs.BookLemmas.{AreSmall-booked, AreSmall-weaker, summed-booked}
 use Rattle.world_rules.proofs.ChangeLemmas.{alike_acting, alike_moved, alike_set, tied_alike, timers_set, told_set}
 use Rattle.world_rules.proofs.KeptContacts.{contacts_of_same, has_bodies_same, joints_same, moves_alike}
 use Rattle.world_rules.proofs.ShapeLaws.{HaveSameShapes, filters_same, same_shapes_set, shapes_of}
-use Rattle.world_rules.proofs.SlotLemmas.{AreBodies-set, AreMatched-same, HaveSameSlots-set, below_length, body_at-in, momentum_x-set, momentum_x_le, momentum_y-set, momentum_y_le}
+use Rattle.world_rules.proofs.SlotLemmas.{AreBodies-set, AreMatched-same, HaveSameSlots-set, below_length, body_at-in, momentum-set, momentum_le}
 use Rattle.world_rules.proofs.SoundLaws.{IsKept}
 use Rattle.world_rules.proofs.ToldLaws.{body_told, told_is, told_motion}
 
@@ -58,12 +60,11 @@ use Rattle.world_rules.proofs.ToldLaws.{body_told, told_is, told_motion}
 
 pub IsRoomy-kept : (w : World) (room : ℕ) → IsKept w → IsRoomy (record { entries = w.entries; settled = w.settled; room = room })
 IsRoomy-kept w room s =
-    let mx = momentum_x_le w.plain.bodies s.bodies in
-    let my = momentum_y_le w.plain.bodies s.bodies in
+    let within = momentum_le w.plain.bodies s.bodies in
     let few = s.matched.few in
     record {
-      x = rw (← s.total_x) (omega (arith, mx, few));
-      y = rw (← s.total_y) (omega (arith, my, few));
+      x = rw (← s.total_x) (omega (arith, within.x, few));
+      y = rw (← s.total_y) (omega (arith, within.y, few));
       causes = AreSmall-weaker (2 ^ 126 + w.plain.calls * 2 ^ 83) (2 ^ 126 + 2 ^ 123) (record { entries = w.entries; settled = w.settled; room = room }) (omega (arith, s.calls)) (record { x = s.causes.x; y = s.causes.y });
     }
 
@@ -85,8 +86,7 @@ pub record IsChanged (bodies : List (Option Body)) (slot : ℕ) (b c : Body) (x 
   pub asleep : c.asleep ≡ b.asleep
   pub timer : c.timer ≡ b.timer
   pub shapes : c.shapes ≡ b.shapes
-  pub gain_x : p_x (Some c) ≡ p_x (Some b) +ℤ x
-  pub gain_y : p_y (Some c) ≡ p_y (Some b) +ℤ y
+  pub gain : momentum_in (Some c) ≡ plus (momentum_in (Some b)) (record { x = x; y = y })
   pub small_x : unsigned_abs x ≤ 2 ^ 40
   pub small_y : unsigned_abs y ≤ 2 ^ 40
 
@@ -96,12 +96,8 @@ changed_lists : (w : World) (slot : ℕ) (b c : Body) (x y : ℤ) (call : ℕ) (
 changed_lists w slot b c x y call why s few is =
     let bodies = w.plain.bodies in
     let here : slot < length bodies = below_length bodies slot b is.at in
-    let mx = momentum_x-set bodies slot (Some c) here in
-    let my = momentum_y-set bodies slot (Some c) here in
-    let old_x : p_x (body_at bodies slot) ≡ p_x (Some b) = ap p_x is.at in
-    let old_y : p_y (body_at bodies slot) ≡ p_y (Some b) = ap p_y is.at in
-    let gain_x = is.gain_x in
-    let gain_y = is.gain_y in
+    let set = momentum-set bodies slot (Some c) here in
+    let old : momentum_in (body_at bodies slot) ≡ momentum_in (Some b) = ap momentum_in is.at in
     let as_many : shapes_in (Some c) ≡ shapes_in (Some b) = λ j. cond (is.enabled j) (length (is.shapes j)) 0 in
     let slots : HaveSameSlots bodies (slice_set bodies slot (Some c)) = HaveSameSlots-set bodies slot (Some c) (sym (ap is_some is.at)) (as_many ∙ sym (ap shapes_in is.at)) in
     let shapes : HaveSameShapes bodies (slice_set bodies slot (Some c)) = same_shapes_set bodies slot (Some c) (is.shapes ∙ sym (ap shapes_of is.at)) in
@@ -110,8 +106,8 @@ changed_lists w slot b c x y call why s few is =
     let old_timer = s.timers slot b is.at in
     let same_timer = is.timer in
     record {
-      total_x = let t = s.total_x in rw (sum_x-booked w.entries call why x y) (omega (arith, ints, mx, old_x, gain_x, t));
-      total_y = let t = s.total_y in rw (sum_y-booked w.entries call why x y) (omega (arith, ints, my, old_y, gain_y, t));
+      total_x = let t = s.total_x in rw (summed-booked w.entries call why x y) (omega (arith, ints, same_x set, same_x old, same_x is.gain, t));
+      total_y = let t = s.total_y in rw (summed-booked w.entries call why x y) (omega (arith, ints, same_y set, same_y old, same_y is.gain, t));
       causes = AreSmall-weaker (2 ^ 126 + w.plain.calls * 2 ^ 83 + 2 ^ 40) (2 ^ 126 + (w.plain.calls + 1) * 2 ^ 83) _ (omega arith)
           (AreSmall-booked (2 ^ 126 + w.plain.calls * 2 ^ 83) (2 ^ 40) 0 0 w.entries w.settled call why x y s.causes is.small_x is.small_y);
       bodies = AreBodies-set bodies slot (Some c) s.bodies (λ d f. let same : c ≡ d = cc in subst IsBody same is.body);
@@ -194,9 +190,6 @@ still_there w movers slot b k at =
       body = (waking_kept w movers k).kept.bodies slot (told_body (label_at labels slot) b) (body_at-in (woken w.plain movers).bodies slot (told_body (label_at labels slot) b) there);
     }
 
-no_more : (z : ℤ) → z ≡ z +ℤ pos 0
-no_more z = omega (arith, ints)
-
 -- ---- Push and PushAt
 
 tests : (d e s t : Bool) (q m : Momenta) → cond d (cond e (cond s (cond t (Ok q) (Err TooFast)) (Err OutOfRange)) (Err BodyDisabled)) (Err NotAMover) ≡ Ok m
@@ -277,7 +270,7 @@ IsBody-put b j r m is awake sum small turns = record {
   fats = is.fats;
 }
 
-mover_gains : (t : Bool) (p old j : ℤ) → t ≡ true → p ≡ old +ℤ j → cond t p (pos 0) ≡ cond t old (pos 0) +ℤ j
+mover_gains : (t : Bool) (p old j : Vec2) → t ≡ true → p ≡ plus old j → cond t p zero_vector ≡ plus (cond t old zero_vector) j
 mover_gains true p old j e sum = sum
 mover_gains false p old j e sum = cc
 
@@ -292,8 +285,7 @@ pushed_changed bodies slot b j r m at is mover awake sum push small turns = reco
   asleep = refl;
   timer = refl;
   shapes = refl;
-  gain_x = mover_gains (is_mover b) m.p.x b.motion.p.x j.x mover (ap (λ (n : Momenta). n.p.x) sum);
-  gain_y = mover_gains (is_mover b) m.p.y b.motion.p.y j.y mover (ap (λ (n : Momenta). n.p.y) sum);
+  gain = mover_gains (is_mover b) m.p b.motion.p j mover (ap (λ (n : Momenta). n.p) sum);
   small_x = push.x;
   small_y = push.y;
 }
@@ -390,8 +382,7 @@ posed_changed bodies slot b o at is pose = record {
   asleep = refl;
   timer = refl;
   shapes = refl;
-  gain_x = no_more (p_x (Some b));
-  gain_y = no_more (p_y (Some b));
+  gain = sym (plus_zero (momentum_in (Some b)));
   small_x = omega arith;
   small_y = omega arith;
 }
@@ -456,7 +447,7 @@ IsBody-steered b course is k enabled allowed = record {
   fats = is.fats;
 }
 
-at_rest_gains : (s t : Bool) (p : ℤ) → s ≡ false → t ≡ false → cond s p (pos 0) ≡ cond t p (pos 0) +ℤ pos 0
+at_rest_gains : (s t : Bool) (p : Vec2) → s ≡ false → t ≡ false → cond s p zero_vector ≡ plus (cond t p zero_vector) zero_vector
 at_rest_gains s t p e f = rw (e, f) refl
 
 steered_changed : (bodies : List (Option Body)) (slot : ℕ) (b : Body) (course : Course) → body_at bodies slot ≡ Some b → IsBody b → is_kinematic b.kind ≡ true → b.enabled ≡ true → IsCourse course → IsChanged bodies slot b (put_course course b) (pos 0) (pos 0)
@@ -471,8 +462,7 @@ steered_changed bodies slot b course at is k enabled allowed =
       asleep = refl;
       timer = refl;
       shapes = refl;
-      gain_x = at_rest_gains (is_mover (put_course course b)) (is_mover b) b.motion.p.x now was;
-      gain_y = at_rest_gains (is_mover (put_course course b)) (is_mover b) b.motion.p.y now was;
+      gain = at_rest_gains (is_mover (put_course course b)) (is_mover b) b.motion.p now was;
       small_x = omega arith;
       small_y = omega arith;
     }

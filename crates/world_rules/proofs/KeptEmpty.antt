@@ -7,7 +7,7 @@ use Rattle.fixed_geom.specs.declared.vectors.Vec2.{Vec2}
 use Rattle.body_handles.specs.Places.{IsPlace}
 use Rattle.impulse_ledger.specs.declared.entry.Cause.{Cause}
 use Rattle.impulse_ledger.specs.declared.entry.Cause.TheVariants as causes
-use Rattle.impulse_ledger.specs.Sums.{total_of_x, total_of_y}
+use Rattle.impulse_ledger.specs.Sums.{total_of}
 use Rattle.contacts.specs.Constraints.{constraint_number}
 use Rattle.contacts.specs.declared.constraint.Constraint.{Constraint}
 use Rattle.graph_colours.specs.Colours.{IsColouring, ids_of}
@@ -24,21 +24,13 @@ use Rattle.world_rules.proofs.LowerLaws.{empty_is_settled}
 use Rattle.world_rules.proofs.BookLemmas.{AreSmall-weaker}
 use Rattle.world_rules.proofs.SoundLaws.{IsKept}
 
-no_total_x : (g : Vec2) (c : Cause) → unsigned_abs (total_of_x c (book_of (empty_world g))) ≤ 2 ^ 126
-no_total_x g causes.Command = omega arith
-no_total_x g causes.Gravity = omega arith
-no_total_x g causes.Immovable = omega arith
-no_total_x g causes.Clamp = omega arith
-no_total_x g causes.Rest = omega arith
-no_total_x g causes.Departed = omega arith
-
-no_total_y : (g : Vec2) (c : Cause) → unsigned_abs (total_of_y c (book_of (empty_world g))) ≤ 2 ^ 126
-no_total_y g causes.Command = omega arith
-no_total_y g causes.Gravity = omega arith
-no_total_y g causes.Immovable = omega arith
-no_total_y g causes.Clamp = omega arith
-no_total_y g causes.Rest = omega arith
-no_total_y g causes.Departed = omega arith
+no_total : (g : Vec2) (c : Cause) → (unsigned_abs (total_of c (book_of (empty_world g))).x ≤ 2 ^ 126) × (unsigned_abs (total_of c (book_of (empty_world g))).y ≤ 2 ^ 126)
+no_total g causes.Command = (omega arith, omega arith)
+no_total g causes.Gravity = (omega arith, omega arith)
+no_total g causes.Immovable = (omega arith, omega arith)
+no_total g causes.Clamp = (omega arith, omega arith)
+no_total g causes.Rest = (omega arith, omega arith)
+no_total g causes.Departed = (omega arith, omega arith)
 
 -- lists of no members are a colouring
 pub no_colours : IsColouring {C = Constraint} constraint_number (replicate (COLOURS + 1) [])
@@ -61,7 +53,7 @@ pub empty_kept : (g : Vec2) → IsWithin (2 ^ 16) g → IsKept (empty_world g)
 empty_kept g h = record {
   total_x = refl;
   total_y = refl;
-  causes = AreSmall-weaker (2 ^ 126) (2 ^ 126 + 0 * 2 ^ 83) (book_of (empty_world g)) (omega arith) (record { x = no_total_x g; y = no_total_y g });
+  causes = AreSmall-weaker (2 ^ 126) (2 ^ 126 + 0 * 2 ^ 83) (book_of (empty_world g)) (omega arith) (record { x = λ c. (no_total g c).0; y = λ c. (no_total g c).1 });
   bodies = λ slot b e. cc;
   filters = λ slot b e. absurd (none-some b e);
   timers = λ slot b e. absurd (none-some b e);

@@ -1,7 +1,9 @@
 -- A world stays kept where a body is enabled.
-use Rattle.std.proofs.Common.{◌≡◌, ◌≢◌, ◌⊎◌, ℕ, ◌*◌, ◌<◌, ◌≤◌, ◌^◌, Bool, true, false, cond, List, length, Option, Some, None, is_some, All, ℤ, pos, inl, inr, refl, sym, ap, ap₂, ◌∙◌, subst, arith}
+use Rattle.std.proofs.Common.{◌≡◌, ◌≢◌, ◌⊎◌, ℕ, ◌*◌, ◌<◌, ◌≤◌, ◌^◌, Bool, true, false, cond, List, length, Option, Some, None, is_some, All, inl, inr, refl, sym, ap, ap₂, ◌∙◌, subst, arith}
 use Rattle.std.specs.Prelude.{Contains, option_map, slice_set}
 use Rattle.std.specs.Option.{is_none}
+use Rattle.fixed_geom.specs.Vectors.{zero_vector}
+use Rattle.fixed_geom.specs.declared.vectors.Vec2.{Vec2}
 use Rattle.graph_colours.specs.Members.{has_id}
 use Rattle.std.proofs.lemmas.Bool.{cases_eq, false≢true}
 use Rattle.std.proofs.lemmas.Int.{ints}
@@ -16,8 +18,10 @@ use Rattle.contacts.specs.Constraints.{constraint_number}
 use Rattle.contacts.specs.declared.constraint.Constraint.{Constraint}
 use Rattle.islands.specs.declared.label.Label.{Label}
 use Rattle.islands.specs.Labels.{Labels, label_at}
+use Rattle.colour_solver.proofs.VectorLaws.{same_vector, same_x, same_y}
 use Rattle.plain_world.specs.declared.body.Body.{Body}
-use Rattle.plain_world.specs.Bodies.{IsBody, is_mover, p_x, p_y}
+use Rattle.plain_world.specs.Bodies.{IsBody, is_mover}
+use Rattle.plain_world.specs.Momentum.{momentum_in}
 use Rattle.plain_world.specs.Bodies as bodies
 use Rattle.plain_world.specs.Changes.{enabled_body}
 use Rattle.plain_world.specs.Formed.{HaveFilters, mixed_of, shape_of_body}
@@ -44,7 +48,7 @@ use Rattle.world_rules.proofs.JoinLaws.{IsNext, next_begun}
 use Rattle.world_rules.proofs.KeptChanges.{IsThere, counted_kept, named_at, still_there}
 use Rattle.world_rules.proofs.KeptMade.{come_beside, come_here, come_long, come_others, come_own, come_settled, come_ties, contacts_enabled}
 use Rattle.world_rules.proofs.ShapeLaws.{filters_set}
-use Rattle.world_rules.proofs.SlotLemmas.{AreBodies-set, below_length, body_at-in, item_at-set_other, momentum_x-set, momentum_y-set, none_if}
+use Rattle.world_rules.proofs.SlotLemmas.{AreBodies-set, below_length, body_at-in, item_at-set_other, momentum-set, none_if}
 use Rattle.world_rules.proofs.PutLaws.{IsPut, both_put}
 use Rattle.world_rules.proofs.SoundLaws.{IsKept}
 use Rattle.world_rules.proofs.StirLaws.{joint_slots_of}
@@ -78,9 +82,9 @@ enabled_is b is off = let still = is.rest (disabled_sleeps b off) in record {
   fats = is.fats;
 }
 
-part_zero : (t : Bool) (z : ℤ) → z ≡ pos 0 → cond t z (pos 0) ≡ pos 0
-part_zero true z e = e
-part_zero false z e = refl
+part_zero : (t : Bool) (v : Vec2) → v ≡ zero_vector → cond t v zero_vector ≡ zero_vector
+part_zero true v e = e
+part_zero false v e = refl
 
 timer_le : (t : Bool) (n m : ℕ) → n ≤ m → cond t 0 n ≤ m
 timer_le true n m h = omega arith
@@ -144,17 +148,15 @@ part_lists w slot b k at off =
     let lt : slot < length old = below_length old slot b at in
     let is : IsBody b = k.bodies slot b (body_at-in old slot b at) in
     let still = is.rest (disabled_sleeps b off) in
-    let mx = momentum_x-set old slot (Some c) lt in
-    let my = momentum_y-set old slot (Some c) lt in
-    let old_x : p_x (body_at old slot) ≡ pos 0 = ap p_x at ∙ part_zero (is_mover b) b.motion.p.x still.x in
-    let old_y : p_y (body_at old slot) ≡ pos 0 = ap p_y at ∙ part_zero (is_mover b) b.motion.p.y still.y in
-    let new_x : p_x (Some c) ≡ pos 0 = part_zero (is_mover c) b.motion.p.x still.x in
-    let new_y : p_y (Some c) ≡ pos 0 = part_zero (is_mover c) b.motion.p.y still.y in
+    let none : b.motion.p ≡ zero_vector = same_vector b.motion.p zero_vector still.x still.y in
+    let set = momentum-set old slot (Some c) lt in
+    let was : momentum_in (body_at old slot) ≡ zero_vector = ap momentum_in at ∙ part_zero (is_mover b) b.motion.p none in
+    let now : momentum_in (Some c) ≡ zero_vector = part_zero (is_mover c) b.motion.p none in
     let without : is_enabled old slot ≡ false = ap is_enabled_in at ∙ off in
     let between = contacts_enabled old w.plain.contacts k.there in
     record {
-      total_x = let t = k.total_x in omega (arith, ints, mx, old_x, new_x, t);
-      total_y = let t = k.total_y in omega (arith, ints, my, old_y, new_y, t);
+      total_x = let t = k.total_x in omega (arith, ints, same_x set, same_x was, same_x now, t);
+      total_y = let t = k.total_y in omega (arith, ints, same_y set, same_y was, same_y now, t);
       causes = k.causes;
       bodies = AreBodies-set old slot (Some c) k.bodies (λ d e. subst IsBody (same_Some c d e) (enabled_is b is off));
       filters = filters_set old slot (Some c) (λ d e. subst (λ (a : Body). HaveFilters a.shapes) (same_Some c d e) (k.filters slot b at)) k.filters;

@@ -1,5 +1,5 @@
 -- A body that is made keeps a world: no constraint changes, and a mover has an awake island of its own.
-use Rattle.std.proofs.Common.{◌≡◌, ◌≢◌, ◌⊎◌, ℕ, zero, suc, ◌+◌, ◌-◌, ◌*◌, ◌<◌, ◌≤◌, ◌^◌, List, [], ◌∷◌, ◌++◌, length, Option, Some, None, All, Bool, true, false, cond, pos, inl, inr, arith, refl, sym, ap, ◌∙◌, subst, is_some, nat_lt, eq-eqb, ne_eqb}
+use Rattle.std.proofs.Common.{◌≡◌, ◌≢◌, ◌⊎◌, ℕ, zero, suc, ◌+◌, ◌-◌, ◌*◌, ◌<◌, ◌≤◌, ◌^◌, List, [], ◌∷◌, ◌++◌, length, Option, Some, None, All, Bool, true, false, cond, inl, inr, arith, refl, sym, ap, ◌∙◌, subst, is_some, nat_lt, eq-eqb, ne_eqb}
 use Rattle.std.specs.Prelude.{◌||◌, if◌then◌else◌, slice_set}
 use Rattle.std.specs.Option.{is_none}
 use Rattle.std.proofs.lemmas.Int.{ints}
@@ -7,6 +7,7 @@ use Rattle.std.proofs.lemmas.Bool.{cases_eq}
 use Rattle.std.proofs.lemmas.Grind.{common_steps}
 use Rattle.std.proofs.lemmas.List.Elements.{All-push, All-set, All-weaker}
 use Rattle.std.proofs.lemmas.Option.{same_Some}
+use Rattle.fixed_geom.specs.Vectors.{zero_vector}
 use Rattle.body_handles.specs.declared.places.Place.{Place}
 use Rattle.body_handles.specs.declared.places.TheConstants.{MAX_SLOTS}
 use Rattle.body_handles.specs.Places.{IsPlace, generation_at, lowest}
@@ -19,10 +20,12 @@ use Rattle.graph_colours.specs.Colours.{ids_of}
 use Rattle.islands.specs.Labels.{label_at, padded}
 use Rattle.islands.specs.declared.label.Label.{Label}
 use Rattle.islands.proofs.LabelLemmas.{added_here, added_other}
+use Rattle.colour_solver.proofs.VectorLaws.{same_x, same_y}
 use Rattle.plain_world.specs.declared.body.Body.{Body}
 use Rattle.plain_world.specs.declared.body.BodyDef.{BodyDef}
 use Rattle.plain_world.specs.declared.joint.BodyJoint.{BodyJoint}
-use Rattle.plain_world.specs.Bodies.{IsBody, is_awake, is_mover, made, p_x, p_y}
+use Rattle.plain_world.specs.Bodies.{IsBody, is_awake, is_mover, made}
+use Rattle.plain_world.specs.Momentum.{momentum_in}
 use Rattle.plain_world.specs.Formed.{HaveFilters}
 use Rattle.plain_world.specs.Joints.{AreJoints}
 use Rattle.plain_world.specs.Sleep.{sleeping_name, told}
@@ -46,7 +49,7 @@ use Rattle.world_rules.proofs.ChangeLemmas.{set_case}
 use Rattle.world_rules.proofs.KeptChanges.{counted_kept}
 use Rattle.world_rules.proofs.KeptContacts.{MovesMore-with_body, contacts_of_more, has_bodies_with, joints_with}
 use Rattle.world_rules.proofs.ShapeLaws.{filters_push, filters_set}
-use Rattle.world_rules.proofs.SlotLemmas.{AreBodies-push, AreBodies-set, AreMatched-push, AreMatched-set, lowest-free, momentum_x-push, momentum_x-set, momentum_y-push, momentum_y-set, none_if, slice_get-with, slice_get-with_own}
+use Rattle.world_rules.proofs.SlotLemmas.{AreBodies-push, AreBodies-set, AreMatched-push, AreMatched-set, lowest-free, momentum-push, momentum-set, none_if, slice_get-with, slice_get-with_own}
 use Rattle.world_rules.proofs.PutLaws.{IsPut, both_put}
 use Rattle.world_rules.proofs.SoundLaws.{IsKept}
 use Rattle.world_rules.proofs.ToldLaws.{NobodyFallsAsleep, told_stays}
@@ -100,8 +103,7 @@ timers_with bodies slot steps c le fresh all k d e = elim (with_case bodies slot
 -- a body that isn't in motion, for a slot that is free
 pub record IsNew (b : Body) : Type 0 where
   pub body : IsBody b
-  pub x : p_x (Some b) ≡ pos 0
-  pub y : p_y (Some b) ≡ pos 0
+  pub none : momentum_in (Some b) ≡ zero_vector
   pub timer : b.timer ≡ 0
   pub filters : HaveFilters b.shapes
 
@@ -109,13 +111,11 @@ lists_by : (t : Bool) (w : World) (slot : ℕ) (place : Place) (b : Body) → Is
     → AreTimers w.plain.steps (cond t (slice_set w.plain.bodies slot (Some b)) (w.plain.bodies ++ Some b ∷ [])) → AreOf (cond t (slice_set w.plain.bodies slot (Some b)) (w.plain.bodies ++ Some b ∷ [])) w.plain.joints w.plain.contacts
     → AreLists (record w { plain = record w.plain { places = (if t then slice_set w.plain.places slot place else w.plain.places ++ place ∷ []); bodies = cond t (slice_set w.plain.bodies slot (Some b)) (w.plain.bodies ++ Some b ∷ []) } })
 lists_by true w slot place b s below past live given is none timers of =
-    let mx = momentum_x-set w.plain.bodies slot (Some b) (below refl) in
-    let my = momentum_y-set w.plain.bodies slot (Some b) (below refl) in
-    let old_x : p_x (body_at w.plain.bodies slot) ≡ pos 0 = ap p_x none in
-    let old_y : p_y (body_at w.plain.bodies slot) ≡ pos 0 = ap p_y none in
+    let set = momentum-set w.plain.bodies slot (Some b) (below refl) in
+    let old : momentum_in (body_at w.plain.bodies slot) ≡ zero_vector = ap momentum_in none in
     record {
-      total_x = let t = s.total_x in let x = is.x in omega (arith, ints, mx, old_x, x, t);
-      total_y = let t = s.total_y in let y = is.y in omega (arith, ints, my, old_y, y, t);
+      total_x = let t = s.total_x in omega (arith, ints, same_x set, same_x old, same_x is.none, t);
+      total_y = let t = s.total_y in omega (arith, ints, same_y set, same_y old, same_y is.none, t);
       causes = s.causes;
       bodies = AreBodies-set w.plain.bodies slot (Some b) s.bodies (λ c f. let same : b ≡ c = cc in subst IsBody same is.body);
       filters = filters_set w.plain.bodies slot (Some b) (λ c f. subst (λ (x : Body). HaveFilters x.shapes) (same_Some b c f) is.filters) s.filters;
@@ -133,11 +133,10 @@ lists_by true w slot place b s below past live given is none timers of =
       calls = s.calls;
     }
 lists_by false w slot place b s below past live given is none timers of =
-    let mx = momentum_x-push w.plain.bodies (Some b) in
-    let my = momentum_y-push w.plain.bodies (Some b) in
+    let push = momentum-push w.plain.bodies (Some b) in
     record {
-      total_x = let t = s.total_x in let x = is.x in omega (arith, ints, mx, x, t);
-      total_y = let t = s.total_y in let y = is.y in omega (arith, ints, my, y, t);
+      total_x = let t = s.total_x in omega (arith, ints, same_x push, same_x is.none, t);
+      total_y = let t = s.total_y in omega (arith, ints, same_y push, same_y is.none, t);
       causes = s.causes;
       bodies = AreBodies-push w.plain.bodies (Some b) s.bodies (λ c f. let same : b ≡ c = cc in subst IsBody same is.body);
       filters = filters_push w.plain.bodies (Some b) (λ c f. subst (λ (x : Body). HaveFilters x.shapes) (same_Some b c f) is.filters) s.filters;
@@ -288,12 +287,12 @@ body_made_put w b k free is = both_put (record w { plain = with_made (lowest w.p
 pub body_made_kept : (w : World) (b : Body) → IsKept w → lowest w.plain.places < MAX_SLOTS → IsNew b → IsKept (record w { plain = body_made (lowest w.plain.places) b w.plain })
 body_made_kept w b k free is = (body_made_put w b k free is).kept
 
-resting_part : (m : Bool) → cond m (pos 0) (pos 0) ≡ pos 0
+resting_part : (m : Bool) → cond m zero_vector zero_vector ≡ zero_vector
 resting_part true = refl
 resting_part false = refl
 
 pub made_new : (d : BodyDef) → IsBody (made d) → HaveFilters d.shapes → IsNew (made d)
-made_new d is filters = record { body = is; x = resting_part (is_mover (made d)); y = resting_part (is_mover (made d)); timer = refl; filters = filters }
+made_new d is filters = record { body = is; none = resting_part (is_mover (made d)); timer = refl; filters = filters }
 
 pub create_kept : (w : World) (d : BodyDef) → IsKept w → w.plain.calls < 2 ^ 40 → lowest w.plain.places < MAX_SLOTS → IsBody (made d) → HaveFilters d.shapes
     → IsKept (record w { plain = counted (body_made (lowest w.plain.places) (made d) w.plain) })

@@ -9,23 +9,24 @@ use Rattle.contacts.specs.declared.constraint.Constraint.{Constraint}
 use Rattle.islands.specs.Labels.{Labels, is_asleep, is_loose, label_at}
 use Rattle.islands.specs.declared.label.Label.{Label}
 use Rattle.plain_world.specs.declared.body.Body.{Body}
-use Rattle.plain_world.specs.Bodies.{AreBodies, momentum_x, momentum_y}
+use Rattle.plain_world.specs.Bodies.{AreBodies}
+use Rattle.plain_world.specs.Momentum.{momentum}
 use Rattle.plain_world.specs.Sleep.{told}
 use Rattle.sleep_wake.specs.Acting.{Acting}
 use Rattle.sleep_wake.proofs.LengthLemmas.{slept_long}
 use Rattle.sleep_wake.specs.SleepPhase.{split_at}
 use Rattle.sleep_wake.specs.Sleeping.{rested_at, rested_by, slept_at, slept_by, split_if_loose}
 use Rattle.sleep_wake.specs.Waking.{put_to_rest}
-use Rattle.world_rules.specs.Apply.{counted, gained_x, gained_y, rest_entries}
+use Rattle.world_rules.specs.Apply.{counted, gained, rest_entries}
 use Rattle.world_rules.specs.Sets.{acting_of, with_acting}
 use Rattle.world_rules.specs.World.{World}
 use Rattle.world_rules.proofs.ActingLaws.{AreLists, IsActing, acted, kept_of, lists_kept}
 use Rattle.world_rules.proofs.LowerLaws.{movers_stay, sleep_keeps}
-use Rattle.world_rules.proofs.BookLemmas.{AreSmall-booked, AreSmall-weaker, sum_x-booked, sum_y-booked}
+use Rattle.world_rules.proofs.BookLemmas.{AreSmall-booked, AreSmall-weaker, summed-booked}
 use Rattle.world_rules.proofs.KeptChanges.{settled_later}
 use Rattle.world_rules.proofs.KeptContacts.{contacts_of_same, has_bodies_same, joints_same, moves_alike}
 use Rattle.world_rules.proofs.ShapeLaws.{filters_same}
-use Rattle.world_rules.proofs.SlotLemmas.{AreMatched-same, momentum_x_le, momentum_y_le}
+use Rattle.world_rules.proofs.SlotLemmas.{AreMatched-same, momentum_le}
 use Rattle.world_rules.proofs.SoundLaws.{IsKept}
 use Rattle.world_rules.proofs.ToldLaws.{length_told, told_alike, told_are_bodies, told_same_shapes, told_same_slots, told_timers}
 
@@ -33,8 +34,8 @@ use Rattle.world_rules.proofs.ToldLaws.{length_told, told_alike, told_are_bodies
 
 -- the momentum that is lost is small
 pub record IsSmallRest (labels : Labels) (bodies : List (Option Body)) : Type 0 where
-  pub x : unsigned_abs (gained_x bodies (told labels bodies)) ≤ 2 ^ 77
-  pub y : unsigned_abs (gained_y bodies (told labels bodies)) ≤ 2 ^ 77
+  pub x : unsigned_abs (gained bodies (told labels bodies)).x ≤ 2 ^ 77
+  pub y : unsigned_abs (gained bodies (told labels bodies)).y ≤ 2 ^ 77
 
 near : (a b : ℤ) (n : ℕ) → unsigned_abs a ≤ n * 2 ^ 60 → unsigned_abs b ≤ n * 2 ^ 60 → n ≤ 2 ^ 16 → unsigned_abs (a -ℤ b) ≤ 2 ^ 77
 near a b n h k few = omega (arith, ints)
@@ -44,9 +45,11 @@ rest_small labels bodies all few =
     let new : List (Option Body) = told labels bodies in
     let now : AreBodies new = told_are_bodies labels bodies all in
     let size : length new ≡ length bodies = length_told labels bodies in
+    let after = momentum_le new now in
+    let before = momentum_le bodies all in
     record {
-      x = near (momentum_x new) (momentum_x bodies) (length bodies) (rw (← size) (momentum_x_le new now)) (momentum_x_le bodies all) few;
-      y = near (momentum_y new) (momentum_y bodies) (length bodies) (rw (← size) (momentum_y_le new now)) (momentum_y_le bodies all) few;
+      x = near (momentum new).x (momentum bodies).x (length bodies) (rw (← size) after.x) before.x few;
+      y = near (momentum new).y (momentum bodies).y (length bodies) (rw (← size) after.y) before.y few;
     }
 
 -- ---- a world with its bodies told, and what they lose booked
@@ -63,13 +66,13 @@ lists_rested w s l few =
     let moves = moves_alike old new (told_alike s.labels old) slots in
     let small = rest_small s.labels old l.bodies l.matched.few in
     let call = w.plain.calls + 1 in
-    let x = gained_x old new in
-    let y = gained_y old new in
+    let x = (gained old new).x in
+    let y = (gained old new).y in
     let small_x = small.x in
     let small_y = small.y in
     record {
-      total_x = rw (sum_x-booked w.entries call causes.Rest x y) (gained_total (momentum_x old) (momentum_x new) _ _ l.total_x);
-      total_y = rw (sum_y-booked w.entries call causes.Rest x y) (gained_total (momentum_y old) (momentum_y new) _ _ l.total_y);
+      total_x = rw (summed-booked w.entries call causes.Rest x y) (gained_total (momentum old).x (momentum new).x _ _ l.total_x);
+      total_y = rw (summed-booked w.entries call causes.Rest x y) (gained_total (momentum old).y (momentum new).y _ _ l.total_y);
       causes = AreSmall-weaker (2 ^ 126 + w.plain.calls * 2 ^ 83 + 2 ^ 77) (2 ^ 126 + (w.plain.calls + 1) * 2 ^ 83) _ (omega arith)
           (AreSmall-booked (2 ^ 126 + w.plain.calls * 2 ^ 83) (2 ^ 77) 0 0 w.entries w.settled call causes.Rest x y l.causes small_x small_y);
       bodies = told_are_bodies s.labels old l.bodies;

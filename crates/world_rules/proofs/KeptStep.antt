@@ -3,17 +3,20 @@ use Rattle.std.proofs.Common.{◌≡◌, ℕ, zero, suc, ◌+◌, ◌*◌, ◌<�
 use Rattle.std.specs.Prelude.{◌-ℤ◌}
 use Rattle.std.proofs.lemmas.Int.{ints}
 use Rattle.std.proofs.lemmas.List.Elements.{All-weaker}
+use Rattle.fixed_geom.specs.Vectors.{plus}
 use Rattle.body_handles.specs.declared.places.Place.{Place}
 use Rattle.contacts_base.specs.declared.contact.ContactEntry.{ContactEntry}
 use Rattle.contacts_base.specs.Contacts.{AreKeysRising}
 use Rattle.contacts.specs.Constraints.{constraint_number}
 use Rattle.contacts.specs.declared.constraint.Constraint.{Constraint}
 use Rattle.colour_solver.specs.declared.ticks.StepSums.{StepSums}
-use Rattle.colour_solver.specs.Ticks.{AreSums, added_x, added_y}
+use Rattle.colour_solver.specs.Ticks.{AreSums, added}
 use Rattle.event_feed.specs.Events.{EventLists}
+use Rattle.colour_solver.proofs.VectorLaws.{same_x, same_y}
 use Rattle.plain_world.specs.declared.body.Body.{Body}
 use Rattle.plain_world.specs.declared.joint.BodyJoint.{BodyJoint}
-use Rattle.plain_world.specs.Bodies.{AreBodies, momentum_x, momentum_y}
+use Rattle.plain_world.specs.Bodies.{AreBodies}
+use Rattle.plain_world.specs.Momentum.{momentum}
 use Rattle.plain_world.specs.Joints.{AreJoints}
 use Rattle.plain_world.specs.Plain.{Plain}
 use Rattle.plain_world.specs.Sleep.{timed_bodies, told}
@@ -30,7 +33,7 @@ use Rattle.solver_sets.specs.Ties.{IsNamed, JointSlots, key_changes, slots_of, t
 use Rattle.world_core_base.specs.Gather.{AreContactsOf}
 use Rattle.world_core_base.specs.Renewal.{renewed_bodies}
 use Rattle.world_core_base.specs.Solving.{Solving, bodies_of}
-use Rattle.world_rules.specs.Apply.{bodies_ticked, events_of, gained_x, gained_y, rest_entries, rested_acting, step_entries, step_solved, turned_acting, world_with}
+use Rattle.world_rules.specs.Apply.{bodies_ticked, events_of, gained, rest_entries, rested_acting, step_entries, step_solved, turned_acting, world_with}
 use Rattle.world_rules.specs.Collide.{Collided, collided}
 use Rattle.world_rules.specs.Sets.{acting_of, with_acting}
 use Rattle.world_rules.specs.Sound.{AreTimers, HasBodies}
@@ -45,8 +48,8 @@ use Rattle.world_rules.proofs.PairLaws.{contacts_of_after, has_bodies_after}
 use Rattle.world_rules.proofs.ShapeLaws.{HaveSameShapes, filters_same, shapes_then}
 use Rattle.world_rules.proofs.SlotLemmas.{AreMatched-same}
 use Rattle.world_rules.proofs.SoundLaws.{IsKept}
-use Rattle.world_rules.proofs.StepBook.{AreSmall-stepped, sum_x-stepped, sum_y-stepped}
-use Rattle.world_rules.proofs.TickedLaws.{alike_then, slots_then, timed_alike, timed_are_bodies, timed_momentum_x, timed_momentum_y, timed_same_shapes, timed_same_slots, timed_timers}
+use Rattle.world_rules.proofs.StepBook.{AreSmall-stepped, summed-stepped}
+use Rattle.world_rules.proofs.TickedLaws.{alike_then, slots_then, timed_alike, timed_are_bodies, timed_momentum, timed_same_shapes, timed_same_slots, timed_timers}
 use Rattle.world_rules.proofs.ToldLaws.{NobodyFallsAsleep, told_alike, told_are_bodies, told_same_shapes, told_same_slots, told_timers}
 
 -- ---- the collide
@@ -157,8 +160,7 @@ pub record IsTicked (w : Plain) (new : List (Option Body)) (js : List (Option Bo
   pub alike : AreAlike w.bodies new
   pub timers : AreTimers w.steps new
   pub small : AreSums (2 ^ 83) sums
-  pub gain_x : momentum_x new ≡ momentum_x w.bodies +ℤ added_x sums
-  pub gain_y : momentum_y new ≡ momentum_y w.bodies +ℤ added_y sums
+  pub gain : momentum new ≡ plus (momentum w.bodies) (added sums)
   pub joints : AreJoints w.bodies js
   pub ends : HaveSameEnds w.joints js
   pub rising : AreKeysRising es
@@ -264,13 +266,13 @@ lists_stepped w n bodies joints contacts sums s events k few ticks t =
     let moves = moves_alike old new alike slots in
     let small : IsSmallRest s.labels timed = rest_small s.labels timed are (rw so_far.slots k.matched.few) in
     let call : ℕ = w.plain.calls + 1 in
-    let x : ℤ = gained_x timed new in
-    let y : ℤ = gained_y timed new in
+    let x : ℤ = (gained timed new).x in
+    let y : ℤ = (gained timed new).y in
     let small_x = small.x in
     let small_y = small.y in
     record {
-      total_x = rw (sum_x-stepped w.entries call sums x y) (gained_total (momentum_x old) (momentum_x bodies) (momentum_x timed) (momentum_x new) _ (added_x sums) _ k.total_x t.gain_x (timed_momentum_x n bodies));
-      total_y = rw (sum_y-stepped w.entries call sums x y) (gained_total (momentum_y old) (momentum_y bodies) (momentum_y timed) (momentum_y new) _ (added_y sums) _ k.total_y t.gain_y (timed_momentum_y n bodies));
+      total_x = rw (summed-stepped w.entries call sums x y) (gained_total (momentum old).x (momentum bodies).x (momentum timed).x (momentum new).x _ (added sums).x _ k.total_x (same_x t.gain) (same_x (timed_momentum n bodies)));
+      total_y = rw (summed-stepped w.entries call sums x y) (gained_total (momentum old).y (momentum bodies).y (momentum timed).y (momentum new).y _ (added sums).y _ k.total_y (same_y t.gain) (same_y (timed_momentum n bodies)));
       causes = AreSmall-weaker (2 ^ 126 + w.plain.calls * 2 ^ 83 + 2 ^ 83) (2 ^ 126 + (w.plain.calls + 1) * 2 ^ 83) _ (omega arith)
           (AreSmall-stepped (2 ^ 126 + w.plain.calls * 2 ^ 83) (2 ^ 83) w.entries w.settled call sums x y t.small (omega (arith, small_x)) (omega (arith, small_y)) k.causes);
       bodies = told_are_bodies s.labels timed are;

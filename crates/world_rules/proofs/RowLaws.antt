@@ -6,6 +6,7 @@ use Rattle.std.specs.List.Sorted.{IsStrictlyIncreasing}
 use Rattle.std.proofs.Math.Seq.{map-set_same}
 use Rattle.std.proofs.lemmas.List.Elements.{All-set}
 use Rattle.std.proofs.lemmas.Option.{get_or_from_slice_get, slice_get_within}
+use Rattle.fixed_geom.specs.Vectors.{plus}
 use Rattle.contacts_base.specs.declared.contact.ContactEntry.{ContactEntry}
 use Rattle.contacts_base.specs.declared.contact.ContactPoint.{ContactPoint}
 use Rattle.contacts_base.specs.declared.evaluation.Impulses.{Impulses}
@@ -15,13 +16,14 @@ use Rattle.contacts_base.specs.Evaluate.{touches}
 use Rattle.colour_solver.specs.declared.constraint_row.ConstraintRow.{ConstraintRow}
 use Rattle.colour_solver.specs.declared.ticks.StepSums.{StepSums}
 use Rattle.colour_solver.specs.ConstraintTurns.{contacts_among, joints_among}
-use Rattle.colour_solver.specs.Ticks.{AreSums, added_x, added_y}
+use Rattle.colour_solver.specs.Ticks.{AreSums, added}
 use Rattle.colour_solver_base.specs.declared.row.ContactRow.{ContactRow}
 use Rattle.joint_rows.specs.declared.row.JointRow.{JointRow}
 use Rattle.momenta.specs.declared.state.BodyState.{BodyState}
 use Rattle.plain_world.specs.declared.body.Body.{Body}
 use Rattle.plain_world.specs.declared.joint.BodyJoint.{BodyJoint}
-use Rattle.plain_world.specs.Bodies.{AreBodies, momentum_x, momentum_y}
+use Rattle.plain_world.specs.Bodies.{AreBodies}
+use Rattle.plain_world.specs.Momentum.{momentum}
 use Rattle.plain_world.specs.Formed.{HasPoints}
 use Rattle.plain_world.specs.Joints.{AreJoints, impulse_set, joint_at, with_impulse}
 use Rattle.plain_world.specs.Slots.{HaveSameSlots}
@@ -154,10 +156,10 @@ has_bodies_rows bodies contacts rows all =
 -- the motions of the states and the impulses of the rows, where they leave bodies, joints and contacts within their limits
 pub ticked_of : (w : World) (states : List BodyState) (rows : List ConstraintRow) (sums : StepSums) → IsKept w
     → let new : List (Option Body) = renewed_bodies (with_motions w.plain.bodies states) in
-    AreBodies new → HaveSameSlots w.plain.bodies new → AreSums (2 ^ 83) sums → momentum_x new ≡ momentum_x w.plain.bodies +ℤ added_x sums → momentum_y new ≡ momentum_y w.plain.bodies +ℤ added_y sums
+    AreBodies new → HaveSameSlots w.plain.bodies new → AreSums (2 ^ 83) sums → momentum new ≡ plus (momentum w.plain.bodies) (added sums)
     → AreJoints w.plain.bodies (with_joint_rows w.plain.joints (joints_among rows)) → AreContactsOf w.plain.bodies (with_rows w.plain.contacts (contacts_among rows))
     → IsTicked w.plain new (with_joint_rows w.plain.joints (joints_among rows)) (with_rows w.plain.contacts (contacts_among rows)) sums
-ticked_of w states rows sums k bodies slots small x y joints pairs =
+ticked_of w states rows sums k bodies slots small gain joints pairs =
     let same = moved_conditions w.plain.bodies states in
     let new : List (Option Body) = renewed_bodies (with_motions w.plain.bodies states) in
     record {
@@ -167,8 +169,7 @@ ticked_of w states rows sums k bodies slots small x y joints pairs =
       alike = alike_conditions w.plain.bodies new same;
       timers = timers_conditions w.plain.bodies new w.plain.steps same k.timers;
       small = small;
-      gain_x = x;
-      gain_y = y;
+      gain = gain;
       joints = joints;
       ends = ends_rows w.plain.joints (joints_among rows);
       rising = keys_rise_rows w.plain.contacts (contacts_among rows) k.contacts;

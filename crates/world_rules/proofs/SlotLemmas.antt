@@ -1,61 +1,55 @@
 -- One slot changed: what becomes of the movers' momentum, of the bodies, and of the slots that are taken.
-use Rattle.std.proofs.Common.{◌≡◌, ◌≢◌, ℕ, zero, suc, ◌*◌, ◌<◌, ◌≤◌, ◌^◌, List, [], ◌∷◌, ◌++◌, length, Option, Some, None, Bool, true, false, cond, ℤ, pos, ◌+ℤ◌, unsigned_abs, arith, refl, sym, ap, ◌∙◌, is_some}
+use Rattle.std.proofs.Common.{◌≡◌, ◌≢◌, ℕ, zero, suc, ◌*◌, ◌<◌, ◌≤◌, ◌^◌, List, [], ◌∷◌, ◌++◌, length, Option, Some, None, Bool, true, false, cond, arith, refl, sym, ap, ◌∙◌, is_some}
 use Rattle.std.specs.Prelude.{slice_get, slice_set, not, ◌&&◌}
 use Rattle.std.proofs.Common.{inl, inr, get_or}
 use Rattle.std.proofs.lemmas.Bool.{cases_lt}
 use Rattle.std.proofs.lemmas.List.Sums.{passes_at_first}
 use Rattle.std.proofs.lemmas.Int.{ints}
 use Rattle.std.proofs.lemmas.Grind.{common_steps}
+use Rattle.fixed_geom.specs.Vectors.{IsWithin, plus, zero_vector}
+use Rattle.fixed_geom.specs.declared.vectors.Vec2.{Vec2}
 use Rattle.body_handles.specs.declared.places.Place.{Place}
 use Rattle.body_handles.specs.Places.{is_open, lowest}
 use Rattle.body_handles.proofs.LowestLemmas.{no_place}
 use Rattle.body_handles.specs.declared.places.TheConstants.{MAX_SLOTS}
+use Rattle.colour_solver.proofs.VectorLaws.{plus_assoc, plus_zero, same_vector, zero_plus}
 use Rattle.plain_world.specs.declared.body.Body.{Body}
-use Rattle.plain_world.specs.Bodies.{is_mover, IsBody, AreBodies, p_x, p_y, momentum_x, momentum_y}
+use Rattle.plain_world.specs.Bodies.{is_mover, IsBody, AreBodies}
+use Rattle.plain_world.specs.Momentum.{momentum_in, momentum}
 use Rattle.plain_world.specs.Slots.{body_at, item_at, shapes_in, is_taken, AreMatched, HaveSameSlots}
 
 -- ---- the momentum
 
-pub momentum_x-set : (bodies : List (Option Body)) (slot : ℕ) (o : Option Body) → slot < length bodies → momentum_x (slice_set bodies slot o) +ℤ p_x (body_at bodies slot) ≡ momentum_x bodies +ℤ p_x o
-momentum_x-set [] slot o h = absurd (omega arith)
-momentum_x-set (a ∷ bs) zero o h = omega (arith, ints)
-momentum_x-set (a ∷ bs) (suc slot) o h = omega (arith, ints, momentum_x-set bs slot o (omega arith))
+in_place : (a o t : Vec2) → plus (plus o t) a ≡ plus (plus a t) o
+in_place a o t = same_vector _ _ (omega (arith, ints)) (omega (arith, ints))
 
-pub momentum_y-set : (bodies : List (Option Body)) (slot : ℕ) (o : Option Body) → slot < length bodies → momentum_y (slice_set bodies slot o) +ℤ p_y (body_at bodies slot) ≡ momentum_y bodies +ℤ p_y o
-momentum_y-set [] slot o h = absurd (omega arith)
-momentum_y-set (a ∷ bs) zero o h = omega (arith, ints)
-momentum_y-set (a ∷ bs) (suc slot) o h = omega (arith, ints, momentum_y-set bs slot o (omega arith))
+behind : (a t p u o : Vec2) → plus t p ≡ plus u o → plus (plus a t) p ≡ plus (plus a u) o
+behind a t p u o e = sym (plus_assoc a t p) ∙ (ap (plus a) e ∙ plus_assoc a u o)
 
-pub momentum_x-push : (bodies : List (Option Body)) (o : Option Body) → momentum_x (bodies ++ o ∷ []) ≡ momentum_x bodies +ℤ p_x o
-momentum_x-push [] o = omega (arith, ints)
-momentum_x-push (a ∷ bs) o = omega (arith, ints, momentum_x-push bs o)
+pub momentum-set : (bodies : List (Option Body)) (slot : ℕ) (o : Option Body) → slot < length bodies → plus (momentum (slice_set bodies slot o)) (momentum_in (body_at bodies slot)) ≡ plus (momentum bodies) (momentum_in o)
+momentum-set [] slot o h = absurd (omega arith)
+momentum-set (a ∷ bs) zero o h = in_place (momentum_in a) (momentum_in o) (momentum bs)
+momentum-set (a ∷ bs) (suc slot) o h = behind (momentum_in a) (momentum (slice_set bs slot o)) (momentum_in (body_at bs slot)) (momentum bs) (momentum_in o) (momentum-set bs slot o (omega arith))
 
-pub momentum_y-push : (bodies : List (Option Body)) (o : Option Body) → momentum_y (bodies ++ o ∷ []) ≡ momentum_y bodies +ℤ p_y o
-momentum_y-push [] o = omega (arith, ints)
-momentum_y-push (a ∷ bs) o = omega (arith, ints, momentum_y-push bs o)
+pub momentum-push : (bodies : List (Option Body)) (o : Option Body) → momentum (bodies ++ o ∷ []) ≡ plus (momentum bodies) (momentum_in o)
+momentum-push [] o = plus_zero (momentum_in o) ∙ sym (zero_plus (momentum_in o))
+momentum-push (a ∷ bs) o = ap (plus (momentum_in a)) (momentum-push bs o) ∙ plus_assoc (momentum_in a) (momentum bs) (momentum_in o)
 
-mover_x_le : (m : Bool) (z : ℤ) → unsigned_abs z ≤ 2 ^ 60 → unsigned_abs (cond m z (pos 0)) ≤ 2 ^ 60
-mover_x_le true z h = h
-mover_x_le false z h = omega arith
+-- a vector that counts where m says so
+pub part_le : (m : Bool) (v : Vec2) → IsWithin (2 ^ 60) v → IsWithin (2 ^ 60) (cond m v zero_vector)
+part_le true v h = h
+part_le false v h = record { x = omega arith; y = omega arith }
 
 tail_bodies : (o : Option Body) (bs : List (Option Body)) → AreBodies (o ∷ bs) → AreBodies bs
 tail_bodies o bs all = λ slot b e. all (suc slot) b e
 
-pub momentum_x_le : (bodies : List (Option Body)) → AreBodies bodies → unsigned_abs (momentum_x bodies) ≤ length bodies * 2 ^ 60
-momentum_x_le [] all = omega arith
-momentum_x_le (None ∷ bs) all = omega (arith, ints, momentum_x_le bs (tail_bodies None bs all))
-momentum_x_le (Some a ∷ bs) all =
-    let rest = momentum_x_le bs (tail_bodies (Some a) bs all) in
-    let first : unsigned_abs (p_x (Some a)) ≤ 2 ^ 60 = mover_x_le (is_mover a) a.motion.p.x (all 0 a refl).motion.p.x in
-    omega (arith, ints, rest, first)
-
-pub momentum_y_le : (bodies : List (Option Body)) → AreBodies bodies → unsigned_abs (momentum_y bodies) ≤ length bodies * 2 ^ 60
-momentum_y_le [] all = omega arith
-momentum_y_le (None ∷ bs) all = omega (arith, ints, momentum_y_le bs (tail_bodies None bs all))
-momentum_y_le (Some a ∷ bs) all =
-    let rest = momentum_y_le bs (tail_bodies (Some a) bs all) in
-    let first : unsigned_abs (p_y (Some a)) ≤ 2 ^ 60 = mover_x_le (is_mover a) a.motion.p.y (all 0 a refl).motion.p.y in
-    omega (arith, ints, rest, first)
+pub momentum_le : (bodies : List (Option Body)) → AreBodies bodies → IsWithin (length bodies * 2 ^ 60) (momentum bodies)
+momentum_le [] all = record { x = omega arith; y = omega arith }
+momentum_le (None ∷ bs) all = let rest = momentum_le bs (tail_bodies None bs all) in record { x = omega (arith, ints, rest.x); y = omega (arith, ints, rest.y) }
+momentum_le (Some a ∷ bs) all =
+    let rest = momentum_le bs (tail_bodies (Some a) bs all) in
+    let first : IsWithin (2 ^ 60) (momentum_in (Some a)) = part_le (is_mover a) a.motion.p (all 0 a refl).motion.p in
+    record { x = omega (arith, ints, rest.x, first.x); y = omega (arith, ints, rest.y, first.y) }
 
 -- ---- the bodies
 

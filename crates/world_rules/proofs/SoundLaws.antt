@@ -1,12 +1,13 @@
 -- A sound world, part by part: what each command's law keeps, and what follows from it.
 use Rattle.std.proofs.Common.{◌≡◌, ℕ, ◌+◌, ◌*◌, ◌^◌, ◌≤◌, All, length}
 use Rattle.fixed_geom.specs.Vectors.{IsWithin}
-use Rattle.impulse_ledger.specs.Sums.{total_x, total_y}
+use Rattle.impulse_ledger.specs.Sums.{total}
 use Rattle.contacts_base.specs.Contacts.{AreKeysRising}
 use Rattle.contacts.specs.Constraints.{constraint_number}
 use Rattle.graph_colours.specs.Colours.{ids_of}
 use Rattle.body_handles.specs.Places.{IsPlace}
-use Rattle.plain_world.specs.Bodies.{AreBodies, momentum_x, momentum_y}
+use Rattle.plain_world.specs.Bodies.{AreBodies}
+use Rattle.plain_world.specs.Momentum.{momentum}
 use Rattle.plain_world.specs.Formed.{AreFiltered}
 use Rattle.plain_world.specs.Joints.{AreJoints}
 use Rattle.plain_world.specs.Slots.{AreMatched}
@@ -21,8 +22,8 @@ use Rattle.world_rules.proofs.SlotLemmas.{body_at-in}
 
 -- the parts from which the others follow
 pub record IsKept (w : World) : Type 0 where
-  pub total_x : momentum_x w.plain.bodies ≡ total_x (book_of w)
-  pub total_y : momentum_y w.plain.bodies ≡ total_y (book_of w)
+  pub total_x : (momentum w.plain.bodies).x ≡ (total (book_of w)).x
+  pub total_y : (momentum w.plain.bodies).y ≡ (total (book_of w)).y
   pub causes : AreSmall (2 ^ 126 + w.plain.calls * 2 ^ 83) (book_of w)
   pub bodies : AreBodies w.plain.bodies
   pub filters : AreFiltered w.plain.bodies

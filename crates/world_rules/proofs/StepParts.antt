@@ -3,6 +3,7 @@ use Rattle.std.proofs.Common.{◌≡◌, ℕ, zero, suc, ◌+◌, ◌<◌, ◌�
 use Rattle.std.specs.Prelude.{◌&&◌, not}
 use Rattle.std.proofs.lemmas.Int.{ints}
 use Rattle.std.specs.List.Sorted.{IsStrictlyIncreasing}
+use Rattle.fixed_geom.specs.Vectors.{plus}
 use Rattle.body_handles.specs.declared.handle.Handle.{Handle}
 use Rattle.body_handles.specs.declared.places.Place.{Place}
 use Rattle.contacts.specs.Constraints.{constraint_number}
@@ -17,14 +18,15 @@ use Rattle.contacts_base.specs.declared.contact.ContactEntry.{ContactEntry}
 use Rattle.colour_solver.specs.declared.constraint_row.ConstraintRow.{ConstraintRow}
 use Rattle.colour_solver.specs.declared.ticks.StepSums.{StepSums}
 use Rattle.colour_solver.specs.ConstraintTurns.{contacts_among, joints_among}
-use Rattle.colour_solver.specs.Ticks.{AreSums, Run, added_x, added_y, ran, run_of, start}
+use Rattle.colour_solver.specs.Ticks.{AreSums, Run, added, ran, run_of, start}
 use Rattle.graph_colours.specs.Colours.{all_members, ids_of}
 use Rattle.impulse_ledger.specs.declared.entry.Entry.{Entry}
-use Rattle.impulse_ledger.specs.Sums.{Book, Fits, total_of_x, total_of_y, total_x, total_y}
+use Rattle.impulse_ledger.specs.Sums.{Book, Fits, total_of}
 use Rattle.momenta.specs.declared.state.BodyState.{BodyState}
 use Rattle.plain_world.specs.declared.body.Body.{Body}
 use Rattle.plain_world.specs.declared.joint.BodyJoint.{BodyJoint}
-use Rattle.plain_world.specs.Bodies.{AreBodies, momentum_x, momentum_y}
+use Rattle.plain_world.specs.Bodies.{AreBodies}
+use Rattle.plain_world.specs.Momentum.{momentum}
 use Rattle.plain_world.specs.Joints.{AreJoints}
 use Rattle.plain_world.specs.Plain.{Plain}
 use Rattle.plain_world.specs.Sleep.{timed_bodies, told}
@@ -50,7 +52,7 @@ use Rattle.world_rules.specs.Sound as sound
 use Rattle.world_rules.specs.Sound.{AreSmall, IsRoomy}
 use Rattle.world_rules.specs.World.{World}
 use Rattle.world_rules.proofs.ActingLaws.{IsActing, acted}
-use Rattle.world_rules.proofs.BookLemmas.{AreSmall-step, near, sum_x-step, sum_y-step}
+use Rattle.world_rules.proofs.BookLemmas.{AreSmall-step, near, summed-step}
 use Rattle.world_rules.proofs.AcceptedAll.{solved_in}
 use Rattle.world_rules.proofs.GatherLaws.{can_gather_collided}
 use Rattle.world_rules.proofs.KeptStep.{IsTicked, collide_kept, collided_in, collided_world, rested_after, rested_is, ticked, turned_in}
@@ -76,16 +78,15 @@ few_act changes s room settled h =
 ticked_with : (w : World) (states : List BodyState) (rows : List ConstraintRow) (bodies : List (Option Body)) (js : List (Option BodyJoint)) (es : List ContactEntry) (sums : StepSums) → IsKept w
     → with_motions w.plain.bodies states ≡ bodies → with_joint_rows w.plain.joints (joints_among rows) ≡ js → with_rows w.plain.contacts (contacts_among rows) ≡ es
     → AreBodies (renewed_bodies bodies) → HaveSameSlots w.plain.bodies (renewed_bodies bodies) → AreSums (2 ^ 83) sums
-    → momentum_x (renewed_bodies bodies) ≡ momentum_x w.plain.bodies +ℤ added_x sums → momentum_y (renewed_bodies bodies) ≡ momentum_y w.plain.bodies +ℤ added_y sums
+    → momentum (renewed_bodies bodies) ≡ plus (momentum w.plain.bodies) (added sums)
     → AreJoints w.plain.bodies js → AreContactsOf w.plain.bodies es → IsTicked w.plain (renewed_bodies bodies) js es sums
-ticked_with w states rows bodies js es sums k is_bodies is_joints is_contacts are slots small x y joints pairs =
+ticked_with w states rows bodies js es sums k is_bodies is_joints is_contacts are slots small gain joints pairs =
     let ticks : IsTicked w.plain (renewed_bodies (with_motions w.plain.bodies states)) (with_joint_rows w.plain.joints (joints_among rows)) (with_rows w.plain.contacts (contacts_among rows)) sums =
     ticked_of w states rows sums k
     (subst (λ (l : List (Option Body)). AreBodies (renewed_bodies l)) (sym is_bodies) are)
     (subst (λ (l : List (Option Body)). HaveSameSlots w.plain.bodies (renewed_bodies l)) (sym is_bodies) slots)
     small
-    (ap (λ (l : List (Option Body)). momentum_x (renewed_bodies l)) is_bodies ∙ x)
-    (ap (λ (l : List (Option Body)). momentum_y (renewed_bodies l)) is_bodies ∙ y)
+    (ap (λ (l : List (Option Body)). momentum (renewed_bodies l)) is_bodies ∙ gain)
     (subst (AreJoints w.plain.bodies) (sym is_joints) joints)
     (subst (AreContactsOf w.plain.bodies) (sym is_contacts) pairs) in
     subst (λ (l : List (Option Body)). IsTicked w.plain (renewed_bodies l) js es sums) is_bodies
@@ -96,9 +97,9 @@ ticked_with w states rows bodies js es sums k is_bodies is_joints is_contacts ar
 pub ticked_in : (w : World) (n : ℕ) (bodies : List (Option Body)) (js : List (Option BodyJoint)) (es : List ContactEntry) (sums : StepSums) → IsKept w → AreKeysRising (collided_in w).now
     → let now : Plain = (collided_world w).plain in
     bodies ≡ renewed_bodies (bodies_of (solved_in w n)) → js ≡ (solved_in w n).joints → es ≡ (solved_in w n).contacts → sums ≡ (solved_in w n).sums
-    → AreBodies bodies → HaveSameSlots now.bodies bodies → AreSums (2 ^ 83) sums → momentum_x bodies ≡ momentum_x now.bodies +ℤ added_x sums → momentum_y bodies ≡ momentum_y now.bodies +ℤ added_y sums
+    → AreBodies bodies → HaveSameSlots now.bodies bodies → AreSums (2 ^ 83) sums → momentum bodies ≡ plus (momentum now.bodies) (added sums)
     → AreJoints now.bodies js → AreContactsOf now.bodies es → IsTicked now (renewed_bodies (bodies_of (solved_in w n))) (solved_in w n).joints (solved_in w n).contacts (solved_in w n).sums
-ticked_in w n bodies js es sums k rises is_bodies is_joints is_contacts is_sums are slots small x y joints pairs =
+ticked_in w n bodies js es sums k rises is_bodies is_joints is_contacts is_sums are slots small gain joints pairs =
     let now : World = collided_world w in
     let s : Solving = solved_in w n in
     let can = can_gather_collided w k rises in
@@ -106,8 +107,7 @@ ticked_in w n bodies js es sums k rises is_bodies is_joints is_contacts is_sums 
     let r : Run = ran n w.plain.gravity (start (states_of now.plain.bodies) (rows_of (states_of now.plain.bodies) now.plain.joints now.plain.contacts (turned_in w).lists)) in
     ticked_with now r.states r.rows (bodies_of s) s.joints s.contacts s.sums (collide_kept w k rises).kept run.bodies_left run.joints_left run.contacts_left
     (subst AreBodies is_bodies are) (subst (HaveSameSlots now.plain.bodies) is_bodies slots) (subst (AreSums (2 ^ 83)) is_sums small)
-    (sym (ap momentum_x is_bodies) ∙ x ∙ ap (λ (t : StepSums). momentum_x now.plain.bodies +ℤ added_x t) is_sums)
-    (sym (ap momentum_y is_bodies) ∙ y ∙ ap (λ (t : StepSums). momentum_y now.plain.bodies +ℤ added_y t) is_sums)
+    (sym (ap momentum is_bodies) ∙ gain ∙ ap (λ (t : StepSums). plus (momentum now.plain.bodies) (added t)) is_sums)
     (subst (AreJoints now.plain.bodies) is_joints joints) (subst (AreContactsOf now.plain.bodies) is_contacts pairs)
 
 -- ---- the entry of those that fall asleep fits
@@ -118,10 +118,10 @@ Fits-rest b new e call s r small entries settled ex ey =
     let after : AreSmall (2 ^ 126 + 2 ^ 123 + 2 ^ 83) (record { entries = b.entries ++ step_entries call s; settled = b.settled; room = 0 }) = AreSmall-step (2 ^ 126 + 2 ^ 123) (2 ^ 83) b.entries b.settled call s small before in
     let book : Book = record { entries = b.entries ++ step_entries call s; settled = b.settled; room = 0 } in
     record {
-      x = rw (entries, settled, sum_x-step b.entries call s) (let r_x = r.x in let g = small.gravity.x in let i = small.immovable.x in let c = small.clamp.x in omega (arith, ints));
-      y = rw (entries, settled, sum_y-step b.entries call s) (let r_y = r.y in let g = small.gravity.y in let i = small.immovable.y in let c = small.clamp.y in omega (arith, ints));
-      of_cause_x = rw (entries, settled) (let n = near (total_of_x e.cause book) e.x (2 ^ 126 + 2 ^ 123 + 2 ^ 83) (2 ^ 78) (after.x e.cause) ex in omega (arith, n));
-      of_cause_y = rw (entries, settled) (let n = near (total_of_y e.cause book) e.y (2 ^ 126 + 2 ^ 123 + 2 ^ 83) (2 ^ 78) (after.y e.cause) ey in omega (arith, n));
+      x = rw (entries, settled, summed-step b.entries call s) (let r_x = r.x in let g = small.gravity.x in let i = small.immovable.x in let c = small.clamp.x in omega (arith, ints));
+      y = rw (entries, settled, summed-step b.entries call s) (let r_y = r.y in let g = small.gravity.y in let i = small.immovable.y in let c = small.clamp.y in omega (arith, ints));
+      of_cause_x = rw (entries, settled) (let n = near (total_of e.cause book).x e.x (2 ^ 126 + 2 ^ 123 + 2 ^ 83) (2 ^ 78) (after.x e.cause) ex in omega (arith, n));
+      of_cause_y = rw (entries, settled) (let n = near (total_of e.cause book).y e.y (2 ^ 126 + 2 ^ 123 + 2 ^ 83) (2 ^ 78) (after.y e.cause) ey in omega (arith, n));
     }
 
 -- ---- who acts in the end
@@ -170,7 +170,7 @@ pub record IsLeft (bodies : List (Option Body)) (joints : List (Option BodyJoint
   pub sums_left : sums ≡ s.sums
 
 abbrev sums_in : Run → StepSums
-sums_in q = record { gravity = record { x = q.gravity_x; y = q.gravity_y }; immovable = record { x = q.immovable_x; y = q.immovable_y }; clamp = record { x = q.clamp_x; y = q.clamp_y } }
+sums_in q = record { gravity = record { x = q.gravity.x; y = q.gravity.y }; immovable = record { x = q.immovable.x; y = q.immovable.y }; clamp = record { x = q.clamp.x; y = q.clamp.y } }
 
 left_as : (bodies : List (Option Body)) (joints : List (Option BodyJoint)) (contacts : List ContactEntry) (r : Run) (s : Solving) (rows : List ConstraintRow) (sums : StepSums) → IsRunOf bodies joints contacts r s → run_of r.states rows sums ≡ r → IsLeft bodies joints contacts r.states rows sums s
 left_as bodies joints contacts r s rows sums is e =

@@ -1,10 +1,12 @@
 -- Bodies that ticks have moved: who is a mover and who is enabled is as it was, and each has been slow for as many ticks longer at most.
-use Rattle.std.proofs.Common.{◌≡◌, ℕ, zero, suc, ◌+◌, ◌*◌, ◌≤◌, Bool, true, false, cond, is_some, List, [], ◌∷◌, length, Option, Some, None, ℤ, ◌+ℤ◌, refl, sym, ap, ◌∙◌, subst, arith}
+use Rattle.std.proofs.Common.{◌≡◌, ℕ, zero, suc, ◌+◌, ◌*◌, ◌≤◌, Bool, true, false, cond, is_some, List, [], ◌∷◌, length, Option, Some, None, refl, sym, ap, ap₂, ◌∙◌, subst, arith}
 use Rattle.std.specs.Prelude.{option_map}
 use Rattle.std.proofs.lemmas.Option.{none-some, same_Some}
+use Rattle.fixed_geom.specs.Vectors.{plus}
 use Rattle.momenta.specs.declared.state.BodyState.{BodyState}
 use Rattle.plain_world.specs.declared.body.Body.{Body}
-use Rattle.plain_world.specs.Bodies.{AreBodies, IsBody, can_move, is_awake, is_carried, is_mover, momentum_x, momentum_y, p_x, p_y, pose_of}
+use Rattle.plain_world.specs.Bodies.{AreBodies, IsBody, can_move, is_awake, is_carried, is_mover, pose_of}
+use Rattle.plain_world.specs.Momentum.{momentum, momentum_in}
 use Rattle.plain_world.specs.Fats.{renewed_boxes}
 use Rattle.plain_world.specs.Kinds.{is_dynamic, is_kinematic}
 use Rattle.plain_world.specs.Sleep.{is_slow, timed, timed_bodies}
@@ -194,8 +196,7 @@ record IsTimedOf (ticks : ℕ) (b now : Body) : Type 0 where
   asleep : now.asleep ≡ b.asleep
   shapes : shapes_in (Some now) ≡ shapes_in (Some b)
   forms : now.shapes ≡ b.shapes
-  x : p_x (Some now) ≡ p_x (Some b)
-  y : p_y (Some now) ≡ p_y (Some b)
+  momentum : momentum_in (Some now) ≡ momentum_in (Some b)
   timer : now.timer ≤ b.timer + ticks
 
 slow_at_most : (slow : Bool) (timer ticks : ℕ) → cond slow (timer + ticks) 0 ≤ timer + ticks
@@ -206,8 +207,8 @@ timed_is : (ticks : ℕ) (b : Body) → IsTimedOf ticks b (timed ticks b)
 timed_is ticks b = by (is_awake b)
   where
     by : (t : Bool) → IsTimedOf ticks b (cond t (record b { timer = cond (is_slow b.mass b.motion) (b.timer + ticks) 0 }) b)
-    by true = record { mover = refl; enabled = refl; asleep = refl; shapes = refl; forms = refl; x = refl; y = refl; timer = slow_at_most (is_slow b.mass b.motion) b.timer ticks }
-    by false = record { mover = refl; enabled = refl; asleep = refl; shapes = refl; forms = refl; x = refl; y = refl; timer = omega arith }
+    by true = record { mover = refl; enabled = refl; asleep = refl; shapes = refl; forms = refl; momentum = refl; timer = slow_at_most (is_slow b.mass b.motion) b.timer ticks }
+    by false = record { mover = refl; enabled = refl; asleep = refl; shapes = refl; forms = refl; momentum = refl; timer = omega arith }
 
 timed_at : (ticks : ℕ) (bodies : List (Option Body)) (slot : ℕ) → body_at (timed_bodies ticks bodies) slot ≡ option_map (timed ticks) (body_at bodies slot)
 timed_at ticks [] slot = refl
@@ -264,21 +265,13 @@ timed_same_slots ticks bodies = record {
   shapes = λ slot. ap shapes_in (timed_at ticks bodies slot) ∙ timed_shapes ticks (body_at bodies slot);
 }
 
-timed_x : (ticks : ℕ) (o : Option Body) → p_x (option_map (timed ticks) o) ≡ p_x o
-timed_x ticks None = refl
-timed_x ticks (Some b) = (timed_is ticks b).x
+timed_part : (ticks : ℕ) (o : Option Body) → momentum_in (option_map (timed ticks) o) ≡ momentum_in o
+timed_part ticks None = refl
+timed_part ticks (Some b) = (timed_is ticks b).momentum
 
-timed_y : (ticks : ℕ) (o : Option Body) → p_y (option_map (timed ticks) o) ≡ p_y o
-timed_y ticks None = refl
-timed_y ticks (Some b) = (timed_is ticks b).y
-
-pub timed_momentum_x : (ticks : ℕ) (bodies : List (Option Body)) → momentum_x (timed_bodies ticks bodies) ≡ momentum_x bodies
-timed_momentum_x ticks [] = refl
-timed_momentum_x ticks (o ∷ os) = let first = timed_x ticks o in let rest = timed_momentum_x ticks os in λ j. first j +ℤ rest j
-
-pub timed_momentum_y : (ticks : ℕ) (bodies : List (Option Body)) → momentum_y (timed_bodies ticks bodies) ≡ momentum_y bodies
-timed_momentum_y ticks [] = refl
-timed_momentum_y ticks (o ∷ os) = let first = timed_y ticks o in let rest = timed_momentum_y ticks os in λ j. first j +ℤ rest j
+pub timed_momentum : (ticks : ℕ) (bodies : List (Option Body)) → momentum (timed_bodies ticks bodies) ≡ momentum bodies
+timed_momentum ticks [] = refl
+timed_momentum ticks (o ∷ os) = ap₂ plus (timed_part ticks o) (timed_momentum ticks os)
 
 -- the body whose timer has grown
 record WasTimed (ticks : ℕ) (o : Option Body) (b : Body) : Type 0 where

@@ -1,13 +1,16 @@
 -- Bodies that are told who sleeps: what they keep, what becomes of their momentum, and when they stay as they are.
-use Rattle.std.proofs.Common.{◌≡◌, ℕ, zero, suc, ◌+◌, ◌*◌, ◌≤◌, Bool, true, false, cond, is_some, List, [], ◌∷◌, length, Option, Some, None, ℤ, pos, ◌+ℤ◌, refl, sym, ap, ◌∙◌, subst, arith}
+use Rattle.std.proofs.Common.{◌≡◌, ℕ, zero, suc, ◌+◌, ◌*◌, ◌≤◌, Bool, true, false, cond, is_some, List, [], ◌∷◌, length, Option, Some, None, pos, refl, sym, ap, ◌∙◌, subst, arith, ap₂}
 use Rattle.std.specs.Prelude.{option_map, slice_get, slice_set}
 use Rattle.std.specs.Option.{is_none}
 use Rattle.std.proofs.lemmas.Option.{none-some, same_Some}
+use Rattle.fixed_geom.specs.Vectors.{plus, zero_vector}
 use Rattle.fixed_geom.specs.declared.vectors.Vec2.{Vec2}
 use Rattle.islands.specs.declared.label.Label.{Label}
 use Rattle.islands.specs.Labels.{Labels, label_at}
+use Rattle.colour_solver.proofs.VectorLaws.{same_vector}
 use Rattle.plain_world.specs.declared.body.Body.{Body}
-use Rattle.plain_world.specs.Bodies.{AreBodies, IsAtRest, IsBody, is_awake, is_mover, momentum_x, momentum_y, p_x, p_y}
+use Rattle.plain_world.specs.Bodies.{AreBodies, IsAtRest, IsBody, is_awake, is_mover}
+use Rattle.plain_world.specs.Momentum.{momentum, momentum_in}
 use Rattle.plain_world.specs.Sleep.{put_to_rest, roused, sleeping_name, told, told_body, told_by, told_from}
 use Rattle.plain_world.specs.Slots.{HaveSameSlots, body_at, shapes_in}
 use Rattle.solver_sets.specs.Tied.{AreAlike, AreTied}
@@ -218,43 +221,32 @@ told_tied labels bodies tied slot = tied slot ∙ sym ((told_alike labels bodies
 abbrev pub NobodyFallsAsleep : List (Option Body) → Labels → Type 0
 NobodyFallsAsleep bodies labels = (slot : ℕ) (b : Body) → body_at bodies slot ≡ Some b → is_awake b ≡ true → sleeping_name (label_at labels slot) ≡ None
 
-part_of : (m : Bool) (old new : ℤ) → new ≡ old → cond m new (pos 0) ≡ cond m old (pos 0)
-part_of true old new e = e
-part_of false old new e = refl
-
 -- a body keeps its momentum, if it isn't told to sleep while it is awake
-record KeepsMomentum (b now : Body) : Type 0 where
-  x : now.motion.p.x ≡ b.motion.p.x
-  y : now.motion.p.y ≡ b.motion.p.y
+abbrev KeepsMomentum : Body → Body → Type 0
+KeepsMomentum b now = now.motion.p ≡ b.motion.p
 
 asleep_rests : (b : Body) (name : ℕ) → IsBody b → (is_awake b ≡ true → Some name ≡ None) → KeepsMomentum b (put_to_rest name b)
 asleep_rests b name is h = by (is_awake b) refl
   where
     by : (t : Bool) → is_awake b ≡ t → KeepsMomentum b (put_to_rest name b)
     by true e = let no = h e in cc
-    by false e = record { x = sym (is.rest e).x; y = sym (is.rest e).y }
+    by false e = same_vector zero_vector b.motion.p (sym (is.rest e).x) (sym (is.rest e).y)
 
 told_momentum : (o : Option Label) (b : Body) → IsBody b → (is_awake b ≡ true → sleeping_name o ≡ None) → KeepsMomentum b (told_body o b)
 told_momentum o b is h = by_mover (is_mover b) (sleeping_name o) h
   where
     by_asleep : (a : Bool) → KeepsMomentum b (cond a (roused b) b)
-    by_asleep true = record { x = refl; y = refl }
-    by_asleep false = record { x = refl; y = refl }
+    by_asleep true = refl
+    by_asleep false = refl
 
     by_mover : (t : Bool) (name : Option ℕ) → (is_awake b ≡ true → name ≡ None) → KeepsMomentum b (cond t (told_by name b) b)
-    by_mover false name k = record { x = refl; y = refl }
+    by_mover false name k = refl
     by_mover true None k = by_asleep (is_some b.asleep)
     by_mover true (Some name) k = asleep_rests b name is k
 
-pub told_p_x : (l : Option Label) (o : Option Body) → ((b : Body) → o ≡ Some b → IsBody b) → ((b : Body) → o ≡ Some b → is_awake b ≡ true → sleeping_name l ≡ None) → p_x (option_map (told_body l) o) ≡ p_x o
-told_p_x l None all h = refl
-told_p_x l (Some b) all h =
-    rw (told_is l b).mover (part_of (is_mover b) b.motion.p.x (told_body l b).motion.p.x (told_momentum l b (all b refl) (h b refl)).x)
-
-pub told_p_y : (l : Option Label) (o : Option Body) → ((b : Body) → o ≡ Some b → IsBody b) → ((b : Body) → o ≡ Some b → is_awake b ≡ true → sleeping_name l ≡ None) → p_y (option_map (told_body l) o) ≡ p_y o
-told_p_y l None all h = refl
-told_p_y l (Some b) all h =
-    rw (told_is l b).mover (part_of (is_mover b) b.motion.p.y (told_body l b).motion.p.y (told_momentum l b (all b refl) (h b refl)).y)
+pub told_part : (l : Option Label) (o : Option Body) → ((b : Body) → o ≡ Some b → IsBody b) → ((b : Body) → o ≡ Some b → is_awake b ≡ true → sleeping_name l ≡ None) → momentum_in (option_map (told_body l) o) ≡ momentum_in o
+told_part l None all h = refl
+told_part l (Some b) all h = λ j. cond ((told_is l b).mover j) (told_momentum l b (all b refl) (h b refl) j) zero_vector
 
 -- what is known of the list that begins with the slot n
 abbrev StayAwakeFrom : ℕ → List (Option Body) → Labels → Type 0
@@ -263,31 +255,20 @@ StayAwakeFrom n bodies labels = (k m : ℕ) (b : Body) → m ≡ n + k → body_
 tail_stays : (n : ℕ) (o : Option Body) (bodies : List (Option Body)) (labels : Labels) → StayAwakeFrom n (o ∷ bodies) labels → StayAwakeFrom (suc n) bodies labels
 tail_stays n o bodies labels h k m b e at up = h (suc k) m b (omega (arith, e)) at up
 
-told_from_x : (n : ℕ) (labels : Labels) (bodies : List (Option Body)) → AreBodies bodies → StayAwakeFrom n bodies labels → momentum_x (told_from n labels bodies) ≡ momentum_x bodies
-told_from_x n labels [] all h = refl
-told_from_x n labels (o ∷ bodies) all h =
-    let first = told_p_x (label_at labels n) o (λ b e. all zero b (ap Some e)) (λ b e. h zero n b (omega arith) e) in
-    let rest = told_from_x (suc n) labels bodies (λ k b e. all (suc k) b e) (tail_stays n o bodies labels h) in
-    λ j. first j +ℤ rest j
-
-told_from_y : (n : ℕ) (labels : Labels) (bodies : List (Option Body)) → AreBodies bodies → StayAwakeFrom n bodies labels → momentum_y (told_from n labels bodies) ≡ momentum_y bodies
-told_from_y n labels [] all h = refl
-told_from_y n labels (o ∷ bodies) all h =
-    let first = told_p_y (label_at labels n) o (λ b e. all zero b (ap Some e)) (λ b e. h zero n b (omega arith) e) in
-    let rest = told_from_y (suc n) labels bodies (λ k b e. all (suc k) b e) (tail_stays n o bodies labels h) in
-    λ j. first j +ℤ rest j
+told_from_momentum : (n : ℕ) (labels : Labels) (bodies : List (Option Body)) → AreBodies bodies → StayAwakeFrom n bodies labels → momentum (told_from n labels bodies) ≡ momentum bodies
+told_from_momentum n labels [] all h = refl
+told_from_momentum n labels (o ∷ bodies) all h =
+    let first = told_part (label_at labels n) o (λ b e. all zero b (ap Some e)) (λ b e. h zero n b (omega arith) e) in
+    let rest = told_from_momentum (suc n) labels bodies (λ k b e. all (suc k) b e) (tail_stays n o bodies labels h) in
+    ap₂ plus first rest
 
 from_zero : (bodies : List (Option Body)) (labels : Labels) → NobodyFallsAsleep bodies labels → StayAwakeFrom 0 bodies labels
 from_zero bodies labels h k m b e at up = let same : k ≡ m = omega (arith, e) in subst (λ (s : ℕ). sleeping_name (label_at labels s) ≡ None) same (h k b at up)
 
 -- where nobody falls asleep the movers' momentum stays as it is
-pub waking_momentum_x : (labels : Labels) (bodies : List (Option Body)) → AreBodies bodies → NobodyFallsAsleep bodies labels → momentum_x (told labels bodies) ≡ momentum_x bodies
+pub waking_momentum : (labels : Labels) (bodies : List (Option Body)) → AreBodies bodies → NobodyFallsAsleep bodies labels → momentum (told labels bodies) ≡ momentum bodies
 unfolding told
-waking_momentum_x labels bodies all h = told_from_x 0 labels bodies all (from_zero bodies labels h)
-
-pub waking_momentum_y : (labels : Labels) (bodies : List (Option Body)) → AreBodies bodies → NobodyFallsAsleep bodies labels → momentum_y (told labels bodies) ≡ momentum_y bodies
-unfolding told
-waking_momentum_y labels bodies all h = told_from_y 0 labels bodies all (from_zero bodies labels h)
+waking_momentum labels bodies all h = told_from_momentum 0 labels bodies all (from_zero bodies labels h)
 
 -- ---- when they stay as they are
 
@@ -423,25 +404,14 @@ told_over first second bodies all h k = over_from 0 first second bodies all (fro
 
 -- ---- a body that is told to sleep has no momentum
 
-no_part : (m : Bool) → cond m (pos 0) (pos 0) ≡ pos 0
+no_part : (m : Bool) → cond m zero_vector zero_vector ≡ zero_vector
 no_part true = refl
 no_part false = refl
 
-rested_p_x : (l : Option Label) (b : Body) (name : ℕ) → sleeping_name l ≡ Some name → p_x (Some (told_body l b)) ≡ pos 0
-rested_p_x l b name e = by (is_mover b) refl (sleeping_name l) e
+pub rested_momentum : (l : Option Label) (b : Body) (name : ℕ) → sleeping_name l ≡ Some name → momentum_in (Some (told_body l b)) ≡ zero_vector
+rested_momentum l b name e = by (is_mover b) refl (sleeping_name l) e
   where
-    by : (t : Bool) → is_mover b ≡ t → (o : Option ℕ) → o ≡ Some name → p_x (Some (cond t (told_by o b) b)) ≡ pos 0
+    by : (t : Bool) → is_mover b ≡ t → (o : Option ℕ) → o ≡ Some name → momentum_in (Some (cond t (told_by o b) b)) ≡ zero_vector
     by true m None f = cc
     by true m (Some n) f = no_part (is_mover b)
-    by false m o f = ap (λ (u : Bool). cond u b.motion.p.x (pos 0)) m
-
-rested_p_y : (l : Option Label) (b : Body) (name : ℕ) → sleeping_name l ≡ Some name → p_y (Some (told_body l b)) ≡ pos 0
-rested_p_y l b name e = by (is_mover b) refl (sleeping_name l) e
-  where
-    by : (t : Bool) → is_mover b ≡ t → (o : Option ℕ) → o ≡ Some name → p_y (Some (cond t (told_by o b) b)) ≡ pos 0
-    by true m None f = cc
-    by true m (Some n) f = no_part (is_mover b)
-    by false m o f = ap (λ (u : Bool). cond u b.motion.p.y (pos 0)) m
-
-pub rested_momentum : (l : Option Label) (b : Body) (name : ℕ) → sleeping_name l ≡ Some name → (p_x (Some (told_body l b)) ≡ pos 0) × (p_y (Some (told_body l b)) ≡ pos 0)
-rested_momentum l b name e = (rested_p_x l b name e, rested_p_y l b name e)
+    by false m o f = ap (λ (u : Bool). cond u b.motion.p zero_vector) m

@@ -1,7 +1,7 @@
 -- What each command does to the plain world, as a function.
 use Rattle.std.specs.Prelude.{◌≡◌, ℕ, ◌+◌, ◌^◌, Bool, true, false, cond, ◌&&◌, ◌==◌, nat_le, nat_lt, List, [], ◌∷◌, ◌++◌, Option, Some, None, is_some, Result, Ok, Err, ℤ, pos, neg_ℤ, ◌+ℤ◌, ◌-ℤ◌, unsigned_abs, slice_set, unwrap_or, replicate}
 use Rattle.fixed_geom.specs.Facings.{is_facing}
-use Rattle.fixed_geom.specs.Vectors.{cross, is_within, plus, zero_vector}
+use Rattle.fixed_geom.specs.Vectors.{cross, is_within, minus, plus, zero_vector}
 use Rattle.fixed_geom.specs.declared.limits.TheConstants.{MAX_POSITION}
 use Rattle.fixed_geom.specs.declared.vectors.Vec2.{Vec2}
 use Rattle.fixed_geom.specs.declared.refusal.Refusal.{Refusal}
@@ -35,7 +35,8 @@ use Rattle.solver_sets.specs.Beside.{joined_to, timers_of}
 use Rattle.solver_sets.specs.Joining.{handle_at, joined_with, unjoined, unjoined_all}
 use Rattle.solver_sets.specs.Slept.{asleep_only_in}
 use Rattle.solver_sets.specs.Ties.{JointSlots, begun_with, ended_with, joint_movers, joint_ties_at, key_changes}
-use Rattle.plain_world.specs.Bodies.{def_refusal, is_mover, made, momentum_x, momentum_y, p_x, p_y}
+use Rattle.plain_world.specs.Bodies.{def_refusal, is_mover, made}
+use Rattle.plain_world.specs.Momentum.{momentum, momentum_in}
 use Rattle.plain_world.specs.Changes.{changed_at, disabled_body, enabled_body, put_course, put_momenta, put_pose}
 use Rattle.plain_world.specs.Joints.{idle_joints, joint_at, joint_made, joint_of, joint_refusal}
 use Rattle.plain_world.specs.Kinds.{is_course, is_dynamic, is_kinematic}
@@ -117,7 +118,7 @@ body_destroyed h mover w = with_acting (body_gone h.slot mover w) (without_body 
 
 -- minus the momentum that leaves with a body
 abbrev pub departed : ℕ → Body → List Entry
-departed call b = booked call causes.Departed (neg_ℤ (p_x (Some b))) (neg_ℤ (p_y (Some b)))
+departed call b = booked call causes.Departed (neg_ℤ (momentum_in (Some b)).x) (neg_ℤ (momentum_in (Some b)).y)
 
 abbrev pub destroyed : Plain → Handle → Body → Applied
 destroyed w h b = record {
@@ -311,15 +312,12 @@ abbrev pub apply_wake : Plain → Handle → Result Applied Refusal
 apply_wake w h = wake_due w h (mover_refusal (body_of w h))
 
 -- what the movers' momentum has gained between two lists of bodies
-abbrev pub gained_x : List (Option Body) → List (Option Body) → ℤ
-gained_x before after = momentum_x after -ℤ momentum_x before
-
-abbrev pub gained_y : List (Option Body) → List (Option Body) → ℤ
-gained_y before after = momentum_y after -ℤ momentum_y before
+abbrev pub gained : List (Option Body) → List (Option Body) → Vec2
+gained before after = minus (momentum after) (momentum before)
 
 -- the momentum that bodies lose as they are told to rest
 abbrev pub rest_entries : ℕ → Labels → List (Option Body) → List Entry
-rest_entries call labels bodies = booked call causes.Rest (gained_x bodies (told labels bodies)) (gained_y bodies (told labels bodies))
+rest_entries call labels bodies = booked call causes.Rest (gained bodies (told labels bodies)).x (gained bodies (told labels bodies)).y
 
 abbrev pub put_to_sleep : Plain → Acting Constraint → Applied
 put_to_sleep w s = record { plain = counted (with_acting s w); reply = replies.Done; entries = rest_entries (w.calls + 1) s.labels w.bodies; events = None }

@@ -2,14 +2,15 @@
 use Rattle.std.specs.Prelude.{◌≡◌, ℕ, ◌+◌, ◌*◌, ◌<◌, ◌≤◌, ◌^◌, true, false, List, length, Option, Some, All, is_some, unsigned_abs}
 use Rattle.fixed_geom.specs.Vectors.{IsWithin}
 use Rattle.impulse_ledger.specs.declared.entry.Cause.{Cause}
-use Rattle.impulse_ledger.specs.Sums.{Book, total_x, total_y, total_of_x, total_of_y}
+use Rattle.impulse_ledger.specs.Sums.{Book, total, total_of}
 use Rattle.body_handles.specs.Places.{IsPlace}
 use Rattle.contacts_base.specs.declared.contact.ContactEntry.{ContactEntry}
 use Rattle.contacts_base.specs.Contacts.{AreKeysRising}
 use Rattle.contacts.specs.Constraints.{constraint_number}
 use Rattle.graph_colours.specs.Colours.{ids_of}
 use Rattle.plain_world.specs.declared.body.Body.{Body}
-use Rattle.plain_world.specs.Bodies.{AreBodies, IsAtRest, is_awake, momentum_x, momentum_y}
+use Rattle.plain_world.specs.Bodies.{AreBodies, IsAtRest, is_awake}
+use Rattle.plain_world.specs.Momentum.{momentum}
 use Rattle.plain_world.specs.Formed.{AreFiltered, HasPoints, IsShapeOf, mixed_of, shape_named}
 use Rattle.plain_world.specs.Joints.{AreJoints}
 use Rattle.plain_world.specs.Slots.{AreMatched, body_at}
@@ -24,8 +25,8 @@ use Rattle.world_rules.specs.World.{World, book_of, joints_of}
 
 -- no cause's total is beyond n
 pub record AreSmall (n : ℕ) (b : Book) : Type 0 where
-  pub x : (cause : Cause) → unsigned_abs (total_of_x cause b) ≤ n
-  pub y : (cause : Cause) → unsigned_abs (total_of_y cause b) ≤ n
+  pub x : (cause : Cause) → unsigned_abs (total_of cause b).x ≤ n
+  pub y : (cause : Cause) → unsigned_abs (total_of cause b).y ≤ n
 
 -- The bodies of both its shapes are there, the shapes are theirs, and the one in the lesser slot is the first. Its surface is what those of the two shapes mix to.
 -- Their names are within their ranges, and so are its points.
@@ -55,8 +56,8 @@ pub record KeepsPromises (w : World) : Type 0 where
   pub settled : IsSettled constraint_number (acting_of w.plain)
   pub tied : AreTied w.plain.bodies w.plain.islands
   pub told : AreTold w.plain.bodies w.plain.islands
-  pub total_x : momentum_x w.plain.bodies ≡ total_x (book_of w)
-  pub total_y : momentum_y w.plain.bodies ≡ total_y (book_of w)
+  pub total_x : (momentum w.plain.bodies).x ≡ (total (book_of w)).x
+  pub total_y : (momentum w.plain.bodies).y ≡ (total (book_of w)).y
   pub rest : AreAtRest w.plain.bodies
 
 -- ---- what its lists and numbers keep
@@ -94,6 +95,6 @@ pub record IsSound (w : World) : Type 0 where
 
 -- there is room in the numbers for the entries of one more call
 pub record IsRoomy (b : Book) : Type 0 where
-  pub x : unsigned_abs (total_x b) ≤ 2 ^ 100
-  pub y : unsigned_abs (total_y b) ≤ 2 ^ 100
+  pub x : unsigned_abs (total b).x ≤ 2 ^ 100
+  pub y : unsigned_abs (total b).y ≤ 2 ^ 100
   pub causes : AreSmall (2 ^ 126 + 2 ^ 123) b

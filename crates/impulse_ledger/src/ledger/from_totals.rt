@@ -1,7 +1,8 @@
 //! A book from its sums, as a saved world has them.
 
 ghost use Rattle.std.specs.Prelude.{◌≡◌, []};
-ghost use Rattle.impulse_ledger.specs.Given.{AreTotalsWithin, total_over, wrapped_sum};
+ghost use Rattle.impulse_ledger.specs.Given.{AreTotalsWithin, wrapped_sum};
+ghost use Rattle.impulse_ledger.specs.Totals.{total_over};
 
 use crate::ledger::Ledger;
 use crate::totals::{Total, Totals};

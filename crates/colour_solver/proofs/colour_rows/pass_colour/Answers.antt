@@ -1,3 +1,4 @@
+use Rattle.colour_solver.specs.States.{as_vector}
 use Rattle.colour_solver.specs.Turns.{between}
 use Rattle.colour_solver.specs.ColourRows.{joints_first}
 use Rattle.colour_solver.specs.ConstraintTurns.{IsConstraintRow, both_turns, constraint_slots}
@@ -13,7 +14,7 @@ returns-clause-passed g c =
     (joints_then_contacts (g.J.Turn.turn c.args.joint_turn.now) (g.C.Turn.turn c.args.contact_turn.now) c.args.states.now.items joints.new.states.items contacts.new.states.items
     (between c.args.start.joints c.args.end.joints c.args.joints.now.items) (between c.args.start.joints c.args.end.joints joints.new.rows.items)
     (between c.args.start.contacts c.args.end.contacts c.args.contacts.now.items) (between c.args.start.contacts c.args.end.contacts contacts.new.rows.items)
-    joints.result.x joints.result.y contacts.result.x contacts.result.y joints.ensures.passed contacts.ensures.passed)
+    (as_vector joints.result) (as_vector contacts.result) joints.ensures.passed contacts.ensures.passed)
 
 pub returns-clause-small : goal.returns-clause-small
 returns-clause-small g c =

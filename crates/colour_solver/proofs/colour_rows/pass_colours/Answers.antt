@@ -1,6 +1,7 @@
 use Rattle.std.proofs.Common.{ℕ, ◌+◌, ◌≤◌, length, get_or, map, take, slice_index_or, arith, ap, ◌∙◌}
 use Rattle.std.proofs.lemmas.List.{length-map, take_all}
 use Rattle.colour_solver.specs.declared.colour_rows.ColourEnd.{ColourEnd}
+use Rattle.colour_solver.specs.States.{as_vector}
 use Rattle.colour_solver.specs.ColourRows.{rows_kept}
 use Rattle.colour_solver.specs.ConstraintTurns.{IsConstraintRow, both_turns, constraint_slots}
 use Rattle.colour_solver.proofs.ColourRowLaws.{last_end}
@@ -50,7 +51,7 @@ loop-end-preserved g c =
     let new = c.pass_colour-got.new in
     let got = c.pass_colour-got.result in
     let both : AreBothEnds je ce c.args.joints.now.items c.args.contacts.now.items = record { as_many = as_many_ends joint_end contact_end ends; of_joints = c.requires.joint_ends; of_contacts = c.requires.contact_ends } in
-    let turned : HasTurned f h start.joints start.contacts end.joints end.contacts now.states.items now.joints.items now.contacts.items new.states.items new.joints.items new.contacts.items got.x got.y =
+    let turned : HasTurned f h start.joints start.contacts end.joints end.contacts now.states.items now.joints.items now.contacts.items new.states.items new.joints.items new.contacts.items (as_vector got) =
     record {
       passed = made.passed;
       joints_before = made.joints_before;
@@ -63,12 +64,12 @@ loop-end-preserved g c =
       all_contacts = made.contacts;
     } in
     let there =
-    turned_there f h start.joints start.contacts end.joints end.contacts (last_end 0 (take k je)) (last_end 0 (take k ce)) (get_or je k 0) (get_or ce k 0) now.states.items now.joints.items now.contacts.items new.states.items new.joints.items new.contacts.items got.x got.y
+    turned_there f h start.joints start.contacts end.joints end.contacts (last_end 0 (take k je)) (last_end 0 (take k ce)) (get_or je k 0) (get_or ce k 0) now.states.items now.joints.items now.contacts.items new.states.items new.joints.items new.contacts.items (as_vector got)
     known.joints_start known.contacts_start (end_there joint_end ends k nothing lt) (end_there contact_end ends k nothing lt) turned in
     let more =
     has_passed_more f h k je ce c.args.states.now.items now.states.items new.states.items c.args.joints.now.items now.joints.items new.joints.items c.args.contacts.now.items now.contacts.items new.contacts.items
-    c.loop-end.given.x c.loop-end.given.y got.x got.y both (below_ends joint_end ends k lt) known.passed there in
-    let passed : HasPassed f h (k + 1) je ce c.args.states.now.items c.args.joints.now.items c.args.contacts.now.items new.states.items new.joints.items new.contacts.items c.plus-given.result.x c.plus-given.result.y =
+    (as_vector c.loop-end.given) (as_vector got) both (below_ends joint_end ends k lt) known.passed there in
+    let passed : HasPassed f h (k + 1) je ce c.args.states.now.items c.args.joints.now.items c.args.contacts.now.items new.states.items new.joints.items new.contacts.items (as_vector c.plus-given.result) =
     rw (c.plus-given.ensures.x, c.plus-given.ensures.y) more in
     record {
       passed = passed;
@@ -108,7 +109,7 @@ returns-clause-passed g c =
     let high : length je ≤ k = omega (arith, long, c.loop-end-test.false) in
     let high_too : length ce ≤ k = omega (arith, others, c.loop-end-test.false) in
     let both : AreBothEnds je ce c.args.joints.now.items c.args.contacts.now.items = record { as_many = as_many_ends joint_end contact_end ends; of_joints = c.requires.joint_ends; of_contacts = c.requires.contact_ends } in
-    let turned : HasTurned f h start.joints start.contacts c.len.result c.len-2.result now.states.items now.joints.items now.contacts.items new.states.items new.joints.items new.contacts.items got.x got.y =
+    let turned : HasTurned f h start.joints start.contacts c.len.result c.len-2.result now.states.items now.joints.items now.contacts.items new.states.items new.joints.items new.contacts.items (as_vector got) =
     record {
       passed = made.passed;
       joints_before = made.joints_before;
@@ -121,11 +122,11 @@ returns-clause-passed g c =
       all_contacts = made.contacts;
     } in
     let there =
-    turned_there f h start.joints start.contacts c.len.result c.len-2.result (last_end 0 je) (last_end 0 ce) (length now.joints.items) (length now.contacts.items) now.states.items now.joints.items now.contacts.items new.states.items new.joints.items new.contacts.items got.x got.y
+    turned_there f h start.joints start.contacts c.len.result c.len-2.result (last_end 0 je) (last_end 0 ce) (length now.joints.items) (length now.contacts.items) now.states.items now.joints.items now.contacts.items new.states.items new.joints.items new.contacts.items (as_vector got)
     (known.joints_start ∙ ap (last_end 0) (take_all k je high)) (known.contacts_start ∙ ap (last_end 0) (take_all k ce high_too)) (omega (arith, c.len.ensures, c.loop-end.joints.ok)) (omega (arith, c.len-2.ensures, c.loop-end.contacts.ok)) turned in
     rw (c.plus.ensures.x, c.plus.ensures.y)
     (all_passed f h k je ce c.args.states.now.items now.states.items new.states.items c.args.joints.now.items now.joints.items new.joints.items c.args.contacts.now.items now.contacts.items new.contacts.items
-    c.loop-end.given.x c.loop-end.given.y got.x got.y both high known.passed there)
+    (as_vector c.loop-end.given) (as_vector got) both high known.passed there)
 
 pub returns-clause-small : goal.returns-clause-small
 returns-clause-small g c =

@@ -1,5 +1,6 @@
 use Rattle.std.proofs.Common.{◌≡◌, ◌^◌, map, take}
 use Rattle.momenta.specs.Gains.{IsGain}
+use Rattle.colour_solver.specs.States.{as_vector}
 use Rattle.colour_solver.proofs.ColourRowLaws.{last_end}
 use Rattle.colour_solver.proofs.KeptRowLaws.{HasPassed}
 use Rattle.colour_solver.proofs.colour_rows.pass_colours.Given as goal
@@ -9,7 +10,7 @@ invariant-loop-end g l =
     let joint_ends = map (λ e. e.joints) l.ends in
     let contact_ends = map (λ e. e.contacts) l.ends in
     record {
-      passed : HasPassed (g.J.Turn.turn l.joint_turn) (g.C.Turn.turn l.contact_turn) l.end-index joint_ends contact_ends l.initial.states.items l.initial.joints.items l.initial.contacts.items l.states.items l.joints.items l.contacts.items l.given.x l.given.y;
+      passed : HasPassed (g.J.Turn.turn l.joint_turn) (g.C.Turn.turn l.contact_turn) l.end-index joint_ends contact_ends l.initial.states.items l.initial.joints.items l.initial.contacts.items l.states.items l.joints.items l.contacts.items (as_vector l.given);
       joints_start : l.start.joints ≡ last_end 0 (take l.end-index joint_ends);
       contacts_start : l.start.contacts ≡ last_end 0 (take l.end-index contact_ends);
       small : IsGain (2 ^ 78) l.given;

@@ -1,4 +1,5 @@
 use Rattle.std.proofs.Common.{◌≤◌, length, slice_index_or, refl, arith, add-one}
+use Rattle.colour_solver.specs.States.{as_vector}
 use Rattle.colour_solver.proofs.PassLaws.{grown}
 use Rattle.colour_solver.proofs.AwakeLaws.{here_at, few_movers, walked_first, walked_last, walked_more}
 use Rattle.colour_solver.proofs.passes.pass_two.Goals as goal
@@ -14,17 +15,17 @@ loop-place-init g c = record {
 pub change_body-gains-requires-clause-small : goal.change_body-gains-requires-clause-small
 change_body-gains-requires-clause-small g c =
     c.requires.small (slice_index_or c.args.awake.now c.loop-place.place 0) c.index_mut.result.now
-    (here_at (g.A.Change.after c.args.first.now) (g.B.Change.after c.args.second.now) (g.B.Change.gives c.args.second.now) c.args.states.now.items c.args.awake.now c.loop-place.place (slice_index_or c.args.awake.now c.loop-place.place 0) c.loop-place.states.items _ _ _ _ c.index_mut.result.now c.loop-place.invariant.walked c.loop-place-test.true refl c.index_mut.ensures.value).there
+    (here_at (g.A.Change.after c.args.first.now) (g.B.Change.after c.args.second.now) (g.B.Change.gives c.args.second.now) c.args.states.now.items c.args.awake.now c.loop-place.place (slice_index_or c.args.awake.now c.loop-place.place 0) c.loop-place.states.items _ _ c.index_mut.result.now c.loop-place.invariant.walked c.loop-place-test.true refl c.index_mut.ensures.value).there
 
 pub change_body-gains-requires-clause-fits : goal.change_body-gains-requires-clause-fits
 change_body-gains-requires-clause-fits g c =
     c.requires.fits (slice_index_or c.args.awake.now c.loop-place.place 0) c.index_mut.result.now
-    (here_at (g.A.Change.after c.args.first.now) (g.B.Change.after c.args.second.now) (g.B.Change.gives c.args.second.now) c.args.states.now.items c.args.awake.now c.loop-place.place (slice_index_or c.args.awake.now c.loop-place.place 0) c.loop-place.states.items _ _ _ _ c.index_mut.result.now c.loop-place.invariant.walked c.loop-place-test.true refl c.index_mut.ensures.value).there
+    (here_at (g.A.Change.after c.args.first.now) (g.B.Change.after c.args.second.now) (g.B.Change.gives c.args.second.now) c.args.states.now.items c.args.awake.now c.loop-place.place (slice_index_or c.args.awake.now c.loop-place.place 0) c.loop-place.states.items _ _ c.index_mut.result.now c.loop-place.invariant.walked c.loop-place-test.true refl c.index_mut.ensures.value).there
 
 pub change_body-gains-requires-clause-reciprocals : goal.change_body-gains-requires-clause-reciprocals
 change_body-gains-requires-clause-reciprocals g c =
     c.requires.reciprocals (slice_index_or c.args.awake.now c.loop-place.place 0) c.index_mut.result.now
-    (here_at (g.A.Change.after c.args.first.now) (g.B.Change.after c.args.second.now) (g.B.Change.gives c.args.second.now) c.args.states.now.items c.args.awake.now c.loop-place.place (slice_index_or c.args.awake.now c.loop-place.place 0) c.loop-place.states.items _ _ _ _ c.index_mut.result.now c.loop-place.invariant.walked c.loop-place-test.true refl c.index_mut.ensures.value).there
+    (here_at (g.A.Change.after c.args.first.now) (g.B.Change.after c.args.second.now) (g.B.Change.gives c.args.second.now) c.args.states.now.items c.args.awake.now c.loop-place.place (slice_index_or c.args.awake.now c.loop-place.place 0) c.loop-place.states.items _ _ c.index_mut.result.now c.loop-place.invariant.walked c.loop-place-test.true refl c.index_mut.ensures.value).there
 
 pub loop-place-preserved : goal.loop-place-preserved
 loop-place-preserved g c =
@@ -39,8 +40,8 @@ loop-place-preserved g c =
     let made = c.change_body-gains.ensures in
     record {
       walked = rw (c.plus.ensures.x, c.plus.ensures.y, c.plus-in-loop-place.ensures.x, c.plus-in-loop-place.ensures.y, add-one)
-          (walked_more f s (g.B.Change.gives c.args.second.now) all c.args.awake.now place slot c.loop-place.states.items sums.first.x sums.first.y sums.second.x sums.second.y gains.first.x gains.first.y gains.second.x gains.second.y c.index_mut.result.now c.change_body-gains.new.body
-          known.walked c.loop-place-test.true refl c.index_mut.ensures.value made.body made.gives made.first_x made.first_y made.second_x made.second_y);
+          (walked_more f s (g.B.Change.gives c.args.second.now) all c.args.awake.now place slot c.loop-place.states.items (as_vector sums.first) (as_vector sums.second) (as_vector gains.first) (as_vector gains.second) c.index_mut.result.now c.change_body-gains.new.body
+          known.walked c.loop-place-test.true refl c.index_mut.ensures.value made.body made.gives made.first made.second);
       few = known.few;
       small_first = record {
         x = rw c.plus.ensures.x (grown sums.first.x gains.first.x place known.small_first.x made.small_first.x);
@@ -55,14 +56,14 @@ loop-place-preserved g c =
 pub returns-clause-gives : goal.returns-clause-gives
 returns-clause-gives g c =
     let ended : length c.args.awake.now ≤ c.loop-place.place = omega (arith, c.loop-place-test.false) in
-    (walked_last (g.A.Change.after c.args.first.now) (g.B.Change.after c.args.second.now) (g.B.Change.gives c.args.second.now) c.args.states.now.items c.args.awake.now c.loop-place.place c.loop-place.states.items _ _ _ _ c.loop-place.invariant.walked ended).made
+    (walked_last (g.A.Change.after c.args.first.now) (g.B.Change.after c.args.second.now) (g.B.Change.gives c.args.second.now) c.args.states.now.items c.args.awake.now c.loop-place.place c.loop-place.states.items _ _ c.loop-place.invariant.walked ended).made
 
 pub returns-clause-same : goal.returns-clause-same
 returns-clause-same g c =
     let ended : length c.args.awake.now ≤ c.loop-place.place = omega (arith, c.loop-place-test.false) in
-    (walked_last (g.A.Change.after c.args.first.now) (g.B.Change.after c.args.second.now) (g.B.Change.gives c.args.second.now) c.args.states.now.items c.args.awake.now c.loop-place.place c.loop-place.states.items _ _ _ _ c.loop-place.invariant.walked ended).same
+    (walked_last (g.A.Change.after c.args.first.now) (g.B.Change.after c.args.second.now) (g.B.Change.gives c.args.second.now) c.args.states.now.items c.args.awake.now c.loop-place.place c.loop-place.states.items _ _ c.loop-place.invariant.walked ended).same
 
 pub returns-clause-movers : goal.returns-clause-movers
 returns-clause-movers g c =
     let ended : length c.args.awake.now ≤ c.loop-place.place = omega (arith, c.loop-place-test.false) in
-    (walked_last (g.A.Change.after c.args.first.now) (g.B.Change.after c.args.second.now) (g.B.Change.gives c.args.second.now) c.args.states.now.items c.args.awake.now c.loop-place.place c.loop-place.states.items _ _ _ _ c.loop-place.invariant.walked ended).movers
+    (walked_last (g.A.Change.after c.args.first.now) (g.B.Change.after c.args.second.now) (g.B.Change.gives c.args.second.now) c.args.states.now.items c.args.awake.now c.loop-place.place c.loop-place.states.items _ _ c.loop-place.invariant.walked ended).movers

@@ -1,5 +1,6 @@
 use Rattle.std.proofs.Common.{◌*◌, ◌^◌, arith, ap, sym, ◌∙◌, add-one}
-use Rattle.colour_solver.specs.Ticks.{tick}
+use Rattle.colour_solver.specs.States.{as_vector, total}
+use Rattle.colour_solver.specs.Ticks.{added, tick}
 use Rattle.colour_solver.proofs.CourseLaws.{beside_on, beside_same, carried_beside, courses_same, movers_beside}
 use Rattle.colour_solver.proofs.TickLaws.{carried_on, last_added}
 use Rattle.colour_solver.proofs.ticks.run_step.Goals as goal
@@ -28,17 +29,16 @@ loop-index-preserved c =
         immovable = record { x = omega (arith, grown.immovable.x); y = omega (arith, grown.immovable.y) };
         clamp = record { x = omega (arith, grown.clamp.x); y = omega (arith, grown.clamp.y) };
       };
-      momentum_x = carried_on _ _ _ _ _ made.momentum_x known.momentum_x;
-      momentum_y = carried_on _ _ _ _ _ made.momentum_y known.momentum_y;
+      momentum =
+          carried_on (total c.tick-sums.new.states.items) (total c.loop-index.states.items) (total c.args.states.now.items) (added c.loop-index.sums) (added c.tick-sums.result) made.momentum known.momentum;
     }
 
-pub returns-clause-momentum_x : goal.returns-clause-momentum_x
-returns-clause-momentum_x c =
-    rw c.plus.ensures.x (last_added _ _ _ _ _ _ _ c.pass-bounced.ensures.momentum_x c.loop-index.invariant.momentum_x)
-
-pub returns-clause-momentum_y : goal.returns-clause-momentum_y
-returns-clause-momentum_y c =
-    rw c.plus.ensures.y (last_added _ _ _ _ _ _ _ c.pass-bounced.ensures.momentum_y c.loop-index.invariant.momentum_y)
+pub returns-clause-momentum : goal.returns-clause-momentum
+returns-clause-momentum c =
+    let sums = c.loop-index.sums in
+    rw (c.plus.ensures.x, c.plus.ensures.y)
+    (last_added (total c.pass-bounced.new.states.items) (total c.loop-index.states.items) (total c.args.states.now.items) (as_vector sums.gravity) (as_vector sums.immovable) (as_vector sums.clamp) (as_vector c.pass-bounced.result)
+    c.pass-bounced.ensures.momentum c.loop-index.invariant.momentum)
 
 pub returns-clause-same : goal.returns-clause-same
 returns-clause-same c =

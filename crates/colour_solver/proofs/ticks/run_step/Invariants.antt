@@ -1,8 +1,9 @@
-use Rattle.std.proofs.Common.{◌≡◌, ◌*◌, ◌^◌, ◌+ℤ◌, length, map}
-use Rattle.colour_solver.specs.States.{AreAllStates, AreSameBeside, HaveCourses, total_x, total_y}
+use Rattle.std.proofs.Common.{◌≡◌, ◌*◌, ◌^◌, length, map}
+use Rattle.fixed_geom.specs.Vectors.{plus}
+use Rattle.colour_solver.specs.States.{AreAllStates, AreSameBeside, HaveCourses, total}
 use Rattle.colour_solver.specs.ColourRows.{all_rows}
 use Rattle.colour_solver.specs.ConstraintTurns.{AreRowsBelow}
-use Rattle.colour_solver.specs.Ticks.{AreSums, added_x, added_y, run_of, start, ticks}
+use Rattle.colour_solver.specs.Ticks.{AreSums, added, run_of, start, ticks}
 use Rattle.colour_solver.proofs.ticks.run_step.Given as goal
 
 abbrev pub invariant-loop-index : goal.invariant-loop-index
@@ -15,6 +16,5 @@ invariant-loop-index l = record {
   same : AreSameBeside l.fn.states.items l.states.items;
   courses : HaveCourses l.states.items;
   small : AreSums (l.index * (3 * 2 ^ 78)) l.sums;
-  momentum_x : total_x l.states.items ≡ total_x l.fn.states.items +ℤ added_x l.sums;
-  momentum_y : total_y l.states.items ≡ total_y l.fn.states.items +ℤ added_y l.sums;
+  momentum : total l.states.items ≡ plus (total l.fn.states.items) (added l.sums);
 }

@@ -1,12 +1,13 @@
 use Rattle.std.proofs.Common.{◌^◌, ◌∙◌, sym, length, arith}
 use Rattle.momenta.specs.Motions.{pulled, clamped, advanced}
-use Rattle.colour_solver.specs.States.{total_x, total_y}
+use Rattle.colour_solver.specs.States.{as_vector, total}
 use Rattle.colour_solver.specs.ColourRows.{all_rows}
 use Rattle.colour_solver.specs.Ticks.{tick}
 use Rattle.colour_solver.proofs.SameLaws.{same_four}
-use Rattle.colour_solver.proofs.CourseLaws.{beside_carry, beside_on, beside_same, carried_beside, carried_long, courses-carry, courses_same, total_x-carry, total_y-carry}
+use Rattle.colour_solver.proofs.CourseLaws.{beside_carry, beside_on, beside_same, carried_beside, carried_long, courses-carry, courses_same, total-carry}
 use Rattle.colour_solver.proofs.AwakeLaws.{movers_same}
-use Rattle.colour_solver.proofs.TickLaws.{long_after, one_more, rows_as_long, states_after, three_more, tick_adds, total_x-after, total_y-after, two_more}
+use Rattle.colour_solver.proofs.TickLaws.{long_after, one_more, rows_as_long, states_after, three_more, tick_adds, total-after, two_more}
+use Rattle.colour_solver.proofs.VectorLaws.{same_x, same_y}
 use Rattle.colour_solver.proofs.ticks.tick.Goals as goal
 
 pub pass_two-fallen-requires-clause-fits : goal.pass_two-fallen-requires-clause-fits
@@ -47,11 +48,21 @@ plus-requires-6-clause-first c = record {
 pub returns-clause-tick : goal.returns-clause-tick
 unfolding tick
 returns-clause-tick c =
+    let fallen = c.pass_two-fallen in
+    let warm = c.pass-warm in
+    let solved = c.pass-solved in
+    let moved = c.pass_two-moved in
+    let pulls = fallen.ensures.first in
+    let slows = fallen.ensures.second in
+    let warms = warm.ensures.share in
+    let solves = solved.ensures.share in
+    let stops = moved.ensures.first in
+    let edges = moved.ensures.second in
     rw (c.plus.ensures.x, c.plus.ensures.y, c.plus-3.ensures.x, c.plus-3.ensures.y, c.plus-2.ensures.x, c.plus-2.ensures.y, c.plus-6.ensures.x, c.plus-6.ensures.y, c.plus-5.ensures.x, c.plus-5.ensures.y, c.plus-4.ensures.x, c.plus-4.ensures.y)
-    (rw (c.carry_along.ensures.value, c.pass_two-moved.ensures.states, c.pass_two-moved.ensures.first_x, c.pass_two-moved.ensures.first_y, c.pass_two-moved.ensures.second_x, c.pass_two-moved.ensures.second_y)
-    (rw (c.pass-solved.ensures.states, c.pass-solved.ensures.rows, c.pass-solved.ensures.share_x, c.pass-solved.ensures.share_y)
-    (rw (c.pass-warm.ensures.states, c.pass-warm.ensures.rows, c.pass-warm.ensures.share_x, c.pass-warm.ensures.share_y)
-    (rw (c.pass_two-fallen.ensures.states, c.pass_two-fallen.ensures.first_x, c.pass_two-fallen.ensures.first_y, c.pass_two-fallen.ensures.second_x, c.pass_two-fallen.ensures.second_y)))))
+    (rw (c.carry_along.ensures.value, moved.ensures.states, same_x stops, same_y stops, same_x edges, same_y edges)
+    (rw (solved.ensures.states, solved.ensures.rows, same_x solves, same_y solves)
+    (rw (warm.ensures.states, warm.ensures.rows, same_x warms, same_y warms)
+    (rw (fallen.ensures.states, same_x pulls, same_y pulls, same_x slows, same_y slows)))))
 
 pub carry_along-requires-clause-states : goal.carry_along-requires-clause-states
 carry_along-requires-clause-states c =
@@ -80,33 +91,19 @@ returns-clause-grown c = λ n h.
       };
     }
 
-pub returns-clause-momentum_x : goal.returns-clause-momentum_x
-returns-clause-momentum_x c =
+pub returns-clause-momentum : goal.returns-clause-momentum
+returns-clause-momentum c =
     let fallen = c.pass_two-fallen in
     let warm = c.pass-warm in
     let solved = c.pass-solved in
     let moved = c.pass_two-moved in
     let sums = c.args.sums in
-    rw (c.carry_along.ensures.value, total_x-carry moved.new.states.items, c.plus.ensures.x, c.plus-3.ensures.x, c.plus-2.ensures.x, c.plus-6.ensures.x, c.plus-5.ensures.x, c.plus-4.ensures.x)
-    (tick_adds (total_x c.args.states.now.items) (total_x fallen.new.states.items) (total_x warm.new.states.items) (total_x solved.new.states.items) (total_x moved.new.states.items)
-    fallen.result.first.x fallen.result.second.x warm.result.x solved.result.x moved.result.first.x moved.result.second.x sums.gravity.x sums.immovable.x sums.clamp.x
-    (total_x-after (pulled c.args.gravity) clamped c.args.states.now.items fallen.new.states.items fallen.result.first.x fallen.result.second.x fallen.ensures.states fallen.ensures.first_x fallen.ensures.second_x)
-    warm.ensures.momentum_x solved.ensures.momentum_x
-    (total_x-after clamped advanced solved.new.states.items moved.new.states.items moved.result.first.x moved.result.second.x moved.ensures.states moved.ensures.first_x moved.ensures.second_x))
-
-pub returns-clause-momentum_y : goal.returns-clause-momentum_y
-returns-clause-momentum_y c =
-    let fallen = c.pass_two-fallen in
-    let warm = c.pass-warm in
-    let solved = c.pass-solved in
-    let moved = c.pass_two-moved in
-    let sums = c.args.sums in
-    rw (c.carry_along.ensures.value, total_y-carry moved.new.states.items, c.plus.ensures.y, c.plus-3.ensures.y, c.plus-2.ensures.y, c.plus-6.ensures.y, c.plus-5.ensures.y, c.plus-4.ensures.y)
-    (tick_adds (total_y c.args.states.now.items) (total_y fallen.new.states.items) (total_y warm.new.states.items) (total_y solved.new.states.items) (total_y moved.new.states.items)
-    fallen.result.first.y fallen.result.second.y warm.result.y solved.result.y moved.result.first.y moved.result.second.y sums.gravity.y sums.immovable.y sums.clamp.y
-    (total_y-after (pulled c.args.gravity) clamped c.args.states.now.items fallen.new.states.items fallen.result.first.y fallen.result.second.y fallen.ensures.states fallen.ensures.first_y fallen.ensures.second_y)
-    warm.ensures.momentum_y solved.ensures.momentum_y
-    (total_y-after clamped advanced solved.new.states.items moved.new.states.items moved.result.first.y moved.result.second.y moved.ensures.states moved.ensures.first_y moved.ensures.second_y))
+    rw (c.carry_along.ensures.value, total-carry moved.new.states.items, c.plus.ensures.x, c.plus.ensures.y, c.plus-3.ensures.x, c.plus-3.ensures.y, c.plus-2.ensures.x, c.plus-2.ensures.y, c.plus-6.ensures.x, c.plus-6.ensures.y, c.plus-5.ensures.x, c.plus-5.ensures.y, c.plus-4.ensures.x, c.plus-4.ensures.y)
+    (tick_adds (total c.args.states.now.items) (total fallen.new.states.items) (total warm.new.states.items) (total solved.new.states.items) (total moved.new.states.items)
+    (as_vector fallen.result.first) (as_vector fallen.result.second) (as_vector warm.result) (as_vector solved.result) (as_vector moved.result.first) (as_vector moved.result.second) (as_vector sums.gravity) (as_vector sums.immovable) (as_vector sums.clamp)
+    (total-after (pulled c.args.gravity) clamped c.args.states.now.items fallen.new.states.items (as_vector fallen.result.first) (as_vector fallen.result.second) fallen.ensures.states fallen.ensures.first fallen.ensures.second)
+    warm.ensures.momentum solved.ensures.momentum
+    (total-after clamped advanced solved.new.states.items moved.new.states.items (as_vector moved.result.first) (as_vector moved.result.second) moved.ensures.states moved.ensures.first moved.ensures.second))
 
 pub carry_along-requires-clause-carried : goal.carry_along-requires-clause-carried
 carry_along-requires-clause-carried c =

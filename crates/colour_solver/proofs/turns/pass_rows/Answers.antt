@@ -1,5 +1,6 @@
 use Rattle.std.proofs.Common.{◌+◌, ◌<◌, length, set, arith, ◌∙◌}
 use Rattle.std.proofs.lemmas.List.{drop-set-lt, length-set, take-set-le}
+use Rattle.colour_solver.specs.States.{as_vector}
 use Rattle.colour_solver.specs.Turns.{IsPassed, between}
 use Rattle.colour_solver.proofs.PassedLaws.{drop_further, passed_more, passed_one, passed_small}
 use Rattle.colour_solver.proofs.TurnLaws.{row_at, rows_below}
@@ -31,9 +32,9 @@ loop-index-preserved g c =
     let made = c.solve_one-got.ensures in
     let here : index < length all = omega (arith, c.loop-index-test.true, c.requires.inside) in
     let there : index < length rows = omega (arith, here, known.as_many) in
-    let one = passed_one at is f states new row turned got.x got.y made.states made.row made.x made.y made.all_states made.below made.same made.momentum_x made.momentum_y in
-    let more = passed_more at is f before states new start index all rows row turned given.x given.y got.x got.y known.low here there c.index_mut.ensures.value known.behind known.passed one in
-    let passed : IsPassed at is f before (between start (index + 1) all) new (between start (index + 1) (set rows index turned)) c.plus-given.result.x c.plus-given.result.y = rw (c.plus-given.ensures.x, c.plus-given.ensures.y) more in
+    let one = passed_one at is f states new row turned (as_vector got) made.states made.row made.got made.all_states made.below made.same made.momentum in
+    let more = passed_more at is f before states new start index all rows row turned (as_vector given) (as_vector got) known.low here there c.index_mut.ensures.value known.behind known.passed one in
+    let passed : IsPassed at is f before (between start (index + 1) all) new (between start (index + 1) (set rows index turned)) (as_vector c.plus-given.result) = rw (c.plus-given.ensures.x, c.plus-given.ensures.y) more in
     record {
       passed = passed;
       before = take-set-le start rows index turned known.low ∙ known.before;

@@ -1,6 +1,11 @@
-use Rattle.std.proofs.Common.{◌<◌, ◌≢◌, ◌∙◌, length, set}
+use Rattle.std.proofs.Common.{◌<◌, ◌≢◌, ◌∙◌, ap, length, set, sym}
 use Rattle.std.proofs.lemmas.List.{length-set}
-use Rattle.colour_solver.proofs.TurnLaws.{row_kept, state_at, states-set, total_x-after, total_y-after}
+use Rattle.fixed_geom.specs.Vectors.{plus}
+use Rattle.fixed_geom.specs.declared.vectors.Vec2.{Vec2}
+use Rattle.momenta.specs.declared.state.Ends.{Ends}
+use Rattle.colour_solver.specs.States.{as_vector, total}
+use Rattle.colour_solver.specs.Turns.{got}
+use Rattle.colour_solver.proofs.TurnLaws.{row_kept, state_at, states-set, total-after}
 use Rattle.colour_solver.proofs.SameLaws.{same_turned}
 use Rattle.colour_solver.proofs.turns.turn_bodies.Goals as goal
 
@@ -26,19 +31,16 @@ returns-clause-same g c =
     let b : c.slots-slots.result.b < length c.args.states.now.items = rw c.slots-slots.ensures c.requires.row.b in
     rw (c.put_momenta.ensures, c.put_momenta-2.ensures) (same_turned c.args.states.now.items c.slots-slots.result.a c.slots-slots.result.b (record { a = c.index.result.now; b = c.index-2.result.now }) c.turn.new.ends a b c.index.ensures c.index-2.ensures c.turn.ensures.same)
 
-pub returns-clause-momentum_x : goal.returns-clause-momentum_x
-returns-clause-momentum_x g c =
+pub returns-clause-momentum : goal.returns-clause-momentum
+returns-clause-momentum g c =
     let a : c.slots-slots.result.a < length c.args.states.now.items = rw c.slots-slots.ensures c.requires.row.a in
     let b : c.slots-slots.result.b < length c.args.states.now.items = rw c.slots-slots.ensures c.requires.row.b in
     let apart : c.slots-slots.result.a ≢ c.slots-slots.result.b = rw c.slots-slots.ensures c.requires.row.apart in
-    rw (c.put_momenta.ensures, c.put_momenta-2.ensures, c.got.ensures.x) (total_x-after c.args.states.now.items c.slots-slots.result.a c.slots-slots.result.b (record { a = c.index.result.now; b = c.index-2.result.now }) c.turn.new.ends a b apart c.index.ensures c.index-2.ensures c.turn.ensures.same c.turn.ensures.kept)
-
-pub returns-clause-momentum_y : goal.returns-clause-momentum_y
-returns-clause-momentum_y g c =
-    let a : c.slots-slots.result.a < length c.args.states.now.items = rw c.slots-slots.ensures c.requires.row.a in
-    let b : c.slots-slots.result.b < length c.args.states.now.items = rw c.slots-slots.ensures c.requires.row.b in
-    let apart : c.slots-slots.result.a ≢ c.slots-slots.result.b = rw c.slots-slots.ensures c.requires.row.apart in
-    rw (c.put_momenta.ensures, c.put_momenta-2.ensures, c.got.ensures.y) (total_y-after c.args.states.now.items c.slots-slots.result.a c.slots-slots.result.b (record { a = c.index.result.now; b = c.index-2.result.now }) c.turn.new.ends a b apart c.index.ensures c.index-2.ensures c.turn.ensures.same c.turn.ensures.kept)
+    let before : Ends = record { a = c.index.result.now; b = c.index-2.result.now } in
+    let given : Vec2 = got before c.turn.new.ends in
+    rw (c.put_momenta.ensures, c.put_momenta-2.ensures)
+    (total-after c.args.states.now.items c.slots-slots.result.a c.slots-slots.result.b before c.turn.new.ends a b apart c.index.ensures c.index-2.ensures c.turn.ensures.same c.turn.ensures.kept
+    ∙ ap (plus (total c.args.states.now.items)) (sym {a = as_vector c.got.result} {b = given} c.got.ensures.value))
 
 pub returns-clause-below : goal.returns-clause-below
 returns-clause-below g c =

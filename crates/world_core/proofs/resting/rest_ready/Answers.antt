@@ -1,12 +1,16 @@
-use Rattle.std.proofs.Common.{◌≡◌, ◌≤◌, ◌∙◌, List, Option, length, ap, arith}
+use Rattle.std.proofs.Common.{◌≡◌, ◌≤◌, ◌∙◌, List, Option, length, ap, arith, sym}
 use Rattle.body_handles.specs.declared.handle.Handle.{Handle}
+use Rattle.colour_solver.specs.States.{as_vector}
+use Rattle.colour_solver.proofs.VectorLaws.{minus_same}
 use Rattle.plain_world.specs.declared.body.Body.{Body}
+use Rattle.plain_world.specs.Momentum.{momentum}
 use Rattle.plain_world.specs.Sleep.{timed_bodies}
 use Rattle.solver_sets.specs.Beside.{timers_of}
 use Rattle.solver_sets.specs.Tied.{AreTied}
 use Rattle.world_rules.specs.Apply.{rested_acting}
 use Rattle.world_rules.specs.Sound.{AreTold}
 use Rattle.world_rules.proofs.TickedLaws.{timed_are_bodies, timed_told}
+use Rattle.world_core.proofs.Whole.{gained_is}
 use Rattle.world_core.proofs.KnownLaws.{marked_after}
 use Rattle.world_core.proofs.QuietSteps.{RestsQuietly, rests_quietly, tied_timed}
 use Rattle.world_core.proofs.RestLaws.{awake_few, awake_rises, awake_slots, newly_asleep_awake, phase_by_awake, tied_rested}
@@ -92,3 +96,9 @@ tell_some-requires-clause-others c =
     let long : length timed ≤ length c.args.places.now = omega (arith, same, kept, room) in
     rw (c.deref-3.ensures.value, c.fill_slots.ensures.slots, c.deref-2.ensures.value, c.fill_newly_asleep.ensures.handles, c.bodies-3.ensures, c.islands-2.ensures, c.islands-3.ensures, c.time.ensures.bodies)
     (rested_beside c.args.places.now timed c.args.sets.now.acting c.sleep_phase.new.self.acting (timers_of timed c.args.joints.now c.args.contacts.now) long (timed_are_bodies c.args.ticks c.args.bodies.now.bodies c.requires.bodies) told c.requires.settled phase)
+
+pub returns-then-quiet-clause-gain : goal.returns-then-quiet-clause-gain
+returns-then-quiet-clause-gain c = rw c.time.ensures.bodies (sym (minus_same (momentum (timed_bodies c.args.ticks c.args.bodies.now.bodies))))
+
+pub returns-clause-gain : goal.returns-clause-gain
+returns-clause-gain c = gained_is (momentum c.tell_some.new.self.bodies) (momentum (timed_bodies c.args.ticks c.args.bodies.now.bodies)) (as_vector c.tell_some.result) (rw c.time.ensures.bodies at c.tell_some.ensures.momentum)

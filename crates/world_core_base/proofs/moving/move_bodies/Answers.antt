@@ -2,7 +2,7 @@ use Rattle.std.proofs.Common.{◌≡◌, length, slice_index_or, refl, arith, sy
 use Rattle.colour_solver.specs.States.{is_carried, moves}
 use Rattle.world_core_base.proofs.GatherLaws.{length-states}
 use Rattle.world_core_base.proofs.MarkedLaws.{marked_same, marked_then}
-use Rattle.world_core_base.proofs.MovingLaws.{begun_where, bodies-both, moved_where, momentum_x-both, momentum_y-both, slots-both}
+use Rattle.world_core_base.proofs.MovingLaws.{begun_where, bodies-both, moved_where, momentum-both, slots-both}
 use Rattle.world_core_base.proofs.AwakeLaws.{IsWalked, both_walked, carried_both, fits_first, fits_second, movers_both, moved_first, second_long, second_places, there_at, walked_last, walked_more}
 use Rattle.world_core_base.proofs.StandingLaws.{standing-both}
 use Rattle.world_core_base.proofs.moving.move_bodies.Goals as goal
@@ -136,8 +136,5 @@ returns-clause-slots c = rw (returns-clause-value c) (slots-both c.args.bodies.n
 pub returns-clause-standing : goal.returns-clause-standing
 returns-clause-standing c = rw (returns-clause-value c) (standing-both c.args.bodies.now.items c.args.states.now.items)
 
-pub returns-clause-momentum_x : goal.returns-clause-momentum_x
-returns-clause-momentum_x c = rw (returns-clause-value c) (momentum_x-both c.args.bodies.now.items c.args.states.now.items c.requires.bodies c.requires.same)
-
-pub returns-clause-momentum_y : goal.returns-clause-momentum_y
-returns-clause-momentum_y c = rw (returns-clause-value c) (momentum_y-both c.args.bodies.now.items c.args.states.now.items c.requires.bodies c.requires.same)
+pub returns-clause-momentum : goal.returns-clause-momentum
+returns-clause-momentum c = rw (returns-clause-value c) (momentum-both c.args.bodies.now.items c.args.states.now.items c.requires.bodies c.requires.same)

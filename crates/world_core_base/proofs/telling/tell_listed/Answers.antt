@@ -21,7 +21,7 @@ pub loop-place-preserved : goal.loop-place-preserved
 loop-place-preserved c =
     let label = c.label_of.ensures.value in
     some_more c.args.islands.now.labels c.args.slots.now c.args.bodies.now.items _ c.loop-place.place (slice_index_or c.args.slots.now c.loop-place.place 0) 0 c.loop-place.bodies.items c.tell_one.new.bodies.items c.loop-place.states.items c.tell_one.new.states.items c.loop-place.awake.items c.tell_one.new.awake.items _ _ c.loop-place.gain c.tell_one.result c.plus-gain.result
-    c.loop-place-test.true refl c.loop-place.invariant (rw label at c.tell_one.ensures.bodies) c.tell_one.ensures.states c.tell_one.ensures.awake c.tell_one.ensures.capacity c.tell_one.ensures.x c.tell_one.ensures.y c.tell_one.ensures.small c.plus-gain.ensures.x c.plus-gain.ensures.y
+    c.loop-place-test.true refl c.loop-place.invariant (rw label at c.tell_one.ensures.bodies) c.tell_one.ensures.states c.tell_one.ensures.awake c.tell_one.ensures.capacity c.tell_one.ensures.momentum c.tell_one.ensures.small c.plus-gain.ensures.x c.plus-gain.ensures.y
 
 pub returns-clause-bodies : goal.returns-clause-bodies
 returns-clause-bodies c =

@@ -40,8 +40,5 @@ returns-clause-states c = (is_told c).states
 pub returns-clause-awake : goal.returns-clause-awake
 returns-clause-awake c = (is_told c).awake
 
-pub returns-clause-x : goal.returns-clause-x
-returns-clause-x c = (is_told c).x
-
-pub returns-clause-y : goal.returns-clause-y
-returns-clause-y c = (is_told c).y
+pub returns-clause-momentum : goal.returns-clause-momentum
+returns-clause-momentum c = (is_told c).momentum

@@ -6,8 +6,8 @@ use Rattle.fixed_geom.specs.declared.vectors.Vec2.{Vec2}
 use Rattle.fixed_geom.specs.Vectors.{IsWithin}
 use Rattle.plain_world.specs.declared.body.Body.{Body}
 use Rattle.plain_world.specs.Bodies.{IsBody}
+use Rattle.plain_world.specs.Momentum.{momentum_in}
 use Rattle.plain_world.specs.Sleep.{told_body}
-use Rattle.world_core_base.specs.Telling.{momentum_in}
 use Rattle.world_core_base.proofs.TellLaws.{small_told}
 use Rattle.world_core_base.proofs.telling.tell_slot.Goals as goal
 

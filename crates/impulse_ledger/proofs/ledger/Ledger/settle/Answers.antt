@@ -1,5 +1,5 @@
-use Rattle.std.proofs.Common.{sym, subst}
-use Rattle.impulse_ledger.specs.Sums.{Book, HaveSameTotals}
+use Rattle.std.proofs.Common.{subst}
+use Rattle.impulse_ledger.specs.Sums.{HaveSameTotals}
 use Rattle.impulse_ledger.proofs.KeptLemmas.{settled_same, IsKept-settled}
 use Rattle.impulse_ledger.proofs.ledger.Ledger.settle.Goals as goal
 

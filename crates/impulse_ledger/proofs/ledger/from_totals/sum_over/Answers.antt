@@ -1,4 +1,3 @@
-use Rattle.std.proofs.Common.{◌≡◌}
 use Rattle.impulse_ledger.proofs.GivenLaws.{wrapped_six}
 use Rattle.impulse_ledger.proofs.ledger.from_totals.sum_over.Goals as goal
 

@@ -31,7 +31,7 @@ pub invariant_of-self-2 : goal.invariant_of-self-2
 invariant_of-self-2 c =
     let calls : c.self.inside.calls < 2 ^ 40 = rw (← c.self.view_is) at c.requires in
     core_bodies (the_view c.self.inside) _ _ _ c.self.inside.bodies c.put_to_sleep-rest.new.bodies c.self.invariant
-    (rw (c.book.ensures.entries, c.book.ensures.settled, c.in_ok-reserve.ensures.entries, c.in_ok-reserve.ensures.settled, rest_booked (c.self.inside.calls + 1) c.put_to_sleep-rest.new.sets.acting.labels c.self.inside.bodies.bodies c.put_to_sleep-rest.new.bodies.bodies _ _ c.put_to_sleep-rest.ensures.told c.put_to_sleep-rest.ensures.x c.put_to_sleep-rest.ensures.y)
+    (rw (c.book.ensures.entries, c.book.ensures.settled, c.in_ok-reserve.ensures.entries, c.in_ok-reserve.ensures.settled, rest_booked (c.self.inside.calls + 1) c.put_to_sleep-rest.new.sets.acting.labels c.self.inside.bodies.bodies c.put_to_sleep-rest.new.bodies.bodies c.put_to_sleep-rest.result c.put_to_sleep-rest.ensures.told c.put_to_sleep-rest.ensures.momentum)
     (sleep_whole (the_view c.self.inside) c.args.handle.slot c.self.inside.sets.acting c.put_to_sleep-rest.new.sets.acting _ c.self.invariant.whole calls c.put_to_sleep-rest.ensures.acting c.put_to_sleep-rest.ensures.told))
     refl refl refl refl
     c.put_to_sleep-rest.ensures.marked
@@ -39,5 +39,5 @@ invariant_of-self-2 c =
 pub returns : goal.returns
 returns c =
     let due : None ≡ mover_refusal (body_of c.self.inside.handles.places c.self.inside.bodies.bodies c.args.handle) = rw c.bodies.ensures at c.in_ok-check_mover.ensures in
-    rw (← c.self.view_is, c.book.ensures.entries, c.book.ensures.settled, c.in_ok-reserve.ensures.entries, c.in_ok-reserve.ensures.settled, rest_booked (c.self.inside.calls + 1) c.put_to_sleep-rest.new.sets.acting.labels c.self.inside.bodies.bodies c.put_to_sleep-rest.new.bodies.bodies _ _ c.put_to_sleep-rest.ensures.told c.put_to_sleep-rest.ensures.x c.put_to_sleep-rest.ensures.y)
+    rw (← c.self.view_is, c.book.ensures.entries, c.book.ensures.settled, c.in_ok-reserve.ensures.entries, c.in_ok-reserve.ensures.settled, rest_booked (c.self.inside.calls + 1) c.put_to_sleep-rest.new.sets.acting.labels c.self.inside.bodies.bodies c.put_to_sleep-rest.new.bodies.bodies c.put_to_sleep-rest.result c.put_to_sleep-rest.ensures.told c.put_to_sleep-rest.ensures.momentum)
     (sleep_answers (the_view c.self.inside) c.args.handle c.self.inside.sets.acting c.put_to_sleep-rest.new.sets.acting _ c.self.invariant.whole due c.put_to_sleep-rest.ensures.acting c.put_to_sleep-rest.ensures.told)

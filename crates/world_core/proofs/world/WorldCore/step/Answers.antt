@@ -9,6 +9,7 @@ use Rattle.fixed_geom.specs.declared.refusal.Refusal.TheVariants.{NoMemory}
 use Rattle.contacts_base.specs.declared.key.ContactKey.{ContactKey}
 use Rattle.plain_world.specs.declared.body.Body.{Body}
 use Rattle.shapes.specs.Shapes.{is_between}
+use Rattle.colour_solver.specs.States.{as_vector}
 use Rattle.world_rules.specs.World.{World}
 use Rattle.world_rules.proofs.AcceptedAll.{few_ticks}
 use Rattle.world_rules.proofs.KeptChanges.{IsRoomy-kept, IsRoomy-same}
@@ -141,8 +142,7 @@ is_solved c =
       bodies = c.solve-sums.ensures.all_bodies;
       slots = c.solve-sums.ensures.slots;
       small = c.solve-sums.ensures.small;
-      gain_x = c.solve-sums.ensures.momentum_x;
-      gain_y = c.solve-sums.ensures.momentum_y;
+      gain = c.solve-sums.ensures.momentum;
       joints = c.solve-sums.ensures.all_joints;
       pairs = c.solve-sums.ensures.pairs;
     } in
@@ -231,7 +231,7 @@ book_rest-requires-clause-roomy c = IsRoomy-same _ _ c.in_ok-reserve.ensures.ent
 -- ---- the whole
 
 are_left : (c : goal.After-drop-turns-2) → AreLeft (the_view c.self.inside) c.unsigned_abs.result c.turn_all.new.sets.acting c.rest_ready-rest.new.sets.acting c.turn_all.new.bodies.bodies c.solve-sums.new.bodies.bodies c.rest_ready-rest.new.bodies.bodies c.solve-sums.new.joints.joints c.carry_out.new.self.contacts c.solve-sums.new.contacts.contacts
-    c.solve-sums.result c.rest_ready-rest.result.x c.rest_ready-rest.result.y c.renew.new.self
+    c.solve-sums.result (as_vector c.rest_ready-rest.result) c.renew.new.self
 are_left c =
     let w : World = the_view c.self.inside in
     let listed = c.deref-3.ensures.value ∙ c.in_ok-turns.ensures.changes in
@@ -247,8 +247,7 @@ are_left c =
       bodies = c.solve-sums.ensures.all_bodies;
       slots = c.solve-sums.ensures.slots;
       small = c.solve-sums.ensures.small;
-      gain_x = c.solve-sums.ensures.momentum_x;
-      gain_y = c.solve-sums.ensures.momentum_y;
+      gain = c.solve-sums.ensures.momentum;
       joints = c.solve-sums.ensures.all_joints;
       pairs = c.solve-sums.ensures.pairs;
     } in
@@ -262,8 +261,7 @@ are_left c =
       ticks = ticks;
       phase = rw (twice, c.joints.ensures, c.as_slice.ensures.value) at c.rest_ready-rest.ensures.acting;
       bodies = rw twice at c.rest_ready-rest.ensures.bodies;
-      gain_x = rw twice at c.rest_ready-rest.ensures.x;
-      gain_y = rw twice at c.rest_ready-rest.ensures.y;
+      gain_is = rw twice at c.rest_ready-rest.ensures.gain;
       begin = c.renew.ensures.begin_kept c.in_ok-changes.ensures.begin_rises ∙ c.in_ok-changes.ensures.begin;
       end = c.renew.ensures.end_kept c.in_ok-changes.ensures.end_rises ∙ c.in_ok-changes.ensures.end;
       slept = c.renew.ensures.slept_kept (subst (λ (hs : List Handle). IsStrictlyIncreasing (map slot_of hs)) (sym fell) (slept_rise w c.unsigned_abs.result c.self.inside.sets.acting c.solve-sums.new.bodies.bodies c.solve-sums.new.joints.joints c.solve-sums.new.contacts.contacts c.solve-sums.result c.rest_ready-rest.new.sets.acting.labels c.self.invariant.whole ticks)) ∙ fell;
@@ -280,7 +278,7 @@ invariant_of-self-2 c =
     core_stepped w _ _ _ c.clear_marks.new.self c.rest_ready-rest.new.bodies c.self.invariant.whole
     (rw (c.book_rest.ensures.entries, c.book_rest.ensures.settled, c.in_ok-reserve.ensures.entries, c.in_ok-reserve.ensures.settled)
     (whole w _ _ _ (step_is_left w c.unsigned_abs.result c.self.inside.sets.acting c.turn_all.new.sets.acting c.rest_ready-rest.new.sets.acting c.turn_all.new.bodies.bodies c.solve-sums.new.bodies.bodies c.rest_ready-rest.new.bodies.bodies c.solve-sums.new.joints.joints c.carry_out.new.self.contacts c.solve-sums.new.contacts.contacts
-    c.solve-sums.result c.rest_ready-rest.result.x c.rest_ready-rest.result.y c.renew.new.self c.self.invariant.whole calls few (are_left c))))
+    c.solve-sums.result (as_vector c.rest_ready-rest.result) c.renew.new.self c.self.invariant.whole calls few (are_left c))))
     c.clear_marks.ensures.bodies refl
     (marked_after c.clear_marks.new.self c.solve-sums.new.bodies c.rest_ready-rest.new.bodies (marked_after c.clear_marks.new.self c.turn_all.new.bodies c.solve-sums.new.bodies c.turn_all.ensures.marked c.solve-sums.ensures.marked) c.rest_ready-rest.ensures.marked)
     c.solve-sums.ensures.forbidden (c.solve-sums.ensures.numbers ∙ ap (λ (es : List ContactEntry). map number_of es) (c.carry_out.ensures.contacts ∙ c.in_ok-changes.ensures.due))
@@ -296,4 +294,4 @@ returns c =
     (step_answers w c.args.ticks c.unsigned_abs.result _ c.rest_ready-rest.new.sets.acting between count
     (rw (c.book_rest.ensures.entries, c.book_rest.ensures.settled, c.in_ok-reserve.ensures.entries, c.in_ok-reserve.ensures.settled)
     (step_is_left w c.unsigned_abs.result c.self.inside.sets.acting c.turn_all.new.sets.acting c.rest_ready-rest.new.sets.acting c.turn_all.new.bodies.bodies c.solve-sums.new.bodies.bodies c.rest_ready-rest.new.bodies.bodies c.solve-sums.new.joints.joints c.carry_out.new.self.contacts c.solve-sums.new.contacts.contacts
-    c.solve-sums.result c.rest_ready-rest.result.x c.rest_ready-rest.result.y c.renew.new.self c.self.invariant.whole calls few (are_left c))))
+    c.solve-sums.result (as_vector c.rest_ready-rest.result) c.renew.new.self c.self.invariant.whole calls few (are_left c))))

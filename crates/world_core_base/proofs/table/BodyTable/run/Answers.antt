@@ -1,11 +1,13 @@
-use Rattle.std.proofs.Common.{◌≡◌, ℤ, ◌+ℤ◌, length, ap, sym, ◌∙◌}
-use Rattle.colour_solver.specs.States.{total_x, total_y}
+use Rattle.std.proofs.Common.{◌≡◌, length, ap, sym, ◌∙◌}
+use Rattle.fixed_geom.specs.Vectors.{plus}
+use Rattle.fixed_geom.specs.declared.vectors.Vec2.{Vec2}
+use Rattle.colour_solver.specs.States.{total}
 use Rattle.colour_solver.specs.ColourRows.{all_rows}
-use Rattle.colour_solver.specs.Ticks.{added_x, added_y}
+use Rattle.colour_solver.specs.Ticks.{added}
 use Rattle.colour_solver.proofs.CourseLaws.{carried_beside, movers_beside}
 use Rattle.colour_solver.proofs.TickLaws.{rows_as_long}
 use Rattle.plain_world.specs.Bodies.{AreBodies}
-use Rattle.world_core_base.proofs.GatherLaws.{courses-all, length-states, states-all, total_x-gathered, total_y-gathered}
+use Rattle.world_core_base.proofs.GatherLaws.{courses-all, length-states, states-all, total-gathered}
 use Rattle.world_core_base.proofs.table.BodyTable.run.Goals as goal
 
 pub run_step-sums-requires-clause-states : goal.run_step-sums-requires-clause-states
@@ -32,17 +34,11 @@ returns-clause-rows c =
     let long : length c.self.inside.bodies.items ≡ length c.run_step-sums.new.states.items = sym (c.run_step-sums.ensures.long ∙ ap length c.self.invariant.states ∙ length-states c.self.inside.bodies.items) in
     rw (← c.self.view_is) (rows_as_long (length c.self.inside.bodies.items) (length c.run_step-sums.new.states.items) (all_rows c.run_step-sums.new.rows) long c.run_step-sums.ensures.rows)
 
-pub returns-clause-momentum_x : goal.returns-clause-momentum_x
-returns-clause-momentum_x c =
+pub returns-clause-momentum : goal.returns-clause-momentum
+returns-clause-momentum c =
     let bodies : AreBodies c.self.inside.bodies.items = rw (← c.self.view_is) at c.requires.bodies in
     rw (← c.self.view_is)
-    (c.move_bodies.ensures.momentum_x ∙ c.run_step-sums.ensures.momentum_x ∙ ap (λ (z : ℤ). z +ℤ added_x c.run_step-sums.result) (ap total_x c.self.invariant.states ∙ total_x-gathered c.self.inside.bodies.items bodies))
-
-pub returns-clause-momentum_y : goal.returns-clause-momentum_y
-returns-clause-momentum_y c =
-    let bodies : AreBodies c.self.inside.bodies.items = rw (← c.self.view_is) at c.requires.bodies in
-    rw (← c.self.view_is)
-    (c.move_bodies.ensures.momentum_y ∙ c.run_step-sums.ensures.momentum_y ∙ ap (λ (z : ℤ). z +ℤ added_y c.run_step-sums.result) (ap total_y c.self.invariant.states ∙ total_y-gathered c.self.inside.bodies.items bodies))
+    (c.move_bodies.ensures.momentum ∙ c.run_step-sums.ensures.momentum ∙ ap (λ (v : Vec2). plus v (added c.run_step-sums.result)) (ap total c.self.invariant.states ∙ total-gathered c.self.inside.bodies.items bodies))
 
 pub returns-clause-marked : goal.returns-clause-marked
 returns-clause-marked c = rw (← c.self.view_is) c.move_bodies.ensures.marked

@@ -1,13 +1,14 @@
 -- What a turn in 64 bits leaves in the list of the bodies.
-use Rattle.std.proofs.Common.{◌≡◌, ℕ, zero, suc, ◌<◌, List, [], ◌∷◌, length, get_or, set, ◌+ℤ◌, arith, refl}
+use Rattle.std.proofs.Common.{◌≡◌, ℕ, zero, suc, ◌<◌, List, [], ◌∷◌, length, get_or, set, arith, refl}
+use Rattle.fixed_geom.specs.Vectors.{plus}
 use Rattle.momenta.specs.declared.state.BodyState.{BodyState}
 use Rattle.momenta.specs.declared.state.Ends.{Ends}
 use Rattle.momenta.specs.Impulses.{AreStates, AreSameBodies, IsMomentumKept}
 use Rattle.colour_solver.specs.declared.turns.Slots.{Slots}
-use Rattle.colour_solver.specs.States.{AreAllStates, AreSameStates, nobody, total_x, total_y}
-use Rattle.colour_solver.specs.Turns.{IsRowOn, ends_of, got_x, got_y, with_ends}
+use Rattle.colour_solver.specs.States.{AreAllStates, AreSameStates, nobody, total}
+use Rattle.colour_solver.specs.Turns.{IsRowOn, ends_of, got, with_ends}
 use Rattle.colour_solver.proofs.SameLaws.{same_turned}
-use Rattle.colour_solver.proofs.TurnLaws.{states-set, total_x-after, total_y-after}
+use Rattle.colour_solver.proofs.TurnLaws.{states-set, total-after}
 
 -- below the end of the list what stands for nothing doesn't matter
 known_in : (ss : List BodyState) (i : ℕ) (d e : BodyState) → i < length ss → get_or ss i d ≡ get_or ss i e
@@ -23,14 +24,8 @@ same_after at is ss r after below same =
     let e = ends_of at ss r in
     same_turned ss (at r).a (at r).b e after below.a below.b (known_in ss (at r).a nobody e.a below.a) (known_in ss (at r).b nobody e.b below.b) same
 
-pub total_x_after : {R : Type 0} (at : R → Slots) (is : R → Type 0) (ss : List BodyState) (r : R) (after : Ends) → IsRowOn at is (length ss) r → AreSameBodies (ends_of at ss r) after → IsMomentumKept (ends_of at ss r) after
-    → total_x (with_ends at ss r after) ≡ total_x ss +ℤ got_x (ends_of at ss r) after
-total_x_after at is ss r after below same kept =
+pub total_after : {R : Type 0} (at : R → Slots) (is : R → Type 0) (ss : List BodyState) (r : R) (after : Ends) → IsRowOn at is (length ss) r → AreSameBodies (ends_of at ss r) after → IsMomentumKept (ends_of at ss r) after
+    → total (with_ends at ss r after) ≡ plus (total ss) (got (ends_of at ss r) after)
+total_after at is ss r after below same kept =
     let e = ends_of at ss r in
-    total_x-after ss (at r).a (at r).b e after below.a below.b below.apart (known_in ss (at r).a nobody e.a below.a) (known_in ss (at r).b nobody e.b below.b) same kept
-
-pub total_y_after : {R : Type 0} (at : R → Slots) (is : R → Type 0) (ss : List BodyState) (r : R) (after : Ends) → IsRowOn at is (length ss) r → AreSameBodies (ends_of at ss r) after → IsMomentumKept (ends_of at ss r) after
-    → total_y (with_ends at ss r after) ≡ total_y ss +ℤ got_y (ends_of at ss r) after
-total_y_after at is ss r after below same kept =
-    let e = ends_of at ss r in
-    total_y-after ss (at r).a (at r).b e after below.a below.b below.apart (known_in ss (at r).a nobody e.a below.a) (known_in ss (at r).b nobody e.b below.b) same kept
+    total-after ss (at r).a (at r).b e after below.a below.b below.apart (known_in ss (at r).a nobody e.a below.a) (known_in ss (at r).b nobody e.b below.b) same kept
