@@ -6,7 +6,6 @@ pub mod Changes
 pub mod Fats
 pub mod Formed
 pub mod Joints
-pub mod JointTables
 pub mod Placement
 pub mod Plain
 pub mod Presets

@@ -1,7 +1,7 @@
 //! What a world is, as lists, however it is kept.
 //!
 //! A world keeps its bodies and its joints by slot. This crate has what one slot contains (`Body`, `BodyDef`, `Kind`; `BodyJoint`,
-//! `JointDef`, `JointTable`), where a body stands (`SetName`), the fat boxes of its shapes
+//! `JointDef`), where a body stands (`SetName`), the fat boxes of its shapes
 //! (`FatBoxes`), bodies of one shape by its density (`BodyDef::circle` and its like), and the whole world as plain lists (`Plain`). What a step gathers and moves stands above it.
 #![tactic(auto)]
 
@@ -10,9 +10,7 @@ mod changes;
 mod fats;
 mod filters;
 mod joint;
-mod joint_table;
 mod kind;
-mod pair_numbers;
 mod placement;
 mod plain;
 mod presets;
@@ -27,7 +25,6 @@ pub use fats::FatBoxes;
 pub use filters::filters_fit;
 pub use joint::{BodyJoint, JointDef};
 pub use joint_rows::Joint;
-pub use joint_table::JointTable;
 pub use kind::{Course, Kind, NO_COURSE};
 pub use placement::shape_of;
 pub use plain::Plain;

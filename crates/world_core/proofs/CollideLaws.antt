@@ -14,9 +14,9 @@ use Rattle.contacts.specs.Forbidden.{allowed_codes, pair_number}
 use Rattle.contacts.specs.Pairs.{first_place, proxy_at, second_place}
 use Rattle.plain_world.specs.declared.body.Body.{Body}
 use Rattle.plain_world.specs.declared.joint.BodyJoint.{BodyJoint}
-use Rattle.plain_world.specs.JointTables.{HaveSameNumbers}
+use Rattle.joint_table.specs.JointTables.{HaveSameNumbers}
 use Rattle.plain_world.specs.Joints.{forbidden_pairs}
-use Rattle.plain_world.proofs.PairNumbers.{any_same}
+use Rattle.joint_table.proofs.PairNumbers.{any_same}
 use Rattle.world_rules.specs.Collide.{contacts_after, proxies_of}
 use Rattle.contacts_base.specs.Contacts.{number_of, AreKeysRising}
 use Rattle.contacts.proofs.Members.{Each}

@@ -20,10 +20,10 @@ use Rattle.plain_world.specs.declared.body.Body.{Body}
 use Rattle.plain_world.specs.declared.joint.BodyJoint.{BodyJoint}
 use Rattle.plain_world.specs.Bodies.{AreBodies}
 use Rattle.plain_world.specs.Changes.{changed_at, disabled_body}
-use Rattle.plain_world.specs.JointTables.{HaveSameNumbers}
+use Rattle.joint_table.specs.JointTables.{HaveSameNumbers}
 use Rattle.plain_world.specs.Joints.{forbidden_pairs}
 use Rattle.plain_world.specs.Slots.{body_at}
-use Rattle.plain_world.proofs.PairNumbers.{any_same}
+use Rattle.joint_table.proofs.PairNumbers.{any_same}
 use Rattle.world_core_base.specs.Awake.{Bodies}
 use Rattle.world_core_base.specs.Marked.{AreMarked, AreShownAlike, IsUnchangedAt}
 use Rattle.world_core_base.proofs.MarkedLaws.{marked_then}

@@ -12,8 +12,8 @@ use colour_solver::Rows;
 use colour_solver_base::{ContactRow, PointRow};
 use contacts_base::Impulses;
 use joint_rows::JointRow;
+use joint_table::JointTable;
 use kept_contacts::KeptContacts;
-use plain_world::JointTable;
 
 /// The impulses of a point's row.
 #[inline(always)]

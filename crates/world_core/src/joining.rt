@@ -13,7 +13,8 @@ ghost use Rattle.solver_sets.specs.Ties.{slots_of};
 
 use body_handles::{Handle, Handles};
 use fixed_geom::Refusal;
-use plain_world::{Body, BodyJoint, JointDef, JointTable, body_of, item_at};
+use joint_table::JointTable;
+use plain_world::{Body, BodyJoint, JointDef, body_of, item_at};
 
 /// Tests whether two bodies can be joined so: refused 7, 8 or 5, in this order.
 fn can_join(a: &Body, b: &Body, def: &JointDef) -> Result<(), Refusal>

@@ -21,8 +21,8 @@ use colour_solver::{Rows, StepSums};
 use contacts::Constraint;
 use fixed_geom::Vec2;
 use graph_colours::{COLOURS, Colours};
+use joint_table::JointTable;
 use kept_contacts::KeptContacts;
-use plain_world::JointTable;
 use world_core_base::{BodyTable, gather_rows};
 
 /// Gathers what acts, lets so many ticks pass, and gives joints and contacts the impulses that they have left. Answers what was

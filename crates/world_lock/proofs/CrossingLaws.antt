@@ -4,7 +4,7 @@ use Rattle.std.proofs.Crossing.{crosses}
 use Rattle.box_tree.specs.contracts.boxes.BoxTree as BoxTree
 use Rattle.world_core_base.specs.contracts.table.BodyTable as BodyTable
 use Rattle.body_handles.specs.contracts.handles.Handles as Handles
-use Rattle.plain_world.specs.contracts.joint_table.JointTable as JointTable
+use Rattle.joint_table.specs.contracts.table.JointTable as JointTable
 use Rattle.kept_contacts.specs.contracts.kept.KeptContacts as KeptContacts
 use Rattle.colour_solver.specs.contracts.colour_rows.Rows as Rows
 use Rattle.impulse_ledger.specs.contracts.ledger.Ledger as Ledger

@@ -1,0 +1,4 @@
+pub mod PairNumbers
+mod ImpulseLaws
+pub mod IdleLaws
+pub mod GivenLaws

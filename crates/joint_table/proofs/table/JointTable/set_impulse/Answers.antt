@@ -1,0 +1,31 @@
+use Rattle.std.proofs.Common.{rules, w64, SFits, ◌≡◌, ◌<◌, length, option_map, slice_index_or, sym, subst, ap, ◌∙◌, ℕ, List}
+use Rattle.std.proofs.lemmas.Int.{to_z-of_z}
+use Rattle.plain_world.specs.Joints.{with_impulse}
+use Rattle.joint_table.specs.JointTables.{HaveSameNumbers}
+use Rattle.joint_table.proofs.ImpulseLaws.{impulse_put, pairs_stay}
+use Rattle.joint_table.proofs.table.JointTable.set_impulse.Goals as goal
+
+pub invariant_of-self : goal.invariant_of-self
+invariant_of-self c =
+    let joints = c.self.inside.joints.items in
+    let old = c.index_mut.result.now in
+    let there : c.args.slot < length joints = search rules in
+    let fits : SFits w64 c.args.impulse = search rules in
+    let put : c.put_impulse.new.entry ≡ option_map (with_impulse c.args.impulse) old = simp to_z-of_z at c.put_impulse.ensures in
+    let entry : c.put_impulse.new.entry ≡ option_map (with_impulse c.args.impulse) (slice_index_or joints c.args.slot old) = put ∙ ap (option_map (with_impulse c.args.impulse)) c.index_mut.ensures.value in
+    rw entry (record {
+      sorted = c.self.invariant.sorted;
+      same = subst (λ (l : List ℕ). HaveSameNumbers l c.self.inside.forbidden.items) (sym (pairs_stay joints c.args.slot c.args.impulse old there)) c.self.invariant.same;
+      for_joints = c.self.invariant.for_joints;
+      for_forbidden = c.self.invariant.for_forbidden;
+    })
+
+pub returns-then-slot-len : goal.returns-then-slot-len
+returns-then-slot-len c =
+    let joints = c.self.inside.joints.items in
+    let old = c.index_mut.result.now in
+    let there : c.args.slot < length joints = search rules in
+    let fits : SFits w64 c.args.impulse = search rules in
+    let put : c.put_impulse.new.entry ≡ option_map (with_impulse c.args.impulse) old = simp to_z-of_z at c.put_impulse.ensures in
+    let entry : c.put_impulse.new.entry ≡ option_map (with_impulse c.args.impulse) (slice_index_or joints c.args.slot old) = put ∙ ap (option_map (with_impulse c.args.impulse)) c.index_mut.ensures.value in
+    rw (← c.self.view_is, entry) (impulse_put joints c.args.slot c.args.impulse old there)

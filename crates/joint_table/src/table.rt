@@ -1,0 +1,186 @@
+//! The joints of a world by slot, and which pairs of bodies they keep from colliding.
+
+mod from_joints;
+
+ghost use Rattle.std.specs.Prelude.{◌≡◌, ◌≤◌, ◌<◌, [], IfOk, None, OnOk, length, option_map, slice_index_or, slice_set, vec_len};
+ghost use Rattle.std.specs.Option.{option_copied};
+ghost use Rattle.std.specs.Result.{IsOkUnless};
+ghost use Rattle.std.specs.List.Sorted.{IsNonDecreasing};
+ghost use Rattle.plain_world.specs.Joints.{forbidden_in, forbidden_pairs, idle_if, idle_joints, impulse_set, joint_at, with_impulse};
+ghost use Rattle.joint_table.specs.JointTables.{HaveSameNumbers};
+ghost use Rattle.plain_world.specs.Slots.{with_item};
+
+use crate::pair_numbers::{add_pair, drop_pair};
+use fixed_geom::Refusal;
+use plain_world::{BodyJoint, clear_slot, item_at, put_item};
+use std::alloc::Global;
+use std::marker::Model;
+
+/// The joints by slot. Contracts see what each slot contains (`joints`) and how many more slots may be added with no
+/// memory (`room`).
+#[derive(Drop)]
+pub struct JointTable {
+    joints: Vec<Option<BodyJoint>>,
+    // The numbers of the pairs of bodies that joints keep from colliding, ascending, each as often as there are such joints.
+    forbidden: Vec<u64>,
+    // For how many more joints each list has room.
+    room: usize,
+}
+
+impl Model for JointTable {
+    ghost use Rattle.std.specs.Prelude.{◌-◌, vec_capacity, vec_len};
+    ghost use Rattle.joint_table.specs.JointTables.{IsJointTable, Joints};
+
+    ghost Value = { Joints };
+
+    ghost view = { λ a. record { joints = a.joints.items; room = a.room } };
+
+    ghost invariant = { λ a. IsJointTable a.joints.items a.forbidden.items a.room (vec_capacity a.joints - vec_len a.joints) (vec_capacity a.forbidden - vec_len a.forbidden) };
+}
+
+/// The number of the pair of bodies that a joint, if there is one, keeps from colliding.
+fn forbidden_in(joint: Option<&BodyJoint>) -> Option<u64>
+    ensures { result ≡ forbidden_in (option_copied joint.entry) }
+{
+    match joint {
+        None => None,
+        Some(joint) => joint.forbidden_pair(),
+    }
+}
+
+/// Gives the joint in a slot's entry, if there is one, this impulse.
+fn put_impulse(entry: &mut Option<BodyJoint>, impulse: i64)
+    ensures { entry.new ≡ option_map (with_impulse impulse) entry.old }
+{
+    match entry {
+        None => {}
+        Some(joint) => {
+            joint.joint.impulse = impulse;
+        }
+    }
+}
+
+/// Takes its impulse away from the joint in a slot's entry, if there is one and it is of this body.
+fn idle_entry(entry: &mut Option<BodyJoint>, body: u32)
+    ensures { entry.new ≡ option_map (idle_if body) entry.old }
+{
+    if let Some(joint) = entry {
+        if joint.is_of(body) {
+            joint.joint.impulse = 0;
+        }
+    }
+}
+
+/// The same for the entry of one slot.
+fn idle_slot(joints: &mut Vec<Option<BodyJoint>>, slot: usize, body: u32)
+    requires { slot < vec_len joints.old }
+    ensures { joints.new.items ≡ slice_set joints.old.items slot (option_map (idle_if body) (slice_index_or joints.old.items slot None)) }
+{
+    idle_entry(&mut joints[slot], body);
+}
+
+/// Takes their impulses away from the joints of a body.
+fn idle_all(joints: &mut Vec<Option<BodyJoint>>, body: u32)
+    ensures { joints.new.items ≡ idle_joints body joints.old.items }
+{
+    for slot in 0..joints.len() {
+        idle_slot(joints, slot, body);
+    }
+}
+
+impl JointTable {
+    /// No joints.
+    pub fn new(alloc: Global) -> JointTable
+        ensures { result.joints ≡ [] }
+    {
+        JointTable {
+            joints: Vec::new(alloc),
+            forbidden: Vec::new(alloc),
+            room: 0,
+        }
+    }
+
+    /// A copy of its own. Refused 1 where memory is wanting.
+    pub fn try_copy(&self) -> Result<JointTable, Refusal>
+        ensures copy { IfOk result (λ copied. copied.joints ≡ self.now.joints) }
+        ensures memory_only { IsOkUnless result Refusal.NoMemory }
+    {
+        let alloc = *self.joints.allocator();
+        Ok(JointTable {
+            joints: Vec::from_slice(alloc, self.joints.as_slice())?,
+            forbidden: Vec::from_slice(alloc, self.forbidden.as_slice())?,
+            room: 0,
+        })
+    }
+
+    /// The joint in each slot.
+    pub fn joints(&self) -> &[Option<BodyJoint>]
+        ensures { result.now ≡ self.now.joints }
+    {
+        self.joints.as_slice()
+    }
+
+    /// Makes room for one more joint. Refused 1 where memory is wanting.
+    pub fn reserve_one(&mut self) -> Result<(), Refusal>
+        ensures joints { self.new.joints ≡ self.old.joints }
+        ensures room { OnOk result (1 ≤ self.new.room) }
+        ensures memory_only { IsOkUnless result Refusal.NoMemory }
+    {
+        self.room = 0;
+        self.joints.reserve(1)?;
+        self.forbidden.reserve(1)?;
+        self.room = 1;
+        Ok(())
+    }
+
+    /// Puts a joint into an empty slot, or into a new one at the end, for which there is room.
+    pub fn put(&mut self, slot: u32, joint: BodyJoint)
+        requires room { 1 ≤ self.old.room }
+        requires next { slot ≤ length self.old.joints }
+        requires free { joint_at self.old.joints slot ≡ None }
+        ensures { self.new.joints ≡ with_item self.old.joints slot joint }
+    {
+        self.room = 0;
+        add_pair(&mut self.forbidden, joint.forbidden_pair());
+        put_item(&mut self.joints, slot as usize, joint);
+    }
+
+    /// Empties a slot.
+    pub fn clear(&mut self, slot: u32)
+        requires { slot < length self.old.joints }
+        ensures { self.new.joints ≡ slice_set self.old.joints slot None }
+    {
+        self.room = 0;
+        drop_pair(
+            &mut self.forbidden,
+            forbidden_in(item_at(&self.joints, slot as usize)),
+        );
+        clear_slot(&mut self.joints, slot as usize);
+    }
+
+    /// Gives the joint in a slot, if there is one, this impulse (mass·u/tick).
+    #[inline(always)]
+    pub fn set_impulse(&mut self, slot: usize, impulse: i64)
+        ensures { self.new.joints ≡ impulse_set slot impulse self.old.joints (joint_at self.old.joints slot) }
+    {
+        if slot < self.joints.len() {
+            put_impulse(&mut self.joints[slot], impulse);
+        }
+    }
+
+    /// The joints of the body in a slot have no impulse any more.
+    pub fn idle(&mut self, slot: u32)
+        ensures { self.new.joints ≡ idle_joints slot self.old.joints }
+    {
+        self.room = 0;
+        idle_all(&mut self.joints, slot);
+    }
+
+    /// The numbers of the pairs of bodies that joints keep from colliding, ascending, each as often as there are such joints.
+    pub fn forbidden(&self) -> &[u64]
+        ensures same { HaveSameNumbers (forbidden_pairs self.now.joints) result.now }
+        ensures sorted { IsNonDecreasing result.now }
+    {
+        self.forbidden.as_slice()
+    }
+}

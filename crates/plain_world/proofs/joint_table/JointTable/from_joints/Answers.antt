@@ -1,5 +1,0 @@
-use Rattle.plain_world.proofs.GivenLaws.{table_given}
-use Rattle.plain_world.proofs.joint_table.JointTable.from_joints.Goals as goal
-
-pub invariant_of-result : goal.invariant_of-result
-invariant_of-result c = table_given c.args.joints.now c.in_ok-from_slice.field-0.items c.in_ok-sorted_forbidden.field-0.items _ _ c.in_ok-from_slice.ensures.items c.in_ok-sorted_forbidden.ensures.sorted c.in_ok-sorted_forbidden.ensures.same
