@@ -1,45 +1,11 @@
 -- Joints of one body that lose their impulses: which pairs of bodies are kept from colliding stays.
-use Rattle.std.proofs.Common.{◌≡◌, ℕ, zero, suc, ◌+◌, ◌<◌, ◌≤◌, List, [], ◌∷◌, ◌++◌, length, get_or, take, drop, map, Bool, true, false, cond, Option, Some, None, pos, slice_set, refl, sym, subst, ap, ◌∙◌, add-one, arith}
+use Rattle.std.proofs.Common.{◌≡◌, ℕ, zero, suc, List, [], ◌∷◌, length, Bool, true, false, cond, Option, Some, None, pos, refl, sym, subst, ap, ◌∙◌, arith}
 use Rattle.std.specs.Prelude.{option_map}
 use Rattle.std.specs.List.{cons_option}
 use Rattle.std.proofs.lemmas.Option.{none-some, same_Some}
 use Rattle.plain_world.specs.declared.body.Body.{Body}
 use Rattle.plain_world.specs.declared.joint.BodyJoint.{BodyJoint}
 use Rattle.plain_world.specs.Joints.{AreJoints, IsBodyJoint, forbidden_by, forbidden_in, forbidden_pairs, idle_if, idle_joints, is_joint_of, joint_at}
-
--- ---- one slot after another
-
--- the joints of which the first have been seen
-abbrev pub idle_so_far : ℕ → List (Option BodyJoint) → ℕ → List (Option BodyJoint)
-idle_so_far body joints i = idle_joints body (take i joints) ++ drop i joints
-
-still_there : (body : ℕ) (joints : List (Option BodyJoint)) (i : ℕ) (d : Option BodyJoint) → i < length joints → get_or (idle_so_far body joints i) i d ≡ get_or joints i d
-still_there body [] i d h = absurd (omega (arith, h))
-still_there body (o ∷ os) zero d h = refl
-still_there body (o ∷ os) (suc i) d h = still_there body os i d (omega (arith, h))
-
-pub length-so_far : (body : ℕ) (joints : List (Option BodyJoint)) (i : ℕ) → length (idle_so_far body joints i) ≡ length joints
-length-so_far body [] zero = refl
-length-so_far body [] (suc i) = refl
-length-so_far body (o ∷ os) zero = refl
-length-so_far body (o ∷ os) (suc i) = ap suc (length-so_far body os i)
-
-next_idle : (body : ℕ) (joints : List (Option BodyJoint)) (i : ℕ) (d : Option BodyJoint) → i < length joints → slice_set (idle_so_far body joints i) i (option_map (idle_if body) (get_or joints i d)) ≡ idle_so_far body joints (suc i)
-next_idle body [] i d h = absurd (omega (arith, h))
-next_idle body (o ∷ os) zero d h = refl
-next_idle body (o ∷ os) (suc i) d h = ap (λ (l : List (Option BodyJoint)). option_map (idle_if body) o ∷ l) (next_idle body os i d (omega (arith, h)))
-
-pub idle_more : (body : ℕ) (joints now after : List (Option BodyJoint)) (i : ℕ) (d : Option BodyJoint) → i < length joints → now ≡ idle_so_far body joints i
-    → after ≡ slice_set now i (option_map (idle_if body) (get_or now i d)) → after ≡ idle_so_far body joints (i + 1)
-idle_more body joints now after i d h is made =
-    let here : get_or now i d ≡ get_or joints i d = ap (λ (l : List (Option BodyJoint)). get_or l i d) is ∙ still_there body joints i d h in
-    rw add-one (made ∙ (λ j. slice_set (is j) i (option_map (idle_if body) (here j))) ∙ next_idle body joints i d h)
-
-pub idle_whole : (body : ℕ) (joints : List (Option BodyJoint)) (i : ℕ) → length joints ≤ i → idle_so_far body joints i ≡ idle_joints body joints
-idle_whole body [] zero h = refl
-idle_whole body [] (suc i) h = refl
-idle_whole body (o ∷ os) zero h = absurd (omega (arith, h))
-idle_whole body (o ∷ os) (suc i) h = ap (λ (l : List (Option BodyJoint)). option_map (idle_if body) o ∷ l) (idle_whole body os i (omega (arith, h)))
 
 -- ---- what stays
 

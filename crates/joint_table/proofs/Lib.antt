@@ -1,4 +1,7 @@
 pub mod PairNumbers
 mod ImpulseLaws
-pub mod IdleLaws
-pub mod GivenLaws
+mod IdleLaws
+mod GivenLaws
+mod EndLaws
+mod OwnLaws
+mod TableLaws

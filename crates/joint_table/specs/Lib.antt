@@ -1,1 +1,2 @@
 pub mod JointTables
+pub mod Ends

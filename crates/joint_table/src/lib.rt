@@ -1,9 +1,14 @@
 //! The joints of a world by slot, with what a world asks of them at hand.
 //!
-//! [`JointTable`] has the joint in each slot, and beside them the numbers of the pairs of bodies that joints keep from colliding.
+//! [`JointTable`] has the joint in each slot, and beside them the ends of joints by body, so that what asks for the joints of one body
+//! costs by those alone, and the numbers of the pairs of bodies that joints keep from colliding.
 #![tactic(auto)]
 
+mod ends;
 mod pair_numbers;
 mod table;
+#[cfg(test)]
+mod tests;
 
+pub use ends::Ends;
 pub use table::JointTable;

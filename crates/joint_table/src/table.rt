@@ -1,30 +1,35 @@
-//! The joints of a world by slot, and which pairs of bodies they keep from colliding.
+//! The joints of a world by slot, which of them are a body's, and which pairs of bodies they keep from colliding.
 
 mod from_joints;
 
-ghost use Rattle.std.specs.Prelude.{◌≡◌, ◌≤◌, ◌<◌, [], IfOk, None, OnOk, length, option_map, slice_index_or, slice_set, vec_len};
+ghost use Rattle.std.specs.Prelude.{◌≡◌, ◌≤◌, ◌<◌, ◌/◌, ℕ, [], true, Contains, IfOk, None, OnOk, Some, length, option_map, slice_index_or, slice_set, vec_len};
 ghost use Rattle.std.specs.Option.{option_copied};
 ghost use Rattle.std.specs.Result.{IsOkUnless};
 ghost use Rattle.std.specs.List.Sorted.{IsNonDecreasing};
-ghost use Rattle.plain_world.specs.Joints.{forbidden_in, forbidden_pairs, idle_if, idle_joints, impulse_set, joint_at, with_impulse};
-ghost use Rattle.joint_table.specs.JointTables.{HaveSameNumbers};
+ghost use Rattle.body_handles.specs.declared.places.TheConstants.{MAX_SLOTS};
+ghost use Rattle.plain_world.specs.Joints.{forbidden_in, forbidden_pairs, idle_if, idle_joints, impulse_set, is_end_in, joint_at, with_impulse};
+ghost use Rattle.joint_table.specs.JointTables.{HaveSameNumbers, own_slots};
+ghost use Rattle.joint_table.specs.Ends.{ends_of, halves};
 ghost use Rattle.plain_world.specs.Slots.{with_item};
 
+use crate::ends::{Ends, drop_ends, ends_of, list_slots, note_ends, reserve_ends};
 use crate::pair_numbers::{add_pair, drop_pair};
 use fixed_geom::Refusal;
+use packed_sets::PackedSets;
 use plain_world::{BodyJoint, clear_slot, item_at, put_item};
 use std::alloc::Global;
 use std::marker::Model;
 
-/// The joints by slot. Contracts see what each slot contains (`joints`) and how many more slots may be added with no
-/// memory (`room`).
+/// The joints by slot. Contracts see what each slot contains (`joints`), and the two bodies for a joint of which there is room (`room`).
 #[derive(Drop)]
 pub struct JointTable {
     joints: Vec<Option<BodyJoint>>,
     // The numbers of the pairs of bodies that joints keep from colliding, ascending, each as often as there are such joints.
     forbidden: Vec<u64>,
-    // For how many more joints each list has room.
-    room: usize,
+    // By body the ends of joints that stand at it.
+    ends: PackedSets,
+    // For a joint of which bodies each list has room.
+    room: Option<Ends>,
 }
 
 impl Model for JointTable {
@@ -35,7 +40,7 @@ impl Model for JointTable {
 
     ghost view = { λ a. record { joints = a.joints.items; room = a.room } };
 
-    ghost invariant = { λ a. IsJointTable a.joints.items a.forbidden.items a.room (vec_capacity a.joints - vec_len a.joints) (vec_capacity a.forbidden - vec_len a.forbidden) };
+    ghost invariant = { λ a. IsJointTable a.joints.items a.forbidden.items a.ends a.room (vec_capacity a.joints - vec_len a.joints) (vec_capacity a.forbidden - vec_len a.forbidden) };
 }
 
 /// The number of the pair of bodies that a joint, if there is one, keeps from colliding.
@@ -79,12 +84,14 @@ fn idle_slot(joints: &mut Vec<Option<BodyJoint>>, slot: usize, body: u32)
     idle_entry(&mut joints[slot], body);
 }
 
-/// Takes their impulses away from the joints of a body.
-fn idle_all(joints: &mut Vec<Option<BodyJoint>>, body: u32)
+/// Takes their impulses away from the joints of a body, which has these ends.
+fn idle_own(joints: &mut Vec<Option<BodyJoint>>, ends: &[u32], body: u32)
+    requires below { (id : ℕ) → Contains ends.now id → id / 2 < length joints.old.items }
+    requires all { (slot : ℕ) → is_end_in body (joint_at joints.old.items slot) ≡ true → Contains (halves ends.now) slot }
     ensures { joints.new.items ≡ idle_joints body joints.old.items }
 {
-    for slot in 0..joints.len() {
-        idle_slot(joints, slot, body);
+    for place in 0..ends.len() {
+        idle_slot(joints, (ends[place] / 2) as usize, body);
     }
 }
 
@@ -96,7 +103,8 @@ impl JointTable {
         JointTable {
             joints: Vec::new(alloc),
             forbidden: Vec::new(alloc),
-            room: 0,
+            ends: PackedSets::new(alloc),
+            room: None,
         }
     }
 
@@ -109,7 +117,8 @@ impl JointTable {
         Ok(JointTable {
             joints: Vec::from_slice(alloc, self.joints.as_slice())?,
             forbidden: Vec::from_slice(alloc, self.forbidden.as_slice())?,
-            room: 0,
+            ends: self.ends.try_copy()?,
+            room: None,
         })
     }
 
@@ -120,27 +129,40 @@ impl JointTable {
         self.joints.as_slice()
     }
 
-    /// Makes room for one more joint. Refused 1 where memory is wanting.
-    pub fn reserve_one(&mut self) -> Result<(), Refusal>
-        ensures joints { self.new.joints ≡ self.old.joints }
-        ensures room { OnOk result (1 ≤ self.new.room) }
+    /// The slots of the joints that have the body in a slot as an end, ascending. Costs by how many there are. Refused 1 where memory is wanting.
+    pub fn slots_of(&self, body: u32) -> Result<Vec<u32>, Refusal>
+        ensures slots { IfOk result (λ slots. slots.items ≡ own_slots body self.now.joints) }
         ensures memory_only { IsOkUnless result Refusal.NoMemory }
     {
-        self.room = 0;
+        let slots = list_slots(*self.joints.allocator(), self.ends.members(body))?;
+        Ok(slots)
+    }
+
+    /// Makes room for this joint. Refused 1 where memory is wanting.
+    pub fn reserve_for(&mut self, joint: &BodyJoint) -> Result<(), Refusal>
+        ensures joints { self.new.joints ≡ self.old.joints }
+        ensures room { OnOk result (self.new.room ≡ Some (ends_of joint.now)) }
+        ensures memory_only { IsOkUnless result Refusal.NoMemory }
+    {
+        let ends = ends_of(joint);
+        self.room = None;
         self.joints.reserve(1)?;
         self.forbidden.reserve(1)?;
-        self.room = 1;
+        reserve_ends(&mut self.ends, self.joints.len(), ends)?;
+        self.room = Some(ends);
         Ok(())
     }
 
-    /// Puts a joint into an empty slot, or into a new one at the end, for which there is room.
+    /// Puts a joint into an empty slot, or into a new one at the end. There has to be room for it.
     pub fn put(&mut self, slot: u32, joint: BodyJoint)
-        requires room { 1 ≤ self.old.room }
+        requires room { self.old.room ≡ Some (ends_of joint) }
+        requires few { slot < MAX_SLOTS }
         requires next { slot ≤ length self.old.joints }
         requires free { joint_at self.old.joints slot ≡ None }
         ensures { self.new.joints ≡ with_item self.old.joints slot joint }
     {
-        self.room = 0;
+        self.room = None;
+        note_ends(&mut self.ends, slot, ends_of(&joint));
         add_pair(&mut self.forbidden, joint.forbidden_pair());
         put_item(&mut self.joints, slot as usize, joint);
     }
@@ -150,7 +172,8 @@ impl JointTable {
         requires { slot < length self.old.joints }
         ensures { self.new.joints ≡ slice_set self.old.joints slot None }
     {
-        self.room = 0;
+        self.room = None;
+        drop_ends(&mut self.ends, slot);
         drop_pair(
             &mut self.forbidden,
             forbidden_in(item_at(&self.joints, slot as usize)),
@@ -168,12 +191,12 @@ impl JointTable {
         }
     }
 
-    /// The joints of the body in a slot have no impulse any more.
+    /// The joints of the body in a slot have no impulse any more. Costs by how many there are.
     pub fn idle(&mut self, slot: u32)
         ensures { self.new.joints ≡ idle_joints slot self.old.joints }
     {
-        self.room = 0;
-        idle_all(&mut self.joints, slot);
+        self.room = None;
+        idle_own(&mut self.joints, self.ends.members(slot), slot);
     }
 
     /// The numbers of the pairs of bodies that joints keep from colliding, ascending, each as often as there are such joints.

@@ -8,8 +8,10 @@ use Rattle.fixed_geom.specs.declared.boxes.Box2.{Box2}
 use Rattle.fixed_geom.specs.Boxes.{overlaps}
 use Rattle.contacts_base.specs.declared.near.Proxy.{Proxy}
 use Rattle.contacts_base.specs.declared.contact.ContactEntry.{ContactEntry}
+use Rattle.contacts_base.specs.Contacts.{AreContacts}
 use Rattle.contacts_base.specs.Keys.{id_number}
 use Rattle.contacts_base.specs.Near.{IsProxy, IsProxyList, number_of}
+use Rattle.contacts_base.specs.Surfaces.{IsSurface}
 use Rattle.contacts.specs.Changes.{contacts_of}
 use Rattle.contacts.specs.Forbidden.{allowed_codes}
 use Rattle.contacts.specs.Known.{IsKnown, IsPairKey, either_moved, found}
@@ -92,3 +94,15 @@ within_shown ps qs slots marks flags is list all same are = within_marks ps slot
 
 pub all_overlapping : (ps : List Proxy) (slots copied source before : List ℕ) (wanted : Box2) → before ≡ [] → source ≡ slots → copied ≡ before ++ source → IsShown ps slots → All (λ p. overlaps p.fat wanted ≡ true → Contains copied p.id.slot) ps
 all_overlapping ps slots copied source before wanted b s is shown = λ k d lt on. rw (is, b, s) (shown.listed k d lt)
+
+-- ---- one contact
+
+pub one_contact : (e : ContactEntry) → IsSurface e.surface → AreContacts (e ∷ [])
+one_contact e is = record {
+  rising = λ i within. absurd (omega (arith, within));
+  surfaces = first;
+}
+  where
+    first : All (λ (x : ContactEntry). IsSurface x.surface) (e ∷ [])
+    first zero d lt = is
+    first (suc k) d lt = absurd (omega (arith, lt))

@@ -1,43 +1,38 @@
 -- Bodies that come, go, are disabled and enabled: the ties there are then, and who is a mover of them.
-use Rattle.std.proofs.Common.{◌≡◌, ◌≢◌, ◌⊎◌, ℕ, zero, suc, ◌+◌, ◌*◌, ◌^◌, ◌<◌, ◌≤◌, ◌==◌, ◌&&◌, ◌||◌, Bool, true, false, not, cond, List, [], ◌∷◌, ◌++◌, length, map, filter, get_or, Option, Some, None, is_some, nat_lt, ltb-true, ltb-false, All, slice_get, slice_set, refl, sym, ap, ap₂, ◌∙◌, subst, arith, inl, inr}
-use Rattle.std.specs.Prelude.{Contains}
-use Rattle.std.specs.List.{filter_map}
-use Rattle.std.proofs.lemmas.Bool.{cases_eq, cases_lt, false≢true}
+use Rattle.std.proofs.Common.{◌≡◌, ◌≢◌, ◌⊎◌, ℕ, zero, suc, ◌+◌, ◌<◌, ◌≤◌, ◌==◌, ◌||◌, Bool, true, false, not, List, [], ◌∷◌, ◌++◌, length, map, filter, Option, Some, None, is_some, nat_lt, ltb-false, All, slice_get, slice_set, refl, sym, ap, ◌∙◌, subst, arith, inl, inr}
+use Rattle.std.proofs.lemmas.Bool.{cases_eq, false≢true}
 use Rattle.std.proofs.lemmas.List.{length-set}
 use Rattle.std.proofs.lemmas.List.Elements.{All-contains}
-use Rattle.std.proofs.lemmas.Option.{none-some, same_Some, slice_get_within}
+use Rattle.std.proofs.lemmas.Option.{none-some, same_Some}
 use Rattle.body_handles.specs.declared.handle.Handle.{Handle}
-use Rattle.body_handles.specs.declared.places.Place.{Place}
 use Rattle.body_handles.specs.Places.{IsLive, places_without}
 use Rattle.graph_colours.specs.declared.member.Member.{Member}
 use Rattle.graph_colours.specs.declared.member.Movers.{Movers}
-use Rattle.graph_colours.specs.Members.{AreRising, has_id}
 use Rattle.graph_colours.specs.Movers.{has_mover}
 use Rattle.graph_colours.proofs.Cases.{by_test, true_or_false, not_true}
 use Rattle.graph_colours.proofs.PlaceLemmas.{is_same, not_same, same_from}
 use Rattle.contacts_base.specs.declared.contact.ContactEntry.{ContactEntry}
 use Rattle.contacts_base.specs.Contacts.{AreKeysRising, contacts_without, has_slot}
-use Rattle.contacts_base.specs.Evaluate.{touches}
 use Rattle.contacts_base.proofs.ContactsLemmas.{keys_rise-filter}
 use Rattle.contacts.specs.Constraints.{constraint_number}
 use Rattle.contacts.specs.declared.constraint.Constraint.{Constraint}
-use Rattle.contacts.proofs.Members.{IsIn, in_left, in_right, in_append, in_from_contains, contains_from_in}
+use Rattle.contacts.proofs.Members.{IsIn, in_left, in_right, in_from_contains, contains_from_in}
 use Rattle.sleep_wake.specs.Changes.{each_inserted, each_without}
 use Rattle.plain_world.specs.declared.body.Body.{Body}
 use Rattle.plain_world.specs.declared.joint.BodyJoint.{BodyJoint}
 use Rattle.plain_world.specs.Joints.{AreJoints, is_end_in, is_joint_of, joint_at}
-use Rattle.plain_world.specs.Slots.{body_at, item_at, item_in, with_body}
-use Rattle.solver_sets.specs.Beside.{joined_by, joined_to, mover_at, mover_beside, neighbours, touched_by, touched_with}
-use Rattle.solver_sets.specs.Joining.{handle_at, unjoined, unjoined_all, unjoined_if, unjoined_up}
+use Rattle.plain_world.specs.Slots.{body_at, item_in, with_body}
+use Rattle.solver_sets.specs.Beside.{joined_by, joined_to, mover_beside, neighbours, touched_by, touched_with}
+use Rattle.solver_sets.specs.Joining.{handle_at, unjoined, unjoined_all, unjoined_up}
 use Rattle.solver_sets.specs.Laws as laws
-use Rattle.solver_sets.specs.Tied.{AreAlikeBeside, AreJointSlots, HaveSameEnds, IsBetweenEnabled}
-use Rattle.solver_sets.specs.Ties.{Bond, JointSlots, bonds_of, contact_bond, is_bond_of, is_enabled, is_enabled_in, joint_bond, joint_bonds, joint_ties_at, movers_if, movers_with, moves, slots_of, tie_of, ties_at, ties_in, ties_of, touching_keys}
-use Rattle.solver_sets.proofs.BondLaws.{IsContactBond, IsJointBond, bond_number, bonds_in, bonds_rise, contacts_in, contacts_rise, in_bonds, in_contacts, in_joints, joints_in, joints_rise}
+use Rattle.solver_sets.specs.Tied.{AreAlikeBeside, AreJointSlots, IsBetweenEnabled}
+use Rattle.solver_sets.specs.Ties.{Bond, JointSlots, bonds_of, contact_bond, is_bond_of, is_enabled, is_enabled_in, joint_bonds, joint_ties_at, movers_if, moves, slots_of, tie_of, ties_at, ties_in, ties_of, touching_keys}
+use Rattle.solver_sets.proofs.BondLaws.{IsContactBond, IsJointBond, bond_number, bonds_in, bonds_rise, in_bonds, in_joints, joints_in, joints_rise}
 use Rattle.solver_sets.proofs.JoinLaws.{handle_live, live_at, slots_unjoined}
-use Rattle.solver_sets.proofs.ListLaws.{ComesOf, Rises, filter_in, in_filter, in_map, map_in, map_same, only_one, pairs_from_rises, rises_filter, same_members}
+use Rattle.solver_sets.proofs.ListLaws.{Rises, filter_in, in_filter, in_map, map_in, map_same, only_one, pairs_from_rises, rises_filter, same_members}
 use Rattle.solver_sets.proofs.MemberLaws.{each_is, each_left, is_each, left_each, no_id, rising_each, rising_left}
 use Rattle.solver_sets.proofs.SlotLemmas.{below_length, item_at-set_none, item_at-set_other, slice_get-set_other, slice_get-with}
-use Rattle.solver_sets.proofs.TieLaws.{HasMovers, IsTieOf, has_movers, in_ties, movers_move, same_bonds, same_movers, same_tie, tie_is, tie_number, ties_in_of, ties_rise, ties_rise_in}
+use Rattle.solver_sets.proofs.TieLaws.{has_movers, in_ties, same_bonds, same_movers, same_tie, tie_is, tie_number, ties_in_of, ties_rise, ties_rise_in}
 
 -- ---- bonds of a slot
 

@@ -1,5 +1,5 @@
 -- Which bonds a world has, and that their numbers rise.
-use Rattle.std.proofs.Common.{◌≡◌, ◌≢◌, ◌⊎◌, ℕ, zero, suc, ◌+◌, ◌*◌, ◌^◌, ◌<◌, ◌≤◌, ◌==◌, Bool, true, false, List, [], ◌∷◌, ◌++◌, length, map, filter, Option, Some, None, All, slice_get, get_or, inl, inr, refl, sym, ap, ap₂, ◌∙◌, subst, arith}
+use Rattle.std.proofs.Common.{◌≡◌, ◌⊎◌, ℕ, zero, suc, ◌+◌, ◌*◌, ◌^◌, ◌<◌, ◌≤◌, true, List, [], ◌∷◌, length, map, filter, Option, Some, None, All, slice_get, inl, inr, refl, sym, ap, ap₂, ◌∙◌, subst, arith}
 use Rattle.std.proofs.lemmas.Option.{get_or_from_slice_get, none-some, same_Some, slice_get_within}
 use Rattle.body_handles.specs.declared.handle.Handle.{Handle}
 use Rattle.body_handles.specs.declared.places.Place.{Place}
@@ -7,19 +7,17 @@ use Rattle.body_handles.specs.Places.{IsPlace}
 use Rattle.body_handles.proofs.LowestLemmas.{no_place}
 use Rattle.contacts.proofs.Members.{IsIn, in_append, in_left, in_right}
 use Rattle.contacts.proofs.Rising.{rising_from_increasing, IsRising}
-use Rattle.contacts_base.specs.declared.key.ContactKey.{ContactKey}
 use Rattle.contacts_base.specs.declared.contact.ContactEntry.{ContactEntry}
 use Rattle.contacts_base.specs.Contacts.{AreKeysRising, number_of}
 use Rattle.contacts_base.specs.Evaluate.{touches}
 use Rattle.contacts_base.specs.Keys.{key_number}
-use Rattle.contacts.specs.declared.constraint.Constraint.TheVariants.{Joint, Contact}
 use Rattle.contacts.specs.Constraints.{constraint_number}
-use Rattle.contacts.proofs.Members.{Each, each_in}
+use Rattle.contacts.proofs.Members.{each_in}
 use Rattle.plain_world.specs.declared.joint.BodyJoint.{BodyJoint}
 use Rattle.plain_world.specs.Joints.{joint_at}
 use Rattle.solver_sets.specs.Tied.{AreJointSlots}
 use Rattle.solver_sets.specs.Ties.{Bond, JointSlots, bond_before, bonds_of, contact_bond, joint_bond, joint_bonds, joint_bonds_from, touching_keys}
-use Rattle.solver_sets.proofs.ListLaws.{IsMade, Rises, filter_in, in_filter, in_mapped, mapped_in, rises_append, rises_filter, rises_mapped}
+use Rattle.solver_sets.proofs.ListLaws.{Rises, filter_in, in_filter, in_mapped, mapped_in, rises_append, rises_filter, rises_mapped}
 
 -- ---- the bonds of joints
 

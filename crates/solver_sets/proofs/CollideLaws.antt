@@ -1,13 +1,11 @@
 -- What begins and ends to touch is what begins and ends between the ties.
-use Rattle.std.proofs.Common.{◌≡◌, ◌≢◌, ◌⊎◌, ℕ, zero, suc, ◌+◌, ◌*◌, ◌^◌, ◌<◌, ◌≤◌, ◌==◌, Bool, true, false, not, cond, nat_lt, List, [], ◌∷◌, length, map, Option, Some, None, All, refl, sym, ap, ap₂, ◌∙◌, subst, arith, inl, inr}
-use Rattle.std.specs.Prelude.{Contains}
-use Rattle.std.specs.List.{filter_map}
-use Rattle.std.proofs.lemmas.Bool.{cases_eq, false≢true}
+use Rattle.std.proofs.Common.{◌≡◌, ℕ, suc, ◌+◌, ◌^◌, ◌<◌, ◌==◌, Bool, true, false, not, cond, nat_lt, List, [], ◌∷◌, length, map, Option, Some, None, All, refl, sym, ap, ap₂, ◌∙◌, subst, arith, inl, inr}
+use Rattle.std.proofs.lemmas.Bool.{false≢true}
 use Rattle.std.proofs.lemmas.List.{length-map}
 use Rattle.std.proofs.lemmas.List.Elements.{All-contains}
 use Rattle.std.proofs.lemmas.Option.{none-some, same_Some}
 use Rattle.graph_colours.specs.declared.member.Member.{Member}
-use Rattle.graph_colours.specs.Members.{AreRising, has_id}
+use Rattle.graph_colours.specs.Members.{has_id}
 use Rattle.graph_colours.proofs.Cases.{by_test, true_or_false, not_true}
 use Rattle.graph_colours.proofs.PlaceLemmas.{is_same, not_same, same_from}
 use Rattle.contacts_base.specs.declared.key.ShapeId.{ShapeId}
@@ -15,24 +13,23 @@ use Rattle.contacts_base.specs.declared.key.ContactKey.{ContactKey}
 use Rattle.contacts_base.specs.declared.contact.ContactEntry.{ContactEntry}
 use Rattle.contacts_base.specs.Contacts.{AreKeysRising, is_touching, lookup, number_of}
 use Rattle.contacts_base.specs.Evaluate.{touches}
-use Rattle.contacts_base.specs.Keys.{id_number, key_number}
+use Rattle.contacts_base.specs.Keys.{key_number}
 use Rattle.contacts.specs.Changes.{key_if_new, key_if_touching, keys_touching_only_in}
 use Rattle.contacts.specs.Constraints.{constraint_number}
 use Rattle.contacts.specs.declared.constraint.Constraint.{Constraint}
 use Rattle.contacts.proofs.Members.{IsIn, in_from_contains, contains_from_in}
-use Rattle.islands.specs.Labels.{Labels}
 use Rattle.sleep_wake.specs.declared.change.Change.{Change}
 use Rattle.sleep_wake.specs.declared.change.Change.TheVariants.{Begin, End}
-use Rattle.sleep_wake.specs.Changes.{begin_count, begins_inserted, change_inserted, change_number, changes_between, only_in, AreChanges}
+use Rattle.sleep_wake.specs.Changes.{begin_count, begins_inserted, change_inserted, changes_between, only_in, AreChanges}
 use Rattle.sleep_wake.proofs.ListLemmas.{has_from, rising_filter}
 use Rattle.sleep_wake.proofs.TurnLemmas.{changes_fold}
 use Rattle.sleep_wake.proofs.BetweenLemmas.{changes_are}
 use Rattle.plain_world.specs.declared.body.Body.{Body}
 use Rattle.solver_sets.specs.Laws as laws
-use Rattle.solver_sets.specs.Tied.{AreJointSlots, AreTied}
-use Rattle.solver_sets.specs.Ties.{Bond, IsNamed, JointSlots, bonds_of, contact_bond, key_changes, key_ties, tie_of, ties_in, ties_of}
-use Rattle.solver_sets.proofs.BondLaws.{IsContactBond, IsJointBond, bond_number, bonds_in, contact_above, in_bonds, joint_below, joints_in, joints_rise, rises_from_keys}
-use Rattle.solver_sets.proofs.ListLaws.{ComesOf, Rises, filter_in, in_filter, in_map, in_mapped, length_map, map_in, mapped_in, only_one, pairs_from_rises, rises_map, rises_mapped, same_members}
+use Rattle.solver_sets.specs.Tied.{AreJointSlots}
+use Rattle.solver_sets.specs.Ties.{Bond, IsNamed, JointSlots, bonds_of, contact_bond, key_changes, key_ties, tie_of, ties_of}
+use Rattle.solver_sets.proofs.BondLaws.{bond_number, bonds_in, contact_above, in_bonds, joint_below, joints_in, joints_rise, rises_from_keys}
+use Rattle.solver_sets.proofs.ListLaws.{Rises, filter_in, in_filter, in_map, in_mapped, length_map, map_in, mapped_in, only_one, pairs_from_rises, rises_map, rises_mapped, same_members}
 use Rattle.solver_sets.proofs.MemberLaws.{no_id}
 use Rattle.solver_sets.proofs.TieLaws.{in_ties, tie_is, tie_number, ties_have_labels, ties_in_of, ties_rise, ties_rise_in}
 

@@ -1,5 +1,5 @@
 -- What loops over the lists of a plain world make of its constraints.
-use Rattle.std.proofs.Common.{◌≡◌, ℕ, suc, ◌+◌, ◌<◌, ◌≤◌, Bool, true, false, cond, List, [], ◌∷◌, ◌++◌, length, drop, get_or, map, filter, Option, Some, None, refl, sym, ap, ◌∙◌, arith, add-one}
+use Rattle.std.proofs.Common.{◌≡◌, ℕ, ◌+◌, ◌<◌, ◌≤◌, Bool, true, false, cond, List, [], ◌∷◌, ◌++◌, length, drop, get_or, map, filter, Option, Some, None, refl, sym, ap, ◌∙◌, add-one}
 use Rattle.std.specs.List.{cons_option, filter_map}
 use Rattle.std.specs.Option.{option_to_list}
 use Rattle.std.proofs.lemmas.List.{append-nil, append_assoc}
@@ -15,7 +15,7 @@ use Rattle.contacts_base.specs.Evaluate.{touches}
 use Rattle.plain_world.specs.declared.body.Body.{Body}
 use Rattle.plain_world.specs.declared.joint.BodyJoint.{BodyJoint}
 use Rattle.solver_sets.specs.Given.{contact_tie_in, joint_tie_in, joints_alone}
-use Rattle.solver_sets.specs.Ties.{Bond, JointSlots, bond_before, bonds_of, contact_bond, joint_bond, joint_bonds, joint_bonds_from, member_of, members_of, slots_of, tie_of, ties_in, ties_of, touching_keys}
+use Rattle.solver_sets.specs.Ties.{Bond, JointSlots, bond_before, contact_bond, joint_bond, joint_bonds, joint_bonds_from, member_of, members_of, slots_of, tie_of, ties_in, ties_of, touching_keys}
 use Rattle.solver_sets.proofs.ListingLaws.{cons_is, drop_is, drop_past}
 
 -- ---- ties of joints

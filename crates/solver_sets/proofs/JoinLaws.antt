@@ -1,38 +1,37 @@
 -- Joints that are made and that go: their slots, and the ties there are then.
-use Rattle.std.proofs.Common.{◌≡◌, ◌≢◌, ◌⊎◌, ℕ, zero, suc, ◌+◌, ◌*◌, ◌^◌, ◌<◌, ◌≤◌, ◌==◌, ◌&&◌, Bool, true, false, cond, List, [], ◌∷◌, ◌++◌, length, get_or, Option, Some, None, is_some, nat_lt, ltb-true, ltb-false, All, slice_get, slice_set, refl, sym, ap, ap₂, ◌∙◌, subst, arith, inl, inr}
-use Rattle.std.proofs.lemmas.Bool.{cases_eq, cases_lt}
-use Rattle.std.proofs.lemmas.Option.{get_or_from_slice_get, none-some, same_Some, slice_get_within}
+use Rattle.std.proofs.Common.{◌≡◌, ◌≢◌, ◌⊎◌, ℕ, ◌+◌, ◌*◌, ◌^◌, ◌<◌, ◌≤◌, ◌==◌, ◌&&◌, Bool, true, false, cond, List, [], ◌∷◌, ◌++◌, length, Option, Some, None, is_some, nat_lt, ltb-true, ltb-false, slice_get, slice_set, refl, sym, ap, ap₂, ◌∙◌, subst, arith, inl, inr}
+use Rattle.std.proofs.lemmas.Bool.{cases_eq}
+use Rattle.std.proofs.lemmas.Option.{none-some, same_Some, slice_get_within}
 use Rattle.body_handles.specs.declared.handle.Handle.{Handle}
 use Rattle.body_handles.specs.declared.places.Place.{Place}
 use Rattle.body_handles.specs.declared.places.TheConstants.{MAX_SLOTS}
-use Rattle.body_handles.specs.Places.{generation_at, generation_of, is_live, is_live_at, lowest, places_with, places_without, IsLive, IsPlace}
-use Rattle.body_handles.proofs.LowestLemmas.{lowest-le-length, no_place}
-use Rattle.body_handles.proofs.TableLemmas.{IsLive-given, IsPlace-given, IsTable-given, IsTable-taken}
+use Rattle.body_handles.specs.Places.{generation_at, generation_of, is_live, is_live_at, lowest, places_without, IsLive, IsPlace}
+use Rattle.body_handles.proofs.LowestLemmas.{lowest-le-length}
+use Rattle.body_handles.proofs.TableLemmas.{IsPlace-given, IsTable-given, IsTable-taken}
 use Rattle.graph_colours.specs.declared.member.Member.{Member}
 use Rattle.graph_colours.specs.declared.member.Movers.{Movers}
 use Rattle.graph_colours.specs.Members.{AreRising, has_id, inserted, without}
-use Rattle.graph_colours.proofs.Cases.{by_test, true_or_false}
+use Rattle.graph_colours.proofs.Cases.{true_or_false}
 use Rattle.graph_colours.proofs.ListLemmas.{rising_inserted, rising_without}
 use Rattle.graph_colours.proofs.PlaceLemmas.{is_same, not_same, same_from}
 use Rattle.contacts_base.specs.declared.contact.ContactEntry.{ContactEntry}
-use Rattle.contacts_base.specs.Contacts.{AreKeysRising}
 use Rattle.contacts.specs.Constraints.{constraint_number, joint_number}
 use Rattle.contacts.specs.declared.constraint.Constraint.{Constraint}
-use Rattle.contacts.specs.declared.constraint.Constraint.TheVariants.{Contact, Joint}
+use Rattle.contacts.specs.declared.constraint.Constraint.TheVariants.{Joint}
 use Rattle.contacts.proofs.Members.{IsIn, contains_from_in}
 use Rattle.plain_world.specs.declared.body.Body.{Body}
 use Rattle.plain_world.specs.declared.joint.BodyJoint.{BodyJoint}
-use Rattle.plain_world.specs.Joints.{is_end_in, is_joint_of, joint_at}
-use Rattle.plain_world.specs.Slots.{AreMatched, is_taken_place, item_at, item_in, with_item}
+use Rattle.plain_world.specs.Joints.{is_end_in, joint_at}
+use Rattle.plain_world.specs.Slots.{AreMatched, is_taken_place, item_in, with_item}
 use Rattle.solver_sets.specs.Joining.{handle_at, joined_with, unjoined}
 use Rattle.solver_sets.specs.Laws as laws
 use Rattle.solver_sets.specs.Tied.{AreJointSlots}
 use Rattle.solver_sets.specs.Ties.{Bond, JointSlots, bonds_of, joint_bond, joint_movers, movers_with, tie_of, tie_with, ties_of}
-use Rattle.solver_sets.proofs.BondLaws.{IsContactBond, IsJointBond, bond_number, bonds_in, bonds_rise, contact_above, in_bonds, in_joints, place_is}
+use Rattle.solver_sets.proofs.BondLaws.{bond_number, bonds_in, bonds_rise, contact_above, in_bonds, place_is}
 use Rattle.solver_sets.proofs.ListLaws.{only_one, same_members}
 use Rattle.solver_sets.proofs.MemberLaws.{inserted_is, is_inserted, is_without, no_id, without_is}
-use Rattle.solver_sets.proofs.SlotLemmas.{AreMatched-push, AreMatched-set, below_length, item_at-set_none, item_at-set_other, lowest-free, none_if, slice_get-set_other, slice_get-with, slice_get-with_own}
-use Rattle.solver_sets.proofs.TieLaws.{IsTieOf, in_ties, is_tie, tie_is, ties_in_of, ties_rise}
+use Rattle.solver_sets.proofs.SlotLemmas.{AreMatched-push, AreMatched-set, item_at-set_none, item_at-set_other, lowest-free, none_if, slice_get-set_other, slice_get-with, slice_get-with_own}
+use Rattle.solver_sets.proofs.TieLaws.{in_ties, is_tie, tie_is, ties_in_of, ties_rise}
 
 -- ---- which handles are live
 

@@ -1,12 +1,12 @@
 -- What is in lists that are filtered and mapped, and lists whose numbers rise.
-use Rattle.std.proofs.Common.{◌≡◌, ◌≢◌, ◌⊎◌, ◌↔◌, ℕ, zero, suc, ◌<◌, ◌≤◌, ◌==◌, Bool, true, false, not, cond, List, [], ◌∷◌, ◌++◌, length, map, filter, Option, Some, None, get_or, inl, inr, refl, sym, ap, ◌∙◌, subst, arith}
-use Rattle.std.specs.Prelude.{Contains, AllPairs}
+use Rattle.std.proofs.Common.{◌≡◌, ◌⊎◌, ℕ, zero, suc, ◌<◌, ◌≤◌, Bool, true, false, cond, List, [], ◌∷◌, ◌++◌, length, map, filter, Option, Some, None, get_or, inl, inr, refl, sym, ap, ◌∙◌, subst, arith}
+use Rattle.std.specs.Prelude.{AllPairs}
 use Rattle.std.specs.List.{filter_map, cons_option}
 use Rattle.std.proofs.lemmas.Bool.{false≢true}
 use Rattle.std.proofs.lemmas.List.Kept.{AllPairs-cons}
 use Rattle.graph_colours.proofs.ListLemmas.{pairs_none, pairs_head, pairs_tail}
 use Rattle.std.proofs.lemmas.List.Elements.{All-contains}
-use Rattle.contacts.proofs.Members.{IsIn, in_append, in_left, in_right, in_from_contains, contains_from_in}
+use Rattle.contacts.proofs.Members.{IsIn, in_append, in_left, in_from_contains, contains_from_in}
 use Rattle.graph_colours.specs.declared.member.Member.{Member}
 use Rattle.graph_colours.specs.Members.{AreRising}
 use Rattle.sleep_wake.proofs.TurnLemmas.{one_order}

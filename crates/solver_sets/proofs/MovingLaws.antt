@@ -1,5 +1,5 @@
 -- The constraints that act tell who is beside a body that moves.
-use Rattle.std.proofs.Common.{◌≡◌, ◌⊎◌, ℕ, zero, suc, ◌≤◌, ◌&&◌, ◌||◌, Bool, true, false, cond, List, [], ◌∷◌, length, Option, Some, None, is_none, is_some, slice_get, inl, inr, refl, sym, ap, ◌∙◌, subst, arith}
+use Rattle.std.proofs.Common.{◌≡◌, ◌⊎◌, ℕ, zero, suc, ◌&&◌, ◌||◌, Bool, true, false, cond, List, [], ◌∷◌, length, Option, Some, None, is_none, is_some, slice_get, inl, inr, refl, sym, ap, ◌∙◌, subst, arith}
 use Rattle.std.specs.Prelude.{◌==◌, Contains}
 use Rattle.std.specs.List.{list_any}
 use Rattle.std.proofs.lemmas.Option.{same_Some}
@@ -14,7 +14,7 @@ use Rattle.graph_colours.specs.declared.member.Member.{Member}
 use Rattle.graph_colours.specs.declared.member.Movers.{Movers}
 use Rattle.graph_colours.specs.Colours.{all_members}
 use Rattle.islands.specs.declared.label.Label.{Label}
-use Rattle.islands.specs.Labels.{Labels, label_at}
+use Rattle.islands.specs.Labels.{label_at}
 use Rattle.plain_world.specs.declared.body.Body.{Body}
 use Rattle.plain_world.specs.declared.joint.BodyJoint.{BodyJoint}
 use Rattle.plain_world.specs.declared.kind.Kind.{Kind}
@@ -25,7 +25,6 @@ use Rattle.plain_world.specs.Slots.{body_at}
 use Rattle.sleep_wake.specs.Acting.{Acting, IsSettled, are_awake, awake_label, is_awake, second_awake}
 use Rattle.solver_sets.specs.Beside.{is_beside_moving, is_joined_to_moving, is_moving_at, is_moving_in, is_stirred_between, is_to_moving, is_touched_by_moving, ties_to_moving}
 use Rattle.solver_sets.specs.Laws as laws
-use Rattle.solver_sets.specs.Tied.{AreTied}
 use Rattle.solver_sets.specs.Ties.{Bond, JointSlots, bonds_of, contact_bond, is_enabled, is_enabled_in, is_mover_in, joint_bond, movers_if, movers_with, moves, tie_of, tie_with, ties_of}
 use Rattle.solver_sets.proofs.AmongLaws.{if_both, movers_enabled}
 use Rattle.solver_sets.proofs.BondLaws.{IsContactBond, IsJointBond, bonds_in, in_bonds}

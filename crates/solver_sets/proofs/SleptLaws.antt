@@ -1,12 +1,10 @@
 -- Handles of those who fell asleep or woke.
-use Rattle.std.proofs.Common.{◌≡◌, ℕ, zero, suc, ◌+◌, ◌-◌, ◌<◌, ◌≤◌, ◌&&◌, Bool, true, false, not, cond, is_some, List, [], ◌∷◌, ◌++◌, length, drop, get_or, slice_get, Contains, Option, Some, None, inl, inr, refl, sym, ap, ap₂, ◌∙◌, subst, arith}
+use Rattle.std.proofs.Common.{◌≡◌, ℕ, suc, ◌+◌, ◌-◌, ◌<◌, ◌≤◌, ◌&&◌, Bool, true, false, not, cond, is_some, List, [], ◌∷◌, slice_get, Contains, Option, Some, None, inl, inr, refl, sym, ap, ap₂, ◌∙◌, arith}
 use Rattle.std.specs.List.{filter_map, cons_option}
 use Rattle.std.specs.List.Sorted.{IsStrictlyIncreasing}
-use Rattle.std.proofs.Math.Numerals.{add-one}
 use Rattle.std.proofs.lemmas.Bool.{cases_eq}
 use Rattle.contacts.proofs.Members.{Each, IsIn, each_from, each_in, in_from_contains}
 use Rattle.contacts.proofs.Rising.{IsRising, rising_from_increasing}
-use Rattle.std.proofs.lemmas.List.{append-nil, append_assoc}
 use Rattle.body_handles.specs.declared.handle.Handle.{Handle}
 use Rattle.body_handles.specs.declared.places.Place.{Place}
 use Rattle.islands.specs.declared.label.Label.{Label}
@@ -18,27 +16,6 @@ use Rattle.solver_sets.specs.Laws as laws
 use Rattle.solver_sets.specs.Slept.{asleep_only_in, handle_if, handles_where, is_asleep_in, is_asleep_label, newly_asleep, newly_awake, sleeps, was_asleep}
 use Rattle.solver_sets.specs.Tied.{AreTold}
 use Rattle.solver_sets.specs.Ties.{is_mover_in}
-use Rattle.solver_sets.proofs.ListingLaws.{drop_is, drop_past}
-
--- ---- the loop
-
-where_head : (test : Bool) (h : Handle) (rest : List Handle) → cond test (h ∷ rest) rest ≡ cond test (h ∷ []) [] ++ rest
-where_head true h rest = refl
-where_head false h rest = refl
-
-pub where_step : (test : ℕ → Bool) (places : List Place) (i : ℕ) (p : Place) (now next : List Handle) (passes : Bool) → i < length places → next ≡ now ++ cond passes (record { slot = i; generation = (get_or places i p).generation } ∷ []) [] → passes ≡ test i
-    → next ++ handles_where test (i + 1) (drop (i + 1) places) ≡ now ++ handles_where test i (drop i places)
-where_step test places i p now next passes lt pushed is =
-    let h : Handle = record { slot = i; generation = (get_or places i p).generation } in
-    let rest : List Handle = handles_where test (i + 1) (drop (i + 1) places) in
-    let split : handles_where test i (drop i places) ≡ cond (test i) (h ∷ rest) rest =
-    ap (handles_where test i) (drop_is places i p lt) ∙ ap (λ (k : ℕ). cond (test i) (h ∷ handles_where test k (drop (i + 1) places)) (handles_where test k (drop (i + 1) places))) (sym (add-one i)) in
-    ap (λ (l : List Handle). l ++ rest) (pushed ∙ ap (λ (t : Bool). now ++ cond t (h ∷ []) []) is)
-    ∙ append_assoc now (cond (test i) (h ∷ []) []) rest
-    ∙ ap (λ (l : List Handle). now ++ l) (sym (split ∙ where_head (test i) h rest))
-
-pub where_end : (test : ℕ → Bool) (places : List Place) (i : ℕ) (now all : List Handle) → length places ≤ i → now ++ handles_where test i (drop i places) ≡ all → now ≡ all
-where_end test places i now all le e = sym (append-nil now) ∙ ap (λ (ps : List Place). now ++ handles_where test i ps) (sym (drop_past places i le)) ∙ e
 
 -- ---- the handles of some slots alone, among which are all that pass
 

@@ -1,18 +1,15 @@
 -- Items by slot beside the places that say which slots are taken, as both change.
-use Rattle.std.proofs.Common.{◌≡◌, ◌≢◌, ℕ, zero, suc, ◌*◌, ◌<◌, ◌≤◌, ◌^◌, List, [], ◌∷◌, ◌++◌, length, Option, Some, None, Bool, true, false, cond, ℤ, pos, ◌+ℤ◌, unsigned_abs, arith, refl, sym, ap, ◌∙◌, is_some}
+use Rattle.std.proofs.Common.{◌≡◌, ◌≢◌, ℕ, zero, suc, ◌<◌, ◌≤◌, List, [], ◌∷◌, ◌++◌, length, Option, Some, None, Bool, true, false, cond, arith, refl, sym, ap, ◌∙◌, is_some}
 use Rattle.std.specs.Prelude.{slice_get, slice_set, not, ◌&&◌}
 use Rattle.std.proofs.Common.{inl, inr, get_or}
 use Rattle.std.proofs.lemmas.Bool.{cases_lt}
 use Rattle.std.proofs.lemmas.List.Sums.{passes_at_first}
-use Rattle.std.proofs.lemmas.Int.{ints}
 use Rattle.std.proofs.lemmas.Grind.{common_steps}
 use Rattle.body_handles.specs.declared.places.Place.{Place}
 use Rattle.body_handles.specs.Places.{is_open, lowest}
 use Rattle.body_handles.proofs.LowestLemmas.{no_place}
 use Rattle.body_handles.specs.declared.places.TheConstants.{MAX_SLOTS}
-use Rattle.plain_world.specs.declared.body.Body.{Body}
-use Rattle.plain_world.specs.Bodies.{is_mover, IsBody, AreBodies}
-use Rattle.plain_world.specs.Slots.{body_at, item_at, shapes_in, is_taken, AreMatched, HaveSameSlots}
+use Rattle.plain_world.specs.Slots.{item_at, is_taken, AreMatched}
 
 -- ---- the slots
 

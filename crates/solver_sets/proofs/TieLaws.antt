@@ -1,6 +1,5 @@
 -- Which ties a world has: they rise, are named, have labels, and changes that they don't see leave them.
-use Rattle.std.proofs.Common.{◌≡◌, ◌≢◌, ◌⊎◌, ℕ, zero, suc, ◌+◌, ◌*◌, ◌^◌, ◌<◌, ◌≤◌, ◌==◌, ◌&&◌, Bool, true, false, cond, is_some, List, [], ◌∷◌, ◌++◌, length, map, filter, Option, Some, None, All, slice_get, slice_set, get_or, inl, inr, refl, sym, ap, ap₂, ◌∙◌, subst, arith}
-use Rattle.std.specs.Prelude.{Contains}
+use Rattle.std.proofs.Common.{◌≡◌, ℕ, suc, ◌^◌, ◌<◌, ◌&&◌, Bool, true, false, cond, is_some, List, [], ◌∷◌, ◌++◌, length, map, Option, Some, None, All, inl, inr, refl, sym, ap, ap₂, ◌∙◌, subst, arith}
 use Rattle.std.specs.List.{filter_map}
 use Rattle.std.proofs.lemmas.Bool.{false≢true}
 use Rattle.std.proofs.lemmas.Option.{none-some, same_Some, slice_get_within}
@@ -8,25 +7,20 @@ use Rattle.std.proofs.lemmas.List.Elements.{All-contains}
 use Rattle.body_handles.specs.Places.{IsPlace}
 use Rattle.graph_colours.specs.declared.member.Movers.{Movers}
 use Rattle.graph_colours.specs.declared.member.Member.{Member}
-use Rattle.graph_colours.specs.Members.{AreRising}
 use Rattle.graph_colours.specs.Colours.{all_members, ids_of}
 use Rattle.contacts.proofs.Members.{IsIn, in_from_contains, contains_from_in, in_left, in_right}
 use Rattle.contacts_base.specs.declared.contact.ContactEntry.{ContactEntry}
-use Rattle.contacts_base.specs.Contacts.{AreKeysRising}
 use Rattle.contacts.specs.declared.constraint.Constraint.{Constraint}
-use Rattle.contacts.specs.declared.constraint.Constraint.TheVariants.{Joint, Contact}
+use Rattle.contacts.specs.declared.constraint.Constraint.TheVariants.{Joint}
 use Rattle.contacts.specs.Constraints.{constraint_number}
 use Rattle.islands.specs.declared.label.Label.{Label}
-use Rattle.islands.specs.Labels.{Labels, label_at}
-use Rattle.sleep_wake.specs.Acting.{AreMovers}
+use Rattle.islands.specs.Labels.{label_at}
 use Rattle.plain_world.specs.declared.body.Body.{Body}
 use Rattle.plain_world.specs.declared.joint.BodyJoint.{BodyJoint}
-use Rattle.plain_world.specs.Joints.{AreJoints, joint_at}
-use Rattle.plain_world.specs.Slots.{body_at, with_body}
 use Rattle.solver_sets.specs.Laws as laws
-use Rattle.solver_sets.specs.Tied.{AreAlike, AreJointSlots, AreTied, HaveSameEnds, IsBetweenEnabled, ends_in}
-use Rattle.solver_sets.specs.Ties.{Bond, IsNamed, IsNamedConstraint, IsNamedHandle, JointSlots, Lists, bond_before, bonds_of, contact_bond, is_enabled, joint_bond, joint_bonds, joint_bonds_from, member_of, members_of, movers_if, movers_of, movers_with, moves, tie_of, tie_with, ties_in, ties_of, touching_keys}
-use Rattle.solver_sets.proofs.BondLaws.{IsContactBond, IsJointBond, bond_number, bonds_in, bonds_rise, in_bonds, in_joints, place_is}
+use Rattle.solver_sets.specs.Tied.{AreJointSlots, HaveSameEnds, ends_in}
+use Rattle.solver_sets.specs.Ties.{Bond, IsNamed, IsNamedConstraint, JointSlots, Lists, bond_before, bonds_of, contact_bond, is_enabled, joint_bonds, joint_bonds_from, member_of, members_of, movers_if, movers_of, movers_with, moves, tie_of, tie_with, ties_in, ties_of, touching_keys}
+use Rattle.solver_sets.proofs.BondLaws.{IsContactBond, IsJointBond, bond_number, bonds_rise, in_bonds, place_is}
 use Rattle.solver_sets.proofs.ListLaws.{ComesOf, Rises, in_map, map_in, map_same, pairs_from_rises, rises_map}
 
 -- ---- a bond's tie

@@ -1,5 +1,5 @@
 -- What is known of the ties of any world, and what changes of its bodies, joints and contacts do to them.
-use Rattle.std.specs.Prelude.{◌≡◌, ℕ, ◌<◌, ◌≤◌, ◌⊎◌, Bool, true, false, List, [], Option, Some, None, All, Contains, length, slice_set}
+use Rattle.std.specs.Prelude.{◌≡◌, ℕ, ◌<◌, ◌≤◌, true, false, List, [], Option, Some, None, All, Contains, length, slice_set}
 use Rattle.body_handles.specs.declared.handle.Handle.{Handle}
 use Rattle.body_handles.specs.declared.places.Place.{Place}
 use Rattle.body_handles.specs.declared.places.TheConstants.{MAX_SLOTS}
@@ -26,7 +26,7 @@ use Rattle.plain_world.specs.Sleep.{told}
 use Rattle.plain_world.specs.Slots.{AreMatched, body_at, with_body}
 use Rattle.solver_sets.specs.Census.{IsCensus, Standing, census_in, census_of}
 use Rattle.solver_sets.specs.EachOnce.{ListsEachOnce}
-use Rattle.solver_sets.specs.Beside.{TellMoving, neighbours, joined_to, stirred_among, stirred_by}
+use Rattle.solver_sets.specs.Beside.{TellMoving, neighbours, stirred_among, stirred_by}
 use Rattle.solver_sets.specs.Joining.{handle_at, joined_with, unjoined, unjoined_all}
 use Rattle.solver_sets.specs.Slept.{asleep_only_in, newly_asleep, newly_awake}
 use Rattle.solver_sets.specs.Tied.{AreAlike, AreAlikeBeside, AreJointSlots, AreTied, AreTold, HaveSameEnds, IsBetweenEnabled, OnlyMoversSleep}

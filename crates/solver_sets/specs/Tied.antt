@@ -1,5 +1,5 @@
 -- How bodies, joints and contacts go with the labels of the islands and with one another.
-use Rattle.std.specs.Prelude.{◌≡◌, ◌≢◌, ℕ, ◌==◌, true, false, List, Option, Some, None, All, is_some, map}
+use Rattle.std.specs.Prelude.{◌≡◌, ℕ, ◌==◌, true, false, List, Option, Some, None, All, is_some, map}
 use Rattle.body_handles.specs.Places.{IsPlace}
 use Rattle.contacts_base.specs.declared.contact.ContactEntry.{ContactEntry}
 use Rattle.islands.specs.Labels.{Labels, label_at}

@@ -1,15 +1,12 @@
-//! Which movers stand beside a body, joined to it or touching it, and whom a change of the body wakes.
+//! Which movers are joined to a body.
 
-ghost use Rattle.std.specs.Prelude.{◌≡◌, ◌∷◌, [], IfOk};
+ghost use Rattle.std.specs.Prelude.{◌≡◌, IfOk};
 ghost use Rattle.std.specs.Option.{option_copied};
 ghost use Rattle.std.specs.Result.{IsOkUnless};
-ghost use Rattle.solver_sets.specs.Ties.{ties_among};
-ghost use Rattle.solver_sets.specs.Beside.{first_movers, joined_by, joined_to, mover_at, mover_beside, stirred_among};
+ghost use Rattle.solver_sets.specs.Beside.{joined_by, joined_to, mover_at, mover_beside};
 
-use crate::ties::{moves, pick_ties, push_some};
-use contacts::Constraint;
+use crate::ties::{moves, push_some};
 use fixed_geom::Refusal;
-use graph_colours::Member;
 use plain_world::{Body, BodyJoint, item_at};
 use std::alloc::Global;
 
@@ -63,65 +60,4 @@ pub fn list_joined(
         push_some(&mut slots, joined_by(bodies, slot, joint.as_ref()))?;
     }
     Ok(slots)
-}
-
-/// The first mover of each of these ties. Refused 1 where memory is wanting.
-fn list_first(alloc: Global, ties: &[Member<Constraint>]) -> Result<Vec<u32>, Refusal>
-    ensures slots { IfOk result (λ slots. slots.items ≡ first_movers ties.now) }
-    ensures memory_only { IsOkUnless result Refusal.NoMemory }
-{
-    let mut slots = Vec::with_capacity(alloc, ties.len())?;
-    for place in 0..ties.len() {
-        slots.push(ties[place].movers.first)?;
-    }
-    Ok(slots)
-}
-
-/// The movers beside a body that is no mover: those of its ties, of which each has but one. Refused 1 where memory is wanting.
-fn list_neighbours(
-    alloc: Global,
-    ties: &[Member<Constraint>],
-    joints: &[Option<BodyJoint>],
-    slot: u32,
-) -> Result<Vec<u32>, Refusal>
-    ensures slots { IfOk result (λ slots. slots.items ≡ first_movers (ties_among slot joints.now ties.now)) }
-    ensures memory_only { IsOkUnless result Refusal.NoMemory }
-{
-    let own = pick_ties(alloc, ties, joints, slot)?;
-    list_first(alloc, &own)
-}
-
-/// The one slot. Refused 1 where memory is wanting.
-fn list_one(alloc: Global, slot: u32) -> Result<Vec<u32>, Refusal>
-    ensures slots { IfOk result (λ slots. slots.items ≡ slot ∷ []) }
-    ensures memory_only { IsOkUnless result Refusal.NoMemory }
-{
-    let mut slots = Vec::new(alloc);
-    slots.push(slot)?;
-    Ok(slots)
-}
-
-/// Whom a change of the body in a slot wakes, by all ties that there are: a mover itself; of an enabled body that is none the movers beside it; of a
-/// disabled one nobody. Refused 1 where memory is wanting.
-#[tactic(auto, unfolding(crate::specs::Beside::stirred_among))]
-pub fn list_stirred(
-    alloc: Global,
-    bodies: &[Option<Body>],
-    joints: &[Option<BodyJoint>],
-    ties: &[Member<Constraint>],
-    slot: u32,
-) -> Result<Vec<u32>, Refusal>
-    ensures slots { IfOk result (λ slots. slots.items ≡ stirred_among bodies.now joints.now ties.now slot) }
-    ensures memory_only { IsOkUnless result Refusal.NoMemory }
-{
-    let Some(body) = item_at(bodies, slot as usize) else {
-        return Ok(Vec::new(alloc));
-    };
-    if body.is_mover() {
-        return list_one(alloc, slot);
-    }
-    if body.enabled {
-        return list_neighbours(alloc, ties, joints, slot);
-    }
-    Ok(Vec::new(alloc))
 }

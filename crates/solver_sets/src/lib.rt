@@ -15,11 +15,11 @@ mod slept;
 mod ties;
 mod timers;
 
-pub use beside::{list_joined, list_stirred};
+pub use beside::list_joined;
 pub use census::{Census, Item, SleepingSet, standing_of_contact, standing_of_joint, take_census};
 pub use changes::list_changes;
 pub use given::{count_members, list_all_ties, list_members};
 pub use sets::{begin_with, end_with};
 pub use slept::{fill_newly_asleep, fill_newly_awake};
-pub use ties::{contact_movers, fill_joint_ties, joint_movers, movers_with, pick_ties, tie_with};
+pub use ties::{contact_movers, joint_movers, movers_with, tie_with};
 pub use timers::fill_awake_timers;

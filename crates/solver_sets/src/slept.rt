@@ -1,9 +1,9 @@
 //! Which bodies have fallen asleep or woken since they were told last.
 
-ghost use Rattle.std.specs.Prelude.{◌≡◌, ◌≤◌, ◌<◌, ◌+◌, ◌++◌, ◌∷◌, ◌&&◌, ℕ, [], Contains, cond, not, length, slice_get, true, vec_len, vec_capacity};
+ghost use Rattle.std.specs.Prelude.{◌≡◌, ◌≤◌, ◌<◌, ◌+◌, ◌++◌, ◌&&◌, ℕ, Contains, not, length, slice_get, true, vec_len, vec_capacity};
 ghost use Rattle.std.specs.List.Sorted.{IsStrictlyIncreasing};
 ghost use Rattle.std.specs.Option.{option_to_list};
-ghost use Rattle.solver_sets.specs.Slept.{handle_if, handles_where, newly_asleep, newly_awake, sleeps, was_asleep};
+ghost use Rattle.solver_sets.specs.Slept.{handle_if, newly_asleep, newly_awake, sleeps, was_asleep};
 
 use body_handles::{Handle, Place};
 use islands::Islands;
@@ -29,18 +29,6 @@ fn was_asleep(bodies: &[Option<Body>], slot: u32) -> bool
     }
 }
 
-/// Adds a handle, if it passes. There is room.
-fn push_if(handles: &mut Vec<Handle>, passes: bool, handle: Handle)
-    requires { vec_len handles.old < vec_capacity handles.old }
-    ensures items { handles.new.items ≡ handles.old.items ++ cond passes (handle ∷ []) [] }
-    ensures len { vec_len handles.new ≤ vec_len handles.old + 1 }
-    ensures capacity { vec_capacity handles.old ≤ vec_capacity handles.new }
-{
-    if passes {
-        let _ = handles.push(handle);
-    }
-}
-
 /// Whether the mover in the slot sleeps, and wasn't told so yet.
 fn is_newly_asleep(bodies: &[Option<Body>], islands: &Islands, slot: u32) -> bool
     ensures { result ≡ (sleeps islands.now.labels slot && not (was_asleep bodies.now slot)) }
@@ -55,19 +43,14 @@ fn is_newly_awake(bodies: &[Option<Body>], islands: &Islands, slot: u32) -> bool
     was_asleep(bodies, slot) && !sleeps(islands, slot)
 }
 
-/// The handle of who is in the slot, if they sleep and weren't told so yet.
-fn newly_asleep_at(
-    places: &[Place],
-    bodies: &[Option<Body>],
-    islands: &Islands,
-    slot: u32,
-) -> Option<Handle>
-    ensures { result ≡ handle_if (sleeps islands.now.labels slot && not (was_asleep bodies.now slot)) slot (slice_get places.now slot) }
+/// The handle of who is in the slot, if they pass.
+fn handle_if(places: &[Place], slot: u32, passes: bool) -> Option<Handle>
+    ensures { result ≡ handle_if passes slot (slice_get places.now slot) }
 {
     match places.get(slot as usize) {
         None => None,
         Some(place) => {
-            if is_newly_asleep(bodies, islands, slot) {
+            if passes {
                 Some(Handle {
                     slot,
                     generation: place.generation,
@@ -77,6 +60,30 @@ fn newly_asleep_at(
             }
         }
     }
+}
+
+/// The handle of who is in the slot, if they sleep and weren't told so yet.
+fn newly_asleep_at(
+    places: &[Place],
+    bodies: &[Option<Body>],
+    islands: &Islands,
+    slot: u32,
+) -> Option<Handle>
+    ensures { result ≡ handle_if (sleeps islands.now.labels slot && not (was_asleep bodies.now slot)) slot (slice_get places.now slot) }
+{
+    handle_if(places, slot, is_newly_asleep(bodies, islands, slot))
+}
+
+/// The handle of who is in the slot, if they were told that they sleep and are awake.
+fn newly_awake_at(
+    places: &[Place],
+    bodies: &[Option<Body>],
+    islands: &Islands,
+    slot: u32,
+) -> Option<Handle>
+    ensures { result ≡ handle_if (was_asleep bodies.now slot && not (sleeps islands.now.labels slot)) slot (slice_get places.now slot) }
+{
+    handle_if(places, slot, is_newly_awake(bodies, islands, slot))
 }
 
 /// Adds a handle, if there is one. There is room.
@@ -116,29 +123,27 @@ pub fn fill_newly_asleep(
     }
 }
 
-/// Lists who was told that it sleeps and is awake, ascending. There is room for as many handles as there are slots.
+/// Lists who was told that it sleeps and is awake, ascending. Each of them is in one of the slots `asleep`, of sleepers who may have woken, so that
+/// it costs by their number. There is room for as many handles as there are such slots.
 #[tactic(auto, unfolding(crate::specs::Slept::newly_awake))]
 pub fn fill_newly_awake(
     handles: &mut Vec<Handle>,
     places: &[Place],
     bodies: &[Option<Body>],
     islands: &Islands,
+    asleep: &[u32],
 )
-    requires room { length places.now ≤ vec_capacity handles.old }
-    requires few { length places.now ≤ 65536 }
+    requires room { length asleep.now ≤ vec_capacity handles.old }
+    requires rising { IsStrictlyIncreasing asleep.now }
+    requires all { (slot : ℕ) → (was_asleep bodies.now slot && not (sleeps islands.now.labels slot)) ≡ true → Contains asleep.now slot }
     ensures handles { handles.new.items ≡ newly_awake places.now bodies.now islands.now.labels }
     ensures capacity { vec_capacity handles.old ≤ vec_capacity handles.new }
 {
     handles.clear();
-    for index in 0..places.len() {
-        let handle = Handle {
-            slot: index as u32,
-            generation: places[index].generation,
-        };
-        push_if(
+    for place in 0..asleep.len() {
+        push_some(
             handles,
-            is_newly_awake(bodies, islands, handle.slot),
-            handle,
+            newly_awake_at(places, bodies, islands, asleep[place]),
         );
     }
 }

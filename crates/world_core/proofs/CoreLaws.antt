@@ -2,6 +2,7 @@
 use Rattle.std.proofs.Common.{◌≡◌, ℕ, ◌<◌, ◌≤◌, Bool, true, false, List, length, map, Option, Some, None, inl, inr, refl, sym, ap, ◌∙◌, subst}
 use Rattle.std.specs.Prelude.{All, slice_index_or, slice_set}
 use Rattle.contacts.specs.Known.{IsPairKey}
+use Rattle.anchored_ties.specs.Anchors.{Anchored, Tell}
 use Rattle.contacts.specs.declared.constraint.Constraint.{Constraint}
 use Rattle.contacts_base.specs.Contacts.{contacts_without, number_of}
 use Rattle.contacts_base.specs.declared.contact.ContactEntry.{ContactEntry}
@@ -21,37 +22,38 @@ use Rattle.world_core.proofs.KnownLaws.{HaveSameKeys, IsMarkedChange, dropped_ke
 use Rattle.world_core.proofs.PartLaws.{kept_of}
 use Rattle.world_rules.specs.World.{World, joints_of}
 use Rattle.world_rules.proofs.KeptStep.{collided_in}
-use Rattle.world_rules.proofs.SlotLemmas.{item_at-set_none}
+use Rattle.solver_sets.proofs.SlotLemmas.{item_at-set_none}
 use Rattle.world_rules.proofs.SoundLaws.{IsKept}
 
 -- a world that is whole again after a change of which all is marked
-pub core_changed : (w x : World) (s t : Acting Constraint) (old new : Bodies) → IsWorldCore w s old.marks → IsWhole x t → old.bodies ≡ w.plain.bodies → new.bodies ≡ x.plain.bodies → IsMarkedChange old new w.plain.joints x.plain.joints w.plain.contacts x.plain.contacts
-    → IsWorldCore x t new.marks
-core_changed w x s t old new core is was now change = record {
+pub core_changed : {a : Anchored} (w x : World) (s t : Acting Constraint) (old new : Bodies) → IsWorldCore w s old.marks a → IsWhole x t → old.bodies ≡ w.plain.bodies → new.bodies ≡ x.plain.bodies → IsMarkedChange old new w.plain.joints x.plain.joints w.plain.contacts x.plain.contacts
+    → (l : Anchored) → Tell l.holds l.lists t.ties → IsWorldCore x t new.marks l
+core_changed w x s t old new core is was now change l tell = record {
   whole = is;
+  anchored = tell;
   known = subst (λ (bs : List (Option Body)). AreKnown new.marks bs x.plain.joints x.plain.contacts) now
       (known_changed old new w.plain.joints x.plain.joints w.plain.contacts x.plain.contacts (subst AreBodies (sym was) (kept_of w s core.whole).bodies) (subst AreBodies (sym now) (kept_of x t is).bodies) (pair_keys_are x.plain.bodies x.plain.contacts is.sound.formed.there) change
       (subst (λ (bs : List (Option Body)). AreKnown old.marks bs w.plain.joints w.plain.contacts) (sym was) core.known));
 }
 
 -- the bodies alone changed
-pub core_bodies : (w x : World) (s t : Acting Constraint) (old new : Bodies) → IsWorldCore w s old.marks → IsWhole x t → old.bodies ≡ w.plain.bodies → new.bodies ≡ x.plain.bodies → x.plain.joints ≡ w.plain.joints → x.plain.contacts ≡ w.plain.contacts → AreMarked old new
-    → IsWorldCore x t new.marks
-core_bodies w x s t old new core is was now joints contacts marked =
-    core_changed w x s t old new core is was now (record { bodies = marked; pairs = pairs_stay new.marks w.plain.joints x.plain.joints (ap forbidden_pairs joints); keys = numbers_stay new.marks w.plain.contacts x.plain.contacts (ap (map number_of) contacts) })
+pub core_bodies : {a : Anchored} (w x : World) (s t : Acting Constraint) (old new : Bodies) → IsWorldCore w s old.marks a → IsWhole x t → old.bodies ≡ w.plain.bodies → new.bodies ≡ x.plain.bodies → x.plain.joints ≡ w.plain.joints → x.plain.contacts ≡ w.plain.contacts → AreMarked old new
+    → (l : Anchored) → Tell l.holds l.lists t.ties → IsWorldCore x t new.marks l
+core_bodies w x s t old new core is was now joints contacts marked l tell =
+    core_changed w x s t old new core is was now (record { bodies = marked; pairs = pairs_stay new.marks w.plain.joints x.plain.joints (ap forbidden_pairs joints); keys = numbers_stay new.marks w.plain.contacts x.plain.contacts (ap (map number_of) contacts) }) l tell
 
 -- there are more marks than before
-pub core_marked : (w : World) (s : Acting Constraint) (old new : Bodies) → IsWorldCore w s old.marks → old.bodies ≡ w.plain.bodies → new.bodies ≡ w.plain.bodies → AreMarked old new → IsWorldCore w s new.marks
-core_marked w s old new core was now marked = core_bodies w w s s old new core core.whole was now refl refl marked
+pub core_marked : {a : Anchored} (w : World) (s : Acting Constraint) (old new : Bodies) → IsWorldCore w s old.marks a → old.bodies ≡ w.plain.bodies → new.bodies ≡ w.plain.bodies → AreMarked old new → IsWorldCore w s new.marks a
+core_marked {a} w s old new core was now marked = core_bodies w w s s old new core core.whole was now refl refl marked a core.anchored
 
 -- all is marked
-pub core_all : (x : World) (t : Acting Constraint) (marks : List Bool) → IsWhole x t → ((slot : ℕ) → slice_index_or marks slot true ≡ true) → IsWorldCore x t marks
-core_all x t marks is all = record { whole = is; known = known_all marks x.plain.bodies x.plain.joints x.plain.contacts (pair_keys_are x.plain.bodies x.plain.contacts is.sound.formed.there) all }
+pub core_all : (x : World) (t : Acting Constraint) (marks : List Bool) → IsWhole x t → ((slot : ℕ) → slice_index_or marks slot true ≡ true) → (l : Anchored) → Tell l.holds l.lists t.ties → IsWorldCore x t marks l
+core_all x t marks is all l tell = record { whole = is; anchored = tell; known = known_all marks x.plain.bodies x.plain.joints x.plain.contacts (pair_keys_are x.plain.bodies x.plain.contacts is.sound.formed.there) all }
 
 -- ---- a body that leaves
 
 -- the joints and the contacts of the body in a slot go, which is marked
-left_changed : (w x : World) (s : Acting Constraint) (old new : Bodies) (slot : ℕ) → IsWorldCore w s old.marks → AreMarked old new → slice_index_or new.marks slot true ≡ true → HaveSamePairs new.marks w.plain.joints x.plain.joints → x.plain.contacts ≡ contacts_without slot w.plain.contacts
+left_changed : {a : Anchored} (w x : World) (s : Acting Constraint) (old new : Bodies) (slot : ℕ) → IsWorldCore w s old.marks a → AreMarked old new → slice_index_or new.marks slot true ≡ true → HaveSamePairs new.marks w.plain.joints x.plain.joints → x.plain.contacts ≡ contacts_without slot w.plain.contacts
     → IsMarkedChange old new w.plain.joints x.plain.joints w.plain.contacts x.plain.contacts
 left_changed w x s old new slot core marked on pairs contacts = record {
   bodies = marked;
@@ -59,56 +61,57 @@ left_changed w x s old new slot core marked on pairs contacts = record {
   keys = subst (λ (es : List ContactEntry). HaveSameKeys new.marks w.plain.contacts es) (sym contacts) (dropped_keys new.marks w.plain.contacts slot core.known.keys on);
 }
 
-pub core_destroyed : (w x : World) (s t : Acting Constraint) (old new : Bodies) (slot : ℕ) (b : Body) → IsWorldCore w s old.marks → IsWhole x t → old.bodies ≡ w.plain.bodies → new.bodies ≡ x.plain.bodies → body_at w.plain.bodies slot ≡ Some b → body_at new.bodies slot ≡ None → AreMarked old new
-    → x.plain.joints ≡ (unjoined_all slot (joints_of w.plain)).joints → x.plain.contacts ≡ contacts_without slot w.plain.contacts → IsWorldCore x t new.marks
-core_destroyed w x s t old new slot b core is was now at none marked joints contacts =
+pub core_destroyed : {a : Anchored} (w x : World) (s t : Acting Constraint) (old new : Bodies) (slot : ℕ) (b : Body) → IsWorldCore w s old.marks a → IsWhole x t → old.bodies ≡ w.plain.bodies → new.bodies ≡ x.plain.bodies → body_at w.plain.bodies slot ≡ Some b → body_at new.bodies slot ≡ None → AreMarked old new
+    → x.plain.joints ≡ (unjoined_all slot (joints_of w.plain)).joints → x.plain.contacts ≡ contacts_without slot w.plain.contacts → (l : Anchored) → Tell l.holds l.lists t.ties → IsWorldCore x t new.marks l
+core_destroyed w x s t old new slot b core is was now at none marked joints contacts l tell =
     let k : IsKept w = kept_of w s core.whole in
     let on : slice_index_or new.marks slot true ≡ true = gone_marked old new slot b marked (ap (λ (bs : List (Option Body)). body_at bs slot) was ∙ at) none in
     let pairs : HaveSamePairs new.marks w.plain.joints x.plain.joints = subst (λ (js : List (Option BodyJoint)). HaveSamePairs new.marks w.plain.joints js) (sym joints) (joints_go new.marks w.plain.bodies slot (joints_of w.plain) on k.matched.few k.joints) in
-    core_changed w x s t old new core is was now (left_changed w x s old new slot core marked on pairs contacts)
+    core_changed w x s t old new core is was now (left_changed w x s old new slot core marked on pairs contacts) l tell
 
-pub core_disabled : (w x : World) (s t : Acting Constraint) (old new : Bodies) (slot : ℕ) (b : Body) (bodies : List (Option Body)) → IsWorldCore w s old.marks → IsWhole x t → old.bodies ≡ w.plain.bodies → new.bodies ≡ x.plain.bodies → body_at w.plain.bodies slot ≡ Some b → b.enabled ≡ true
-    → new.bodies ≡ changed_at disabled_body bodies slot → AreMarked old new → x.plain.joints ≡ idle_joints slot w.plain.joints → x.plain.contacts ≡ contacts_without slot w.plain.contacts → IsWorldCore x t new.marks
-core_disabled w x s t old new slot b bodies core is was now at on halted marked joints contacts =
+pub core_disabled : {a : Anchored} (w x : World) (s t : Acting Constraint) (old new : Bodies) (slot : ℕ) (b : Body) (bodies : List (Option Body)) → IsWorldCore w s old.marks a → IsWhole x t → old.bodies ≡ w.plain.bodies → new.bodies ≡ x.plain.bodies → body_at w.plain.bodies slot ≡ Some b → b.enabled ≡ true
+    → new.bodies ≡ changed_at disabled_body bodies slot → AreMarked old new → x.plain.joints ≡ idle_joints slot w.plain.joints → x.plain.contacts ≡ contacts_without slot w.plain.contacts → (l : Anchored) → Tell l.holds l.lists t.ties → IsWorldCore x t new.marks l
+core_disabled w x s t old new slot b bodies core is was now at on halted marked joints contacts l tell =
     let there : slice_index_or new.marks slot true ≡ true = halted_marked old new slot b bodies marked (ap (λ (bs : List (Option Body)). body_at bs slot) was ∙ at) on halted in
     let pairs : HaveSamePairs new.marks w.plain.joints x.plain.joints = pairs_stay new.marks w.plain.joints x.plain.joints (ap forbidden_pairs joints ∙ idle_pairs slot w.plain.joints) in
-    core_changed w x s t old new core is was now (left_changed w x s old new slot core marked there pairs contacts)
+    core_changed w x s t old new core is was now (left_changed w x s old new slot core marked there pairs contacts) l tell
 
 -- ---- a joint
 
-pub core_joined : (w x : World) (s t : Acting Constraint) (old new : Bodies) (slot : ℕ) (j : BodyJoint) → IsWorldCore w s old.marks → IsWhole x t → old.bodies ≡ w.plain.bodies → new.bodies ≡ x.plain.bodies → IsBodyJoint w.plain.bodies j → joint_at w.plain.joints slot ≡ None → slot ≤ length w.plain.joints
-    → AreMarked old new → slice_index_or new.marks j.a true ≡ true → x.plain.joints ≡ with_item w.plain.joints slot j → x.plain.contacts ≡ w.plain.contacts → IsWorldCore x t new.marks
-core_joined w x s t old new slot j core is was now joint free le marked on joints contacts =
+pub core_joined : {a : Anchored} (w x : World) (s t : Acting Constraint) (old new : Bodies) (slot : ℕ) (j : BodyJoint) → IsWorldCore w s old.marks a → IsWhole x t → old.bodies ≡ w.plain.bodies → new.bodies ≡ x.plain.bodies → IsBodyJoint w.plain.bodies j → joint_at w.plain.joints slot ≡ None → slot ≤ length w.plain.joints
+    → AreMarked old new → slice_index_or new.marks j.a true ≡ true → x.plain.joints ≡ with_item w.plain.joints slot j → x.plain.contacts ≡ w.plain.contacts → (l : Anchored) → Tell l.holds l.lists t.ties → IsWorldCore x t new.marks l
+core_joined w x s t old new slot j core is was now joint free le marked on joints contacts l tell =
     let k : IsKept w = kept_of w s core.whole in
     core_changed w x s t old new core is was now (record {
       bodies = marked;
       pairs = subst (λ (js : List (Option BodyJoint)). HaveSamePairs new.marks w.plain.joints js) (sym joints) (joint_comes new.marks w.plain.joints slot j free le (end_marked new.marks w.plain.bodies j joint k.matched.few (inl on)));
       keys = numbers_stay new.marks w.plain.contacts x.plain.contacts (ap (map number_of) contacts);
-    })
+    }) l tell
 
 some_joint : (o : Option BodyJoint) (i j : BodyJoint) → o ≡ Some i → o ≡ Some j → i ≡ j
 some_joint None i j a b = cc
 some_joint (Some k) i j a b = cc
 
-pub core_unjoined : (w x : World) (s t : Acting Constraint) (old new : Bodies) (slot : ℕ) (j : BodyJoint) → IsWorldCore w s old.marks → IsWhole x t → old.bodies ≡ w.plain.bodies → new.bodies ≡ x.plain.bodies → joint_at w.plain.joints slot ≡ Some j → AreMarked old new
-    → slice_index_or new.marks j.b true ≡ true → x.plain.joints ≡ slice_set w.plain.joints slot None → x.plain.contacts ≡ w.plain.contacts → IsWorldCore x t new.marks
-core_unjoined w x s t old new slot j core is was now at marked on joints contacts =
+pub core_unjoined : {a : Anchored} (w x : World) (s t : Acting Constraint) (old new : Bodies) (slot : ℕ) (j : BodyJoint) → IsWorldCore w s old.marks a → IsWhole x t → old.bodies ≡ w.plain.bodies → new.bodies ≡ x.plain.bodies → joint_at w.plain.joints slot ≡ Some j → AreMarked old new
+    → slice_index_or new.marks j.b true ≡ true → x.plain.joints ≡ slice_set w.plain.joints slot None → x.plain.contacts ≡ w.plain.contacts → (l : Anchored) → Tell l.holds l.lists t.ties → IsWorldCore x t new.marks l
+core_unjoined w x s t old new slot j core is was now at marked on joints contacts l tell =
     let k : IsKept w = kept_of w s core.whole in
     core_changed w x s t old new core is was now (record {
       bodies = marked;
       pairs = subst (λ (js : List (Option BodyJoint)). HaveSamePairs new.marks w.plain.joints js) (sym joints)
           (joint_goes new.marks w.plain.joints slot (λ i e. end_marked new.marks w.plain.bodies i (k.joints slot i e) k.matched.few (inr (ap (λ (l : BodyJoint). slice_index_or new.marks l.b true) (some_joint (joint_at w.plain.joints slot) i j e at) ∙ on))));
       keys = numbers_stay new.marks w.plain.contacts x.plain.contacts (ap (map number_of) contacts);
-    })
+    }) l tell
 
 -- ---- a step
 
 -- a world after a step, whose marks were taken away after its collide
 pub core_stepped : (w x : World) (s t : Acting Constraint) (cleared new : Bodies) → IsWhole w s → IsWhole x t → cleared.bodies ≡ w.plain.bodies → new.bodies ≡ x.plain.bodies → AreMarked cleared new → forbidden_pairs x.plain.joints ≡ forbidden_pairs w.plain.joints
-    → map number_of x.plain.contacts ≡ map number_of (collided_in w).now → IsWorldCore x t new.marks
-core_stepped w x s t cleared new before is was now marked pairs numbers =
+    → map number_of x.plain.contacts ≡ map number_of (collided_in w).now → (l : Anchored) → Tell l.holds l.lists t.ties → IsWorldCore x t new.marks l
+core_stepped w x s t cleared new before is was now marked pairs numbers l tell =
     let kept = kept_of w s before in record {
       whole = is;
+      anchored = tell;
       known = subst (λ (bs : List (Option Body)). AreKnown new.marks bs x.plain.joints x.plain.contacts) now
           (known_changed cleared new w.plain.joints x.plain.joints (collided_in w).now x.plain.contacts (subst AreBodies (sym was) kept.bodies) (subst AreBodies (sym now) (kept_of x t is).bodies) (pair_keys_are x.plain.bodies x.plain.contacts is.sound.formed.there)
           (record { bodies = marked; pairs = pairs_stay new.marks w.plain.joints x.plain.joints pairs; keys = numbers_stay new.marks (collided_in w).now x.plain.contacts numbers })

@@ -21,7 +21,7 @@ use Rattle.world_rules.proofs.CallLaws.{can_enable}
 use Rattle.world_rules.proofs.KeptChanges.{named_at}
 use Rattle.world_rules.proofs.KeptEnabled.{seen_disabled}
 use Rattle.world_rules.proofs.PartsLeft.{come_from, joined_slots, woken_bodies, woken_enabled, woken_from}
-use Rattle.world_rules.proofs.SlotLemmas.{below_length}
+use Rattle.solver_sets.proofs.SlotLemmas.{below_length}
 use Rattle.world_rules.proofs.SoundLaws.{IsKept}
 use Rattle.world_core.proofs.PartLaws.{kept_of}
 

@@ -15,7 +15,7 @@ use Rattle.plain_world.specs.Slots.{body_at, item_in, with_item}
 use Rattle.solver_sets.specs.Joining.{handle_at, unjoined, unjoined_all, unjoined_up}
 use Rattle.solver_sets.specs.Ties.{JointSlots}
 use Rattle.world_core_base.proofs.SolvingJoints.{bare_entry, bare_joints}
-use Rattle.world_rules.proofs.SlotLemmas.{below_length, item_at-set_none, item_at-set_other, slice_get-with, slice_get-with_own}
+use Rattle.solver_sets.proofs.SlotLemmas.{below_length, item_at-set_none, item_at-set_other, slice_get-with, slice_get-with_own}
 use Rattle.world_core.proofs.ShownLaws.{is_pair_among}
 
 -- ---- the pair of one joint

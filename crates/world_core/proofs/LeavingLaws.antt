@@ -42,7 +42,7 @@ use Rattle.world_rules.proofs.KeptChanges.{named_at}
 use Rattle.world_rules.proofs.LowerLaws.{ending_keeps, movers_come_and_go}
 use Rattle.world_rules.proofs.PartsLeft.{IsLeft, destroy_left, disable_left, ended_from, gone_from, gone_is, stirred_slots, woken_from}
 use Rattle.world_rules.proofs.QuietLaws.{SleepAlike, ended_alike}
-use Rattle.world_rules.proofs.SlotLemmas.{below_length, item_at-set_other, none_if}
+use Rattle.solver_sets.proofs.SlotLemmas.{below_length, item_at-set_other, none_if}
 use Rattle.world_rules.proofs.SoundLaws.{IsKept}
 use Rattle.world_rules.proofs.ToldLaws.{told_stays}
 use Rattle.world_core.proofs.PartLaws.{bodies_disabled, bodies_without}

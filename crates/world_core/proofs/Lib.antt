@@ -21,7 +21,11 @@ pub mod KnownLaws
 pub mod CoreLaws
 pub mod CoverLaws
 pub mod Refusals
-pub mod PickedLaws
+pub mod FewerTies
+pub mod AnchoredLaws
 pub mod GoingLaws
 pub mod TellingLaws
+pub mod SleeperLaws
+pub mod ClearedLaws
 pub mod MoverTies
+pub mod OwnJointLaws

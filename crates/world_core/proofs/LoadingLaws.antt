@@ -38,6 +38,7 @@ use Rattle.world_rules.specs.Settled.{settled_world}
 use Rattle.world_rules.specs.Sets.{acting_of}
 use Rattle.world_rules.specs.Sound.{HasBodies, IsSound}
 use Rattle.world_rules.specs.World.{World, joints_of}
+use Rattle.anchored_ties.specs.Anchors.{Anchored, Tell}
 use Rattle.world_core.specs.Inside.{IsWhole, IsWorldCore}
 use Rattle.world_core.proofs.CoreLaws.{core_all}
 
@@ -180,5 +181,5 @@ made_whole p t x sound e =
     subst (λ (w : World). IsWhole w x.acts) (sym (made_same p t x sound e)) acts
 
 -- with all its bodies marked
-pub made_core : (p : Plain) (t : Totals) (x : Parts) (marks : List Bool) → IsSound (settled_world p t) → ArePartsOf p t x → ((slot : ℕ) → slice_index_or marks slot true ≡ true) → IsWorldCore (world_by x) x.acts marks
-made_core p t x marks sound e all = core_all (world_by x) x.acts marks (made_whole p t x sound e) all
+pub made_core : (p : Plain) (t : Totals) (x : Parts) (marks : List Bool) → IsSound (settled_world p t) → ArePartsOf p t x → ((slot : ℕ) → slice_index_or marks slot true ≡ true) → (l : Anchored) → Tell l.holds l.lists x.acts.ties → IsWorldCore (world_by x) x.acts marks l
+made_core p t x marks sound e all l tell = core_all (world_by x) x.acts marks (made_whole p t x sound e) all l tell

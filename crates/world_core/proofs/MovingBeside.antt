@@ -65,42 +65,42 @@ beside_short labels bodies joints contacts slot l tied e beside =
 
 -- ---- marks
 
-marks_on : (t : Bool) (labels : Labels) (timers : List ℕ) (marks : List Bool) (slot : ℕ) (o : Option Label) → label_at labels slot ≡ o → (t ≡ true → (l : Label) → o ≡ Some l → IsShort timers slot) → HasMarked labels timers marks → HasMarked labels timers (cond t (marked_by o marks) marks)
-marks_on false labels timers marks slot o e short has = has
-marks_on true labels timers marks slot None e short has = has
-marks_on true labels timers marks slot (Some l) e short has = marks_keep labels timers marks slot (Some l) e (short refl l refl) has
+marks_on : (t : Bool) (names : List ℕ) (labels : Labels) (timers : List ℕ) (marks : List Bool) (slot : ℕ) (o : Option Label) → label_at labels slot ≡ o → (t ≡ true → (l : Label) → o ≡ Some l → IsShort timers slot) → HasMarked names labels timers marks → HasMarked names labels timers (cond t (marked_by o marks) marks)
+marks_on false names labels timers marks slot o e short has = has
+marks_on true names labels timers marks slot None e short has = has
+marks_on true names labels timers marks slot (Some l) e short has = marks_keep names labels timers marks slot (Some l) e (short refl l refl) has
 
-pair_keeps : (labels : Labels) (timers : List ℕ) (bodies : List (Option Body)) (a b : ℕ) (marks : List Bool) → (is_moving_at bodies b ≡ true → (l : Label) → label_at labels a ≡ Some l → IsShort timers a)
-    → (is_moving_at bodies a ≡ true → (l : Label) → label_at labels b ≡ Some l → IsShort timers b) → HasMarked labels timers marks → HasMarked labels timers (marked_pair labels bodies a b marks)
-pair_keeps labels timers bodies a b marks first second has =
-    marks_on (is_moving_at bodies a) labels timers (cond (is_moving_at bodies b) (marked_by (label_at labels a) marks) marks) b (label_at labels b) refl second
-    (marks_on (is_moving_at bodies b) labels timers marks a (label_at labels a) refl first has)
+pair_keeps : (names : List ℕ) (labels : Labels) (timers : List ℕ) (bodies : List (Option Body)) (a b : ℕ) (marks : List Bool) → (is_moving_at bodies b ≡ true → (l : Label) → label_at labels a ≡ Some l → IsShort timers a)
+    → (is_moving_at bodies a ≡ true → (l : Label) → label_at labels b ≡ Some l → IsShort timers b) → HasMarked names labels timers marks → HasMarked names labels timers (marked_pair labels bodies a b marks)
+pair_keeps names labels timers bodies a b marks first second has =
+    marks_on (is_moving_at bodies a) names labels timers (cond (is_moving_at bodies b) (marked_by (label_at labels a) marks) marks) b (label_at labels b) refl second
+    (marks_on (is_moving_at bodies b) names labels timers marks a (label_at labels a) refl first has)
 
-joined_keeps : (labels : Labels) (bodies : List (Option Body)) (joints : List (Option BodyJoint)) (contacts : List ContactEntry) (slot : ℕ) (o : Option BodyJoint) (marks : List Bool) → AreTied bodies labels → item_at joints slot ≡ o
-    → HasMarked labels (timers_of bodies joints contacts) marks → HasMarked labels (timers_of bodies joints contacts) (marked_joined labels bodies o marks)
-joined_keeps labels bodies joints contacts slot None marks tied e has = has
-joined_keeps labels bodies joints contacts slot (Some j) marks tied e has =
-    pair_keeps labels (timers_of bodies joints contacts) bodies j.a j.b marks
+joined_keeps : (names : List ℕ) (labels : Labels) (bodies : List (Option Body)) (joints : List (Option BodyJoint)) (contacts : List ContactEntry) (slot : ℕ) (o : Option BodyJoint) (marks : List Bool) → AreTied bodies labels → item_at joints slot ≡ o
+    → HasMarked names labels (timers_of bodies joints contacts) marks → HasMarked names labels (timers_of bodies joints contacts) (marked_joined labels bodies o marks)
+joined_keeps names labels bodies joints contacts slot None marks tied e has = has
+joined_keeps names labels bodies joints contacts slot (Some j) marks tied e has =
+    pair_keeps names labels (timers_of bodies joints contacts) bodies j.a j.b marks
     (λ h l at. beside_short labels bodies joints contacts j.a l tied at (joined_beside bodies joints contacts j.a slot j e (beside_here bodies j.a j.b h)))
     (λ h l at. beside_short labels bodies joints contacts j.b l tied at (joined_beside bodies joints contacts j.b slot j e (beside_there bodies j.a j.b h))) has
 
-touched_if : (t : Bool) (labels : Labels) (bodies : List (Option Body)) (joints : List (Option BodyJoint)) (contacts : List ContactEntry) (place : ℕ) (x : ContactEntry) (marks : List Bool) → AreTied bodies labels → slice_get contacts place ≡ Some x → touches x.contact ≡ t
-    → HasMarked labels (timers_of bodies joints contacts) marks → HasMarked labels (timers_of bodies joints contacts) (cond t (marked_pair labels bodies x.key.first.slot x.key.second.slot marks) marks)
-touched_if false labels bodies joints contacts place x marks tied e touch has = has
-touched_if true labels bodies joints contacts place x marks tied e touch has =
+touched_if : (t : Bool) (names : List ℕ) (labels : Labels) (bodies : List (Option Body)) (joints : List (Option BodyJoint)) (contacts : List ContactEntry) (place : ℕ) (x : ContactEntry) (marks : List Bool) → AreTied bodies labels → slice_get contacts place ≡ Some x → touches x.contact ≡ t
+    → HasMarked names labels (timers_of bodies joints contacts) marks → HasMarked names labels (timers_of bodies joints contacts) (cond t (marked_pair labels bodies x.key.first.slot x.key.second.slot marks) marks)
+touched_if false names labels bodies joints contacts place x marks tied e touch has = has
+touched_if true names labels bodies joints contacts place x marks tied e touch has =
     let a : ℕ = x.key.first.slot in
     let b : ℕ = x.key.second.slot in
-    pair_keeps labels (timers_of bodies joints contacts) bodies a b marks
+    pair_keeps names labels (timers_of bodies joints contacts) bodies a b marks
     (λ h l at. beside_short labels bodies joints contacts a l tied at (touched_beside bodies joints contacts a place x e touch (beside_here bodies a b h)))
     (λ h l at. beside_short labels bodies joints contacts b l tied at (touched_beside bodies joints contacts b place x e touch (beside_there bodies a b h))) has
 
-touched_keeps : (labels : Labels) (bodies : List (Option Body)) (joints : List (Option BodyJoint)) (contacts : List ContactEntry) (place : ℕ) (o : Option ContactEntry) (marks : List Bool) → AreTied bodies labels → slice_get contacts place ≡ o
-    → HasMarked labels (timers_of bodies joints contacts) marks → HasMarked labels (timers_of bodies joints contacts) (marked_touched labels bodies o marks)
-touched_keeps labels bodies joints contacts place None marks tied e has = has
-touched_keeps labels bodies joints contacts place (Some x) marks tied e has = touched_if (touches x.contact) labels bodies joints contacts place x marks tied e refl has
+touched_keeps : (names : List ℕ) (labels : Labels) (bodies : List (Option Body)) (joints : List (Option BodyJoint)) (contacts : List ContactEntry) (place : ℕ) (o : Option ContactEntry) (marks : List Bool) → AreTied bodies labels → slice_get contacts place ≡ o
+    → HasMarked names labels (timers_of bodies joints contacts) marks → HasMarked names labels (timers_of bodies joints contacts) (marked_touched labels bodies o marks)
+touched_keeps names labels bodies joints contacts place None marks tied e has = has
+touched_keeps names labels bodies joints contacts place (Some x) marks tied e has = touched_if (touches x.contact) names labels bodies joints contacts place x marks tied e refl has
 
 pub keep_marks : (labels : Labels) (bodies : List (Option Body)) (joints : List (Option BodyJoint)) (contacts : List ContactEntry) → AreTied bodies labels → KeepMarks labels bodies joints contacts (timers_of bodies joints contacts)
 keep_marks labels bodies joints contacts tied = record {
-  joined = λ slot marks has. joined_keeps labels bodies joints contacts slot (item_at joints slot) marks tied refl has;
-  touched = λ place marks has. touched_keeps labels bodies joints contacts place (slice_get contacts place) marks tied refl has;
+  joined = λ names slot marks has. joined_keeps names labels bodies joints contacts slot (item_at joints slot) marks tied refl has;
+  touched = λ names place marks has. touched_keeps names labels bodies joints contacts place (slice_get contacts place) marks tied refl has;
 }

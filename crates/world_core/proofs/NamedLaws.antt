@@ -24,7 +24,8 @@ use Rattle.plain_world.specs.Slots.{body_at}
 use Rattle.world_core.proofs.CollideLaws.{eight_at_most}
 use Rattle.world_core.specs.Named.{proxy_of, shape_at, shape_in, shape_of}
 use Rattle.world_rules.specs.Collide.{body_proxies, entry_proxies, proxies_from, proxies_of, shape_proxies}
-use Rattle.world_rules.proofs.SlotLemmas.{below_length, body_at-in}
+use Rattle.solver_sets.proofs.SlotLemmas.{below_length}
+use Rattle.world_rules.proofs.SlotLemmas.{body_at-in}
 
 abbrev named : ℕ → ℕ → ShapeId
 named slot index = record { slot = slot; index = index }

@@ -42,7 +42,8 @@ use Rattle.world_rules.proofs.KeptChanges.{named_at}
 use Rattle.world_rules.proofs.KeptJoints.{live_joint}
 use Rattle.world_rules.proofs.KeptMade.{free_slot}
 use Rattle.world_rules.proofs.PartsLeft.{IsLeft, ended_from, ended_is, ends_of, next_joint, stirred_slots, ties_at_alike, unjoined_of, woken_bodies, woken_from}
-use Rattle.world_rules.proofs.SlotLemmas.{AreBodies-set, body_at-in, lowest-free, none_if}
+use Rattle.solver_sets.proofs.SlotLemmas.{lowest-free, none_if}
+use Rattle.world_rules.proofs.SlotLemmas.{AreBodies-set, body_at-in}
 use Rattle.world_rules.proofs.KeptBodies.{disabled_is}
 use Rattle.world_rules.proofs.ToldLaws.{length_told}
 use Rattle.world_rules.proofs.SoundLaws.{IsKept, kept_sound, sound_kept}

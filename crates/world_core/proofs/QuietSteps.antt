@@ -1,23 +1,20 @@
--- A step in which nobody wakes, and one in which nobody falls asleep, tells no body anything.
+-- A step in which nobody falls asleep tells no body anything by its sleep phase.
 use Rattle.std.proofs.Common.{◌≡◌, ◌≢◌, ℕ, zero, suc, ◌+◌, ◌<◌, ◌≤◌, ◌&&◌, Bool, true, false, not, cond, is_some, All, List, [], ◌∷◌, length, Option, Some, None, inl, inr, refl, sym, ap, ◌∙◌, subst, arith}
-use Rattle.std.specs.Prelude.{◌==◌, Contains, nat_lt, replicate, slice_get, slice_set}
+use Rattle.std.specs.Prelude.{◌==◌, Contains, nat_lt, slice_get, slice_set}
 use Rattle.std.specs.List.{AllWithin}
 use Rattle.std.specs.Option.{is_none}
-use Rattle.std.proofs.lemmas.Bool.{cases_eq, eq-eqb, lt-leb}
+use Rattle.std.proofs.lemmas.Bool.{cases_eq, eq-eqb, false≢true, lt-leb}
 use Rattle.std.proofs.lemmas.Grind.{common_steps}
-use Rattle.std.proofs.lemmas.List.Elements.{All-contains, All-from_all_within, All-head, All-tail, All-weaker}
+use Rattle.std.proofs.lemmas.List.Elements.{All-contains, All-from_all_within}
 use Rattle.body_handles.specs.declared.places.Place.{Place}
 use Rattle.colour_solver.specs.States.{places_from}
 use Rattle.contacts.specs.Constraints.{constraint_number}
 use Rattle.contacts.specs.declared.constraint.Constraint.{Constraint}
 use Rattle.contacts_base.specs.declared.contact.ContactEntry.{ContactEntry}
-use Rattle.graph_colours.specs.declared.member.Member.{Member}
-use Rattle.graph_colours.specs.declared.member.Movers.{Movers}
 use Rattle.islands.specs.declared.label.IslandState.{IslandState}
 use Rattle.islands.specs.declared.label.IslandState.TheVariants.{Whole, Loose, Asleep}
 use Rattle.islands.specs.declared.label.Label.{Label}
 use Rattle.islands.specs.Labels.{Labels, is_asleep, is_in, is_loose, label_at}
-use Rattle.islands.specs.Partition.{IsPartition}
 use Rattle.islands.proofs.JoinLemmas.{contains_head, contains_tail}
 use Rattle.plain_world.specs.declared.body.Body.{Body}
 use Rattle.plain_world.specs.declared.joint.BodyJoint.{BodyJoint}
@@ -27,92 +24,23 @@ use Rattle.plain_world.specs.Sleep.{sleeping_name, timed_bodies, told}
 use Rattle.plain_world.specs.Slots.{body_at}
 use Rattle.sleep_wake.specs.Acting.{Acting, IsSettled, are_awake, awake_label}
 use Rattle.sleep_wake.specs.Acting as acting
-use Rattle.sleep_wake.specs.Changes.{AreChanges, begun, changed, ended, parted, turned, united}
 use Rattle.sleep_wake.specs.SleepPhase.{all_put_to_rest, is_due, is_island, is_ready, least_timer, lesser, longest_at_rest, may_be_due, picked_to_split, ready, ready_from, ready_put_to_rest, sleep_phase, split_picked, ticks_to_sleep}
 use Rattle.sleep_wake.specs.Sleeping.{rested_at, slept_at, slept_by, split_if_loose}
-use Rattle.sleep_wake.specs.Waking.{movers_woken, second_woken, set_woken, woken_at, woken_by}
-use Rattle.sleep_wake.specs.declared.change.Change.{Change}
-use Rattle.sleep_wake.specs.declared.change.Change.TheVariants.{Begin, End}
-use Rattle.sleep_wake.proofs.AwakeLemmas.{and_is, parted_awake, same_awake, united_awake}
-use Rattle.sleep_wake.proofs.FoldLemmas.{are_up, change_next}
-use Rattle.sleep_wake.proofs.PhaseLemmas.{not_is}
+use Rattle.sleep_wake.proofs.AwakeLemmas.{and_is}
 use Rattle.solver_sets.specs.Beside.{is_beside_moving, timer_if, timers_from, timers_of}
-use Rattle.solver_sets.specs.Slept.{handles_where, is_asleep_in, is_asleep_label, newly_asleep, newly_awake, sleeps, was_asleep}
+use Rattle.solver_sets.specs.Slept.{handles_where, is_asleep_in, is_asleep_label, newly_asleep, sleeps, was_asleep}
 use Rattle.solver_sets.specs.Tied.{AreTied}
 use Rattle.solver_sets.specs.Ties.{is_mover_in}
 use Rattle.world_rules.specs.Apply.{rested_acting}
 use Rattle.world_rules.specs.Sound.{AreTold}
 use Rattle.world_rules.proofs.ActingLaws.{awake_name}
 use Rattle.world_rules.proofs.ChangeLemmas.{tied_alike}
-use Rattle.world_rules.proofs.LowerLaws.{beginning_keeps, ending_keeps}
-use Rattle.world_rules.proofs.QuietLaws.{SleepAlike, begun_alike, ended_alike, told_by_alike}
 use Rattle.world_rules.proofs.SlotLemmas.{body_at-in}
 use Rattle.world_rules.proofs.TickedLaws.{timed_alike, timed_are_bodies, timed_told}
 use Rattle.world_rules.proofs.ToldLaws.{told_stays}
-use Rattle.world_core.specs.Quiet.{AreBusy, AreKeptUp, AreUp, HasMarked, IsShort, IsUp, TellShort, is_marked_in, is_open_by, is_short_in, marked_by, movers_in}
+use Rattle.world_core.specs.Quiet.{AreBusy, AreCleared, AreKeptUp, HasMarked, IsShort, TellShort, is_marked_in, is_open_by, is_short_in, marked_by}
 
--- ---- movers that are awake aren't woken
-
-by_label : (o : Option Label) (s : Acting Constraint) → awake_label o ≡ true → woken_by constraint_number o s ≡ s
-by_label None s h = refl
-by_label (Some l) s h = ap (λ (t : Bool). cond t (set_woken constraint_number l.name s) s) (not_is (is_asleep l.state) h)
-
-by_slot : (slot : ℕ) (s : Acting Constraint) → acting.is_awake s.labels slot ≡ true → woken_at constraint_number slot s ≡ s
-unfolding woken_at
-by_slot slot s h = by_label (label_at s.labels slot) s h
-
-by_second : (first : ℕ) (o : Option ℕ) (s : Acting Constraint) → acting.is_awake s.labels first ≡ true → ((b : ℕ) → o ≡ Some b → acting.is_awake s.labels b ≡ true) → second_woken constraint_number o (woken_at constraint_number first s) ≡ s
-by_second first None s h k = by_slot first s h
-by_second first (Some b) s h k = ap (woken_at constraint_number b) (by_slot first s h) ∙ by_slot b s (k b refl)
-
-by_movers : (m : Movers) (s : Acting Constraint) → are_awake s.labels m ≡ true → movers_woken constraint_number m s ≡ s
-by_movers m s h = let up = are_up s.labels m h in by_second m.first m.second s up.first up.second
-
--- ---- a constraint that begins or ends while its movers are awake
-
-begun_up : (m : Member Constraint) (s : Acting Constraint) (x : Change Constraint) → IsPartition s.labels → are_awake s.labels m.movers ≡ true → IsUp s.labels x → IsUp (begun constraint_number m s).labels x
-unfolding begun
-begun_up m s x p h up =
-    let u = are_up s.labels m.movers h in
-    let same : (t : ℕ) → acting.is_awake (united m.movers.second m.movers.first s.labels) t ≡ acting.is_awake s.labels t = λ t. united_awake s.labels m.movers.first t m.movers.second p u.movers.first u.movers.second u.first u.second in
-    same_awake s.labels (united m.movers.second m.movers.first s.labels) (movers_in x).first (movers_in x).second (same (movers_in x).first) (λ b e. same b) ∙ up
-
-ended_up : (m : Member Constraint) (s : Acting Constraint) (x : Change Constraint) → IsPartition s.labels → are_awake s.labels m.movers ≡ true → IsUp s.labels x → IsUp (ended constraint_number m s).labels x
-unfolding ended
-ended_up m s x p h up =
-    let u = are_up s.labels m.movers h in
-    let same : (t : ℕ) → acting.is_awake (parted m.movers.second m.movers.first s.labels) t ≡ acting.is_awake s.labels t = λ t. parted_awake s.labels m.movers.first t m.movers.second p u.first in
-    same_awake s.labels (parted m.movers.second m.movers.first s.labels) (movers_in x).first (movers_in x).second (same (movers_in x).first) (λ b e. same b) ∙ up
-
--- the same sleep as before, and who was awake is so
-record ChangesQuietly (s new : Acting Constraint) : Type 0 where
-  settled : IsSettled constraint_number new
-  alike : SleepAlike s.labels new.labels
-  up : (x : Change Constraint) → IsUp s.labels x → IsUp new.labels x
-
-change_quietly : (c : Change Constraint) (cs : List (Change Constraint)) (s : Acting Constraint) (old : Labels) → IsSettled constraint_number s → AreChanges constraint_number old s.ties (c ∷ cs) → IsUp s.labels c → ChangesQuietly s (changed constraint_number c s)
-change_quietly (Begin m) cs s old w can up =
-    subst (λ (a : Acting Constraint). ChangesQuietly s (begun constraint_number m a)) (sym (by_movers m.movers s up)) (record {
-      settled = beginning_keeps s m w can.0 up;
-      alike = begun_alike m s w.islands.partition up;
-      up = λ x h. begun_up m s x w.islands.partition up h;
-    })
-change_quietly (End m) cs s old w can up =
-    subst (λ (a : Acting Constraint). ChangesQuietly s (ended constraint_number m a)) (sym (by_movers m.movers s up)) (record {
-      settled = ending_keeps s m w can.0 (are_up s.labels m.movers up).first;
-      alike = ended_alike m s w.islands.partition up;
-      up = λ x h. ended_up m s x w.islands.partition up h;
-    })
-
-turned_alike : (changes : List (Change Constraint)) (s : Acting Constraint) (old : Labels) → IsSettled constraint_number s → AreChanges constraint_number old s.ties changes → AreUp s.labels changes → SleepAlike s.labels (turned constraint_number changes s).labels
-turned_alike [] s old w can up k = refl
-turned_alike (c ∷ cs) s old w can up k =
-    let now : Acting Constraint = changed constraint_number c s in
-    let one : ChangesQuietly s now = change_quietly c cs s old w can (All-head (IsUp s.labels) c cs up) in
-    let rest : AreUp now.labels cs = All-weaker (IsUp s.labels) (IsUp now.labels) one.up cs (All-tail (IsUp s.labels) c cs up) in
-    turned_alike cs now old one.settled (change_next constraint_number old s c cs can) rest k ∙ one.alike k
-
--- ---- who is newly awake or newly asleep
+-- ---- who is newly asleep
 
 none_where : (test : ℕ → Bool) (n : ℕ) (places : List Place) → ((s : ℕ) → test s ≡ false) → handles_where test n places ≡ []
 none_where test n [] h = refl
@@ -131,34 +59,11 @@ not_both : (t : Bool) → (t && not t) ≡ false
 not_both true = refl
 not_both false = refl
 
--- a body that sleeps as its label tells hasn't woken
-woken_not : (o : Option Body) (l : Option Label) → ((b : Body) → o ≡ Some b → b.asleep ≡ sleeping_name l) → (is_asleep_in o && not (is_asleep_label l)) ≡ false
-woken_not None l h = refl
-woken_not (Some b) l h = ap (λ (t : Bool). t && not (is_asleep_label l)) (ap (λ (a : Option ℕ). is_some a) (h b refl) ∙ name_tells l) ∙ not_both (is_asleep_label l)
-
--- nor has one fallen asleep
+-- a body that sleeps just as its label tells hasn't fallen asleep
 asleep_not : (o : Option Body) (l : Option Label) → is_some l ≡ is_mover_in o → ((b : Body) → o ≡ Some b → b.asleep ≡ sleeping_name l) → (is_asleep_label l && not (is_asleep_in o)) ≡ false
 asleep_not None None tied h = refl
 asleep_not None (Some l) tied h = cc
 asleep_not (Some b) l tied h = ap (λ (t : Bool). is_asleep_label l && not t) (ap (λ (a : Option ℕ). is_some a) (h b refl) ∙ name_tells l) ∙ not_both (is_asleep_label l)
-
--- ---- constraints that begin and end, and wake nobody
-
--- what they leave: the bodies are told already, and nobody is newly awake
-pub record TurnsQuietly (os : List (Option Body)) (places : List Place) (s new : Acting Constraint) : Type 0 where
-  pub bodies : os ≡ told new.labels os
-  pub woke : [] ≡ newly_awake places os new.labels
-
-pub turns_quietly : (os : List (Option Body)) (places : List Place) (s : Acting Constraint) (changes : List (Change Constraint)) → AreBodies os → AreTold os s.labels → IsSettled constraint_number s → AreChanges constraint_number s.labels s.ties changes
-    → AreUp s.labels changes → TurnsQuietly os places s (turned constraint_number changes s)
-unfolding newly_awake
-turns_quietly os places s changes all are settled can up =
-    let new : Acting Constraint = turned constraint_number changes s in
-    let alike : SleepAlike s.labels new.labels = turned_alike changes s s.labels settled can up in
-    record {
-      bodies = sym (told_by_alike s.labels new.labels os alike ∙ told_stays s.labels os all are);
-      woke = sym (none_where (λ slot. was_asleep os slot && not (sleeps new.labels slot)) 0 places (λ slot. woken_not (body_at os slot) (label_at new.labels slot) (λ b at. are slot b at ∙ sym (alike slot))));
-    }
 
 -- ---- timers
 
@@ -320,13 +225,8 @@ busy_all bodies awake k e done all slot b at up =
 pub tell_short : (bodies : List (Option Body)) (joints : List (Option BodyJoint)) (contacts : List ContactEntry) → TellShort bodies (timers_of bodies joints contacts)
 tell_short bodies joints contacts slot b at short = own_short bodies joints contacts slot b at short
 
-none_marked : (n name : ℕ) → is_marked_in (slice_get (replicate n false) name) ≡ true → ⊥
-none_marked zero name h = cc
-none_marked (suc n) zero h = cc
-none_marked (suc n) (suc name) h = none_marked n name h
-
-pub marked_first : (labels : Labels) (timers : List ℕ) (n : ℕ) → HasMarked labels timers (replicate n false)
-marked_first labels timers n name h = absurd (none_marked n name h)
+pub marked_first : (names : List ℕ) (labels : Labels) (timers : List ℕ) (marks : List Bool) → AreCleared names marks → HasMarked names labels timers marks
+marked_first names labels timers marks none name listed h = absurd (false≢true (sym (none name listed) ∙ h))
 
 other_set : (marks : List Bool) (slot name : ℕ) → name ≢ slot → slice_get (slice_set marks slot true) name ≡ slice_get marks name
 other_set [] slot name off = refl
@@ -335,25 +235,25 @@ other_set (t ∷ marks) zero (suc name) off = refl
 other_set (t ∷ marks) (suc slot) zero off = refl
 other_set (t ∷ marks) (suc slot) (suc name) off = other_set marks slot name (λ e. off (ap suc e))
 
-pub marks_keep : (labels : Labels) (timers : List ℕ) (marks : List Bool) (slot : ℕ) (o : Option Label) → label_at labels slot ≡ o → IsShort timers slot → HasMarked labels timers marks → HasMarked labels timers (marked_by o marks)
-marks_keep labels timers marks slot None e short has name h = has name h
-marks_keep labels timers marks slot (Some l) e short has name h = elim (cases_eq name l.name) [
+pub marks_keep : (names : List ℕ) (labels : Labels) (timers : List ℕ) (marks : List Bool) (slot : ℕ) (o : Option Label) → label_at labels slot ≡ o → IsShort timers slot → HasMarked names labels timers marks → HasMarked names labels timers (marked_by o marks)
+marks_keep names labels timers marks slot None e short has name listed h = has name listed h
+marks_keep names labels timers marks slot (Some l) e short has name listed h = elim (cases_eq name l.name) [
   | inl same ↦ (slot, ap (λ (o : Option Label). is_in o name) e ∙ eq-eqb l.name name (sym same), short)
-  | inr off ↦ has name (ap is_marked_in (sym (other_set marks l.name name off)) ∙ h)
+  | inr off ↦ has name listed (ap is_marked_in (sym (other_set marks l.name name off)) ∙ h)
 ]
 
-marks_if : (t : Bool) (labels : Labels) (timers : List ℕ) (marks : List Bool) (slot : ℕ) → (t ≡ true → IsShort timers slot) → HasMarked labels timers marks → HasMarked labels timers (cond t (marked_by (label_at labels slot) marks) marks)
-marks_if true labels timers marks slot short has = marks_keep labels timers marks slot (label_at labels slot) refl (short refl) has
-marks_if false labels timers marks slot short has = has
+marks_if : (t : Bool) (names : List ℕ) (labels : Labels) (timers : List ℕ) (marks : List Bool) (slot : ℕ) → (t ≡ true → IsShort timers slot) → HasMarked names labels timers marks → HasMarked names labels timers (cond t (marked_by (label_at labels slot) marks) marks)
+marks_if true names labels timers marks slot short has = marks_keep names labels timers marks slot (label_at labels slot) refl (short refl) has
+marks_if false names labels timers marks slot short has = has
 
 short_in : (o : Option Body) → is_short_in o ≡ true → (b : Body) × (o ≡ Some b) × (b.timer < ticks_to_sleep)
 short_in None h = cc
 short_in (Some b) h = (b, refl, grind (arith, common_steps))
 
-pub marked_more : (labels : Labels) (timers : List ℕ) (bodies : List (Option Body)) (marks new : List Bool) (slot : ℕ) → TellShort bodies timers → HasMarked labels timers marks
-    → new ≡ cond (is_short_in (body_at bodies slot)) (marked_by (label_at labels slot) marks) marks → HasMarked labels timers new
-marked_more labels timers bodies marks new slot tell has e =
-    subst (HasMarked labels timers) (sym e) (marks_if (is_short_in (body_at bodies slot)) labels timers marks slot (λ h. let it = short_in (body_at bodies slot) h in tell slot it.0 it.1 it.2) has)
+pub marked_more : (names : List ℕ) (labels : Labels) (timers : List ℕ) (bodies : List (Option Body)) (marks new : List Bool) (slot : ℕ) → TellShort bodies timers → HasMarked names labels timers marks
+    → new ≡ cond (is_short_in (body_at bodies slot)) (marked_by (label_at labels slot) marks) marks → HasMarked names labels timers new
+marked_more names labels timers bodies marks new slot tell has e =
+    subst (HasMarked names labels timers) (sym e) (marks_if (is_short_in (body_at bodies slot)) names labels timers marks slot (λ h. let it = short_in (body_at bodies slot) h in tell slot it.0 it.1 it.2) has)
 
 not_open : (o : Option Label) (slot : ℕ) (marked : Bool) → awake_label o ≡ true → is_in o slot ≡ true → is_open_by o slot marked ≡ false → marked ≡ true
 not_open None slot marked up own h = cc
@@ -365,14 +265,14 @@ not_open (Some l) slot false up own h = let open_now : (l.name == slot) ≡ fals
     with_true false = refl
 
 -- where each awake island is marked, each has a mover that keeps it from being ready
-pub marked_keep_up : (labels : Labels) (bodies : List (Option Body)) (awake : List ℕ) (timers : List ℕ) (marks : List Bool) → awake ≡ places_from is_awake_in 0 bodies → AreTied bodies labels → AreTold bodies labels → HasMarked labels timers marks
+pub marked_keep_up : (labels : Labels) (bodies : List (Option Body)) (awake : List ℕ) (timers : List ℕ) (marks : List Bool) → awake ≡ places_from is_awake_in 0 bodies → AreTied bodies labels → AreTold bodies labels → HasMarked awake labels timers marks
     → AllWithin (λ slot. is_open_by (label_at labels slot) slot (is_marked_in (slice_get marks slot)) ≡ false) awake 0 (length awake) → AreKeptUp labels timers
 marked_keep_up labels bodies awake timers marks e tied are has all name up own =
     let it : IsUpAt bodies name = up_at labels bodies name tied are up in
     let listed : Contains awake name = subst (λ (l : List ℕ). Contains l name) (sym e) (place_there is_awake_in bodies 0 name name (Some it.body) (omega arith) (body_at-in bodies name it.body it.there) it.up) in
     let P : ℕ → Type 0 = λ slot. is_open_by (label_at labels slot) slot (is_marked_in (slice_get marks slot)) ≡ false in
     let shut : P name = All-contains P awake name (All-from_all_within P awake all) listed in
-    has name (not_open (label_at labels name) name (is_marked_in (slice_get marks name)) up own shut)
+    has name listed (not_open (label_at labels name) name (is_marked_in (slice_get marks name)) up own shut)
 
 -- ---- a sleep phase in which no island is ready
 

@@ -22,6 +22,7 @@ use Rattle.world_core_base.specs.Gather.{states_of}
 use Rattle.world_core_base.specs.RowColours.{HasBoth, HasItsMovers, HasMovers, JointHasMovers}
 use Rattle.world_core_base.proofs.RowColourLaws.{colour_rows_apart}
 use Rattle.world_core.specs.RowColours.{ColouredRowsAreColours}
+use Rattle.world_rules.proofs.GatherLaws.{in_each}
 
 -- what is awake is a mover
 awake_moves : (t u : Bool) → cond t u false ≡ true → t ≡ true
@@ -70,28 +71,6 @@ has_movers bodies s m (Joint h) e = by (joint_at s.joints h.slot) e
     by : (o : Option BodyJoint) → movers_in bodies o ≡ Some m → JointHasMovers (states_of bodies) m o
     by None e = tt
     by (Some j) e = both_among bodies j.a j.b m e
-
--- what holds of all elements of lists that are joined holds of each list's
-get_or-front : {X : Type 0} (xs ys : List X) (k : ℕ) (d : X) → k < length xs → get_or (xs ++ ys) k d ≡ get_or xs k d
-get_or-front [] ys k d h = absurd (omega (arith, h))
-get_or-front (x ∷ xs) ys zero d h = refl
-get_or-front (x ∷ xs) ys (suc k) d h = get_or-front xs ys k d (omega (arith, h))
-
-get_or-behind : {X : Type 0} (xs ys : List X) (k : ℕ) (d : X) → get_or (xs ++ ys) (length xs + k) d ≡ get_or ys k d
-get_or-behind [] ys k d = ap (λ (n : ℕ). get_or ys n d) (let same : 0 + k ≡ k = omega arith in same)
-get_or-behind (x ∷ xs) ys k d = ap (λ (n : ℕ). get_or (x ∷ (xs ++ ys)) n d) (let same : suc (length xs) + k ≡ suc (length xs + k) = omega arith in same) ∙ get_or-behind xs ys k d
-
-each_first : {X : Type 0} (P : X → Type 0) (xs : List X) (lists : List (List X)) → All P xs → All (All P) lists → All (All P) (xs ∷ lists)
-each_first P xs lists here rest zero d lt = here
-each_first P xs lists here rest (suc k) d lt = rest k d (omega (arith, lt))
-
-in_each : {X : Type 0} (P : X → Type 0) (lists : List (List X)) → All P (flat_map (λ (xs : List X). xs) lists) → All (All P) lists
-in_each P [] all = λ k d lt. absurd (omega (arith, lt))
-in_each {X} P (xs ∷ lists) all =
-    let rest : List X = flat_map (λ (ys : List X). ys) lists in
-    let long : length (xs ++ rest) ≡ length xs + length rest = length-append xs rest in
-    each_first P xs lists (λ k d lt. subst P (get_or-front xs rest k d lt) (all k d (omega (arith, lt, long))))
-    (in_each P lists (λ k d lt. subst P (get_or-behind xs rest k d) (all (length xs + k) d (omega (arith, lt, long)))))
 
 pub coloured_rows : ColouredRowsAreColours
 coloured_rows bodies s contacts lists colour coloured lt =

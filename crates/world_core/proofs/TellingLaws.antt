@@ -1,10 +1,10 @@
 -- Which bodies are to be told: labels change in few islands, and whoever sleeps as before stays as it is.
-use Rattle.std.proofs.Common.{◌≡◌, ◌≢◌, ℕ, zero, suc, ◌+◌, ◌<◌, ◌≤◌, ◌==◌, ◌&&◌, ◌||◌, Bool, true, false, not, cond, is_some, List, [], ◌∷◌, ◌++◌, length, map, drop, get_or, Option, Some, None, inl, inr, refl, sym, ap, ◌∙◌, subst, arith, add-one, eq-eqb}
+use Rattle.std.proofs.Common.{◌≡◌, ℕ, zero, suc, ◌+◌, ◌<◌, ◌≤◌, ◌==◌, ◌&&◌, ◌||◌, Bool, true, false, not, cond, is_some, List, [], ◌∷◌, ◌++◌, length, map, drop, get_or, Option, Some, None, inl, inr, refl, sym, ap, ◌∙◌, subst, arith, add-one}
 use Rattle.std.specs.Prelude.{◌↔◌, Contains, option_map}
 use Rattle.std.proofs.Math.Seq.{drop-cons}
 use Rattle.std.proofs.lemmas.Bool.{cases_eq}
 use Rattle.std.proofs.lemmas.List.{append-nil, append_assoc}
-use Rattle.std.proofs.lemmas.List.Elements.{Contains-append_left, Contains-append_right, Contains-get_or}
+use Rattle.std.proofs.lemmas.List.Elements.{Contains-append_left, Contains-append_right}
 use Rattle.body_handles.specs.declared.handle.Handle.{Handle}
 use Rattle.body_handles.specs.declared.places.Place.{Place}
 use Rattle.contacts.specs.Constraints.{constraint_number}
@@ -35,7 +35,7 @@ use Rattle.sleep_wake.specs.declared.change.Change.TheVariants.{Begin, End}
 use Rattle.sleep_wake.proofs.EdgeLemmas.{edges_inside}
 use Rattle.sleep_wake.proofs.AwakeLemmas.{and_is}
 use Rattle.sleep_wake.proofs.PhaseLemmas.{picked_is}
-use Rattle.solver_sets.specs.Slept.{handles_where, is_asleep_in, is_asleep_label, newly_asleep, newly_awake, sleeps, was_asleep}
+use Rattle.solver_sets.specs.Slept.{handles_where, is_asleep_in, is_asleep_label, newly_asleep, sleeps, was_asleep}
 use Rattle.world_core_base.specs.Telling.{AreToldBeside}
 use Rattle.world_rules.specs.Sound.{AreTold}
 use Rattle.world_rules.proofs.ToldLaws.{body_told, told_stays}
@@ -119,7 +119,7 @@ is_in_with name n state labels t = ap (λ (o : Option Label). is_in o n) (relabe
 none_of : (o : Option Label) (name : ℕ) → is_in o name ≡ false → of_either name name o ≡ false
 none_of o name h = ap (λ (t : Bool). t || t) h
 
-label_with : (name : ℕ) (state : IslandState) (labels : Labels) (t : ℕ) → is_in (label_at labels t) name ≡ false → label_at (with_state name state labels) t ≡ label_at labels t
+pub label_with : (name : ℕ) (state : IslandState) (labels : Labels) (t : ℕ) → is_in (label_at labels t) name ≡ false → label_at (with_state name state labels) t ≡ label_at labels t
 label_with name state labels t h = others_stay name name (record { name = name; state = state }) labels t (none_of (label_at labels t) name h)
 
 not_in : (o : Option Label) (name : ℕ) → (is_in o name ≡ true → ⊥) → is_in o name ≡ false
@@ -265,17 +265,13 @@ fewer_where : (test : ℕ → Bool) (n : ℕ) (places : List Place) → length (
 fewer_where test n [] = omega arith
 fewer_where test n (p ∷ places) = fewer_if (test n) (record { slot = n; generation = p.generation }) (handles_where test (suc n) places) (length places) (fewer_where test (suc n) places)
 
-pub fewer_awake : (places : List Place) (bodies : List (Option Body)) (labels : Labels) → length (newly_awake places bodies labels) ≤ length places
-unfolding newly_awake
-fewer_awake places bodies labels = fewer_where (λ slot. was_asleep bodies slot && not (sleeps labels slot)) 0 places
-
 pub fewer_asleep : (places : List Place) (bodies : List (Option Body)) (labels : Labels) → length (newly_asleep places bodies labels) ≤ length places
 unfolding newly_asleep
 fewer_asleep places bodies labels = fewer_where (λ slot. sleeps labels slot && not (was_asleep bodies slot)) 0 places
 
 -- ---- a body that is awake, and is told so
 
-name_tells : (o : Option Label) (n : Option ℕ) → sleeping_name o ≡ n → is_asleep_label o ≡ is_some n
+pub name_tells : (o : Option Label) (n : Option ℕ) → sleeping_name o ≡ n → is_asleep_label o ≡ is_some n
 name_tells None n e = ap (λ (m : Option ℕ). is_some m) e
 name_tells (Some l) n e = by_state (is_asleep l.state) ∙ ap (λ (m : Option ℕ). is_some m) e
   where
@@ -295,7 +291,7 @@ awake_stays o b e f = ap (λ (n : Option ℕ). cond (is_mover b) (told_by n b) b
 abbrev pub HaveSlept : Labels → Labels → Type 0
 HaveSlept old new = (t n : ℕ) → sleeping_name (label_at new t) ≡ Some n → label_at new t ≡ label_at old t
 
-slept_then : (old now new : Labels) → HaveSlept old now → HaveSlept now new → HaveSlept old new
+pub slept_then : (old now new : Labels) → HaveSlept old now → HaveSlept now new → HaveSlept old new
 slept_then old now new h k t n e =
     let same : label_at new t ≡ label_at now t = k t n e in
     same ∙ h t n (ap sleeping_name (sym same) ∙ e)
@@ -318,7 +314,7 @@ relabelled_slept a b to labels up t n e =
     by : (o : Option Label) → relabel a b to o ≡ relabel_by o
     by o = refl
 
-woken_slept : (s : Acting Constraint) (slot : ℕ) → HaveSlept s.labels (woken_at constraint_number slot s).labels
+pub woken_slept : (s : Acting Constraint) (slot : ℕ) → HaveSlept s.labels (woken_at constraint_number slot s).labels
 unfolding woken_at set_woken woken
 woken_slept s slot = by_label (label_at s.labels slot)
   where
@@ -362,7 +358,7 @@ unfolding loosened
 parted_slept labels first None = λ t n e. refl
 parted_slept labels first (Some second) = loosened_slept labels (label_at labels first)
 
-changed_slept : (c : Change Constraint) (s : Acting Constraint) → HaveSlept s.labels (changed constraint_number c s).labels
+pub changed_slept : (c : Change Constraint) (s : Acting Constraint) → HaveSlept s.labels (changed constraint_number c s).labels
 unfolding begun ended
 changed_slept (Begin m) s =
     let now : Acting Constraint = movers_woken constraint_number m.movers s in
@@ -382,20 +378,15 @@ is_below [] slot b e = cc
 is_below (o ∷ os) zero b e = omega arith
 is_below (o ∷ os) (suc slot) b e = let rest = is_below os slot b e in omega (arith, rest)
 
--- those who woke are all that are to be told
-pub awake_beside : (places : List Place) (bodies : List (Option Body)) (old new : Labels) → length bodies ≤ length places → told old bodies ≡ bodies → HaveSlept old new → AreToldBeside (slots_of (newly_awake places bodies new)) new bodies
-unfolding newly_awake
-awake_beside places bodies old new long e slept slot off = by_name (sleeping_name (label_at new slot)) refl (body_at bodies slot) refl
+-- where those who woke are listed, these are all that are to be told
+pub awake_beside : (movers : List ℕ) (bodies : List (Option Body)) (old new : Labels) → told old bodies ≡ bodies → HaveSlept old new → ((s : ℕ) → (was_asleep bodies s && not (sleeps new s)) ≡ true → Contains movers s) → AreToldBeside movers new bodies
+awake_beside movers bodies old new e slept all slot off = by_name (sleeping_name (label_at new slot)) refl (body_at bodies slot) refl
   where
-    test : ℕ → Bool
-    test s = was_asleep bodies s && not (sleeps new s)
-
     listed : (b : Body) (n : ℕ) → body_at bodies slot ≡ Some b → b.asleep ≡ Some n → sleeping_name (label_at new slot) ≡ None → ⊥
     listed b n at a up =
-        let below = is_below bodies slot b at in
         let was : was_asleep bodies slot ≡ true = ap is_asleep_in at ∙ ap (λ (m : Option ℕ). is_some m) a in
         let now : sleeps new slot ≡ false = name_tells (label_at new slot) None up in
-        off (listed_where test 0 places slot slot (omega arith) (omega (arith, below, long)) (λ j. was j && not (now j)))
+        off (all slot (λ j. was j && not (now j)))
 
     by_body : (b : Body) (a : Option ℕ) → b.asleep ≡ a → body_at bodies slot ≡ Some b → sleeping_name (label_at new slot) ≡ None → told_body (label_at new slot) b ≡ b
     by_body b None f at up = awake_stays (label_at new slot) b up f

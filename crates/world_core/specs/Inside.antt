@@ -1,5 +1,6 @@
 -- The world that the fields of a `WorldCore` show, and what is kept of them.
 use Rattle.std.specs.Prelude.{◌≡◌, Bool, List, Option}
+use Rattle.anchored_ties.specs.Anchors.{Anchored, Tell}
 use Rattle.contacts.specs.declared.constraint.Constraint.{Constraint}
 use Rattle.contacts.specs.Known.{IsKnown}
 use Rattle.contacts.specs.Turns.{moved_by}
@@ -32,7 +33,9 @@ pub record IsWhole (w : World) (acting : Acting Constraint) : Type 0 where
 abbrev pub AreKnown : List Bool → List (Option Body) → List (Option BodyJoint) → List ContactEntry → Type 0
 AreKnown marks bodies joints contacts = IsKnown (moved_by marks) (forbidden_pairs joints) (proxies_of bodies) contacts
 
--- what the fields of a `WorldCore` hold: the world is whole, and its contacts tell all that isn't marked
-pub record IsWorldCore (w : World) (acting : Acting Constraint) (marks : List Bool) : Type 0 where
+-- what the fields of a `WorldCore` hold: the world is whole, its contacts tell all that isn't marked, and the lists of the bodies that are no movers,
+-- where they hold, have all of their contacts
+pub record IsWorldCore (w : World) (acting : Acting Constraint) (marks : List Bool) (anchors : Anchored) : Type 0 where
   pub whole : IsWhole w acting
   pub known : AreKnown marks w.plain.bodies w.plain.joints w.plain.contacts
+  pub anchored : Tell anchors.holds anchors.lists acting.ties

@@ -1,32 +1,16 @@
--- What wakes nobody, and what puts nobody to rest.
-use Rattle.std.specs.Prelude.{◌≡◌, ℕ, ◌<◌, ◌==◌, ◌&&◌, Bool, true, false, not, cond, nat_lt, All, List, Option, Some, None, slice_get, slice_set}
-use Rattle.contacts.specs.declared.constraint.Constraint.{Constraint}
+-- What puts nobody to rest.
+use Rattle.std.specs.Prelude.{◌≡◌, ℕ, ◌<◌, ◌==◌, ◌&&◌, Bool, true, false, not, cond, nat_lt, Contains, List, Option, Some, None, slice_get, slice_set}
 use Rattle.contacts_base.specs.declared.contact.ContactEntry.{ContactEntry}
 use Rattle.contacts_base.specs.Evaluate.{touches}
-use Rattle.graph_colours.specs.declared.member.Movers.{Movers}
 use Rattle.islands.specs.declared.label.Label.{Label}
 use Rattle.islands.specs.Labels.{Labels, is_in, label_at}
 use Rattle.plain_world.specs.declared.body.Body.{Body}
 use Rattle.plain_world.specs.declared.joint.BodyJoint.{BodyJoint}
 use Rattle.plain_world.specs.Bodies.{is_awake}
 use Rattle.plain_world.specs.Slots.{body_at, item_at}
-use Rattle.sleep_wake.specs.Acting.{are_awake, awake_label}
-use Rattle.sleep_wake.specs.declared.change.Change.{Change}
-use Rattle.sleep_wake.specs.declared.change.Change.TheVariants.{Begin, End}
+use Rattle.sleep_wake.specs.Acting.{awake_label}
 use Rattle.sleep_wake.specs.SleepPhase.{may_be_due, ticks_to_sleep}
 use Rattle.solver_sets.specs.Beside.{is_moving_at}
-
--- the movers of the constraint that begins or ends
-abbrev pub movers_in : Change Constraint → Movers
-movers_in (Begin m) = m.movers
-movers_in (End m) = m.movers
-
-abbrev pub IsUp : Labels → Change Constraint → Type 0
-IsUp labels c = are_awake labels (movers_in c) ≡ true
-
--- all movers of the constraints that begin and end are awake already
-abbrev pub AreUp : Labels → List (Change Constraint) → Type 0
-AreUp labels changes = All (IsUp labels) changes
 
 -- a body is there that hasn't been slow for long enough to sleep
 abbrev pub is_short_in : Option Body → Bool
@@ -56,9 +40,13 @@ abbrev pub marked_by : Option Label → List Bool → List Bool
 marked_by None marks = marks
 marked_by (Some l) marks = slice_set marks l.name true
 
--- each island that is marked has such a mover
-abbrev pub HasMarked : Labels → List ℕ → List Bool → Type 0
-HasMarked labels timers marks = (name : ℕ) → is_marked_in (slice_get marks name) ≡ true → (m : ℕ) × (is_in (label_at labels m) name ≡ true) × IsShort timers m
+-- none of these slots is marked
+abbrev pub AreCleared : List ℕ → List Bool → Type 0
+AreCleared slots marks = (slot : ℕ) → Contains slots slot → is_marked_in (slice_get marks slot) ≡ false
+
+-- each island that is marked has such a mover, of those with these names: what other marks there are means nothing
+abbrev pub HasMarked : List ℕ → Labels → List ℕ → List Bool → Type 0
+HasMarked names labels timers marks = (name : ℕ) → Contains names name → is_marked_in (slice_get marks name) ≡ true → (m : ℕ) × (is_in (label_at labels m) name ≡ true) × IsShort timers m
 
 -- the timers of these bodies are short where theirs are
 abbrev pub TellShort : List (Option Body) → List ℕ → Type 0
@@ -88,5 +76,5 @@ marked_touched labels bodies (Some e) marks = cond (touches e.contact) (marked_p
 
 -- what joints and contacts mark has such a mover
 pub record KeepMarks (labels : Labels) (bodies : List (Option Body)) (joints : List (Option BodyJoint)) (contacts : List ContactEntry) (timers : List ℕ) : Type 0 where
-  pub joined : (slot : ℕ) (marks : List Bool) → HasMarked labels timers marks → HasMarked labels timers (marked_joined labels bodies (item_at joints slot) marks)
-  pub touched : (place : ℕ) (marks : List Bool) → HasMarked labels timers marks → HasMarked labels timers (marked_touched labels bodies (slice_get contacts place) marks)
+  pub joined : (names : List ℕ) (slot : ℕ) (marks : List Bool) → HasMarked names labels timers marks → HasMarked names labels timers (marked_joined labels bodies (item_at joints slot) marks)
+  pub touched : (names : List ℕ) (place : ℕ) (marks : List Bool) → HasMarked names labels timers marks → HasMarked names labels timers (marked_touched labels bodies (slice_get contacts place) marks)

@@ -99,7 +99,7 @@ fn mark_contact(
     key: ContactKey,
 )
     requires { AreKeysRising contacts.now }
-    ensures { (joints : List (Option BodyJoint)) (timers : List ℕ) → KeepMarks islands.now.labels bodies.now joints contacts.now timers → HasMarked islands.now.labels timers marks.old.items → HasMarked islands.now.labels timers marks.new.items }
+    ensures { (joints : List (Option BodyJoint)) (names timers : List ℕ) → KeepMarks islands.now.labels bodies.now joints contacts.now timers → HasMarked names islands.now.labels timers marks.old.items → HasMarked names islands.now.labels timers marks.new.items }
 {
     if !(is_moving_at(bodies, key.first.slot) || is_moving_at(bodies, key.second.slot)) {
         return;
@@ -119,7 +119,7 @@ fn mark_by(
     id: Constraint,
 )
     requires { AreKeysRising contacts.now }
-    ensures { (timers : List ℕ) → KeepMarks islands.now.labels bodies.now joints.now contacts.now timers → HasMarked islands.now.labels timers marks.old.items → HasMarked islands.now.labels timers marks.new.items }
+    ensures { (names timers : List ℕ) → KeepMarks islands.now.labels bodies.now joints.now contacts.now timers → HasMarked names islands.now.labels timers marks.old.items → HasMarked names islands.now.labels timers marks.new.items }
 {
     match id {
         Constraint::Joint(handle) => {
@@ -144,7 +144,7 @@ fn mark_colour(
     members: &[Member<Constraint>],
 )
     requires { AreKeysRising contacts.now }
-    ensures { (timers : List ℕ) → KeepMarks islands.now.labels bodies.now joints.now contacts.now timers → HasMarked islands.now.labels timers marks.old.items → HasMarked islands.now.labels timers marks.new.items }
+    ensures { (names timers : List ℕ) → KeepMarks islands.now.labels bodies.now joints.now contacts.now timers → HasMarked names islands.now.labels timers marks.old.items → HasMarked names islands.now.labels timers marks.new.items }
 {
     let mut hint = 0;
     for place in 0..members.len() {
@@ -170,7 +170,7 @@ pub fn mark_beside(
     colours: &Colours<Constraint>,
 )
     requires { AreKeysRising contacts.now }
-    ensures { (timers : List ℕ) → KeepMarks islands.now.labels bodies.now joints.now contacts.now timers → HasMarked islands.now.labels timers marks.old.items → HasMarked islands.now.labels timers marks.new.items }
+    ensures { (names timers : List ℕ) → KeepMarks islands.now.labels bodies.now joints.now contacts.now timers → HasMarked names islands.now.labels timers marks.old.items → HasMarked names islands.now.labels timers marks.new.items }
 {
     for colour in 0..OVERFLOW + 1 {
         mark_colour(

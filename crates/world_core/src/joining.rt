@@ -6,6 +6,7 @@ ghost use Rattle.std.specs.Result.{result_err};
 ghost use Rattle.body_handles.specs.Places.{IsLive, places_without};
 ghost use Rattle.plain_world.specs.Joints.{IsBodyJoint, is_end_in, joint_made, joint_of};
 ghost use Rattle.joint_rows.specs.Joints.{IsJoint};
+ghost use Rattle.joint_table.specs.JointTables.{own_slots};
 ghost use Rattle.plain_world.specs.Slots.{AreMatched, body_of};
 ghost use Rattle.world_rules.specs.Apply.{join_refusal};
 ghost use Rattle.solver_sets.specs.Joining.{unjoined_all, unjoined_if};
@@ -76,13 +77,14 @@ fn drop_if(handles: &mut Handles, joints: &mut JointTable, body: u32, slot: u32)
     }
 }
 
-/// The joints of the body in a slot go, in ascending order of their own slots.
-pub fn drop_joints(handles: &mut Handles, joints: &mut JointTable, body: u32)
-    requires { AreMatched handles.old.places joints.old.joints }
+/// The joints of the body in a slot go, which are in these slots, in ascending order.
+pub fn drop_joints(handles: &mut Handles, joints: &mut JointTable, body: u32, slots: &[u32])
+    requires matched { AreMatched handles.old.places joints.old.joints }
+    requires slots { slots.now ≡ own_slots body joints.old.joints }
     ensures gone { slots_of handles.new.places joints.new.joints ≡ unjoined_all body (slots_of handles.old.places joints.old.joints) }
 {
-    for slot in 0..joints.joints().len() {
-        drop_if(handles, joints, body, slot as u32);
+    for place in 0..slots.len() {
+        drop_if(handles, joints, body, slots[place]);
     }
 }
 

@@ -1,6 +1,6 @@
 //! Whether some island is ready to sleep, asked of the awake movers alone: a sleep phase, which looks at all that there is, comes only where one is.
 
-ghost use Rattle.std.specs.Prelude.{◌≡◌, ◌≤◌, ℕ, List, true, false, cond, length, replicate, slice_get, vec_capacity};
+ghost use Rattle.std.specs.Prelude.{◌≡◌, ◌≤◌, ℕ, List, true, false, cond, length, slice_get, slice_set, vec_capacity};
 ghost use Rattle.colour_solver.specs.States.{places_from};
 ghost use Rattle.contacts_base.specs.Contacts.{AreKeysRising};
 ghost use Rattle.islands.specs.Labels.{label_at};
@@ -9,7 +9,7 @@ ghost use Rattle.plain_world.specs.Slots.{body_at};
 ghost use Rattle.solver_sets.specs.Beside.{timers_of};
 ghost use Rattle.solver_sets.specs.Tied.{AreTied};
 ghost use Rattle.std.specs.List.{AllWithin};
-ghost use Rattle.world_core.specs.Quiet.{AreBusy, AreKeptUp, HasMarked, TellShort, is_marked_in, is_open_by, is_short_in, marked_by};
+ghost use Rattle.world_core.specs.Quiet.{AreBusy, AreCleared, AreKeptUp, HasMarked, TellShort, is_marked_in, is_open_by, is_short_in, marked_by};
 ghost use Rattle.world_rules.specs.Sound.{AreTold};
 
 use crate::beside::mark_beside;
@@ -43,13 +43,32 @@ fn are_busy(bodies: &[Option<Body>], awake: &[u32]) -> bool
     true
 }
 
-/// Makes a list of so many marks, none of which is set. There is room.
-fn clear_marks(marks: &mut Vec<bool>, slots: usize)
-    requires { slots ≤ vec_capacity marks.old }
-    ensures { marks.new.items ≡ replicate slots false }
+/// Takes the mark of a slot away.
+fn clear_mark(marks: &mut Vec<bool>, slot: u32)
+    ensures { marks.new.items ≡ slice_set marks.old.items slot false }
 {
-    marks.clear();
-    let _ = marks.resize(slots, false);
+    if (slot as usize) < marks.len() {
+        marks[slot as usize] = false;
+    }
+}
+
+/// Takes the marks of these slots away. Those of all others stay.
+fn clear_marks(marks: &mut Vec<bool>, awake: &[u32])
+    ensures { AreCleared awake.now marks.new.items }
+{
+    for place in 0..awake.len() {
+        clear_mark(marks, awake[place]);
+    }
+}
+
+/// Makes the list of marks so long, if it is shorter. There is room.
+fn lengthen(marks: &mut Vec<bool>, slots: usize)
+    requires { slots ≤ vec_capacity marks.old }
+    ensures { slots ≤ length marks.new.items }
+{
+    if marks.len() < slots {
+        let _ = marks.resize(slots, false);
+    }
 }
 
 /// Marks the island of the mover in a slot, at the slot that names it.
@@ -74,7 +93,7 @@ fn mark_if_short(marks: &mut Vec<bool>, islands: &Islands, bodies: &[Option<Body
 
 /// Marks each island with an awake mover that hasn't been slow for long enough to sleep.
 fn mark_all(marks: &mut Vec<bool>, islands: &Islands, bodies: &[Option<Body>], awake: &[u32])
-    ensures { (timers : List ℕ) → TellShort bodies.now timers → HasMarked islands.now.labels timers marks.old.items → HasMarked islands.now.labels timers marks.new.items }
+    ensures { (names timers : List ℕ) → TellShort bodies.now timers → HasMarked names islands.now.labels timers marks.old.items → HasMarked names islands.now.labels timers marks.new.items }
 {
     for place in 0..awake.len() {
         mark_if_short(marks, islands, bodies, awake[place]);
@@ -132,7 +151,8 @@ pub fn are_kept_up(
     if are_busy(bodies, awake) {
         return true;
     }
-    clear_marks(marks, bodies.len());
+    lengthen(marks, bodies.len());
+    clear_marks(marks, awake);
     mark_all(marks, islands, bodies, awake);
     mark_beside(marks, islands, bodies, joints, contacts, colours);
     are_marked(marks, islands, awake)

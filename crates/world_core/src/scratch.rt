@@ -74,19 +74,19 @@ impl Scratch {
         }
     }
 
-    /// Makes room in each list for so many slots, and empties all but that of the timers: of these a step writes down the awake movers', and what else
-    /// is in the list means nothing. Refused 1 where memory is wanting.
-    pub fn make_room(&mut self, slots: usize) -> Result<(), Refusal>
+    /// Makes room for so many slots in each list but that of those who woke, who are so many at most. Timers and marks stay: of these a step writes down
+    /// the awake movers', and what else is in the two lists means nothing. Refused 1 where memory is wanting.
+    pub fn make_room(&mut self, slots: usize, woke: usize) -> Result<(), Refusal>
         ensures timers { OnOk result (slots ≤ vec_capacity self.new.timers) }
         ensures marks { OnOk result (slots ≤ vec_capacity self.new.marks) }
-        ensures woke { OnOk result (slots ≤ vec_capacity self.new.woke) }
+        ensures woke { OnOk result (woke ≤ vec_capacity self.new.woke) }
         ensures slept { OnOk result (slots ≤ vec_capacity self.new.slept) }
         ensures slots { OnOk result (slots ≤ vec_capacity self.new.slots) }
         ensures memory_only { IsOkUnless result Refusal.NoMemory }
     {
         keep_room(&mut self.timers, slots)?;
-        make_room(&mut self.marks, slots)?;
-        make_room(&mut self.woke, slots)?;
+        keep_room(&mut self.marks, slots)?;
+        make_room(&mut self.woke, woke)?;
         make_room(&mut self.slept, slots)?;
         make_room(&mut self.slots, slots)
     }

@@ -22,6 +22,7 @@ ghost use Rattle.world_rules.specs.Apply.{Answers, IsMade, empty_world, gravity_
 use crate::copying::copy_ids;
 use crate::frame::{Frame, show_bodies};
 use crate::scratch::Scratch;
+use anchored_ties::Anchors;
 use body_handles::{Handle, Handles, Place};
 use box_tree::BoxTree;
 use colour_solver::Rows;
@@ -60,6 +61,8 @@ pub struct WorldCore {
     contacts: KeptContacts,
     // The constraints, the islands of their movers, and the colours of those that act.
     sets: Sets<Constraint>,
+    // Of the constraints the contacts of each body that is no mover.
+    anchors: Anchors,
     // The rows of a step by colour, and their memory, which is kept from step to step.
     rows: Rows,
     // Lists that a step fills, whose memory is kept from step to step.
@@ -80,7 +83,7 @@ impl Model for WorldCore {
 
     ghost view = { λ a. world_of a };
 
-    ghost invariant = { λ a. IsWorldCore (world_of a) a.sets.acting a.bodies.marks };
+    ghost invariant = { λ a. IsWorldCore (world_of a) a.sets.acting a.bodies.marks a.anchors };
 }
 
 impl WorldCore {
@@ -100,6 +103,7 @@ impl WorldCore {
             joints: JointTable::new(alloc),
             contacts: KeptContacts::new(alloc),
             sets: Sets::new(alloc)?,
+            anchors: Anchors::new(alloc),
             rows: Rows::new(alloc),
             scratch: Scratch::new(alloc),
             gravity,
@@ -129,6 +133,7 @@ impl WorldCore {
             calls: self.calls,
             ledger: self.ledger.try_copy()?,
             events: self.events.try_copy()?,
+            anchors: Anchors::new(self.bodies.allocator()),
         })
     }
 

@@ -5,6 +5,7 @@ use Rattle.box_tree.specs.contracts.boxes.BoxTree as BoxTree
 use Rattle.world_core_base.specs.contracts.table.BodyTable as BodyTable
 use Rattle.body_handles.specs.contracts.handles.Handles as Handles
 use Rattle.joint_table.specs.contracts.table.JointTable as JointTable
+use Rattle.anchored_ties.specs.contracts.anchors.Anchors as Anchors
 use Rattle.kept_contacts.specs.contracts.kept.KeptContacts as KeptContacts
 use Rattle.colour_solver.specs.contracts.colour_rows.Rows as Rows
 use Rattle.impulse_ledger.specs.contracts.ledger.Ledger as Ledger
@@ -40,6 +41,9 @@ joints_send = search (crosses, sendable) depth 60 fits 60000
 contacts_send : IsSend KeptContacts.the_row
 contacts_send = search (crosses, sendable) depth 60 fits 60000
 
+anchors_send : IsSend Anchors.the_row
+anchors_send = search (crosses, sendable) depth 60 fits 60000
+
 rows_send : IsSend Rows.the_row
 rows_send = search (crosses, sendable) depth 60 fits 60000
 
@@ -72,7 +76,7 @@ module _ (C : RattleType) (g : Ghosts C.Denot) (s : IsSend C) where
   sets_send = search (list_send, edited_send, islands_send, splits_send, crosses, sendable) depth 60 fits 60000
 
 pub world_send : IsSend World.the_row
-world_send = search (sets_send, constraint_send, table_send, handles_send, joints_send, contacts_send, rows_send, ledger_send, events_send, crosses, sendable) depth 60 fits 60000
+world_send = search (sets_send, constraint_send, table_send, handles_send, joints_send, contacts_send, anchors_send, rows_send, ledger_send, events_send, crosses, sendable) depth 60 fits 60000
 
 command_send : IsSend Command.the_row
 command_send = search (crosses, sendable) depth 60 fits 60000

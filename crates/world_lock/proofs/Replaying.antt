@@ -2,7 +2,7 @@
 use Rattle.std.proofs.Common.{◌≡◌, ◌+◌, ◌^◌, ◌≤◌, List, [], ◌∷◌, ◌++◌, length, take, drop, Result, Ok, Err, refl, sym, ap, ◌∙◌, subst, arith, append_assoc, length-append, inl, inr, ◌⊎◌}
 use Rattle.std.specs.Prelude.{MatchResult, unwrap_or}
 use Rattle.std.proofs.Math.Seq.{drop-append_seam}
-use Rattle.std.proofs.lemmas.List.{append-nil, map-append, take-append-le}
+use Rattle.std.proofs.lemmas.List.{append-nil, map-append, take-append-le, take_all}
 use Rattle.fixed_geom.specs.Vectors.{IsWithin}
 use Rattle.fixed_geom.specs.declared.refusal.Refusal.{Refusal}
 use Rattle.fixed_geom.specs.declared.refusal.Refusal.TheVariants.{NoMemory}
@@ -19,7 +19,7 @@ use Rattle.world_rules.specs.Apply.{Answers, Applied, apply, world_with}
 use Rattle.world_rules.specs.Replay.{after, after_one, answer_of, answers_to, replay}
 use Rattle.world_rules.specs.Laws.{EachCallCounts, PushesAreSmall, impulse_of}
 use Rattle.world_rules.specs.Sound.{IsSound}
-use Rattle.world_lock.specs.Journals.{Beginning, IsJournalled, IsLegal, IsLike, Journalled, KeepsHeadline, Line, booked_by, command_of, commands_of, entries_of, left_by, opening_of, replies_of, reply_of}
+use Rattle.world_lock.specs.Journals.{Beginning, IsJournalled, IsLegal, IsLike, Journalled, KeepsHeadline, Line, beginning_at, booked_by, command_of, commands_of, entries_of, left_by, opening_of, replies_of, reply_of}
 
 -- ---- one answer
 
@@ -127,3 +127,14 @@ pub booked_since : (j : Journalled) → KeepsHeadline j → drop (length j.openi
 booked_since j h =
     let all : j.world.entries ≡ j.opening.entries ++ booked_by j.opening (commands_of j.journal) = ap (λ (w : World). w.entries) h.replay ∙ booked j.opening (commands_of j.journal) in
     ap (drop (length j.opening.entries)) all ∙ drop-append_seam j.opening.entries (booked_by j.opening (commands_of j.journal))
+
+-- a journal that begins now
+pub begun : (w : World) → IsSound w → IsJournalled (beginning_at w) w []
+begun w sound =
+    let whole : take (length w.entries) w.entries ≡ w.entries = take_all (length w.entries) w.entries (omega arith) in
+    let same : opening_of (beginning_at w) w ≡ w = λ i. record { plain = w.plain; entries = whole i; settled = w.settled; events = w.events } in
+    record {
+      headline = record { sound = sound; replay = sym same; replies = refl };
+      booked = omega arith;
+      totals = ap (λ (v : World). totals_of (book_of v)) (sym same);
+    }

@@ -24,7 +24,7 @@ use Rattle.world_rules.specs.World.{World, joints_of}
 use Rattle.world_rules.proofs.ActingLaws.{awake_name, stay_awake}
 use Rattle.world_rules.proofs.ActingLaws as acting
 use Rattle.world_rules.proofs.LowerLaws.{linked_stand_together, the_named_are_awake}
-use Rattle.world_rules.proofs.SlotLemmas.{item_at-set_other}
+use Rattle.solver_sets.proofs.SlotLemmas.{item_at-set_other}
 use Rattle.world_rules.proofs.SoundLaws.{IsKept}
 use Rattle.world_rules.proofs.ToldLaws.{NobodyFallsAsleep}
 

@@ -22,7 +22,7 @@ use Rattle.solver_sets.specs.Ties.{JointSlots, is_enabled_in, is_mover_in}
 use Rattle.world_core_base.specs.Gather.{AreContactsOf, IsContactOf}
 use Rattle.world_rules.specs.Sound.{AreTimers, HasBodies}
 use Rattle.world_rules.proofs.KeptContacts.{all_without}
-use Rattle.world_rules.proofs.SlotLemmas.{below_length, item_at-set_none, item_at-set_other}
+use Rattle.solver_sets.proofs.SlotLemmas.{below_length, item_at-set_none, item_at-set_other}
 
 -- ---- what stands in the slot
 

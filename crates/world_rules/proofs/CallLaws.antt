@@ -28,7 +28,7 @@ use Rattle.world_rules.proofs.GoneLaws.{ended_alone, is_ended}
 use Rattle.world_rules.proofs.KeptBodies.{IsSeen, seen, stirred_can_go}
 use Rattle.world_rules.proofs.KeptEnabled.{CanStart, can_start, come_label, seen_disabled, up_acting, up_bodies}
 use Rattle.world_rules.proofs.KeptJoints.{joint_up, live_joint}
-use Rattle.world_rules.proofs.SlotLemmas.{below_length}
+use Rattle.solver_sets.proofs.SlotLemmas.{below_length}
 use Rattle.world_rules.proofs.SoundLaws.{IsKept}
 use Rattle.world_rules.proofs.StirLaws.{joint_slots_of}
 

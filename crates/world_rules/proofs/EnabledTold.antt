@@ -23,7 +23,8 @@ use Rattle.world_rules.specs.Sound.{AreTold}
 use Rattle.world_rules.specs.World.{World}
 use Rattle.world_rules.proofs.KeptMade.{come_settled}
 use Rattle.world_rules.proofs.QuietLaws.{each_begun_alike, told_by_alike}
-use Rattle.world_rules.proofs.SlotLemmas.{AreBodies-set, below_length, item_at-set_other, none_if, slice_get-with_own}
+use Rattle.solver_sets.proofs.SlotLemmas.{below_length, item_at-set_other, none_if, slice_get-with_own}
+use Rattle.world_rules.proofs.SlotLemmas.{AreBodies-set}
 use Rattle.world_rules.proofs.SoundLaws.{IsKept}
 use Rattle.world_rules.proofs.ToldLaws.{told_stays}
 

@@ -55,7 +55,7 @@ each_first : {X : Type 0} (P : X → Type 0) (xs : List X) (lists : List (List X
 each_first P xs lists here rest zero d lt = here
 each_first P xs lists here rest (suc k) d lt = rest k d (omega (arith, lt))
 
-in_each : {X : Type 0} (P : X → Type 0) (lists : List (List X)) → All P (flat_map (λ (xs : List X). xs) lists) → All (All P) lists
+pub in_each : {X : Type 0} (P : X → Type 0) (lists : List (List X)) → All P (flat_map (λ (xs : List X). xs) lists) → All (All P) lists
 in_each P [] all = λ k d lt. absurd (omega (arith, lt))
 in_each {X} P (xs ∷ lists) all =
     let rest : List X = flat_map (λ (ys : List X). ys) lists in

@@ -43,7 +43,8 @@ use Rattle.world_rules.proofs.KeptChanges.{named_at}
 use Rattle.world_rules.proofs.GoneLaws.{CanGo, beside, gone_by}
 use Rattle.world_rules.proofs.PlaceLaws.{live_body, places_freed}
 use Rattle.world_rules.proofs.ShapeLaws.{filters_set}
-use Rattle.world_rules.proofs.SlotLemmas.{AreBodies-set, AreMatched-set, below_length, body_at-in, momentum-set, part_le}
+use Rattle.solver_sets.proofs.SlotLemmas.{AreMatched-set, below_length}
+use Rattle.world_rules.proofs.SlotLemmas.{AreBodies-set, body_at-in, momentum-set, part_le}
 use Rattle.world_rules.proofs.PutLaws.{IsPut, both_put}
 use Rattle.world_rules.proofs.SoundLaws.{IsKept}
 use Rattle.world_rules.proofs.StirLaws.{joint_slots_of, mover_up, stirred_can_end}

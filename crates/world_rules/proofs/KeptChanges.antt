@@ -52,7 +52,8 @@ use Rattle.world_rules.proofs.BookLemmas.{AreSmall-booked, AreSmall-weaker, summ
 use Rattle.world_rules.proofs.ChangeLemmas.{alike_acting, alike_moved, alike_set, tied_alike, timers_set, told_set}
 use Rattle.world_rules.proofs.KeptContacts.{contacts_of_same, has_bodies_same, joints_same, moves_alike}
 use Rattle.world_rules.proofs.ShapeLaws.{HaveSameShapes, filters_same, same_shapes_set, shapes_of}
-use Rattle.world_rules.proofs.SlotLemmas.{AreBodies-set, AreMatched-same, HaveSameSlots-set, below_length, body_at-in, momentum-set, momentum_le}
+use Rattle.solver_sets.proofs.SlotLemmas.{below_length}
+use Rattle.world_rules.proofs.SlotLemmas.{AreBodies-set, AreMatched-same, HaveSameSlots-set, body_at-in, momentum-set, momentum_le}
 use Rattle.world_rules.proofs.SoundLaws.{IsKept}
 use Rattle.world_rules.proofs.ToldLaws.{body_told, told_is, told_motion}
 

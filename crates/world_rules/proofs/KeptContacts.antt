@@ -15,7 +15,7 @@ use Rattle.solver_sets.specs.Tied.{AreAlike}
 use Rattle.world_core_base.specs.Gather.{AreContactsOf, IsContactOf, moves, moves_in}
 use Rattle.world_rules.specs.Sound.{HasBodies}
 use Rattle.world_rules.proofs.ShapeLaws.{HaveSameShapes, same_shape}
-use Rattle.world_rules.proofs.SlotLemmas.{item_at-set_other}
+use Rattle.solver_sets.proofs.SlotLemmas.{item_at-set_other}
 
 -- ---- bodies that change
 

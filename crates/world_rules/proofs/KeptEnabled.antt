@@ -48,7 +48,8 @@ use Rattle.world_rules.proofs.JoinLaws.{IsNext, next_begun}
 use Rattle.world_rules.proofs.KeptChanges.{IsThere, counted_kept, named_at, still_there}
 use Rattle.world_rules.proofs.KeptMade.{come_beside, come_here, come_long, come_others, come_own, come_settled, come_ties, contacts_enabled}
 use Rattle.world_rules.proofs.ShapeLaws.{filters_set}
-use Rattle.world_rules.proofs.SlotLemmas.{AreBodies-set, below_length, body_at-in, item_at-set_other, momentum-set, none_if}
+use Rattle.solver_sets.proofs.SlotLemmas.{below_length, item_at-set_other, none_if}
+use Rattle.world_rules.proofs.SlotLemmas.{AreBodies-set, body_at-in, momentum-set}
 use Rattle.world_rules.proofs.PutLaws.{IsPut, both_put}
 use Rattle.world_rules.proofs.SoundLaws.{IsKept}
 use Rattle.world_rules.proofs.StirLaws.{joint_slots_of}

@@ -49,7 +49,8 @@ use Rattle.world_rules.proofs.ChangeLemmas.{set_case}
 use Rattle.world_rules.proofs.KeptChanges.{counted_kept}
 use Rattle.world_rules.proofs.KeptContacts.{MovesMore-with_body, contacts_of_more, has_bodies_with, joints_with}
 use Rattle.world_rules.proofs.ShapeLaws.{filters_push, filters_set}
-use Rattle.world_rules.proofs.SlotLemmas.{AreBodies-push, AreBodies-set, AreMatched-push, AreMatched-set, lowest-free, momentum-push, momentum-set, none_if, slice_get-with, slice_get-with_own}
+use Rattle.solver_sets.proofs.SlotLemmas.{AreMatched-push, AreMatched-set, lowest-free, none_if, slice_get-with, slice_get-with_own}
+use Rattle.world_rules.proofs.SlotLemmas.{AreBodies-push, AreBodies-set, momentum-push, momentum-set}
 use Rattle.world_rules.proofs.PutLaws.{IsPut, both_put}
 use Rattle.world_rules.proofs.SoundLaws.{IsKept}
 use Rattle.world_rules.proofs.ToldLaws.{NobodyFallsAsleep, told_stays}

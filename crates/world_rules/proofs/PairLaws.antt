@@ -55,7 +55,7 @@ use Rattle.solver_sets.proofs.CollideLaws.{same_key}
 use Rattle.world_core_base.specs.Gather.{moves_in, moves, IsContactOf, AreContactsOf}
 use Rattle.world_rules.specs.Collide.{shape_proxies, body_proxies, entry_proxies, proxies_from, proxies_of, contacts_after}
 use Rattle.world_rules.specs.Sound.{HasBodies}
-use Rattle.world_rules.proofs.SlotLemmas.{below_length}
+use Rattle.solver_sets.proofs.SlotLemmas.{below_length}
 
 -- ---- a body has eight shapes at most
 

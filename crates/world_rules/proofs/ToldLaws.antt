@@ -18,9 +18,7 @@ use Rattle.solver_sets.specs.Ties.{is_enabled_in, is_mover_in}
 use Rattle.world_rules.specs.Sound.{AreTimers, AreTold}
 use Rattle.world_rules.proofs.ShapeLaws.{HaveSameShapes, shapes_of}
 use Rattle.world_rules.proofs.SlotLemmas.{body_at-in}
-
-true_false : (t : Bool) → t ≡ true → t ≡ false → ⊥
-true_false t e f = let both : true ≡ false = sym e ∙ f in cc both
+use Rattle.world_core_base.proofs.TellLaws.{told_is_body}
 
 -- ---- one body
 
@@ -47,47 +45,6 @@ told_is o b = by_mover (is_mover b) (sleeping_name o)
     by_mover false name = same
     by_mover true None = by_asleep (is_some b.asleep)
     by_mover true (Some name) = record { mover = refl; enabled = refl; kind = refl; mass = refl; shapes = refl; timer = omega arith }
-
-rested_body : (name : ℕ) (b : Body) → is_mover b ≡ true → IsBody b → IsBody (put_to_rest name b)
-rested_body name b moves is = record {
-  mass = is.mass;
-  motion = record { p = record { x = omega arith; y = omega arith }; l = omega arith; still = λ e. refl; x = is.motion.x; facing = is.motion.facing };
-  rest = λ e. record { x = refl; y = refl; l = refl };
-  asleep = λ e. absurd (true_false (is_mover b) moves e);
-  course = is.course;
-  halted = is.halted;
-  shapes = is.shapes;
-  forms = is.forms;
-  fats = is.fats;
-}
-
-roused_body : (b : Body) → is_mover b ≡ true → IsBody b → IsBody (roused b)
-roused_body b moves is = record {
-  mass = is.mass;
-  motion = is.motion;
-  rest = λ e. absurd (true_false (is_awake (roused b)) (λ j. cond (moves j) true false) e);
-  asleep = λ e. refl;
-  course = is.course;
-  halted = is.halted;
-  shapes = is.shapes;
-  forms = is.forms;
-  fats = is.fats;
-}
-
-told_mover : (o : Option ℕ) (b : Body) → is_mover b ≡ true → IsBody b → IsBody (told_by o b)
-told_mover (Some name) b moves is = rested_body name b moves is
-told_mover None b moves is = woken (is_some b.asleep)
-  where
-    woken : (t : Bool) → IsBody (cond t (roused b) b)
-    woken true = roused_body b moves is
-    woken false = is
-
-pub told_is_body : (o : Option Label) (b : Body) → IsBody b → IsBody (told_body o b)
-told_is_body o b is = by (is_mover b) refl
-  where
-    by : (t : Bool) → is_mover b ≡ t → IsBody (cond t (told_by (sleeping_name o) b) b)
-    by true e = told_mover (sleeping_name o) b e is
-    by false e = is
 
 told_sleeps : (o : Option Label) (b : Body) → (is_mover b ≡ false → b.asleep ≡ sleeping_name o) → (told_body o b).asleep ≡ sleeping_name o
 told_sleeps o b h = by_mover (is_mover b) refl (sleeping_name o) refl

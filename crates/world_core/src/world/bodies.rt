@@ -49,12 +49,13 @@ impl WorldCore {
         let p = mover_momentum(body);
         let names = self.names_stirred(handle.slot)?;
         let ties = self.ties_at(handle.slot)?;
+        let own = self.joints.slots_of(handle.slot)?;
         self.contacts.reserve_drop(self.bodies.allocator())?;
         self.ledger.reserve(1)?;
         let movers = list_movers(self.bodies.allocator(), &self.sets, &names)?;
         wake_named(&mut self.sets, &mut self.bodies, &names, &movers);
         leave(&mut self.sets, handle.slot, mover, &ties);
-        drop_joints(&mut self.joint_handles, &mut self.joints, handle.slot);
+        drop_joints(&mut self.joint_handles, &mut self.joints, handle.slot, &own);
         self.bodies.clear(handle.slot);
         self.contacts.drop_of_body(handle.slot);
         self.handles.remove(handle);
@@ -97,6 +98,7 @@ impl WorldCore {
         let movers = list_movers(self.bodies.allocator(), &self.sets, &names)?;
         wake_named(&mut self.sets, &mut self.bodies, &names, &movers);
         self.bodies.change(handle.slot, &pose);
+        self.anchors.tidy(self.sets.ties(), handle.slot);
         self.calls += 1;
         Ok(Reply::Done)
     }
@@ -110,6 +112,7 @@ impl WorldCore {
         let movers = list_movers(self.bodies.allocator(), &self.sets, &names)?;
         wake_named(&mut self.sets, &mut self.bodies, &names, &movers);
         self.bodies.change(handle.slot, &course);
+        self.anchors.tidy(self.sets.ties(), handle.slot);
         self.calls += 1;
         Ok(Reply::Done)
     }

@@ -24,7 +24,7 @@ impl WorldCore {
         }
         let joint = def.make();
         self.joint_handles.reserve_one()?;
-        self.joints.reserve_one()?;
+        self.joints.reserve_for(&joint)?;
         self.sets.reserve(1, 0)?;
         let names = self.sets.names_of(&[joint.a, joint.b])?;
         let movers = list_movers(self.bodies.allocator(), &self.sets, &names)?;

@@ -15,6 +15,7 @@ ghost use Rattle.world_rules.specs.Settled.{settled_world};
 
 use super::WorldCore;
 use crate::scratch::Scratch;
+use anchored_ties::Anchors;
 use body_handles::Handles;
 use colour_solver::Rows;
 use contacts::Constraint;
@@ -76,6 +77,7 @@ impl WorldCore {
             joints: JointTable::from_joints(alloc, plain.joints())?,
             contacts: KeptContacts::from_contacts(alloc, contacts_of(alloc, plain)?),
             sets: sets_of(alloc, plain)?,
+            anchors: Anchors::new(alloc),
             rows: Rows::new(alloc),
             scratch: Scratch::new(alloc),
             gravity: plain.gravity(),

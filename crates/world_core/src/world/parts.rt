@@ -6,13 +6,13 @@ ghost use Rattle.world_rules.specs.Apply.{Answers, apply_disable, apply_enable};
 use super::WorldCore;
 use crate::booking::{book, loss_of};
 use crate::leaving::{come, leave};
+use crate::own_joints::{fill_joint_ties, list_joined};
 use crate::pushes::mover_momentum;
 use crate::waking::{list_movers, wake_named};
 use body_handles::Handle;
 use fixed_geom::Refusal;
 use impulse_ledger::Cause;
 use plain_world::body_of;
-use solver_sets::{fill_joint_ties, list_joined};
 use world_rules::Reply;
 
 impl WorldCore {
@@ -60,16 +60,17 @@ impl WorldCore {
             return Ok(Reply::Done);
         }
         let mover = body.kind.is_dynamic();
+        let own = self.joints.slots_of(handle.slot)?;
         let joined = list_joined(
             self.bodies.allocator(),
             self.bodies.bodies(),
             self.joints.joints(),
+            &own,
             handle.slot,
         )?;
         let names = self.sets.names_of(&joined)?;
-        let mut ties = Vec::with_capacity(self.bodies.allocator(), self.joints.joints().len())?;
-        self.sets
-            .reserve(self.joints.joints().len(), self.bodies.bodies().len())?;
+        let mut ties = Vec::with_capacity(self.bodies.allocator(), own.len())?;
+        self.sets.reserve(own.len(), self.bodies.bodies().len())?;
         let movers = list_movers(self.bodies.allocator(), &self.sets, &names)?;
         wake_named(&mut self.sets, &mut self.bodies, &names, &movers);
         self.bodies.enable(handle.slot);
@@ -78,6 +79,7 @@ impl WorldCore {
             self.bodies.bodies(),
             self.joint_handles.places(),
             self.joints.joints(),
+            &own,
             handle.slot,
         );
         come(&mut self.sets, handle.slot, mover);

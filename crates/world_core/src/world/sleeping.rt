@@ -1,15 +1,16 @@
 //! Islands that are woken and put to rest, by commands and by what commands change.
 
-ghost use Rattle.std.specs.Prelude.{◌≡◌, ◌<◌, ◌^◌, IfOk};
+ghost use Rattle.std.specs.Prelude.{◌≡◌, ◌<◌, ◌^◌, false, IfOk};
 ghost use Rattle.std.specs.Result.{IsOkUnless};
 ghost use Rattle.sleep_wake.specs.Sleeping.{names_of};
-ghost use Rattle.solver_sets.specs.Beside.{stirred_by};
+ghost use Rattle.solver_sets.specs.Beside.{first_movers, stirred_by};
 ghost use Rattle.solver_sets.specs.Ties.{moves, ties_at};
 ghost use Rattle.world_rules.specs.World.{joints_of};
 ghost use Rattle.world_rules.specs.Apply.{Answers, apply_wake, apply_sleep};
 
 use super::WorldCore;
 use crate::booking::book;
+use crate::own_joints::joint_ties;
 use crate::pushes::check_mover;
 use crate::waking::{list_movers, put_to_sleep, wake_named};
 use body_handles::Handle;
@@ -18,7 +19,7 @@ use fixed_geom::Refusal;
 use graph_colours::Member;
 use impulse_ledger::Cause;
 use plain_world::{Body, item_at};
-use solver_sets::{list_stirred, pick_ties};
+use std::alloc::Global;
 use world_rules::Reply;
 
 impl WorldCore {
@@ -27,18 +28,15 @@ impl WorldCore {
         ensures value { IfOk result (λ names. names.items ≡ names_of self.now.plain.islands (stirred_by self.now.plain.bodies self.now.plain.joints self.now.plain.contacts slot)) }
         ensures memory_only { IsOkUnless result Refusal.NoMemory }
     {
-        let slots = list_stirred(
-            self.bodies.allocator(),
-            self.bodies.bodies(),
-            self.joints.joints(),
-            self.sets.ties(),
-            slot,
-        )?;
+        if is_mover_at(self.bodies.bodies(), slot) {
+            return self.sets.names_of(&[slot]);
+        }
+        let ties = self.ties_at(slot)?;
+        let slots = list_first(self.bodies.allocator(), &ties)?;
         self.sets.names_of(&slots)
     }
 
-    /// The constraints of the body in a slot, ascending: those of a mover are at hand, those of another body are picked from all. Refused 1 where memory
-    /// is wanting.
+    /// The constraints of the body in a slot, ascending, which are at hand for a mover. Refused 1 where memory is wanting.
     pub(super) fn ties_at(&self, slot: u32) -> Result<Vec<Member<Constraint>>, Refusal>
         ensures ties { IfOk result (λ ties. ties.items ≡ ties_at slot self.now.plain.bodies (joints_of self.now.plain) self.now.plain.contacts) }
         ensures memory_only { IsOkUnless result Refusal.NoMemory }
@@ -46,13 +44,27 @@ impl WorldCore {
         if is_mover_at(self.bodies.bodies(), slot) {
             self.sets.ties_of(slot)
         } else {
-            pick_ties(
-                self.bodies.allocator(),
-                self.sets.ties(),
-                self.joints.joints(),
-                slot,
-            )
+            self.ties_beside(slot)
         }
+    }
+
+    /// The constraints of a body that is no mover: those of its joints, and the contacts of which it is the anchor. Refused 1 where memory is wanting.
+    fn ties_beside(&self, slot: u32) -> Result<Vec<Member<Constraint>>, Refusal>
+        requires { moves self.now.plain.bodies slot ≡ false }
+        ensures ties { IfOk result (λ ties. ties.items ≡ ties_at slot self.now.plain.bodies (joints_of self.now.plain) self.now.plain.contacts) }
+        ensures memory_only { IsOkUnless result Refusal.NoMemory }
+    {
+        let alloc = self.bodies.allocator();
+        let mut ties = joint_ties(
+            alloc,
+            self.bodies.bodies(),
+            self.joint_handles.places(),
+            &self.joints,
+            slot,
+        )?;
+        let contacts = self.anchors.contact_ties_of(alloc, self.sets.ties(), slot)?;
+        ties.extend_from_slice(&contacts)?;
+        Ok(ties)
     }
 
     pub(super) fn wake(&mut self, handle: Handle) -> Result<Reply, Refusal>
@@ -79,6 +91,18 @@ impl WorldCore {
         self.calls += 1;
         Ok(Reply::Done)
     }
+}
+
+/// The first mover of each of these constraints. Refused 1 where memory is wanting.
+fn list_first(alloc: Global, ties: &[Member<Constraint>]) -> Result<Vec<u32>, Refusal>
+    ensures slots { IfOk result (λ slots. slots.items ≡ first_movers ties.now) }
+    ensures memory_only { IsOkUnless result Refusal.NoMemory }
+{
+    let mut slots = Vec::with_capacity(alloc, ties.len())?;
+    for place in 0..ties.len() {
+        slots.push(ties[place].movers.first)?;
+    }
+    Ok(slots)
 }
 
 /// Whether a mover is in the slot.

@@ -7,8 +7,9 @@ use super::{MAX_GRAVITY, MAX_TICKS, WorldCore};
 use crate::booking::book_rest;
 use crate::collide::collide;
 use crate::resting::rest_ready;
+use crate::sleepers::list_sleepers;
 use crate::solving::solve;
-use crate::turning::turn_all;
+use crate::turning::{renew_anchors, turn_all};
 use fixed_geom::{Refusal, Vec2, is_within};
 use graph_colours::COLOURS;
 use solver_sets::list_changes;
@@ -41,17 +42,20 @@ impl WorldCore {
         self.sets.reserve(changes.begin.len(), 0)?;
         self.rows
             .reserve(self.sets.ties().len() + changes.begin.len(), COLOURS + 1)?;
-        self.scratch.make_room(self.bodies.bodies().len())?;
+        let asleep = list_sleepers(alloc, &self.sets, &turns)?;
+        self.scratch
+            .make_room(self.bodies.bodies().len(), asleep.len())?;
         self.contacts.carry_out();
         self.bodies.clear_marks();
         turn_all(
             &mut self.sets,
             &mut self.bodies,
             &mut self.scratch.woke,
-            &mut self.scratch.slots,
             self.handles.places(),
             &turns,
+            &asleep,
         );
+        renew_anchors(&mut self.anchors, &self.sets, &turns);
         let sums = solve(
             &mut self.rows,
             &mut self.bodies,

@@ -1,4 +1,4 @@
-use Rattle.std.proofs.Common.{◌≡◌, ◌<◌, ◌≤◌, refl, get_or, length, Some, None, true, false, arith, sym, ap, ◌∙◌}
+use Rattle.std.proofs.Common.{◌≡◌, ◌<◌, ◌≤◌, refl, get_or, length, Some, None, false, arith, sym, ap, ◌∙◌}
 use Rattle.body_handles.specs.declared.places.Place.{Place}
 use Rattle.plain_world.specs.Bodies.{standing_of}
 use Rattle.solver_sets.specs.declared.census.Item.TheVariants as items

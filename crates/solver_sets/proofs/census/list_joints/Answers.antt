@@ -1,4 +1,4 @@
-use Rattle.std.proofs.Common.{◌≡◌, ◌<◌, ◌≤◌, refl, get_or, length, Some, None, true, false, arith, sym, ap, ◌∙◌}
+use Rattle.std.proofs.Common.{◌≡◌, ◌<◌, ◌≤◌, refl, get_or, length, Some, None, false, arith, ap, ◌∙◌}
 use Rattle.std.proofs.lemmas.List.{get_or_default}
 use Rattle.body_handles.specs.declared.places.Place.{Place}
 use Rattle.solver_sets.specs.Ties.{slots_of}

@@ -1,5 +1,4 @@
-use Rattle.std.proofs.Common.{rules, ltb, ltb-true, ltb-false, arith, ◌≤◌}
-use Rattle.std.specs.List.Sorted.{IsNonDecreasingBy}
+use Rattle.std.proofs.Common.{rules, ltb, ltb-true, ltb-false}
 use Rattle.std.proofs.lemmas.List.Sorted.{IsPartitionPoint-from_clause, IsPartitionedBy-ltb}
 use Rattle.solver_sets.proofs.CensusLaws.{not_falling}
 use Rattle.solver_sets.proofs.census.place_of.Goals as goal

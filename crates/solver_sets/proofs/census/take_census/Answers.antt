@@ -1,6 +1,5 @@
-use Rattle.std.proofs.Common.{◌≡◌, ◌∙◌, ap, sym}
 use Rattle.solver_sets.specs.Ties.{slots_of}
-use Rattle.solver_sets.specs.Census.{body_standings, census_of, contact_standings, empty_census, joint_standings, standings_of, with_all}
+use Rattle.solver_sets.specs.Census.{body_standings, census_of, contact_standings, joint_standings, standings_of}
 use Rattle.solver_sets.proofs.CensusLaws.{listed_are}
 use Rattle.solver_sets.proofs.census.take_census.Goals as goal
 

@@ -1,5 +1,4 @@
-use Rattle.std.proofs.Common.{◌≡◌, ◌∙◌, ◌++◌, List, drop, ap, sym}
-use Rattle.std.proofs.lemmas.Grind.{common_steps}
+use Rattle.std.proofs.Common.{◌∙◌, drop}
 use Rattle.solver_sets.specs.Merging.{merged}
 use Rattle.solver_sets.proofs.MergeLaws.{merged_changes, merged_end}
 use Rattle.solver_sets.proofs.changes.list_changes.Goals as goal

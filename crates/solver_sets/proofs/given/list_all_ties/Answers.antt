@@ -1,4 +1,4 @@
-use Rattle.std.proofs.Common.{◌≡◌, ◌∙◌, ◌++◌}
+use Rattle.std.proofs.Common.{◌∙◌, ◌++◌}
 use Rattle.std.specs.List.{filter_map}
 use Rattle.solver_sets.specs.Given.{contact_tie_in}
 use Rattle.solver_sets.specs.Ties.{joint_bonds, slots_of, ties_in}

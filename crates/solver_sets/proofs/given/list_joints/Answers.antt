@@ -1,4 +1,4 @@
-use Rattle.std.proofs.Common.{◌≡◌, ◌∙◌, ◌<◌, ◌≤◌, length, false, None, arith}
+use Rattle.std.proofs.Common.{◌∙◌, ◌<◌, ◌≤◌, length, false, None, arith}
 use Rattle.body_handles.specs.declared.places.Place.{Place}
 use Rattle.solver_sets.proofs.GivenLaws.{bond_tie_step, bond_ties_end}
 use Rattle.solver_sets.proofs.given.list_joints.Goals as goal

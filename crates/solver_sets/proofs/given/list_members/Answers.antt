@@ -1,4 +1,4 @@
-use Rattle.std.proofs.Common.{◌≡◌, ◌≤◌, ◌∙◌, length, arith}
+use Rattle.std.proofs.Common.{arith}
 use Rattle.graph_colours.specs.Given.{members_of as lists_of}
 use Rattle.solver_sets.specs.Ties.{slots_of}
 use Rattle.solver_sets.proofs.GivenLaws.{members_end}

@@ -1,5 +1,4 @@
-use Rattle.std.proofs.Common.{◌≡◌, ◌∙◌, ◌&&◌, ℕ, not, slice_get, arith}
-use Rattle.std.specs.List.{filter_map}
+use Rattle.std.proofs.Common.{◌∙◌, ◌&&◌, not, slice_get, arith}
 use Rattle.solver_sets.specs.Slept.{handle_if, newly_asleep, sleeps, was_asleep}
 use Rattle.solver_sets.proofs.ListingLaws.{listed_all, listed_more}
 use Rattle.solver_sets.proofs.SleptLaws.{listed_where}

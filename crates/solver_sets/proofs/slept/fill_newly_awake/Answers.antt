@@ -1,20 +1,20 @@
-use Rattle.std.proofs.Common.{◌≡◌, ◌∙◌, ◌&&◌, not, false, arith}
-use Rattle.body_handles.specs.declared.places.Place.{Place}
-use Rattle.solver_sets.specs.Slept.{handles_where, newly_awake, sleeps, was_asleep}
-use Rattle.solver_sets.proofs.SleptLaws.{where_end, where_step}
+use Rattle.std.proofs.Common.{◌∙◌, ◌&&◌, not, slice_get, arith}
+use Rattle.solver_sets.specs.Slept.{handle_if, newly_awake, sleeps, was_asleep}
+use Rattle.solver_sets.proofs.ListingLaws.{listed_all, listed_more}
+use Rattle.solver_sets.proofs.SleptLaws.{listed_where}
 use Rattle.solver_sets.proofs.slept.fill_newly_awake.Goals as goal
 
-abbrev nowhere : Place
-nowhere = record { generation = 0; live = false }
-
-pub loop-index-preserved : goal.loop-index-preserved
-loop-index-preserved c = record {
-  handles = where_step (λ slot. was_asleep c.args.bodies.now slot && not (sleeps c.args.islands.now.labels slot)) c.args.places.now c.loop-index.index nowhere c.loop-index.handles.items c.push_if.new.handles.items c.is_newly_awake.result c.loop-index-test.true c.push_if.ensures.items c.is_newly_awake.ensures ∙ c.loop-index.invariant.handles;
-  len = omega (arith, c.push_if.ensures.len, c.loop-index.invariant.len);
-  capacity = omega (arith, c.push_if.ensures.capacity, c.loop-index.invariant.capacity);
+pub loop-place-preserved : goal.loop-place-preserved
+loop-place-preserved c = record {
+  handles =
+      listed_more (λ slot. handle_if (was_asleep c.args.bodies.now slot && not (sleeps c.args.islands.now.labels slot)) slot (slice_get c.args.places.now slot)) c.loop-place.handles.items c.push_some.new.handles.items c.newly_awake_at.result c.args.asleep.now c.loop-place.place 0 c.loop-place-test.true c.push_some.ensures.items c.newly_awake_at.ensures
+      ∙ c.loop-place.invariant.handles;
+  len = omega (arith, c.push_some.ensures.len, c.loop-place.invariant.len);
+  capacity = omega (arith, c.push_some.ensures.capacity, c.loop-place.invariant.capacity);
 }
 
 pub returns-clause-handles : goal.returns-clause-handles
 unfolding newly_awake
 returns-clause-handles c =
-    where_end (λ slot. was_asleep c.args.bodies.now slot && not (sleeps c.args.islands.now.labels slot)) c.args.places.now c.loop-index.index c.loop-index.handles.items (handles_where (λ slot. was_asleep c.args.bodies.now slot && not (sleeps c.args.islands.now.labels slot)) 0 c.args.places.now) c.loop-index-test.false c.loop-index.invariant.handles
+    listed_all (λ slot. handle_if (was_asleep c.args.bodies.now slot && not (sleeps c.args.islands.now.labels slot)) slot (slice_get c.args.places.now slot)) c.loop-place.handles.items _ c.args.asleep.now c.loop-place.place c.loop-place-test.false c.loop-place.invariant.handles
+    ∙ listed_where (λ slot. was_asleep c.args.bodies.now slot && not (sleeps c.args.islands.now.labels slot)) c.args.places.now c.args.asleep.now c.requires.rising c.requires.all

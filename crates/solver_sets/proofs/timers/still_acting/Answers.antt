@@ -1,4 +1,4 @@
-use Rattle.std.proofs.Common.{◌≡◌, ◌∙◌, ◌+◌, ℕ, List, length, ap, subst, sym, arith}
+use Rattle.std.proofs.Common.{◌≡◌, ◌∙◌, ◌+◌, ℕ, ap, sym, arith}
 use Rattle.graph_colours.specs.Colours.{list_at}
 use Rattle.solver_sets.specs.Beside.{stilled_lists, stilled_ties}
 use Rattle.solver_sets.proofs.TimerLaws.{lists_last}

@@ -3,4 +3,4 @@ use Rattle.world_core.specs.Quiet.{HasMarked, KeepMarks}
 use Rattle.world_core.proofs.beside.mark_colour.Given as goal
 
 abbrev pub invariant-loop-place : goal.invariant-loop-place
-invariant-loop-place l = (timers : List ℕ) → KeepMarks l.islands.labels l.bodies l.joints l.contacts timers → HasMarked l.islands.labels timers l.fn.marks.items → HasMarked l.islands.labels timers l.marks.items
+invariant-loop-place l = (names timers : List ℕ) → KeepMarks l.islands.labels l.bodies l.joints l.contacts timers → HasMarked names l.islands.labels timers l.fn.marks.items → HasMarked names l.islands.labels timers l.marks.items

@@ -3,5 +3,5 @@ use Rattle.world_core.specs.Quiet.{HasMarked}
 use Rattle.world_core.proofs.beside.mark_contact.Goals as goal
 
 pub returns : goal.returns
-returns c = λ joints timers keep has.
-    subst (HasMarked c.args.islands.now.labels timers) (sym c.mark_touched_at.ensures) (keep.touched c.seek.result c.args.marks.now.items has)
+returns c = λ joints names timers keep has.
+    subst (HasMarked names c.args.islands.now.labels timers) (sym c.mark_touched_at.ensures) (keep.touched names c.seek.result c.args.marks.now.items has)

@@ -1,4 +1,3 @@
-use Rattle.std.proofs.Common.{subst, sym}
 use Rattle.solver_sets.specs.Beside.{timers_of}
 use Rattle.world_core.specs.Quiet.{HasMarked}
 use Rattle.world_core.proofs.MovingBeside.{keep_marks}
@@ -12,7 +11,8 @@ pub returns : goal.returns
 returns c = λ e.
     let labels = c.args.islands.now.labels in
     let timers = timers_of c.args.bodies.now c.args.joints.now c.args.contacts.now in
-    let first : HasMarked labels timers c.clear_marks.new.marks.items = subst (HasMarked labels timers) (sym c.clear_marks.ensures) (marked_first labels timers _) in
-    let second : HasMarked labels timers c.mark_all.new.marks.items = c.mark_all.ensures timers (tell_short c.args.bodies.now c.args.joints.now c.args.contacts.now) first in
-    let third : HasMarked labels timers c.mark_beside.new.marks.items = c.mark_beside.ensures timers (keep_marks labels c.args.bodies.now c.args.joints.now c.args.contacts.now c.requires.tied) second in
+    let awake = c.args.awake.now in
+    let first : HasMarked awake labels timers c.clear_marks.new.marks.items = marked_first awake labels timers c.clear_marks.new.marks.items c.clear_marks.ensures in
+    let second : HasMarked awake labels timers c.mark_all.new.marks.items = c.mark_all.ensures awake timers (tell_short c.args.bodies.now c.args.joints.now c.args.contacts.now) first in
+    let third : HasMarked awake labels timers c.mark_beside.new.marks.items = c.mark_beside.ensures awake timers (keep_marks labels c.args.bodies.now c.args.joints.now c.args.contacts.now c.requires.tied) second in
     marked_keep_up labels c.args.bodies.now c.args.awake.now timers c.mark_beside.new.marks.items c.requires.awake c.requires.tied c.requires.told third (rw c.deref.ensures.value at (c.are_marked.ensures e))

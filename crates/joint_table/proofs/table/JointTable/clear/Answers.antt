@@ -1,4 +1,5 @@
-use Rattle.std.proofs.Common.{◌<◌, length, arith}
+use Rattle.std.proofs.Common.{◌<◌, None, length}
+use Rattle.std.proofs.lemmas.List.{length-set}
 use Rattle.joint_table.proofs.PairNumbers.{number_there, cleared}
 use Rattle.joint_table.proofs.table.JointTable.clear.Goals as goal
 
@@ -11,8 +12,9 @@ invariant_of-self c =
     let there : c.args.slot < length joints = rw (← c.self.view_is) at c.requires in
     let taken = rw (c.forbidden_in.ensures, c.item_at.ensures, c.deref.ensures.value) at c.drop_pair.ensures.same in
     record {
+      few = rw (c.clear_slot.ensures, length-set joints c.args.slot None) c.self.invariant.few;
       sorted = c.drop_pair.ensures.sorted;
       same = rw c.clear_slot.ensures (cleared joints c.self.inside.forbidden.items c.drop_pair.new.numbers.items c.args.slot there c.self.invariant.same taken);
-      for_joints = omega arith;
-      for_forbidden = omega arith;
+      ends = rw c.clear_slot.ensures (c.drop_ends.ensures joints there c.self.invariant.ends);
+      ready = tt;
     }

@@ -1,15 +1,24 @@
-use Rattle.std.proofs.Common.{List, ℕ, ap, sym, subst, ◌∙◌, arith}
+use Rattle.std.proofs.Common.{List, ℕ, ap, sym, subst, ◌∙◌}
 use Rattle.joint_table.specs.JointTables.{HaveSameNumbers}
 use Rattle.plain_world.specs.Joints.{forbidden_pairs}
 use Rattle.joint_table.proofs.IdleLaws.{idle_pairs}
+use Rattle.joint_table.proofs.OwnLaws.{all_ends, ends_below}
+use Rattle.joint_table.proofs.TableLaws.{ends_idle, length_idle}
 use Rattle.joint_table.proofs.table.JointTable.idle.Goals as goal
+
+pub idle_own-requires-clause-below : goal.idle_own-requires-clause-below
+idle_own-requires-clause-below c id h = ends_below c.self.inside.joints.items c.self.inside.ends.sets c.args.slot id c.self.invariant.ends (rw c.members.ensures.value at h)
+
+pub idle_own-requires-clause-all : goal.idle_own-requires-clause-all
+idle_own-requires-clause-all c slot own = rw c.members.ensures.value (all_ends c.self.inside.joints.items c.self.inside.ends.sets c.args.slot slot c.self.invariant.ends own)
 
 pub invariant_of-self : goal.invariant_of-self
 invariant_of-self c =
     let joints = c.self.inside.joints.items in
     record {
+      few = rw (c.idle_own.ensures, length_idle c.args.slot joints) c.self.invariant.few;
       sorted = c.self.invariant.sorted;
-      same = subst (λ (l : List ℕ). HaveSameNumbers l c.self.inside.forbidden.items) (sym (ap forbidden_pairs c.idle_all.ensures ∙ idle_pairs c.args.slot joints)) c.self.invariant.same;
-      for_joints = omega arith;
-      for_forbidden = omega arith;
+      same = subst (λ (l : List ℕ). HaveSameNumbers l c.self.inside.forbidden.items) (sym (ap forbidden_pairs c.idle_own.ensures ∙ idle_pairs c.args.slot joints)) c.self.invariant.same;
+      ends = rw c.idle_own.ensures (ends_idle joints c.self.inside.ends.sets c.args.slot c.self.invariant.ends);
+      ready = tt;
     }

@@ -1,16 +1,34 @@
-use Rattle.std.proofs.Common.{◌≡◌, None, arith}
+use Rattle.std.proofs.Common.{◌≡◌, ◌≤◌, None, length}
 use Rattle.plain_world.specs.Joints.{joint_at}
+use Rattle.joint_table.specs.Ends.{AreNoted, ends_of}
+use Rattle.joint_table.proofs.EndLaws.{ends_put, first_absent, second_absent}
 use Rattle.joint_table.proofs.PairNumbers.{added}
+use Rattle.joint_table.proofs.TableLaws.{few_with}
 use Rattle.joint_table.proofs.table.JointTable.put.Goals as goal
+
+pub note_ends-requires-clause-first : goal.note_ends-requires-clause-first
+note_ends-requires-clause-first c =
+    let joints = c.self.inside.joints.items in
+    let free : joint_at joints c.args.slot ≡ None = rw (← c.self.view_is) at c.requires.free in
+    first_absent joints c.self.inside.ends.sets c.args.slot c.self.invariant.ends free
+
+pub note_ends-requires-clause-second : goal.note_ends-requires-clause-second
+note_ends-requires-clause-second c =
+    let joints = c.self.inside.joints.items in
+    let free : joint_at joints c.args.slot ≡ None = rw (← c.self.view_is) at c.requires.free in
+    second_absent joints c.self.inside.ends.sets c.args.slot c.self.invariant.ends free
 
 pub invariant_of-self : goal.invariant_of-self
 invariant_of-self c =
     let joints = c.self.inside.joints.items in
     let free : joint_at joints c.args.slot ≡ None = rw (← c.self.view_is) at c.requires.free in
+    let next : c.args.slot ≤ length joints = rw (← c.self.view_is) at c.requires.next in
     let pushed = rw c.forbidden_pair.ensures at c.add_pair.ensures.same in
+    let noted : AreNoted c.self.inside.ends.sets c.note_ends.new.sets.sets c.args.slot (ends_of c.args.joint) = rw (← c.ends_of.ensures) c.note_ends.ensures in
     record {
+      few = rw c.put_item.ensures.items (few_with joints c.args.slot c.args.joint c.self.invariant.few c.requires.few next);
       sorted = c.add_pair.ensures.sorted;
       same = rw c.put_item.ensures.items (added joints c.self.inside.forbidden.items c.add_pair.new.numbers.items c.args.slot c.args.joint free c.self.invariant.same pushed);
-      for_joints = omega arith;
-      for_forbidden = omega arith;
+      ends = rw c.put_item.ensures.items (ends_put joints c.self.inside.ends.sets c.note_ends.new.sets.sets c.args.slot c.args.joint next c.self.invariant.ends noted);
+      ready = tt;
     }

@@ -1,8 +1,10 @@
-use Rattle.std.proofs.Common.{rules, w64, SFits, ◌≡◌, ◌<◌, length, option_map, slice_index_or, sym, subst, ap, ◌∙◌, ℕ, List}
+use Rattle.std.proofs.Common.{rules, w64, SFits, ◌≡◌, ◌<◌, length, option_map, slice_index_or, slice_set, sym, subst, ap, ◌∙◌, ℕ, List}
 use Rattle.std.proofs.lemmas.Int.{to_z-of_z}
+use Rattle.std.proofs.lemmas.List.{length-set}
 use Rattle.plain_world.specs.Joints.{with_impulse}
 use Rattle.joint_table.specs.JointTables.{HaveSameNumbers}
 use Rattle.joint_table.proofs.ImpulseLaws.{impulse_put, pairs_stay}
+use Rattle.joint_table.proofs.TableLaws.{impulse_ends}
 use Rattle.joint_table.proofs.table.JointTable.set_impulse.Goals as goal
 
 pub invariant_of-self : goal.invariant_of-self
@@ -13,11 +15,13 @@ invariant_of-self c =
     let fits : SFits w64 c.args.impulse = search rules in
     let put : c.put_impulse.new.entry ≡ option_map (with_impulse c.args.impulse) old = simp to_z-of_z at c.put_impulse.ensures in
     let entry : c.put_impulse.new.entry ≡ option_map (with_impulse c.args.impulse) (slice_index_or joints c.args.slot old) = put ∙ ap (option_map (with_impulse c.args.impulse)) c.index_mut.ensures.value in
+    let long : length (slice_set joints c.args.slot (option_map (with_impulse c.args.impulse) (slice_index_or joints c.args.slot old))) ≡ length joints = length-set joints c.args.slot _ in
     rw entry (record {
+      few = rw long c.self.invariant.few;
       sorted = c.self.invariant.sorted;
       same = subst (λ (l : List ℕ). HaveSameNumbers l c.self.inside.forbidden.items) (sym (pairs_stay joints c.args.slot c.args.impulse old there)) c.self.invariant.same;
-      for_joints = c.self.invariant.for_joints;
-      for_forbidden = c.self.invariant.for_forbidden;
+      ends = impulse_ends joints c.self.inside.ends.sets c.args.slot c.args.impulse old there c.self.invariant.ends;
+      ready = rw long c.self.invariant.ready;
     })
 
 pub returns-then-slot-len : goal.returns-then-slot-len

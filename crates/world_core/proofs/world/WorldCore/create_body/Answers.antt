@@ -12,6 +12,8 @@ use Rattle.world_core.specs.contracts.world.WorldCore.{the_view}
 use Rattle.world_core.proofs.PartLaws.{create_answers, free_label, kept_of, same_handle, whole}
 use Rattle.world_core.proofs.CoreLaws.{core_bodies}
 use Rattle.world_core.proofs.KnownLaws.{marked_after}
+use Rattle.world_core.proofs.FewerTies.{fewer_made, fewer_reserved}
+use Rattle.anchored_ties.proofs.FewerLaws.{tell_fewer}
 use Rattle.world_core.proofs.world.WorldCore.create_body.Goals as goal
 
 pub come-requires-clause-fresh : goal.come-requires-clause-fresh
@@ -64,6 +66,8 @@ invariant_of-self-2 c =
     (whole w _ _ _ (create_left w c.self.inside.sets.acting c.args.def.now (kept_of _ _ c.self.invariant.whole) c.self.invariant.whole.same calls free body filters)))
     refl refl refl refl
     (marked_after c.self.inside.bodies c.reserve_one-2.new.self c.put.new.self c.in_ok-reserve_one-2.ensures.marked c.put.ensures.marked)
+    c.self.inside.anchors (tell_fewer c.self.inside.anchors.holds c.self.inside.anchors.lists c.self.inside.sets.acting.ties _ (fewer_reserved c.self.inside.sets.acting c.reserve.new.self.acting c.widen.new.self.acting c.in_ok-reserve.ensures.acting
+    (fewer_made c.is_mover.result c.in_ok-handle.handle.slot _ c.reserve.new.self.acting c.come.new.sets.acting c.widen.new.self.acting c.come.ensures.acting c.widen.ensures.acting)) c.self.invariant.anchored)
 
 pub returns : goal.returns
 returns c =

@@ -12,6 +12,8 @@ use Rattle.plain_world.specs.Slots.{with_item}
 use Rattle.world_core.proofs.CoreLaws.{core_joined}
 use Rattle.world_core.proofs.KnownLaws.{marked_after}
 use Rattle.world_core.proofs.TellingLaws.{listed_as}
+use Rattle.world_core.proofs.FewerTies.{fewer_joined, fewer_reserved}
+use Rattle.anchored_ties.proofs.FewerLaws.{tell_fewer}
 use Rattle.world_core.proofs.world.WorldCore.create_joint.Goals as goal
 
 pub wake_named-requires-clause-movers : goal.wake_named-requires-clause-movers
@@ -47,11 +49,11 @@ put-requires-clause-next c =
     let w : World = the_view c.self.inside in
     let least : lowest w.plain.joint_places ≤ length w.plain.joint_places = lowest-le-length w.plain.joint_places in
     let slots : length w.plain.joint_places ≡ length w.plain.joints = (kept_of _ _ c.self.invariant.whole).joint_slots.slots in
-    rw (c.in_ok-handle.ensures.slot, c.in_ok-reserve_one.ensures.kept, c.in_ok-reserve_one-2.ensures.joints) (omega (arith, least, slots))
+    rw (c.in_ok-handle.ensures.slot, c.in_ok-reserve_one.ensures.kept, c.in_ok-reserve_for.ensures.joints) (omega (arith, least, slots))
 
 pub put-requires-clause-free : goal.put-requires-clause-free
 put-requires-clause-free c =
-    rw (c.in_ok-handle.ensures.slot, c.in_ok-reserve_one.ensures.kept, c.in_ok-reserve_one-2.ensures.joints) (free_joint (the_view c.self.inside) (kept_of _ _ c.self.invariant.whole))
+    rw (c.in_ok-handle.ensures.slot, c.in_ok-reserve_one.ensures.kept, c.in_ok-reserve_for.ensures.joints) (free_joint (the_view c.self.inside) (kept_of _ _ c.self.invariant.whole))
 
 pub invariant_of-self-2 : goal.invariant_of-self-2
 invariant_of-self-2 c =
@@ -62,16 +64,18 @@ invariant_of-self-2 c =
     let free : lowest w.plain.joint_places < MAX_SLOTS = rw slot at c.in_ok-handle.ensures.slot_below in
     let is : IsBodyJoint w.plain.bodies (joint_made c.args.def.now) = rw c.bodies.ensures at c.in_ok-check_join.ensures.joint in
     let joint : IsBodyJoint w.plain.bodies c.make-joint.result = rw c.make-joint.ensures is in
-    let put : c.put.new.self.joints ≡ with_item w.plain.joints c.in_ok-handle.handle.slot c.make-joint.result = rw c.in_ok-reserve_one-2.ensures.joints at c.put.ensures in
+    let put : c.put.new.self.joints ≡ with_item w.plain.joints c.in_ok-handle.handle.slot c.make-joint.result = rw c.in_ok-reserve_for.ensures.joints at c.put.ensures in
     let none : joint_at w.plain.joints c.in_ok-handle.handle.slot ≡ None = rw slot (free_joint w (kept_of _ _ c.self.invariant.whole)) in
     let least : lowest w.plain.joint_places ≤ length w.plain.joint_places = lowest-le-length w.plain.joint_places in
     let slots : length w.plain.joint_places ≡ length w.plain.joints = (kept_of _ _ c.self.invariant.whole).joint_slots.slots in
     let le : c.in_ok-handle.handle.slot ≤ length w.plain.joints = rw slot (omega (arith, least, slots)) in
     core_joined w _ _ _ c.self.inside.bodies c.mark.new.self c.in_ok-handle.handle.slot c.make-joint.result c.self.invariant
-    (rw (c.in_ok-handle.ensures.given_out, c.put.ensures, c.mark.ensures.bodies, c.begin_with.ensures.acting, same_handle c.in_ok-handle.handle (next_joint w.plain) slot generation, c.joint_movers-movers.ensures, c.bodies-2.ensures, c.wake_named.ensures.told, c.wake_named.ensures.acting, c.deref-2.ensures.value, c.in_ok-names.ensures.value, c.in_ok-reserve.ensures.acting, c.in_ok-reserve_one.ensures.kept, c.in_ok-reserve_one-2.ensures.joints, c.make-joint.ensures)
+    (rw (c.in_ok-handle.ensures.given_out, c.put.ensures, c.mark.ensures.bodies, c.begin_with.ensures.acting, same_handle c.in_ok-handle.handle (next_joint w.plain) slot generation, c.joint_movers-movers.ensures, c.bodies-2.ensures, c.wake_named.ensures.told, c.wake_named.ensures.acting, c.deref-2.ensures.value, c.in_ok-names.ensures.value, c.in_ok-reserve.ensures.acting, c.in_ok-reserve_one.ensures.kept, c.in_ok-reserve_for.ensures.joints, c.make-joint.ensures)
     (whole w _ _ _ (join_left w c.self.inside.sets.acting c.args.def.now (kept_of _ _ c.self.invariant.whole) c.self.invariant.whole.same calls free is)))
     refl refl joint none le
     (marked_after c.self.inside.bodies c.wake_named.new.bodies c.mark.new.self c.wake_named.ensures.marked c.mark.ensures.marked) c.mark.ensures.there put refl
+    c.self.inside.anchors (tell_fewer c.self.inside.anchors.holds c.self.inside.anchors.lists c.self.inside.sets.acting.ties _ (fewer_reserved c.self.inside.sets.acting c.reserve.new.self.acting c.begin_with.new.sets.acting c.in_ok-reserve.ensures.acting
+    (fewer_joined c.in_ok-handle.handle c.joint_movers-movers.result c.deref-2.result.now c.reserve.new.self.acting c.wake_named.new.sets.acting c.begin_with.new.sets.acting c.wake_named.ensures.acting c.begin_with.ensures.acting)) c.self.invariant.anchored)
 
 pub returns : goal.returns
 returns c =
@@ -82,5 +86,5 @@ returns c =
     let free : lowest w.plain.joint_places < MAX_SLOTS = rw slot at c.in_ok-handle.ensures.slot_below in
     let is : IsBodyJoint w.plain.bodies (joint_made c.args.def.now) = rw c.bodies.ensures at c.in_ok-check_join.ensures.joint in
     let due = rw c.bodies.ensures at c.in_ok-check_join.ensures.refusal in
-    rw (← c.self.view_is, c.in_ok-handle.ensures.given_out, c.put.ensures, c.mark.ensures.bodies, c.begin_with.ensures.acting, same_handle c.in_ok-handle.handle (next_joint w.plain) slot generation, c.joint_movers-movers.ensures, c.bodies-2.ensures, c.wake_named.ensures.told, c.wake_named.ensures.acting, c.deref-2.ensures.value, c.in_ok-names.ensures.value, c.in_ok-reserve.ensures.acting, c.in_ok-reserve_one.ensures.kept, c.in_ok-reserve_one-2.ensures.joints, c.make-joint.ensures)
+    rw (← c.self.view_is, c.in_ok-handle.ensures.given_out, c.put.ensures, c.mark.ensures.bodies, c.begin_with.ensures.acting, same_handle c.in_ok-handle.handle (next_joint w.plain) slot generation, c.joint_movers-movers.ensures, c.bodies-2.ensures, c.wake_named.ensures.told, c.wake_named.ensures.acting, c.deref-2.ensures.value, c.in_ok-names.ensures.value, c.in_ok-reserve.ensures.acting, c.in_ok-reserve_one.ensures.kept, c.in_ok-reserve_for.ensures.joints, c.make-joint.ensures)
     (join_answers w c.args.def.now (next_joint w.plain) _ _ due free refl (join_left w c.self.inside.sets.acting c.args.def.now (kept_of _ _ c.self.invariant.whole) c.self.invariant.whole.same calls free is))

@@ -11,10 +11,12 @@ use Rattle.world_core.proofs.LeavingLaws.{destroyed_quietly}
 use Rattle.world_core.proofs.PartLaws.{destroy_answers, kept_of, whole}
 use Rattle.plain_world.specs.declared.body.Body.{Body}
 use Rattle.plain_world.specs.Slots.{body_at}
-use Rattle.world_rules.proofs.SlotLemmas.{item_at-set_none}
+use Rattle.solver_sets.proofs.SlotLemmas.{item_at-set_none}
 use Rattle.world_core.proofs.CoreLaws.{core_destroyed}
 use Rattle.world_core.proofs.KnownLaws.{marked_after}
 use Rattle.world_core.proofs.TellingLaws.{listed_as}
+use Rattle.world_core.proofs.FewerTies.{fewer_left}
+use Rattle.anchored_ties.proofs.FewerLaws.{tell_fewer}
 use Rattle.world_core.proofs.world.WorldCore.destroy_body.Goals as goal
 
 pub wake_named-requires-clause-movers : goal.wake_named-requires-clause-movers
@@ -63,6 +65,7 @@ invariant_of-self-2 c =
     (whole w _ _ _ (destroyed_quietly w c.self.inside.sets.acting c.args.handle c.in-Some.body.now (kept_of _ _ c.self.invariant.whole) c.self.invariant.whole.same calls named)))
     refl refl (named_at w.plain c.args.handle c.in-Some.body.now named) none
     (marked_after c.self.inside.bodies c.wake_named.new.bodies c.clear.new.self c.wake_named.ensures.marked c.clear.ensures.marked) joints (c.drop_of_body.ensures ∙ ap (contacts_without c.args.handle.slot) c.in_ok-reserve_drop.ensures.contacts)
+    c.self.inside.anchors (tell_fewer c.self.inside.anchors.holds c.self.inside.anchors.lists c.self.inside.sets.acting.ties _ (fewer_left c.is_mover-mover.result c.args.handle.slot c.deref-2.result.now c.deref-4.result.now c.self.inside.sets.acting c.wake_named.new.sets.acting c.leave.new.sets.acting c.wake_named.ensures.acting c.leave.ensures.acting) c.self.invariant.anchored)
 
 pub returns : goal.returns
 returns c =

@@ -8,6 +8,8 @@ use Rattle.world_rules.proofs.KeptJoints.{live_joint}
 use Rattle.world_core.proofs.CoreLaws.{core_unjoined}
 use Rattle.world_core.proofs.KnownLaws.{marked_after}
 use Rattle.world_core.proofs.TellingLaws.{listed_as}
+use Rattle.world_core.proofs.FewerTies.{fewer_unjoined}
+use Rattle.anchored_ties.proofs.FewerLaws.{tell_fewer}
 use Rattle.world_core.proofs.world.WorldCore.destroy_joint.Goals as goal
 
 pub wake_named-requires-clause-movers : goal.wake_named-requires-clause-movers
@@ -38,6 +40,7 @@ invariant_of-self c =
     (whole w _ _ _ (unjoin_left w c.self.inside.sets.acting c.args.handle c.in-Some.joint (kept_of _ _ c.self.invariant.whole) c.self.invariant.whole.same calls (sym c.in-Some.ensures))))
     refl refl (live_joint w c.args.handle c.in-Some.joint (sym c.in-Some.ensures)).1
     (marked_after c.self.inside.bodies c.wake_named.new.bodies c.mark.new.self c.wake_named.ensures.marked c.mark.ensures.marked) c.mark.ensures.there c.clear.ensures refl
+    c.self.inside.anchors (tell_fewer c.self.inside.anchors.holds c.self.inside.anchors.lists c.self.inside.sets.acting.ties _ (fewer_unjoined c.args.handle c.joint_movers-movers.result c.deref-2.result.now c.self.inside.sets.acting c.wake_named.new.sets.acting c.end_with.new.sets.acting c.wake_named.ensures.acting c.end_with.ensures.acting) c.self.invariant.anchored)
 
 pub returns : goal.returns
 returns c =

@@ -11,6 +11,8 @@ use Rattle.world_core.proofs.PartLaws.{disable_answers, kept_of, whole}
 use Rattle.world_core.proofs.CoreLaws.{core_disabled}
 use Rattle.world_core.proofs.KnownLaws.{marked_after}
 use Rattle.world_core.proofs.TellingLaws.{listed_as}
+use Rattle.world_core.proofs.FewerTies.{fewer_left}
+use Rattle.anchored_ties.proofs.FewerLaws.{tell_fewer}
 use Rattle.world_core.proofs.world.WorldCore.disable.Goals as goal
 
 pub wake_named-requires-clause-movers : goal.wake_named-requires-clause-movers
@@ -56,6 +58,7 @@ invariant_of-self-2 c =
     (whole w _ _ _ (disabled_quietly w c.self.inside.sets.acting c.args.handle c.in-Some.body.now (kept_of _ _ c.self.invariant.whole) c.self.invariant.whole.same calls named)))
     refl refl (named_at w.plain c.args.handle c.in-Some.body.now named) c.if-not-body.false c.disable.ensures.bodies
     (marked_after c.self.inside.bodies c.wake_named.new.bodies c.disable.new.self c.wake_named.ensures.marked c.disable.ensures.marked) c.idle.ensures (c.drop_of_body.ensures ∙ ap (contacts_without c.args.handle.slot) c.in_ok-reserve_drop.ensures.contacts)
+    c.self.inside.anchors (tell_fewer c.self.inside.anchors.holds c.self.inside.anchors.lists c.self.inside.sets.acting.ties _ (fewer_left c.is_mover-mover.result c.args.handle.slot c.deref-2.result.now c.deref-4.result.now c.self.inside.sets.acting c.wake_named.new.sets.acting c.leave.new.sets.acting c.wake_named.ensures.acting c.leave.ensures.acting) c.self.invariant.anchored)
 
 pub returns : goal.returns
 returns c =

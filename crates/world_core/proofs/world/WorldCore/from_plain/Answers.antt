@@ -1,6 +1,7 @@
 use Rattle.std.proofs.Common.{◌∙◌}
 use Rattle.world_core.proofs.Refusals.{handed_on}
 use Rattle.world_core.proofs.LoadingLaws.{Parts, contacts_are, made_core, made_same, totals_within}
+use Rattle.world_core.proofs.FewerTies.{tell_lapsed}
 use Rattle.world_core.proofs.world.WorldCore.from_plain.Goals as goal
 
 pub contacts_of-requires : goal.contacts_of-requires
@@ -24,7 +25,7 @@ invariant_of-result c =
       calls = c.calls.result;
       entries = c.from_totals.result.entries;
       settled = c.from_totals.result.settled;
-      events = c.new-3.result;
+      events = c.new-4.result;
     } in
     made_core p c.args.totals x c.in_ok-from_bodies.field-0.marks c.requires.sound (record {
       places_are = c.in_ok-from_places.ensures.places ∙ c.places.ensures;
@@ -38,9 +39,9 @@ invariant_of-result c =
       calls_are = c.calls.ensures;
       no_entries = c.from_totals.ensures.entries;
       settled_are = c.from_totals.ensures.settled;
-      events_are = c.new-3.ensures;
+      events_are = c.new-4.ensures;
     })
-    c.in_ok-from_bodies.ensures.all
+    c.in_ok-from_bodies.ensures.all c.new.result (tell_lapsed _ _ _ c.new.ensures.lapsed)
 
 pub returns-clause-made : goal.returns-clause-made
 returns-clause-made c =
@@ -57,7 +58,7 @@ returns-clause-made c =
       calls = c.calls.result;
       entries = c.from_totals.result.entries;
       settled = c.from_totals.result.settled;
-      events = c.new-3.result;
+      events = c.new-4.result;
     } in
     made_same p c.args.totals x c.requires.sound (record {
       places_are = c.in_ok-from_places.ensures.places ∙ c.places.ensures;
@@ -71,7 +72,7 @@ returns-clause-made c =
       calls_are = c.calls.ensures;
       no_entries = c.from_totals.ensures.entries;
       settled_are = c.from_totals.ensures.settled;
-      events_are = c.new-3.ensures;
+      events_are = c.new-4.ensures;
     })
 
 pub returns-in_err-sets_of-clause-memory_only : goal.returns-in_err-sets_of-clause-memory_only

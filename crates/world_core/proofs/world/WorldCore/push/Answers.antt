@@ -10,6 +10,8 @@ use Rattle.world_core.proofs.Whole.{HasWoken, has_woken, push_whole, told_whole}
 use Rattle.world_core.proofs.CoreLaws.{core_bodies}
 use Rattle.world_core.proofs.KnownLaws.{marked_after}
 use Rattle.world_core.proofs.TellingLaws.{listed_as}
+use Rattle.world_core.proofs.FewerTies.{fewer_woken}
+use Rattle.anchored_ties.proofs.FewerLaws.{tell_fewer}
 use Rattle.world_core.proofs.world.WorldCore.push.Goals as goal
 
 pub wake_named-requires-clause-movers : goal.wake_named-requires-clause-movers
@@ -40,3 +42,4 @@ invariant_of-self-2 c =
     (push_whole (the_view c.self.inside) c.args.handle c.args.by c.args.offset c.in_ok-momenta.momenta c.self.inside.sets.acting _ _ c.self.invariant.whole calls woke due))
     refl refl refl refl
     (marked_after c.self.inside.bodies c.wake_named.new.bodies c.change.new.self c.wake_named.ensures.marked c.change.ensures.marked)
+    c.self.inside.anchors (tell_fewer c.self.inside.anchors.holds c.self.inside.anchors.lists c.self.inside.sets.acting.ties _ (fewer_woken c.deref-2.result.now c.self.inside.sets.acting c.wake_named.new.sets.acting c.wake_named.ensures.acting) c.self.invariant.anchored)

@@ -10,6 +10,8 @@ use Rattle.world_core.proofs.Whole.{rest_booked, sleep_answers, sleep_whole, tol
 use Rattle.world_core.proofs.CoreLaws.{core_bodies}
 use Rattle.world_core.proofs.StepLaws.{settled_found}
 use Rattle.world_core.proofs.TellingLaws.{own_island}
+use Rattle.world_core.proofs.FewerTies.{fewer_slept}
+use Rattle.anchored_ties.proofs.FewerLaws.{tell_fewer}
 use Rattle.world_core.proofs.world.WorldCore.sleep.Goals as goal
 
 pub put_to_sleep-rest-requires-clause-movers : goal.put_to_sleep-rest-requires-clause-movers
@@ -35,6 +37,7 @@ invariant_of-self-2 c =
     (sleep_whole (the_view c.self.inside) c.args.handle.slot c.self.inside.sets.acting c.put_to_sleep-rest.new.sets.acting _ c.self.invariant.whole calls c.put_to_sleep-rest.ensures.acting c.put_to_sleep-rest.ensures.told))
     refl refl refl refl
     c.put_to_sleep-rest.ensures.marked
+    c.self.inside.anchors (tell_fewer c.self.inside.anchors.holds c.self.inside.anchors.lists c.self.inside.sets.acting.ties _ (fewer_slept c.args.handle.slot c.self.inside.sets.acting c.put_to_sleep-rest.new.sets.acting c.put_to_sleep-rest.ensures.acting) c.self.invariant.anchored)
 
 pub returns : goal.returns
 returns c =

@@ -1,13 +1,18 @@
-use Rattle.std.proofs.Common.{rules, tests, true, pos, Err, unsigned_abs, ◌≡◌, ◌<◌, ◌≤◌, ◌^◌, ◌∙◌, List, Option, length, map, refl, sym, ap, subst, arith}
+use Rattle.std.proofs.Common.{rules, tests, true, pos, Err, unsigned_abs, ◌≡◌, ◌<◌, ◌≤◌, ◌^◌, ◌∙◌, List, length, map, refl, sym, ap, subst, arith}
 use Rattle.std.proofs.lemmas.Int.{to_z-of_z}
 use Rattle.std.specs.Vec.{vec_capacity}
 use Rattle.std.specs.List.Sorted.{IsStrictlyIncreasing}
+use Rattle.anchored_ties.specs.Anchors.{Tell}
 use Rattle.body_handles.specs.declared.handle.Handle.{Handle}
+use Rattle.contacts.specs.Constraints.{constraint_number}
+use Rattle.sleep_wake.specs.Changes.{turned}
+use Rattle.sleep_wake.specs.declared.change.Change.{Change}
+use Rattle.contacts.specs.declared.constraint.Constraint.{Constraint}
+use Rattle.sleep_wake.specs.Acting.{Acting}
 use Rattle.body_handles.specs.declared.places.Place.{Place}
 use Rattle.event_feed.specs.Orders.{slot_of}
 use Rattle.fixed_geom.specs.declared.refusal.Refusal.TheVariants.{NoMemory}
 use Rattle.contacts_base.specs.declared.key.ContactKey.{ContactKey}
-use Rattle.plain_world.specs.declared.body.Body.{Body}
 use Rattle.shapes.specs.Shapes.{is_between}
 use Rattle.colour_solver.specs.States.{as_vector}
 use Rattle.world_rules.specs.World.{World}
@@ -21,6 +26,8 @@ use Rattle.contacts_base.specs.Contacts.{number_of}
 use Rattle.contacts_base.specs.declared.contact.ContactEntry.{ContactEntry}
 use Rattle.world_core.proofs.CoreLaws.{core_stepped}
 use Rattle.world_core.proofs.KnownLaws.{marked_after}
+use Rattle.world_core.proofs.FewerTies.{fewer_rested}
+use Rattle.anchored_ties.proofs.FewerLaws.{tell_fewer}
 use Rattle.world_core.proofs.world.WorldCore.step.Goals as goal
 
 pub collide-requires-clause-bodies : goal.collide-requires-clause-bodies
@@ -53,15 +60,24 @@ returns-in_err-make_room c =
     let refused : c.from_residual-in_err-make_room.result ≡ Err NoMemory = is_refusal _ _ c.from_residual-in_err-make_room.ensures.0 c.from_residual-in_err-make_room.ensures.1 c.in_err-make_room.ensures.memory_only in
     rw (← c.self.view_is) (step_refused (the_view c.self.inside) _ c.args.ticks _ between refused (rw (c.in_ok-changes.ensures.contacts, c.in_ok-reserve-2.ensures.acting, c.in_ok-reserve.ensures.entries, c.in_ok-reserve.ensures.settled) refl))
 
+pub list_sleepers-requires : goal.list_sleepers-requires
+list_sleepers-requires c = settled_found (the_view c.self.inside) c.self.inside.sets.acting c.reserve-2.new.self.acting c.self.invariant.whole c.in_ok-reserve-2.ensures.acting
+
+pub returns-in_err-asleep : goal.returns-in_err-asleep
+returns-in_err-asleep c =
+    let between : is_between (pos 1) (pos 8) c.args.ticks ≡ true = search (rules, tests) in
+    let refused : c.from_residual-in_err-asleep.result ≡ Err NoMemory = is_refusal _ _ c.from_residual-in_err-asleep.ensures.0 c.from_residual-in_err-asleep.ensures.1 c.in_err-asleep.ensures.memory_only in
+    rw (← c.self.view_is) (step_refused (the_view c.self.inside) _ c.args.ticks _ between refused (rw (c.in_ok-changes.ensures.contacts, c.in_ok-reserve-2.ensures.acting, c.in_ok-reserve.ensures.entries, c.in_ok-reserve.ensures.settled) refl))
+
 -- ---- the collide
 
-is_found : (c : goal.After-deref-3) → AreFound (the_view c.self.inside) c.deref-3.result.now
+is_found : (c : goal.After-deref-5) → AreFound (the_view c.self.inside) c.deref-4.result.now
 is_found c =
-    let listed = c.deref-3.ensures.value ∙ c.in_ok-turns.ensures.changes in
+    let listed = c.deref-4.ensures.value ∙ c.in_ok-turns.ensures.changes in
     rw (c.bodies.ensures, c.deref.ensures.value, c.deref-2.ensures.value, c.in_ok-changes.ensures.begin, c.in_ok-changes.ensures.end) at listed
 
 pub turn_all-requires-clause-can : goal.turn_all-requires-clause-can
-turn_all-requires-clause-can c = can_turn_found (the_view c.self.inside) c.self.inside.sets.acting c.reserve-2.new.self.acting c.deref-3.result.now c.self.invariant.whole c.in_ok-reserve-2.ensures.acting (is_found c)
+turn_all-requires-clause-can c = can_turn_found (the_view c.self.inside) c.self.inside.sets.acting c.reserve-2.new.self.acting c.deref-4.result.now c.self.invariant.whole c.in_ok-reserve-2.ensures.acting (is_found c)
 
 pub turn_all-requires-clause-room : goal.turn_all-requires-clause-room
 turn_all-requires-clause-room c =
@@ -69,7 +85,7 @@ turn_all-requires-clause-room c =
     let begun : c.deref.result.now ≡ (collided_in w).begin = c.deref.ensures.value ∙ c.in_ok-changes.ensures.begin in
     let long : length c.deref.result.now ≡ length (collided_in w).begin = ap (λ (keys : List ContactKey). length keys) begun in
     let count : c.len.result ≡ length (collided_in w).begin = omega (arith, c.len.ensures, c.deref.ensures.len, long) in
-    room_found w c.self.inside.sets.acting c.reserve-2.new.self.acting c.deref-3.result.now c.len.result c.reserve-2.new.self.room c.self.invariant.whole c.in_ok-reserve-2.ensures.acting (is_found c) count c.in_ok-reserve-2.ensures.room_made
+    room_found w c.self.inside.sets.acting c.reserve-2.new.self.acting c.deref-4.result.now c.len.result c.reserve-2.new.self.room c.self.invariant.whole c.in_ok-reserve-2.ensures.acting (is_found c) count c.in_ok-reserve-2.ensures.room_made
 
 pub turn_all-requires-clause-settled : goal.turn_all-requires-clause-settled
 turn_all-requires-clause-settled c = settled_found (the_view c.self.inside) c.self.inside.sets.acting c.reserve-2.new.self.acting c.self.invariant.whole c.in_ok-reserve-2.ensures.acting
@@ -83,27 +99,19 @@ turn_all-requires-clause-few_bodies c = rw c.clear_marks.ensures.bodies (kept_of
 pub turn_all-requires-clause-bodies : goal.turn_all-requires-clause-bodies
 turn_all-requires-clause-bodies c = rw c.clear_marks.ensures.bodies (kept_of _ _ c.self.invariant.whole).bodies
 
-pub turn_all-requires-clause-places : goal.turn_all-requires-clause-places
-turn_all-requires-clause-places c =
-    let slots : length c.self.inside.handles.places ≡ length c.self.inside.bodies.bodies = (kept_of _ _ c.self.invariant.whole).matched.slots in
-    let there : length c.places.result.now ≡ length c.self.inside.handles.places = ap (λ (ps : List Place). length ps) c.places.ensures in
-    let bodies : length c.clear_marks.new.self.bodies ≡ length c.self.inside.bodies.bodies = ap (λ (bs : List (Option Body)). length bs) c.clear_marks.ensures.bodies in
-    omega (arith, slots, there, bodies)
+pub turn_all-requires-clause-sleepers : goal.turn_all-requires-clause-sleepers
+turn_all-requires-clause-sleepers c = rw (c.deref-5.ensures.value, c.deref-4.ensures.value) (rw c.deref-3.ensures.value at c.in_ok-asleep.ensures.sleepers)
 
-pub turn_all-requires-clause-slots : goal.turn_all-requires-clause-slots
-turn_all-requires-clause-slots c =
-    let slots : length c.self.inside.handles.places ≡ length c.self.inside.bodies.bodies = (kept_of _ _ c.self.invariant.whole).matched.slots in
-    let there : length c.places.result.now ≡ length c.self.inside.handles.places = ap (λ (ps : List Place). length ps) c.places.ensures in
-    let room : length c.self.inside.bodies.bodies ≤ vec_capacity c.make_room.new.self.slots = rw c.bodies-2.ensures at c.in_ok-make_room.ensures.slots in
-    omega (arith, slots, there, room)
+pub turn_all-requires-clause-rising : goal.turn_all-requires-clause-rising
+turn_all-requires-clause-rising c = rw c.deref-5.ensures.value c.in_ok-asleep.ensures.rising
 
 -- ---- the ticks
 
 is_turned : (c : goal.After-unsigned_abs) → HasTurned (the_view c.self.inside) c.turn_all.new.sets.acting c.turn_all.new.bodies.bodies c.carry_out.new.self.contacts
 is_turned c =
-    let listed = c.deref-3.ensures.value ∙ c.in_ok-turns.ensures.changes in
-    let found : AreFound (the_view c.self.inside) c.deref-3.result.now = rw (c.bodies.ensures, c.deref.ensures.value, c.deref-2.ensures.value, c.in_ok-changes.ensures.begin, c.in_ok-changes.ensures.end) at listed in
-    has_turned (the_view c.self.inside) c.self.inside.sets.acting c.reserve-2.new.self.acting c.turn_all.new.sets.acting c.deref-3.result.now c.turn_all.new.bodies.bodies c.carry_out.new.self.contacts c.self.invariant.whole c.in_ok-reserve-2.ensures.acting found
+    let listed = c.deref-4.ensures.value ∙ c.in_ok-turns.ensures.changes in
+    let found : AreFound (the_view c.self.inside) c.deref-4.result.now = rw (c.bodies.ensures, c.deref.ensures.value, c.deref-2.ensures.value, c.in_ok-changes.ensures.begin, c.in_ok-changes.ensures.end) at listed in
+    has_turned (the_view c.self.inside) c.self.inside.sets.acting c.reserve-2.new.self.acting c.turn_all.new.sets.acting c.deref-4.result.now c.turn_all.new.bodies.bodies c.carry_out.new.self.contacts c.self.invariant.whole c.in_ok-reserve-2.ensures.acting found
     c.turn_all.ensures.acting (rw c.clear_marks.ensures.bodies at c.turn_all.ensures.bodies) (c.carry_out.ensures.contacts ∙ c.in_ok-changes.ensures.due)
 
 pub solve-sums-requires-clause-few : goal.solve-sums-requires-clause-few
@@ -129,10 +137,10 @@ solve-sums-requires-clause-room c =
 is_solved : (c : goal.After-unsigned_abs-2) → HasSolved (the_view c.self.inside) c.unsigned_abs.result c.solve-sums.new.bodies.bodies c.solve-sums.new.joints.joints c.solve-sums.new.contacts.contacts c.solve-sums.result
 is_solved c =
     let w : World = the_view c.self.inside in
-    let listed = c.deref-3.ensures.value ∙ c.in_ok-turns.ensures.changes in
-    let found : AreFound w c.deref-3.result.now = rw (c.bodies.ensures, c.deref.ensures.value, c.deref-2.ensures.value, c.in_ok-changes.ensures.begin, c.in_ok-changes.ensures.end) at listed in
+    let listed = c.deref-4.ensures.value ∙ c.in_ok-turns.ensures.changes in
+    let found : AreFound w c.deref-4.result.now = rw (c.bodies.ensures, c.deref.ensures.value, c.deref-2.ensures.value, c.in_ok-changes.ensures.begin, c.in_ok-changes.ensures.end) at listed in
     let turned : HasTurned w c.turn_all.new.sets.acting c.turn_all.new.bodies.bodies c.carry_out.new.self.contacts =
-    has_turned w c.self.inside.sets.acting c.reserve-2.new.self.acting c.turn_all.new.sets.acting c.deref-3.result.now c.turn_all.new.bodies.bodies c.carry_out.new.self.contacts c.self.invariant.whole c.in_ok-reserve-2.ensures.acting found
+    has_turned w c.self.inside.sets.acting c.reserve-2.new.self.acting c.turn_all.new.sets.acting c.deref-4.result.now c.turn_all.new.bodies.bodies c.carry_out.new.self.contacts c.self.invariant.whole c.in_ok-reserve-2.ensures.acting found
     c.turn_all.ensures.acting (rw c.clear_marks.ensures.bodies at c.turn_all.ensures.bodies) (c.carry_out.ensures.contacts ∙ c.in_ok-changes.ensures.due) in
     let to_bodies = rw c.colours.ensures at c.solve-sums.ensures.bodies in
     let to_joints = rw c.colours.ensures at c.solve-sums.ensures.joints in
@@ -150,9 +158,9 @@ is_solved c =
 
 turned_then : (c : goal.After-unsigned_abs-2) → HasTurned (the_view c.self.inside) c.turn_all.new.sets.acting c.turn_all.new.bodies.bodies c.carry_out.new.self.contacts
 turned_then c =
-    let listed = c.deref-3.ensures.value ∙ c.in_ok-turns.ensures.changes in
-    let found : AreFound (the_view c.self.inside) c.deref-3.result.now = rw (c.bodies.ensures, c.deref.ensures.value, c.deref-2.ensures.value, c.in_ok-changes.ensures.begin, c.in_ok-changes.ensures.end) at listed in
-    has_turned (the_view c.self.inside) c.self.inside.sets.acting c.reserve-2.new.self.acting c.turn_all.new.sets.acting c.deref-3.result.now c.turn_all.new.bodies.bodies c.carry_out.new.self.contacts c.self.invariant.whole c.in_ok-reserve-2.ensures.acting found
+    let listed = c.deref-4.ensures.value ∙ c.in_ok-turns.ensures.changes in
+    let found : AreFound (the_view c.self.inside) c.deref-4.result.now = rw (c.bodies.ensures, c.deref.ensures.value, c.deref-2.ensures.value, c.in_ok-changes.ensures.begin, c.in_ok-changes.ensures.end) at listed in
+    has_turned (the_view c.self.inside) c.self.inside.sets.acting c.reserve-2.new.self.acting c.turn_all.new.sets.acting c.deref-4.result.now c.turn_all.new.bodies.bodies c.carry_out.new.self.contacts c.self.invariant.whole c.in_ok-reserve-2.ensures.acting found
     c.turn_all.ensures.acting (rw c.clear_marks.ensures.bodies at c.turn_all.ensures.bodies) (c.carry_out.ensures.contacts ∙ c.in_ok-changes.ensures.due)
 
 pub rest_ready-rest-requires-clause-tied : goal.rest_ready-rest-requires-clause-tied
@@ -211,8 +219,7 @@ rest_ready-rest-requires-clause-slots c =
     let slots : length c.self.inside.handles.places ≡ length c.self.inside.bodies.bodies = (kept_of _ _ c.self.invariant.whole).matched.slots in
     let there : length c.places-2.result.now ≡ length c.self.inside.handles.places = ap (λ (ps : List Place). length ps) c.places-2.ensures in
     let room : length c.self.inside.bodies.bodies ≤ vec_capacity c.make_room.new.self.slots = rw c.bodies-2.ensures at c.in_ok-make_room.ensures.slots in
-    let kept = c.turn_all.ensures.slots in
-    omega (arith, slots, there, room, kept)
+    omega (arith, slots, there, room)
 
 pub rest_ready-rest-requires-clause-settled : goal.rest_ready-rest-requires-clause-settled
 rest_ready-rest-requires-clause-settled c =
@@ -234,10 +241,10 @@ are_left : (c : goal.After-drop-turns-2) → AreLeft (the_view c.self.inside) c.
     c.solve-sums.result (as_vector c.rest_ready-rest.result) c.renew.new.self
 are_left c =
     let w : World = the_view c.self.inside in
-    let listed = c.deref-3.ensures.value ∙ c.in_ok-turns.ensures.changes in
-    let found : AreFound w c.deref-3.result.now = rw (c.bodies.ensures, c.deref.ensures.value, c.deref-2.ensures.value, c.in_ok-changes.ensures.begin, c.in_ok-changes.ensures.end) at listed in
+    let listed = c.deref-4.ensures.value ∙ c.in_ok-turns.ensures.changes in
+    let found : AreFound w c.deref-4.result.now = rw (c.bodies.ensures, c.deref.ensures.value, c.deref-2.ensures.value, c.in_ok-changes.ensures.begin, c.in_ok-changes.ensures.end) at listed in
     let turned : HasTurned w c.turn_all.new.sets.acting c.turn_all.new.bodies.bodies c.carry_out.new.self.contacts =
-    has_turned w c.self.inside.sets.acting c.reserve-2.new.self.acting c.turn_all.new.sets.acting c.deref-3.result.now c.turn_all.new.bodies.bodies c.carry_out.new.self.contacts c.self.invariant.whole c.in_ok-reserve-2.ensures.acting found
+    has_turned w c.self.inside.sets.acting c.reserve-2.new.self.acting c.turn_all.new.sets.acting c.deref-4.result.now c.turn_all.new.bodies.bodies c.carry_out.new.self.contacts c.self.invariant.whole c.in_ok-reserve-2.ensures.acting found
     c.turn_all.ensures.acting (rw c.clear_marks.ensures.bodies at c.turn_all.ensures.bodies) (c.carry_out.ensures.contacts ∙ c.in_ok-changes.ensures.due) in
     let to_bodies = rw c.colours.ensures at c.solve-sums.ensures.bodies in
     let to_joints = rw c.colours.ensures at c.solve-sums.ensures.joints in
@@ -282,6 +289,9 @@ invariant_of-self-2 c =
     c.clear_marks.ensures.bodies refl
     (marked_after c.clear_marks.new.self c.solve-sums.new.bodies c.rest_ready-rest.new.bodies (marked_after c.clear_marks.new.self c.turn_all.new.bodies c.solve-sums.new.bodies c.turn_all.ensures.marked c.solve-sums.ensures.marked) c.rest_ready-rest.ensures.marked)
     c.solve-sums.ensures.forbidden (c.solve-sums.ensures.numbers ∙ ap (λ (es : List ContactEntry). map number_of es) (c.carry_out.ensures.contacts ∙ c.in_ok-changes.ensures.due))
+    c.renew_anchors.new.anchors
+    (tell_fewer c.renew_anchors.new.anchors.holds c.renew_anchors.new.anchors.lists c.turn_all.new.sets.acting.ties _ (fewer_rested _ _ _ c.turn_all.new.sets.acting c.rest_ready-rest.new.sets.acting c.rest_ready-rest.ensures.acting)
+    (c.renew_anchors.ensures.told c.reserve-2.new.self.acting (c.turn_all.ensures.acting ∙ ap (λ (cs : List (Change Constraint)). turned constraint_number cs c.reserve-2.new.self.acting) (c.deref-4.ensures.value ∙ sym c.deref-6.ensures.value)) (subst (λ (a : Acting Constraint). Tell c.self.inside.anchors.holds c.self.inside.anchors.lists a.ties) (sym c.in_ok-reserve-2.ensures.acting) c.self.invariant.anchored)))
 
 pub returns : goal.returns
 returns c =

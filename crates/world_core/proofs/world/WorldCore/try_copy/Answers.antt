@@ -1,6 +1,7 @@
 use Rattle.world_core.proofs.CopyLaws.{copied_whole}
 use Rattle.world_core.proofs.KnownLaws.{known_as}
 use Rattle.world_core.proofs.Refusals.{handed_on}
+use Rattle.world_core.proofs.FewerTies.{tell_lapsed}
 use Rattle.world_core.proofs.world.WorldCore.try_copy.Goals as goal
 
 pub returns-in_err-try_copy-4-clause-memory_only : goal.returns-in_err-try_copy-4-clause-memory_only
@@ -66,4 +67,5 @@ invariant_of-result c =
     record {
       whole = whole_as c.self.invariant.whole;
       known = known_as _ _ _ _ _ _ _ _ c.self.invariant.known c.in_ok-try_copy-2.ensures.marks c.in_ok-try_copy-2.ensures.copy c.in_ok-try_copy-4.ensures.copy c.in_ok-try_copy-5.ensures.copy;
+      anchored = tell_lapsed _ _ _ c.new-3.ensures.lapsed;
     }

@@ -1,0 +1,4 @@
+pub mod TellLaws
+pub mod ListLaws
+pub mod QuestionLaws
+pub mod FewerLaws

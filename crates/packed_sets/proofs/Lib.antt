@@ -1,0 +1,6 @@
+pub mod ListLaws
+pub mod PackLaws
+pub mod SpotLaws
+pub mod RoomLaws
+pub mod KeptLaws
+pub mod ViewLaws

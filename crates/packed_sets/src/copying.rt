@@ -1,0 +1,20 @@
+//! Copies of lists.
+
+ghost use Rattle.std.specs.Prelude.{◌≡◌, map, IfOk};
+ghost use Rattle.std.specs.Result.{IsOkUnless};
+
+use fixed_geom::Refusal;
+use std::alloc::Global;
+
+/// A copy of each list, in their order. Refused 1 where memory is wanting.
+pub(crate) fn copies(alloc: Global, lists: &[Vec<u32>]) -> Result<Vec<Vec<u32>>, Refusal>
+    ensures lists { IfOk result (λ copied. map (λ v. v.items) copied.items ≡ map (λ v. v.items) lists.now) }
+    ensures memory_only { IsOkUnless result Refusal.NoMemory }
+{
+    let mut copied = Vec::with_capacity(alloc, lists.len())?;
+    for place in 0..lists.len() {
+        let list = Vec::from_slice(alloc, lists[place].as_slice())?;
+        copied.push(list)?;
+    }
+    Ok(copied)
+}

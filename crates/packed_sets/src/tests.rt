@@ -1,0 +1,22 @@
+//! Each call that takes memory gets it.
+
+use super::*;
+use fixed_geom::Refusal;
+use std::alloc::Global;
+use std::test::Fail;
+
+/// Two sets of ids below four, with room for two in the second.
+fn two_sets(alloc: Global) -> Result<PackedSets, Refusal> {
+    let mut sets = PackedSets::new(alloc);
+    sets.reserve(2, 4)?;
+    sets.reserve_in(1, 2)?;
+    Ok(sets)
+}
+
+#[test]
+fn memory_is_had(rt: HostRuntime) -> Result<(), Fail> {
+    let sets = two_sets(rt.alloc())?;
+    let copied = sets.try_copy()?;
+    assert_eq!(rt; copied.set_of(3), None);
+    Ok(())
+}

@@ -1,6 +1,0 @@
-use Rattle.std.proofs.Common.{◌≡◌, take}
-use Rattle.solver_sets.specs.Beside.{first_movers}
-use Rattle.solver_sets.proofs.beside.list_first.Given as goal
-
-abbrev pub invariant-loop-place : goal.invariant-loop-place
-invariant-loop-place l = l.slots.items ≡ first_movers (take l.place l.ties)
