@@ -34,6 +34,33 @@ fn time_alone<W: World, R: Print + Clock>(rt: &R, alloc: Global, pushes: u64) ->
     print_line(rt, "apply", now(rt).saturating_sub(start), pushes)
 }
 
+/// Prints how long so many pushes took of seats that are closed again.
+fn print_left<W: World, R: Print>(
+    rt: &R,
+    name: &str,
+    left: Shut<W>,
+    pushes: u64,
+) -> Result<(), Stop> {
+    match left {
+        Shut::Closed(left) => print_line(rt, name, left.nanos, pushes),
+        Shut::Unopened(_, refusal) => Err(Stop::Refused(refusal)),
+        Shut::Lost(refusal) => Err(Stop::Refused(refusal)),
+    }
+}
+
+/// Lets each of so many seats push the body of a new world so many times.
+fn push_by_seats<R: Threads + Wait + Clock + Sync>(
+    rt: &R,
+    alloc: Global,
+    seats: u64,
+    pushes: u64,
+) -> Shut<WorldCore> {
+    match circle_world(alloc) {
+        Ok(world) => open_to(rt, alloc, world, seats, Work::Push(pushes)),
+        Err(refusal) => Shut::Lost(refusal),
+    }
+}
+
 fn time_seats<R: Print + Threads + Wait + Clock + Sync>(
     rt: &R,
     alloc: Global,
@@ -41,12 +68,8 @@ fn time_seats<R: Print + Threads + Wait + Clock + Sync>(
     seats: u64,
     pushes: u64,
 ) -> Result<(), Stop> {
-    let world: WorldCore = circle_world(alloc)?;
-    match open_to(rt, alloc, world, seats, Work::Push(pushes)) {
-        Shut::Closed(left) => print_line(rt, name, left.nanos, pushes.saturating_mul(seats)),
-        Shut::Unopened(_, refusal) => Err(Stop::Refused(refusal)),
-        Shut::Lost(refusal) => Err(Stop::Refused(refusal)),
-    }
+    let left = push_by_seats(rt, alloc, seats, pushes);
+    print_left(rt, name, left, pushes.saturating_mul(seats))
 }
 
 /// So many pushes by `apply`, and by the calls of 1, 2 and 4 seats, each on a thread of its own.
