@@ -1,11 +1,8 @@
 -- Pairs whose bodies are kept from colliding.
-use Rattle.std.proofs.Common.{◌≡◌, ℕ, ◌+◌, ◌<◌, ◌≤◌, ◌==◌, Bool, true, false, cond, List, [], ◌∷◌, ◌++◌, length, take, get_or, Ok, Err, Result, refl, sym, ap, ◌∙◌, arith}
-use Rattle.std.specs.Prelude.{filter, is_ok, MatchResult}
-use Rattle.std.specs.List.{list_any}
-use Rattle.std.proofs.lemmas.List.{get_or_default, take_more}
+use Rattle.std.proofs.Common.{◌≡◌, ℕ, ◌+◌, ◌<◌, Bool, true, false, cond, List, [], ◌∷◌, ◌++◌, length, take, get_or, refl, sym, ap}
+use Rattle.std.specs.Prelude.{filter}
+use Rattle.std.proofs.lemmas.List.{take_more}
 use Rattle.std.proofs.lemmas.List.Elements.{All-filter}
-use Rattle.std.proofs.lemmas.List.Folds.{list_any_at, list_any_none}
-use Rattle.graph_colours.proofs.PlaceLemmas.{is_same, not_same}
 use Rattle.contacts_base.specs.declared.near.Proxy.{Proxy}
 use Rattle.contacts_base.specs.Near.{IsProxyList, near_codes}
 use Rattle.contacts.specs.Forbidden.{allowed_codes, is_allowed}
@@ -13,17 +10,6 @@ use Rattle.contacts.specs.Pairs.{IsPair, ArePairs}
 use Rattle.contacts.proofs.Members.{Each}
 use Rattle.contacts.proofs.PairLemmas.{near_are_pairs}
 use Rattle.contacts.proofs.Rising.{IsRising, increasing_from_rising, rising_from_increasing, rising_passed}
-
--- a search in numbers that ascend finds one just if it is among them
-pub found_is : (xs : List ℕ) (x : ℕ) (r : Result ℕ ℕ)
-    → MatchResult r (λ i. (i < length xs) × (get_or xs i 0 ≡ x)) (λ i. (i ≤ length xs) × ((k : ℕ) → k < i → get_or xs k 0 < x) × ((k : ℕ) → i ≤ k → k < length xs → x < get_or xs k 0))
-    → is_ok r ≡ list_any (λ n. n == x) xs
-found_is xs x (Ok i) h = sym (list_any_at (λ n. n == x) xs i 0 h.0 (is_same (get_or xs i 0) x h.1))
-found_is xs x (Err i) h = sym (list_any_none (λ n. n == x) xs (λ k d lt. not_same (get_or xs k d) x (λ q.
-    let at : get_or xs k 0 ≡ x = get_or_default xs k 0 d lt ∙ q in
-    let low : k < i → ⊥ = λ l. let a : get_or xs k 0 < x = h.1 k l in omega (arith, at) in
-    let high : i ≤ k → ⊥ = λ l. let a : x < get_or xs k 0 = h.2 k l lt in omega (arith, at) in
-    omega (arith, low, high))))
 
 each_passed : (t : ℕ → Bool) (x : ℕ) (xs : List ℕ) → Each (λ y. x < y) xs → Each (λ y. x < y) (filter t xs)
 each_passed t x [] h = tt

@@ -1,7 +1,6 @@
 //! The broad phase: the fat boxes of the enabled bodies' shapes, and which of them overlap.
 
 ghost use Rattle.std.specs.Prelude.{◌≡◌, ◌<◌, ◌≤◌, ◌-◌, ◌∷◌, ◌++◌, [], All, OnOk, OnErr, IfOk, vec_len, vec_capacity};
-ghost use Rattle.std.specs.List.Sorted.{IsNonDecreasing};
 ghost use Rattle.std.specs.Result.{IsOkUnless};
 ghost use Rattle.contacts_base.specs.Near.{IsProxy, IsProxyList, number_of, near_codes};
 ghost use Rattle.contacts.specs.Forbidden.{allowed_codes};
@@ -9,7 +8,7 @@ ghost use Rattle.contacts.specs.Pairs.{ArePairs};
 ghost use Rattle.contacts.specs.Changes.{AreRising, contacts_of, keys_not_in, keys_touching_only_in};
 
 use crate::changes::{Changes, update};
-use crate::forbidden::list_allowed;
+use crate::forbidden::{ForbiddenPairs, list_allowed};
 use crate::sweep::near_pairs;
 use contacts_base::{Contacts, Proxy};
 use fixed_geom::{Box2, Refusal};
@@ -145,20 +144,19 @@ impl BroadPhase {
         Ok(near)
     }
 
-    /// The contacts of the near pairs whose bodies aren't among the forbidden pairs (numbers of `pair_number`, ascending), and what changed; `old` are the contacts until now. Refused 1 where memory is wanting.
+    /// The contacts of the near pairs whose bodies aren't among the forbidden pairs, and what changed; `old` are the contacts until now. Refused 1 where memory is wanting.
     ///
     /// A contact is evaluated anew if one of its two bodies stirs, and else stays as it is. A pair that had a contact keeps its surface, and the impulses of its points by their candidates; a
     /// new pair gets a contact with what its shapes' surfaces mix to. A contact ends that touched and doesn't any more, also where its shapes are no longer
     /// near or its bodies may no longer collide.
-    pub fn update_contacts(
+    pub fn update_contacts<F: ForbiddenPairs>(
         &mut self,
         alloc: Global,
-        forbidden: &[u64],
+        forbidden: &F,
         old: &Contacts,
     ) -> Result<Changes, Refusal>
-        requires { IsNonDecreasing forbidden.now }
         ensures kept { self.new ≡ self.old }
-        ensures now { IfOk result (λ changes. changes.now ≡ contacts_of old.now self.old (allowed_codes forbidden.now self.old)) }
+        ensures now { IfOk result (λ changes. changes.now ≡ contacts_of old.now self.old (allowed_codes (F.numbers forbidden.now) self.old)) }
         ensures made { IfOk result (λ changes. changes.made.items ≡ keys_not_in old.now changes.now) }
         ensures gone { IfOk result (λ changes. changes.gone.items ≡ keys_not_in changes.now old.now) }
         ensures begin { IfOk result (λ changes. changes.begin.items ≡ keys_touching_only_in old.now changes.now) }

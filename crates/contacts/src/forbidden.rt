@@ -1,13 +1,23 @@
 //! Pairs of bodies that something keeps from colliding.
 
-ghost use Rattle.std.specs.Prelude.{◌≡◌, ◌++◌, ◌∷◌, [], cond, filter, OnOk};
-ghost use Rattle.std.specs.List.Sorted.{IsNonDecreasing};
+ghost use Rattle.std.specs.Prelude.{◌≡◌, ◌==◌, ◌++◌, ◌∷◌, ℕ, [], List, cond, filter, OnOk};
+ghost use Rattle.std.specs.List.{list_any};
 ghost use Rattle.std.specs.Result.{IsOkUnless};
 ghost use Rattle.contacts.specs.Forbidden.{is_allowed, is_forbidden, pair_number};
 ghost use Rattle.contacts.specs.Pairs.{IsPair, ArePairs};
 
 use contacts_base::Proxy;
 use fixed_geom::Refusal;
+
+/// Pairs of bodies that may not collide. Contracts see their numbers (`numbers`), as `pair_number` tells them: a pair's number may stand there more
+/// than once.
+pub trait ForbiddenPairs {
+    ghost numbers: { Self → List ℕ };
+
+    /// Whether the bodies in two slots are one of the pairs, whichever comes first.
+    fn forbids(&self, a: u32, b: u32) -> bool
+        ensures { result ≡ list_any (λ n. n == pair_number a b) (numbers self.now) };
+}
 
 /// The number of a pair of bodies, by their slots: the same whichever comes first.
 pub fn pair_number(a: u32, b: u32) -> u64
@@ -21,24 +31,20 @@ pub fn pair_number(a: u32, b: u32) -> u64
 }
 
 /// Whether the bodies of two shapes are among these pairs.
-pub(crate) fn is_forbidden(pairs: &[u64], p: &Proxy, q: &Proxy) -> bool
-    requires { IsNonDecreasing pairs.now }
-    ensures { result ≡ is_forbidden pairs.now p.now q.now }
+pub(crate) fn is_forbidden<F: ForbiddenPairs>(forbidden: &F, p: &Proxy, q: &Proxy) -> bool
+    ensures { result ≡ is_forbidden (F.numbers forbidden.now) p.now q.now }
 {
-    pairs
-        .binary_search(&pair_number(p.id.slot, q.id.slot))
-        .is_ok()
+    forbidden.forbids(p.id.slot, q.id.slot)
 }
 
 /// Whether the bodies of the pair of shapes with this code aren't among these pairs.
-fn is_allowed(pairs: &[u64], proxies: &[Proxy], code: u64) -> bool
-    requires sorted { IsNonDecreasing pairs.now }
+fn is_allowed<F: ForbiddenPairs>(forbidden: &F, proxies: &[Proxy], code: u64) -> bool
     requires pair { IsPair proxies.now code }
-    ensures { result ≡ is_allowed pairs.now proxies.now code }
+    ensures { result ≡ is_allowed (F.numbers forbidden.now) proxies.now code }
 {
     let first = (code / (1 << 32)) as usize;
     let second = (code % (1 << 32)) as usize;
-    !is_forbidden(pairs, &proxies[first], &proxies[second])
+    !is_forbidden(forbidden, &proxies[first], &proxies[second])
 }
 
 /// Adds a pair's code, if it is wanted. Refused 1 where memory is wanting.
@@ -54,15 +60,14 @@ fn push_if(codes: &mut Vec<u64>, wanted: bool, code: u64) -> Result<(), Refusal>
 
 /// Fills `allowed` with the codes of those pairs of shapes whose bodies aren't among the forbidden pairs. Refused 1 where memory is
 /// wanting.
-pub(crate) fn list_allowed(
+pub(crate) fn list_allowed<F: ForbiddenPairs>(
     allowed: &mut Vec<u64>,
-    forbidden: &[u64],
+    forbidden: &F,
     proxies: &[Proxy],
     codes: &[u64],
 ) -> Result<(), Refusal>
-    requires sorted { IsNonDecreasing forbidden.now }
     requires pairs { ArePairs proxies.now codes.now }
-    ensures listed { OnOk result (allowed.new.items ≡ filter (is_allowed forbidden.now proxies.now) codes.now) }
+    ensures listed { OnOk result (allowed.new.items ≡ filter (is_allowed (F.numbers forbidden.now) proxies.now) codes.now) }
     ensures memory_only { IsOkUnless result Refusal.NoMemory }
 {
     allowed.clear();

@@ -23,7 +23,7 @@ mod update;
 pub use broad_phase::BroadPhase;
 pub use changes::Changes;
 pub use constraint::Constraint;
-pub use forbidden::pair_number;
+pub use forbidden::{ForbiddenPairs, pair_number};
 pub use known::{all_known_after, contacts_in_parts, known_stays, near_are_known};
 pub use near_marked::fresh_of_marked;
 pub use stirring::{Stirring, refresh};

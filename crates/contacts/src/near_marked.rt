@@ -2,7 +2,7 @@
 //! marked, that costs less than a sweep of all.
 
 ghost use Rattle.std.specs.Prelude.{◌≡◌, ◌++◌, ◌/◌, ◌%◌, ◌^◌, ◌<◌, All, IfOk, OnOk};
-ghost use Rattle.std.specs.List.Sorted.{IsNonDecreasing, IsStrictlyIncreasing};
+ghost use Rattle.std.specs.List.Sorted.{IsStrictlyIncreasing};
 ghost use Rattle.std.specs.Option.{option_to_list};
 ghost use Rattle.std.specs.Result.{IsOkUnless};
 ghost use Rattle.contacts_base.specs.Contacts.{AreContacts};
@@ -15,6 +15,7 @@ ghost use Rattle.contacts.specs.Turns.{AreWithin, moved_by};
 ghost use Rattle.slot_marks.specs.Marks.{AreListed};
 
 use crate::changes::entry_with;
+use crate::forbidden::ForbiddenPairs;
 use crate::marks::either_moved;
 use crate::turns::{ShapesByName, may_touch};
 use contacts_base::{ContactEntry, ContactKey, Proxy, ShapeId, contact_at, is_near, seek};
@@ -212,18 +213,17 @@ fn has_key(old: &[ContactEntry], key: ContactKey) -> bool
 }
 
 /// The contact of two shapes, if the first is the lesser, they may touch, one has moved, and they have none yet.
-fn fresh_of(
+fn fresh_of<F: ForbiddenPairs>(
     marks: &[bool],
-    forbidden: &[u64],
+    forbidden: &F,
     old: &[ContactEntry],
     p: &Proxy,
     q: &Proxy,
 ) -> Option<ContactEntry>
-    requires sorted { IsNonDecreasing forbidden.now }
     requires old { AreContacts old.now }
     requires first { IsProxy p.now }
     requires second { IsProxy q.now }
-    ensures { result ≡ fresh_of (moved_by marks.now) forbidden.now old.now p.now q.now }
+    ensures { result ≡ fresh_of (moved_by marks.now) (F.numbers forbidden.now) old.now p.now q.now }
 {
     if p.id.number() >= q.id.number() {
         return None;
@@ -246,17 +246,16 @@ fn fresh_of(
 }
 
 /// The contact of the shapes of a key's number, if they are fresh.
-fn fresh_by<S: ShapesByName>(
+fn fresh_by<S: ShapesByName, F: ForbiddenPairs>(
     shapes: &S,
     marks: &[bool],
-    forbidden: &[u64],
+    forbidden: &F,
     old: &[ContactEntry],
     number: u128,
 ) -> Option<ContactEntry>
     requires shapes { IsProxyList (S.proxies shapes.now) }
-    requires sorted { IsNonDecreasing forbidden.now }
     requires old { AreContacts old.now }
-    ensures { result ≡ fresh_by (moved_by marks.now) forbidden.now (S.proxies shapes.now) old.now number }
+    ensures { result ≡ fresh_by (moved_by marks.now) (F.numbers forbidden.now) (S.proxies shapes.now) old.now number }
 {
     if number >= 1 << 80 {
         return None;
@@ -284,21 +283,20 @@ fn push_entry(entries: &mut Vec<ContactEntry>, entry: Option<ContactEntry>) -> R
 
 /// The contacts of those near pairs of which a shape has moved, whose bodies aren't among the forbidden pairs, and that have none among `old`: all
 /// are of shapes of the marked slots. `numbers` is room to work in. Refused 1 where memory is wanting.
-pub fn fresh_of_marked<S: ShapesByName>(
+pub fn fresh_of_marked<S: ShapesByName, F: ForbiddenPairs>(
     alloc: Global,
     numbers: &mut Vec<u128>,
     shapes: &S,
     marks: &[bool],
     marked: &[u32],
-    forbidden: &[u64],
+    forbidden: &F,
     old: &[ContactEntry],
 ) -> Result<Vec<ContactEntry>, Refusal>
     requires shapes { IsProxyList (S.proxies shapes.now) }
     requires within { AreWithin marks.now (S.proxies shapes.now) }
-    requires sorted { IsNonDecreasing forbidden.now }
     requires listed { AreListed marks.now marked.now }
     requires old { AreContacts old.now }
-    ensures value { IfOk result (λ fresh. fresh.items ≡ contacts_of old.now (S.proxies shapes.now) (fresh_codes (moved_by marks.now) forbidden.now (S.proxies shapes.now) old.now)) }
+    ensures value { IfOk result (λ fresh. fresh.items ≡ contacts_of old.now (S.proxies shapes.now) (fresh_codes (moved_by marks.now) (F.numbers forbidden.now) (S.proxies shapes.now) old.now)) }
     ensures memory_only { IsOkUnless result Refusal.NoMemory }
 {
     list_numbers(numbers, shapes, marked)?;

@@ -2,7 +2,6 @@
 
 ghost use Rattle.std.specs.Prelude.{◌≡◌, ◌≤◌, All, IfOk, Some, None, length, map};
 ghost use Rattle.std.specs.List.{filter_map};
-ghost use Rattle.std.specs.List.Sorted.{IsNonDecreasing};
 ghost use Rattle.std.specs.Result.{IsOkUnless};
 ghost use Rattle.contacts_base.specs.Contacts.{AreContacts, number_of};
 ghost use Rattle.contacts_base.specs.Near.{IsProxyList};
@@ -13,6 +12,7 @@ ghost use Rattle.contacts.specs.Stirring.{AreQuiet};
 ghost use Rattle.contacts.specs.Turns.{IsAdded, IsMade, begun_keys, ended_keys, moved_by, turned};
 
 use crate::changes::push_key;
+use crate::forbidden::ForbiddenPairs;
 use crate::merge::{merge, push_below};
 use crate::stirring::turn_in;
 use crate::turns::{ShapesByName, Turn, begun_key, ended_key};
@@ -83,24 +83,23 @@ fn push_turned(
 }
 
 /// Goes over the old contacts once, and adds the fresh ones in their places. Refused 1 where memory is wanting.
-fn turn_each<S: ShapesByName>(
+fn turn_each<S: ShapesByName, F: ForbiddenPairs>(
     alloc: Global,
     shapes: &S,
     marks: &[bool],
-    forbidden: &[u64],
+    forbidden: &F,
     old: &[ContactEntry],
     flags: &[bool],
     fresh: &[ContactEntry],
 ) -> Result<Survivors, Refusal>
     requires shapes { IsProxyList (S.proxies shapes.now) }
-    requires sorted { IsNonDecreasing forbidden.now }
     requires old { AreContacts old.now }
     requires keys { All (λ e. IsPairKey e.key) old.now }
     requires quiet { AreQuiet flags.now marks.now (S.proxies shapes.now) }
     requires fresh { AreAscending number_of fresh.now }
-    ensures all { IfOk result (λ found. found.all.items ≡ merged number_of (map (again (S.proxies shapes.now)) (staying (moved_by marks.now) forbidden.now (S.proxies shapes.now) old.now)) fresh.now) }
-    ensures begin { IfOk result (λ found. found.begin.items ≡ begun_keys (moved_by marks.now) forbidden.now (S.proxies shapes.now) old.now) }
-    ensures end { IfOk result (λ found. found.end.items ≡ ended_keys (moved_by marks.now) forbidden.now (S.proxies shapes.now) old.now) }
+    ensures all { IfOk result (λ found. found.all.items ≡ merged number_of (map (again (S.proxies shapes.now)) (staying (moved_by marks.now) (F.numbers forbidden.now) (S.proxies shapes.now) old.now)) fresh.now) }
+    ensures begin { IfOk result (λ found. found.begin.items ≡ begun_keys (moved_by marks.now) (F.numbers forbidden.now) (S.proxies shapes.now) old.now) }
+    ensures end { IfOk result (λ found. found.end.items ≡ ended_keys (moved_by marks.now) (F.numbers forbidden.now) (S.proxies shapes.now) old.now) }
     ensures memory_only { IsOkUnless result Refusal.NoMemory }
 {
     let mut all = Vec::with_capacity(alloc, old.len().saturating_add(fresh.len()))?;
@@ -143,22 +142,21 @@ fn keys_of_touching(alloc: Global, fresh: &[ContactEntry]) -> Result<Vec<Contact
 }
 
 /// The contacts after a collide, of those that there were and the fresh ones. Refused 1 where memory is wanting.
-pub(crate) fn rebuild<S: ShapesByName>(
+pub(crate) fn rebuild<S: ShapesByName, F: ForbiddenPairs>(
     alloc: Global,
     shapes: &S,
     marks: &[bool],
-    forbidden: &[u64],
+    forbidden: &F,
     old: &[ContactEntry],
     flags: &[bool],
     fresh: &[ContactEntry],
 ) -> Result<Rebuilt, Refusal>
     requires shapes { IsProxyList (S.proxies shapes.now) }
-    requires sorted { IsNonDecreasing forbidden.now }
     requires old { AreContacts old.now }
-    requires known { IsKnown (moved_by marks.now) forbidden.now (S.proxies shapes.now) old.now }
+    requires known { IsKnown (moved_by marks.now) (F.numbers forbidden.now) (S.proxies shapes.now) old.now }
     requires quiet { AreQuiet flags.now marks.now (S.proxies shapes.now) }
-    requires fresh { fresh.now ≡ contacts_of old.now (S.proxies shapes.now) (fresh_codes (moved_by marks.now) forbidden.now (S.proxies shapes.now) old.now) }
-    ensures made { IfOk result (λ rebuilt. IsMade forbidden.now (S.proxies shapes.now) old.now rebuilt.all rebuilt.begin.items rebuilt.end.items) }
+    requires fresh { fresh.now ≡ contacts_of old.now (S.proxies shapes.now) (fresh_codes (moved_by marks.now) (F.numbers forbidden.now) (S.proxies shapes.now) old.now) }
+    ensures made { IfOk result (λ rebuilt. IsMade (F.numbers forbidden.now) (S.proxies shapes.now) old.now rebuilt.all rebuilt.begin.items rebuilt.end.items) }
     ensures memory_only { IsOkUnless result Refusal.NoMemory }
 {
     let survivors = turn_each(alloc, shapes, marks, forbidden, old, flags, fresh)?;

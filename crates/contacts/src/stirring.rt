@@ -1,7 +1,6 @@
 //! The contacts of which a body may stir, by their places in the list, so that a collide passes over those alone.
 
 ghost use Rattle.std.specs.Prelude.{◌≡◌, ◌++◌, ◌∷◌, [], All, IsTrue, OnOk, cond, false, true};
-ghost use Rattle.std.specs.List.Sorted.{IsNonDecreasing};
 ghost use Rattle.std.specs.Result.{IsOkUnless};
 ghost use Rattle.contacts_base.specs.Near.{IsProxyList};
 ghost use Rattle.contacts.specs.Known.{IsPairKey};
@@ -9,6 +8,7 @@ ghost use Rattle.contacts.specs.Stirring.{AreHeld, AreQuiet, is_flagged, one_fla
 ghost use Rattle.contacts.specs.Turns.{moved_by, outcome, turned};
 ghost use Rattle.slot_marks.specs.Marks.{AreListed};
 
+use crate::forbidden::ForbiddenPairs;
 use crate::turns::{ShapesByName, Turn, turn_of};
 use contacts_base::ContactEntry;
 use fixed_geom::Refusal;
@@ -244,18 +244,17 @@ pub fn refresh<S: ShapesByName>(
 }
 
 /// What becomes of a contact: one of which no body may stir stays as it is.
-pub(crate) fn turn_in<S: ShapesByName>(
+pub(crate) fn turn_in<S: ShapesByName, F: ForbiddenPairs>(
     shapes: &S,
     marks: &[bool],
-    forbidden: &[u64],
+    forbidden: &F,
     flags: &[bool],
     entry: &ContactEntry,
 ) -> Turn
     requires shapes { IsProxyList (S.proxies shapes.now) }
-    requires sorted { IsNonDecreasing forbidden.now }
     requires quiet { AreQuiet flags.now marks.now (S.proxies shapes.now) }
     requires key { IsPairKey entry.now.key }
-    ensures { turned entry.now result ≡ outcome (moved_by marks.now) forbidden.now (S.proxies shapes.now) entry.now }
+    ensures { turned entry.now result ≡ outcome (moved_by marks.now) (F.numbers forbidden.now) (S.proxies shapes.now) entry.now }
 {
     if !is_one_flagged(flags, entry) {
         return Turn::Stays;

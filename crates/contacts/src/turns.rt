@@ -2,7 +2,6 @@
 
 ghost use Rattle.std.specs.Prelude.{◌≡◌, ℕ, ◌/◌, ◌++◌, ◌⊎◌, All, IfOk, List, OnOk, Some, cond, true};
 ghost use Rattle.std.specs.List.{Contains};
-ghost use Rattle.std.specs.List.Sorted.{IsNonDecreasing};
 ghost use Rattle.std.specs.Result.{IsOkUnless};
 ghost use Rattle.fixed_geom.specs.Boxes.{overlaps};
 ghost use Rattle.contacts_base.specs.declared.near.Proxy.{Proxy};
@@ -15,7 +14,7 @@ ghost use Rattle.contacts.specs.Turns.{key_if_begun, moved_by, noted, one_stirs_
 
 use crate::broad_phase::BroadPhase;
 use crate::changes::contact_with;
-use crate::forbidden::is_forbidden;
+use crate::forbidden::{ForbiddenPairs, is_forbidden};
 use crate::marks::either_moved;
 use contacts_base::{ContactEntry, ContactKey, PackedContact, Proxy, ShapeId, is_near};
 use fixed_geom::{Box2, Refusal};
@@ -72,9 +71,8 @@ pub struct Renewal {
 }
 
 /// Whether two shapes are near, and nothing keeps their bodies from colliding.
-pub(crate) fn may_touch(forbidden: &[u64], p: &Proxy, q: &Proxy) -> bool
-    requires { IsNonDecreasing forbidden.now }
-    ensures { result ≡ may_touch forbidden.now p.now q.now }
+pub(crate) fn may_touch<F: ForbiddenPairs>(forbidden: &F, p: &Proxy, q: &Proxy) -> bool
+    ensures { result ≡ may_touch (F.numbers forbidden.now) p.now q.now }
 {
     if is_near(p, q) {
         !is_forbidden(forbidden, p, q)
@@ -85,9 +83,12 @@ pub(crate) fn may_touch(forbidden: &[u64], p: &Proxy, q: &Proxy) -> bool
 
 /// Whether the shapes of a key are there, are near, and may touch.
 #[inline(always)]
-fn is_near_key<S: ShapesByName>(shapes: &S, forbidden: &[u64], key: ContactKey) -> bool
-    requires { IsNonDecreasing forbidden.now }
-    ensures { result ≡ near_key forbidden.now (S.proxies shapes.now) key }
+fn is_near_key<S: ShapesByName, F: ForbiddenPairs>(
+    shapes: &S,
+    forbidden: &F,
+    key: ContactKey,
+) -> bool
+    ensures { result ≡ near_key (F.numbers forbidden.now) (S.proxies shapes.now) key }
 {
     let Some(p) = shapes.shape(key.first) else {
         return false;
@@ -99,14 +100,13 @@ fn is_near_key<S: ShapesByName>(shapes: &S, forbidden: &[u64], key: ContactKey) 
 }
 
 /// Whether a contact stays: its shapes haven't moved, or they are still near.
-pub(crate) fn stays<S: ShapesByName>(
+pub(crate) fn stays<S: ShapesByName, F: ForbiddenPairs>(
     shapes: &S,
     marks: &[bool],
-    forbidden: &[u64],
+    forbidden: &F,
     key: ContactKey,
 ) -> bool
-    requires { IsNonDecreasing forbidden.now }
-    ensures { result ≡ cond (either_moved (moved_by marks.now) key) (near_key forbidden.now (S.proxies shapes.now) key) true }
+    ensures { result ≡ cond (either_moved (moved_by marks.now) key) (near_key (F.numbers forbidden.now) (S.proxies shapes.now) key) true }
 {
     if either_moved(marks, key) {
         is_near_key(shapes, forbidden, key)
@@ -139,15 +139,14 @@ fn points_again<S: ShapesByName>(shapes: &S, entry: &ContactEntry) -> PackedCont
 
 /// What becomes of a contact: it goes where one of its shapes has moved and they are no longer near, and else is evaluated
 /// anew if one of its bodies stirs.
-pub(crate) fn turn_of<S: ShapesByName>(
+pub(crate) fn turn_of<S: ShapesByName, F: ForbiddenPairs>(
     shapes: &S,
     marks: &[bool],
-    forbidden: &[u64],
+    forbidden: &F,
     entry: &ContactEntry,
 ) -> Turn
     requires shapes { IsProxyList (S.proxies shapes.now) }
-    requires sorted { IsNonDecreasing forbidden.now }
-    ensures { turned entry.now result ≡ outcome (moved_by marks.now) forbidden.now (S.proxies shapes.now) entry.now }
+    ensures { turned entry.now result ≡ outcome (moved_by marks.now) (F.numbers forbidden.now) (S.proxies shapes.now) entry.now }
 {
     if !stays(shapes, marks, forbidden, entry.key) {
         return Turn::Goes;

@@ -2,7 +2,6 @@
 //! places where none is made and none goes.
 
 ghost use Rattle.std.specs.Prelude.{◌≡◌, IfOk, IfSome};
-ghost use Rattle.std.specs.List.Sorted.{IsNonDecreasing};
 ghost use Rattle.std.specs.Result.{IsOkUnless};
 ghost use Rattle.contacts_base.specs.Contacts.{AreContacts};
 ghost use Rattle.contacts_base.specs.Near.{IsProxyList};
@@ -11,6 +10,7 @@ ghost use Rattle.contacts.specs.Known.{IsKnown, fresh as fresh_codes};
 ghost use Rattle.contacts.specs.Stirring.{AreQuiet, stirring_places};
 ghost use Rattle.contacts.specs.Turns.{IsMade, moved_by, renewed, whole_or};
 
+use crate::forbidden::ForbiddenPairs;
 use crate::rebuild::rebuild;
 use crate::stirring::Stirring;
 use crate::survey::look_over;
@@ -50,24 +50,23 @@ pub fn carry_out(contacts: &mut Contacts, notes: &[Renewal], whole: Option<Conta
 }
 
 /// What a collide makes of the contacts, where none is made, and none goes; `None` where one goes. Refused 1 where memory is wanting.
-fn update_in_place<S: ShapesByName>(
+fn update_in_place<S: ShapesByName, F: ForbiddenPairs>(
     alloc: Global,
     notes: &mut Vec<Renewal>,
     shapes: &S,
     marks: &[bool],
-    forbidden: &[u64],
+    forbidden: &F,
     old: &[ContactEntry],
     stirring: &Stirring,
     fresh: &[ContactEntry],
 ) -> Result<Option<Updated>, Refusal>
     requires shapes { IsProxyList (S.proxies shapes.now) }
-    requires sorted { IsNonDecreasing forbidden.now }
     requires old { AreContacts old.now }
-    requires known { IsKnown (moved_by marks.now) forbidden.now (S.proxies shapes.now) old.now }
+    requires known { IsKnown (moved_by marks.now) (F.numbers forbidden.now) (S.proxies shapes.now) old.now }
     requires places { stirring.now.places.items ≡ stirring_places stirring.now.flags.items old.now }
     requires quiet { AreQuiet stirring.now.flags.items marks.now (S.proxies shapes.now) }
-    requires fresh { fresh.now ≡ contacts_of old.now (S.proxies shapes.now) (fresh_codes (moved_by marks.now) forbidden.now (S.proxies shapes.now) old.now) }
-    ensures made { IfOk result (λ some. IfSome some (λ updated. IsMade forbidden.now (S.proxies shapes.now) old.now (whole_or updated.whole (renewed notes.new.items old.now)) updated.begin.items updated.end.items)) }
+    requires fresh { fresh.now ≡ contacts_of old.now (S.proxies shapes.now) (fresh_codes (moved_by marks.now) (F.numbers forbidden.now) (S.proxies shapes.now) old.now) }
+    ensures made { IfOk result (λ some. IfSome some (λ updated. IsMade (F.numbers forbidden.now) (S.proxies shapes.now) old.now (whole_or updated.whole (renewed notes.new.items old.now)) updated.begin.items updated.end.items)) }
     ensures memory_only { IsOkUnless result Refusal.NoMemory }
 {
     if !fresh.is_empty() {
@@ -85,23 +84,22 @@ fn update_in_place<S: ShapesByName>(
 }
 
 /// The same as a new list. Refused 1 where memory is wanting.
-fn update_whole<S: ShapesByName>(
+fn update_whole<S: ShapesByName, F: ForbiddenPairs>(
     alloc: Global,
     notes: &mut Vec<Renewal>,
     shapes: &S,
     marks: &[bool],
-    forbidden: &[u64],
+    forbidden: &F,
     old: &[ContactEntry],
     flags: &[bool],
     fresh: &[ContactEntry],
 ) -> Result<Updated, Refusal>
     requires shapes { IsProxyList (S.proxies shapes.now) }
-    requires sorted { IsNonDecreasing forbidden.now }
     requires old { AreContacts old.now }
-    requires known { IsKnown (moved_by marks.now) forbidden.now (S.proxies shapes.now) old.now }
+    requires known { IsKnown (moved_by marks.now) (F.numbers forbidden.now) (S.proxies shapes.now) old.now }
     requires quiet { AreQuiet flags.now marks.now (S.proxies shapes.now) }
-    requires fresh { fresh.now ≡ contacts_of old.now (S.proxies shapes.now) (fresh_codes (moved_by marks.now) forbidden.now (S.proxies shapes.now) old.now) }
-    ensures made { IfOk result (λ updated. IsMade forbidden.now (S.proxies shapes.now) old.now (whole_or updated.whole (renewed notes.new.items old.now)) updated.begin.items updated.end.items) }
+    requires fresh { fresh.now ≡ contacts_of old.now (S.proxies shapes.now) (fresh_codes (moved_by marks.now) (F.numbers forbidden.now) (S.proxies shapes.now) old.now) }
+    ensures made { IfOk result (λ updated. IsMade (F.numbers forbidden.now) (S.proxies shapes.now) old.now (whole_or updated.whole (renewed notes.new.items old.now)) updated.begin.items updated.end.items) }
     ensures memory_only { IsOkUnless result Refusal.NoMemory }
 {
     notes.clear();
@@ -114,24 +112,23 @@ fn update_whole<S: ShapesByName>(
 }
 
 /// In place where none is made and none goes, and else as a new list.
-fn update<S: ShapesByName>(
+fn update<S: ShapesByName, F: ForbiddenPairs>(
     alloc: Global,
     notes: &mut Vec<Renewal>,
     shapes: &S,
     marks: &[bool],
-    forbidden: &[u64],
+    forbidden: &F,
     old: &[ContactEntry],
     stirring: &Stirring,
     fresh: &[ContactEntry],
 ) -> Result<Updated, Refusal>
     requires shapes { IsProxyList (S.proxies shapes.now) }
-    requires sorted { IsNonDecreasing forbidden.now }
     requires old { AreContacts old.now }
-    requires known { IsKnown (moved_by marks.now) forbidden.now (S.proxies shapes.now) old.now }
+    requires known { IsKnown (moved_by marks.now) (F.numbers forbidden.now) (S.proxies shapes.now) old.now }
     requires places { stirring.now.places.items ≡ stirring_places stirring.now.flags.items old.now }
     requires quiet { AreQuiet stirring.now.flags.items marks.now (S.proxies shapes.now) }
-    requires fresh { fresh.now ≡ contacts_of old.now (S.proxies shapes.now) (fresh_codes (moved_by marks.now) forbidden.now (S.proxies shapes.now) old.now) }
-    ensures made { IfOk result (λ updated. IsMade forbidden.now (S.proxies shapes.now) old.now (whole_or updated.whole (renewed notes.new.items old.now)) updated.begin.items updated.end.items) }
+    requires fresh { fresh.now ≡ contacts_of old.now (S.proxies shapes.now) (fresh_codes (moved_by marks.now) (F.numbers forbidden.now) (S.proxies shapes.now) old.now) }
+    ensures made { IfOk result (λ updated. IsMade (F.numbers forbidden.now) (S.proxies shapes.now) old.now (whole_or updated.whole (renewed notes.new.items old.now)) updated.begin.items updated.end.items) }
     ensures memory_only { IsOkUnless result Refusal.NoMemory }
 {
     match update_in_place(alloc, notes, shapes, marks, forbidden, old, stirring, fresh)? {
@@ -150,27 +147,26 @@ fn update<S: ShapesByName>(
 }
 
 /// What a collide makes of the contacts `old`, of which it is known that a near pair of shapes that haven't moved has one: `fresh` are the
-/// contacts of the near pairs that have none yet. `forbidden` are the numbers of the pairs of bodies that may not collide, ascending.
+/// contacts of the near pairs that have none yet. `forbidden` are the pairs of bodies that may not collide.
 /// Refused 1 where memory is wanting.
 ///
 /// A contact goes if one of its shapes has moved and they are no longer near. Of those that stay the ones are evaluated anew of which a body stirs.
-pub fn update_known<S: ShapesByName>(
+pub fn update_known<S: ShapesByName, F: ForbiddenPairs>(
     alloc: Global,
     notes: &mut Vec<Renewal>,
     shapes: &S,
     marks: &[bool],
-    forbidden: &[u64],
+    forbidden: &F,
     old: &Contacts,
     stirring: &Stirring,
     fresh: &[ContactEntry],
 ) -> Result<Updated, Refusal>
     requires shapes { IsProxyList (S.proxies shapes.now) }
-    requires sorted { IsNonDecreasing forbidden.now }
-    requires known { IsKnown (moved_by marks.now) forbidden.now (S.proxies shapes.now) old.now }
+    requires known { IsKnown (moved_by marks.now) (F.numbers forbidden.now) (S.proxies shapes.now) old.now }
     requires places { stirring.now.places.items ≡ stirring_places stirring.now.flags.items old.now }
     requires quiet { AreQuiet stirring.now.flags.items marks.now (S.proxies shapes.now) }
-    requires fresh { fresh.now ≡ contacts_of old.now (S.proxies shapes.now) (fresh_codes (moved_by marks.now) forbidden.now (S.proxies shapes.now) old.now) }
-    ensures made { IfOk result (λ updated. IsMade forbidden.now (S.proxies shapes.now) old.now (whole_or updated.whole (renewed notes.new.items old.now)) updated.begin.items updated.end.items) }
+    requires fresh { fresh.now ≡ contacts_of old.now (S.proxies shapes.now) (fresh_codes (moved_by marks.now) (F.numbers forbidden.now) (S.proxies shapes.now) old.now) }
+    ensures made { IfOk result (λ updated. IsMade (F.numbers forbidden.now) (S.proxies shapes.now) old.now (whole_or updated.whole (renewed notes.new.items old.now)) updated.begin.items updated.end.items) }
     ensures begin_rising { IfOk result (λ updated. AreRising updated.begin.items) }
     ensures end_rising { IfOk result (λ updated. AreRising updated.end.items) }
     ensures memory_only { IsOkUnless result Refusal.NoMemory }

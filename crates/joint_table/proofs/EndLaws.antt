@@ -1,6 +1,6 @@
 -- The ends of joints by body, as ends are put in and taken out.
 use Rattle.std.proofs.Common.{◌≡◌, ◌≢◌, ℕ, zero, suc, ◌+◌, ◌*◌, ◌<◌, ◌≤◌, ◌==◌, Bool, true, false, cond, List, [], ◌∷◌, ◌++◌, length, get_or, take, Option, Some, None, ◌⊎◌, inl, inr, slice_set, nat_lt, ltb-true, ltb-false, refl, sym, ap, ◌∙◌, subst, arith}
-use Rattle.std.specs.Prelude.{count_by, option_map}
+use Rattle.std.specs.Prelude.{IfSome, count_by, option_map}
 use Rattle.std.specs.List.{Contains}
 use Rattle.std.specs.List.Sorted.{IsPermutation}
 use Rattle.std.proofs.lemmas.Bool.{cases_lt}
@@ -14,7 +14,7 @@ use Rattle.plain_world.specs.declared.joint.BodyJoint.{BodyJoint}
 use Rattle.plain_world.specs.Joints.{joint_at}
 use Rattle.plain_world.specs.Slots.{item_at, with_item}
 use Rattle.joint_table.specs.declared.ends.Ends.{Ends}
-use Rattle.joint_table.specs.Ends.{AreEnds, AreNoted, HasRoomAt, ends_of, first_of, second_of, stands_at, times_in}
+use Rattle.joint_table.specs.Ends.{AreEnds, AreNoted, HasRoomAt, IsSmall, ends_of, first_of, second_of, stands_at, times_in}
 
 -- ---- one number among others
 
@@ -111,10 +111,11 @@ put_beside old new set id n body put apart = rw (put_times old new set id put bo
 pub still_absent : (old new : List (List ℕ)) (set slot : ℕ) → IsPut old new set (2 * slot) → IsAbsent old (2 * slot + 1) → IsAbsent new (2 * slot + 1)
 still_absent old new set slot put absent = absent_from new (2 * slot + 1) (λ body. put_beside old new set (2 * slot) (2 * slot + 1) body put (even_odd slot slot) ∙ absent_times old (2 * slot + 1) absent body)
 
-pub noted : (old mid new : List (List ℕ)) (slot : ℕ) (e : Ends) → IsPut old mid e.a (2 * slot) → IsPut mid new e.b (2 * slot + 1) → IsAbsent old (2 * slot) → IsAbsent old (2 * slot + 1) → AreNoted old new slot e
-noted old mid new slot e one two first second = record {
+pub noted : (old mid new : List (List ℕ)) (slot : ℕ) (e : Ends) → IsPut old mid e.a (2 * slot) → IsPut mid new e.b (2 * slot + 1) → IsAbsent old (2 * slot) → IsAbsent old (2 * slot + 1) → IsSmall e → AreNoted old new slot e
+noted old mid new slot e one two first second small = record {
   first = λ body k. put_beside mid new e.b (2 * slot + 1) (2 * k) body two (odd_even slot k) ∙ even body k (k == slot) refl;
   second = λ body k. odd body k (k == slot) refl;
+  small = small;
 }
   where
     even : (body k : ℕ) (t : Bool) → (k == slot) ≡ t → times_in mid body (2 * k) ≡ cond t (stands_at body (Some e.a)) (times_in old body (2 * k))
@@ -213,6 +214,7 @@ pub ends_stay : (joints next : List (Option BodyJoint)) (sets : List (List ℕ))
 ends_stay joints next sets same e = record {
   first = λ body slot. e.first body slot ∙ ap (stands_at body) (first_is (joint_at joints slot) ∙ ap (option_map (λ (x : Ends). x.a)) (sym (same slot)) ∙ sym (first_is (joint_at next slot)));
   second = λ body slot. e.second body slot ∙ ap (stands_at body) (second_is (joint_at joints slot) ∙ ap (option_map (λ (x : Ends). x.b)) (sym (same slot)) ∙ sym (second_is (joint_at next slot)));
+  small = λ slot. subst (λ (o : Option Ends). IfSome o IsSmall) (sym (same slot)) (e.small slot);
 }
   where
     first_is : (o : Option BodyJoint) → first_of o ≡ option_map (λ (x : Ends). x.a) (option_map ends_of o)
@@ -228,6 +230,7 @@ pub ends_in_same : (joints : List (Option BodyJoint)) (old new : List (List ℕ)
 ends_in_same joints old new same e = record {
   first = λ body slot. ap (λ (l : List ℕ). count_by (λ m. m == 2 * slot) l) (same body) ∙ e.first body slot;
   second = λ body slot. ap (λ (l : List ℕ). count_by (λ m. m == 2 * slot + 1) l) (same body) ∙ e.second body slot;
+  small = e.small;
 }
 
 pub absent_in_same : (old new : List (List ℕ)) (id : ℕ) → ((set : ℕ) → list_at new set ≡ list_at old set) → IsAbsent old id → IsAbsent new id
@@ -245,8 +248,13 @@ pub ends_more : (joints next : List (Option BodyJoint)) (old new : List (List �
 ends_more joints next old new slot j e noted here others = record {
   first = λ body k. noted.first body k ∙ even body k (k == slot) refl;
   second = λ body k. noted.second body k ∙ odd body k (k == slot) refl;
+  small = λ k. small_at k (k == slot) refl;
 }
   where
+    small_at : (k : ℕ) (t : Bool) → (k == slot) ≡ t → IfSome (option_map ends_of (joint_at next k)) IsSmall
+    small_at k true q = subst (λ (o : Option BodyJoint). IfSome (option_map ends_of o) IsSmall) (sym (ap (joint_at next) (same_from k slot q) ∙ here)) noted.small
+    small_at k false q = subst (λ (o : Option BodyJoint). IfSome (option_map ends_of o) IsSmall) (sym (others k (far k slot q))) (e.small k)
+
     even : (body k : ℕ) (t : Bool) → (k == slot) ≡ t → cond t (stands_at body (Some j.a)) (times_in old body (2 * k)) ≡ stands_at body (first_of (joint_at next k))
     even body k true q = ap (λ o. stands_at body (first_of o)) (sym (ap (joint_at next) (same_from k slot q) ∙ here))
     even body k false q = e.first body k ∙ ap (λ o. stands_at body (first_of o)) (sym (others k (far k slot q)))
@@ -266,8 +274,13 @@ pub ends_dropped : (joints : List (Option BodyJoint)) (old mid new : List (List 
 ends_dropped joints old mid new slot lt e taken_first absent_first taken_second absent_second = record {
   first = λ body k. out_second body (2 * k) ∙ ap (λ (t : Bool). cond t 0 (times_in mid body (2 * k))) (even_odd k slot) ∙ out_first body (2 * k) ∙ even body k (k == slot) refl;
   second = λ body k. out_second body (2 * k + 1) ∙ odd body k (k == slot) refl;
+  small = λ k. small_at k (k == slot) refl;
 }
   where
+    small_at : (k : ℕ) (t : Bool) → (k == slot) ≡ t → IfSome (option_map ends_of (joint_at (slice_set joints slot None) k)) IsSmall
+    small_at k true q = subst (λ (o : Option BodyJoint). IfSome (option_map ends_of o) IsSmall) (sym (ap (joint_at (slice_set joints slot None)) (same_from k slot q) ∙ item_at-same joints slot None lt)) tt
+    small_at k false q = subst (λ (o : Option BodyJoint). IfSome (option_map ends_of o) IsSmall) (sym (item_at-other joints slot None k (far k slot q))) (e.small k)
+
     out_first : (body n : ℕ) → times_in mid body n ≡ cond (n == 2 * slot) 0 (times_in old body n)
     out_first = without old mid (2 * slot) (first_of (joint_at joints slot)) (λ body. e.first body slot) taken_first absent_first
 

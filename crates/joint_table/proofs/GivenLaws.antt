@@ -1,49 +1,24 @@
 -- A table of joints from a list.
-use Rattle.std.proofs.Common.{◌≡◌, ℕ, suc, ◌+◌, ◌<◌, ◌≤◌, ◌++◌, List, [], ◌∷◌, length, get_or, take, drop, Option, Some, None, Bool, true, false, cond, add-one, ◌==◌, sym, ap, ◌∙◌, subst, refl, arith}
-use Rattle.std.specs.List.Sorted.{IsNonDecreasing, IsPermutation}
-use Rattle.std.specs.Option.{option_to_list}
+use Rattle.std.proofs.Common.{◌≡◌, ℕ, suc, ◌+◌, ◌≤◌, List, [], length, take, Option, Some, None, Bool, true, false, add-one, ◌==◌, sym, ap, ◌∙◌, subst, refl}
 use Rattle.std.specs.Prelude.{option_map}
-use Rattle.std.proofs.Math.Seq.{drop-cons}
-use Rattle.std.proofs.lemmas.List.{append_assoc, append-nil, drop_all, take_all}
-use Rattle.std.proofs.lemmas.List.Sorted.{sum_by-IsPermutation}
+use Rattle.std.proofs.lemmas.List.{take_all}
 use Rattle.plain_world.specs.declared.joint.BodyJoint.{BodyJoint}
-use Rattle.plain_world.specs.Joints.{forbidden_in, forbidden_pairs, joint_at}
+use Rattle.plain_world.specs.Joints.{joint_at}
 use Rattle.body_handles.specs.declared.places.TheConstants.{MAX_SLOTS}
 use Rattle.graph_colours.proofs.Cases.{true_or_false}
 use Rattle.graph_colours.proofs.PlaceLemmas.{is_same, same_from}
 use Rattle.packed_sets.specs.Packs.{Packs}
 use Rattle.joint_table.specs.Ends.{AreEnds, AreNoted, ends_of}
-use Rattle.joint_table.specs.JointTables.{HaveSameNumbers, IsJointTable}
+use Rattle.joint_table.specs.JointTables.{IsJointTable}
 use Rattle.joint_table.proofs.EndLaws.{ends_more, ends_stay, take_here, take_next, take_other}
-use Rattle.joint_table.proofs.PairNumbers.{listed}
 
--- one more joint is listed
-pub number_more : (numbers new : List ℕ) (joints : List (Option BodyJoint)) (i : ℕ) (o : Option BodyJoint) (all : List ℕ) → i < length joints → get_or joints i o ≡ o → new ≡ numbers ++ option_to_list (forbidden_in o)
-    → numbers ++ forbidden_pairs (drop i joints) ≡ all → new ++ forbidden_pairs (drop (i + 1) joints) ≡ all
-number_more numbers new joints i o all lt at pushed was =
-    let one : suc i ≡ i + 1 = omega arith in
-    let front : drop i joints ≡ o ∷ drop (i + 1) joints = drop-cons joints i o lt ∙ ap (λ x. x ∷ drop (suc i) joints) at ∙ ap (λ n. o ∷ drop n joints) one in
-    ap (λ l. l ++ forbidden_pairs (drop (i + 1) joints)) pushed
-    ∙ append_assoc numbers (option_to_list (forbidden_in o)) (forbidden_pairs (drop (i + 1) joints))
-    ∙ ap (λ l. numbers ++ l) (sym (listed o (drop (i + 1) joints)))
-    ∙ ap (λ l. numbers ++ forbidden_pairs l) (sym front) ∙ was
-
-pub numbers_all : (numbers : List ℕ) (joints : List (Option BodyJoint)) (i : ℕ) (all : List ℕ) → length joints ≤ i → numbers ++ forbidden_pairs (drop i joints) ≡ all → numbers ≡ all
-numbers_all numbers joints i all ended was = sym (append-nil numbers) ∙ ap (λ l. numbers ++ forbidden_pairs l) (sym (drop_all i joints ended)) ∙ was
-
--- numbers that are sorted stay as many of each
-pub same_sorted : (joints : List (Option BodyJoint)) (old new : List ℕ) → old ≡ forbidden_pairs joints → IsPermutation old new → HaveSameNumbers (forbidden_pairs joints) new
-same_sorted joints old new is moved n =
-    let P : List ℕ → Type 0 = λ l. IsPermutation l new in
-    sym (sum_by-IsPermutation (λ m. cond (m == n) 1 0) (forbidden_pairs joints) new (subst P is moved))
-
-pub table_given : (joints kept : List (Option BodyJoint)) (numbers : List ℕ) (sets : Packs) (joints_left forbidden_left : ℕ) → kept ≡ joints → length joints ≤ MAX_SLOTS → IsNonDecreasing numbers → HaveSameNumbers (forbidden_pairs joints) numbers → AreEnds joints sets.sets → IsJointTable kept numbers sets None joints_left forbidden_left
-table_given joints kept numbers sets joints_left forbidden_left same few sorted numbered ends = rw same (record { few = few; sorted = sorted; same = numbered; ends = ends; ready = tt })
+pub table_given : (joints kept : List (Option BodyJoint)) (sets : Packs) (joints_left : ℕ) → kept ≡ joints → length joints ≤ MAX_SLOTS → AreEnds joints sets.sets → IsJointTable kept sets None joints_left
+table_given joints kept sets joints_left same few ends = rw same (record { few = few; ends = ends; ready = tt })
 
 -- ---- the ends of the first joints
 
 pub none_yet : (joints : List (Option BodyJoint)) (sets : List (List ℕ)) → sets ≡ [] → AreEnds (take 0 joints) sets
-none_yet joints sets none = rw none (record { first = λ body slot. refl; second = λ body slot. refl })
+none_yet joints sets none = rw none (record { first = λ body slot. refl; second = λ body slot. refl; small = λ slot. tt })
 
 -- an empty slot
 pub ends_passed : (joints : List (Option BodyJoint)) (sets : List (List ℕ)) (slot : ℕ) → joint_at joints slot ≡ None → AreEnds (take slot joints) sets → AreEnds (take (slot + 1) joints) sets

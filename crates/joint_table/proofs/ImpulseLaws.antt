@@ -1,18 +1,8 @@
--- A joint that gets another impulse: which pairs of bodies are kept from colliding stays.
+-- A joint that gets another impulse.
 use Rattle.std.proofs.Common.{◌≡◌, ℕ, zero, suc, ◌<◌, List, [], ◌∷◌, length, get_or, Option, Some, None, ℤ, slice_set, refl, sym, ap, ◌∙◌, arith}
 use Rattle.std.specs.Prelude.{option_map}
-use Rattle.std.specs.List.{cons_option}
 use Rattle.plain_world.specs.declared.joint.BodyJoint.{BodyJoint}
-use Rattle.plain_world.specs.Joints.{forbidden_in, forbidden_pairs, impulse_set, joint_at, with_impulse}
-
-same_pair : (o : Option BodyJoint) (impulse : ℤ) → forbidden_in (option_map (with_impulse impulse) o) ≡ forbidden_in o
-same_pair None impulse = refl
-same_pair (Some j) impulse = refl
-
-pub pairs_stay : (joints : List (Option BodyJoint)) (slot : ℕ) (impulse : ℤ) (d : Option BodyJoint) → slot < length joints → forbidden_pairs (slice_set joints slot (option_map (with_impulse impulse) (get_or joints slot d))) ≡ forbidden_pairs joints
-pairs_stay [] slot impulse d h = absurd (omega arith)
-pairs_stay (o ∷ os) zero impulse d h = ap (λ (p : Option ℕ). cons_option p (forbidden_pairs os)) (same_pair o impulse)
-pairs_stay (o ∷ os) (suc slot) impulse d h = ap (λ (l : List ℕ). cons_option (forbidden_in o) l) (pairs_stay os slot impulse d (omega arith))
+use Rattle.plain_world.specs.Joints.{impulse_set, joint_at, with_impulse}
 
 behind : (p o : Option BodyJoint) (os : List (Option BodyJoint)) (slot : ℕ) (impulse : ℤ) → impulse_set (suc slot) impulse (o ∷ os) p ≡ o ∷ impulse_set slot impulse os p
 behind None o os slot impulse = refl

@@ -1,7 +1,6 @@
-pub mod PairNumbers
 mod ImpulseLaws
-mod IdleLaws
 mod GivenLaws
 mod EndLaws
 mod OwnLaws
 mod TableLaws
+pub mod ForbiddingLaws

@@ -28,8 +28,8 @@ same_slots halves sorted kept moved is slot = (
 
 -- ---- room
 
-pub room_given : (room : Option Ends) (e : Ends) (slots : ℕ) (sets : Packs) (joints_left forbidden_left : ℕ) → room ≡ Some e → IfSome room (λ ends. HasRoom ends slots sets joints_left forbidden_left) → HasRoom e slots sets joints_left forbidden_left
-room_given room e slots sets joints_left forbidden_left is ready = subst (λ (o : Option Ends). IfSome o (λ ends. HasRoom ends slots sets joints_left forbidden_left)) is ready
+pub room_given : (room : Option Ends) (e : Ends) (slots : ℕ) (sets : Packs) (joints_left : ℕ) → room ≡ Some e → IfSome room (λ ends. HasRoom ends slots sets joints_left) → HasRoom e slots sets joints_left
+room_given room e slots sets joints_left is ready = subst (λ (o : Option Ends). IfSome o (λ ends. HasRoom ends slots sets joints_left)) is ready
 
 pub room_before : (e : Ends) (slot slots : ℕ) (sets : Packs) → slot ≤ slots → HasRoomFor e slots sets → HasRoomFor e slot sets
 room_before e slot slots sets le room = let ids : 2 * slots + 2 ≤ sets.ids = room.ids in record { first = room.first; second = room.second; ids = omega (arith, ids, le) }
@@ -78,4 +78,4 @@ length_idle body [] = refl
 length_idle body (o ∷ os) = ap suc (length_idle body os)
 
 pub no_ends : (sets : List (List ℕ)) → sets ≡ [] → AreEnds [] sets
-no_ends sets none = rw none (record { first = λ body slot. refl; second = λ body slot. refl })
+no_ends sets none = rw none (record { first = λ body slot. refl; second = λ body slot. refl; small = λ slot. tt })

@@ -1,2 +1,3 @@
 pub mod JointTables
 pub mod Ends
+pub mod Forbidding

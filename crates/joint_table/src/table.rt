@@ -3,20 +3,19 @@
 mod from_joints;
 
 ghost use Rattle.std.specs.Prelude.{◌≡◌, ◌≤◌, ◌<◌, ◌/◌, ℕ, [], true, Contains, IfOk, None, OnOk, Some, length, option_map, slice_index_or, slice_set, vec_len};
-ghost use Rattle.std.specs.Option.{option_copied};
 ghost use Rattle.std.specs.Result.{IsOkUnless};
-ghost use Rattle.std.specs.List.Sorted.{IsNonDecreasing};
 ghost use Rattle.body_handles.specs.declared.places.TheConstants.{MAX_SLOTS};
-ghost use Rattle.plain_world.specs.Joints.{forbidden_in, forbidden_pairs, idle_if, idle_joints, impulse_set, is_end_in, joint_at, with_impulse};
-ghost use Rattle.joint_table.specs.JointTables.{HaveSameNumbers, own_slots};
+ghost use Rattle.plain_world.specs.Joints.{forbidden_pairs, idle_if, idle_joints, impulse_set, is_end_in, joint_at, with_impulse};
+ghost use Rattle.joint_table.specs.JointTables.{own_slots};
 ghost use Rattle.joint_table.specs.Ends.{ends_of, halves};
 ghost use Rattle.plain_world.specs.Slots.{with_item};
 
 use crate::ends::{Ends, drop_ends, ends_of, list_slots, note_ends, reserve_ends};
-use crate::pair_numbers::{add_pair, drop_pair};
+use crate::forbidden::either_keeps_apart;
+use contacts::{ForbiddenPairs, pair_number};
 use fixed_geom::Refusal;
 use packed_sets::PackedSets;
-use plain_world::{BodyJoint, clear_slot, item_at, put_item};
+use plain_world::{BodyJoint, clear_slot, put_item};
 use std::alloc::Global;
 use std::marker::Model;
 
@@ -24,8 +23,6 @@ use std::marker::Model;
 #[derive(Drop)]
 pub struct JointTable {
     joints: Vec<Option<BodyJoint>>,
-    // The numbers of the pairs of bodies that joints keep from colliding, ascending, each as often as there are such joints.
-    forbidden: Vec<u64>,
     // By body the ends of joints that stand at it.
     ends: PackedSets,
     // For a joint of which bodies each list has room.
@@ -40,17 +37,7 @@ impl Model for JointTable {
 
     ghost view = { λ a. record { joints = a.joints.items; room = a.room } };
 
-    ghost invariant = { λ a. IsJointTable a.joints.items a.forbidden.items a.ends a.room (vec_capacity a.joints - vec_len a.joints) (vec_capacity a.forbidden - vec_len a.forbidden) };
-}
-
-/// The number of the pair of bodies that a joint, if there is one, keeps from colliding.
-fn forbidden_in(joint: Option<&BodyJoint>) -> Option<u64>
-    ensures { result ≡ forbidden_in (option_copied joint.entry) }
-{
-    match joint {
-        None => None,
-        Some(joint) => joint.forbidden_pair(),
-    }
+    ghost invariant = { λ a. IsJointTable a.joints.items a.ends a.room (vec_capacity a.joints - vec_len a.joints) };
 }
 
 /// Gives the joint in a slot's entry, if there is one, this impulse.
@@ -102,7 +89,6 @@ impl JointTable {
     {
         JointTable {
             joints: Vec::new(alloc),
-            forbidden: Vec::new(alloc),
             ends: PackedSets::new(alloc),
             room: None,
         }
@@ -116,7 +102,6 @@ impl JointTable {
         let alloc = *self.joints.allocator();
         Ok(JointTable {
             joints: Vec::from_slice(alloc, self.joints.as_slice())?,
-            forbidden: Vec::from_slice(alloc, self.forbidden.as_slice())?,
             ends: self.ends.try_copy()?,
             room: None,
         })
@@ -147,7 +132,6 @@ impl JointTable {
         let ends = ends_of(joint);
         self.room = None;
         self.joints.reserve(1)?;
-        self.forbidden.reserve(1)?;
         reserve_ends(&mut self.ends, self.joints.len(), ends)?;
         self.room = Some(ends);
         Ok(())
@@ -163,7 +147,6 @@ impl JointTable {
     {
         self.room = None;
         note_ends(&mut self.ends, slot, ends_of(&joint));
-        add_pair(&mut self.forbidden, joint.forbidden_pair());
         put_item(&mut self.joints, slot as usize, joint);
     }
 
@@ -174,10 +157,6 @@ impl JointTable {
     {
         self.room = None;
         drop_ends(&mut self.ends, slot);
-        drop_pair(
-            &mut self.forbidden,
-            forbidden_in(item_at(&self.joints, slot as usize)),
-        );
         clear_slot(&mut self.joints, slot as usize);
     }
 
@@ -198,12 +177,18 @@ impl JointTable {
         self.room = None;
         idle_own(&mut self.joints, self.ends.members(slot), slot);
     }
+}
 
-    /// The numbers of the pairs of bodies that joints keep from colliding, ascending, each as often as there are such joints.
-    pub fn forbidden(&self) -> &[u64]
-        ensures same { HaveSameNumbers (forbidden_pairs self.now.joints) result.now }
-        ensures sorted { IsNonDecreasing result.now }
-    {
-        self.forbidden.as_slice()
+impl ForbiddenPairs for JointTable {
+    ghost numbers = { λ t. forbidden_pairs t.joints };
+
+    /// Whether a joint keeps two bodies from colliding. Costs by the joints of the one that has fewer.
+    #[inline(always)]
+    fn forbids(&self, a: u32, b: u32) -> bool {
+        let ends = self.ends.members(a);
+        if ends.is_empty() {
+            return false;
+        }
+        either_keeps_apart(&self.joints, ends, self.ends.members(b), pair_number(a, b))
     }
 }

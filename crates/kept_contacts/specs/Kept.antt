@@ -1,6 +1,5 @@
 -- The contacts of near shapes with what is kept beside them, and what they become when the last collide is carried out.
 use Rattle.std.specs.Prelude.{ℕ, Bool, List}
-use Rattle.std.specs.List.Sorted.{IsNonDecreasing}
 use Rattle.contacts_base.specs.declared.contact.ContactEntry.{ContactEntry}
 use Rattle.contacts_base.specs.declared.near.Proxy.{Proxy}
 use Rattle.contacts_base.specs.Near.{IsProxyList}
@@ -27,7 +26,6 @@ pub record IsKeptContacts (a : Inside) : Type 0 where
 pub record CanCollide (ps : List Proxy) (marks : List Bool) (marked : List ℕ) (forbidden : List ℕ) (contacts : List ContactEntry) : Type 0 where
   pub shapes : IsProxyList ps
   pub within : AreWithin marks ps
-  pub sorted : IsNonDecreasing forbidden
   pub listed : AreListed marks marked
   pub known : IsKnown (moved_by marks) forbidden ps contacts
 

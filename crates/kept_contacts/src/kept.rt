@@ -1,7 +1,6 @@
 //! The contacts of near shapes, kept from collide to collide.
 
 ghost use Rattle.std.specs.Prelude.{◌≡◌, ◌==◌, [], slice_get, IfOk, OnErr, OnOk, false};
-ghost use Rattle.std.specs.List.Sorted.{IsNonDecreasing};
 ghost use Rattle.std.specs.Result.{IsOkUnless};
 ghost use Rattle.contacts_base.specs.Contacts.{AreContacts, contacts_without, impulses_set};
 ghost use Rattle.contacts_base.specs.Near.{IsProxyList};
@@ -16,7 +15,8 @@ ghost use Rattle.slot_marks.specs.Marks.{AreListed};
 
 use crate::gone::{copy_left, drop_gone, put_off, settle_gone};
 use contacts::{
-    BroadPhase, Renewal, ShapesByName, Stirring, carry_out, fresh_of_marked, refresh, update_known,
+    BroadPhase, ForbiddenPairs, Renewal, ShapesByName, Stirring, carry_out, fresh_of_marked,
+    refresh, update_known,
 };
 use contacts_base::{ContactEntry, ContactKey, Contacts, Impulses};
 use fixed_geom::Refusal;
@@ -103,17 +103,16 @@ fn are_many(marked: &[u32], marks: &[bool]) -> bool {
 }
 
 /// What becomes of the contacts by all near pairs. Refused 1 where memory is wanting.
-fn make_anew<S: ShapesByName>(
+fn make_anew<S: ShapesByName, F: ForbiddenPairs>(
     beside: &mut Beside,
     alloc: Global,
     shapes: &S,
-    forbidden: &[u64],
+    forbidden: &F,
     contacts: &Contacts,
 ) -> Result<Made, Refusal>
-    requires sorted { IsNonDecreasing forbidden.now }
     requires held { AreHeld beside.old.stirring contacts.now }
     ensures held { AreHeld beside.new.stirring contacts.now }
-    ensures made { IfOk result (IsMadeOf (S.proxies shapes.now) forbidden.now contacts.now beside.new.notes.items) }
+    ensures made { IfOk result (IsMadeOf (S.proxies shapes.now) (F.numbers forbidden.now) contacts.now beside.new.notes.items) }
     ensures memory_only { IsOkUnless result Refusal.NoMemory }
 {
     shapes.gather(&mut beside.broad)?;
@@ -128,19 +127,19 @@ fn make_anew<S: ShapesByName>(
 }
 
 /// What becomes of the contacts by what is known of the near pairs. Refused 1 where memory is wanting.
-fn make_known<S: ShapesByName>(
+fn make_known<S: ShapesByName, F: ForbiddenPairs>(
     beside: &mut Beside,
     alloc: Global,
     shapes: &S,
     marks: &[bool],
     marked: &[u32],
-    forbidden: &[u64],
+    forbidden: &F,
     contacts: &Contacts,
 ) -> Result<Made, Refusal>
-    requires can { CanCollide (S.proxies shapes.now) marks.now marked.now forbidden.now contacts.now }
+    requires can { CanCollide (S.proxies shapes.now) marks.now marked.now (F.numbers forbidden.now) contacts.now }
     requires held { AreHeld beside.old.stirring contacts.now }
     ensures held { AreHeld beside.new.stirring contacts.now }
-    ensures made { IfOk result (IsMadeOf (S.proxies shapes.now) forbidden.now contacts.now beside.new.notes.items) }
+    ensures made { IfOk result (IsMadeOf (S.proxies shapes.now) (F.numbers forbidden.now) contacts.now beside.new.notes.items) }
     ensures memory_only { IsOkUnless result Refusal.NoMemory }
 {
     refresh(
@@ -179,19 +178,19 @@ fn make_known<S: ShapesByName>(
 }
 
 /// What a collide makes of the contacts. Refused 1 where memory is wanting.
-fn make_due<S: ShapesByName>(
+fn make_due<S: ShapesByName, F: ForbiddenPairs>(
     beside: &mut Beside,
     alloc: Global,
     shapes: &S,
     marks: &[bool],
     marked: &[u32],
-    forbidden: &[u64],
+    forbidden: &F,
     contacts: &Contacts,
 ) -> Result<Made, Refusal>
-    requires can { CanCollide (S.proxies shapes.now) marks.now marked.now forbidden.now contacts.now }
+    requires can { CanCollide (S.proxies shapes.now) marks.now marked.now (F.numbers forbidden.now) contacts.now }
     requires held { AreHeld beside.old.stirring contacts.now }
     ensures held { AreHeld beside.new.stirring contacts.now }
-    ensures made { IfOk result (IsMadeOf (S.proxies shapes.now) forbidden.now contacts.now beside.new.notes.items) }
+    ensures made { IfOk result (IsMadeOf (S.proxies shapes.now) (F.numbers forbidden.now) contacts.now beside.new.notes.items) }
     ensures memory_only { IsOkUnless result Refusal.NoMemory }
 {
     if are_many(marked, marks) {
@@ -202,19 +201,19 @@ fn make_due<S: ShapesByName>(
 }
 
 /// The same; where memory is wanting nothing is noted.
-fn make_or_clear<S: ShapesByName>(
+fn make_or_clear<S: ShapesByName, F: ForbiddenPairs>(
     beside: &mut Beside,
     alloc: Global,
     shapes: &S,
     marks: &[bool],
     marked: &[u32],
-    forbidden: &[u64],
+    forbidden: &F,
     contacts: &Contacts,
 ) -> Result<Made, Refusal>
-    requires can { CanCollide (S.proxies shapes.now) marks.now marked.now forbidden.now contacts.now }
+    requires can { CanCollide (S.proxies shapes.now) marks.now marked.now (F.numbers forbidden.now) contacts.now }
     requires held { AreHeld beside.old.stirring contacts.now }
     ensures held { AreHeld beside.new.stirring contacts.now }
-    ensures made { IfOk result (IsMadeOf (S.proxies shapes.now) forbidden.now contacts.now beside.new.notes.items) }
+    ensures made { IfOk result (IsMadeOf (S.proxies shapes.now) (F.numbers forbidden.now) contacts.now beside.new.notes.items) }
     ensures refused { OnErr result (beside.new.notes.items ≡ []) }
     ensures memory_only { IsOkUnless result Refusal.NoMemory }
 {
@@ -387,7 +386,7 @@ impl KeptContacts {
         self.contacts.set_impulses(index, first, second);
     }
 
-    /// A collide of the shapes as they are now, in which the bodies of the forbidden pairs (numbers of `pair_number`, ascending) pass through
+    /// A collide of the shapes as they are now, in which the bodies of the forbidden pairs pass through
     /// one another: what the contacts become by it is due, and they stay as they are until it is carried out. Refused 1 where memory is
     /// wanting.
     ///
@@ -397,24 +396,23 @@ impl KeptContacts {
     /// A contact is evaluated anew if one of its two bodies stirs, and else stays as it is. A pair that had a contact keeps its surface, and the
     /// impulses of its points by their candidates; a new pair gets a contact with what its shapes' surfaces mix to. A contact ends that touched
     /// and doesn't any more, also where its shapes are no longer near or its bodies may no longer collide.
-    pub fn collide<S: ShapesByName>(
+    pub fn collide<S: ShapesByName, F: ForbiddenPairs>(
         &mut self,
         alloc: Global,
         shapes: &S,
         marks: &[bool],
         marked: &[u32],
-        forbidden: &[u64],
+        forbidden: &F,
     ) -> Result<Touches, Refusal>
         requires shapes { IsProxyList (S.proxies shapes.now) }
         requires within { AreWithin marks.now (S.proxies shapes.now) }
-        requires sorted { IsNonDecreasing forbidden.now }
         requires listed { AreListed marks.now marked.now }
-        requires known { IsKnown (moved_by marks.now) forbidden.now (S.proxies shapes.now) self.old.contacts }
+        requires known { IsKnown (moved_by marks.now) (F.numbers forbidden.now) (S.proxies shapes.now) self.old.contacts }
         ensures contacts { self.new.contacts ≡ self.old.contacts }
-        ensures due { OnOk result (self.new.due ≡ contacts_of self.old.contacts (S.proxies shapes.now) (allowed_codes forbidden.now (S.proxies shapes.now))) }
+        ensures due { OnOk result (self.new.due ≡ contacts_of self.old.contacts (S.proxies shapes.now) (allowed_codes (F.numbers forbidden.now) (S.proxies shapes.now))) }
         ensures refused { OnErr result (self.new.due ≡ self.old.contacts) }
-        ensures begin { IfOk result (λ touches. touches.begin.items ≡ keys_touching_only_in self.old.contacts (contacts_of self.old.contacts (S.proxies shapes.now) (allowed_codes forbidden.now (S.proxies shapes.now)))) }
-        ensures end { IfOk result (λ touches. touches.end.items ≡ keys_touching_only_in (contacts_of self.old.contacts (S.proxies shapes.now) (allowed_codes forbidden.now (S.proxies shapes.now))) self.old.contacts) }
+        ensures begin { IfOk result (λ touches. touches.begin.items ≡ keys_touching_only_in self.old.contacts (contacts_of self.old.contacts (S.proxies shapes.now) (allowed_codes (F.numbers forbidden.now) (S.proxies shapes.now)))) }
+        ensures end { IfOk result (λ touches. touches.end.items ≡ keys_touching_only_in (contacts_of self.old.contacts (S.proxies shapes.now) (allowed_codes (F.numbers forbidden.now) (S.proxies shapes.now))) self.old.contacts) }
         ensures begin_rising { IfOk result (λ touches. AreRising touches.begin.items) }
         ensures end_rising { IfOk result (λ touches. AreRising touches.end.items) }
         ensures memory_only { IsOkUnless result Refusal.NoMemory }

@@ -5,6 +5,7 @@ use crate::handles::give;
 use crate::merging::{add, merge};
 use body_handles::*;
 use box_tree::BoxTree;
+use contacts::ForbiddenPairs;
 use fixed_geom::{Refusal, Rot, Vec2, ZERO_VECTOR};
 use impulse_ledger::*;
 use islands::{Islands, Label};
@@ -68,7 +69,12 @@ fn table_of_joints(alloc: Global) -> Result<JointTable, Refusal> {
 fn a_table_has_the_joints_that_it_is_given(rt: HostRuntime) -> Result<(), Fail> {
     let table = table_of_joints(rt.alloc())?;
     same_items(&rt, table.joints(), &JOINTS);
-    same(&rt, &table.forbidden().len(), &1);
+    let forbidden = [
+        table.forbids(1, 2),
+        table.forbids(2, 1),
+        table.forbids(1, 3),
+    ];
+    same(&rt, &forbidden, &[true, true, false]);
     Ok(())
 }
 

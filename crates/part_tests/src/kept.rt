@@ -1,7 +1,6 @@
 //! Contacts that are kept from collide to collide, by scenes worked by hand.
 
 ghost use Rattle.std.specs.Prelude.{◌≡◌, ◌<◌, All, IfOk, OnOk, []};
-ghost use Rattle.std.specs.List.Sorted.{IsNonDecreasing};
 ghost use Rattle.contacts_base.specs.Keys.{id_number};
 ghost use Rattle.contacts_base.specs.Near.{IsProxyList};
 ghost use Rattle.contacts.specs.Known.{found};
@@ -9,6 +8,7 @@ ghost use Rattle.contacts.specs.Turns.{stirs_in};
 ghost use Rattle.part_tests.specs.Scenes.{ArePairs, IsListed};
 
 use crate::assertions::{same, same_items};
+use crate::forbidden::{NO_PAIR, OnePair};
 use crate::near::{BALL, KEY, add, lying_at, proxy_of};
 use contacts::*;
 use contacts_base::{ContactKey, Proxy, ShapeId};
@@ -110,15 +110,14 @@ fn slots_of(alloc: Global, shapes: &[Proxy]) -> Result<Vec<u32>, Refusal>
     Ok(slots)
 }
 
-/// A collide of these shapes with all slots marked, carried out; the bodies of the forbidden pairs pass through one another.
+/// A collide of these shapes with all slots marked, carried out; the bodies of the forbidden pair pass through one another.
 fn collide(
     alloc: Global,
     contacts: &mut KeptContacts,
     shapes: BroadPhase,
-    forbidden: &[u64],
+    forbidden: &OnePair,
 ) -> Result<Touches, Refusal>
     requires pairs { ArePairs contacts.old.contacts }
-    requires sorted { IsNonDecreasing forbidden.now }
     ensures pairs { ArePairs contacts.new.contacts }
     ensures settled { OnOk result (contacts.new.pending ≡ 0) }
 {
@@ -136,7 +135,7 @@ fn laid_at(alloc: Global, contacts: &mut KeptContacts, y: i64) -> Result<[usize;
     ensures pairs { ArePairs contacts.new.contacts }
     ensures settled { OnOk result (contacts.new.pending ≡ 0) }
 {
-    let touches = collide(alloc, contacts, lying_at(alloc, y)?, &[])?;
+    let touches = collide(alloc, contacts, lying_at(alloc, y)?, &NO_PAIR)?;
     Ok([
         touches.begin.len(),
         touches.end.len(),
@@ -169,7 +168,13 @@ fn a_contact_is_kept_while_its_shapes_are_near(rt: HostRuntime) {
 fn joined(alloc: Global) -> Result<(Touches, usize), Refusal> {
     let mut contacts = KeptContacts::new(alloc);
     laid_at(alloc, &mut contacts, 20_000)?;
-    let touches = collide(alloc, &mut contacts, lying_at(alloc, 20_000)?, &[1])?;
+    let floor_and_capsule = OnePair { number: Some(1) };
+    let touches = collide(
+        alloc,
+        &mut contacts,
+        lying_at(alloc, 20_000)?,
+        &floor_and_capsule,
+    )?;
     Ok((touches, contacts.as_slice().len()))
 }
 
@@ -202,9 +207,9 @@ const NEXT: ContactKey = ContactKey {
 /// The touches of the row and how many contacts it has, before its ball in slot 5 moves and after it.
 fn moved(alloc: Global) -> Result<[(Touches, usize); 2], Refusal> {
     let mut contacts = KeptContacts::new(alloc);
-    let first = collide(alloc, &mut contacts, row(alloc, 0)?, &[])?;
+    let first = collide(alloc, &mut contacts, row(alloc, 0)?, &NO_PAIR)?;
     let before = contacts.as_slice().len();
-    let then = collide(alloc, &mut contacts, row(alloc, 950_000)?, &[])?;
+    let then = collide(alloc, &mut contacts, row(alloc, 950_000)?, &NO_PAIR)?;
     Ok([(first, before), (then, contacts.as_slice().len())])
 }
 

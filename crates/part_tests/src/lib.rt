@@ -15,6 +15,8 @@ mod definitions;
 #[cfg(test)]
 mod events;
 #[cfg(test)]
+mod forbidden;
+#[cfg(test)]
 mod given_lists;
 #[cfg(test)]
 mod handles;

@@ -7,6 +7,7 @@ ghost use Rattle.contacts_base.specs.Surfaces.{IsSurface};
 ghost use Rattle.contacts_base.specs.Near.{IsProxy};
 
 use crate::assertions::{same, same_items};
+use crate::forbidden::NO_PAIR;
 use body_handles::MAX_SLOTS;
 use contacts::*;
 use contacts_base::{
@@ -89,7 +90,7 @@ pub(crate) fn add(broad: &mut BroadPhase, proxy: Proxy) -> Result<(), Refusal>
 }
 
 fn collide(alloc: Global, old: &Contacts, broad: &mut BroadPhase) -> Result<Changes, Refusal> {
-    broad.update_contacts(alloc, &[], old)
+    broad.update_contacts(alloc, &NO_PAIR, old)
 }
 
 const FLOOR: Shape = Shape::Segment {

@@ -1,22 +1,17 @@
 -- The shapes that a collide reads, contacts that are dropped, and bodies that joints keep apart.
-use Rattle.std.proofs.Common.{◌≡◌, ℕ, ◌<◌, ◌≤◌, List, [], ◌∷◌, length, map, Option, Some, None, Bool, true, false, cond, refl, ap, sym, ◌∙◌, Result, Ok, Err}
-use Rattle.std.specs.Prelude.{nat_le, not, filter, IfOk}
+use Rattle.std.proofs.Common.{◌≡◌, ℕ, ◌<◌, ◌≤◌, List, [], ◌∷◌, length, map, Option, Some, None, Bool, true, false, cond, refl, Result, Ok, Err}
+use Rattle.std.specs.Prelude.{nat_le, filter, IfOk}
 use Rattle.std.specs.List.{list_all}
 use Rattle.std.proofs.lemmas.Bool.{leb-true}
 use Rattle.fixed_geom.specs.declared.refusal.Refusal.TheVariants.{BadShape, OutOfRange}
 use Rattle.shapes.specs.declared.shape.ShapeDef.{ShapeDef}
 use Rattle.shapes.specs.Shapes.{are_forms_allowed, shapes_refusal, is_in_range, is_form_allowed}
 use Rattle.contacts_base.specs.declared.contact.ContactEntry.{ContactEntry}
-use Rattle.contacts_base.specs.declared.near.Proxy.{Proxy}
-use Rattle.contacts_base.specs.Near.{near_codes}
 use Rattle.contacts.specs.Changes.{contacts_of}
-use Rattle.contacts.specs.Forbidden.{allowed_codes, pair_number}
-use Rattle.contacts.specs.Pairs.{first_place, proxy_at, second_place}
+use Rattle.contacts.specs.Forbidden.{allowed_codes}
 use Rattle.plain_world.specs.declared.body.Body.{Body}
 use Rattle.plain_world.specs.declared.joint.BodyJoint.{BodyJoint}
-use Rattle.joint_table.specs.JointTables.{HaveSameNumbers}
 use Rattle.plain_world.specs.Joints.{forbidden_pairs}
-use Rattle.joint_table.proofs.PairNumbers.{any_same}
 use Rattle.world_rules.specs.Collide.{contacts_after, proxies_of}
 use Rattle.contacts_base.specs.Contacts.{number_of, AreKeysRising}
 use Rattle.contacts.proofs.Members.{Each}
@@ -61,15 +56,9 @@ eight_at_most segments defs e =
 
 -- ---- what joints keep from colliding
 
--- pairs that are among the ones just if they are among the others keep the same shapes apart
-pub allowed_same : (xs ys : List ℕ) (ps : List Proxy) → HaveSameNumbers xs ys → allowed_codes ys ps ≡ allowed_codes xs ps
-allowed_same xs ys ps same =
-    let e : allowed_codes xs ps ≡ allowed_codes ys ps = λ i. filter (λ code. not (any_same xs ys same (pair_number (proxy_at ps (first_place code)).id.slot (proxy_at ps (second_place code)).id.slot) i)) (near_codes ps) in
-    sym e
-
-pub contacts_same : (bodies : List (Option Body)) (joints : List (Option BodyJoint)) (pairs : List ℕ) (ps : List Proxy) (old : List ContactEntry) → ps ≡ proxies_of bodies → HaveSameNumbers (forbidden_pairs joints) pairs → contacts_of old ps (allowed_codes pairs ps) ≡ contacts_after bodies joints old
+pub contacts_are_after : (bodies : List (Option Body)) (joints : List (Option BodyJoint)) (old : List ContactEntry) → contacts_of old (proxies_of bodies) (allowed_codes (forbidden_pairs joints) (proxies_of bodies)) ≡ contacts_after bodies joints old
 unfolding contacts_after
-contacts_same bodies joints pairs ps old are same = ap (contacts_of old ps) (allowed_same (forbidden_pairs joints) pairs ps same) ∙ ap (λ (qs : List Proxy). contacts_of old qs (allowed_codes (forbidden_pairs joints) qs)) are
+contacts_are_after bodies joints old = refl
 
 -- what is known of an answer in two ways
 pub if_ok_both : {X E : Type 0} (P Q R : X → Type 0) (r : Result X E) → ((x : X) → P x → Q x → R x) → IfOk r P → IfOk r Q → IfOk r R

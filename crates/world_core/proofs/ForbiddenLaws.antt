@@ -16,36 +16,21 @@ use Rattle.solver_sets.specs.Joining.{handle_at, unjoined, unjoined_all, unjoine
 use Rattle.solver_sets.specs.Ties.{JointSlots}
 use Rattle.world_core_base.proofs.SolvingJoints.{bare_entry, bare_joints}
 use Rattle.solver_sets.proofs.SlotLemmas.{below_length, item_at-set_none, item_at-set_other, slice_get-with, slice_get-with_own}
+use Rattle.joint_table.specs.Forbidding.{is_number, keeps_apart}
+use Rattle.joint_table.proofs.ForbiddingLaws.{any_joint}
 use Rattle.world_core.proofs.ShownLaws.{is_pair_among}
 
--- ---- the pair of one joint
-
-abbrev is_number : ℕ → Option ℕ → Bool
-is_number m None = false
-is_number m (Some n) = n == m
-
--- the joint, if there is one, keeps the pair with the number from colliding
-abbrev forbids : ℕ → Option BodyJoint → Bool
-forbids m o = is_number m (forbidden_in o)
-
-any_option : (m : ℕ) (o : Option ℕ) (rest : List ℕ) → list_any (λ n. n == m) (cons_option o rest) ≡ (is_number m o || list_any (λ n. n == m) rest)
-any_option m None rest = refl
-any_option m (Some n) rest = refl
-
--- each pair is that of a joint
-any_joint : (m : ℕ) (joints : List (Option BodyJoint)) → list_any (λ n. n == m) (forbidden_pairs joints) ≡ list_any (forbids m) joints
-any_joint m [] = refl
-any_joint m (o ∷ joints) = any_option m (forbidden_in o) (forbidden_pairs joints) ∙ ap (λ (t : Bool). forbids m o || t) (any_joint m joints)
+-- ---- the pairs of all joints
 
 either : (s t u v : Bool) → s ≡ u → t ≡ v → (s || t) ≡ (u || v)
 either s t u v a b = λ j. a j || b j
 
 -- it is one slot by slot
-any_same : (m : ℕ) (joints later : List (Option BodyJoint)) → ((slot : ℕ) → forbids m (joint_at later slot) ≡ forbids m (joint_at joints slot)) → list_any (forbids m) later ≡ list_any (forbids m) joints
+any_same : (m : ℕ) (joints later : List (Option BodyJoint)) → ((slot : ℕ) → keeps_apart m (joint_at later slot) ≡ keeps_apart m (joint_at joints slot)) → list_any (keeps_apart m) later ≡ list_any (keeps_apart m) joints
 any_same m [] [] h = refl
-any_same m [] (o ∷ later) h = either (forbids m o) (list_any (forbids m) later) false false (h 0) (any_same m [] later (λ slot. h (suc slot)))
-any_same m (o ∷ joints) [] h = sym (either (forbids m o) (list_any (forbids m) joints) false false (sym (h 0)) (sym (any_same m joints [] (λ slot. h (suc slot)))))
-any_same m (o ∷ joints) (p ∷ later) h = either (forbids m p) (list_any (forbids m) later) (forbids m o) (list_any (forbids m) joints) (h 0) (any_same m joints later (λ slot. h (suc slot)))
+any_same m [] (o ∷ later) h = either (keeps_apart m o) (list_any (keeps_apart m) later) false false (h 0) (any_same m [] later (λ slot. h (suc slot)))
+any_same m (o ∷ joints) [] h = sym (either (keeps_apart m o) (list_any (keeps_apart m) joints) false false (sym (h 0)) (sym (any_same m joints [] (λ slot. h (suc slot)))))
+any_same m (o ∷ joints) (p ∷ later) h = either (keeps_apart m p) (list_any (keeps_apart m) later) (keeps_apart m o) (list_any (keeps_apart m) joints) (h 0) (any_same m joints later (λ slot. h (suc slot)))
 
 -- ---- two pairs
 
@@ -92,14 +77,14 @@ number_if : (m : ℕ) (t : Bool) (n : ℕ) → (n == m) ≡ false → is_number 
 number_if m true n h = refl
 number_if m false n h = h
 
-forbids_nobody : (marks : List Bool) (j : BodyJoint) (a b : ℕ) → IsEndMarked marks j → a < 2 ^ 32 → b < 2 ^ 32 → slice_index_or marks a true ≡ false → slice_index_or marks b true ≡ false → forbids (pair_number a b) (Some j) ≡ false
+forbids_nobody : (marks : List Bool) (j : BodyJoint) (a b : ℕ) → IsEndMarked marks j → a < 2 ^ 32 → b < 2 ^ 32 → slice_index_or marks a true ≡ false → slice_index_or marks b true ≡ false → keeps_apart (pair_number a b) (Some j) ≡ false
 forbids_nobody marks j a b is la lb fa fb = number_if (pair_number a b) j.collide (pair_number j.a j.b) (number_apart marks j a b is la lb fa fb)
 
 -- the joint in a slot stays, or an end of what is there before and after is marked
 abbrev pub IsMarkedJoint : List Bool → Option BodyJoint → Option BodyJoint → Type 0
 IsMarkedJoint marks o p = (p ≡ o) ⊎ (((j : BodyJoint) → o ≡ Some j → IsEndMarked marks j) × ((j : BodyJoint) → p ≡ Some j → IsEndMarked marks j))
 
-forbids_none : (marks : List Bool) (o : Option BodyJoint) (a b : ℕ) → ((j : BodyJoint) → o ≡ Some j → IsEndMarked marks j) → a < 2 ^ 32 → b < 2 ^ 32 → slice_index_or marks a true ≡ false → slice_index_or marks b true ≡ false → forbids (pair_number a b) o ≡ false
+forbids_none : (marks : List Bool) (o : Option BodyJoint) (a b : ℕ) → ((j : BodyJoint) → o ≡ Some j → IsEndMarked marks j) → a < 2 ^ 32 → b < 2 ^ 32 → slice_index_or marks a true ≡ false → slice_index_or marks b true ≡ false → keeps_apart (pair_number a b) o ≡ false
 forbids_none marks None a b is la lb fa fb = refl
 forbids_none marks (Some j) a b is la lb fa fb = forbids_nobody marks j a b (is j refl) la lb fa fb
 
@@ -107,7 +92,7 @@ pub same_pairs : (marks : List Bool) (joints later : List (Option BodyJoint)) �
 same_pairs marks joints later h a b la lb fa fb =
     any_joint (pair_number a b) later
     ∙ any_same (pair_number a b) joints later (λ slot. elim (h slot) [
-      | inl same ↦ ap (forbids (pair_number a b)) same
+      | inl same ↦ ap (keeps_apart (pair_number a b)) same
       | inr is ↦ forbids_none marks (joint_at later slot) a b is.1 la lb fa fb ∙ sym (forbids_none marks (joint_at joints slot) a b is.0 la lb fa fb)
     ])
     ∙ sym (any_joint (pair_number a b) joints)

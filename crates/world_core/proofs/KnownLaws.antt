@@ -4,26 +4,21 @@ use Rattle.std.specs.Prelude.{◌/◌, ◌^◌, option_map, slice_index_or}
 use Rattle.std.proofs.lemmas.Bool.Decides.{nat_tests}
 use Rattle.std.proofs.lemmas.List.Elements.{All-weaker}
 use Rattle.body_handles.specs.declared.places.TheConstants.{MAX_SLOTS}
-use Rattle.contacts.specs.Forbidden.{pair_number}
-use Rattle.contacts.specs.Known.{IsKnown, IsPairKey, all_still, both_near, found, has_key}
+use Rattle.contacts.specs.Known.{IsKnown, IsPairKey, all_still, has_key}
 use Rattle.contacts.specs.Turns.{moved_by}
 use Rattle.contacts.proofs.KnownLemmas.{all_known_after-holds, each_from_all, ids_same, known_stays-holds}
 use Rattle.contacts.proofs.Members.{Each}
 use Rattle.contacts_base.specs.Contacts.{contacts_without, has_slot, lookup, number_of}
 use Rattle.contacts_base.specs.Keys.{id_number, key_number}
-use Rattle.contacts_base.specs.Near.{is_near}
 use Rattle.contacts_base.specs.declared.contact.ContactEntry.{ContactEntry}
 use Rattle.contacts_base.specs.declared.key.ContactKey.{ContactKey}
 use Rattle.contacts_base.specs.declared.key.ShapeId.{ShapeId}
-use Rattle.contacts_base.specs.declared.near.Proxy.{Proxy}
 use Rattle.plain_world.specs.declared.body.Body.{Body}
 use Rattle.plain_world.specs.declared.joint.BodyJoint.{BodyJoint}
 use Rattle.plain_world.specs.Bodies.{AreBodies}
 use Rattle.plain_world.specs.Changes.{changed_at, disabled_body}
-use Rattle.joint_table.specs.JointTables.{HaveSameNumbers}
 use Rattle.plain_world.specs.Joints.{forbidden_pairs}
 use Rattle.plain_world.specs.Slots.{body_at}
-use Rattle.joint_table.proofs.PairNumbers.{any_same}
 use Rattle.world_core_base.specs.Awake.{Bodies}
 use Rattle.world_core_base.specs.Marked.{AreMarked, AreShownAlike, IsUnchangedAt}
 use Rattle.world_core_base.proofs.MarkedLaws.{marked_then}
@@ -209,16 +204,6 @@ unfolding contacts_after
 known_after marks bodies joints old few all =
     let known : IsKnown all_still (forbidden_pairs joints) (proxies_of bodies) (contacts_after bodies joints old) = all_known_after-holds (forbidden_pairs joints) (proxies_of bodies) old (are_proxies bodies few all) in
     record { keys = known.keys; still = λ k pair off. known.still k pair refl }
-
--- the same by another list of the forbidden pairs
-both_numbers : (xs ys : List ℕ) (o r : Option Proxy) → HaveSameNumbers xs ys → both_near ys o r ≡ both_near xs o r
-both_numbers xs ys None r same = refl
-both_numbers xs ys (Some p) None same = refl
-both_numbers xs ys (Some p) (Some q) same = ap (λ (t : Bool). cond (is_near p q) (not t) false) (sym (any_same xs ys same (pair_number p.id.slot q.id.slot)))
-
-pub known_numbers : (moved : ℕ → Bool) (xs ys : List ℕ) (ps : List Proxy) (contacts : List ContactEntry) → HaveSameNumbers xs ys → IsKnown moved xs ps contacts → IsKnown moved ys ps contacts
-known_numbers moved xs ys ps contacts same known =
-    known_stays-holds moved moved xs ys ps ps contacts contacts known known.keys (λ k pair off. record { unmoved = off; near = both_numbers xs ys (found ps (id_number k.first)) (found ps (id_number k.second)) same; contact = refl })
 
 -- ---- keys
 

@@ -233,6 +233,6 @@ pub fn collide(
         &BodyShapes { table: bodies },
         marks.flags(),
         marks.slots(),
-        joints.forbidden(),
+        joints,
     )
 }

@@ -1,55 +1,17 @@
 //! A table of joints from a list, as a saved world has it.
 
-ghost use Rattle.std.specs.Prelude.{◌≡◌, ◌≤◌, ◌<◌, ◌+◌, ◌*◌, ◌++◌, take, length, IfOk, OnOk};
-ghost use Rattle.std.specs.Option.{option_to_list};
+ghost use Rattle.std.specs.Prelude.{◌≡◌, ◌≤◌, ◌<◌, ◌+◌, ◌*◌, take, length, IfOk, OnOk};
 ghost use Rattle.std.specs.Result.{IsOkUnless};
-ghost use Rattle.std.specs.List.Sorted.{IsNonDecreasing};
-ghost use Rattle.plain_world.specs.Joints.{forbidden_pairs};
 ghost use Rattle.body_handles.specs.declared.places.TheConstants.{MAX_SLOTS};
 ghost use Rattle.packed_sets.specs.Packs.{IsAbsent};
 ghost use Rattle.joint_table.specs.Ends.{AreEnds, AreNoted, ends_of};
-ghost use Rattle.joint_table.specs.JointTables.{HaveSameNumbers};
 
 use crate::ends::{ends_of, note_ends, reserve_ends};
-use crate::table::{JointTable, forbidden_in};
+use crate::table::JointTable;
 use fixed_geom::Refusal;
 use packed_sets::PackedSets;
 use plain_world::BodyJoint;
 use std::alloc::Global;
-
-/// Adds a number, if there is one. Refused 1 where memory is wanting.
-fn push_number(numbers: &mut Vec<u64>, number: Option<u64>) -> Result<(), Refusal>
-    ensures numbers { OnOk result (numbers.new.items ≡ numbers.old.items ++ option_to_list number) }
-    ensures memory_only { IsOkUnless result Refusal.NoMemory }
-{
-    if let Some(number) = number {
-        numbers.push(number)?;
-    }
-    Ok(())
-}
-
-/// The numbers of the pairs of bodies that the joints keep from colliding, by slot. Refused 1 where memory is wanting.
-fn list_forbidden(alloc: Global, joints: &[Option<BodyJoint>]) -> Result<Vec<u64>, Refusal>
-    ensures numbers { IfOk result (λ numbers. numbers.items ≡ forbidden_pairs joints.now) }
-    ensures memory_only { IsOkUnless result Refusal.NoMemory }
-{
-    let mut numbers = Vec::new(alloc);
-    for place in 0..joints.len() {
-        push_number(&mut numbers, forbidden_in(joints[place].as_ref()))?;
-    }
-    Ok(numbers)
-}
-
-/// The same, ascending. Refused 1 where memory is wanting.
-fn sorted_forbidden(alloc: Global, joints: &[Option<BodyJoint>]) -> Result<Vec<u64>, Refusal>
-    ensures sorted { IfOk result (λ numbers. IsNonDecreasing numbers.items) }
-    ensures same { IfOk result (λ numbers. HaveSameNumbers (forbidden_pairs joints.now) numbers.items) }
-    ensures memory_only { IsOkUnless result Refusal.NoMemory }
-{
-    let mut numbers = list_forbidden(alloc, joints)?;
-    numbers.sort_unstable();
-    Ok(numbers)
-}
 
 /// Adds the ends of the joint in a slot. Refused 1 where memory is wanting.
 fn add_ends(sets: &mut PackedSets, slot: u32, joint: &BodyJoint) -> Result<(), Refusal>
@@ -105,7 +67,6 @@ impl JointTable {
     {
         Ok(JointTable {
             joints: Vec::from_slice(alloc, joints)?,
-            forbidden: sorted_forbidden(alloc, joints)?,
             ends: list_ends(alloc, joints)?,
             room: None,
         })

@@ -1,4 +1,5 @@
 use Rattle.std.proofs.Common.{◌∙◌, subst}
+use Rattle.std.specs.Option.{option_to_list}
 use Rattle.contacts_base.specs.Near.{IsProxyList}
 use Rattle.part_tests.proofs.SceneLaws.{nothing_known, pairs_after, shown_of, within_shown}
 use Rattle.part_tests.proofs.kept.collide.Goals as goal
@@ -13,4 +14,4 @@ pub collide-requires-clause-known : goal.collide-requires-clause-known
 collide-requires-clause-known c = nothing_known _ _ _ _ (c.flags.ensures ∙ c.in_ok-marks.ensures.marked) c.requires.pairs
 
 pub returns-clause-pairs : goal.returns-clause-pairs
-returns-clause-pairs c = pairs_after c.args.forbidden.now c.args.shapes c.args.contacts.now.contacts _ (subst IsProxyList c.proxies.ensures.value c.proxies.ensures.list) (c.carry_out.ensures.contacts ∙ c.in_ok-touches.ensures.due)
+returns-clause-pairs c = pairs_after (option_to_list c.args.forbidden.now.number) c.args.shapes c.args.contacts.now.contacts _ (subst IsProxyList c.proxies.ensures.value c.proxies.ensures.list) (c.carry_out.ensures.contacts ∙ c.in_ok-touches.ensures.due)

@@ -1,19 +1,17 @@
-use Rattle.std.proofs.Common.{◌≡◌, List, refl, subst}
+use Rattle.std.proofs.Common.{◌≡◌, List, subst}
 use Rattle.std.specs.Prelude.{IfOk, OnOk}
 use Rattle.contacts_base.specs.declared.contact.ContactEntry.{ContactEntry}
 use Rattle.contacts.specs.Changes.{contacts_of, keys_touching_only_in}
 use Rattle.contacts.specs.Forbidden.{allowed_codes}
 use Rattle.world_rules.specs.Collide.{contacts_after, proxies_of}
-use Rattle.world_core.proofs.CollideLaws.{contacts_same}
-use Rattle.contacts.specs.Turns.{moved_by}
 use Rattle.plain_world.specs.Joints.{forbidden_pairs}
-use Rattle.world_core.proofs.KnownLaws.{known_numbers}
+use Rattle.world_core.proofs.CollideLaws.{contacts_are_after}
 use Rattle.world_core.proofs.NamedLaws.{all_within}
 use Rattle.world_core.proofs.RisingLaws.{are_proxies}
 use Rattle.world_core.proofs.collide.collide.Goals as goal
 
-same : (c : goal.After-collide) → contacts_of c.args.contacts.now.contacts (proxies_of c.args.bodies.now.bodies) (allowed_codes c.forbidden.result.now (proxies_of c.args.bodies.now.bodies)) ≡ contacts_after c.args.bodies.now.bodies c.args.joints.now.joints c.args.contacts.now.contacts
-same c = contacts_same c.args.bodies.now.bodies c.args.joints.now.joints c.forbidden.result.now (proxies_of c.args.bodies.now.bodies) c.args.contacts.now.contacts refl c.forbidden.ensures.same
+same : (c : goal.After-collide) → contacts_of c.args.contacts.now.contacts (proxies_of c.args.bodies.now.bodies) (allowed_codes (forbidden_pairs c.args.joints.now.joints) (proxies_of c.args.bodies.now.bodies)) ≡ contacts_after c.args.bodies.now.bodies c.args.joints.now.joints c.args.contacts.now.contacts
+same c = contacts_are_after c.args.bodies.now.bodies c.args.joints.now.joints c.args.contacts.now.contacts
 
 pub returns-clause-due : goal.returns-clause-due
 returns-clause-due c = subst (λ (l : List ContactEntry). OnOk c.collide.result (c.collide.new.self.due ≡ l)) (same c) c.collide.ensures.due
@@ -34,6 +32,4 @@ pub collide-requires-clause-listed : goal.collide-requires-clause-listed
 collide-requires-clause-listed c = rw c.flags.ensures c.slots.ensures.listed
 
 pub collide-requires-clause-known : goal.collide-requires-clause-known
-collide-requires-clause-known c =
-    rw (c.flags.ensures, c.marks-marks.ensures.value)
-    (known_numbers (moved_by c.args.bodies.now.marks) (forbidden_pairs c.args.joints.now.joints) c.forbidden.result.now (proxies_of c.args.bodies.now.bodies) c.args.contacts.now.contacts c.forbidden.ensures.same c.requires.known)
+collide-requires-clause-known c = rw (c.flags.ensures, c.marks-marks.ensures.value) c.requires.known

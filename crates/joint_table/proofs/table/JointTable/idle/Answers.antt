@@ -1,7 +1,3 @@
-use Rattle.std.proofs.Common.{List, ℕ, ap, sym, subst, ◌∙◌}
-use Rattle.joint_table.specs.JointTables.{HaveSameNumbers}
-use Rattle.plain_world.specs.Joints.{forbidden_pairs}
-use Rattle.joint_table.proofs.IdleLaws.{idle_pairs}
 use Rattle.joint_table.proofs.OwnLaws.{all_ends, ends_below}
 use Rattle.joint_table.proofs.TableLaws.{ends_idle, length_idle}
 use Rattle.joint_table.proofs.table.JointTable.idle.Goals as goal
@@ -17,8 +13,6 @@ invariant_of-self c =
     let joints = c.self.inside.joints.items in
     record {
       few = rw (c.idle_own.ensures, length_idle c.args.slot joints) c.self.invariant.few;
-      sorted = c.self.invariant.sorted;
-      same = subst (λ (l : List ℕ). HaveSameNumbers l c.self.inside.forbidden.items) (sym (ap forbidden_pairs c.idle_own.ensures ∙ idle_pairs c.args.slot joints)) c.self.invariant.same;
       ends = rw c.idle_own.ensures (ends_idle joints c.self.inside.ends.sets c.args.slot c.self.invariant.ends);
       ready = tt;
     }

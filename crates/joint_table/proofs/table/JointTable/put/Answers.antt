@@ -2,7 +2,6 @@ use Rattle.std.proofs.Common.{◌≡◌, ◌≤◌, None, length}
 use Rattle.plain_world.specs.Joints.{joint_at}
 use Rattle.joint_table.specs.Ends.{AreNoted, ends_of}
 use Rattle.joint_table.proofs.EndLaws.{ends_put, first_absent, second_absent}
-use Rattle.joint_table.proofs.PairNumbers.{added}
 use Rattle.joint_table.proofs.TableLaws.{few_with}
 use Rattle.joint_table.proofs.table.JointTable.put.Goals as goal
 
@@ -21,14 +20,10 @@ note_ends-requires-clause-second c =
 pub invariant_of-self : goal.invariant_of-self
 invariant_of-self c =
     let joints = c.self.inside.joints.items in
-    let free : joint_at joints c.args.slot ≡ None = rw (← c.self.view_is) at c.requires.free in
     let next : c.args.slot ≤ length joints = rw (← c.self.view_is) at c.requires.next in
-    let pushed = rw c.forbidden_pair.ensures at c.add_pair.ensures.same in
     let noted : AreNoted c.self.inside.ends.sets c.note_ends.new.sets.sets c.args.slot (ends_of c.args.joint) = rw (← c.ends_of.ensures) c.note_ends.ensures in
     record {
       few = rw c.put_item.ensures.items (few_with joints c.args.slot c.args.joint c.self.invariant.few c.requires.few next);
-      sorted = c.add_pair.ensures.sorted;
-      same = rw c.put_item.ensures.items (added joints c.self.inside.forbidden.items c.add_pair.new.numbers.items c.args.slot c.args.joint free c.self.invariant.same pushed);
       ends = rw c.put_item.ensures.items (ends_put joints c.self.inside.ends.sets c.note_ends.new.sets.sets c.args.slot c.args.joint next c.self.invariant.ends noted);
       ready = tt;
     }

@@ -4,15 +4,12 @@ use Rattle.joint_table.proofs.EndLaws.{ends_in_same}
 use Rattle.joint_table.proofs.table.JointTable.reserve_for.Goals as goal
 
 pub invariant_of-self : goal.invariant_of-self
-invariant_of-self c = rw c.reserve.ensures.items (record { few = c.self.invariant.few; sorted = c.self.invariant.sorted; same = c.self.invariant.same; ends = c.self.invariant.ends; ready = tt })
-
-pub invariant_of-self-in_err-reserve-2 : goal.invariant_of-self-in_err-reserve-2
-invariant_of-self-in_err-reserve-2 c = rw (c.reserve.ensures.items, c.reserve-2.ensures.items) (record { few = c.self.invariant.few; sorted = c.self.invariant.sorted; same = c.self.invariant.same; ends = c.self.invariant.ends; ready = tt })
+invariant_of-self c = rw c.reserve.ensures.items (record { few = c.self.invariant.few; ends = c.self.invariant.ends; ready = tt })
 
 pub invariant_of-self-in_err-reserve_ends : goal.invariant_of-self-in_err-reserve_ends
 invariant_of-self-in_err-reserve_ends c =
     let ends = ends_in_same c.self.inside.joints.items c.self.inside.ends.sets c.reserve_ends.new.sets.sets c.reserve_ends.ensures.sets c.self.invariant.ends in
-    rw (c.reserve.ensures.items, c.reserve-2.ensures.items) (record { few = c.self.invariant.few; sorted = c.self.invariant.sorted; same = c.self.invariant.same; ends = ends; ready = tt })
+    rw c.reserve.ensures.items (record { few = c.self.invariant.few; ends = ends; ready = tt })
 
 pub invariant_of-self-2 : goal.invariant_of-self-2
 invariant_of-self-2 c =
@@ -20,4 +17,4 @@ invariant_of-self-2 c =
     let same : length c.reserve.new.self.items ≡ length c.self.inside.joints.items = ap length c.reserve.ensures.items in
     let long : c.len.result ≡ length c.self.inside.joints.items = omega (arith, c.len.ensures, same) in
     let made : HasRoomFor c.ends_of-ends.result (length c.self.inside.joints.items) c.reserve_ends.new.sets = subst (λ (n : ℕ). HasRoomFor c.ends_of-ends.result n c.reserve_ends.new.sets) long c.in_ok-reserve_ends.ensures.made in
-    rw (c.reserve.ensures.items, c.reserve-2.ensures.items) (record { few = c.self.invariant.few; sorted = c.self.invariant.sorted; same = c.self.invariant.same; ends = ends; ready = record { for_joints = search rules; for_forbidden = search rules; for_ends = made } })
+    rw c.reserve.ensures.items (record { few = c.self.invariant.few; ends = ends; ready = record { for_joints = search rules; for_ends = made } })

@@ -1,9 +1,8 @@
-use Rattle.std.proofs.Common.{rules, w64, SFits, ◌≡◌, ◌<◌, length, option_map, slice_index_or, slice_set, sym, subst, ap, ◌∙◌, ℕ, List}
+use Rattle.std.proofs.Common.{rules, w64, SFits, ◌≡◌, ◌<◌, length, option_map, slice_index_or, slice_set, ap, ◌∙◌}
 use Rattle.std.proofs.lemmas.Int.{to_z-of_z}
 use Rattle.std.proofs.lemmas.List.{length-set}
 use Rattle.plain_world.specs.Joints.{with_impulse}
-use Rattle.joint_table.specs.JointTables.{HaveSameNumbers}
-use Rattle.joint_table.proofs.ImpulseLaws.{impulse_put, pairs_stay}
+use Rattle.joint_table.proofs.ImpulseLaws.{impulse_put}
 use Rattle.joint_table.proofs.TableLaws.{impulse_ends}
 use Rattle.joint_table.proofs.table.JointTable.set_impulse.Goals as goal
 
@@ -18,8 +17,6 @@ invariant_of-self c =
     let long : length (slice_set joints c.args.slot (option_map (with_impulse c.args.impulse) (slice_index_or joints c.args.slot old))) ≡ length joints = length-set joints c.args.slot _ in
     rw entry (record {
       few = rw long c.self.invariant.few;
-      sorted = c.self.invariant.sorted;
-      same = subst (λ (l : List ℕ). HaveSameNumbers l c.self.inside.forbidden.items) (sym (pairs_stay joints c.args.slot c.args.impulse old there)) c.self.invariant.same;
       ends = impulse_ends joints c.self.inside.ends.sets c.args.slot c.args.impulse old there c.self.invariant.ends;
       ready = rw long c.self.invariant.ready;
     })

@@ -5,12 +5,9 @@ use Rattle.joint_table.proofs.table.JointTable.try_copy.Goals as goal
 pub invariant_of-result : goal.invariant_of-result
 invariant_of-result c =
     let joints : c.in_ok-from_slice.field-0.items ≡ c.self.inside.joints.items = c.in_ok-from_slice.ensures.items ∙ c.as_slice.ensures.value in
-    let forbidden : c.in_ok-from_slice-2.field-0.items ≡ c.self.inside.forbidden.items = c.in_ok-from_slice-2.ensures.items ∙ c.as_slice-2.ensures.value in
     let ends : AreEnds c.self.inside.joints.items c.in_ok-try_copy.field-0.sets = rw c.in_ok-try_copy.ensures.sets c.self.invariant.ends in
-    rw (joints, forbidden) (record {
+    rw joints (record {
       few = c.self.invariant.few;
-      sorted = c.self.invariant.sorted;
-      same = c.self.invariant.same;
       ends = ends;
       ready = tt;
     })
