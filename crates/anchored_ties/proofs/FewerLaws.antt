@@ -85,6 +85,12 @@ fewer_one_begun m s none x h slot on = elim (begun_in m s x h) [
   | inr k ↦ k
 ]
 
+pub fewer_with_begun : (m : Member Constraint) (s : Acting Constraint) → AreFewer (s.ties ++ m ∷ []) (begun constraint_number m s).ties
+fewer_with_begun m s x h slot on = elim (begun_in m s x h) [
+  | inl e ↦ subst (λ (v : Member Constraint). Contains (s.ties ++ m ∷ []) v) e (Contains-append_right s.ties (m ∷ []) m (contains_head m []))
+  | inr k ↦ Contains-append_left s.ties (m ∷ []) x k
+]
+
 pub fewer_begun : (ms : Ties) (s : Acting Constraint) → HaveNoAnchor ms → AreFewer s.ties (each_begun constraint_number ms s).ties
 fewer_begun ms s none x h slot on = elim (each_begun_in ms s x h) [
   | inl k ↦ absurd (false≢true (sym (none x k slot) ∙ on))

@@ -1,12 +1,12 @@
 -- What is listed in a slot, looked up, is what the body in the slot is the anchor of.
 use Rattle.std.proofs.Common.{◌≡◌, ◌≢◌, ◌∙◌, ◌⊎◌, ℕ, suc, ◌+◌, ◌<◌, ◌≤◌, ◌==◌, ◌++◌, add-one, drop, Bool, true, false, cond, List, [], ◌∷◌, length, Option, Some, None, inl, inr, refl, sym, ap, subst, arith}
 use Rattle.std.specs.Prelude.{Contains, filter, get_or, is_some}
-use Rattle.std.specs.List.{AllWithin, cons_option, filter_map}
+use Rattle.std.specs.List.{cons_option, filter_map}
 use Rattle.std.specs.Option.{option_to_list}
 use Rattle.std.specs.List.Sorted.{IsStrictlyIncreasing}
 use Rattle.std.proofs.lemmas.Bool.{cases_eq}
 use Rattle.std.proofs.lemmas.Option.{none-some, same_Some}
-use Rattle.std.proofs.lemmas.List.{drop_all, get_or_default}
+use Rattle.std.proofs.lemmas.List.{drop_all}
 use Rattle.std.proofs.lemmas.List.Elements.{Contains-get_or}
 use Rattle.std.proofs.lemmas.List.Kept.{AllPairs-cons}
 use Rattle.contacts.specs.Constraints.{constraint_number}
@@ -15,8 +15,8 @@ use Rattle.contacts.proofs.Members.{Each}
 use Rattle.contacts.proofs.MergeLaws.{drop_next}
 use Rattle.contacts.proofs.Rising.{IsRising, rising_from_increasing}
 use Rattle.graph_colours.specs.declared.member.Member.{Member}
-use Rattle.graph_colours.specs.Members.{AreRising}
-use Rattle.graph_colours.proofs.PlaceLemmas.{is_same, not_same, nowhere_else, same_from}
+use Rattle.graph_colours.specs.Members.{AreRising, with_number}
+use Rattle.graph_colours.proofs.PlaceLemmas.{is_same, not_same, same_from}
 use Rattle.graph_colours.proofs.ListLemmas.{pairs_none, pairs_tail}
 use Rattle.islands.proofs.JoinLemmas.{contains_cases, contains_head, contains_tail}
 use Rattle.sleep_wake.proofs.GatherLemmas.{same_rising}
@@ -31,10 +31,6 @@ Rise ties = AreRising constraint_number ties
 
 -- ---- the constraint with a number
 
-pub with_none : (slot n : ℕ) (ms : Ties) → ((m : Member Constraint) → Contains ms m → constraint_number m.id ≢ n) → tie_with slot n ms ≡ None
-with_none slot n [] h = refl
-with_none slot n (x ∷ xs) h = rw (not_same (constraint_number x.id) n (h x (contains_head x xs))) (with_none slot n xs (λ m k. h m (contains_tail x xs m k)))
-
 pub with_there : (slot n : ℕ) (ms : Ties) (m : Member Constraint) → Rise ms → Contains ms m → constraint_number m.id ≡ n → tie_with slot n ms ≡ if_anchored slot m
 with_there slot n [] m rise h e = absurd (none_in m h)
 with_there slot n (x ∷ xs) m rise h e = elim (contains_cases x xs m h) [
@@ -44,16 +40,18 @@ with_there slot n (x ∷ xs) m rise h e = elim (contains_cases x xs m h) [
       rw (not_same (constraint_number x.id) n (λ q. omega (arith, up, q, e))) (with_there slot n xs m (pairs_tail (λ a b. constraint_number a.id < constraint_number b.id) x xs rise) k e)
 ]
 
--- past the last one below the number there is none
-pub with_beyond : (slot n i : ℕ) (ms : Ties) → AllWithin (λ m. constraint_number m.id < n) ms 0 i → length ms ≤ i → tie_with slot n ms ≡ None
-with_beyond slot n i ms before ends = with_none slot n ms (λ m h e. let low : constraint_number (get_or ms h.0 m).id < n = before h.0 m (omega arith) (omega (arith, h.1, ends)) in let is : constraint_number (get_or ms h.0 m).id ≡ constraint_number m.id = ap (λ (x : Member Constraint). constraint_number x.id) h.2 in omega (arith, low, is, e))
+-- the one that has the number, if there is one and the body in the slot is its anchor
+abbrev pub and_anchored : ℕ → Option (Member Constraint) → Option (Member Constraint)
+and_anchored slot None = None
+and_anchored slot (Some m) = if_anchored slot m
 
--- the first that isn't below it has another
-pub with_other : (slot n i : ℕ) (ms : Ties) (e : Member Constraint) → Rise ms → AllWithin (λ m. constraint_number m.id < n) ms 0 i → AllWithin (λ m. n ≤ constraint_number m.id) ms i (length ms) → i < length ms → e ≡ get_or ms i e → constraint_number e.id ≢ n → tie_with slot n ms ≡ None
-with_other slot n i ms e rise before after lt at off = with_none slot n ms (λ m h same.
-    let number : Member Constraint → ℕ = λ x. constraint_number x.id in
-    let apart : h.0 ≡ i → ⊥ = λ q. off (ap number at ∙ ap number (get_or_default ms i e m lt) ∙ ap (λ (k : ℕ). number (get_or ms k m)) (sym q) ∙ ap number h.2 ∙ same) in
-    nowhere_else constraint_number ms n i rise before after h.0 m h.1 apart (ap number h.2 ∙ same))
+next_with : (slot : ℕ) (x : Member Constraint) (o p : Option (Member Constraint)) (t : Bool) → o ≡ and_anchored slot p → cond t (if_anchored slot x) o ≡ and_anchored slot (cond t (Some x) p)
+next_with slot x o p true h = refl
+next_with slot x o p false h = h
+
+pub number_with : (slot n : ℕ) (ms : Ties) → tie_with slot n ms ≡ and_anchored slot (with_number constraint_number n ms)
+number_with slot n [] = refl
+number_with slot n (x ∷ xs) = next_with slot x (tie_with slot n xs) (with_number constraint_number n xs) (constraint_number x.id == n) (number_with slot n xs)
 
 chosen_is : (t : Bool) (x m : Member Constraint) → cond t (Some x) None ≡ Some m → (x ≡ m) × (t ≡ true)
 chosen_is true x m e = (same_Some x m e, refl)

@@ -2,10 +2,8 @@
 
 ghost use Rattle.std.specs.Prelude.{◌≡◌, ◌++◌, List, true, false, IfOk};
 ghost use Rattle.std.specs.Result.{IsOkUnless};
-ghost use Rattle.contacts.specs.Constraints.{constraint_number};
 ghost use Rattle.contacts.specs.declared.constraint.Constraint.{Constraint as TheConstraint};
 ghost use Rattle.graph_colours.specs.declared.member.Member.{Member as TheMember};
-ghost use Rattle.graph_colours.specs.Members.{AreRising};
 ghost use Rattle.anchored_ties.specs.Anchors.{Tell, anchored_at, begins_of};
 
 use crate::lists::{list_begins, rebuild};
@@ -13,7 +11,7 @@ use crate::question::{look_up, pick, tidy};
 use contacts::Constraint;
 use fixed_geom::Refusal;
 use graph_colours::Member;
-use sleep_wake::Change;
+use sleep_wake::{Change, Sets};
 use std::alloc::Global;
 use std::marker::Model;
 
@@ -68,14 +66,15 @@ impl Anchors {
         }
     }
 
-    /// Makes the lists anew of all constraints where they don't hold, or have come to be far more than these, as far as there is memory. What that costs
+    /// Makes the lists anew of all constraints of the sets where they don't hold, or have come to be far more than these, as far as there is memory. What that costs
     /// is paid for by what began before.
-    pub fn renew(&mut self, ties: &[Member<Constraint>])
-        ensures told { Tell self.old.holds self.old.lists ties.now → Tell self.new.holds self.new.lists ties.now }
+    pub fn renew(&mut self, sets: &Sets<Constraint>)
+        ensures told { Tell self.old.holds self.old.lists sets.now.acting.ties → Tell self.new.holds self.new.lists sets.now.acting.ties }
     {
-        let kept = are_kept(self.holds, self.listed, self.lists.len(), ties.len());
-        self.listed = count_then(kept, self.listed, ties.len());
-        self.holds = rebuild(&mut self.lists, kept, ties);
+        let ties = sets.tie_count();
+        let kept = are_kept(self.holds, self.listed, self.lists.len(), ties);
+        self.listed = count_then(kept, self.listed, ties);
+        self.holds = rebuild(&mut self.lists, kept, sets);
     }
 
     /// Lists the contacts that begin among these changes. Where memory is wanting, the lists hold no longer.
@@ -86,31 +85,31 @@ impl Anchors {
         self.holds = list_begins(&mut self.lists, self.holds, changes);
     }
 
-    /// The contacts with one mover alone whose other body is the one in the slot, ascending, out of all constraints. It costs by what is listed in the
-    /// slot, and no more than a pass over all constraints does. Refused 1 where memory is wanting.
+    /// The contacts with one mover alone whose other body is the one in the slot, ascending, out of all constraints of the sets. It costs by what is
+    /// listed in the slot, and no more than a pass over all constraints does. Refused 1 where memory is wanting.
     pub fn contact_ties_of(
         &self,
         alloc: Global,
-        ties: &[Member<Constraint>],
+        sets: &Sets<Constraint>,
         slot: u32,
     ) -> Result<Vec<Member<Constraint>>, Refusal>
-        requires rising { AreRising constraint_number ties.now }
-        requires told { Tell self.now.holds self.now.lists ties.now }
-        ensures value { IfOk result (λ found. found.items ≡ anchored_at slot ties.now) }
+        requires { Tell self.now.holds self.now.lists sets.now.acting.ties }
+        ensures value { IfOk result (λ found. found.items ≡ anchored_at slot sets.now.acting.ties) }
         ensures memory_only { IsOkUnless result Refusal.NoMemory }
     {
-        if self.holds && are_few(&self.lists, slot, ties.len()) {
-            look_up(alloc, &self.lists, ties, slot)
+        let ties = sets.tie_count();
+        if self.holds && are_few(&self.lists, slot, ties) {
+            look_up(alloc, &self.lists, sets, slot)
         } else {
-            pick(alloc, ties, slot)
+            pick(alloc, sets, slot)
         }
     }
 
     /// Takes out of the list of a slot what has ended, as far as there is memory, so that a question finds it but once.
-    pub fn tidy(&mut self, ties: &[Member<Constraint>], slot: u32)
-        requires { AreRising constraint_number ties.now }
-        ensures told { Tell self.old.holds self.old.lists ties.now → Tell self.new.holds self.new.lists ties.now }
+    pub fn tidy(&mut self, sets: &Sets<Constraint>, slot: u32)
+        ensures told { Tell self.old.holds self.old.lists sets.now.acting.ties → Tell self.new.holds self.new.lists sets.now.acting.ties }
     {
-        tidy(&mut self.lists, ties, slot);
+        sets.settled();
+        tidy(&mut self.lists, sets, slot);
     }
 }

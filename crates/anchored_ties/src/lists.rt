@@ -8,7 +8,7 @@ ghost use Rattle.anchored_ties.specs.Anchors.{AreAlike, IsListed, Tell, begins_o
 use crate::anchor::anchor_of;
 use contacts::Constraint;
 use graph_colours::{Id, Member};
-use sleep_wake::Change;
+use sleep_wake::{Change, Sets};
 
 // ---- room for a slot
 
@@ -111,12 +111,15 @@ fn clear_each(lists: &mut Vec<Vec<u128>>) {
 }
 
 /// Makes the lists anew, unless they are kept. Answers whether they hold then: not where memory is wanting.
-pub(crate) fn rebuild(lists: &mut Vec<Vec<u128>>, kept: bool, ties: &[Member<Constraint>]) -> bool
-    ensures { Tell kept (lists_of lists.old.items) ties.now → Tell result (lists_of lists.new.items) ties.now }
+pub(crate) fn rebuild(lists: &mut Vec<Vec<u128>>, kept: bool, sets: &Sets<Constraint>) -> bool
+    ensures { Tell kept (lists_of lists.old.items) sets.now.acting.ties → Tell result (lists_of lists.new.items) sets.now.acting.ties }
 {
     if kept {
         return true;
     }
     clear_each(lists);
-    list_each(lists, ties)
+    match sets.list_ties() {
+        Ok(ties) => list_each(lists, &ties),
+        Err(_) => false,
+    }
 }

@@ -11,7 +11,8 @@ ghost use Rattle.anchored_ties.specs.Anchors.{AreAnchored, AreKept, HasAll, anch
 use crate::anchor::is_anchored;
 use contacts::Constraint;
 use fixed_geom::Refusal;
-use graph_colours::{Id, Member, member};
+use graph_colours::Member;
+use sleep_wake::Sets;
 use std::alloc::Global;
 
 /// What is listed in a slot, ascending, each number once. Refused 1 where memory is wanting.
@@ -41,15 +42,13 @@ fn if_anchored(tie: Member<Constraint>, slot: u32) -> Option<Member<Constraint>>
 }
 
 /// The one of the constraints that has the number, if the body in the slot is its anchor.
-fn tie_with(ties: &[Member<Constraint>], slot: u32, number: u128) -> Option<Member<Constraint>>
-    requires { AreRising constraint_number ties.now }
-    ensures { result ≡ tie_with slot number ties.now }
+fn tie_with(sets: &Sets<Constraint>, slot: u32, number: u128) -> Option<Member<Constraint>>
+    ensures { result ≡ tie_with slot number sets.now.acting.ties }
 {
-    let tie = *ties.get(member::place_from(ties, number))?;
-    if tie.id.number() != number {
-        return None;
+    match sets.tie_with(number) {
+        Some(tie) => if_anchored(tie, slot),
+        None => None,
     }
-    if_anchored(tie, slot)
 }
 
 /// Adds a constraint, if there is one. Refused 1 where memory is wanting.
@@ -70,26 +69,26 @@ fn push_tie(
 pub(crate) fn look_up(
     alloc: Global,
     lists: &[Vec<u128>],
-    ties: &[Member<Constraint>],
+    sets: &Sets<Constraint>,
     slot: u32,
 ) -> Result<Vec<Member<Constraint>>, Refusal>
-    requires rising { AreRising constraint_number ties.now }
-    requires listed { AreAnchored (lists_of lists.now) ties.now }
-    ensures value { IfOk result (λ found. found.items ≡ anchored_at slot ties.now) }
+    requires rising { AreRising constraint_number sets.now.acting.ties }
+    requires listed { AreAnchored (lists_of lists.now) sets.now.acting.ties }
+    ensures value { IfOk result (λ found. found.items ≡ anchored_at slot sets.now.acting.ties) }
     ensures memory_only { IsOkUnless result Refusal.NoMemory }
 {
     let numbers = numbers_at(alloc, lists, slot)?;
     let listed = numbers.as_slice();
     let mut found = Vec::new(alloc);
     for place in 0..listed.len() {
-        push_tie(&mut found, tie_with(ties, slot, listed[place]))?;
+        push_tie(&mut found, tie_with(sets, slot, listed[place]))?;
     }
     Ok(found)
 }
 
-/// The same by a pass over all constraints. Refused 1 where memory is wanting.
+/// Of these constraints the contacts of which the body in the slot is the anchor. Refused 1 where memory is wanting.
 #[tactic(auto, unfolding(crate::specs::Anchors::anchored_at))]
-pub(crate) fn pick(
+fn pick_from(
     alloc: Global,
     ties: &[Member<Constraint>],
     slot: u32,
@@ -106,21 +105,33 @@ pub(crate) fn pick(
     Ok(found)
 }
 
+/// The contacts of which the body in the slot is the anchor, ascending, by a pass over all constraints. Refused 1 where memory is wanting.
+pub(crate) fn pick(
+    alloc: Global,
+    sets: &Sets<Constraint>,
+    slot: u32,
+) -> Result<Vec<Member<Constraint>>, Refusal>
+    ensures value { IfOk result (λ found. found.items ≡ anchored_at slot sets.now.acting.ties) }
+    ensures memory_only { IsOkUnless result Refusal.NoMemory }
+{
+    let ties = sets.list_ties()?;
+    pick_from(alloc, &ties, slot)
+}
+
 // ---- a list that is tidied
 
 /// Of these numbers those of contacts of which the body in the slot is the anchor. Refused 1 where memory is wanting.
 fn own_numbers(
     alloc: Global,
     numbers: &[u128],
-    ties: &[Member<Constraint>],
+    sets: &Sets<Constraint>,
     slot: u32,
 ) -> Result<Vec<u128>, Refusal>
-    requires { AreRising constraint_number ties.now }
-    ensures { IfOk result (λ own. own.items ≡ own_numbers slot ties.now numbers.now) }
+    ensures { IfOk result (λ own. own.items ≡ own_numbers slot sets.now.acting.ties numbers.now) }
 {
     let mut own = Vec::new(alloc);
     for place in 0..numbers.len() {
-        if tie_with(ties, slot, numbers[place]).is_some() {
+        if tie_with(sets, slot, numbers[place]).is_some() {
             own.push(numbers[place])?;
         }
     }
@@ -131,27 +142,26 @@ fn own_numbers(
 fn tidied(
     alloc: Global,
     lists: &[Vec<u128>],
-    ties: &[Member<Constraint>],
+    sets: &Sets<Constraint>,
     slot: u32,
 ) -> Result<Vec<u128>, Refusal>
-    requires { AreRising constraint_number ties.now }
-    ensures { IfOk result (λ own. AreKept slot ties.now (list_at (lists_of lists.now) slot) own.items) }
+    ensures { IfOk result (λ own. AreKept slot sets.now.acting.ties (list_at (lists_of lists.now) slot) own.items) }
 {
     let numbers = numbers_at(alloc, lists, slot)?;
-    let own = own_numbers(alloc, &numbers, ties, slot)?;
+    let own = own_numbers(alloc, &numbers, sets, slot)?;
     Ok(own)
 }
 
 /// Takes out of the list of a slot what is of no contact of the body there any more, as far as there is memory.
-pub(crate) fn tidy(lists: &mut Vec<Vec<u128>>, ties: &[Member<Constraint>], slot: u32)
-    requires { AreRising constraint_number ties.now }
-    ensures { AreAnchored (lists_of lists.old.items) ties.now → AreAnchored (lists_of lists.new.items) ties.now }
+pub(crate) fn tidy(lists: &mut Vec<Vec<u128>>, sets: &Sets<Constraint>, slot: u32)
+    requires { AreRising constraint_number sets.now.acting.ties }
+    ensures { AreAnchored (lists_of lists.old.items) sets.now.acting.ties → AreAnchored (lists_of lists.new.items) sets.now.acting.ties }
 {
     let place = slot as usize;
     if place >= lists.len() {
         return;
     }
-    if let Ok(own) = tidied(*lists.allocator(), lists, ties, slot) {
+    if let Ok(own) = tidied(*lists.allocator(), lists, sets, slot) {
         lists[place] = own;
     }
 }

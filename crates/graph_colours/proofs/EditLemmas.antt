@@ -1,25 +1,20 @@
 -- Edits that ascend, made one after the other, are one pass.
-use Rattle.std.proofs.Common.{◌≡◌, ℕ, zero, suc, ◌+◌, ◌<◌, ◌≤◌, ◌-◌, ◌==◌, ◌||◌, ◌++◌, Bool, true, false, not, cond, List, [], ◌∷◌, length, get_or, drop, take, nat_lt, subst, Option, Some, None, refl, sym, ap, ◌∙◌, arith, inl, inr}
-use Rattle.std.specs.List.{All, AllWithin, AllPairs, list_any}
-use Rattle.std.specs.Option.{is_some}
-use Rattle.std.proofs.lemmas.Bool.{cases_eq}
-use Rattle.std.proofs.Math.Numerals.{add-one}
-use Rattle.std.proofs.lemmas.List.{append_assoc, get_or_default, drop-drop, drop_more, length-drop}
-use Rattle.std.proofs.lemmas.List.Elements.{All-nil, All-cons, All-head, All-tail, All-append}
-use Rattle.std.proofs.lemmas.List.Kept.{AllPairs-cons}
-use Rattle.graph_colours.specs.declared.member.Movers.{Movers}
+use Rattle.std.proofs.Common.{◌≡◌, ℕ, zero, suc, ◌+◌, ◌<◌, ◌≤◌, ◌-◌, ◌==◌, ◌++◌, Bool, true, false, not, cond, List, [], ◌∷◌, length, get_or, drop, take, nat_lt, subst, refl, sym, ap, ◌∙◌, arith}
+use Rattle.std.specs.List.{All, AllWithin, AllPairs}
+use Rattle.std.proofs.lemmas.List.{append_assoc, drop-drop, drop_more, length-drop}
+use Rattle.std.proofs.lemmas.List.Elements.{All-nil, All-cons, All-head, All-tail}
 use Rattle.graph_colours.specs.declared.member.Member.{Member}
 use Rattle.graph_colours.specs.declared.edits.Edit.{Edit}
-use Rattle.graph_colours.specs.Members.{AreRising, has_id, inserted, without, movers_of, is_at}
-use Rattle.graph_colours.specs.Edits.{edit_number, edited, all_edited, AreInOrder, AreFresh, IsEdited}
-use Rattle.graph_colours.proofs.Cases.{by_test, true_or_false, not_false}
-use Rattle.graph_colours.proofs.PlaceLemmas.{is_lower, not_lower, is_same, not_same, same_from, without_same, without_none, has_movers}
-use Rattle.graph_colours.proofs.ListLemmas.{pairs_none, pairs_head, pairs_tail, rising_inserted, rising_without}
-use Rattle.graph_colours.proofs.SearchLemmas.{has_inserted, has_other, has_without}
+use Rattle.graph_colours.specs.Members.{AreRising, inserted, without, is_at}
+use Rattle.graph_colours.specs.Edits.{edit_number, put, added, edited, all_edited, AreInOrder, IsEdited}
+use Rattle.graph_colours.proofs.Cases.{by_test, true_or_false}
+use Rattle.graph_colours.proofs.PlaceLemmas.{is_lower, not_lower, is_same, not_same, same_from, without_none}
+use Rattle.graph_colours.proofs.ListLemmas.{pairs_head, pairs_tail, rising_inserted, rising_without}
+use Rattle.graph_colours.proofs.SearchLemmas.{has_without}
 
 -- by which way an edit goes
-pub by_way : {C : Type 0} (number : C → ℕ) (P : List (Member C) → Type 0) (e : Edit C) (ms : List (Member C)) → (e.adds ≡ true → P (inserted number e.member ms)) → (e.adds ≡ false → P (without number e.member.id ms)) → P (edited number e ms)
-by_way number P e ms adds takes = by_test P e.adds (inserted number e.member ms) (without number e.member.id ms) adds takes
+pub by_way : {C : Type 0} (number : C → ℕ) (P : List (Member C) → Type 0) (e : Edit C) (ms : List (Member C)) → (e.adds ≡ true → P (put number e.member ms)) → (e.adds ≡ false → P (without number e.member.id ms)) → P (edited number e ms)
+by_way number P e ms adds takes = by_test P e.adds (put number e.member ms) (without number e.member.id ms) adds takes
 
 -- ---- a pass
 
@@ -31,8 +26,8 @@ without_after : {C : Type 0} (number : C → ℕ) (id : C) (x : Member C) (ms : 
 unfolding without
 without_after number id x ms lt = rw (not_same (number x.id) (number id) (λ e. omega (arith, lt, e))) refl
 
-after_by : {C : Type 0} (number : C → ℕ) (t : Bool) (m x : Member C) (ms : List (Member C)) → number x.id < number m.id → cond t (inserted number m (x ∷ ms)) (without number m.id (x ∷ ms)) ≡ x ∷ cond t (inserted number m ms) (without number m.id ms)
-after_by number true m x ms lt = inserted_after number m x ms lt
+after_by : {C : Type 0} (number : C → ℕ) (t : Bool) (m x : Member C) (ms : List (Member C)) → number x.id < number m.id → cond t (put number m (x ∷ ms)) (without number m.id (x ∷ ms)) ≡ x ∷ cond t (put number m ms) (without number m.id ms)
+after_by {C} number true m x ms lt = ap (λ (l : List (Member C)). inserted number m l) (without_after number m.id x ms lt) ∙ inserted_after number m x (without number m.id ms) lt
 after_by number false m x ms lt = without_after number m.id x ms lt
 
 pub edited_after : {C : Type 0} (number : C → ℕ) (e : Edit C) (x : Member C) (ms : List (Member C)) → number x.id < edit_number number e → edited number e (x ∷ ms) ≡ x ∷ edited number e ms
@@ -113,8 +108,13 @@ kept_front {C} number id (y ∷ ys) rising after at =
     apart y ys le other up (suc k) d lt e = let u : number y.id < number (get_or ys k d).id = up k d (omega arith) in omega (arith, u, le, e)
 
 -- the edit among the members from its place on
-adds_by : {C : Type 0} (number : C → ℕ) (e : Edit C) (ms : List (Member C)) → e.adds ≡ true → edited number e ms ≡ inserted number e.member ms
-adds_by number e ms h = rw h refl
+made_by : {C : Type 0} (number : C → ℕ) (t : Bool) (m : Member C) (ms left : List (Member C)) → without number m.id ms ≡ left → All (λ y. number m.id ≤ number y.id) left → cond t (put number m ms) (without number m.id ms) ≡ cond t (m ∷ []) [] ++ left
+made_by {C} number true m ms left gone after = ap (λ (l : List (Member C)). inserted number m l) gone ∙ added_front number m left after
+made_by number false m ms left gone after = gone
+
+added_below : {C : Type 0} (number : C → ℕ) (t : Bool) (m : Member C) (later : List (Edit C)) → All (λ d. number m.id < edit_number number d) later → All (AreBelowAll number later) (cond t (m ∷ []) [])
+added_below number true m later up = All-cons (AreBelowAll number later) m [] up (All-nil (AreBelowAll number later))
+added_below number false m later up = All-nil (AreBelowAll number later)
 
 takes_by : {C : Type 0} (number : C → ℕ) (e : Edit C) (ms : List (Member C)) → e.adds ≡ false → edited number e ms ≡ without number e.member.id ms
 takes_by number e ms h = rw h refl
@@ -131,13 +131,24 @@ comes_to {C} number e later ms i before up =
     ap (λ (l : List (Member C)). all_edited number (e ∷ later) l) (sym (take_drop ms i))
     ∙ front_stays number (e ∷ later) (take i ms) (drop i ms) (below_later number e later (take i ms) (front_all (λ (m : Member C). number m.id < edit_number number e) ms i before) up)
 
-pub added_step : {C : Type 0} (number : C → ℕ) (e : Edit C) (later : List (Edit C)) (old now ms : List (Member C)) (i : ℕ) → e.adds ≡ true → AllWithin (λ m. number m.id < edit_number number e) ms 0 i → AllWithin (λ m. edit_number number e ≤ number m.id) ms i (length ms) → All (λ d. edit_number number e < edit_number number d) later
-    → now ≡ (old ++ take i ms) ++ e.member ∷ [] → now ++ all_edited number later (drop i ms) ≡ old ++ all_edited number (e ∷ later) ms
-added_step {C} number e later old now ms i adds before after up is =
-    let rest : List (Member C) = all_edited number later (drop i ms) in
-    let here : edited number e (drop i ms) ≡ e.member ∷ drop i ms = adds_by number e (drop i ms) adds ∙ added_front number e.member (drop i ms) (rest_all (λ (m : Member C). edit_number number e ≤ number m.id) ms i after) in
-    let whole : all_edited number (e ∷ later) ms ≡ take i ms ++ e.member ∷ rest = comes_to number e later ms i before up ∙ ap (λ (l : List (Member C)). take i ms ++ all_edited number later l) here ∙ ap (λ (l : List (Member C)). take i ms ++ l) (head_stays number later e.member (drop i ms) up) in
-    ap (λ (l : List (Member C)). l ++ rest) is ∙ append_assoc (old ++ take i ms) (e.member ∷ []) rest ∙ append_assoc old (take i ms) (e.member ∷ rest) ∙ ap (λ (l : List (Member C)). old ++ l) (sym whole)
+pub edit_step : {C : Type 0} (number : C → ℕ) (e : Edit C) (later : List (Edit C)) (old now ms : List (Member C)) (i j : ℕ) → without number e.member.id (drop i ms) ≡ drop j ms → All (λ m. edit_number number e ≤ number m.id) (drop j ms) → AllWithin (λ m. number m.id < edit_number number e) ms 0 i → All (λ d. edit_number number e < edit_number number d) later
+    → now ≡ (old ++ take i ms) ++ added e → now ++ all_edited number later (drop j ms) ≡ old ++ all_edited number (e ∷ later) ms
+edit_step {C} number e later old now ms i j gone after before up is =
+    let rest : List (Member C) = all_edited number later (drop j ms) in
+    let here : edited number e (drop i ms) ≡ added e ++ drop j ms = made_by number e.adds e.member (drop i ms) (drop j ms) gone after in
+    let final : all_edited number later (added e ++ drop j ms) ≡ added e ++ rest = front_stays number later (added e) (drop j ms) (added_below number e.adds e.member later up) in
+    let whole : all_edited number (e ∷ later) ms ≡ take i ms ++ (added e ++ rest) = comes_to number e later ms i before up ∙ ap (λ (l : List (Member C)). take i ms ++ all_edited number later l) here ∙ ap (λ (l : List (Member C)). take i ms ++ l) final in
+    ap (λ (l : List (Member C)). l ++ rest) is ∙ append_assoc (old ++ take i ms) (added e) rest ∙ append_assoc old (take i ms) (added e ++ rest) ∙ ap (λ (l : List (Member C)). old ++ l) (sym whole)
+
+-- what is left of the members at a place where one of the number stands, and where none does
+pub left_behind : {C : Type 0} (number : C → ℕ) (id : C) (ms : List (Member C)) (i : ℕ) → AreRising number ms → is_at number (number id) (drop i ms) ≡ true → without number id (drop i ms) ≡ drop (i + 1) ms
+left_behind number id ms i rising at = taken_front number id (drop i ms) (rising_drop number i ms rising) at ∙ drop-drop 1 i ms
+
+pub left_there : {C : Type 0} (number : C → ℕ) (id : C) (ms : List (Member C)) (i : ℕ) → AreRising number ms → AllWithin (λ m. number id ≤ number m.id) ms i (length ms) → is_at number (number id) (drop i ms) ≡ false → without number id (drop i ms) ≡ drop i ms
+left_there {C} number id ms i rising after at = kept_front number id (drop i ms) (rising_drop number i ms rising) (rest_all (λ (m : Member C). number id ≤ number m.id) ms i after) at
+
+pub rest_beyond : {X : Type 0} (P : X → Type 0) (xs : List X) (n : ℕ) → AllWithin P xs n (length xs) → All P (drop (n + 1) xs)
+rest_beyond P xs n h = rest_all P xs (n + 1) (λ k d low high. h k d (omega (arith, low)) high)
 
 pub taken_step : {C : Type 0} (number : C → ℕ) (e : Edit C) (later : List (Edit C)) (old now ms : List (Member C)) (i : ℕ) → AreRising number ms → e.adds ≡ false → AllWithin (λ m. number m.id < edit_number number e) ms 0 i → All (λ d. edit_number number e < edit_number number d) later
     → is_at number (edit_number number e) (drop i ms) ≡ true → now ≡ old ++ take i ms → now ++ all_edited number later (drop (i + 1) ms) ≡ old ++ all_edited number (e ∷ later) ms
@@ -175,12 +186,6 @@ within_at number (y ∷ ys) (suc i) n at = let r : i < length ys = within_at num
 
 -- ---- one after the other
 
-pub fresh_after : {C : Type 0} (number : C → ℕ) (e d : Edit C) (ms : List (Member C)) → edit_number number e < edit_number number d → has_id number d.member.id ms ≡ false → has_id number d.member.id (edited number e ms) ≡ false
-fresh_after {C} number e d ms lt none =
-    by_way number (λ (l : List (Member C)). has_id number d.member.id l ≡ false) e ms
-    (λ q. has_inserted number d.member.id e.member ms ∙ rw (not_same (number e.member.id) (number d.member.id) (λ s. omega (arith, lt, s)), none) refl)
-    (λ q. has_other number e.member.id d.member.id ms (λ s. omega (arith, lt, s)) ∙ none)
-
 pub inserted_long : {C : Type 0} (number : C → ℕ) (m : Member C) (ms : List (Member C)) → length (inserted number m ms) ≤ length ms + 1
 inserted_long number m [] = omega arith
 inserted_long {C} number m (x ∷ xs) = by_test (λ (l : List (Member C)). length l ≤ length (x ∷ xs) + 1) (nat_lt (number x.id) (number m.id)) (x ∷ inserted number m xs) (m ∷ x ∷ xs)
@@ -196,114 +201,26 @@ without_short {C} number id (x ∷ xs) =
 
 pub edited_long : {C : Type 0} (number : C → ℕ) (e : Edit C) (ms : List (Member C)) → length (edited number e ms) ≤ length ms + 1
 edited_long {C} number e ms = by_way number (λ (l : List (Member C)). length l ≤ length ms + 1) e ms
-    (λ q. inserted_long number e.member ms)
+    (λ q. let a : length (put number e.member ms) ≤ length (without number e.member.id ms) + 1 = inserted_long number e.member (without number e.member.id ms) in let b : length (without number e.member.id ms) ≤ length ms = without_short number e.member.id ms in omega (arith, a, b))
     (λ q. let r : length (without number e.member.id ms) ≤ length ms = without_short number e.member.id ms in omega (arith, r))
 
-pub edited_rising : {C : Type 0} (number : C → ℕ) (e : Edit C) (ms : List (Member C)) → AreRising number ms → (e.adds ≡ true → has_id number e.member.id ms ≡ false) → AreRising number (edited number e ms)
-edited_rising {C} number e ms rising fresh = by_way number (λ (l : List (Member C)). AreRising number l) e ms (λ q. rising_inserted number e.member ms rising (fresh q)) (λ q. rising_without number e.member.id ms rising)
+pub edited_rising : {C : Type 0} (number : C → ℕ) (e : Edit C) (ms : List (Member C)) → AreRising number ms → AreRising number (edited number e ms)
+edited_rising {C} number e ms rising =
+    let less : AreRising number (without number e.member.id ms) = rising_without number e.member.id ms rising in
+    by_way number (λ (l : List (Member C)). AreRising number l) e ms (λ q. rising_inserted number e.member (without number e.member.id ms) less (has_without number e.member.id ms)) (λ q. less)
 
 -- one edit made
 pub edit_made : {C : Type 0} (number : C → ℕ) (e : Edit C) (es : List (Edit C)) (ms : List (Member C)) (capacity more : ℕ) → IsEdited number ms (e ∷ es) capacity → capacity ≤ more → IsEdited number (edited number e ms) es more
-edit_made {C} number e es ms capacity more is le =
-    let Fresh : Edit C → Type 0 = λ d. d.adds ≡ true → has_id number d.member.id ms ≡ false in
-    let up : All (λ d. edit_number number e < edit_number number d) es = pairs_head (λ (a b : Edit C). edit_number number a < edit_number number b) e es is.in_order in
-    record {
-      rising = edited_rising number e ms is.rising (All-head Fresh e es is.fresh);
-      in_order = pairs_tail (λ (a b : Edit C). edit_number number a < edit_number number b) e es is.in_order;
-      fresh = λ k d lt q. fresh_after number e (get_or es k d) ms (up k d lt) (All-tail Fresh e es is.fresh k d lt q);
-      room = let r : length (edited number e ms) ≤ length ms + 1 = edited_long number e ms in let h : length ms + suc (length es) ≤ capacity = is.room in omega (arith, r, h, le);
-    }
-
--- the first of the edits alone
-pub edit_alone : {C : Type 0} (number : C → ℕ) (e : Edit C) (es : List (Edit C)) (ms : List (Member C)) (capacity : ℕ) → IsEdited number ms (e ∷ es) capacity → IsEdited number ms (e ∷ []) capacity
-edit_alone {C} number e es ms capacity is =
-    let Fresh : Edit C → Type 0 = λ d. d.adds ≡ true → has_id number d.member.id ms ≡ false in
-    record {
-      rising = is.rising;
-      in_order = AllPairs-cons (λ (a b : Edit C). edit_number number a < edit_number number b) e [] (All-nil (λ (d : Edit C). edit_number number e < edit_number number d)) (pairs_none (λ (a b : Edit C). edit_number number a < edit_number number b));
-      fresh = All-cons Fresh e [] (All-head Fresh e es is.fresh) (All-nil Fresh);
-      room = let h : length ms + suc (length es) ≤ capacity = is.room in omega (arith, h);
-    }
+edit_made {C} number e es ms capacity more is le = record {
+  rising = edited_rising number e ms is.rising;
+  in_order = pairs_tail (λ (a b : Edit C). edit_number number a < edit_number number b) e es is.in_order;
+  room = let r : length (edited number e ms) ≤ length ms + 1 = edited_long number e ms in let h : length ms + suc (length es) ≤ capacity = is.room in omega (arith, r, h, le);
+}
 
 -- all of them made
 pub all_made : {C : Type 0} (number : C → ℕ) (es : List (Edit C)) (ms : List (Member C)) (capacity : ℕ) → IsEdited number ms es capacity → AreRising number (all_edited number es ms)
 all_made number [] ms capacity is = is.rising
 all_made number (e ∷ es) ms capacity is = all_made number es (edited number e ms) capacity (edit_made number e es ms capacity capacity is (omega arith))
-
-pub one_more_edit : {C : Type 0} (number : C → ℕ) (es : List (Edit C)) (e : Edit C) (ms : List (Member C)) → all_edited number (es ++ e ∷ []) ms ≡ edited number e (all_edited number es ms)
-one_more_edit number [] e ms = refl
-one_more_edit number (d ∷ es) e ms = one_more_edit number es e (edited number d ms)
-
--- ---- what the edits say of another number
-
-pub has_edited : {C : Type 0} (number : C → ℕ) (id : C) (es : List (Edit C)) (ms : List (Member C)) → All (λ e. edit_number number e < number id) es → has_id number id (all_edited number es ms) ≡ has_id number id ms
-has_edited number id [] ms above = refl
-has_edited {C} number id (e ∷ es) ms above =
-    let Above : Edit C → Type 0 = λ d. edit_number number d < number id in
-    let lt : number e.member.id < number id = All-head Above e es above in
-    has_edited number id es (edited number e ms) (All-tail Above e es above)
-    ∙ by_way number (λ (l : List (Member C)). has_id number id l ≡ has_id number id ms) e ms
-    (λ q. has_inserted number id e.member ms ∙ rw (not_same (number e.member.id) (number id) (λ s. omega (arith, lt, s))) refl)
-    (λ q. has_other number e.member.id id ms (λ s. omega (arith, lt, s)))
-
-movers_inserted : {C : Type 0} (number : C → ℕ) (id : C) (m : Member C) (ms : List (Member C)) → (number m.id ≡ number id → ⊥) → movers_of number id (inserted number m ms) ≡ movers_of number id ms
-movers_inserted number id m [] far = rw (not_same (number m.id) (number id) far) refl
-movers_inserted {C} number id m (x ∷ xs) far = by_test (λ (l : List (Member C)). movers_of number id l ≡ movers_of number id (x ∷ xs)) (nat_lt (number x.id) (number m.id)) (x ∷ inserted number m xs) (m ∷ x ∷ xs)
-    (λ q. ap (λ (o : Option Movers). cond (number x.id == number id) (Some x.movers) o) (movers_inserted number id m xs far))
-    (λ q. rw (not_same (number m.id) (number id) far) refl)
-
-movers_without : {C : Type 0} (number : C → ℕ) (id other : C) (ms : List (Member C)) → (number other ≡ number id → ⊥) → movers_of number id (without number other ms) ≡ movers_of number id ms
-unfolding without
-movers_without number id other [] far = refl
-movers_without {C} number id other (x ∷ xs) far = by_test (λ (l : List (Member C)). movers_of number id l ≡ movers_of number id (x ∷ xs)) (not (number x.id == number other)) (x ∷ without number other xs) (without number other xs)
-    (λ q. ap (λ (o : Option Movers). cond (number x.id == number id) (Some x.movers) o) (movers_without number id other xs far))
-    (λ q. let is : (number x.id == number other) ≡ true = not_false (number x.id == number other) (λ f. true_or_false (not (number x.id == number other)) (ap not f) q) in
-    let off : (number x.id == number id) ≡ false = not_same (number x.id) (number id) (λ s. far (sym (same_from (number x.id) (number other) is) ∙ s)) in
-    rw off (movers_without number id other xs far))
-
-pub movers_edited : {C : Type 0} (number : C → ℕ) (id : C) (es : List (Edit C)) (ms : List (Member C)) → All (λ e. edit_number number e < number id) es → movers_of number id (all_edited number es ms) ≡ movers_of number id ms
-movers_edited number id [] ms above = refl
-movers_edited {C} number id (e ∷ es) ms above =
-    let Above : Edit C → Type 0 = λ d. edit_number number d < number id in
-    let lt : number e.member.id < number id = All-head Above e es above in
-    movers_edited number id es (edited number e ms) (All-tail Above e es above)
-    ∙ by_way number (λ (l : List (Member C)). movers_of number id l ≡ movers_of number id ms) e ms
-    (λ q. movers_inserted number id e.member ms (λ s. omega (arith, lt, s)))
-    (λ q. movers_without number id e.member.id ms (λ s. omega (arith, lt, s)))
-
--- ---- one edit more is put off
-
-pairs_last : {X : Type 0} (R : X → X → Type 0) (xs : List X) (y : X) → AllPairs R xs → All (λ x. R x y) xs → AllPairs R (xs ++ y ∷ [])
-pairs_last R [] y pairs before = AllPairs-cons R y [] (All-nil (R y)) (pairs_none R)
-pairs_last {X} R (x ∷ xs) y pairs before =
-    let Before : X → Type 0 = λ z. R z y in
-    AllPairs-cons R x (xs ++ y ∷ []) (All-append (R x) xs (y ∷ []) (pairs_head R x xs pairs) (All-cons (R x) y [] (All-head Before x xs before) (All-nil (R x)))) (pairs_last R xs y (pairs_tail R x xs pairs) (All-tail Before x xs before))
-
-pub long_last : {X : Type 0} (xs : List X) (y : X) → length (xs ++ y ∷ []) ≡ length xs + 1
-long_last [] y = omega arith
-long_last (x ∷ xs) y = let r : length (xs ++ y ∷ []) ≡ length xs + 1 = long_last xs y in omega (arith, r)
-
-pub edit_waits : {C : Type 0} (number : C → ℕ) (es : List (Edit C)) (e : Edit C) (ms : List (Member C)) (capacity : ℕ) → IsEdited number ms es capacity → length ms + length es < capacity → All (λ d. edit_number number d < edit_number number e) es → (e.adds ≡ true → has_id number e.member.id (all_edited number es ms) ≡ false) → IsEdited number ms (es ++ e ∷ []) capacity
-edit_waits {C} number es e ms capacity is room above fresh =
-    let Fresh : Edit C → Type 0 = λ d. d.adds ≡ true → has_id number d.member.id ms ≡ false in
-    record {
-      rising = is.rising;
-      in_order = pairs_last (λ (a b : Edit C). edit_number number a < edit_number number b) es e is.in_order above;
-      fresh = All-append Fresh es (e ∷ []) is.fresh (All-cons Fresh e [] (λ q. sym (has_edited number e.member.id es ms above) ∙ fresh q) (All-nil Fresh));
-      room = let r : length (es ++ e ∷ []) ≡ length es + 1 = long_last es e in omega (arith, r, room);
-    }
-
--- all of them are below a number if the last is
-pub all_above : {C : Type 0} (number : C → ℕ) (es : List (Edit C)) (n : ℕ) → AreInOrder number es → ((k : ℕ) (d : Edit C) → suc k ≡ length es → edit_number number (get_or es k d) < n) → All (λ e. edit_number number e < n) es
-all_above number [] n order last = λ k d lt. absurd (omega arith)
-all_above {C} number (e ∷ es) n order last = λ k d lt. above_at k d lt
-  where
-    above_at : (k : ℕ) (d : Edit C) → k < length (e ∷ es) → edit_number number (get_or (e ∷ es) k d) < n
-    above_at k d lt =
-        let final : edit_number number (get_or (e ∷ es) (length es) d) < n = last (length es) d refl in
-        let here : k ≡ length es → edit_number number (get_or (e ∷ es) k d) < n = λ q. let P : ℕ → Type 0 = λ j. edit_number number (get_or (e ∷ es) j d) < n in subst P (sym q) final in
-        let there : (k ≡ length es → ⊥) → edit_number number (get_or (e ∷ es) k d) < n = λ off. let up : edit_number number (get_or (e ∷ es) k d) < edit_number number (get_or (e ∷ es) (length es) d) = order k (length es) d (omega arith) (omega (arith, off, lt)) in omega (arith, up, final) in
-        elim (cases_eq k (length es)) [ inl q ↦ here q | inr off ↦ there off ]
 
 -- ---- no edit is put off
 
@@ -313,14 +230,6 @@ none_there (x ∷ xs) h = absurd (omega (arith, h))
 
 pub none_made : {C : Type 0} (number : C → ℕ) (es : List (Edit C)) (ms : List (Member C)) → length es ≡ 0 → all_edited number es ms ≡ ms
 none_made {C} number es ms h = ap (λ (l : List (Edit C)). all_edited number l ms) (none_there es h)
-
-pub edited_now : {C : Type 0} (number : C → ℕ) (es : List (Edit C)) (ms now : List (Member C)) (capacity more : ℕ) → IsEdited number ms es capacity → length es ≡ 0 → AreRising number now → length now ≤ more → IsEdited number now es more
-edited_now number es ms now capacity more is none rising le = record {
-  rising = rising;
-  in_order = is.in_order;
-  fresh = λ k d lt q. absurd (omega (arith, lt, none));
-  room = omega (arith, none, le);
-}
 
 -- ---- a pass goes on
 
@@ -380,15 +289,5 @@ settled_is {C} number es left ms now capacity more is le made none fits =
     record {
       rising = subst P (sym made) (all_made number es ms capacity is);
       in_order = λ i j d lt l. absurd (omega (arith, lt, l, short));
-      fresh = λ k d lt q. absurd (omega (arith, lt, short));
       room = omega (arith, short, fits);
     }
-
-pub all_above_last : {C : Type 0} (number : C → ℕ) (es : List (Edit C)) (e : Edit C) (n : ℕ) → AreInOrder number es → ((k : ℕ) → suc k ≡ length es → e ≡ get_or es k e) → edit_number number e < n → All (λ d. edit_number number d < n) es
-all_above_last {C} number es e n order is lt = all_above number es n order (λ k d h.
-    let same : get_or es k e ≡ get_or es k d = get_or_default es k e d (omega (arith, h)) in
-    let at : edit_number number (get_or es k d) ≡ edit_number number e = ap (λ (f : Edit C). edit_number number f) (sym same ∙ sym (is k h)) in
-    omega (arith, at, lt))
-
-pub has_by : {C : Type 0} (number : C → ℕ) (id : C) (ms : List (Member C)) → None ≡ movers_of number id ms → has_id number id ms ≡ false
-has_by number id ms none = sym (has_movers number id ms) ∙ sym (ap is_some none)

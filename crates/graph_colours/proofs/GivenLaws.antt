@@ -11,7 +11,7 @@ use Rattle.graph_colours.specs.declared.member.Movers.{Movers}
 use Rattle.graph_colours.specs.declared.member.Member.{Member}
 use Rattle.graph_colours.specs.Movers.{AreBelow, has_mover}
 use Rattle.graph_colours.specs.Members.{AreRising, AreApart}
-use Rattle.graph_colours.specs.Marks.{Bucket, HasRoom, members_in, lists_of, set_marks, set_second, AreMarks, IsKept, IsGraph}
+use Rattle.graph_colours.specs.Marks.{Bucket, HasRoom, members_in, lists_of, set_marks, set_second, IsKept, IsGraph}
 use Rattle.graph_colours.specs.Colours.{list_at, all_members, IsColouring}
 use Rattle.graph_colours.specs.Given.{AreAllBelow, marked_all, members_of}
 use Rattle.graph_colours.proofs.MarkLemmas.{marked_by, resized}

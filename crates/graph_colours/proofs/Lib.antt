@@ -12,5 +12,5 @@ pub mod EmptyLemmas
 pub mod GraphLemmas
 pub mod GivenLaws
 pub mod EditLemmas
-pub mod PlanLemmas
+pub mod NotedLemmas
 pub mod RemovalLemmas

@@ -8,11 +8,10 @@ use Rattle.graph_colours.specs.declared.member.Movers.{Movers}
 use Rattle.graph_colours.specs.declared.member.Member.{Member}
 use Rattle.graph_colours.specs.Movers.{AreBelow, has_mover, has_second, shares}
 use Rattle.graph_colours.specs.Members.{AreRising, AreApart, is_free, has_id, inserted, without, movers_of}
-use Rattle.graph_colours.specs.Marks.{set_marks, is_marked_second, is_marked, second_has_mark, are_marked, may_have, AreMarks, IsKept}
-use Rattle.graph_colours.specs.Recolouring.{AreOwn}
+use Rattle.graph_colours.specs.Marks.{set_marks, is_marked_second, is_marked, are_marked, may_have, AreMarks, IsKept}
+use Rattle.graph_colours.specs.Own.{AreOwn}
 use Rattle.graph_colours.proofs.Cases.{or_pairs, or_false, not_false, true_or_false, not_true_then}
-use Rattle.std.proofs.lemmas.List.Elements.{All-head, All-tail}
-use Rattle.graph_colours.proofs.PlaceLemmas.{not_same, is_same, same_from, without_none}
+use Rattle.graph_colours.proofs.PlaceLemmas.{not_same, is_same, without_none}
 use Rattle.graph_colours.proofs.MoverLemmas.{unshared}
 use Rattle.graph_colours.proofs.ListLemmas.{any_false, any_inserted, rising_inserted, apart_inserted, rising_without, apart_without, pairs_head, pairs_tail}
 

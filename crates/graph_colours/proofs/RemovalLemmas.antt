@@ -1,5 +1,5 @@
 -- Members that are taken out of a list where it stands: those that stay move down over the gap.
-use Rattle.std.proofs.Common.{◌≡◌, ℕ, ◌+◌, ◌<◌, ◌≤◌, ◌-◌, ◌++◌, true, false, List, [], ◌∷◌, length, get_or, take, drop, subst, sym, ap, ◌∙◌, arith, length-drop}
+use Rattle.std.proofs.Common.{◌≡◌, ℕ, ◌+◌, ◌<◌, ◌≤◌, ◌-◌, ◌++◌, true, false, List, ◌∷◌, length, get_or, take, drop, subst, sym, ap, ◌∙◌, arith, length-drop}
 use Rattle.std.specs.List.{All, AllWithin}
 use Rattle.std.proofs.lemmas.List.{drop-drop}
 use lib.Seq.{paste, drop-paste}

@@ -6,7 +6,7 @@ use Rattle.std.proofs.lemmas.List.Elements.{All-set, All-nil, All-head, All-tail
 use Rattle.graph_colours.specs.declared.member.Member.{Member}
 use Rattle.graph_colours.specs.Members.{inserted}
 use Rattle.graph_colours.specs.declared.member.Movers.{Movers}
-use Rattle.graph_colours.specs.Recolouring.{AreOwn}
+use Rattle.graph_colours.specs.Own.{AreOwn}
 use Rattle.graph_colours.specs.Marks.{Bucket, HasRoom, members_in, lists_of}
 use Rattle.graph_colours.specs.Colours.{list_at, all_members}
 use Rattle.graph_colours.proofs.EditLemmas.{take_whole}

@@ -6,12 +6,13 @@ use Rattle.graph_colours.specs.declared.member.Movers.{Movers}
 use Rattle.graph_colours.specs.declared.member.Member.{Member}
 use Rattle.graph_colours.specs.Members.{AreRising, AreApart, is_free, has_id, inserted, without}
 
--- what contracts see: the members of each colour, how many more constraints may be placed with no memory, and the bound
--- below which their movers' slots must be
+-- what contracts see: the members of each colour once all edits are made, how many more constraints may be placed with no memory, the bound
+-- below which their movers' slots must be, and whether edits are put off: if it is 0, none
 pub record Coloured (C : Type 0) : Type 0 where
   pub lists : List (List (Member C))
   pub room : ℕ
   pub slots : ℕ
+  pub pending : ℕ
 
 abbrev pub list_at : {C : Type 0} → List (List (Member C)) → ℕ → List (Member C)
 list_at lists colour = slice_index_or lists colour []

@@ -5,4 +5,4 @@ pub mod Edits
 pub mod Gaps
 pub mod Marks
 pub mod Given
-pub mod Recolouring
+pub mod Own

@@ -1,5 +1,5 @@
 -- How one colour is kept: its members, and for each slot whether one of them has the mover there.
-use Rattle.std.specs.Prelude.{◌≡◌, ℕ, ◌≤◌, ◌+◌, ◌||◌, ◌&&◌, Bool, true, false, List, ◌∷◌, [], ◌++◌, length, map, slice_index_or, slice_set, All, Option, Some, None}
+use Rattle.std.specs.Prelude.{◌≡◌, ℕ, ◌≤◌, ◌||◌, ◌&&◌, Bool, true, false, List, ◌∷◌, [], ◌++◌, length, map, slice_index_or, slice_set, All, Option, Some, None}
 use Rattle.std.specs.List.{list_any}
 use Rattle.graph_colours.specs.declared.limits.TheConstants.{COLOURS}
 use Rattle.graph_colours.specs.declared.member.Movers.{Movers}
@@ -82,7 +82,7 @@ pub record AreAtRest {C : Type 0} (bs : List (Bucket C)) (pending : ℕ) : Type 
   pub colours : All (λ b. b.pending ≡ 0) bs
   pub overflow : pending ≡ 0
 
--- a graph of which no edit is put off
-pub record IsRestingGraph {C : Type 0} (number : C → ℕ) (colours : List (Bucket C)) (overflow : List (Member C)) (capacity pending : ℕ) (size : Size) : Type 0 where
+-- a graph of which no edit is put off where it says so
+pub record IsKeptGraph {C : Type 0} (number : C → ℕ) (colours : List (Bucket C)) (overflow : List (Member C)) (capacity pending : ℕ) (size : Size) (settled : Bool) : Type 0 where
   pub graph : IsGraph number colours overflow capacity size
-  pub rest : AreAtRest colours pending
+  pub rest : settled ≡ true → AreAtRest colours pending

@@ -35,6 +35,11 @@ abbrev pub movers_of : {C : Type 0} → (C → ℕ) → C → List (Member C) �
 movers_of number id [] = None
 movers_of number id (x ∷ xs) = cond (number x.id == number id) (Some x.movers) (movers_of number id xs)
 
+-- the member whose id has the number
+abbrev pub with_number : {C : Type 0} → (C → ℕ) → ℕ → List (Member C) → Option (Member C)
+with_number number n [] = None
+with_number number n (x ∷ xs) = cond (number x.id == n) (Some x) (with_number number n xs)
+
 -- the first member has the number
 abbrev pub is_at : {C : Type 0} → (C → ℕ) → ℕ → List (Member C) → Bool
 is_at number n [] = false

@@ -6,11 +6,11 @@ ghost use Rattle.std.specs.Prelude.{◌≡◌, ◌<◌, ◌≤◌, true, false, 
 ghost use Rattle.std.specs.Result.{IsOkUnless};
 ghost use Rattle.graph_colours.specs.Movers.{AreBelow};
 ghost use Rattle.graph_colours.specs.Members.{is_free, has_id, inserted, without};
-ghost use Rattle.graph_colours.specs.Recolouring.{AreOwn};
+ghost use Rattle.graph_colours.specs.Own.{AreOwn};
 
 use crate::edited::EditedList;
 use crate::marks::{is_marked, may_have, set_marks};
-use crate::{Id, Member, Movers, member};
+use crate::{Id, Member, Movers};
 use fixed_geom::Refusal;
 use std::alloc::Global;
 use std::marker::Model;
@@ -48,14 +48,13 @@ impl<C: Id> Colour<C> {
 
     /// A copy of its own, with no promise on room. Refused 1 where memory is wanting.
     pub(crate) fn try_copy(&self, alloc: Global) -> Result<Colour<C>, Refusal>
-        requires { self.now.pending ≡ 0 }
         ensures members { IfOk result (λ copied. copied.members ≡ self.now.members) }
         ensures slots { IfOk result (λ copied. copied.slots ≡ self.now.slots) }
         ensures pending { IfOk result (λ copied. copied.pending ≡ 0) }
         ensures memory_only { IsOkUnless result Refusal.NoMemory }
     {
         Ok(Colour {
-            members: EditedList::from_members(alloc, self.members.as_slice())?,
+            members: self.members.try_copy(alloc)?,
             used: Vec::from_slice(alloc, self.used.as_slice())?,
         })
     }
@@ -86,10 +85,9 @@ impl<C: Id> Colour<C> {
 
     /// Whether a member has the id.
     pub(crate) fn has_id(&self, id: C) -> bool
-        requires { self.now.pending ≡ 0 }
         ensures { result ≡ has_id C.number id self.now.members }
     {
-        member::has_id(self.members.as_slice(), id)
+        self.members.has_id(id)
     }
 
     /// Adds a member that shares no mover with the others, and for which there is room.
@@ -140,7 +138,15 @@ impl<C: Id> Colour<C> {
         self.members.settle(spare);
     }
 
-    /// The members, ascending by id.
+    /// The members, ascending by id. Refused 1 where memory is wanting.
+    pub(crate) fn to_members(&self, alloc: Global) -> Result<Vec<Member<C>>, Refusal>
+        ensures members { IfOk result (λ members. members.items ≡ self.now.members) }
+        ensures memory_only { IsOkUnless result Refusal.NoMemory }
+    {
+        self.members.to_members(alloc)
+    }
+
+    /// The members, ascending by id, where no edit is put off.
     pub(crate) fn members(&self) -> &[Member<C>]
         requires { self.now.pending ≡ 0 }
         ensures { result.now ≡ self.now.members }

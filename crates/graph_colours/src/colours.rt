@@ -11,21 +11,21 @@ ghost use Rattle.graph_colours.specs.declared.colours.Size.{Size as TheSize};
 ghost use Rattle.graph_colours.specs.Movers.{AreBelow};
 ghost use Rattle.graph_colours.specs.Members.{AreRising, AreApart, is_free, has_id, inserted, without};
 ghost use Rattle.graph_colours.specs.Marks.{HasRoom, members_in, lists_of, IsGraph, AreAtRest};
-ghost use Rattle.graph_colours.specs.Recolouring.{AreOwn, IsRecolouring, CanRecolour, recoloured, all_recoloured};
+ghost use Rattle.graph_colours.specs.Own.{AreOwn};
 ghost use Rattle.graph_colours.specs.Colours.{list_at, all_members, least_colour, placed, released, colour_of, IsColouring};
 
 use crate::colour::Colour;
 use crate::edited::EditedList;
-use crate::edits::Edit;
 use crate::limits::{COLOURS, OVERFLOW};
-use crate::{Id, Member, Movers, member};
+use crate::{Id, Member, Movers};
 use fixed_geom::Refusal;
 use std::alloc::Global;
 use std::marker::Model;
 
-/// The active constraints by colour. Contracts see the members of each colour, ascending by id
-/// (`lists`), how many more constraints may be placed with no memory (`room`), and the bound below
-/// which their movers' slots must be (`slots`).
+/// The active constraints by colour. A constraint that takes its colour, or gives it up, may be put off in the list of its colour until
+/// [`Colours::settle`], so that it doesn't cost by how many others there are. Contracts see the members of each colour, ascending by id
+/// (`lists`), how many more constraints may be placed with no memory (`room`), the bound below which their movers' slots must be (`slots`),
+/// and whether edits may be put off (`pending`): if it is 0, none is.
 #[derive(Drop)]
 pub struct Colours<C: Id> {
     colours: Vec<Colour<C>>,
@@ -33,6 +33,8 @@ pub struct Colours<C: Id> {
     // Where the members of a list lie while it is edited.
     spare: Vec<Member<C>>,
     size: Size,
+    // Whether no edit of a list is put off.
+    settled: bool,
 }
 
 /// How many constraints there are, for how many in all each list has room, and the bound below which their movers' slots are.
@@ -44,15 +46,15 @@ struct Size {
 }
 
 impl<C: Id> Model for Colours<C> {
-    ghost use Rattle.std.specs.Prelude.{◌-◌};
+    ghost use Rattle.std.specs.Prelude.{◌-◌, cond};
     ghost use Rattle.graph_colours.specs.Colours.{Coloured};
-    ghost use Rattle.graph_colours.specs.Marks.{lists_of, IsRestingGraph};
+    ghost use Rattle.graph_colours.specs.Marks.{lists_of, IsKeptGraph};
 
     ghost Value = { Coloured C };
 
-    ghost view = { λ a. record { lists = lists_of a.colours.items a.overflow.items; room = a.size.total - a.size.count; slots = a.size.slots } };
+    ghost view = { λ a. record { lists = lists_of a.colours.items a.overflow.items; room = a.size.total - a.size.count; slots = a.size.slots; pending = cond a.settled 0 1 } };
 
-    ghost invariant = { λ a. IsRestingGraph C.number a.colours.items a.overflow.items a.overflow.capacity a.overflow.pending a.size };
+    ghost invariant = { λ a. IsKeptGraph C.number a.colours.items a.overflow.items a.overflow.capacity a.overflow.pending a.size a.settled };
 }
 
 /// As many colours as there are, with no members. Refused 1 where memory is wanting.
@@ -70,7 +72,6 @@ fn no_colours<C: Id>(alloc: Global) -> Result<Vec<Colour<C>>, Refusal>
 
 /// Copies of the colours. Refused 1 where memory is wanting.
 fn copies<C: Id>(alloc: Global, colours: &[Colour<C>]) -> Result<Vec<Colour<C>>, Refusal>
-    requires { All (λ b. b.pending ≡ 0) colours.now }
     ensures lists { IfOk result (λ copied. map members_in copied.items ≡ map members_in colours.now) }
     ensures rest { IfOk result (λ copied. All (λ b. b.pending ≡ 0) copied.items) }
     ensures memory_only { IsOkUnless result Refusal.NoMemory }
@@ -136,7 +137,6 @@ fn first_free<C: Id>(colours: &[Colour<C>], movers: Movers) -> usize
 
 /// The place of the first colour that has the id, or their number.
 fn first_with<C: Id>(colours: &[Colour<C>], id: C) -> usize
-    requires { All (λ b. b.pending ≡ 0) colours.now }
     ensures { result ≡ position_or_len (λ colour. has_id C.number id colour.members) colours.now }
 {
     for (place, colour) in colours.iter().enumerate() {
@@ -269,68 +269,13 @@ fn release_in<C: Id>(
     }
 }
 
-/// The constraint takes its colour, or gives it up. Answers how many there are then.
-fn recolour<C: Id>(
-    colours: &mut Vec<Colour<C>>,
-    overflow: &mut EditedList<C>,
-    size: Size,
-    edit: Edit<C>,
-    spare: &mut Vec<Member<C>>,
-) -> Size
-    requires graph { IsGraph C.number colours.old.items overflow.old.items overflow.old.capacity size }
-    requires can { IsRecolouring C.number size.total size.slots edit (lists_of colours.old.items overflow.old.items) }
-    ensures lists { lists_of colours.new.items overflow.new.items ≡ recoloured C.number edit (lists_of colours.old.items overflow.old.items) }
-    ensures graph { IsGraph C.number colours.new.items overflow.new.items overflow.new.capacity result }
-    ensures total { result.total ≡ size.total }
-    ensures slots { result.slots ≡ size.slots }
-{
-    let member = edit.member;
-    if edit.adds {
-        let _ = place_in(colours, overflow, size, member, spare);
-        Size {
-            count: size.count + 1,
-            ..size
-        }
-    } else {
-        release_in(
-            colours,
-            overflow,
-            size,
-            member.id,
-            Some(member.movers),
-            spare,
-        )
-    }
-}
-
-/// Constraints take their colours and give them up, one after the other. Answers how many there are then.
-fn recolour_each<C: Id>(
-    colours: &mut Vec<Colour<C>>,
-    overflow: &mut EditedList<C>,
-    size: Size,
-    edits: &[Edit<C>],
-    spare: &mut Vec<Member<C>>,
-) -> Size
-    requires graph { IsGraph C.number colours.old.items overflow.old.items overflow.old.capacity size }
-    requires can { CanRecolour C.number size.total size.slots edits.now (lists_of colours.old.items overflow.old.items) }
-    ensures lists { lists_of colours.new.items overflow.new.items ≡ all_recoloured C.number edits.now (lists_of colours.old.items overflow.old.items) }
-    ensures graph { IsGraph C.number colours.new.items overflow.new.items overflow.new.capacity result }
-    ensures total { result.total ≡ size.total }
-    ensures slots { result.slots ≡ size.slots }
-{
-    let mut left = size;
-    for place in 0..edits.len() {
-        left = recolour(colours, overflow, left, edits[place], spare);
-    }
-    left
-}
-
 impl<C: Id> Colours<C> {
     /// No constraints. Refused 1 where memory is wanting.
     pub fn new(alloc: Global) -> Result<Colours<C>, Refusal>
         ensures lists { IfOk result (λ made. made.lists ≡ replicate (COLOURS + 1) []) }
         ensures room { IfOk result (λ made. made.room ≡ 0) }
         ensures slots { IfOk result (λ made. made.slots ≡ 0) }
+        ensures pending { IfOk result (λ made. made.pending ≡ 0) }
         ensures memory_only { IsOkUnless result Refusal.NoMemory }
     {
         Ok(Colours {
@@ -342,6 +287,7 @@ impl<C: Id> Colours<C> {
                 total: 0,
                 slots: 0,
             },
+            settled: true,
         })
     }
 
@@ -350,11 +296,12 @@ impl<C: Id> Colours<C> {
         ensures lists { IfOk result (λ copied. copied.lists ≡ self.now.lists) }
         ensures room { IfOk result (λ copied. copied.room ≡ 0) }
         ensures slots { IfOk result (λ copied. copied.slots ≡ 0) }
+        ensures pending { IfOk result (λ copied. copied.pending ≡ 0) }
         ensures memory_only { IsOkUnless result Refusal.NoMemory }
     {
         let alloc = *self.spare.allocator();
         let mut colours = copies(alloc, &self.colours)?;
-        let mut overflow = EditedList::from_members(alloc, self.overflow.as_slice())?;
+        let mut overflow = self.overflow.try_copy(alloc)?;
         reserve_lists(&mut colours, &mut overflow, self.size.count, 0)?;
         Ok(Colours {
             colours,
@@ -365,12 +312,14 @@ impl<C: Id> Colours<C> {
                 total: self.size.count,
                 slots: 0,
             },
+            settled: true,
         })
     }
 
     /// How many constraints there are.
     pub fn count(&self) -> usize
-        ensures { result ≡ length (all_members self.now.lists) }
+        ensures value { result ≡ length (all_members self.now.lists) }
+        ensures colouring { IsColouring C.number self.now.lists }
     {
         self.size.count
     }
@@ -383,6 +332,7 @@ impl<C: Id> Colours<C> {
         ensures room { self.old.room ≤ self.new.room }
         ensures slots { self.old.slots ≤ self.new.slots }
         ensures lists { self.new.lists ≡ self.old.lists }
+        ensures pending { self.new.pending ≡ self.old.pending }
         ensures refused { OnErr result (self.new ≡ self.old) }
         ensures memory_only { IsOkUnless result Refusal.NoMemory }
     {
@@ -413,6 +363,7 @@ impl<C: Id> Colours<C> {
         ensures others { (other : C) → C.number other ≢ C.number id → colour_of C.number other self.new.lists ≡ colour_of C.number other self.old.lists }
         ensures members { IsPermutation (record { id = id; movers = movers } ∷ all_members self.old.lists) (all_members self.new.lists) }
     {
+        self.settled = false;
         let colour = place_in(
             &mut self.colours,
             &mut self.overflow,
@@ -420,7 +371,6 @@ impl<C: Id> Colours<C> {
             Member { id, movers },
             &mut self.spare,
         );
-        settle_lists(&mut self.colours, &mut self.overflow, &mut self.spare);
         self.size.count += 1;
         colour as u8
     }
@@ -437,6 +387,7 @@ impl<C: Id> Colours<C> {
         ensures others { (other : C) → C.number other ≢ C.number id → colour_of C.number other self.new.lists ≡ colour_of C.number other self.old.lists }
         ensures members { all_members self.new.lists ≡ without C.number id (all_members self.old.lists) }
     {
+        self.settled = false;
         self.size = release_in(
             &mut self.colours,
             &mut self.overflow,
@@ -445,31 +396,45 @@ impl<C: Id> Colours<C> {
             None,
             &mut self.spare,
         );
-        settle_lists(&mut self.colours, &mut self.overflow, &mut self.spare);
     }
 
-    /// Constraints take their colours and give them up, one after the other. Each list is gone through once.
-    pub fn recolour_all(&mut self, edits: &[Edit<C>])
-        requires { CanRecolour C.number (self.old.room + length (all_members self.old.lists)) self.old.slots edits.now self.old.lists }
-        ensures lists { self.new.lists ≡ all_recoloured C.number edits.now self.old.lists }
+    /// The constraint, whose movers are told, gives up its colour, if it has one. Only colours that have all its movers are looked at.
+    pub fn release_member(&mut self, member: Member<C>)
+        requires own { AreOwn C.number member.id (Some member.movers) (all_members self.old.lists) }
+        ensures lists { self.new.lists ≡ released C.number member.id self.old.lists }
         ensures total { self.new.room + length (all_members self.new.lists) ≡ self.old.room + length (all_members self.old.lists) }
         ensures slots { self.new.slots ≡ self.old.slots }
     {
-        self.size = recolour_each(
+        self.settled = false;
+        self.size = release_in(
             &mut self.colours,
             &mut self.overflow,
             self.size,
-            edits,
+            member.id,
+            Some(member.movers),
             &mut self.spare,
         );
+    }
+
+    /// Makes the edits of all lists that were put off. It costs nothing where none is.
+    pub fn settle(&mut self)
+        ensures lists { self.new.lists ≡ self.old.lists }
+        ensures room { self.new.room ≡ self.old.room }
+        ensures slots { self.new.slots ≡ self.old.slots }
+        ensures pending { self.new.pending ≡ 0 }
+    {
+        if self.settled {
+            return;
+        }
         settle_lists(&mut self.colours, &mut self.overflow, &mut self.spare);
+        self.settled = true;
     }
 
     /// What every colouring keeps: a law.
     pub fn keeps(&self)
         ensures { IsColouring C.number self.now.lists }
     {
-        let _ = self.members(OVERFLOW);
+        let _ = self.count();
     }
 
     /// The colour of the constraint, 0 to `OVERFLOW`; `None` where it has none.
@@ -480,15 +445,30 @@ impl<C: Id> Colours<C> {
         if colour < self.colours.len() {
             return Some(colour as u8);
         }
-        if member::has_id(self.overflow.as_slice(), id) {
+        if self.overflow.has_id(id) {
             return Some(OVERFLOW);
         }
         None
     }
 
-    /// The members of a colour, 0 to `OVERFLOW`, ascending by id.
-    pub fn members(&self, colour: u8) -> &[Member<C>]
+    /// The members of a colour, 0 to `OVERFLOW`, ascending by id. Refused 1 where memory is wanting.
+    pub fn to_members(&self, colour: u8) -> Result<Vec<Member<C>>, Refusal>
         requires { colour ≤ OVERFLOW }
+        ensures value { IfOk result (λ members. members.items ≡ list_at self.now.lists colour) }
+        ensures memory_only { IsOkUnless result Refusal.NoMemory }
+    {
+        let alloc = *self.spare.allocator();
+        let place = colour as usize;
+        match self.colours.get(place) {
+            Some(colour) => colour.to_members(alloc),
+            None => self.overflow.to_members(alloc),
+        }
+    }
+
+    /// The members of a colour, 0 to `OVERFLOW`, ascending by id, where no edit is put off.
+    pub fn members(&self, colour: u8) -> &[Member<C>]
+        requires settled { self.now.pending ≡ 0 }
+        requires colour { colour ≤ OVERFLOW }
         ensures value { result.now ≡ list_at self.now.lists colour }
         ensures rising { AreRising C.number result.now }
         ensures apart { colour < OVERFLOW → AreApart result.now }

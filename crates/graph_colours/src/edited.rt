@@ -1,11 +1,12 @@
 //! A list of members of which edits are put off.
 
-ghost use Rattle.std.specs.Prelude.{◌≡◌, ◌<◌, ◌≤◌, ◌+◌, [], true, false, All, length, vec_len, vec_capacity, IfOk, OnOk};
+ghost use Rattle.std.specs.Prelude.{◌≡◌, ◌<◌, ◌≤◌, ◌+◌, [], true, false, drop, length, vec_len, vec_capacity, IfOk, OnOk};
+ghost use Rattle.std.specs.List.{AllWithin};
 ghost use Rattle.std.specs.Result.{IsOkUnless};
-ghost use Rattle.graph_colours.specs.Members.{AreRising, has_id, inserted, without, movers_of};
-ghost use Rattle.graph_colours.specs.Edits.{edit_number, all_edited, AreInOrder, IsEdited};
+ghost use Rattle.graph_colours.specs.Members.{AreRising, has_id, inserted, without, movers_of, with_number};
+ghost use Rattle.graph_colours.specs.Edits.{edit_number, edited, all_edited, noted, AreInOrder, IsEdited, edit_with, is_edit_at};
 
-use crate::edits::{Edit, edit_all};
+use crate::edits::{Edit, edit_all, edit_one, pass};
 use crate::removals::{are_removals, remove_all};
 use crate::{Id, Member, Movers, member};
 use fixed_geom::Refusal;
@@ -22,36 +23,92 @@ const MEMBERS_PER_EDIT: usize = 16;
 #[derive(Drop)]
 pub struct EditedList<C: Id> {
     list: Vec<Member<C>>,
-    // Ascending.
+    // Ascending, at most one for each number.
     edits: Vec<Edit<C>>,
+    // How many members there are once all edits are made.
+    count: usize,
 }
 
 impl<C: Id> Model for EditedList<C> {
     ghost use Rattle.std.specs.Prelude.{length, vec_capacity};
-    ghost use Rattle.graph_colours.specs.Edits.{Pended, all_edited, IsEdited};
+    ghost use Rattle.graph_colours.specs.Edits.{Pended, all_edited, IsEditedList};
 
     ghost Value = { Pended C };
 
     ghost view = { λ a. record { items = all_edited C.number a.edits.items a.list.items; capacity = vec_capacity a.list; pending = length a.edits.items } };
 
-    ghost invariant = { λ a. IsEdited C.number a.list.items a.edits.items (vec_capacity a.list) };
+    ghost invariant = { λ a. IsEditedList C.number a.list.items a.edits.items (vec_capacity a.list) a.count };
 }
 
-/// Whether an edit of this number may be put off: it comes after the others, and there is room.
-fn can_wait<C: Id>(list: &Vec<Member<C>>, edits: &Vec<Edit<C>>, number: u128) -> bool
-    requires { AreInOrder C.number edits.now.items }
+// ---- edits that are put off
+
+/// The place of the first edit whose number is at least `wanted`, or their number.
+fn edit_place<C: Id>(edits: &[Edit<C>], wanted: u128) -> usize
+    requires { AreInOrder C.number edits.now }
+    ensures within { result ≤ length edits.now }
+    ensures before { AllWithin (λ e. edit_number C.number e < wanted) edits.now 0 result }
+    ensures after { AllWithin (λ e. wanted ≤ edit_number C.number e) edits.now result (length edits.now) }
+{
+    match edits.last() {
+        Some(last) if last.member.id.number() >= wanted => {
+            edits.partition_point(|edit| edit.member.id.number() < wanted)
+        }
+        _ => edits.len(),
+    }
+}
+
+/// The edit of this number, if one is put off.
+fn edit_of<C: Id>(edits: &[Edit<C>], wanted: u128) -> Option<Edit<C>>
+    requires { AreInOrder C.number edits.now }
+    ensures { result ≡ edit_with C.number wanted edits.now }
+{
+    let edit = *edits.get(edit_place(edits, wanted))?;
+    if edit.member.id.number() != wanted {
+        return None;
+    }
+    Some(edit)
+}
+
+/// Whether one more edit in this place may be put off: there is room, and few stand behind it, for these move up.
+fn can_wait<C: Id>(list: &Vec<Member<C>>, edits: &Vec<Edit<C>>, place: usize) -> bool
+    requires { place ≤ length edits.now.items }
     ensures room { result ≡ true → length list.now.items + length edits.now.items < vec_capacity list.now }
     ensures space { result ≡ true → vec_len edits.now < vec_capacity edits.now }
-    ensures above { result ≡ true → All (λ e. edit_number C.number e < number) edits.now.items }
 {
     if list.len() + edits.len() >= list.capacity() || edits.len() >= edits.capacity() {
         return false;
     }
-    match edits.last() {
-        Some(last) => last.member.id.number() < number,
-        None => true,
+    let behind = edits.len() - place;
+    behind <= EDITS || behind <= list.len() / behind
+}
+
+/// Whether the edit in this place is of the number.
+fn is_edit_at<C: Id>(edits: &[Edit<C>], place: usize, number: u128) -> bool
+    ensures { result ≡ is_edit_at C.number number (drop place edits.now) }
+{
+    match edits.get(place) {
+        Some(edit) => edit.member.id.number() == number,
+        None => false,
     }
 }
+
+/// Puts an edit off. It takes the place of one of the same number.
+fn note<C: Id>(edits: &mut Vec<Edit<C>>, place: usize, edit: Edit<C>)
+    requires in_order { AreInOrder C.number edits.old.items }
+    requires place { place ≤ length edits.old.items }
+    requires before { AllWithin (λ e. edit_number C.number e < edit_number C.number edit) edits.old.items 0 place }
+    requires after { AllWithin (λ e. edit_number C.number edit ≤ edit_number C.number e) edits.old.items place (length edits.old.items) }
+    requires space { vec_len edits.old < vec_capacity edits.old }
+    ensures items { edits.new.items ≡ noted C.number edit edits.old.items }
+{
+    if is_edit_at(edits, place, edit.member.id.number()) {
+        edits[place] = edit;
+    } else {
+        let _ = edits.insert(place, edit);
+    }
+}
+
+// ---- edits that are made
 
 /// Makes all edits of a list: where it stands, if none of them adds a member, else by way of `spare`.
 fn make_all<C: Id>(list: &mut Vec<Member<C>>, edits: &[Edit<C>], spare: &mut Vec<Member<C>>)
@@ -66,6 +123,29 @@ fn make_all<C: Id>(list: &mut Vec<Member<C>>, edits: &[Edit<C>], spare: &mut Vec
     }
 }
 
+/// Puts an edit off, or makes it and those before it where it can't be put off.
+fn take_in<C: Id>(
+    list: &mut Vec<Member<C>>,
+    edits: &mut Vec<Edit<C>>,
+    edit: Edit<C>,
+    spare: &mut Vec<Member<C>>,
+)
+    requires edited { IsEdited C.number list.old.items edits.old.items (vec_capacity list.old) }
+    requires room { edit.adds ≡ true → length (all_edited C.number edits.old.items list.old.items) < vec_capacity list.old }
+    ensures items { all_edited C.number edits.new.items list.new.items ≡ edited C.number edit (all_edited C.number edits.old.items list.old.items) }
+    ensures edited { IsEdited C.number list.new.items edits.new.items (vec_capacity list.new) }
+    ensures capacity { vec_capacity list.old ≤ vec_capacity list.new }
+{
+    let place = edit_place(edits, edit.member.id.number());
+    if can_wait(list, edits, place) {
+        note(edits, place, edit);
+    } else {
+        make_all(list, edits, spare);
+        edits.clear();
+        edit_one(list, edit);
+    }
+}
+
 impl<C: Id> EditedList<C> {
     /// No members.
     pub fn new(alloc: Global) -> EditedList<C>
@@ -75,6 +155,7 @@ impl<C: Id> EditedList<C> {
         EditedList {
             list: Vec::new(alloc),
             edits: Vec::new(alloc),
+            count: 0,
         }
     }
 
@@ -88,7 +169,33 @@ impl<C: Id> EditedList<C> {
         Ok(EditedList {
             list: Vec::from_slice(alloc, members)?,
             edits: Vec::new(alloc),
+            count: members.len(),
         })
+    }
+
+    /// A copy of its own, with no promise on room. Refused 1 where memory is wanting.
+    pub fn try_copy(&self, alloc: Global) -> Result<EditedList<C>, Refusal>
+        ensures items { IfOk result (λ copied. copied.items ≡ self.now.items) }
+        ensures pending { IfOk result (λ copied. copied.pending ≡ 0) }
+        ensures memory_only { IsOkUnless result Refusal.NoMemory }
+    {
+        Ok(EditedList {
+            list: self.to_members(alloc)?,
+            edits: Vec::new(alloc),
+            count: self.count,
+        })
+    }
+
+    /// The members, ascending by id. Refused 1 where memory is wanting.
+    pub fn to_members(&self, alloc: Global) -> Result<Vec<Member<C>>, Refusal>
+        ensures items { IfOk result (λ members. members.items ≡ self.now.items) }
+        ensures rising { IfOk result (λ members. AreRising C.number members.items) }
+        ensures memory_only { IsOkUnless result Refusal.NoMemory }
+    {
+        let mut members = Vec::new(alloc);
+        members.reserve(self.list.len() + self.edits.len())?;
+        pass(&mut members, &self.list, &self.edits);
+        Ok(members)
     }
 
     /// Makes room for that many members in all. Refused 1 where memory is wanting. Changes no member.
@@ -102,9 +209,37 @@ impl<C: Id> EditedList<C> {
         let edits = members / MEMBERS_PER_EDIT + EDITS;
         self.edits
             .reserve(edits.max(self.edits.len()) - self.edits.len())?;
+        let Some(room) = members.checked_add(edits) else {
+            return Err(Refusal::NoMemory);
+        };
         self.list
-            .reserve(members.max(self.list.len()) - self.list.len())?;
+            .reserve(room.max(self.list.len()) - self.list.len())?;
         Ok(())
+    }
+
+    /// How many members there are.
+    pub fn len(&self) -> usize
+        ensures { result ≡ length self.now.items }
+    {
+        self.count
+    }
+
+    /// The member whose id has this number.
+    pub fn with_number(&self, number: u128) -> Option<Member<C>>
+        ensures { result ≡ with_number C.number number self.now.items }
+    {
+        match edit_of(&self.edits, number) {
+            None => member::with_number(&self.list, number),
+            Some(edit) if edit.adds => Some(edit.member),
+            Some(_) => None,
+        }
+    }
+
+    /// Whether a member has the id.
+    pub fn has_id(&self, id: C) -> bool
+        ensures { result ≡ has_id C.number id self.now.items }
+    {
+        self.with_number(id.number()).is_some()
     }
 
     /// Adds a member, for which there is room. `spare` is where members lie while the edits are made, if they have to be.
@@ -114,24 +249,9 @@ impl<C: Id> EditedList<C> {
         ensures items { self.new.items ≡ inserted C.number member self.old.items }
         ensures capacity { self.old.capacity ≤ self.new.capacity }
     {
-        if can_wait(&self.list, &self.edits, member.id.number()) {
-            let _ = self.edits.push(Edit { member, adds: true });
-        } else {
-            self.settle(spare);
-            self.insert_now(member);
-        }
-    }
-
-    /// Adds a member at once, where no edit is put off.
-    fn insert_now(&mut self, member: Member<C>)
-        requires settled { self.old.pending ≡ 0 }
-        requires absent { has_id C.number member.id self.old.items ≡ false }
-        requires room { length self.old.items < self.old.capacity }
-        ensures items { self.new.items ≡ inserted C.number member self.old.items }
-        ensures pending { self.new.pending ≡ 0 }
-        ensures capacity { self.old.capacity ≤ self.new.capacity }
-    {
-        member::insert(&mut self.list, member);
+        let edit = Edit { member, adds: true };
+        take_in(&mut self.list, &mut self.edits, edit, spare);
+        self.count += 1;
     }
 
     /// Takes out the member that has the id, and answers its movers.
@@ -140,27 +260,14 @@ impl<C: Id> EditedList<C> {
         ensures items { self.new.items ≡ without C.number id self.old.items }
         ensures capacity { self.old.capacity ≤ self.new.capacity }
     {
-        if !can_wait(&self.list, &self.edits, id.number()) {
-            self.settle(spare);
-            return self.remove_now(id);
-        }
-        let movers = member::movers_of(&self.list, id)?;
-        let _ = self.edits.push(Edit {
+        let movers = self.with_number(id.number())?.movers;
+        let edit = Edit {
             member: Member { id, movers },
             adds: false,
-        });
+        };
+        take_in(&mut self.list, &mut self.edits, edit, spare);
+        self.count -= 1;
         Some(movers)
-    }
-
-    /// Takes a member out at once, where no edit is put off.
-    fn remove_now(&mut self, id: C) -> Option<Movers>
-        requires settled { self.old.pending ≡ 0 }
-        ensures value { result ≡ movers_of C.number id self.old.items }
-        ensures items { self.new.items ≡ without C.number id self.old.items }
-        ensures pending { self.new.pending ≡ 0 }
-        ensures capacity { self.old.capacity ≤ self.new.capacity }
-    {
-        member::remove(&mut self.list, id)
     }
 
     /// Makes the edits that were put off.

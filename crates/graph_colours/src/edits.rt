@@ -1,17 +1,17 @@
 //! Members that a list gets and loses, all in one pass.
 
-ghost use Rattle.std.specs.Prelude.{◌≡◌, ◌<◌, ◌≤◌, ◌+◌, ◌++◌, ◌∷◌, [], List, All, length, drop, vec_len, vec_capacity};
+ghost use Rattle.std.specs.Prelude.{◌≡◌, ◌<◌, ◌≤◌, ◌+◌, ◌++◌, ◌∷◌, [], true, List, All, length, drop, vec_len, vec_capacity};
 ghost use Rattle.std.specs.List.{AllWithin};
 ghost use Rattle.graph_colours.specs.declared.edits.Edit.{Edit as TheEdit};
 ghost use Rattle.graph_colours.specs.Members.{AreRising, is_at};
-ghost use Rattle.graph_colours.specs.Edits.{edit_number, edited, all_edited, AreInOrder, IsEdited};
+ghost use Rattle.graph_colours.specs.Edits.{edit_number, added, edited, all_edited, AreInOrder, IsEdited};
 
 use crate::member::{insert, place_from, remove};
 use crate::{Id, Member};
 
-/// A member that a list gets (`adds`), or loses.
+/// A member that a list gets (`adds`), in place of one of the same number, or loses.
 #[derive(Clone, Copy, Debug, PartialEq, Eq)]
-pub struct Edit<C> {
+pub(crate) struct Edit<C> {
     pub member: Member<C>,
     pub adds: bool,
 }
@@ -23,6 +23,18 @@ pub(crate) fn is_at<C: Id>(members: &[Member<C>], place: usize, number: u128) ->
     match members.get(place) {
         Some(member) => member.id.number() == number,
         None => false,
+    }
+}
+
+/// Adds the member that an edit brings, if it does, to the end of the list. There is room.
+fn push_added<C: Id>(list: &mut Vec<Member<C>>, edit: Edit<C>)
+    requires { vec_len list.old < vec_capacity list.old }
+    ensures items { list.new.items ≡ list.old.items ++ added edit }
+    ensures len { vec_len list.new ≤ vec_len list.old + 1 }
+    ensures capacity { vec_capacity list.old ≤ vec_capacity list.new }
+{
+    if edit.adds {
+        let _ = list.push(edit.member);
     }
 }
 
@@ -38,10 +50,7 @@ fn pass_edit<C: Id>(list: &mut Vec<Member<C>>, members: &[Member<C>], edit: Edit
     let number = edit.member.id.number();
     let place = place_from(members, number);
     let _ = list.extend_from_slice(&members[..place]);
-    if edit.adds {
-        let _ = list.push(edit.member);
-        return place;
-    }
+    push_added(list, edit);
     if is_at(members, place, number) {
         place + 1
     } else {
@@ -50,7 +59,7 @@ fn pass_edit<C: Id>(list: &mut Vec<Member<C>>, members: &[Member<C>], edit: Edit
 }
 
 /// Adds the members to the list, with all edits made.
-fn pass<C: Id>(list: &mut Vec<Member<C>>, members: &[Member<C>], edits: &[Edit<C>])
+pub(crate) fn pass<C: Id>(list: &mut Vec<Member<C>>, members: &[Member<C>], edits: &[Edit<C>])
     requires rising { AreRising C.number members.now }
     requires in_order { AreInOrder C.number edits.now }
     requires room { vec_len list.old + length members.now + length edits.now ≤ vec_capacity list.old }
@@ -65,15 +74,16 @@ fn pass<C: Id>(list: &mut Vec<Member<C>>, members: &[Member<C>], edits: &[Edit<C
 }
 
 /// Makes one edit of a list.
-fn edit_one<C: Id>(list: &mut Vec<Member<C>>, edit: Edit<C>)
-    requires edited { IsEdited C.number list.old.items (edit ∷ []) (vec_capacity list.old) }
+pub(crate) fn edit_one<C: Id>(list: &mut Vec<Member<C>>, edit: Edit<C>)
+    requires rising { AreRising C.number list.old.items }
+    requires room { edit.adds ≡ true → length list.old.items < vec_capacity list.old }
     ensures items { list.new.items ≡ edited C.number edit list.old.items }
     ensures capacity { vec_capacity list.old ≤ vec_capacity list.new }
 {
+    let Member { id, movers } = edit.member;
+    let _ = remove(list, id);
     if edit.adds {
-        insert(list, edit.member);
-    } else {
-        let _ = remove(list, edit.member.id);
+        insert(list, Member { id, movers });
     }
 }
 

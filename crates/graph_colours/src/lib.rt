@@ -9,7 +9,6 @@
 mod colour;
 mod colours;
 mod edited;
-mod edited_colours;
 mod edits;
 mod limits;
 mod marks;
@@ -18,7 +17,5 @@ mod removals;
 
 pub use colours::Colours;
 pub use edited::EditedList;
-pub use edited_colours::EditedColours;
-pub use edits::Edit;
 pub use limits::{COLOURS, OVERFLOW};
 pub use member::{Id, Member, Movers};

@@ -2,7 +2,7 @@
 
 ghost use Rattle.std.specs.Prelude.{◌≡◌, ℕ, ◌<◌, ◌≤◌, ◌+◌, length, vec_len, vec_capacity};
 ghost use Rattle.std.specs.List.{AllWithin};
-ghost use Rattle.graph_colours.specs.Members.{AreRising, has_id, inserted, without, movers_of};
+ghost use Rattle.graph_colours.specs.Members.{AreRising, has_id, inserted, without, movers_of, with_number};
 
 /// The name of a constraint. Constraints are solved in the order of these numbers, and two names
 /// with one number are one constraint.
@@ -36,6 +36,18 @@ pub fn place_from<C: Id>(members: &[Member<C>], wanted: u128) -> usize
     ensures after { AllWithin (λ m. wanted ≤ C.number m.id) members.now result (length members.now) }
 {
     members.partition_point(|member| member.id.number() < wanted)
+}
+
+/// The member whose id has this number.
+pub fn with_number<C: Id>(members: &[Member<C>], wanted: u128) -> Option<Member<C>>
+    requires { AreRising C.number members.now }
+    ensures { result ≡ with_number C.number wanted members.now }
+{
+    let member = *members.get(place_from(members, wanted))?;
+    if member.id.number() != wanted {
+        return None;
+    }
+    Some(member)
 }
 
 /// Whether a member has the id.

@@ -1,6 +1,6 @@
 //! Worked by hand: a hub, what a release leaves, and what doesn't move.
 
-ghost use Rattle.std.specs.Prelude.{◌≡◌, ◌+◌, ℕ, Some, None, true, replicate, [], ◌∷◌, ◌++◌};
+ghost use Rattle.std.specs.Prelude.{◌≡◌, ◌+◌, ℕ, IfOk, Some, None, true, replicate, [], ◌∷◌, ◌++◌};
 ghost use Rattle.graph_colours.specs.Movers.{shares};
 ghost use Rattle.graph_colours.specs.Colours.{ids_of, least_colour, placed, released, colour_of};
 
@@ -25,12 +25,15 @@ fn place(colours: &mut Colours<Joint>, id: u32, movers: Movers) -> Result<u8, Re
     Ok(colours.place(Joint(id), movers))
 }
 
-/// Constraints between the mover in slot 0 and another one each, three more than there are colours.
-fn hub(alloc: Global) -> Result<Colours<Joint>, Refusal> {
+/// Constraints between the mover in slot 0 and another one each, three more than there are colours. No edit is put off.
+fn hub(alloc: Global) -> Result<Colours<Joint>, Refusal>
+    ensures { IfOk result (λ made. made.pending ≡ 0) }
+{
     let mut colours = Colours::new(alloc)?;
     for spoke in 1..28 {
         place(&mut colours, spoke, between(0, spoke))?;
     }
+    colours.settle();
     Ok(colours)
 }
 
@@ -116,7 +119,7 @@ fn a_static_floor_does_not_count(rt: HostRuntime) -> Result<(), Fail> {
     same(&rt, &place(&mut colours, 8, between(3, 1)), &Ok(1));
     same_items(
         &rt,
-        colours.members(0),
+        &colours.to_members(0)?,
         &[member(7, alone(1)), member(9, alone(2))],
     );
     Ok(())

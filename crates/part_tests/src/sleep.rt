@@ -38,6 +38,32 @@ fn a_pair_and_one(alloc: Global) -> Result<Sets<Joint>, Refusal> {
     Ok(sets)
 }
 
+/// The joint 5.
+fn joint() -> Member<Joint> {
+    Member {
+        id: Joint(5),
+        movers: between(0, 1),
+    }
+}
+
+/// The constraints of the pair and the one.
+fn listed(alloc: Global) -> Result<Vec<Member<Joint>>, Refusal> {
+    a_pair_and_one(alloc)?.list_ties()
+}
+
+/// How many constraints the pair and the one have, and those with the numbers 5 and 6.
+fn found(alloc: Global) -> Result<(usize, [Option<Member<Joint>>; 2]), Refusal> {
+    let sets = a_pair_and_one(alloc)?;
+    Ok((sets.tie_count(), [sets.tie_with(5), sets.tie_with(6)]))
+}
+
+#[test]
+fn tells_its_constraints(rt: HostRuntime) -> Result<(), Fail> {
+    same_items(&rt, &listed(rt.alloc())?, &[joint()]);
+    same(&rt, &found(rt.alloc())?, &(1, [Some(joint()), None]));
+    Ok(())
+}
+
 /// Which of the three are awake.
 fn awake(sets: &Sets<Joint>) -> [bool; 3] {
     [sets.is_awake(0), sets.is_awake(1), sets.is_awake(2)]

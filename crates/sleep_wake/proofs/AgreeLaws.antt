@@ -1,19 +1,17 @@
 -- A sleep phase reads the timers of the awake movers alone.
-use Rattle.std.proofs.Common.{◌≡◌, ◌≢◌, ℕ, zero, suc, ◌+◌, ◌<◌, ◌≤◌, ◌==◌, ◌&&◌, ◌||◌, Bool, true, false, not, cond, List, [], ◌∷◌, get_or, length, Option, None, Some, inl, inr, refl, sym, ap, ◌∙◌, subst, arith}
-use Rattle.std.proofs.lemmas.Bool.{false≢true, eqb-true}
-use Rattle.graph_colours.specs.declared.member.Member.{Member}
+use Rattle.std.proofs.Common.{◌≡◌, ℕ, suc, ◌+◌, ◌&&◌, ◌||◌, Bool, true, false, not, cond, List, [], ◌∷◌, get_or, length, Option, None, Some, inl, inr, refl, sym, ap, ◌∙◌, subst, arith}
 use Rattle.islands.specs.declared.label.Label.{Label}
 use Rattle.islands.specs.Labels.{Labels, label_at, is_in, is_loose, is_asleep}
 use Rattle.islands.specs.Partition.{IsPartition}
 use Rattle.islands.proofs.LabelLemmas.{in_case}
 use Rattle.islands.proofs.SplitLemmas.{split_is}
 use Rattle.sleep_wake.specs.Acting.{Acting, IsSettled, awake_label, is_awake}
-use Rattle.sleep_wake.specs.SleepPhase.{lesser, least_timer, is_due, is_island, is_less, longer_at_rest, longest_at_rest, ready, picked_to_split, split_at, edges_of, split_picked, all_put_to_rest, ready_put_to_rest, sleep_phase}
+use Rattle.sleep_wake.specs.SleepPhase.{lesser, least_timer, is_due, is_island, longer_at_rest, longest_at_rest, ready, picked_to_split, split_at, edges_of, split_picked, all_put_to_rest, ready_put_to_rest, sleep_phase}
 use Rattle.sleep_wake.specs.AwakeSlots.{AreAwakeSlots, AgreeAwake}
 use Rattle.sleep_wake.specs.Resting.{least_at, AreLeast, is_due_island, due_from, due_names, longest_due, rests_by, second_rests, is_to_rest}
 use Rattle.sleep_wake.proofs.AwakeLemmas.{awake_as}
 use Rattle.sleep_wake.proofs.EdgeLemmas.{edges_inside}
-use Rattle.sleep_wake.proofs.PhaseLemmas.{AreAll, IsNamedIsland, Names, names, all_if, all_on, and_is, longer_is, picked_is, split_keeps}
+use Rattle.sleep_wake.proofs.PhaseLemmas.{AreAll, IsNamedIsland, names, all_if, all_on, and_is, longer_is, picked_is, split_keeps}
 use Rattle.sleep_wake.proofs.LeastLemmas.{timer_in, due_are}
 
 -- ---- two that tell the least timers of the awake islands

@@ -1,8 +1,8 @@
 -- What is found over the slots of the awake movers is what a scan of all slots finds.
 use Rattle.std.proofs.Common.{◌≡◌, ◌≢◌, ℕ, zero, suc, ◌+◌, ◌<◌, ◌≤◌, ◌==◌, ◌&&◌, ◌⊎◌, Bool, true, false, not, cond, List, [], ◌∷◌, ◌++◌, get_or, length, map, drop, Option, None, Some, refl, sym, ap, ◌∙◌, inl, inr, subst, arith}
-use Rattle.std.specs.Prelude.{nat_lt, Contains}
+use Rattle.std.specs.Prelude.{Contains}
 use Rattle.std.specs.List.{All, AllPairs}
-use Rattle.std.proofs.lemmas.Bool.{false≢true, lt-ltb, le-ltb, eq-eqb}
+use Rattle.std.proofs.lemmas.Bool.{false≢true, lt-ltb, le-ltb}
 use Rattle.std.proofs.lemmas.List.{append_assoc, append-nil, drop_more, drop_all}
 use Rattle.std.proofs.lemmas.List.Elements.{All-contains, Contains-get_or}
 use Rattle.std.proofs.lemmas.List.Kept.{AllPairs-cons}
@@ -20,7 +20,7 @@ use Rattle.sleep_wake.specs.AwakeSlots.{AreAwakeSlots}
 use Rattle.sleep_wake.specs.Resting.{least_at, noted, forgotten, AreLeast, is_due_island, due_from, due_names, weighed_by, longest_due, all_rested}
 use Rattle.sleep_wake.proofs.ListLemmas.{none_in}
 use Rattle.sleep_wake.proofs.AwakeLemmas.{awake_as}
-use Rattle.sleep_wake.proofs.LeastLemmas.{with_timer, noted_at, noted_long, forgotten_at}
+use Rattle.sleep_wake.proofs.LeastLemmas.{with_timer, noted_at, forgotten_at}
 use Rattle.sleep_wake.proofs.RestLemmas.{asleep_in, island_rested}
 
 -- ---- the slots of the awake movers, by a scan

@@ -1,7 +1,7 @@
 -- The constraints of an island are those of which its movers are the first, put in order.
 use Rattle.std.proofs.Common.{◌≡◌, ◌≢◌, ◌↔◌, ℕ, ◌+◌, ◌<◌, ◌≤◌, ◌==◌, ◌||◌, ◌++◌, Bool, true, false, cond, List, [], ◌∷◌, Option, Some, None, option_map, get_or, length, inl, inr, refl, sym, ap, ◌∙◌, arith, subst, append_assoc, eq-eqb, eqb-true}
 use Rattle.std.specs.Prelude.{filter, Contains, nat_eq}
-use Rattle.std.specs.List.{All, AllPairs, IsDistinct, cons_option, count_by}
+use Rattle.std.specs.List.{All, AllPairs, IsDistinct, cons_option}
 use Rattle.std.specs.List.Sorted.{IsPermutation, IsNonDecreasingBy}
 use Rattle.std.specs.Cmp.{nat_eq_equiv}
 use Rattle.std.proofs.lemmas.Bool.{cases_eq, ne_eqb, eqb-false, false≢true}

@@ -1,11 +1,11 @@
 -- The lists of the movers as constraints come and go.
 use Rattle.std.proofs.Common.{◌≡◌, ◌≢◌, ℕ, zero, suc, ◌+◌, ◌<◌, ◌≤◌, ◌==◌, ◌||◌, ◌&&◌, ◌++◌, Bool, true, false, not, cond, List, [], ◌∷◌, length, get_or, take, map, slice_set, nat_lt, Option, Some, None, refl, sym, ap, ◌∙◌, arith, subst, inl, inr, ltb-false}
-use Rattle.std.specs.Prelude.{filter, Vec, vec_items}
-use Rattle.std.specs.List.{All, AllWithin, AllPairs}
+use Rattle.std.specs.Prelude.{filter, is_some, Vec, vec_items}
+use Rattle.std.specs.List.{All}
 use Rattle.std.specs.declared.alloc.Global.{Global}
 use Rattle.std.proofs.lemmas.Bool.{cases_eq, false≢true}
 use Rattle.std.proofs.lemmas.List.{map-set, get_or-set_same, get_or-set_other, get_or-map, length-map, map-append, take_more, get_or_default}
-use Rattle.std.proofs.lemmas.List.Elements.{All-nil, All-cons, All-head, All-tail, All-filter}
+use Rattle.std.proofs.lemmas.List.Elements.{All-cons, All-filter}
 use Rattle.std.proofs.lemmas.List.Kept.{AllPairs-filter, AllPairs-cons}
 use Rattle.graph_colours.specs.declared.member.Movers.{Movers}
 use Rattle.graph_colours.specs.declared.member.Member.{Member}
@@ -14,10 +14,10 @@ use Rattle.graph_colours.specs.Members.{AreRising, has_id, inserted, without, mo
 use Rattle.graph_colours.specs.Colours.{list_at}
 use Rattle.graph_colours.specs.Given.{members_of}
 use Rattle.graph_colours.proofs.Cases.{by_test}
-use Rattle.graph_colours.proofs.PlaceLemmas.{is_same, not_same, same_from, is_lower, without_none, without_same}
+use Rattle.graph_colours.proofs.PlaceLemmas.{is_same, not_same, same_from, is_lower, without_none, without_same, has_movers}
 use Rattle.graph_colours.proofs.ListLemmas.{pairs_none, pairs_head, pairs_tail, rising_inserted, rising_without}
 use Rattle.graph_colours.proofs.SearchLemmas.{has_without}
-use Rattle.graph_colours.proofs.EditLemmas.{front_all, take_whole, has_by}
+use Rattle.graph_colours.proofs.EditLemmas.{front_all, take_whole}
 use Rattle.graph_colours.proofs.StepLemmas.{map_kept}
 use Rattle.sleep_wake.specs.Indexed.{ties_of, AreByMover, AreAllRising, AreAlike, AreChangedWhere, IsAdded, IsTakenOut, is_other, IsIndexed}
 
@@ -275,32 +275,40 @@ all_rising {C} number ties lists rising by slot =
 
 -- ---- what is kept
 
-pub indexed_rising : {C : Type 0} (number : C → ℕ) (ties : List (Member C)) (holds : Bool) (lists : List (List (Member C))) → IsIndexed number ties holds lists → holds ≡ true → AreAllRising number lists
-indexed_rising number ties holds lists kept q = all_rising number ties lists kept.rising (kept.by_mover q)
+pub indexed_rising : {C : Type 0} (number : C → ℕ) (ties : List (Member C)) (pending : ℕ) (settled holds : Bool) (lists : List (List (Member C))) → IsIndexed number ties pending settled holds lists → holds ≡ true → AreAllRising number lists
+indexed_rising number ties pending settled holds lists kept q = all_rising number ties lists kept.rising (kept.by_mover q)
 
-pub indexed_more : {C : Type 0} (number : C → ℕ) (m : Member C) (ties then : List (Member C)) (was holds : Bool) (old now : List (List (Member C))) → IsIndexed number ties was old → has_id number m.id ties ≡ false → then ≡ inserted number m ties → (holds ≡ true → was ≡ true) → (holds ≡ true → IsAdded number m old now) → IsIndexed number then holds now
-indexed_more {C} number m ties then was holds old now kept absent is held added =
+-- an edit may be put off now, where the lists hold
+pub indexed_more : {C : Type 0} (number : C → ℕ) (m : Member C) (ties then : List (Member C)) (before pending : ℕ) (settled was holds : Bool) (old now : List (List (Member C))) → IsIndexed number ties before settled was old → has_id number m.id ties ≡ false → then ≡ inserted number m ties → (holds ≡ true → was ≡ true) → (holds ≡ true → IsAdded number m old now) → (holds ≡ false → pending ≡ 0) → IsIndexed number then pending false holds now
+indexed_more {C} number m ties then before pending settled was holds old now kept absent is held added lapsed =
     let P : List (Member C) → Type 0 = λ l. AreRising number l in
     let Q : List (Member C) → Type 0 = λ l. AreByMover l now in
     record {
       rising = subst P (sym is) (rising_inserted number m ties kept.rising absent);
       by_mover = λ q. subst Q (sym is) (ties_added number m ties old now kept.rising (kept.by_mover (held q)) (added q));
+      rest = λ q. absurd (false≢true q);
+      lapsed = lapsed;
     }
 
-less_by : {C : Type 0} (number : C → ℕ) (id : C) (ties : List (Member C)) (holds : Bool) (old now : List (List (Member C))) (movers : Option Movers) → movers ≡ movers_of number id ties → IsIndexed number ties holds old → (movers ≡ None → now ≡ old) → (holds ≡ true → (m : Movers) → movers ≡ Some m → IsTakenOut number id m old now) → holds ≡ true → AreByMover (without number id ties) now
-less_by {C} number id ties holds old now None is kept none taken q =
+absent_by : {C : Type 0} (number : C → ℕ) (id : C) (ms : List (Member C)) → None ≡ movers_of number id ms → has_id number id ms ≡ false
+absent_by number id ms none = sym (has_movers number id ms) ∙ sym (ap is_some none)
+
+less_by : {C : Type 0} (number : C → ℕ) (id : C) (ties : List (Member C)) (holds : Bool) (old now : List (List (Member C))) (movers : Option Movers) → movers ≡ movers_of number id ties → AreRising number ties → (holds ≡ true → AreByMover ties old) → (movers ≡ None → now ≡ old) → (holds ≡ true → (m : Movers) → movers ≡ Some m → IsTakenOut number id m old now) → holds ≡ true → AreByMover (without number id ties) now
+less_by {C} number id ties holds old now None is rising by none taken q =
     let P : List (List (Member C)) → Type 0 = λ l. AreByMover (without number id ties) l in
     let Q : List (Member C) → Type 0 = λ l. AreByMover l old in
-    subst P (sym (none refl)) (subst Q (sym (without_same number id ties (has_by number id ties is))) (kept.by_mover q))
-less_by number id ties holds old now (Some m) is kept none taken q = ties_taken number id m ties old now kept.rising (sym is) (kept.by_mover q) (taken q m refl)
+    subst P (sym (none refl)) (subst Q (sym (without_same number id ties (absent_by number id ties is))) (by q))
+less_by number id ties holds old now (Some m) is rising by none taken q = ties_taken number id m ties old now rising (sym is) (by q) (taken q m refl)
 
-pub indexed_less : {C : Type 0} (number : C → ℕ) (id : C) (ties then : List (Member C)) (holds : Bool) (old now : List (List (Member C))) (movers : Option Movers) → IsIndexed number ties holds old → movers ≡ movers_of number id ties → then ≡ without number id ties → (movers ≡ None → now ≡ old) → (holds ≡ true → (m : Movers) → movers ≡ Some m → IsTakenOut number id m old now) → IsIndexed number then holds now
-indexed_less {C} number id ties then holds old now movers kept found is none taken =
+pub indexed_less : {C : Type 0} (number : C → ℕ) (id : C) (ties then : List (Member C)) (before pending : ℕ) (settled holds : Bool) (old now : List (List (Member C))) (movers : Option Movers) → IsIndexed number ties before settled holds old → movers ≡ movers_of number id ties → then ≡ without number id ties → (movers ≡ None → now ≡ old) → (holds ≡ true → (m : Movers) → movers ≡ Some m → IsTakenOut number id m old now) → (holds ≡ false → pending ≡ 0) → IsIndexed number then pending false holds now
+indexed_less {C} number id ties then before pending settled holds old now movers kept found is none taken lapsed =
     let P : List (Member C) → Type 0 = λ l. AreRising number l in
     let Q : List (Member C) → Type 0 = λ l. AreByMover l now in
     record {
       rising = subst P (sym is) (rising_without number id ties kept.rising);
-      by_mover = λ q. subst Q (sym is) (less_by number id ties holds old now movers found kept none taken q);
+      by_mover = λ q. subst Q (sym is) (less_by number id ties holds old now movers found kept.rising kept.by_mover none taken q);
+      rest = λ q. absurd (false≢true q);
+      lapsed = lapsed;
     }
 
 -- ---- all constraints, one after the other

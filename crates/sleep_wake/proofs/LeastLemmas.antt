@@ -1,10 +1,10 @@
 -- What the list of least timers has once a timer more was seen, or some were forgotten, and which islands are ready by it.
-use Rattle.std.proofs.Common.{◌≡◌, ℕ, suc, ◌<◌, ◌≤◌, ◌==◌, ◌&&◌, ◌⊎◌, Bool, true, false, cond, List, [], ◌∷◌, get_or, length, slice_set, Option, None, Some, refl, sym, ap, ◌∙◌, inl, inr, subst, arith}
+use Rattle.std.proofs.Common.{◌≡◌, ℕ, suc, ◌<◌, ◌==◌, ◌&&◌, ◌⊎◌, Bool, true, false, cond, List, [], ◌∷◌, get_or, length, slice_set, Option, None, Some, refl, sym, ap, ◌∙◌, inl, inr, subst, arith}
 use Rattle.std.specs.Prelude.{nat_lt, Contains}
 use Rattle.std.proofs.lemmas.Bool.{cases_lt, cases_eq, false≢true, eqb-true, eq-eqb}
 use Rattle.std.proofs.lemmas.List.{get_or_past, get_or-set_same, get_or-set_other, length-set}
 use Rattle.islands.specs.declared.label.Label.{Label}
-use Rattle.islands.specs.Labels.{Labels, label_at, is_in}
+use Rattle.islands.specs.Labels.{Labels, is_in}
 use Rattle.islands.proofs.JoinLemmas.{contains_cases}
 use Rattle.sleep_wake.specs.SleepPhase.{lesser, least_timer, ready_from, ready}
 use Rattle.sleep_wake.specs.Resting.{least_at, lowered, noted, forgotten, is_due_island, due_from, due_names}

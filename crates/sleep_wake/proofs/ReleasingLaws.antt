@@ -1,20 +1,19 @@
 -- Constraints that give up their colours may be looked for among those that have one, and in any order.
-use Rattle.std.proofs.Common.{◌≡◌, ℕ, suc, ◌+◌, ◌<◌, ◌≤◌, ◌==◌, ◌||◌, Bool, true, false, not, cond, List, [], ◌∷◌, ◌++◌, get_or, drop, length, map, Option, None, refl, sym, ap, ◌∙◌, inl, inr, subst, arith}
+use Rattle.std.proofs.Common.{◌≡◌, ℕ, ◌≤◌, ◌==◌, ◌||◌, Bool, true, false, not, cond, List, [], ◌∷◌, ◌++◌, drop, length, map, refl, sym, ap, ◌∙◌, inl, inr}
 use Rattle.std.specs.Prelude.{filter, Contains}
 use Rattle.std.specs.List.{list_any}
 use Rattle.std.proofs.lemmas.Bool.{false≢true, eqb-true, eq-eqb}
-use Rattle.std.proofs.lemmas.List.{append_assoc, append-nil, drop_more, drop_all}
-use Rattle.std.proofs.lemmas.List.Elements.{filter-append}
+use Rattle.std.proofs.lemmas.List.{append-nil, drop_all}
 use Rattle.graph_colours.specs.declared.member.Member.{Member}
 use Rattle.graph_colours.specs.Members.{has_id}
-use Rattle.graph_colours.specs.Colours.{all_members, list_at}
+use Rattle.graph_colours.specs.Colours.{all_members}
 use Rattle.islands.proofs.JoinLemmas.{contains_cases, contains_head, contains_tail}
 use Rattle.sleep_wake.specs.Acting.{Acting, IsSettled}
 use Rattle.sleep_wake.specs.Waking.{released_all}
 use Rattle.sleep_wake.specs.Rooms.{OwnMovers}
 use Rattle.sleep_wake.proofs.ListLemmas.{none_in, filter_in, in_filter, one_of, flat_in}
 use Rattle.sleep_wake.proofs.TurnOwn.{own_of}
-use Rattle.sleep_wake.proofs.RestingLaws.{Others, cleared, cleared_is}
+use Rattle.sleep_wake.proofs.RestingLaws.{Others, cleared_is}
 
 -- ---- which of two lists of constraints are taken out, where both have the same of those that are there
 

@@ -1,17 +1,16 @@
 -- Islands fall asleep one after the other, and none of them makes another more ready, or less.
-use Rattle.std.proofs.Common.{◌≡◌, ◌≢◌, ℕ, zero, suc, ◌+◌, ◌<◌, ◌≤◌, ◌==◌, ◌&&◌, ◌||◌, Bool, true, false, not, cond, List, [], ◌∷◌, Option, Some, None, length, map, drop, refl, sym, ap, ◌∙◌, arith}
+use Rattle.std.proofs.Common.{◌≡◌, ◌≢◌, ℕ, ◌==◌, ◌&&◌, ◌||◌, Bool, true, false, not, cond, Option, Some, None, refl, sym, ap, ◌∙◌}
 use Rattle.std.proofs.lemmas.Bool.{false≢true, eqb-true, eq-eqb}
-use Rattle.std.proofs.lemmas.List.{drop_more, length-map}
 use Rattle.graph_colours.proofs.PlaceLemmas.{not_same}
 use Rattle.islands.specs.declared.label.IslandState.{IslandState}
 use Rattle.islands.specs.declared.label.IslandState.TheVariants.{Asleep}
 use Rattle.islands.specs.declared.label.Label.{Label}
-use Rattle.islands.specs.Labels.{Labels, label_at, is_in, is_loose, is_asleep, relabel, rested}
+use Rattle.islands.specs.Labels.{label_at, is_in, is_loose, is_asleep, relabel}
 use Rattle.islands.proofs.LabelLemmas.{in_of}
 use Rattle.islands.proofs.SplitLemmas.{split_is}
 use Rattle.sleep_wake.specs.Acting.{Acting, IsSettled}
 use Rattle.sleep_wake.specs.SleepPhase.{is_due, is_island, split_at, edges_of}
-use Rattle.sleep_wake.specs.Resting.{is_due_island, due_from, all_rested}
+use Rattle.sleep_wake.specs.Resting.{is_due_island}
 use Rattle.sleep_wake.specs.Sleeping.{is_whole, split_if_loose}
 use Rattle.sleep_wake.proofs.EdgeLemmas.{edges_inside}
 

@@ -23,8 +23,6 @@ pub record SameRoom (coloured after : ℕ) (c d : Capacity) : Type 0 where
   pub gathering_ties : c.gathering_ties ≤ d.gathering_ties
   pub gathering_slots : c.gathering_slots ≤ d.gathering_slots
   pub leasts : c.leasts ≤ d.leasts
-  pub ties_settled : d.ties_pending ≡ 0
-  pub colours_settled : d.colours_pending ≡ 0
 
 pub stands : {C : Type 0} (number : C → ℕ) (s new : Acting C) (room slots : ℕ) (c d : Capacity) → IsStanding number s room slots c → IsSettled number new → length new.ties ≤ room → length new.labels ≤ slots → SameRoom (length (all_members s.lists)) (length (all_members new.lists)) c d → IsStanding number new room slots d
 stands number s new room slots c d w settled enough few r = record {
@@ -42,8 +40,6 @@ stands number s new room slots c d w settled enough few r = record {
     gathering_ties = omega (arith, w.rooms.gathering_ties, r.gathering_ties);
     gathering_slots = omega (arith, w.rooms.gathering_slots, r.gathering_slots);
     leasts = omega (arith, w.rooms.leasts, r.leasts);
-    ties_settled = r.ties_settled;
-    colours_settled = r.colours_settled;
   };
 }
 

@@ -1,21 +1,17 @@
--- What a turn of constraints stands on: who has a colour has its movers, and where all are awake nobody wakes.
-use Rattle.std.proofs.Common.{◌≡◌, ℕ, ◌+◌, ◌≤◌, ◌==◌, Bool, true, false, cond, not, List, [], ◌∷◌, Option, Some, None, length, get_or, refl, sym, ap, ◌∙◌, subst, arith}
-use Rattle.std.proofs.lemmas.Bool.{false≢true}
+-- What a turn of constraints stands on: who has a colour has its movers.
+use Rattle.std.proofs.Common.{◌≡◌, ℕ, ◌+◌, ◌≤◌, ◌==◌, Bool, true, false, not, List, [], ◌∷◌, length, get_or, refl, sym, ap, subst, arith}
 use Rattle.std.proofs.lemmas.List.Elements.{Contains-get_or}
 use Rattle.graph_colours.specs.declared.member.Movers.{Movers}
 use Rattle.graph_colours.specs.declared.member.Member.{Member}
 use Rattle.graph_colours.specs.Colours.{all_members, released}
-use Rattle.islands.specs.declared.label.Label.{Label}
-use Rattle.islands.specs.Labels.{label_at, is_asleep}
 use Rattle.std.specs.Prelude.{Contains, filter}
 use Rattle.sleep_wake.specs.declared.change.Change.{Change}
 use Rattle.sleep_wake.specs.declared.change.Change.TheVariants.{Begin, End}
-use Rattle.sleep_wake.specs.Acting.{Acting, AreMovers, IsSettled, awake_label, is_awake, second_awake, are_awake}
-use Rattle.sleep_wake.specs.Waking.{set_woken, woken_by, woken_at, second_woken, movers_woken, released_all}
+use Rattle.sleep_wake.specs.Acting.{Acting, AreMovers, IsSettled}
+use Rattle.sleep_wake.specs.Waking.{movers_woken, released_all}
 use Rattle.sleep_wake.specs.Changes.{changed, turned, begin_count, IsChange, AreChanges}
 use Rattle.sleep_wake.specs.Rooms.{OwnMovers}
 use Rattle.sleep_wake.proofs.ListLemmas.{one_of}
-use Rattle.sleep_wake.proofs.AwakeLemmas.{and_is}
 use Rattle.sleep_wake.proofs.FoldLemmas.{count_next, movers_on, both_labelled}
 use Rattle.sleep_wake.proofs.KeptLemmas.{wakes_both, turning_keeps}
 use Rattle.sleep_wake.proofs.SizeLemmas.{both_ties, both_size}
@@ -29,29 +25,6 @@ own_of {C} number s w m there = λ k d lt e.
     let x : Member C = get_or (all_members s.lists) k d in
     let has : Contains s.ties x = ((w.acting x).0 (Contains-get_or (all_members s.lists) k d lt)).0 in
     ap (λ (v : Member C). v.movers) (one_of number s.ties x m w.rising has there e)
-
--- ---- nobody wakes where all are awake
-
-awake_by : {C : Type 0} (number : C → ℕ) (o : Option Label) (s : Acting C) → awake_label o ≡ true → woken_by number o s ≡ s
-awake_by number None s h = refl
-awake_by number (Some l) s h = stays (is_asleep l.state) h
-  where
-    stays : (t : Bool) → not t ≡ true → cond t (set_woken number l.name s) s ≡ s
-    stays true q = absurd (false≢true q)
-    stays false q = refl
-
-awake_at : {C : Type 0} (number : C → ℕ) (slot : ℕ) (s : Acting C) → is_awake s.labels slot ≡ true → woken_at number slot s ≡ s
-unfolding woken_at
-awake_at number slot s h = awake_by number (label_at s.labels slot) s h
-
-awake_second : {C : Type 0} (number : C → ℕ) (o : Option ℕ) (s : Acting C) → second_awake s.labels o ≡ true → second_woken number o s ≡ s
-awake_second number None s h = refl
-awake_second number (Some slot) s h = awake_at number slot s h
-
-pub nobody_wakes : {C : Type 0} (number : C → ℕ) (m : Movers) (s : Acting C) → are_awake s.labels m ≡ true → movers_woken number m s ≡ s
-nobody_wakes {C} number m s h =
-    let both = and_is (is_awake s.labels m.first) (second_awake s.labels m.second) h in
-    ap (λ (v : Acting C). second_woken number m.second v) (awake_at number m.first s both.0) ∙ awake_second number m.second s both.1
 
 -- ---- once the movers of a constraint were woken
 

@@ -1,5 +1,5 @@
 -- The constraints of each mover, by its slot.
-use Rattle.std.specs.Prelude.{◌≡◌, ℕ, ◌==◌, ◌&&◌, Bool, true, not, cond, List, filter}
+use Rattle.std.specs.Prelude.{◌≡◌, ℕ, ◌==◌, ◌&&◌, Bool, true, false, not, cond, List, filter}
 use Rattle.graph_colours.specs.declared.member.Movers.{Movers}
 use Rattle.graph_colours.specs.declared.member.Member.{Member}
 use Rattle.graph_colours.specs.Movers.{is_slot, has_mover}
@@ -38,7 +38,10 @@ IsTakenOut number id movers old new = AreChangedWhere (has_mover movers) (withou
 abbrev pub is_other : Movers → ℕ → Bool
 is_other movers slot = not (movers.first == slot) && is_slot movers.second slot
 
--- what is kept beside each other: the constraints ascend, and where the lists hold they have those of each mover
-pub record IsIndexed {C : Type 0} (number : C → ℕ) (ties : List (Member C)) (holds : Bool) (lists : List (List (Member C))) : Type 0 where
+-- what is kept beside each other: the constraints ascend, where the lists hold they have those of each mover, and where they don't, or it says so, no
+-- edit of the constraints is put off
+pub record IsIndexed {C : Type 0} (number : C → ℕ) (ties : List (Member C)) (pending : ℕ) (settled holds : Bool) (lists : List (List (Member C))) : Type 0 where
   pub rising : AreRising number ties
   pub by_mover : holds ≡ true → AreByMover ties lists
+  pub rest : settled ≡ true → pending ≡ 0
+  pub lapsed : holds ≡ false → pending ≡ 0

@@ -4,7 +4,7 @@ use Rattle.graph_colours.specs.declared.member.Member.{Member}
 use Rattle.graph_colours.specs.Movers.{AreBelow}
 use Rattle.graph_colours.specs.Members.{AreRising}
 use Rattle.graph_colours.specs.Colours.{all_members, colour_of}
-use Rattle.graph_colours.specs.Recolouring.{AreOwn}
+use Rattle.graph_colours.specs.Own.{AreOwn}
 
 -- none has a colour yet, and there is room for all
 pub record CanPlace {C : Type 0} (number : C → ℕ) (ms : List (Member C)) (lists : List (List (Member C))) (room slots : ℕ) : Type 0 where

@@ -1,16 +1,17 @@
 -- What contracts see of the sets, and what the sets keep.
-use Rattle.std.specs.Prelude.{◌≡◌, ℕ, ◌≤◌, ◌+◌, length}
+use Rattle.std.specs.Prelude.{ℕ, ◌≤◌, ◌+◌, length}
 use Rattle.graph_colours.specs.Colours.{all_members}
 use Rattle.sleep_wake.specs.Acting.{Acting, IsSettled}
 
--- the constraints, islands and colours; how many constraints may stand with no memory, those that do counted; and the bound below which
--- a mover's slot must be
+-- the constraints, islands and colours; how many constraints may stand with no memory, those that do counted; the bound below which a mover's
+-- slot must be; and whether edits of the colours are put off: if it is 0, none is
 pub record Standing (C : Type 0) : Type 0 where
   pub acting : Acting C
   pub room : ℕ
   pub slots : ℕ
+  pub pending : ℕ
 
--- for how much the parts have room, and what is put off in them
+-- for how much the parts have room
 pub record Capacity : Type 0 where
   pub ties : ℕ
   pub colours : ℕ
@@ -22,10 +23,8 @@ pub record Capacity : Type 0 where
   pub gathering_ties : ℕ
   pub gathering_slots : ℕ
   pub leasts : ℕ
-  pub ties_pending : ℕ
-  pub colours_pending : ℕ
 
--- each part has room for all constraints, also where all movers wake, and for movers in all slots, and nothing is put off
+-- each part has room for all constraints, also where all movers wake, and for movers in all slots
 pub record HasRoomFor (coloured room slots : ℕ) (c : Capacity) : Type 0 where
   pub ties : room ≤ c.ties
   pub colours : room ≤ c.colours + coloured
@@ -37,8 +36,6 @@ pub record HasRoomFor (coloured room slots : ℕ) (c : Capacity) : Type 0 where
   pub gathering_ties : room ≤ c.gathering_ties
   pub gathering_slots : slots ≤ c.gathering_slots
   pub leasts : slots ≤ c.leasts
-  pub ties_settled : c.ties_pending ≡ 0
-  pub colours_settled : c.colours_pending ≡ 0
 
 -- the sets are settled, no more constraints and slots are there than there is room for, and the parts have that room
 pub record IsStanding {C : Type 0} (number : C → ℕ) (s : Acting C) (room slots : ℕ) (c : Capacity) : Type 0 where

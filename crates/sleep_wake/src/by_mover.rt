@@ -143,19 +143,11 @@ pub(crate) fn widen<C: Id>(lists: &mut Vec<Vec<Member<C>>>, slots: usize)
     }
 }
 
-/// Makes the lists anew, where they don't hold. Answers whether they hold then: not where memory is wanting.
-pub(crate) fn rebuild<C: Id>(
-    lists: &mut Vec<Vec<Member<C>>>,
-    holds: bool,
-    ties: &[Member<C>],
-) -> bool
-    requires rising { AreRising C.number ties.now }
-    requires held { holds ≡ true → AreByMover ties.now (members_of lists.old.items) }
+/// Makes the lists anew of these constraints. Answers whether they hold then: not where memory is wanting.
+pub(crate) fn rebuild<C: Id>(lists: &mut Vec<Vec<Member<C>>>, ties: &[Member<C>]) -> bool
+    requires { AreRising C.number ties.now }
     ensures { result ≡ true → AreByMover ties.now (members_of lists.new.items) }
 {
-    if holds {
-        return true;
-    }
     let slots = lists.len();
     lists.clear();
     widen(lists, slots);

@@ -1,19 +1,18 @@
 //! Constraints come and go, with their colours and with the links that they make.
 
-ghost use Rattle.std.specs.Prelude.{◌≡◌, ◌<◌, ◌≤◌, ◌+◌, ◌∷◌, [], true, false, length, Contains};
+ghost use Rattle.std.specs.Prelude.{◌≡◌, ◌<◌, ◌≤◌, ◌+◌, ◌∷◌, [], false, length, Contains};
 ghost use Rattle.sleep_wake.specs.declared.change.Change.TheVariants.{Begin, End};
 ghost use Rattle.graph_colours.specs.Colours.{all_members};
 ghost use Rattle.graph_colours.specs.Movers.{AreBelow};
 ghost use Rattle.graph_colours.specs.Members.{has_id};
-ghost use Rattle.sleep_wake.specs.Acting.{acting, are_awake, AreMovers, IsSettled};
-ghost use Rattle.sleep_wake.specs.Waking.{movers_woken};
+ghost use Rattle.sleep_wake.specs.Acting.{acting, AreMovers, IsSettled};
 ghost use Rattle.sleep_wake.specs.Changes.{united, parted, begun, ended, each_begun, each_ended, CanBegin, CanEnd, changed, turned, begin_count, IsChange, AreChanges};
 
 use crate::change::Change;
 use crate::gathering::Gathering;
 use crate::ties::Ties;
-use crate::waking::{are_awake, wake_movers};
-use graph_colours::{EditedColours, Id, Member, Movers};
+use crate::waking::wake_movers;
+use graph_colours::{Colours, Id, Member, Movers};
 use islands::Islands;
 
 /// Merges the islands of two movers that get a link.
@@ -40,9 +39,9 @@ fn part(islands: &mut Islands, movers: Movers)
 
 /// A constraint comes whose movers are awake, and takes a colour. There is room for it.
 #[tactic(auto, unfolding(crate::specs::Changes::begun))]
-fn begin<C: Id>(
+pub(crate) fn begin<C: Id>(
     islands: &mut Islands,
-    colours: &mut EditedColours<C>,
+    colours: &mut Colours<C>,
     ties: &mut Ties<C>,
     spare: &mut Vec<Member<C>>,
     member: Member<C>,
@@ -61,14 +60,14 @@ fn begin<C: Id>(
 {
     ties.insert(member, spare);
     unite(islands, member.movers);
-    colours.place(member);
+    let _ = colours.place(member.id, member.movers);
 }
 
 /// A constraint goes, and gives up its colour.
 #[tactic(auto, unfolding(crate::specs::Changes::ended))]
-fn end<C: Id>(
+pub(crate) fn end<C: Id>(
     islands: &mut Islands,
-    colours: &mut EditedColours<C>,
+    colours: &mut Colours<C>,
     ties: &mut Ties<C>,
     spare: &mut Vec<Member<C>>,
     member: Member<C>,
@@ -83,63 +82,13 @@ fn end<C: Id>(
 {
     let _ = ties.remove(member.id, spare);
     part(islands, member.movers);
-    colours.release(member);
+    colours.release_member(member);
 }
 
-/// A constraint comes whose movers are awake, and takes a colour. There is room for it. Nothing is put off.
-pub(crate) fn begin_now<C: Id>(
+/// Constraints come whose movers are awake, one after the other.
+pub(crate) fn begin_each<C: Id>(
     islands: &mut Islands,
-    colours: &mut EditedColours<C>,
-    ties: &mut Ties<C>,
-    spare: &mut Vec<Member<C>>,
-    member: Member<C>,
-)
-    requires settled { IsSettled C.number (acting ties.old.items islands.old.labels colours.old.lists) }
-    requires fresh { has_id C.number member.id ties.old.items ≡ false }
-    requires movers { AreMovers islands.old.labels member.movers }
-    requires ties_room { length ties.old.items < ties.old.capacity }
-    requires below { AreBelow colours.old.slots member.movers }
-    requires colours_room { 1 ≤ colours.old.room }
-    ensures begun { acting ties.new.items islands.new.labels colours.new.lists ≡ begun C.number member (acting ties.old.items islands.old.labels colours.old.lists) }
-    ensures capacity { ties.old.capacity ≤ ties.new.capacity }
-    ensures islands_room { islands.new.room ≡ islands.old.room }
-    ensures slots { colours.new.slots ≡ colours.old.slots }
-    ensures room { colours.new.room + length (all_members colours.new.lists) ≡ colours.old.room + length (all_members colours.old.lists) }
-    ensures ties_settled { ties.new.pending ≡ 0 }
-    ensures colours_settled { colours.new.pending ≡ 0 }
-{
-    begin(islands, colours, ties, spare, member);
-    ties.settle(spare);
-    colours.settle();
-}
-
-/// A constraint goes, and gives up its colour. Nothing is put off.
-pub(crate) fn end_now<C: Id>(
-    islands: &mut Islands,
-    colours: &mut EditedColours<C>,
-    ties: &mut Ties<C>,
-    spare: &mut Vec<Member<C>>,
-    member: Member<C>,
-)
-    requires settled { IsSettled C.number (acting ties.old.items islands.old.labels colours.old.lists) }
-    requires there { Contains ties.old.items member }
-    ensures ended { acting ties.new.items islands.new.labels colours.new.lists ≡ ended C.number member (acting ties.old.items islands.old.labels colours.old.lists) }
-    ensures capacity { ties.old.capacity ≤ ties.new.capacity }
-    ensures islands_room { islands.new.room ≡ islands.old.room }
-    ensures slots { colours.new.slots ≡ colours.old.slots }
-    ensures room { colours.new.room + length (all_members colours.new.lists) ≡ colours.old.room + length (all_members colours.old.lists) }
-    ensures ties_settled { ties.new.pending ≡ 0 }
-    ensures colours_settled { colours.new.pending ≡ 0 }
-{
-    end(islands, colours, ties, spare, member);
-    ties.settle(spare);
-    colours.settle();
-}
-
-/// Constraints come whose movers are awake, one after the other. What can be is put off.
-fn begin_each<C: Id>(
-    islands: &mut Islands,
-    colours: &mut EditedColours<C>,
+    colours: &mut Colours<C>,
     ties: &mut Ties<C>,
     spare: &mut Vec<Member<C>>,
     members: &[Member<C>],
@@ -160,10 +109,10 @@ fn begin_each<C: Id>(
     }
 }
 
-/// Constraints go whose movers are awake, one after the other. What can be is put off.
-fn end_each<C: Id>(
+/// Constraints go whose movers are awake, one after the other.
+pub(crate) fn end_each<C: Id>(
     islands: &mut Islands,
-    colours: &mut EditedColours<C>,
+    colours: &mut Colours<C>,
     ties: &mut Ties<C>,
     spare: &mut Vec<Member<C>>,
     members: &[Member<C>],
@@ -181,88 +130,10 @@ fn end_each<C: Id>(
     }
 }
 
-/// Constraints come whose movers are awake, one after the other. Nothing is put off then.
-pub(crate) fn begin_each_now<C: Id>(
-    islands: &mut Islands,
-    colours: &mut EditedColours<C>,
-    ties: &mut Ties<C>,
-    spare: &mut Vec<Member<C>>,
-    members: &[Member<C>],
-)
-    requires settled { IsSettled C.number (acting ties.old.items islands.old.labels colours.old.lists) }
-    requires can { CanBegin C.number members.now (acting ties.old.items islands.old.labels colours.old.lists) }
-    requires below { length islands.old.labels ≤ colours.old.slots }
-    requires ties_room { length ties.old.items + length members.now ≤ ties.old.capacity }
-    requires room { length ties.old.items + length members.now ≤ colours.old.room + length (all_members colours.old.lists) }
-    ensures begun { acting ties.new.items islands.new.labels colours.new.lists ≡ each_begun C.number members.now (acting ties.old.items islands.old.labels colours.old.lists) }
-    ensures capacity { ties.old.capacity ≤ ties.new.capacity }
-    ensures islands_room { islands.new.room ≡ islands.old.room }
-    ensures slots { colours.new.slots ≡ colours.old.slots }
-    ensures room { colours.new.room + length (all_members colours.new.lists) ≡ colours.old.room + length (all_members colours.old.lists) }
-    ensures ties_settled { ties.new.pending ≡ 0 }
-    ensures colours_settled { colours.new.pending ≡ 0 }
-{
-    begin_each(islands, colours, ties, spare, members);
-    ties.settle(spare);
-    colours.settle();
-}
-
-/// Constraints go whose movers are awake, one after the other. Nothing is put off then.
-pub(crate) fn end_each_now<C: Id>(
-    islands: &mut Islands,
-    colours: &mut EditedColours<C>,
-    ties: &mut Ties<C>,
-    spare: &mut Vec<Member<C>>,
-    members: &[Member<C>],
-)
-    requires settled { IsSettled C.number (acting ties.old.items islands.old.labels colours.old.lists) }
-    requires can { CanEnd C.number members.now (acting ties.old.items islands.old.labels colours.old.lists) }
-    ensures ended { acting ties.new.items islands.new.labels colours.new.lists ≡ each_ended C.number members.now (acting ties.old.items islands.old.labels colours.old.lists) }
-    ensures capacity { ties.old.capacity ≤ ties.new.capacity }
-    ensures islands_room { islands.new.room ≡ islands.old.room }
-    ensures slots { colours.new.slots ≡ colours.old.slots }
-    ensures room { colours.new.room + length (all_members colours.new.lists) ≡ colours.old.room + length (all_members colours.old.lists) }
-    ensures ties_settled { ties.new.pending ≡ 0 }
-    ensures colours_settled { colours.new.pending ≡ 0 }
-{
-    end_each(islands, colours, ties, spare, members);
-    ties.settle(spare);
-    colours.settle();
-}
-
-/// Wakes the islands of a constraint's movers, if one of them sleeps. The ties are settled then, since all of them are looked at.
-fn wake_for<C: Id>(
-    islands: &mut Islands,
-    colours: &mut EditedColours<C>,
-    ties: &mut Ties<C>,
-    spare: &mut Vec<Member<C>>,
-    gathering: &mut Gathering<C>,
-    movers: Movers,
-)
-    requires settled { IsSettled C.number (acting ties.old.items islands.old.labels colours.old.lists) }
-    requires below { length islands.old.labels ≤ colours.old.slots }
-    requires gathering_ties { length ties.old.items ≤ gathering.old.ties }
-    requires gathering_slots { length islands.old.labels ≤ gathering.old.slots }
-    requires room { length ties.old.items ≤ colours.old.room + length (all_members colours.old.lists) }
-    ensures woken { acting ties.new.items islands.new.labels colours.new.lists ≡ movers_woken C.number movers (acting ties.old.items islands.old.labels colours.old.lists) }
-    ensures capacity { ties.old.capacity ≤ ties.new.capacity }
-    ensures gathering_ties { gathering.old.ties ≤ gathering.new.ties }
-    ensures gathering_slots { gathering.old.slots ≤ gathering.new.slots }
-    ensures islands_room { islands.new.room ≡ islands.old.room }
-    ensures slots { colours.new.slots ≡ colours.old.slots }
-    ensures room { colours.new.room + length (all_members colours.new.lists) ≡ colours.old.room + length (all_members colours.old.lists) }
-{
-    if are_awake(islands, movers) {
-        return;
-    }
-    ties.settle(spare);
-    wake_movers(islands, colours, ties, gathering, movers);
-}
-
 /// A constraint begins whose movers wake before, if they sleep.
 fn begin_awake<C: Id>(
     islands: &mut Islands,
-    colours: &mut EditedColours<C>,
+    colours: &mut Colours<C>,
     ties: &mut Ties<C>,
     spare: &mut Vec<Member<C>>,
     gathering: &mut Gathering<C>,
@@ -283,14 +154,14 @@ fn begin_awake<C: Id>(
     ensures slots { colours.new.slots ≡ colours.old.slots }
     ensures room { colours.new.room + length (all_members colours.new.lists) ≡ colours.old.room + length (all_members colours.old.lists) }
 {
-    wake_for(islands, colours, ties, spare, gathering, member.movers);
+    wake_movers(islands, colours, ties, gathering, member.movers);
     begin(islands, colours, ties, spare, member);
 }
 
 /// A constraint ends whose movers wake before, if they sleep.
 fn end_awake<C: Id>(
     islands: &mut Islands,
-    colours: &mut EditedColours<C>,
+    colours: &mut Colours<C>,
     ties: &mut Ties<C>,
     spare: &mut Vec<Member<C>>,
     gathering: &mut Gathering<C>,
@@ -310,14 +181,14 @@ fn end_awake<C: Id>(
     ensures slots { colours.new.slots ≡ colours.old.slots }
     ensures room { colours.new.room + length (all_members colours.new.lists) ≡ colours.old.room + length (all_members colours.old.lists) }
 {
-    wake_for(islands, colours, ties, spare, gathering, member.movers);
+    wake_movers(islands, colours, ties, gathering, member.movers);
     end(islands, colours, ties, spare, member);
 }
 
 /// A constraint begins or ends, and its sleeping movers wake before.
 fn change<C: Id>(
     islands: &mut Islands,
-    colours: &mut EditedColours<C>,
+    colours: &mut Colours<C>,
     ties: &mut Ties<C>,
     spare: &mut Vec<Member<C>>,
     gathering: &mut Gathering<C>,
@@ -344,10 +215,10 @@ fn change<C: Id>(
     }
 }
 
-/// Constraints begin and end, each at its turn. What can be is put off until somebody wakes.
-fn turn<C: Id>(
+/// Constraints begin and end, each at its turn.
+pub(crate) fn turn<C: Id>(
     islands: &mut Islands,
-    colours: &mut EditedColours<C>,
+    colours: &mut Colours<C>,
     ties: &mut Ties<C>,
     spare: &mut Vec<Member<C>>,
     gathering: &mut Gathering<C>,
@@ -371,35 +242,4 @@ fn turn<C: Id>(
     for place in 0..changes.len() {
         change(islands, colours, ties, spare, gathering, changes[place]);
     }
-}
-
-/// Constraints begin and end, each at its turn. Nothing is put off then.
-pub(crate) fn turn_now<C: Id>(
-    islands: &mut Islands,
-    colours: &mut EditedColours<C>,
-    ties: &mut Ties<C>,
-    spare: &mut Vec<Member<C>>,
-    gathering: &mut Gathering<C>,
-    changes: &[Change<C>],
-)
-    requires settled { IsSettled C.number (acting ties.old.items islands.old.labels colours.old.lists) }
-    requires can { AreChanges C.number islands.old.labels ties.old.items changes.now }
-    requires below { length islands.old.labels ≤ colours.old.slots }
-    requires gathering_ties { length ties.old.items + begin_count changes.now ≤ gathering.old.ties }
-    requires gathering_slots { length islands.old.labels ≤ gathering.old.slots }
-    requires ties_room { length ties.old.items + begin_count changes.now ≤ ties.old.capacity }
-    requires room { length ties.old.items + begin_count changes.now ≤ colours.old.room + length (all_members colours.old.lists) }
-    ensures turned { acting ties.new.items islands.new.labels colours.new.lists ≡ turned C.number changes.now (acting ties.old.items islands.old.labels colours.old.lists) }
-    ensures capacity { ties.old.capacity ≤ ties.new.capacity }
-    ensures gathering_ties { gathering.old.ties ≤ gathering.new.ties }
-    ensures gathering_slots { gathering.old.slots ≤ gathering.new.slots }
-    ensures islands_room { islands.new.room ≡ islands.old.room }
-    ensures slots { colours.new.slots ≡ colours.old.slots }
-    ensures room { colours.new.room + length (all_members colours.new.lists) ≡ colours.old.room + length (all_members colours.old.lists) }
-    ensures ties_settled { ties.new.pending ≡ 0 }
-    ensures colours_settled { colours.new.pending ≡ 0 }
-{
-    turn(islands, colours, ties, spare, gathering, changes);
-    ties.settle(spare);
-    colours.settle();
 }

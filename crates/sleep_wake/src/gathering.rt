@@ -112,30 +112,31 @@ fn list_firsts_in_order<C: Id>(list: &mut Vec<Member<C>>, lists: &[Vec<Member<C>
     list.sort_unstable_by_key(|tie| tie.id.number());
 }
 
-/// Lists the constraints of an island, ascending, from those of its movers where these are few, and else by a pass over all. Both its movers are in the
-/// island, so that it is enough to take each constraint with its first one. There is room for all constraints and for the movers of all slots.
+/// Lists the constraints of an island, ascending, from those of its movers where these are few, and else by a pass over all, unless edits of all are put
+/// off. Both its movers are in the island, so that it is enough to take each constraint with its first one. There is room for all constraints and for the
+/// movers of all slots.
 fn list_from_movers<C: Id>(
     list: &mut Vec<Member<C>>,
     members: &mut Vec<u32>,
     islands: &Islands,
-    ties: &[Member<C>],
+    ties: &Ties<C>,
     lists: &[Vec<Member<C>>],
     name: u32,
 )
-    requires rising { AreRising C.number ties.now }
-    requires islands { AreIslands (Linked (links_of ties.now)) islands.now.labels }
-    requires by_mover { AreByMover ties.now (members_of lists.now) }
-    requires room { length ties.now ≤ vec_capacity list.old }
+    requires rising { AreRising C.number ties.now.items }
+    requires islands { AreIslands (Linked (links_of ties.now.items)) islands.now.labels }
+    requires by_mover { AreByMover ties.now.items (members_of lists.now) }
+    requires room { length ties.now.items ≤ vec_capacity list.old }
     requires slots { length islands.now.labels ≤ vec_capacity members.old }
-    ensures items { list.new.items ≡ filter (has_mover_of islands.now.labels name) ties.now }
+    ensures items { list.new.items ≡ filter (has_mover_of islands.now.labels name) ties.now.items }
     ensures capacity { vec_capacity list.old ≤ vec_capacity list.new }
     ensures members_capacity { vec_capacity members.old ≤ vec_capacity members.new }
 {
     islands.fill_members(name, members);
-    if members.len() < ties.len() / TIES_A_MOVER {
+    if members.len() < ties.len() / TIES_A_MOVER || !ties.is_settled() {
         list_firsts_in_order(list, lists, members);
     } else {
-        list_from_all(list, islands, ties, name);
+        list_from_all(list, islands, ties.as_slice(), name);
     }
 }
 
@@ -190,7 +191,6 @@ impl<C: Id> Gathering<C> {
 
     /// Gathers the constraints of an island, ascending. Takes time by the island's size where the constraints of its movers are at hand, and no memory.
     pub(crate) fn gather(&mut self, islands: &Islands, ties: &Ties<C>, name: u32)
-        requires settled { ties.now.pending ≡ 0 }
         requires islands { AreIslands (Linked (links_of ties.now.items)) islands.now.labels }
         requires room { length ties.now.items ≤ self.old.ties }
         requires slots { length islands.now.labels ≤ self.old.slots }
@@ -198,17 +198,16 @@ impl<C: Id> Gathering<C> {
         ensures ties { self.old.ties ≤ self.new.ties }
         ensures slots { self.old.slots ≤ self.new.slots }
     {
-        let all = ties.as_slice();
         match ties.by_mover() {
             Some(lists) => list_from_movers(
                 &mut self.list,
                 &mut self.members,
                 islands,
-                all,
+                ties,
                 lists,
                 name,
             ),
-            None => list_from_all(&mut self.list, islands, all, name),
+            None => list_from_all(&mut self.list, islands, ties.as_slice(), name),
         }
     }
 }

@@ -7,7 +7,7 @@ ghost use Rattle.graph_colours.specs.Colours.{all_members};
 use crate::gathering::Gathering;
 use crate::ties::Ties;
 use fixed_geom::Refusal;
-use graph_colours::{EditedColours, Id, Member};
+use graph_colours::{Colours, Id, Member};
 use islands::{Islands, SplitScratch};
 
 /// Makes room for that many more constraints, and for movers in slots below `slots`, and answers for how many constraints
@@ -15,7 +15,7 @@ use islands::{Islands, SplitScratch};
 pub(crate) fn grow<C: Id>(
     ties: &mut Ties<C>,
     spare: &mut Vec<Member<C>>,
-    colours: &mut EditedColours<C>,
+    colours: &mut Colours<C>,
     islands: &mut Islands,
     edges: &mut Vec<(u32, u32)>,
     scratch: &mut SplitScratch,
@@ -24,16 +24,13 @@ pub(crate) fn grow<C: Id>(
     constraints: usize,
     slots: usize,
 ) -> Result<usize, Refusal>
-    requires settled { ties.old.pending ≡ 0 }
-    requires colours_settled { colours.old.pending ≡ 0 }
     ensures value { IfOk result (λ room. room ≡ length ties.old.items + constraints) }
     ensures ties { ties.new.items ≡ ties.old.items }
     ensures lists { colours.new.lists ≡ colours.old.lists }
     ensures labels { islands.new.labels ≡ islands.old.labels }
     ensures ties_kept { ties.old.capacity ≤ ties.new.capacity }
     ensures ties_made { IfOk result (λ room. room ≤ ties.new.capacity) }
-    ensures ties_settled { ties.new.pending ≡ 0 }
-    ensures colours_settled { colours.new.pending ≡ 0 }
+    ensures colours_pending { colours.new.pending ≡ colours.old.pending }
     ensures colours_kept { colours.old.room ≤ colours.new.room }
     ensures colours_made { IfOk result (λ room. room ≤ colours.new.room + length (all_members colours.new.lists)) }
     ensures colour_slots_kept { colours.old.slots ≤ colours.new.slots }
@@ -54,13 +51,13 @@ pub(crate) fn grow<C: Id>(
     ensures leasts_made { OnOk result (slots ≤ vec_capacity leasts.new) }
     ensures memory_only { IsOkUnless result Refusal.NoMemory }
 {
-    let Some(room) = ties.as_slice().len().checked_add(constraints) else {
+    let Some(room) = ties.len().checked_add(constraints) else {
         return Err(Refusal::NoMemory);
     };
     ties.reserve(room)?;
     spare.clear();
     spare.reserve(room)?;
-    colours.reserve(room - colours.colours().count().min(room), slots)?;
+    colours.reserve(room - colours.count().min(room), slots)?;
     islands.reserve(slots)?;
     edges.clear();
     edges.reserve(room)?;

@@ -10,7 +10,8 @@ ghost use Rattle.sleep_wake.specs.Resting.{least_at, is_to_rest};
 ghost use Rattle.sleep_wake.specs.Rooms.{OwnMovers};
 
 use crate::phase::{are_resting, list_leasts, rest_each};
-use graph_colours::{Colours, EditedColours, Id, Member, OVERFLOW};
+use crate::ties::Ties;
+use graph_colours::{Colours, Id, Member, OVERFLOW};
 use islands::Islands;
 
 // ---- the constraints of what falls asleep
@@ -51,6 +52,7 @@ fn list_resting<C: Id>(
     leasts: &[Option<u64>],
     colours: &Colours<C>,
 ) -> bool
+    requires { colours.now.pending ≡ 0 }
     ensures { result ≡ true → listed.new.items ≡ filter (is_to_rest (least_at leasts.now) islands.now.labels) (all_members colours.now.lists) }
 {
     listed.clear();
@@ -64,24 +66,22 @@ fn list_resting<C: Id>(
 }
 
 /// Takes the colours of these constraints.
-fn release_each<C: Id>(colours: &mut EditedColours<C>, members: &[Member<C>])
+fn release_each<C: Id>(colours: &mut Colours<C>, members: &[Member<C>])
     requires own { OwnMovers C.number members.now colours.old.lists }
     ensures lists { colours.new.lists ≡ released_all C.number colours.old.lists members.now }
     ensures slots { colours.new.slots ≡ colours.old.slots }
     ensures room { colours.new.room + length (all_members colours.new.lists) ≡ colours.old.room + length (all_members colours.old.lists) }
-    ensures pending { colours.new.pending ≡ 0 }
 {
     for place in 0..members.len() {
         let member = members[place];
-        colours.release(member);
+        colours.release_member(member);
     }
-    colours.settle();
 }
 
 /// Takes the colours of those of the ties that have a mover in an island that is ready.
 fn release_among<C: Id>(
     islands: &Islands,
-    colours: &mut EditedColours<C>,
+    colours: &mut Colours<C>,
     ties: &[Member<C>],
     leasts: &[Option<u64>],
 )
@@ -89,37 +89,37 @@ fn release_among<C: Id>(
     ensures lists { colours.new.lists ≡ released_all C.number colours.old.lists (filter (is_to_rest (least_at leasts.now) islands.now.labels) ties.now) }
     ensures slots { colours.new.slots ≡ colours.old.slots }
     ensures room { colours.new.room + length (all_members colours.new.lists) ≡ colours.old.room + length (all_members colours.old.lists) }
-    ensures pending { colours.new.pending ≡ 0 }
 {
     for place in 0..ties.len() {
         let tie = ties[place];
         if are_resting(islands, leasts, tie.movers) {
-            colours.release(tie);
+            colours.release_member(tie);
         }
     }
-    colours.settle();
 }
 
 /// Takes the colours of the constraints of all whole islands that are ready. They are looked for among those that act, since these islands are awake;
 /// among all ties only where the list has no room for them.
 fn release_resting<C: Id>(
     islands: &Islands,
-    colours: &mut EditedColours<C>,
-    ties: &[Member<C>],
+    colours: &mut Colours<C>,
+    ties: &mut Ties<C>,
     leasts: &[Option<u64>],
     listed: &mut Vec<Member<C>>,
 )
-    requires settled { IsSettled C.number (acting ties.now islands.now.labels colours.old.lists) }
+    requires settled { IsSettled C.number (acting ties.old.items islands.now.labels colours.old.lists) }
     requires pending { colours.old.pending ≡ 0 }
-    ensures lists { colours.new.lists ≡ released_all C.number colours.old.lists (filter (is_to_rest (least_at leasts.now) islands.now.labels) ties.now) }
+    ensures ties { ties.new.items ≡ ties.old.items }
+    ensures ties_capacity { ties.old.capacity ≤ ties.new.capacity }
+    ensures lists { colours.new.lists ≡ released_all C.number colours.old.lists (filter (is_to_rest (least_at leasts.now) islands.now.labels) ties.old.items) }
     ensures slots { colours.new.slots ≡ colours.old.slots }
     ensures room { colours.new.room + length (all_members colours.new.lists) ≡ colours.old.room + length (all_members colours.old.lists) }
-    ensures pending { colours.new.pending ≡ 0 }
 {
-    if list_resting(listed, islands, leasts, colours.colours()) {
+    if list_resting(listed, islands, leasts, colours) {
         release_each(colours, listed);
     } else {
-        release_among(islands, colours, ties, leasts);
+        ties.settle(listed);
+        release_among(islands, colours, ties.as_slice(), leasts);
     }
 }
 
@@ -129,22 +129,22 @@ fn release_resting<C: Id>(
 /// takes time by the awake movers, whose slots are told, and by the constraints that act. There is room for the least timers.
 pub(crate) fn rest_ready<C: Id>(
     islands: &mut Islands,
-    colours: &mut EditedColours<C>,
-    ties: &[Member<C>],
+    colours: &mut Colours<C>,
+    ties: &mut Ties<C>,
     timers: &[u64],
     awake: &[u32],
     leasts: &mut Vec<Option<u64>>,
     listed: &mut Vec<Member<C>>,
 )
-    requires settled { IsSettled C.number (acting ties.now islands.old.labels colours.old.lists) }
+    requires settled { IsSettled C.number (acting ties.old.items islands.old.labels colours.old.lists) }
     requires pending { colours.old.pending ≡ 0 }
     requires leasts { length islands.old.labels ≤ vec_capacity leasts.old }
     requires awake { AreAwakeSlots islands.old.labels awake.now }
-    ensures at_rest { acting ties.now islands.new.labels colours.new.lists ≡ ready_put_to_rest C.number timers.now (acting ties.now islands.old.labels colours.old.lists) }
+    ensures ties_capacity { ties.old.capacity ≤ ties.new.capacity }
+    ensures at_rest { acting ties.new.items islands.new.labels colours.new.lists ≡ ready_put_to_rest C.number timers.now (acting ties.old.items islands.old.labels colours.old.lists) }
     ensures islands_room { islands.new.room ≡ islands.old.room }
     ensures slots { colours.new.slots ≡ colours.old.slots }
     ensures room { colours.new.room + length (all_members colours.new.lists) ≡ colours.old.room + length (all_members colours.old.lists) }
-    ensures pending { colours.new.pending ≡ 0 }
     ensures capacity { vec_capacity leasts.old ≤ vec_capacity leasts.new }
 {
     list_leasts(leasts, islands, timers, awake);

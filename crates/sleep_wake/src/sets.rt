@@ -6,7 +6,7 @@ ghost use Rattle.std.specs.Prelude.{◌≡◌, ◌<◌, ◌≤◌, ◌+◌, ◌�
 ghost use Rattle.std.specs.Result.{IsOkUnless};
 ghost use Rattle.graph_colours.specs.declared.limits.TheConstants.{COLOURS};
 ghost use Rattle.graph_colours.specs.declared.member.Member.{Member as TheMember};
-ghost use Rattle.graph_colours.specs.Members.{has_id};
+ghost use Rattle.graph_colours.specs.Members.{AreRising, has_id, with_number};
 ghost use Rattle.graph_colours.specs.Movers.{has_mover};
 ghost use Rattle.islands.specs.Labels.{label_at};
 ghost use Rattle.sleep_wake.specs.Acting.{acting, is_awake, are_awake, AreMovers, IsSettled};
@@ -19,7 +19,7 @@ ghost use Rattle.sleep_wake.specs.AwakeSlots.{AreAwakeSlots, AgreeAwake};
 ghost use Rattle.sleep_wake.specs.Sleeping.{names_of, is_whole, islands_woken, split_if_loose, rested_at, slept_at};
 
 use crate::change::Change;
-use crate::changing::{begin_each_now, begin_now, end_each_now, end_now, turn_now};
+use crate::changing::{begin, begin_each, end, end_each, turn};
 use crate::gathering::Gathering;
 use crate::growing::grow;
 use crate::listing::list_awake;
@@ -30,20 +30,22 @@ use crate::splits::split_set;
 use crate::ties::Ties;
 use crate::waking::{are_awake, fall_asleep, is_awake, wake_movers, wake_set};
 use fixed_geom::Refusal;
-use graph_colours::{Colours, EditedColours, Id, Member, Movers, member};
+use graph_colours::{Colours, Id, Member, Movers};
 use islands::{Islands, Label, SplitScratch};
 use std::alloc::Global;
 use std::marker::Model;
 
 /// All constraints between movers, awake or asleep, with the islands of the movers and the colours of the constraints
-/// that act. Contracts see these three (`acting`), how many constraints may stand with no memory, those that do counted
-/// (`room`), and the bound below which a mover's slot must be (`slots`). Only `new`, `try_copy`, `reserve`, `names_of`,
-/// `ties_of` and `awake_slots` can be refused memory.
+/// that act. What changes in lists of constraints may be put off, so that it doesn't cost by how many there are. Contracts see
+/// these three once all is done (`acting`), how many constraints may stand with no memory, those that do counted (`room`), the
+/// bound below which a mover's slot must be (`slots`), and whether edits of the colours may be put off until
+/// [`Sets::settle`] (`pending`): if it is 0, none is. Only `new`, `try_copy`, `reserve`, `names_of`, `ties_of`, `list_ties` and
+/// `awake_slots` can be refused memory.
 #[derive(Drop)]
 pub struct Sets<C: Id> {
     // Ascending by number.
     ties: Ties<C>,
-    colours: EditedColours<C>,
+    colours: Colours<C>,
     islands: Islands,
     // Where ties lie while their list is edited.
     spare: Vec<Member<C>>,
@@ -65,9 +67,9 @@ impl<C: Id> Model for Sets<C> {
 
     ghost Value = { Standing C };
 
-    ghost view = { λ a. record { acting = acting a.ties.items a.islands.labels a.colours.lists; room = a.room; slots = a.slots } };
+    ghost view = { λ a. record { acting = acting a.ties.items a.islands.labels a.colours.lists; room = a.room; slots = a.slots; pending = a.colours.pending } };
 
-    ghost invariant = { λ a. IsStanding C.number (acting a.ties.items a.islands.labels a.colours.lists) a.room a.slots (record { ties = a.ties.capacity; colours = a.colours.room; colour_slots = a.colours.slots; islands = a.islands.room; edges = vec_capacity a.edges; scratch_slots = a.scratch.slots; links = a.scratch.links; gathering_ties = a.gathering.ties; gathering_slots = a.gathering.slots; leasts = vec_capacity a.leasts; ties_pending = a.ties.pending; colours_pending = a.colours.pending }) };
+    ghost invariant = { λ a. IsStanding C.number (acting a.ties.items a.islands.labels a.colours.lists) a.room a.slots (record { ties = a.ties.capacity; colours = a.colours.room; colour_slots = a.colours.slots; islands = a.islands.room; edges = vec_capacity a.edges; scratch_slots = a.scratch.slots; links = a.scratch.links; gathering_ties = a.gathering.ties; gathering_slots = a.gathering.slots; leasts = vec_capacity a.leasts }) };
 }
 
 impl<C: Id> Sets<C> {
@@ -76,11 +78,12 @@ impl<C: Id> Sets<C> {
         ensures acting { IfOk result (λ made. made.acting ≡ acting [] [] (replicate (COLOURS + 1) [])) }
         ensures room { IfOk result (λ made. made.room ≡ 0) }
         ensures slots { IfOk result (λ made. made.slots ≡ 0) }
+        ensures pending { IfOk result (λ made. made.pending ≡ 0) }
         ensures memory_only { IsOkUnless result Refusal.NoMemory }
     {
         Ok(Sets {
             ties: Ties::new(alloc),
-            colours: EditedColours::new(alloc, Colours::new(alloc)?),
+            colours: Colours::new(alloc)?,
             islands: Islands::new(alloc),
             spare: Vec::new(alloc),
             edges: Vec::new(alloc),
@@ -97,11 +100,12 @@ impl<C: Id> Sets<C> {
         ensures acting { IfOk result (λ copied. copied.acting ≡ self.now.acting) }
         ensures room { IfOk result (λ copied. copied.room ≡ length self.now.acting.ties) }
         ensures slots { IfOk result (λ copied. copied.slots ≡ self.now.slots) }
+        ensures pending { IfOk result (λ copied. copied.pending ≡ 0) }
         ensures memory_only { IsOkUnless result Refusal.NoMemory }
     {
         let alloc = *self.spare.allocator();
-        let mut ties = Ties::from_members(alloc, self.ties.as_slice())?;
-        let mut colours = EditedColours::new(alloc, self.colours.colours().try_copy()?);
+        let mut ties = self.ties.try_copy(alloc)?;
+        let mut colours = self.colours.try_copy()?;
         let mut spare = Vec::new(alloc);
         let mut islands = self.islands.try_copy()?;
         let mut edges = Vec::new(alloc);
@@ -141,6 +145,7 @@ impl<C: Id> Sets<C> {
         ensures acting { self.new.acting ≡ self.old.acting }
         ensures room { self.old.room ≤ self.new.room }
         ensures slots { self.old.slots ≤ self.new.slots }
+        ensures pending { self.new.pending ≡ self.old.pending }
         ensures refused { OnErr result (self.new ≡ self.old) }
         ensures memory_only { IsOkUnless result Refusal.NoMemory }
     {
@@ -164,13 +169,29 @@ impl<C: Id> Sets<C> {
 
     // ---- what there is
 
-    /// All constraints, whether their movers are awake or asleep, ascending by number.
-    pub fn ties(&self) -> &[Member<C>]
-        ensures value { result.now ≡ self.now.acting.ties }
+    /// How many constraints there are, whether their movers are awake or asleep.
+    pub fn tie_count(&self) -> usize
+        ensures value { result ≡ length self.now.acting.ties }
         ensures settled { IsSettled C.number self.now.acting }
         ensures enough { length self.now.acting.ties ≤ self.now.room }
     {
-        self.ties.as_slice()
+        self.ties.len()
+    }
+
+    /// The constraint whose id has this number.
+    pub fn tie_with(&self, number: u128) -> Option<Member<C>>
+        ensures { result ≡ with_number C.number number self.now.acting.ties }
+    {
+        self.ties.with_number(number)
+    }
+
+    /// All constraints, ascending by number. Refused 1 where memory is wanting.
+    pub fn list_ties(&self) -> Result<Vec<Member<C>>, Refusal>
+        ensures items { IfOk result (λ ties. ties.items ≡ self.now.acting.ties) }
+        ensures rising { IfOk result (λ ties. AreRising C.number ties.items) }
+        ensures memory_only { IsOkUnless result Refusal.NoMemory }
+    {
+        self.ties.to_members(*self.spare.allocator())
     }
 
     /// The constraints of the mover in the slot, ascending. Refused 1 where memory is wanting.
@@ -181,18 +202,29 @@ impl<C: Id> Sets<C> {
         self.ties.ties_of(*self.spare.allocator(), slot)
     }
 
-    /// What holds of all sets: a law, for loops over their calls.
-    fn settled(&self)
+    /// What holds of all sets: a law.
+    pub fn settled(&self)
         ensures { IsSettled C.number self.now.acting }
     {
-        let _ = self.ties();
+        let _ = self.tie_count();
     }
 
     /// The colours of the constraints that act.
     pub fn colours(&self) -> &Colours<C>
-        ensures { result.now.lists ≡ self.now.acting.lists }
+        ensures lists { result.now.lists ≡ self.now.acting.lists }
+        ensures pending { result.now.pending ≡ self.now.pending }
     {
-        self.colours.colours()
+        &self.colours
+    }
+
+    /// Makes the edits of the colours that were put off. It costs nothing where none is.
+    pub fn settle(&mut self)
+        ensures acting { self.new.acting ≡ self.old.acting }
+        ensures room { self.new.room ≡ self.old.room }
+        ensures slots { self.new.slots ≡ self.old.slots }
+        ensures pending { self.new.pending ≡ 0 }
+    {
+        self.colours.settle();
     }
 
     /// The islands of the movers.
@@ -235,7 +267,7 @@ impl<C: Id> Sets<C> {
     pub fn has(&self, id: C) -> bool
         ensures { result ≡ has_id C.number id self.now.acting.ties }
     {
-        member::has_id(self.ties.as_slice(), id)
+        self.ties.has_id(id)
     }
 
     /// The names of the sleeping islands of the movers in these slots, ascending and each once. Refused 1 where memory is
@@ -345,7 +377,7 @@ impl<C: Id> Sets<C> {
         ensures room { self.new.room ≡ self.old.room }
         ensures slots { self.new.slots ≡ self.old.slots }
     {
-        begin_now(
+        begin(
             &mut self.islands,
             &mut self.colours,
             &mut self.ties,
@@ -362,7 +394,7 @@ impl<C: Id> Sets<C> {
         ensures room { self.new.room ≡ self.old.room }
         ensures slots { self.new.slots ≡ self.old.slots }
     {
-        end_now(
+        end(
             &mut self.islands,
             &mut self.colours,
             &mut self.ties,
@@ -379,7 +411,7 @@ impl<C: Id> Sets<C> {
         ensures room { self.new.room ≡ self.old.room }
         ensures slots { self.new.slots ≡ self.old.slots }
     {
-        begin_each_now(
+        begin_each(
             &mut self.islands,
             &mut self.colours,
             &mut self.ties,
@@ -395,7 +427,7 @@ impl<C: Id> Sets<C> {
         ensures room { self.new.room ≡ self.old.room }
         ensures slots { self.new.slots ≡ self.old.slots }
     {
-        end_each_now(
+        end_each(
             &mut self.islands,
             &mut self.colours,
             &mut self.ties,
@@ -433,7 +465,7 @@ impl<C: Id> Sets<C> {
         ensures room { self.new.room ≡ self.old.room }
         ensures slots { self.new.slots ≡ self.old.slots }
     {
-        turn_now(
+        turn(
             &mut self.islands,
             &mut self.colours,
             &mut self.ties,
@@ -533,6 +565,7 @@ impl<C: Id> Sets<C> {
     {
         self.settled();
         self.split_ready(timers, awake);
+        self.settle();
         self.rest_ready(timers, awake);
     }
 
@@ -557,9 +590,10 @@ impl<C: Id> Sets<C> {
         pick_split(&mut self.leasts, &self.islands, timers, awake)
     }
 
-    /// Each whole island that is ready falls asleep.
+    /// Each whole island that is ready falls asleep. No edit of the colours is put off.
     fn rest_ready(&mut self, timers: &[u64], awake: &[u32])
         requires awake { AreAwakeSlots self.old.acting.labels awake.now }
+        requires rest { self.old.pending ≡ 0 }
         ensures acting { self.new.acting ≡ ready_put_to_rest C.number timers.now self.old.acting }
         ensures room { self.new.room ≡ self.old.room }
         ensures slots { self.new.slots ≡ self.old.slots }
@@ -567,7 +601,7 @@ impl<C: Id> Sets<C> {
         rest_ready(
             &mut self.islands,
             &mut self.colours,
-            self.ties.as_slice(),
+            &mut self.ties,
             timers,
             awake,
             &mut self.leasts,

@@ -52,7 +52,6 @@ pub(crate) fn split_set<C: Id>(
     scratch: &mut SplitScratch,
 )
     requires islands { AreIslands (Linked (links_of ties.now.items)) islands.old.labels }
-    requires ties_settled { ties.now.pending ≡ 0 }
     requires gathering_ties { length ties.now.items ≤ gathering.old.ties }
     requires gathering_slots { length islands.old.labels ≤ gathering.old.slots }
     requires edges_room { length ties.now.items ≤ vec_capacity edges.old }

@@ -14,7 +14,7 @@ ghost use Rattle.sleep_wake.specs.Rooms.{CanPlace, OwnMovers};
 
 use crate::gathering::Gathering;
 use crate::ties::Ties;
-use graph_colours::{EditedColours, Id, Member, Movers};
+use graph_colours::{Colours, Id, Member, Movers};
 use islands::Islands;
 
 /// Whether the mover in the slot is in the island of this name.
@@ -70,44 +70,40 @@ pub(crate) fn are_in(islands: &Islands, name: u32, movers: Movers) -> bool
 }
 
 /// Gives colours to the constraints of an island, of which none has one, in their order.
-fn place_island<C: Id>(colours: &mut EditedColours<C>, list: &[Member<C>])
+fn place_island<C: Id>(colours: &mut Colours<C>, list: &[Member<C>])
     requires { CanPlace C.number list.now colours.old.lists colours.old.room colours.old.slots }
     ensures lists { colours.new.lists ≡ placed_all C.number colours.old.lists list.now }
     ensures slots { colours.new.slots ≡ colours.old.slots }
     ensures room { colours.new.room + length (all_members colours.new.lists) ≡ colours.old.room + length (all_members colours.old.lists) }
-    ensures pending { colours.new.pending ≡ 0 }
 {
     for place in 0..list.len() {
-        colours.place(list[place]);
+        let member = list[place];
+        let _ = colours.place(member.id, member.movers);
     }
-    colours.settle();
 }
 
 /// Takes the colours of the constraints of an island.
-fn release_island<C: Id>(colours: &mut EditedColours<C>, list: &[Member<C>])
+fn release_island<C: Id>(colours: &mut Colours<C>, list: &[Member<C>])
     requires own { OwnMovers C.number list.now colours.old.lists }
     ensures lists { colours.new.lists ≡ released_all C.number colours.old.lists list.now }
     ensures slots { colours.new.slots ≡ colours.old.slots }
     ensures room { colours.new.room + length (all_members colours.new.lists) ≡ colours.old.room + length (all_members colours.old.lists) }
-    ensures pending { colours.new.pending ≡ 0 }
 {
     for place in 0..list.len() {
-        colours.release(list[place]);
+        colours.release_member(list[place]);
     }
-    colours.settle();
 }
 
 /// Wakes an island that sleeps: its movers are awake, and its constraints have colours.
 fn wake_island<C: Id>(
     islands: &mut Islands,
-    colours: &mut EditedColours<C>,
+    colours: &mut Colours<C>,
     ties: &Ties<C>,
     gathering: &mut Gathering<C>,
     name: u32,
 )
     requires island { IsIn islands.old.labels name name }
     requires places { CanPlace C.number (filter (has_mover_of islands.old.labels name) ties.now.items) colours.old.lists colours.old.room colours.old.slots }
-    requires ties_settled { ties.now.pending ≡ 0 }
     requires islands { AreIslands (Linked (links_of ties.now.items)) islands.old.labels }
     requires gathering_ties { length ties.now.items ≤ gathering.old.ties }
     requires gathering_slots { length islands.old.labels ≤ gathering.old.slots }
@@ -115,7 +111,6 @@ fn wake_island<C: Id>(
     ensures islands_room { islands.new.room ≡ islands.old.room }
     ensures slots { colours.new.slots ≡ colours.old.slots }
     ensures room { colours.new.room + length (all_members colours.new.lists) ≡ colours.old.room + length (all_members colours.old.lists) }
-    ensures pending { colours.new.pending ≡ 0 }
     ensures gathering_ties { gathering.old.ties ≤ gathering.new.ties }
     ensures gathering_slots { gathering.old.slots ≤ gathering.new.slots }
 {
@@ -129,13 +124,12 @@ fn wake_island<C: Id>(
 #[tactic(auto, unfolding(crate::specs::Waking::woken_at))]
 pub(crate) fn wake_set<C: Id>(
     islands: &mut Islands,
-    colours: &mut EditedColours<C>,
+    colours: &mut Colours<C>,
     ties: &Ties<C>,
     gathering: &mut Gathering<C>,
     slot: u32,
 )
     requires settled { IsSettled C.number (acting ties.now.items islands.old.labels colours.old.lists) }
-    requires ties_settled { ties.now.pending ≡ 0 }
     requires below { (m : TheMember C) → Contains ties.now.items m → AreBelow colours.old.slots m.movers }
     requires room { length ties.now.items ≤ colours.old.room + length (all_members colours.old.lists) }
     requires gathering_ties { length ties.now.items ≤ gathering.old.ties }
@@ -144,7 +138,6 @@ pub(crate) fn wake_set<C: Id>(
     ensures islands_room { islands.new.room ≡ islands.old.room }
     ensures slots { colours.new.slots ≡ colours.old.slots }
     ensures room { colours.new.room + length (all_members colours.new.lists) ≡ colours.old.room + length (all_members colours.old.lists) }
-    ensures rest { colours.old.pending ≡ 0 → colours.new.pending ≡ 0 }
     ensures gathering_ties { gathering.old.ties ≤ gathering.new.ties }
     ensures gathering_slots { gathering.old.slots ≤ gathering.new.slots }
 {
@@ -159,13 +152,12 @@ pub(crate) fn wake_set<C: Id>(
 /// there is room for all ties that have no colour.
 pub(crate) fn wake_movers<C: Id>(
     islands: &mut Islands,
-    colours: &mut EditedColours<C>,
+    colours: &mut Colours<C>,
     ties: &Ties<C>,
     gathering: &mut Gathering<C>,
     movers: Movers,
 )
     requires settled { IsSettled C.number (acting ties.now.items islands.old.labels colours.old.lists) }
-    requires ties_settled { ties.now.pending ≡ 0 }
     requires below { (m : TheMember C) → Contains ties.now.items m → AreBelow colours.old.slots m.movers }
     requires room { length ties.now.items ≤ colours.old.room + length (all_members colours.old.lists) }
     requires gathering_ties { length ties.now.items ≤ gathering.old.ties }
@@ -174,7 +166,6 @@ pub(crate) fn wake_movers<C: Id>(
     ensures islands_room { islands.new.room ≡ islands.old.room }
     ensures slots { colours.new.slots ≡ colours.old.slots }
     ensures room { colours.new.room + length (all_members colours.new.lists) ≡ colours.old.room + length (all_members colours.old.lists) }
-    ensures rest { colours.old.pending ≡ 0 → colours.new.pending ≡ 0 }
     ensures gathering_ties { gathering.old.ties ≤ gathering.new.ties }
     ensures gathering_slots { gathering.old.slots ≤ gathering.new.slots }
 {
@@ -187,21 +178,19 @@ pub(crate) fn wake_movers<C: Id>(
 /// Puts an island to rest, and takes the colours of its constraints. Takes no memory.
 pub(crate) fn fall_asleep<C: Id>(
     islands: &mut Islands,
-    colours: &mut EditedColours<C>,
+    colours: &mut Colours<C>,
     ties: &Ties<C>,
     gathering: &mut Gathering<C>,
     name: u32,
 )
     requires island { IsIn islands.old.labels name name }
     requires settled { IsSettled C.number (acting ties.now.items islands.old.labels colours.old.lists) }
-    requires ties_settled { ties.now.pending ≡ 0 }
     requires gathering_ties { length ties.now.items ≤ gathering.old.ties }
     requires gathering_slots { length islands.old.labels ≤ gathering.old.slots }
     ensures at_rest { acting ties.now.items islands.new.labels colours.new.lists ≡ put_to_rest C.number name (acting ties.now.items islands.old.labels colours.old.lists) }
     ensures islands_room { islands.new.room ≡ islands.old.room }
     ensures slots { colours.new.slots ≡ colours.old.slots }
     ensures room { colours.new.room + length (all_members colours.new.lists) ≡ colours.old.room + length (all_members colours.old.lists) }
-    ensures rest { colours.old.pending ≡ 0 → colours.new.pending ≡ 0 }
     ensures gathering_ties { gathering.old.ties ≤ gathering.new.ties }
     ensures gathering_slots { gathering.old.slots ≤ gathering.new.slots }
 {

@@ -98,6 +98,7 @@ fn still_acting(
     joints: &[Option<BodyJoint>],
     colours: &Colours<Constraint>,
 )
+    requires settled { colours.now.pending ≡ 0 }
     ensures { timers.new.items ≡ stilled_lists bodies.now joints.now colours.now.lists timers.old.items }
 {
     for colour in 0..OVERFLOW {
@@ -142,8 +143,8 @@ fn fit(timers: &mut Vec<u64>, slots: usize)
 }
 
 /// Lists by slot, for the awake movers alone, for how many ticks each body has been slow, 0 for one that touches a kinematic body that
-/// moves or is joined to one: such a body keeps its island awake. Which those are is told by the constraints that act. The entries of
-/// other slots mean nothing. There is room for as many timers as there are slots.
+/// moves or is joined to one: such a body keeps its island awake. Which those are is told by the constraints that act, whose colours are
+/// settled. The entries of other slots mean nothing. There is room for as many timers as there are slots.
 pub fn fill_awake_timers(
     timers: &mut Vec<u64>,
     bodies: &[Option<Body>],
@@ -151,7 +152,8 @@ pub fn fill_awake_timers(
     joints: &[Option<BodyJoint>],
     colours: &Colours<Constraint>,
 )
-    requires { length bodies.now ≤ vec_capacity timers.old }
+    requires room { length bodies.now ≤ vec_capacity timers.old }
+    requires settled { colours.now.pending ≡ 0 }
     ensures size { length timers.new.items ≡ length bodies.now }
     ensures same { (labels : Labels) (contacts : List ContactEntry) → TellMoving bodies.now joints.now contacts labels colours.now.lists → (slot : ℕ) → is_awake labels slot ≡ true → Contains awake.now slot → slice_index_or timers.new.items slot 0 ≡ slice_index_or (timers_of bodies.now joints.now contacts) slot 0 }
 {

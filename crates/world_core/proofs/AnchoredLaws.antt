@@ -1,10 +1,10 @@
 -- The constraints of a body that is no mover are those of its joints, and the contacts of which it is the anchor.
-use Rattle.std.proofs.Common.{◌≡◌, ◌∙◌, ℕ, suc, ◌==◌, ◌||◌, ◌&&◌, ◌++◌, Bool, true, false, cond, List, [], ◌∷◌, map, Option, Some, None, refl, sym, ap, ap₂}
+use Rattle.std.proofs.Common.{◌≡◌, ◌∙◌, ℕ, suc, ◌==◌, ◌||◌, ◌&&◌, ◌++◌, Bool, true, false, cond, List, [], ◌∷◌, map, Option, Some, None, refl, sym, ap}
 use Rattle.std.specs.Prelude.{filter}
 use Rattle.std.specs.List.{cons_option}
 use Rattle.std.proofs.lemmas.Bool.{false≢true}
 use Rattle.std.proofs.lemmas.List.Elements.{filter_map-append}
-use Rattle.anchored_ties.specs.Anchors.{anchor_by, anchored_at, is_anchored, other_slot}
+use Rattle.anchored_ties.specs.Anchors.{anchor_by, anchored_at, is_anchored}
 use Rattle.body_handles.specs.declared.handle.Handle.{Handle}
 use Rattle.body_handles.specs.declared.places.Place.{Place}
 use Rattle.contacts.specs.declared.constraint.Constraint.{Constraint}
@@ -21,7 +21,7 @@ use Rattle.plain_world.specs.Bodies.{is_mover}
 use Rattle.plain_world.specs.Slots.{AreMatched, body_at}
 use Rattle.sleep_wake.specs.Acting.{Acting}
 use Rattle.solver_sets.specs.Beside.{first_movers, stirred_among, stirred_by, stirred_if}
-use Rattle.solver_sets.specs.Ties.{Bond, JointSlots, bonds_of, contact_bond, is_bond_of, is_enabled, is_enabled_in, is_mover_in, joint_bond, joint_bonds, joint_bonds_from, joint_ties_at, movers_if, movers_with, moves, tie_of, tie_with, ties_among, ties_at, ties_in, ties_of, touching_keys}
+use Rattle.solver_sets.specs.Ties.{Bond, JointSlots, bonds_of, contact_bond, is_bond_of, is_enabled, is_enabled_in, is_mover_in, joint_bonds, joint_bonds_from, joint_ties_at, movers_if, movers_with, moves, tie_of, tie_with, ties_at, ties_in, ties_of, touching_keys}
 use Rattle.solver_sets.proofs.AmongLaws.{stirred_picked, ties_picked}
 use Rattle.solver_sets.proofs.ListingLaws.{filter_append}
 use Rattle.world_rules.specs.Sets.{acting_of}

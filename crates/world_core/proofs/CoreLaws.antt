@@ -1,7 +1,6 @@
 -- A world after each command: whole, and with all marked of which its contacts don't tell.
-use Rattle.std.proofs.Common.{◌≡◌, ℕ, ◌<◌, ◌≤◌, Bool, true, false, List, length, map, Option, Some, None, inl, inr, refl, sym, ap, ◌∙◌, subst}
-use Rattle.std.specs.Prelude.{All, slice_index_or, slice_set}
-use Rattle.contacts.specs.Known.{IsPairKey}
+use Rattle.std.proofs.Common.{◌≡◌, ℕ, ◌≤◌, Bool, true, List, length, map, Option, Some, None, inl, inr, refl, sym, ap, ◌∙◌, subst}
+use Rattle.std.specs.Prelude.{slice_index_or, slice_set}
 use Rattle.anchored_ties.specs.Anchors.{Anchored, Tell}
 use Rattle.contacts.specs.declared.constraint.Constraint.{Constraint}
 use Rattle.contacts_base.specs.Contacts.{contacts_without, number_of}
@@ -22,7 +21,6 @@ use Rattle.world_core.proofs.KnownLaws.{HaveSameKeys, IsMarkedChange, dropped_ke
 use Rattle.world_core.proofs.PartLaws.{kept_of}
 use Rattle.world_rules.specs.World.{World, joints_of}
 use Rattle.world_rules.proofs.KeptStep.{collided_in}
-use Rattle.solver_sets.proofs.SlotLemmas.{item_at-set_none}
 use Rattle.world_rules.proofs.SoundLaws.{IsKept}
 
 -- a world that is whole again after a change of which all is marked

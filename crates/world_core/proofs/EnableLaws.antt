@@ -1,5 +1,5 @@
 -- What the calls ask for where a body is enabled, of what acts once islands were woken.
-use Rattle.std.proofs.Common.{◌≡◌, ◌<◌, ℕ, length, false, List, Option, Some, None, sym, ap, ◌∙◌, subst}
+use Rattle.std.proofs.Common.{◌≡◌, ◌<◌, ℕ, length, false, Option, Some, None, sym, ap, ◌∙◌, subst}
 use Rattle.std.specs.Prelude.{option_map, slice_set}
 use Rattle.std.proofs.lemmas.Option.{same_Some}
 use Rattle.body_handles.specs.declared.handle.Handle.{Handle}

@@ -1,6 +1,6 @@
 -- The lists of the bodies that are no movers tell on as commands wake islands, end constraints, and begin those of joints.
 use Rattle.std.proofs.Common.{◌≡◌, ◌∙◌, ℕ, suc, ◌++◌, Bool, true, false, cond, List, [], ◌∷◌, Option, Some, None, inl, inr, refl, sym, ap, subst}
-use Rattle.std.specs.Prelude.{Contains, filter}
+use Rattle.std.specs.Prelude.{filter}
 use Rattle.std.proofs.lemmas.Bool.{false≢true}
 use Rattle.std.specs.List.{cons_option}
 use Rattle.anchored_ties.specs.Anchors.{Tell, begins_of, is_anchored}

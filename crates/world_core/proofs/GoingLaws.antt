@@ -1,5 +1,5 @@
 -- What a body that is destroyed and one that is disabled have in common: those are woken whom that wakes, its ties end, and a mover leaves its island.
-use Rattle.std.proofs.Common.{◌≡◌, ◌∙◌, ◌<◌, Bool, true, cond, filter, List, [], Option, Some, length, refl, ap, sym}
+use Rattle.std.proofs.Common.{◌≡◌, ◌∙◌, ◌<◌, Bool, true, cond, filter, List, [], Option, Some, length, refl, ap}
 use Rattle.body_handles.specs.declared.handle.Handle.{Handle}
 use Rattle.contacts.specs.Constraints.{constraint_number}
 use Rattle.contacts.specs.declared.constraint.Constraint.{Constraint}

@@ -1,11 +1,10 @@
 -- What hangs on a body's joints is told by its own joints' slots: those of others are passed over.
-use Rattle.std.proofs.Common.{◌≡◌, ◌≢◌, ℕ, zero, suc, ◌+◌, ◌<◌, ◌≤◌, ◌==◌, ◌||◌, Bool, true, false, cond, List, [], ◌∷◌, ◌++◌, length, map, drop, filter, get_or, Option, Some, None, slice_set, refl, sym, ap, ◌∙◌, subst, add-one, arith}
+use Rattle.std.proofs.Common.{◌≡◌, ◌≢◌, ℕ, suc, ◌+◌, ◌<◌, ◌≤◌, ◌==◌, Bool, true, false, cond, List, [], ◌∷◌, length, map, drop, filter, get_or, Option, Some, None, refl, sym, ap, ◌∙◌, arith}
 use Rattle.std.specs.Prelude.{slice_get}
 use Rattle.std.specs.List.{All, filter_map, cons_option}
-use Rattle.std.specs.Option.{option_to_list}
-use Rattle.std.proofs.lemmas.List.{append-nil, append_assoc, drop_all, length-append}
+use Rattle.std.proofs.lemmas.List.{drop_all}
 use Rattle.graph_colours.specs.declared.member.Member.{Member}
-use Rattle.graph_colours.proofs.Cases.{by_test, or_left, or_right, true_or_false}
+use Rattle.graph_colours.proofs.Cases.{by_test, or_left, or_right}
 use Rattle.body_handles.specs.declared.handle.Handle.{Handle}
 use Rattle.body_handles.specs.declared.places.Place.{Place}
 use Rattle.body_handles.specs.Places.{generation_of}
@@ -14,11 +13,11 @@ use Rattle.contacts.proofs.Members.{Each, all_from_each}
 use Rattle.plain_world.specs.declared.body.Body.{Body}
 use Rattle.plain_world.specs.declared.joint.BodyJoint.{BodyJoint}
 use Rattle.plain_world.specs.Joints.{is_end_in, is_joint_of, joint_at}
-use Rattle.solver_sets.specs.Beside.{joined_by, joined_to, mover_at}
+use Rattle.solver_sets.specs.Beside.{joined_by, joined_to}
 use Rattle.solver_sets.specs.Joining.{handle_at, unjoined, unjoined_all, unjoined_if, unjoined_up}
 use Rattle.solver_sets.specs.Ties.{Bond, JointSlots, bond_before, is_bond_of, joint_bond, joint_bonds_from, joint_tie_of, joint_ties_at, slots_of, tie_of, ties_in}
 use Rattle.solver_sets.proofs.SlotLemmas.{item_at-set_other}
-use Rattle.solver_sets.proofs.ListingLaws.{cons_is, drop_is}
+use Rattle.solver_sets.proofs.ListingLaws.{drop_is}
 use Rattle.joint_table.specs.JointTables.{own_from, own_slots}
 
 -- ---- all slots are below the joints' end

@@ -1,5 +1,5 @@
 -- A sleep phase that looks at the awake movers alone: who they are, and who of them falls asleep.
-use Rattle.std.proofs.Common.{◌≡◌, ℕ, zero, suc, ◌+◌, ◌<◌, ◌≤◌, ◌&&◌, Bool, true, false, not, cond, is_none, is_some, List, [], ◌∷◌, length, map, Contains, Option, Some, None, slice_get, slice_index_or, inl, inr, refl, sym, ap, ◌∙◌, subst, arith}
+use Rattle.std.proofs.Common.{◌≡◌, ℕ, zero, suc, ◌+◌, ◌<◌, ◌≤◌, ◌&&◌, Bool, true, false, not, cond, is_none, is_some, List, [], ◌∷◌, length, Contains, Option, Some, None, slice_get, slice_index_or, inl, inr, refl, sym, ap, ◌∙◌, subst, arith}
 use Rattle.std.specs.List.Sorted.{IsStrictlyIncreasing}
 use Rattle.std.proofs.lemmas.List.Kept.{AllPairs-from_increasing}
 use Rattle.colour_solver.specs.States.{places_from}
@@ -13,7 +13,7 @@ use Rattle.islands.specs.declared.label.Label.{Label}
 use Rattle.islands.specs.Labels.{Labels, label_at}
 use Rattle.plain_world.specs.declared.body.Body.{Body}
 use Rattle.plain_world.specs.declared.joint.BodyJoint.{BodyJoint}
-use Rattle.plain_world.specs.Bodies.{is_awake, is_mover}
+use Rattle.plain_world.specs.Bodies.{is_mover}
 use Rattle.plain_world.specs.Changes.{is_awake_in}
 use Rattle.plain_world.specs.Slots.{body_at, item_in}
 use Rattle.sleep_wake.specs.Acting.{Acting, IsSettled, awake_label}
@@ -26,7 +26,7 @@ use Rattle.solver_sets.specs.Beside.{TellMoving}
 use Rattle.solver_sets.specs.Beside.{is_beside_moving, timers_from, timers_of}
 use Rattle.solver_sets.specs.Slept.{is_asleep_in, is_asleep_label, sleeps, was_asleep}
 use Rattle.solver_sets.specs.Tied.{AreTied}
-use Rattle.solver_sets.specs.Ties.{is_mover_in, moves}
+use Rattle.solver_sets.specs.Ties.{is_mover_in}
 use Rattle.world_rules.specs.Sound.{AreTold}
 use Rattle.world_rules.proofs.ActingLaws.{name_awake}
 use Rattle.world_rules.proofs.LowerLaws.{movers_stay}

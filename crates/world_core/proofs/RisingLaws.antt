@@ -1,5 +1,5 @@
 -- The shapes that a collide reads ascend, and so do the contacts that it leaves.
-use Rattle.std.proofs.Common.{◌≡◌, ℕ, zero, suc, ◌+◌, ◌*◌, ◌<◌, ◌≤◌, ◌^◌, Bool, true, false, cond, All, List, [], ◌∷◌, ◌++◌, length, map, Option, Some, None, refl, ap, arith, subst}
+use Rattle.std.proofs.Common.{◌≡◌, ℕ, suc, ◌+◌, ◌*◌, ◌<◌, ◌≤◌, Bool, true, false, cond, All, List, [], ◌∷◌, ◌++◌, length, map, Option, Some, None, refl, ap, arith, subst}
 use Rattle.std.proofs.lemmas.List.{map-append}
 use Rattle.std.proofs.lemmas.List.Elements.{All-head, All-tail}
 use Rattle.fixed_geom.specs.declared.boxes.Box2.{Box2}
@@ -23,7 +23,7 @@ use Rattle.plain_world.specs.Bodies.{AreBodies, IsBody, pose_of, stirs}
 use Rattle.plain_world.specs.Joints.{forbidden_pairs}
 use Rattle.plain_world.specs.Kinds.{is_dynamic}
 use Rattle.world_core.proofs.CollideLaws.{eight_at_most}
-use Rattle.world_rules.specs.Collide.{body_proxies, contacts_after, entry_proxies, proxies_from, proxies_of, shape_proxies}
+use Rattle.world_rules.specs.Collide.{contacts_after, entry_proxies, proxies_from, proxies_of, shape_proxies}
 
 -- a shape of the body in the slot
 record IsWithin (slot : ℕ) (p : Proxy) : Type 0 where

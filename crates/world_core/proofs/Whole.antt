@@ -1,5 +1,5 @@
 -- What a command leaves is whole: the world is sound, and what acts in it is kept beside its lists.
-use Rattle.std.proofs.Common.{◌≡◌, ℕ, ℤ, arith, ◌+ℤ◌, ◌+◌, ◌<◌, ◌^◌, ◌++◌, Bool, true, false, cond, List, [], ◌∷◌, Option, Some, None, Ok, replicate, refl, sym, ap, ◌∙◌, subst}
+use Rattle.std.proofs.Common.{◌≡◌, ℕ, arith, ◌+◌, ◌<◌, ◌^◌, ◌++◌, Bool, true, false, cond, List, [], ◌∷◌, Option, Some, None, Ok, replicate, refl, sym, ap, ◌∙◌, subst}
 use Rattle.std.proofs.lemmas.Int.{ints}
 use Rattle.fixed_geom.specs.Vectors.{IsWithin, minus, plus}
 use Rattle.fixed_geom.specs.declared.vectors.Vec2.{Vec2}
@@ -36,7 +36,7 @@ use Rattle.sleep_wake.specs.Sleeping.{islands_woken, names_of, slept_at}
 use Rattle.solver_sets.specs.Beside.{stirred_by}
 use Rattle.world_rules.specs.declared.command.Reply.TheVariants as replies
 use Rattle.world_rules.specs.Apply.{Answers, apply_sleep, mover_refusal, body_changed, booked, counted, empty_world, gained, posed, pushed, rest_entries, steered}
-use Rattle.world_rules.specs.Sets.{acting_of, stirred, with_acting, woken}
+use Rattle.world_rules.specs.Sets.{acting_of, with_acting, woken}
 use Rattle.world_rules.specs.World.{World, body_of}
 use Rattle.world_rules.proofs.ActingLaws.{IsActed, acted, waking_kept}
 use Rattle.world_rules.proofs.KeptChanges.{can_pose, counted_acting, gravity_acting, gravity_kept, pose_acting, pose_kept, push_acting, push_kept, velocity_acting, velocity_kept, wake_kept}

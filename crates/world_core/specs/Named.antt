@@ -1,5 +1,5 @@
 -- Inner forms of the code; no public contract rests on them. The shape with a name, read from the bodies.
-use Rattle.std.specs.Prelude.{◌≤◌, length, ℕ, zero, suc, Bool, false, cond, List, [], ◌∷◌, Option, Some, None}
+use Rattle.std.specs.Prelude.{◌≤◌, length, ℕ, zero, suc, Bool, cond, List, [], ◌∷◌, Option, Some, None}
 use Rattle.fixed_geom.specs.declared.boxes.Box2.{Box2}
 use Rattle.shapes.specs.declared.pose.Pose.{Pose}
 use Rattle.shapes.specs.declared.shape.ShapeDef.{ShapeDef}

@@ -169,7 +169,8 @@ pub fn mark_beside(
     contacts: &[ContactEntry],
     colours: &Colours<Constraint>,
 )
-    requires { AreKeysRising contacts.now }
+    requires rising { AreKeysRising contacts.now }
+    requires settled { colours.now.pending ≡ 0 }
     ensures { (names timers : List ℕ) → KeepMarks islands.now.labels bodies.now joints.now contacts.now timers → HasMarked names islands.now.labels timers marks.old.items → HasMarked names islands.now.labels timers marks.new.items }
 {
     for colour in 0..OVERFLOW + 1 {

@@ -146,6 +146,7 @@ pub fn are_kept_up(
     requires tied { AreTied bodies.now islands.now.labels }
     requires told { AreTold bodies.now islands.now.labels }
     requires rising { AreKeysRising contacts.now }
+    requires settled { colours.now.pending ≡ 0 }
     ensures { result ≡ true → AreKeptUp islands.now.labels (timers_of bodies.now joints.now contacts.now) }
 {
     if are_busy(bodies, awake) {

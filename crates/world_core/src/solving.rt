@@ -1,6 +1,7 @@
 //! The ticks of a step, over what acts.
 
-ghost use Rattle.std.specs.Prelude.{◌≡◌, ◌≤◌, ◌+◌, ◌^◌, length, map};
+ghost use Rattle.std.specs.Prelude.{◌≡◌, ◌≤◌, ◌+◌, ◌^◌, OnOk, length, map};
+ghost use Rattle.std.specs.Result.{IsOkUnless};
 ghost use Rattle.fixed_geom.specs.Vectors.{IsWithin, plus};
 ghost use Rattle.contacts_base.specs.Contacts.{number_of};
 ghost use Rattle.colour_solver.specs.Ticks.{AreSums, added};
@@ -19,11 +20,23 @@ use crate::impulses::put_impulses;
 use body_handles::MAX_SLOTS;
 use colour_solver::{Rows, StepSums};
 use contacts::Constraint;
-use fixed_geom::Vec2;
+use fixed_geom::{Refusal, Vec2};
 use graph_colours::{COLOURS, Colours};
 use joint_table::JointTable;
 use kept_contacts::KeptContacts;
 use world_core_base::{BodyTable, gather_rows};
+
+/// Makes room for a row for each of so many constraints and for those that begin, and for all colours. Refused 1 where memory is wanting.
+pub fn reserve_rows(rows: &mut Rows, ties: usize, begun: usize) -> Result<(), Refusal>
+    ensures room { OnOk result (ties + begun ≤ rows.new.room) }
+    ensures more { OnOk result (COLOURS + 1 ≤ rows.new.more) }
+    ensures memory_only { IsOkUnless result Refusal.NoMemory }
+{
+    let Some(count) = ties.checked_add(begun) else {
+        return Err(Refusal::NoMemory);
+    };
+    rows.reserve(count, COLOURS + 1)
+}
 
 /// Gathers what acts, lets so many ticks pass, and gives joints and contacts the impulses that they have left. Answers what was
 /// added to the movers' momentum, by cause. Takes no memory.
@@ -40,6 +53,7 @@ pub fn solve(
     requires bodies { AreBodies bodies.old.bodies }
     requires can { CanGather bodies.old.bodies joints.old.joints contacts.old.contacts colours.now.lists }
     requires settled { contacts.old.pending ≡ 0 }
+    requires colours_settled { colours.now.pending ≡ 0 }
     requires gravity { IsWithin (2 ^ 16) gravity }
     requires ticks { ticks ≤ 8 }
     requires room { length (all_members colours.now.lists) ≤ rows.old.room }

@@ -21,8 +21,8 @@ use sleep_wake::{Change, Sets};
 use solver_sets::fill_newly_awake;
 use world_core_base::BodyTable;
 
-/// Lets constraints begin and end, each in its turn, lists who has woken by that, and tells those; all bodies had been told before. Those who wake are
-/// among the slots `asleep`, so that it takes time by these and by what begins and ends. It takes no memory.
+/// Lets constraints begin and end, each in its turn, settles the colours, lists who has woken by that, and tells those; all bodies had been told before.
+/// Those who wake are among the slots `asleep`, so that it takes time by these and by what begins and ends. It takes no memory.
 pub fn turn_all(
     sets: &mut Sets<Constraint>,
     bodies: &mut BodyTable,
@@ -43,9 +43,11 @@ pub fn turn_all(
     ensures acting { sets.new.acting ≡ turned constraint_number changes.now sets.old.acting }
     ensures bodies { bodies.new.bodies ≡ told sets.new.acting.labels bodies.old.bodies }
     ensures woke { woke.new.items ≡ newly_awake places.now bodies.old.bodies sets.new.acting.labels }
+    ensures colours_settled { sets.new.pending ≡ 0 }
     ensures marked { AreMarked bodies.old bodies.new }
 {
     sets.turn(changes);
+    sets.settle();
     fill_newly_awake(woke, places, bodies.bodies(), sets.islands(), asleep);
     let _ = bodies.tell_some(asleep, sets.islands());
 }
@@ -55,5 +57,5 @@ pub fn renew_anchors(anchors: &mut Anchors, sets: &Sets<Constraint>, changes: &[
     ensures told { (s : Acting TheConstraint) → sets.now.acting ≡ turned constraint_number changes.now s → Tell anchors.old.holds anchors.old.lists s.ties → Tell anchors.new.holds anchors.new.lists sets.now.acting.ties }
 {
     anchors.add_each(changes);
-    anchors.renew(sets.ties());
+    anchors.renew(sets);
 }

@@ -293,6 +293,7 @@ pub fn gather_rows(
     contacts: &[ContactEntry],
     colours: &Colours<Constraint>,
 )
+    requires settled { colours.now.pending ≡ 0 }
     requires all_states { AreAllStates states.now }
     requires joints { All (HaveJointsOn states.now joints.now) colours.now.lists }
     requires rising { AreKeysRising contacts.now }

@@ -19,7 +19,6 @@ use denote.RattleType.{RattleType}
 use Rattle.graph_colours.specs.declared.member.Id.{Ghosts}
 use Rattle.graph_colours.specs.contracts.colours.Colours as Colours
 use Rattle.graph_colours.specs.contracts.edited.EditedList as EditedList
-use Rattle.graph_colours.specs.contracts.edited_colours.EditedColours as EditedColours
 use Rattle.islands.specs.contracts.islands.Islands as Islands
 use Rattle.islands.specs.contracts.scratch.SplitScratch as SplitScratch
 use Rattle.contacts.specs.contracts.constraint.Constraint as Constraint
@@ -69,11 +68,8 @@ module _ (C : RattleType) (g : Ghosts C.Denot) (s : IsSend C) where
   colours_send : IsSend (Colours.the_row C g)
   colours_send = search (crosses, sendable) depth 60 fits 60000
 
-  edited_send : IsSend (EditedColours.the_row C g)
-  edited_send = search (colours_send, crosses, sendable) depth 60 fits 60000
-
   sets_send : IsSend (Sets.the_row C g)
-  sets_send = search (list_send, edited_send, islands_send, splits_send, crosses, sendable) depth 60 fits 60000
+  sets_send = search (list_send, colours_send, islands_send, splits_send, crosses, sendable) depth 60 fits 60000
 
 pub world_send : IsSend World.the_row
 world_send = search (sets_send, constraint_send, table_send, handles_send, joints_send, contacts_send, anchors_send, rows_send, ledger_send, events_send, crosses, sendable) depth 60 fits 60000

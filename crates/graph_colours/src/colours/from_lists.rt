@@ -49,6 +49,7 @@ impl<C: Id> Colours<C> {
         ensures lists { IfOk result (λ made. made.lists ≡ members_of lists.now) }
         ensures room { IfOk result (λ made. made.room ≡ 0) }
         ensures slots { IfOk result (λ made. made.slots ≡ slots) }
+        ensures pending { IfOk result (λ made. made.pending ≡ 0) }
         ensures memory_only { IsOkUnless result Refusal.NoMemory }
     {
         let mut colours = colours_in(alloc, lists, slots)?;
@@ -63,6 +64,7 @@ impl<C: Id> Colours<C> {
                 total: count,
                 slots,
             },
+            settled: true,
         })
     }
 }

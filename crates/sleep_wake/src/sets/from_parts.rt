@@ -11,7 +11,7 @@ use crate::growing::grow;
 use crate::sets::Sets;
 use crate::ties::Ties;
 use fixed_geom::Refusal;
-use graph_colours::{Colours, EditedColours, Id, Member};
+use graph_colours::{Colours, Id, Member};
 use islands::{Islands, Label, SplitScratch};
 use std::alloc::Global;
 
@@ -31,15 +31,13 @@ impl<C: Id> Sets<C> {
         ensures acting { IfOk result (λ made. made.acting ≡ acting ties.now labels.now (members_of lists.now)) }
         ensures room { IfOk result (λ made. made.room ≡ length ties.now) }
         ensures slots { IfOk result (λ made. made.slots ≡ length labels.now) }
+        ensures pending { IfOk result (λ made. made.pending ≡ 0) }
         ensures memory_only { IsOkUnless result Refusal.NoMemory }
     {
         let slots = labels.len();
         let mut kept = Ties::from_members(alloc, ties)?;
         let mut spare = Vec::new(alloc);
-        let mut colours = EditedColours::new(
-            alloc,
-            Colours::from_lists(alloc, lists, count, slots)?,
-        );
+        let mut colours = Colours::from_lists(alloc, lists, count, slots)?;
         let mut islands = Islands::from_labels(alloc, labels)?;
         let mut edges = Vec::new(alloc);
         let mut scratch = SplitScratch::new(alloc);

@@ -47,8 +47,8 @@ impl WorldCore {
         };
         let mover = body.is_mover();
         let p = mover_momentum(body);
-        let names = self.names_stirred(handle.slot)?;
         let ties = self.ties_at(handle.slot)?;
+        let names = self.names_by_ties(handle.slot, &ties)?;
         let own = self.joints.slots_of(handle.slot)?;
         self.contacts.reserve_drop(self.bodies.allocator())?;
         self.ledger.reserve(1)?;
@@ -98,7 +98,7 @@ impl WorldCore {
         let movers = list_movers(self.bodies.allocator(), &self.sets, &names)?;
         wake_named(&mut self.sets, &mut self.bodies, &names, &movers);
         self.bodies.change(handle.slot, &pose);
-        self.anchors.tidy(self.sets.ties(), handle.slot);
+        self.anchors.tidy(&self.sets, handle.slot);
         self.calls += 1;
         Ok(Reply::Done)
     }
@@ -112,7 +112,7 @@ impl WorldCore {
         let movers = list_movers(self.bodies.allocator(), &self.sets, &names)?;
         wake_named(&mut self.sets, &mut self.bodies, &names, &movers);
         self.bodies.change(handle.slot, &course);
-        self.anchors.tidy(self.sets.ties(), handle.slot);
+        self.anchors.tidy(&self.sets, handle.slot);
         self.calls += 1;
         Ok(Reply::Done)
     }

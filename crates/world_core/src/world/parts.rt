@@ -28,8 +28,8 @@ impl WorldCore {
         }
         let mover = body.is_mover();
         let p = mover_momentum(body);
-        let names = self.names_stirred(handle.slot)?;
         let ties = self.ties_at(handle.slot)?;
+        let names = self.names_by_ties(handle.slot, &ties)?;
         self.contacts.reserve_drop(self.bodies.allocator())?;
         self.ledger.reserve(1)?;
         let movers = list_movers(self.bodies.allocator(), &self.sets, &names)?;

@@ -32,7 +32,23 @@ impl WorldCore {
             return self.sets.names_of(&[slot]);
         }
         let ties = self.ties_at(slot)?;
-        let slots = list_first(self.bodies.allocator(), &ties)?;
+        self.names_by_ties(slot, &ties)
+    }
+
+    /// The same, where the constraints of the body are at hand. Refused 1 where memory is wanting.
+    pub(super) fn names_by_ties(
+        &self,
+        slot: u32,
+        ties: &[Member<Constraint>],
+    ) -> Result<Vec<u32>, Refusal>
+        requires { ties.now ≡ ties_at slot self.now.plain.bodies (joints_of self.now.plain) self.now.plain.contacts }
+        ensures value { IfOk result (λ names. names.items ≡ names_of self.now.plain.islands (stirred_by self.now.plain.bodies self.now.plain.joints self.now.plain.contacts slot)) }
+        ensures memory_only { IsOkUnless result Refusal.NoMemory }
+    {
+        if is_mover_at(self.bodies.bodies(), slot) {
+            return self.sets.names_of(&[slot]);
+        }
+        let slots = list_first(self.bodies.allocator(), ties)?;
         self.sets.names_of(&slots)
     }
 
@@ -62,7 +78,7 @@ impl WorldCore {
             &self.joints,
             slot,
         )?;
-        let contacts = self.anchors.contact_ties_of(alloc, self.sets.ties(), slot)?;
+        let contacts = self.anchors.contact_ties_of(alloc, &self.sets, slot)?;
         ties.extend_from_slice(&contacts)?;
         Ok(ties)
     }

@@ -8,10 +8,9 @@ use crate::booking::book_rest;
 use crate::collide::collide;
 use crate::resting::rest_ready;
 use crate::sleepers::list_sleepers;
-use crate::solving::solve;
+use crate::solving::{reserve_rows, solve};
 use crate::turning::{renew_anchors, turn_all};
 use fixed_geom::{Refusal, Vec2, is_within};
-use graph_colours::COLOURS;
 use solver_sets::list_changes;
 use world_rules::Reply;
 
@@ -40,8 +39,7 @@ impl WorldCore {
         let changes = collide(alloc, &mut self.contacts, &self.bodies, &self.joints)?;
         let turns = list_changes(alloc, self.bodies.bodies(), &changes.begin, &changes.end)?;
         self.sets.reserve(changes.begin.len(), 0)?;
-        self.rows
-            .reserve(self.sets.ties().len() + changes.begin.len(), COLOURS + 1)?;
+        reserve_rows(&mut self.rows, self.sets.tie_count(), changes.begin.len())?;
         let asleep = list_sleepers(alloc, &self.sets, &turns)?;
         self.scratch
             .make_room(self.bodies.bodies().len(), asleep.len())?;

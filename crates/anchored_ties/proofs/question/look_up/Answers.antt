@@ -5,11 +5,11 @@ use Rattle.anchored_ties.proofs.QuestionLaws.{looked_up, with_all, with_next}
 use Rattle.anchored_ties.proofs.question.look_up.Goals as goal
 
 pub loop-place-preserved : goal.loop-place-preserved
-loop-place-preserved c = with_next c.args.slot c.args.ties.now c.as_slice-listed.result.now c.loop-place.place _ 0 _ _ _ _ c.loop-place-test.true refl c.tie_with.ensures c.in_ok-push_tie.ensures.pushed c.loop-place.invariant
+loop-place-preserved c = with_next c.args.slot c.args.sets.now.acting.ties c.as_slice-listed.result.now c.loop-place.place _ 0 _ _ _ _ c.loop-place-test.true refl c.tie_with.ensures c.in_ok-push_tie.ensures.pushed c.loop-place.invariant
 
 pub returns-clause-value : goal.returns-clause-value
 returns-clause-value c =
     let same = sym c.as_slice-listed.ensures.value in
     let lists = lists_of c.args.lists.now in
-    with_all c.args.slot c.args.ties.now c.as_slice-listed.result.now c.loop-place.place _ c.loop-place-test.false c.loop-place.invariant
-    ∙ looked_up c.args.slot c.args.ties.now lists c.as_slice-listed.result.now c.requires.rising c.requires.listed (subst (λ (l : List ℕ). HasAll (list_at lists c.args.slot) l) same c.in_ok-numbers.ensures.all) (subst (λ (l : List ℕ). IsStrictlyIncreasing l) same c.in_ok-numbers.ensures.rising)
+    with_all c.args.slot c.args.sets.now.acting.ties c.as_slice-listed.result.now c.loop-place.place _ c.loop-place-test.false c.loop-place.invariant
+    ∙ looked_up c.args.slot c.args.sets.now.acting.ties lists c.as_slice-listed.result.now c.requires.rising c.requires.listed (subst (λ (l : List ℕ). HasAll (list_at lists c.args.slot) l) same c.in_ok-numbers.ensures.all) (subst (λ (l : List ℕ). IsStrictlyIncreasing l) same c.in_ok-numbers.ensures.rising)

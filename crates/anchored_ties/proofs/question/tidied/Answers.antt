@@ -6,5 +6,5 @@ use Rattle.anchored_ties.proofs.question.tidied.Goals as goal
 pub returns : goal.returns
 returns c =
     let listed : List ℕ = list_at (lists_of c.args.lists.now) c.args.slot in
-    subst (λ (l : List ℕ). AreKept c.args.slot c.args.ties.now listed l) (sym (c.in_ok-own.ensures ∙ ap (own_numbers c.args.slot c.args.ties.now) c.deref.ensures.value))
-    (kept_own c.args.slot c.args.ties.now listed c.in_ok-numbers.numbers.items c.in_ok-numbers.ensures.all)
+    subst (λ (l : List ℕ). AreKept c.args.slot c.args.sets.now.acting.ties listed l) (sym (c.in_ok-own.ensures ∙ ap (own_numbers c.args.slot c.args.sets.now.acting.ties) c.deref.ensures.value))
+    (kept_own c.args.slot c.args.sets.now.acting.ties listed c.in_ok-numbers.numbers.items c.in_ok-numbers.ensures.all)

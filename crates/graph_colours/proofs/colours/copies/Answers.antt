@@ -1,11 +1,7 @@
-use Rattle.std.proofs.Common.{◌≡◌, ◌++◌, ◌∷◌, ◌<◌, ◌≤◌, [], length, map, take, ap, sym, ◌∙◌, arith}
+use Rattle.std.proofs.Common.{◌≡◌, ◌++◌, ◌∷◌, [], ◌∙◌, arith}
 use Rattle.std.proofs.lemmas.Grind.{common_steps}
-use Rattle.graph_colours.specs.Marks.{members_in}
-use Rattle.graph_colours.proofs.StepLemmas.{rest_at, rest_more, copies_more, copies_all}
+use Rattle.graph_colours.proofs.StepLemmas.{rest_more, copies_more, copies_all}
 use Rattle.graph_colours.proofs.colours.copies.Goals as goal
-
-pub try_copy-requires : goal.try_copy-requires
-try_copy-requires g c = rest_at c.args.colours.now c.loop-place.place c.index-colours-place.result (omega (arith, c.loop-place-test.true, c.loop-place.auto.place-end)) c.index-colours-place.is c.requires
 
 pub loop-place-preserved : goal.loop-place-preserved
 loop-place-preserved g c =

@@ -1,6 +1,5 @@
-use Rattle.std.proofs.Common.{◌≡◌, ◌≤◌, ◌<◌, ◌+◌, ◌∙◌, false, arith, List, length, Bool}
-use Rattle.std.specs.List.{All, position_or_len}
-use Rattle.graph_colours.specs.declared.limits.TheConstants.{COLOURS}
+use Rattle.std.proofs.Common.{◌≡◌, ◌≤◌, ◌+◌, ◌∙◌, false, arith, List, length, Bool}
+use Rattle.std.specs.List.{position_or_len}
 use Rattle.graph_colours.specs.declared.member.Member.{Member}
 use Rattle.graph_colours.specs.Members.{is_free, has_id}
 use Rattle.graph_colours.specs.Marks.{Bucket, lists_of}

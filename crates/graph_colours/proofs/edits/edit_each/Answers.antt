@@ -1,8 +1,8 @@
-use Rattle.std.proofs.Common.{◌≡◌, ◌+◌, ◌<◌, ◌≤◌, ◌∷◌, drop, length, arith, ap, sym, subst, ◌∙◌, List}
+use Rattle.std.proofs.Common.{◌≡◌, ◌+◌, ◌<◌, ◌≤◌, ◌∷◌, suc, drop, length, arith, ap, sym, subst, ◌∙◌, List}
 use Rattle.std.specs.Vec.{vec_capacity}
 use Rattle.graph_colours.specs.declared.member.Member.{Member}
 use Rattle.graph_colours.specs.Edits.{all_edited, IsEdited}
-use Rattle.graph_colours.proofs.EditLemmas.{item_is, edit_alone, edit_made}
+use Rattle.graph_colours.proofs.EditLemmas.{item_is, edit_made}
 use Rattle.graph_colours.proofs.edits.edit_each.Goals as goal
 
 pub edit_one-requires : goal.edit_one-requires
@@ -12,7 +12,8 @@ edit_one-requires g c =
     let rest = drop (c.loop-place.place + 1) es in
     let lt : c.loop-place.place < length es = omega (arith, c.loop-place-test.true, c.loop-place.auto.place-end) in
     let front : drop c.loop-place.place es ≡ e ∷ rest = item_is es c.loop-place.place e lt c.index-edits-place.is in
-    record { edited = edit_alone g.C.Id.number e rest c.loop-place.list.items (vec_capacity c.loop-place.list) (rw front at c.loop-place.invariant.edited) }
+    let is : IsEdited g.C.Id.number c.loop-place.list.items (e ∷ rest) (vec_capacity c.loop-place.list) = rw front at c.loop-place.invariant.edited in
+    record { rising = is.rising; room = λ q. let room : length c.loop-place.list.items + suc (length rest) ≤ vec_capacity c.loop-place.list = is.room in omega (arith, room) }
 
 pub loop-place-preserved : goal.loop-place-preserved
 loop-place-preserved g c =

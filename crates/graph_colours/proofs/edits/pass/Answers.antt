@@ -1,6 +1,6 @@
 use Rattle.std.proofs.Common.{◌≡◌, ◌+◌, ◌<◌, ◌≤◌, ◌-◌, drop, take, length, arith}
-use Rattle.std.proofs.lemmas.List.{drop-drop, length-drop}
-use Rattle.std.specs.Vec.{vec_len, vec_capacity}
+use Rattle.std.proofs.lemmas.List.{length-drop}
+use Rattle.std.specs.Vec.{vec_len}
 use Rattle.graph_colours.proofs.EditLemmas.{pass_goes, long_drop, take_whole}
 use Rattle.graph_colours.proofs.edits.pass.Goals as goal
 

@@ -1,6 +1,5 @@
 use Rattle.std.proofs.Common.{sym, ltb-true, ltb-false, arith, ◌∙◌}
 use Rattle.graph_colours.proofs.PlaceLemmas.{absent_at, absent_beyond, movers_none, movers_is}
-use Rattle.graph_colours.proofs.EditLemmas.{edited_after}
 use Rattle.graph_colours.proofs.member.movers_of.Goals as goal
 
 pub returns-in_err-member : goal.returns-in_err-member

@@ -1,5 +1,4 @@
-use Rattle.std.proofs.Common.{◌≡◌, ◌+◌, ◌-◌, ◌≤◌, drop, take, length, true, false, sym, ap, ◌∙◌, arith, length-drop}
-use Rattle.graph_colours.specs.Members.{is_at}
+use Rattle.std.proofs.Common.{◌≡◌, ◌+◌, ◌-◌, drop, take, length, sym, ◌∙◌, arith, length-drop}
 use Rattle.graph_colours.proofs.EditLemmas.{take_whole}
 use Rattle.graph_colours.proofs.RemovalLemmas.{left_out, none_left_out, rising_on, rising_further}
 use Rattle.graph_colours.proofs.removals.pass_removal.Goals as goal

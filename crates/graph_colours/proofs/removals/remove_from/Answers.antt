@@ -1,4 +1,4 @@
-use Rattle.std.proofs.Common.{◌≡◌, ◌<◌, length, refl, ◌∙◌, arith}
+use Rattle.std.proofs.Common.{◌<◌, length, refl, ◌∙◌, arith}
 use Rattle.graph_colours.proofs.EditLemmas.{from_start, rising_drop}
 use Rattle.graph_colours.proofs.RemovalLemmas.{removals_go}
 use Rattle.graph_colours.proofs.removals.remove_from.Goals as goal

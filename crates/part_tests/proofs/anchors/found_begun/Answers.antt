@@ -1,6 +1,17 @@
-use Rattle.std.proofs.Common.{[]}
-use Rattle.sleep_wake.proofs.ListLemmas.{none_in}
+use Rattle.std.proofs.Common.{◌++◌, ◌∷◌, [], ◌∙◌, ap, sym, subst}
+use Rattle.std.proofs.lemmas.Bool.{false≢true}
+use Rattle.contacts.specs.Constraints.{constraint_number}
+use Rattle.contacts.specs.declared.constraint.Constraint.{Constraint}
+use Rattle.sleep_wake.specs.Acting.{Acting}
+use Rattle.sleep_wake.specs.Changes.{begun}
+use Rattle.anchored_ties.specs.Anchors.{Tell}
+use Rattle.anchored_ties.proofs.FewerLaws.{fewer_with_begun, tell_fewer}
 use Rattle.part_tests.proofs.anchors.found_begun.Goals as goal
 
-pub contact_ties_of-requires-clause-told : goal.contact_ties_of-requires-clause-told
-contact_ties_of-requires-clause-told c = c.tidy.ensures.told (c.add_each.ensures.told [] (c.renew.ensures.told (λ q m h slot on. absurd (none_in m h))))
+pub contact_ties_of-requires : goal.contact_ties_of-requires
+contact_ties_of-requires c =
+    let s : Acting Constraint = c.in_ok-sets.sets.acting in
+    let ties = s.ties ++ c.contact-tie.result ∷ [] in
+    let told = c.add_each.ensures.told s.ties (c.renew.ensures.told (λ q. absurd (false≢true (sym c.new-anchors.ensures.lapsed ∙ q)))) in
+    let P : Acting Constraint → Type 0 = λ v. Tell c.add_each.new.self.holds c.add_each.new.self.lists v.ties in
+    c.tidy.ensures.told (subst P (sym c.in_ok-begin.ensures) (tell_fewer c.add_each.new.self.holds c.add_each.new.self.lists ties (begun constraint_number c.contact-tie.result s).ties (fewer_with_begun c.contact-tie.result s) told))

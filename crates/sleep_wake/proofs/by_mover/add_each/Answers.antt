@@ -1,7 +1,5 @@
-use Rattle.std.proofs.Common.{◌≤◌, ◌<◌, List, length, take, subst, refl, sym, arith}
-use Rattle.graph_colours.specs.declared.member.Member.{Member}
+use Rattle.std.proofs.Common.{◌≤◌, ◌<◌, length, refl, arith}
 use Rattle.graph_colours.specs.Given.{members_of}
-use Rattle.sleep_wake.specs.Indexed.{AreByMover}
 use Rattle.sleep_wake.proofs.IndexLemmas.{front_rising, next_added}
 use Rattle.sleep_wake.proofs.by_mover.add_each.Goals as goal
 

@@ -1,4 +1,4 @@
-use Rattle.std.proofs.Common.{Bool, ◌≡◌, ◌+◌, ◌<◌, ◌≤◌, ◌++◌, ◌∷◌, drop, length, arith}
+use Rattle.std.proofs.Common.{Bool, ◌≡◌, ◌+◌, ◌<◌, ◌++◌, ◌∷◌, drop, length, arith}
 use Rattle.std.specs.Prelude.{filter}
 use Rattle.sleep_wake.specs.Waking.{has_mover_of}
 use Rattle.graph_colours.specs.declared.member.Member.{Member}

@@ -19,10 +19,10 @@ loop-place-preserved g c =
     let left : released_all n c.loop-place.colours.lists (filter wanted (m ∷ rest)) ≡ released_all n c.args.colours.now.lists (filter wanted c.args.ties.now) = rw front at c.loop-place.invariant.rest in
     elim c.if-are_resting.branch [
       | then-are_resting w ↦ rw w.colours-is (record {
-        own = rw w.release.ensures.lists (own_released n m.id c.args.ties.now c.loop-place.colours.lists c.loop-place.invariant.own);
-        rest = rw w.release.ensures.lists (sym (released_wanted n wanted m rest c.loop-place.colours.lists (sym c.are_resting.ensures ∙ w.if-are_resting.true)) ∙ left);
-        slots = w.release.ensures.slots ∙ c.loop-place.invariant.slots;
-        room = w.release.ensures.total ∙ c.loop-place.invariant.room;
+        own = rw w.release_member.ensures.lists (own_released n m.id c.args.ties.now c.loop-place.colours.lists c.loop-place.invariant.own);
+        rest = rw w.release_member.ensures.lists (sym (released_wanted n wanted m rest c.loop-place.colours.lists (sym c.are_resting.ensures ∙ w.if-are_resting.true)) ∙ left);
+        slots = w.release_member.ensures.slots ∙ c.loop-place.invariant.slots;
+        room = w.release_member.ensures.total ∙ c.loop-place.invariant.room;
       })
       | else-are_resting w ↦ rw w.colours-is (record {
         own = c.loop-place.invariant.own;

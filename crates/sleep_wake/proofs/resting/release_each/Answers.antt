@@ -14,8 +14,8 @@ loop-place-preserved g c =
     let lt : c.loop-place.place < length ms = omega (arith, c.loop-place-test.true, c.loop-place.auto.place-end) in
     let front : drop c.loop-place.place ms ≡ m ∷ drop (c.loop-place.place + 1) ms = front_is ms c.loop-place.place m lt c.index-members-place.is in
     record {
-      own = rw c.release.ensures.lists (own_released n m.id ms lists c.loop-place.invariant.own);
-      rest = rw c.release.ensures.lists (sym (ap (λ (v : List (Member g.row.C.Denot)). released_all n lists v) front) ∙ c.loop-place.invariant.rest);
-      slots = c.release.ensures.slots ∙ c.loop-place.invariant.slots;
-      room = c.release.ensures.total ∙ c.loop-place.invariant.room;
+      own = rw c.release_member.ensures.lists (own_released n m.id ms lists c.loop-place.invariant.own);
+      rest = rw c.release_member.ensures.lists (sym (ap (λ (v : List (Member g.row.C.Denot)). released_all n lists v) front) ∙ c.loop-place.invariant.rest);
+      slots = c.release_member.ensures.slots ∙ c.loop-place.invariant.slots;
+      room = c.release_member.ensures.total ∙ c.loop-place.invariant.room;
     }

@@ -13,21 +13,23 @@ use Rattle.sleep_wake.proofs.resting.release_resting.Goals as goal
 pub release_each-requires : goal.release_each-requires
 release_each-requires g c =
     let n = g.C.Id.number in
-    let s : Acting g.row.C.Denot = acting c.args.ties.now c.args.islands.now.labels c.args.colours.now.lists in
+    let s : Acting g.row.C.Denot = acting c.args.ties.now.items c.args.islands.now.labels c.args.colours.now.lists in
     let wanted : Member g.row.C.Denot → Bool = is_to_rest (least_at c.args.leasts.now) c.args.islands.now.labels in
-    let few : c.deref.result.now ≡ filter wanted (all_members s.lists) = c.deref.ensures.value ∙ c.list_resting.ensures c.if-list_resting.true ∙ ap (λ (v : List (List (Member g.row.C.Denot))). filter wanted (all_members v)) c.colours.ensures.lists in
+    let few : c.deref.result.now ≡ filter wanted (all_members s.lists) = c.deref.ensures.value ∙ c.list_resting.ensures c.if-list_resting.true in
     let P : List (Member g.row.C.Denot) → Type 0 = λ v. OwnMovers n v s.lists in
     record { own = subst P (sym few) (coloured_own n s wanted c.requires.settled) }
 
 pub release_among-requires : goal.release_among-requires
 release_among-requires g c =
-    let s : Acting g.row.C.Denot = acting c.args.ties.now c.args.islands.now.labels c.args.colours.now.lists in
-    record { own = own_of g.C.Id.number s c.requires.settled }
+    let s : Acting g.row.C.Denot = acting c.args.ties.now.items c.args.islands.now.labels c.args.colours.now.lists in
+    let same : c.as_slice.result.now ≡ s.ties = c.as_slice.ensures.value ∙ c.settle.ensures.items in
+    let P : List (Member g.row.C.Denot) → Type 0 = λ v. OwnMovers g.C.Id.number v s.lists in
+    record { own = subst P (sym same) (own_of g.C.Id.number s c.requires.settled) }
 
 pub returns-then-list_resting-clause-lists : goal.returns-then-list_resting-clause-lists
 returns-then-list_resting-clause-lists g c =
     let n = g.C.Id.number in
-    let s : Acting g.row.C.Denot = acting c.args.ties.now c.args.islands.now.labels c.args.colours.now.lists in
+    let s : Acting g.row.C.Denot = acting c.args.ties.now.items c.args.islands.now.labels c.args.colours.now.lists in
     let wanted : Member g.row.C.Denot → Bool = is_to_rest (least_at c.args.leasts.now) c.args.islands.now.labels in
-    let few : c.deref.result.now ≡ filter wanted (all_members s.lists) = c.deref.ensures.value ∙ c.list_resting.ensures c.if-list_resting.true ∙ ap (λ (v : List (List (Member g.row.C.Denot))). filter wanted (all_members v)) c.colours.ensures.lists in
+    let few : c.deref.result.now ≡ filter wanted (all_members s.lists) = c.deref.ensures.value ∙ c.list_resting.ensures c.if-list_resting.true in
     c.release_each.ensures.lists ∙ ap (λ (v : List (Member g.row.C.Denot)). released_all n s.lists v) few ∙ coloured_same n s wanted c.requires.settled

@@ -12,8 +12,8 @@ loop-place-preserved g c =
     let front : drop c.loop-place.place c.args.list.now ≡ m ∷ rest = front_is c.args.list.now c.loop-place.place m lt c.index-list-place.is in
     let left : released_all g.C.Id.number c.loop-place.colours.lists (m ∷ rest) ≡ released_all g.C.Id.number c.args.colours.now.lists c.args.list.now = rw front at c.loop-place.invariant.rest in
     record {
-      own = rw c.release.ensures.lists (own_released g.C.Id.number m.id c.args.list.now c.loop-place.colours.lists c.loop-place.invariant.own);
-      rest = rw c.release.ensures.lists left;
-      slots = c.release.ensures.slots ∙ c.loop-place.invariant.slots;
-      room = c.release.ensures.total ∙ c.loop-place.invariant.room;
+      own = rw c.release_member.ensures.lists (own_released g.C.Id.number m.id c.args.list.now c.loop-place.colours.lists c.loop-place.invariant.own);
+      rest = rw c.release_member.ensures.lists left;
+      slots = c.release_member.ensures.slots ∙ c.loop-place.invariant.slots;
+      room = c.release_member.ensures.total ∙ c.loop-place.invariant.room;
     }

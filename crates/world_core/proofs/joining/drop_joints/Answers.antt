@@ -1,4 +1,4 @@
-use Rattle.std.proofs.Common.{◌≡◌, ◌<◌, get_or, length, arith}
+use Rattle.std.proofs.Common.{◌<◌, get_or, length, arith}
 use Rattle.solver_sets.specs.Ties.{slots_of}
 use Rattle.world_core.proofs.OwnJointLaws.{own_below, unjoined_done, unjoined_next}
 use Rattle.world_core.proofs.joining.drop_joints.Goals as goal

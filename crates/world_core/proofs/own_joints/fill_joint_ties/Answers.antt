@@ -1,4 +1,4 @@
-use Rattle.std.proofs.Common.{◌≡◌, ◌<◌, ◌≤◌, ◌∙◌, get_or, length, refl, arith}
+use Rattle.std.proofs.Common.{◌<◌, ◌∙◌, get_or, length, arith}
 use Rattle.solver_sets.proofs.ListingLaws.{grown_by, listed_all, listed_more}
 use Rattle.world_core.proofs.OwnJointLaws.{own_below, own_tie, own_ties}
 use Rattle.world_core.proofs.own_joints.fill_joint_ties.Goals as goal

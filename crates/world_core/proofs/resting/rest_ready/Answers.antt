@@ -60,7 +60,7 @@ fill_newly_asleep-requires-clause-all c =
     let told : AreTold timed c.args.sets.now.acting.labels = timed_told c.args.ticks c.args.bodies.now.bodies c.args.sets.now.acting.labels c.requires.told in
     let phase : c.sleep_phase.new.self.acting ≡ rested_acting timed c.args.joints.now c.args.contacts.now c.args.sets.now.acting =
     phase_by_awake timed c.args.joints.now c.args.contacts.now c.args.sets.now.acting c.sleep_phase.new.self.acting c.awake-2.result.now c.fill_awake_timers.new.timers.items (rw c.time.ensures.bodies at c.awake-2.ensures) tied told
-    (rw (c.bodies-2.ensures, c.time.ensures.bodies) at c.fill_awake_timers.ensures.size) c.requires.tells (rw (c.bodies-2.ensures, c.colours-2.ensures, c.time.ensures.bodies) at c.fill_awake_timers.ensures.same) (rw c.deref.ensures.value at c.sleep_phase.ensures.acting) in
+    (rw (c.bodies-2.ensures, c.time.ensures.bodies) at c.fill_awake_timers.ensures.size) c.requires.tells (rw (c.bodies-2.ensures, c.colours-2.ensures.lists, c.time.ensures.bodies) at c.fill_awake_timers.ensures.same) (rw c.deref.ensures.value at c.sleep_phase.ensures.acting) in
     rw (c.bodies-3.ensures, c.islands-2.ensures, c.time.ensures.bodies)
     (newly_asleep_awake timed c.sleep_phase.new.self.acting.labels c.awake-4.result.now (rw c.time.ensures.bodies at c.awake-4.ensures) (tied_rested (timers_of timed c.args.joints.now c.args.contacts.now) timed c.args.sets.now.acting c.sleep_phase.new.self.acting c.requires.settled tied phase))
 
@@ -68,7 +68,7 @@ pub returns-clause-acting : goal.returns-clause-acting
 returns-clause-acting c =
     phase_by_awake (timed_bodies c.args.ticks c.args.bodies.now.bodies) c.args.joints.now c.args.contacts.now c.args.sets.now.acting c.sleep_phase.new.self.acting c.awake-2.result.now c.fill_awake_timers.new.timers.items (rw c.time.ensures.bodies at c.awake-2.ensures)
     (tied_timed c.args.ticks c.args.bodies.now.bodies c.args.sets.now.acting.labels c.requires.tied) (timed_told c.args.ticks c.args.bodies.now.bodies c.args.sets.now.acting.labels c.requires.told)
-    (rw (c.bodies-2.ensures, c.time.ensures.bodies) at c.fill_awake_timers.ensures.size) c.requires.tells (rw (c.bodies-2.ensures, c.colours-2.ensures, c.time.ensures.bodies) at c.fill_awake_timers.ensures.same) (rw c.deref.ensures.value at c.sleep_phase.ensures.acting)
+    (rw (c.bodies-2.ensures, c.time.ensures.bodies) at c.fill_awake_timers.ensures.size) c.requires.tells (rw (c.bodies-2.ensures, c.colours-2.ensures.lists, c.time.ensures.bodies) at c.fill_awake_timers.ensures.same) (rw c.deref.ensures.value at c.sleep_phase.ensures.acting)
 
 pub returns-clause-marked : goal.returns-clause-marked
 returns-clause-marked c = marked_after c.args.bodies.now c.time.new.self c.tell_some.new.self c.time.ensures.marked c.tell_some.ensures.marked
@@ -89,7 +89,7 @@ tell_some-requires-clause-others c =
     let phase : c.sleep_phase.new.self.acting ≡ rested_acting timed c.args.joints.now c.args.contacts.now c.args.sets.now.acting =
     phase_by_awake timed c.args.joints.now c.args.contacts.now c.args.sets.now.acting c.sleep_phase.new.self.acting c.awake-2.result.now c.fill_awake_timers.new.timers.items (rw c.time.ensures.bodies at c.awake-2.ensures)
     (tied_timed c.args.ticks c.args.bodies.now.bodies c.args.sets.now.acting.labels c.requires.tied) told
-    (rw (c.bodies-2.ensures, c.time.ensures.bodies) at c.fill_awake_timers.ensures.size) c.requires.tells (rw (c.bodies-2.ensures, c.colours-2.ensures, c.time.ensures.bodies) at c.fill_awake_timers.ensures.same) (rw c.deref.ensures.value at c.sleep_phase.ensures.acting) in
+    (rw (c.bodies-2.ensures, c.time.ensures.bodies) at c.fill_awake_timers.ensures.size) c.requires.tells (rw (c.bodies-2.ensures, c.colours-2.ensures.lists, c.time.ensures.bodies) at c.fill_awake_timers.ensures.same) (rw c.deref.ensures.value at c.sleep_phase.ensures.acting) in
     let same : length c.time.new.self.bodies ≡ length timed = ap (λ (bs : List (Option Body)). length bs) c.time.ensures.bodies in
     let kept : length c.time.new.self.bodies ≡ length c.args.bodies.now.bodies = c.time.ensures.slots.slots in
     let room = c.requires.places in

@@ -1,7 +1,6 @@
-use Rattle.std.proofs.Common.{◌≡◌, ◌∙◌, List, length, map, sym, ap}
+use Rattle.std.proofs.Common.{◌≡◌, ◌∙◌, List, length, map, ap}
 use Rattle.colour_solver.specs.ColourRows.{all_rows}
 use Rattle.colour_solver.specs.Ticks.{ran, start}
-use Rattle.plain_world.specs.declared.body.Body.{Body}
 use Rattle.colour_solver.specs.ConstraintTurns.{contacts_among, joints_among}
 use Rattle.world_core_base.specs.ConstraintRows.{rows_of}
 use Rattle.world_core_base.specs.Gather.{states_of}

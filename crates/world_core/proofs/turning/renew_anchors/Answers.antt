@@ -3,5 +3,4 @@ use Rattle.world_core.proofs.turning.renew_anchors.Goals as goal
 
 pub returns : goal.returns
 returns c =
-    let renewed = rw c.ties.ensures.value at c.renew.ensures.told in
-    record { told = λ s same tell. renewed (tell_turned _ _ _ _ c.args.changes.now s c.args.sets.now.acting same c.add_each.ensures.told tell) }
+    record { told = λ s same tell. c.renew.ensures.told (tell_turned _ _ _ _ c.args.changes.now s c.args.sets.now.acting same c.add_each.ensures.told tell) }

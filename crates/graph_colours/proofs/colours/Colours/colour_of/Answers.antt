@@ -1,8 +1,8 @@
 use Rattle.std.proofs.Common.{◌<◌, ◌≤◌, sym, ap, Some, ◌∙◌, arith, length, Bool}
 use Rattle.std.specs.List.{position_or_len}
-use Rattle.graph_colours.specs.Members.{AreRising, has_id}
+use Rattle.graph_colours.specs.Members.{has_id}
 use Rattle.graph_colours.specs.Marks.{Bucket}
-use Rattle.graph_colours.proofs.GraphLemmas.{lists_right, in_colour, in_overflow, in_none}
+use Rattle.graph_colours.proofs.GraphLemmas.{in_colour, in_overflow, in_none}
 use Rattle.graph_colours.proofs.colours.Colours.colour_of.Goals as goal
 
 pub returns-then-colour-len : goal.returns-then-colour-len
@@ -18,7 +18,7 @@ returns-then-has_id g c =
     let q : Bucket g.row.C.Denot → Bool = λ b. has_id g.C.Id.number c.args.id b.members in
     let bs = c.self.inside.colours.items in
     let e = rw c.deref.ensures.value at c.first_with-colour.ensures in
-    let has = rw c.as_slice.ensures.value at c.has_id.ensures in
+    let has = c.has_id.ensures in
     let le : length bs ≤ position_or_len q bs = omega (arith, e, c.if-colour-len.false, c.len.ensures, c.self.inside.colours.ok.0) in
     rw (← c.self.view_is) (ap (λ i. Some i) (sym c.self.invariant.graph.colours_count) ∙ in_overflow g.C.Id.number c.args.id bs c.self.inside.overflow.items le (sym has ∙ c.if-has_id.true))
 
@@ -27,6 +27,6 @@ returns g c =
     let q : Bucket g.row.C.Denot → Bool = λ b. has_id g.C.Id.number c.args.id b.members in
     let bs = c.self.inside.colours.items in
     let e = rw c.deref.ensures.value at c.first_with-colour.ensures in
-    let has = rw c.as_slice.ensures.value at c.has_id.ensures in
+    let has = c.has_id.ensures in
     let le : length bs ≤ position_or_len q bs = omega (arith, e, c.if-colour-len.false, c.len.ensures, c.self.inside.colours.ok.0) in
     rw (← c.self.view_is) (in_none g.C.Id.number c.args.id bs c.self.inside.overflow.items le (sym has ∙ c.if-has_id.false))

@@ -1,4 +1,4 @@
-use Rattle.std.proofs.Common.{◌≡◌, ◌+◌, ◌<◌, ◌∙◌, arith}
+use Rattle.std.proofs.Common.{◌+◌, ◌<◌, ◌∙◌, arith}
 use Rattle.graph_colours.specs.declared.limits.TheConstants.{COLOURS}
 use Rattle.graph_colours.specs.Given.{members_of}
 use Rattle.graph_colours.proofs.GraphLemmas.{rising_at}
@@ -23,7 +23,7 @@ invariant_of-result g c =
     record {
       graph = graph_given g.C.Id.number c.reserve_lists.new.colours.items c.reserve_lists.new.overflow.items (members_of lists) c.reserve_lists.new.overflow.capacity c.args.count c.args.slots c.requires.colouring same c.requires.count
           c.in_ok-reserve_lists.ensures.made c.in_ok-reserve_lists.ensures.overflow_made;
-      rest = c.reserve_lists.ensures.rest (record { colours = c.in_ok-colours.ensures.rest; overflow = c.in_ok-overflow.ensures.pending });
+      rest = λ q. c.reserve_lists.ensures.rest (record { colours = c.in_ok-colours.ensures.rest; overflow = c.in_ok-overflow.ensures.pending });
     }
 
 pub from_members-requires : goal.from_members-requires

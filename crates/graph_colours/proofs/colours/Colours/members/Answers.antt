@@ -10,7 +10,7 @@ pub returns-in-Some-clause-colouring : goal.returns-in-Some-clause-colouring
 returns-in-Some-clause-colouring g c = rw (← c.self.view_is) c.self.invariant.graph.colouring
 
 pub returns-in-Some-clause-rising : goal.returns-in-Some-clause-rising
-returns-in-Some-clause-rising g c = rising_at g.C.Id.number c.args.self.now.lists c.args.colour c.members.result.now (returns-in-Some-clause-colouring g c) c.requires (returns-in-Some-clause-value g c)
+returns-in-Some-clause-rising g c = rising_at g.C.Id.number c.args.self.now.lists c.args.colour c.members.result.now (returns-in-Some-clause-colouring g c) c.requires.colour (returns-in-Some-clause-value g c)
 
 pub returns-in-Some-clause-apart : goal.returns-in-Some-clause-apart
 returns-in-Some-clause-apart g c = λ lt. apart_at g.C.Id.number c.args.self.now.lists c.args.colour c.members.result.now (returns-in-Some-clause-colouring g c) lt (returns-in-Some-clause-value g c)
@@ -22,4 +22,4 @@ pub returns-in-None-clause-colouring : goal.returns-in-None-clause-colouring
 returns-in-None-clause-colouring g c = rw (← c.self.view_is) c.self.invariant.graph.colouring
 
 pub returns-in-None-clause-rising : goal.returns-in-None-clause-rising
-returns-in-None-clause-rising g c = rising_at g.C.Id.number c.args.self.now.lists c.args.colour c.as_slice.result.now (returns-in-None-clause-colouring g c) c.requires (returns-in-None-clause-value g c)
+returns-in-None-clause-rising g c = rising_at g.C.Id.number c.args.self.now.lists c.args.colour c.as_slice.result.now (returns-in-None-clause-colouring g c) c.requires.colour (returns-in-None-clause-value g c)

@@ -1,9 +1,10 @@
-use Rattle.std.proofs.Common.{◌≡◌, ◌≤◌, ◌<◌, ◌-◌, ◌+◌, ◌∙◌, arith, rules, List, length}
+use Rattle.std.proofs.Common.{◌≡◌, ◌≤◌, ◌+◌, arith, rules, length}
+use Rattle.std.proofs.lemmas.Bool.{false≢true}
 use Rattle.graph_colours.specs.declared.limits.TheConstants.{COLOURS}
 use Rattle.graph_colours.specs.declared.member.Member.{Member}
 use Rattle.graph_colours.specs.Marks.{lists_of}
 use Rattle.graph_colours.specs.Colours.{all_members, placed, IsColouring}
-use Rattle.graph_colours.proofs.ColouringLemmas.{placed_own, placed_others, placed_members, placed_keeps}
+use Rattle.graph_colours.proofs.ColouringLemmas.{placed_own, placed_others, placed_members}
 use Rattle.graph_colours.proofs.SizeLemmas.{placed_size}
 use Rattle.graph_colours.proofs.colours.Colours.place.Goals as goal
 
@@ -11,13 +12,13 @@ pub overflow_cast-result : goal.overflow_cast-result
 overflow_cast-result g c = let le : c.place_in-colour.result ≤ COLOURS = c.place_in-colour.ensures.most in search (rules, le)
 
 pub invariant_of-self : goal.invariant_of-self
-invariant_of-self g c = record { graph = c.settle_lists.ensures.graph _ c.place_in-colour.ensures.graph; rest = c.settle_lists.ensures.rest }
+invariant_of-self g c = record { graph = c.place_in-colour.ensures.graph; rest = λ q. absurd (false≢true q) }
 
 pub returns-clause-colour : goal.returns-clause-colour
 returns-clause-colour g c = rw (← c.self.view_is) c.place_in-colour.ensures.colour
 
 pub returns-clause-lists : goal.returns-clause-lists
-returns-clause-lists g c = rw (← c.self.view_is) (c.settle_lists.ensures.lists ∙ c.place_in-colour.ensures.lists)
+returns-clause-lists g c = rw (← c.self.view_is) c.place_in-colour.ensures.lists
 
 pub returns-clause-keeps : goal.returns-clause-keeps
 returns-clause-keeps g c = (invariant_of-self g c).graph.colouring
@@ -46,7 +47,7 @@ pub returns-clause-total : goal.returns-clause-total
 returns-clause-total g c =
     let a = c.self.inside in
     let m : Member g.row.C.Denot = record { id = c.args.id; movers = c.args.movers } in
-    let is = c.settle_lists.ensures.lists ∙ c.place_in-colour.ensures.lists in
+    let is = c.place_in-colour.ensures.lists in
     let more : length (all_members (placed g.C.Id.number m (lists_of a.colours.items a.overflow.items))) ≡ length (all_members (lists_of a.colours.items a.overflow.items)) + 1 = placed_size g.C.Id.number m (lists_of a.colours.items a.overflow.items) c.self.invariant.graph.colouring in
     let one = rw (← c.self.view_is) at c.requires.room in
     rw (← c.self.view_is, is) (omega (arith, more, one))

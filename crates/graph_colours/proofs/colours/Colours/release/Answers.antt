@@ -1,16 +1,17 @@
-use Rattle.std.proofs.Common.{◌≡◌, ◌-◌, ◌+◌, ◌≤◌, ◌∙◌, List, length, ap, arith}
+use Rattle.std.proofs.Common.{List, length, ap, arith}
+use Rattle.std.proofs.lemmas.Bool.{false≢true}
 use Rattle.graph_colours.specs.declared.member.Member.{Member}
-use Rattle.graph_colours.specs.Colours.{all_members, released}
+use Rattle.graph_colours.specs.Colours.{all_members}
 use Rattle.graph_colours.specs.Marks.{lists_of}
 use Rattle.graph_colours.proofs.ColouringLemmas.{released_own, released_others, released_members}
 use Rattle.graph_colours.proofs.SizeLemmas.{released_size}
 use Rattle.graph_colours.proofs.colours.Colours.release.Goals as goal
 
 pub invariant_of-self : goal.invariant_of-self
-invariant_of-self g c = record { graph = c.settle_lists.ensures.graph _ c.release_in-self-inside.ensures.graph; rest = c.settle_lists.ensures.rest }
+invariant_of-self g c = record { graph = c.release_in-self-inside.ensures.graph; rest = λ q. absurd (false≢true q) }
 
 pub returns-clause-lists : goal.returns-clause-lists
-returns-clause-lists g c = rw (← c.self.view_is) (c.settle_lists.ensures.lists ∙ c.release_in-self-inside.ensures.lists)
+returns-clause-lists g c = rw (← c.self.view_is) c.release_in-self-inside.ensures.lists
 
 pub returns-clause-keeps : goal.returns-clause-keeps
 returns-clause-keeps g c = (invariant_of-self g c).graph.colouring
@@ -37,5 +38,5 @@ pub returns-clause-total : goal.returns-clause-total
 returns-clause-total g c =
     let new = c.release_in-self-inside.ensures.graph in
     let old = c.self.invariant.graph in
-    let is = ap (λ (ls : List (List (Member g.row.C.Denot))). length (all_members ls)) c.settle_lists.ensures.lists in
+    let is = ap (λ (ls : List (List (Member g.row.C.Denot))). length (all_members ls)) c.release_in-self-inside.ensures.lists in
     rw (← c.self.view_is) (omega (arith, new.members, new.few, old.members, old.few, is, c.release_in-self-inside.ensures.total))

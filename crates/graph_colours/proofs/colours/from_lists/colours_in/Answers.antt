@@ -1,7 +1,6 @@
-use Rattle.std.proofs.Common.{◌≡◌, ◌+◌, ◌<◌, ◌≤◌, ◌++◌, ◌∷◌, [], ◌∙◌, arith}
+use Rattle.std.proofs.Common.{◌≡◌, ◌+◌, ◌<◌, ◌++◌, ◌∷◌, [], ◌∙◌, arith}
 use Rattle.std.proofs.lemmas.Grind.{common_steps}
 use Rattle.graph_colours.specs.declared.limits.TheConstants.{COLOURS}
-use Rattle.graph_colours.specs.Colours.{list_at}
 use Rattle.graph_colours.specs.Given.{members_of}
 use Rattle.graph_colours.proofs.GraphLemmas.{apart_at, rising_at}
 use Rattle.graph_colours.proofs.GivenLaws.{below_at, colours_more, vector_at}

@@ -1,58 +1,40 @@
-use Rattle.std.proofs.Common.{◌≡◌, ◌++◌, ◌∷◌, [], true, false, List, Some, None, refl, sym, ap, subst, ◌∙◌, arith}
-use Rattle.std.proofs.lemmas.Bool.{false≢true}
-use Rattle.std.proofs.lemmas.Grind.{common_steps}
-use Rattle.std.specs.Vec.{vec_capacity}
-use Rattle.graph_colours.specs.declared.edits.Edit.{Edit}
-use Rattle.graph_colours.specs.Members.{has_id, movers_of}
-use Rattle.graph_colours.specs.Edits.{all_edited, IsEdited}
+use Rattle.std.proofs.Common.{◌≡◌, List, Option, None, Some, length, sym, ap, ◌∙◌, arith}
+use Rattle.std.specs.Option.{is_some, option_map}
+use Rattle.graph_colours.specs.declared.member.Member.{Member}
+use Rattle.graph_colours.specs.Members.{with_number}
+use Rattle.graph_colours.specs.Edits.{all_edited}
 use Rattle.graph_colours.proofs.PlaceLemmas.{without_same}
-use Rattle.graph_colours.proofs.EditLemmas.{edit_waits, one_more_edit, movers_edited, has_by}
+use Rattle.graph_colours.proofs.EditLemmas.{all_made}
+use Rattle.graph_colours.proofs.NotedLemmas.{movers_with, has_with, without_count}
 use Rattle.graph_colours.proofs.edited.EditedList.remove.Goals as goal
 
 pub returns-in_err-movers-clause-value : goal.returns-in_err-movers-clause-value
 returns-in_err-movers-clause-value g c =
     let n = g.C.Id.number in
-    let ms = c.self.inside.list.items in
-    let es = c.self.inside.edits.items in
-    let above = rw c.number.ensures at (c.if-not-can_wait.ensures.above refl) in
-    let found : None ≡ movers_of n c.args.id ms = rw c.deref.ensures.value at c.in_err-movers.ensures in
-    rw (← c.self.view_is) (c.from_residual.ensures ∙ found ∙ sym (movers_edited n c.args.id es ms above))
+    let items = c.args.self.now.items in
+    let found : None ≡ with_number n (n c.args.id) items = rw c.number.ensures at c.in_err-movers.ensures in
+    c.from_residual.ensures ∙ sym (movers_with n c.args.id items ∙ ap (λ (o : Option (Member g.row.C.Denot)). option_map (λ m. m.movers) o) (sym found))
 
 pub returns-in_err-movers-clause-items : goal.returns-in_err-movers-clause-items
 returns-in_err-movers-clause-items g c =
     let n = g.C.Id.number in
-    let ms = c.self.inside.list.items in
-    let es = c.self.inside.edits.items in
-    let above = rw c.number.ensures at (c.if-not-can_wait.ensures.above refl) in
-    let found : None ≡ movers_of n c.args.id ms = rw c.deref.ensures.value at c.in_err-movers.ensures in
-    let none : None ≡ movers_of n c.args.id (all_edited n es ms) = found ∙ sym (movers_edited n c.args.id es ms above) in
-    rw (← c.self.view_is) (sym (without_same n c.args.id (all_edited n es ms) (has_by n c.args.id (all_edited n es ms) none)))
+    let items = c.args.self.now.items in
+    let found : None ≡ with_number n (n c.args.id) items = rw c.number.ensures at c.in_err-movers.ensures in
+    sym (without_same n c.args.id items (sym (has_with n c.args.id items) ∙ ap (λ (o : Option (Member g.row.C.Denot)). is_some o) (sym found)))
 
 pub invariant_of-self : goal.invariant_of-self
 invariant_of-self g c =
     let n = g.C.Id.number in
-    let ms = c.self.inside.list.items in
-    let es = c.self.inside.edits.items in
-    let e : Edit g.row.C.Denot = record { member = record { id = c.args.id; movers = c.in_ok-movers.movers }; adds = false } in
-    let pushed : c.push.new.self.items ≡ es ++ e ∷ [] = grind (arith, common_steps) in
-    let above = rw c.number.ensures at (c.if-not-can_wait.ensures.above refl) in
-    let P : List (Edit g.row.C.Denot) → Type 0 = λ l. IsEdited n ms l (vec_capacity c.self.inside.list) in
-    subst P (sym pushed) (edit_waits n es e ms (vec_capacity c.self.inside.list) c.self.invariant (c.if-not-can_wait.ensures.room refl) above (λ q. absurd (false≢true q)))
+    let a = c.self.inside in
+    let old : List (Member g.row.C.Denot) = all_edited n a.edits.items a.list.items in
+    let found : Some c.in_ok-movers.field-0 ≡ with_number n (n c.args.id) old = rw (← c.self.view_is) at (rw c.number.ensures at c.in_ok-movers.ensures) in
+    let fewer = without_count n c.args.id old c.in_ok-movers.field-0 (all_made n a.edits.items a.list.items _ c.self.invariant.edited) (sym found) in
+    let long = ap (λ (l : List (Member g.row.C.Denot)). length l) c.take_in.ensures.items in
+    record { edited = c.take_in.ensures.edited; counted = omega (arith, long, fewer, c.self.invariant.counted) }
 
 pub returns-clause-value : goal.returns-clause-value
 returns-clause-value g c =
     let n = g.C.Id.number in
-    let ms = c.self.inside.list.items in
-    let es = c.self.inside.edits.items in
-    let above = rw c.number.ensures at (c.if-not-can_wait.ensures.above refl) in
-    let found : Some c.in_ok-movers.movers ≡ movers_of n c.args.id ms = rw c.deref.ensures.value at c.in_ok-movers.ensures in
-    rw (← c.self.view_is) (found ∙ sym (movers_edited n c.args.id es ms above))
-
-pub returns-clause-items : goal.returns-clause-items
-returns-clause-items g c =
-    let n = g.C.Id.number in
-    let ms = c.self.inside.list.items in
-    let es = c.self.inside.edits.items in
-    let e : Edit g.row.C.Denot = record { member = record { id = c.args.id; movers = c.in_ok-movers.movers }; adds = false } in
-    let pushed : c.push.new.self.items ≡ es ++ e ∷ [] = grind (arith, common_steps) in
-    rw (← c.self.view_is) (ap (λ (l : List (Edit g.row.C.Denot)). all_edited n l ms) pushed ∙ one_more_edit n es e ms)
+    let items = c.args.self.now.items in
+    let found : Some c.in_ok-movers.field-0 ≡ with_number n (n c.args.id) items = rw c.number.ensures at c.in_ok-movers.ensures in
+    sym (movers_with n c.args.id items ∙ ap (λ (o : Option (Member g.row.C.Denot)). option_map (λ m. m.movers) o) (sym found))

@@ -12,16 +12,16 @@ invariant_of-result g c =
     let n = g.C.Id.number in
     let nobody : List (Member g.row.C.Denot) = [] in
     let none : List (List (Member g.row.C.Denot)) = replicate (COLOURS + 1) nobody in
-    let lists : c.new-3.result.lists ≡ none = c.new-3.ensures.lists ∙ c.in_ok-new.ensures.lists in
-    let labels : c.new-4.result.labels ≡ [] = c.new-4.ensures.labels in
+    let lists : c.in_ok-new.field-0.lists ≡ none = c.in_ok-new.ensures.lists in
+    let labels : c.new-3.result.labels ≡ [] = c.new-3.ensures.labels in
     let ties : c.new.result.items ≡ nobody = c.new.ensures.items in
-    let is : acting c.new.result.items c.new-4.result.labels c.new-3.result.lists ≡ acting nobody [] none = ap (λ (v : List (Member g.row.C.Denot)). acting v c.new-4.result.labels c.new-3.result.lists) ties ∙ ap (λ (v : Labels). acting nobody v c.new-3.result.lists) labels ∙ ap (λ (v : List (List (Member g.row.C.Denot))). acting nobody [] v) lists in
+    let is : acting c.new.result.items c.new-3.result.labels c.in_ok-new.field-0.lists ≡ acting nobody [] none = ap (λ (v : List (Member g.row.C.Denot)). acting v c.new-3.result.labels c.in_ok-new.field-0.lists) ties ∙ ap (λ (v : Labels). acting nobody v c.in_ok-new.field-0.lists) labels ∙ ap (λ (v : List (List (Member g.row.C.Denot))). acting nobody [] v) lists in
     let few : length c.new.result.items ≡ 0 = ap (λ (v : List (Member g.row.C.Denot)). length v) ties in
-    let short : length c.new-4.result.labels ≡ 0 = ap (λ (v : Labels). length v) labels in
+    let short : length c.new-3.result.labels ≡ 0 = ap (λ (v : Labels). length v) labels in
     let P : Acting g.row.C.Denot → Type 0 = λ v. IsSettled n v in
     record {
       settled = subst P (sym is) (empty_settled n none (colouring_of_none n) refl);
       enough = omega (arith, few);
       few = omega (arith, short);
-      rooms = record { ties = omega arith; colours = omega arith; colour_slots = omega arith; islands = omega arith; edges = omega arith; scratch_slots = omega arith; links = omega arith; gathering_ties = omega arith; gathering_slots = omega arith; leasts = omega arith; ties_settled = c.new.ensures.pending; colours_settled = c.new-3.ensures.pending };
+      rooms = record { ties = omega arith; colours = omega arith; colour_slots = omega arith; islands = omega arith; edges = omega arith; scratch_slots = omega arith; links = omega arith; gathering_ties = omega arith; gathering_slots = omega arith; leasts = omega arith };
     }

@@ -18,8 +18,8 @@ invariant_of-self g c =
     let is : new ≡ put_to_rest n c.args.name s = c.fall_asleep.ensures.at_rest in
     let o = names a.islands.labels c.args.name false (rw (← c.self.view_is) at c.requires) in
     let P : Acting g.row.C.Denot → Type 0 = λ v. IsSettled n v in
-    stands_on n s new a.room a.slots (record { ties = a.ties.capacity; colours = a.colours.room; colour_slots = a.colours.slots; islands = a.islands.room; edges = vec_capacity a.edges; scratch_slots = a.scratch.slots; links = a.scratch.links; gathering_ties = a.gathering.ties; gathering_slots = a.gathering.slots; leasts = vec_capacity a.leasts; ties_pending = a.ties.pending; colours_pending = a.colours.pending }) (record { ties = a.ties.capacity; colours = c.fall_asleep.new.colours.room; colour_slots = c.fall_asleep.new.colours.slots; islands = c.fall_asleep.new.islands.room; edges = vec_capacity a.edges; scratch_slots = a.scratch.slots; links = a.scratch.links; gathering_ties = c.fall_asleep.new.gathering.ties; gathering_slots = c.fall_asleep.new.gathering.slots; leasts = vec_capacity a.leasts; ties_pending = a.ties.pending; colours_pending = c.fall_asleep.new.colours.pending }) c.self.invariant
+    stands_on n s new a.room a.slots (record { ties = a.ties.capacity; colours = a.colours.room; colour_slots = a.colours.slots; islands = a.islands.room; edges = vec_capacity a.edges; scratch_slots = a.scratch.slots; links = a.scratch.links; gathering_ties = a.gathering.ties; gathering_slots = a.gathering.slots; leasts = vec_capacity a.leasts }) (record { ties = a.ties.capacity; colours = c.fall_asleep.new.colours.room; colour_slots = c.fall_asleep.new.colours.slots; islands = c.fall_asleep.new.islands.room; edges = vec_capacity a.edges; scratch_slots = a.scratch.slots; links = a.scratch.links; gathering_ties = c.fall_asleep.new.gathering.ties; gathering_slots = c.fall_asleep.new.gathering.slots; leasts = vec_capacity a.leasts }) c.self.invariant
     (subst P (sym is) (resting n s c.args.name o.l c.self.invariant.settled o.at o.named o.loosely))
     (ap (λ (v : Acting g.row.C.Denot). v.ties) is ∙ rested_ties n c.args.name s)
     (ap (λ (v : Acting g.row.C.Denot). length v.labels) is ∙ rested_size n c.args.name s)
-    (record { ties = omega arith; colours = c.fall_asleep.ensures.room; colour_slots = c.fall_asleep.ensures.slots; islands = c.fall_asleep.ensures.islands_room; edges = omega arith; scratch_slots = refl; links = refl; gathering_ties = c.fall_asleep.ensures.gathering_ties; gathering_slots = c.fall_asleep.ensures.gathering_slots; leasts = omega arith; ties_settled = c.self.invariant.rooms.ties_settled; colours_settled = c.fall_asleep.ensures.rest c.self.invariant.rooms.colours_settled })
+    (record { ties = omega arith; colours = c.fall_asleep.ensures.room; colour_slots = c.fall_asleep.ensures.slots; islands = c.fall_asleep.ensures.islands_room; edges = omega arith; scratch_slots = refl; links = refl; gathering_ties = c.fall_asleep.ensures.gathering_ties; gathering_slots = c.fall_asleep.ensures.gathering_slots; leasts = omega arith })

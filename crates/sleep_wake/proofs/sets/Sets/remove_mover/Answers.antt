@@ -18,11 +18,11 @@ invariant_of-self g c =
     let awake = rw (← c.self.view_is) at c.requires.awake in
     let is : new ≡ mover_gone n c.args.slot s = gone_is n c.args.slot s c.take_out.new.self.labels alone c.take_out.ensures.labels in
     let P : Acting g.row.C.Denot → Type 0 = λ v. IsSettled n v in
-    stands n s new a.room a.slots (record { ties = a.ties.capacity; colours = a.colours.room; colour_slots = a.colours.slots; islands = a.islands.room; edges = vec_capacity a.edges; scratch_slots = a.scratch.slots; links = a.scratch.links; gathering_ties = a.gathering.ties; gathering_slots = a.gathering.slots; leasts = vec_capacity a.leasts; ties_pending = a.ties.pending; colours_pending = a.colours.pending }) (record { ties = a.ties.capacity; colours = a.colours.room; colour_slots = a.colours.slots; islands = c.take_out.new.self.room; edges = vec_capacity a.edges; scratch_slots = a.scratch.slots; links = a.scratch.links; gathering_ties = a.gathering.ties; gathering_slots = a.gathering.slots; leasts = vec_capacity a.leasts; ties_pending = a.ties.pending; colours_pending = a.colours.pending }) c.self.invariant
+    stands n s new a.room a.slots (record { ties = a.ties.capacity; colours = a.colours.room; colour_slots = a.colours.slots; islands = a.islands.room; edges = vec_capacity a.edges; scratch_slots = a.scratch.slots; links = a.scratch.links; gathering_ties = a.gathering.ties; gathering_slots = a.gathering.slots; leasts = vec_capacity a.leasts }) (record { ties = a.ties.capacity; colours = a.colours.room; colour_slots = a.colours.slots; islands = c.take_out.new.self.room; edges = vec_capacity a.edges; scratch_slots = a.scratch.slots; links = a.scratch.links; gathering_ties = a.gathering.ties; gathering_slots = a.gathering.slots; leasts = vec_capacity a.leasts }) c.self.invariant
     (subst P (sym is) (going_keeps n s c.args.slot c.self.invariant.settled awake))
     c.self.invariant.enough
     (let same : length c.take_out.new.self.labels ≡ length a.islands.labels = ap (λ (v : Labels). length v) c.take_out.ensures.labels ∙ taken_out_size a.islands.labels c.args.slot in omega (arith, same, c.self.invariant.few))
-    (record { ties = omega arith; colours = refl; colour_slots = refl; islands = c.take_out.ensures.room; edges = omega arith; scratch_slots = refl; links = refl; gathering_ties = omega arith; gathering_slots = omega arith; leasts = omega arith; ties_settled = c.self.invariant.rooms.ties_settled; colours_settled = c.self.invariant.rooms.colours_settled })
+    (record { ties = omega arith; colours = refl; colour_slots = refl; islands = c.take_out.ensures.room; edges = omega arith; scratch_slots = refl; links = refl; gathering_ties = omega arith; gathering_slots = omega arith; leasts = omega arith })
 
 pub returns-clause-acting : goal.returns-clause-acting
 returns-clause-acting g c =

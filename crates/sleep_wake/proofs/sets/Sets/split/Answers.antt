@@ -21,8 +21,8 @@ invariant_of-self g c =
     let labels = c.split_set.ensures.labels in
     let is : new ≡ split_at c.args.name s = splits_is c.args.name s c.split_set.new.islands.labels labels in
     let P : Acting g.row.C.Denot → Type 0 = λ v. IsSettled n v in
-    stands_on n s new a.room a.slots (record { ties = a.ties.capacity; colours = a.colours.room; colour_slots = a.colours.slots; islands = a.islands.room; edges = vec_capacity a.edges; scratch_slots = a.scratch.slots; links = a.scratch.links; gathering_ties = a.gathering.ties; gathering_slots = a.gathering.slots; leasts = vec_capacity a.leasts; ties_pending = a.ties.pending; colours_pending = a.colours.pending }) (record { ties = a.ties.capacity; colours = a.colours.room; colour_slots = a.colours.slots; islands = c.split_set.new.islands.room; edges = vec_capacity c.split_set.new.edges; scratch_slots = c.split_set.new.scratch.slots; links = c.split_set.new.scratch.links; gathering_ties = c.split_set.new.gathering.ties; gathering_slots = c.split_set.new.gathering.slots; leasts = vec_capacity a.leasts; ties_pending = a.ties.pending; colours_pending = a.colours.pending }) c.self.invariant
+    stands_on n s new a.room a.slots (record { ties = a.ties.capacity; colours = a.colours.room; colour_slots = a.colours.slots; islands = a.islands.room; edges = vec_capacity a.edges; scratch_slots = a.scratch.slots; links = a.scratch.links; gathering_ties = a.gathering.ties; gathering_slots = a.gathering.slots; leasts = vec_capacity a.leasts }) (record { ties = a.ties.capacity; colours = a.colours.room; colour_slots = a.colours.slots; islands = c.split_set.new.islands.room; edges = vec_capacity c.split_set.new.edges; scratch_slots = c.split_set.new.scratch.slots; links = c.split_set.new.scratch.links; gathering_ties = c.split_set.new.gathering.ties; gathering_slots = c.split_set.new.gathering.slots; leasts = vec_capacity a.leasts }) c.self.invariant
     (subst P (sym is) (splitting_keeps n s c.args.name o.l c.self.invariant.settled o.at o.named o.awake))
     refl
     (ap (λ (v : Labels). length v) labels ∙ (split_is a.islands.labels c.args.name (edges_in a.islands.labels c.args.name a.ties.items) c.self.invariant.settled.islands.partition (edges_inside a.islands.labels c.args.name a.ties.items c.self.invariant.settled.islands)).size)
-    (record { ties = omega arith; colours = refl; colour_slots = refl; islands = c.split_set.ensures.room; edges = c.split_set.ensures.edges_capacity; scratch_slots = c.split_set.ensures.scratch_slots; links = c.split_set.ensures.scratch_links; gathering_ties = c.split_set.ensures.gathering_ties; gathering_slots = c.split_set.ensures.gathering_slots; leasts = omega arith; ties_settled = c.self.invariant.rooms.ties_settled; colours_settled = c.self.invariant.rooms.colours_settled })
+    (record { ties = omega arith; colours = refl; colour_slots = refl; islands = c.split_set.ensures.room; edges = c.split_set.ensures.edges_capacity; scratch_slots = c.split_set.ensures.scratch_slots; links = c.split_set.ensures.scratch_links; gathering_ties = c.split_set.ensures.gathering_ties; gathering_slots = c.split_set.ensures.gathering_slots; leasts = omega arith })

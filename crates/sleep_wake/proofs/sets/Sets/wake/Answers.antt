@@ -15,11 +15,11 @@ invariant_of-self g c =
     let new : Acting g.row.C.Denot = acting a.ties.items c.wake_set.new.islands.labels c.wake_set.new.colours.lists in
     let is : new ≡ woken_at n c.args.slot s = c.wake_set.ensures.woken in
     let P : Acting g.row.C.Denot → Type 0 = λ v. IsSettled n v in
-    stands_on n s new a.room a.slots (record { ties = a.ties.capacity; colours = a.colours.room; colour_slots = a.colours.slots; islands = a.islands.room; edges = vec_capacity a.edges; scratch_slots = a.scratch.slots; links = a.scratch.links; gathering_ties = a.gathering.ties; gathering_slots = a.gathering.slots; leasts = vec_capacity a.leasts; ties_pending = a.ties.pending; colours_pending = a.colours.pending }) (record { ties = a.ties.capacity; colours = c.wake_set.new.colours.room; colour_slots = c.wake_set.new.colours.slots; islands = c.wake_set.new.islands.room; edges = vec_capacity a.edges; scratch_slots = a.scratch.slots; links = a.scratch.links; gathering_ties = c.wake_set.new.gathering.ties; gathering_slots = c.wake_set.new.gathering.slots; leasts = vec_capacity a.leasts; ties_pending = a.ties.pending; colours_pending = c.wake_set.new.colours.pending }) c.self.invariant
+    stands_on n s new a.room a.slots (record { ties = a.ties.capacity; colours = a.colours.room; colour_slots = a.colours.slots; islands = a.islands.room; edges = vec_capacity a.edges; scratch_slots = a.scratch.slots; links = a.scratch.links; gathering_ties = a.gathering.ties; gathering_slots = a.gathering.slots; leasts = vec_capacity a.leasts }) (record { ties = a.ties.capacity; colours = c.wake_set.new.colours.room; colour_slots = c.wake_set.new.colours.slots; islands = c.wake_set.new.islands.room; edges = vec_capacity a.edges; scratch_slots = a.scratch.slots; links = a.scratch.links; gathering_ties = c.wake_set.new.gathering.ties; gathering_slots = c.wake_set.new.gathering.slots; leasts = vec_capacity a.leasts }) c.self.invariant
     (subst P (sym is) (wakes n c.args.slot s c.self.invariant.settled).settled)
     (ap (λ (v : Acting g.row.C.Denot). v.ties) is ∙ woken_ties n c.args.slot s)
     (ap (λ (v : Acting g.row.C.Denot). length v.labels) is ∙ woken_size n c.args.slot s)
-    (record { ties = omega arith; colours = c.wake_set.ensures.room; colour_slots = c.wake_set.ensures.slots; islands = c.wake_set.ensures.islands_room; edges = omega arith; scratch_slots = refl; links = refl; gathering_ties = c.wake_set.ensures.gathering_ties; gathering_slots = c.wake_set.ensures.gathering_slots; leasts = omega arith; ties_settled = c.self.invariant.rooms.ties_settled; colours_settled = c.wake_set.ensures.rest c.self.invariant.rooms.colours_settled })
+    (record { ties = omega arith; colours = c.wake_set.ensures.room; colour_slots = c.wake_set.ensures.slots; islands = c.wake_set.ensures.islands_room; edges = omega arith; scratch_slots = refl; links = refl; gathering_ties = c.wake_set.ensures.gathering_ties; gathering_slots = c.wake_set.ensures.gathering_slots; leasts = omega arith })
 
 pub wake_set-requires-clause-below : goal.wake_set-requires-clause-below
 wake_set-requires-clause-below g c = λ m h.

@@ -15,11 +15,11 @@ invariant_of-self g c =
     let new : Acting g.row.C.Denot = acting a.ties.items c.wake_movers.new.islands.labels c.wake_movers.new.colours.lists in
     let is : new ≡ movers_woken n c.args.movers s = c.wake_movers.ensures.woken in
     let P : Acting g.row.C.Denot → Type 0 = λ v. IsSettled n v in
-    stands_on n s new a.room a.slots (record { ties = a.ties.capacity; colours = a.colours.room; colour_slots = a.colours.slots; islands = a.islands.room; edges = vec_capacity a.edges; scratch_slots = a.scratch.slots; links = a.scratch.links; gathering_ties = a.gathering.ties; gathering_slots = a.gathering.slots; leasts = vec_capacity a.leasts; ties_pending = a.ties.pending; colours_pending = a.colours.pending }) (record { ties = a.ties.capacity; colours = c.wake_movers.new.colours.room; colour_slots = c.wake_movers.new.colours.slots; islands = c.wake_movers.new.islands.room; edges = vec_capacity a.edges; scratch_slots = a.scratch.slots; links = a.scratch.links; gathering_ties = c.wake_movers.new.gathering.ties; gathering_slots = c.wake_movers.new.gathering.slots; leasts = vec_capacity a.leasts; ties_pending = a.ties.pending; colours_pending = c.wake_movers.new.colours.pending }) c.self.invariant
+    stands_on n s new a.room a.slots (record { ties = a.ties.capacity; colours = a.colours.room; colour_slots = a.colours.slots; islands = a.islands.room; edges = vec_capacity a.edges; scratch_slots = a.scratch.slots; links = a.scratch.links; gathering_ties = a.gathering.ties; gathering_slots = a.gathering.slots; leasts = vec_capacity a.leasts }) (record { ties = a.ties.capacity; colours = c.wake_movers.new.colours.room; colour_slots = c.wake_movers.new.colours.slots; islands = c.wake_movers.new.islands.room; edges = vec_capacity a.edges; scratch_slots = a.scratch.slots; links = a.scratch.links; gathering_ties = c.wake_movers.new.gathering.ties; gathering_slots = c.wake_movers.new.gathering.slots; leasts = vec_capacity a.leasts }) c.self.invariant
     (subst P (sym is) (wakes_both n c.args.movers.first c.args.movers.second s c.self.invariant.settled).settled)
     (ap (λ (v : Acting g.row.C.Denot). v.ties) is ∙ both_ties n c.args.movers s)
     (ap (λ (v : Acting g.row.C.Denot). length v.labels) is ∙ both_size n c.args.movers s)
-    (record { ties = omega arith; colours = c.wake_movers.ensures.room; colour_slots = c.wake_movers.ensures.slots; islands = c.wake_movers.ensures.islands_room; edges = omega arith; scratch_slots = refl; links = refl; gathering_ties = c.wake_movers.ensures.gathering_ties; gathering_slots = c.wake_movers.ensures.gathering_slots; leasts = omega arith; ties_settled = c.self.invariant.rooms.ties_settled; colours_settled = c.wake_movers.ensures.rest c.self.invariant.rooms.colours_settled })
+    (record { ties = omega arith; colours = c.wake_movers.ensures.room; colour_slots = c.wake_movers.ensures.slots; islands = c.wake_movers.ensures.islands_room; edges = omega arith; scratch_slots = refl; links = refl; gathering_ties = c.wake_movers.ensures.gathering_ties; gathering_slots = c.wake_movers.ensures.gathering_slots; leasts = omega arith })
 
 pub wake_movers-requires-clause-below : goal.wake_movers-requires-clause-below
 wake_movers-requires-clause-below g c = λ m h.

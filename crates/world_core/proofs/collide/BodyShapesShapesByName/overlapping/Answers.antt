@@ -1,9 +1,7 @@
-use Rattle.std.proofs.Common.{◌≡◌, ℕ, true, All, List, Option, subst, sym}
+use Rattle.std.proofs.Common.{◌≡◌, ℕ, true, All, List, subst, sym}
 use Rattle.std.specs.List.{Contains}
 use Rattle.fixed_geom.specs.Boxes.{overlaps}
-use Rattle.fixed_geom.specs.declared.boxes.Box2.{Box2}
 use Rattle.contacts_base.specs.declared.near.Proxy.{Proxy}
-use Rattle.world_core_base.specs.Covers.{AreCovered}
 use Rattle.world_rules.specs.Collide.{proxies_of}
 use Rattle.world_core.proofs.CoverLaws.{if_ok_then, overlapping_listed}
 use Rattle.world_core.proofs.collide.BodyShapesShapesByName.overlapping.Goals as goal

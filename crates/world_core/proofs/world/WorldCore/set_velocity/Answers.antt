@@ -30,9 +30,8 @@ invariant_of-self c =
     let due : steered (slots.body_of c.self.inside.handles.places c.self.inside.bodies.bodies c.args.handle) c.args.course ≡ Ok c.in_ok-course.course = rw (← c.bodies.ensures) (sym c.in_ok-course.ensures.value) in
     let woke : HasWoken (the_view c.self.inside) (stirred_by c.self.inside.bodies.bodies c.self.inside.joints.joints c.self.inside.contacts.contacts c.args.handle.slot) c.wake_named.new.sets.acting c.wake_named.new.bodies.bodies =
     has_woken (the_view c.self.inside) _ _ c.self.inside.sets.acting _ _ c.self.invariant.whole (rw (← c.self.view_is) at c.in_ok-names.ensures.value) (rw c.deref-2.ensures.value at c.wake_named.ensures.acting) c.wake_named.ensures.told in
-    let tidied = rw c.ties.ensures.value at c.tidy.ensures.told in
     core_bodies (the_view c.self.inside) _ _ _ c.self.inside.bodies c.change.new.self c.self.invariant
     (rw c.change.ensures.bodies (velocity_whole (the_view c.self.inside) c.args.handle c.args.course c.in_ok-course.course c.self.inside.sets.acting _ _ c.self.invariant.whole calls woke due))
     refl refl refl refl
     (marked_after c.self.inside.bodies c.wake_named.new.bodies c.change.new.self c.wake_named.ensures.marked c.change.ensures.marked)
-    c.tidy.new.self (tidied (tell_fewer c.self.inside.anchors.holds c.self.inside.anchors.lists c.self.inside.sets.acting.ties c.wake_named.new.sets.acting.ties (fewer_woken c.deref-2.result.now c.self.inside.sets.acting c.wake_named.new.sets.acting c.wake_named.ensures.acting) c.self.invariant.anchored))
+    c.tidy.new.self (c.tidy.ensures.told (tell_fewer c.self.inside.anchors.holds c.self.inside.anchors.lists c.self.inside.sets.acting.ties c.wake_named.new.sets.acting.ties (fewer_woken c.deref-2.result.now c.self.inside.sets.acting c.wake_named.new.sets.acting c.wake_named.ensures.acting) c.self.invariant.anchored))

@@ -48,10 +48,10 @@ returns-in_err-reserve-2 c =
     let refused : c.from_residual-in_err-reserve-2.result ≡ Err NoMemory = is_refusal _ _ c.from_residual-in_err-reserve-2.ensures.0 c.from_residual-in_err-reserve-2.ensures.1 c.in_err-reserve-2.ensures.memory_only in
     rw (← c.self.view_is) (step_refused (the_view c.self.inside) _ c.args.ticks _ between refused (rw (c.in_ok-changes.ensures.contacts, c.reserve-2.ensures.acting, c.in_ok-reserve.ensures.entries, c.in_ok-reserve.ensures.settled) refl))
 
-pub returns-in_err-reserve-3 : goal.returns-in_err-reserve-3
-returns-in_err-reserve-3 c =
+pub returns-in_err-reserve_rows : goal.returns-in_err-reserve_rows
+returns-in_err-reserve_rows c =
     let between : is_between (pos 1) (pos 8) c.args.ticks ≡ true = search (rules, tests) in
-    let refused : c.from_residual-in_err-reserve-3.result ≡ Err NoMemory = is_refusal _ _ c.from_residual-in_err-reserve-3.ensures.0 c.from_residual-in_err-reserve-3.ensures.1 c.in_err-reserve-3.ensures.memory_only in
+    let refused : c.from_residual-in_err-reserve_rows.result ≡ Err NoMemory = is_refusal _ _ c.from_residual-in_err-reserve_rows.ensures.0 c.from_residual-in_err-reserve_rows.ensures.1 c.in_err-reserve_rows.ensures.memory_only in
     rw (← c.self.view_is) (step_refused (the_view c.self.inside) _ c.args.ticks _ between refused (rw (c.in_ok-changes.ensures.contacts, c.in_ok-reserve-2.ensures.acting, c.in_ok-reserve.ensures.entries, c.in_ok-reserve.ensures.settled) refl))
 
 pub returns-in_err-make_room : goal.returns-in_err-make_room
@@ -121,7 +121,7 @@ pub solve-sums-requires-clause-bodies : goal.solve-sums-requires-clause-bodies
 solve-sums-requires-clause-bodies c = bodies_turned (the_view c.self.inside) c.self.inside.sets.acting c.turn_all.new.sets.acting c.turn_all.new.bodies.bodies c.carry_out.new.self.contacts c.self.invariant.whole (is_turned c)
 
 pub solve-sums-requires-clause-can : goal.solve-sums-requires-clause-can
-solve-sums-requires-clause-can c = rw c.colours.ensures (can_solve_turned (the_view c.self.inside) c.self.inside.sets.acting c.turn_all.new.sets.acting c.turn_all.new.bodies.bodies c.carry_out.new.self.contacts c.self.invariant.whole (is_turned c))
+solve-sums-requires-clause-can c = rw c.colours.ensures.lists (can_solve_turned (the_view c.self.inside) c.self.inside.sets.acting c.turn_all.new.sets.acting c.turn_all.new.bodies.bodies c.carry_out.new.self.contacts c.self.invariant.whole (is_turned c))
 
 pub solve-sums-requires-clause-room : goal.solve-sums-requires-clause-room
 solve-sums-requires-clause-room c =
@@ -129,8 +129,8 @@ solve-sums-requires-clause-room c =
     let begun : c.deref.result.now ≡ (collided_in w).begin = c.deref.ensures.value ∙ c.in_ok-changes.ensures.begin in
     let long : length c.deref.result.now ≡ length (collided_in w).begin = ap (λ (keys : List ContactKey). length keys) begun in
     let count : c.len-2.result ≡ length (collided_in w).begin = omega (arith, c.len-2.ensures, c.deref.ensures.len, long) in
-    let room = rw c.ties.ensures.value at c.in_ok-reserve-3.ensures.room in
-    rw c.colours.ensures (room_turned w c.self.inside.sets.acting c.reserve-2.new.self.acting c.turn_all.new.sets.acting c.turn_all.new.bodies.bodies c.carry_out.new.self.contacts c.len-2.result c.reserve-3.new.self.room c.self.invariant.whole (is_turned c) c.in_ok-reserve-2.ensures.acting count room)
+    let room = rw c.tie_count.ensures.value at c.in_ok-reserve_rows.ensures.room in
+    rw c.colours.ensures.lists (room_turned w c.self.inside.sets.acting c.reserve-2.new.self.acting c.turn_all.new.sets.acting c.turn_all.new.bodies.bodies c.carry_out.new.self.contacts c.len-2.result c.reserve_rows.new.rows.room c.self.invariant.whole (is_turned c) c.in_ok-reserve-2.ensures.acting count room)
 
 -- ---- the sleep phase
 
@@ -142,10 +142,10 @@ is_solved c =
     let turned : HasTurned w c.turn_all.new.sets.acting c.turn_all.new.bodies.bodies c.carry_out.new.self.contacts =
     has_turned w c.self.inside.sets.acting c.reserve-2.new.self.acting c.turn_all.new.sets.acting c.deref-4.result.now c.turn_all.new.bodies.bodies c.carry_out.new.self.contacts c.self.invariant.whole c.in_ok-reserve-2.ensures.acting found
     c.turn_all.ensures.acting (rw c.clear_marks.ensures.bodies at c.turn_all.ensures.bodies) (c.carry_out.ensures.contacts ∙ c.in_ok-changes.ensures.due) in
-    let to_bodies = rw c.colours.ensures at c.solve-sums.ensures.bodies in
-    let to_joints = rw c.colours.ensures at c.solve-sums.ensures.joints in
-    let to_contacts = rw c.colours.ensures at c.solve-sums.ensures.contacts in
-    let to_sums = rw c.colours.ensures at c.solve-sums.ensures.sums in
+    let to_bodies = rw c.colours.ensures.lists at c.solve-sums.ensures.bodies in
+    let to_joints = rw c.colours.ensures.lists at c.solve-sums.ensures.joints in
+    let to_contacts = rw c.colours.ensures.lists at c.solve-sums.ensures.contacts in
+    let to_sums = rw c.colours.ensures.lists at c.solve-sums.ensures.sums in
     let are : AreTicks c.turn_all.new.bodies.bodies c.solve-sums.new.bodies.bodies c.solve-sums.new.joints.joints c.solve-sums.new.contacts.contacts c.solve-sums.result = record {
       bodies = c.solve-sums.ensures.all_bodies;
       slots = c.solve-sums.ensures.slots;
@@ -246,10 +246,10 @@ are_left c =
     let turned : HasTurned w c.turn_all.new.sets.acting c.turn_all.new.bodies.bodies c.carry_out.new.self.contacts =
     has_turned w c.self.inside.sets.acting c.reserve-2.new.self.acting c.turn_all.new.sets.acting c.deref-4.result.now c.turn_all.new.bodies.bodies c.carry_out.new.self.contacts c.self.invariant.whole c.in_ok-reserve-2.ensures.acting found
     c.turn_all.ensures.acting (rw c.clear_marks.ensures.bodies at c.turn_all.ensures.bodies) (c.carry_out.ensures.contacts ∙ c.in_ok-changes.ensures.due) in
-    let to_bodies = rw c.colours.ensures at c.solve-sums.ensures.bodies in
-    let to_joints = rw c.colours.ensures at c.solve-sums.ensures.joints in
-    let to_contacts = rw c.colours.ensures at c.solve-sums.ensures.contacts in
-    let to_sums = rw c.colours.ensures at c.solve-sums.ensures.sums in
+    let to_bodies = rw c.colours.ensures.lists at c.solve-sums.ensures.bodies in
+    let to_joints = rw c.colours.ensures.lists at c.solve-sums.ensures.joints in
+    let to_contacts = rw c.colours.ensures.lists at c.solve-sums.ensures.contacts in
+    let to_sums = rw c.colours.ensures.lists at c.solve-sums.ensures.sums in
     let are : AreTicks c.turn_all.new.bodies.bodies c.solve-sums.new.bodies.bodies c.solve-sums.new.joints.joints c.solve-sums.new.contacts.contacts c.solve-sums.result = record {
       bodies = c.solve-sums.ensures.all_bodies;
       slots = c.solve-sums.ensures.slots;
