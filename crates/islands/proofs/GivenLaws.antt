@@ -1,16 +1,18 @@
 -- Islands whose labels are given slot by slot.
-use Rattle.std.proofs.Common.{◌≡◌, ◌≢◌, ℕ, zero, suc, ◌+◌, ◌-◌, ◌<◌, ◌≤◌, ◌||◌, ◌⊎◌, List, [], ◌∷◌, ◌++◌, length, get_or, take, replicate, map, subst, Option, Some, None, Bool, true, false, cond, min, inl, inr, arith, refl, sym, ap, ◌∙◌, slice_set, get_or-set_same, get_or-set_other}
+use Rattle.std.proofs.Common.{◌≡◌, ◌≢◌, ℕ, zero, suc, ◌+◌, ◌-◌, ◌<◌, ◌≤◌, ◌||◌, ◌⊎◌, [], ◌∷◌, ◌++◌, length, take, replicate, Option, Some, None, Bool, true, false, cond, min, inl, inr, arith, refl, sym, ap, ◌∙◌, get_or-set_same, get_or-set_other}
 use Rattle.std.proofs.lemmas.Grind.{common_steps}
-use Rattle.std.proofs.lemmas.Bool.{cases_lt, cases_eq}
+use Rattle.std.proofs.lemmas.Bool.{cases_lt, cases_eq, false≢true}
 use Rattle.std.proofs.lemmas.List.{length-set, length-map}
 use Rattle.islands.specs.declared.label.Label.{Label}
-use Rattle.islands.specs.Labels.{Labels, label_at, is_in, IsIn, own_label, relabel, relabelled, with_state, padded, added, union_label, merged, merged_by}
+use Rattle.islands.specs.Labels.{Labels, label_at, is_in, IsIn, own_label, relabel, relabelled, with_state, added, union_label, merged, merged_by}
 use Rattle.islands.specs.declared.parts.Note.{Note}
-use Rattle.islands.specs.Packed.{Notes, Heads, labels_of}
+use Rattle.islands.specs.Standing.{AreWidened, Places, node_at}
+use Rattle.islands.specs.Packed.{Heads, InPart, IsPlaced, Notes, in_part, label_in, labels_by, note_at}
 use Rattle.islands.specs.Partition.{IsPartition}
 use Rattle.islands.specs.Given.{IsNamed, CanCome, IsNext, labels_with, labels_with_any}
-use Rattle.islands.proofs.LabelLemmas.{added_here, added_other, relabel_at, in_case, in_is, in_some, same_by_name, some_short, past}
+use Rattle.islands.proofs.LabelLemmas.{added_here, added_other, relabel_at, in_case, in_is, in_some, same_by_name, past}
 use Rattle.islands.proofs.SlotLemmas.{same_labels}
+use Rattle.islands.proofs.StandingLemmas.{own_inverse, slot_note}
 
 -- ---- one more mover
 
@@ -125,14 +127,47 @@ blank_slots : (n : ℕ) → take n [] ++ replicate (n - 0) None ≡ replicate {A
 blank_slots zero = refl
 blank_slots (suc n) = let e : suc n - 0 ≡ suc n = omega arith in ap (λ k. replicate {A = Option Note} k None) e
 
-blank_of : (n : ℕ) (heads : Heads) → labels_of (replicate n None) heads ≡ replicate n None
-blank_of zero heads = refl
-blank_of (suc n) heads = ap (λ (ls : Labels). None ∷ ls) (blank_of n heads)
+blank_note : (n s : ℕ) → note_at (replicate n None) s ≡ None
+blank_note zero s = refl
+blank_note (suc n) zero = refl
+blank_note (suc n) (suc s) = blank_note n s
 
-pub blank_labels : (old now : Notes) (heads : Heads) (n v : ℕ) → old ≡ [] → v ≡ 0 → now ≡ take n old ++ replicate (n - v) None → labels_of now heads ≡ replicate n None
-blank_labels old now heads n v none nothing is =
-    let fresh : now ≡ take n [] ++ replicate (n - 0) None = rw (none, nothing) at is in
-    ap (λ (ns : Notes). labels_of ns heads) (fresh ∙ blank_slots n) ∙ blank_of n heads
+blank_of : (places : Places) (n : ℕ) (heads : Heads) → labels_by places (replicate n None) heads ≡ replicate (length places) None
+blank_of [] n heads = refl
+blank_of (p ∷ places) n heads =
+    let front : label_in heads (note_at (replicate n None) p.node) ≡ None = ap (label_in heads) (blank_note n p.node) in
+    let rest : labels_by places (replicate n None) heads ≡ replicate (length places) None = blank_of places n heads in
+    rw (front, rest) refl
+
+-- so many notes, and places for them
+wide_empty : (places now : Places) (n : ℕ) → places ≡ [] → AreWidened places n now → length now ≡ n
+wide_empty places now n none w = let z = w.size in let e : length places ≡ 0 = ap (λ (ps : Places). length ps) none in omega (arith, z, e)
+
+pub blank_labels : (places now : Places) (old new : Notes) (heads : Heads) (n v : ℕ) → places ≡ [] → AreWidened places n now → old ≡ [] → v ≡ 0 → new ≡ take n old ++ replicate (n - v) None → labels_by now new heads ≡ replicate n None
+blank_labels places now old new heads n v empty wide none nothing is =
+    let fresh : new ≡ take n [] ++ replicate (n - 0) None = rw (none, nothing) at is in
+    ap (λ (ns : Notes). labels_by now ns heads) (fresh ∙ blank_slots n) ∙ blank_of now n heads ∙ ap (λ k. replicate {A = Option Label} k None) (wide_empty places now n empty wide)
+
+-- no part has a node, so that nothing is to be shown of parts
+blank_in : (notes : Notes) (k s : ℕ) → note_at notes s ≡ None → InPart notes k s → ⊥
+blank_in notes k s e h = false≢true (sym (ap (in_part k) e) ∙ h)
+
+blank_size : (n : ℕ) → length (replicate {A = Option Note} n None) ≡ n
+blank_size zero = refl
+blank_size (suc n) = ap suc (blank_size n)
+
+pub blank_placed : (places now : Places) (old new : Notes) (heads : Heads) (n v : ℕ) → places ≡ [] → AreWidened places n now → old ≡ [] → v ≡ 0 → new ≡ take n old ++ replicate (n - v) None → length heads ≡ n → IsPlaced now new heads
+blank_placed places now old new heads n v empty wide none nothing is sizes =
+    let fresh : new ≡ replicate n None = (let e : new ≡ take n [] ++ replicate (n - 0) None = rw (none, nothing) at is in e ∙ blank_slots n) in
+    let size : length new ≡ n = ap (λ (ns : Notes). length ns) fresh ∙ blank_size n in
+    let long : length now ≡ length new = wide_empty places now n empty wide ∙ sym size in
+    let off : (s : ℕ) → note_at new s ≡ None = λ s. ap (λ (ns : Notes). note_at ns s) fresh ∙ blank_note n s in
+    record {
+      packed = record { sizes = sizes ∙ sym size; parts = λ k s h. absurd (blank_in new k s (off s) h) };
+      size = long;
+      inverse = own_inverse n now (rw empty at wide);
+      named = λ k s h. absurd (blank_in new k (node_at now s) (off (node_at now s)) (sym (ap (in_part k) (slot_note now new s long)) ∙ h));
+    }
 
 pub none_first : (all now : Labels) (n : ℕ) → now ≡ replicate n None → n ≡ length all → AreFirst all 0 now
 none_first all now n is e = rw is (record { size = grind (arith, common_steps, e); done = λ s lt. absurd (omega arith); rest = λ s le. none_at n s })

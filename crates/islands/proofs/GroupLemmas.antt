@@ -1,38 +1,42 @@
 -- What the islands' type keeps: each call leaves parts of few slots.
-use Rattle.std.proofs.Common.{◌≡◌, ℕ, ◌+◌, ◌^◌, ◌<◌, ◌≤◌, length, Option, Some, None, true, arith, refl, sym, ap, ◌∙◌, subst}
+use Rattle.std.proofs.Common.{◌≡◌, ℕ, ◌^◌, ◌<◌, ◌≤◌, length, Option, Some, None, arith, refl, sym, ap, ◌∙◌, subst}
 use Rattle.std.specs.Prelude.{IsSome}
 use Rattle.std.proofs.lemmas.Grind.{common_steps}
 use Rattle.std.proofs.lemmas.Bool.{false≢true}
 use Rattle.std.proofs.lemmas.List.{length-map}
 use Rattle.islands.specs.declared.parts.Note.{Note}
-use Rattle.islands.specs.declared.parts.Head.{Head}
 use Rattle.islands.specs.declared.label.Label.{Label}
-use Rattle.islands.specs.declared.label.IslandState.{IslandState}
 use Rattle.islands.specs.declared.label.IslandState.TheVariants.{Loose}
-use Rattle.islands.specs.Labels.{Labels, label_at, is_in, IsIn, added, with_state, loosened, loosened_by, merged}
-use Rattle.islands.specs.Packed.{Notes, note_at, Heads, head_at, in_part, InPart, part_in, name_of, label_in, labels_of, IsPacked, IsKept}
+use Rattle.islands.specs.Labels.{Labels, label_at, IsIn, added, with_state, loosened, loosened_by, merged}
+use Rattle.islands.specs.Packed.{Notes, note_at, Heads, head_at, part_in, name_of, label_in, labels_of, labels_by, by_slot, IsPlaced, IsKept}
+use Rattle.islands.specs.Standing.{Places}
 use Rattle.islands.proofs.LabelLemmas.{in_is}
 use Rattle.islands.proofs.SplitLemmas.{still_labelled}
+use Rattle.islands.proofs.StandingLemmas.{slots_size}
 use Rattle.islands.proofs.PartLemmas.{labels_at, label_of_part, in_of_part}
 
 labels_size : (notes : Notes) (heads : Heads) → length (labels_of notes heads) ≡ length notes
 labels_size notes heads = length-map notes (label_in heads)
 
+pub labels_by_size : (places : Places) (notes : Notes) (heads : Heads) → length (labels_by places notes heads) ≡ length places
+labels_by_size places notes heads = labels_size (by_slot places notes) heads ∙ slots_size places notes
+
 -- as many slots, and no less room
-pub kept_same : (old new : Notes) (heads also : Heads) (one two three four room : ℕ) → IsKept old heads one two room → IsPacked new also → length new ≡ length old → one ≤ three → two ≤ four → IsKept new also three four room
-kept_same old new heads also one two three four room w p size more rest = let f = w.few in let n = w.notes_room in let h = w.heads_room in
-    record { packed = p; few = omega (arith, f, size); notes_room = omega (arith, n, more); heads_room = omega (arith, h, rest) }
+pub kept_same : (places : Places) (old : Notes) (heads : Heads) (now : Places) (new : Notes) (also : Heads) (first one two three four five room : ℕ) → IsKept places old heads first one two room → IsPlaced now new also → length new ≡ length old → first ≤ three → one ≤ four → two ≤ five → IsKept now new also three four five room
+kept_same places old heads now new also first one two three four five room w p size least more rest = let f = w.few in let q = w.places_room in let n = w.notes_room in let h = w.heads_room in
+    record { placed = p; few = omega (arith, f, size); places_room = omega (arith, q, least); notes_room = omega (arith, n, more); heads_room = omega (arith, h, rest) }
 
 added_few : (labels : Labels) (slot : ℕ) → slot < 2 ^ 32 → length labels ≤ 2 ^ 32 → length (added labels slot) ≤ 2 ^ 32
 added_few labels slot h k = grind (arith, common_steps)
 
-pub kept_added : (old new : Notes) (heads also : Heads) (one two three four room slot : ℕ) → IsKept old heads one two room → IsPacked new also → labels_of new also ≡ added (labels_of old heads) slot → slot < 2 ^ 32 → one ≤ three → two ≤ four → IsKept new also three four room
-kept_added old new heads also one two three four room slot w p e lt more rest =
-    let f = w.few in let n = w.notes_room in let h = w.heads_room in
-    let before = labels_size old heads in let after = labels_size new also in
-    let few : length (added (labels_of old heads) slot) ≤ 2 ^ 32 = added_few (labels_of old heads) slot lt (omega (arith, f, before)) in
-    let same : length (labels_of new also) ≡ length (added (labels_of old heads) slot) = ap length e in
-    record { packed = p; few = omega (arith, few, same, after); notes_room = omega (arith, n, more); heads_room = omega (arith, h, rest) }
+pub kept_added : (places : Places) (old : Notes) (heads : Heads) (now : Places) (new : Notes) (also : Heads) (first one two three four five room slot : ℕ) → IsKept places old heads first one two room → IsPlaced now new also → labels_by now new also ≡ added (labels_by places old heads) slot → slot < 2 ^ 32 → first ≤ three → one ≤ four → two ≤ five → IsKept now new also three four five room
+kept_added places old heads now new also first one two three four five room slot w p e lt least more rest =
+    let f = w.few in let q = w.places_room in let n = w.notes_room in let h = w.heads_room in
+    let before = labels_by_size places old heads in let after = labels_by_size now new also in
+    let old_size = w.placed.size in let new_size = p.size in
+    let few : length (added (labels_by places old heads) slot) ≤ 2 ^ 32 = added_few (labels_by places old heads) slot lt (omega (arith, f, before, old_size)) in
+    let same : length (labels_by now new also) ≡ length (added (labels_by places old heads) slot) = ap length e in
+    record { placed = p; few = omega (arith, few, same, after, new_size); places_room = omega (arith, q, least); notes_room = omega (arith, n, more); heads_room = omega (arith, h, rest) }
 
 -- ---- whether there is a mover
 
@@ -54,9 +58,6 @@ pub in_some_note : (notes : Notes) (heads : Heads) (name slot : ℕ) → IsIn (l
 in_some_note notes heads name slot h = let l = in_is (label_at (labels_of notes heads) slot) name h in let P : Option Label → Type 0 = λ o. IsSome o in some_note notes heads slot (subst P (sym l.1) refl)
 
 -- ---- the part of a mover
-
-pub part_led : (notes : Notes) (heads : Heads) (slot part : ℕ) → IsPacked notes heads → part_in (note_at notes slot) ≡ Some part → InPart notes part part
-part_led notes heads slot part p e = (p.parts part slot (in_of_part (note_at notes slot) part e)).led
 
 label_by_part : (notes : Notes) (heads : Heads) (slot part : ℕ) → part_in (note_at notes slot) ≡ Some part → label_at (labels_of notes heads) slot ≡ Some (head_at heads part).label
 label_by_part notes heads slot part e = labels_at heads notes slot ∙ label_of_part heads part (note_at notes slot) (in_of_part (note_at notes slot) part e)

@@ -1,5 +1,5 @@
 -- A part that joins another: what holds of parts holds of the union.
-use Rattle.std.proofs.Common.{[], ◌∷◌, ◌≡◌, ◌≢◌, ℕ, suc, ◌+◌, ◌<◌, ◌≤◌, length, Option, Some, None, Bool, true, false, ◌⊎◌, ◌||◌, inl, inr, arith, refl, sym, ap, ◌∙◌, slice_set, get_or-set_same, get_or-set_other}
+use Rattle.std.proofs.Common.{[], ◌∷◌, ◌≡◌, ◌≢◌, ℕ, ◌+◌, ◌<◌, ◌≤◌, length, Option, Some, None, Bool, true, false, ◌⊎◌, ◌||◌, inl, inr, arith, refl, sym, ap, ◌∙◌, slice_set, get_or-set_same, get_or-set_other}
 use Rattle.std.specs.Prelude.{cond}
 use Rattle.std.proofs.lemmas.List.{length-set, length-map}
 use Rattle.std.proofs.lemmas.Bool.{cases_eq, false≢true}
@@ -7,10 +7,10 @@ use Rattle.islands.specs.declared.parts.Note.{Note}
 use Rattle.islands.specs.declared.parts.Head.{Head}
 use Rattle.islands.specs.declared.label.Label.{Label}
 use Rattle.islands.specs.Labels.{Labels, label_at, is_in, relabel, relabelled, union_label, merged, merged_by}
-use Rattle.islands.specs.Packed.{Notes, note_at, Heads, head_at, no_head, labelled_head, in_part, InPart, rank_of, next_of, rank_at, next_at, name_of, label_in, labels_of, counted, ahead, IsPart, IsPacked, moved_note, or_first, AreJoined, joined_head, part_in}
+use Rattle.islands.specs.Packed.{Notes, note_at, Heads, head_at, no_head, labelled_head, in_part, InPart, rank_of, next_of, rank_at, next_at, name_of, label_in, labels_of, ahead, IsPart, IsPacked, AreNamed, moved_note, or_first, AreJoined, joined_head, part_in}
 use Rattle.islands.proofs.LabelLemmas.{relabel_at, union_low}
 use Rattle.islands.proofs.SlotLemmas.{same_labels}
-use Rattle.islands.proofs.PartLemmas.{part_is, part_case, part_some, part_of_some, one_part, not_part, short, count_sum, count_same, ahead_same, part_stays, labels_at, label_of_part, in_name, part_kept, in_of_part}
+use Rattle.islands.proofs.PartLemmas.{part_is, part_case, part_some, part_of_some, one_part, not_part, short, count_sum, ahead_same, part_stays, labels_at, label_of_part, in_name, part_kept, in_of_part}
 
 abbrev pub moved_in : ℕ → ℕ → ℕ → ℕ → Option Note → Option Note
 moved_in to count first s None = None
@@ -61,14 +61,14 @@ union_test old heads a b new j apart s = elim (part_case b (note_at old s)) [
   | inr off ↦ ap (in_part a) (j.others s off) ∙ sym (rw off (or_false (in_part a (note_at old s))))
 ]
 
-other_test : (old : Notes) (heads : Heads) (a b k : ℕ) (new : Notes) → AreJoined old heads a b new → k ≢ a → k ≢ b → (s : ℕ) → in_part k (note_at new s) ≡ in_part k (note_at old s)
+pub other_test : (old : Notes) (heads : Heads) (a b k : ℕ) (new : Notes) → AreJoined old heads a b new → k ≢ a → k ≢ b → (s : ℕ) → in_part k (note_at new s) ≡ in_part k (note_at old s)
 other_test old heads a b k new j ka kb s = elim (part_case b (note_at old s)) [
   | inl on ↦ not_part a k (note_at new s) (is_moved old heads a b new s j on).in_new (λ e. ka (sym e)) ∙ sym (not_part b k (note_at old s) on (λ e. kb (sym e)))
   | inr off ↦ ap (in_part k) (j.others s off)
 ]
 
 -- the part that joined has no members any more
-joined_none : (old : Notes) (heads : Heads) (a b : ℕ) (new : Notes) → AreJoined old heads a b new → a ≢ b → (s : ℕ) → InPart new b s → ⊥
+pub joined_none : (old : Notes) (heads : Heads) (a b : ℕ) (new : Notes) → AreJoined old heads a b new → a ≢ b → (s : ℕ) → InPart new b s → ⊥
 joined_none old heads a b new j apart s h = elim (part_case b (note_at old s)) [
   | inl on ↦ apart (one_part a b (note_at new s) (is_moved old heads a b new s j on).in_new h)
   | inr off ↦ false≢true (sym off ∙ sym (ap (in_part b) (j.others s off)) ∙ h)
@@ -104,9 +104,8 @@ goes_on old heads a b new s t (Some u) p q j apart h e f =
     let r = m.rank in let lt = old_next.1 in
     (ap (λ u. in_part a (note_at new u)) (sym f) ∙ m.in_new, let here : rank_at new t ≡ rank_at new u = ap (rank_at new) (sym f) in omega (arith, r, lt, here))
 
-pub union_is_part : (old : Notes) (heads : Heads) (a b : ℕ) (new : Notes) (also : Heads) (label : Label) → IsPart old heads a → IsPart old heads b → a ≢ b → AreJoined old heads a b new → IsUnion heads a b label → head_at also a ≡ joined_head heads a b label → IsPart new also a
-union_is_part old heads a b new also label p q apart j u head =
-    let name : name_of also a ≡ label.name = ap (λ (h : Head). h.label.name) head in
+pub union_is_part : (old : Notes) (heads : Heads) (a b : ℕ) (new : Notes) (also : Heads) (label : Label) → IsPart old heads a → IsPart old heads b → a ≢ b → AreJoined old heads a b new → head_at also a ≡ joined_head heads a b label → IsPart new also a
+union_is_part old heads a b new also label p q apart j head =
     let first : (head_at also a).first ≡ (head_at heads b).first = ap (λ (h : Head). h.first) head in
     let count : (head_at also a).count ≡ (head_at heads a).count + (head_at heads b).count = ap (λ (h : Head). h.count) head in
     let left : (s : ℕ) → InPart old a s → IsLeft old a b new s = λ s h. is_left old heads a b new s j apart h in
@@ -117,14 +116,7 @@ union_is_part old heads a b new also label p q apart j u head =
     let top_same : rank_at new (head_at also a).first ≡ rank_at new (head_at heads b).first = ap (rank_at new) first in
     record {
       led = (left a p.led).in_new;
-      home = elim u.of_one [
-        | inl e ↦ ap (λ n. in_part a (note_at new n)) (name ∙ e) ∙ (left (name_of heads a) p.home).in_new
-        | inr e ↦ ap (λ n. in_part a (note_at new n)) (name ∙ e) ∙ (moved (name_of heads b) q.home).in_new
-      ];
-      low = λ s h. elim (which s h) [
-        | inl l ↦ let le = p.low s l.here in let one = u.to_first in omega (arith, le, one, name)
-        | inr m ↦ let le = q.low s m.here in let one = u.to_second in omega (arith, le, one, name)
-      ];
+      end = ap rank_of (left a p.led).same ∙ p.end;
       first = ap (λ n. in_part a (note_at new n)) first ∙ top.in_new;
       last = λ s h. elim (which s h) [
         | inl l ↦ let lt = p.below s l.here in let r = ap rank_of l.same in omega (arith, lt, r, top_rank, top_same)
@@ -181,14 +173,14 @@ head_set heads a h lt = get_or-set_same heads a h no_head lt
 pub head_kept : (heads : Heads) (a k : ℕ) (h : Head) → k ≢ a → head_at (slice_set heads a h) k ≡ head_at heads k
 head_kept heads a k h away = get_or-set_other heads a k h no_head away
 
-pub joined_packed : (old : Notes) (heads : Heads) (a b : ℕ) (new : Notes) (label : Label) → IsPacked old heads → InPart old a a → InPart old b b → a ≢ b → AreJoined old heads a b new → IsUnion heads a b label
+pub joined_packed : (old : Notes) (heads : Heads) (a b : ℕ) (new : Notes) (label : Label) → IsPacked old heads → InPart old a a → InPart old b b → a ≢ b → AreJoined old heads a b new
     → IsPacked new (slice_set heads a (joined_head heads a b label))
-joined_packed old heads a b new label p h g apart j u =
+joined_packed old heads a b new label p h g apart j =
     let lt : a < length heads = let l = short old a a h in let z = p.sizes in omega (arith, l, z) in
     record {
       sizes = length-set heads a (joined_head heads a b label) ∙ p.sizes ∙ sym j.size;
       parts = λ k s here. elim (cases_eq k a) [
-        | inl e ↦ rw e (union_is_part old heads a b new (slice_set heads a (joined_head heads a b label)) label (p.parts a a h) (p.parts b b g) apart j u (head_set heads a (joined_head heads a b label) lt))
+        | inl e ↦ rw e (union_is_part old heads a b new (slice_set heads a (joined_head heads a b label)) label (p.parts a a h) (p.parts b b g) apart j (head_set heads a (joined_head heads a b label) lt))
         | inr away ↦
             let kb : k ≢ b = λ e. joined_none old heads a b new j apart s (ap (λ m. in_part m (note_at new s)) (sym e) ∙ here) in
             let test = other_test old heads a b k new j away kb in
@@ -202,19 +194,18 @@ pub label_away : (heads : Heads) (a : ℕ) (h : Head) (o : Option Note) → in_p
 label_away heads a h None off = refl
 label_away heads a h (Some n) off = ap (λ (x : Head). Some x.label) (head_kept heads a n.part h (λ e. false≢true (sym off ∙ part_some a n e)))
 
-pub joined_labels : (old : Notes) (heads : Heads) (a b : ℕ) (new : Notes) (label : Label) → IsPacked old heads → InPart old a a → InPart old b b → a ≢ b → AreJoined old heads a b new
+pub joined_labels : (old : Notes) (heads : Heads) (a b v w : ℕ) (new : Notes) (label : Label) → AreNamed old heads → InPart old a v → InPart old b w → a ≢ b → a < length heads → AreJoined old heads a b new
     → labels_of new (slice_set heads a (joined_head heads a b label)) ≡ relabelled (name_of heads a) (name_of heads b) label (labels_of old heads)
-joined_labels old heads a b new label p h g apart j =
+joined_labels old heads a b v w new label p h g apart lt j =
     let also : Heads = slice_set heads a (joined_head heads a b label) in
-    let lt : a < length heads = let l = short old a a h in let z = p.sizes in omega (arith, l, z) in
     let head : head_at also a ≡ joined_head heads a b label = head_set heads a (joined_head heads a b label) lt in
     same_labels (labels_of new also) (relabelled (name_of heads a) (name_of heads b) label (labels_of old heads))
     (length-map new (label_in also) ∙ j.size ∙ sym (length-map old (label_in heads)) ∙ sym (length-map (labels_of old heads) (relabel (name_of heads a) (name_of heads b) label)))
     (λ s.
     let right : label_at (relabelled (name_of heads a) (name_of heads b) label (labels_of old heads)) s ≡ cond (in_part a (note_at old s) || in_part b (note_at old s)) (Some label) (label_in heads (note_at old s)) =
     relabel_at (name_of heads a) (name_of heads b) label (labels_of old heads) s ∙ ap (relabel (name_of heads a) (name_of heads b) label) (labels_at heads old s)
-    ∙ ap (λ t. cond (t || is_in (label_in heads (note_at old s)) (name_of heads b)) (Some label) (label_in heads (note_at old s))) (in_name old heads a a s p h)
-    ∙ ap (λ t. cond (in_part a (note_at old s) || t) (Some label) (label_in heads (note_at old s))) (in_name old heads b b s p g) in
+    ∙ ap (λ t. cond (t || is_in (label_in heads (note_at old s)) (name_of heads b)) (Some label) (label_in heads (note_at old s))) (in_name old heads a v s p h)
+    ∙ ap (λ t. cond (in_part a (note_at old s) || t) (Some label) (label_in heads (note_at old s))) (in_name old heads b w s p g) in
     labels_at also new s ∙ elim (part_case a (note_at new s)) [
       | inl on ↦ label_of_part also a (note_at new s) on ∙ ap (λ (x : Head). Some x.label) head ∙ sym (right ∙ rw (sym (union_test old heads a b new j apart s) ∙ on) refl)
       | inr off ↦ label_away heads a (joined_head heads a b label) (note_at new s) off
@@ -243,47 +234,38 @@ relabelled_back a b to (o ∷ labels) =
     let rest : relabelled a b to labels ≡ relabelled b a to labels = relabelled_back a b to labels in
     rw (front, rest) refl
 
-pub labelled_packed : (notes : Notes) (heads : Heads) (k : ℕ) (label : Label) → IsPacked notes heads → InPart notes k k → label.name ≡ name_of heads k → IsPacked notes (slice_set heads k (labelled_head heads k label))
-labelled_packed notes heads k label p h e =
+pub labelled_packed : (notes : Notes) (heads : Heads) (k : ℕ) (label : Label) → IsPacked notes heads → InPart notes k k → IsPacked notes (slice_set heads k (labelled_head heads k label))
+labelled_packed notes heads k label p h =
     let lt : k < length heads = let l = short notes k k h in let z = p.sizes in omega (arith, l, z) in
     let head : head_at (slice_set heads k (labelled_head heads k label)) k ≡ labelled_head heads k label = head_set heads k (labelled_head heads k label) lt in
     record {
       sizes = length-set heads k (labelled_head heads k label) ∙ p.sizes;
       parts = λ m s here. elim (cases_eq m k) [
         | inl same ↦ rw same (part_kept notes notes heads (slice_set heads k (labelled_head heads k label)) k (p.parts k k h) (λ t. refl) (λ t q. refl)
-            (ap (λ (x : Head). x.label.name) head ∙ e) (ap (λ (x : Head). x.first) head) (ap (λ (x : Head). x.count) head))
+            (ap (λ (x : Head). x.first) head) (ap (λ (x : Head). x.count) head))
         | inr away ↦ part_stays notes notes heads (slice_set heads k (labelled_head heads k label)) m (p.parts m s here) (λ t. refl) (λ t q. refl) (head_kept heads k m (labelled_head heads k label) away)
       ];
     }
 
-pub labelled_labels : (notes : Notes) (heads : Heads) (k : ℕ) (label : Label) → IsPacked notes heads → InPart notes k k
+pub labelled_labels : (notes : Notes) (heads : Heads) (k v : ℕ) (label : Label) → AreNamed notes heads → InPart notes k v → k < length heads
     → labels_of notes (slice_set heads k (labelled_head heads k label)) ≡ relabelled (name_of heads k) (name_of heads k) label (labels_of notes heads)
-labelled_labels notes heads k label p h =
+labelled_labels notes heads k v label p h lt =
     let also : Heads = slice_set heads k (labelled_head heads k label) in
-    let lt : k < length heads = let l = short notes k k h in let z = p.sizes in omega (arith, l, z) in
     let head : head_at also k ≡ labelled_head heads k label = head_set heads k (labelled_head heads k label) lt in
     same_labels (labels_of notes also) (relabelled (name_of heads k) (name_of heads k) label (labels_of notes heads))
     (length-map notes (label_in also) ∙ sym (length-map notes (label_in heads)) ∙ sym (length-map (labels_of notes heads) (relabel (name_of heads k) (name_of heads k) label)))
     (λ s.
     let right : label_at (relabelled (name_of heads k) (name_of heads k) label (labels_of notes heads)) s ≡ cond (in_part k (note_at notes s) || in_part k (note_at notes s)) (Some label) (label_in heads (note_at notes s)) =
     relabel_at (name_of heads k) (name_of heads k) label (labels_of notes heads) s ∙ ap (relabel (name_of heads k) (name_of heads k) label) (labels_at heads notes s)
-    ∙ ap (λ t. cond (t || t) (Some label) (label_in heads (note_at notes s))) (in_name notes heads k k s p h) in
+    ∙ ap (λ t. cond (t || t) (Some label) (label_in heads (note_at notes s))) (in_name notes heads k v s p h) in
     labels_at also notes s ∙ elim (part_case k (note_at notes s)) [
       | inl on ↦ label_of_part also k (note_at notes s) on ∙ ap (λ (x : Head). Some x.label) head ∙ sym (right ∙ rw on refl)
       | inr off ↦ label_away heads k (labelled_head heads k label) (note_at notes s) off ∙ sym (right ∙ rw off refl)
     ])
 
 -- two movers of one part
-one_union : (heads : Heads) (x y : ℕ) → x ≡ y → (union_label (head_at heads x).label (head_at heads y).label).name ≡ name_of heads x
+pub one_union : (heads : Heads) (x y : ℕ) → x ≡ y → (union_label (head_at heads x).label (head_at heads y).label).name ≡ name_of heads x
 one_union heads x y e = let u = (union_is heads x y).of_one in elim u [ inl k ↦ k | inr k ↦ k ∙ ap (name_of heads) (sym e) ]
-
-pub merged_one_packed : (notes : Notes) (heads : Heads) (x y : ℕ) → IsPacked notes heads → InPart notes x x → x ≡ y → IsPacked notes (slice_set heads x (labelled_head heads x (union_label (head_at heads x).label (head_at heads y).label)))
-merged_one_packed notes heads x y p h e = labelled_packed notes heads x (union_label (head_at heads x).label (head_at heads y).label) p h (one_union heads x y e)
-
-pub merged_one_labels : (notes : Notes) (heads : Heads) (x y : ℕ) → IsPacked notes heads → InPart notes x x → x ≡ y
-    → labels_of notes (slice_set heads x (labelled_head heads x (union_label (head_at heads x).label (head_at heads y).label))) ≡ relabelled (name_of heads x) (name_of heads y) (union_label (head_at heads x).label (head_at heads y).label) (labels_of notes heads)
-merged_one_labels notes heads x y p h e = labelled_labels notes heads x (union_label (head_at heads x).label (head_at heads y).label) p h
-    ∙ ap (λ n. relabelled (name_of heads x) n (union_label (head_at heads x).label (head_at heads y).label) (labels_of notes heads)) (ap (name_of heads) e)
 
 -- two movers, by their parts
 pub merged_movers : (notes : Notes) (heads : Heads) (a b x y : ℕ) → part_in (note_at notes a) ≡ Some x → part_in (note_at notes b) ≡ Some y

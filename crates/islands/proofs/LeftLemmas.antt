@@ -1,207 +1,273 @@
--- What is left of the parts, and of their labels, once a mover has left its part.
-use Rattle.std.proofs.Common.{◌≡◌, ◌≢◌, ℕ, ◌<◌, ◌≤◌, length, get_or, Option, Some, None, true, false, ◌⊎◌, ◌||◌, inl, inr, arith, refl, sym, ap, ◌∙◌, slice_set, get_or-set_same, get_or-set_other}
+-- What is left of the labels, and of the names of parts, once a mover has left its part: it has changed places with the one at the front, and the front has left the thread.
+use Rattle.std.proofs.Common.{◌≡◌, ◌≢◌, ℕ, ◌+◌, ◌<◌, length, Option, Some, None, false, ◌||◌, inl, inr, arith, refl, sym, ap, ◌∙◌, slice_set, get_or-set_same, get_or-set_other, eq-eqb}
 use Rattle.std.specs.Prelude.{cond}
-use Rattle.std.proofs.lemmas.Bool.{cases_eq, false≢true, lt-ltb, le-ltb}
-use Rattle.std.proofs.lemmas.List.{length-set, length-map, map-set}
+use Rattle.std.proofs.lemmas.Bool.{cases_lt, cases_eq, false≢true, lt-ltb, le-ltb}
+use Rattle.std.proofs.lemmas.List.{length-set, length-map}
 use Rattle.std.proofs.lemmas.List.Sums.{position_or_len_is}
 use Rattle.islands.specs.declared.parts.Note.{Note}
 use Rattle.islands.specs.declared.parts.Head.{Head}
 use Rattle.islands.specs.declared.label.Label.{Label}
 use Rattle.islands.specs.declared.label.IslandState.TheVariants.{Loose}
 use Rattle.islands.specs.Labels.{Labels, label_at, is_in, relabel, relabelled, lowest, left_behind, without, taken_out}
-use Rattle.islands.specs.Packed.{Notes, note_at, Heads, head_at, in_part, InPart, rank_of, next_of, next_at, name_of, label_in, labels_of, IsPart, IsPacked, left_head, left_head_of, AreLeft, AreMended, left_note, IsLowestOther}
+use Rattle.islands.specs.Standing.{AreExchanged, AreInverse, Places, node_at, slot_at}
+use Rattle.islands.specs.Packed.{Notes, note_at, Heads, head_at, in_part, InPart, part_in, name_of, label_in, labels_of, by_slot, labels_by, AreNamed, IsLowestIn, IsPart, IsPacked, IsPlaced, IsDropped, dropped_head, labelled_head, HasNoneBelow, IsFirstFrom, IsLeftBy}
 use Rattle.islands.proofs.LabelLemmas.{relabel_at}
 use Rattle.islands.proofs.SlotLemmas.{same_labels}
-use Rattle.islands.proofs.PartLemmas.{part_case, part_of_some, one_part, not_part, short, part_stays, labels_at, label_of_part, in_name}
-use Rattle.islands.proofs.JoinPartLemmas.{head_set, head_kept, label_away}
-use Rattle.islands.proofs.LeavePartLemmas.{staying, led_elsewhere, left_is_part}
+use Rattle.islands.proofs.PartLemmas.{part_case, one_part, short, labels_at, label_of_part, in_name}
+use Rattle.islands.proofs.StandingLemmas.{one_slot, part_of_in, same_in, same_label, slot_note, slots_size}
+use Rattle.islands.proofs.JoinPartLemmas.{head_set, head_kept, labelled_packed}
+use Rattle.islands.proofs.LeavePartLemmas.{dropped_packed, gone_note, none_left, stays, still_led}
+use Rattle.islands.proofs.PlacedLemmas.{led_short, slot_in}
 
-pub mended_left : (old : Notes) (slot to : ℕ) (gone : Note) (new : Notes) → note_at old slot ≡ Some gone → slot < length old → AreMended old slot gone to new → AreLeft old gone.part slot to (slice_set new slot None)
-mended_left old slot to gone new e lt m =
-    let z = m.size in
+-- the mover in the slot is gone, and each other is in the part that it was in, where the notes are by slot
+pub record IsGone (old : Notes) (slot : ℕ) (new : Notes) : Type 0 where
+  pub size : length new ≡ length old
+  pub gone : note_at new slot ≡ None
+  pub others : (s : ℕ) → s ≢ slot → part_in (note_at new s) ≡ part_in (note_at old s)
+
+pub is_gone : (places now : Places) (old : Notes) (heads : Heads) (k slot : ℕ) (new : Notes) (also : Heads) → IsPlaced places old heads → InPart (by_slot places old) k slot
+    → AreExchanged places slot (slot_at places (head_at heads k).first) now → IsDropped old heads k new also → IsGone (by_slot places old) slot (by_slot now new)
+is_gone places now old heads k slot new also w there x d =
+    let f : ℕ = (head_at heads k).first in
+    let at : InPart old k (node_at places slot) = slot_in places old heads k slot w there in
+    let p : IsPart old heads k = w.packed.parts k (node_at places slot) at in
+    let front : ℕ = slot_at places f in
+    let here : node_at now slot ≡ f = x.first ∙ w.inverse.forth f in
+    let news : length new ≡ length old = ap length d.notes_are ∙ length-set old f None in
+    let size : length now ≡ length new = x.size ∙ w.size ∙ sym news in
     record {
-      size = length-set new slot None ∙ z;
-      gone = get_or-set_same new slot None None (omega (arith, lt, z));
-      others = λ s away off. get_or-set_other new slot s None None away ∙ m.others s off;
-      left = λ s n away f g. get_or-set_other new slot s None None away ∙ m.mended s n f g ∙ ap (λ o. Some (left_note slot (rank_of o) (next_of o) to n)) (sym e);
+      size = slots_size now new ∙ x.size ∙ sym (slots_size places old);
+      gone = slot_note now new slot size ∙ ap (note_at new) here ∙ gone_note old heads k new also p d;
+      others = λ s away.
+          let off : node_at now s ≢ f = λ e. away (one_slot now s slot x.inverse (e ∙ sym here)) in
+          ap part_in (slot_note now new s size ∙ stays old heads k new also (node_at now s) d off)
+          ∙ (elim (cases_eq s front) [
+            | inl e ↦ ap (λ t. part_in (note_at old t)) (ap (node_at now) e ∙ x.second) ∙ part_of_in k (note_at old (node_at places slot)) at
+                ∙ sym (ap (λ t. part_in (note_at old (node_at places t))) e ∙ ap (λ t. part_in (note_at old t)) (w.inverse.forth f) ∙ part_of_in k (note_at old f) p.first)
+            | inr far ↦ ap (λ t. part_in (note_at old t)) (x.others s away far)
+          ])
+          ∙ ap part_in (sym (slot_note places old s w.size));
     }
 
 -- ---- the labels without the mover
 
-abbrev rest_notes : Notes → ℕ → Notes
-rest_notes old slot = slice_set old slot None
-
-rest_labels : (old : Notes) (heads : Heads) (slot : ℕ) → labels_of (rest_notes old slot) heads ≡ slice_set (labels_of old heads) slot None
-rest_labels old heads slot = map-set (label_in heads) old slot None
-
--- who of the others has the name of the part
-rest_test : (old : Notes) (heads : Heads) (k slot s : ℕ) → IsPacked old heads → InPart old k slot → is_in (label_at (slice_set (labels_of old heads) slot None) s) (name_of heads k) ≡ in_part k (note_at (rest_notes old slot) s)
-rest_test old heads k slot s p there = elim (cases_eq s slot) [
-  | inl e ↦
-      let lt : slot < length old = short old k slot there in
-      let long : slot < length (labels_of old heads) = let z = length-map old (label_in heads) in omega (arith, lt, z) in
-      ap (λ t. is_in (label_at (slice_set (labels_of old heads) slot None) t) (name_of heads k)) e
-      ∙ ap (λ o. is_in o (name_of heads k)) (get_or-set_same (labels_of old heads) slot None None long)
-      ∙ sym (ap (λ t. in_part k (note_at (rest_notes old slot) t)) e ∙ ap (in_part k) (get_or-set_same old slot None None lt))
-  | inr away ↦ ap (λ o. is_in o (name_of heads k)) (get_or-set_other (labels_of old heads) slot s None None away ∙ labels_at heads old s)
-      ∙ in_name old heads k slot s p there ∙ sym (ap (in_part k) (get_or-set_other old slot s None None away))
-]
-
 label_here : (old : Notes) (heads : Heads) (k slot : ℕ) → InPart old k slot → label_at (labels_of old heads) slot ≡ Some (head_at heads k).label
 label_here old heads k slot there = labels_at heads old slot ∙ label_of_part heads k (note_at old slot) there
 
-rest_size : (old : Notes) (heads : Heads) (slot : ℕ) → length (slice_set (labels_of old heads) slot None) ≡ length old
-rest_size old heads slot = length-set (labels_of old heads) slot None ∙ length-map old (label_in heads)
+rest_labels : (old : Notes) (heads : Heads) (k slot : ℕ) (new : Notes) → InPart old k slot → IsGone old slot new → slice_set (labels_of old heads) slot None ≡ labels_of new heads
+rest_labels old heads k slot new there g =
+    let before = length-map old (label_in heads) in
+    let lt = short old k slot there in
+    same_labels (slice_set (labels_of old heads) slot None) (labels_of new heads)
+    (length-set (labels_of old heads) slot None ∙ before ∙ sym g.size ∙ sym (length-map new (label_in heads)))
+    (λ s. elim (cases_eq s slot) [
+      | inl e ↦ ap (label_at (slice_set (labels_of old heads) slot None)) e ∙ get_or-set_same (labels_of old heads) slot None None (omega (arith, lt, before))
+          ∙ sym (ap (label_at (labels_of new heads)) e ∙ labels_at heads new slot ∙ ap (label_in heads) g.gone)
+      | inr away ↦ get_or-set_other (labels_of old heads) slot s None None away ∙ labels_at heads old s ∙ sym (same_label heads (note_at new s) (note_at old s) (g.others s away)) ∙ sym (labels_at heads new s)
+    ])
+
+-- who of the others has the name of the part
+rest_test : (old : Notes) (heads : Heads) (k slot : ℕ) (new : Notes) (s : ℕ) → AreNamed old heads → InPart old k slot → IsGone old slot new → is_in (label_in heads (note_at new s)) (name_of heads k) ≡ in_part k (note_at new s)
+rest_test old heads k slot new s p there g = elim (cases_eq s slot) [
+  | inl e ↦ ap (λ o. is_in (label_in heads o) (name_of heads k)) (ap (note_at new) e ∙ g.gone) ∙ sym (ap (in_part k) (ap (note_at new) e ∙ g.gone))
+  | inr away ↦ ap (λ l. is_in l (name_of heads k)) (same_label heads (note_at new s) (note_at old s) (g.others s away)) ∙ in_name old heads k slot s p there ∙ sym (same_in k (note_at new s) (note_at old s) (g.others s away))
+]
+
+rest_in : (old : Notes) (heads : Heads) (k slot : ℕ) (new : Notes) (s : ℕ) → AreNamed old heads → InPart old k slot → IsGone old slot new → is_in (label_at (labels_of new heads) s) (name_of heads k) ≡ in_part k (note_at new s)
+rest_in old heads k slot new s p there g = ap (λ l. is_in l (name_of heads k)) (labels_at heads new s) ∙ rest_test old heads k slot new s p there g
+
+without_is : (old : Notes) (heads : Heads) (k slot : ℕ) (new : Notes) → InPart old k slot → IsGone old slot new → taken_out (labels_of old heads) slot ≡ left_behind (lowest (name_of heads k) (labels_of new heads)) (name_of heads k) (labels_of new heads)
+unfolding taken_out
+without_is old heads k slot new there g =
+    ap (λ o. without o slot (labels_of old heads)) (label_here old heads k slot there)
+    ∙ ap (λ (ls : Labels). left_behind (lowest (name_of heads k) ls) (name_of heads k) ls) (rest_labels old heads k slot new there g)
 
 -- ---- some are left behind
 
-lowest_left : (old : Notes) (heads : Heads) (k slot to : ℕ) → IsPacked old heads → InPart old k slot → IsLowestOther old k slot (Some to) → lowest (name_of heads k) (slice_set (labels_of old heads) slot None) ≡ to
-lowest_left old heads k slot to p there low =
-    let z = rest_size old heads slot in
-    let lt = short old k to low.0.0 in
-    position_or_len_is (λ o. is_in o (name_of heads k)) (slice_set (labels_of old heads) slot None) to None (omega (arith, lt, z))
-    (λ s below. rest_test old heads k slot s p there ∙ elim (cases_eq s slot) [
-      | inl e ↦ ap (λ t. in_part k (note_at (rest_notes old slot) t)) e ∙ ap (in_part k) (get_or-set_same old slot None None (short old k slot there))
-      | inr away ↦ ap (in_part k) (get_or-set_other old slot s None None away) ∙ elim (part_case k (note_at old s)) [
-        | inl on ↦ let le = low.1 s (on, away) in absurd (omega (arith, le, below))
-        | inr off ↦ off
-      ]
+lowest_left : (old : Notes) (heads : Heads) (k slot : ℕ) (new : Notes) (low : ℕ) → AreNamed old heads → InPart old k slot → IsGone old slot new → IsLowestIn new k low → lowest (name_of heads k) (labels_of new heads) ≡ low
+lowest_left old heads k slot new low p there g is =
+    let z = length-map new (label_in heads) in
+    let lt = short new k low is.0 in
+    position_or_len_is (λ o. is_in o (name_of heads k)) (labels_of new heads) low None (omega (arith, lt, z))
+    (λ s below. rest_in old heads k slot new s p there g ∙ elim (part_case k (note_at new s)) [
+      | inl on ↦ let le = is.1 s on in absurd (omega (arith, le, below))
+      | inr off ↦ off
     ])
-    (λ q. rest_test old heads k slot to p there ∙ ap (in_part k) (get_or-set_other old slot to None None low.0.1) ∙ low.0.0)
+    (λ q. rest_in old heads k slot new low p there g ∙ is.0)
 
-taken_out_left : (old : Notes) (heads : Heads) (k slot to : ℕ) → IsPacked old heads → InPart old k slot → IsLowestOther old k slot (Some to)
-    → taken_out (labels_of old heads) slot ≡ relabelled (name_of heads k) (name_of heads k) (record { name = to; state = Loose }) (slice_set (labels_of old heads) slot None)
-unfolding taken_out
-taken_out_left old heads k slot to p there low =
-    let rest : Labels = slice_set (labels_of old heads) slot None in
-    let z = rest_size old heads slot in
-    let lt = short old k to low.0.0 in
-    ap (λ o. without o slot (labels_of old heads)) (label_here old heads k slot there)
-    ∙ ap (λ n. left_behind n (name_of heads k) rest) (lowest_left old heads k slot to p there low)
-    ∙ rw (lt-ltb to (length rest) (omega (arith, lt, z))) refl
+-- the part has this label now, and the others have what they had
+pub record IsRelabelled (heads : Heads) (k : ℕ) (label : Label) (also : Heads) : Type 0 where
+  pub here : (head_at also k).label ≡ label
+  pub others : (m : ℕ) → m ≢ k → (head_at also m).label ≡ (head_at heads m).label
 
-left_elsewhere : (old : Notes) (heads : Heads) (k slot to m : ℕ) (new : Notes) (s : ℕ) → IsPacked old heads → AreLeft old k slot to new → InPart old k slot → m ≢ to → InPart new m s → (in_part k (note_at old s) ≡ false) × InPart old m s
-left_elsewhere old heads k slot to m new s p l there far here = elim (cases_eq s slot) [
-  | inl e ↦ absurd (false≢true (sym (ap (in_part m) (ap (note_at new) e ∙ l.gone)) ∙ here))
-  | inr away ↦ elim (part_case k (note_at old s)) [
-    | inl on ↦ absurd (far (one_part m to (note_at new s) here (staying old heads k slot to new s (p.parts k slot there) l there on away).in_new))
-    | inr off ↦ (off, sym (ap (in_part m) (l.others s away off)) ∙ here)
-  ]
-]
+off_label : (heads also : Heads) (k : ℕ) (label : Label) (o : Option Note) → IsRelabelled heads k label also → in_part k o ≡ false → label_in also o ≡ label_in heads o
+off_label heads also k label None r off = refl
+off_label heads also k label (Some n) r off = ap (λ l. Some l) (r.others n.part (λ e. false≢true (sym off ∙ eq-eqb n.part k e)))
 
-left_others : (old : Notes) (heads : Heads) (k slot to m : ℕ) (new : Notes) → IsPacked old heads → AreLeft old k slot to new → InPart old k slot → m ≢ to → m ≢ k → (t : ℕ) → in_part m (note_at new t) ≡ in_part m (note_at old t)
-left_others old heads k slot to m new p l there far other t = elim (cases_eq t slot) [
-  | inl e ↦ ap (in_part m) (ap (note_at new) e ∙ l.gone) ∙ sym (ap (λ u. in_part m (note_at old u)) e ∙ not_part k m (note_at old slot) there (λ q. other (sym q)))
-  | inr away ↦ elim (part_case k (note_at old t)) [
-    | inl on ↦ not_part to m (note_at new t) (staying old heads k slot to new t (p.parts k slot there) l there on away).in_new (λ q. far (sym q)) ∙ sym (not_part k m (note_at old t) on (λ q. other (sym q)))
-    | inr off ↦ ap (in_part m) (l.others t away off)
-  ]
-]
-
-pub left_packed : (old : Notes) (heads : Heads) (k slot to : ℕ) (new : Notes) (label : Label) → IsPacked old heads → InPart old k slot → IsLowestOther old k slot (Some to) → AreLeft old k slot to new → label.name ≡ to
-    → IsPacked new (slice_set heads to (left_head heads k slot (next_at old slot) label))
-left_packed old heads k slot to new label p there low l named =
-    let also : Heads = slice_set heads to (left_head heads k slot (next_at old slot) label) in
-    let lt : to < length heads = let q = short old k to low.0.0 in let z = p.sizes in omega (arith, q, z) in
-    record {
-      sizes = length-set heads to (left_head heads k slot (next_at old slot) label) ∙ p.sizes ∙ sym l.size;
-      parts = λ m s here. elim (cases_eq m to) [
-        | inl e ↦ rw e (left_is_part old heads k slot to new also label p l there low.0.0 low.0.1 (λ t h q. low.1 t (h, q)) named (head_set heads to (left_head heads k slot (next_at old slot) label) lt))
-        | inr far ↦
-            let was = left_elsewhere old heads k slot to m new s p l there far here in
-            let other : m ≢ k = λ q. false≢true (sym was.0 ∙ ap (λ n. in_part n (note_at old s)) (sym q) ∙ was.1) in
-            part_stays old new heads also m (p.parts m s was.1) (left_others old heads k slot to m new p l there far other)
-            (λ t h. let off = not_part m k (note_at old t) h other in l.others t (λ q. false≢true (sym off ∙ ap (λ u. in_part k (note_at old u)) q ∙ there)) off)
-            (head_kept heads to m (left_head heads k slot (next_at old slot) label) far)
-      ];
-    }
-
-pub left_labels : (old : Notes) (heads : Heads) (k slot to : ℕ) (new : Notes) → IsPacked old heads → InPart old k slot → IsLowestOther old k slot (Some to) → AreLeft old k slot to new
-    → labels_of new (slice_set heads to (left_head heads k slot (next_at old slot) (record { name = to; state = Loose }))) ≡ taken_out (labels_of old heads) slot
-left_labels old heads k slot to new p there low l =
-    let label : Label = record { name = to; state = Loose } in
-    let head : Head = left_head heads k slot (next_at old slot) label in
-    let also : Heads = slice_set heads to head in
-    let rest : Labels = slice_set (labels_of old heads) slot None in
-    let lt : to < length heads = let q = short old k to low.0.0 in let z = p.sizes in omega (arith, q, z) in
-    same_labels (labels_of new also) (relabelled (name_of heads k) (name_of heads k) label rest)
-    (length-map new (label_in also) ∙ l.size ∙ sym (rest_size old heads slot) ∙ sym (length-map rest (relabel (name_of heads k) (name_of heads k) label)))
+left_labels : (old : Notes) (heads : Heads) (k slot : ℕ) (new : Notes) (also : Heads) (low : ℕ) → AreNamed old heads → InPart old k slot → IsGone old slot new → IsLowestIn new k low → IsRelabelled heads k (record { name = low; state = Loose }) also
+    → labels_of new also ≡ taken_out (labels_of old heads) slot
+left_labels old heads k slot new also low p there g is r =
+    let label : Label = record { name = low; state = Loose } in
+    let name : ℕ = name_of heads k in
+    let rest : Labels = labels_of new heads in
+    let z = length-map new (label_in heads) in
+    let lt = short new k low is.0 in
+    same_labels (labels_of new also) (relabelled name name label rest)
+    (length-map new (label_in also) ∙ sym z ∙ sym (length-map rest (relabel name name label)))
     (λ s.
-    let right : label_at (relabelled (name_of heads k) (name_of heads k) label rest) s ≡ cond (in_part k (note_at (rest_notes old slot) s) || in_part k (note_at (rest_notes old slot) s)) (Some label) (label_at rest s) =
-    relabel_at (name_of heads k) (name_of heads k) label rest s ∙ ap (λ t. cond (t || t) (Some label) (label_at rest s)) (rest_test old heads k slot s p there) in
-    labels_at also new s ∙ elim (cases_eq s slot) [
-      | inl e ↦ ap (λ t. label_in also (note_at new t)) e ∙ ap (label_in also) l.gone
-          ∙ sym (right ∙ ap (λ t. cond (in_part k (note_at (rest_notes old slot) t) || in_part k (note_at (rest_notes old slot) t)) (Some label) (label_at rest t)) e
-          ∙ ap (λ o. cond (in_part k o || in_part k o) (Some label) (label_at rest slot)) (get_or-set_same old slot None None (short old k slot there))
-          ∙ get_or-set_same (labels_of old heads) slot None None (let q = short old k slot there in let z = length-map old (label_in heads) in omega (arith, q, z)))
-      | inr away ↦ elim (part_case k (note_at old s)) [
-        | inl on ↦ label_of_part also to (note_at new s) (staying old heads k slot to new s (p.parts k slot there) l there on away).in_new ∙ ap (λ (x : Head). Some x.label) (head_set heads to head lt)
-            ∙ sym (right ∙ ap (λ o. cond (in_part k o || in_part k o) (Some label) (label_at rest s)) (get_or-set_other old slot s None None away) ∙ rw on refl)
-        | inr off ↦ ap (label_in also) (l.others s away off) ∙ label_away heads to head (note_at old s) (led_elsewhere old heads k to s p low.0.0 off)
-            ∙ sym (right ∙ ap (λ o. cond (in_part k o || in_part k o) (Some label) (label_at rest s)) (get_or-set_other old slot s None None away) ∙ rw off (get_or-set_other (labels_of old heads) slot s None None away ∙ labels_at heads old s))
-      ]
+    let right : label_at (relabelled name name label rest) s ≡ cond (in_part k (note_at new s) || in_part k (note_at new s)) (Some label) (label_at rest s) =
+    relabel_at name name label rest s ∙ ap (λ t. cond (t || t) (Some label) (label_at rest s)) (rest_in old heads k slot new s p there g) in
+    labels_at also new s ∙ elim (part_case k (note_at new s)) [
+      | inl on ↦ label_of_part also k (note_at new s) on ∙ ap (λ l. Some l) r.here ∙ sym (right ∙ rw on refl)
+      | inr off ↦ off_label heads also k label (note_at new s) r off ∙ sym (right ∙ rw off (labels_at heads new s))
     ])
-    ∙ sym (taken_out_left old heads k slot to p there low)
+    ∙ sym (without_is old heads k slot new there g
+    ∙ ap (λ n. left_behind n name rest) (lowest_left old heads k slot new low p there g is)
+    ∙ rw (lt-ltb low (length rest) (omega (arith, lt, z))) refl)
+
+-- whoever is in another part still is
+same_others : (old : Notes) (k slot m s : ℕ) (new : Notes) → InPart old k slot → IsGone old slot new → m ≢ k → InPart old m s → InPart new m s
+same_others old k slot m s new there g other h =
+    let away : s ≢ slot = λ e. other (one_part m k (note_at old slot) (ap (λ t. in_part m (note_at old t)) (sym e) ∙ h) there) in
+    same_in m (note_at new s) (note_at old s) (g.others s away) ∙ h
+
+was_in : (old : Notes) (slot m s : ℕ) (new : Notes) → IsGone old slot new → InPart new m s → InPart old m s
+was_in old slot m s new g h = elim (cases_eq s slot) [
+  | inl e ↦ absurd (false≢true (sym (ap (in_part m) (ap (note_at new) e ∙ g.gone)) ∙ h))
+  | inr away ↦ sym (same_in m (note_at new s) (note_at old s) (g.others s away)) ∙ h
+]
+
+other_named : (old : Notes) (heads : Heads) (k slot m s : ℕ) (new : Notes) (also : Heads) → AreNamed old heads → InPart old k slot → IsGone old slot new → m ≢ k → name_of also m ≡ name_of heads m → InPart new m s → IsLowestIn new m (name_of also m)
+other_named old heads k slot m s new also p there g other name h =
+    let was = p m s (was_in old slot m s new g h) in
+    rw name (same_others old k slot m (name_of heads m) new there g other was.0, λ t i. was.1 t (was_in old slot m t new g i))
+
+left_named : (old : Notes) (heads : Heads) (k slot : ℕ) (new : Notes) (also : Heads) (low : ℕ) → AreNamed old heads → InPart old k slot → IsGone old slot new → IsLowestIn new k low → IsRelabelled heads k (record { name = low; state = Loose }) also → AreNamed new also
+left_named old heads k slot new also low p there g is r m s h = elim (cases_eq m k) [
+  | inl e ↦ let name : name_of also m ≡ low = ap (name_of also) e ∙ ap (λ (l : Label). l.name) r.here in rw (name, e) is
+  | inr other ↦ other_named old heads k slot m s new also p there g other (ap (λ (l : Label). l.name) (r.others m other)) h
+]
 
 -- ---- nobody is left behind
 
-pub gone_packed : (old : Notes) (heads : Heads) (k slot : ℕ) → IsPacked old heads → InPart old k slot → IsLowestOther old k slot None → IsPacked (rest_notes old slot) heads
-gone_packed old heads k slot p there none = record {
-  sizes = p.sizes ∙ sym (length-set old slot None);
-  parts = λ m s here. elim (cases_eq s slot) [
-    | inl e ↦ absurd (false≢true (sym (ap (in_part m) (get_or-set_same old slot None None (short old k slot there))) ∙ ap (λ t. in_part m (note_at (rest_notes old slot) t)) (sym e) ∙ here))
-    | inr away ↦
-        let was : InPart old m s = sym (ap (in_part m) (get_or-set_other old slot s None None away)) ∙ here in
-        let other : m ≢ k = λ q. none s (ap (λ n. in_part n (note_at old s)) (sym q) ∙ was, away) in
-        let free : (t : ℕ) → in_part m (note_at (rest_notes old slot) t) ≡ in_part m (note_at old t) = λ t. elim (cases_eq t slot) [
-          | inl e ↦ ap (λ u. in_part m (note_at (rest_notes old slot) u)) e ∙ ap (in_part m) (get_or-set_same old slot None None (short old k slot there))
-              ∙ sym (ap (λ u. in_part m (note_at old u)) e ∙ not_part k m (note_at old slot) there (λ q. other (sym q)))
-          | inr apart ↦ ap (in_part m) (get_or-set_other old slot t None None apart)
-        ] in
-        part_stays old (rest_notes old slot) heads heads m (p.parts m s was) free
-        (λ t h. get_or-set_other old slot t None None (λ q. other (one_part m k (note_at old slot) (ap (λ u. in_part m (note_at old u)) (sym q) ∙ h) there))) refl
-  ];
-}
+gone_labels : (old : Notes) (heads : Heads) (k slot : ℕ) (new : Notes) (also : Heads) → AreNamed old heads → InPart old k slot → IsGone old slot new → ((s : ℕ) → InPart new k s → ⊥) → IsRelabelled heads k (head_at heads k).label also
+    → labels_of new also ≡ taken_out (labels_of old heads) slot
+gone_labels old heads k slot new also p there g none r =
+    let name : ℕ = name_of heads k in
+    let rest : Labels = labels_of new heads in
+    let off : (s : ℕ) → in_part k (note_at new s) ≡ false = λ s. elim (part_case k (note_at new s)) [ inl on ↦ absurd (none s on) | inr away ↦ away ] in
+    let nowhere : lowest name rest ≡ length rest = position_or_len_is (λ o. is_in o name) rest (length rest) None (omega arith) (λ s below. rest_in old heads k slot new s p there g ∙ off s) (λ q. absurd (omega (arith, q))) in
+    same_labels (labels_of new also) rest (length-map new (label_in also) ∙ sym (length-map new (label_in heads)))
+    (λ s. labels_at also new s ∙ off_label heads also k (head_at heads k).label (note_at new s) r (off s) ∙ sym (labels_at heads new s))
+    ∙ sym (without_is old heads k slot new there g ∙ ap (λ n. left_behind n name rest) nowhere ∙ rw (le-ltb (length rest) (length rest) (omega arith)) refl)
 
-lowest_gone : (old : Notes) (heads : Heads) (k slot : ℕ) → IsPacked old heads → InPart old k slot → IsLowestOther old k slot None → lowest (name_of heads k) (slice_set (labels_of old heads) slot None) ≡ length (slice_set (labels_of old heads) slot None)
-lowest_gone old heads k slot p there none =
-    position_or_len_is (λ o. is_in o (name_of heads k)) (slice_set (labels_of old heads) slot None) (length (slice_set (labels_of old heads) slot None)) None (omega arith)
-    (λ s below. rest_test old heads k slot s p there ∙ elim (cases_eq s slot) [
-      | inl e ↦ ap (λ t. in_part k (note_at (rest_notes old slot) t)) e ∙ ap (in_part k) (get_or-set_same old slot None None (short old k slot there))
-      | inr away ↦ ap (in_part k) (get_or-set_other old slot s None None away) ∙ elim (part_case k (note_at old s)) [
-        | inl on ↦ absurd (none s (on, away))
-        | inr off ↦ off
-      ]
-    ])
-    (λ q. absurd (omega (arith, q)))
-
-pub gone_labels : (old : Notes) (heads : Heads) (k slot : ℕ) → IsPacked old heads → InPart old k slot → IsLowestOther old k slot None → labels_of (rest_notes old slot) heads ≡ taken_out (labels_of old heads) slot
-unfolding taken_out
-gone_labels old heads k slot p there none =
-    let rest : Labels = slice_set (labels_of old heads) slot None in
-    rest_labels old heads slot ∙ sym (
-    ap (λ o. without o slot (labels_of old heads)) (label_here old heads k slot there)
-    ∙ ap (λ n. left_behind n (name_of heads k) rest) (lowest_gone old heads k slot p there none)
-    ∙ rw (le-ltb (length rest) (length rest) (omega arith)) refl)
+gone_named : (old : Notes) (heads : Heads) (k slot : ℕ) (new : Notes) (also : Heads) → AreNamed old heads → InPart old k slot → IsGone old slot new → ((s : ℕ) → InPart new k s → ⊥) → IsRelabelled heads k (head_at heads k).label also → AreNamed new also
+gone_named old heads k slot new also p there g none r m s h = elim (cases_eq m k) [
+  | inl e ↦ absurd (none s (ap (λ i. in_part i (note_at new s)) (sym e) ∙ h))
+  | inr other ↦ other_named old heads k slot m s new also p there g other (ap (λ (l : Label). l.name) (r.others m other)) h
+]
 
 -- ---- both
 
-pub record Leaves (old : Notes) (heads : Heads) (slot : ℕ) (new : Notes) (also : Heads) : Type 0 where
+dropped_label : (old : Notes) (heads : Heads) (k : ℕ) (new : Notes) (also : Heads) (m : ℕ) → k < length heads → IsDropped old heads k new also → (head_at also m).label ≡ (head_at heads m).label
+dropped_label old heads k new also m lt d = ap (λ (hs : Heads). (head_at hs m).label) d.heads_are ∙ elim (cases_eq m k) [
+  | inl e ↦ rw e (ap (λ (h : Head). h.label) (head_set heads k (dropped_head old heads k) lt))
+  | inr away ↦ ap (λ (h : Head). h.label) (head_kept heads k m (dropped_head old heads k) away)
+]
+
+-- what is known once the mover's node has left its thread
+pub record HasLeft (places : Places) (old : Notes) (heads : Heads) (slot : ℕ) (k : ℕ) (now : Places) (new : Notes) (also : Heads) : Type 0 where
   pub packed : IsPacked new also
-  pub labels : labels_of new also ≡ taken_out (labels_of old heads) slot
+  pub size : length now ≡ length new
+  pub notes_size : length new ≡ length old
+  pub inverse : AreInverse now
+  pub gone : IsGone (by_slot places old) slot (by_slot now new)
+  pub there : InPart (by_slot places old) k slot
+  pub labels : (m : ℕ) → (head_at also m).label ≡ (head_at heads m).label
+  pub led : 0 < (head_at also k).count → InPart new k k
+  pub none : (head_at also k).count ≡ 0 → (s : ℕ) → InPart (by_slot now new) k s → ⊥
 
-pub leaves_some : (old : Notes) (heads : Heads) (slot low : ℕ) (gone : Note) (mended : Notes) (head : Head) → IsPacked old heads → note_at old slot ≡ Some gone → IsLowestOther old gone.part slot (Some low) → AreMended old slot gone low mended
-    → head ≡ left_head_of (head_at heads gone.part) slot gone.next (record { name = low; state = Loose }) → Leaves old heads slot (slice_set mended slot None) (slice_set heads low head)
-leaves_some old heads slot low gone mended head p e least m same =
-    let there : InPart old gone.part slot = part_of_some gone.part (note_at old slot) gone e refl in
-    let l = mended_left old slot low gone mended e (short old gone.part slot there) m in
-    let also : head ≡ left_head heads gone.part slot (next_at old slot) (record { name = low; state = Loose }) = same ∙ ap (λ o. left_head heads gone.part slot (next_of o) (record { name = low; state = Loose })) (sym e) in
-    rw also (record {
-      packed = left_packed old heads gone.part slot low (slice_set mended slot None) (record { name = low; state = Loose }) p there least l refl;
-      labels = left_labels old heads gone.part slot low (slice_set mended slot None) p there least l;
-    })
+pub has_left : (places now : Places) (old : Notes) (heads : Heads) (k slot : ℕ) (new : Notes) (also : Heads) → IsPlaced places old heads → InPart (by_slot places old) k slot
+    → AreExchanged places slot (slot_at places (head_at heads k).first) now → IsDropped old heads k new also → HasLeft places old heads slot k now new also
+has_left places now old heads k slot new also w there x d =
+    let led : InPart old k k = (w.packed.parts k (node_at places slot) (slot_in places old heads k slot w there)).led in
+    let packed = dropped_packed old heads k new also w.packed led d in
+    let news : length new ≡ length old = ap length d.notes_are ∙ length-set old (head_at heads k).first None in
+    let size : length now ≡ length new = x.size ∙ w.size ∙ sym news in
+    record {
+      packed = packed;
+      size = size;
+      notes_size = news;
+      inverse = x.inverse;
+      gone = is_gone places now old heads k slot new also w there x d;
+      there = there;
+      labels = λ m. dropped_label old heads k new also m (led_short old heads k w.packed led) d;
+      led = λ more. still_led old heads k new also w.packed led d more;
+      none = λ e s h. none_left new also k (node_at now s) packed e (sym (ap (in_part k) (slot_note now new s size)) ∙ h);
+    }
 
-pub leaves_none : (old : Notes) (heads : Heads) (slot : ℕ) (gone : Note) → IsPacked old heads → note_at old slot ≡ Some gone → IsLowestOther old gone.part slot None → Leaves old heads slot (slice_set old slot None) heads
-leaves_none old heads slot gone p e none =
-    let there : InPart old gone.part slot = part_of_some gone.part (note_at old slot) gone e refl in
-    record { packed = gone_packed old heads gone.part slot p there none; labels = gone_labels old heads gone.part slot p there none }
+-- the name of the part is that of the mover which left, or still stands
+pub left_by : (places : Places) (old : Notes) (heads : Heads) (slot k : ℕ) (now : Places) (new : Notes) (also : Heads) → AreNamed (by_slot places old) heads → HasLeft places old heads slot k now new also → IsLeftBy (by_slot now new) also k slot
+left_by places old heads slot k now new also p l =
+    let was = p k slot l.there in
+    let name : name_of also k ≡ name_of heads k = ap (λ (x : Label). x.name) (l.labels k) in
+    record {
+      gone = λ t h e. false≢true (sym (ap (in_part k) (ap (note_at (by_slot now new)) e ∙ l.gone.gone)) ∙ h);
+      low = λ t h. let le = was.1 t (was_in (by_slot places old) slot k t (by_slot now new) l.gone h) in omega (arith, le, name);
+      home = λ away. ap (λ n. in_part k (note_at (by_slot now new) n)) name
+          ∙ same_in k (note_at (by_slot now new) (name_of heads k)) (note_at (by_slot places old) (name_of heads k)) (l.gone.others (name_of heads k) (λ e. away (name ∙ e))) ∙ was.0;
+    }
+
+pub record Leaves (places : Places) (old : Notes) (heads : Heads) (slot : ℕ) (now : Places) (new : Notes) (also : Heads) : Type 0 where
+  pub placed : IsPlaced now new also
+  pub labels : labels_by now new also ≡ taken_out (labels_by places old heads) slot
+
+pub leaves_some : (places : Places) (old : Notes) (heads : Heads) (slot k : ℕ) (now : Places) (new : Notes) (also : Heads) (low : ℕ) → AreNamed (by_slot places old) heads → HasLeft places old heads slot k now new also → 0 < (head_at also k).count → IsLowestIn (by_slot now new) k low
+    → Leaves places old heads slot now new (slice_set also k (labelled_head also k (record { name = low; state = Loose })))
+leaves_some places old heads slot k now new also low p l more is =
+    let label : Label = record { name = low; state = Loose } in
+    let led = l.led more in
+    let lt = led_short new also k l.packed led in
+    let r : IsRelabelled heads k label (slice_set also k (labelled_head also k label)) = record {
+      here = ap (λ (h : Head). h.label) (head_set also k (labelled_head also k label) lt);
+      others = λ m away. ap (λ (h : Head). h.label) (head_kept also k m (labelled_head also k label) away) ∙ l.labels m;
+    } in
+    record {
+      placed = record {
+        packed = labelled_packed new also k label l.packed led;
+        size = l.size;
+        inverse = l.inverse;
+        named = left_named (by_slot places old) heads k slot (by_slot now new) (slice_set also k (labelled_head also k label)) low p l.there l.gone is r;
+      };
+      labels = left_labels (by_slot places old) heads k slot (by_slot now new) (slice_set also k (labelled_head also k label)) low p l.there l.gone is r;
+    }
+
+pub leaves_none : (places : Places) (old : Notes) (heads : Heads) (slot k : ℕ) (now : Places) (new : Notes) (also : Heads) → AreNamed (by_slot places old) heads → HasLeft places old heads slot k now new also → (head_at also k).count ≡ 0 → Leaves places old heads slot now new also
+leaves_none places old heads slot k now new also p l e =
+    let r : IsRelabelled heads k (head_at heads k).label also = record { here = l.labels k; others = λ m away. l.labels m } in
+    record {
+      placed = record {
+        packed = l.packed;
+        size = l.size;
+        inverse = l.inverse;
+        named = gone_named (by_slot places old) heads k slot (by_slot now new) also p l.there l.gone (l.none e) r;
+      };
+      labels = gone_labels (by_slot places old) heads k slot (by_slot now new) also p l.there l.gone (l.none e) r;
+    }
+
+-- ---- the lowest of those that are left
+
+pub first_lowest : (notes : Notes) (k from low : ℕ) → HasNoneBelow notes k from → IsFirstFrom notes k from low → IsLowestIn notes k low
+first_lowest notes k from low none first = (first.0, λ t h. elim (cases_lt t low) [ inl lt ↦ absurd (false≢true (sym (first.1 t (none t h) lt) ∙ h)) | inr le ↦ le ])
+
+pub none_below : (notes : Notes) (heads : Heads) (k slot : ℕ) → IsLeftBy notes heads k slot → name_of heads k ≡ slot → HasNoneBelow notes k (slot + 1)
+none_below notes heads k slot l e t h = let le = l.low t h in let away = l.gone t h in omega (arith, le, away, e)
+
+pub name_lowest : (notes : Notes) (heads : Heads) (k slot : ℕ) → IsLeftBy notes heads k slot → name_of heads k ≢ slot → IsLowestIn notes k (name_of heads k)
+name_lowest notes heads k slot l away = (l.home away, l.low)
+
+pub dropped_size : (old : Notes) (heads : Heads) (k : ℕ) (new : Notes) (also : Heads) → IsDropped old heads k new also → length also ≡ length heads
+dropped_size old heads k new also d = ap length d.heads_are ∙ length-set heads k (dropped_head old heads k)
+
+pub first_short : (places : Places) (notes : Notes) (heads : Heads) (k : ℕ) → IsPlaced places notes heads → InPart notes k k → (head_at heads k).first < length places
+first_short places notes heads k w led = let lt = short notes k (head_at heads k).first (w.packed.parts k k led).first in let z = w.size in omega (arith, lt, z)

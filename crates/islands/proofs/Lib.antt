@@ -5,8 +5,10 @@ pub mod SplitLemmas
 pub mod SlotLemmas
 pub mod GroupLemmas
 pub mod PartLemmas
+pub mod StandingLemmas
 pub mod JoinPartLemmas
 pub mod LeavePartLemmas
+pub mod PlacedLemmas
 pub mod ReadingLemmas
 pub mod LeftLemmas
 pub mod ListingLemmas

@@ -1,15 +1,15 @@
 -- Lemmas on parts: who is in one, how many, what a walk along a thread has passed, and which labels it means.
-use Rattle.std.proofs.Common.{◌≡◌, ◌≢◌, ℕ, zero, suc, ◌+◌, ◌<◌, ◌≤◌, [], ◌∷◌, length, get_or, Option, Some, None, Bool, true, false, ◌⊎◌, ◌||◌, ◌&&◌, inl, inr, arith, refl, sym, ap, ◌∙◌, slice_set, get_or-set_same, get_or-set_other, eq-eqb, subst}
-use Rattle.std.specs.Prelude.{cond, ◌==◌, IsSome}
+use Rattle.std.proofs.Common.{◌≡◌, ◌≢◌, ℕ, zero, suc, ◌+◌, ◌<◌, ◌≤◌, [], ◌∷◌, length, Option, Some, None, Bool, true, false, ◌⊎◌, ◌||◌, ◌&&◌, inl, inr, arith, refl, sym, ap, ◌∙◌, slice_set, get_or-set_same, get_or-set_other, eq-eqb}
+use Rattle.std.specs.Prelude.{cond, ◌==◌}
 use Rattle.std.proofs.lemmas.Bool.{cases_lt, cases_eq, eqb-true, false≢true, le-leb, lt-leb, ne_eqb}
 use Rattle.std.proofs.lemmas.List.{length-set}
 use Rattle.std.proofs.lemmas.List.Sums.{sum_by-cons, count_by-le-length}
 use Rattle.islands.specs.declared.parts.Note.{Note}
 use Rattle.islands.specs.declared.parts.Head.{Head}
 use Rattle.islands.specs.declared.label.Label.{Label}
-use Rattle.islands.specs.Labels.{Labels, label_at, is_in}
+use Rattle.islands.specs.Labels.{label_at, is_in}
 use Rattle.islands.specs.Partition.{IsPartition}
-use Rattle.islands.specs.Packed.{Notes, note_at, Heads, head_at, in_part, InPart, rank_of, next_of, rank_at, next_at, part_in, name_of, label_in, labels_of, counted, ahead, IsPart, IsPacked, has_passed}
+use Rattle.islands.specs.Packed.{Notes, note_at, Heads, head_at, in_part, InPart, rank_of, next_of, rank_at, next_at, part_in, name_of, label_in, labels_of, counted, ahead, IsPart, AreNamed, has_passed}
 
 pub note_past : (notes : Notes) (s : ℕ) → length notes ≤ s → note_at notes s ≡ None
 note_past [] s h = refl
@@ -97,15 +97,14 @@ ahead_same old new None f = refl
 ahead_same old new (Some t) f = ap suc (f t refl)
 
 pub part_kept : (old new : Notes) (heads also : Heads) (k : ℕ) → IsPart old heads k → ((s : ℕ) → in_part k (note_at new s) ≡ in_part k (note_at old s)) → ((s : ℕ) → InPart old k s → note_at new s ≡ note_at old s)
-    → name_of also k ≡ name_of heads k → (head_at also k).first ≡ (head_at heads k).first → (head_at also k).count ≡ (head_at heads k).count → IsPart new also k
-part_kept old new heads also k p same kept name first count =
+    → (head_at also k).first ≡ (head_at heads k).first → (head_at also k).count ≡ (head_at heads k).count → IsPart new also k
+part_kept old new heads also k p same kept first count =
     let back : (s : ℕ) → InPart new k s → InPart old k s = λ s h. sym (same s) ∙ h in
     let rank : (s : ℕ) → InPart old k s → rank_at new s ≡ rank_at old s = λ s h. ap rank_of (kept s h) in
     let top : rank_at new (head_at also k).first ≡ rank_at old (head_at heads k).first = ap (rank_at new) first ∙ rank (head_at heads k).first p.first in
     record {
       led = same k ∙ p.led;
-      home = ap (λ n. in_part k (note_at new n)) name ∙ same (name_of heads k) ∙ p.home;
-      low = λ s h. let old_low = p.low s (back s h) in omega (arith, name, old_low);
+      end = rank k p.led ∙ p.end;
       first = ap (λ n. in_part k (note_at new n)) first ∙ same (head_at heads k).first ∙ p.first;
       last = λ s h. let r = rank s (back s h) in let l = p.last s (back s h) in omega (arith, r, l, top);
       next = λ s t h e.
@@ -123,7 +122,7 @@ part_kept old new heads also k p same kept name first count =
     }
 
 pub part_stays : (old new : Notes) (heads also : Heads) (k : ℕ) → IsPart old heads k → ((s : ℕ) → in_part k (note_at new s) ≡ in_part k (note_at old s)) → ((s : ℕ) → InPart old k s → note_at new s ≡ note_at old s) → head_at also k ≡ head_at heads k → IsPart new also k
-part_stays old new heads also k p same kept head = part_kept old new heads also k p same kept (ap (λ (h : Head). h.label.name) head) (ap (λ (h : Head). h.first) head) (ap (λ (h : Head). h.count) head)
+part_stays old new heads also k p same kept head = part_kept old new heads also k p same kept (ap (λ (h : Head). h.first) head) (ap (λ (h : Head). h.count) head)
 
 -- ---- a walk along a thread
 
@@ -217,13 +216,13 @@ label_of_part heads k None h = absurd (false≢true h)
 label_of_part heads k (Some n) h = ap (λ m. Some (head_at heads m).label) (eqb-true n.part k h)
 
 -- two parts have different names
-pub one_name : (notes : Notes) (heads : Heads) (k j s t : ℕ) → IsPacked notes heads → InPart notes k s → InPart notes j t → name_of heads k ≡ name_of heads j → k ≡ j
+pub one_name : (notes : Notes) (heads : Heads) (k j s t : ℕ) → AreNamed notes heads → InPart notes k s → InPart notes j t → name_of heads k ≡ name_of heads j → k ≡ j
 one_name notes heads k j s t p h g e =
-    let there : InPart notes j (name_of heads j) = (p.parts j t g).home in
-    let here : InPart notes k (name_of heads j) = ap (λ n. in_part k (note_at notes n)) (sym e) ∙ (p.parts k s h).home in
+    let there : InPart notes j (name_of heads j) = (p j t g).0 in
+    let here : InPart notes k (name_of heads j) = ap (λ n. in_part k (note_at notes n)) (sym e) ∙ (p k s h).0 in
     one_part k j (note_at notes (name_of heads j)) here there
 
-in_name_of : (notes : Notes) (heads : Heads) (k s t : ℕ) (o : Option Note) → IsPacked notes heads → InPart notes k s → note_at notes t ≡ o → is_in (label_in heads o) (name_of heads k) ≡ in_part k o
+in_name_of : (notes : Notes) (heads : Heads) (k s t : ℕ) (o : Option Note) → AreNamed notes heads → InPart notes k s → note_at notes t ≡ o → is_in (label_in heads o) (name_of heads k) ≡ in_part k o
 in_name_of notes heads k s t None p h e = refl
 in_name_of notes heads k s t (Some n) p h e = elim (cases_eq n.part k) [
   | inl m ↦ ap (λ j. name_of heads j == name_of heads k) m ∙ eq-eqb (name_of heads k) (name_of heads k) refl ∙ sym (eq-eqb n.part k m)
@@ -233,7 +232,7 @@ in_name_of notes heads k s t (Some n) p h e = elim (cases_eq n.part k) [
 ]
 
 -- whoever has the part's name is in the part
-pub in_name : (notes : Notes) (heads : Heads) (k s t : ℕ) → IsPacked notes heads → InPart notes k s → is_in (label_in heads (note_at notes t)) (name_of heads k) ≡ in_part k (note_at notes t)
+pub in_name : (notes : Notes) (heads : Heads) (k s t : ℕ) → AreNamed notes heads → InPart notes k s → is_in (label_in heads (note_at notes t)) (name_of heads k) ≡ in_part k (note_at notes t)
 in_name notes heads k s t p h = in_name_of notes heads k s t (note_at notes t) p h refl
 
 label_case : (heads : Heads) (o : Option Note) (l : Label) → label_in heads o ≡ Some l → (n : Note) × (o ≡ Some n) × (l ≡ (head_at heads n.part).label)
@@ -241,29 +240,18 @@ label_case heads None l e = let no : None ≡ Some l = e in absurd (cc)
 label_case heads (Some n) l e = (n, refl, cc)
 
 -- the labels are a partition
-pub packed_partition : (notes : Notes) (heads : Heads) → IsPacked notes heads → IsPartition (labels_of notes heads)
-packed_partition notes heads p = record {
+pub named_partition : (notes : Notes) (heads : Heads) → AreNamed notes heads → IsPartition (labels_of notes heads)
+named_partition notes heads p = record {
   low = λ s l e. let m = label_case heads (note_at notes s) l (sym (labels_at heads notes s) ∙ e) in
       let there : InPart notes m.0.part s = part_of_some m.0.part (note_at notes s) m.0 m.1 refl in
       let name : l.name ≡ name_of heads m.0.part = ap (λ (x : Label). x.name) m.2 in
-      let le = (p.parts m.0.part s there).low s there in omega (arith, le, name);
+      let le = (p m.0.part s there).1 s there in omega (arith, le, name);
   named = λ s l e. let m = label_case heads (note_at notes s) l (sym (labels_at heads notes s) ∙ e) in
       let there : InPart notes m.0.part s = part_of_some m.0.part (note_at notes s) m.0 m.1 refl in
       let name : l.name ≡ name_of heads m.0.part = ap (λ (x : Label). x.name) m.2 in
-      ap (label_at (labels_of notes heads)) name ∙ labels_at heads notes (name_of heads m.0.part) ∙ label_of_part heads m.0.part (note_at notes (name_of heads m.0.part)) (p.parts m.0.part s there).home ∙ ap (λ x. Some x) (sym m.2);
+      ap (label_at (labels_of notes heads)) name ∙ labels_at heads notes (name_of heads m.0.part) ∙ label_of_part heads m.0.part (note_at notes (name_of heads m.0.part)) (p m.0.part s there).0 ∙ ap (λ x. Some x) (sym m.2);
 }
 
 pub in_of_part : (o : Option Note) (k : ℕ) → part_in o ≡ Some k → in_part k o ≡ true
 in_of_part None k e = let no : None ≡ Some k = e in absurd (cc)
 in_of_part (Some n) k e = part_some k n cc
-
-pub note_short : (notes : Notes) (slot : ℕ) → IsSome (note_at notes slot) → slot < length notes
-note_short notes slot h = elim (cases_lt slot (length notes)) [
-  | inl lt ↦ lt
-  | inr le ↦ absurd (let P : Option Note → Type 0 = λ o. IsSome o in false≢true (subst P (note_past notes slot le) h))
-]
-
--- a part is led from a slot that has a head
-pub part_short : (notes : Notes) (heads : Heads) (slot : ℕ) (n : Note) → IsPacked notes heads → note_at notes slot ≡ Some n → n.part < length heads
-part_short notes heads slot n p e =
-    let lt = short notes n.part n.part (p.parts n.part slot (part_of_some n.part (note_at notes slot) n e refl)).led in let z = p.sizes in omega (arith, lt, z)

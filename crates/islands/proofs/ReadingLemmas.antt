@@ -1,9 +1,11 @@
 -- Reading along the thread of a part: whom the walk has passed.
-use Rattle.std.proofs.Common.{◌≡◌, ◌≢◌, ℕ, suc, ◌<◌, ◌≤◌, Option, Some, None, ◌⊎◌, inl, inr, arith, refl, sym, ap, ◌∙◌, eq-eqb}
+use Rattle.std.proofs.Common.{◌≡◌, ◌≢◌, ℕ, suc, ◌<◌, ◌≤◌, length, Option, Some, None, ◌⊎◌, inl, inr, arith, sym, ap, ◌∙◌}
 use Rattle.std.specs.Prelude.{min}
-use Rattle.std.proofs.lemmas.Bool.{cases_lt, cases_eq, ne_eqb}
-use Rattle.islands.specs.Packed.{Notes, note_at, Heads, head_at, in_part, InPart, rank_at, next_at, ahead, IsPart, lesser, lesser_other, IsLowest, IsLowestOther}
+use Rattle.std.proofs.lemmas.Bool.{cases_lt, cases_eq}
+use Rattle.islands.specs.Packed.{Notes, note_at, Heads, head_at, in_part, InPart, rank_at, next_at, ahead, IsPart, IsLowestIn, by_slot}
+use Rattle.islands.specs.Standing.{AreInverse, Places, node_at, slot_at}
 use Rattle.islands.proofs.PartLemmas.{goes_down}
+use Rattle.islands.proofs.StandingLemmas.{node_note, slot_note}
 
 -- the walk has passed the member
 abbrev pub Passed : Notes → ℕ → Option ℕ → ℕ → Type 0
@@ -51,35 +53,36 @@ goes_on notes heads k t at later p h e f =
       ];
     }
 
--- ---- the lowest but one
+-- ---- the lowest
 
-lesser_more : (P Q : ℕ → Type 0) (t : ℕ) (o : Option ℕ) → IsLowest P o → Q t → ((s : ℕ) → Q s → (s ≡ t) ⊎ P s) → ((s : ℕ) → P s → Q s) → IsLowest Q (Some (lesser o t))
-lesser_more P Q t None low here only still = (here, λ s h. elim (only s h) [ inl e ↦ omega (arith, e) | inr g ↦ absurd (low s g) ])
-lesser_more P Q t (Some best) low here only still = elim (cases_lt best t) [
-  | inl lt ↦ let least : min best t ≡ best = omega (arith, lt) in rw least (still best low.0, λ s h. elim (only s h) [ inl e ↦ omega (arith, e, lt) | inr g ↦ low.1 s g ])
-  | inr le ↦ let least : min best t ≡ t = omega (arith, le) in rw least (here, λ s h. elim (only s h) [ inl e ↦ omega (arith, e) | inr g ↦ let m = low.1 s g in omega (arith, m, le) ])
+-- a member that is no higher than any that was passed, by their slots
+pub record IsLowestPassed (places : Places) (notes : Notes) (k : ℕ) (at : Option ℕ) (low : ℕ) : Type 0 where
+  pub here : InPart (by_slot places notes) k low
+  pub least : (t : ℕ) → Passed notes k at t → low ≤ slot_at places t
+
+pub lowest_starts : (places : Places) (notes : Notes) (heads : Heads) (k : ℕ) → IsPart notes heads k → length places ≡ length notes → AreInverse places → IsLowestPassed places notes k (Some (head_at heads k).first) (slot_at places k)
+lowest_starts places notes heads k p e w = record {
+  here = ap (in_part k) (node_note places notes k e w) ∙ p.led;
+  least = λ t h. absurd (none_passed notes heads k t p h);
+}
+
+pub lowest_goes : (places : Places) (notes : Notes) (k t : ℕ) (at later : Option ℕ) (low : ℕ) → length places ≡ length notes → AreInverse places → InPart notes k t → GoesOn notes k t at later → IsLowestPassed places notes k at low → IsLowestPassed places notes k later (min low (slot_at places t))
+lowest_goes places notes k t at later low e w here on is = elim (cases_lt low (slot_at places t)) [
+  | inl lt ↦ let least : min low (slot_at places t) ≡ low = omega (arith, lt) in rw least (record {
+    here = is.here;
+    least = λ s h. elim (on.only s h) [ inl same ↦ let q : slot_at places s ≡ slot_at places t = ap (slot_at places) same in omega (arith, q, lt) | inr g ↦ is.least s g ];
+  })
+  | inr le ↦ let least : min low (slot_at places t) ≡ slot_at places t = omega (arith, le) in rw least (record {
+    here = ap (in_part k) (node_note places notes t e w) ∙ here;
+    least = λ s h. elim (on.only s h) [ inl same ↦ let q : slot_at places s ≡ slot_at places t = ap (slot_at places) same in omega (arith, q) | inr g ↦ let m = is.least s g in omega (arith, m, le) ];
+  })
 ]
 
-same_lowest : (P Q : ℕ → Type 0) (o : Option ℕ) → IsLowest P o → ((s : ℕ) → Q s → P s) → ((s : ℕ) → P s → Q s) → IsLowest Q o
-same_lowest P Q None low only still = λ s h. low s (only s h)
-same_lowest P Q (Some best) low only still = (still best low.0, λ s h. low.1 s (only s h))
-
--- the lowest of those that were passed but the one in the slot
-abbrev pub IsLowestPassed : Notes → ℕ → Option ℕ → ℕ → Option ℕ → Type 0
-IsLowestPassed notes k at slot o = IsLowest (λ s. Passed notes k at s × (s ≢ slot)) o
-
-pub lowest_starts : (notes : Notes) (heads : Heads) (k slot : ℕ) → IsPart notes heads k → IsLowestPassed notes k (Some (head_at heads k).first) slot None
-lowest_starts notes heads k slot p s h = none_passed notes heads k s p h.0
-
-pub lowest_goes : (notes : Notes) (k t slot : ℕ) (at later o : Option ℕ) → GoesOn notes k t at later → IsLowestPassed notes k at slot o → IsLowestPassed notes k later slot (lesser_other o t slot)
-lowest_goes notes k t slot at later o on low = elim (cases_eq t slot) [
-  | inl e ↦ rw (eq-eqb t slot e) (same_lowest (λ s. Passed notes k at s × (s ≢ slot)) (λ s. Passed notes k later s × (s ≢ slot)) o low
-      (λ s h. elim (on.only s h.0) [ inl m ↦ absurd (h.1 (m ∙ e)) | inr m ↦ (m, h.1) ])
-      (λ s h. (on.still s h.0, h.1)))
-  | inr away ↦ rw (ne_eqb t slot away) (lesser_more (λ s. Passed notes k at s × (s ≢ slot)) (λ s. Passed notes k later s × (s ≢ slot)) t o low (on.here, away)
-      (λ s h. elim (on.only s h.0) [ inl m ↦ inl m | inr m ↦ inr (m, h.1) ])
-      (λ s h. (on.still s h.0, h.1)))
-]
-
-pub lowest_ends : (notes : Notes) (k slot : ℕ) (at o : Option ℕ) → at ≡ None → IsLowestPassed notes k at slot o → IsLowestOther notes k slot o
-lowest_ends notes k slot at o e low = same_lowest (λ s. Passed notes k at s × (s ≢ slot)) (λ s. InPart notes k s × (s ≢ slot)) o low (λ s h. (all_passed notes k s at e h.0, h.1)) (λ s h. (h.0.0, h.1))
+pub lowest_ends : (places : Places) (notes : Notes) (k : ℕ) (at : Option ℕ) (low : ℕ) → at ≡ None → length places ≡ length notes → AreInverse places → IsLowestPassed places notes k at low → IsLowestIn (by_slot places notes) k low
+lowest_ends places notes k at low e size w is = (
+  is.here,
+  λ s h.
+      let le = is.least (node_at places s) (all_passed notes k (node_at places s) at e (sym (ap (in_part k) (slot_note places notes s size)) ∙ h)) in
+      let back = w.back s in
+      omega (arith, le, back),
+)

@@ -1,27 +1,30 @@
--- Islands as threads through the slots of their movers: what is kept by slot, which labels that means, and what holds of it.
-use Rattle.std.specs.Prelude.{◌≡◌, ◌≢◌, ◌↔◌, ◌++◌, replicate, nat_eq, Contains, ℕ, suc, ◌-◌, nat_lt, ◌+◌, ◌<◌, ◌≤◌, List, length, Some, None, Option, map, ◌==◌, ◌&&◌, ◌^◌, Bool, true, false, cond, count_by, nat_le, min}
+-- Islands as threads through the nodes of their movers: what is kept by node, which labels that means by slot, and what holds of it.
+use Rattle.std.specs.Prelude.{◌≡◌, ◌≢◌, ◌↔◌, ◌++◌, replicate, nat_eq, Contains, ℕ, suc, ◌-◌, ◌+◌, ◌<◌, ◌≤◌, List, length, Some, None, Option, map, ◌==◌, ◌&&◌, ◌^◌, Bool, true, false, count_by, nat_le, slice_set}
 use Rattle.std.specs.List.{slice_index_or, IsDistinct}
 use Rattle.islands.specs.declared.parts.Note.{Note}
 use Rattle.islands.specs.declared.parts.Head.{Head}
 use Rattle.islands.specs.declared.label.Label.{Label}
+use Rattle.islands.specs.declared.places.Place.{Place}
 use Rattle.islands.specs.Labels.{Labels, label_at, is_in, own_label}
+use Rattle.islands.specs.Standing.{AreInverse, Places, slot_at}
 
--- by slot the note of the mover there, if there is one
+-- by node the note of the mover there, if there is one
 abbrev pub Notes : Type 0
 Notes = List (Option Note)
 
 abbrev pub note_at : Notes → ℕ → Option Note
 note_at notes slot = slice_index_or notes slot None
 
--- by slot the head of the part that is led from there, if one is
+-- by node the head of the part that is led from there, if one is
 abbrev pub Heads : Type 0
 Heads = List Head
 
-abbrev pub own_head : ℕ → Head
-own_head slot = record { label = own_label slot; first = slot; count = 1 }
+-- of the part that the mover in the slot, which stands at the node, is alone
+abbrev pub own_head : ℕ → ℕ → Head
+own_head node slot = record { label = own_label slot; first = node; count = 1 }
 
 abbrev pub own_note : ℕ → Note
-own_note slot = record { part = slot; rank = 0; next = None }
+own_note node = record { part = node; rank = 0; next = None }
 
 -- what stands past the end
 abbrev pub no_head : Head
@@ -65,8 +68,17 @@ abbrev pub label_in : Heads → Option Note → Option Label
 label_in heads None = None
 label_in heads (Some n) = Some (head_at heads n.part).label
 
+-- of notes by slot
 abbrev pub labels_of : Notes → Heads → Labels
 labels_of notes heads = map (label_in heads) notes
+
+-- the notes by slot
+abbrev pub by_slot : Places → Notes → Notes
+by_slot places notes = map (λ (p : Place). note_at notes p.node) places
+
+-- the labels by slot, of notes by node
+abbrev pub labels_by : Places → Notes → Heads → Labels
+labels_by places notes heads = labels_of (by_slot places notes) heads
 
 -- ---- what holds
 
@@ -79,12 +91,11 @@ abbrev pub ahead : Notes → Option ℕ → ℕ
 ahead notes None = 0
 ahead notes (Some slot) = suc (rank_at notes slot)
 
--- A part is led from the slot of one of its members, and named by its lowest. Its thread begins at its member of the highest
--- rank, and goes on from each to the one of the next lower rank. No two of its members have one rank, and ranks are below the count.
+-- A part is led from the node where its thread ends. Its thread begins at its node of the highest rank, and goes on from each
+-- to the one of the next lower rank. No two of its nodes have one rank, and ranks are below the count.
 pub record IsPart (notes : Notes) (heads : Heads) (part : ℕ) : Type 0 where
   pub led : InPart notes part part
-  pub home : InPart notes part (name_of heads part)
-  pub low : (s : ℕ) → InPart notes part s → name_of heads part ≤ s
+  pub end : rank_at notes part ≡ 0
   pub first : InPart notes part (head_at heads part).first
   pub last : (s : ℕ) → InPart notes part s → rank_at notes s ≤ rank_at notes (head_at heads part).first
   pub next : (s t : ℕ) → InPart notes part s → next_at notes s ≡ Some t → InPart notes part t × (rank_at notes t < rank_at notes s)
@@ -98,20 +109,36 @@ pub record IsPacked (notes : Notes) (heads : Heads) : Type 0 where
   pub sizes : length heads ≡ length notes
   pub parts : (k s : ℕ) → InPart notes k s → IsPart notes heads k
 
--- the part is the island of this name, or there is no such island
-abbrev pub IsNamedPart : Notes → Heads → ℕ → Option ℕ → Type 0
-IsNamedPart notes heads name None = (s : ℕ) → is_in (label_at (labels_of notes heads) s) name ≡ false
-IsNamedPart notes heads name (Some part) = InPart notes part part × (name_of heads part ≡ name)
+-- the slot is the lowest of the part's, where the notes are by slot
+abbrev pub IsLowestIn : Notes → ℕ → ℕ → Type 0
+IsLowestIn notes part low = InPart notes part low × ((s : ℕ) → InPart notes part s → low ≤ s)
 
--- the members of a part, each once
+-- each part is named by its lowest slot, where the notes are by slot
+abbrev pub AreNamed : Notes → Heads → Type 0
+AreNamed notes heads = (k s : ℕ) → InPart notes k s → IsLowestIn notes k (name_of heads k)
+
+-- the threads are as above, the slots stand along them, and each part is named by its lowest slot
+pub record IsPlaced (places : Places) (notes : Notes) (heads : Heads) : Type 0 where
+  pub packed : IsPacked notes heads
+  pub size : length places ≡ length notes
+  pub inverse : AreInverse places
+  pub named : AreNamed (by_slot places notes) heads
+
+-- the part is the island of this name, or there is no such island
+abbrev pub IsNamedPart : Places → Notes → Heads → ℕ → Option ℕ → Type 0
+IsNamedPart places notes heads name None = (s : ℕ) → is_in (label_at (labels_by places notes heads) s) name ≡ false
+IsNamedPart places notes heads name (Some part) = InPart notes part part × (name_of heads part ≡ name)
+
+-- the members of a part, each once, where the notes are by slot
 pub record AreMembers (notes : Notes) (part : ℕ) (members : List ℕ) : Type 0 where
   pub all : (s : ℕ) → Contains members s ↔ InPart notes part s
   pub apart : IsDistinct nat_eq members
 
 -- What the type keeps, beside the room in its lists.
-pub record IsKept (notes : Notes) (heads : Heads) (notes_capacity heads_capacity room : ℕ) : Type 0 where
-  pub packed : IsPacked notes heads
+pub record IsKept (places : Places) (notes : Notes) (heads : Heads) (places_capacity notes_capacity heads_capacity room : ℕ) : Type 0 where
+  pub placed : IsPlaced places notes heads
   pub few : length notes ≤ 2 ^ 32
+  pub places_room : room ≤ places_capacity
   pub notes_room : room ≤ notes_capacity
   pub heads_room : room ≤ heads_capacity
 
@@ -144,50 +171,29 @@ joined_head heads to part label = record { label = label; first = (head_at heads
 abbrev pub labelled_head : Heads → ℕ → Label → Head
 labelled_head heads part label = record { label = label; first = (head_at heads part).first; count = (head_at heads part).count }
 
--- ---- a mover leaves its part
+-- ---- a mover leaves its part, from the front of its thread
 
-abbrev pub is_next : Option ℕ → ℕ → Bool
-is_next None slot = false
-is_next (Some next) slot = next == slot
+abbrev pub dropped_head : Notes → Heads → ℕ → Head
+dropped_head notes heads part = record { label = (head_at heads part).label; first = or_first (next_at notes (head_at heads part).first) part; count = (head_at heads part).count - 1 }
 
--- the note of a member once the mover in the slot, of this rank and with this next one, has left: the part is led from another slot
-abbrev pub left_note : ℕ → ℕ → Option ℕ → ℕ → Note → Note
-left_note slot rank next to n = record { part = to; rank = cond (nat_lt rank n.rank) (n.rank - 1) n.rank; next = cond (is_next n.next slot) next n.next }
+-- the notes and heads once the first node has left the part
+pub record IsDropped (old : Notes) (heads : Heads) (part : ℕ) (new : Notes) (also : Heads) : Type 0 where
+  pub notes_are : new ≡ slice_set old (head_at heads part).first None
+  pub heads_are : also ≡ slice_set heads part (dropped_head old heads part)
 
-abbrev pub left_head_of : Head → ℕ → Option ℕ → Label → Head
-left_head_of head slot next label = record { label = label; first = cond (head.first == slot) (or_first next slot) head.first; count = head.count - 1 }
+-- the slot is the first of the part's from this one on, where the notes are by slot
+abbrev pub IsFirstFrom : Notes → ℕ → ℕ → ℕ → Type 0
+IsFirstFrom notes part from slot = InPart notes part slot × ((t : ℕ) → from ≤ t → t < slot → in_part part (note_at notes t) ≡ false)
 
-abbrev pub left_head : Heads → ℕ → ℕ → Option ℕ → Label → Head
-left_head heads part slot next label = left_head_of (head_at heads part) slot next label
+-- the part has no slot below this one
+abbrev pub HasNoneBelow : Notes → ℕ → ℕ → Type 0
+HasNoneBelow notes part slot = (t : ℕ) → InPart notes part t → slot ≤ t
 
--- the notes once the mover in the slot has left the part, which is led from `to` then
-pub record AreLeft (old : Notes) (part slot to : ℕ) (new : Notes) : Type 0 where
-  pub size : length new ≡ length old
-  pub gone : note_at new slot ≡ None
-  pub others : (s : ℕ) → s ≢ slot → in_part part (note_at old s) ≡ false → note_at new s ≡ note_at old s
-  pub left : (s : ℕ) (n : Note) → s ≢ slot → note_at old s ≡ Some n → n.part ≡ part → note_at new s ≡ Some (left_note slot (rank_at old slot) (next_at old slot) to n)
-
-abbrev pub lesser : Option ℕ → ℕ → ℕ
-lesser None member = member
-lesser (Some best) member = min best member
-
--- of two members the lower one, where the one in the slot doesn't count
-abbrev pub lesser_other : Option ℕ → ℕ → ℕ → Option ℕ
-lesser_other best member slot = cond (member == slot) best (Some (lesser best member))
-
--- the least of those of which P holds, if there is one
-abbrev pub IsLowest : (ℕ → Type 0) → Option ℕ → Type 0
-IsLowest P None = (s : ℕ) → P s → ⊥
-IsLowest P (Some low) = P low × ((s : ℕ) → P s → low ≤ s)
-
-abbrev pub IsLowestOther : Notes → ℕ → ℕ → Option ℕ → Type 0
-IsLowestOther notes part slot o = IsLowest (λ s. InPart notes part s × (s ≢ slot)) o
-
--- the notes with those of the part mended, as the mover in the slot leaves it
-pub record AreMended (old : Notes) (slot : ℕ) (gone : Note) (to : ℕ) (new : Notes) : Type 0 where
-  pub size : length new ≡ length old
-  pub others : (s : ℕ) → in_part gone.part (note_at old s) ≡ false → note_at new s ≡ note_at old s
-  pub mended : (s : ℕ) (n : Note) → note_at old s ≡ Some n → n.part ≡ gone.part → note_at new s ≡ Some (left_note slot gone.rank gone.next to n)
+-- the part is named by its lowest slot, but that the mover in this slot has left it
+pub record IsLeftBy (notes : Notes) (heads : Heads) (part slot : ℕ) : Type 0 where
+  pub gone : (t : ℕ) → InPart notes part t → t ≢ slot
+  pub low : (t : ℕ) → InPart notes part t → name_of heads part ≤ t
+  pub home : name_of heads part ≢ slot → InPart notes part (name_of heads part)
 
 -- ---- a mover comes
 
@@ -197,11 +203,11 @@ filled item items n = items ++ replicate (n - length items) item
 
 -- ---- a part is scattered
 
--- the notes and heads once each of the members is a part of its own
-pub record AreScattered (old : Notes) (heads : Heads) (members : List ℕ) (new : Notes) (also : Heads) : Type 0 where
+-- the notes and heads once each of the members, which are slots, is a part of its own
+pub record AreScattered (places : Places) (old : Notes) (heads : Heads) (members : List ℕ) (new : Notes) (also : Heads) : Type 0 where
   pub size : length new ≡ length old
   pub heads_size : length also ≡ length heads
-  pub notes_alone : (s : ℕ) → Contains members s → note_at new s ≡ Some (own_note s)
-  pub heads_alone : (s : ℕ) → Contains members s → head_at also s ≡ own_head s
-  pub notes_kept : (s : ℕ) → (Contains members s → ⊥) → note_at new s ≡ note_at old s
-  pub heads_kept : (s : ℕ) → (Contains members s → ⊥) → head_at also s ≡ head_at heads s
+  pub notes_alone : (k : ℕ) → Contains members (slot_at places k) → note_at new k ≡ Some (own_note k)
+  pub heads_alone : (k : ℕ) → Contains members (slot_at places k) → head_at also k ≡ own_head k (slot_at places k)
+  pub notes_kept : (k : ℕ) → (Contains members (slot_at places k) → ⊥) → note_at new k ≡ note_at old k
+  pub heads_kept : (k : ℕ) → (Contains members (slot_at places k) → ⊥) → head_at also k ≡ head_at heads k

@@ -15,6 +15,7 @@ use crate::label::{IslandState, Label};
 use crate::leaving::leave;
 use crate::listing::{fill_members, members_of};
 use crate::parts::{Head, Note, label_in, part_at, set_state};
+use crate::places::Place;
 use crate::room::reserve_in_all;
 use crate::scratch::SplitScratch;
 use crate::splitting::split_island;
@@ -26,7 +27,9 @@ use std::marker::Model;
 /// the bound below which a mover's slot must be so that it may be added (`room`).
 #[derive(Drop)]
 pub struct Islands {
-    // By slot what is kept of the mover, and of the part that is led from there.
+    // By slot the node where it stands, and back.
+    places: Vec<Place>,
+    // By node what is kept of the mover there, and of the part that is led from there.
     notes: Vec<Option<Note>>,
     heads: Vec<Head>,
     room: usize,
@@ -35,13 +38,13 @@ pub struct Islands {
 impl Model for Islands {
     ghost use Rattle.std.specs.Prelude.{vec_capacity};
     ghost use Rattle.islands.specs.Kept.{Grouped};
-    ghost use Rattle.islands.specs.Packed.{IsKept, labels_of};
+    ghost use Rattle.islands.specs.Packed.{IsKept, labels_by};
 
     ghost Value = { Grouped };
 
-    ghost view = { λ a. record { labels = labels_of a.notes.items a.heads.items; room = a.room } };
+    ghost view = { λ a. record { labels = labels_by a.places.items a.notes.items a.heads.items; room = a.room } };
 
-    ghost invariant = { λ a. IsKept a.notes.items a.heads.items (vec_capacity a.notes) (vec_capacity a.heads) a.room };
+    ghost invariant = { λ a. IsKept a.places.items a.notes.items a.heads.items (vec_capacity a.places) (vec_capacity a.notes) (vec_capacity a.heads) a.room };
 }
 
 impl Islands {
@@ -51,6 +54,7 @@ impl Islands {
         ensures room { result.room ≡ 0 }
     {
         Islands {
+            places: Vec::new(alloc),
             notes: Vec::new(alloc),
             heads: Vec::new(alloc),
             room: 0,
@@ -65,6 +69,7 @@ impl Islands {
     {
         let alloc = *self.notes.allocator();
         Ok(Islands {
+            places: Vec::from_slice(alloc, self.places.as_slice())?,
             notes: Vec::from_slice(alloc, self.notes.as_slice())?,
             heads: Vec::from_slice(alloc, self.heads.as_slice())?,
             room: 0,
@@ -79,6 +84,7 @@ impl Islands {
         ensures refused { OnErr result (self.new ≡ self.old) }
         ensures memory_only { IsOkUnless result Refusal.NoMemory }
     {
+        reserve_in_all(&mut self.places, slots)?;
         reserve_in_all(&mut self.notes, slots)?;
         reserve_in_all(&mut self.heads, slots)?;
         self.room = self.room.max(slots);
@@ -92,7 +98,7 @@ impl Islands {
         ensures labels { self.new.labels ≡ added self.old.labels slot }
         ensures room { self.new.room ≡ self.old.room }
     {
-        add_part(&mut self.notes, &mut self.heads, slot);
+        add_part(&mut self.places, &mut self.notes, &mut self.heads, slot);
     }
 
     /// Lets the slots that have a label, or none, go up to this one at least.
@@ -101,7 +107,12 @@ impl Islands {
         ensures labels { self.new.labels ≡ padded self.old.labels (slot + 1) }
         ensures room { self.new.room ≡ self.old.room }
     {
-        widen_lists(&mut self.notes, &mut self.heads, slot as usize + 1);
+        widen_lists(
+            &mut self.places,
+            &mut self.notes,
+            &mut self.heads,
+            slot as usize + 1,
+        );
     }
 
     /// Makes the islands of two movers one, under the lesser name, and loose if either was. It is
@@ -112,7 +123,7 @@ impl Islands {
         ensures labels { self.new.labels ≡ merged self.old.labels a b }
         ensures room { self.new.room ≡ self.old.room }
     {
-        merge_movers(&mut self.notes, &mut self.heads, a, b);
+        merge_movers(&self.places, &mut self.notes, &mut self.heads, a, b);
     }
 
     /// Makes the island of a mover loose: it has lost a link.
@@ -121,17 +132,18 @@ impl Islands {
         ensures labels { self.new.labels ≡ loosened self.old.labels slot }
         ensures room { self.new.room ≡ self.old.room }
     {
-        let part = part_at(&self.notes, slot);
+        let part = part_at(&self.places, &self.notes, slot);
         set_state(&self.notes, &mut self.heads, part, IslandState::Loose);
     }
 
-    /// Takes a mover out of its island. Those that it leaves behind are loose, under their lowest slot.
+    /// Takes a mover out of its island. Those that it leaves behind are loose, under their lowest slot. That is looked for
+    /// only where the mover named the island: otherwise it costs the same whatever the size of the island.
     pub fn take_out(&mut self, slot: u32)
         requires mover { IsSome (label_at self.old.labels slot) }
         ensures labels { self.new.labels ≡ taken_out self.old.labels slot }
         ensures room { self.new.room ≡ self.old.room }
     {
-        leave(&mut self.notes, &mut self.heads, slot);
+        leave(&mut self.places, &mut self.notes, &mut self.heads, slot);
     }
 
     /// Puts an island to rest.
@@ -141,7 +153,7 @@ impl Islands {
         ensures labels { self.new.labels ≡ rested self.old.labels name }
         ensures room { self.new.room ≡ self.old.room }
     {
-        let part = part_at(&self.notes, name);
+        let part = part_at(&self.places, &self.notes, name);
         set_state(&self.notes, &mut self.heads, part, IslandState::Asleep);
     }
 
@@ -152,7 +164,7 @@ impl Islands {
         ensures labels { self.new.labels ≡ woken self.old.labels name }
         ensures room { self.new.room ≡ self.old.room }
     {
-        let part = part_at(&self.notes, name);
+        let part = part_at(&self.places, &self.notes, name);
         set_state(&self.notes, &mut self.heads, part, IslandState::Whole);
     }
 
@@ -168,7 +180,14 @@ impl Islands {
         ensures scratch_slots { scratch.new.slots ≡ scratch.old.slots }
         ensures scratch_links { scratch.new.links ≡ scratch.old.links }
     {
-        split_island(&mut self.notes, &mut self.heads, name, edges, scratch);
+        split_island(
+            &self.places,
+            &mut self.notes,
+            &mut self.heads,
+            name,
+            edges,
+            scratch,
+        );
     }
 
     /// How many slots there are, with a mover or without.
@@ -184,7 +203,7 @@ impl Islands {
         ensures value { result ≡ label_at self.now.labels slot }
         ensures partition { IsPartition self.now.labels }
     {
-        label_in(&self.notes, &self.heads, slot)
+        label_in(&self.places, &self.notes, &self.heads, slot)
     }
 
     /// The name of a mover's island, which is its lowest slot; `None` where there is no mover.
@@ -219,7 +238,8 @@ impl Islands {
         ensures members { IfOk result (λ v. (slot : ℕ) → Contains v.items slot ↔ IsIn self.now.labels name slot) }
         ensures memory_only { IsOkUnless result Refusal.NoMemory }
     {
-        members_of(*self.notes.allocator(), &self.notes, &self.heads, name)
+        let alloc = *self.notes.allocator();
+        members_of(alloc, &self.places, &self.notes, &self.heads, name)
     }
 
     /// Lists the movers of an island, in no order that is promised; none where there is no such island. There is room for
@@ -230,7 +250,7 @@ impl Islands {
         ensures once { IsDistinct nat_eq members.new.items }
         ensures capacity { vec_capacity members.old ≤ vec_capacity members.new }
     {
-        fill_members(&self.notes, &self.heads, name, members);
+        fill_members(&self.places, &self.notes, &self.heads, name, members);
     }
 
     /// By slot the label of the mover's island. Refused 1 where memory is wanting.

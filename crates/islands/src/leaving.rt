@@ -1,127 +1,161 @@
-//! A mover that leaves its part.
+//! A mover that leaves its part. It changes places with the one at the front of the thread, and the front leaves: so no
+//! other note is touched, and where the head of the part stands stays.
 
-ghost use Rattle.std.specs.Prelude.{◌≡◌, ℕ, ◌≤◌, ◌-◌, ◌==◌, vec_capacity, IsSome, length, cond, nat_lt};
-ghost use Rattle.islands.specs.declared.label.IslandState.TheVariants.{Loose};
+ghost use Rattle.std.specs.Prelude.{◌≡◌, ◌≤◌, ◌<◌, ◌+◌, ◌^◌, vec_capacity, IsSome, IfSome, length};
 ghost use Rattle.islands.specs.Labels.{taken_out};
-ghost use Rattle.islands.specs.Packed.{IsPacked, InPart, note_at, labels_of, is_next, or_first, left_note, left_head_of, lesser_other, IsLowestOther, AreMended};
+ghost use Rattle.islands.specs.Standing.{AreExchanged, AreInverse, slot_at};
+ghost use Rattle.islands.specs.Packed.{IsPacked, IsPlaced, InPart, by_slot, note_at, head_at, labels_by, name_of, IsFirstFrom, HasNoneBelow, IsLowestIn, IsLeftBy, IsDropped};
 
 use crate::label::{IslandState, Label};
-use crate::parts::{Head, Note};
+use crate::parts::{Head, Note, name_of, part_at, part_of, set_label};
+use crate::places::{Place, exchange, slot_of};
 
-/// The lower of two members, where the one in the slot doesn't count.
-fn lesser_other(best: Option<u32>, member: u32, slot: u32) -> Option<u32>
-    ensures { result ≡ lesser_other best member slot }
+/// Lets a mover change places with the one at the front of its thread.
+fn come_first(places: &mut Vec<Place>, heads: &[Head], part: u32, slot: u32)
+    requires inverse { AreInverse places.old.items }
+    requires part { part < length heads.now }
+    requires there { slot < length places.old.items }
+    requires first { (head_at heads.now part).first < length places.old.items }
+    ensures exchanged { AreExchanged places.old.items slot (slot_at places.old.items (head_at heads.now part).first) places.new.items }
+    ensures capacity { vec_capacity places.old ≤ vec_capacity places.new }
 {
-    if member == slot {
-        return best;
-    }
-    match best {
-        None => Some(member),
-        Some(best) => Some(best.min(member)),
-    }
+    let front = slot_of(places, heads[part as usize].first);
+    exchange(places, slot, front);
 }
 
-/// The lowest member of a part but the mover in the slot; `None` where it has no other.
-fn lowest_other(notes: &[Option<Note>], heads: &[Head], part: u32, slot: u32) -> Option<u32>
+/// Takes the first node from the thread of a part.
+fn drop_first(notes: &mut Vec<Option<Note>>, heads: &mut Vec<Head>, part: u32)
+    requires packed { IsPacked notes.old.items heads.old.items }
+    requires part { InPart notes.old.items part part }
+    ensures dropped { IsDropped notes.old.items heads.old.items part notes.new.items heads.new.items }
+    ensures capacity { vec_capacity notes.old ≤ vec_capacity notes.new }
+    ensures heads_capacity { vec_capacity heads.old ≤ vec_capacity heads.new }
+{
+    let head = heads[part as usize];
+    let gone = notes[head.first as usize].unwrap();
+    notes[head.first as usize] = None;
+    heads[part as usize] = Head {
+        label: head.label,
+        first: gone.next.unwrap_or(part),
+        count: head.count - 1,
+    };
+}
+
+/// The first slot of these whose mover is in the part; `None` where there is none.
+fn next_member(
+    places: &[Place],
+    notes: &[Option<Note>],
+    part: u32,
+    from: usize,
+    to: usize,
+) -> Option<u32>
+    requires sizes { length places.now ≡ length notes.now }
+    requires few { to ≤ 2 ^ 32 }
+    ensures found { IfSome result (λ slot. IsFirstFrom (by_slot places.now notes.now) part from slot) }
+{
+    for slot in from..to {
+        if part_of(places, notes, slot as u32) == Some(part) {
+            return Some(slot as u32);
+        }
+    }
+    None
+}
+
+/// The lowest member of a part, looked for along its thread.
+fn lowest_along(places: &[Place], notes: &[Option<Note>], heads: &[Head], part: u32) -> u32
     requires packed { IsPacked notes.now heads.now }
     requires part { InPart notes.now part part }
-    ensures lowest { IsLowestOther notes.now part slot result }
+    requires sizes { length places.now ≡ length notes.now }
+    requires inverse { AreInverse places.now }
+    ensures lowest { IsLowestIn (by_slot places.now notes.now) part result }
 {
-    let mut low = None;
+    let mut low = slot_of(places, part);
     let mut at = Some(heads[part as usize].first);
-    while let Some(member) = at {
-        low = lesser_other(low, member, slot);
-        at = notes[member as usize].unwrap().next;
+    while let Some(node) = at {
+        low = low.min(slot_of(places, node));
+        at = notes[node as usize].unwrap().next;
     }
     low
 }
 
-fn is_next(next: Option<u32>, slot: u32) -> bool
-    ensures { result ≡ is_next next slot }
+/// The lowest member of a part that has none below the slot. The slots that follow are tried first, as many as there
+/// are members, so that it costs by the fewer of the two.
+fn lowest_from(
+    places: &[Place],
+    notes: &[Option<Note>],
+    heads: &[Head],
+    part: u32,
+    slot: usize,
+) -> u32
+    requires packed { IsPacked notes.now heads.now }
+    requires part { InPart notes.now part part }
+    requires sizes { length places.now ≡ length notes.now }
+    requires inverse { AreInverse places.now }
+    requires few { length places.now ≤ 2 ^ 32 }
+    requires slot { slot ≤ 2 ^ 32 }
+    requires none { HasNoneBelow (by_slot places.now notes.now) part slot }
+    ensures lowest { IsLowestIn (by_slot places.now notes.now) part result }
 {
-    match next {
-        None => false,
-        Some(next) => next == slot,
+    let to = places.len().min(slot + heads[part as usize].count as usize);
+    match next_member(places, notes, part, slot, to) {
+        Some(low) => low,
+        None => lowest_along(places, notes, heads, part),
     }
 }
 
-fn left_rank(rank: u64, gone: u64) -> u64
-    ensures { result ≡ cond (nat_lt gone rank) (rank - 1) rank }
+/// The lowest member of a part that the mover in the slot has left.
+fn lowest_left(
+    places: &[Place],
+    notes: &[Option<Note>],
+    heads: &[Head],
+    part: u32,
+    slot: u32,
+) -> u32
+    requires packed { IsPacked notes.now heads.now }
+    requires part { InPart notes.now part part }
+    requires sizes { length places.now ≡ length notes.now }
+    requires inverse { AreInverse places.now }
+    requires few { length places.now ≤ 2 ^ 32 }
+    requires left { IsLeftBy (by_slot places.now notes.now) heads.now part slot }
+    ensures lowest { IsLowestIn (by_slot places.now notes.now) part result }
 {
-    if gone < rank { rank - 1 } else { rank }
-}
-
-fn left_next(next: Option<u32>, slot: u32, after: Option<u32>) -> Option<u32>
-    ensures { result ≡ cond (is_next next slot) after next }
-{
-    if is_next(next, slot) { after } else { next }
-}
-
-fn left_note(note: Note, slot: u32, gone: Note, to: u32) -> Note
-    ensures { result ≡ left_note slot gone.rank gone.next to note }
-{
-    Note {
-        part: to,
-        rank: left_rank(note.rank, gone.rank),
-        next: left_next(note.next, slot, gone.next),
-    }
-}
-
-/// Mends the notes of the members of the part that the mover in the slot leaves, and leads them from `to`.
-fn mend_members(notes: &mut Vec<Option<Note>>, heads: &[Head], slot: u32, gone: Note, to: u32)
-    requires packed { IsPacked notes.old.items heads.now }
-    requires part { InPart notes.old.items gone.part gone.part }
-    ensures mended { AreMended notes.old.items slot gone to notes.new.items }
-    ensures capacity { vec_capacity notes.old ≤ vec_capacity notes.new }
-{
-    let mut at = Some(heads[gone.part as usize].first);
-    while let Some(member) = at {
-        let note = notes[member as usize].unwrap();
-        at = note.next;
-        notes[member as usize] = Some(left_note(note, slot, gone, to));
-    }
-}
-
-/// Where the thread begins once the mover in the slot has left.
-fn left_first(first: u32, slot: u32, next: Option<u32>) -> u32
-    ensures { result ≡ cond (first == slot) (or_first next slot) first }
-{
-    if first == slot {
-        next.unwrap_or(slot)
+    let name = name_of(heads, part);
+    if name == slot {
+        lowest_from(places, notes, heads, part, slot as usize + 1)
     } else {
-        first
-    }
-}
-
-/// The head of a part once the mover in the slot has left: its lowest member names it, and it is loose.
-fn left_head(head: Head, slot: u32, next: Option<u32>, low: u32) -> Head
-    requires { 1 ≤ head.count }
-    ensures { result ≡ left_head_of head slot next (record { name = low; state = Loose }) }
-{
-    Head {
-        label: Label {
-            name: low,
-            state: IslandState::Loose,
-        },
-        first: left_first(head.first, slot, next),
-        count: head.count - 1,
+        name
     }
 }
 
 /// Takes a mover out of its part. Those that it leaves behind are loose, under their lowest slot.
-pub(crate) fn leave(notes: &mut Vec<Option<Note>>, heads: &mut Vec<Head>, slot: u32)
-    requires packed { IsPacked notes.old.items heads.old.items }
-    requires mover { IsSome (note_at notes.old.items slot) }
-    ensures packed { IsPacked notes.new.items heads.new.items }
-    ensures labels { labels_of notes.new.items heads.new.items ≡ taken_out (labels_of notes.old.items heads.old.items) slot }
+pub(crate) fn leave(
+    places: &mut Vec<Place>,
+    notes: &mut Vec<Option<Note>>,
+    heads: &mut Vec<Head>,
+    slot: u32,
+)
+    requires placed { IsPlaced places.old.items notes.old.items heads.old.items }
+    requires mover { IsSome (note_at (by_slot places.old.items notes.old.items) slot) }
+    requires few { length notes.old.items ≤ 2 ^ 32 }
+    ensures placed { IsPlaced places.new.items notes.new.items heads.new.items }
+    ensures labels { labels_by places.new.items notes.new.items heads.new.items ≡ taken_out (labels_by places.old.items notes.old.items heads.old.items) slot }
     ensures size { length notes.new.items ≡ length notes.old.items }
+    ensures places_capacity { vec_capacity places.old ≤ vec_capacity places.new }
     ensures capacity { vec_capacity notes.old ≤ vec_capacity notes.new }
     ensures heads_capacity { vec_capacity heads.old ≤ vec_capacity heads.new }
 {
-    let gone = notes[slot as usize].unwrap();
-    if let Some(low) = lowest_other(notes, heads, gone.part, slot) {
-        mend_members(notes, heads, slot, gone, low);
-        heads[low as usize] = left_head(heads[gone.part as usize], slot, gone.next, low);
+    let part = part_at(places, notes, slot);
+    come_first(places, heads, part, slot);
+    drop_first(notes, heads, part);
+    if heads[part as usize].count > 0 {
+        let name = lowest_left(places, notes, heads, part, slot);
+        set_label(
+            heads,
+            part,
+            Label {
+                name,
+                state: IslandState::Loose,
+            },
+        );
     }
-    notes[slot as usize] = None;
 }

@@ -16,6 +16,7 @@ mod leaving;
 mod listing;
 mod merging;
 mod parts;
+mod places;
 mod room;
 mod scattering;
 mod scratch;

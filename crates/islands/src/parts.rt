@@ -1,48 +1,52 @@
-//! The parts of a partition of movers: threads through the slots of their members.
+//! The parts of a partition of movers: threads through the nodes of their members.
 
 ghost use Rattle.std.specs.Prelude.{◌≡◌, ℕ, ◌<◌, ◌≤◌, Some, IsSome, vec_capacity, slice_set, length};
 ghost use Rattle.islands.specs.Labels.{label_at, own_label, with_state};
-ghost use Rattle.islands.specs.Packed.{IsPacked, IsNamedPart, InPart, note_at, part_in, own_note, own_head, no_head, labels_of, name_of, labelled_head};
+ghost use Rattle.islands.specs.Standing.{Places};
+ghost use Rattle.islands.specs.Packed.{IsPacked, IsPlaced, IsNamedPart, InPart, by_slot, note_at, part_in, own_note, own_head, no_head, labels_by, name_of, labelled_head};
 
 use crate::label::{IslandState, Label};
+use crate::places::{Place, node_of};
 
 /// What is kept of a mover.
 #[derive(Clone, Copy, Debug, PartialEq, Eq)]
 pub(crate) struct Note {
-    // The part that it is in, by the slot of the member where the head of the part stands.
+    // The part that it is in, by the node where the head of the part stands.
     pub(crate) part: u32,
     // Its index in the part: those that the thread leads to from here have lower ones.
     pub(crate) rank: u64,
+    // The node to which the thread leads from here.
     pub(crate) next: Option<u32>,
 }
 
-/// What is kept of a part, at the slot of one of its members.
+/// What is kept of a part, at the node where its thread ends: there it stays for as long as the part has
+/// members, since they leave from the front.
 #[derive(Clone, Copy, Debug, PartialEq, Eq)]
 pub(crate) struct Head {
     pub(crate) label: Label,
-    // The member where the thread begins.
+    // The node where the thread begins.
     pub(crate) first: u32,
     pub(crate) count: u64,
 }
 
 /// The note of a mover that is a part of its own.
-pub(crate) fn own_note(slot: u32) -> Note
-    ensures { result ≡ own_note slot }
+pub(crate) fn own_note(node: u32) -> Note
+    ensures { result ≡ own_note node }
 {
     Note {
-        part: slot,
+        part: node,
         rank: 0,
         next: None,
     }
 }
 
 /// The head of a part of one mover.
-pub(crate) fn own_head(slot: u32) -> Head
-    ensures { result ≡ own_head slot }
+pub(crate) fn own_head(node: u32, slot: u32) -> Head
+    ensures { result ≡ own_head node slot }
 {
     Head {
         label: own_label(slot),
-        first: slot,
+        first: node,
         count: 1,
     }
 }
@@ -68,40 +72,58 @@ fn own_label(slot: u32) -> Label
 }
 
 /// The label of the mover in a slot; `None` where there is no mover.
-pub(crate) fn label_in(notes: &[Option<Note>], heads: &[Head], slot: u32) -> Option<Label>
-    requires packed { IsPacked notes.now heads.now }
-    ensures label { result ≡ label_at (labels_of notes.now heads.now) slot }
+pub(crate) fn label_in(
+    places: &[Place],
+    notes: &[Option<Note>],
+    heads: &[Head],
+    slot: u32,
+) -> Option<Label>
+    requires placed { IsPlaced places.now notes.now heads.now }
+    ensures label { result ≡ label_at (labels_by places.now notes.now heads.now) slot }
 {
-    match part_of(notes, slot) {
+    match part_of(places, notes, slot) {
         None => None,
         Some(part) => Some(heads[part as usize].label),
     }
 }
 
-/// The part of the mover in a slot; `None` where there is no mover.
-pub(crate) fn part_of(notes: &[Option<Note>], slot: u32) -> Option<u32>
-    ensures part { result ≡ part_in (note_at notes.now slot) }
+fn part_in(notes: &[Option<Note>], node: u32) -> Option<u32>
+    ensures part { result ≡ part_in (note_at notes.now node) }
 {
-    match notes.get(slot as usize) {
+    match notes.get(node as usize) {
         Some(Some(note)) => Some(note.part),
         _ => None,
     }
 }
 
-/// The part of the mover in a slot, which is there.
-pub(crate) fn part_at(notes: &[Option<Note>], slot: u32) -> u32
-    requires { IsSome (note_at notes.now slot) }
-    ensures { part_in (note_at notes.now slot) ≡ Some result }
+/// The part of the mover in a slot; `None` where there is no mover.
+pub(crate) fn part_of(places: &[Place], notes: &[Option<Note>], slot: u32) -> Option<u32>
+    requires sizes { length places.now ≡ length notes.now }
+    ensures part { result ≡ part_in (note_at (by_slot places.now notes.now) slot) }
 {
-    notes[slot as usize].unwrap().part
+    part_in(notes, node_of(places, slot))
+}
+
+/// The part of the mover in a slot, which is there.
+pub(crate) fn part_at(places: &[Place], notes: &[Option<Note>], slot: u32) -> u32
+    requires sizes { length places.now ≡ length notes.now }
+    requires mover { IsSome (note_at (by_slot places.now notes.now) slot) }
+    ensures { part_in (note_at (by_slot places.now notes.now) slot) ≡ Some result }
+{
+    notes[node_of(places, slot) as usize].unwrap().part
 }
 
 /// The part that is the island of this name; `None` where there is no such island.
-pub(crate) fn part_named(notes: &[Option<Note>], heads: &[Head], name: u32) -> Option<u32>
-    requires packed { IsPacked notes.now heads.now }
-    ensures named { IsNamedPart notes.now heads.now name result }
+pub(crate) fn part_named(
+    places: &[Place],
+    notes: &[Option<Note>],
+    heads: &[Head],
+    name: u32,
+) -> Option<u32>
+    requires placed { IsPlaced places.now notes.now heads.now }
+    ensures named { IsNamedPart places.now notes.now heads.now name result }
 {
-    match part_of(notes, name) {
+    match part_of(places, notes, name) {
         Some(part) if name_of(heads, part) == name => Some(part),
         _ => None,
     }
@@ -138,8 +160,8 @@ pub(crate) fn set_state(
 )
     requires packed { IsPacked notes.now heads.old.items }
     requires part { InPart notes.now part part }
-    ensures packed { IsPacked notes.now heads.new.items }
-    ensures labels { labels_of notes.now heads.new.items ≡ with_state (name_of heads.old.items part) state (labels_of notes.now heads.old.items) }
+    ensures placed { (places : Places) → IsPlaced places notes.now heads.old.items → IsPlaced places notes.now heads.new.items }
+    ensures labels { (places : Places) → IsPlaced places notes.now heads.old.items → labels_by places notes.now heads.new.items ≡ with_state (name_of heads.old.items part) state (labels_by places notes.now heads.old.items) }
     ensures capacity { vec_capacity heads.old ≤ vec_capacity heads.new }
 {
     let name = name_of(heads, part);

@@ -1,20 +1,30 @@
 //! A part that falls apart into its members.
 
 ghost use Rattle.std.specs.Prelude.{◌≡◌, ◌<◌, ◌≤◌, ℕ, vec_capacity, length, Contains};
+ghost use Rattle.islands.specs.Standing.{AreInverse};
 ghost use Rattle.islands.specs.Packed.{AreScattered};
 
 use crate::parts::{Head, Note, own_head, own_note};
+use crate::places::{Place, node_of};
 
 /// Makes each of these movers a part of its own.
-pub(crate) fn scatter(notes: &mut Vec<Option<Note>>, heads: &mut Vec<Head>, members: &[u32])
+pub(crate) fn scatter(
+    places: &[Place],
+    notes: &mut Vec<Option<Note>>,
+    heads: &mut Vec<Head>,
+    members: &[u32],
+)
+    requires inverse { AreInverse places.now }
+    requires places { length places.now ≡ length notes.old.items }
     requires sizes { length heads.old.items ≡ length notes.old.items }
     requires within { (s : ℕ) → Contains members.now s → s < length notes.old.items }
-    ensures scattered { AreScattered notes.old.items heads.old.items members.now notes.new.items heads.new.items }
+    ensures scattered { AreScattered places.now notes.old.items heads.old.items members.now notes.new.items heads.new.items }
     ensures capacity { vec_capacity notes.old ≤ vec_capacity notes.new }
     ensures heads_capacity { vec_capacity heads.old ≤ vec_capacity heads.new }
 {
     for member in members {
-        notes[*member as usize] = Some(own_note(*member));
-        heads[*member as usize] = own_head(*member);
+        let node = node_of(places, *member);
+        notes[node as usize] = Some(own_note(node));
+        heads[node as usize] = own_head(node, *member);
     }
 }

@@ -1,8 +1,6 @@
-use Rattle.islands.proofs.AloneLemmas.{added_packed, added_labels}
+use Rattle.std.proofs.Common.{◌+◌}
+use Rattle.islands.proofs.WideLemmas.{wide_fresh}
 use Rattle.islands.proofs.adding.add_part.Goals as goal
 
-pub returns-clause-packed : goal.returns-clause-packed
-returns-clause-packed c = rw (c.pad.ensures.items, c.pad-2.ensures.items, c.own_note.ensures, c.own_head.ensures, c.no_head.ensures) (added_packed c.args.notes.now.items c.args.heads.now.items c.args.slot c.requires.packed c.requires.fresh)
-
-pub returns-clause-labels : goal.returns-clause-labels
-returns-clause-labels c = rw (c.pad.ensures.items, c.pad-2.ensures.items, c.own_note.ensures, c.own_head.ensures, c.no_head.ensures) (added_labels c.args.notes.now.items c.args.heads.now.items c.args.slot c.requires.packed c.requires.fresh)
+pub put_alone-requires-clause-fresh : goal.put_alone-requires-clause-fresh
+put_alone-requires-clause-fresh c = rw c.deref.ensures.value (wide_fresh c.args.places.now.items c.args.notes.now.items c.args.heads.now.items (c.args.slot + 1) c.args.slot c.widen_lists.new.places.items c.widen_lists.new.notes.items c.widen_lists.new.heads.items c.widen_lists.ensures.labels c.requires.fresh)

@@ -1,5 +1,5 @@
-use Rattle.std.proofs.Common.{◌≡◌, ◌<◌, ◌≤◌, suc, length, None, Some, refl, sym, ap, ◌∙◌, arith}
-use Rattle.islands.specs.Packed.{InPart, note_at, next_of, next_at, rank_at, rank_of, head_at, ahead, moved_note}
+use Rattle.std.proofs.Common.{◌≡◌, ◌<◌, suc, length, None, Some, sym, ap, ◌∙◌, arith}
+use Rattle.islands.specs.Packed.{InPart, note_at, next_of, next_at, rank_at, rank_of, head_at, ahead}
 use Rattle.islands.proofs.SlotLemmas.{any_default}
 use Rattle.islands.proofs.PartLemmas.{short, count_few, walk_starts, walk_here, walk_goes, walk_ends, walk_spares, goes_down, part_of_some}
 use Rattle.islands.proofs.JoinPartLemmas.{moved_in}

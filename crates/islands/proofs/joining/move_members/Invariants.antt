@@ -1,5 +1,5 @@
 use Rattle.std.proofs.Common.{◌≤◌, vec_capacity}
-use Rattle.islands.specs.Packed.{ahead, head_at}
+use Rattle.islands.specs.Packed.{ahead}
 use Rattle.islands.proofs.PartLemmas.{IsWalked}
 use Rattle.islands.proofs.JoinPartLemmas.{moved_in}
 use Rattle.islands.proofs.joining.move_members.Given as goal

@@ -2,7 +2,7 @@ use Rattle.std.proofs.Common.{◌≡◌, ◌+◌, ◌∷◌, suc, get_or, drop, 
 use Rattle.std.proofs.Math.Seq.{drop-cons}
 use Rattle.std.proofs.lemmas.List.Elements.{Contains-get_or}
 use Rattle.islands.specs.Labels.{merged_all}
-use Rattle.islands.specs.Packed.{labels_of}
+use Rattle.islands.specs.Packed.{by_slot, labels_by}
 use Rattle.islands.proofs.GroupLemmas.{still_there}
 use Rattle.islands.proofs.merging.merge_all.Goals as goal
 
@@ -18,11 +18,11 @@ loop-edge-preserved c =
     let rest : drop c.loop-edge.edge-index c.args.edges.now ≡ get_or c.args.edges.now c.loop-edge.edge-index (0, 0) ∷ drop (c.loop-edge.edge-index + 1) c.args.edges.now =
     drop-cons c.args.edges.now c.loop-edge.edge-index (0, 0) c.loop-edge-test.true ∙ ap (λ n. get_or c.args.edges.now c.loop-edge.edge-index (0, 0) ∷ drop n c.args.edges.now) one in
     record {
-      packed = c.merge_movers.ensures.packed;
+      placed = c.merge_movers.ensures.placed;
       labels = ap (λ l. merged_all l (drop (c.loop-edge.edge-index + 1) c.args.edges.now)) c.merge_movers.ensures.labels
-          ∙ ap (merged_all (labels_of c.loop-edge.notes.items c.loop-edge.heads.items)) (sym rest) ∙ c.loop-edge.invariant.labels;
+          ∙ ap (merged_all (labels_by c.args.places.now c.loop-edge.notes.items c.loop-edge.heads.items)) (sym rest) ∙ c.loop-edge.invariant.labels;
       size = c.merge_movers.ensures.size ∙ c.loop-edge.invariant.size;
-      there = λ s h. still_there c.loop-edge.notes.items c.loop-edge.heads.items c.merge_movers.new.notes.items c.merge_movers.new.heads.items (get_or c.args.edges.now c.loop-edge.edge-index (0, 0)).0 (get_or c.args.edges.now c.loop-edge.edge-index (0, 0)).1 s c.merge_movers.ensures.labels (c.loop-edge.invariant.there s h);
+      there = λ s h. still_there (by_slot c.args.places.now c.loop-edge.notes.items) c.loop-edge.heads.items (by_slot c.args.places.now c.merge_movers.new.notes.items) c.merge_movers.new.heads.items (get_or c.args.edges.now c.loop-edge.edge-index (0, 0)).0 (get_or c.args.edges.now c.loop-edge.edge-index (0, 0)).1 s c.merge_movers.ensures.labels (c.loop-edge.invariant.there s h);
       capacity = omega (arith, c.merge_movers.ensures.capacity, c.loop-edge.invariant.capacity);
       heads_capacity = omega (arith, c.merge_movers.ensures.heads_capacity, c.loop-edge.invariant.heads_capacity);
     }

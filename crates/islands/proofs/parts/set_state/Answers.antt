@@ -1,14 +1,12 @@
-use Rattle.std.proofs.Common.{◌≡◌, Some, refl, sym, ap, ◌∙◌, arith, length, ◌<◌}
-use Rattle.islands.specs.declared.label.Label.{Label}
-use Rattle.islands.specs.Packed.{head_at, name_of, labelled_head, no_head}
-use Rattle.islands.proofs.PartLemmas.{short}
-use Rattle.islands.proofs.JoinPartLemmas.{labelled_packed, labelled_labels}
+use Rattle.std.proofs.Common.{refl}
+use Rattle.islands.specs.Packed.{name_of}
+use Rattle.islands.proofs.PlacedLemmas.{labelled_placed, relabelled_by}
 use Rattle.islands.proofs.parts.set_state.Goals as goal
 
-pub returns-clause-packed : goal.returns-clause-packed
-returns-clause-packed c =
-    rw (c.set_label.ensures.heads, c.name_of-name.ensures, c.deref.ensures.value) (labelled_packed c.args.notes.now c.args.heads.now.items c.args.part (record { name = name_of c.args.heads.now.items c.args.part; state = c.args.state }) c.requires.packed c.requires.part refl)
+pub returns-clause-placed : goal.returns-clause-placed
+returns-clause-placed c = λ places w.
+    rw (c.set_label.ensures.heads, c.name_of-name.ensures, c.deref.ensures.value) (labelled_placed places c.args.notes.now c.args.heads.now.items c.args.part (record { name = name_of c.args.heads.now.items c.args.part; state = c.args.state }) w c.requires.part refl)
 
 pub returns-clause-labels : goal.returns-clause-labels
-returns-clause-labels c =
-    rw (c.set_label.ensures.heads, c.name_of-name.ensures, c.deref.ensures.value) (labelled_labels c.args.notes.now c.args.heads.now.items c.args.part (record { name = name_of c.args.heads.now.items c.args.part; state = c.args.state }) c.requires.packed c.requires.part)
+returns-clause-labels c = λ places w.
+    rw (c.set_label.ensures.heads, c.name_of-name.ensures, c.deref.ensures.value) (relabelled_by places c.args.notes.now c.args.heads.now.items c.args.part (record { name = name_of c.args.heads.now.items c.args.part; state = c.args.state }) w c.requires.part)

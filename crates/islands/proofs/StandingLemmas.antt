@@ -1,0 +1,216 @@
+-- Where the slots stand: two that change places, more slots, and what the notes by slot are.
+use Rattle.std.proofs.Common.{◌≡◌, ◌≢◌, ℕ, zero, suc, ◌+◌, ◌-◌, ◌<◌, ◌≤◌, List, [], ◌∷◌, ◌++◌, length, get_or, Option, Some, None, true, inl, inr, arith, refl, sym, ap, ◌∙◌, slice_set, get_or-set_same, get_or-set_other, ◌==◌}
+use Rattle.std.proofs.lemmas.Grind.{common_steps}
+use Rattle.std.proofs.lemmas.Bool.{cases_lt, cases_eq, eqb-true, false≢true}
+use Rattle.std.proofs.lemmas.List.{length-set, length-map}
+use Rattle.islands.specs.declared.parts.Note.{Note}
+use Rattle.islands.specs.declared.places.Place.{Place}
+use Rattle.islands.specs.Standing.{Places, AreExchanged, AreInverse, AreWidened, IsPut, node_at, own_place, slot_at}
+use Rattle.islands.specs.Packed.{Notes, Heads, by_slot, head_at, in_part, label_in, note_at, part_in}
+use Rattle.islands.proofs.PartLemmas.{note_past}
+
+-- ---- what stands in the list
+
+past_end : {X : Type 0} (xs : List X) (i : ℕ) (d : X) → length xs ≤ i → get_or xs i d ≡ d
+past_end [] i d h = refl
+past_end (x ∷ xs) zero d h = absurd (omega arith)
+past_end (x ∷ xs) (suc i) d h = past_end xs i d (omega arith)
+
+pub node_past : (places : Places) (s : ℕ) → length places ≤ s → node_at places s ≡ s
+node_past places s h = ap (λ (p : Place). p.node) (past_end places s (own_place s) h)
+
+pub slot_past : (places : Places) (k : ℕ) → length places ≤ k → slot_at places k ≡ k
+slot_past places k h = ap (λ (p : Place). p.slot) (past_end places k (own_place k) h)
+
+-- a slot that isn't past the end stands at a node that isn't
+pub node_short : (places : Places) (s : ℕ) → AreInverse places → s < length places → node_at places s < length places
+node_short places s w lt = elim (cases_lt (node_at places s) (length places)) [
+  | inl h ↦ h
+  | inr h ↦ let e : node_at places s ≡ s = sym (slot_past places (node_at places s) h) ∙ w.back s in absurd (omega (arith, h, lt, e))
+]
+
+pub one_slot : (places : Places) (s t : ℕ) → AreInverse places → node_at places s ≡ node_at places t → s ≡ t
+one_slot places s t w e = sym (w.back s) ∙ ap (slot_at places) e ∙ w.back t
+
+-- ---- a slot is put at a node
+
+set_here : (places : Places) (i : ℕ) (p d : Place) → i < length places → get_or (slice_set places i p) i d ≡ p
+set_here places i p d lt = get_or-set_same places i p d lt
+
+abbrev pub with_node : Places → ℕ → ℕ → Places
+with_node places slot node = slice_set places slot (record { node = node; slot = slot_at places slot })
+
+abbrev pub with_slot : Places → ℕ → ℕ → Places
+with_slot places node slot = slice_set places node (record { node = node_at places node; slot = slot })
+
+slot_stays : (old : Places) (slot node k : ℕ) → slot < length old → slot_at (with_node old slot node) k ≡ slot_at old k
+slot_stays old slot node k lt = elim (cases_eq k slot) [
+  | inl e ↦ rw e (ap (λ (p : Place). p.slot) (set_here old slot (record { node = node; slot = slot_at old slot }) (own_place slot) lt))
+  | inr away ↦ ap (λ (p : Place). p.slot) (get_or-set_other old slot k (record { node = node; slot = slot_at old slot }) (own_place k) away)
+]
+
+node_stays : (old : Places) (node slot s : ℕ) → node < length old → node_at (with_slot old node slot) s ≡ node_at old s
+node_stays old node slot s lt = elim (cases_eq s node) [
+  | inl e ↦ rw e (ap (λ (p : Place). p.node) (set_here old node (record { node = node_at old node; slot = slot }) (own_place node) lt))
+  | inr away ↦ ap (λ (p : Place). p.node) (get_or-set_other old node s (record { node = node_at old node; slot = slot }) (own_place s) away)
+]
+
+pub is_put : (old : Places) (slot node : ℕ) (now new : Places) → slot < length old → node < length old → now ≡ with_node old slot node → new ≡ with_slot now node slot → IsPut old slot node new
+is_put old slot node now new short there first then =
+    let size : length now ≡ length old = ap length first ∙ length-set old slot (record { node = node; slot = slot_at old slot }) in
+    let lt : node < length now = omega (arith, there, size) in
+    let nodes : (s : ℕ) → node_at new s ≡ node_at now s = λ s. ap (λ (ps : Places). node_at ps s) then ∙ node_stays now node slot s lt in
+    record {
+      size = ap length then ∙ length-set now node (record { node = node_at now node; slot = slot }) ∙ size;
+      node_here = nodes slot ∙ ap (λ (ps : Places). node_at ps slot) first ∙ ap (λ (p : Place). p.node) (set_here old slot (record { node = node; slot = slot_at old slot }) (own_place slot) short);
+      nodes = λ s away. nodes s ∙ ap (λ (ps : Places). node_at ps s) first ∙ ap (λ (p : Place). p.node) (get_or-set_other old slot s (record { node = node; slot = slot_at old slot }) (own_place s) away);
+      slot_here = ap (λ (ps : Places). slot_at ps node) then ∙ ap (λ (p : Place). p.slot) (set_here now node (record { node = node_at now node; slot = slot }) (own_place node) lt);
+      slots = λ k away. ap (λ (ps : Places). slot_at ps k) then ∙ ap (λ (p : Place). p.slot) (get_or-set_other now node k (record { node = node_at now node; slot = slot }) (own_place k) away)
+          ∙ ap (λ (ps : Places). slot_at ps k) first ∙ slot_stays old slot node k short;
+    }
+
+-- ---- two slots change places
+
+-- where a slot stands after two were put where the other stood
+record ArePut (old : Places) (a b : ℕ) (new : Places) : Type 0 where
+  first : node_at new a ≡ node_at old b
+  second : node_at new b ≡ node_at old a
+  others : (s : ℕ) → s ≢ a → s ≢ b → node_at new s ≡ node_at old s
+  slot_first : slot_at new (node_at old b) ≡ a
+  slot_second : slot_at new (node_at old a) ≡ b
+  slot_others : (k : ℕ) → k ≢ node_at old a → k ≢ node_at old b → slot_at new k ≡ slot_at old k
+
+both_put : (old : Places) (a b : ℕ) (now new : Places) → AreInverse old → IsPut old a (node_at old b) now → IsPut now b (node_at old a) new → ArePut old a b new
+both_put old a b now new w p q = record {
+  first = elim (cases_eq a b) [
+    | inl e ↦ ap (node_at new) e ∙ q.node_here ∙ ap (node_at old) e
+    | inr away ↦ q.nodes a away ∙ p.node_here
+  ];
+  second = q.node_here;
+  others = λ s far away. q.nodes s away ∙ p.nodes s far;
+  slot_first = elim (cases_eq a b) [
+    | inl e ↦ ap (slot_at new) (ap (node_at old) (sym e)) ∙ q.slot_here ∙ sym e
+    | inr away ↦ q.slots (node_at old b) (λ e. away (sym (one_slot old b a w e))) ∙ p.slot_here
+  ];
+  slot_second = q.slot_here;
+  slot_others = λ k far away. q.slots k far ∙ p.slots k away;
+}
+
+put_inverse : (old : Places) (a b : ℕ) (new : Places) → AreInverse old → ArePut old a b new → AreInverse new
+put_inverse old a b new w p = record {
+  back = λ s. elim (cases_eq s a) [
+    | inl e ↦ rw e (ap (slot_at new) p.first ∙ p.slot_first)
+    | inr far ↦ elim (cases_eq s b) [
+      | inl e ↦ rw e (ap (slot_at new) p.second ∙ p.slot_second)
+      | inr away ↦ ap (slot_at new) (p.others s far away) ∙ p.slot_others (node_at old s) (λ e. far (one_slot old s a w e)) (λ e. away (one_slot old s b w e)) ∙ w.back s
+    ]
+  ];
+  forth = λ k. elim (cases_eq k (node_at old b)) [
+    | inl e ↦ rw e (ap (node_at new) p.slot_first ∙ p.first)
+    | inr away ↦ elim (cases_eq k (node_at old a)) [
+      | inl e ↦ rw e (ap (node_at new) p.slot_second ∙ p.second)
+      | inr far ↦
+          let same : slot_at new k ≡ slot_at old k = p.slot_others k far away in
+          ap (node_at new) same ∙ p.others (slot_at old k) (λ e. far (sym (w.forth k) ∙ ap (node_at old) e)) (λ e. away (sym (w.forth k) ∙ ap (node_at old) e)) ∙ w.forth k
+    ]
+  ];
+}
+
+pub are_exchanged : (old : Places) (a b : ℕ) (now new : Places) → AreInverse old → IsPut old a (node_at old b) now → IsPut now b (node_at old a) new → AreExchanged old a b new
+are_exchanged old a b now new w p q =
+    let put = both_put old a b now new w p q in
+    record { size = q.size ∙ p.size; inverse = put_inverse old a b new w put; first = put.first; second = put.second; others = put.others }
+
+-- ---- more slots
+
+pushed_before : (places : Places) (p : Place) (s : ℕ) (d : Place) → s < length places → get_or (places ++ p ∷ []) s d ≡ get_or places s d
+pushed_before [] p s d lt = absurd (omega arith)
+pushed_before (q ∷ places) p zero d lt = refl
+pushed_before (q ∷ places) p (suc s) d lt = pushed_before places p s d (omega arith)
+
+pushed_here : (places : Places) (p d : Place) → get_or (places ++ p ∷ []) (length places) d ≡ p
+pushed_here [] p d = refl
+pushed_here (q ∷ places) p d = pushed_here places p d
+
+pushed_long : (places : Places) (p : Place) (s n : ℕ) → n ≡ length places → length places ≤ s → s ≢ n → length (places ++ p ∷ []) ≤ s
+pushed_long places p s n e le away = grind (arith, common_steps)
+
+own_pushed : (places : Places) (n s : ℕ) → n ≡ length places → get_or (places ++ own_place n ∷ []) s (own_place s) ≡ get_or places s (own_place s)
+own_pushed places n s e = elim (cases_lt s (length places)) [
+  | inl lt ↦ pushed_before places (own_place n) s (own_place s) lt
+  | inr le ↦ elim (cases_eq s n) [
+    | inl same ↦ rw (same, e) (pushed_here places (own_place (length places)) (own_place (length places)) ∙ sym (past_end places (length places) (own_place (length places)) (omega arith)))
+    | inr away ↦ past_end (places ++ own_place n ∷ []) s (own_place s) (pushed_long places (own_place n) s n e le away) ∙ sym (past_end places s (own_place s) le)
+  ]
+]
+
+-- the list has so many slots, and each stands where it stood
+pub record AreSoMany (old : Places) (n : ℕ) (now : Places) : Type 0 where
+  pub size : length now ≡ n
+  pub nodes : (s : ℕ) → node_at now s ≡ node_at old s
+  pub slots : (k : ℕ) → slot_at now k ≡ slot_at old k
+
+pub many_first : (old : Places) → AreSoMany old (length old) old
+many_first old = record { size = refl; nodes = λ s. refl; slots = λ k. refl }
+
+one_more : (now new : Places) (n : ℕ) → length now ≡ n → length new ≡ length (now ++ own_place n ∷ []) → length new ≡ n + 1
+one_more now new n z long = grind (arith, common_steps)
+
+pub many_more : (old now new : Places) (n : ℕ) → AreSoMany old n now → new ≡ now ++ own_place n ∷ [] → AreSoMany old (n + 1) new
+many_more old now new n w e = record {
+  size = let z = w.size in let long : length new ≡ length (now ++ own_place n ∷ []) = ap length e in one_more now new n z long;
+  nodes = λ s. ap (λ (ps : Places). node_at ps s) e ∙ ap (λ (p : Place). p.node) (own_pushed now n s (sym w.size)) ∙ w.nodes s;
+  slots = λ k. ap (λ (ps : Places). slot_at ps k) e ∙ ap (λ (p : Place). p.slot) (own_pushed now n k (sym w.size)) ∙ w.slots k;
+}
+
+pub many_widened : (old now : Places) (n m : ℕ) → AreSoMany old m now → m ≡ length old + (n - length old) → AreWidened old n now
+many_widened old now n m w e = record { size = w.size ∙ e; nodes = w.nodes; slots = w.slots }
+
+pub widened_inverse : (old : Places) (n : ℕ) (new : Places) → AreWidened old n new → AreInverse old → AreInverse new
+widened_inverse old n new e w = record {
+  back = λ s. e.slots (node_at new s) ∙ ap (slot_at old) (e.nodes s) ∙ w.back s;
+  forth = λ k. e.nodes (slot_at new k) ∙ ap (node_at old) (e.slots k) ∙ w.forth k;
+}
+
+pub own_inverse : (n : ℕ) (new : Places) → AreWidened [] n new → AreInverse new
+own_inverse n new e = widened_inverse [] n new e (record { back = λ s. refl; forth = λ k. refl })
+
+-- ---- the notes by slot
+
+pub slots_size : (places : Places) (notes : Notes) → length (by_slot places notes) ≡ length places
+slots_size places notes = length-map places (λ (p : Place). note_at notes p.node)
+
+slot_note_in : (places : Places) (notes : Notes) (s : ℕ) (d : Place) → s < length places → note_at (by_slot places notes) s ≡ note_at notes (get_or places s d).node
+slot_note_in [] notes s d lt = absurd (omega arith)
+slot_note_in (p ∷ places) notes zero d lt = refl
+slot_note_in (p ∷ places) notes (suc s) d lt = slot_note_in places notes s d (omega arith)
+
+pub slot_note : (places : Places) (notes : Notes) (s : ℕ) → length places ≡ length notes → note_at (by_slot places notes) s ≡ note_at notes (node_at places s)
+slot_note places notes s e = elim (cases_lt s (length places)) [
+  | inl lt ↦ slot_note_in places notes s (own_place s) lt
+  | inr le ↦
+      let z = slots_size places notes in
+      note_past (by_slot places notes) s (omega (arith, z, le)) ∙ sym (ap (note_at notes) (node_past places s le) ∙ note_past notes s (omega (arith, e, le)))
+]
+
+-- the note of the slot that stands at a node
+pub node_note : (places : Places) (notes : Notes) (k : ℕ) → length places ≡ length notes → AreInverse places → note_at (by_slot places notes) (slot_at places k) ≡ note_at notes k
+node_note places notes k e w = slot_note places notes (slot_at places k) e ∙ ap (note_at notes) (w.forth k)
+
+-- ---- notes of one part
+
+pub same_in : (k : ℕ) (o p : Option Note) → part_in o ≡ part_in p → in_part k o ≡ in_part k p
+same_in k None None e = refl
+same_in k None (Some n) e = let wrong : None ≡ Some n.part = e in absurd cc
+same_in k (Some m) None e = let wrong : Some m.part ≡ None = e in absurd cc
+same_in k (Some m) (Some n) e = let f : m.part ≡ n.part = cc in ap (λ j. j == k) f
+
+pub same_label : (heads : Heads) (o p : Option Note) → part_in o ≡ part_in p → label_in heads o ≡ label_in heads p
+same_label heads None None e = refl
+same_label heads None (Some n) e = let wrong : None ≡ Some n.part = e in absurd cc
+same_label heads (Some m) None e = let wrong : Some m.part ≡ None = e in absurd cc
+same_label heads (Some m) (Some n) e = let f : m.part ≡ n.part = cc in ap (λ j. Some (head_at heads j).label) f
+
+pub part_of_in : (k : ℕ) (o : Option Note) → in_part k o ≡ true → part_in o ≡ Some k
+part_of_in k None h = absurd (false≢true h)
+part_of_in k (Some n) h = ap (λ j. Some j) (eqb-true n.part k h)
