@@ -1,5 +1,7 @@
 //! What is made of lists, as a saved world has them: handles, islands, bodies, joints and sums.
 
+ghost use Rattle.std.specs.Prelude.{◌≡◌, IfOk};
+
 use crate::assertions::{same, same_items};
 use crate::handles::give;
 use crate::merging::{add, merge};
@@ -156,7 +158,9 @@ fn body(alloc: Global, kind: Kind) -> Body {
 }
 
 /// A table of an empty slot, a static body and a mover.
-fn table_of_bodies(alloc: Global) -> Result<BodyTable, Refusal> {
+fn table_of_bodies(alloc: Global) -> Result<BodyTable, Refusal>
+    ensures { IfOk result (λ table. table.pending ≡ 0) }
+{
     let bodies = [
         None,
         Some(body(alloc, Kind::Static)),

@@ -1,5 +1,5 @@
 -- Inner forms of the code; no public contract rests on them. The shape with a name, read from the bodies.
-use Rattle.std.specs.Prelude.{◌≤◌, length, ℕ, zero, suc, Bool, cond, List, [], ◌∷◌, Option, Some, None}
+use Rattle.std.specs.Prelude.{◌≡◌, ◌≤◌, length, ℕ, zero, suc, Bool, cond, List, [], ◌∷◌, Option, Some, None}
 use Rattle.fixed_geom.specs.declared.boxes.Box2.{Box2}
 use Rattle.shapes.specs.declared.pose.Pose.{Pose}
 use Rattle.shapes.specs.declared.shape.ShapeDef.{ShapeDef}
@@ -28,7 +28,8 @@ abbrev pub shape_in : ShapeId → Option Body → Option Proxy
 shape_in id None = None
 shape_in id (Some b) = shape_of id b
 
--- bodies whose shapes are read
-pub record AreShown (bodies : List (Option Body)) : Type 0 where
+-- bodies whose shapes are read, with nothing put off in the lists of those that are awake and that are carried along
+pub record AreShown (bodies : List (Option Body)) (pending : ℕ) : Type 0 where
+  pub settled : pending ≡ 0
   pub few : length bodies ≤ MAX_SLOTS
   pub all : AreBodies bodies

@@ -172,7 +172,7 @@ impl<'a> Model for BodyShapes<'a> {
 
     ghost view = { λ a. a.table.now.bodies };
 
-    ghost invariant = { λ a. AreShown a.table.now.bodies };
+    ghost invariant = { λ a. AreShown a.table.now.bodies a.table.now.pending };
 }
 
 impl ShapesByName for BodyShapes<'_> {
@@ -218,6 +218,7 @@ pub fn collide(
 ) -> Result<Touches, Refusal>
     requires few { length bodies.now.bodies ≤ MAX_SLOTS }
     requires bodies { AreBodies bodies.now.bodies }
+    requires settled { bodies.now.pending ≡ 0 }
     requires known { AreKnown bodies.now.marks bodies.now.bodies joints.now.joints contacts.old.contacts }
     ensures contacts { contacts.new.contacts ≡ contacts.old.contacts }
     ensures due { OnOk result (contacts.new.due ≡ contacts_after bodies.now.bodies joints.now.joints contacts.old.contacts) }

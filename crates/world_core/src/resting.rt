@@ -45,6 +45,7 @@ pub fn rest_ready(
     requires told { AreTold bodies.old.bodies sets.old.acting.labels }
     requires settled { IsSettled constraint_number sets.old.acting }
     requires colours_settled { sets.old.pending ≡ 0 }
+    requires bodies_settled { bodies.old.pending ≡ 0 }
     requires tells { TellMoving (timed_bodies ticks bodies.old.bodies) joints.now contacts.now sets.old.acting.labels sets.old.acting.lists }
     requires places { length bodies.old.bodies ≤ length places.now }
     requires rising { AreKeysRising contacts.now }

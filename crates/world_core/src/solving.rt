@@ -53,6 +53,7 @@ pub fn solve(
     requires bodies { AreBodies bodies.old.bodies }
     requires can { CanGather bodies.old.bodies joints.old.joints contacts.old.contacts colours.now.lists }
     requires settled { contacts.old.pending ≡ 0 }
+    requires bodies_settled { bodies.old.pending ≡ 0 }
     requires colours_settled { colours.now.pending ≡ 0 }
     requires gravity { IsWithin (2 ^ 16) gravity }
     requires ticks { ticks ≤ 8 }
@@ -71,6 +72,7 @@ pub fn solve(
     ensures marked { AreMarked bodies.old bodies.new }
     ensures forbidden { forbidden_pairs joints.new.joints ≡ forbidden_pairs joints.old.joints }
     ensures settled { contacts.new.pending ≡ 0 }
+    ensures bodies_settled { bodies.new.pending ≡ 0 }
     ensures numbers { map number_of contacts.new.contacts ≡ map number_of contacts.old.contacts }
 {
     gather_rows(

@@ -21,7 +21,7 @@ use sleep_wake::{Change, Sets};
 use solver_sets::fill_newly_awake;
 use world_core_base::BodyTable;
 
-/// Lets constraints begin and end, each in its turn, settles the colours, lists who has woken by that, and tells those; all bodies had been told before.
+/// Lets constraints begin and end, each in its turn, settles the colours, lists who has woken by that, tells those, and settles the bodies; all bodies had been told before.
 /// Those who wake are among the slots `asleep`, so that it takes time by these and by what begins and ends. It takes no memory.
 pub fn turn_all(
     sets: &mut Sets<Constraint>,
@@ -44,12 +44,14 @@ pub fn turn_all(
     ensures bodies { bodies.new.bodies ≡ told sets.new.acting.labels bodies.old.bodies }
     ensures woke { woke.new.items ≡ newly_awake places.now bodies.old.bodies sets.new.acting.labels }
     ensures colours_settled { sets.new.pending ≡ 0 }
+    ensures bodies_settled { bodies.new.pending ≡ 0 }
     ensures marked { AreMarked bodies.old bodies.new }
 {
     sets.turn(changes);
     sets.settle();
     fill_newly_awake(woke, places, bodies.bodies(), sets.islands(), asleep);
     let _ = bodies.tell_some(asleep, sets.islands());
+    bodies.settle();
 }
 
 /// Lists what began at its anchor, now that the changes had their turn. It is refused no memory.

@@ -5,6 +5,8 @@ pub mod MovingLaws
 pub mod ContactLaws
 pub mod AwakeLaws
 pub mod SlotsRising
+pub mod ListingLaws
+pub mod MergingLaws
 pub mod TableLaws
 pub mod TellLaws
 pub mod TellSomeLaws

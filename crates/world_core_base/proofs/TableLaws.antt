@@ -1,10 +1,7 @@
 -- What a table keeps beside its bodies, when one body comes, goes or changes.
-use Rattle.std.proofs.Common.{◌≡◌, ℕ, zero, suc, ◌<◌, ◌≤◌, Bool, true, false, cond, List, [], ◌∷◌, ◌++◌, length, get_or, slice_set, nat_lt, Option, Some, None, arith, refl, sym, ap, ◌∙◌, inl, inr, ◌+◌}
+use Rattle.std.proofs.Common.{◌≡◌, ℕ, zero, suc, ◌<◌, ◌≤◌, Bool, true, false, cond, List, [], ◌∷◌, ◌++◌, length, get_or, slice_set, nat_lt, Option, Some, None, arith, refl, sym, ap, ◌∙◌, inl, inr, ◌+◌, ◌^◌}
 use Rattle.std.proofs.lemmas.Bool.{cases_lt}
-use Rattle.std.specs.Prelude.{option_map}
-use Rattle.std.specs.Option.{ForSome}
-use Rattle.std.proofs.lemmas.List.{get_or-set_same, length-append, length-set}
-use Rattle.colour_solver.proofs.PlaceLaws.{length-places}
+use Rattle.std.proofs.lemmas.List.{length-append, length-set}
 use Rattle.std.proofs.lemmas.Bool.Decides.{nat_tests}
 use Rattle.momenta.specs.declared.state.BodyState.{BodyState}
 use Rattle.colour_solver.specs.States as step
@@ -16,14 +13,14 @@ use Rattle.shapes.specs.declared.shape.ShapeDef.{ShapeDef}
 use Rattle.plain_world.specs.declared.kind.Kind.{Kind}
 use Rattle.plain_world.specs.declared.kind.Kind.TheVariants.{Static, Kinematic, Dynamic}
 use Rattle.plain_world.specs.Kinds.{IsCourseOf, carried_by, halted, is_dynamic, is_moving, is_static}
-use Rattle.plain_world.specs.Bodies.{IsBody, IsMassOf, is_carried}
+use Rattle.plain_world.specs.Bodies.{IsBody, IsMassOf}
 use Rattle.plain_world.specs.declared.body.Body.{Body}
-use Rattle.world_core_base.specs.Awake.{with_slot, with_state, without_slot}
+use Rattle.world_core_base.specs.Awake.{with_state}
 use Rattle.world_core_base.specs.Gather.{state_of, states_of}
-use Rattle.plain_world.specs.Changes.{changed_at, disabled_body, enabled_body, is_awake_in, is_carried_in}
+use Rattle.plain_world.specs.Changes.{disabled_body, enabled_body, is_awake_in, is_carried_in}
 use Rattle.plain_world.specs.Slots.{body_at, with_body}
 use Rattle.world_core_base.proofs.GatherLaws.{carried_state, length-states}
-use Rattle.world_core_base.proofs.SlotsRising.{places_fewer, places-append_off, places-append_on, places-set_off, places-set_on, places-set_same}
+use Rattle.world_core_base.proofs.SlotsRising.{places-set_same}
 
 pub states-set : (bodies : List (Option Body)) (slot : ℕ) (o : Option Body) → slice_set (states_of bodies) slot (state_of o) ≡ states_of (slice_set bodies slot o)
 states-set [] slot o = refl
@@ -48,46 +45,6 @@ put_states_if false bodies slot b = states-append bodies (Some b)
 
 pub put_states : (bodies : List (Option Body)) (states : List BodyState) (slot : ℕ) (b : Body) → states ≡ states_of bodies → with_state states slot (state_of (Some b)) ≡ states_of (with_body bodies slot b)
 put_states bodies states slot b e = rw (e, length-states bodies) (put_states_if (nat_lt slot (length bodies)) bodies slot b)
-
-empty_at : (bodies : List (Option Body)) (slot : ℕ) (d : BodyState) → slot < length bodies → body_at bodies slot ≡ None → get_or (states_of bodies) slot d ≡ nobody
-empty_at [] slot d h e = absurd (omega (arith, h))
-empty_at (None ∷ os) zero d h e = refl
-empty_at (Some b ∷ os) zero d h e = absurd (cc e)
-empty_at (o ∷ os) (suc slot) d h e = empty_at os slot d (omega (arith, h)) e
-
-put_inside : (is : BodyState → Bool) (t : Bool) (ss : List BodyState) (slot : ℕ) (s : BodyState) → is s ≡ t → slot < length ss → is (get_or ss slot s) ≡ false → cond t (with_slot slot (places_from is 0 ss)) (places_from is 0 ss) ≡ places_from is 0 (slice_set ss slot s)
-put_inside is true ss slot s e h off = places-set_on is ss 0 slot slot s (omega arith) h e off
-put_inside is false ss slot s e h off = sym (places-set_same is ss 0 slot s (e ∙ sym off))
-
-put_behind : (is : BodyState → Bool) (t : Bool) (ss : List BodyState) (slot : ℕ) (s : BodyState) → is s ≡ t → slot ≡ length ss → cond t (with_slot slot (places_from is 0 ss)) (places_from is 0 ss) ≡ places_from is 0 (ss ++ s ∷ [])
-put_behind is true ss slot s e h = places-append_on is ss 0 slot s (omega (arith, h)) e
-put_behind is false ss slot s e h = sym (places-append_off is ss 0 s e)
-
-put_slots_of : (is : BodyState → Bool) (bodies : List (Option Body)) (slot : ℕ) (s : BodyState) → is nobody ≡ false → slot ≤ length bodies → body_at bodies slot ≡ None
-    → cond (is s) (with_slot slot (places_from is 0 (states_of bodies))) (places_from is 0 (states_of bodies)) ≡ places_from is 0 (with_state (states_of bodies) slot s)
-put_slots_of is bodies slot s none h free =
-    let long = length-states bodies in
-    elim (cases_lt slot (length (states_of bodies))) [
-      | inl less ↦ rw (is_below slot (length (states_of bodies)) less) (put_inside is (is s) (states_of bodies) slot s refl less (ap is (empty_at bodies slot s (omega (arith, less, long)) free) ∙ none))
-      | inr more ↦ rw (not_below slot (length (states_of bodies)) more) (put_behind is (is s) (states_of bodies) slot s refl (omega (arith, more, long, h)))
-    ]
-
-pub put_movers : (bodies : List (Option Body)) (states : List BodyState) (awake : List ℕ) (slot : ℕ) (s : BodyState) → states ≡ states_of bodies → awake ≡ movers_of states → slot ≤ length bodies → body_at bodies slot ≡ None
-    → cond s.movable (with_slot slot awake) awake ≡ movers_of (with_state states slot s)
-put_movers bodies states awake slot s e f h free = rw (f, e) (put_slots_of moves bodies slot s refl h free)
-
-pub put_carried : (bodies : List (Option Body)) (states : List BodyState) (carried : List ℕ) (slot : ℕ) (b : Body) → states ≡ states_of bodies → carried ≡ carried_of states → slot ≤ length bodies → body_at bodies slot ≡ None
-    → cond (is_carried b) (with_slot slot carried) carried ≡ carried_of (with_state states slot (state_of (Some b)))
-put_carried bodies states carried slot b e f h free =
-    (λ j. cond (sym (carried_state b) j) (with_slot slot carried) carried) ∙ rw (f, e) (put_slots_of step.is_carried bodies slot (state_of (Some b)) refl h free)
-
--- ---- a body that goes
-
-pub clear_movers : (states : List BodyState) (awake : List ℕ) (slot : ℕ) → awake ≡ movers_of states → slot < length states → without_slot slot awake ≡ movers_of (slice_set states slot nobody)
-clear_movers states awake slot e h = rw e (places-set_off moves states 0 slot slot nobody (omega arith) h refl)
-
-pub clear_carried : (states : List BodyState) (carried : List ℕ) (slot : ℕ) → carried ≡ carried_of states → slot < length states → without_slot slot carried ≡ carried_of (slice_set states slot nobody)
-clear_carried states carried slot e h = rw e (places-set_off step.is_carried states 0 slot slot nobody (omega arith) h refl)
 
 -- ---- a body that is changed
 
@@ -131,7 +88,7 @@ pub changed_carried : (bodies : List (Option Body)) (slot : ℕ) (o : Option Bod
     → carried_of (states_of bodies) ≡ carried_of (states_of (slice_set bodies slot o))
 changed_carried bodies slot o h carried = changed_slots step.is_carried is_carried_in carried_as bodies slot o h carried
 
--- ---- room for all in the lists of slots
+-- ---- how many bodies there are
 
 pub length-with_body : (bodies : List (Option Body)) (slot : ℕ) (b : Body) → slot ≤ length bodies → length (with_body bodies slot b) ≤ length bodies + 1
 length-with_body bodies slot b h = by (nat_lt slot (length bodies))
@@ -140,80 +97,12 @@ length-with_body bodies slot b h = by (nat_lt slot (length bodies))
     by true = let e = length-set bodies slot (Some b) in omega (arith, e)
     by false = let e = length-append bodies (Some b ∷ []) in omega (arith, e)
 
-pub few_listed : (is : BodyState → Bool) (bodies : List (Option Body)) (slots : List ℕ) → slots ≡ places_from is 0 (states_of bodies) → length slots ≤ length bodies
-few_listed is bodies slots e = let few = length-places is (states_of bodies) 0 in let long = length-states bodies in let same = ap length e in omega (arith, few, long, same)
-
--- ---- a body that is disabled
-
-still_off : (o : Option Body) → (state_of (option_map disabled_body o)).movable ≡ false
-still_off None = refl
-still_off (Some b) = refl
-
-along_off : (o : Option Body) → step.is_carried (state_of (option_map disabled_body o)) ≡ false
-along_off None = refl
-along_off (Some b) = refl
-
-set_state : (bodies : List (Option Body)) (slot : ℕ) (o : Option Body) → states_of (slice_set bodies slot o) ≡ slice_set (states_of bodies) slot (state_of o)
-set_state bodies slot o = sym (states-set bodies slot o)
-
-pub disabled_movers : (bodies : List (Option Body)) (slot : ℕ) (awake : List ℕ) → slot < length bodies → awake ≡ movers_of (states_of bodies) → without_slot slot awake ≡ movers_of (states_of (changed_at disabled_body bodies slot))
-disabled_movers bodies slot awake h e =
-    let o = option_map disabled_body (body_at bodies slot) in
-    let long = length-states bodies in
-    ap (without_slot slot) e ∙ places-set_off moves (states_of bodies) 0 slot slot (state_of o) (omega arith) (omega (arith, h, long)) (still_off (body_at bodies slot)) ∙ ap movers_of (states-set bodies slot o)
-
-pub disabled_carried : (bodies : List (Option Body)) (slot : ℕ) (carried : List ℕ) → slot < length bodies → carried ≡ carried_of (states_of bodies) → without_slot slot carried ≡ carried_of (states_of (changed_at disabled_body bodies slot))
-disabled_carried bodies slot carried h e =
-    let o = option_map disabled_body (body_at bodies slot) in
-    let long = length-states bodies in
-    ap (without_slot slot) e ∙ places-set_off step.is_carried (states_of bodies) 0 slot slot (state_of o) (omega arith) (omega (arith, h, long)) (along_off (body_at bodies slot)) ∙ ap carried_of (states-set bodies slot o)
-
--- ---- a body that is enabled
-
-off_before : (o : Option Body) → ForSome o (λ b. b.enabled ≡ false) → (state_of o).movable ≡ false
-off_before None off = refl
-off_before (Some b) off = let e : b.enabled ≡ false = off b refl in rw e refl
-
-carried_before : (o : Option Body) → ForSome o (λ b. b.enabled ≡ false) → step.is_carried (state_of o) ≡ false
-carried_before None off = refl
-carried_before (Some b) off = let e : b.enabled ≡ false = off b refl in rw e refl
-
--- the slot of what passes the test from now on
-listed_if : (is : BodyState → Bool) (t : Bool) (ss : List BodyState) (slot : ℕ) (s : BodyState) → is s ≡ t → slot < length ss → is (get_or ss slot s) ≡ false → cond t (with_slot slot (places_from is 0 ss)) (places_from is 0 ss) ≡ places_from is 0 (slice_set ss slot s)
-listed_if is t ss slot s e h off = put_inside is t ss slot s e h off
-
-pub enabled_slots : (is : BodyState → Bool) (bodies : List (Option Body)) (slot : ℕ) (slots : List ℕ) (o : Option Body) (t : Bool) → slot < length bodies → slots ≡ places_from is 0 (states_of bodies) → is (state_of (body_at bodies slot)) ≡ false → is (state_of o) ≡ t
-    → cond t (with_slot slot slots) slots ≡ places_from is 0 (states_of (slice_set bodies slot o))
-enabled_slots is bodies slot slots o t h e off now =
-    let long = length-states bodies in
-    let was : is (get_or (states_of bodies) slot (state_of o)) ≡ false = ap is (state_there bodies slot (state_of o) h) ∙ off in
-    (λ j. cond t (with_slot slot (e j)) (e j)) ∙ listed_if is t (states_of bodies) slot (state_of o) now (omega (arith, h, long)) was ∙ ap (places_from is 0) (states-set bodies slot o)
-
-pub enabled_movers : (bodies : List (Option Body)) (slot : ℕ) (awake : List ℕ) (o : Option Body) → slot < length bodies → ForSome (body_at bodies slot) (λ b. b.enabled ≡ false) → awake ≡ movers_of (states_of bodies)
-    → cond (state_of o).movable (with_slot slot awake) awake ≡ movers_of (states_of (slice_set bodies slot o))
-enabled_movers bodies slot awake o h off e = enabled_slots moves bodies slot awake o (state_of o).movable h e (off_before (body_at bodies slot) off) refl
-
-pub enabled_carried : (bodies : List (Option Body)) (slot : ℕ) (carried : List ℕ) (o : Option Body) → slot < length bodies → ForSome (body_at bodies slot) (λ b. b.enabled ≡ false) → carried ≡ carried_of (states_of bodies)
-    → cond (is_carried_in o) (with_slot slot carried) carried ≡ carried_of (states_of (slice_set bodies slot o))
-enabled_carried bodies slot carried o h off e = enabled_slots step.is_carried bodies slot carried o (is_carried_in o) h e (carried_before (body_at bodies slot) off) (carried_as o)
-
--- there is room for it
-pub enabled_room : (is : BodyState → Bool) (bodies : List (Option Body)) (slot : ℕ) (slots : List ℕ) → slot < length bodies → slots ≡ places_from is 0 (states_of bodies) → is (state_of (body_at bodies slot)) ≡ false → length slots < length bodies
-enabled_room is bodies slot slots h e off =
-    let long = length-states bodies in
-    let fewer = places_fewer is (states_of bodies) 0 slot nobody (omega (arith, h, long)) (ap is (state_there bodies slot nobody h) ∙ off) in
-    let same = ap length e in
-    omega (arith, fewer, long, same)
-
-pub awake_room : (bodies : List (Option Body)) (slot : ℕ) (awake : List ℕ) → slot < length bodies → ForSome (body_at bodies slot) (λ b. b.enabled ≡ false) → awake ≡ movers_of (states_of bodies) → length awake < length bodies
-awake_room bodies slot awake h off e = enabled_room moves bodies slot awake h e (off_before (body_at bodies slot) off)
-
-pub carried_room : (bodies : List (Option Body)) (slot : ℕ) (carried : List ℕ) → slot < length bodies → ForSome (body_at bodies slot) (λ b. b.enabled ≡ false) → carried ≡ carried_of (states_of bodies) → length carried < length bodies
-carried_room bodies slot carried h off e = enabled_room step.is_carried bodies slot carried h e (carried_before (body_at bodies slot) off)
-
--- the state of a body that was put into its slot
-pub state_put : (bodies : List (Option Body)) (slot : ℕ) (o : Option Body) (d : BodyState) → slot < length bodies → get_or (states_of (slice_set bodies slot o)) slot d ≡ state_of o
-state_put bodies slot o d h = let long = length-states bodies in ap (λ (l : List BodyState). get_or l slot d) (set_state bodies slot o) ∙ get_or-set_same (states_of bodies) slot (state_of o) d (omega (arith, h, long))
+-- a body comes into a slot of 32 bits, so that no slot is beyond these
+pub few-with_body : (bodies : List (Option Body)) (slot : ℕ) (b : Body) → slot < 2 ^ 32 → length bodies ≤ 2 ^ 32 → length (with_body bodies slot b) ≤ 2 ^ 32
+few-with_body bodies slot b h few = elim (cases_lt slot (length bodies)) [
+  | inl less ↦ rw (is_below slot (length bodies) less) (let e = length-set bodies slot (Some b) in omega (arith, e, few))
+  | inr more ↦ rw (not_below slot (length bodies) more) (let e = length-append bodies (Some b ∷ []) in omega (arith, e, more, h))
+]
 
 -- ---- what stays a body
 

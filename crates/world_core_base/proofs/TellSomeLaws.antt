@@ -3,7 +3,7 @@ use Rattle.std.proofs.Common.{◌≡◌, ℕ, zero, suc, ◌+◌, ◌*◌, ◌^�
 use Rattle.std.specs.Prelude.{◌≢◌, Contains, is_some, option_map}
 use Rattle.std.specs.Option.{ForSome}
 use Rattle.std.proofs.lemmas.Bool.{cases_eq}
-use Rattle.std.proofs.lemmas.List.{drop_all, get_or_default, length-set}
+use Rattle.std.proofs.lemmas.List.{drop_all, length-set}
 use Rattle.std.proofs.lemmas.Option.{slice_get-get_or}
 use Rattle.std.proofs.Math.Seq.{drop-cons}
 use Rattle.fixed_geom.specs.Vectors.{minus, plus}
@@ -15,19 +15,17 @@ use Rattle.momenta.specs.declared.state.BodyState.{BodyState}
 use Rattle.islands.specs.Labels.{Labels, label_at}
 use Rattle.islands.specs.declared.label.Label.{Label}
 use Rattle.islands.proofs.JoinLemmas.{contains_cases}
-use Rattle.colour_solver.specs.States.{as_vector, moves, movers_of, nobody}
+use Rattle.colour_solver.specs.States.{as_vector, moves}
 use Rattle.colour_solver.proofs.VectorLaws.{plus_assoc, plus_zero, same_vector}
 use Rattle.plain_world.specs.declared.body.Body.{Body}
 use Rattle.plain_world.specs.Bodies.{AreBodies, IsBody, is_mover}
 use Rattle.plain_world.specs.Momentum.{momentum, momentum_in}
-use Rattle.plain_world.specs.Sleep.{put_to_rest, roused, sleeping_name, told, told_body, told_by, told_from}
+use Rattle.plain_world.specs.Sleep.{roused, sleeping_name, told, told_body, told_by, told_from}
 use Rattle.plain_world.specs.Slots.{body_at}
-use Rattle.world_core_base.specs.Awake.{relisted}
 use Rattle.world_core_base.specs.Gather.{state_of, states_of}
+use Rattle.world_core_base.specs.Listing.{AreListed, AreSameBut, Listing}
 use Rattle.world_core_base.specs.Telling.{AreToldBeside}
-use Rattle.world_core_base.proofs.GatherLaws.{length-states}
-use Rattle.world_core_base.proofs.MarkedLaws.{get_body}
-use Rattle.world_core_base.proofs.SlotsRising.{places_fewer, places-relisted}
+use Rattle.world_core_base.proofs.ListingLaws.{same_set}
 use Rattle.world_core_base.proofs.TableLaws.{states-set}
 use Rattle.world_core_base.proofs.TellLaws.{momentum-put, told_entry_body}
 
@@ -129,52 +127,41 @@ pub body_there : (bodies : List (Option Body)) (slot : ℕ) → AreBodies bodies
 body_there bodies slot all h b e = all slot b (slice_get-get_or bodies slot None h ∙ ap Some e)
 
 -- a slot is told
-pub record IsToldOne (label : Option Label) (slot : ℕ) (before os : List (Option Body)) (ss : List BodyState) (aw : List ℕ) (gained : Gain) : Type 0 where
+pub record IsToldOne (label : Option Label) (slot : ℕ) (before os : List (Option Body)) (ss : List BodyState) (aw : Listing) (gained : Gain) : Type 0 where
   pub bodies : os ≡ told_one label slot before
   pub states : ss ≡ states_of os
-  pub awake : aw ≡ movers_of ss
+  pub awake : AreListed moves ss aw
   pub momentum : momentum os ≡ plus (momentum before) (as_vector gained)
 
--- there is room in the list of the awake movers for one more, where a body isn't among them
-pub room_for_one : (bodies : List (Option Body)) (ss : List BodyState) (aw : List ℕ) (slot room : ℕ) (d : BodyState) → slot < length bodies → ss ≡ states_of bodies → aw ≡ movers_of ss → (get_or ss slot d).movable ≡ false → length bodies ≤ room → length aw < room
-room_for_one bodies ss aw slot room d h e f off wide =
-    let long : length ss ≡ length bodies = ap length e ∙ length-states bodies in
-    let fewer : length (movers_of ss) < length ss = places_fewer moves ss 0 slot d (omega (arith, h, long)) off in
-    let same : length aw ≡ length (movers_of ss) = ap length f in
-    omega (arith, fewer, same, long, wide)
-
-pub told_here : (label : Option Label) (slot : ℕ) (before os : List (Option Body)) (ss ss_after : List BodyState) (aw aw_after : List ℕ) (moved now : Bool) (d : BodyState) (gained : Gain) → slot < length before → ss ≡ states_of before → aw ≡ movers_of ss
+pub told_here : (label : Option Label) (slot : ℕ) (before os : List (Option Body)) (ss ss_after : List BodyState) (aw aw_after : Listing) (gained : Gain) → slot < length before → ss ≡ states_of before → AreListed moves ss aw
     → os ≡ told_one label slot before → ss_after ≡ slice_set ss slot (state_of (option_map (told_body label) (get_or before slot None)))
     → gained.x ≡ (momentum_in (option_map (told_body label) (get_or before slot None))).x -ℤ (momentum_in (get_or before slot None)).x → gained.y ≡ (momentum_in (option_map (told_body label) (get_or before slot None))).y -ℤ (momentum_in (get_or before slot None)).y
-    → (get_or ss slot d).movable ≡ moved → (state_of (option_map (told_body label) (get_or before slot None))).movable ≡ now → aw_after ≡ relisted slot moved now aw → IsToldOne label slot before os ss_after aw_after gained
-told_here label slot before os ss ss_after aw aw_after moved now d gained h e f puts renews gains_x gains_y was is lists =
+    → (AreSameBut slot ss ss_after → AreListed moves ss aw → AreListed moves ss_after aw_after) → IsToldOne label slot before os ss_after aw_after gained
+told_here label slot before os ss ss_after aw aw_after gained h e f puts renews gains_x gains_y lists =
     let o : Option Body = option_map (told_body label) (get_or before slot None) in
-    let long : length ss ≡ length before = ap length e ∙ length-states before in
     let gains : as_vector gained ≡ minus (momentum_in o) (momentum_in (get_or before slot None)) = same_vector _ _ gains_x gains_y in
-    let below : slot < length ss = omega (arith, h, long) in
-    let moved_there : (get_or ss slot (state_of o)).movable ≡ moved = ap (λ (s : BodyState). s.movable) (get_or_default ss slot (state_of o) d below) ∙ was in
     record {
       bodies = puts;
       states = renews ∙ ap (λ (l : List BodyState). slice_set l slot (state_of o)) e ∙ states-set before slot o ∙ ap states_of (sym puts);
-      awake = lists ∙ ap (relisted slot moved now) f ∙ places-relisted moves ss slot (state_of o) moved now below moved_there is ∙ ap movers_of (sym renews);
+      awake = lists (subst (AreSameBut slot ss) (sym renews) (same_set ss slot (state_of o))) f;
       momentum = ap momentum puts ∙ (momentum-put before slot o None h ∙ ap (plus (momentum before)) (sym gains));
     }
 
 -- ---- the loop
 
 -- the slots before the place are told, and those behind it are all that are left
-pub record HasToldSome (labels : Labels) (slots : List ℕ) (all : List (Option Body)) (first : ℕ) (place : ℕ) (os : List (Option Body)) (ss : List BodyState) (aw : List ℕ) (wide : ℕ) (gained : Gain) : Type 0 where
+pub record HasToldSome (labels : Labels) (slots : List ℕ) (all : List (Option Body)) (first : ℕ) (place : ℕ) (os : List (Option Body)) (ss : List BodyState) (aw : Listing) (wide : ℕ) (gained : Gain) : Type 0 where
   pub told : told labels os ≡ told labels all
   pub others : AreToldBeside (drop place slots) labels os
   pub bodies : AreBodies os
   pub long : length os ≡ length all
   pub states : ss ≡ states_of os
-  pub awake : aw ≡ movers_of ss
-  pub room : first ≤ wide
+  pub awake : AreListed moves ss aw
+  pub room : wide ≡ first
   pub momentum : momentum os ≡ plus (momentum all) (as_vector gained)
   pub small : IsGain (place * 2 ^ 62) gained
 
-pub some_first : (labels : Labels) (slots : List ℕ) (all : List (Option Body)) (ss : List BodyState) (aw : List ℕ) (room : ℕ) → AreBodies all → ss ≡ states_of all → aw ≡ movers_of ss → AreToldBeside slots labels all
+pub some_first : (labels : Labels) (slots : List ℕ) (all : List (Option Body)) (ss : List BodyState) (aw : Listing) (room : ℕ) → AreBodies all → ss ≡ states_of all → AreListed moves ss aw → AreToldBeside slots labels all
     → HasToldSome labels slots all room 0 all ss aw room (record { x = pos 0; y = pos 0 })
 some_first labels slots all ss aw room bodies e f others = record {
   told = refl;
@@ -183,14 +170,14 @@ some_first labels slots all ss aw room bodies e f others = record {
   long = refl;
   states = e;
   awake = f;
-  room = omega arith;
+  room = refl;
   momentum = sym (plus_zero (momentum all));
   small = record { x = omega arith; y = omega arith };
 }
 
-pub some_more : (labels : Labels) (slots : List ℕ) (all : List (Option Body)) (first place slot d : ℕ) (os os_after : List (Option Body)) (ss ss_after : List BodyState) (aw aw_after : List ℕ) (room room_after : ℕ) (gained more sum : Gain)
+pub some_more : (labels : Labels) (slots : List ℕ) (all : List (Option Body)) (first place slot d : ℕ) (os os_after : List (Option Body)) (ss ss_after : List BodyState) (aw aw_after : Listing) (room room_after : ℕ) (gained more sum : Gain)
     → place < length slots → slot ≡ get_or slots place d → HasToldSome labels slots all first place os ss aw room gained
-    → os_after ≡ told_one (label_at labels slot) slot os → ss_after ≡ states_of os_after → aw_after ≡ movers_of ss_after → room ≤ room_after
+    → os_after ≡ told_one (label_at labels slot) slot os → ss_after ≡ states_of os_after → AreListed moves ss_after aw_after → room_after ≡ room
     → momentum os_after ≡ plus (momentum os) (as_vector more) → IsGain (2 ^ 62) more → sum.x ≡ gained.x +ℤ more.x → sum.y ≡ gained.y +ℤ more.y
     → HasToldSome labels slots all first (place + 1) os_after ss_after aw_after room_after sum
 some_more labels slots all first place slot d os os_after ss ss_after aw aw_after room room_after gained more sum lt at known puts states awake grows gains small sum_x sum_y =
@@ -206,7 +193,7 @@ some_more labels slots all first place slot d os os_after ss ss_after aw aw_afte
       long = ap length puts ∙ length-set os slot (option_map (told_body (label_at labels slot)) (get_or os slot None)) ∙ known.long;
       states = states;
       awake = awake;
-      room = omega (arith, wide, grows);
+      room = grows ∙ wide;
       momentum = gains ∙ (ap (λ (v : Vec2). plus v (as_vector more)) known.momentum ∙ (sym (plus_assoc (momentum all) (as_vector gained) (as_vector more)) ∙ ap (plus (momentum all)) (sym sums)));
       small = record {
         x = let s = sum_le gained.x more.x (place * 2 ^ 62) (2 ^ 62) known.small.x small.x in rw sum_x (omega (arith, s));
@@ -214,7 +201,7 @@ some_more labels slots all first place slot d os os_after ss ss_after aw aw_afte
       };
     })
 
-pub some_last : (labels : Labels) (slots : List ℕ) (all : List (Option Body)) (first place : ℕ) (os : List (Option Body)) (ss : List BodyState) (aw : List ℕ) (room : ℕ) (gained : Gain) → length slots ≤ place → HasToldSome labels slots all first place os ss aw room gained → os ≡ told labels all
+pub some_last : (labels : Labels) (slots : List ℕ) (all : List (Option Body)) (first place : ℕ) (os : List (Option Body)) (ss : List BodyState) (aw : Listing) (room : ℕ) (gained : Gain) → length slots ≤ place → HasToldSome labels slots all first place os ss aw room gained → os ≡ told labels all
 some_last labels slots all first place os ss aw room gained h known =
     let none : AreToldBeside [] labels os = subst (λ (l : List ℕ). AreToldBeside l labels os) (drop_all place slots h) known.others in
     sym (still_told labels os none) ∙ known.told

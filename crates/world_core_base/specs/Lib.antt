@@ -3,6 +3,8 @@ pub mod Carried
 pub mod Gather
 pub mod ConstraintRows
 pub mod Moved
+pub mod Listing
+pub mod Merging
 pub mod Awake
 pub mod Timing
 pub mod Telling

@@ -4,12 +4,14 @@
 //! what a step gathers of joints and contacts (`gather_rows`).
 #![tactic(auto)]
 
-mod awake;
 mod covers;
 mod gather;
 mod joint_row;
 mod laws;
+mod merging;
 mod moving;
+mod slot_list;
+mod slots;
 mod table;
 mod telling;
 mod timing;

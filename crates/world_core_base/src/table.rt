@@ -8,11 +8,12 @@ ghost use Rattle.std.specs.Result.{IsOkUnless};
 ghost use Rattle.fixed_geom.specs.Vectors.{IsWithin, plus};
 ghost use Rattle.box_tree.specs.BoxLists.{box_at};
 ghost use Rattle.momenta.specs.declared.state.BodyState.{BodyState};
-ghost use Rattle.colour_solver.specs.States.{AreAllStates, as_vector, places_from};
+ghost use Rattle.colour_solver.specs.States.{AreAllStates, as_vector, is_carried, moves, places_from};
 ghost use Rattle.colour_solver.specs.Ticks.{AreSums, added, ran, run_of, start};
 ghost use Rattle.colour_solver.specs.ColourRows.{all_rows};
 ghost use Rattle.colour_solver.specs.ConstraintTurns.{AreRowsBelow};
 ghost use Rattle.world_core_base.specs.Awake.{with_state};
+ghost use Rattle.world_core_base.specs.Listing.{IsRelisted};
 ghost use Rattle.plain_world.specs.Bodies.{AreBodies};
 ghost use Rattle.plain_world.specs.Momentum.{momentum};
 ghost use Rattle.world_core_base.specs.Gather.{state_of, states_of, with_motions};
@@ -26,10 +27,10 @@ ghost use Rattle.plain_world.specs.Changes.{changed_at, disabled_body, enabled_b
 ghost use Rattle.plain_world.specs.Sleep.{AreTimersWithin, timed_bodies, told};
 ghost use Rattle.plain_world.specs.Slots.{HaveSameSlots, body_at, with_body};
 
-use crate::awake::{add_if, copy_in_room, drop_slot, list_movers, reserve_in_all};
 use crate::covers::{cover, cover_again, uncover};
 use crate::gather::{NOBODY, body_state};
 use crate::moving::move_bodies;
+use crate::slot_list::{Group, SlotList};
 use crate::telling::{tell_bodies, tell_listed};
 use crate::timing::time_bodies;
 use body_handles::MAX_SLOTS;
@@ -52,10 +53,10 @@ pub struct BodyTable {
     bodies: Vec<Option<Body>>,
     // The bodies as the ticks work on them, by slot.
     states: Vec<BodyState>,
-    // The movers' slots, ascending.
-    awake: Vec<u32>,
-    // The slots of the bodies that are carried along, ascending.
-    carried: Vec<u32>,
+    // The awake movers' slots.
+    awake: SlotList,
+    // The slots of the bodies that are carried along.
+    carried: SlotList,
     // A mark or none for each body, and for those for which there is room.
     marks: Marks,
     // For each slot with a body a box that holds its fat boxes, in a tree.
@@ -65,14 +66,14 @@ pub struct BodyTable {
 }
 
 impl Model for BodyTable {
-    ghost use Rattle.std.specs.Prelude.{◌-◌, vec_capacity, vec_len};
+    ghost use Rattle.std.specs.Prelude.{◌-◌, ◌+◌, vec_capacity, vec_len};
     ghost use Rattle.world_core_base.specs.Awake.{Bodies, IsBodyTable};
 
     ghost Value = { Bodies };
 
-    ghost view = { λ a. record { bodies = a.bodies.items; room = a.room; marks = a.marks; boxes = a.boxes } };
+    ghost view = { λ a. record { bodies = a.bodies.items; room = a.room; marks = a.marks; boxes = a.boxes; pending = a.awake.pending + a.carried.pending } };
 
-    ghost invariant = { λ a. IsBodyTable a.bodies.items a.states.items a.awake.items a.carried.items a.marks a.boxes a.room (vec_capacity a.bodies - vec_len a.bodies) (vec_capacity a.states - vec_len a.states) (vec_capacity a.awake) (vec_capacity a.carried) };
+    ghost invariant = { λ a. IsBodyTable a.bodies.items a.states.items a.awake a.carried a.marks a.boxes a.room (vec_capacity a.bodies - vec_len a.bodies) (vec_capacity a.states - vec_len a.states) };
 }
 
 /// Puts a state into a slot, or into a new one at the end, for which there is room.
@@ -110,21 +111,25 @@ fn reserve_mark(marks: &mut Marks, n: usize) -> Result<(), Refusal>
     Ok(())
 }
 
-/// Whether it takes less time to tell so many bodies one by one than to tell all, where so many movers are awake.
-fn are_few(count: usize, awake: usize, all: usize) -> bool
+/// Whether it takes less time to tell so many bodies one by one than to tell all.
+fn are_few(count: usize, all: usize) -> bool
     ensures { result ≡ true → count ≤ all }
 {
-    count <= all / (awake / 2048 + 2)
+    count <= all / 2
 }
 
-/// Whether a body that is carried along is in a slot.
-fn is_carried_in(entry: &Option<Body>) -> bool
-    ensures { result ≡ is_carried_in entry.now }
+/// Lists the slot, where its body is an awake mover or is carried along now, and takes it out where it isn't: that may be put off.
+fn relist(awake: &mut SlotList, carried: &mut SlotList, states: &[BodyState], slot: u32)
+    requires few { length states.now ≤ 2 ^ 32 }
+    requires for_awake { length states.now ≤ awake.old.capacity }
+    requires for_carried { length states.now ≤ carried.old.capacity }
+    ensures awake { IsRelisted moves states.now slot awake.old awake.new }
+    ensures carried { IsRelisted is_carried states.now slot carried.old carried.new }
+    ensures awake_capacity { awake.new.capacity ≡ awake.old.capacity }
+    ensures carried_capacity { carried.new.capacity ≡ carried.old.capacity }
 {
-    match entry {
-        None => false,
-        Some(body) => body.is_carried(),
-    }
+    awake.relist(Group::Awake, states, slot);
+    carried.relist(Group::Carried, states, slot);
 }
 
 impl BodyTable {
@@ -132,12 +137,13 @@ impl BodyTable {
     pub fn new(alloc: Global) -> BodyTable
         ensures bodies { result.bodies ≡ [] }
         ensures marks { result.marks ≡ [] }
+        ensures pending { result.pending ≡ 0 }
     {
         BodyTable {
             bodies: Vec::new(alloc),
             states: Vec::new(alloc),
-            awake: Vec::new(alloc),
-            carried: Vec::new(alloc),
+            awake: SlotList::new(alloc),
+            carried: SlotList::new(alloc),
             marks: Marks::new(alloc),
             boxes: BoxTree::new(alloc),
             room: 0,
@@ -163,15 +169,17 @@ impl BodyTable {
         self.states.as_slice()
     }
 
-    /// The awake movers' slots, ascending.
+    /// The awake movers' slots, ascending, where no edit of the list is put off.
     pub fn awake(&self) -> &[u32]
+        requires settled { self.now.pending ≡ 0 }
         ensures { result.now ≡ places_from is_awake_in 0 self.now.bodies }
     {
         self.awake.as_slice()
     }
 
-    /// The slots of the bodies that are carried along, ascending.
+    /// The slots of the bodies that are carried along, ascending, where no edit of the list is put off.
     pub fn carried(&self) -> &[u32]
+        requires settled { self.now.pending ≡ 0 }
         ensures { result.now ≡ places_from is_carried_in 0 self.now.bodies }
     {
         self.carried.as_slice()
@@ -200,6 +208,7 @@ impl BodyTable {
         ensures room { self.new.room ≡ self.old.room }
         ensures marked { AreMarked self.old self.new }
         ensures there { slice_index_or self.new.marks slot true ≡ true }
+        ensures pending { self.new.pending ≡ self.old.pending }
     {
         self.marks.mark(slot);
     }
@@ -209,8 +218,21 @@ impl BodyTable {
         ensures bodies { self.new.bodies ≡ self.old.bodies }
         ensures room { self.new.room ≡ self.old.room }
         ensures cleared { self.new.marks ≡ replicate (length self.old.marks) false }
+        ensures pending { self.new.pending ≡ self.old.pending }
     {
         self.marks.clear();
+    }
+
+    /// Brings the lists of the awake movers and of the bodies that are carried along up to date, after what came and went. It costs nothing where nothing
+    /// did, and takes no memory.
+    pub fn settle(&mut self)
+        ensures bodies { self.new.bodies ≡ self.old.bodies }
+        ensures room { self.new.room ≡ self.old.room }
+        ensures marks { self.new.marks ≡ self.old.marks }
+        ensures pending { self.new.pending ≡ 0 }
+    {
+        self.awake.settle(Group::Awake, &self.states);
+        self.carried.settle(Group::Carried, &self.states);
     }
 
     /// Makes room for a body that is to come into this slot. Refused 1 where memory is wanting.
@@ -226,8 +248,8 @@ impl BodyTable {
         self.room = 0;
         self.bodies.reserve(1)?;
         self.states.reserve(1)?;
-        reserve_in_all(&mut self.awake, self.bodies.len() + 1)?;
-        reserve_in_all(&mut self.carried, self.bodies.len() + 1)?;
+        self.awake.reserve(self.bodies.len() + 1)?;
+        self.carried.reserve(self.bodies.len() + 1)?;
         reserve_mark(&mut self.marks, self.bodies.len() + 1)?;
         cover(&mut self.boxes, slot, body.fats.as_slice())?;
         self.room = 1;
@@ -246,10 +268,9 @@ impl BodyTable {
         let state = body_state(&body);
         self.room = 0;
         self.marks.mark(slot);
-        add_if(&mut self.awake, slot, state.movable);
-        add_if(&mut self.carried, slot, body.is_carried());
         put_state(&mut self.states, slot as usize, state);
         put_item(&mut self.bodies, slot as usize, body);
+        relist(&mut self.awake, &mut self.carried, &self.states, slot);
     }
 
     /// Empties a slot.
@@ -260,11 +281,10 @@ impl BodyTable {
     {
         self.room = 0;
         self.marks.mark(slot);
-        drop_slot(&mut self.awake, slot);
-        drop_slot(&mut self.carried, slot);
         uncover(&mut self.boxes, slot);
         self.states[slot as usize] = NOBODY;
         clear_slot(&mut self.bodies, slot as usize);
+        relist(&mut self.awake, &mut self.carried, &self.states, slot);
     }
 
     /// Makes a change to the body in a slot, if one is there.
@@ -290,10 +310,9 @@ impl BodyTable {
     {
         self.room = 0;
         self.marks.mark(slot);
-        drop_slot(&mut self.awake, slot);
-        drop_slot(&mut self.carried, slot);
         disable_slot(&mut self.bodies, slot as usize);
         renew_state(&mut self.states, &self.bodies, slot as usize);
+        relist(&mut self.awake, &mut self.carried, &self.states, slot);
     }
 
     /// Enables the body in a slot, if one is there, which is disabled: a mover is awake, and its timer 0. Takes no memory.
@@ -307,10 +326,7 @@ impl BodyTable {
         self.marks.mark(slot);
         enable_slot(&mut self.bodies, slot as usize);
         renew_state(&mut self.states, &self.bodies, slot as usize);
-        let awake = self.states[slot as usize].movable;
-        let carried = is_carried_in(&self.bodies[slot as usize]);
-        add_if(&mut self.awake, slot, awake);
-        add_if(&mut self.carried, slot, carried);
+        relist(&mut self.awake, &mut self.carried, &self.states, slot);
     }
 
     /// Tells the bodies the labels of their islands: movers of a sleeping one are put to rest, and those of any other are awake. Answers what the movers'
@@ -328,7 +344,7 @@ impl BodyTable {
     {
         self.room = 0;
         let gain = tell_bodies(&mut self.bodies, &mut self.states, islands);
-        list_movers(&mut self.awake, &self.states);
+        self.awake.list_anew(Group::Awake, &self.states);
         gain
     }
 
@@ -347,7 +363,7 @@ impl BodyTable {
         ensures small { IsGain (2 ^ 78) result }
         ensures marked { AreMarked self.old self.new }
     {
-        if are_few(slots.len(), self.awake.len(), self.bodies.len()) {
+        if are_few(slots.len(), self.bodies.len()) {
             return self.tell_listed(slots, islands);
         }
         self.tell(islands)
@@ -382,14 +398,16 @@ impl BodyTable {
         requires bodies { AreBodies self.old.bodies }
         requires timers { AreTimersWithin (2 ^ 44) self.old.bodies }
         requires ticks { ticks ≤ 2 ^ 44 }
+        requires settled { self.old.pending ≡ 0 }
         ensures bodies { self.new.bodies ≡ timed_bodies ticks self.old.bodies }
         ensures all_bodies { AreBodies self.new.bodies }
         ensures slots { HaveSameSlots self.old.bodies self.new.bodies }
         ensures standing { HaveSameStanding self.old.bodies self.new.bodies }
         ensures marked { AreMarked self.old self.new }
+        ensures settled { self.new.pending ≡ 0 }
     {
         self.room = 0;
-        time_bodies(&mut self.bodies, &self.awake, ticks);
+        time_bodies(&mut self.bodies, self.awake.as_slice(), ticks);
     }
 
     /// Runs the ticks of a step, 0 to 8, and its restitution, over the movers, the bodies that are carried along, and the constraints in
@@ -400,6 +418,7 @@ impl BodyTable {
         requires gravity { IsWithin (2 ^ 16) gravity }
         requires rows { AreRowsBelow (length self.old.bodies) (all_rows rows.old) }
         requires count { count ≤ 8 }
+        requires settled { self.old.pending ≡ 0 }
         ensures run { run_of (ran count gravity (start (states_of self.old.bodies) (all_rows rows.old))).states (all_rows rows.new) result ≡ ran count gravity (start (states_of self.old.bodies) (all_rows rows.old)) }
         ensures bodies { self.new.bodies ≡ renewed_bodies (with_motions self.old.bodies (ran count gravity (start (states_of self.old.bodies) (all_rows rows.old))).states) }
         ensures rows { AreRowsBelow (length self.old.bodies) (all_rows rows.new) }
@@ -409,13 +428,14 @@ impl BodyTable {
         ensures small { AreSums (2 ^ 83) result }
         ensures momentum { momentum self.new.bodies ≡ plus (momentum self.old.bodies) (added result) }
         ensures marked { AreMarked self.old self.new }
+        ensures settled { self.new.pending ≡ 0 }
     {
         self.room = 0;
         let sums = run_step(
             &mut self.states,
             rows,
-            &self.awake,
-            &self.carried,
+            self.awake.as_slice(),
+            self.carried.as_slice(),
             gravity,
             count,
         );
@@ -424,8 +444,8 @@ impl BodyTable {
             &mut self.states,
             &mut self.marks,
             &mut self.boxes,
-            &self.awake,
-            &self.carried,
+            self.awake.as_slice(),
+            self.carried.as_slice(),
         );
         sums
     }
@@ -434,14 +454,15 @@ impl BodyTable {
     pub fn try_copy(&self) -> Result<BodyTable, Refusal>
         ensures copy { IfOk result (λ copied. copied.bodies ≡ self.now.bodies) }
         ensures marks { IfOk result (λ copied. copied.marks ≡ self.now.marks) }
+        ensures pending { IfOk result (λ copied. copied.pending ≡ self.now.pending) }
         ensures memory_only { IsOkUnless result Refusal.NoMemory }
     {
         let alloc = *self.bodies.allocator();
         let bodies = copy_bodies(alloc, &self.bodies)?;
         let mut states = Vec::new(alloc);
         states.extend_from_slice(&self.states)?;
-        let awake = copy_in_room(alloc, &self.awake, bodies.len())?;
-        let carried = copy_in_room(alloc, &self.carried, bodies.len())?;
+        let awake = self.awake.try_copy(alloc, bodies.len())?;
+        let carried = self.carried.try_copy(alloc, bodies.len())?;
         Ok(BodyTable {
             bodies,
             states,

@@ -1,18 +1,19 @@
 //! The bodies told by the islands: movers that fall asleep, and movers that wake.
 
-ghost use Rattle.std.specs.Prelude.{◌≡◌, ◌<◌, ◌≤◌, ◌^◌, ◌-ℤ◌, None, length, option_map, slice_index_or, slice_set, vec_capacity};
+ghost use Rattle.std.specs.Prelude.{◌≡◌, ◌<◌, ◌≤◌, ◌^◌, ◌-ℤ◌, None, length, option_map, slice_index_or, slice_set};
 ghost use Rattle.std.specs.Option.{ForSome};
 ghost use Rattle.fixed_geom.specs.Vectors.{IsWithin, plus};
 ghost use Rattle.momenta.specs.Gains.{IsGain};
-ghost use Rattle.colour_solver.specs.States.{as_vector, movers_of};
+ghost use Rattle.colour_solver.specs.States.{as_vector, moves};
 ghost use Rattle.plain_world.specs.Bodies.{AreBodies, IsBody};
 ghost use Rattle.plain_world.specs.Momentum.{momentum, momentum_in};
 ghost use Rattle.plain_world.specs.Sleep.{told, told_body};
 ghost use Rattle.world_core_base.specs.Gather.{state_of, states_of};
+ghost use Rattle.world_core_base.specs.Listing.{AreListed};
 ghost use Rattle.world_core_base.specs.Telling.{AreToldBeside};
 
-use crate::awake::relist;
 use crate::gather::state_of;
+use crate::slot_list::{Group, SlotList};
 use body_handles::MAX_SLOTS;
 use fixed_geom::Vec2;
 use islands::{Islands, Label};
@@ -95,18 +96,19 @@ pub fn tell_bodies(
 fn tell_one(
     bodies: &mut Vec<Option<Body>>,
     states: &mut Vec<BodyState>,
-    awake: &mut Vec<u32>,
+    awake: &mut SlotList,
     slot: u32,
     label: Option<Label>,
 ) -> Gain
     requires bodies { AreBodies bodies.old.items }
+    requires few { length bodies.old.items ≤ 2 ^ 32 }
     requires states { states.old.items ≡ states_of bodies.old.items }
-    requires awake { awake.old.items ≡ movers_of states.old.items }
-    requires room { length bodies.old.items ≤ vec_capacity awake.old }
+    requires awake { AreListed moves states.old.items awake.old }
+    requires room { length bodies.old.items ≤ awake.old.capacity }
     ensures bodies { bodies.new.items ≡ slice_set bodies.old.items slot (option_map (told_body label) (slice_index_or bodies.old.items slot None)) }
     ensures states { states.new.items ≡ states_of bodies.new.items }
-    ensures awake { awake.new.items ≡ movers_of states.new.items }
-    ensures capacity { vec_capacity awake.old ≤ vec_capacity awake.new }
+    ensures awake { AreListed moves states.new.items awake.new }
+    ensures capacity { awake.new.capacity ≡ awake.old.capacity }
     ensures momentum { momentum bodies.new.items ≡ plus (momentum bodies.old.items) (as_vector result) }
     ensures small { IsGain (2 ^ 62) result }
 {
@@ -116,7 +118,7 @@ fn tell_one(
     }
     let moved = states[place].movable;
     let gain = tell_slot(bodies, states, place, label);
-    relist(awake, slot, moved, states[place].movable);
+    awake.relist_changed(Group::Awake, states, slot, moved);
     gain
 }
 
@@ -125,20 +127,21 @@ fn tell_one(
 pub fn tell_listed(
     bodies: &mut Vec<Option<Body>>,
     states: &mut Vec<BodyState>,
-    awake: &mut Vec<u32>,
+    awake: &mut SlotList,
     slots: &[u32],
     islands: &Islands,
 ) -> Gain
-    requires few { length slots.now ≤ MAX_SLOTS }
+    requires fewer { length slots.now ≤ MAX_SLOTS }
+    requires few { length bodies.old.items ≤ 2 ^ 32 }
     requires bodies { AreBodies bodies.old.items }
     requires states { states.old.items ≡ states_of bodies.old.items }
-    requires awake { awake.old.items ≡ movers_of states.old.items }
-    requires room { length bodies.old.items ≤ vec_capacity awake.old }
+    requires awake { AreListed moves states.old.items awake.old }
+    requires room { length bodies.old.items ≤ awake.old.capacity }
     requires others { AreToldBeside slots.now islands.now.labels bodies.old.items }
     ensures bodies { bodies.new.items ≡ told islands.now.labels bodies.old.items }
     ensures states { states.new.items ≡ states_of bodies.new.items }
-    ensures awake { awake.new.items ≡ movers_of states.new.items }
-    ensures capacity { vec_capacity awake.old ≤ vec_capacity awake.new }
+    ensures awake { AreListed moves states.new.items awake.new }
+    ensures capacity { awake.new.capacity ≡ awake.old.capacity }
     ensures momentum { momentum bodies.new.items ≡ plus (momentum bodies.old.items) (as_vector result) }
     ensures small { IsGain (2 ^ 78) result }
 {

@@ -36,6 +36,7 @@ impl WorldCore {
         }
         let alloc = self.bodies.allocator();
         self.ledger.reserve(4)?;
+        self.bodies.settle();
         let changes = collide(alloc, &mut self.contacts, &self.bodies, &self.joints)?;
         let turns = list_changes(alloc, self.bodies.bodies(), &changes.begin, &changes.end)?;
         self.sets.reserve(changes.begin.len(), 0)?;

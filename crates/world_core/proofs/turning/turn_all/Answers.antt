@@ -15,3 +15,6 @@ tell_some-requires-clause-others c =
     let bodies = c.args.bodies.now.bodies in
     let all = woken_listed c.args.asleep.now bodies c.args.changes.now old c.requires.settled c.requires.told c.requires.can c.requires.sleepers in
     rw (c.islands-2.ensures, c.settle.ensures.acting, c.turn.ensures.acting) (awake_beside c.args.asleep.now bodies old.labels (turned constraint_number c.args.changes.now old).labels (told_stays old.labels bodies c.requires.bodies c.requires.told) (turned_slept c.args.changes.now old) all)
+
+pub returns-clause-marked : goal.returns-clause-marked
+returns-clause-marked c = rw (c.settle-2.ensures.bodies, c.settle-2.ensures.marks) c.tell_some.ensures.marked

@@ -1,11 +1,12 @@
 use Rattle.std.proofs.Common.{◌≡◌, ◌<◌, length, Option, ap, sym, ◌∙◌, arith, List, get_or, is_some, refl, subst}
 use Rattle.std.specs.Prelude.{option_map}
 use Rattle.std.proofs.lemmas.List.{length-set, get_or-set_same}
-use Rattle.colour_solver.specs.States.{carried_of, movers_of}
+use Rattle.colour_solver.specs.States.{carried_of, is_carried, movers_of, moves}
 use Rattle.plain_world.specs.declared.body.Body.{Body}
 use Rattle.world_core_base.specs.Gather.{states_of}
 use Rattle.plain_world.specs.Changes.{changed_at}
 use Rattle.plain_world.specs.Slots.{body_at}
+use Rattle.world_core_base.proofs.ListingLaws.{listed_alike}
 use Rattle.world_core_base.proofs.TableLaws.{changed_carried, changed_movers, renewed_states}
 use Rattle.world_core_base.proofs.MarkedLaws.{alike_mapped, length-mark_if, marked_eq, marked_if}
 use Rattle.std.specs.Option.{ForSome}
@@ -31,8 +32,9 @@ invariant_of-self g c =
           (λ off. alike_mapped f (body_at bodies c.args.slot) (λ b e. c.moves-made.ensures.alike off b (fits b e))));
       for_boxes = let long = length-set bodies c.args.slot o in let same = ap length c.change_slot.ensures.value in omega (arith, long, same, c.cover_again.ensures.len, c.self.invariant.for_boxes);
       states = rw c.change_slot.ensures.value now;
-      awake = c.self.invariant.awake ∙ ap movers_of c.self.invariant.states ∙ changed_movers bodies c.args.slot o there (rw c.change_slot.ensures.value at c.change_slot.ensures.awake) ∙ ap movers_of (sym now);
-      carried = c.self.invariant.carried ∙ ap carried_of c.self.invariant.states ∙ changed_carried bodies c.args.slot o there (rw c.change_slot.ensures.value at c.change_slot.ensures.carried) ∙ ap carried_of (sym now);
+      movers = listed_alike moves states c.renew_state.new.states.items c.self.inside.awake refl (ap movers_of c.self.invariant.states ∙ changed_movers bodies c.args.slot o there (rw c.change_slot.ensures.value at c.change_slot.ensures.awake) ∙ ap movers_of (sym now)) c.self.invariant.movers;
+      along = listed_alike is_carried states c.renew_state.new.states.items c.self.inside.carried refl (ap carried_of c.self.invariant.states ∙ changed_carried bodies c.args.slot o there (rw c.change_slot.ensures.value at c.change_slot.ensures.carried) ∙ ap carried_of (sym now)) c.self.invariant.along;
+      few = let long = length-set bodies c.args.slot o in let same = ap length c.change_slot.ensures.value in omega (arith, long, same, c.self.invariant.few);
       for_bodies = omega arith;
       for_states = omega arith;
       for_awake = let long = length-set bodies c.args.slot o in let same = ap length c.change_slot.ensures.value in omega (arith, long, same, c.self.invariant.for_awake);

@@ -1,68 +1,69 @@
-use Rattle.std.proofs.Common.{◌≡◌, ◌<◌, false, length, List, Option, get_or, ap, sym, ◌∙◌, arith, cond, ℕ, true, refl}
+use Rattle.std.proofs.Common.{◌≡◌, ◌<◌, length, Option, ap, ◌∙◌, arith, true, refl}
 use Rattle.std.specs.Prelude.{option_map}
-use Rattle.std.specs.Option.{ForSome}
-use Rattle.std.proofs.lemmas.List.{get_or-set_same, length-set}
-use Rattle.momenta.specs.declared.state.BodyState.{BodyState}
-use Rattle.colour_solver.specs.States.{carried_of, is_carried, movers_of, moves}
+use Rattle.std.proofs.lemmas.List.{length-set}
+use Rattle.colour_solver.specs.States.{is_carried, moves}
 use Rattle.plain_world.specs.declared.body.Body.{Body}
-use Rattle.plain_world.specs.Changes.{changed_at, enabled_body, is_carried_in}
+use Rattle.plain_world.specs.Changes.{changed_at, enabled_body}
 use Rattle.plain_world.specs.Slots.{body_at}
-use Rattle.world_core_base.specs.Awake.{with_slot}
-use Rattle.world_core_base.specs.Gather.{state_of, states_of}
-use Rattle.world_core_base.proofs.SlotsRising.{rising_places}
-use Rattle.world_core_base.proofs.TableLaws.{awake_room, carried_room, enabled_carried, enabled_movers, renewed_states, state_put}
+use Rattle.world_core_base.specs.Gather.{states_of}
+use Rattle.world_core_base.proofs.GatherLaws.{length-states}
+use Rattle.world_core_base.proofs.ListingLaws.{listed_set}
+use Rattle.world_core_base.proofs.TableLaws.{renewed_states}
 use Rattle.world_core_base.proofs.MarkedLaws.{marked_eq, marked_set}
 use Rattle.world_core_base.proofs.CoverLaws.{covered_eq, covered_mapped}
 use Rattle.world_core_base.proofs.table.BodyTable.enable.Goals as goal
 
-pub add_if-requires-clause-rising : goal.add_if-requires-clause-rising
-add_if-requires-clause-rising c = rw c.self.invariant.awake (rising_places moves c.self.inside.states.items 0)
-
-pub add_if-requires-2-clause-rising : goal.add_if-requires-2-clause-rising
-add_if-requires-2-clause-rising c = rw c.self.invariant.carried (rising_places is_carried c.self.inside.states.items 0)
-
-pub add_if-requires-clause-room : goal.add_if-requires-clause-room
-add_if-requires-clause-room c = λ on1.
+pub relist-requires-clause-few : goal.relist-requires-clause-few
+relist-requires-clause-few c =
     let bodies = c.self.inside.bodies.items in
     let there : c.args.slot < length bodies = rw (← c.self.view_is) at c.requires.slot in
-    let off : ForSome (body_at bodies c.args.slot) (λ b. b.enabled ≡ false) = rw (← c.self.view_is) at c.requires.disabled in
-    let fewer = awake_room bodies c.args.slot c.self.inside.awake.items there off (c.self.invariant.awake ∙ ap movers_of c.self.invariant.states) in
-    omega (arith, fewer, c.self.invariant.for_awake)
+    let o : Option Body = option_map enabled_body (body_at bodies c.args.slot) in
+    let now : c.renew_state.new.states.items ≡ states_of (changed_at enabled_body bodies c.args.slot) =
+    rw (c.renew_state.ensures, c.deref.ensures.value, c.enable_slot.ensures) (renewed_states bodies c.self.inside.states.items c.args.slot o c.self.invariant.states there) in
+    let long = ap length c.deref-2.ensures.value ∙ ap length now ∙ length-states (changed_at enabled_body bodies c.args.slot) ∙ length-set bodies c.args.slot o in
+    omega (arith, long, c.self.invariant.few)
 
-pub add_if-requires-2-clause-room : goal.add_if-requires-2-clause-room
-add_if-requires-2-clause-room c = λ on1.
+pub relist-requires-clause-for_awake : goal.relist-requires-clause-for_awake
+relist-requires-clause-for_awake c =
     let bodies = c.self.inside.bodies.items in
     let there : c.args.slot < length bodies = rw (← c.self.view_is) at c.requires.slot in
-    let off : ForSome (body_at bodies c.args.slot) (λ b. b.enabled ≡ false) = rw (← c.self.view_is) at c.requires.disabled in
-    let fewer = carried_room bodies c.args.slot c.self.inside.carried.items there off (c.self.invariant.carried ∙ ap carried_of c.self.invariant.states) in
-    omega (arith, fewer, c.self.invariant.for_carried)
+    let o : Option Body = option_map enabled_body (body_at bodies c.args.slot) in
+    let now : c.renew_state.new.states.items ≡ states_of (changed_at enabled_body bodies c.args.slot) =
+    rw (c.renew_state.ensures, c.deref.ensures.value, c.enable_slot.ensures) (renewed_states bodies c.self.inside.states.items c.args.slot o c.self.invariant.states there) in
+    let long = ap length c.deref-2.ensures.value ∙ ap length now ∙ length-states (changed_at enabled_body bodies c.args.slot) ∙ length-set bodies c.args.slot o in
+    omega (arith, long, c.self.invariant.for_awake)
+
+pub relist-requires-clause-for_carried : goal.relist-requires-clause-for_carried
+relist-requires-clause-for_carried c =
+    let bodies = c.self.inside.bodies.items in
+    let there : c.args.slot < length bodies = rw (← c.self.view_is) at c.requires.slot in
+    let o : Option Body = option_map enabled_body (body_at bodies c.args.slot) in
+    let now : c.renew_state.new.states.items ≡ states_of (changed_at enabled_body bodies c.args.slot) =
+    rw (c.renew_state.ensures, c.deref.ensures.value, c.enable_slot.ensures) (renewed_states bodies c.self.inside.states.items c.args.slot o c.self.invariant.states there) in
+    let long = ap length c.deref-2.ensures.value ∙ ap length now ∙ length-states (changed_at enabled_body bodies c.args.slot) ∙ length-set bodies c.args.slot o in
+    omega (arith, long, c.self.invariant.for_carried)
 
 pub invariant_of-self : goal.invariant_of-self
 invariant_of-self c =
     let bodies = c.self.inside.bodies.items in
     let slot = c.args.slot in
     let there : slot < length bodies = rw (← c.self.view_is) at c.requires.slot in
-    let off : ForSome (body_at bodies slot) (λ b. b.enabled ≡ false) = rw (← c.self.view_is) at c.requires.disabled in
     let o : Option Body = option_map enabled_body (body_at bodies slot) in
     let now : c.renew_state.new.states.items ≡ states_of (changed_at enabled_body bodies slot) =
     rw (c.renew_state.ensures, c.deref.ensures.value, c.enable_slot.ensures) (renewed_states bodies c.self.inside.states.items slot o c.self.invariant.states there) in
-    let state : c.index.result.now ≡ state_of o = c.index.ensures ∙ ap (λ (l : List BodyState). get_or l slot c.index.result.now) now ∙ state_put bodies slot o c.index.result.now there in
-    let body : c.index-2.result.now ≡ o = c.index-2.ensures ∙ ap (λ (l : List (Option Body)). get_or l slot c.index-2.result.now) c.enable_slot.ensures ∙ get_or-set_same bodies slot o c.index-2.result.now there in
-    let carried : c.is_carried_in-carried.result ≡ is_carried_in o = c.is_carried_in-carried.ensures ∙ ap is_carried_in body in
     let same = ap length c.enable_slot.ensures ∙ length-set bodies slot o in
-    let old_awake : List ℕ = c.self.inside.awake.items in
-    let old_carried : List ℕ = c.self.inside.carried.items in
     record {
       covered = covered_eq _ _ _ _ c.enable_slot.ensures refl (covered_mapped enabled_body bodies c.self.inside.boxes c.args.slot (λ b. refl) c.self.invariant.covered);
       for_boxes = omega (arith, same, c.self.invariant.for_boxes);
       states = rw c.enable_slot.ensures now;
-      awake = c.add_if.ensures.items ∙ ap (λ (s : BodyState). cond s.movable (with_slot slot old_awake) old_awake) state ∙ enabled_movers bodies slot old_awake o there off (c.self.invariant.awake ∙ ap movers_of c.self.invariant.states) ∙ ap movers_of (sym now);
-      carried = c.add_if-2.ensures.items ∙ (λ j. cond (carried j) (with_slot slot old_carried) old_carried) ∙ enabled_carried bodies slot old_carried o there off (c.self.invariant.carried ∙ ap carried_of c.self.invariant.states) ∙ ap carried_of (sym now);
+      movers = listed_set moves c.self.inside.states.items c.renew_state.new.states.items slot _ c.self.inside.awake c.relist.new.awake c.renew_state.ensures c.self.invariant.movers (rw c.deref-2.ensures.value at c.relist.ensures.awake);
+      along = listed_set is_carried c.self.inside.states.items c.renew_state.new.states.items slot _ c.self.inside.carried c.relist.new.carried c.renew_state.ensures c.self.invariant.along (rw c.deref-2.ensures.value at c.relist.ensures.carried);
+      few = omega (arith, same, c.self.invariant.few);
       for_bodies = omega arith;
       for_states = omega arith;
-      for_awake = omega (arith, same, c.self.invariant.for_awake, c.add_if.ensures.capacity);
+      for_awake = omega (arith, same, c.self.invariant.for_awake, c.relist.ensures.awake_capacity);
       for_marks = let marks = ap length c.mark.ensures ∙ length-set c.self.inside.marks c.args.slot true in omega (arith, same, marks, c.self.invariant.for_marks);
-      for_carried = omega (arith, same, c.self.invariant.for_carried, c.add_if-2.ensures.capacity);
+      for_carried = omega (arith, same, c.self.invariant.for_carried, c.relist.ensures.carried_capacity);
     }
 
 pub returns-clause-marked : goal.returns-clause-marked

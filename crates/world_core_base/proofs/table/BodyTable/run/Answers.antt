@@ -1,14 +1,25 @@
-use Rattle.std.proofs.Common.{◌≡◌, length, ap, sym, ◌∙◌}
+use Rattle.std.proofs.Common.{◌≡◌, ◌+◌, length, ap, sym, ◌∙◌, arith, refl}
 use Rattle.fixed_geom.specs.Vectors.{plus}
 use Rattle.fixed_geom.specs.declared.vectors.Vec2.{Vec2}
-use Rattle.colour_solver.specs.States.{total}
+use Rattle.colour_solver.specs.States.{is_carried, moves, total}
 use Rattle.colour_solver.specs.ColourRows.{all_rows}
 use Rattle.colour_solver.specs.Ticks.{added}
 use Rattle.colour_solver.proofs.CourseLaws.{carried_beside, movers_beside}
 use Rattle.colour_solver.proofs.TickLaws.{rows_as_long}
 use Rattle.plain_world.specs.Bodies.{AreBodies}
+use Rattle.world_core_base.proofs.ListingLaws.{listed_exactly}
 use Rattle.world_core_base.proofs.GatherLaws.{courses-all, length-states, states-all, total-gathered}
 use Rattle.world_core_base.proofs.table.BodyTable.run.Goals as goal
+
+pub run_step-sums-requires-clause-awake : goal.run_step-sums-requires-clause-awake
+run_step-sums-requires-clause-awake c =
+    let settled : c.self.inside.awake.pending + c.self.inside.carried.pending ≡ 0 = rw (← c.self.view_is) at c.requires.settled in
+    c.as_slice.ensures ∙ c.self.invariant.movers.exact (omega (arith, settled))
+
+pub run_step-sums-requires-clause-carried : goal.run_step-sums-requires-clause-carried
+run_step-sums-requires-clause-carried c =
+    let settled : c.self.inside.awake.pending + c.self.inside.carried.pending ≡ 0 = rw (← c.self.view_is) at c.requires.settled in
+    c.as_slice-2.ensures ∙ c.self.invariant.along.exact (omega (arith, settled))
 
 pub run_step-sums-requires-clause-states : goal.run_step-sums-requires-clause-states
 run_step-sums-requires-clause-states c =
@@ -21,10 +32,14 @@ run_step-sums-requires-clause-courses c =
     rw c.self.invariant.states (courses-all c.self.inside.bodies.items bodies)
 
 pub move_bodies-requires-clause-awake : goal.move_bodies-requires-clause-awake
-move_bodies-requires-clause-awake c = rw c.deref-3.ensures.value (c.self.invariant.awake ∙ sym (movers_beside c.self.inside.states.items c.run_step-sums.new.states.items c.run_step-sums.ensures.same))
+move_bodies-requires-clause-awake c =
+    let settled : c.self.inside.awake.pending + c.self.inside.carried.pending ≡ 0 = rw (← c.self.view_is) at c.requires.settled in
+    c.as_slice-3.ensures ∙ c.self.invariant.movers.exact (omega (arith, settled)) ∙ sym (movers_beside c.self.inside.states.items c.run_step-sums.new.states.items c.run_step-sums.ensures.same)
 
 pub move_bodies-requires-clause-carried : goal.move_bodies-requires-clause-carried
-move_bodies-requires-clause-carried c = rw c.deref-4.ensures.value (c.self.invariant.carried ∙ sym (carried_beside c.self.inside.states.items c.run_step-sums.new.states.items c.run_step-sums.ensures.same))
+move_bodies-requires-clause-carried c =
+    let settled : c.self.inside.awake.pending + c.self.inside.carried.pending ≡ 0 = rw (← c.self.view_is) at c.requires.settled in
+    c.as_slice-4.ensures ∙ c.self.invariant.along.exact (omega (arith, settled)) ∙ sym (carried_beside c.self.inside.states.items c.run_step-sums.new.states.items c.run_step-sums.ensures.same)
 
 pub move_bodies-requires-clause-bodies : goal.move_bodies-requires-clause-bodies
 move_bodies-requires-clause-bodies c = rw (← c.self.view_is) at c.requires.bodies
@@ -42,3 +57,20 @@ returns-clause-momentum c =
 
 pub returns-clause-marked : goal.returns-clause-marked
 returns-clause-marked c = rw (← c.self.view_is) c.move_bodies.ensures.marked
+
+pub invariant_of-self : goal.invariant_of-self
+invariant_of-self c =
+    let same : length c.move_bodies.new.bodies.items ≡ length c.self.inside.bodies.items = c.move_bodies.ensures.slots.slots in
+    record {
+      states = c.move_bodies.ensures.states;
+      movers = listed_exactly moves c.move_bodies.new.states.items c.self.inside.awake refl (sym c.as_slice-3.ensures ∙ c.move_bodies.ensures.awake);
+      along = listed_exactly is_carried c.move_bodies.new.states.items c.self.inside.carried refl (sym c.as_slice-4.ensures ∙ c.move_bodies.ensures.carried);
+      few = omega (arith, same, c.self.invariant.few);
+      for_bodies = omega arith;
+      for_states = omega arith;
+      for_awake = omega (arith, same, c.self.invariant.for_awake);
+      for_carried = omega (arith, same, c.self.invariant.for_carried);
+      for_marks = omega (arith, same, c.move_bodies.ensures.len, c.self.invariant.for_marks);
+      covered = c.move_bodies.ensures.covered;
+      for_boxes = omega (arith, same, c.move_bodies.ensures.boxes, c.self.invariant.for_boxes);
+    }

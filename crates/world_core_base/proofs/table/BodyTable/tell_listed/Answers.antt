@@ -1,6 +1,5 @@
-use Rattle.std.proofs.Common.{◌≡◌, ◌≤◌, length, List, Option, ap, subst, sym, ◌∙◌, arith, refl}
-use Rattle.body_handles.specs.declared.places.TheConstants.{MAX_SLOTS}
-use Rattle.colour_solver.specs.States.{carried_of}
+use Rattle.std.proofs.Common.{length, List, Option, ap, subst, sym, ◌∙◌, arith, refl}
+use Rattle.colour_solver.specs.States.{carried_of, is_carried}
 use Rattle.plain_world.specs.declared.body.Body.{Body}
 use Rattle.plain_world.specs.Bodies.{AreBodies}
 use Rattle.plain_world.specs.Sleep.{told}
@@ -8,13 +7,14 @@ use Rattle.plain_world.specs.Slots.{HaveSameSlots}
 use Rattle.world_core_base.specs.Gather.{states_of}
 use Rattle.world_core_base.specs.Standing.{HaveSameStanding}
 use Rattle.world_core_base.proofs.StandingLaws.{slots-told, standing-told}
+use Rattle.world_core_base.proofs.ListingLaws.{listed_alike}
 use Rattle.world_core_base.proofs.TellLaws.{carried_told, length-told, told_bodies}
 use Rattle.world_core_base.proofs.MarkedLaws.{marked_eq, marked_told, told_all}
 use Rattle.world_core_base.proofs.CoverLaws.{covered_alike, covered_eq}
 use Rattle.world_core_base.proofs.table.BodyTable.tell_listed.Goals as goal
 
-pub tell_listed-requires-clause-few : goal.tell_listed-requires-clause-few
-tell_listed-requires-clause-few c = omega (arith, c.requires.few, c.requires.fewer)
+pub tell_listed-requires-clause-fewer : goal.tell_listed-requires-clause-fewer
+tell_listed-requires-clause-fewer c = omega (arith, c.requires.few, c.requires.fewer)
 
 pub tell_listed-requires-clause-bodies : goal.tell_listed-requires-clause-bodies
 tell_listed-requires-clause-bodies c = rw (← c.self.view_is) at c.requires.bodies
@@ -35,8 +35,9 @@ invariant_of-self c =
       covered = covered_eq _ _ _ _ c.tell_listed.ensures.bodies refl (covered_alike bodies (told labels bodies) c.self.inside.boxes (told_all labels bodies) c.self.invariant.covered);
       for_boxes = omega (arith, same, c.self.invariant.for_boxes);
       states = c.tell_listed.ensures.states;
-      awake = c.tell_listed.ensures.awake;
-      carried = c.self.invariant.carried ∙ ap carried_of c.self.invariant.states ∙ sym (carried_told labels bodies) ∙ ap (λ (os : List (Option Body)). carried_of (states_of os)) (sym now) ∙ ap carried_of (sym c.tell_listed.ensures.states);
+      movers = c.tell_listed.ensures.awake;
+      along = listed_alike is_carried c.self.inside.states.items c.tell_listed.new.states.items c.self.inside.carried refl (ap carried_of c.self.invariant.states ∙ sym (carried_told labels bodies) ∙ ap (λ (os : List (Option Body)). carried_of (states_of os)) (sym now) ∙ ap carried_of (sym c.tell_listed.ensures.states)) c.self.invariant.along;
+      few = omega (arith, same, c.self.invariant.few);
       for_bodies = omega arith;
       for_states = omega arith;
       for_awake = omega (arith, same, c.self.invariant.for_awake, c.tell_listed.ensures.capacity);

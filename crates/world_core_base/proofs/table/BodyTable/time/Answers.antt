@@ -1,4 +1,4 @@
-use Rattle.std.proofs.Common.{length, ap, sym, subst, ◌∙◌, arith, refl}
+use Rattle.std.proofs.Common.{◌≡◌, ◌+◌, length, ap, sym, subst, ◌∙◌, arith, refl}
 use Rattle.colour_solver.specs.States.{movers_of}
 use Rattle.plain_world.specs.Bodies.{AreBodies}
 use Rattle.plain_world.specs.Slots.{HaveSameSlots}
@@ -14,7 +14,9 @@ pub time_bodies-requires-clause-bodies : goal.time_bodies-requires-clause-bodies
 time_bodies-requires-clause-bodies c = rw (← c.self.view_is) at c.requires.bodies
 
 pub time_bodies-requires-clause-awake : goal.time_bodies-requires-clause-awake
-time_bodies-requires-clause-awake c = rw c.deref.ensures.value (c.self.invariant.awake ∙ ap movers_of c.self.invariant.states ∙ awake_places c.self.inside.bodies.items)
+time_bodies-requires-clause-awake c =
+    let settled : c.self.inside.awake.pending + c.self.inside.carried.pending ≡ 0 = rw (← c.self.view_is) at c.requires.settled in
+    c.as_slice.ensures ∙ c.self.invariant.movers.exact (omega (arith, settled)) ∙ ap movers_of c.self.invariant.states ∙ awake_places c.self.inside.bodies.items
 
 pub invariant_of-self : goal.invariant_of-self
 invariant_of-self c =
@@ -24,8 +26,9 @@ invariant_of-self c =
       covered = covered_eq _ _ _ _ c.time_bodies.ensures refl (covered_alike bodies (timed_bodies c.args.ticks bodies) c.self.inside.boxes (timed_each c.args.ticks bodies) c.self.invariant.covered);
       for_boxes = omega (arith, same, c.self.invariant.for_boxes);
       states = rw c.time_bodies.ensures (c.self.invariant.states ∙ sym (states_timed c.args.ticks bodies));
-      awake = c.self.invariant.awake;
-      carried = c.self.invariant.carried;
+      movers = c.self.invariant.movers;
+      along = c.self.invariant.along;
+      few = omega (arith, same, c.self.invariant.few);
       for_bodies = omega arith;
       for_states = omega arith;
       for_awake = omega (arith, same, c.self.invariant.for_awake);
