@@ -2,7 +2,7 @@
 
 ghost use Rattle.std.specs.Prelude.{◌≡◌, ℕ, ◌<◌, ◌≤◌, ◌+◌, length, vec_len, vec_capacity};
 ghost use Rattle.std.specs.List.{AllWithin};
-ghost use Rattle.graph_colours.specs.Members.{AreRising, has_id, inserted, without, movers_of, with_number};
+ghost use Rattle.graph_colours.specs.Members.{AreRising, inserted, without, movers_of, with_number};
 
 /// The name of a constraint. Constraints are solved in the order of these numbers, and two names
 /// with one number are one constraint.
@@ -48,31 +48,6 @@ pub fn with_number<C: Id>(members: &[Member<C>], wanted: u128) -> Option<Member<
         return None;
     }
     Some(member)
-}
-
-/// Whether a member has the id.
-pub fn has_id<C: Id>(members: &[Member<C>], id: C) -> bool
-    requires { AreRising C.number members.now }
-    ensures { result ≡ has_id C.number id members.now }
-{
-    let wanted = id.number();
-    match members.get(place_from(members, wanted)) {
-        Some(member) => member.id.number() == wanted,
-        None => false,
-    }
-}
-
-/// The movers of the member that has the id.
-pub fn movers_of<C: Id>(members: &[Member<C>], id: C) -> Option<Movers>
-    requires { AreRising C.number members.now }
-    ensures { result ≡ movers_of C.number id members.now }
-{
-    let wanted = id.number();
-    let member = *members.get(place_from(members, wanted))?;
-    if member.id.number() != wanted {
-        return None;
-    }
-    Some(member.movers)
 }
 
 /// Adds a member, for which there is room.
