@@ -12,7 +12,7 @@ use Rattle.std.proofs.lemmas.List.Kept.{AllPairs-cons}
 use Rattle.contacts.specs.Constraints.{constraint_number}
 use Rattle.contacts.specs.declared.constraint.Constraint.{Constraint}
 use Rattle.contacts.proofs.Members.{Each}
-use Rattle.contacts.proofs.MergeLaws.{drop_next}
+use Rattle.contacts_base.proofs.MergeLaws.{drop_next}
 use Rattle.contacts.proofs.Rising.{IsRising, rising_from_increasing}
 use Rattle.graph_colours.specs.declared.member.Member.{Member}
 use Rattle.graph_colours.specs.Members.{AreRising, with_number}

@@ -12,6 +12,7 @@ use Rattle.momenta.specs.declared.state.Ends.{Ends}
 use Rattle.momenta.specs.declared.line.Line.{Line}
 use Rattle.momenta.specs.declared.line.Exerted.{Exerted}
 use Rattle.momenta.specs.Impulses.{IsLine, inverse_mass, speed_along, solved, warmed, travelled}
+use Rattle.contacts_base.specs.declared.key.ContactKey.{ContactKey}
 use Rattle.contacts_base.specs.declared.contact.ContactPoint.{ContactPoint}
 use Rattle.contacts_base.specs.declared.contact.Contact.{Contact}
 use Rattle.colour_solver_base.specs.declared.row.PointRow.{PointRow}
@@ -31,6 +32,12 @@ normal_line p = record { direction = p.normal; ra = p.ra; rb = p.rb; inverse_mas
 
 abbrev pub tangent_line : PointRow → Line
 tangent_line p = record { direction = tangent p.normal; ra = p.ra; rb = p.rb; inverse_mass = p.tangent_inverse; reciprocal = p.tangent_reciprocal }
+
+-- ---- which contact a row is of
+
+-- the key of the contact
+abbrev pub key_of : Bodies → ContactKey
+key_of bodies = record { first = record { slot = bodies.a; index = bodies.first }; second = record { slot = bodies.b; index = bodies.second } }
 
 -- ---- what stays for a whole step
 

@@ -5,9 +5,9 @@ ghost use Rattle.std.specs.Option.{ForSome};
 ghost use Rattle.fixed_geom.specs.Vectors.{IsWithin};
 ghost use Rattle.momenta.specs.Impulses.{AreStates, IsLine};
 ghost use Rattle.contacts_base.specs.Limits.{IsContact, IsContactPoint};
-ghost use Rattle.colour_solver_base.specs.Rows.{AreSurfaces, IsPointRow, IsRow, contact_row, point_row, normal_line, tangent_line, start_speed, is_springy, tangent};
+ghost use Rattle.colour_solver_base.specs.Rows.{AreSurfaces, IsPointRow, IsRow, contact_row, key_of, point_row, normal_line, tangent_line, start_speed, is_springy, tangent};
 
-use contacts_base::{ContactPoint, PackedContact};
+use contacts_base::{ContactKey, ContactPoint, PackedContact, ShapeId};
 use fixed_geom::{UNIT, Vec2};
 use momenta::{Ends, Line, inverse_mass, inverse_reciprocal, speed_along};
 
@@ -30,12 +30,14 @@ pub struct PointRow {
     pub tangent_impulse: i64,
 }
 
-/// Which contact of the list a row is of, the slots of its bodies, and its mixed friction and restitution in 256ths.
+/// Which contact a row is of, by the slots of its two bodies and the indexes of its two shapes among the shapes of these bodies; and the mixed
+/// friction and restitution of the contact, in 256ths.
 #[derive(Clone, Copy, Debug, PartialEq, Eq)]
 pub struct Bodies {
-    pub index: usize,
     pub a: u32,
     pub b: u32,
+    pub first: u8,
+    pub second: u8,
     pub friction: i64,
     pub restitution: i64,
 }
@@ -46,6 +48,25 @@ pub struct ContactRow {
     pub bodies: Bodies,
     pub first: PointRow,
     pub second: Option<PointRow>,
+}
+
+impl Bodies {
+    /// The key of the contact.
+    #[inline(always)]
+    pub fn key(&self) -> ContactKey
+        ensures { result ≡ key_of self.now }
+    {
+        ContactKey {
+            first: ShapeId {
+                slot: self.a,
+                index: self.first,
+            },
+            second: ShapeId {
+                slot: self.b,
+                index: self.second,
+            },
+        }
+    }
 }
 
 /// The direction of friction: the normal turned to the right.

@@ -70,7 +70,7 @@ cons_rising b None keys h a r = r
 cons_rising b (Some k) keys h a r = let e : key_number k ≡ b = h k refl in (rw e a, r)
 
 -- what the test picks of an entry is the entry's key
-abbrev PicksKeys : (ContactEntry → Option ContactKey) → Type 0
+abbrev pub PicksKeys : (ContactEntry → Option ContactKey) → Type 0
 PicksKeys pick = (e : ContactEntry) (k : ContactKey) → pick e ≡ Some k → key_number k ≡ number_of e
 
 picked_above : (pick : ContactEntry → Option ContactKey) → PicksKeys pick → (b : ℕ) (es : List ContactEntry) → Each (λ n. b < n) (map number_of es) → Each (λ n. b < n) (map key_number (filter_map pick es))
@@ -79,11 +79,11 @@ picked_above pick f b (e ∷ es) a =
     let low : b < number_of e = a.0 in
     cons_each b (pick e) (filter_map pick es) (λ k h. let same : key_number k ≡ number_of e = f e k h in omega arith) (picked_above pick f b es a.1)
 
-picked_rising : (pick : ContactEntry → Option ContactKey) → PicksKeys pick → (es : List ContactEntry) → IsRising (map number_of es) → IsRising (map key_number (filter_map pick es))
+pub picked_rising : (pick : ContactEntry → Option ContactKey) → PicksKeys pick → (es : List ContactEntry) → IsRising (map number_of es) → IsRising (map key_number (filter_map pick es))
 picked_rising pick f [] r = tt
 picked_rising pick f (e ∷ es) r = cons_rising (number_of e) (pick e) (filter_map pick es) (f e) (picked_above pick f (number_of e) es r.0) (picked_rising pick f es r.1)
 
-picked_rise : (pick : ContactEntry → Option ContactKey) → PicksKeys pick → (es : List ContactEntry) → AreKeysRising es → AreRising (filter_map pick es)
+pub picked_rise : (pick : ContactEntry → Option ContactKey) → PicksKeys pick → (es : List ContactEntry) → AreKeysRising es → AreRising (filter_map pick es)
 picked_rise pick f es h = increasing_from_rising (map key_number (filter_map pick es)) (picked_rising pick f es (rising_from_increasing (map number_of es) h))
 
 pub unless_step : (t : Bool) (k j : ContactKey) → cond t None (Some j) ≡ Some k → key_number k ≡ key_number j

@@ -8,11 +8,14 @@ pub mod StripLemmas
 pub mod SweepLemmas
 pub mod SurfaceLemmas
 pub mod ChangeLemmas
-pub mod MergeLaws
 pub mod KnownLemmas
+pub mod MergedMembers
 pub mod PartLemmas
 pub mod TurnLemmas
 pub mod UpdateLemmas
 pub mod MarkLemmas
 pub mod StirringLaws
+pub mod FlaggedLaws
 pub mod NearMarkedLaws
+pub mod SurveyLaws
+pub mod JoinLaws

@@ -1,37 +1,33 @@
 -- Asking for what is near each shape of a marked slot finds all fresh pairs.
-use Rattle.std.proofs.Common.{◌≡◌, ℕ, zero, suc, ◌+◌, ◌*◌, ◌^◌, ◌<◌, ◌≤◌, ◌==◌, ◌&&◌, ◌||◌, List, [], ◌∷◌, ◌++◌, length, map, take, drop, filter, get_or, Bool, true, false, cond, not, nat_lt, ltb-true, is_some, Option, Some, None, ◌⊎◌, inl, inr, refl, sym, ap, ◌∙◌, subst, arith, add-one, eqb}
+use Rattle.std.proofs.Common.{◌≡◌, ℕ, zero, suc, ◌+◌, ◌*◌, ◌^◌, ◌<◌, ◌≤◌, ◌==◌, ◌&&◌, ◌||◌, List, [], ◌∷◌, ◌++◌, length, map, drop, get_or, Bool, true, false, cond, not, nat_lt, ltb-true, is_some, Option, Some, None, ◌⊎◌, inl, inr, refl, sym, ap, ◌∙◌, subst, arith, add-one, eqb}
 use Rattle.std.specs.Prelude.{◌/◌, ◌%◌, All, int_le}
 use Rattle.std.specs.List.{Contains, dedup, filter_map, cons_option}
 use Rattle.std.specs.Option.{option_to_list}
 use Rattle.std.specs.List.Sorted.{IsPermutation, IsSorted, IsStrictlyIncreasing}
 use Rattle.std.specs.Ordering.{nat_cmp}
 use Rattle.std.proofs.lemmas.Bool.Decides.{nat_tests}
-use Rattle.std.proofs.lemmas.List.{take_more}
-use Rattle.std.proofs.lemmas.List.Elements.{All-more}
 use Rattle.std.proofs.lemmas.List.Kept.{Contains-dedup_nat}
 use Rattle.std.proofs.lemmas.List.Sorted.{Contains-permutation}
 use Rattle.std.proofs.lemmas.Map.Keys.{IsStrictlyIncreasing-dedup}
 use Rattle.fixed_geom.specs.declared.boxes.Box2.{Box2}
 use Rattle.fixed_geom.specs.Boxes.{meets, overlaps}
 use Rattle.contacts_base.specs.declared.near.Proxy.{Proxy}
-use Rattle.contacts_base.specs.declared.key.ShapeId.{ShapeId}
-use Rattle.contacts_base.specs.declared.key.ContactKey.{ContactKey}
 use Rattle.contacts_base.specs.declared.contact.ContactEntry.{ContactEntry}
 use Rattle.shapes.specs.declared.limits.TheConstants.{MAX_SHAPES}
-use Rattle.contacts_base.specs.Keys.{id_number, key_number}
+use Rattle.contacts_base.specs.Keys.{key_number}
 use Rattle.contacts_base.specs.Near.{IsProxy, IsProxyList, is_near, number_of}
 use Rattle.contacts_base.specs.Contacts.{lookup, number_of as entry_number}
 use Rattle.contacts.specs.Pairs.{proxy_at, key_of, pair_key, first_place, second_place}
 use Rattle.contacts.specs.Changes.{entry_of, entry_with, entry_at, contacts_of}
-use Rattle.contacts.specs.Forbidden.{allowed_codes, is_forbidden}
+use Rattle.contacts.specs.Forbidden.{allowed_codes}
 use Rattle.contacts.specs.Known.{either_moved, found, fresh, has_key, IsPairKey, is_fresh, may_touch, near_key}
-use Rattle.contacts.specs.NearMarked.{HasNumbers, HasNumbersIn, IsExtended, fresh_by, fresh_of, fresh_of_both, near_number, number_if, number_of_both, number_with, numbers_up, numbers_with}
+use Rattle.contacts.specs.NearMarked.{HasNumbers, HasNumbersIn, IsExtended, fresh_by, fresh_of_both, near_number, number_if, number_of_both, number_with, numbers_up, numbers_with}
 use Rattle.contacts.specs.Turns.{AreWithin, moved_by}
-use Rattle.contacts.proofs.Members.{Each, IsIn, contains_from_in, each_in, in_from_contains, in_left, in_right}
+use Rattle.contacts.proofs.Members.{Each, IsIn, contains_from_in, in_from_contains, in_left, in_right}
 use Rattle.contacts.proofs.Rising.{IsRising, rising_from_increasing}
-use Rattle.contacts.proofs.MergeLaws.{drop_next}
+use Rattle.contacts_base.proofs.MergeLaws.{drop_next}
 use Rattle.contacts.proofs.KnownLemmas.{IsAllowedFrom, IsCodeOf, IsImage, IsPlace, filter_in, found_at, in_codes, in_filter, in_map, map_in, near_code, place_of}
-use Rattle.contacts.proofs.PartLemmas.{same_contacts}
+use Rattle.contacts.proofs.MergedMembers.{same_members}
 use Rattle.contacts.proofs.ProxyLemmas.{numbers_later}
 use Rattle.contacts.proofs.UpdateLemmas.{new_rise}
 use Rattle.slot_marks.specs.Marks.{AreListed}
@@ -365,7 +361,7 @@ fresh_is_picked moved pairs ps old numbers e list has h =
 
 pub picked_are_fresh : (moved : ℕ → Bool) (pairs : List ℕ) (ps : List Proxy) (old : List ContactEntry) (numbers : List ℕ) → IsProxyList ps → IsStrictlyIncreasing numbers → HasAllFresh moved pairs ps numbers → filter_map (fresh_by moved pairs ps old) numbers ≡ contacts_of old ps (fresh moved pairs ps old)
 picked_are_fresh moved pairs ps old numbers list rising has =
-    same_contacts (filter_map (fresh_by moved pairs ps old) numbers) (contacts_of old ps (fresh moved pairs ps old)) (picked_rises (fresh_by moved pairs ps old) (fresh_number moved pairs ps old) numbers (rising_from_increasing numbers rising)) (new_rise moved pairs ps old list)
+    same_members entry_number (filter_map (fresh_by moved pairs ps old) numbers) (contacts_of old ps (fresh moved pairs ps old)) (picked_rises (fresh_by moved pairs ps old) (fresh_number moved pairs ps old) numbers (rising_from_increasing numbers rising)) (new_rise moved pairs ps old list)
     (λ e i. let r : IsPicked (fresh_by moved pairs ps old) e numbers = picked_in (fresh_by moved pairs ps old) e numbers i in picked_is_fresh moved pairs ps old r.from e list (fresh_is moved pairs ps old r.from e r.is)) (λ e i. fresh_is_picked moved pairs ps old numbers e list has i)
 
 -- ---- the marked slots have all fresh pairs

@@ -1,5 +1,5 @@
 -- The contacts of a collide: those that stay, and those of the fresh pairs.
-use Rattle.std.proofs.Common.{◌≡◌, ℕ, ◌<◌, ◌≤◌, List, [], ◌∷◌, length, map, filter, Bool, true, false, cond, not, nat_lt, ltb-true, ltb-false, Option, Some, None, ◌⊎◌, inl, inr, refl, sym, ap, ◌∙◌, subst, arith}
+use Rattle.std.proofs.Common.{◌≡◌, ℕ, ◌<◌, List, [], ◌∷◌, length, map, filter, Bool, true, false, cond, not, Option, Some, None, ◌⊎◌, inl, inr, refl, sym, ap, ◌∙◌, subst, arith}
 use Rattle.contacts_base.specs.declared.near.Proxy.{Proxy}
 use Rattle.contacts_base.specs.declared.key.ShapeId.{ShapeId}
 use Rattle.contacts_base.specs.declared.key.ContactKey.{ContactKey}
@@ -12,107 +12,13 @@ use Rattle.contacts.specs.Pairs.{proxy_at, key_of, pair_key, first_place}
 use Rattle.contacts.specs.Changes.{entry_of, entry_with, entry_at, contacts_of}
 use Rattle.contacts.specs.Forbidden.{allowed_codes}
 use Rattle.contacts.specs.Known.{found, near_key, has_key, IsPairKey, either_moved, IsKnown, stays, staying, is_fresh, fresh, code_number, again_of, again}
-use Rattle.contacts.specs.Merge.{merged, put_in}
+use Rattle.contacts_base.specs.Merge.{merged}
 use Rattle.contacts.proofs.Members.{Each, IsIn, each_in}
 use Rattle.contacts.proofs.Rising.{IsRising, rising_from_increasing}
 use Rattle.contacts.proofs.ForbiddenLemmas.{allowed_are_pairs}
 use Rattle.contacts.proofs.ChangeLemmas.{contacts_rise}
+use Rattle.contacts.proofs.MergedMembers.{merged_has, merged_is, merged_rises, same_members}
 use Rattle.contacts.proofs.KnownLemmas.{in_map, map_in, IsImage, in_filter, filter_in, found_at, IsNearKey, code_near, IsCodeOf, near_code, key_in, in_key, ids_same, number_of_entry, stays_as, stays_near, moved_if, each_from_all, IsAllowedFrom, in_codes}
-
--- ---- lists of contacts with rising numbers: two with the same members are equal
-
-least : (e f : ContactEntry) (fs : List ContactEntry) → Each (λ n. entry_number f < n) (map entry_number fs) → IsIn e (f ∷ fs) → (e ≡ f) ⊎ (entry_number f < entry_number e)
-least e f fs a h = elim h [ inl p ↦ inl p | inr q ↦ inr (each_in (λ n. entry_number f < n) (entry_number e) (map entry_number fs) a (in_map entry_number e fs q)) ]
-
-heads : (e f : ContactEntry) → (e ≡ f) ⊎ (entry_number f < entry_number e) → (f ≡ e) ⊎ (entry_number e < entry_number f) → e ≡ f
-heads e f a b = elim a [ inl p ↦ p | inr q ↦ elim b [ inl p ↦ sym p | inr r ↦ absurd (omega (arith, q, r)) ] ]
-
-later : (e k : ContactEntry) (es fs : List ContactEntry) → Each (λ n. entry_number e < n) (map entry_number es) → IsIn k es → IsIn k (e ∷ fs) → IsIn k fs
-later e k es fs a i h =
-    elim h [
-      | inl p ↦
-          let q : entry_number e < entry_number k = each_in (λ n. entry_number e < n) (entry_number k) (map entry_number es) a (in_map entry_number k es i) in
-          let r : entry_number k ≡ entry_number e = ap entry_number p in
-          absurd (omega (arith, q, r))
-      | inr q ↦ q
-    ]
-
-pub same_contacts : (es fs : List ContactEntry) → IsRising (map entry_number es) → IsRising (map entry_number fs) → ((k : ContactEntry) → IsIn k es → IsIn k fs) → ((k : ContactEntry) → IsIn k fs → IsIn k es) → es ≡ fs
-same_contacts [] [] a b f g = refl
-same_contacts [] (y ∷ ys) a b f g = absurd (g y (inl refl))
-same_contacts (x ∷ xs) [] a b f g = absurd (f x (inl refl))
-same_contacts (x ∷ xs) (y ∷ ys) a b f g =
-    let e : x ≡ y = heads x y (least x y ys b.0 (f x (inl refl))) (least y x xs a.0 (g y (inl refl))) in
-    let u : (k : ContactEntry) → IsIn k xs → IsIn k ys = λ k i. later x k xs ys a.0 i (subst (λ (z : ContactEntry). IsIn k (z ∷ ys)) (sym e) (f k (inr i))) in
-    let v : (k : ContactEntry) → IsIn k ys → IsIn k xs = λ k i. later y k ys xs b.0 i (subst (λ (z : ContactEntry). IsIn k (z ∷ xs)) e (g k (inr i))) in
-    cc (same_contacts xs ys a.1 b.1 u v, e)
-
--- ---- one contact put in, and several
-
-put_step : (e f : ContactEntry) (t : Bool) (fs gs : List ContactEntry) (k : ContactEntry) → (IsIn k gs → (k ≡ e) ⊎ IsIn k fs) → IsIn k (cond t (f ∷ gs) (e ∷ f ∷ fs)) → (k ≡ e) ⊎ IsIn k (f ∷ fs)
-put_step e f true fs gs k h i = elim i [ inl p ↦ inr (inl p) | inr q ↦ elim (h q) [ inl a ↦ inl a | inr b ↦ inr (inr b) ] ]
-put_step e f false fs gs k h i = elim i [ inl p ↦ inl p | inr q ↦ inr q ]
-
-put_is : (e k : ContactEntry) (fs : List ContactEntry) → IsIn k (put_in entry_number e fs) → (k ≡ e) ⊎ IsIn k fs
-put_is e k [] i = elim i [ inl p ↦ inl p | inr q ↦ absurd q ]
-put_is e k (f ∷ fs) i = put_step e f (nat_lt (entry_number f) (entry_number e)) fs (put_in entry_number e fs) k (put_is e k fs) i
-
-has_put_step : (e f : ContactEntry) (t : Bool) (fs gs : List ContactEntry) (k : ContactEntry) → ((k ≡ e) ⊎ IsIn k fs → IsIn k gs) → (k ≡ e) ⊎ IsIn k (f ∷ fs) → IsIn k (cond t (f ∷ gs) (e ∷ f ∷ fs))
-has_put_step e f true fs gs k h i = elim i [ inl p ↦ inr (h (inl p)) | inr q ↦ elim q [ inl a ↦ inl a | inr b ↦ inr (h (inr b)) ] ]
-has_put_step e f false fs gs k h i = elim i [ inl p ↦ inl p | inr q ↦ inr q ]
-
-has_put : (e k : ContactEntry) (fs : List ContactEntry) → (k ≡ e) ⊎ IsIn k fs → IsIn k (put_in entry_number e fs)
-has_put e k [] i = elim i [ inl p ↦ inl p | inr q ↦ absurd q ]
-has_put e k (f ∷ fs) i = has_put_step e f (nat_lt (entry_number f) (entry_number e)) fs (put_in entry_number e fs) k (has_put e k fs) i
-
-pub merged_is : (k : ContactEntry) (es fs : List ContactEntry) → IsIn k (merged entry_number es fs) → IsIn k es ⊎ IsIn k fs
-merged_is k [] fs i = inr i
-merged_is k (e ∷ es) fs i = elim (put_is e k (merged entry_number es fs) i) [ inl p ↦ inl (inl p) | inr q ↦ elim (merged_is k es fs q) [ inl a ↦ inl (inr a) | inr b ↦ inr b ] ]
-
-pub merged_has : (k : ContactEntry) (es fs : List ContactEntry) → IsIn k es ⊎ IsIn k fs → IsIn k (merged entry_number es fs)
-merged_has k [] fs i = elim i [ inl a ↦ absurd a | inr b ↦ b ]
-merged_has k (e ∷ es) fs i = has_put e k (merged entry_number es fs) (elim i [ inl a ↦ elim a [ inl p ↦ inl p | inr q ↦ inr (merged_has k es fs (inl q)) ] | inr b ↦ inr (merged_has k es fs (inr b)) ])
-
--- the numbers rise
-above_step : (e f : ContactEntry) (t : Bool) (fs gs : List ContactEntry) (n : ℕ) → n < entry_number e → Each (λ m. n < m) (map entry_number (f ∷ fs)) → (Each (λ m. n < m) (map entry_number fs) → Each (λ m. n < m) (map entry_number gs)) → Each (λ m. n < m) (map entry_number (cond t (f ∷ gs) (e ∷ f ∷ fs)))
-above_step e f true fs gs n lt a h = (a.0, h a.1)
-above_step e f false fs gs n lt a h = (lt, a)
-
-above_put : (e : ContactEntry) (fs : List ContactEntry) (n : ℕ) → n < entry_number e → Each (λ m. n < m) (map entry_number fs) → Each (λ m. n < m) (map entry_number (put_in entry_number e fs))
-above_put e [] n lt a = (lt, tt)
-above_put e (f ∷ fs) n lt a = above_step e f (nat_lt (entry_number f) (entry_number e)) fs (put_in entry_number e fs) n lt a (above_put e fs n lt)
-
-above_less : (n m : ℕ) (xs : List ℕ) → n < m → Each (λ x. m < x) xs → Each (λ x. n < x) xs
-above_less n m [] lt a = tt
-above_less n m (x ∷ xs) lt a = let q : m < x = a.0 in (omega (arith, lt, q), above_less n m xs lt a.1)
-
-rise_step : (e f : ContactEntry) (t : Bool) (fs gs : List ContactEntry) → nat_lt (entry_number f) (entry_number e) ≡ t → (entry_number e ≡ entry_number f → ⊥) → IsRising (map entry_number (f ∷ fs)) → (entry_number f < entry_number e → Each (λ m. entry_number f < m) (map entry_number gs)) → IsRising (map entry_number gs) → IsRising (map entry_number (cond t (f ∷ gs) (e ∷ f ∷ fs)))
-rise_step e f true fs gs q n r above s = let lt : entry_number f < entry_number e = ltb-true _ _ q in (above lt, s)
-rise_step e f false fs gs q n r above s =
-    let le : entry_number e ≤ entry_number f = ltb-false _ _ q in
-    let lt : entry_number e < entry_number f = omega (arith, le, n) in
-    ((lt, above_less (entry_number e) (entry_number f) (map entry_number fs) lt r.0), r)
-
-put_rises : (e : ContactEntry) (fs : List ContactEntry) → IsRising (map entry_number fs) → (IsIn (entry_number e) (map entry_number fs) → ⊥) → IsRising (map entry_number (put_in entry_number e fs))
-put_rises e [] r n = (tt, tt)
-put_rises e (f ∷ fs) r n =
-    rise_step e f (nat_lt (entry_number f) (entry_number e)) fs (put_in entry_number e fs) refl (λ q. n (inl q)) r (λ lt. above_put e fs (entry_number f) lt r.0) (put_rises e fs r.1 (λ i. n (inr i)))
-
-number_merged : (n : ℕ) (es fs : List ContactEntry) → IsIn n (map entry_number (merged entry_number es fs)) → IsIn n (map entry_number es) ⊎ IsIn n (map entry_number fs)
-number_merged n es fs i =
-    let m : IsImage entry_number n (merged entry_number es fs) = map_in entry_number n (merged entry_number es fs) i in
-    elim (merged_is m.from es fs m.among) [
-      | inl p ↦ inl (subst (λ (k : ℕ). IsIn k (map entry_number es)) (sym m.is) (in_map entry_number m.from es p))
-      | inr q ↦ inr (subst (λ (k : ℕ). IsIn k (map entry_number fs)) (sym m.is) (in_map entry_number m.from fs q))
-    ]
-
-pub merged_rises : (es fs : List ContactEntry) → IsRising (map entry_number es) → IsRising (map entry_number fs) → ((n : ℕ) → IsIn n (map entry_number es) → IsIn n (map entry_number fs) → ⊥) → IsRising (map entry_number (merged entry_number es fs))
-merged_rises [] fs r s n = s
-merged_rises (e ∷ es) fs r s n =
-    put_rises e (merged entry_number es fs) (merged_rises es fs r.1 s (λ m i j. n m (inr i) j)) (λ i. elim (number_merged (entry_number e) es fs i) [
-      | inl a ↦ let lt : entry_number e < entry_number e = each_in (λ k. entry_number e < k) (entry_number e) (map entry_number es) r.0 a in absurd (omega (arith, lt))
-      | inr b ↦ n (entry_number e) (inl refl) b
-    ])
 
 -- ---- a part of a rising list rises, and so does a rising list evaluated anew
 
@@ -234,17 +140,24 @@ fresh_apart moved ps old c true true h e = cc
 fresh_apart moved ps old c false true h e = cc
 fresh_apart moved ps old c s false h e = h
 
-pub apart : (moved : ℕ → Bool) (pairs : List ℕ) (ps : List Proxy) (old : List ContactEntry) (n : ℕ) → IsIn n (map entry_number (contacts_of old ps (fresh moved pairs ps old))) → IsIn n (map entry_number (map (again ps) (staying moved pairs ps old))) → ⊥
-apart moved pairs ps old n i j =
+-- nor is one among those that there were
+pub fresh_not_among : (moved : ℕ → Bool) (pairs : List ℕ) (ps : List Proxy) (old : List ContactEntry) (n : ℕ) → IsIn n (map entry_number (contacts_of old ps (fresh moved pairs ps old))) → IsIn n (map entry_number old) → ⊥
+fresh_not_among moved pairs ps old n i j =
     let m : IsImage (code_number ps) n (fresh moved pairs ps old) = code_numbers old ps n (fresh moved pairs ps old) i in
     let f = filter_in (is_fresh moved ps old) m.from (allowed_codes pairs ps) m.among in
     let none : has_key old (pair_key ps m.from) ≡ false = fresh_apart moved ps old m.from (either_moved moved (pair_key ps m.from)) (has_key old (pair_key ps m.from)) refl f.1 in
-    let l : IsImage entry_number n (staying moved pairs ps old) = map_in entry_number n (staying moved pairs ps old) (subst (λ (ns : List ℕ). IsIn n ns) (again_numbers ps (staying moved pairs ps old)) j) in
-    let g = filter_in (stays moved pairs ps) l.from old l.among in
-    let there : IsIn (code_number ps m.from) (map entry_number old) = subst (λ (k : ℕ). IsIn k (map entry_number old)) (sym l.is ∙ m.is) (in_map entry_number l.from old g.0) in
-    let some : has_key old (pair_key ps m.from) ≡ true = in_key old (pair_key ps m.from) there in
+    let some : has_key old (pair_key ps m.from) ≡ true = in_key old (pair_key ps m.from) (subst (λ (k : ℕ). IsIn k (map entry_number old)) m.is j) in
     let wrong : false ≡ true = sym none ∙ some in
     cc
+
+pub staying_among : (moved : ℕ → Bool) (pairs : List ℕ) (ps : List Proxy) (es : List ContactEntry) (n : ℕ) → IsIn n (map entry_number (map (again ps) (staying moved pairs ps es))) → IsIn n (map entry_number es)
+staying_among moved pairs ps es n j =
+    let l : IsImage entry_number n (staying moved pairs ps es) = map_in entry_number n (staying moved pairs ps es) (subst (λ (ns : List ℕ). IsIn n ns) (again_numbers ps (staying moved pairs ps es)) j) in
+    let g = filter_in (stays moved pairs ps) l.from es l.among in
+    subst (λ (k : ℕ). IsIn k (map entry_number es)) (sym l.is) (in_map entry_number l.from es g.0)
+
+pub apart : (moved : ℕ → Bool) (pairs : List ℕ) (ps : List Proxy) (old : List ContactEntry) (n : ℕ) → IsIn n (map entry_number (contacts_of old ps (fresh moved pairs ps old))) → IsIn n (map entry_number (map (again ps) (staying moved pairs ps old))) → ⊥
+apart moved pairs ps old n i j = fresh_not_among moved pairs ps old n i (staying_among moved pairs ps old n j)
 
 -- codes that are picked out of the near ones
 picked_above : (old : List ContactEntry) (ps : List Proxy) (test : ℕ → Bool) (n : ℕ) (t : Bool) (c : ℕ) (cs : List ℕ) → n < entry_number (entry_at old ps c) → Each (λ m. n < m) (map entry_number (contacts_of old ps cs)) → Each (λ m. n < m) (map entry_number (contacts_of old ps (cond t (c ∷ cs) cs)))
@@ -269,13 +182,13 @@ contacts_in_parts-holds moved pairs ps old list keys known =
     let all : IsRising (map entry_number (contacts_of old ps (allowed_codes pairs ps))) = rising_from_increasing (map entry_number (contacts_of old ps (allowed_codes pairs ps))) (contacts_rise old ps (allowed_codes pairs ps) list (allowed_are_pairs pairs ps list)) in
     let left : IsRising (map entry_number (map (again ps) (staying moved pairs ps old))) = subst (λ (ns : List ℕ). IsRising ns) (sym (again_numbers ps (staying moved pairs ps old))) (filter_rises (stays moved pairs ps) old rising) in
     let right : IsRising (map entry_number (contacts_of old ps (fresh moved pairs ps old))) = codes_rise old ps (is_fresh moved ps old) (allowed_codes pairs ps) all in
-    same_contacts (contacts_of old ps (allowed_codes pairs ps)) (merged entry_number (contacts_of old ps (fresh moved pairs ps old)) (map (again ps) (staying moved pairs ps old))) all
-    (merged_rises (contacts_of old ps (fresh moved pairs ps old)) (map (again ps) (staying moved pairs ps old)) right left (apart moved pairs ps old))
+    same_members entry_number (contacts_of old ps (allowed_codes pairs ps)) (merged entry_number (contacts_of old ps (fresh moved pairs ps old)) (map (again ps) (staying moved pairs ps old))) all
+    (merged_rises entry_number (contacts_of old ps (fresh moved pairs ps old)) (map (again ps) (staying moved pairs ps old)) right left (apart moved pairs ps old))
     (λ e i.
     let m : IsImage (entry_at old ps) e (allowed_codes pairs ps) = map_in (entry_at old ps) e (allowed_codes pairs ps) i in
-    merged_has e (contacts_of old ps (fresh moved pairs ps old)) (map (again ps) (staying moved pairs ps old))
+    merged_has entry_number e (contacts_of old ps (fresh moved pairs ps old)) (map (again ps) (staying moved pairs ps old))
     (subst (λ (f : ContactEntry). IsIn f (contacts_of old ps (fresh moved pairs ps old)) ⊎ IsIn f (map (again ps) (staying moved pairs ps old))) (sym m.is) (by_contact moved pairs ps old m.from (has_key old (pair_key ps m.from)) list rising known m.among refl)))
-    (λ e i. elim (merged_is e (contacts_of old ps (fresh moved pairs ps old)) (map (again ps) (staying moved pairs ps old)) i) [
+    (λ e i. elim (merged_is entry_number e (contacts_of old ps (fresh moved pairs ps old)) (map (again ps) (staying moved pairs ps old)) i) [
       | inr a ↦
           let m : IsImage (again ps) e (staying moved pairs ps old) = map_in (again ps) e (staying moved pairs ps old) a in
           let f = filter_in (stays moved pairs ps) m.from old m.among in

@@ -11,20 +11,21 @@ use Rattle.contacts_base.specs.declared.contact.ContactEntry.{ContactEntry}
 use Rattle.contacts_base.specs.Keys.{id_number, key_number}
 use Rattle.contacts_base.specs.Near.{IsProxyList}
 use Rattle.contacts_base.specs.Contacts.{lookup, AreContacts, AreKeysRising, number_of as entry_number}
-use Rattle.contacts.specs.Changes.{contacts_of, entry_at, key_if_new, key_if_touching, key_unless, key_unless_in, keys_not_in, keys_touching_only_in, AreRising}
+use Rattle.contacts.specs.Changes.{contacts_of, entry_at, key_if_new, key_if_touching, keys_touching_only_in, AreRising}
 use Rattle.contacts.specs.Pairs.{pair_key}
 use Rattle.contacts.specs.Forbidden.{allowed_codes}
 use Rattle.contacts.specs.Known.{found, near_key, has_key, IsPairKey, either_moved, IsKnown, all_still, stays, staying, is_fresh, fresh, again_of, again}
-use Rattle.contacts.specs.Merge.{AreAscending, below_of, merged, put_in}
+use Rattle.contacts_base.specs.Merge.{AreAscending, below_of, merged, put_in}
 use Rattle.contacts.specs.declared.turns.Turn.{Turn}
-use Rattle.contacts.specs.Turns.{IsAdded, IsMade, outcome, settled, turned, key_if_begun, gone_keys, begun_keys, ended_keys}
+use Rattle.contacts.specs.Turns.{IsAdded, begun_keys, ended_keys, key_if_begun, outcome, turned}
 use Rattle.contacts.proofs.Members.{Each, IsIn, each_in}
 use Rattle.contacts.proofs.Rising.{IsRising, increasing_from_rising, rising_from_increasing}
 use Rattle.contacts.proofs.ForbiddenLemmas.{allowed_are_pairs}
-use Rattle.contacts.proofs.ChangeLemmas.{contacts_rise, if_step, keys_touching_rise, unless_step}
-use Rattle.contacts.proofs.MergeLaws.{drop_next, is_lower, merged_more, not_lower}
+use Rattle.contacts.proofs.ChangeLemmas.{PicksKeys, contacts_rise, if_step, keys_touching_rise, unless_step}
+use Rattle.contacts_base.proofs.MergeLaws.{drop_next, is_lower, merged_more, not_lower}
 use Rattle.contacts.proofs.KnownLemmas.{IsImage, map_in, filter_in, each_from_all, all_known_after-holds, key_of_entry}
-use Rattle.contacts.proofs.PartLemmas.{again_numbers, apart, codes_rise, contacts_in_parts-holds, filter_rises, fresh_apart, lookup_in, merged_has, merged_is, merged_rises, same_contacts, stays_is}
+use Rattle.contacts.proofs.PartLemmas.{again_numbers, apart, codes_rise, contacts_in_parts-holds, filter_rises, fresh_apart, lookup_in, stays_is}
+use Rattle.contacts.proofs.MergedMembers.{merged_has, merged_is, merged_rises, same_members}
 use Rattle.contacts.proofs.SurfaceLemmas.{surfaces_of}
 
 -- ---- what is picked of each is the same
@@ -74,23 +75,15 @@ lookup_by moved pairs ps old e false list keys known i h =
 pub lookup_after : (moved : ℕ → Bool) (pairs : List ℕ) (ps : List Proxy) (old : List ContactEntry) (e : ContactEntry) → IsProxyList ps → AreKeysRising old → IsKnown moved pairs ps old → IsIn e old → lookup (after pairs ps old) e.key ≡ outcome moved pairs ps e
 lookup_after moved pairs ps old e list keys known i = lookup_by moved pairs ps old e (stays moved pairs ps e) list keys known i refl
 
-pub gone_is : (moved : ℕ → Bool) (pairs : List ℕ) (ps : List Proxy) (old : List ContactEntry) → IsProxyList ps → AreKeysRising old → IsKnown moved pairs ps old → gone_keys moved pairs ps old ≡ keys_not_in (after pairs ps old) old
-unfolding key_unless_in
-gone_is moved pairs ps old list keys known = picked_same _ _ old (λ e i. ap (λ (o : Option ContactEntry). key_unless o e) (sym (lookup_after moved pairs ps old e list keys known i)))
-
 pub ended_is : (moved : ℕ → Bool) (pairs : List ℕ) (ps : List Proxy) (old : List ContactEntry) → IsProxyList ps → AreKeysRising old → IsKnown moved pairs ps old → ended_keys moved pairs ps old ≡ keys_touching_only_in (after pairs ps old) old
 unfolding key_if_touching
 ended_is moved pairs ps old list keys known = picked_same _ _ old (λ e i. ap (λ (o : Option ContactEntry). key_if_new o e) (sym (lookup_after moved pairs ps old e list keys known i)))
 
 -- ---- what is picked of two lists as one
 
-abbrev put_option : Option ContactKey → List ContactKey → List ContactKey
+abbrev pub put_option : Option ContactKey → List ContactKey → List ContactKey
 put_option None ks = ks
 put_option (Some k) ks = put_in key_number k ks
-
--- what the test picks of an entry is the entry's key
-abbrev PicksKeys : (ContactEntry → Option ContactKey) → Type 0
-PicksKeys pick = (e : ContactEntry) (k : ContactKey) → pick e ≡ Some k → key_number k ≡ entry_number e
 
 above_pick : (b : ℕ) (o : Option ContactKey) (ks : List ContactKey) → ((k : ContactKey) → o ≡ Some k → b < key_number k) → Each (λ n. b < n) (map key_number ks) → Each (λ n. b < n) (map key_number (cons_option o ks))
 above_pick b None ks h a = a
@@ -125,7 +118,7 @@ one_pick : (o : Option ContactKey) → cons_option o [] ≡ put_option o []
 one_pick None = refl
 one_pick (Some k) = refl
 
-picked_put : (pick : ContactEntry → Option ContactKey) → PicksKeys pick → (e : ContactEntry) (es : List ContactEntry) → IsRising (map entry_number es) → filter_map pick (put_in entry_number e es) ≡ put_option (pick e) (filter_map pick es)
+pub picked_put : (pick : ContactEntry → Option ContactKey) → PicksKeys pick → (e : ContactEntry) (es : List ContactEntry) → IsRising (map entry_number es) → filter_map pick (put_in entry_number e es) ≡ put_option (pick e) (filter_map pick es)
 picked_put pick f e [] r = one_pick (pick e)
 picked_put pick f e (x ∷ es) r = elim (cases_lt (entry_number x) (entry_number e)) [
   | inl less ↦
@@ -139,7 +132,7 @@ picked_put pick f e (x ∷ es) r = elim (cases_lt (entry_number x) (entry_number
       (sooner_pick (pick e) (pick x) (filter_map pick es) (entry_number x) (λ k p. let a : key_number k ≡ entry_number e = f e k p in omega (arith, a, more)) (λ j q. f x j q) (picks_above pick f (entry_number x) es r.0))
 ]
 
-put_cons : (o : Option ContactKey) (ks rs : List ContactKey) → put_option o (merged key_number ks rs) ≡ merged key_number (cons_option o ks) rs
+pub put_cons : (o : Option ContactKey) (ks rs : List ContactKey) → put_option o (merged key_number ks rs) ≡ merged key_number (cons_option o ks) rs
 put_cons None ks rs = refl
 put_cons (Some k) ks rs = refl
 
@@ -147,7 +140,7 @@ picked_merged : (pick : ContactEntry → Option ContactKey) → PicksKeys pick �
 picked_merged pick f [] rs r s n = refl
 picked_merged pick f (e ∷ es) rs r s n =
     let apart_too : (m : ℕ) → IsIn m (map entry_number es) → IsIn m (map entry_number rs) → ⊥ = λ m i j. n m (inr i) j in
-    picked_put pick f e (merged entry_number es rs) (merged_rises es rs r.1 s apart_too) ∙ ap (λ (ks : List ContactKey). put_option (pick e) ks) (picked_merged pick f es rs r.1 s apart_too) ∙ put_cons (pick e) (filter_map pick es) (filter_map pick rs)
+    picked_put pick f e (merged entry_number es rs) (merged_rises entry_number es rs r.1 s apart_too) ∙ ap (λ (ks : List ContactKey). put_option (pick e) ks) (picked_merged pick f es rs r.1 s apart_too) ∙ put_cons (pick e) (filter_map pick es) (filter_map pick rs)
 
 touching_picks : (others : List ContactEntry) → PicksKeys (key_if_touching others)
 unfolding key_if_touching key_if_new
@@ -156,16 +149,16 @@ touching_picks others e k q = if_step _ _ k e.key (unless_step _ k e.key) q
 -- ---- both parts
 
 -- the contacts of the fresh pairs, and those that stay, evaluated anew
-abbrev new_ones : (ℕ → Bool) → List ℕ → List Proxy → List ContactEntry → List ContactEntry
+abbrev pub new_ones : (ℕ → Bool) → List ℕ → List Proxy → List ContactEntry → List ContactEntry
 new_ones moved pairs ps old = contacts_of old ps (fresh moved pairs ps old)
 
-abbrev old_ones : (ℕ → Bool) → List ℕ → List Proxy → List ContactEntry → List ContactEntry
+abbrev pub old_ones : (ℕ → Bool) → List ℕ → List Proxy → List ContactEntry → List ContactEntry
 old_ones moved pairs ps old = map (again ps) (staying moved pairs ps old)
 
 pub new_rise : (moved : ℕ → Bool) (pairs : List ℕ) (ps : List Proxy) (old : List ContactEntry) → IsProxyList ps → IsRising (map entry_number (new_ones moved pairs ps old))
 new_rise moved pairs ps old list = codes_rise old ps (is_fresh moved ps old) (allowed_codes pairs ps) (after_rises pairs ps old list)
 
-old_rises : (moved : ℕ → Bool) (pairs : List ℕ) (ps : List Proxy) (es : List ContactEntry) → IsRising (map entry_number es) → IsRising (map entry_number (old_ones moved pairs ps es))
+pub old_rises : (moved : ℕ → Bool) (pairs : List ℕ) (ps : List Proxy) (es : List ContactEntry) → IsRising (map entry_number es) → IsRising (map entry_number (old_ones moved pairs ps es))
 old_rises moved pairs ps es rising = subst (λ (ns : List ℕ). IsRising ns) (sym (again_numbers ps (staying moved pairs ps es))) (filter_rises (stays moved pairs ps) es rising)
 
 old_rise : (moved : ℕ → Bool) (pairs : List ℕ) (ps : List Proxy) (old : List ContactEntry) → AreKeysRising old → IsRising (map entry_number (old_ones moved pairs ps old))
@@ -215,39 +208,19 @@ below_at number b [] a k d lt = absurd (omega arith)
 below_at number b (x ∷ l) a zero d lt = a.0
 below_at number b (x ∷ l) a (suc k) d lt = below_at number b l a.1 k d (omega arith)
 
-ascending : {X : Type 0} (number : X → ℕ) (l : List X) → IsRising (map number l) → AreAscending number l
+pub ascending : {X : Type 0} (number : X → ℕ) (l : List X) → IsRising (map number l) → AreAscending number l
 ascending number [] r i j d lt w = absurd (omega arith)
 ascending number (x ∷ l) r i zero d lt w = absurd (omega arith)
 ascending number (x ∷ l) r zero (suc j) d lt w = below_at number (number x) l r.0 j d (omega arith)
 ascending number (x ∷ l) r (suc i) (suc j) d lt w = ascending number l r.1 i j d (omega arith) (omega arith)
 
-increasing_ascends : {X : Type 0} (number : X → ℕ) (l : List X) → IsStrictlyIncreasing (map number l) → AreAscending number l
+pub increasing_ascends : {X : Type 0} (number : X → ℕ) (l : List X) → IsStrictlyIncreasing (map number l) → AreAscending number l
 increasing_ascends number l h = ascending number l (rising_from_increasing (map number l) h)
-
-pub fresh_ascend : (moved : ℕ → Bool) (pairs : List ℕ) (ps : List Proxy) (old : List ContactEntry) → IsProxyList ps → AreAscending entry_number (contacts_of old ps (fresh moved pairs ps old))
-fresh_ascend moved pairs ps old list = ascending entry_number (new_ones moved pairs ps old) (new_rise moved pairs ps old list)
-
-pub fresh_keys_ascend : (moved : ℕ → Bool) (pairs : List ℕ) (ps : List Proxy) (old : List ContactEntry) → IsProxyList ps → AreAscending key_number (filter_map (key_if_new None) (contacts_of old ps (fresh moved pairs ps old)))
-fresh_keys_ascend moved pairs ps old list = subst (λ (ks : List ContactKey). AreAscending key_number ks) (sym (fresh_is moved pairs ps old)) (increasing_ascends key_number (keys_touching_only_in old (new_ones moved pairs ps old)) (keys_touching_rise old (new_ones moved pairs ps old) (increasing_from_rising (map entry_number (new_ones moved pairs ps old)) (new_rise moved pairs ps old list))))
 
 pub begun_ascend : (moved : ℕ → Bool) (pairs : List ℕ) (ps : List Proxy) (old : List ContactEntry) → AreKeysRising old → AreAscending key_number (begun_keys moved pairs ps old)
 begun_ascend moved pairs ps old keys = subst (λ (ks : List ContactKey). AreAscending key_number ks) (begun_is moved pairs ps old keys) (increasing_ascends key_number (keys_touching_only_in old (old_ones moved pairs ps old)) (keys_touching_rise old (old_ones moved pairs ps old) (increasing_from_rising (map entry_number (old_ones moved pairs ps old)) (old_rise moved pairs ps old keys))))
 
 -- ---- the contacts themselves
-
-stay_step : (ps : List Proxy) (t : Bool) (e : ContactEntry) (es fs : List ContactEntry) (gs : List ContactKey) → cons_option (key_unless (cond t (Some (again ps e)) None) e) gs ≡ [] → (gs ≡ [] → fs ≡ map (again ps) es) → cond t (again ps e) e ∷ fs ≡ map (again ps) (cond t (e ∷ es) es)
-unfolding key_unless
-stay_step ps true e es fs gs h f = ap (λ (l : List ContactEntry). again ps e ∷ l) (f h)
-stay_step ps false e es fs gs h f = cc
-
-all_stay : (moved : ℕ → Bool) (pairs : List ℕ) (ps : List Proxy) (es : List ContactEntry) → gone_keys moved pairs ps es ≡ [] → map (settled moved pairs ps) es ≡ old_ones moved pairs ps es
-all_stay moved pairs ps [] h = refl
-all_stay moved pairs ps (e ∷ es) h = stay_step ps (stays moved pairs ps e) e (staying moved pairs ps es) (map (settled moved pairs ps) es) (gone_keys moved pairs ps es) h (all_stay moved pairs ps es)
-
--- nothing is made, and nothing is gone
-pub in_place_is : (moved : ℕ → Bool) (pairs : List ℕ) (ps : List Proxy) (old : List ContactEntry) → IsProxyList ps → AreKeysRising old → IsKnown moved pairs ps old → gone_keys moved pairs ps old ≡ [] → contacts_of old ps (fresh moved pairs ps old) ≡ [] → map (settled moved pairs ps) old ≡ contacts_of old ps (allowed_codes pairs ps)
-in_place_is moved pairs ps old list keys known gone none =
-    all_stay moved pairs ps old gone ∙ ap (λ (l : List ContactEntry). merged entry_number l (old_ones moved pairs ps old)) (sym none) ∙ sym (contacts_in_parts-holds moved pairs ps old list keys known)
 
 pub after_are_contacts : (pairs : List ℕ) (ps : List Proxy) (old : List ContactEntry) → IsProxyList ps → AreContacts old → AreContacts (contacts_of old ps (allowed_codes pairs ps))
 after_are_contacts pairs ps old list are = record {
@@ -257,15 +230,9 @@ after_are_contacts pairs ps old list are = record {
 
 -- ---- as the code has them
 
-pub in_place_from : (moved : ℕ → Bool) (pairs : List ℕ) (ps : List Proxy) (old now new : List ContactEntry) (gone : List ContactKey) → IsProxyList ps → AreKeysRising old → IsKnown moved pairs ps old → now ≡ map (settled moved pairs ps) old → gone ≡ gone_keys moved pairs ps old → gone ≡ [] → new ≡ contacts_of old ps (fresh moved pairs ps old) → new ≡ [] → now ≡ contacts_of old ps (allowed_codes pairs ps)
-in_place_from moved pairs ps old now new gone list keys known noted goes none made empty = noted ∙ in_place_is moved pairs ps old list keys known (sym goes ∙ none) (sym made ∙ empty)
-
 pub begin_from : (moved : ℕ → Bool) (pairs : List ℕ) (ps : List Proxy) (old new : List ContactEntry) (first second begin : List ContactKey) → IsProxyList ps → AreKeysRising old → IsKnown moved pairs ps old → new ≡ contacts_of old ps (fresh moved pairs ps old) → first ≡ filter_map (key_if_new None) new → second ≡ begun_keys moved pairs ps old → begin ≡ merged key_number first second → begin ≡ keys_touching_only_in old (contacts_of old ps (allowed_codes pairs ps))
 begin_from moved pairs ps old new first second begin list keys known made one two is =
     is ∙ ap (λ (l : List ContactKey). merged key_number l second) (one ∙ ap (filter_map (key_if_new None)) made) ∙ ap (λ (l : List ContactKey). merged key_number (filter_map (key_if_new None) (contacts_of old ps (fresh moved pairs ps old))) l) two ∙ begin_is moved pairs ps old list keys known
-
-pub new_keys_ascend : (moved : ℕ → Bool) (pairs : List ℕ) (ps : List Proxy) (old new : List ContactEntry) (keys : List ContactKey) → IsProxyList ps → new ≡ contacts_of old ps (fresh moved pairs ps old) → keys ≡ filter_map (key_if_new None) new → AreAscending key_number keys
-new_keys_ascend moved pairs ps old new keys list made one = subst (λ (l : List ContactKey). AreAscending key_number l) (sym (one ∙ ap (filter_map (key_if_new None)) made)) (fresh_keys_ascend moved pairs ps old list)
 
 pub begin_rises : (pairs : List ℕ) (ps : List Proxy) (old : List ContactEntry) (begin : List ContactKey) → IsProxyList ps → begin ≡ keys_touching_only_in old (contacts_of old ps (allowed_codes pairs ps)) → AreRising begin
 begin_rises pairs ps old begin list is = subst AreRising (sym is) (keys_touching_rise old (contacts_of old ps (allowed_codes pairs ps)) (contacts_rise old ps (allowed_codes pairs ps) list (allowed_are_pairs pairs ps list)))
@@ -308,7 +275,7 @@ swap (inr b) = inl b
 
 merged_swaps : (es fs : List ContactEntry) → IsRising (map entry_number es) → IsRising (map entry_number fs) → ((n : ℕ) → IsIn n (map entry_number es) → IsIn n (map entry_number fs) → ⊥) → merged entry_number es fs ≡ merged entry_number fs es
 merged_swaps es fs r s n =
-    same_contacts (merged entry_number es fs) (merged entry_number fs es) (merged_rises es fs r s n) (merged_rises fs es s r (λ m i j. n m j i)) (λ k i. merged_has k fs es (swap (merged_is k es fs i))) (λ k i. merged_has k es fs (swap (merged_is k fs es i)))
+    same_members entry_number (merged entry_number es fs) (merged entry_number fs es) (merged_rises entry_number es fs r s n) (merged_rises entry_number fs es s r (λ m i j. n m j i)) (λ k i. merged_has entry_number k fs es (swap (merged_is entry_number k es fs i))) (λ k i. merged_has entry_number k es fs (swap (merged_is entry_number k fs es i)))
 
 all_is : (moved : ℕ → Bool) (pairs : List ℕ) (ps : List Proxy) (old : List ContactEntry) → IsProxyList ps → AreKeysRising old → IsKnown moved pairs ps old → merged entry_number (old_ones moved pairs ps old) (new_ones moved pairs ps old) ≡ contacts_of old ps (allowed_codes pairs ps)
 all_is moved pairs ps old list keys known =
@@ -316,22 +283,6 @@ all_is moved pairs ps old list keys known =
 
 pub all_from : (moved : ℕ → Bool) (pairs : List ℕ) (ps : List Proxy) (old new all : List ContactEntry) → IsProxyList ps → AreKeysRising old → IsKnown moved pairs ps old → new ≡ contacts_of old ps (fresh moved pairs ps old) → all ≡ merged entry_number (map (again ps) (staying moved pairs ps old)) new → all ≡ contacts_of old ps (allowed_codes pairs ps)
 all_from moved pairs ps old new all list keys known made are = are ∙ ap (λ (l : List ContactEntry). merged entry_number (old_ones moved pairs ps old) l) made ∙ all_is moved pairs ps old list keys known
-
-pub made_anew : (moved : ℕ → Bool) (pairs : List ℕ) (ps : List Proxy) (old new all : List ContactEntry) (first second begin end : List ContactKey) → IsProxyList ps → AreKeysRising old → IsKnown moved pairs ps old → new ≡ contacts_of old ps (fresh moved pairs ps old)
-    → all ≡ merged entry_number (map (again ps) (staying moved pairs ps old)) new → first ≡ filter_map (key_if_new None) new → second ≡ begun_keys moved pairs ps old → begin ≡ merged key_number first second → end ≡ ended_keys moved pairs ps old → IsMade pairs ps old all begin end
-made_anew moved pairs ps old new all first second begin end list keys known made are one two begins ends = record {
-  now_is = all_from moved pairs ps old new all list keys known made are;
-  begin_is = begin_from moved pairs ps old new first second begin list keys known made one two begins;
-  end_is = ends ∙ ended_is moved pairs ps old list keys known;
-}
-
-pub made_in_place : (moved : ℕ → Bool) (pairs : List ℕ) (ps : List Proxy) (old new now : List ContactEntry) (gone begin end : List ContactKey) → IsProxyList ps → AreKeysRising old → IsKnown moved pairs ps old → new ≡ contacts_of old ps (fresh moved pairs ps old) → new ≡ []
-    → now ≡ map (settled moved pairs ps) old → gone ≡ gone_keys moved pairs ps old → gone ≡ [] → begin ≡ begun_keys moved pairs ps old → end ≡ ended_keys moved pairs ps old → IsMade pairs ps old now begin end
-made_in_place moved pairs ps old new now gone begin end list keys known made empty noted goes none begins ends = record {
-  now_is = in_place_from moved pairs ps old now new gone list keys known noted goes none made empty;
-  begin_is = begin_from moved pairs ps old new [] begin begin list keys known made (sym (ap (λ (l : List ContactEntry). filter_map (key_if_new None) l) empty)) begins refl;
-  end_is = ends ∙ ended_is moved pairs ps old list keys known;
-}
 
 -- ---- in the code
 

@@ -9,7 +9,7 @@ use Rattle.contacts_base.specs.Near.{IsProxyList, is_near, number_of}
 use Rattle.contacts_base.specs.Contacts.{lookup, AreKeysRising, number_of as entry_number}
 use Rattle.contacts.specs.Changes.{contact_with, contacts_of}
 use Rattle.contacts.specs.Forbidden.{is_forbidden, allowed_codes}
-use Rattle.contacts.specs.Merge.{merged}
+use Rattle.contacts_base.specs.Merge.{merged}
 use Rattle.contacts.specs.Pairs.{pair_key}
 
 -- the shape with the number

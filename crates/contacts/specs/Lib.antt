@@ -1,7 +1,6 @@
 pub mod Pairs
 pub mod Sweep
 pub mod Changes
-pub mod Merge
 pub mod Known
 pub mod Turns
 pub mod Stirring
@@ -9,3 +8,5 @@ pub mod NearMarked
 pub mod Constraints
 pub mod Forbidden
 pub mod Inside
+pub mod Due
+pub mod Looked

@@ -1,18 +1,18 @@
 -- What becomes in a collide of the contacts that there are.
-use Rattle.std.specs.Prelude.{◌≡◌, ℕ, ◌<◌, ◌/◌, Bool, true, false, ◌||◌, cond, List, [], ◌∷◌, ◌++◌, drop, length, Option, Some, None, is_some, slice_get, slice_index_or}
+use Rattle.std.specs.Prelude.{◌≡◌, ℕ, ◌<◌, ◌/◌, Bool, true, false, ◌||◌, cond, List, [], ◌∷◌, ◌++◌, drop, length, Option, Some, None, is_some, slice_index_or}
 use Rattle.std.specs.List.{filter_map}
 use Rattle.contacts_base.specs.declared.near.Proxy.{Proxy}
 use Rattle.contacts_base.specs.declared.key.ContactKey.{ContactKey}
 use Rattle.contacts_base.specs.declared.contact.ContactEntry.{ContactEntry}
-use Rattle.contacts_base.specs.Contacts.{contact_set, number_of as entry_number}
+use Rattle.contacts_base.specs.Contacts.{number_of as entry_number}
 use Rattle.contacts_base.specs.Keys.{id_number}
 use Rattle.contacts.specs.declared.turns.Turn.{Turn}
 use Rattle.contacts.specs.declared.turns.Turn.TheVariants.{Stays, Goes, Renewed}
-use Rattle.contacts.specs.declared.turns.Renewal.{Renewal}
-use Rattle.contacts.specs.Changes.{contacts_of, key_if_new, key_unless, keys_touching_only_in}
+use Rattle.contacts_base.specs.declared.split.Renewal.{Renewal}
+use Rattle.contacts.specs.Changes.{contacts_of, key_if_new, keys_touching_only_in}
 use Rattle.contacts.specs.Forbidden.{allowed_codes}
 use Rattle.contacts.specs.Known.{again, found, stays}
-use Rattle.contacts.specs.Merge.{below_of, beyond_of}
+use Rattle.contacts_base.specs.Merge.{below_of, beyond_of}
 
 -- a shape has moved if its body's slot is marked, or is beyond the marks
 abbrev pub moved_by : List Bool → ℕ → Bool
@@ -43,10 +43,6 @@ turned e (Renewed c) = Some (record e { contact = c })
 abbrev pub outcome : (ℕ → Bool) → List ℕ → List Proxy → ContactEntry → Option ContactEntry
 outcome moved pairs ps e = cond (stays moved pairs ps e) (Some (again ps e)) None
 
--- evaluated anew if it stays, and else as it was
-abbrev pub settled : (ℕ → Bool) → List ℕ → List Proxy → ContactEntry → ContactEntry
-settled moved pairs ps e = cond (stays moved pairs ps e) (again ps e) e
-
 -- its key, if it touches after its turn and didn't before
 abbrev pub key_if_begun : ContactEntry → Option ContactEntry → Option ContactKey
 key_if_begun e None = None
@@ -54,11 +50,7 @@ key_if_begun e (Some f) = key_if_new (Some e) f
 
 -- ---- all of them
 
--- the keys of those that go
-abbrev pub gone_keys : (ℕ → Bool) → List ℕ → List Proxy → List ContactEntry → List ContactKey
-gone_keys moved pairs ps old = filter_map (λ e. key_unless (outcome moved pairs ps e) e) old
-
--- of those that begin to touch
+-- the keys of those that begin to touch
 abbrev pub begun_keys : (ℕ → Bool) → List ℕ → List Proxy → List ContactEntry → List ContactKey
 begun_keys moved pairs ps old = filter_map (λ e. key_if_begun e (outcome moved pairs ps e)) old
 
@@ -72,16 +64,6 @@ noted place Stays = []
 noted place Goes = []
 noted place (Renewed c) = record { place = place; contact = c } ∷ []
 
--- the contacts with what was noted of them
-abbrev pub renewed : List Renewal → List ContactEntry → List ContactEntry
-renewed [] es = es
-renewed (r ∷ rs) es = renewed rs (contact_set r.place r.contact es (slice_get es r.place))
-
--- the whole list, where there is one
-abbrev pub whole_or : Option (List ContactEntry) → List ContactEntry → List ContactEntry
-whole_or None es = es
-whole_or (Some all) es = all
-
 -- ---- the list made anew
 
 -- what becomes of a contact, with the fresh ones before it, is added to a list: `place` fresh ones were in it before, and `next` are after
@@ -89,7 +71,7 @@ abbrev pub IsAdded : Option ContactEntry → List ContactEntry → ℕ → ℕ �
 IsAdded None fresh place next all more = (more ≡ all) × (next ≡ place)
 IsAdded (Some f) fresh place next all more = (more ≡ (all ++ below_of entry_number f (drop place fresh)) ++ f ∷ []) × (drop next fresh ≡ beyond_of entry_number f (drop place fresh))
 
--- ---- both ways
+-- ---- the whole
 
 -- what a collide makes of the contacts, and which begin and end to touch
 pub record IsMade (pairs : List ℕ) (ps : List Proxy) (old now : List ContactEntry) (begin end : List ContactKey) : Type 0 where

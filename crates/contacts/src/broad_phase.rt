@@ -2,6 +2,7 @@
 
 ghost use Rattle.std.specs.Prelude.{◌≡◌, ◌<◌, ◌≤◌, ◌-◌, ◌∷◌, ◌++◌, [], All, OnOk, OnErr, IfOk, vec_len, vec_capacity};
 ghost use Rattle.std.specs.Result.{IsOkUnless};
+ghost use Rattle.contacts_base.specs.Contacts.{AreContacts};
 ghost use Rattle.contacts_base.specs.Near.{IsProxy, IsProxyList, number_of, near_codes};
 ghost use Rattle.contacts.specs.Forbidden.{allowed_codes};
 ghost use Rattle.contacts.specs.Pairs.{ArePairs};
@@ -10,7 +11,7 @@ ghost use Rattle.contacts.specs.Changes.{AreRising, contacts_of, keys_not_in, ke
 use crate::changes::{Changes, update};
 use crate::forbidden::{ForbiddenPairs, list_allowed};
 use crate::sweep::near_pairs;
-use contacts_base::{Contacts, Proxy};
+use contacts_base::{ContactEntry, Proxy};
 use fixed_geom::{Box2, Refusal};
 use std::alloc::Global;
 use std::marker::Model;
@@ -153,8 +154,9 @@ impl BroadPhase {
         &mut self,
         alloc: Global,
         forbidden: &F,
-        old: &Contacts,
+        old: &[ContactEntry],
     ) -> Result<Changes, Refusal>
+        requires old { AreContacts old.now }
         ensures kept { self.new ≡ self.old }
         ensures now { IfOk result (λ changes. changes.now ≡ contacts_of old.now self.old (allowed_codes (F.numbers forbidden.now) self.old)) }
         ensures made { IfOk result (λ changes. changes.made.items ≡ keys_not_in old.now changes.now) }

@@ -219,10 +219,11 @@ fn lost_keys(alloc: Global, now: &[ContactEntry], old: &[ContactEntry]) -> Resul
 /// now. Refused 1 where memory is wanting.
 pub fn update(
     alloc: Global,
-    old: &Contacts,
+    old: &[ContactEntry],
     proxies: &[Proxy],
     near: &[u64],
 ) -> Result<Changes, Refusal>
+    requires old { AreContacts old.now }
     requires proxies { IsProxyList proxies.now }
     requires near { ArePairs proxies.now near.now }
     ensures now { IfOk result (λ changes. changes.now ≡ contacts_of old.now proxies.now near.now) }
@@ -236,7 +237,6 @@ pub fn update(
     ensures end_rising { IfOk result (λ changes. AreRising changes.end.items) }
     ensures memory_only { IsOkUnless result Refusal.NoMemory }
 {
-    let old = old.as_slice();
     let present = contacts_of_pairs(alloc, old, proxies, near)?;
     let past = lost_keys(alloc, &present.now, old)?;
     Ok(Changes {

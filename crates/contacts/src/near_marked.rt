@@ -5,9 +5,9 @@ ghost use Rattle.std.specs.Prelude.{◌≡◌, ◌++◌, ◌/◌, ◌%◌, ◌^�
 ghost use Rattle.std.specs.List.Sorted.{IsStrictlyIncreasing};
 ghost use Rattle.std.specs.Option.{option_to_list};
 ghost use Rattle.std.specs.Result.{IsOkUnless};
-ghost use Rattle.contacts_base.specs.Contacts.{AreContacts};
 ghost use Rattle.contacts_base.specs.Keys.{id_number};
 ghost use Rattle.contacts_base.specs.Near.{IsProxy, IsProxyList};
+ghost use Rattle.contacts_base.specs.Split.{contacts_in};
 ghost use Rattle.contacts.specs.Changes.{contacts_of};
 ghost use Rattle.contacts.specs.Known.{found, fresh as fresh_codes, has_key};
 ghost use Rattle.contacts.specs.NearMarked.{HasNumbers, HasNumbersIn, IsExtended, fresh_by, fresh_of, near_number, number_if, number_with, numbers_up, numbers_with};
@@ -18,7 +18,7 @@ use crate::changes::entry_with;
 use crate::forbidden::ForbiddenPairs;
 use crate::marks::either_moved;
 use crate::turns::{ShapesByName, may_touch};
-use contacts_base::{ContactEntry, ContactKey, Proxy, ShapeId, contact_at, is_near, seek};
+use contacts_base::{ContactEntry, ContactKey, Hint, Proxy, ShapeId, SplitContacts, is_near};
 use fixed_geom::Refusal;
 use shapes::MAX_SHAPES;
 use std::alloc::Global;
@@ -205,25 +205,23 @@ fn key_with(number: u128) -> ContactKey
 }
 
 /// Whether there is a contact with this key.
-fn has_key(old: &[ContactEntry], key: ContactKey) -> bool
-    requires { AreContacts old.now }
-    ensures { result ≡ has_key old.now key }
+fn has_key(old: &SplitContacts, key: ContactKey) -> bool
+    ensures { result ≡ has_key (contacts_in old.now) key }
 {
-    contact_at(old, seek(old, 0, key), key).is_some()
+    old.find(&mut Hint { long: 0, short: 0 }, key).is_some()
 }
 
 /// The contact of two shapes, if the first is the lesser, they may touch, one has moved, and they have none yet.
 fn fresh_of<F: ForbiddenPairs>(
     marks: &[bool],
     forbidden: &F,
-    old: &[ContactEntry],
+    old: &SplitContacts,
     p: &Proxy,
     q: &Proxy,
 ) -> Option<ContactEntry>
-    requires old { AreContacts old.now }
     requires first { IsProxy p.now }
     requires second { IsProxy q.now }
-    ensures { result ≡ fresh_of (moved_by marks.now) (F.numbers forbidden.now) old.now p.now q.now }
+    ensures { result ≡ fresh_of (moved_by marks.now) (F.numbers forbidden.now) (contacts_in old.now) p.now q.now }
 {
     if p.id.number() >= q.id.number() {
         return None;
@@ -250,12 +248,11 @@ fn fresh_by<S: ShapesByName, F: ForbiddenPairs>(
     shapes: &S,
     marks: &[bool],
     forbidden: &F,
-    old: &[ContactEntry],
+    old: &SplitContacts,
     number: u128,
 ) -> Option<ContactEntry>
     requires shapes { IsProxyList (S.proxies shapes.now) }
-    requires old { AreContacts old.now }
-    ensures { result ≡ fresh_by (moved_by marks.now) (F.numbers forbidden.now) (S.proxies shapes.now) old.now number }
+    ensures { result ≡ fresh_by (moved_by marks.now) (F.numbers forbidden.now) (S.proxies shapes.now) (contacts_in old.now) number }
 {
     if number >= 1 << 80 {
         return None;
@@ -290,13 +287,12 @@ pub fn fresh_of_marked<S: ShapesByName, F: ForbiddenPairs>(
     marks: &[bool],
     marked: &[u32],
     forbidden: &F,
-    old: &[ContactEntry],
+    old: &SplitContacts,
 ) -> Result<Vec<ContactEntry>, Refusal>
     requires shapes { IsProxyList (S.proxies shapes.now) }
     requires within { AreWithin marks.now (S.proxies shapes.now) }
     requires listed { AreListed marks.now marked.now }
-    requires old { AreContacts old.now }
-    ensures value { IfOk result (λ fresh. fresh.items ≡ contacts_of old.now (S.proxies shapes.now) (fresh_codes (moved_by marks.now) (F.numbers forbidden.now) (S.proxies shapes.now) old.now)) }
+    ensures value { IfOk result (λ fresh. fresh.items ≡ contacts_of (contacts_in old.now) (S.proxies shapes.now) (fresh_codes (moved_by marks.now) (F.numbers forbidden.now) (S.proxies shapes.now) (contacts_in old.now))) }
     ensures memory_only { IsOkUnless result Refusal.NoMemory }
 {
     list_numbers(numbers, shapes, marked)?;

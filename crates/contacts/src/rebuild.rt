@@ -1,26 +1,28 @@
-//! The contacts after a collide as a new list: those that stay, and the fresh ones.
+//! The short list of contacts after a collide: those of it that stay, and the fresh ones.
 
 ghost use Rattle.std.specs.Prelude.{◌≡◌, ◌≤◌, All, IfOk, Some, None, length, map};
 ghost use Rattle.std.specs.List.{filter_map};
 ghost use Rattle.std.specs.Result.{IsOkUnless};
-ghost use Rattle.contacts_base.specs.Contacts.{AreContacts, number_of};
+ghost use Rattle.contacts_base.specs.Contacts.{AreContacts, AreKeysRising, number_of};
 ghost use Rattle.contacts_base.specs.Near.{IsProxyList};
-ghost use Rattle.contacts.specs.Changes.{contacts_of, key_if_new};
-ghost use Rattle.contacts.specs.Known.{IsKnown, IsPairKey, again, fresh as fresh_codes, staying};
-ghost use Rattle.contacts.specs.Merge.{AreAscending, merged};
+ghost use Rattle.contacts.specs.Changes.{key_if_new};
+ghost use Rattle.contacts.specs.Known.{IsPairKey, again, staying};
+ghost use Rattle.contacts.specs.Looked.{IsRebuilt};
+ghost use Rattle.contacts_base.specs.Merge.{AreAscending, merged};
 ghost use Rattle.contacts.specs.Stirring.{AreQuiet};
-ghost use Rattle.contacts.specs.Turns.{IsAdded, IsMade, begun_keys, ended_keys, moved_by, turned};
+ghost use Rattle.contacts.specs.Turns.{IsAdded, begun_keys, ended_keys, moved_by, turned};
 
 use crate::changes::push_key;
+use crate::due::Touches;
 use crate::forbidden::ForbiddenPairs;
-use crate::merge::{merge, push_below};
 use crate::stirring::turn_in;
 use crate::turns::{ShapesByName, Turn, begun_key, ended_key};
-use contacts_base::{ContactEntry, ContactKey, Contacts};
+use contacts_base::merge::{merge, push_below};
+use contacts_base::{ContactEntry, ContactKey};
 use fixed_geom::Refusal;
 use std::alloc::Global;
 
-/// All contacts, and the keys of those of the old ones that begin to touch and that end.
+/// The contacts of the list, and the keys of those of the old ones that begin to touch and that end.
 #[derive(Drop)]
 struct Survivors {
     all: Vec<ContactEntry>,
@@ -28,12 +30,11 @@ struct Survivors {
     end: Vec<ContactKey>,
 }
 
-/// All contacts, and the keys of those that begin to touch and that end.
+/// The list anew, and the keys of those of it that begin to touch and that end.
 #[derive(Drop)]
 pub(crate) struct Rebuilt {
-    pub all: Contacts,
-    pub begin: Vec<ContactKey>,
-    pub end: Vec<ContactKey>,
+    pub all: Vec<ContactEntry>,
+    pub touches: Touches,
 }
 
 /// Adds a contact, and before it the fresh ones from a place on that come first. Answers the place of the next fresh one. Refused 1 where
@@ -141,7 +142,7 @@ fn keys_of_touching(alloc: Global, fresh: &[ContactEntry]) -> Result<Vec<Contact
     Ok(keys)
 }
 
-/// The contacts after a collide, of those that there were and the fresh ones. Refused 1 where memory is wanting.
+/// The list anew, of those that there were and the fresh ones. Refused 1 where memory is wanting.
 pub(crate) fn rebuild<S: ShapesByName, F: ForbiddenPairs>(
     alloc: Global,
     shapes: &S,
@@ -153,18 +154,20 @@ pub(crate) fn rebuild<S: ShapesByName, F: ForbiddenPairs>(
 ) -> Result<Rebuilt, Refusal>
     requires shapes { IsProxyList (S.proxies shapes.now) }
     requires old { AreContacts old.now }
-    requires known { IsKnown (moved_by marks.now) (F.numbers forbidden.now) (S.proxies shapes.now) old.now }
+    requires keys { All (λ e. IsPairKey e.key) old.now }
     requires quiet { AreQuiet flags.now marks.now (S.proxies shapes.now) }
-    requires fresh { fresh.now ≡ contacts_of old.now (S.proxies shapes.now) (fresh_codes (moved_by marks.now) (F.numbers forbidden.now) (S.proxies shapes.now) old.now) }
-    ensures made { IfOk result (λ rebuilt. IsMade (F.numbers forbidden.now) (S.proxies shapes.now) old.now rebuilt.all rebuilt.begin.items rebuilt.end.items) }
+    requires fresh { AreKeysRising fresh.now }
+    ensures rebuilt { IfOk result (λ rebuilt. IsRebuilt (moved_by marks.now) (F.numbers forbidden.now) (S.proxies shapes.now) old.now fresh.now rebuilt.all.items rebuilt.touches.begin.items rebuilt.touches.end.items) }
     ensures memory_only { IsOkUnless result Refusal.NoMemory }
 {
     let survivors = turn_each(alloc, shapes, marks, forbidden, old, flags, fresh)?;
     let new_keys = keys_of_touching(alloc, fresh)?;
     let begin = merge(alloc, &new_keys, &survivors.begin)?;
     Ok(Rebuilt {
-        all: Contacts::from_entries(survivors.all),
-        begin,
-        end: survivors.end,
+        all: survivors.all,
+        touches: Touches {
+            begin,
+            end: survivors.end,
+        },
     })
 }

@@ -1,26 +1,30 @@
-//! The contacts of which a body may stir, by their places in the list, so that a collide passes over those alone.
+//! The contacts of which a body may stir, by their places in the long list, so that a collide passes over those alone.
 
-ghost use Rattle.std.specs.Prelude.{◌≡◌, ◌++◌, ◌∷◌, [], All, IsTrue, OnOk, cond, false, true};
+ghost use Rattle.std.specs.Prelude.{◌≡◌, ◌++◌, ◌∷◌, [], All, Bool, IsTrue, List, OnOk, cond, false, length, replicate, true};
 ghost use Rattle.std.specs.Result.{IsOkUnless};
 ghost use Rattle.contacts_base.specs.Near.{IsProxyList};
+ghost use Rattle.contacts_base.specs.Split.{AreSlotsBelow};
 ghost use Rattle.contacts.specs.Known.{IsPairKey};
-ghost use Rattle.contacts.specs.Stirring.{AreHeld, AreQuiet, is_flagged, one_flagged, stirring_places};
+ghost use Rattle.contacts.specs.Stirring.{AreFlagsListed, AreHeld, AreQuiet, is_flagged, one_flagged, places_of_all, stirring_places};
 ghost use Rattle.contacts.specs.Turns.{moved_by, outcome, turned};
 ghost use Rattle.slot_marks.specs.Marks.{AreListed};
 
 use crate::forbidden::ForbiddenPairs;
 use crate::turns::{ShapesByName, Turn, turn_of};
-use contacts_base::ContactEntry;
+use contacts_base::{ContactEntry, SplitContacts};
 use fixed_geom::Refusal;
 use std::alloc::Global;
 
-/// Which bodies may stir, and the places of their contacts.
+/// Where the flagged slots are fewer than one for so many contacts of the long list, places are found by them.
+const FEW_FLAGGED: usize = 8;
+
+/// Which bodies may stir, and the places of their contacts in the long list.
 #[derive(Drop)]
 pub struct Stirring {
     // By slot, whether the body may stir; a slot beyond them counts as one of a body that may.
     pub flags: Vec<bool>,
-    // How many are flagged.
-    pub count: usize,
+    // The slots whose flag is set, each once.
+    pub flagged: Vec<u32>,
     pub places: Vec<usize>,
     // Whether the places are those of the contacts as they are now.
     pub holds: bool,
@@ -29,11 +33,12 @@ pub struct Stirring {
 impl Stirring {
     /// Nothing is known yet.
     pub fn new(alloc: Global) -> Stirring
-        ensures { result.holds ≡ false }
+        ensures holds { result.holds ≡ false }
+        ensures held { (entries : List ContactEntry) → AreHeld result entries }
     {
         Stirring {
             flags: Vec::new(alloc),
-            count: 0,
+            flagged: Vec::new(alloc),
             places: Vec::new(alloc),
             holds: false,
         }
@@ -86,24 +91,66 @@ fn are_told<S: ShapesByName>(flags: &[bool], shapes: &S, marks: &[bool], marked:
     are_flagged(flags, shapes.carried())
 }
 
-/// Flags these slots, and answers how many weren't flagged before.
-fn flag(flags: &mut Vec<bool>, slots: &[u32]) -> usize {
-    let mut count: usize = 0;
-    for place in 0..slots.len() {
-        let slot = slots[place] as usize;
-        if slot < flags.len() && !flags[slot] {
-            flags[slot] = true;
-            count = count.saturating_add(1);
-        }
-    }
-    count
-}
-
-/// Takes all flags away, and gives each slot below `slots` one. Refused 1 where memory is wanting.
-fn unflag(flags: &mut Vec<bool>, slots: usize) -> Result<(), Refusal>
+/// Flags a slot that has a flag, if that isn't set. Refused 1 where memory is wanting.
+fn flag_slot(flags: &mut Vec<bool>, flagged: &mut Vec<u32>, slot: u32) -> Result<(), Refusal>
+    requires { AreFlagsListed flags.old.items flagged.old.items }
+    ensures flagged { AreFlagsListed flags.new.items flagged.new.items }
     ensures memory_only { IsOkUnless result Refusal.NoMemory }
 {
-    flags.clear();
+    if !is_flagged(flags, slot) {
+        flagged.push(slot)?;
+        flags[slot as usize] = true;
+    }
+    Ok(())
+}
+
+/// Flags these slots. Refused 1 where memory is wanting.
+fn flag(flags: &mut Vec<bool>, flagged: &mut Vec<u32>, slots: &[u32]) -> Result<(), Refusal>
+    requires { AreFlagsListed flags.old.items flagged.old.items }
+    ensures flagged { AreFlagsListed flags.new.items flagged.new.items }
+    ensures memory_only { IsOkUnless result Refusal.NoMemory }
+{
+    for place in 0..slots.len() {
+        flag_slot(flags, flagged, slots[place])?;
+    }
+    Ok(())
+}
+
+/// Flags the slots of all bodies that stir, and those that are marked. Refused 1 where memory is wanting.
+fn flag_stirring<S: ShapesByName>(
+    flags: &mut Vec<bool>,
+    flagged: &mut Vec<u32>,
+    shapes: &S,
+    marked: &[u32],
+) -> Result<(), Refusal>
+    requires { AreFlagsListed flags.old.items flagged.old.items }
+    ensures flagged { AreFlagsListed flags.new.items flagged.new.items }
+    ensures memory_only { IsOkUnless result Refusal.NoMemory }
+{
+    flag(flags, flagged, shapes.awake())?;
+    flag(flags, flagged, shapes.carried())?;
+    flag(flags, flagged, marked)
+}
+
+/// Takes the flags of these slots away, which are all that are flagged.
+fn unflag(flags: &mut Vec<bool>, flagged: &[u32])
+    requires { AreListed flags.old.items flagged.now }
+    ensures { flags.new.items ≡ replicate (length flags.old.items) false }
+{
+    for place in 0..flagged.len() {
+        flags[flagged[place] as usize] = false;
+    }
+}
+
+/// Gives each slot below `slots` a flag that isn't set, in a time that goes by those that are set, where there are as many flags as that. Refused 1
+/// where memory is wanting.
+fn clear_flags(flags: &mut Vec<bool>, flagged: &mut Vec<u32>, slots: usize) -> Result<(), Refusal>
+    requires { AreFlagsListed flags.old.items flagged.old.items }
+    ensures flagged { AreFlagsListed flags.new.items flagged.new.items }
+    ensures memory_only { IsOkUnless result Refusal.NoMemory }
+{
+    unflag(flags, flagged);
+    flagged.clear();
     flags.resize(slots, false)?;
     Ok(())
 }
@@ -115,17 +162,18 @@ fn flag_anew<S: ShapesByName>(
     marks: &[bool],
     marked: &[u32],
 ) -> Result<(), Refusal>
-    requires { AreListed marks.now marked.now }
+    requires listed { AreListed marks.now marked.now }
+    requires flagged { AreFlagsListed stirring.old.flags.items stirring.old.flagged.items }
+    ensures flagged { AreFlagsListed stirring.new.flags.items stirring.new.flagged.items }
     ensures quiet { OnOk result (AreQuiet stirring.new.flags.items marks.now (S.proxies shapes.now)) }
     ensures holds { stirring.new.holds ≡ stirring.old.holds }
     ensures memory_only { IsOkUnless result Refusal.NoMemory }
 {
-    unflag(&mut stirring.flags, marks.len())?;
-    stirring.count = flag(&mut stirring.flags, shapes.awake())
-        .saturating_add(flag(&mut stirring.flags, shapes.carried()))
-        .saturating_add(flag(&mut stirring.flags, marked));
+    clear_flags(&mut stirring.flags, &mut stirring.flagged, marks.len())?;
+    flag_stirring(&mut stirring.flags, &mut stirring.flagged, shapes, marked)?;
     if !are_told(&stirring.flags, shapes, marks, marked) {
         stirring.flags.clear();
+        stirring.flagged.clear();
     }
     Ok(())
 }
@@ -141,8 +189,8 @@ fn push_place(places: &mut Vec<usize>, wanted: bool, place: usize) -> Result<(),
     Ok(())
 }
 
-/// Lists the places of those contacts of which a body may stir. Refused 1 where memory is wanting.
-fn list_places(
+/// Lists the places of those contacts of which a body may stir in a pass over all. Refused 1 where memory is wanting.
+fn scan_places(
     places: &mut Vec<usize>,
     flags: &[bool],
     entries: &[ContactEntry],
@@ -155,6 +203,59 @@ fn list_places(
         push_place(places, is_one_flagged(flags, &entries[place]), place)?;
     }
     Ok(())
+}
+
+/// Lists the places of the contacts of the bodies in these slots, one body after the other. Refused 1 where memory is wanting.
+fn push_places(
+    places: &mut Vec<usize>,
+    slots: &[u32],
+    contacts: &SplitContacts,
+) -> Result<(), Refusal>
+    ensures pushed { OnOk result (places.new.items ≡ places_of_all slots.now contacts.now.long) }
+    ensures memory_only { IsOkUnless result Refusal.NoMemory }
+{
+    places.clear();
+    for place in 0..slots.len() {
+        contacts.push_places_of(places, slots[place])?;
+    }
+    Ok(())
+}
+
+/// Lists the places of those contacts of which a body may stir from those of each flagged body. Refused 1 where memory is wanting.
+fn gather_places(
+    places: &mut Vec<usize>,
+    flagged: &[u32],
+    contacts: &SplitContacts,
+) -> Result<(), Refusal>
+    ensures listed { (flags : List Bool) → AreFlagsListed flags flagged.now → AreSlotsBelow (length flags) contacts.now.long → OnOk result (places.new.items ≡ stirring_places flags contacts.now.long) }
+    ensures memory_only { IsOkUnless result Refusal.NoMemory }
+{
+    push_places(places, flagged, contacts)?;
+    places.sort_unstable();
+    places.dedup();
+    Ok(())
+}
+
+/// Lists the places of those contacts of which a body may stir: where few are flagged, that costs by their own contacts, once the long list has its
+/// index. Refused 1 where memory is wanting.
+fn list_places(
+    places: &mut Vec<usize>,
+    flags: &[bool],
+    flagged: &[u32],
+    contacts: &mut SplitContacts,
+) -> Result<(), Refusal>
+    requires { AreFlagsListed flags.now flagged.now }
+    ensures listed { OnOk result (places.new.items ≡ stirring_places flags.now contacts.new.long) }
+    ensures contacts { contacts.new ≡ contacts.old }
+    ensures memory_only { IsOkUnless result Refusal.NoMemory }
+{
+    if flagged.len() < contacts.long().len() / FEW_FLAGGED {
+        contacts.index_bodies()?;
+        if contacts.are_slots_below(flags.len()) {
+            return gather_places(places, flagged, contacts);
+        }
+    }
+    scan_places(places, flags, contacts.long())
 }
 
 /// How many slots are those of bodies that stir, or are marked; some may count twice.
@@ -179,23 +280,22 @@ fn do_serve<S: ShapesByName>(
     if stirring.flags.len() != marks.len() {
         return false;
     }
-    if stirring.count / 2 > count_stirring(shapes, marked) {
+    if stirring.flagged.len() / 2 > count_stirring(shapes, marked) {
         return false;
     }
     are_told(&stirring.flags, shapes, marks, marked)
 }
 
-/// Puts the flags right.
+/// Puts the flags right. Refused 1 where memory is wanting.
 fn refresh_flags<S: ShapesByName>(
     stirring: &mut Stirring,
     shapes: &S,
     marks: &[bool],
     marked: &[u32],
-    entries: &[ContactEntry],
 ) -> Result<(), Refusal>
     requires listed { AreListed marks.now marked.now }
-    requires held { AreHeld stirring.old entries.now }
-    ensures held { AreHeld stirring.new entries.now }
+    requires flagged { AreFlagsListed stirring.old.flags.items stirring.old.flagged.items }
+    ensures held { (entries : List ContactEntry) → AreHeld stirring.old entries → AreHeld stirring.new entries }
     ensures quiet { OnOk result (AreQuiet stirring.new.flags.items marks.now (S.proxies shapes.now)) }
     ensures memory_only { IsOkUnless result Refusal.NoMemory }
 {
@@ -206,41 +306,48 @@ fn refresh_flags<S: ShapesByName>(
     flag_anew(stirring, shapes, marks, marked)
 }
 
-/// Puts the places right.
-fn refresh_places(stirring: &mut Stirring, entries: &[ContactEntry]) -> Result<(), Refusal>
-    requires { AreHeld stirring.old entries.now }
-    ensures held { AreHeld stirring.new entries.now }
+/// Puts the places right. Refused 1 where memory is wanting.
+fn refresh_places(stirring: &mut Stirring, contacts: &mut SplitContacts) -> Result<(), Refusal>
+    requires { AreHeld stirring.old contacts.old.long }
+    ensures held { AreHeld stirring.new contacts.new.long }
+    ensures contacts { contacts.new ≡ contacts.old }
     ensures flags { stirring.new.flags.items ≡ stirring.old.flags.items }
-    ensures places { OnOk result (stirring.new.places.items ≡ stirring_places stirring.new.flags.items entries.now) }
+    ensures places { OnOk result (stirring.new.places.items ≡ stirring_places stirring.new.flags.items contacts.new.long) }
     ensures memory_only { IsOkUnless result Refusal.NoMemory }
 {
     if stirring.holds {
         return Ok(());
     }
-    list_places(&mut stirring.places, &stirring.flags, entries)?;
+    list_places(
+        &mut stirring.places,
+        &stirring.flags,
+        &stirring.flagged,
+        contacts,
+    )?;
     stirring.holds = true;
     Ok(())
 }
 
-/// Puts flags and places right for a collide: they have all contacts of which a body stirs or has a marked slot. What they were made of
-/// before serves as long as it has all that, so that a step in which no body wakes and no contact comes or goes costs by what
-/// stirs. Refused 1 where memory is wanting.
+/// Puts flags and places right for a collide: they have all contacts of the long list of which a body stirs or has a marked slot. What they were
+/// made of before serves as long as it has all that, so that a step in which no body wakes costs by what stirs. Changes no contact. Refused 1 where
+/// memory is wanting.
 pub fn refresh<S: ShapesByName>(
     stirring: &mut Stirring,
     shapes: &S,
     marks: &[bool],
     marked: &[u32],
-    entries: &[ContactEntry],
+    contacts: &mut SplitContacts,
 ) -> Result<(), Refusal>
     requires listed { AreListed marks.now marked.now }
-    requires held { AreHeld stirring.old entries.now }
-    ensures held { AreHeld stirring.new entries.now }
-    ensures places { OnOk result (stirring.new.places.items ≡ stirring_places stirring.new.flags.items entries.now) }
+    requires held { AreHeld stirring.old contacts.old.long }
+    ensures held { AreHeld stirring.new contacts.new.long }
+    ensures contacts { contacts.new ≡ contacts.old }
+    ensures places { OnOk result (stirring.new.places.items ≡ stirring_places stirring.new.flags.items contacts.new.long) }
     ensures quiet { OnOk result (AreQuiet stirring.new.flags.items marks.now (S.proxies shapes.now)) }
     ensures memory_only { IsOkUnless result Refusal.NoMemory }
 {
-    refresh_flags(stirring, shapes, marks, marked, entries)?;
-    refresh_places(stirring, entries)
+    refresh_flags(stirring, shapes, marks, marked)?;
+    refresh_places(stirring, contacts)
 }
 
 /// What becomes of a contact: one of which no body may stir stays as it is.

@@ -1,62 +1,94 @@
-//! A pass over the contacts of which a body may stir: what becomes of each in a collide.
+//! A pass over the contacts of the long list of which a body may stir: what becomes of each in a collide.
 
-ghost use Rattle.std.specs.Prelude.{◌≡◌, All, IfOk, OnOk, map};
+ghost use Rattle.std.specs.Prelude.{◌≡◌, ◌++◌, All, IfOk, length};
+ghost use Rattle.std.specs.Option.{option_to_list};
 ghost use Rattle.std.specs.Result.{IsOkUnless};
 ghost use Rattle.contacts_base.specs.Near.{IsProxyList};
+ghost use Rattle.contacts_base.specs.Split.{counting, counting_at};
 ghost use Rattle.contacts.specs.Known.{IsPairKey};
+ghost use Rattle.contacts.specs.Looked.{IsLookedOver, IsTurn, begun_of, ended_of, ending};
 ghost use Rattle.contacts.specs.Stirring.{AreQuiet, stirring_places};
-ghost use Rattle.contacts.specs.Turns.{begun_keys, ended_keys, gone_keys, moved_by, renewed, settled};
+ghost use Rattle.contacts.specs.Turns.{moved_by, noted};
 
 use crate::changes::push_key;
+use crate::due::Touches;
 use crate::forbidden::ForbiddenPairs;
 use crate::stirring::Stirring;
-use crate::turns::{Renewal, ShapesByName, begun_key, ended_key, gone_key, note, turn_of};
-use contacts_base::{ContactEntry, ContactKey};
+use crate::turns::{ShapesByName, Turn, begun_key, ended_key, note, note_end, turn_of};
+use contacts_base::{Renewal, SplitContacts};
 use fixed_geom::Refusal;
 use std::alloc::Global;
 
-/// The keys of those of the contacts that there are that go, that begin to touch, and that end.
-#[derive(Drop)]
-pub(crate) struct Findings {
-    pub gone: Vec<ContactKey>,
-    pub begin: Vec<ContactKey>,
-    pub end: Vec<ContactKey>,
-}
-
-/// Goes once over the contacts of which a body may stir, and notes the points of those that are evaluated anew. Refused 1 where memory is
-/// wanting.
-pub(crate) fn look_over<S: ShapesByName, F: ForbiddenPairs>(
-    alloc: Global,
+/// Looks at the contact at a place of the long list, and notes what becomes of it: it stays as it is where none counts there. Refused 1 where memory is wanting.
+#[inline(always)]
+fn look_at<S: ShapesByName, F: ForbiddenPairs>(
     notes: &mut Vec<Renewal>,
+    ends: &mut Vec<usize>,
+    touches: &mut Touches,
     shapes: &S,
     marks: &[bool],
     forbidden: &F,
-    old: &[ContactEntry],
+    old: &SplitContacts,
+    place: usize,
+) -> Result<Turn, Refusal>
+    requires { IsProxyList (S.proxies shapes.now) }
+    ensures turn { IfOk result (λ turn. IsTurn (moved_by marks.now) (F.numbers forbidden.now) (S.proxies shapes.now) (counting_at old.now place) turn) }
+    ensures notes { IfOk result (λ turn. notes.new.items ≡ notes.old.items ++ noted place turn) }
+    ensures ends { IfOk result (λ turn. ends.new.items ≡ ends.old.items ++ ending place turn) }
+    ensures begin { IfOk result (λ turn. touches.new.begin.items ≡ touches.old.begin.items ++ option_to_list (begun_of (counting_at old.now place) turn)) }
+    ensures end { IfOk result (λ turn. touches.new.end.items ≡ touches.old.end.items ++ option_to_list (ended_of (counting_at old.now place) turn)) }
+    ensures memory_only { IsOkUnless result Refusal.NoMemory }
+{
+    let Some(entry) = old.counting(place) else {
+        return Ok(Turn::Stays);
+    };
+    let turn = turn_of(shapes, marks, forbidden, entry);
+    note(notes, place, &turn)?;
+    note_end(ends, place, &turn)?;
+    push_key(&mut touches.begin, begun_key(entry, &turn))?;
+    push_key(&mut touches.end, ended_key(entry, &turn))?;
+    Ok(turn)
+}
+
+/// Goes once over the contacts of the long list of which a body may stir, notes the points of those that are evaluated anew, and the places of those that go.
+/// Answers which of them begin to touch, and which end. Refused 1 where memory is wanting.
+pub(crate) fn look_over<S: ShapesByName, F: ForbiddenPairs>(
+    alloc: Global,
+    notes: &mut Vec<Renewal>,
+    ends: &mut Vec<usize>,
+    shapes: &S,
+    marks: &[bool],
+    forbidden: &F,
+    old: &SplitContacts,
     stirring: &Stirring,
-) -> Result<Findings, Refusal>
+) -> Result<Touches, Refusal>
     requires shapes { IsProxyList (S.proxies shapes.now) }
-    requires keys { All (λ e. IsPairKey e.key) old.now }
-    requires places { stirring.now.places.items ≡ stirring_places stirring.now.flags.items old.now }
+    requires flags { length old.now.over ≡ length old.now.long }
+    requires keys { All (λ e. IsPairKey e.key) (counting old.now.over old.now.long) }
+    requires places { stirring.now.places.items ≡ stirring_places stirring.now.flags.items old.now.long }
     requires quiet { AreQuiet stirring.now.flags.items marks.now (S.proxies shapes.now) }
-    ensures notes { OnOk result (renewed notes.new.items old.now ≡ map (settled (moved_by marks.now) (F.numbers forbidden.now) (S.proxies shapes.now)) old.now) }
-    ensures gone { IfOk result (λ found. found.gone.items ≡ gone_keys (moved_by marks.now) (F.numbers forbidden.now) (S.proxies shapes.now) old.now) }
-    ensures begin { IfOk result (λ found. found.begin.items ≡ begun_keys (moved_by marks.now) (F.numbers forbidden.now) (S.proxies shapes.now) old.now) }
-    ensures end { IfOk result (λ found. found.end.items ≡ ended_keys (moved_by marks.now) (F.numbers forbidden.now) (S.proxies shapes.now) old.now) }
+    ensures looked { IfOk result (λ touches. IsLookedOver (moved_by marks.now) (F.numbers forbidden.now) (S.proxies shapes.now) old.now notes.new.items ends.new.items touches.begin.items touches.end.items) }
     ensures memory_only { IsOkUnless result Refusal.NoMemory }
 {
     notes.clear();
-    let mut gone = Vec::new(alloc);
-    let mut begin = Vec::new(alloc);
-    let mut end = Vec::new(alloc);
+    ends.clear();
+    let mut touches = Touches {
+        begin: Vec::new(alloc),
+        end: Vec::new(alloc),
+    };
     let places = stirring.places.as_slice();
     for index in 0..places.len() {
         let place = places[index];
-        let entry = &old[place];
-        let turn = turn_of(shapes, marks, forbidden, entry);
-        note(notes, place, &turn)?;
-        push_key(&mut gone, gone_key(entry, &turn))?;
-        push_key(&mut begin, begun_key(entry, &turn))?;
-        push_key(&mut end, ended_key(entry, &turn))?;
+        look_at(
+            notes,
+            ends,
+            &mut touches,
+            shapes,
+            marks,
+            forbidden,
+            old,
+            place,
+        )?;
     }
-    Ok(Findings { gone, begin, end })
+    Ok(touches)
 }

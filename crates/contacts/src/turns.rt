@@ -8,15 +8,16 @@ ghost use Rattle.contacts_base.specs.declared.near.Proxy.{Proxy};
 ghost use Rattle.contacts_base.specs.Keys.{id_number};
 ghost use Rattle.contacts_base.specs.Near.{IsProxyList};
 ghost use Rattle.contacts_base.specs.Contacts.{is_touching};
-ghost use Rattle.contacts.specs.Changes.{key_if_new, key_unless};
+ghost use Rattle.contacts.specs.Changes.{key_if_new};
 ghost use Rattle.contacts.specs.Known.{again, either_moved, found, may_touch, near_key, stays};
+ghost use Rattle.contacts.specs.Looked.{ending};
 ghost use Rattle.contacts.specs.Turns.{key_if_begun, moved_by, noted, one_stirs_of, outcome, stirs_in, turned};
 
 use crate::broad_phase::BroadPhase;
 use crate::changes::contact_with;
 use crate::forbidden::{ForbiddenPairs, is_forbidden};
 use crate::marks::either_moved;
-use contacts_base::{ContactEntry, ContactKey, PackedContact, Proxy, ShapeId, is_near};
+use contacts_base::{ContactEntry, ContactKey, PackedContact, Proxy, Renewal, ShapeId, is_near};
 use fixed_geom::{Box2, Refusal};
 
 /// Where the shapes of the enabled bodies are read, one by one.
@@ -61,13 +62,6 @@ pub enum Turn {
     Stays,
     Goes,
     Renewed(PackedContact),
-}
-
-/// What the contact at a place of a list becomes.
-#[derive(Clone, Copy, Debug, PartialEq, Eq)]
-pub struct Renewal {
-    pub place: usize,
-    pub contact: PackedContact,
 }
 
 /// Whether two shapes are near, and nothing keeps their bodies from colliding.
@@ -168,18 +162,6 @@ fn touches_after(entry: &ContactEntry, turn: &Turn) -> bool
     }
 }
 
-/// The contact's key, if it goes.
-#[tactic(auto, unfolding(crate::specs::Changes::key_unless))]
-pub(crate) fn gone_key(entry: &ContactEntry, turn: &Turn) -> Option<ContactKey>
-    ensures { result ≡ key_unless (turned entry.now turn.now) entry.now }
-{
-    match turn {
-        Turn::Stays => None,
-        Turn::Goes => Some(entry.key),
-        Turn::Renewed(_) => None,
-    }
-}
-
 /// The contact's key, if it touched, and doesn't after its turn.
 #[tactic(auto, unfolding(crate::specs::Changes::key_if_new))]
 pub(crate) fn ended_key(entry: &ContactEntry, turn: &Turn) -> Option<ContactKey>
@@ -236,5 +218,20 @@ pub(crate) fn note(notes: &mut Vec<Renewal>, place: usize, turn: &Turn) -> Resul
             })?;
             Ok(())
         }
+    }
+}
+
+/// Notes the place of a contact that goes. Refused 1 where memory is wanting.
+pub(crate) fn note_end(ends: &mut Vec<usize>, place: usize, turn: &Turn) -> Result<(), Refusal>
+    ensures noted { OnOk result (ends.new.items ≡ ends.old.items ++ ending place turn.now) }
+    ensures memory_only { IsOkUnless result Refusal.NoMemory }
+{
+    match turn {
+        Turn::Stays => Ok(()),
+        Turn::Goes => {
+            ends.push(place)?;
+            Ok(())
+        }
+        Turn::Renewed(_) => Ok(()),
     }
 }

@@ -1,184 +1,158 @@
-//! The contacts after a collide, from what is known of the near pairs: only fresh pairs are looked for, and contacts stay in their
-//! places where none is made and none goes.
+//! The contacts after a collide, from what is known of the near pairs: only fresh pairs are looked for, and of the long list of contacts those alone of which a
+//! body may stir. Contacts that come go into the short list, which is made anew.
 
-ghost use Rattle.std.specs.Prelude.{◌≡◌, IfOk, IfSome};
+ghost use Rattle.std.specs.Prelude.{◌≡◌, All, IfOk, OnOk, false, true};
 ghost use Rattle.std.specs.Result.{IsOkUnless};
-ghost use Rattle.contacts_base.specs.Contacts.{AreContacts};
+ghost use Rattle.contacts_base.specs.Contacts.{AreContacts, AreKeysRising};
+ghost use Rattle.contacts_base.specs.Keys.{key_number};
+ghost use Rattle.contacts_base.specs.Merge.{AreAscending, merged};
 ghost use Rattle.contacts_base.specs.Near.{IsProxyList};
+ghost use Rattle.contacts_base.specs.Split.{contacts_in};
 ghost use Rattle.contacts.specs.Changes.{AreRising, contacts_of};
-ghost use Rattle.contacts.specs.Known.{IsKnown, fresh as fresh_codes};
-ghost use Rattle.contacts.specs.Stirring.{AreQuiet, stirring_places};
-ghost use Rattle.contacts.specs.Turns.{IsMade, moved_by, renewed, whole_or};
+ghost use Rattle.contacts.specs.Due.{IsDue, due_of};
+ghost use Rattle.contacts.specs.Known.{IsKnown, IsPairKey, fresh as fresh_codes};
+ghost use Rattle.contacts.specs.Looked.{IsRebuiltIf};
+ghost use Rattle.contacts.specs.Stirring.{AreQuiet, one_flagged, stirring_places};
+ghost use Rattle.contacts.specs.Turns.{IsMade, moved_by};
 
+use crate::due::{Due, Touches};
 use crate::forbidden::ForbiddenPairs;
-use crate::rebuild::rebuild;
-use crate::stirring::Stirring;
+use crate::rebuild::{Rebuilt, rebuild};
+use crate::stirring::{Stirring, is_one_flagged};
 use crate::survey::look_over;
-use crate::turns::{Renewal, ShapesByName};
-use contacts_base::{ContactEntry, ContactKey, Contacts};
+use crate::turns::ShapesByName;
+use contacts_base::merge::merge;
+use contacts_base::{ContactEntry, ContactKey, SplitContacts};
 use fixed_geom::Refusal;
 use std::alloc::Global;
 
-/// What a collide makes of the contacts beside what it notes of them, not yet carried out: the whole list where some are made or go, and
-/// then the notes say nothing. The keys of those that begin to touch and of those that end ascend.
-#[derive(Drop)]
-pub struct Updated {
-    pub whole: Option<Contacts>,
-    pub begin: Vec<ContactKey>,
-    pub end: Vec<ContactKey>,
-}
-
-/// Gives contacts the points that were noted of them.
-fn renew(contacts: &mut Contacts, notes: &[Renewal])
-    ensures { contacts.new ≡ renewed notes.now contacts.old }
+/// Whether a body of one of the contacts may stir.
+fn may_one_stir(flags: &[bool], entries: &[ContactEntry]) -> bool
+    ensures { result ≡ false → All (λ e. one_flagged flags.now e ≡ false) entries.now }
 {
-    for note in notes {
-        contacts.set_contact(note.place, note.contact);
-    }
-}
-
-/// Carries out what a collide made of the contacts, which are those that it was made of. Takes no memory.
-pub fn carry_out(contacts: &mut Contacts, notes: &[Renewal], whole: Option<Contacts>)
-    ensures { contacts.new ≡ whole_or whole (renewed notes.now contacts.old) }
-{
-    match whole {
-        None => renew(contacts, notes),
-        Some(all) => {
-            *contacts = all;
+    for place in 0..entries.len() {
+        if is_one_flagged(flags, &entries[place]) {
+            return true;
         }
     }
+    false
 }
 
-/// What a collide makes of the contacts, where none is made, and none goes; `None` where one goes. Refused 1 where memory is wanting.
-fn update_in_place<S: ShapesByName, F: ForbiddenPairs>(
+/// The short list anew, if contacts come or a body of one in it may stir: else it stays as it is. Refused 1 where memory is wanting.
+fn rebuild_if<S: ShapesByName, F: ForbiddenPairs>(
     alloc: Global,
-    notes: &mut Vec<Renewal>,
     shapes: &S,
     marks: &[bool],
     forbidden: &F,
-    old: &[ContactEntry],
-    stirring: &Stirring,
-    fresh: &[ContactEntry],
-) -> Result<Option<Updated>, Refusal>
-    requires shapes { IsProxyList (S.proxies shapes.now) }
-    requires old { AreContacts old.now }
-    requires known { IsKnown (moved_by marks.now) (F.numbers forbidden.now) (S.proxies shapes.now) old.now }
-    requires places { stirring.now.places.items ≡ stirring_places stirring.now.flags.items old.now }
-    requires quiet { AreQuiet stirring.now.flags.items marks.now (S.proxies shapes.now) }
-    requires fresh { fresh.now ≡ contacts_of old.now (S.proxies shapes.now) (fresh_codes (moved_by marks.now) (F.numbers forbidden.now) (S.proxies shapes.now) old.now) }
-    ensures made { IfOk result (λ some. IfSome some (λ updated. IsMade (F.numbers forbidden.now) (S.proxies shapes.now) old.now (whole_or updated.whole (renewed notes.new.items old.now)) updated.begin.items updated.end.items)) }
-    ensures memory_only { IsOkUnless result Refusal.NoMemory }
-{
-    if !fresh.is_empty() {
-        return Ok(None);
-    }
-    let found = look_over(alloc, notes, shapes, marks, forbidden, old, stirring)?;
-    if !found.gone.is_empty() {
-        return Ok(None);
-    }
-    Ok(Some(Updated {
-        whole: None,
-        begin: found.begin,
-        end: found.end,
-    }))
-}
-
-/// The same as a new list. Refused 1 where memory is wanting.
-fn update_whole<S: ShapesByName, F: ForbiddenPairs>(
-    alloc: Global,
-    notes: &mut Vec<Renewal>,
-    shapes: &S,
-    marks: &[bool],
-    forbidden: &F,
-    old: &[ContactEntry],
+    short: &[ContactEntry],
     flags: &[bool],
     fresh: &[ContactEntry],
-) -> Result<Updated, Refusal>
+) -> Result<Option<Rebuilt>, Refusal>
     requires shapes { IsProxyList (S.proxies shapes.now) }
-    requires old { AreContacts old.now }
-    requires known { IsKnown (moved_by marks.now) (F.numbers forbidden.now) (S.proxies shapes.now) old.now }
+    requires short { AreContacts short.now }
+    requires keys { All (λ e. IsPairKey e.key) short.now }
     requires quiet { AreQuiet flags.now marks.now (S.proxies shapes.now) }
-    requires fresh { fresh.now ≡ contacts_of old.now (S.proxies shapes.now) (fresh_codes (moved_by marks.now) (F.numbers forbidden.now) (S.proxies shapes.now) old.now) }
-    ensures made { IfOk result (λ updated. IsMade (F.numbers forbidden.now) (S.proxies shapes.now) old.now (whole_or updated.whole (renewed notes.new.items old.now)) updated.begin.items updated.end.items) }
+    requires fresh { AreKeysRising fresh.now }
+    ensures rebuilt { IfOk result (λ rebuilt. IsRebuiltIf (moved_by marks.now) (F.numbers forbidden.now) (S.proxies shapes.now) short.now fresh.now rebuilt) }
     ensures memory_only { IsOkUnless result Refusal.NoMemory }
 {
-    notes.clear();
-    let rebuilt = rebuild(alloc, shapes, marks, forbidden, old, flags, fresh)?;
-    Ok(Updated {
-        whole: Some(rebuilt.all),
-        begin: rebuilt.begin,
-        end: rebuilt.end,
-    })
+    if fresh.is_empty() && !may_one_stir(flags, short) {
+        return Ok(None);
+    }
+    let rebuilt = rebuild(alloc, shapes, marks, forbidden, short, flags, fresh)?;
+    Ok(Some(rebuilt))
 }
 
-/// In place where none is made and none goes, and else as a new list.
-fn update<S: ShapesByName, F: ForbiddenPairs>(
+/// Two ascending lists of keys as one. Refused 1 where memory is wanting.
+fn join(
     alloc: Global,
-    notes: &mut Vec<Renewal>,
-    shapes: &S,
-    marks: &[bool],
-    forbidden: &F,
-    old: &[ContactEntry],
-    stirring: &Stirring,
-    fresh: &[ContactEntry],
-) -> Result<Updated, Refusal>
-    requires shapes { IsProxyList (S.proxies shapes.now) }
-    requires old { AreContacts old.now }
-    requires known { IsKnown (moved_by marks.now) (F.numbers forbidden.now) (S.proxies shapes.now) old.now }
-    requires places { stirring.now.places.items ≡ stirring_places stirring.now.flags.items old.now }
-    requires quiet { AreQuiet stirring.now.flags.items marks.now (S.proxies shapes.now) }
-    requires fresh { fresh.now ≡ contacts_of old.now (S.proxies shapes.now) (fresh_codes (moved_by marks.now) (F.numbers forbidden.now) (S.proxies shapes.now) old.now) }
-    ensures made { IfOk result (λ updated. IsMade (F.numbers forbidden.now) (S.proxies shapes.now) old.now (whole_or updated.whole (renewed notes.new.items old.now)) updated.begin.items updated.end.items) }
+    first: Vec<ContactKey>,
+    second: Vec<ContactKey>,
+) -> Result<Vec<ContactKey>, Refusal>
+    requires first { AreAscending key_number first.items }
+    requires second { AreAscending key_number second.items }
+    ensures value { IfOk result (λ all. all.items ≡ merged key_number first.items second.items) }
     ensures memory_only { IsOkUnless result Refusal.NoMemory }
 {
-    match update_in_place(alloc, notes, shapes, marks, forbidden, old, stirring, fresh)? {
-        None => update_whole(
-            alloc,
-            notes,
-            shapes,
-            marks,
-            forbidden,
-            old,
-            &stirring.flags,
-            fresh,
-        ),
-        Some(updated) => Ok(updated),
+    if second.is_empty() {
+        return Ok(first);
     }
+    if first.is_empty() {
+        return Ok(second);
+    }
+    merge(alloc, &first, &second)
+}
+
+/// What begins and ends to touch in both lists. Refused 1 where memory is wanting.
+fn join_touches(alloc: Global, long: Touches, short: Touches) -> Result<Touches, Refusal>
+    requires long_begin { AreAscending key_number long.begin.items }
+    requires long_end { AreAscending key_number long.end.items }
+    requires short_begin { AreAscending key_number short.begin.items }
+    requires short_end { AreAscending key_number short.end.items }
+    ensures begin { IfOk result (λ touches. touches.begin.items ≡ merged key_number long.begin.items short.begin.items) }
+    ensures end { IfOk result (λ touches. touches.end.items ≡ merged key_number long.end.items short.end.items) }
+    ensures memory_only { IsOkUnless result Refusal.NoMemory }
+{
+    let begin = join(alloc, long.begin, short.begin)?;
+    let end = join(alloc, long.end, short.end)?;
+    Ok(Touches { begin, end })
 }
 
 /// What a collide makes of the contacts `old`, of which it is known that a near pair of shapes that haven't moved has one: `fresh` are the
 /// contacts of the near pairs that have none yet. `forbidden` are the pairs of bodies that may not collide.
-/// Refused 1 where memory is wanting.
+/// Answers which begin to touch and which end. Refused 1 where memory is wanting: what is due then has to be cleared.
 ///
 /// A contact goes if one of its shapes has moved and they are no longer near. Of those that stay the ones are evaluated anew of which a body stirs.
 pub fn update_known<S: ShapesByName, F: ForbiddenPairs>(
     alloc: Global,
-    notes: &mut Vec<Renewal>,
+    due: &mut Due,
     shapes: &S,
     marks: &[bool],
     forbidden: &F,
-    old: &Contacts,
+    old: &SplitContacts,
     stirring: &Stirring,
     fresh: &[ContactEntry],
-) -> Result<Updated, Refusal>
+) -> Result<Touches, Refusal>
     requires shapes { IsProxyList (S.proxies shapes.now) }
-    requires known { IsKnown (moved_by marks.now) (F.numbers forbidden.now) (S.proxies shapes.now) old.now }
-    requires places { stirring.now.places.items ≡ stirring_places stirring.now.flags.items old.now }
+    requires known { IsKnown (moved_by marks.now) (F.numbers forbidden.now) (S.proxies shapes.now) (contacts_in old.now) }
+    requires places { stirring.now.places.items ≡ stirring_places stirring.now.flags.items old.now.long }
     requires quiet { AreQuiet stirring.now.flags.items marks.now (S.proxies shapes.now) }
-    requires fresh { fresh.now ≡ contacts_of old.now (S.proxies shapes.now) (fresh_codes (moved_by marks.now) (F.numbers forbidden.now) (S.proxies shapes.now) old.now) }
-    ensures made { IfOk result (λ updated. IsMade (F.numbers forbidden.now) (S.proxies shapes.now) old.now (whole_or updated.whole (renewed notes.new.items old.now)) updated.begin.items updated.end.items) }
-    ensures begin_rising { IfOk result (λ updated. AreRising updated.begin.items) }
-    ensures end_rising { IfOk result (λ updated. AreRising updated.end.items) }
+    requires fresh { fresh.now ≡ contacts_of (contacts_in old.now) (S.proxies shapes.now) (fresh_codes (moved_by marks.now) (F.numbers forbidden.now) (S.proxies shapes.now) (contacts_in old.now)) }
+    ensures due { OnOk result (IsDue due.new old.now) }
+    ensures made { IfOk result (λ touches. IsMade (F.numbers forbidden.now) (S.proxies shapes.now) (contacts_in old.now) (due_of due.new old.now) touches.begin.items touches.end.items) }
+    ensures begin_rising { IfOk result (λ touches. AreRising touches.begin.items) }
+    ensures end_rising { IfOk result (λ touches. AreRising touches.end.items) }
     ensures memory_only { IsOkUnless result Refusal.NoMemory }
+    ensures any { due.new.any ≡ true }
 {
-    update(
+    due.short = None;
+    due.whole = None;
+    due.any = true;
+    old.ascend();
+    let touches = look_over(
         alloc,
-        notes,
+        &mut due.notes,
+        &mut due.ends,
         shapes,
         marks,
         forbidden,
-        old.as_slice(),
+        old,
         stirring,
+    )?;
+    let rebuilt = rebuild_if(
+        alloc,
+        shapes,
+        marks,
+        forbidden,
+        old.short(),
+        &stirring.flags,
         fresh,
-    )
+    )?;
+    match rebuilt {
+        None => Ok(touches),
+        Some(rebuilt) => {
+            due.short = Some(rebuilt.all);
+            join_touches(alloc, touches, rebuilt.touches)
+        }
+    }
 }

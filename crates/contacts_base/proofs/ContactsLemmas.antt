@@ -8,9 +8,8 @@ use Rattle.std.proofs.lemmas.List.Kept.{AllPairs-filter}
 use Rattle.std.proofs.lemmas.Option.{slice_get_within, slice_get-get_or, get_or_from_slice_get}
 use Rattle.contacts_base.specs.declared.contact.Contact.{Contact}
 use Rattle.contacts_base.specs.declared.contact.ContactEntry.{ContactEntry}
-use Rattle.contacts_base.specs.declared.evaluation.Impulses.{Impulses}
 use Rattle.contacts_base.specs.Surfaces.{IsSurface}
-use Rattle.contacts_base.specs.Contacts.{number_of, has_slot, contacts_without, with_points, impulses_set, contact_set, AreKeysRising, AreContacts}
+use Rattle.contacts_base.specs.Contacts.{number_of, has_slot, contacts_without, contact_set, AreKeysRising, AreContacts}
 use Rattle.contacts_base.proofs.LookupLemmas.{keys_later}
 
 abbrev Rises : ContactEntry → ContactEntry → Type 0
@@ -38,30 +37,6 @@ number_set : (es : List ContactEntry) (i : ℕ) (e f : ContactEntry) → slice_g
 number_set [] i e f h same = refl
 number_set (x ∷ xs) zero e f h same = let is : x ≡ e = cc in ap (λ n. n ∷ map number_of xs) (same ∙ ap number_of (sym is))
 number_set (x ∷ xs) (suc i) e f h same = ap (λ ns. number_of x ∷ ns) (number_set xs i e f h same)
-
-pub numbers_set : (i : ℕ) (a : Impulses) (b : Option Impulses) (es : List ContactEntry) (o : Option ContactEntry) → slice_get es i ≡ o → map number_of (impulses_set i a b es o) ≡ map number_of es
-numbers_set i a b es None h = refl
-numbers_set i a b es (Some e) h = number_set es i e (with_points a b e) h refl
-
-surfaces_set : (i : ℕ) (a : Impulses) (b : Option Impulses) (es : List ContactEntry) (o : Option ContactEntry) → slice_get es i ≡ o → All (λ e. IsSurface e.surface) es → All (λ e. IsSurface e.surface) (impulses_set i a b es o)
-surfaces_set i a b es None h all = all
-surfaces_set i a b es (Some e) h all =
-    let P : ContactEntry → Type 0 = λ f. IsSurface f.surface in
-    All-set P es i (with_points a b e) (subst P (get_or_from_slice_get es i e e h) (all i e (slice_get_within es i e h))) all
-
-pub contacts_set : (i : ℕ) (a : Impulses) (b : Option Impulses) (es : List ContactEntry) → AreContacts es → AreContacts (impulses_set i a b es (slice_get es i))
-contacts_set i a b es are = record {
-  rising = rw (numbers_set i a b es (slice_get es i) refl) are.rising;
-  surfaces = surfaces_set i a b es (slice_get es i) refl are.surfaces;
-}
-
--- what the code writes
-pub set_is : (es : List ContactEntry) (i : ℕ) (e f : ContactEntry) (a : Impulses) (b : Option Impulses) → i < length es → e ≡ get_or es i e → f ≡ with_points a b e → slice_set es i f ≡ impulses_set i a b es (slice_get es i)
-set_is es i e f a b lt is same =
-    let there : slice_get es i ≡ Some e = slice_get-get_or es i e lt ∙ ap Some (sym is) in
-    rw (there, same) refl
-
--- ---- other points
 
 numbers_put : (i : ℕ) (c : Contact) (es : List ContactEntry) (o : Option ContactEntry) → slice_get es i ≡ o → map number_of (contact_set i c es o) ≡ map number_of es
 numbers_put i c es None h = refl

@@ -1,6 +1,10 @@
 pub mod LookupLemmas
 pub mod ContactsLemmas
 pub mod CircleLemmas
-pub mod PlaceLemmas
 pub mod SeekLemmas
 mod PackableLaws
+pub mod MergeLaws
+pub mod MergedLaws
+pub mod CountingLaws
+pub mod SplitLaws
+mod BodyLaws

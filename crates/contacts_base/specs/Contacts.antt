@@ -1,5 +1,5 @@
 -- Lists of contacts by key.
-use Rattle.std.specs.Prelude.{ℕ, suc, ◌<◌, ◌≤◌, ◌==◌, ◌||◌, Bool, false, not, cond, List, [], ◌∷◌, length, map, filter, slice_index_or, slice_set, Option, Some, None, option_map, All}
+use Rattle.std.specs.Prelude.{ℕ, ◌<◌, ◌≤◌, ◌==◌, ◌||◌, Bool, false, not, cond, List, [], ◌∷◌, length, map, filter, slice_index_or, slice_set, Option, Some, None, option_map, All}
 use Rattle.std.specs.List.{AllWithin}
 use Rattle.std.specs.List.Sorted.{IsStrictlyIncreasing}
 use Rattle.contacts_base.specs.declared.key.ContactKey.{ContactKey}
@@ -47,14 +47,6 @@ pub record IsFirstFrom (entries : List ContactEntry) (number place : ℕ) : Type
   pub below : IsAllBelow entries number place
   pub there : (d : ContactEntry) → place < length entries → number ≤ number_of (slice_index_or entries place d)
 
--- the place of the contact with the key, where the first of the list stands at the place n
-abbrev pub found_in : ℕ → List ContactEntry → ContactKey → Option ℕ
-found_in n [] key = None
-found_in n (e ∷ es) key = cond (number_of e == key_number key) (Some n) (found_in (suc n) es key)
-
-abbrev pub found_place : List ContactEntry → ContactKey → Option ℕ
-found_place entries key = found_in 0 entries key
-
 -- ---- what becomes of the list
 
 -- the contact is one of the body in the slot
@@ -76,11 +68,6 @@ with_second (Some i) point = option_map (with_impulses i) point
 -- the contact's points have these impulses
 abbrev pub with_points : Impulses → Option Impulses → ContactEntry → ContactEntry
 with_points first second e = record e { contact = record e.contact { first = option_map (with_impulses first) e.contact.first; second = with_second second e.contact.second } }
-
--- the contact at the index, if there is one, has these impulses
-abbrev pub impulses_set : ℕ → Impulses → Option Impulses → List ContactEntry → Option ContactEntry → List ContactEntry
-impulses_set index first second entries None = entries
-impulses_set index first second entries (Some e) = slice_set entries index (with_points first second e)
 
 -- the contact at the index, if there is one, has these points
 abbrev pub contact_set : ℕ → Contact → List ContactEntry → Option ContactEntry → List ContactEntry

@@ -6,3 +6,8 @@ pub mod Near
 pub mod Circles
 pub mod Limits
 pub mod PackedPoints
+pub mod Merge
+pub mod Split
+pub mod Flags
+pub mod ByBody
+pub mod IsSplit

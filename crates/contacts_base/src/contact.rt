@@ -3,7 +3,7 @@
 ghost use Rattle.std.specs.Prelude.{◌≡◌, ◌≤◌, ◌+◌, true};
 ghost use Rattle.std.specs.Option.{option_copied};
 ghost use Rattle.contacts_base.specs.Keys.{key_number};
-ghost use Rattle.contacts_base.specs.Contacts.{lookup, found_place, AreKeysRising, IsAllBelow, IsNoneBelow, IsFirstFrom};
+ghost use Rattle.contacts_base.specs.Contacts.{lookup, AreKeysRising, IsAllBelow, IsNoneBelow, IsFirstFrom};
 
 use crate::{ContactKey, PackedContact, PackedSurface};
 use fixed_geom::Vec2;
@@ -140,22 +140,6 @@ pub fn contact_at(entries: &[ContactEntry], place: usize, key: ContactKey) -> Op
     let entry = entries.get(place)?;
     if entry.key.number() == wanted {
         Some(entry)
-    } else {
-        None
-    }
-}
-
-/// The place of the contact with this key, where `place` is that of the first contact whose key isn't below it; `None` where
-/// there is none.
-pub fn place_at(entries: &[ContactEntry], place: usize, key: ContactKey) -> Option<usize>
-    requires rising { AreKeysRising entries.now }
-    requires place { IsFirstFrom entries.now (key_number key) place }
-    ensures { result ≡ found_place entries.now key }
-{
-    let sought = key.number();
-    let entry = entries.get(place)?;
-    if entry.key.number() == sought {
-        Some(place)
     } else {
         None
     }

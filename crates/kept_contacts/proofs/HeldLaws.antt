@@ -1,30 +1,23 @@
--- The places of the contacts of which a body may stir stay what they are while the contacts keep their keys.
-use Rattle.std.proofs.Common.{◌≡◌, ℕ, zero, suc, List, [], ◌∷◌, map, Option, Some, None, refl, sym, ap, ◌∙◌}
-use Rattle.std.specs.Prelude.{slice_get}
-use Rattle.contacts_base.specs.declared.key.ContactKey.{ContactKey}
+-- What is due where nothing is, and the places of the contacts of which a body may stir.
+use Rattle.std.proofs.Common.{◌≡◌, List, [], Option, Some, None, refl, sym, subst}
+use Rattle.std.specs.Option.{ForSome}
 use Rattle.contacts_base.specs.declared.contact.ContactEntry.{ContactEntry}
-use Rattle.contacts_base.specs.declared.evaluation.Impulses.{Impulses}
-use Rattle.contacts_base.specs.Contacts.{impulses_set}
-use Rattle.contacts.specs.declared.stirring.Stirring.{Stirring}
-use Rattle.contacts.specs.declared.turns.Renewal.{Renewal}
-use Rattle.contacts.specs.Stirring.{AreHeld}
-use Rattle.contacts.specs.Turns.{renewed}
-use Rattle.contacts.proofs.StirringLaws.{renewed_keys, same_places}
+use Rattle.contacts_base.specs.Contacts.{AreContacts}
+use Rattle.contacts_base.specs.Split.{Split, contacts_in}
+use Rattle.contacts.specs.declared.due.Due.{Due}
+use Rattle.contacts.specs.Due.{IsDue, IsNothing, after, due_of}
 
-pub held_by_keys : (s : Stirring) (es fs : List ContactEntry) → AreHeld s es → map (λ e. e.key) fs ≡ map (λ e. e.key) es → AreHeld s fs
-held_by_keys s es fs held same = λ h. held h ∙ sym (same_places s.flags.items 0 es fs same)
+-- where nothing is noted the lists stay as they are
+pub nothing_after : (d : Due) (s : Split) → IsNothing d → after d s ≡ s
+nothing_after d s n = rw (n.notes, n.ends, n.short) refl
 
-impulses_later : (i : ℕ) (first : Impulses) (second : Option Impulses) (e : ContactEntry) (es : List ContactEntry) (o : Option ContactEntry) → impulses_set (suc i) first second (e ∷ es) o ≡ e ∷ impulses_set i first second es o
-impulses_later i first second e es None = refl
-impulses_later i first second e es (Some f) = refl
+pub due_of_nothing : (d : Due) (s : Split) → IsNothing d → due_of d s ≡ contacts_in s
+due_of_nothing d s n = rw (n.notes, n.ends, n.short, n.whole) refl
 
-impulses_keys : (es : List ContactEntry) (i : ℕ) (first : Impulses) (second : Option Impulses) → map (λ e. e.key) (impulses_set i first second es (slice_get es i)) ≡ map (λ e. e.key) es
-impulses_keys [] i first second = refl
-impulses_keys (e ∷ es) zero first second = refl
-impulses_keys (e ∷ es) (suc i) first second = ap (λ (l : List ContactEntry). map (λ f. f.key) l) (impulses_later i first second e es (slice_get es i)) ∙ ap (λ (l : List ContactKey). e.key ∷ l) (impulses_keys es i first second)
-
-pub held_impulses : (s : Stirring) (es fs : List ContactEntry) (i : ℕ) (first : Impulses) (second : Option Impulses) → AreHeld s es → fs ≡ impulses_set i first second es (slice_get es i) → AreHeld s fs
-held_impulses s es fs i first second held is = held_by_keys s es fs held (ap (λ (l : List ContactEntry). map (λ e. e.key) l) is ∙ impulses_keys es i first second)
-
-pub held_renewed : (s : Stirring) (es fs : List ContactEntry) (rs : List Renewal) → AreHeld s es → fs ≡ renewed rs es → AreHeld s fs
-held_renewed s es fs rs held is = held_by_keys s es fs held (ap (λ (l : List ContactEntry). map (λ e. e.key) l) is ∙ renewed_keys rs es)
+-- and that can be carried out
+pub nothing_is_due : (d : Due) (s : Split) → IsNothing d → AreContacts (contacts_in s) → IsDue d s
+nothing_is_due d s n all = record {
+  short = rw n.short (λ x is. cc);
+  contacts = subst (λ (t : Split). AreContacts (contacts_in t)) (sym (nothing_after d s n)) all;
+  idle = λ h. n;
+}

@@ -1,2 +1,1 @@
-pub mod GoneLaws
 pub mod HeldLaws

@@ -1,97 +1,79 @@
 //! The contacts of near shapes, kept from collide to collide.
 
-ghost use Rattle.std.specs.Prelude.{◌≡◌, ◌==◌, [], slice_get, IfOk, OnErr, OnOk, false};
+ghost use Rattle.std.specs.Prelude.{◌≡◌, [], IfOk, IfSome, List, OnErr, OnOk, true};
 ghost use Rattle.std.specs.Result.{IsOkUnless};
-ghost use Rattle.contacts_base.specs.Contacts.{AreContacts, contacts_without, impulses_set};
+ghost use Rattle.contacts_base.specs.declared.contact.ContactEntry.{ContactEntry};
+ghost use Rattle.contacts_base.specs.Contacts.{AreContacts, contacts_without};
 ghost use Rattle.contacts_base.specs.Near.{IsProxyList};
+ghost use Rattle.contacts_base.specs.Split.{contacts_in, impulses_given};
 ghost use Rattle.contacts.specs.Changes.{AreRising, contacts_of, keys_touching_only_in};
+ghost use Rattle.contacts.specs.Due.{IsDue, IsNothing, due_of};
 ghost use Rattle.contacts.specs.Forbidden.{allowed_codes};
 ghost use Rattle.contacts.specs.Known.{IsKnown};
-ghost use Rattle.contacts.specs.Stirring.{AreHeld};
-ghost use Rattle.contacts.specs.Turns.{AreWithin, moved_by, renewed, whole_or};
-ghost use Rattle.kept_contacts.specs.Gone.{contacts_left};
+ghost use Rattle.contacts.specs.Stirring.{AreFlagsListed, AreHeld};
+ghost use Rattle.contacts.specs.Turns.{AreWithin, moved_by};
 ghost use Rattle.kept_contacts.specs.Kept.{CanCollide, IsMadeOf};
 ghost use Rattle.slot_marks.specs.Marks.{AreListed};
 
-use crate::gone::{copy_left, drop_gone, put_off, settle_gone};
 use contacts::{
-    BroadPhase, ForbiddenPairs, Renewal, ShapesByName, Stirring, carry_out, fresh_of_marked,
+    BroadPhase, Due, ForbiddenPairs, ShapesByName, Stirring, Touches, carry_out, fresh_of_marked,
     refresh, update_known,
 };
-use contacts_base::{ContactEntry, ContactKey, Contacts, Impulses};
+use contacts_base::{ContactEntry, ContactKey, Contacts, Impulses, SplitContacts};
 use fixed_geom::Refusal;
 use std::alloc::Global;
 use std::marker::Model;
-use std::mem;
 
 /// How many slots make a world that isn't small.
 const SMALL_WORLD: usize = 1_024;
-
-/// The contacts of up to so many bodies stay in the list though they are gone.
-const MOST_GONE: usize = 4_096;
 
 /// What is kept beside the contacts from one collide to the next.
 #[derive(Drop)]
 struct Beside {
     stirring: Stirring,
-    // The points of the contacts that the last collide evaluated anew, until it is carried out.
-    notes: Vec<Renewal>,
     // Room for the numbers of the near pairs of marked slots.
     numbers: Vec<u128>,
     // Room for the shapes in a collide that looks for near pairs of all.
     broad: BroadPhase,
+    // How many contacts the collides have looked at beside the long list since it was made.
+    spent: usize,
 }
 
-/// The keys of the contacts that begin to touch and of those that end, each list ascending.
-#[derive(Drop)]
-pub struct Touches {
-    pub begin: Vec<ContactKey>,
-    pub end: Vec<ContactKey>,
-}
-
-/// A contact for each pair of near shapes. Contracts see the list of them (`contacts`), what it becomes when the last collide is carried out (`due`),
-/// and of how many bodies the contacts were dropped that are still to be taken out of the list that is kept (`pending`). Those are taken out in one
-/// pass, when the next collide needs the list.
+/// A contact for each pair of near shapes. Contracts see the list of them (`contacts`), and what it becomes when the last collide is carried
+/// out (`due`).
+///
+/// They are kept as a long list and a short one: where a contact comes or goes the long list stands, and the places in it hold. The two
+/// are made one when the collides since the last time have looked at as many contacts beside the long list as it has, so that this costs no more than was
+/// spent before it.
 #[derive(Drop)]
 pub struct KeptContacts {
-    contacts: Contacts,
-    // The slots of the bodies whose contacts were dropped, and still stand in the list.
-    gone: Vec<u32>,
-    // What the last collide made of the contacts, until it is carried out, where some were made or go.
-    whole: Option<Contacts>,
+    contacts: SplitContacts,
+    // What the last collide made of the contacts, until it is carried out.
+    due: Due,
     beside: Beside,
 }
 
 impl Model for KeptContacts {
-    ghost use Rattle.std.specs.Prelude.{length};
-    ghost use Rattle.contacts.specs.Turns.{renewed, whole_or};
-    ghost use Rattle.kept_contacts.specs.Gone.{contacts_left};
+    ghost use Rattle.contacts_base.specs.Split.{contacts_in};
+    ghost use Rattle.contacts.specs.Due.{due_of};
     ghost use Rattle.kept_contacts.specs.Kept.{Kept, IsKeptContacts};
 
     ghost Value = { Kept };
 
-    ghost view = { λ a. record { contacts = contacts_left a.gone.items a.contacts; due = whole_or a.whole (renewed a.beside.notes.items (contacts_left a.gone.items a.contacts)); pending = length a.gone.items } };
+    ghost view = { λ a. record { contacts = contacts_in a.contacts; due = due_of a.due a.contacts } };
 
     ghost invariant = { λ a. IsKeptContacts a };
 }
 
-/// What a collide has made beside its notes, and what touches by it.
-#[derive(Drop)]
-struct Made {
-    whole: Option<Contacts>,
-    touches: Touches,
-}
-
-/// Nothing is known, and nothing is due.
+/// Nothing is known.
 fn nothing_beside(alloc: Global) -> Beside
-    ensures holds { result.stirring.holds ≡ false }
-    ensures notes { result.notes.items ≡ [] }
+    ensures { (entries : List ContactEntry) → AreHeld result.stirring entries }
 {
     Beside {
         stirring: Stirring::new(alloc),
-        notes: Vec::new(alloc),
         numbers: Vec::new(alloc),
         broad: BroadPhase::new(alloc),
+        spent: 0,
     }
 }
 
@@ -102,27 +84,77 @@ fn are_many(marked: &[u32], marks: &[bool]) -> bool {
     marked.len() > marks.len() / parts
 }
 
+/// The long list is another: the places don't hold for it, and nothing was looked at beside it.
+fn lapse(beside: &mut Beside)
+    requires { AreFlagsListed beside.old.stirring.flags.items beside.old.stirring.flagged.items }
+    ensures { (entries : List ContactEntry) → AreHeld beside.new.stirring entries }
+{
+    beside.stirring.holds = false;
+    beside.spent = 0;
+}
+
+/// Makes the two lists one, if they aren't. Refused 1 where memory is wanting, and then all stays as it is.
+fn settle(alloc: Global, contacts: &mut SplitContacts, beside: &mut Beside) -> Result<(), Refusal>
+    requires { AreHeld beside.old.stirring contacts.old.long }
+    ensures contacts { contacts_in contacts.new ≡ contacts_in contacts.old }
+    ensures one { OnOk result (contacts.new.long ≡ contacts_in contacts.old) }
+    ensures held { AreHeld beside.new.stirring contacts.new.long }
+    ensures memory_only { IsOkUnless result Refusal.NoMemory }
+{
+    if contacts.is_one() {
+        return Ok(());
+    }
+    contacts.settle(alloc)?;
+    lapse(beside);
+    Ok(())
+}
+
+/// The same where the collides have looked at as many contacts beside the long list as it has; and what the next one looks at is counted.
+fn settle_if_due(
+    alloc: Global,
+    contacts: &mut SplitContacts,
+    beside: &mut Beside,
+) -> Result<(), Refusal>
+    requires { AreHeld beside.old.stirring contacts.old.long }
+    ensures contacts { contacts_in contacts.new ≡ contacts_in contacts.old }
+    ensures held { AreHeld beside.new.stirring contacts.new.long }
+    ensures memory_only { IsOkUnless result Refusal.NoMemory }
+{
+    if beside.spent >= contacts.long().len() {
+        settle(alloc, contacts, beside)?;
+    }
+    beside.spent = beside.spent.saturating_add(contacts.beside());
+    Ok(())
+}
+
 /// What becomes of the contacts by all near pairs. Refused 1 where memory is wanting.
 fn make_anew<S: ShapesByName, F: ForbiddenPairs>(
     beside: &mut Beside,
     alloc: Global,
+    due: &mut Due,
     shapes: &S,
     forbidden: &F,
-    contacts: &Contacts,
-) -> Result<Made, Refusal>
-    requires held { AreHeld beside.old.stirring contacts.now }
-    ensures held { AreHeld beside.new.stirring contacts.now }
-    ensures made { IfOk result (IsMadeOf (S.proxies shapes.now) (F.numbers forbidden.now) contacts.now beside.new.notes.items) }
+    contacts: &mut SplitContacts,
+) -> Result<Touches, Refusal>
+    requires held { AreHeld beside.old.stirring contacts.old.long }
+    requires nothing { IsNothing due.old }
+    requires any { due.old.any ≡ true }
+    ensures contacts { contacts_in contacts.new ≡ contacts_in contacts.old }
+    ensures held { AreHeld beside.new.stirring contacts.new.long }
+    ensures due { OnOk result (IsDue due.new contacts.new) }
+    ensures made { IfOk result (IsMadeOf (S.proxies shapes.now) (F.numbers forbidden.now) (contacts_in contacts.old) (due_of due.new contacts.new)) }
+    ensures any { due.new.any ≡ true }
     ensures memory_only { IsOkUnless result Refusal.NoMemory }
 {
+    settle(alloc, contacts, beside)?;
     shapes.gather(&mut beside.broad)?;
-    let changes = beside.broad.update_contacts(alloc, forbidden, contacts)?;
-    Ok(Made {
-        whole: Some(changes.now),
-        touches: Touches {
-            begin: changes.begin,
-            end: changes.end,
-        },
+    let changes = beside
+        .broad
+        .update_contacts(alloc, forbidden, contacts.long())?;
+    due.whole = Some(SplitContacts::from_entries(alloc, changes.now.into_entries())?);
+    Ok(Touches {
+        begin: changes.begin,
+        end: changes.end,
     })
 }
 
@@ -130,25 +162,25 @@ fn make_anew<S: ShapesByName, F: ForbiddenPairs>(
 fn make_known<S: ShapesByName, F: ForbiddenPairs>(
     beside: &mut Beside,
     alloc: Global,
+    due: &mut Due,
     shapes: &S,
     marks: &[bool],
     marked: &[u32],
     forbidden: &F,
-    contacts: &Contacts,
-) -> Result<Made, Refusal>
-    requires can { CanCollide (S.proxies shapes.now) marks.now marked.now (F.numbers forbidden.now) contacts.now }
-    requires held { AreHeld beside.old.stirring contacts.now }
-    ensures held { AreHeld beside.new.stirring contacts.now }
-    ensures made { IfOk result (IsMadeOf (S.proxies shapes.now) (F.numbers forbidden.now) contacts.now beside.new.notes.items) }
+    contacts: &mut SplitContacts,
+) -> Result<Touches, Refusal>
+    requires can { CanCollide (S.proxies shapes.now) marks.now marked.now (F.numbers forbidden.now) (contacts_in contacts.old) }
+    requires held { AreHeld beside.old.stirring contacts.old.long }
+    requires any { due.old.any ≡ true }
+    ensures contacts { contacts_in contacts.new ≡ contacts_in contacts.old }
+    ensures held { AreHeld beside.new.stirring contacts.new.long }
+    ensures due { OnOk result (IsDue due.new contacts.new) }
+    ensures made { IfOk result (IsMadeOf (S.proxies shapes.now) (F.numbers forbidden.now) (contacts_in contacts.old) (due_of due.new contacts.new)) }
+    ensures any { due.new.any ≡ true }
     ensures memory_only { IsOkUnless result Refusal.NoMemory }
 {
-    refresh(
-        &mut beside.stirring,
-        shapes,
-        marks,
-        marked,
-        contacts.as_slice(),
-    )?;
+    settle_if_due(alloc, contacts, beside)?;
+    refresh(&mut beside.stirring, shapes, marks, marked, contacts)?;
     let fresh = fresh_of_marked(
         alloc,
         &mut beside.numbers,
@@ -156,188 +188,150 @@ fn make_known<S: ShapesByName, F: ForbiddenPairs>(
         marks,
         marked,
         forbidden,
-        contacts.as_slice(),
+        contacts,
     )?;
-    let updated = update_known(
+    update_known(
         alloc,
-        &mut beside.notes,
+        due,
         shapes,
         marks,
         forbidden,
         contacts,
         &beside.stirring,
         &fresh,
-    )?;
-    Ok(Made {
-        whole: updated.whole,
-        touches: Touches {
-            begin: updated.begin,
-            end: updated.end,
-        },
-    })
+    )
 }
 
 /// What a collide makes of the contacts. Refused 1 where memory is wanting.
 fn make_due<S: ShapesByName, F: ForbiddenPairs>(
     beside: &mut Beside,
     alloc: Global,
+    due: &mut Due,
     shapes: &S,
     marks: &[bool],
     marked: &[u32],
     forbidden: &F,
-    contacts: &Contacts,
-) -> Result<Made, Refusal>
-    requires can { CanCollide (S.proxies shapes.now) marks.now marked.now (F.numbers forbidden.now) contacts.now }
-    requires held { AreHeld beside.old.stirring contacts.now }
-    ensures held { AreHeld beside.new.stirring contacts.now }
-    ensures made { IfOk result (IsMadeOf (S.proxies shapes.now) (F.numbers forbidden.now) contacts.now beside.new.notes.items) }
+    contacts: &mut SplitContacts,
+) -> Result<Touches, Refusal>
+    requires can { CanCollide (S.proxies shapes.now) marks.now marked.now (F.numbers forbidden.now) (contacts_in contacts.old) }
+    requires held { AreHeld beside.old.stirring contacts.old.long }
+    requires nothing { IsNothing due.old }
+    requires any { due.old.any ≡ true }
+    ensures contacts { contacts_in contacts.new ≡ contacts_in contacts.old }
+    ensures held { AreHeld beside.new.stirring contacts.new.long }
+    ensures due { OnOk result (IsDue due.new contacts.new) }
+    ensures made { IfOk result (IsMadeOf (S.proxies shapes.now) (F.numbers forbidden.now) (contacts_in contacts.old) (due_of due.new contacts.new)) }
+    ensures any { due.new.any ≡ true }
     ensures memory_only { IsOkUnless result Refusal.NoMemory }
 {
     if are_many(marked, marks) {
-        make_anew(beside, alloc, shapes, forbidden, contacts)
+        make_anew(beside, alloc, due, shapes, forbidden, contacts)
     } else {
-        make_known(beside, alloc, shapes, marks, marked, forbidden, contacts)
+        make_known(
+            beside, alloc, due, shapes, marks, marked, forbidden, contacts,
+        )
     }
 }
 
-/// The same; where memory is wanting nothing is noted.
+/// The same; where memory is wanting nothing is due.
 fn make_or_clear<S: ShapesByName, F: ForbiddenPairs>(
     beside: &mut Beside,
     alloc: Global,
+    due: &mut Due,
     shapes: &S,
     marks: &[bool],
     marked: &[u32],
     forbidden: &F,
-    contacts: &Contacts,
-) -> Result<Made, Refusal>
-    requires can { CanCollide (S.proxies shapes.now) marks.now marked.now (F.numbers forbidden.now) contacts.now }
-    requires held { AreHeld beside.old.stirring contacts.now }
-    ensures held { AreHeld beside.new.stirring contacts.now }
-    ensures made { IfOk result (IsMadeOf (S.proxies shapes.now) (F.numbers forbidden.now) contacts.now beside.new.notes.items) }
-    ensures refused { OnErr result (beside.new.notes.items ≡ []) }
+    contacts: &mut SplitContacts,
+) -> Result<Touches, Refusal>
+    requires can { CanCollide (S.proxies shapes.now) marks.now marked.now (F.numbers forbidden.now) (contacts_in contacts.old) }
+    requires held { AreHeld beside.old.stirring contacts.old.long }
+    requires nothing { IsNothing due.old }
+    ensures contacts { contacts_in contacts.new ≡ contacts_in contacts.old }
+    ensures held { AreHeld beside.new.stirring contacts.new.long }
+    ensures due { IsDue due.new contacts.new }
+    ensures made { IfOk result (IsMadeOf (S.proxies shapes.now) (F.numbers forbidden.now) (contacts_in contacts.old) (due_of due.new contacts.new)) }
+    ensures refused { OnErr result (due_of due.new contacts.new ≡ contacts_in contacts.old) }
     ensures memory_only { IsOkUnless result Refusal.NoMemory }
 {
-    let made = make_due(beside, alloc, shapes, marks, marked, forbidden, contacts);
+    due.any = true;
+    let made = make_due(
+        beside, alloc, due, shapes, marks, marked, forbidden, contacts,
+    );
     if made.is_err() {
-        beside.notes.clear();
+        due.clear();
+        contacts.ascend();
     }
     made
 }
 
-/// Gives the contacts what was noted of them, or the whole list for them, where there is one: the places don't hold for that. Takes no memory.
-fn renew(contacts: &mut Contacts, beside: &mut Beside, whole: Option<Contacts>)
-    requires { AreHeld beside.old.stirring contacts.old }
-    ensures contacts { contacts.new ≡ whole_or whole (renewed beside.old.notes.items contacts.old) }
-    ensures held { AreHeld beside.new.stirring contacts.new }
-{
-    match whole {
-        None => carry_out(contacts, &beside.notes, None),
-        Some(all) => {
-            beside.stirring.holds = false;
-            carry_out(contacts, &beside.notes, Some(all));
-        }
-    }
-}
-
 /// Carries out what is due, if something is. Takes no memory.
-fn carry_out_now(contacts: &mut Contacts, beside: &mut Beside, whole: Option<Contacts>)
-    requires { AreHeld beside.old.stirring contacts.old }
-    ensures contacts { contacts.new ≡ whole_or whole (renewed beside.old.notes.items contacts.old) }
-    ensures held { AreHeld beside.new.stirring contacts.new }
+fn carry_out_now(contacts: &mut SplitContacts, due: &mut Due, beside: &mut Beside)
+    requires held { AreHeld beside.old.stirring contacts.old.long }
+    requires due { IsDue due.old contacts.old }
+    ensures contacts { contacts_in contacts.new ≡ due_of due.old contacts.old }
+    ensures held { AreHeld beside.new.stirring contacts.new.long }
+    ensures nothing { IsNothing due.new }
 {
-    renew(contacts, beside, whole);
-    beside.notes.clear();
-}
-
-/// Takes the contacts of the bodies that are gone out of the list: the places don't hold for what is left. Refused 1 where memory is wanting, and
-/// then the list stays as it is.
-fn settle(
-    alloc: Global,
-    contacts: &mut Contacts,
-    gone: &mut Vec<u32>,
-    beside: &mut Beside,
-) -> Result<(), Refusal>
-    requires { AreHeld beside.old.stirring contacts.old }
-    ensures contacts { OnOk result (contacts.new ≡ contacts_left gone.old.items contacts.old) }
-    ensures gone { OnOk result (gone.new.items ≡ []) }
-    ensures same_contacts { OnErr result (contacts.new ≡ contacts.old) }
-    ensures same_gone { OnErr result (gone.new.items ≡ gone.old.items) }
-    ensures held { AreHeld beside.new.stirring contacts.new }
-    ensures notes { beside.new.notes ≡ beside.old.notes }
-    ensures memory_only { IsOkUnless result Refusal.NoMemory }
-{
-    if gone.is_empty() {
-        return Ok(());
-    }
-    beside.stirring.holds = false;
-    settle_gone(alloc, contacts, gone)
-}
-
-/// The same where the list is. Takes no memory.
-fn settle_here(contacts: &mut Contacts, gone: &mut Vec<u32>, beside: &mut Beside)
-    requires { AreHeld beside.old.stirring contacts.old }
-    ensures contacts { contacts.new ≡ contacts_left gone.old.items contacts.old }
-    ensures gone { gone.new.items ≡ [] }
-    ensures held { AreHeld beside.new.stirring contacts.new }
-    ensures notes { beside.new.notes ≡ beside.old.notes }
-{
-    if !gone.is_empty() {
-        beside.stirring.holds = false;
-        drop_gone(contacts, gone);
+    if !carry_out(contacts, due) {
+        lapse(beside);
     }
 }
 
 impl KeptContacts {
     /// No contacts.
     pub fn new(alloc: Global) -> KeptContacts
-        ensures contacts { result.contacts ≡ [] }
-        ensures pending { result.pending ≡ 0 }
+        ensures { result.contacts ≡ [] }
     {
+        let contacts = SplitContacts::new(alloc);
+        contacts.ascend();
         KeptContacts {
-            contacts: Contacts::new(alloc),
-            gone: Vec::new(alloc),
-            whole: None,
+            contacts,
+            due: Due::new(alloc),
             beside: nothing_beside(alloc),
         }
     }
 
-    /// These contacts; nothing is due.
-    pub fn from_contacts(alloc: Global, contacts: Contacts) -> KeptContacts
-        ensures contacts { result.contacts ≡ contacts }
-        ensures pending { result.pending ≡ 0 }
+    /// These contacts; nothing is due. Refused 1 where memory is wanting.
+    pub fn from_contacts(alloc: Global, contacts: Contacts) -> Result<KeptContacts, Refusal>
+        ensures contacts { IfOk result (λ kept. kept.contacts ≡ contacts) }
+        ensures memory_only { IsOkUnless result Refusal.NoMemory }
     {
-        KeptContacts {
+        let contacts = SplitContacts::from_entries(alloc, contacts.into_entries())?;
+        contacts.ascend();
+        Ok(KeptContacts {
             contacts,
-            gone: Vec::new(alloc),
-            whole: None,
+            due: Due::new(alloc),
             beside: nothing_beside(alloc),
-        }
+        })
     }
 
     /// A copy, of which nothing is due. Refused 1 where memory is wanting.
     pub fn try_copy(&self, alloc: Global) -> Result<KeptContacts, Refusal>
         ensures copy { IfOk result (λ copied. copied.contacts ≡ self.now.contacts) }
-        ensures pending { IfOk result (λ copied. copied.pending ≡ 0) }
         ensures memory_only { IsOkUnless result Refusal.NoMemory }
     {
         let contacts = Contacts::from_entries(self.to_entries(alloc)?);
-        Ok(KeptContacts::from_contacts(alloc, contacts))
+        KeptContacts::from_contacts(alloc, contacts)
     }
 
-    /// Whether there are none that were dropped and are still in the list.
-    pub fn is_settled(&self) -> bool
-        ensures { result ≡ (self.now.pending == 0) }
+    /// The contacts as they are kept.
+    pub fn split(&self) -> &SplitContacts
+        ensures { contacts_in result.now ≡ self.now.contacts }
     {
-        self.gone.is_empty()
+        &self.contacts
     }
 
-    /// The contacts, ascending by key, where there are none that were dropped and are still in the list.
-    pub fn as_slice(&self) -> &[ContactEntry]
-        requires { self.now.pending ≡ 0 }
-        ensures value { result.now ≡ self.now.contacts }
-        ensures contacts { AreContacts result.now }
+    /// The contacts as one list, ascending by key, if they are kept so.
+    pub fn as_one(&self) -> Option<&[ContactEntry]>
+        ensures value { IfSome result (λ entries. entries.now ≡ self.now.contacts) }
+        ensures contacts { IfSome result (λ entries. AreContacts entries.now) }
     {
-        self.contacts.as_slice()
+        if self.contacts.is_one() {
+            Some(self.contacts.long())
+        } else {
+            None
+        }
     }
 
     /// A list of the contacts, ascending by key. Refused 1 where memory is wanting.
@@ -346,44 +340,42 @@ impl KeptContacts {
         ensures contacts { IfOk result (λ entries. AreContacts entries.items) }
         ensures memory_only { IsOkUnless result Refusal.NoMemory }
     {
-        let left = copy_left(alloc, &self.gone, self.contacts.as_slice())?;
-        Ok(left)
+        self.contacts.to_entries(alloc)
     }
 
-    /// Makes room for the drop of the contacts of one body, which then needs no pass over the list. Refused 1 where memory is wanting.
-    pub fn reserve_drop(&mut self, alloc: Global) -> Result<(), Refusal>
+    /// Makes ready for the drop of the contacts of a body, which then needs no pass over the long list. Refused 1 where memory is wanting.
+    pub fn reserve_drop(&mut self) -> Result<(), Refusal>
         ensures contacts { self.new.contacts ≡ self.old.contacts }
         ensures due { self.new.due ≡ self.old.due }
         ensures memory_only { IsOkUnless result Refusal.NoMemory }
     {
-        if self.gone.len() >= MOST_GONE {
-            settle(alloc, &mut self.contacts, &mut self.gone, &mut self.beside)?;
-        }
-        self.gone.reserve(1)?;
-        Ok(())
+        self.contacts.index_bodies()
     }
 
     /// Drops the contacts of the body in a slot; nothing is due then. Takes no memory.
     pub fn drop_of_body(&mut self, slot: u32)
         ensures { self.new.contacts ≡ contacts_without slot self.old.contacts }
     {
-        self.whole = None;
-        self.beside.notes.clear();
-        self.beside.stirring.holds = false;
-        put_off(&mut self.contacts, &mut self.gone, slot);
+        self.due.clear();
+        self.contacts.drop_of_body(slot);
+        self.contacts.ascend();
     }
 
-    /// Gives the points of the contact at an index these impulses, in mass·u/tick. Without any for the
-    /// second point that stays as it is, and so do all contacts where there is none at the index. Nothing is due then.
+    /// Gives the points of the contact with this key these impulses, in mass·u/tick. Without any for the second point that stays as it is, and so do
+    /// all contacts where there is none with the key. It is looked for at `place` of the long list first. Nothing is due then.
     #[inline(always)]
-    pub fn set_impulses(&mut self, index: usize, first: Impulses, second: Option<Impulses>)
-        requires { self.old.pending ≡ 0 }
-        ensures contacts { self.new.contacts ≡ impulses_set index first second self.old.contacts (slice_get self.old.contacts index) }
-        ensures pending { self.new.pending ≡ 0 }
+    pub fn set_impulses(
+        &mut self,
+        place: usize,
+        key: ContactKey,
+        first: Impulses,
+        second: Option<Impulses>,
+    )
+        ensures { self.new.contacts ≡ impulses_given key first second self.old.contacts }
     {
-        self.whole = None;
-        self.beside.notes.clear();
-        self.contacts.set_impulses(index, first, second);
+        self.due.clear();
+        self.contacts.set_impulses(place, key, first, second);
+        self.contacts.ascend();
     }
 
     /// A collide of the shapes as they are now, in which the bodies of the forbidden pairs pass through
@@ -417,29 +409,24 @@ impl KeptContacts {
         ensures end_rising { IfOk result (λ touches. AreRising touches.end.items) }
         ensures memory_only { IsOkUnless result Refusal.NoMemory }
     {
-        self.whole = None;
-        self.beside.notes.clear();
-        settle(alloc, &mut self.contacts, &mut self.gone, &mut self.beside)?;
-        let made = make_or_clear(
+        self.due.clear();
+        make_or_clear(
             &mut self.beside,
             alloc,
+            &mut self.due,
             shapes,
             marks,
             marked,
             forbidden,
-            &self.contacts,
-        )?;
-        self.whole = made.whole;
-        Ok(made.touches)
+            &mut self.contacts,
+        )
     }
 
     /// The contacts become what is due, or stay as they are where nothing is. Takes no memory.
     pub fn carry_out(&mut self)
-        ensures contacts { self.new.contacts ≡ self.old.due }
-        ensures pending { self.new.pending ≡ 0 }
+        ensures { self.new.contacts ≡ self.old.due }
     {
-        let whole = mem::replace(&mut self.whole, None);
-        settle_here(&mut self.contacts, &mut self.gone, &mut self.beside);
-        carry_out_now(&mut self.contacts, &mut self.beside, whole);
+        carry_out_now(&mut self.contacts, &mut self.due, &mut self.beside);
+        self.contacts.ascend();
     }
 }

@@ -2,7 +2,7 @@
 //! fat box, came or went.
 #![tactic(auto)]
 
-mod gone;
 mod kept;
 
-pub use kept::{KeptContacts, Touches};
+pub use contacts::Touches;
+pub use kept::KeptContacts;

@@ -1,6 +1,6 @@
 //! Contacts that are kept from collide to collide, by scenes worked by hand.
 
-ghost use Rattle.std.specs.Prelude.{◌≡◌, ◌<◌, All, IfOk, OnOk, []};
+ghost use Rattle.std.specs.Prelude.{◌≡◌, ◌<◌, All, IfOk, []};
 ghost use Rattle.contacts_base.specs.Keys.{id_number};
 ghost use Rattle.contacts_base.specs.Near.{IsProxyList};
 ghost use Rattle.contacts.specs.Known.{found};
@@ -119,7 +119,6 @@ fn collide(
 ) -> Result<Touches, Refusal>
     requires pairs { ArePairs contacts.old.contacts }
     ensures pairs { ArePairs contacts.new.contacts }
-    ensures settled { OnOk result (contacts.new.pending ≡ 0) }
 {
     let slots = slots_of(alloc, shapes.proxies())?;
     let marks = Marks::all_marked(alloc, 64)?;
@@ -133,13 +132,12 @@ fn collide(
 fn laid_at(alloc: Global, contacts: &mut KeptContacts, y: i64) -> Result<[usize; 3], Refusal>
     requires { ArePairs contacts.old.contacts }
     ensures pairs { ArePairs contacts.new.contacts }
-    ensures settled { OnOk result (contacts.new.pending ≡ 0) }
 {
     let touches = collide(alloc, contacts, lying_at(alloc, y)?, &NO_PAIR)?;
     Ok([
         touches.begin.len(),
         touches.end.len(),
-        contacts.as_slice().len(),
+        contacts.to_entries(alloc)?.len(),
     ])
 }
 
@@ -152,7 +150,7 @@ fn kept(alloc: Global) -> Result<([[usize; 3]; 4], usize), Refusal> {
     let mut copied = contacts.try_copy(alloc)?;
     let gone = laid_at(alloc, &mut copied, 1_000_000)?;
     let again = laid_at(alloc, &mut contacts, 20_000)?;
-    contacts.reserve_drop(alloc)?;
+    contacts.reserve_drop()?;
     contacts.drop_of_body(1);
     let left = contacts.to_entries(alloc)?.len();
     Ok(([laid, lifted, gone, again], left))
@@ -175,7 +173,7 @@ fn joined(alloc: Global) -> Result<(Touches, usize), Refusal> {
         lying_at(alloc, 20_000)?,
         &floor_and_capsule,
     )?;
-    Ok((touches, contacts.as_slice().len()))
+    Ok((touches, contacts.to_entries(alloc)?.len()))
 }
 
 #[test]
@@ -208,9 +206,9 @@ const NEXT: ContactKey = ContactKey {
 fn moved(alloc: Global) -> Result<[(Touches, usize); 2], Refusal> {
     let mut contacts = KeptContacts::new(alloc);
     let first = collide(alloc, &mut contacts, row(alloc, 0)?, &NO_PAIR)?;
-    let before = contacts.as_slice().len();
+    let before = contacts.to_entries(alloc)?.len();
     let then = collide(alloc, &mut contacts, row(alloc, 950_000)?, &NO_PAIR)?;
-    Ok([(first, before), (then, contacts.as_slice().len())])
+    Ok([(first, before), (then, contacts.to_entries(alloc)?.len())])
 }
 
 #[test]

@@ -51,6 +51,8 @@ mod seats;
 #[cfg(test)]
 mod sleep;
 #[cfg(test)]
+mod split;
+#[cfg(test)]
 mod ticks;
 #[cfg(test)]
 mod tree;

@@ -11,8 +11,8 @@ use crate::forbidden::NO_PAIR;
 use body_handles::MAX_SLOTS;
 use contacts::*;
 use contacts_base::{
-    ContactEntry, ContactKey, ContactPoint, Contacts, Impulses, PackedContact, PackedSurface,
-    Proxy, ShapeId, Surface,
+    ContactEntry, ContactKey, ContactPoint, Contacts, PackedContact, PackedSurface, Proxy, ShapeId,
+    Surface,
 };
 use fixed_geom::{Refusal, Rot, UNIT, Vec2, is_facing, is_within};
 use shapes::{Filter, Pose, Shape, ShapeDef, check, fat_box, tight_box};
@@ -90,7 +90,7 @@ pub(crate) fn add(broad: &mut BroadPhase, proxy: Proxy) -> Result<(), Refusal>
 }
 
 fn collide(alloc: Global, old: &Contacts, broad: &mut BroadPhase) -> Result<Changes, Refusal> {
-    broad.update_contacts(alloc, &NO_PAIR, old)
+    broad.update_contacts(alloc, &NO_PAIR, old.as_slice())
 }
 
 const FLOOR: Shape = Shape::Segment {
@@ -209,49 +209,12 @@ const KEPT: Surface = Surface {
 };
 
 /// The contact of the capsule that lay on the floor, with what it kept.
-fn resting(alloc: Global) -> Result<Contacts, Refusal> {
+pub(crate) fn resting(alloc: Global) -> Result<Contacts, Refusal> {
     let first = point(3, 50_000, 7, -2);
     let second = point(2, -50_000, 5, 1);
     let mut entries = Vec::new(alloc);
     entries.push(entry(KEPT, two_points(&first, &second)))?;
     Ok(Contacts::from_entries(entries))
-}
-
-/// Gives the first contact other impulses at its first point, and would give the second, which isn't there.
-fn change_impulses(contacts: &mut Contacts) {
-    let first = Impulses {
-        normal_impulse: 40,
-        tangent_impulse: -30,
-    };
-    contacts.set_impulses(0, first, None);
-    contacts.set_impulses(1, first, None);
-}
-
-const TURNED: ContactKey = ContactKey {
-    first: SECOND,
-    second: FIRST,
-};
-
-#[test]
-fn contacts_go_with_a_body(rt: HostRuntime) -> Result<(), Fail> {
-    let mut contacts = resting(rt.alloc())?;
-    same(&rt, &contacts.is_touching(KEY), &true);
-    same(&rt, &contacts.is_touching(TURNED), &false);
-    change_impulses(&mut contacts);
-    let copied = contacts.try_copy()?;
-    contacts.drop_of_body(2);
-    same(&rt, &contacts.len(), &1);
-    contacts.drop_of_body(1);
-    same(&rt, &contacts.len(), &0);
-    same(&rt, &contacts.is_touching(KEY), &false);
-    let first = point(3, 50_000, 40, -30);
-    let second = point(2, -50_000, 5, 1);
-    same_items(
-        &rt,
-        copied.as_slice(),
-        &[entry(KEPT, two_points(&first, &second))],
-    );
-    Ok(())
 }
 
 /// What the capsule that lay on the floor changes where it is at this height now.

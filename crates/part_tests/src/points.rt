@@ -67,9 +67,10 @@ fn contact(separation: i64, start_speed: i64, normal_impulse: i64) -> ContactRow
     ensures { IsRow result }
 {
     let bodies = Bodies {
-        index: 0,
         a: 0,
         b: 1,
+        first: 0,
+        second: 0,
         friction: 128,
         restitution: 128,
     };

@@ -155,9 +155,10 @@ fn landing() -> ContactRow
     };
     ContactRow {
         bodies: Bodies {
-            index: 0,
             a: 0,
             b: 1,
+            first: 0,
+            second: 0,
             friction: 0,
             restitution: 256,
         },

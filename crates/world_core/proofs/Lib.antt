@@ -23,6 +23,7 @@ pub mod CoverLaws
 pub mod Refusals
 pub mod FewerTies
 pub mod AnchoredLaws
+pub mod GivenLaws
 pub mod GoingLaws
 pub mod TellingLaws
 pub mod SleeperLaws

@@ -4,6 +4,9 @@ use Rattle.std.specs.Prelude.{◌==◌, slice_get}
 use Rattle.std.specs.List.{list_any}
 use Rattle.std.proofs.lemmas.Bool.{eq-eqb, eqb-true}
 use Rattle.contacts_base.specs.declared.contact.ContactEntry.{ContactEntry}
+use Rattle.contacts_base.specs.declared.key.ContactKey.{ContactKey}
+use Rattle.contacts_base.specs.Contacts.{lookup, number_of}
+use Rattle.contacts_base.specs.Keys.{key_number}
 use Rattle.contacts_base.specs.Evaluate.{touches}
 use Rattle.islands.specs.declared.label.Label.{Label}
 use Rattle.islands.specs.Labels.{Labels, label_at}
@@ -39,6 +42,15 @@ any_at test [] k x e h = cc
 any_at test (y ∷ ys) zero x e h = let same : y ≡ x = cc in ap (λ (t : Bool). t || list_any test ys) (ap test same ∙ h)
 any_at test (y ∷ ys) (suc k) x e h = ap (λ (t : Bool). test y || t) (any_at test ys k x e h) ∙ or_true (test y)
 
+any_if : (test : ContactEntry → Bool) (t : Bool) (e : ContactEntry) (es : List ContactEntry) (k : ContactKey) (x : ContactEntry) → (lookup es k ≡ Some x → list_any test es ≡ true) → cond t (Some e) (lookup es k) ≡ Some x → test x ≡ true → list_any test (e ∷ es) ≡ true
+any_if test true e es k x later is h = let same : e ≡ x = cc in ap (λ (t : Bool). t || list_any test es) (ap test same ∙ h)
+any_if test false e es k x later is h = ap (λ (t : Bool). test e || t) (later is) ∙ or_true (test e)
+
+-- the contact with a key is one of the list
+any_with : (test : ContactEntry → Bool) (es : List ContactEntry) (k : ContactKey) (x : ContactEntry) → lookup es k ≡ Some x → test x ≡ true → list_any test es ≡ true
+any_with test [] k x is h = cc
+any_with test (e ∷ es) k x is h = any_if test (number_of e == key_number k) e es k x (λ a. any_with test es k x a h) is h
+
 item_there : {X : Type 0} (items : List (Option X)) (slot : ℕ) (x : X) → item_at items slot ≡ Some x → slice_get items slot ≡ Some (Some x)
 item_there [] slot x e = cc
 item_there (o ∷ os) zero x e = ap Some e
@@ -48,12 +60,12 @@ joined_beside : (bodies : List (Option Body)) (joints : List (Option BodyJoint))
 unfolding is_beside_moving
 joined_beside bodies joints contacts slot k j e h = ap (λ (t : Bool). t || list_any (is_touched_by_moving bodies slot) contacts) (any_at (is_joined_to_moving bodies slot) joints k (Some j) (item_there joints k j e) h)
 
-touched_beside : (bodies : List (Option Body)) (joints : List (Option BodyJoint)) (contacts : List ContactEntry) (slot k : ℕ) (x : ContactEntry) → slice_get contacts k ≡ Some x → touches x.contact ≡ true → is_stirred_between bodies slot x.key.first.slot x.key.second.slot ≡ true
+touched_beside : (bodies : List (Option Body)) (joints : List (Option BodyJoint)) (contacts : List ContactEntry) (slot : ℕ) (k : ContactKey) (x : ContactEntry) → lookup contacts k ≡ Some x → touches x.contact ≡ true → is_stirred_between bodies slot x.key.first.slot x.key.second.slot ≡ true
     → is_beside_moving bodies joints contacts slot ≡ true
 unfolding is_beside_moving
 touched_beside bodies joints contacts slot k x e touch h =
     let here : is_touched_by_moving bodies slot x ≡ true = ap (λ (t : Bool). cond t (is_stirred_between bodies slot x.key.first.slot x.key.second.slot) false) touch ∙ h in
-    ap (λ (t : Bool). list_any (is_joined_to_moving bodies slot) joints || t) (any_at (is_touched_by_moving bodies slot) contacts k x e here) ∙ or_true (list_any (is_joined_to_moving bodies slot) joints)
+    ap (λ (t : Bool). list_any (is_joined_to_moving bodies slot) joints || t) (any_with (is_touched_by_moving bodies slot) contacts k x e here) ∙ or_true (list_any (is_joined_to_moving bodies slot) joints)
 
 -- a mover beside one that moves has a timer of 0
 beside_short : (labels : Labels) (bodies : List (Option Body)) (joints : List (Option BodyJoint)) (contacts : List ContactEntry) (slot : ℕ) (l : Label) → AreTied bodies labels → label_at labels slot ≡ Some l → is_beside_moving bodies joints contacts slot ≡ true
@@ -84,23 +96,23 @@ joined_keeps names labels bodies joints contacts slot (Some j) marks tied e has 
     (λ h l at. beside_short labels bodies joints contacts j.a l tied at (joined_beside bodies joints contacts j.a slot j e (beside_here bodies j.a j.b h)))
     (λ h l at. beside_short labels bodies joints contacts j.b l tied at (joined_beside bodies joints contacts j.b slot j e (beside_there bodies j.a j.b h))) has
 
-touched_if : (t : Bool) (names : List ℕ) (labels : Labels) (bodies : List (Option Body)) (joints : List (Option BodyJoint)) (contacts : List ContactEntry) (place : ℕ) (x : ContactEntry) (marks : List Bool) → AreTied bodies labels → slice_get contacts place ≡ Some x → touches x.contact ≡ t
+touched_if : (t : Bool) (names : List ℕ) (labels : Labels) (bodies : List (Option Body)) (joints : List (Option BodyJoint)) (contacts : List ContactEntry) (key : ContactKey) (x : ContactEntry) (marks : List Bool) → AreTied bodies labels → lookup contacts key ≡ Some x → touches x.contact ≡ t
     → HasMarked names labels (timers_of bodies joints contacts) marks → HasMarked names labels (timers_of bodies joints contacts) (cond t (marked_pair labels bodies x.key.first.slot x.key.second.slot marks) marks)
-touched_if false names labels bodies joints contacts place x marks tied e touch has = has
-touched_if true names labels bodies joints contacts place x marks tied e touch has =
+touched_if false names labels bodies joints contacts key x marks tied e touch has = has
+touched_if true names labels bodies joints contacts key x marks tied e touch has =
     let a : ℕ = x.key.first.slot in
     let b : ℕ = x.key.second.slot in
     pair_keeps names labels (timers_of bodies joints contacts) bodies a b marks
-    (λ h l at. beside_short labels bodies joints contacts a l tied at (touched_beside bodies joints contacts a place x e touch (beside_here bodies a b h)))
-    (λ h l at. beside_short labels bodies joints contacts b l tied at (touched_beside bodies joints contacts b place x e touch (beside_there bodies a b h))) has
+    (λ h l at. beside_short labels bodies joints contacts a l tied at (touched_beside bodies joints contacts a key x e touch (beside_here bodies a b h)))
+    (λ h l at. beside_short labels bodies joints contacts b l tied at (touched_beside bodies joints contacts b key x e touch (beside_there bodies a b h))) has
 
-touched_keeps : (names : List ℕ) (labels : Labels) (bodies : List (Option Body)) (joints : List (Option BodyJoint)) (contacts : List ContactEntry) (place : ℕ) (o : Option ContactEntry) (marks : List Bool) → AreTied bodies labels → slice_get contacts place ≡ o
+touched_keeps : (names : List ℕ) (labels : Labels) (bodies : List (Option Body)) (joints : List (Option BodyJoint)) (contacts : List ContactEntry) (key : ContactKey) (o : Option ContactEntry) (marks : List Bool) → AreTied bodies labels → lookup contacts key ≡ o
     → HasMarked names labels (timers_of bodies joints contacts) marks → HasMarked names labels (timers_of bodies joints contacts) (marked_touched labels bodies o marks)
-touched_keeps names labels bodies joints contacts place None marks tied e has = has
-touched_keeps names labels bodies joints contacts place (Some x) marks tied e has = touched_if (touches x.contact) names labels bodies joints contacts place x marks tied e refl has
+touched_keeps names labels bodies joints contacts key None marks tied e has = has
+touched_keeps names labels bodies joints contacts key (Some x) marks tied e has = touched_if (touches x.contact) names labels bodies joints contacts key x marks tied e refl has
 
 pub keep_marks : (labels : Labels) (bodies : List (Option Body)) (joints : List (Option BodyJoint)) (contacts : List ContactEntry) → AreTied bodies labels → KeepMarks labels bodies joints contacts (timers_of bodies joints contacts)
 keep_marks labels bodies joints contacts tied = record {
   joined = λ names slot marks has. joined_keeps names labels bodies joints contacts slot (item_at joints slot) marks tied refl has;
-  touched = λ names place marks has. touched_keeps names labels bodies joints contacts place (slice_get contacts place) marks tied refl has;
+  touched = λ names key marks has. touched_keeps names labels bodies joints contacts key (lookup contacts key) marks tied refl has;
 }

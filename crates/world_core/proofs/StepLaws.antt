@@ -193,7 +193,7 @@ solved_told : (w : World) (n : ℕ) → IsKept w → AreKeysRising (collided_in 
 solved_told w n k rises =
     let now : World = collided_world w in
     let can = can_gather_collided w k rises in
-    let run = arrays_are_solving n w.plain.gravity now.plain.bodies now.plain.joints now.plain.contacts (turned_in w).lists can.once in
+    let run = arrays_are_solving n w.plain.gravity now.plain.bodies now.plain.joints now.plain.contacts (turned_in w).lists can.rising can.once in
     let r : Run = ran n w.plain.gravity (start (states_of now.plain.bodies) (rows_of (states_of now.plain.bodies) now.plain.joints now.plain.contacts (turned_in w).lists)) in
     let same : AreInSameCondition now.plain.bodies (renewed_bodies (bodies_of (solved_in w n))) = subst (λ (bs : List (Option Body)). AreInSameCondition now.plain.bodies (renewed_bodies bs)) run.bodies_left (moved_conditions now.plain.bodies r.states) in
     told_conditions now.plain.bodies (renewed_bodies (bodies_of (solved_in w n))) (turned_in w).labels same (collide_kept w k rises).kept.told

@@ -1,6 +1,8 @@
 -- What puts nobody to rest.
 use Rattle.std.specs.Prelude.{◌≡◌, ℕ, ◌<◌, ◌==◌, ◌&&◌, Bool, true, false, not, cond, nat_lt, Contains, List, Option, Some, None, slice_get, slice_set}
 use Rattle.contacts_base.specs.declared.contact.ContactEntry.{ContactEntry}
+use Rattle.contacts_base.specs.declared.key.ContactKey.{ContactKey}
+use Rattle.contacts_base.specs.Contacts.{lookup}
 use Rattle.contacts_base.specs.Evaluate.{touches}
 use Rattle.islands.specs.declared.label.Label.{Label}
 use Rattle.islands.specs.Labels.{Labels, is_in, label_at}
@@ -77,4 +79,4 @@ marked_touched labels bodies (Some e) marks = cond (touches e.contact) (marked_p
 -- what joints and contacts mark has such a mover
 pub record KeepMarks (labels : Labels) (bodies : List (Option Body)) (joints : List (Option BodyJoint)) (contacts : List ContactEntry) (timers : List ℕ) : Type 0 where
   pub joined : (names : List ℕ) (slot : ℕ) (marks : List Bool) → HasMarked names labels timers marks → HasMarked names labels timers (marked_joined labels bodies (item_at joints slot) marks)
-  pub touched : (names : List ℕ) (place : ℕ) (marks : List Bool) → HasMarked names labels timers marks → HasMarked names labels timers (marked_touched labels bodies (slice_get contacts place) marks)
+  pub touched : (names : List ℕ) (key : ContactKey) (marks : List Bool) → HasMarked names labels timers marks → HasMarked names labels timers (marked_touched labels bodies (lookup contacts key) marks)

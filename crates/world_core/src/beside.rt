@@ -1,8 +1,8 @@
 //! Which islands a moving kinematic body keeps awake: those of the movers that touch it or are joined to it.
 
-ghost use Rattle.std.specs.Prelude.{◌≡◌, ℕ, List, Option, Some, slice_get};
+ghost use Rattle.std.specs.Prelude.{◌≡◌, ℕ, List, Option, Some};
 ghost use Rattle.std.specs.Option.{option_copied};
-ghost use Rattle.contacts_base.specs.Contacts.{AreKeysRising};
+ghost use Rattle.contacts_base.specs.Split.{contacts_in};
 ghost use Rattle.islands.specs.Labels.{label_at};
 ghost use Rattle.plain_world.specs.Slots.{item_at};
 ghost use Rattle.solver_sets.specs.Beside.{is_moving_at};
@@ -10,7 +10,7 @@ ghost use Rattle.world_core.specs.Quiet.{HasMarked, KeepMarks, marked_if, marked
 
 use crate::readiness::mark;
 use contacts::Constraint;
-use contacts_base::{ContactEntry, ContactKey, seek};
+use contacts_base::{ContactEntry, ContactKey, Hint, SplitContacts};
 use graph_colours::{Colours, Member, OVERFLOW};
 use islands::Islands;
 use plain_world::{Body, BodyJoint, item_at};
@@ -74,18 +74,16 @@ fn mark_touched(
     }
 }
 
-fn mark_touched_at(
+fn mark_found(
     marks: &mut Vec<bool>,
     islands: &Islands,
     bodies: &[Option<Body>],
-    contacts: &[ContactEntry],
-    place: usize,
+    found: Option<&ContactEntry>,
 )
-    ensures { marks.new.items ≡ marked_touched islands.now.labels bodies.now (slice_get contacts.now place) marks.old.items }
+    ensures { marks.new.items ≡ marked_touched islands.now.labels bodies.now (option_copied found.entry) marks.old.items }
 {
-    match contacts.get(place) {
-        None => {}
-        Some(entry) => mark_touched(marks, islands, bodies, entry),
+    if let Some(entry) = found {
+        mark_touched(marks, islands, bodies, entry);
     }
 }
 
@@ -94,18 +92,16 @@ fn mark_contact(
     marks: &mut Vec<bool>,
     islands: &Islands,
     bodies: &[Option<Body>],
-    contacts: &[ContactEntry],
-    hint: &mut usize,
+    contacts: &SplitContacts,
+    hint: &mut Hint,
     key: ContactKey,
 )
-    requires { AreKeysRising contacts.now }
-    ensures { (joints : List (Option BodyJoint)) (names timers : List ℕ) → KeepMarks islands.now.labels bodies.now joints contacts.now timers → HasMarked names islands.now.labels timers marks.old.items → HasMarked names islands.now.labels timers marks.new.items }
+    ensures { (joints : List (Option BodyJoint)) (names timers : List ℕ) → KeepMarks islands.now.labels bodies.now joints (contacts_in contacts.now) timers → HasMarked names islands.now.labels timers marks.old.items → HasMarked names islands.now.labels timers marks.new.items }
 {
     if !(is_moving_at(bodies, key.first.slot) || is_moving_at(bodies, key.second.slot)) {
         return;
     }
-    *hint = seek(contacts, *hint, key);
-    mark_touched_at(marks, islands, bodies, contacts, *hint);
+    mark_found(marks, islands, bodies, contacts.find(hint, key));
 }
 
 /// Marks the islands that a constraint keeps awake, a contact of which is looked for from `hint` on.
@@ -114,12 +110,11 @@ fn mark_by(
     islands: &Islands,
     bodies: &[Option<Body>],
     joints: &[Option<BodyJoint>],
-    contacts: &[ContactEntry],
-    hint: &mut usize,
+    contacts: &SplitContacts,
+    hint: &mut Hint,
     id: Constraint,
 )
-    requires { AreKeysRising contacts.now }
-    ensures { (names timers : List ℕ) → KeepMarks islands.now.labels bodies.now joints.now contacts.now timers → HasMarked names islands.now.labels timers marks.old.items → HasMarked names islands.now.labels timers marks.new.items }
+    ensures { (names timers : List ℕ) → KeepMarks islands.now.labels bodies.now joints.now (contacts_in contacts.now) timers → HasMarked names islands.now.labels timers marks.old.items → HasMarked names islands.now.labels timers marks.new.items }
 {
     match id {
         Constraint::Joint(handle) => {
@@ -140,13 +135,12 @@ fn mark_colour(
     islands: &Islands,
     bodies: &[Option<Body>],
     joints: &[Option<BodyJoint>],
-    contacts: &[ContactEntry],
+    contacts: &SplitContacts,
     members: &[Member<Constraint>],
 )
-    requires { AreKeysRising contacts.now }
-    ensures { (names timers : List ℕ) → KeepMarks islands.now.labels bodies.now joints.now contacts.now timers → HasMarked names islands.now.labels timers marks.old.items → HasMarked names islands.now.labels timers marks.new.items }
+    ensures { (names timers : List ℕ) → KeepMarks islands.now.labels bodies.now joints.now (contacts_in contacts.now) timers → HasMarked names islands.now.labels timers marks.old.items → HasMarked names islands.now.labels timers marks.new.items }
 {
-    let mut hint = 0;
+    let mut hint = Hint { long: 0, short: 0 };
     for place in 0..members.len() {
         mark_by(
             marks,
@@ -161,17 +155,17 @@ fn mark_colour(
 }
 
 /// Marks the islands of the movers that touch a kinematic body that moves or are joined to one, by the constraints that act.
+#[inline(never)]
 pub fn mark_beside(
     marks: &mut Vec<bool>,
     islands: &Islands,
     bodies: &[Option<Body>],
     joints: &[Option<BodyJoint>],
-    contacts: &[ContactEntry],
+    contacts: &SplitContacts,
     colours: &Colours<Constraint>,
 )
-    requires rising { AreKeysRising contacts.now }
-    requires settled { colours.now.pending ≡ 0 }
-    ensures { (names timers : List ℕ) → KeepMarks islands.now.labels bodies.now joints.now contacts.now timers → HasMarked names islands.now.labels timers marks.old.items → HasMarked names islands.now.labels timers marks.new.items }
+    requires { colours.now.pending ≡ 0 }
+    ensures { (names timers : List ℕ) → KeepMarks islands.now.labels bodies.now joints.now (contacts_in contacts.now) timers → HasMarked names islands.now.labels timers marks.old.items → HasMarked names islands.now.labels timers marks.new.items }
 {
     for colour in 0..OVERFLOW + 1 {
         mark_colour(

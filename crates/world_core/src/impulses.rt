@@ -46,30 +46,43 @@ fn put_joint_impulses(joints: &mut JointTable, rows: &[JointRow])
     }
 }
 
-/// Gives each contact the impulses that the step has left it.
-fn put_contact_impulses(contacts: &mut KeptContacts, rows: &[ContactRow])
-    requires { contacts.old.pending ≡ 0 }
-    ensures contacts { contacts.new.contacts ≡ with_rows contacts.old.contacts rows.now }
-    ensures pending { contacts.new.pending ≡ 0 }
+/// The place noted for the contact of a row, or the first where none is noted.
+#[inline(always)]
+fn place_at(places: &[usize], index: usize) -> usize {
+    match places.get(index) {
+        None => 0,
+        Some(place) => *place,
+    }
+}
+
+/// Gives each contact the impulses that the step has left it. It is looked for at the place that is noted for its row first.
+fn put_contact_impulses(contacts: &mut KeptContacts, rows: &[ContactRow], places: &[usize])
+    ensures { contacts.new.contacts ≡ with_rows contacts.old.contacts rows.now }
 {
-    for row in rows {
+    for index in 0..rows.len() {
+        let row = &rows[index];
         contacts.set_impulses(
-            row.bodies.index,
+            place_at(places, index),
+            row.bodies.key(),
             impulses_of(&row.first),
             second_impulses(&row.second),
         );
     }
 }
 
-/// Gives each joint and each contact the impulses that the step has left it.
-pub(crate) fn put_impulses(joints: &mut JointTable, contacts: &mut KeptContacts, rows: &Rows)
-    requires { contacts.old.pending ≡ 0 }
+/// Gives each joint and each contact the impulses that the step has left it. Beside the row of a contact stands in `places` where that may be.
+#[inline(never)]
+pub(crate) fn put_impulses(
+    joints: &mut JointTable,
+    contacts: &mut KeptContacts,
+    rows: &Rows,
+    places: &[usize],
+)
     ensures joints { joints.new.joints ≡ with_joint_rows joints.old.joints (joints_among (all_rows rows.now)) }
     ensures value { contacts.new.contacts ≡ with_rows contacts.old.contacts (contacts_among (all_rows rows.now)) }
-    ensures pending { contacts.new.pending ≡ 0 }
     ensures all_joints { (bodies : List (Option Body)) (n : ℕ) → AreRowsBelow n (all_rows rows.now) → AreJoints bodies joints.old.joints → AreJoints bodies joints.new.joints }
     ensures contacts { (bodies : List (Option Body)) (n : ℕ) → AreRowsBelow n (all_rows rows.now) → AreContactsOf bodies contacts.old.contacts → AreContactsOf bodies contacts.new.contacts }
 {
     put_joint_impulses(joints, rows.joints());
-    put_contact_impulses(contacts, rows.contacts());
+    put_contact_impulses(contacts, rows.contacts(), places);
 }

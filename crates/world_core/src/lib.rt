@@ -4,6 +4,7 @@
 mod beside;
 mod booking;
 mod collide;
+mod copied_parts;
 mod copying;
 mod frame;
 mod impulses;

@@ -2,7 +2,7 @@
 
 ghost use Rattle.std.specs.Prelude.{◌≡◌, ◌≤◌, ℕ, List, true, false, cond, length, slice_get, slice_set, vec_capacity};
 ghost use Rattle.colour_solver.specs.States.{places_from};
-ghost use Rattle.contacts_base.specs.Contacts.{AreKeysRising};
+ghost use Rattle.contacts_base.specs.Split.{contacts_in};
 ghost use Rattle.islands.specs.Labels.{label_at};
 ghost use Rattle.plain_world.specs.Changes.{is_awake_in};
 ghost use Rattle.plain_world.specs.Slots.{body_at};
@@ -14,7 +14,7 @@ ghost use Rattle.world_rules.specs.Sound.{AreTold};
 
 use crate::beside::mark_beside;
 use contacts::Constraint;
-use contacts_base::ContactEntry;
+use contacts_base::SplitContacts;
 use graph_colours::Colours;
 use islands::Islands;
 use plain_world::{Body, BodyJoint, item_at};
@@ -138,16 +138,15 @@ pub fn are_kept_up(
     bodies: &[Option<Body>],
     awake: &[u32],
     joints: &[Option<BodyJoint>],
-    contacts: &[ContactEntry],
+    contacts: &SplitContacts,
     colours: &Colours<Constraint>,
 ) -> bool
     requires room { length bodies.now ≤ vec_capacity marks.old }
     requires awake { awake.now ≡ places_from is_awake_in 0 bodies.now }
     requires tied { AreTied bodies.now islands.now.labels }
     requires told { AreTold bodies.now islands.now.labels }
-    requires rising { AreKeysRising contacts.now }
     requires settled { colours.now.pending ≡ 0 }
-    ensures { result ≡ true → AreKeptUp islands.now.labels (timers_of bodies.now joints.now contacts.now) }
+    ensures { result ≡ true → AreKeptUp islands.now.labels (timers_of bodies.now joints.now (contacts_in contacts.now)) }
 {
     if are_busy(bodies, awake) {
         return true;

@@ -2,7 +2,7 @@
 
 ghost use Rattle.std.specs.Prelude.{◌≡◌, ◌≤◌, ◌^◌, length, vec_capacity};
 ghost use Rattle.contacts.specs.Constraints.{constraint_number};
-ghost use Rattle.contacts_base.specs.Contacts.{AreKeysRising};
+ghost use Rattle.contacts_base.specs.Split.{contacts_in};
 ghost use Rattle.momenta.specs.Gains.{IsGain};
 ghost use Rattle.colour_solver.specs.States.{as_vector};
 ghost use Rattle.plain_world.specs.Bodies.{AreBodies};
@@ -19,7 +19,7 @@ use crate::readiness::are_kept_up;
 use crate::scratch::{Scratch, fill_slots};
 use body_handles::{MAX_SLOTS, Place};
 use contacts::Constraint;
-use contacts_base::ContactEntry;
+use contacts_base::SplitContacts;
 use momenta::{Gain, NOTHING};
 use plain_world::BodyJoint;
 use sleep_wake::Sets;
@@ -35,7 +35,7 @@ pub fn rest_ready(
     scratch: &mut Scratch,
     places: &[Place],
     joints: &[Option<BodyJoint>],
-    contacts: &[ContactEntry],
+    contacts: &SplitContacts,
     ticks: u64,
 ) -> Gain
     requires few_bodies { length bodies.old.bodies ≤ MAX_SLOTS }
@@ -46,15 +46,14 @@ pub fn rest_ready(
     requires settled { IsSettled constraint_number sets.old.acting }
     requires colours_settled { sets.old.pending ≡ 0 }
     requires bodies_settled { bodies.old.pending ≡ 0 }
-    requires tells { TellMoving (timed_bodies ticks bodies.old.bodies) joints.now contacts.now sets.old.acting.labels sets.old.acting.lists }
+    requires tells { TellMoving (timed_bodies ticks bodies.old.bodies) joints.now (contacts_in contacts.now) sets.old.acting.labels sets.old.acting.lists }
     requires places { length bodies.old.bodies ≤ length places.now }
-    requires rising { AreKeysRising contacts.now }
     requires ticks { ticks ≤ 8 }
     requires timers { length bodies.old.bodies ≤ vec_capacity scratch.old.timers }
     requires marks { length bodies.old.bodies ≤ vec_capacity scratch.old.marks }
     requires slept { length bodies.old.bodies ≤ vec_capacity scratch.old.slept }
     requires slots { length places.now ≤ vec_capacity scratch.old.slots }
-    ensures acting { sets.new.acting ≡ rested_acting (timed_bodies ticks bodies.old.bodies) joints.now contacts.now sets.old.acting }
+    ensures acting { sets.new.acting ≡ rested_acting (timed_bodies ticks bodies.old.bodies) joints.now (contacts_in contacts.now) sets.old.acting }
     ensures bodies { bodies.new.bodies ≡ told sets.new.acting.labels (timed_bodies ticks bodies.old.bodies) }
     ensures slept { scratch.new.slept.items ≡ newly_asleep places.now (timed_bodies ticks bodies.old.bodies) sets.new.acting.labels }
     ensures woke { scratch.new.woke ≡ scratch.old.woke }

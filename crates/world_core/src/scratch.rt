@@ -8,8 +8,8 @@ use body_handles::Handle;
 use fixed_geom::Refusal;
 use std::alloc::Global;
 
-/// The movers' timers by slot, marks by slot, the handles of the bodies that woke and of those that fell asleep, and the slots of either. Their
-/// memory is kept from step to step.
+/// The movers' timers by slot, marks by slot, the handles of the bodies that woke and of those that fell asleep, the slots of either, and where the
+/// contacts stand that have rows. Their memory is kept from step to step.
 #[derive(Drop)]
 pub struct Scratch {
     pub timers: Vec<u64>,
@@ -17,6 +17,7 @@ pub struct Scratch {
     pub woke: Vec<Handle>,
     pub slept: Vec<Handle>,
     pub slots: Vec<u32>,
+    pub places: Vec<usize>,
 }
 
 /// Empties a list, and makes room in it for so many items. Refused 1 where memory is wanting.
@@ -71,6 +72,7 @@ impl Scratch {
             woke: Vec::new(alloc),
             slept: Vec::new(alloc),
             slots: Vec::new(alloc),
+            places: Vec::new(alloc),
         }
     }
 

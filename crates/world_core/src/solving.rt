@@ -26,8 +26,14 @@ use joint_table::JointTable;
 use kept_contacts::KeptContacts;
 use world_core_base::{BodyTable, gather_rows};
 
-/// Makes room for a row for each of so many constraints and for those that begin, and for all colours. Refused 1 where memory is wanting.
-pub fn reserve_rows(rows: &mut Rows, ties: usize, begun: usize) -> Result<(), Refusal>
+/// Makes room for a row for each of so many constraints and for those that begin, for a place beside each, and for all colours. Refused 1 where memory
+/// is wanting.
+pub fn reserve_rows(
+    rows: &mut Rows,
+    places: &mut Vec<usize>,
+    ties: usize,
+    begun: usize,
+) -> Result<(), Refusal>
     ensures room { OnOk result (ties + begun ≤ rows.new.room) }
     ensures more { OnOk result (COLOURS + 1 ≤ rows.new.more) }
     ensures memory_only { IsOkUnless result Refusal.NoMemory }
@@ -35,13 +41,16 @@ pub fn reserve_rows(rows: &mut Rows, ties: usize, begun: usize) -> Result<(), Re
     let Some(count) = ties.checked_add(begun) else {
         return Err(Refusal::NoMemory);
     };
+    places.clear();
+    places.reserve(count)?;
     rows.reserve(count, COLOURS + 1)
 }
 
 /// Gathers what acts, lets so many ticks pass, and gives joints and contacts the impulses that they have left. Answers what was
-/// added to the movers' momentum, by cause. Takes no memory.
+/// added to the movers' momentum, by cause. Room for the places of the contacts is the caller's. Takes no memory.
 pub fn solve(
     rows: &mut Rows,
+    places: &mut Vec<usize>,
     bodies: &mut BodyTable,
     joints: &mut JointTable,
     contacts: &mut KeptContacts,
@@ -52,7 +61,6 @@ pub fn solve(
     requires few { length bodies.old.bodies ≤ MAX_SLOTS }
     requires bodies { AreBodies bodies.old.bodies }
     requires can { CanGather bodies.old.bodies joints.old.joints contacts.old.contacts colours.now.lists }
-    requires settled { contacts.old.pending ≡ 0 }
     requires bodies_settled { bodies.old.pending ≡ 0 }
     requires colours_settled { colours.now.pending ≡ 0 }
     requires gravity { IsWithin (2 ^ 16) gravity }
@@ -71,18 +79,20 @@ pub fn solve(
     ensures pairs { AreContactsOf bodies.old.bodies contacts.new.contacts }
     ensures marked { AreMarked bodies.old bodies.new }
     ensures forbidden { forbidden_pairs joints.new.joints ≡ forbidden_pairs joints.old.joints }
-    ensures settled { contacts.new.pending ≡ 0 }
     ensures bodies_settled { bodies.new.pending ≡ 0 }
     ensures numbers { map number_of contacts.new.contacts ≡ map number_of contacts.old.contacts }
 {
+    let kept = contacts.split();
+    kept.ascend();
     gather_rows(
         rows,
         bodies.states(),
         joints.joints(),
-        contacts.as_slice(),
+        kept,
+        places,
         colours,
     );
     let sums = bodies.run(rows, gravity, ticks);
-    put_impulses(joints, contacts, rows);
+    put_impulses(joints, contacts, rows, places);
     sums
 }

@@ -19,6 +19,7 @@ ghost use Rattle.world_core.specs.Frames.{frame_of, settled_world};
 ghost use Rattle.world_rules.specs.Sound.{IsSound};
 ghost use Rattle.world_rules.specs.Apply.{Answers, IsMade, empty_world, gravity_refusal, apply};
 
+use crate::copied_parts::{copy_body_parts, copy_constraint_parts, copy_joint_parts, copy_records};
 use crate::copying::copy_ids;
 use crate::frame::{Frame, show_bodies};
 use crate::scratch::Scratch;
@@ -119,21 +120,26 @@ impl WorldCore {
         ensures copy { IfOk result (λ copied. copied ≡ self.now) }
         ensures memory_only { IsOkUnless result Refusal.NoMemory }
     {
+        let alloc = self.bodies.allocator();
+        let records = copy_records(&self.ledger, &self.events)?;
+        let joints = copy_joint_parts(&self.joint_handles, &self.joints)?;
+        let bodies = copy_body_parts(&self.handles, &self.bodies)?;
+        let constraints = copy_constraint_parts(&self.contacts, &self.sets, alloc)?;
         Ok(WorldCore {
-            handles: self.handles.try_copy()?,
-            bodies: self.bodies.try_copy()?,
-            joint_handles: self.joint_handles.try_copy()?,
-            joints: self.joints.try_copy()?,
-            contacts: self.contacts.try_copy(self.bodies.allocator())?,
-            sets: self.sets.try_copy()?,
-            rows: Rows::new(self.bodies.allocator()),
-            scratch: Scratch::new(self.bodies.allocator()),
+            handles: bodies.handles,
+            bodies: bodies.table,
+            joint_handles: joints.handles,
+            joints: joints.table,
+            contacts: constraints.contacts,
+            sets: constraints.sets,
+            anchors: Anchors::new(alloc),
+            rows: Rows::new(alloc),
+            scratch: Scratch::new(alloc),
             gravity: self.gravity,
             steps: self.steps,
             calls: self.calls,
-            ledger: self.ledger.try_copy()?,
-            events: self.events.try_copy()?,
-            anchors: Anchors::new(self.bodies.allocator()),
+            ledger: records.ledger,
+            events: records.events,
         })
     }
 
@@ -281,8 +287,8 @@ impl WorldCore {
         ensures each_once { IfOk result (λ census. ListsEachOnce self.now.plain.places self.now.plain.bodies (joints_of self.now.plain) self.now.plain.contacts census) }
         ensures memory_only { IsOkUnless result Refusal.NoMemory }
     {
-        if self.contacts.is_settled() {
-            return self.census_with(self.contacts.as_slice());
+        if let Some(contacts) = self.contacts.as_one() {
+            return self.census_with(contacts);
         }
         let contacts = self.contacts.to_entries(self.bodies.allocator())?;
         self.census_with(&contacts)

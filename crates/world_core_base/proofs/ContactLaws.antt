@@ -1,16 +1,16 @@
 -- The rows of a step's contacts, and the impulses given back to the contacts.
-use Rattle.std.proofs.Common.{◌≡◌, append_assoc, ℕ, zero, suc, ◌+◌, ◌*◌, ◌^◌, ◌<◌, ◌≤◌, ◌==◌, List, [], ◌∷◌, ◌++◌, length, get_or, drop, map, is_some, Option, Some, None, Bool, true, false, cond, arith, refl, sym, ap, ◌∙◌, subst, All, add-one}
+use Rattle.std.proofs.Common.{◌≡◌, append_assoc, ℕ, zero, suc, ◌+◌, ◌*◌, ◌^◌, ◌<◌, ◌==◌, List, [], ◌∷◌, ◌++◌, length, get_or, drop, map, is_some, Option, Some, None, Bool, true, false, cond, arith, refl, sym, ap, ◌∙◌, subst, All, add-one}
 use Rattle.std.specs.Prelude.{option_map}
 use Rattle.std.specs.Option.{ForSome, option_to_list}
-use Rattle.std.specs.List.{slice_get, cons_option, filter_map}
-use Rattle.std.proofs.Math.Seq.{drop-cons, map-set_same}
-use Rattle.std.proofs.lemmas.Bool.Decides.{nat_tests}
-use Rattle.std.proofs.lemmas.Option.{get_or_from_slice_get, slice_get_within}
-use Rattle.std.proofs.lemmas.List.Elements.{All-append, All-get_or, All-set}
+use Rattle.std.specs.List.{cons_option, filter_map}
+use Rattle.std.proofs.Math.Seq.{drop-cons}
+use Rattle.std.proofs.lemmas.Bool.{eqb-true}
+use Rattle.std.proofs.lemmas.Option.{none-some, same_Some}
+use Rattle.std.proofs.lemmas.List.Elements.{All-append, All-head, All-map, All-same, All-tail}
 use Rattle.momenta.specs.declared.state.BodyState.{BodyState}
 use Rattle.momenta.specs.declared.state.Ends.{Ends}
 use Rattle.contacts_base.specs.Keys.{key_number}
-use Rattle.contacts_base.specs.Contacts.{AreContacts, number_of, found_in, found_place, with_impulses, with_second}
+use Rattle.contacts_base.specs.Contacts.{AreContacts, lookup, number_of, with_impulses, with_second}
 use Rattle.contacts_base.specs.Evaluate.{touches}
 use Rattle.contacts_base.specs.Limits.{IsContactPoint}
 use Rattle.contacts_base.specs.declared.key.ShapeId.{ShapeId}
@@ -22,18 +22,18 @@ use Rattle.contacts.specs.declared.constraint.Constraint.TheVariants as constrai
 use Rattle.colour_solver_base.specs.declared.row.Bodies as pairs
 use Rattle.colour_solver_base.specs.declared.row.ContactRow.{ContactRow}
 use Rattle.colour_solver_base.specs.declared.row.PointRow.{PointRow}
-use Rattle.colour_solver_base.specs.Rows.{IsPointRow, IsRow, contact_row, is_springy, point_row, row_from}
+use Rattle.colour_solver_base.specs.Rows.{IsPointRow, IsRow, contact_row, is_springy, key_of, point_row, row_from}
 use Rattle.plain_world.specs.declared.body.Body.{Body}
 use Rattle.world_core_base.specs.Gather.{AreContactsOf, AreContactsOn, IsContactOf, IsContactOn, IsContactRowBelow, bodies_of, impulses_of, put_row, row_in, row_of, states_of, with_row, with_rows}
 use Rattle.world_core_base.proofs.GatherLaws.{length-states}
 
--- ---- the place of a key
+-- ---- keys by their numbers
 
 abbrev id_of : ℕ → ℕ → ShapeId
 id_of slot index = record { slot = slot; index = index }
 
-abbrev key_of : ShapeId → ShapeId → ContactKey
-key_of first second = record { first = first; second = second }
+abbrev key_with : ShapeId → ShapeId → ContactKey
+key_with first second = record { first = first; second = second }
 
 abbrev row_with : pairs.Bodies → PointRow → Option PointRow → ContactRow
 row_with bodies first second = record { bodies = bodies; first = first; second = second }
@@ -47,7 +47,7 @@ same_ids a b e h k =
     let indices : a.index ≡ b.index = omega arith in
     made_id a.slot b.slot a.index b.index slots indices
 
-made_key : (a b c d : ShapeId) → a ≡ b → c ≡ d → key_of a c ≡ key_of b d
+made_key : (a b c d : ShapeId) → a ≡ b → c ≡ d → key_with a c ≡ key_with b d
 made_key a b c d e f = rw (e, f)
 
 pub same_keys : (k j : ContactKey) → key_number k ≡ key_number j → k.first.index < 256 → k.second.index < 256 → k.second.slot < 2 ^ 32 → j.first.index < 256 → j.second.index < 256 → j.second.slot < 2 ^ 32 → k ≡ j
@@ -56,29 +56,24 @@ same_keys k j e a b c f g h =
     let seconds : k.second.slot * 256 + k.second.index ≡ j.second.slot * 256 + j.second.index = omega arith in
     made_key k.first j.first k.second j.second (same_ids k.first j.first firsts a f) (same_ids k.second j.second seconds b g)
 
-low_if : (t : Bool) (n i : ℕ) (es : List ContactEntry) (key : ContactKey) → (found_in (suc n) es key ≡ Some i → suc n ≤ i) → cond t (Some n) (found_in (suc n) es key) ≡ Some i → n ≤ i
-low_if true n i es key later is = let same : n ≡ i = cc in omega arith
-low_if false n i es key later is = let more : suc n ≤ i = later is in omega arith
+-- ---- the contact with a key
 
-pub place_low : (n i : ℕ) (es : List ContactEntry) (key : ContactKey) → found_in n es key ≡ Some i → n ≤ i
-place_low n i [] key is = cc
-place_low n i (e ∷ es) key is = low_if (number_of e == key_number key) n i es key (λ q. place_low (suc n) i es key q) is
+found_if : (P : ContactEntry → Type 0) (t : Bool) (e f : ContactEntry) (es : List ContactEntry) (key : ContactKey) → (number_of e == key_number key) ≡ t → P e → (lookup es key ≡ Some f → P f × (number_of f ≡ key_number key))
+    → cond t (Some e) (lookup es key) ≡ Some f → P f × (number_of f ≡ key_number key)
+found_if P true e f es key test here later is = subst (λ (g : ContactEntry). P g × (number_of g ≡ key_number key)) (same_Some e f is) (here, eqb-true (number_of e) (key_number key) test)
+found_if P false e f es key test here later is = later is
 
-found_if : (t : Bool) (n i : ℕ) (e f : ContactEntry) (es : List ContactEntry) (key : ContactKey) → (number_of e == key_number key) ≡ t
-    → ((i : ℕ) (f : ContactEntry) → found_in (suc n) es key ≡ Some (suc n + i) → slice_get es i ≡ Some f → number_of f ≡ key_number key)
-    → cond t (Some n) (found_in (suc n) es key) ≡ Some (n + i) → slice_get (e ∷ es) i ≡ Some f → number_of f ≡ key_number key
-found_if true n zero e f es key test later is at = let same : e ≡ f = cc in let number : number_of e ≡ key_number key = grind (arith, nat_tests) in rw (← same) number
-found_if true n (suc i) e f es key test later is at = absurd (let same : n ≡ n + suc i = cc in omega arith)
-found_if false n zero e f es key test later is at = absurd (let low : suc n ≤ n + 0 = place_low (suc n) (n + 0) es key is in omega arith)
-found_if false n (suc i) e f es key test later is at = let more : n + suc i ≡ suc n + i = omega arith in later i f (is ∙ ap Some more) at
+found_all : (P : ContactEntry → Type 0) (es : List ContactEntry) (key : ContactKey) (f : ContactEntry) → All P es → lookup es key ≡ Some f → P f × (number_of f ≡ key_number key)
+found_all P [] key f all is = absurd (none-some f is)
+found_all P (e ∷ es) key f all is = found_if P (number_of e == key_number key) e f es key refl (All-head P e es all) (λ q. found_all P es key f (All-tail P e es all) q) is
 
-found : (n i : ℕ) (es : List ContactEntry) (key : ContactKey) (f : ContactEntry) → found_in n es key ≡ Some (n + i) → slice_get es i ≡ Some f → number_of f ≡ key_number key
-found n i [] key f is at = cc
-found n i (e ∷ es) key f is at = found_if (number_of e == key_number key) n i e f es key refl (λ j g. found (suc n) j es key g) is at
+-- the contact with a key is one of all
+pub found_is : (P : ContactEntry → Type 0) (es : List ContactEntry) (key : ContactKey) (f : ContactEntry) → All P es → lookup es key ≡ Some f → P f
+found_is P es key f all is = (found_all P es key f all is).0
 
--- the entry at a key's place has its number
-pub number_at : (es : List ContactEntry) (key : ContactKey) (i : ℕ) (f : ContactEntry) → found_place es key ≡ Some i → slice_get es i ≡ Some f → number_of f ≡ key_number key
-number_at es key i f is at = let same : i ≡ 0 + i = omega arith in found 0 i es key f (is ∙ ap Some same) at
+-- and has the number of the key
+pub found_number : (es : List ContactEntry) (key : ContactKey) (f : ContactEntry) → lookup es key ≡ Some f → number_of f ≡ key_number key
+found_number es key f is = (found_all (λ e. Unit {0}) es key f (λ k d lt. tt) is).1
 
 -- ---- rows
 
@@ -91,18 +86,18 @@ from_bodies bodies ends (Some p) second x e =
 pub row_bodies : (bodies : pairs.Bodies) (ends : Ends) (c : Contact) (x : ContactRow) → contact_row bodies ends c ≡ Some x → x.bodies ≡ bodies
 row_bodies bodies ends c x e = from_bodies bodies ends c.first c.second x e
 
-pub row_below : (states : List BodyState) (key : ContactKey) (index : ℕ) (e : ContactEntry) (ends : Ends) (x : ContactRow) → IsContactOn states e → e.key ≡ key
-    → contact_row (bodies_of key e.surface index) ends e.contact ≡ Some x → IsRow x → IsContactRowBelow (length states) x
-row_below states key index e ends x of keys is row =
-    let here : x.bodies ≡ bodies_of key e.surface index = row_bodies (bodies_of key e.surface index) ends e.contact x is in
+pub row_below : (states : List BodyState) (key : ContactKey) (e : ContactEntry) (ends : Ends) (x : ContactRow) → IsContactOn states e → e.key ≡ key
+    → contact_row (bodies_of key e.surface) ends e.contact ≡ Some x → IsRow x → IsContactRowBelow (length states) x
+row_below states key e ends x of keys is row =
+    let here : x.bodies ≡ bodies_of key e.surface = row_bodies (bodies_of key e.surface) ends e.contact x is in
     let a : x.bodies.a ≡ e.key.first.slot = ap (λ (p : pairs.Bodies). p.a) here ∙ sym (ap (λ (k : ContactKey). k.first.slot) keys) in
     let b : x.bodies.b ≡ e.key.second.slot = ap (λ (p : pairs.Bodies). p.b) here ∙ sym (ap (λ (k : ContactKey). k.second.slot) keys) in
     record { row = row; a = rw a of.first; b = rw b of.second; apart = rw (a, b) of.apart }
 
-pub row_of_is : (states : List BodyState) (contacts : List ContactEntry) (key : ContactKey) (index : ℕ) (e : ContactEntry) → found_place contacts key ≡ Some index → slice_get contacts index ≡ Some e
-    → row_in states key index (Some e) ≡ row_of states contacts (constraints.Contact key)
+-- the row of a contact by its key
+pub row_is : (states : List BodyState) (contacts : List ContactEntry) (key : ContactKey) → row_of states contacts (constraints.Contact key) ≡ row_in states key (lookup contacts key)
 unfolding row_of
-row_of_is states contacts key index e is at = rw (is, at)
+row_is states contacts key = refl
 
 -- ---- rows one after another
 
@@ -130,13 +125,59 @@ all_more P xs o all h = All-append P xs (option_to_list o) all (one_all P o h)
 
 -- ---- the impulses given back
 
-keys_put : (r : ContactRow) (contacts : List ContactEntry) (o : Option ContactEntry) → slice_get contacts r.bodies.index ≡ o → map number_of (put_row r contacts o) ≡ map number_of contacts
-keys_put r contacts None e = refl
-keys_put r contacts (Some f) e = map-set_same number_of contacts r.bodies.index (with_row r f) f (sym (ap number_of (get_or_from_slice_get contacts r.bodies.index f f e)))
+-- what one contact has got of a row, and of rows one after another
+abbrev pub row_given : ContactRow → ContactEntry → ContactEntry
+row_given r e = cond (number_of e == key_number (key_of r.bodies)) (with_row r e) e
+
+abbrev pub rows_given : List ContactRow → ContactEntry → ContactEntry
+rows_given [] e = e
+rows_given (r ∷ rs) e = rows_given rs (row_given r e)
+
+same_list : {X : Type 0} (xs : List X) → xs ≡ map (λ x. x) xs
+same_list [] = refl
+same_list {X} (x ∷ xs) = ap (λ (l : List X). x ∷ l) (same_list xs)
+
+map_then : {X Y Z : Type 0} (f : Y → Z) (g : X → Y) (xs : List X) → map f (map g xs) ≡ map (λ x. f (g x)) xs
+map_then f g [] = refl
+map_then {X} {Y} {Z} f g (x ∷ xs) = ap (λ (l : List Z). f (g x) ∷ l) (map_then f g xs)
+
+-- each contact has got what it gets by itself
+pub given_each : (rows : List ContactRow) (contacts : List ContactEntry) → with_rows contacts rows ≡ map (rows_given rows) contacts
+given_each [] contacts = same_list contacts
+given_each (r ∷ rs) contacts = given_each rs (put_row r contacts) ∙ map_then (rows_given rs) (row_given r) contacts
+
+one_same : {B : Type 0} (f : ContactEntry → B) (t : Bool) (r : ContactRow) (e : ContactEntry) → f (with_row r e) ≡ f e → f (cond t (with_row r e) e) ≡ f e
+one_same f true r e h = h
+one_same f false r e h = refl
+
+each_same : {B : Type 0} (f : ContactEntry → B) → ((r : ContactRow) (e : ContactEntry) → f (with_row r e) ≡ f e) → (rows : List ContactRow) (e : ContactEntry) → f (rows_given rows e) ≡ f e
+each_same f h [] e = refl
+each_same f h (r ∷ rs) e = each_same f h rs (row_given r e) ∙ one_same f (number_of e == key_number (key_of r.bodies)) r e (h r e)
+
+map_same : {X B : Type 0} (f : X → B) (g : X → X) → ((x : X) → f (g x) ≡ f x) → (xs : List X) → map f (map g xs) ≡ map f xs
+map_same f g h [] = refl
+map_same f g h (x ∷ xs) = λ i. h x i ∷ map_same f g h xs i
+
+-- what no row changes is as it was
+pub rows_same : {B : Type 0} (f : ContactEntry → B) → ((r : ContactRow) (e : ContactEntry) → f (with_row r e) ≡ f e) → (contacts : List ContactEntry) (rows : List ContactRow) → map f (with_rows contacts rows) ≡ map f contacts
+rows_same f h contacts rows = ap (map f) (given_each rows contacts) ∙ map_same f (rows_given rows) (each_same f h rows) contacts
 
 pub keys_stay : (contacts : List ContactEntry) (rows : List ContactRow) → map number_of (with_rows contacts rows) ≡ map number_of contacts
-keys_stay contacts [] = refl
-keys_stay contacts (r ∷ rs) = keys_stay (put_row r contacts (slice_get contacts r.bodies.index)) rs ∙ keys_put r contacts (slice_get contacts r.bodies.index) refl
+keys_stay contacts rows = rows_same number_of (λ r e. refl) contacts rows
+
+one_kept : (P : ContactEntry → Type 0) (t : Bool) (r : ContactRow) (e : ContactEntry) → P (with_row r e) → P e → P (cond t (with_row r e) e)
+one_kept P true r e h p = h
+one_kept P false r e h p = p
+
+each_kept : (P : ContactEntry → Type 0) (Q : ContactRow → Type 0) → ((r : ContactRow) (e : ContactEntry) → Q r → P e → P (with_row r e)) → (rows : List ContactRow) (e : ContactEntry) → All Q rows → P e → P (rows_given rows e)
+each_kept P Q h [] e all p = p
+each_kept P Q h (r ∷ rs) e all p = each_kept P Q h rs (row_given r e) (All-tail Q r rs all) (one_kept P (number_of e == key_number (key_of r.bodies)) r e (h r e (All-head Q r rs all) p) p)
+
+-- what each row of a kind keeps, all such rows keep
+pub rows_kept : (P : ContactEntry → Type 0) (Q : ContactRow → Type 0) → ((r : ContactRow) (e : ContactEntry) → Q r → P e → P (with_row r e)) → (contacts : List ContactEntry) (rows : List ContactRow) → All Q rows → All P contacts → All P (with_rows contacts rows)
+rows_kept P Q h contacts rows whole all =
+    All-same P (with_rows contacts rows) (map (rows_given rows) contacts) (given_each rows contacts)
+    (All-map P (rows_given rows) contacts (λ k d lt. each_kept P Q h rows (get_or contacts k d) whole (all k d lt)))
 
 point_kept : (o : Option ContactPoint) (r : PointRow) → IsPointRow r → ForSome o IsContactPoint → ForSome (option_map (with_impulses (impulses_of r)) o) IsContactPoint
 point_kept None r row h p e = cc
@@ -158,17 +199,8 @@ contact_kept bodies r e row of = record {
   contact = record { first = point_kept e.contact.first r.first row.first of.contact.first; second = second_kept e.contact.second r.second row.second of.contact.second };
 }
 
-contacts_put : (bodies : List (Option Body)) (r : ContactRow) (contacts : List ContactEntry) (o : Option ContactEntry) → slice_get contacts r.bodies.index ≡ o → IsRow r → AreContactsOf bodies contacts → AreContactsOf bodies (put_row r contacts o)
-contacts_put bodies r contacts None e row all = all
-contacts_put bodies r contacts (Some f) e row all =
-    let place = r.bodies.index in
-    let there : IsContactOf bodies f = subst (IsContactOf bodies) (get_or_from_slice_get contacts place f f e) (All-get_or (IsContactOf bodies) contacts place f (slice_get_within contacts place f e) all) in
-    All-set (IsContactOf bodies) contacts place (with_row r f) (contact_kept bodies r f row there) all
-
 pub contacts_stay : (bodies : List (Option Body)) (contacts : List ContactEntry) (rows : List ContactRow) → All IsRow rows → AreContactsOf bodies contacts → AreContactsOf bodies (with_rows contacts rows)
-contacts_stay bodies contacts [] whole all = all
-contacts_stay bodies contacts (r ∷ rs) whole all =
-    contacts_stay bodies (put_row r contacts (slice_get contacts r.bodies.index)) rs (λ k d lt. whole (suc k) d (omega arith)) (contacts_put bodies r contacts (slice_get contacts r.bodies.index) refl (whole 0 r (omega arith)) all)
+contacts_stay bodies contacts rows whole all = rows_kept (IsContactOf bodies) IsRow (contact_kept bodies) contacts rows whole all
 
 -- ---- which contacts touch
 

@@ -6,7 +6,7 @@ use Rattle.std.proofs.lemmas.Option.{none-some, same_Some}
 use Rattle.momenta.specs.declared.state.BodyState.{BodyState}
 use Rattle.contacts_base.specs.declared.key.ContactKey.{ContactKey}
 use Rattle.contacts_base.specs.declared.contact.ContactEntry.{ContactEntry}
-use Rattle.contacts_base.specs.Contacts.{found_place}
+use Rattle.contacts_base.specs.Contacts.{lookup}
 use Rattle.contacts.specs.declared.constraint.Constraint.{Constraint}
 use Rattle.contacts.specs.declared.constraint.Constraint.TheVariants.{Contact, Joint}
 use Rattle.graph_colours.specs.declared.limits.TheConstants.{COLOURS}
@@ -26,9 +26,9 @@ use Rattle.joint_rows.specs.Rows.{joint_row}
 use Rattle.plain_world.specs.declared.joint.BodyJoint.{BodyJoint}
 use Rattle.plain_world.specs.Joints.{joint_at}
 use Rattle.world_core_base.specs.ConstraintRows.{constraint_row, joint_bodies, joint_ends, joint_row_in, rows_in}
-use Rattle.world_core_base.specs.Gather.{bodies_of, ends_at, row_at, row_in, row_of}
+use Rattle.world_core_base.specs.Gather.{bodies_of, ends_at, row_in, row_of}
 use Rattle.world_core_base.specs.RowColours.{HasBoth, HasItsMovers, HasMovers, JointHasMovers, RowsAreColours}
-use Rattle.world_core_base.proofs.ContactLaws.{row_bodies}
+use Rattle.world_core_base.proofs.ContactLaws.{row_bodies, row_is}
 
 -- ---- the bodies of a row
 
@@ -37,19 +37,14 @@ record IsRowOfKey (key : ContactKey) (r : ContactRow) : Type 0 where
   a : r.bodies.a ≡ key.first.slot
   b : r.bodies.b ≡ key.second.slot
 
-of_entry : (states : List BodyState) (key : ContactKey) (index : ℕ) (o : Option ContactEntry) (r : ContactRow) → row_in states key index o ≡ Some r → IsRowOfKey key r
-of_entry states key index None r e = absurd (cc e)
-of_entry states key index (Some f) r e =
-    let here : r.bodies ≡ bodies_of key f.surface index = row_bodies (bodies_of key f.surface index) (ends_at states key) f.contact r e in
+of_entry : (states : List BodyState) (key : ContactKey) (o : Option ContactEntry) (r : ContactRow) → row_in states key o ≡ Some r → IsRowOfKey key r
+of_entry states key None r e = absurd (cc e)
+of_entry states key (Some f) r e =
+    let here : r.bodies ≡ bodies_of key f.surface = row_bodies (bodies_of key f.surface) (ends_at states key) f.contact r e in
     record { a = ap (λ (p : pairs.Bodies). p.a) here; b = ap (λ (p : pairs.Bodies). p.b) here }
 
-of_place : (states : List BodyState) (contacts : List ContactEntry) (key : ContactKey) (o : Option ℕ) (r : ContactRow) → row_at states contacts key o ≡ Some r → IsRowOfKey key r
-of_place states contacts key None r e = absurd (cc e)
-of_place states contacts key (Some index) r e = of_entry states key index (slice_get contacts index) r e
-
 of_key : (states : List BodyState) (contacts : List ContactEntry) (key : ContactKey) (r : ContactRow) → row_of states contacts (Contact key) ≡ Some r → IsRowOfKey key r
-unfolding row_of
-of_key states contacts key r e = of_place states contacts key (found_place contacts key) r e
+of_key states contacts key r e = of_entry states key (lookup contacts key) r (sym (row_is states contacts key) ∙ e)
 
 -- the row r is of two bodies, of which those that move are among the movers
 record IsAmong (states : List BodyState) (movers : Movers) (r : ConstraintRow) : Type 0 where

@@ -1,13 +1,14 @@
 -- What rows give back to the contacts is what the definition has made of them: the impulses of the points, and nothing else.
-use Rattle.std.proofs.Common.{◌≡◌, ◌≢◌, ◌⊎◌, inl, inr, ℕ, zero, suc, Bool, List, [], ◌∷◌, map, Option, Some, None, All, pos, refl, sym, ap, ◌∙◌, subst, slice_set}
+use Rattle.std.proofs.Common.{◌≡◌, ◌≢◌, inl, inr, ℕ, suc, ◌==◌, Bool, true, false, cond, List, [], ◌∷◌, map, Option, Some, None, All, pos, refl, sym, ap, ◌∙◌, subst}
 use Rattle.std.specs.Prelude.{option_map}
 use Rattle.std.specs.List.{slice_get, filter_map, cons_option}
-use Rattle.std.proofs.lemmas.Bool.{cases_eq}
+use Rattle.std.proofs.lemmas.Bool.{cases_eq, eq-eqb, eqb-true}
 use Rattle.std.proofs.lemmas.List.Elements.{All-nil, All-cons}
 use Rattle.std.proofs.lemmas.Option.{none-some, same_Some, slice_get-map}
 use Rattle.momenta.specs.declared.state.BodyState.{BodyState}
 use Rattle.momenta.specs.declared.state.Ends.{Ends}
-use Rattle.contacts_base.specs.Contacts.{found_place, lookup, with_impulses, with_second}
+use Rattle.contacts_base.specs.Keys.{key_number}
+use Rattle.contacts_base.specs.Contacts.{AreKeysRising, lookup, number_of, with_impulses, with_second}
 use Rattle.contacts_base.specs.declared.contact.Contact.{Contact}
 use Rattle.contacts_base.specs.declared.contact.ContactEntry.{ContactEntry}
 use Rattle.contacts_base.specs.declared.contact.ContactPoint.{ContactPoint}
@@ -17,10 +18,10 @@ use Rattle.contacts.specs.declared.constraint.Constraint.{Constraint}
 use Rattle.contacts.specs.declared.constraint.Constraint.TheVariants as constraints
 use Rattle.colour_solver_base.specs.declared.row.Bodies as pairs
 use Rattle.colour_solver_base.specs.declared.row.ContactRow.{ContactRow}
-use Rattle.colour_solver_base.specs.Rows.{contact_row, is_springy, point_row, row_from}
-use Rattle.world_core_base.specs.Gather.{bodies_of, ends_at, impulses_of, put_row, row_of, with_row, with_rows}
-use Rattle.world_core_base.proofs.ContactLaws.{row_bodies}
-use Rattle.world_core_base.proofs.SolvingContacts.{look_at, row_is_there, row_there}
+use Rattle.colour_solver_base.specs.Rows.{contact_row, is_springy, key_of, point_row, row_from}
+use Rattle.world_core_base.specs.Gather.{bodies_of, ends_at, impulses_of, row_in, row_of, with_row, with_rows}
+use Rattle.world_core_base.proofs.ContactLaws.{given_each, row_bodies, row_given, row_is, rows_given}
+use Rattle.world_core_base.proofs.SolvingContacts.{lookup_there}
 
 -- ---- a contact without its impulses
 
@@ -101,147 +102,122 @@ still e f is same =
     let contacts : e.contact ≡ f.contact = still_by f.contact.first f.contact.second e.contact.first e.contact.second is (ap (λ (e : ContactEntry). e.contact) same) in
     λ j. record { key = keys j; surface = surfaces j; contact = contacts j }
 
--- ---- lists by index
-
-same_gets : {X : Type 0} (xs ys : List X) → ((j : ℕ) → slice_get xs j ≡ slice_get ys j) → xs ≡ ys
-same_gets [] [] h = refl
-same_gets [] (y ∷ ys) h = absurd (none-some y (h 0))
-same_gets (x ∷ xs) [] h = absurd (none-some x (sym (h 0)))
-same_gets (x ∷ xs) (y ∷ ys) h = λ j. same_Some x y (h 0) j ∷ same_gets xs ys (λ k. h (suc k)) j
-
-get_set_same : {X : Type 0} (xs : List X) (i : ℕ) (x y : X) → slice_get xs i ≡ Some y → slice_get (slice_set xs i x) i ≡ Some x
-get_set_same [] i x y e = absurd (none-some y e)
-get_set_same (z ∷ xs) zero x y e = refl
-get_set_same (z ∷ xs) (suc i) x y e = get_set_same xs i x y e
-
-get_set_other : {X : Type 0} (xs : List X) (i j : ℕ) (x : X) → i ≢ j → slice_get (slice_set xs i x) j ≡ slice_get xs j
-get_set_other [] i j x ne = refl
-get_set_other (z ∷ xs) zero zero x ne = absurd (ne refl)
-get_set_other (z ∷ xs) zero (suc j) x ne = refl
-get_set_other (z ∷ xs) (suc i) zero x ne = refl
-get_set_other (z ∷ xs) (suc i) (suc j) x ne = get_set_other xs i j x (λ e. ne (ap suc e))
-
-bare_set : (es : List ContactEntry) (i : ℕ) (e f : ContactEntry) → slice_get es i ≡ Some e → bare f ≡ bare e → map bare (slice_set es i f) ≡ map bare es
-bare_set [] i e f is same = refl
-bare_set (d ∷ es) zero e f is same = ap (λ (b : ContactEntry). b ∷ map bare es) (same ∙ ap bare (sym (same_Some d e is)))
-bare_set (d ∷ es) (suc i) e f is same = ap (λ (l : List ContactEntry). bare d ∷ l) (bare_set es i e f is same)
-
--- the contacts of two lists at one index, which differ in their impulses at most
-record IsBareAt (es : List ContactEntry) (i : ℕ) (f : ContactEntry) : Type 0 where
-  entry : ContactEntry
-  there : slice_get es i ≡ Some entry
-  same : bare entry ≡ bare f
-
-bare_at : (es fs : List ContactEntry) (i : ℕ) (f : ContactEntry) → map bare es ≡ map bare fs → slice_get fs i ≡ Some f → IsBareAt es i f
-bare_at es fs i f e is = by (slice_get es i) refl (sym (slice_get-map bare es i) ∙ ap (λ (l : List ContactEntry). slice_get l i) e ∙ slice_get-map bare fs i ∙ ap (option_map bare) is)
-  where
-    by : (o : Option ContactEntry) → slice_get es i ≡ o → option_map bare o ≡ Some (bare f) → IsBareAt es i f
-    by None at same = absurd (none-some (bare f) same)
-    by (Some d) at same = record { entry = d; there = at; same = same_Some (bare d) (bare f) same }
-
 -- ---- all impulses put back
 
-abbrev pub place_of : List ContactEntry → Constraint → Option ℕ
-place_of es (constraints.Joint h) = None
-place_of es (constraints.Contact key) = found_place es key
-
--- the constraint isn't the contact at the index
-abbrev pub IsElsewhere : List ContactEntry → ℕ → Constraint → Type 0
-IsElsewhere es j id = place_of es id ≢ Some j
-
--- what a row and the place of a contact tell
-record IsRowAt (fs : List ContactEntry) (id : Constraint) (r : ContactRow) : Type 0 where
-  index : ℕ
-  entry : ContactEntry
-  pair : pairs.Bodies
-  bodies : Ends
-  placed : place_of fs id ≡ Some index
-  there : slice_get fs index ≡ Some entry
-  named : r.bodies.index ≡ index
-  made : contact_row pair bodies entry.contact ≡ Some r
-
-row_at_key : (states : List BodyState) (fs : List ContactEntry) (key : ContactKey) (r : ContactRow) → row_of states fs (constraints.Contact key) ≡ Some r → IsRowAt fs (constraints.Contact key) r
-row_at_key states fs key r is = by (found_place fs key) (lookup fs key) refl refl (sym (row_is_there states fs key) ∙ is)
-  where
-    by : (p : Option ℕ) (o : Option ContactEntry) → found_place fs key ≡ p → lookup fs key ≡ o → row_there states key p o ≡ Some r → IsRowAt fs (constraints.Contact key) r
-    by None o place look made = absurd (none-some r made)
-    by (Some i) None place look made = absurd (none-some r made)
-    by (Some i) (Some e) place look made = record {
-      index = i;
-      entry = e;
-      pair = bodies_of key e.surface i;
-      bodies = ends_at states key;
-      placed = place;
-      there = look_at fs key i place ∙ look;
-      named = ap (λ (p : pairs.Bodies). p.index) (row_bodies (bodies_of key e.surface i) (ends_at states key) e.contact r made);
-      made = made;
-    }
-
-no_row_of : (states : List BodyState) (es : List ContactEntry) (id : Constraint) (r : ContactRow) → row_of states es id ≡ Some r → IsRowAt es id r
-unfolding row_of
-no_row_of states es (constraints.Joint h) r is = absurd (none-some r is)
-no_row_of states es (constraints.Contact key) r is = row_at_key states es key r is
+-- the constraint isn't the contact
+abbrev pub IsOther : ContactEntry → Constraint → Type 0
+IsOther f (constraints.Joint h) = Unit {0}
+IsOther f (constraints.Contact key) = number_of f ≢ key_number key
 
 no_first : (pair : pairs.Bodies) (n : Ends) (first second : Option ContactPoint) → row_from pair n first second ≡ None → first ≡ None
 no_first pair n None second is = refl
 no_first pair n (Some p) second is = absurd (none-some _ (sym is))
 
--- a contact of the list without a row doesn't touch
-untouched : (states : List BodyState) (fs : List ContactEntry) (id : Constraint) (j : ℕ) (f : ContactEntry) → row_of states fs id ≡ None → place_of fs id ≡ Some j → slice_get fs j ≡ Some f → f.contact.first ≡ None
-untouched states fs (constraints.Joint h) j f is place there = absurd (none-some j place)
-untouched states fs (constraints.Contact key) j f is place there =
-    let look : lookup fs key ≡ Some f = sym (look_at fs key j place) ∙ there in
-    no_first (bodies_of key f.surface j) (ends_at states key) f.contact.first f.contact.second ((λ k. row_there states key (sym place k) (sym look k)) ∙ sym (row_is_there states fs key) ∙ is)
+-- what is looked up goes by the number of the key
+lookup_same : (es : List ContactEntry) (k j : ContactKey) → key_number k ≡ key_number j → lookup es k ≡ lookup es j
+lookup_same [] k j same = refl
+lookup_same (e ∷ es) k j same = λ i. cond (number_of e == same i) (Some e) (lookup_same es k j same i)
 
-is_place : (o : Option ℕ) (j : ℕ) → (o ≡ Some j) ⊎ (o ≢ Some j)
-is_place None j = inr (λ e. none-some j e)
-is_place (Some i) j = elim (cases_eq i j) [
-  | inl e ↦ inl (ap (λ (n : ℕ). Some n) e)
-  | inr ne ↦ inr (λ e. ne (same_Some i j e))
+-- The contacts e and f differ in their impulses at most, and in nothing where f is that of none of the constraints.
+record IsDue (todo : List Constraint) (e f : ContactEntry) : Type 0 where
+  same : bare e ≡ bare f
+  others : All (IsOther f) todo → e ≡ f
+
+-- nothing is due to a contact that has its impulses
+due_none : (todo : List Constraint) (f : ContactEntry) → IsDue todo f f
+due_none todo f = record { same = refl; others = λ all. refl }
+
+-- a constraint that isn't the contact gives it nothing
+due_other : (id : Constraint) (todo : List Constraint) (e f : ContactEntry) → IsOther f id → IsDue (id ∷ todo) e f → IsDue todo e f
+due_other id todo e f other due = record { same = due.same; others = λ all. due.others (All-cons (IsOther f) id todo other all) }
+
+-- nor does one that has no row
+due_no_row : (states : List BodyState) (fs : List ContactEntry) (id : Constraint) (todo : List Constraint) (e f : ContactEntry) → lookup fs f.key ≡ Some f → row_of states fs id ≡ None → IsDue (id ∷ todo) e f → IsDue todo e f
+due_no_row states fs (constraints.Joint h) todo e f there none due = due_other (constraints.Joint h) todo e f tt due
+due_no_row states fs (constraints.Contact key) todo e f there none due = elim (cases_eq (number_of f) (key_number key)) [
+  | inl is ↦
+      let found : lookup fs key ≡ Some f = lookup_same fs key f.key (sym is) ∙ there in
+      let untouched : f.contact.first ≡ None = no_first (bodies_of key f.surface) (ends_at states key) f.contact.first f.contact.second (ap (row_in states key) (sym found) ∙ sym (row_is states fs key) ∙ none) in
+      subst (λ (d : ContactEntry). IsDue todo d f) (sym (still e f untouched due.same)) (due_none todo f)
+  | inr ne ↦ due_other (constraints.Contact key) todo e f ne due
 ]
 
--- the contacts are as in the other list but at the indices of these constraints
-abbrev pub IsSameBeside : List ContactEntry → List Constraint → List ContactEntry → Type 0
-IsSameBeside es todo fs = (j : ℕ) → All (IsElsewhere fs j) todo → slice_get es j ≡ slice_get fs j
+-- what a row of a list is of
+record IsRowOfContact (fs : List ContactEntry) (key : ContactKey) (r : ContactRow) : Type 0 where
+  entry : ContactEntry
+  pair : pairs.Bodies
+  bodies : Ends
+  there : lookup fs key ≡ Some entry
+  named : key_of r.bodies ≡ key
+  made : contact_row pair bodies entry.contact ≡ Some r
 
-same_beside_rest : (states : List BodyState) (es fs : List ContactEntry) (id : Constraint) (todo : List Constraint) → row_of states fs id ≡ None → map bare es ≡ map bare fs → IsSameBeside es (id ∷ todo) fs → IsSameBeside es todo fs
-same_beside_rest states es fs id todo none barely same j rest = elim (is_place (place_of fs id) j) [
-  | inr ne ↦ same j (All-cons (IsElsewhere fs j) id todo ne rest)
-  | inl place ↦ by (slice_get fs j) refl place
-]
+row_of_contact : (states : List BodyState) (fs : List ContactEntry) (key : ContactKey) (r : ContactRow) → row_of states fs (constraints.Contact key) ≡ Some r → IsRowOfContact fs key r
+row_of_contact states fs key r is = by (lookup fs key) refl (sym (row_is states fs key) ∙ is)
   where
-    by : (o : Option ContactEntry) → slice_get fs j ≡ o → place_of fs id ≡ Some j → slice_get es j ≡ slice_get fs j
-    by None is place = sides (slice_get es j) (sym (slice_get-map bare es j) ∙ ap (λ (l : List ContactEntry). slice_get l j) barely ∙ slice_get-map bare fs j ∙ ap (option_map bare) is) ∙ sym is
-      where
-        sides : (o : Option ContactEntry) → option_map bare o ≡ None → o ≡ None
-        sides None e = refl
-        sides (Some d) e = absurd (none-some (bare d) (sym e))
-    by (Some f) is place =
-        let at : IsBareAt es j f = bare_at es fs j f barely is in
-        at.there ∙ ap (λ (e : ContactEntry). Some e) (still at.entry f (untouched states fs id j f none place is) at.same) ∙ sym is
+    by : (o : Option ContactEntry) → lookup fs key ≡ o → row_in states key o ≡ Some r → IsRowOfContact fs key r
+    by None look made = absurd (none-some r made)
+    by (Some e) look made = record {
+      entry = e;
+      pair = bodies_of key e.surface;
+      bodies = ends_at states key;
+      there = look;
+      named = ap key_of (row_bodies (bodies_of key e.surface) (ends_at states key) e.contact r made);
+      made = made;
+    }
 
-put_beside : (es fs : List ContactEntry) (id : Constraint) (todo : List Constraint) (i : ℕ) (f d : ContactEntry) → place_of fs id ≡ Some i → slice_get fs i ≡ Some f → slice_get es i ≡ Some d → IsSameBeside es (id ∷ todo) fs → IsSameBeside (slice_set es i f) todo fs
-put_beside es fs id todo i f d place there old same j rest = elim (cases_eq i j) [
-  | inl e ↦ subst (λ (k : ℕ). slice_get (slice_set es i f) k ≡ slice_get fs k) e (get_set_same es i f d old ∙ sym there)
-  | inr ne ↦ get_set_other es i j f ne ∙ same j (All-cons (IsElsewhere fs j) id todo (λ h. ne (same_Some i j (sym place ∙ h))) rest)
-]
+-- the row of a contact gives it what is due to it
+due_by : (t : Bool) (fs : List ContactEntry) (key : ContactKey) (todo : List Constraint) (e f : ContactEntry) (r : ContactRow) → (number_of e == key_number key) ≡ t → lookup fs f.key ≡ Some f → IsRowOfContact fs key r → IsDue (constraints.Contact key ∷ todo) e f
+    → IsDue todo (cond t (with_row r e) e) f
+due_by true fs key todo e f r test there row due =
+    let numbers : number_of e ≡ number_of f = ap number_of due.same in
+    let key_is : key_number f.key ≡ key_number key = sym numbers ∙ eqb-true (number_of e) (key_number key) test in
+    let one : row.entry ≡ f = same_Some row.entry f (sym row.there ∙ lookup_same fs key f.key (sym key_is) ∙ there) in
+    let back : with_row r e ≡ f = row_back row.pair row.bodies e f r (ap (λ (g : ContactEntry). contact_row row.pair row.bodies g.contact) (sym one) ∙ row.made) due.same in
+    subst (λ (d : ContactEntry). IsDue todo d f) (sym back) (due_none todo f)
+due_by false fs key todo e f r test there row due =
+    let numbers : number_of e ≡ number_of f = ap number_of due.same in
+    due_other (constraints.Contact key) todo e f (λ is. cc (sym test ∙ eq-eqb (number_of e) (key_number key) (numbers ∙ is))) due
 
-put_row_is : (es : List ContactEntry) (r : ContactRow) (i : ℕ) (d f : ContactEntry) → r.bodies.index ≡ i → slice_get es i ≡ Some d → with_row r d ≡ f → put_row r es (slice_get es r.bodies.index) ≡ slice_set es i f
-put_row_is es r i d f named there back =
-    ap (λ (n : ℕ). put_row r es (slice_get es n)) named ∙ ap (put_row r es) there ∙ (λ k. slice_set es (named k) (back k))
+due_row : (states : List BodyState) (fs : List ContactEntry) (id : Constraint) (todo : List Constraint) (e f : ContactEntry) (r : ContactRow) → lookup fs f.key ≡ Some f → row_of states fs id ≡ Some r → IsDue (id ∷ todo) e f → IsDue todo (row_given r e) f
+unfolding row_of
+due_row states fs (constraints.Joint h) todo e f r there is due = absurd (none-some r is)
+due_row states fs (constraints.Contact key) todo e f r there is due =
+    let row : IsRowOfContact fs key r = row_of_contact states fs key r is in
+    subst (λ (k : ContactKey). IsDue todo (cond (number_of e == key_number k) (with_row r e) e) f) (sym row.named)
+    (due_by (number_of e == key_number key) fs key todo e f r refl there row due)
+
+-- the rows' impulses make f of e
+one_back : (states : List BodyState) (todo : List Constraint) (fs : List ContactEntry) (e f : ContactEntry) → lookup fs f.key ≡ Some f → IsDue todo e f → rows_given (filter_map (row_of states fs) todo) e ≡ f
+one_back states [] fs e f there due = due.others (All-nil (IsOther f))
+one_back states (id ∷ todo) fs e f there due = by (row_of states fs id) refl (λ d more. one_back states todo fs d f there more)
+  where
+    by : (o : Option ContactRow) → row_of states fs id ≡ o → ((d : ContactEntry) → IsDue todo d f → rows_given (filter_map (row_of states fs) todo) d ≡ f) → rows_given (cons_option o (filter_map (row_of states fs) todo)) e ≡ f
+    by None is rest = rest e (due_no_row states fs id todo e f there is due)
+    by (Some r) is rest = rest (row_given r e) (due_row states fs id todo e f r there is due)
+
+-- ---- and so of all contacts
+
+bare_there : (es fs : List ContactEntry) (j : ℕ) (e f : ContactEntry) → map bare es ≡ map bare fs → slice_get es j ≡ Some e → slice_get fs j ≡ Some f → bare e ≡ bare f
+bare_there es fs j e f barely at_e at_f =
+    same_Some (bare e) (bare f)
+    (sym (slice_get-map bare es j ∙ ap (option_map bare) at_e) ∙ ap (λ (l : List ContactEntry). slice_get l j) barely ∙ slice_get-map bare fs j ∙ ap (option_map bare) at_f)
+
+each_made : (g : ContactEntry → ContactEntry) (es fs : List ContactEntry) → map bare es ≡ map bare fs → ((j : ℕ) (e f : ContactEntry) → slice_get es j ≡ Some e → slice_get fs j ≡ Some f → g e ≡ f) → map g es ≡ fs
+each_made g [] [] barely h = refl
+each_made g [] (f ∷ fs) barely h = absurd (cc barely)
+each_made g (e ∷ es) [] barely h = absurd (cc barely)
+each_made g (e ∷ es) (f ∷ fs) barely h = λ i. h 0 e f refl refl i ∷ each_made g es fs (cc barely) (λ j. h (suc j)) i
+
+-- the contacts are as in the other list but those of these constraints
+abbrev pub IsSameBeside : List ContactEntry → List Constraint → List ContactEntry → Type 0
+IsSameBeside es todo fs = (j : ℕ) (f : ContactEntry) → slice_get fs j ≡ Some f → All (IsOther f) todo → slice_get es j ≡ Some f
 
 -- the rows' impulses make fs of es
-pub rows_back : (states : List BodyState) (todo : List Constraint) (es fs : List ContactEntry) → map bare es ≡ map bare fs → IsSameBeside es todo fs → with_rows es (filter_map (row_of states fs) todo) ≡ fs
-rows_back states [] es fs barely same = same_gets es fs (λ j. same j (All-nil (IsElsewhere fs j)))
-rows_back states (id ∷ todo) es fs barely same = by (row_of states fs id) refl (λ ds bare_ds beside. rows_back states todo ds fs bare_ds beside)
-  where
-    by : (o : Option ContactRow) → row_of states fs id ≡ o → ((ds : List ContactEntry) → map bare ds ≡ map bare fs → IsSameBeside ds todo fs → with_rows ds (filter_map (row_of states fs) todo) ≡ fs)
-        → with_rows es (cons_option o (filter_map (row_of states fs) todo)) ≡ fs
-    by None is rest = rest es barely (same_beside_rest states es fs id todo is barely same)
-    by (Some r) is rest =
-        let row : IsRowAt fs id r = no_row_of states fs id r is in
-        let at : IsBareAt es row.index row.entry = bare_at es fs row.index row.entry barely row.there in
-        let back : with_row r at.entry ≡ row.entry = row_back row.pair row.bodies at.entry row.entry r row.made at.same in
-        let put : put_row r es (slice_get es r.bodies.index) ≡ slice_set es row.index row.entry = put_row_is es r row.index at.entry row.entry row.named at.there back in
-        ap (λ (l : List ContactEntry). with_rows l (filter_map (row_of states fs) todo)) put
-        ∙ rest (slice_set es row.index row.entry) (bare_set es row.index at.entry row.entry at.there (sym at.same) ∙ barely) (put_beside es fs id todo row.index row.entry at.entry row.placed row.there at.there same)
+pub rows_back : (states : List BodyState) (todo : List Constraint) (es fs : List ContactEntry) → AreKeysRising fs → map bare es ≡ map bare fs → IsSameBeside es todo fs → with_rows es (filter_map (row_of states fs) todo) ≡ fs
+rows_back states todo es fs rising barely same =
+    let rows : List ContactRow = filter_map (row_of states fs) todo in
+    given_each rows es
+    ∙ each_made (rows_given rows) es fs barely (λ j e f at_e at_f. one_back states todo fs e f (lookup_there fs j f rising at_f) (record {
+      same = bare_there es fs j e f barely at_e at_f;
+      others = λ all. same_Some e f (sym at_e ∙ same j f at_f all);
+    }))

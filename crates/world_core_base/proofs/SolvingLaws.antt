@@ -1,9 +1,10 @@
 -- What a step's passes leave of contacts and bodies, and that the arrays leave the same.
-use Rattle.std.proofs.Common.{◌≡◌, ◌≢◌, ℕ, zero, suc, ◌+◌, ◌==◌, Bool, true, false, cond, List, [], ◌∷◌, map, Option, Some, None, All, arith, refl, sym, ap, ◌∙◌, subst}
+use Rattle.std.proofs.Common.{◌≡◌, ℕ, zero, suc, ◌==◌, Bool, true, false, cond, List, [], ◌∷◌, map, Option, Some, None, All, refl, sym, ap, ◌∙◌, subst}
 use Rattle.std.specs.Prelude.{option_map}
 use Rattle.std.specs.List.{slice_get, cons_option, filter_map}
 use Rattle.std.proofs.lemmas.List.Elements.{All-head, All-tail, All-weaker}
-use Rattle.std.proofs.lemmas.Option.{same_Some}
+use Rattle.std.specs.List.Sorted.{IsStrictlyIncreasing}
+use Rattle.std.proofs.lemmas.Option.{none-some, same_Some, slice_get-map}
 use Rattle.fixed_geom.specs.declared.vectors.Vec2.{Vec2}
 use Rattle.momenta.specs.Motions.{clamped}
 use Rattle.momenta.specs.declared.state.BodyState.{BodyState}
@@ -11,7 +12,7 @@ use Rattle.momenta.specs.declared.state.Ends.{Ends}
 use Rattle.body_handles.specs.declared.handle.Handle.{Handle}
 use Rattle.joint_rows.specs.declared.row.JointRow.{JointRow}
 use Rattle.contacts_base.specs.Keys.{key_number}
-use Rattle.contacts_base.specs.Contacts.{found_in, lookup, number_of}
+use Rattle.contacts_base.specs.Contacts.{AreKeysRising, lookup, number_of}
 use Rattle.contacts_base.specs.declared.contact.Contact.{Contact}
 use Rattle.contacts_base.specs.declared.contact.ContactEntry.{ContactEntry}
 use Rattle.contacts_base.specs.declared.contact.ContactPoint.{ContactPoint}
@@ -31,8 +32,8 @@ use Rattle.world_core_base.specs.ConstraintRows.{constraint_row, joint_row_in, j
 use Rattle.world_core_base.specs.Gather.{row_of, states_of, with_motions, with_rows}
 use Rattle.world_core_base.specs.Solving.{Moving, Solving, Turns, begin, bounce, clamp, ends_now, ends_then, left, moving_at, pass, pull, solve, solve_order, solved, tick, ticks, turn, turn_between, turn_joined, turn_joint, warm, with_contact}
 use Rattle.world_core_base.specs.SolvingArrays.{ArraysAreSolving, IsRunOf}
-use Rattle.world_core_base.proofs.SolvingBack.{IsElsewhere, bare, bare_contact, bare_point, place_of, rows_back}
-use Rattle.world_core_base.proofs.SolvingContacts.{place_put}
+use Rattle.world_core_base.proofs.SolvingBack.{IsOther, IsSameBeside, bare, bare_contact, bare_point, rows_back}
+use Rattle.world_core_base.proofs.SolvingContacts.{put_else}
 use Rattle.world_core_base.proofs.SolvingRuns.{ran_alike, run_in, solved_stood}
 use Rattle.world_core_base.proofs.SolvingJoints.{AreImpulsed, IsAway, joints_back, joints_more, joints_then, none_impulsed, put_impulsed}
 use Rattle.world_core_base.proofs.SolvingTurns.{IsJointTurnBare, held, stood}
@@ -77,85 +78,51 @@ bare_put : (key : ContactKey) (c : Contact) (f : ContactEntry) (es : List Contac
 bare_put key c f [] is same = refl
 bare_put key c f (e ∷ es) is same = bare_put_by (number_of e == key_number key) key c e f es is same (λ h. bare_put key c f es h same)
 
-else_put_by : (t : Bool) (n j : ℕ) (key : ContactKey) (c : Contact) (e : ContactEntry) (es : List ContactEntry) → cond t (Some n) (found_in (suc n) es key) ≢ Some (n + j)
-    → ((k : ℕ) → found_in (suc n) es key ≢ Some (suc n + k) → slice_get (with_contact key c es) k ≡ slice_get es k) → slice_get (cond t (record e { contact = c } ∷ es) (e ∷ with_contact key c es)) j ≡ slice_get (e ∷ es) j
-else_put_by true n zero key c e es ne rest = absurd (ne (ap (λ (k : ℕ). Some k) (let same : n ≡ n + 0 = omega arith in same)))
-else_put_by true n (suc j) key c e es ne rest = refl
-else_put_by false n zero key c e es ne rest = refl
-else_put_by false n (suc j) key c e es ne rest = rest j (λ h. ne (h ∙ ap (λ (k : ℕ). Some k) (let same : suc n + j ≡ n + suc j = omega arith in same)))
-
-else_put : (n j : ℕ) (key : ContactKey) (c : Contact) (es : List ContactEntry) → found_in n es key ≢ Some (n + j) → slice_get (with_contact key c es) j ≡ slice_get es j
-else_put n j key c [] ne = refl
-else_put n j key c (e ∷ es) ne = else_put_by (number_of e == key_number key) n j key c e es ne (λ k h. else_put (suc n) k key c es h)
-
 -- ---- contacts that have other impulses, of these constraints alone
 
 record IsImpulsed (order : List Constraint) (es fs : List ContactEntry) : Type 0 where
   barely : map bare fs ≡ map bare es
-  places : (id : Constraint) → place_of fs id ≡ place_of es id
-  others : (j : ℕ) → All (IsElsewhere es j) order → slice_get fs j ≡ slice_get es j
+  others : (j : ℕ) (e : ContactEntry) → slice_get es j ≡ Some e → All (IsOther e) order → slice_get fs j ≡ Some e
 
 unimpulsed : (order : List Constraint) (es : List ContactEntry) → IsImpulsed order es es
-unimpulsed order es = record { barely = refl; places = λ id. refl; others = λ j h. refl }
-
-elsewhere_too : (order : List Constraint) (es fs : List ContactEntry) (j : ℕ) → ((id : Constraint) → place_of fs id ≡ place_of es id) → All (IsElsewhere es j) order → All (IsElsewhere fs j) order
-elsewhere_too order es fs j places all = All-weaker (IsElsewhere es j) (IsElsewhere fs j) (λ id ne h. ne (sym (places id) ∙ h)) order all
+unimpulsed order es = record { barely = refl; others = λ j e at all. at }
 
 impulsed_then : (order : List Constraint) (es fs gs : List ContactEntry) → IsImpulsed order es fs → IsImpulsed order fs gs → IsImpulsed order es gs
-impulsed_then order es fs gs h k = record {
-  barely = k.barely ∙ h.barely;
-  places = λ id. k.places id ∙ h.places id;
-  others = λ j all. k.others j (elsewhere_too order es fs j h.places all) ∙ h.others j all;
-}
+impulsed_then order es fs gs h k = record { barely = k.barely ∙ h.barely; others = λ j e at all. k.others j e (h.others j e at all) all }
 
-place_of_put : (key : ContactKey) (c : Contact) (es : List ContactEntry) (id : Constraint) → place_of (with_contact key c es) id ≡ place_of es id
-place_of_put key c es (constraints.Joint h) = refl
-place_of_put key c es (constraints.Contact k) = place_put key k c es
+-- of one constraint more
+impulsed_more : (id : Constraint) (order : List Constraint) (es fs : List ContactEntry) → IsImpulsed order es fs → IsImpulsed (id ∷ order) es fs
+impulsed_more id order es fs h = record { barely = h.barely; others = λ j e at all. h.others j e at (All-tail (IsOther e) id order all) }
 
--- one constraint before others
-impulsed_first : (id : Constraint) (order : List Constraint) (es fs gs : List ContactEntry) → map bare fs ≡ map bare es → ((o : Constraint) → place_of fs o ≡ place_of es o) → ((j : ℕ) → IsElsewhere es j id → slice_get fs j ≡ slice_get es j)
-    → IsImpulsed order fs gs → IsImpulsed (id ∷ order) es gs
-impulsed_first id order es fs gs barely places others k = record {
-  barely = k.barely ∙ barely;
-  places = λ o. k.places o ∙ places o;
-  others = λ j all. k.others j (elsewhere_too order es fs j places (All-tail (IsElsewhere es j) id order all)) ∙ others j (All-head (IsElsewhere es j) id order all);
-}
-
-record IsOneImpulsed (id : Constraint) (es fs : List ContactEntry) : Type 0 where
-  barely : map bare fs ≡ map bare es
-  places : (o : Constraint) → place_of fs o ≡ place_of es o
-  others : (j : ℕ) → IsElsewhere es j id → slice_get fs j ≡ slice_get es j
-
-turn_impulsed : (f : Turns) (s : Solving) (id : Constraint) → IsTurnBare f → IsOneImpulsed id s.contacts (turn f s id).contacts
-turn_impulsed f s (constraints.Joint h) law = by (joint_at s.joints h.slot)
+-- what a turn leaves of the contacts, of these constraints and one more
+turn_impulsed : (f : Turns) (s : Solving) (id : Constraint) (order : List Constraint) → IsTurnBare f → IsImpulsed (id ∷ order) s.contacts (turn f s id).contacts
+turn_impulsed f s (constraints.Joint h) order law = by (joint_at s.joints h.slot)
   where
-    between : (j : BodyJoint) (a b : Option Moving) → IsOneImpulsed (constraints.Joint h) s.contacts (turn_joined f s h.slot j a b).contacts
-    between j None b = record { barely = refl; places = λ o. refl; others = λ j ne. refl }
-    between j (Some a) None = record { barely = refl; places = λ o. refl; others = λ j ne. refl }
-    between j (Some a) (Some b) = record { barely = refl; places = λ o. refl; others = λ j ne. refl }
+    between : (j : BodyJoint) (a b : Option Moving) → IsImpulsed (constraints.Joint h ∷ order) s.contacts (turn_joined f s h.slot j a b).contacts
+    between j None b = unimpulsed (constraints.Joint h ∷ order) s.contacts
+    between j (Some a) None = unimpulsed (constraints.Joint h ∷ order) s.contacts
+    between j (Some a) (Some b) = unimpulsed (constraints.Joint h ∷ order) s.contacts
 
-    by : (o : Option BodyJoint) → IsOneImpulsed (constraints.Joint h) s.contacts (turn_joint f s h.slot o).contacts
-    by None = record { barely = refl; places = λ o. refl; others = λ j ne. refl }
+    by : (o : Option BodyJoint) → IsImpulsed (constraints.Joint h ∷ order) s.contacts (turn_joint f s h.slot o).contacts
+    by None = unimpulsed (constraints.Joint h ∷ order) s.contacts
     by (Some j) = between j (moving_at s.bodies j.a) (moving_at s.bodies j.b)
-turn_impulsed f s (constraints.Contact key) law = by (lookup s.contacts key) (moving_at s.bodies key.first.slot) (moving_at s.bodies key.second.slot) refl
+turn_impulsed f s (constraints.Contact key) order law = by (lookup s.contacts key) (moving_at s.bodies key.first.slot) (moving_at s.bodies key.second.slot) refl
   where
-    by : (o : Option ContactEntry) (a b : Option Moving) → lookup s.contacts key ≡ o → IsOneImpulsed (constraints.Contact key) s.contacts (turn_between f s key o a b).contacts
-    by None a b is = record { barely = refl; places = λ o. refl; others = λ j ne. refl }
-    by (Some e) None b is = record { barely = refl; places = λ o. refl; others = λ j ne. refl }
-    by (Some e) (Some a) None is = record { barely = refl; places = λ o. refl; others = λ j ne. refl }
+    by : (o : Option ContactEntry) (a b : Option Moving) → lookup s.contacts key ≡ o → IsImpulsed (constraints.Contact key ∷ order) s.contacts (turn_between f s key o a b).contacts
+    by None a b is = unimpulsed (constraints.Contact key ∷ order) s.contacts
+    by (Some e) None b is = unimpulsed (constraints.Contact key ∷ order) s.contacts
+    by (Some e) (Some a) None is = unimpulsed (constraints.Contact key ∷ order) s.contacts
     by (Some e) (Some a) (Some b) is =
         let c : Contact = (f.contact e (ends_then a b) (ends_now a b)).contact in
         record {
           barely = bare_put key c e s.contacts is (law e (ends_then a b) (ends_now a b));
-          places = place_of_put key c s.contacts;
-          others = λ j ne. else_put 0 j key c s.contacts (λ h. ne (h ∙ ap (λ (k : ℕ). Some k) (let same : 0 + j ≡ j = omega arith in same)));
+          others = λ j d at all. put_else j key c d s.contacts (All-head (IsOther d) (constraints.Contact key) order all) at;
         }
 
 pass_impulsed : (f : Turns) (order : List Constraint) (s : Solving) → IsTurnBare f → IsImpulsed order s.contacts (pass f order s).contacts
 pass_impulsed f [] s law = unimpulsed [] s.contacts
 pass_impulsed f (id ∷ order) s law =
-    let first : IsOneImpulsed id s.contacts (turn f s id).contacts = turn_impulsed f s id law in
-    impulsed_first id order s.contacts (turn f s id).contacts (pass f order (turn f s id)).contacts first.barely first.places first.others (pass_impulsed f order (turn f s id) law)
+    impulsed_then (id ∷ order) s.contacts (turn f s id).contacts (pass f order (turn f s id)).contacts (turn_impulsed f s id order law) (impulsed_more id order (turn f s id).contacts (pass f order (turn f s id)).contacts (pass_impulsed f order (turn f s id) law))
 
 tick_impulsed : (g : Vec2) (order : List Constraint) (s : Solving) → IsImpulsed order s.contacts (tick g order s).contacts
 tick_impulsed g order s =
@@ -255,22 +222,47 @@ contacts_split states joints contacts (constraints.Contact key ∷ order) = by (
 
 -- ---- what is written back
 
+-- a constraint that isn't the one contact isn't the other, which has its key
+other_as : (e f : ContactEntry) → number_of f ≡ number_of e → (id : Constraint) → IsOther f id → IsOther e id
+other_as e f numbers (constraints.Joint h) ne = tt
+other_as e f numbers (constraints.Contact key) ne = λ is. ne (numbers ∙ is)
+
+numbers_bare : (es : List ContactEntry) → map number_of (map bare es) ≡ map number_of es
+numbers_bare [] = refl
+numbers_bare (e ∷ es) = ap (λ (l : List ℕ). number_of e ∷ l) (numbers_bare es)
+
+-- the keys of contacts that have other impulses ascend as they did
+rising_bare : (es fs : List ContactEntry) → map bare fs ≡ map bare es → AreKeysRising es → AreKeysRising fs
+rising_bare es fs barely rising = subst IsStrictlyIncreasing (sym (sym (numbers_bare fs) ∙ ap (map number_of) barely ∙ numbers_bare es)) rising
+
+-- and so do others stay that had none
+others_back : (order : List Constraint) (es fs : List ContactEntry) → IsImpulsed order es fs → IsSameBeside es order fs
+others_back order es fs h j f at all = by (slice_get es j) refl (sym (slice_get-map bare es j) ∙ ap (λ (l : List ContactEntry). slice_get l j) (sym h.barely) ∙ slice_get-map bare fs j ∙ ap (option_map bare) at)
+  where
+    by : (o : Option ContactEntry) → slice_get es j ≡ o → option_map bare o ≡ Some (bare f) → slice_get es j ≡ Some f
+    by None at_e same = absurd (none-some (bare f) same)
+    by (Some e) at_e same =
+        let barely : bare e ≡ bare f = same_Some (bare e) (bare f) same in
+        let numbers : number_of f ≡ number_of e = ap number_of (sym barely) in
+        let stays : slice_get fs j ≡ Some e = h.others j e at_e (All-weaker (IsOther f) (IsOther e) (other_as e f numbers) order all) in
+        at_e ∙ sym stays ∙ at
+
 motions_back : (ms : List (Option Moving)) → with_motions (stood ms) (map held ms) ≡ map (option_map left) ms
 motions_back [] = refl
 motions_back (None ∷ ms) = ap (λ (l : List (Option Body)). None ∷ l) (motions_back ms)
 motions_back (Some m ∷ ms) = ap (λ (l : List (Option Body)). Some (left m) ∷ l) (motions_back ms)
 
-run_back : (bodies : List (Option Body)) (joints : List (Option BodyJoint)) (contacts : List ContactEntry) (order : List Constraint) (s : Solving) → stood s.bodies ≡ bodies → AreImpulsed order joints s.joints → IsImpulsed order contacts s.contacts → IsRunOf bodies joints contacts (run_in bodies order s) s
-run_back bodies joints contacts order s e k h = record {
+run_back : (bodies : List (Option Body)) (joints : List (Option BodyJoint)) (contacts : List ContactEntry) (order : List Constraint) (s : Solving) → AreKeysRising contacts → stood s.bodies ≡ bodies → AreImpulsed order joints s.joints → IsImpulsed order contacts s.contacts → IsRunOf bodies joints contacts (run_in bodies order s) s
+run_back bodies joints contacts order s rising e k h = record {
   bodies_left = ap (λ (l : List (Option Body)). with_motions l (map held s.bodies)) (sym e) ∙ motions_back s.bodies;
   joints_left = ap (with_joint_rows joints) (joints_split (states_of bodies) s.joints s.contacts order) ∙ joints_back (states_of bodies) order joints s.joints (sym k.barely) (λ slot all. sym (k.others slot all));
-  contacts_left = ap (with_rows contacts) (contacts_split (states_of bodies) s.joints s.contacts order) ∙ rows_back (states_of bodies) order contacts s.contacts (sym h.barely) (λ j all. sym (h.others j (elsewhere_too order s.contacts contacts j (λ id. sym (h.places id)) all)));
+  contacts_left = ap (with_rows contacts) (contacts_split (states_of bodies) s.joints s.contacts order) ∙ rows_back (states_of bodies) order contacts s.contacts (rising_bare contacts s.contacts h.barely rising) (sym h.barely) (others_back order contacts s.contacts h);
   sums = refl;
 }
 
 pub arrays_are_solving : ArraysAreSolving
-arrays_are_solving n g bodies joints contacts lists can =
+arrays_are_solving n g bodies joints contacts lists rising can =
     let order : List Constraint = solve_order (ids_of lists) in
     let s : Solving = solved n g order bodies joints contacts in
     subst (λ (r : Run). IsRunOf bodies joints contacts r s) (sym (ran_alike n g bodies joints contacts lists can))
-    (run_back bodies joints contacts order s (solved_stood n g bodies joints contacts order can) (solved_joints n g order bodies joints contacts) (solved_impulsed n g order bodies joints contacts))
+    (run_back bodies joints contacts order s rising (solved_stood n g bodies joints contacts order can) (solved_joints n g order bodies joints contacts) (solved_impulsed n g order bodies joints contacts))

@@ -265,7 +265,7 @@ joint_solve_moved begun now j h =
 
 warm_alike : IsTurnAlike warm joint_warmed row_warmed
 warm_alike = record {
-  alike = λ key i e begun now r is h. rows_are_contacts.warm (bodies_of key e.surface i) begun now e.contact r is h;
+  alike = λ key e begun now r is h. rows_are_contacts.warm (bodies_of key e.surface) begun now e.contact r is h;
   idle = warm_idle;
   joint = λ bodies begun now j. rows_are_joints.warm bodies begun now j;
   joint_moved = joint_warm_moved;
@@ -274,7 +274,7 @@ warm_alike = record {
 
 solve_alike : IsTurnAlike solve joint_solved row_solved
 solve_alike = record {
-  alike = λ key i e begun now r is h. rows_are_contacts.solve (bodies_of key e.surface i) begun now e.contact r is h;
+  alike = λ key e begun now r is h. rows_are_contacts.solve (bodies_of key e.surface) begun now e.contact r is h;
   idle = solve_idle;
   joint = λ bodies begun now j. rows_are_joints.solve bodies begun now j;
   joint_moved = joint_solve_moved;
@@ -283,7 +283,7 @@ solve_alike = record {
 
 bounce_alike : IsTurnAlike bounce joint_unbounced row_bounced
 bounce_alike = record {
-  alike = λ key i e begun now r is h. rows_are_contacts.bounce (bodies_of key e.surface i) begun now e.contact r is h;
+  alike = λ key e begun now r is h. rows_are_contacts.bounce (bodies_of key e.surface) begun now e.contact r is h;
   idle = bounce_idle;
   joint = λ bodies begun now j. refl;
   joint_moved = λ begun now j h. h;

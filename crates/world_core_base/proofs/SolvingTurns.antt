@@ -20,7 +20,7 @@ use Rattle.momenta.specs.declared.state.BodyState.{BodyState}
 use Rattle.momenta.specs.declared.state.Ends.{Ends}
 use Rattle.fixed_geom.specs.Vectors as vectors
 use Rattle.fixed_geom.specs.declared.vectors.Vec2.{Vec2}
-use Rattle.contacts_base.specs.Contacts.{found_place, lookup}
+use Rattle.contacts_base.specs.Contacts.{lookup}
 use Rattle.contacts_base.specs.declared.contact.ContactEntry.{ContactEntry}
 use Rattle.contacts_base.specs.declared.contact.ContactPoint.{ContactPoint}
 use Rattle.contacts_base.specs.declared.key.ContactKey.{ContactKey}
@@ -44,13 +44,13 @@ use Rattle.plain_world.specs.declared.joint.BodyJoint.{BodyJoint}
 use Rattle.plain_world.specs.Joints.{joint_at}
 use Rattle.plain_world.specs.Slots.{body_at}
 use Rattle.world_core_base.specs.Carried.{solver_motion}
-use Rattle.world_core_base.specs.Gather.{bodies_of, ends_at, row_of, state_of, states_of}
+use Rattle.world_core_base.specs.Gather.{bodies_of, ends_at, row_in, row_of, state_of, states_of}
 use Rattle.world_core_base.specs.ConstraintRows.{constraint_row, joint_bodies, joint_ends, joint_row_in}
 use Rattle.world_core_base.specs.Solving.{Moving, Solving, Turns, ends_now, ends_then, gained, given_by_immovable, left_by, moving_at, nothing, pass, plus, put_back, put_joint_back, state_with, turn, turn_between, turn_joined, turn_joint, with_contact, with_sum}
 use Rattle.world_core_base.specs.SolvingArrays.{AreOther, HasEnds, JointHasEnds}
-use Rattle.world_core_base.proofs.ContactLaws.{row_bodies}
+use Rattle.world_core_base.proofs.ContactLaws.{row_bodies, row_is}
 use Rattle.world_core_base.proofs.SolvingJoints.{all_ends_as, bare_joint, bare_joints, bare_put, joint_put_other, joint_put_same}
-use Rattle.world_core_base.proofs.SolvingContacts.{lookup_put_same, missing_there, place_put, put_idle, row_is_there, row_put_other, row_there}
+use Rattle.world_core_base.proofs.SolvingContacts.{lookup_put_same, put_idle, row_put_other}
 
 -- ---- the bodies as states
 
@@ -255,8 +255,8 @@ sums_idle e sums = ap (λ (g : Gain). with_sum g sums) (none_given e) ∙ ap (λ
 
 -- The turn of a row is what the definition makes of its joint or its contact; a contact that doesn't touch is left alone, and of a joint the impulse changes alone.
 pub record IsTurnAlike (f : Turns) (j : JointRow → Ends → JointAfter) (g : ContactRow → Ends → RowAfter ContactRow) : Type 0 where
-  pub alike : (key : ContactKey) (i : ℕ) (e : ContactEntry) (begun now : Ends) (r : ContactRow) → contact_row (bodies_of key e.surface i) begun e.contact ≡ Some r → AreMovedFrom begun now
-      → IsRowOf (bodies_of key e.surface i) begun (f.contact e begun now) (g r now)
+  pub alike : (key : ContactKey) (e : ContactEntry) (begun now : Ends) (r : ContactRow) → contact_row (bodies_of key e.surface) begun e.contact ≡ Some r → AreMovedFrom begun now
+      → IsRowOf (bodies_of key e.surface) begun (f.contact e begun now) (g r now)
   pub idle : (e : ContactEntry) (begun now : Ends) → e.contact.first ≡ None → f.contact e begun now ≡ record { contact = e.contact; ends = now }
   pub joint : (bodies : JointBodies) (begun now : Ends) (k : Joint) → j (joint_row bodies begun k) now ≡ record { row = joint_row bodies begun (f.joint k begun now).joint; ends = (f.joint k begun now).ends }
   pub joint_moved : (begun now : Ends) (k : Joint) → AreMovedFrom begun now → AreMovedFrom begun (f.joint k begun now).ends
@@ -275,27 +275,26 @@ moved_now a b = record { a = record { movable = refl; mass = refl; start = refl;
 abbrev contact_slots : ContactRow → Slots
 contact_slots r = record { a = r.bodies.a; b = r.bodies.b }
 
-turned_by : (f : Turns) (k : JointRow → Ends → JointAfter) (g : ContactRow → Ends → RowAfter ContactRow) (s : Solving) (key : ContactKey) (i : ℕ) (e : ContactEntry) (a b : Moving) (r : ContactRow) → IsTurnAlike f k g
-    → found_place s.contacts key ≡ Some i → lookup s.contacts key ≡ Some e → moving_at s.bodies key.first.slot ≡ Some a → moving_at s.bodies key.second.slot ≡ Some b
-    → contact_row (bodies_of key e.surface i) (ends_at (states_of (stood s.bodies)) key) e.contact ≡ Some r
+turned_by : (f : Turns) (k : JointRow → Ends → JointAfter) (g : ContactRow → Ends → RowAfter ContactRow) (s : Solving) (key : ContactKey) (e : ContactEntry) (a b : Moving) (r : ContactRow) → IsTurnAlike f k g
+    → lookup s.contacts key ≡ Some e → moving_at s.bodies key.first.slot ≡ Some a → moving_at s.bodies key.second.slot ≡ Some b
+    → contact_row (bodies_of key e.surface) (ends_at (states_of (stood s.bodies)) key) e.contact ≡ Some r
     → IsTurned (either_turn k g) (states_of (stood s.bodies)) (map held s.bodies) s.sums.immovable (put_back key a b (f.contact e (ends_then a b) (ends_now a b)) s) (constraints.Contact key) (rows.Contact r)
-turned_by f k g s key i e a b r law place look at_a at_b is =
+turned_by f k g s key e a b r law look at_a at_b is =
     let states : List BodyState = map held s.bodies in
     let begun : List BodyState = states_of (stood s.bodies) in
-    let pair : pairs.Bodies = bodies_of key e.surface i in
+    let pair : pairs.Bodies = bodies_of key e.surface in
     let t : SolvedContact = f.contact e (ends_then a b) (ends_now a b) in
     let then_is : ends_at begun key ≡ ends_then a b = (λ j. record { a = then_at s.bodies key.first.slot a at_a j; b = then_at s.bodies key.second.slot b at_b j }) in
     let made : contact_row pair (ends_then a b) e.contact ≡ Some r = sym (ap (λ (n : Ends). contact_row pair n e.contact) then_is) ∙ is in
-    let same : IsRowOf pair (ends_then a b) t (g r (ends_now a b)) = law.alike key i e (ends_then a b) (ends_now a b) r made (moved_now a b) in
+    let same : IsRowOf pair (ends_then a b) t (g r (ends_now a b)) = law.alike key e (ends_then a b) (ends_now a b) r made (moved_now a b) in
     let named : r.bodies ≡ pair = row_bodies pair (ends_then a b) e.contact r made in
     let now_is : ends_of contact_slots states r ≡ ends_now a b =
     ap (λ (p : pairs.Bodies). record { a = slice_index_or states p.a nobody; b = slice_index_or states p.b nobody }) named ∙ (λ j. record { a = held_at s.bodies key.first.slot a at_a j; b = held_at s.bodies key.second.slot b at_b j }) in
     let turn_is : turn_of contact_slots g states r ≡ g r (ends_now a b) = ap (g r) now_is in
     let ends_are : (turn_of contact_slots g states r).ends ≡ t.ends = ap (λ (n : RowAfter ContactRow). n.ends) turn_is ∙ same.ends in
     let row : row_of begun (with_contact key t.contact s.contacts) (constraints.Contact key) ≡ Some (turn_of contact_slots g states r).row =
-    row_is_there begun (with_contact key t.contact s.contacts) key
-    ∙ ap (λ (o : Option ℕ). row_there begun key o (lookup (with_contact key t.contact s.contacts) key)) (place_put key key t.contact s.contacts ∙ place)
-    ∙ ap (λ (o : Option ContactEntry). row_there begun key (Some i) o) (lookup_put_same key t.contact s.contacts ∙ ap (option_map (λ (e : ContactEntry). record e { contact = t.contact })) look)
+    row_is begun (with_contact key t.contact s.contacts) key
+    ∙ ap (row_in begun key) (lookup_put_same key t.contact s.contacts ∙ ap (option_map (λ (e : ContactEntry). record e { contact = t.contact })) look)
     ∙ ap (λ (n : Ends). contact_row pair n t.contact) then_is
     ∙ same.row
     ∙ ap (λ (n : RowAfter ContactRow). Some n.row) (sym turn_is) in
@@ -313,16 +312,15 @@ turned_contact : (f : Turns) (k : JointRow → Ends → JointAfter) (g : Contact
     → row_of (states_of (stood s.bodies)) s.contacts (constraints.Contact key) ≡ Some r → IsTurned (either_turn k g) (states_of (stood s.bodies)) (map held s.bodies) s.sums.immovable (turn f s (constraints.Contact key)) (constraints.Contact key) (rows.Contact r)
 turned_contact f k g s key r law there is =
     let begun : List BodyState = states_of (stood s.bodies) in
-    by (found_place s.contacts key) (lookup s.contacts key) (moving_at s.bodies key.first.slot) (moving_at s.bodies key.second.slot) refl refl refl refl
-    (ap is_some (sym (body_there s.bodies key.first.slot)) ∙ there.0) (ap is_some (sym (body_there s.bodies key.second.slot)) ∙ there.1) (sym (row_is_there begun s.contacts key) ∙ is)
+    by (lookup s.contacts key) (moving_at s.bodies key.first.slot) (moving_at s.bodies key.second.slot) refl refl refl
+    (ap is_some (sym (body_there s.bodies key.first.slot)) ∙ there.0) (ap is_some (sym (body_there s.bodies key.second.slot)) ∙ there.1) (sym (row_is begun s.contacts key) ∙ is)
   where
-    by : (p : Option ℕ) (o : Option ContactEntry) (a b : Option Moving) → found_place s.contacts key ≡ p → lookup s.contacts key ≡ o → moving_at s.bodies key.first.slot ≡ a → moving_at s.bodies key.second.slot ≡ b
-        → is_some (body_of a) ≡ true → is_some (body_of b) ≡ true → row_there (states_of (stood s.bodies)) key p o ≡ Some r → IsTurned (either_turn k g) (states_of (stood s.bodies)) (map held s.bodies) s.sums.immovable (turn_between f s key o a b) (constraints.Contact key) (rows.Contact r)
-    by None o a b place look at_a at_b has_a has_b is = absurd (cc)
-    by (Some i) None a b place look at_a at_b has_a has_b is = absurd (cc)
-    by (Some i) (Some e) None b place look at_a at_b has_a has_b is = absurd (cc)
-    by (Some i) (Some e) (Some a) None place look at_a at_b has_a has_b is = absurd (cc)
-    by (Some i) (Some e) (Some a) (Some b) place look at_a at_b has_a has_b is = turned_by f k g s key i e a b r law place look at_a at_b is
+    by : (o : Option ContactEntry) (a b : Option Moving) → lookup s.contacts key ≡ o → moving_at s.bodies key.first.slot ≡ a → moving_at s.bodies key.second.slot ≡ b
+        → is_some (body_of a) ≡ true → is_some (body_of b) ≡ true → row_in (states_of (stood s.bodies)) key o ≡ Some r → IsTurned (either_turn k g) (states_of (stood s.bodies)) (map held s.bodies) s.sums.immovable (turn_between f s key o a b) (constraints.Contact key) (rows.Contact r)
+    by None a b look at_a at_b has_a has_b is = absurd (cc)
+    by (Some e) None b look at_a at_b has_a has_b is = absurd (cc)
+    by (Some e) (Some a) None look at_a at_b has_a has_b is = absurd (cc)
+    by (Some e) (Some a) (Some b) look at_a at_b has_a has_b is = turned_by f k g s key e a b r law look at_a at_b is
 
 -- the row of the joint in a slot, as the solver makes it
 abbrev made_of : List BodyState → ℕ → BodyJoint → JointRow
@@ -401,16 +399,14 @@ put_back_idle s key e a b look at_a at_b =
 
 idle_contact : (f : Turns) (k : JointRow → Ends → JointAfter) (g : ContactRow → Ends → RowAfter ContactRow) (states : List BodyState) (s : Solving) (key : ContactKey) → IsTurnAlike f k g → row_of states s.contacts (constraints.Contact key) ≡ None → turn f s (constraints.Contact key) ≡ s
 idle_contact f k g states s key law is =
-    by (found_place s.contacts key) (lookup s.contacts key) (moving_at s.bodies key.first.slot) (moving_at s.bodies key.second.slot) refl refl refl refl (sym (row_is_there states s.contacts key) ∙ is)
+    by (lookup s.contacts key) (moving_at s.bodies key.first.slot) (moving_at s.bodies key.second.slot) refl refl refl (sym (row_is states s.contacts key) ∙ is)
   where
-    by : (p : Option ℕ) (o : Option ContactEntry) (a b : Option Moving) → found_place s.contacts key ≡ p → lookup s.contacts key ≡ o → moving_at s.bodies key.first.slot ≡ a → moving_at s.bodies key.second.slot ≡ b
-        → row_there states key p o ≡ None → turn_between f s key o a b ≡ s
-    by p None a b place look at_a at_b is = refl
-    by p (Some e) None b place look at_a at_b is = refl
-    by p (Some e) (Some a) None place look at_a at_b is = refl
-    by None (Some e) (Some a) (Some b) place look at_a at_b is = absurd (let gone : lookup s.contacts key ≡ None = missing_there s.contacts key place in cc)
-    by (Some i) (Some e) (Some a) (Some b) place look at_a at_b is =
-        ap (λ (t : SolvedContact). put_back key a b t s) (law.idle e (ends_then a b) (ends_now a b) (no_point (bodies_of key e.surface i) (ends_at states key) e.contact.first e.contact.second is)) ∙ put_back_idle s key e a b look at_a at_b
+    by : (o : Option ContactEntry) (a b : Option Moving) → lookup s.contacts key ≡ o → moving_at s.bodies key.first.slot ≡ a → moving_at s.bodies key.second.slot ≡ b → row_in states key o ≡ None → turn_between f s key o a b ≡ s
+    by None a b look at_a at_b is = refl
+    by (Some e) None b look at_a at_b is = refl
+    by (Some e) (Some a) None look at_a at_b is = refl
+    by (Some e) (Some a) (Some b) look at_a at_b is =
+        ap (λ (t : SolvedContact). put_back key a b t s) (law.idle e (ends_then a b) (ends_now a b) (no_point (bodies_of key e.surface) (ends_at states key) e.contact.first e.contact.second is)) ∙ put_back_idle s key e a b look at_a at_b
 
 idle_turn : (f : Turns) (k : JointRow → Ends → JointAfter) (g : ContactRow → Ends → RowAfter ContactRow) (states : List BodyState) (s : Solving) (id : Constraint) → IsTurnAlike f k g → constraint_row states s.joints s.contacts id ≡ None → turn f s id ≡ s
 idle_turn f k g states s (constraints.Joint h) law is = by (joint_at s.joints h.slot) is

@@ -1,5 +1,5 @@
 -- What a step works on, gathered from the bodies, the contacts and their colours, and written back to them.
-use Rattle.std.specs.Prelude.{◌≡◌, ℕ, ◌<◌, ◌⊎◌, ◌≢◌, Bool, true, false, List, [], ◌∷◌, length, map, All, Option, Some, None, option_map, slice_get, slice_index_or}
+use Rattle.std.specs.Prelude.{◌≡◌, ℕ, ◌<◌, ◌⊎◌, ◌≢◌, Bool, true, false, List, [], ◌∷◌, length, map, All, Option, Some, None, option_map, slice_index_or}
 use Rattle.momenta.specs.Reciprocals.{reciprocals_of}
 use Rattle.momenta.specs.declared.state.BodyState.{BodyState}
 use Rattle.momenta.specs.declared.state.Ends.{Ends}
@@ -8,14 +8,15 @@ use Rattle.contacts_base.specs.declared.evaluation.Impulses.{Impulses}
 use Rattle.contacts_base.specs.declared.surface.Surface.{Surface}
 use Rattle.contacts_base.specs.Surfaces.{IsSurface}
 use Rattle.contacts_base.specs.declared.contact.ContactEntry.{ContactEntry}
-use Rattle.contacts_base.specs.Contacts.{found_place, impulses_set, with_points}
+use Rattle.contacts_base.specs.Contacts.{lookup, with_points}
+use Rattle.contacts_base.specs.Split.{impulses_given}
 use Rattle.contacts_base.specs.Limits.{IsContact}
 use Rattle.contacts.specs.declared.constraint.Constraint.{Constraint}
 use Rattle.contacts.specs.declared.constraint.Constraint.TheVariants as constraints
 use Rattle.colour_solver_base.specs.declared.row.PointRow.{PointRow}
 use Rattle.colour_solver_base.specs.declared.row.ContactRow.{ContactRow}
 use Rattle.colour_solver_base.specs.declared.row.Bodies as pairs
-use Rattle.colour_solver_base.specs.Rows.{IsRow, contact_row}
+use Rattle.colour_solver_base.specs.Rows.{IsRow, contact_row, key_of}
 use Rattle.colour_solver.specs.States.{nobody}
 use Rattle.plain_world.specs.declared.body.Body.{Body}
 use Rattle.plain_world.specs.Bodies.{is_awake, is_mover}
@@ -34,25 +35,22 @@ states_of bodies = map state_of bodies
 
 -- ---- the contacts
 
--- which contact it is, its bodies, and the surface that meets there
-abbrev pub bodies_of : ContactKey → Surface → ℕ → pairs.Bodies
-bodies_of key surface index = record { index = index; a = key.first.slot; b = key.second.slot; friction = surface.friction; restitution = surface.restitution }
+-- which contact it is, and the surface that meets there
+abbrev pub bodies_of : ContactKey → Surface → pairs.Bodies
+bodies_of key surface = record { a = key.first.slot; b = key.second.slot; first = key.first.index; second = key.second.index; friction = surface.friction; restitution = surface.restitution }
 
 abbrev pub ends_at : List BodyState → ContactKey → Ends
 ends_at states key = record { a = slice_index_or states key.first.slot nobody; b = slice_index_or states key.second.slot nobody }
 
-abbrev pub row_in : List BodyState → ContactKey → ℕ → Option ContactEntry → Option ContactRow
-row_in states key index None = None
-row_in states key index (Some e) = contact_row (bodies_of key e.surface index) (ends_at states key) e.contact
-
-abbrev pub row_at : List BodyState → List ContactEntry → ContactKey → Option ℕ → Option ContactRow
-row_at states contacts key None = None
-row_at states contacts key (Some index) = row_in states key index (slice_get contacts index)
+-- the row of the contact with a key, if it is there and touches
+abbrev pub row_in : List BodyState → ContactKey → Option ContactEntry → Option ContactRow
+row_in states key None = None
+row_in states key (Some e) = contact_row (bodies_of key e.surface) (ends_at states key) e.contact
 
 -- the row of a constraint, if it is a contact that touches
 unfoldable pub row_of : List BodyState → List ContactEntry → Constraint → Option ContactRow
 row_of states contacts (constraints.Joint h) = None
-row_of states contacts (constraints.Contact key) = row_at states contacts key (found_place contacts key)
+row_of states contacts (constraints.Contact key) = row_in states key (lookup contacts key)
 
 -- ---- back to the bodies and the contacts
 
@@ -77,13 +75,14 @@ impulses_of r = record { normal_impulse = r.normal_impulse; tangent_impulse = r.
 abbrev pub with_row : ContactRow → ContactEntry → ContactEntry
 with_row r e = with_points (impulses_of r.first) (option_map impulses_of r.second) e
 
-abbrev pub put_row : ContactRow → List ContactEntry → Option ContactEntry → List ContactEntry
-put_row r contacts o = impulses_set r.bodies.index (impulses_of r.first) (option_map impulses_of r.second) contacts o
+-- the contact of a row with the impulses of the row
+abbrev pub put_row : ContactRow → List ContactEntry → List ContactEntry
+put_row r contacts = impulses_given (key_of r.bodies) (impulses_of r.first) (option_map impulses_of r.second) contacts
 
 -- each contact with the impulses that the step has left it
 abbrev pub with_rows : List ContactEntry → List ContactRow → List ContactEntry
 with_rows contacts [] = contacts
-with_rows contacts (r ∷ rs) = with_rows (put_row r contacts (slice_get contacts r.bodies.index)) rs
+with_rows contacts (r ∷ rs) = with_rows (put_row r contacts) rs
 
 -- ---- what must hold of the contacts
 

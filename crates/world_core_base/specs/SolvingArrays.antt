@@ -3,6 +3,7 @@
 use Rattle.std.specs.Prelude.{◌≡◌, ◌≢◌, ℕ, true, List, Option, Some, None, All, is_some}
 use Rattle.std.specs.List.{AllPairs}
 use Rattle.fixed_geom.specs.declared.vectors.Vec2.{Vec2}
+use Rattle.contacts_base.specs.Contacts.{AreKeysRising}
 use Rattle.contacts_base.specs.Keys.{key_number}
 use Rattle.contacts_base.specs.declared.contact.ContactEntry.{ContactEntry}
 use Rattle.contacts.specs.declared.constraint.Constraint.{Constraint}
@@ -50,7 +51,8 @@ pub record IsRunOf (bodies : List (Option Body)) (joints : List (Option BodyJoin
   pub contacts_left : with_rows contacts (contacts_among r.rows) ≡ s.contacts
   pub sums : r ≡ run_of r.states r.rows s.sums
 
+-- no contact stands twice among those that a step begins with
 abbrev pub ArraysAreSolving : Type 0
 ArraysAreSolving = (n : ℕ) (gravity : Vec2) (bodies : List (Option Body)) (joints : List (Option BodyJoint)) (contacts : List ContactEntry) (lists : List (List (Member Constraint)))
-    → CanSolve bodies joints (solve_order (ids_of lists))
+    → AreKeysRising contacts → CanSolve bodies joints (solve_order (ids_of lists))
     → IsRunOf bodies joints contacts (ran n gravity (start (states_of bodies) (rows_of (states_of bodies) joints contacts lists))) (solved n gravity (solve_order (ids_of lists)) bodies joints contacts)

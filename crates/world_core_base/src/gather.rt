@@ -2,8 +2,8 @@
 
 ghost use Rattle.std.specs.Prelude.{◌≡◌, ◌<◌, ◌≤◌, ◌≢◌, ◌⊎◌, ◌+◌, ◌^◌, ◌++◌, ◌∷◌, [], All, Option, Some, length, map, option_map};
 ghost use Rattle.std.specs.Option.{ForSome, option_to_list};
-ghost use Rattle.contacts_base.specs.Contacts.{AreKeysRising};
 ghost use Rattle.contacts_base.specs.Keys.{key_number};
+ghost use Rattle.contacts_base.specs.Split.{contacts_in};
 ghost use Rattle.contacts.specs.Constraints.{constraint_number};
 ghost use Rattle.momenta.specs.Impulses.{AreStates};
 ghost use Rattle.colour_solver_base.specs.Rows.{AreSurfaces};
@@ -22,7 +22,7 @@ use crate::joint_row::joint_row_at;
 use colour_solver::Rows;
 use colour_solver_base::{Bodies, ContactRow, contact_row};
 use contacts::Constraint;
-use contacts_base::{ContactEntry, ContactKey, PackedContact, PackedSurface, place_at, seek};
+use contacts_base::{ContactKey, Hint, PackedContact, PackedSurface, SplitContacts};
 use fixed_geom::{Rot, UNIT, Vec2};
 use graph_colours::{COLOURS, Colours, Member, OVERFLOW};
 use joint_rows::JointRow;
@@ -112,18 +112,19 @@ pub fn body_state(body: &Body) -> BodyState
     }
 }
 
-/// Which contact it is, its bodies, and the surface that meets there.
+/// Which contact it is, and the surface that meets there.
 #[inline(always)]
-fn bodies_of(key: ContactKey, surface: PackedSurface, index: usize) -> Bodies
+fn bodies_of(key: ContactKey, surface: PackedSurface) -> Bodies
     requires { IsSurface surface }
-    ensures value { result ≡ bodies_of key surface index }
+    ensures value { result ≡ bodies_of key surface }
     ensures surfaces { AreSurfaces result }
 {
     let surface = surface.get();
     Bodies {
-        index,
         a: key.first.slot,
         b: key.second.slot,
+        first: key.first.index,
+        second: key.second.index,
         friction: surface.friction,
         restitution: surface.restitution,
     }
@@ -144,12 +145,11 @@ fn ends_at(states: &[BodyState], key: ContactKey) -> Ends
     }
 }
 
-/// The row of the contact with this key at an index, if it touches; `own` is the key that it has there.
+/// The row of the contact with this key, if it touches; `own` is the key as the contact has it.
 #[inline(always)]
 fn row_in(
     states: &[BodyState],
     key: ContactKey,
-    index: usize,
     own: ContactKey,
     surface: PackedSurface,
     contact: &PackedContact,
@@ -158,36 +158,33 @@ fn row_in(
     requires contact { IsContactOn states.now (record { key = own; surface = surface; contact = contact.now }) }
     requires same { key_number own ≡ key_number key }
     requires movable { HasMovable states.now key.first.slot key.second.slot }
-    ensures value { result ≡ row_in states.now key index (Some (record { key = own; surface = surface; contact = contact.now })) }
+    ensures value { result ≡ row_in states.now key (Some (record { key = own; surface = surface; contact = contact.now })) }
     ensures row { ForSome result (IsContactRowBelow (length states.now)) }
 {
     let ends = ends_at(states, key);
-    contact_row(bodies_of(key, surface, index), contact, &ends)
+    contact_row(bodies_of(key, surface), contact, &ends)
 }
 
-/// The row of a constraint, if it is a contact that touches. The contact is looked for from `hint` on, which becomes its index.
+/// The row of a constraint, if it is a contact that touches. The contact is looked for from `hint` on, which becomes where it was found.
 #[tactic(auto, unfolding(crate::specs::Gather::row_of))]
 #[inline(always)]
 fn row_of(
     states: &[BodyState],
-    contacts: &[ContactEntry],
-    hint: &mut usize,
+    contacts: &SplitContacts,
+    hint: &mut Hint,
     id: Constraint,
 ) -> Option<ContactRow>
     requires all_states { AreAllStates states.now }
-    requires rising { AreKeysRising contacts.now }
-    requires contacts { AreContactsOn states.now contacts.now }
+    requires contacts { AreContactsOn states.now (contacts_in contacts.now) }
     requires movable { IsMovable states.now id }
-    ensures value { result ≡ row_of states.now contacts.now id }
+    ensures value { result ≡ row_of states.now (contacts_in contacts.now) id }
     ensures row { ForSome result (IsContactRowBelow (length states.now)) }
 {
     match id {
         Constraint::Joint(_) => None,
         Constraint::Contact(key) => {
-            *hint = seek(contacts, *hint, key);
-            let index = place_at(contacts, *hint, key)?;
-            let entry = contacts.get(index)?;
-            row_in(states, key, index, entry.key, entry.surface, &entry.contact)
+            let entry = contacts.find(hint, key)?;
+            row_in(states, key, entry.key, entry.surface, &entry.contact)
         }
     }
 }
@@ -207,9 +204,17 @@ fn push_joint(rows: &mut Rows, row: Option<JointRow>)
     }
 }
 
-/// Adds a contact's row, if there is one, for which there is room.
+/// Notes where a contact was found, where there is room for it: a hint, of which nothing is promised.
 #[inline(always)]
-fn push_contact(rows: &mut Rows, row: Option<ContactRow>)
+fn push_place(places: &mut Vec<usize>, place: usize) {
+    if places.len() < places.capacity() {
+        let _ = places.push(place);
+    }
+}
+
+/// Adds a contact's row, if there is one, for which there is room, and notes beside it the place where the contact was found.
+#[inline(always)]
+fn push_contact(rows: &mut Rows, row: Option<ContactRow>, places: &mut Vec<usize>, place: usize)
     requires { 1 ≤ rows.old.room }
     ensures colours { rows.new.colours ≡ rows.old.colours }
     ensures left { rows.new.left ≡ rows.old.left ++ option_to_list (option_map kinds.Contact row) }
@@ -218,30 +223,32 @@ fn push_contact(rows: &mut Rows, row: Option<ContactRow>)
 {
     if let Some(row) = row {
         rows.push_contact(row);
+        push_place(places, place);
     }
 }
 
-/// Adds the row of a constraint, for which there is room: of a joint, or of a contact that touches, which is looked for from `hint` on.
+/// Adds the row of a constraint, for which there is room: of a joint, or of a contact that touches, which is looked for from `hint` on, and the place
+/// where it was found.
 /// The numbers of all joints are below 2^80, and those of all contacts aren't, so that joints come first.
 #[inline(always)]
 fn add_row(
     rows: &mut Rows,
     states: &[BodyState],
     joints: &[Option<BodyJoint>],
-    contacts: &[ContactEntry],
-    hint: &mut usize,
+    contacts: &SplitContacts,
+    hint: &mut Hint,
+    places: &mut Vec<usize>,
     id: Constraint,
 )
     requires all_states { AreAllStates states.now }
     requires joint { HasJointOn states.now joints.now id }
-    requires rising { AreKeysRising contacts.now }
-    requires contacts { AreContactsOn states.now contacts.now }
+    requires contacts { AreContactsOn states.now (contacts_in contacts.now) }
     requires movable { IsMovable states.now id }
     requires room { 1 ≤ rows.old.room }
     requires first { constraint_number id < 2 ^ 80 → contacts_among rows.old.left ≡ [] }
     ensures colours { rows.new.colours ≡ rows.old.colours }
-    ensures left { rows.new.left ≡ rows.old.left ++ option_to_list (constraint_row states.now joints.now contacts.now id) }
-    ensures row { ForSome (constraint_row states.now joints.now contacts.now id) (IsRowBelow (length states.now)) }
+    ensures left { rows.new.left ≡ rows.old.left ++ option_to_list (constraint_row states.now joints.now (contacts_in contacts.now) id) }
+    ensures row { ForSome (constraint_row states.now joints.now (contacts_in contacts.now) id) (IsRowBelow (length states.now)) }
     ensures room { rows.old.room ≤ rows.new.room + 1 }
     ensures more { rows.new.more ≡ rows.old.more }
 {
@@ -250,65 +257,75 @@ fn add_row(
             push_joint(rows, joint_row_at(states, joints, handle.slot as usize));
         }
         Constraint::Contact(_) => {
-            push_contact(rows, row_of(states, contacts, hint, id));
+            let row = row_of(states, contacts, hint, id);
+            push_contact(rows, row, places, hint.long);
         }
     }
 }
 
-/// Gathers the constraints of one colour, ascending, for which there is room; the colour has none yet.
+/// Gathers the constraints of one colour, ascending, for which there is room, and the places of its contacts; the colour has none yet.
 fn gather_colour(
     rows: &mut Rows,
     states: &[BodyState],
     joints: &[Option<BodyJoint>],
-    contacts: &[ContactEntry],
+    contacts: &SplitContacts,
+    places: &mut Vec<usize>,
     members: &[Member<Constraint>],
 )
     requires all_states { AreAllStates states.now }
     requires joints { HaveJointsOn states.now joints.now members.now }
-    requires rising { AreKeysRising contacts.now }
-    requires contacts { AreContactsOn states.now contacts.now }
+    requires contacts { AreContactsOn states.now (contacts_in contacts.now) }
     requires movable { HaveMovable states.now members.now }
     requires ascend { AreRising constraint_number members.now }
     requires none { rows.old.left ≡ [] }
     requires room { length members.now ≤ rows.old.room }
     ensures colours { rows.new.colours ≡ rows.old.colours }
-    ensures left { rows.new.left ≡ rows_in states.now joints.now contacts.now members.now }
+    ensures left { rows.new.left ≡ rows_in states.now joints.now (contacts_in contacts.now) members.now }
     ensures rows { AreRowsBelow (length states.now) rows.new.left }
     ensures room { rows.old.room ≤ rows.new.room + length members.now }
     ensures more { rows.new.more ≡ rows.old.more }
 {
-    let mut hint = 0;
+    let mut hint = Hint { long: 0, short: 0 };
     for member in members {
-        add_row(rows, states, joints, contacts, &mut hint, member.id);
+        add_row(rows, states, joints, contacts, &mut hint, places, member.id);
     }
 }
 
 /// Gathers the active constraints in solve order, for which there is room: colour after colour, and the overflow last. Each row
-/// stands in its constraint's colour.
+/// stands in its constraint's colour. Beside the row of each contact stands in `places`, as far as there is room, the place of the long list where the
+/// contact was found: a hint for whoever looks for it again, of which nothing is promised.
 #[tactic(auto, unfolding(crate::specs::ConstraintRows::rows_of))]
 pub fn gather_rows(
     rows: &mut Rows,
     states: &[BodyState],
     joints: &[Option<BodyJoint>],
-    contacts: &[ContactEntry],
+    contacts: &SplitContacts,
+    places: &mut Vec<usize>,
     colours: &Colours<Constraint>,
 )
     requires settled { colours.now.pending ≡ 0 }
     requires all_states { AreAllStates states.now }
     requires joints { All (HaveJointsOn states.now joints.now) colours.now.lists }
-    requires rising { AreKeysRising contacts.now }
-    requires contacts { AreContactsOn states.now contacts.now }
+    requires contacts { AreContactsOn states.now (contacts_in contacts.now) }
     requires movable { All (HaveMovable states.now) colours.now.lists }
     requires room { length (all_members colours.now.lists) ≤ rows.old.room }
     requires more { COLOURS + 1 ≤ rows.old.more }
-    ensures colours { rows.new.colours ≡ map (rows_in states.now joints.now contacts.now) colours.now.lists }
+    ensures colours { rows.new.colours ≡ map (rows_in states.now joints.now (contacts_in contacts.now)) colours.now.lists }
     ensures left { rows.new.left ≡ [] }
-    ensures value { all_rows rows.new ≡ rows_of states.now joints.now contacts.now colours.now.lists }
+    ensures value { all_rows rows.new ≡ rows_of states.now joints.now (contacts_in contacts.now) colours.now.lists }
     ensures rows { AreRowsBelow (length states.now) (all_rows rows.new) }
 {
     rows.clear();
+    places.clear();
     for colour in 0..OVERFLOW + 1 {
-        gather_colour(rows, states, joints, contacts, colours.members(colour));
+        gather_colour(
+            rows,
+            states,
+            joints,
+            contacts,
+            places,
+            colours.members(colour),
+        );
         rows.end_colour();
     }
 }

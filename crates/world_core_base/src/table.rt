@@ -412,6 +412,7 @@ impl BodyTable {
 
     /// Runs the ticks of a step, 0 to 8, and its restitution, over the movers, the bodies that are carried along, and the constraints in
     /// solve order; fat boxes that their shapes have left are then made anew, and the slots of their bodies marked. Answers what was added to the movers' momentum, by cause.
+    #[inline(never)]
     pub fn run(&mut self, rows: &mut Rows, gravity: Vec2, count: u64) -> StepSums
         requires few { length self.old.bodies ≤ MAX_SLOTS }
         requires bodies { AreBodies self.old.bodies }

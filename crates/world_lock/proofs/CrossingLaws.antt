@@ -6,6 +6,8 @@ use Rattle.world_core_base.specs.contracts.table.BodyTable as BodyTable
 use Rattle.body_handles.specs.contracts.handles.Handles as Handles
 use Rattle.joint_table.specs.contracts.table.JointTable as JointTable
 use Rattle.anchored_ties.specs.contracts.anchors.Anchors as Anchors
+use Rattle.contacts_base.specs.contracts.split.SplitContacts as SplitContacts
+use Rattle.contacts.specs.contracts.due.Due as Due
 use Rattle.kept_contacts.specs.contracts.kept.KeptContacts as KeptContacts
 use Rattle.colour_solver.specs.contracts.colour_rows.Rows as Rows
 use Rattle.impulse_ledger.specs.contracts.ledger.Ledger as Ledger
@@ -37,8 +39,14 @@ handles_send = search (crosses, sendable) depth 60 fits 60000
 joints_send : IsSend JointTable.the_row
 joints_send = search (crosses, sendable) depth 60 fits 60000
 
+split_send : IsSend SplitContacts.the_row
+split_send = search (crosses, sendable) depth 60 fits 60000
+
+due_send : IsSend Due.the_row
+due_send = search (split_send, crosses, sendable) depth 60 fits 60000
+
 contacts_send : IsSend KeptContacts.the_row
-contacts_send = search (crosses, sendable) depth 60 fits 60000
+contacts_send = search (split_send, due_send, crosses, sendable) depth 60 fits 60000
 
 anchors_send : IsSend Anchors.the_row
 anchors_send = search (crosses, sendable) depth 60 fits 60000

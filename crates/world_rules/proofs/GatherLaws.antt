@@ -144,6 +144,7 @@ all_gathered w k i d lt =
 pub can_gather : (w : World) → IsKept w → CanGather w.plain.bodies w.plain.joints w.plain.contacts (coloured w)
 can_gather w k = record {
   joints_there = k.joints;
+  rising = k.contacts;
   pairs = k.pairs;
   joined = in_each (λ (m : Member Constraint). HasJointOn (states_of w.plain.bodies) w.plain.joints m.id) (coloured w) (λ i d lt. (all_gathered w k i d lt).joined);
   movable = in_each (λ (m : Member Constraint). IsMovable (states_of w.plain.bodies) m.id) (coloured w) (λ i d lt. (all_gathered w k i d lt).movable);

@@ -1,17 +1,14 @@
 -- The impulses that the ticks give back: the ends of the joints, the keys of the contacts and which of them touch are as they were.
-use Rattle.std.proofs.Common.{◌≡◌, ℕ, zero, suc, ◌+◌, ◌<◌, ◌≤◌, ◌^◌, Bool, true, false, cond, List, [], ◌∷◌, length, map, Option, Some, None, All, is_some, ℤ, ◌+ℤ◌, refl, sym, ap, ◌∙◌, subst}
-use Rattle.std.specs.Prelude.{◌==◌, filter, option_map, slice_get, slice_set}
+use Rattle.std.proofs.Common.{◌≡◌, ℕ, zero, suc, ◌≤◌, ◌^◌, Bool, true, false, cond, List, [], ◌∷◌, map, Option, Some, None, All, ℤ, refl, sym, ap, ◌∙◌, subst}
+use Rattle.std.specs.Prelude.{◌==◌, filter, option_map, slice_set}
 use Rattle.std.specs.Option.{ForSome}
 use Rattle.std.specs.List.Sorted.{IsStrictlyIncreasing}
-use Rattle.std.proofs.Math.Seq.{map-set_same}
-use Rattle.std.proofs.lemmas.List.Elements.{All-set}
-use Rattle.std.proofs.lemmas.Option.{get_or_from_slice_get, slice_get_within}
 use Rattle.fixed_geom.specs.Vectors.{plus}
 use Rattle.contacts_base.specs.declared.contact.ContactEntry.{ContactEntry}
 use Rattle.contacts_base.specs.declared.contact.ContactPoint.{ContactPoint}
 use Rattle.contacts_base.specs.declared.evaluation.Impulses.{Impulses}
 use Rattle.contacts_base.specs.declared.key.ContactKey.{ContactKey}
-use Rattle.contacts_base.specs.Contacts.{AreKeysRising, number_of, with_impulses, with_second}
+use Rattle.contacts_base.specs.Contacts.{AreKeysRising, with_impulses, with_second}
 use Rattle.contacts_base.specs.Evaluate.{touches}
 use Rattle.colour_solver.specs.declared.constraint_row.ConstraintRow.{ConstraintRow}
 use Rattle.colour_solver.specs.declared.ticks.StepSums.{StepSums}
@@ -30,8 +27,9 @@ use Rattle.plain_world.specs.Slots.{HaveSameSlots}
 use Rattle.solver_sets.specs.Tied.{HaveSameEnds, ends_in}
 use Rattle.solver_sets.specs.Ties.{touching_keys}
 use Rattle.world_core_base.specs.ConstraintRows.{put_joint_row, with_joint_rows}
-use Rattle.world_core_base.specs.Gather.{AreContactsOf, impulses_of, put_row, with_motions, with_row, with_rows}
+use Rattle.world_core_base.specs.Gather.{AreContactsOf, impulses_of, with_motions, with_row, with_rows}
 use Rattle.world_core_base.specs.Renewal.{renewed_bodies}
+use Rattle.world_core_base.proofs.ContactLaws.{keys_stay, rows_kept, rows_same, touches_with_row}
 use Rattle.world_rules.specs.Sound.{HasBodies}
 use Rattle.world_rules.specs.World.{World}
 use Rattle.world_rules.proofs.KeptStep.{IsTicked}
@@ -56,35 +54,15 @@ ends_rows joints (r ∷ rs) = ends_rows (put_joint_row r joints) rs ∙ ends_put
 
 -- ---- contacts
 
-some_mapped : (i : Impulses) (o : Option ContactPoint) → is_some (option_map (with_impulses i) o) ≡ is_some o
-some_mapped i None = refl
-some_mapped i (Some p) = refl
-
-put_row_all : (P : ContactEntry → Type 0) → ((r : ContactRow) (e : ContactEntry) → P e → P (with_row r e)) → (r : ContactRow) (contacts : List ContactEntry) (o : Option ContactEntry) → slice_get contacts r.bodies.index ≡ o → All P contacts → All P (put_row r contacts o)
-put_row_all P f r contacts None got all = all
-put_row_all P f r contacts (Some e) got all =
-    let here : r.bodies.index < length contacts = slice_get_within contacts r.bodies.index e got in
-    let is : P e = subst P (get_or_from_slice_get contacts r.bodies.index e e got) (all r.bodies.index e here) in
-    All-set P contacts r.bodies.index (with_row r e) (f r e is) all
+any_row : (rows : List ContactRow) → All (λ r. Unit {0}) rows
+any_row rows k d lt = tt
 
 -- what each row keeps, all rows keep
 all_rows : (P : ContactEntry → Type 0) → ((r : ContactRow) (e : ContactEntry) → P e → P (with_row r e)) → (contacts : List ContactEntry) (rows : List ContactRow) → All P contacts → All P (with_rows contacts rows)
-all_rows P f contacts [] all = all
-all_rows P f contacts (r ∷ rs) all = all_rows P f (put_row r contacts (slice_get contacts r.bodies.index)) rs (put_row_all P f r contacts (slice_get contacts r.bodies.index) refl all)
-
-put_row_same : {B : Type 0} (f : ContactEntry → B) → ((r : ContactRow) (e : ContactEntry) → f (with_row r e) ≡ f e) → (r : ContactRow) (contacts : List ContactEntry) (o : Option ContactEntry) → slice_get contacts r.bodies.index ≡ o → map f (put_row r contacts o) ≡ map f contacts
-put_row_same f h r contacts None got = refl
-put_row_same f h r contacts (Some e) got =
-    map-set_same f contacts r.bodies.index (with_row r e) e (h r e ∙ ap f (sym (get_or_from_slice_get contacts r.bodies.index e e got)))
-
--- what no row changes is as it was
-with_rows_same : {B : Type 0} (f : ContactEntry → B) → ((r : ContactRow) (e : ContactEntry) → f (with_row r e) ≡ f e) → (contacts : List ContactEntry) (rows : List ContactRow) → map f (with_rows contacts rows) ≡ map f contacts
-with_rows_same f h contacts [] = refl
-with_rows_same f h contacts (r ∷ rs) =
-    with_rows_same f h (put_row r contacts (slice_get contacts r.bodies.index)) rs ∙ put_row_same f h r contacts (slice_get contacts r.bodies.index) refl
+all_rows P f contacts rows all = rows_kept P (λ r. Unit {0}) (λ r e any p. f r e p) contacts rows (any_row rows) all
 
 pub keys_rise_rows : (contacts : List ContactEntry) (rows : List ContactRow) → AreKeysRising contacts → AreKeysRising (with_rows contacts rows)
-keys_rise_rows contacts rows h = subst IsStrictlyIncreasing (sym (with_rows_same number_of (λ r e. refl) contacts rows)) h
+keys_rise_rows contacts rows h = subst IsStrictlyIncreasing (sym (keys_stay contacts rows)) h
 
 abbrev key_in : ContactEntry → ContactKey
 key_in e = e.key
@@ -108,7 +86,7 @@ same_touching (x ∷ xs) (y ∷ ys) e f =
 -- the same contacts touch
 pub touching_rows : (contacts : List ContactEntry) (rows : List ContactRow) → touching_keys (with_rows contacts rows) ≡ touching_keys contacts
 touching_rows contacts rows =
-    same_touching (with_rows contacts rows) contacts (with_rows_same key_in (λ r e. refl) contacts rows) (with_rows_same touches_in (λ r e. some_mapped (impulses_of r.first) e.contact.first) contacts rows)
+    same_touching (with_rows contacts rows) contacts (rows_same key_in (λ r e. refl) contacts rows) (rows_same touches_in touches_with_row contacts rows)
 
 -- ---- a row's impulses leave the points as they are
 

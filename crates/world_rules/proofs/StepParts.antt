@@ -103,7 +103,7 @@ ticked_in w n bodies js es sums k rises is_bodies is_joints is_contacts is_sums 
     let now : World = collided_world w in
     let s : Solving = solved_in w n in
     let can = can_gather_collided w k rises in
-    let run = arrays_are_solving n w.plain.gravity now.plain.bodies now.plain.joints now.plain.contacts (turned_in w).lists can.once in
+    let run = arrays_are_solving n w.plain.gravity now.plain.bodies now.plain.joints now.plain.contacts (turned_in w).lists can.rising can.once in
     let r : Run = ran n w.plain.gravity (start (states_of now.plain.bodies) (rows_of (states_of now.plain.bodies) now.plain.joints now.plain.contacts (turned_in w).lists)) in
     ticked_with now r.states r.rows (bodies_of s) s.joints s.contacts s.sums (collide_kept w k rises).kept run.bodies_left run.joints_left run.contacts_left
     (subst AreBodies is_bodies are) (subst (HaveSameSlots now.plain.bodies) is_bodies slots) (subst (AreSums (2 ^ 83)) is_sums small)
@@ -183,13 +183,13 @@ left_as bodies joints contacts r s rows sums is e =
       sums_left = ap sums_in same;
     }
 
-pub arrays_left : (n : ℕ) (g : Vec2) (bodies : List (Option Body)) (joints : List (Option BodyJoint)) (contacts : List ContactEntry) (lists : List (List (Member Constraint))) (rows left : List ConstraintRow) (sums : StepSums) → CanSolve bodies joints (solve_order (ids_of lists)) → rows ≡ rows_of (states_of bodies) joints contacts lists
+pub arrays_left : (n : ℕ) (g : Vec2) (bodies : List (Option Body)) (joints : List (Option BodyJoint)) (contacts : List ContactEntry) (lists : List (List (Member Constraint))) (rows left : List ConstraintRow) (sums : StepSums) → AreKeysRising contacts → CanSolve bodies joints (solve_order (ids_of lists)) → rows ≡ rows_of (states_of bodies) joints contacts lists
     → run_of (ran n g (start (states_of bodies) rows)).states left sums ≡ ran n g (start (states_of bodies) rows)
     → IsLeft bodies joints contacts (ran n g (start (states_of bodies) rows)).states left sums (solved n g (solve_order (ids_of lists)) bodies joints contacts)
-arrays_left n g bodies joints contacts lists rows left sums can gathered e =
+arrays_left n g bodies joints contacts lists rows left sums rising can gathered e =
     let s : Solving = solved n g (solve_order (ids_of lists)) bodies joints contacts in
     let run : IsRunOf bodies joints contacts (ran n g (start (states_of bodies) rows)) s =
-    subst (λ (l : List ConstraintRow). IsRunOf bodies joints contacts (ran n g (start (states_of bodies) l)) s) (sym gathered) (arrays_are_solving n g bodies joints contacts lists can) in
+    subst (λ (l : List ConstraintRow). IsRunOf bodies joints contacts (ran n g (start (states_of bodies) l)) s) (sym gathered) (arrays_are_solving n g bodies joints contacts lists rising can) in
     left_as bodies joints contacts (ran n g (start (states_of bodies) rows)) s left sums run e
 
 -- ---- who fell asleep and who woke

@@ -2,6 +2,7 @@
 use Rattle.std.specs.Prelude.{List, Option, All}
 use Rattle.contacts.specs.declared.constraint.Constraint.{Constraint}
 use Rattle.contacts_base.specs.declared.contact.ContactEntry.{ContactEntry}
+use Rattle.contacts_base.specs.Contacts.{AreKeysRising}
 use Rattle.graph_colours.specs.Colours.{ids_of}
 use Rattle.graph_colours.specs.declared.member.Member.{Member}
 use Rattle.plain_world.specs.declared.body.Body.{Body}
@@ -12,10 +13,11 @@ use Rattle.world_core_base.specs.Gather.{AreContactsOf, states_of}
 use Rattle.world_core_base.specs.Solving.{solve_order}
 use Rattle.world_core_base.specs.SolvingArrays.{CanSolve}
 
--- Joints and contacts are of bodies that are there. Of each constraint in these lists, one for each colour, a body is an awake mover; none stands twice, and the
--- bodies of each are there.
+-- Joints and contacts are of bodies that are there, and the keys of the contacts ascend. Of each constraint in these lists, one for each colour, a body is an
+-- awake mover; none stands twice, and the bodies of each are there.
 pub record CanGather (bodies : List (Option Body)) (joints : List (Option BodyJoint)) (contacts : List ContactEntry) (lists : List (List (Member Constraint))) : Type 0 where
   pub joints_there : AreJoints bodies joints
+  pub rising : AreKeysRising contacts
   pub pairs : AreContactsOf bodies contacts
   pub joined : All (HaveJointsOn (states_of bodies) joints) lists
   pub movable : All (HaveMovable (states_of bodies)) lists

@@ -50,7 +50,7 @@ impl WorldCore {
         let ties = self.ties_at(handle.slot)?;
         let names = self.names_by_ties(handle.slot, &ties)?;
         let own = self.joints.slots_of(handle.slot)?;
-        self.contacts.reserve_drop(self.bodies.allocator())?;
+        self.contacts.reserve_drop()?;
         self.ledger.reserve(1)?;
         let movers = list_movers(self.bodies.allocator(), &self.sets, &names)?;
         wake_named(&mut self.sets, &mut self.bodies, &names, &movers);

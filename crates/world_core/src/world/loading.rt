@@ -75,7 +75,7 @@ impl WorldCore {
             bodies: BodyTable::from_bodies(alloc, plain.bodies())?,
             joint_handles: Handles::from_places(alloc, plain.joint_places())?,
             joints: JointTable::from_joints(alloc, plain.joints())?,
-            contacts: KeptContacts::from_contacts(alloc, contacts_of(alloc, plain)?),
+            contacts: KeptContacts::from_contacts(alloc, contacts_of(alloc, plain)?)?,
             sets: sets_of(alloc, plain)?,
             anchors: Anchors::new(alloc),
             rows: Rows::new(alloc),

@@ -30,7 +30,7 @@ impl WorldCore {
         let p = mover_momentum(body);
         let ties = self.ties_at(handle.slot)?;
         let names = self.names_by_ties(handle.slot, &ties)?;
-        self.contacts.reserve_drop(self.bodies.allocator())?;
+        self.contacts.reserve_drop()?;
         self.ledger.reserve(1)?;
         let movers = list_movers(self.bodies.allocator(), &self.sets, &names)?;
         wake_named(&mut self.sets, &mut self.bodies, &names, &movers);

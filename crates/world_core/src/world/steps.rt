@@ -40,7 +40,12 @@ impl WorldCore {
         let changes = collide(alloc, &mut self.contacts, &self.bodies, &self.joints)?;
         let turns = list_changes(alloc, self.bodies.bodies(), &changes.begin, &changes.end)?;
         self.sets.reserve(changes.begin.len(), 0)?;
-        reserve_rows(&mut self.rows, self.sets.tie_count(), changes.begin.len())?;
+        reserve_rows(
+            &mut self.rows,
+            &mut self.scratch.places,
+            self.sets.tie_count(),
+            changes.begin.len(),
+        )?;
         let asleep = list_sleepers(alloc, &self.sets, &turns)?;
         self.scratch
             .make_room(self.bodies.bodies().len(), asleep.len())?;
@@ -57,6 +62,7 @@ impl WorldCore {
         renew_anchors(&mut self.anchors, &self.sets, &turns);
         let sums = solve(
             &mut self.rows,
+            &mut self.scratch.places,
             &mut self.bodies,
             &mut self.joints,
             &mut self.contacts,
@@ -70,7 +76,7 @@ impl WorldCore {
             &mut self.scratch,
             self.handles.places(),
             self.joints.joints(),
-            self.contacts.as_slice(),
+            self.contacts.split(),
             ticks.unsigned_abs(),
         );
         let call = self.calls + 1;

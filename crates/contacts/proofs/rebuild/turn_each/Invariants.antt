@@ -1,7 +1,7 @@
 use Rattle.std.proofs.Common.{◌≡◌, ◌≤◌, ◌++◌, length, map, take, drop}
 use Rattle.contacts_base.specs.Contacts.{number_of}
 use Rattle.contacts.specs.Known.{again, staying}
-use Rattle.contacts.specs.Merge.{merged}
+use Rattle.contacts_base.specs.Merge.{merged}
 use Rattle.contacts.specs.Turns.{begun_keys, ended_keys, moved_by}
 use Rattle.contacts.proofs.rebuild.turn_each.Given as goal
 

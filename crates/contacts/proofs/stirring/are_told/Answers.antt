@@ -1,4 +1,4 @@
-use Rattle.std.proofs.Common.{arith, subst, sym, rules}
+use Rattle.std.proofs.Common.{arith, rules}
 use Rattle.contacts.proofs.StirringLaws.{quiet_if}
 use Rattle.contacts.proofs.stirring.are_told.Goals as goal
 

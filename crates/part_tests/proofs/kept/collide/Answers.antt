@@ -13,5 +13,5 @@ collide-requires-clause-within c = within_shown c.args.shapes c.proxies.result.n
 pub collide-requires-clause-known : goal.collide-requires-clause-known
 collide-requires-clause-known c = nothing_known _ _ _ _ (c.flags.ensures ∙ c.in_ok-marks.ensures.marked) c.requires.pairs
 
-pub returns-clause-pairs : goal.returns-clause-pairs
-returns-clause-pairs c = pairs_after (option_to_list c.args.forbidden.now.number) c.args.shapes c.args.contacts.now.contacts _ (subst IsProxyList c.proxies.ensures.value c.proxies.ensures.list) (c.carry_out.ensures.contacts ∙ c.in_ok-touches.ensures.due)
+pub returns : goal.returns
+returns c = record { pairs = pairs_after (option_to_list c.args.forbidden.now.number) c.args.shapes c.args.contacts.now.contacts _ (subst IsProxyList c.proxies.ensures.value c.proxies.ensures.list) (c.carry_out.ensures ∙ c.in_ok-touches.ensures.due) }

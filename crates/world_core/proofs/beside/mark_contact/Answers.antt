@@ -4,4 +4,4 @@ use Rattle.world_core.proofs.beside.mark_contact.Goals as goal
 
 pub returns : goal.returns
 returns c = λ joints names timers keep has.
-    subst (HasMarked names c.args.islands.now.labels timers) (sym c.mark_touched_at.ensures) (keep.touched names c.seek.result c.args.marks.now.items has)
+    subst (HasMarked names c.args.islands.now.labels timers) (sym c.mark_found.ensures) (rw c.find.ensures (keep.touched names c.args.key c.args.marks.now.items has))

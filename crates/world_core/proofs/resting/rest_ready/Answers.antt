@@ -5,6 +5,7 @@ use Rattle.colour_solver.proofs.VectorLaws.{minus_same}
 use Rattle.plain_world.specs.declared.body.Body.{Body}
 use Rattle.plain_world.specs.Momentum.{momentum}
 use Rattle.plain_world.specs.Sleep.{timed_bodies}
+use Rattle.contacts_base.specs.Split.{contacts_in}
 use Rattle.solver_sets.specs.Beside.{timers_of}
 use Rattle.solver_sets.specs.Tied.{AreTied}
 use Rattle.world_rules.specs.Apply.{rested_acting}
@@ -23,9 +24,9 @@ are_kept_up-quiet-requires-clause-tied c = rw (c.bodies.ensures, c.islands.ensur
 pub are_kept_up-quiet-requires-clause-told : goal.are_kept_up-quiet-requires-clause-told
 are_kept_up-quiet-requires-clause-told c = rw (c.bodies.ensures, c.islands.ensures, c.time.ensures.bodies) (timed_told c.args.ticks c.args.bodies.now.bodies c.args.sets.now.acting.labels c.requires.told)
 
-is_quiet : (c : goal.After-clear) → RestsQuietly c.args.ticks c.args.bodies.now.bodies c.args.places.now c.args.joints.now c.args.contacts.now c.args.sets.now.acting
+is_quiet : (c : goal.After-clear) → RestsQuietly c.args.ticks c.args.bodies.now.bodies c.args.places.now c.args.joints.now (contacts_in c.args.contacts.now) c.args.sets.now.acting
 is_quiet c =
-    rests_quietly c.args.ticks c.args.bodies.now.bodies c.args.places.now c.args.joints.now c.args.contacts.now c.args.sets.now.acting c.requires.bodies c.requires.tied c.requires.told
+    rests_quietly c.args.ticks c.args.bodies.now.bodies c.args.places.now c.args.joints.now (contacts_in c.args.contacts.now) c.args.sets.now.acting c.requires.bodies c.requires.tied c.requires.told
     (rw (c.bodies.ensures, c.islands.ensures, c.time.ensures.bodies) at (c.are_kept_up-quiet.ensures c.if-quiet.true))
 
 pub returns-then-quiet-clause-acting : goal.returns-then-quiet-clause-acting
@@ -58,15 +59,15 @@ fill_newly_asleep-requires-clause-all c =
     let timed = timed_bodies c.args.ticks c.args.bodies.now.bodies in
     let tied : AreTied timed c.args.sets.now.acting.labels = tied_timed c.args.ticks c.args.bodies.now.bodies c.args.sets.now.acting.labels c.requires.tied in
     let told : AreTold timed c.args.sets.now.acting.labels = timed_told c.args.ticks c.args.bodies.now.bodies c.args.sets.now.acting.labels c.requires.told in
-    let phase : c.sleep_phase.new.self.acting ≡ rested_acting timed c.args.joints.now c.args.contacts.now c.args.sets.now.acting =
-    phase_by_awake timed c.args.joints.now c.args.contacts.now c.args.sets.now.acting c.sleep_phase.new.self.acting c.awake-2.result.now c.fill_awake_timers.new.timers.items (rw c.time.ensures.bodies at c.awake-2.ensures) tied told
+    let phase : c.sleep_phase.new.self.acting ≡ rested_acting timed c.args.joints.now (contacts_in c.args.contacts.now) c.args.sets.now.acting =
+    phase_by_awake timed c.args.joints.now (contacts_in c.args.contacts.now) c.args.sets.now.acting c.sleep_phase.new.self.acting c.awake-2.result.now c.fill_awake_timers.new.timers.items (rw c.time.ensures.bodies at c.awake-2.ensures) tied told
     (rw (c.bodies-2.ensures, c.time.ensures.bodies) at c.fill_awake_timers.ensures.size) c.requires.tells (rw (c.bodies-2.ensures, c.colours-2.ensures.lists, c.time.ensures.bodies) at c.fill_awake_timers.ensures.same) (rw c.deref.ensures.value at c.sleep_phase.ensures.acting) in
     rw (c.bodies-3.ensures, c.islands-2.ensures, c.time.ensures.bodies)
-    (newly_asleep_awake timed c.sleep_phase.new.self.acting.labels c.awake-4.result.now (rw c.time.ensures.bodies at c.awake-4.ensures) (tied_rested (timers_of timed c.args.joints.now c.args.contacts.now) timed c.args.sets.now.acting c.sleep_phase.new.self.acting c.requires.settled tied phase))
+    (newly_asleep_awake timed c.sleep_phase.new.self.acting.labels c.awake-4.result.now (rw c.time.ensures.bodies at c.awake-4.ensures) (tied_rested (timers_of timed c.args.joints.now (contacts_in c.args.contacts.now)) timed c.args.sets.now.acting c.sleep_phase.new.self.acting c.requires.settled tied phase))
 
 pub returns-clause-acting : goal.returns-clause-acting
 returns-clause-acting c =
-    phase_by_awake (timed_bodies c.args.ticks c.args.bodies.now.bodies) c.args.joints.now c.args.contacts.now c.args.sets.now.acting c.sleep_phase.new.self.acting c.awake-2.result.now c.fill_awake_timers.new.timers.items (rw c.time.ensures.bodies at c.awake-2.ensures)
+    phase_by_awake (timed_bodies c.args.ticks c.args.bodies.now.bodies) c.args.joints.now (contacts_in c.args.contacts.now) c.args.sets.now.acting c.sleep_phase.new.self.acting c.awake-2.result.now c.fill_awake_timers.new.timers.items (rw c.time.ensures.bodies at c.awake-2.ensures)
     (tied_timed c.args.ticks c.args.bodies.now.bodies c.args.sets.now.acting.labels c.requires.tied) (timed_told c.args.ticks c.args.bodies.now.bodies c.args.sets.now.acting.labels c.requires.told)
     (rw (c.bodies-2.ensures, c.time.ensures.bodies) at c.fill_awake_timers.ensures.size) c.requires.tells (rw (c.bodies-2.ensures, c.colours-2.ensures.lists, c.time.ensures.bodies) at c.fill_awake_timers.ensures.same) (rw c.deref.ensures.value at c.sleep_phase.ensures.acting)
 
@@ -86,8 +87,8 @@ pub tell_some-requires-clause-others : goal.tell_some-requires-clause-others
 tell_some-requires-clause-others c =
     let timed = timed_bodies c.args.ticks c.args.bodies.now.bodies in
     let told : AreTold timed c.args.sets.now.acting.labels = timed_told c.args.ticks c.args.bodies.now.bodies c.args.sets.now.acting.labels c.requires.told in
-    let phase : c.sleep_phase.new.self.acting ≡ rested_acting timed c.args.joints.now c.args.contacts.now c.args.sets.now.acting =
-    phase_by_awake timed c.args.joints.now c.args.contacts.now c.args.sets.now.acting c.sleep_phase.new.self.acting c.awake-2.result.now c.fill_awake_timers.new.timers.items (rw c.time.ensures.bodies at c.awake-2.ensures)
+    let phase : c.sleep_phase.new.self.acting ≡ rested_acting timed c.args.joints.now (contacts_in c.args.contacts.now) c.args.sets.now.acting =
+    phase_by_awake timed c.args.joints.now (contacts_in c.args.contacts.now) c.args.sets.now.acting c.sleep_phase.new.self.acting c.awake-2.result.now c.fill_awake_timers.new.timers.items (rw c.time.ensures.bodies at c.awake-2.ensures)
     (tied_timed c.args.ticks c.args.bodies.now.bodies c.args.sets.now.acting.labels c.requires.tied) told
     (rw (c.bodies-2.ensures, c.time.ensures.bodies) at c.fill_awake_timers.ensures.size) c.requires.tells (rw (c.bodies-2.ensures, c.colours-2.ensures.lists, c.time.ensures.bodies) at c.fill_awake_timers.ensures.same) (rw c.deref.ensures.value at c.sleep_phase.ensures.acting) in
     let same : length c.time.new.self.bodies ≡ length timed = ap (λ (bs : List (Option Body)). length bs) c.time.ensures.bodies in
@@ -95,7 +96,7 @@ tell_some-requires-clause-others c =
     let room = c.requires.places in
     let long : length timed ≤ length c.args.places.now = omega (arith, same, kept, room) in
     rw (c.deref-3.ensures.value, c.fill_slots.ensures.slots, c.deref-2.ensures.value, c.fill_newly_asleep.ensures.handles, c.bodies-3.ensures, c.islands-2.ensures, c.islands-3.ensures, c.time.ensures.bodies)
-    (rested_beside c.args.places.now timed c.args.sets.now.acting c.sleep_phase.new.self.acting (timers_of timed c.args.joints.now c.args.contacts.now) long (timed_are_bodies c.args.ticks c.args.bodies.now.bodies c.requires.bodies) told c.requires.settled phase)
+    (rested_beside c.args.places.now timed c.args.sets.now.acting c.sleep_phase.new.self.acting (timers_of timed c.args.joints.now (contacts_in c.args.contacts.now)) long (timed_are_bodies c.args.ticks c.args.bodies.now.bodies c.requires.bodies) told c.requires.settled phase)
 
 pub returns-then-quiet-clause-gain : goal.returns-then-quiet-clause-gain
 returns-then-quiet-clause-gain c = rw c.time.ensures.bodies (sym (minus_same (momentum (timed_bodies c.args.ticks c.args.bodies.now.bodies))))

@@ -1,4 +1,4 @@
-use Rattle.std.proofs.Common.{◌≡◌, ◌∙◌, List, length, map, ap}
+use Rattle.std.proofs.Common.{◌≡◌, ◌∙◌, List, length, map, ap, sym, subst}
 use Rattle.colour_solver.specs.ColourRows.{all_rows}
 use Rattle.colour_solver.specs.Ticks.{ran, start}
 use Rattle.colour_solver.specs.ConstraintTurns.{contacts_among, joints_among}
@@ -11,7 +11,9 @@ use Rattle.world_core_base.proofs.GatherLaws.{states-all}
 use Rattle.world_rules.proofs.StepParts.{IsLeft, arrays_left}
 use Rattle.contacts_base.specs.Contacts.{number_of}
 use Rattle.contacts_base.specs.declared.contact.ContactEntry.{ContactEntry}
-use Rattle.world_core_base.proofs.ContactLaws.{keys_stay}
+use Rattle.contacts_base.specs.Split.{contacts_in}
+use Rattle.world_core_base.specs.Gather.{AreContactsOf}
+use Rattle.world_core_base.proofs.ContactLaws.{contacts_on, keys_stay}
 use Rattle.world_core_base.proofs.JointLaws.{bare_rows}
 use Rattle.world_core_base.proofs.SolvingJoints.{bare_joints}
 use Rattle.world_core.proofs.ForbiddenLaws.{barely_pairs}
@@ -20,11 +22,16 @@ use Rattle.world_core.proofs.solving.solve.Goals as goal
 pub gather_rows-requires-clause-all_states : goal.gather_rows-requires-clause-all_states
 gather_rows-requires-clause-all_states c = rw c.states.ensures (states-all c.args.bodies.now.bodies c.requires.bodies)
 
+pub gather_rows-requires-clause-contacts : goal.gather_rows-requires-clause-contacts
+gather_rows-requires-clause-contacts c =
+    rw c.states.ensures
+    (contacts_on c.args.bodies.now.bodies (contacts_in c.split-kept.result.now) c.ascend.ensures.contacts (subst (λ (es : List ContactEntry). AreContactsOf c.args.bodies.now.bodies es) (sym c.split-kept.ensures) c.requires.can.pairs))
+
 -- what the arrays leave is what the definition of a step leaves
 left : (c : goal.After-put_impulses) → IsLeft c.args.bodies.now.bodies c.args.joints.now.joints c.args.contacts.now.contacts (ran c.args.ticks c.args.gravity (start (states_of c.args.bodies.now.bodies) (all_rows c.gather_rows.new.rows))).states (all_rows c.run-sums.new.rows) c.run-sums.result (solved c.args.ticks c.args.gravity (solve_order (ids_of c.args.colours.now.lists)) c.args.bodies.now.bodies c.args.joints.now.joints c.args.contacts.now.contacts)
 left c =
-    let gathered : all_rows c.gather_rows.new.rows ≡ rows_of (states_of c.args.bodies.now.bodies) c.args.joints.now.joints c.args.contacts.now.contacts c.args.colours.now.lists = rw (c.states.ensures, c.joints.ensures, c.as_slice.ensures.value) at c.gather_rows.ensures.value in
-    arrays_left c.args.ticks c.args.gravity c.args.bodies.now.bodies c.args.joints.now.joints c.args.contacts.now.contacts c.args.colours.now.lists (all_rows c.gather_rows.new.rows) (all_rows c.run-sums.new.rows) c.run-sums.result c.requires.can.once gathered c.run-sums.ensures.run
+    let gathered : all_rows c.gather_rows.new.rows ≡ rows_of (states_of c.args.bodies.now.bodies) c.args.joints.now.joints c.args.contacts.now.contacts c.args.colours.now.lists = rw (c.states.ensures, c.joints.ensures, c.split-kept.ensures) at c.gather_rows.ensures.value in
+    arrays_left c.args.ticks c.args.gravity c.args.bodies.now.bodies c.args.joints.now.joints c.args.contacts.now.contacts c.args.colours.now.lists (all_rows c.gather_rows.new.rows) (all_rows c.run-sums.new.rows) c.run-sums.result c.requires.can.rising c.requires.can.once gathered c.run-sums.ensures.run
 
 pub returns-clause-bodies : goal.returns-clause-bodies
 returns-clause-bodies c = c.run-sums.ensures.bodies ∙ ap renewed_bodies (left c).bodies_left

@@ -1,4 +1,5 @@
 use Rattle.std.proofs.Common.{rules, ◌≡◌, ◌∙◌, length, arith, Fits, w32}
+use Rattle.contacts_base.specs.Split.{contacts_in}
 use Rattle.contacts.specs.declared.constraint.Constraint.TheVariants as constraints
 use Rattle.plain_world.specs.Joints.{joint_at}
 use Rattle.world_core_base.specs.Gather.{row_of}
@@ -19,6 +20,6 @@ returns-in-Joint-clause-row c = λ x e.
 
 pub returns-in-Contact-clause-row : goal.returns-in-Contact-clause-row
 returns-in-Contact-clause-row c = λ x e.
-    let made = row_of c.args.states.now c.args.contacts.now (constraints.Contact c.in-Contact.field-0) in
-    let value : c.row_of.result ≡ made = rw c.in-Contact.is at c.row_of.ensures.value in
-    contact_below (length c.args.states.now) made x (λ r f. c.row_of.ensures.row r (value ∙ f)) (rw c.in-Contact.is at e)
+    let made = row_of c.args.states.now (contacts_in c.args.contacts.now) (constraints.Contact c.in-Contact.field-0) in
+    let value : c.row_of-row.result ≡ made = rw c.in-Contact.is at c.row_of-row.ensures.value in
+    contact_below (length c.args.states.now) made x (λ r f. c.row_of-row.ensures.row r (value ∙ f)) (rw c.in-Contact.is at e)

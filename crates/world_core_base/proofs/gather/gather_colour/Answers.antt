@@ -1,6 +1,7 @@
 use Rattle.std.proofs.Common.{◌∙◌, length, slice_index_or, sym, subst, arith}
 use Rattle.colour_solver.specs.ConstraintTurns.{AreRowsBelow, IsRowBelow}
 use Rattle.graph_colours.specs.declared.member.Member.{Member}
+use Rattle.contacts_base.specs.Split.{contacts_in}
 use Rattle.contacts.specs.declared.constraint.Constraint.{Constraint}
 use Rattle.world_core_base.specs.ConstraintRows.{constraint_row}
 use Rattle.world_core_base.proofs.ContactLaws.{all_more, row_more}
@@ -9,11 +10,11 @@ use Rattle.world_core_base.proofs.gather.gather_colour.Goals as goal
 
 pub add_row-requires-clause-first : goal.add_row-requires-clause-first
 add_row-requires-clause-first c = λ low.
-    joints_so_far c.args.states.now c.args.joints.now c.args.contacts.now c.args.members.now c.loop-member.member-index _ c.loop-member.rows.left c.requires.ascend c.loop-member-test.true c.loop-member.invariant.left low
+    joints_so_far c.args.states.now c.args.joints.now (contacts_in c.args.contacts.now) c.args.members.now c.loop-member.member-index _ c.loop-member.rows.left c.requires.ascend c.loop-member-test.true c.loop-member.invariant.left low
 
 pub loop-member-preserved : goal.loop-member-preserved
 loop-member-preserved c =
-    let find = λ (m : Member Constraint). constraint_row c.args.states.now c.args.joints.now c.args.contacts.now m.id in
+    let find = λ (m : Member Constraint). constraint_row c.args.states.now c.args.joints.now (contacts_in c.args.contacts.now) m.id in
     let pushed = c.add_row.ensures.left in
     record {
       colours = c.add_row.ensures.colours ∙ c.loop-member.invariant.colours;

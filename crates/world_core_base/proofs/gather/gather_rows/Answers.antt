@@ -1,4 +1,5 @@
 use Rattle.std.proofs.Common.{◌≡◌, ◌<◌, ◌≤◌, ◌+◌, ◌++◌, ◌∷◌, [], length, sym, ap, subst, arith, All}
+use Rattle.contacts_base.specs.Split.{contacts_in}
 use Rattle.colour_solver.specs.ConstraintTurns.{AreRowsBelow, IsRowBelow}
 use Rattle.graph_colours.specs.Colours.{list_at}
 use Rattle.graph_colours.specs.declared.limits.TheConstants.{COLOURS}
@@ -10,7 +11,7 @@ pub loop-colour-preserved : goal.loop-colour-preserved
 loop-colour-preserved c =
     let states = c.args.states.now in
     let joints = c.args.joints.now in
-    let contacts = c.args.contacts.now in
+    let contacts = contacts_in c.args.contacts.now in
     let lists = c.args.colours.now.lists in
     let place = c.loop-colour.colour in
     let known = c.loop-colour.invariant in
@@ -39,8 +40,8 @@ returns-clause-value c =
     let some : 0 < c.loop-colour.colour = omega (arith, c.loop-colour-test.false) in
     let count : length c.args.colours.now.lists ≡ COLOURS + 1 = known.lists some in
     let ended : length c.args.colours.now.lists ≤ c.loop-colour.colour = omega (arith, c.loop-colour-test.false, count) in
-    let done = list_done (rows_in c.args.states.now c.args.joints.now c.args.contacts.now) c.loop-colour.rows.colours _ c.args.colours.now.lists c.loop-colour.colour ended known.colours in
-    joined (rows_in c.args.states.now c.args.joints.now c.args.contacts.now) c.args.colours.now.lists c.loop-colour.rows.colours c.loop-colour.rows.left done c.loop-colour.invariant.left
+    let done = list_done (rows_in c.args.states.now c.args.joints.now (contacts_in c.args.contacts.now)) c.loop-colour.rows.colours _ c.args.colours.now.lists c.loop-colour.colour ended known.colours in
+    joined (rows_in c.args.states.now c.args.joints.now (contacts_in c.args.contacts.now)) c.args.colours.now.lists c.loop-colour.rows.colours c.loop-colour.rows.left done c.loop-colour.invariant.left
 
 pub returns-clause-rows : goal.returns-clause-rows
 returns-clause-rows c =

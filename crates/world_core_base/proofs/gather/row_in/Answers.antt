@@ -47,4 +47,4 @@ returns-clause-row c = λ x e.
     let t : Fits w32 key.second.slot = search rules in
     let same : own ≡ key = same_keys own key c.requires.same a.fits b.fits s.fits f.fits g.fits t.fits in
     let made = sym (ap (λ (p : pairs.Bodies). contact_row p c.ends_at-ends.result c.args.contact.now) c.bodies_of.ensures.value) ∙ (sym c.contact_row.ensures.value ∙ e) in
-    row_below c.args.states.now key c.args.index (record { key = c.args.own; surface = c.args.surface; contact = c.args.contact.now }) c.ends_at-ends.result x c.requires.contact same made (c.contact_row.ensures.row x e)
+    row_below c.args.states.now key (record { key = c.args.own; surface = c.args.surface; contact = c.args.contact.now }) c.ends_at-ends.result x c.requires.contact same made (c.contact_row.ensures.row x e)

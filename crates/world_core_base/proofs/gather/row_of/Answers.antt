@@ -1,25 +1,16 @@
-use Rattle.std.proofs.Common.{rules, ◌≡◌, ◌<◌, ◌∙◌, length, Some}
-use Rattle.contacts_base.specs.Contacts.{found_place}
-use Rattle.world_core_base.proofs.SlotLaws.{slice_get-get}
-use Rattle.world_core_base.proofs.ContactLaws.{number_at, row_of_is}
+use Rattle.std.proofs.Common.{◌∙◌, sym, ap}
+use Rattle.contacts_base.specs.Split.{contacts_in}
+use Rattle.world_core_base.specs.Gather.{IsContactOn, row_in}
+use Rattle.world_core_base.proofs.ContactLaws.{found_is, found_number, row_is}
 use Rattle.world_core_base.proofs.gather.row_of.Goals as goal
 
+pub row_in-requires-clause-contact : goal.row_in-requires-clause-contact
+row_in-requires-clause-contact c =
+    found_is (IsContactOn c.args.states.now) (contacts_in c.args.contacts.now) c.in-Contact.key c.in_ok-entry-in-Contact.entry.now c.requires.contacts (sym c.in_ok-entry-in-Contact.ensures)
+
 pub row_in-requires-clause-same : goal.row_in-requires-clause-same
-row_in-requires-clause-same c =
-    let contacts = c.args.contacts.now in
-    let entry = c.in_ok-entry-in-Contact.entry.now in
-    let place = c.in_ok-index-in-Contact.index in
-    let found = c.in_ok-entry-in-Contact.ensures.lookup in
-    let inside : place < length contacts = search rules in
-    let is : found_place contacts c.in-Contact.key ≡ Some place = search rules in
-    number_at contacts c.in-Contact.key place entry is (slice_get-get contacts place entry entry inside found.1)
+row_in-requires-clause-same c = found_number (contacts_in c.args.contacts.now) c.in-Contact.key c.in_ok-entry-in-Contact.entry.now (sym c.in_ok-entry-in-Contact.ensures)
 
 pub returns-in_ok-entry-in-Contact-clause-value : goal.returns-in_ok-entry-in-Contact-clause-value
 returns-in_ok-entry-in-Contact-clause-value c =
-    let contacts = c.args.contacts.now in
-    let entry = c.in_ok-entry-in-Contact.entry.now in
-    let place = c.in_ok-index-in-Contact.index in
-    let found = c.in_ok-entry-in-Contact.ensures.lookup in
-    let inside : place < length contacts = search rules in
-    let is : found_place contacts c.in-Contact.key ≡ Some place = search rules in
-    rw c.in-Contact.is (c.row_in.ensures.value ∙ row_of_is c.args.states.now contacts c.in-Contact.key place entry is (slice_get-get contacts place entry entry inside found.1))
+    rw c.in-Contact.is (c.row_in.ensures.value ∙ ap (row_in c.args.states.now c.in-Contact.key) (c.in_ok-entry-in-Contact.ensures) ∙ sym (row_is c.args.states.now (contacts_in c.args.contacts.now) c.in-Contact.key))

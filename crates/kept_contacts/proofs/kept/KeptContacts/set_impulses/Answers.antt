@@ -1,5 +1,9 @@
-use Rattle.kept_contacts.proofs.HeldLaws.{held_impulses}
+use Rattle.contacts.proofs.StirringLaws.{held_over}
+use Rattle.kept_contacts.proofs.HeldLaws.{nothing_is_due}
 use Rattle.kept_contacts.proofs.kept.KeptContacts.set_impulses.Goals as goal
 
 pub invariant_of-self : goal.invariant_of-self
-invariant_of-self c = record { held = held_impulses c.self.inside.beside.stirring c.self.inside.contacts _ c.args.index c.args.first c.args.second c.self.invariant.held c.set_impulses.ensures.value }
+invariant_of-self c = record {
+  held = held_over c.self.inside.beside.stirring c.self.inside.contacts.long _ c.self.invariant.held c.set_impulses.ensures.keys;
+  due = nothing_is_due _ _ c.clear.ensures.nothing c.ascend.ensures.contacts;
+}

@@ -112,7 +112,7 @@ is_turned c =
     let listed = c.deref-4.ensures.value ∙ c.in_ok-turns.ensures.changes in
     let found : AreFound (the_view c.self.inside) c.deref-4.result.now = rw (c.bodies.ensures, c.deref.ensures.value, c.deref-2.ensures.value, c.in_ok-changes.ensures.begin, c.in_ok-changes.ensures.end, c.settle.ensures.bodies) at listed in
     has_turned (the_view c.self.inside) c.self.inside.sets.acting c.reserve-2.new.self.acting c.turn_all.new.sets.acting c.deref-4.result.now c.turn_all.new.bodies.bodies c.carry_out.new.self.contacts c.self.invariant.whole c.in_ok-reserve-2.ensures.acting found
-    c.turn_all.ensures.acting (rw (c.clear_marks.ensures.bodies, c.settle.ensures.bodies) at c.turn_all.ensures.bodies) (c.carry_out.ensures.contacts ∙ (rw c.settle.ensures.bodies at c.in_ok-changes.ensures.due))
+    c.turn_all.ensures.acting (rw (c.clear_marks.ensures.bodies, c.settle.ensures.bodies) at c.turn_all.ensures.bodies) (c.carry_out.ensures ∙ (rw c.settle.ensures.bodies at c.in_ok-changes.ensures.due))
 
 pub solve-sums-requires-clause-few : goal.solve-sums-requires-clause-few
 solve-sums-requires-clause-few c = few_turned (the_view c.self.inside) c.self.inside.sets.acting c.turn_all.new.sets.acting c.turn_all.new.bodies.bodies c.carry_out.new.self.contacts c.self.invariant.whole (is_turned c)
@@ -141,7 +141,7 @@ is_solved c =
     let found : AreFound w c.deref-4.result.now = rw (c.bodies.ensures, c.deref.ensures.value, c.deref-2.ensures.value, c.in_ok-changes.ensures.begin, c.in_ok-changes.ensures.end, c.settle.ensures.bodies) at listed in
     let turned : HasTurned w c.turn_all.new.sets.acting c.turn_all.new.bodies.bodies c.carry_out.new.self.contacts =
     has_turned w c.self.inside.sets.acting c.reserve-2.new.self.acting c.turn_all.new.sets.acting c.deref-4.result.now c.turn_all.new.bodies.bodies c.carry_out.new.self.contacts c.self.invariant.whole c.in_ok-reserve-2.ensures.acting found
-    c.turn_all.ensures.acting (rw (c.clear_marks.ensures.bodies, c.settle.ensures.bodies) at c.turn_all.ensures.bodies) (c.carry_out.ensures.contacts ∙ (rw c.settle.ensures.bodies at c.in_ok-changes.ensures.due)) in
+    c.turn_all.ensures.acting (rw (c.clear_marks.ensures.bodies, c.settle.ensures.bodies) at c.turn_all.ensures.bodies) (c.carry_out.ensures ∙ (rw c.settle.ensures.bodies at c.in_ok-changes.ensures.due)) in
     let to_bodies = rw c.colours.ensures.lists at c.solve-sums.ensures.bodies in
     let to_joints = rw c.colours.ensures.lists at c.solve-sums.ensures.joints in
     let to_contacts = rw c.colours.ensures.lists at c.solve-sums.ensures.contacts in
@@ -161,7 +161,7 @@ turned_then c =
     let listed = c.deref-4.ensures.value ∙ c.in_ok-turns.ensures.changes in
     let found : AreFound (the_view c.self.inside) c.deref-4.result.now = rw (c.bodies.ensures, c.deref.ensures.value, c.deref-2.ensures.value, c.in_ok-changes.ensures.begin, c.in_ok-changes.ensures.end, c.settle.ensures.bodies) at listed in
     has_turned (the_view c.self.inside) c.self.inside.sets.acting c.reserve-2.new.self.acting c.turn_all.new.sets.acting c.deref-4.result.now c.turn_all.new.bodies.bodies c.carry_out.new.self.contacts c.self.invariant.whole c.in_ok-reserve-2.ensures.acting found
-    c.turn_all.ensures.acting (rw (c.clear_marks.ensures.bodies, c.settle.ensures.bodies) at c.turn_all.ensures.bodies) (c.carry_out.ensures.contacts ∙ (rw c.settle.ensures.bodies at c.in_ok-changes.ensures.due))
+    c.turn_all.ensures.acting (rw (c.clear_marks.ensures.bodies, c.settle.ensures.bodies) at c.turn_all.ensures.bodies) (c.carry_out.ensures ∙ (rw c.settle.ensures.bodies at c.in_ok-changes.ensures.due))
 
 pub rest_ready-rest-requires-clause-tied : goal.rest_ready-rest-requires-clause-tied
 rest_ready-rest-requires-clause-tied c =
@@ -178,9 +178,6 @@ rest_ready-rest-requires-clause-few_bodies c = few_solved (the_view c.self.insid
 
 pub rest_ready-rest-requires-clause-within : goal.rest_ready-rest-requires-clause-within
 rest_ready-rest-requires-clause-within c = timers_solved (the_view c.self.inside) c.unsigned_abs.result c.self.inside.sets.acting c.solve-sums.new.bodies.bodies c.solve-sums.new.joints.joints c.solve-sums.new.contacts.contacts c.solve-sums.result c.self.invariant.whole (is_solved c)
-
-pub rest_ready-rest-requires-clause-rising : goal.rest_ready-rest-requires-clause-rising
-rest_ready-rest-requires-clause-rising c = c.as_slice.ensures.contacts.rising
 
 pub rest_ready-rest-requires-clause-ticks : goal.rest_ready-rest-requires-clause-ticks
 rest_ready-rest-requires-clause-ticks c =
@@ -230,7 +227,7 @@ rest_ready-rest-requires-clause-tells c =
     let twice : c.unsigned_abs-2.result ≡ c.unsigned_abs.result = c.unsigned_abs-2.ensures.value ∙ sym c.unsigned_abs.ensures.value in
     let tells = tell_solved (the_view c.self.inside) c.unsigned_abs.result c.self.inside.sets.acting c.turn_all.new.sets.acting c.turn_all.new.bodies.bodies c.solve-sums.new.bodies.bodies c.solve-sums.new.joints.joints c.carry_out.new.self.contacts c.solve-sums.new.contacts.contacts c.solve-sums.result
     c.self.invariant.whole (turned_then c) (is_solved c) in
-    rw (twice, c.joints.ensures, c.as_slice.ensures.value) tells
+    rw (twice, c.joints.ensures, c.split.ensures) tells
 
 pub book_rest-requires-clause-roomy : goal.book_rest-requires-clause-roomy
 book_rest-requires-clause-roomy c = IsRoomy-same _ _ c.in_ok-reserve.ensures.entries c.in_ok-reserve.ensures.settled (IsRoomy-kept (the_view c.self.inside) 0 (kept_of _ _ c.self.invariant.whole))
@@ -245,7 +242,7 @@ are_left c =
     let found : AreFound w c.deref-4.result.now = rw (c.bodies.ensures, c.deref.ensures.value, c.deref-2.ensures.value, c.in_ok-changes.ensures.begin, c.in_ok-changes.ensures.end, c.settle.ensures.bodies) at listed in
     let turned : HasTurned w c.turn_all.new.sets.acting c.turn_all.new.bodies.bodies c.carry_out.new.self.contacts =
     has_turned w c.self.inside.sets.acting c.reserve-2.new.self.acting c.turn_all.new.sets.acting c.deref-4.result.now c.turn_all.new.bodies.bodies c.carry_out.new.self.contacts c.self.invariant.whole c.in_ok-reserve-2.ensures.acting found
-    c.turn_all.ensures.acting (rw (c.clear_marks.ensures.bodies, c.settle.ensures.bodies) at c.turn_all.ensures.bodies) (c.carry_out.ensures.contacts ∙ (rw c.settle.ensures.bodies at c.in_ok-changes.ensures.due)) in
+    c.turn_all.ensures.acting (rw (c.clear_marks.ensures.bodies, c.settle.ensures.bodies) at c.turn_all.ensures.bodies) (c.carry_out.ensures ∙ (rw c.settle.ensures.bodies at c.in_ok-changes.ensures.due)) in
     let to_bodies = rw c.colours.ensures.lists at c.solve-sums.ensures.bodies in
     let to_joints = rw c.colours.ensures.lists at c.solve-sums.ensures.joints in
     let to_contacts = rw c.colours.ensures.lists at c.solve-sums.ensures.contacts in
@@ -266,7 +263,7 @@ are_left c =
     record {
       collide = turned;
       ticks = ticks;
-      phase = rw (twice, c.joints.ensures, c.as_slice.ensures.value) at c.rest_ready-rest.ensures.acting;
+      phase = rw (twice, c.joints.ensures, c.split.ensures) at c.rest_ready-rest.ensures.acting;
       bodies = rw twice at c.rest_ready-rest.ensures.bodies;
       gain_is = rw twice at c.rest_ready-rest.ensures.gain;
       begin = c.renew.ensures.begin_kept c.in_ok-changes.ensures.begin_rises ∙ (rw c.settle.ensures.bodies at c.in_ok-changes.ensures.begin);
@@ -288,7 +285,7 @@ invariant_of-self-2 c =
     c.solve-sums.result (as_vector c.rest_ready-rest.result) c.renew.new.self c.self.invariant.whole calls few (are_left c))))
     (c.clear_marks.ensures.bodies ∙ c.settle.ensures.bodies) refl
     (marked_after c.clear_marks.new.self c.solve-sums.new.bodies c.rest_ready-rest.new.bodies (marked_after c.clear_marks.new.self c.turn_all.new.bodies c.solve-sums.new.bodies c.turn_all.ensures.marked c.solve-sums.ensures.marked) c.rest_ready-rest.ensures.marked)
-    c.solve-sums.ensures.forbidden (c.solve-sums.ensures.numbers ∙ ap (λ (es : List ContactEntry). map number_of es) (c.carry_out.ensures.contacts ∙ (rw c.settle.ensures.bodies at c.in_ok-changes.ensures.due)))
+    c.solve-sums.ensures.forbidden (c.solve-sums.ensures.numbers ∙ ap (λ (es : List ContactEntry). map number_of es) (c.carry_out.ensures ∙ (rw c.settle.ensures.bodies at c.in_ok-changes.ensures.due)))
     c.renew_anchors.new.anchors
     (tell_fewer c.renew_anchors.new.anchors.holds c.renew_anchors.new.anchors.lists c.turn_all.new.sets.acting.ties _ (fewer_rested _ _ _ c.turn_all.new.sets.acting c.rest_ready-rest.new.sets.acting c.rest_ready-rest.ensures.acting)
     (c.renew_anchors.ensures.told c.reserve-2.new.self.acting (c.turn_all.ensures.acting ∙ ap (λ (cs : List (Change Constraint)). turned constraint_number cs c.reserve-2.new.self.acting) (c.deref-4.ensures.value ∙ sym c.deref-6.ensures.value)) (subst (λ (a : Acting Constraint). Tell c.self.inside.anchors.holds c.self.inside.anchors.lists a.ties) (sym c.in_ok-reserve-2.ensures.acting) c.self.invariant.anchored)))

@@ -1,0 +1,6 @@
+use Rattle.contacts.specs.Stirring.{one_flagged}
+use Rattle.contacts.proofs.StirringLaws.{listed_step}
+use Rattle.contacts.proofs.stirring.scan_places.Goals as goal
+
+pub loop-place-preserved : goal.loop-place-preserved
+loop-place-preserved c = listed_step (one_flagged c.args.flags.now) c.args.entries.now c.loop-place.place c.index-entries-place.result _ _ _ _ _ c.loop-place-test.true c.index-entries-place.is c.is_one_flagged.ensures c.in_ok-push_place.ensures.pushed c.loop-place.invariant

@@ -1,0 +1,6 @@
+use Rattle.std.proofs.Common.{drop}
+use Rattle.slot_marks.proofs.MarkLaws.{AreLeft}
+use Rattle.contacts.proofs.stirring.unflag.Given as goal
+
+abbrev pub invariant-loop-place : goal.invariant-loop-place
+invariant-loop-place l = AreLeft l.fn.flags.items l.flags.items (drop l.place l.flagged)

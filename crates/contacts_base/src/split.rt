@@ -1,0 +1,367 @@
+//! The contacts as a long list, which stands while contacts come and go, and a short one of those that have come since it was made.
+
+ghost use Rattle.std.specs.Prelude.{◌≡◌, ◌++◌, [], IfOk, IsTrue, OnErr, OnOk, false, length, map, option_copied, option_map};
+ghost use Rattle.std.specs.Option.{ForSome, is_some};
+ghost use Rattle.std.specs.Result.{IsOkUnless};
+ghost use Rattle.contacts_base.specs.Contacts.{AreContacts, AreKeysRising, contacts_without, lookup, number_of};
+ghost use Rattle.contacts_base.specs.Merge.{merged};
+ghost use Rattle.contacts_base.specs.Split.{AreSlotsBelow, carried, contacts_in, counting, counting_at, impulses_given, or_kept, places_of, renewed};
+
+use crate::by_body::BodyIndex;
+use crate::contacts::{has_slot, put_contact, set_points};
+use crate::flags::CountedFlags;
+use crate::merge::push_below;
+use crate::{ContactEntry, ContactKey, Impulses, PackedContact, contact_at, seek};
+use fixed_geom::Refusal;
+use std::alloc::Global;
+use std::marker::Model;
+
+/// What the contact at a place of a list becomes.
+#[derive(Clone, Copy, Debug, PartialEq, Eq)]
+pub struct Renewal {
+    pub place: usize,
+    pub contact: PackedContact,
+}
+
+/// Where a search begins in either list.
+#[derive(Clone, Copy, Debug, PartialEq, Eq)]
+pub struct Hint {
+    pub long: usize,
+    pub short: usize,
+}
+
+/// A contact for each pair of near shapes. Contracts see a long list of them, by place in it which are over, and a short list. The contacts
+/// (`contacts_in`) are those of the long list that aren't over and those of the short one, ascending by key.
+#[derive(Drop)]
+pub struct SplitContacts {
+    // Ascending by key.
+    long: Vec<ContactEntry>,
+    // By place in the long list whether the contact there is over.
+    over: CountedFlags,
+    // Ascending by key; none of them is one of the long list that counts.
+    short: Vec<ContactEntry>,
+    // Of the long list.
+    index: BodyIndex,
+}
+
+impl Model for SplitContacts {
+    ghost use Rattle.contacts_base.specs.Split.{Split};
+    ghost use Rattle.contacts_base.specs.IsSplit.{IsSplit};
+
+    ghost Value = { Split };
+
+    ghost view = { λ a. record { long = a.long.items; over = a.over; short = a.short.items } };
+
+    ghost invariant = { λ a. IsSplit (record { long = a.long.items; over = a.over; short = a.short.items }) a.index.is_made a.index.codes.items };
+}
+
+/// The contact with this key. The search begins at the hint, which becomes where it ended.
+#[inline(never)]
+fn find_in<'a>(
+    entries: &'a [ContactEntry],
+    hint: &mut usize,
+    key: ContactKey,
+) -> Option<&'a ContactEntry>
+    requires { AreKeysRising entries.now }
+    ensures { option_copied result ≡ lookup entries.now key }
+{
+    *hint = seek(entries, *hint, key);
+    contact_at(entries, *hint, key)
+}
+
+/// The contact with this key, unless it is over. The search begins at the hint, which becomes where it ended.
+#[inline(always)]
+fn find_counting<'a>(
+    entries: &'a [ContactEntry],
+    over: &CountedFlags,
+    hint: &mut usize,
+    key: ContactKey,
+) -> Option<&'a ContactEntry>
+    requires { AreKeysRising entries.now }
+    ensures { option_copied result ≡ lookup (counting over.now entries.now) key }
+{
+    *hint = seek(entries, *hint, key);
+    let entry = contact_at(entries, *hint, key)?;
+    if over.is_set(*hint) {
+        return None;
+    }
+    Some(entry)
+}
+
+/// The contacts of a long list that aren't over and those of a short one, as one list. Refused 1 where memory is wanting.
+fn join(
+    alloc: Global,
+    long: &[ContactEntry],
+    over: &CountedFlags,
+    short: &[ContactEntry],
+) -> Result<Vec<ContactEntry>, Refusal>
+    requires long { AreKeysRising long.now }
+    requires short { AreKeysRising short.now }
+    requires flags { length over.now ≡ length long.now }
+    ensures value { IfOk result (λ all. all.items ≡ merged number_of (counting over.now long.now) short.now) }
+    ensures memory_only { IsOkUnless result Refusal.NoMemory }
+{
+    let mut all = Vec::with_capacity(alloc, long.len().saturating_add(short.len()))?;
+    let mut next = 0;
+    for place in 0..long.len() {
+        if over.is_set(place) {
+            continue;
+        }
+        let entry = &long[place];
+        next = push_below(&mut all, short, next, entry)?;
+        all.push(*entry)?;
+    }
+    all.extend_from_slice(&short[next..])?;
+    Ok(all)
+}
+
+/// Gives the points of the contact at a place these impulses, if it has this key and isn't over. Answers whether it has and isn't.
+#[inline(always)]
+fn give_at(
+    entries: &mut Vec<ContactEntry>,
+    over: &CountedFlags,
+    place: usize,
+    key: ContactKey,
+    first: Impulses,
+    second: Option<Impulses>,
+) -> bool
+    requires { AreKeysRising entries.old.items }
+    ensures given { IsTrue result → entries.new.items ≡ impulses_given key first second entries.old.items }
+    ensures counts { IsTrue result → IsTrue (is_some (lookup (counting over.now entries.old.items) key)) }
+    ensures same { result ≡ false → entries.new.items ≡ entries.old.items }
+{
+    if place >= entries.len() || entries[place].key != key || over.is_set(place) {
+        return false;
+    }
+    set_points(&mut entries[place], first, second);
+    true
+}
+
+/// Gives the points of the contact with this key these impulses, if there is one.
+fn give_by_key(
+    entries: &mut Vec<ContactEntry>,
+    key: ContactKey,
+    first: Impulses,
+    second: Option<Impulses>,
+)
+    requires { AreKeysRising entries.old.items }
+    ensures { entries.new.items ≡ impulses_given key first second entries.old.items }
+{
+    let place = seek(entries, 0, key);
+    if contact_at(entries, place, key).is_some() {
+        set_points(&mut entries[place], first, second);
+    }
+}
+
+/// Gives the contacts the points that were noted of them.
+fn renew_all(entries: &mut Vec<ContactEntry>, notes: &[Renewal])
+    ensures { entries.new.items ≡ renewed notes.now entries.old.items }
+{
+    for note in notes {
+        put_contact(entries, note.place, note.contact);
+    }
+}
+
+/// Puts a list in the place of another, if there is one.
+fn replace(entries: &mut Vec<ContactEntry>, other: Option<Vec<ContactEntry>>)
+    ensures { entries.new.items ≡ or_kept (option_map (λ list. list.items) other) entries.old.items }
+{
+    if let Some(list) = other {
+        *entries = list;
+    }
+}
+
+/// Drops the contacts of the body in a slot.
+fn drop_in(entries: &mut Vec<ContactEntry>, slot: u32)
+    ensures { entries.new.items ≡ contacts_without slot entries.old.items }
+{
+    entries.retain(|entry| !has_slot(slot, entry));
+}
+
+impl SplitContacts {
+    /// No contacts.
+    pub fn new(alloc: Global) -> SplitContacts
+        ensures contacts { contacts_in result ≡ [] }
+        ensures long { result.long ≡ [] }
+    {
+        SplitContacts {
+            long: Vec::new(alloc),
+            over: CountedFlags::new(alloc),
+            short: Vec::new(alloc),
+            index: BodyIndex::new(alloc),
+        }
+    }
+
+    /// The contacts of a list, all in the long one. Refused 1 where memory is wanting.
+    pub fn from_entries(alloc: Global, entries: Vec<ContactEntry>) -> Result<SplitContacts, Refusal>
+        requires { AreContacts entries.items }
+        ensures contacts { IfOk result (λ split. contacts_in split ≡ entries.items) }
+        ensures long { IfOk result (λ split. split.long ≡ entries.items) }
+        ensures memory_only { IsOkUnless result Refusal.NoMemory }
+    {
+        let over = CountedFlags::none_set(alloc, entries.len())?;
+        Ok(SplitContacts {
+            long: entries,
+            over,
+            short: Vec::new(alloc),
+            index: BodyIndex::new(alloc),
+        })
+    }
+
+    /// What is known of both lists and of the contacts.
+    #[inline(always)]
+    pub fn ascend(&self)
+        ensures long { AreContacts self.now.long }
+        ensures short { AreContacts self.now.short }
+        ensures contacts { AreContacts (contacts_in self.now) }
+        ensures flags { length self.now.over ≡ length self.now.long }
+    {
+        let _ = &self.long;
+    }
+
+    /// Whether all contacts stand in the long list, and all of that count.
+    pub fn is_one(&self) -> bool
+        ensures { IsTrue result → contacts_in self.now ≡ self.now.long }
+    {
+        self.over.are_none_set() && self.short.is_empty()
+    }
+
+    /// How many contacts a search has to look at beside those of the long list that count.
+    pub fn beside(&self) -> usize {
+        self.over.count().saturating_add(self.short.len())
+    }
+
+    /// The long list, ascending by key.
+    pub fn long(&self) -> &[ContactEntry]
+        ensures value { result.now ≡ self.now.long }
+        ensures contacts { AreContacts result.now }
+    {
+        self.long.as_slice()
+    }
+
+    /// The short list, ascending by key.
+    pub fn short(&self) -> &[ContactEntry]
+        ensures value { result.now ≡ self.now.short }
+        ensures contacts { AreContacts result.now }
+    {
+        self.short.as_slice()
+    }
+
+    /// The contact at a place of the long list, if it counts.
+    #[inline(always)]
+    pub fn counting(&self, place: usize) -> Option<&ContactEntry>
+        ensures { option_copied result ≡ counting_at self.now place }
+    {
+        if self.over.is_set(place) {
+            return None;
+        }
+        self.long.get(place)
+    }
+
+    /// The contact with this key. The search begins at the hint, whatever that is, and the hint becomes where it ended: one search after another goes through the
+    /// lists once.
+    #[inline(always)]
+    pub fn find(&self, hint: &mut Hint, key: ContactKey) -> Option<&ContactEntry>
+        ensures { option_copied result ≡ lookup (contacts_in self.now) key }
+    {
+        match find_counting(&self.long, &self.over, &mut hint.long, key) {
+            Some(entry) => Some(entry),
+            None => find_in(&self.short, &mut hint.short, key),
+        }
+    }
+
+    /// Gives the points of the contact with this key these impulses, in mass·u/tick. Without any for the second point that stays as it is, and so do all
+    /// contacts where there is none with the key. It is looked for at `place` of the long list first.
+    #[inline(always)]
+    pub fn set_impulses(
+        &mut self,
+        place: usize,
+        key: ContactKey,
+        first: Impulses,
+        second: Option<Impulses>,
+    )
+        ensures contacts { contacts_in self.new ≡ impulses_given key first second (contacts_in self.old) }
+        ensures keys { map (λ e. e.key) self.new.long ≡ map (λ e. e.key) self.old.long }
+    {
+        if !give_at(&mut self.long, &self.over, place, key, first, second) {
+            self.set_found_impulses(key, first, second);
+        }
+    }
+
+    /// The same, wherever the contact is.
+    #[inline(never)]
+    fn set_found_impulses(&mut self, key: ContactKey, first: Impulses, second: Option<Impulses>)
+        ensures contacts { contacts_in self.new ≡ impulses_given key first second (contacts_in self.old) }
+        ensures keys { map (λ e. e.key) self.new.long ≡ map (λ e. e.key) self.old.long }
+    {
+        give_by_key(&mut self.long, key, first, second);
+        give_by_key(&mut self.short, key, first, second);
+    }
+
+    /// A list of the contacts, ascending by key. Refused 1 where memory is wanting.
+    pub fn to_entries(&self, alloc: Global) -> Result<Vec<ContactEntry>, Refusal>
+        ensures value { IfOk result (λ entries. entries.items ≡ contacts_in self.now) }
+        ensures contacts { IfOk result (λ entries. AreContacts entries.items) }
+        ensures memory_only { IsOkUnless result Refusal.NoMemory }
+    {
+        join(alloc, &self.long, &self.over, &self.short)
+    }
+
+    /// Makes the two lists one, in one pass. Refused 1 where memory is wanting. Changes no contact.
+    pub fn settle(&mut self, alloc: Global) -> Result<(), Refusal>
+        ensures contacts { contacts_in self.new ≡ contacts_in self.old }
+        ensures settled { OnOk result (self.new.long ≡ contacts_in self.old) }
+        ensures refused { OnErr result (self.new ≡ self.old) }
+        ensures memory_only { IsOkUnless result Refusal.NoMemory }
+    {
+        let entries = self.to_entries(alloc)?;
+        *self = SplitContacts::from_entries(alloc, entries)?;
+        Ok(())
+    }
+
+    /// Makes the index of the long list by body, if it isn't made: `push_places_of` and `drop_of_body` then cost by the body's own contacts. Refused 1
+    /// where memory is wanting. Changes no contact.
+    pub fn index_bodies(&mut self) -> Result<(), Refusal>
+        ensures value { self.new ≡ self.old }
+        ensures memory_only { IsOkUnless result Refusal.NoMemory }
+    {
+        self.index.make(&self.long)
+    }
+
+    /// Whether the bodies of all contacts of the long list are in slots below `count`. Where the index isn't made it isn't told.
+    pub fn are_slots_below(&self, count: usize) -> bool
+        ensures { IsTrue result → AreSlotsBelow count self.now.long }
+    {
+        self.index.are_slots_below(&self.long, count)
+    }
+
+    /// Adds the places in the long list of the contacts of the body in a slot: of those whose first body it is, and then of those whose second one it is. Some may be over. Refused 1
+    /// where memory is wanting.
+    pub fn push_places_of(&self, places: &mut Vec<usize>, slot: u32) -> Result<(), Refusal>
+        ensures pushed { OnOk result (places.new.items ≡ places.old.items ++ places_of slot self.now.long) }
+        ensures memory_only { IsOkUnless result Refusal.NoMemory }
+    {
+        self.index.push_places(places, &self.long, slot)
+    }
+
+    /// The contacts of the long list get the points that were noted of them, those at the places `ends` are over, and the short list becomes this one, if
+    /// there is one. Takes no memory.
+    pub fn carry_out(&mut self, notes: &[Renewal], ends: &[usize], short: Option<Vec<ContactEntry>>)
+        requires short { ForSome short (λ entries. AreContacts entries.items) }
+        requires contacts { AreContacts (contacts_in (carried notes.now ends.now (option_map (λ entries. entries.items) short) self.old)) }
+        ensures value { self.new ≡ carried notes.now ends.now (option_map (λ entries. entries.items) short) self.old }
+    {
+        renew_all(&mut self.long, notes);
+        self.over.set_all(ends);
+        replace(&mut self.short, short);
+    }
+
+    /// Drops the contacts of the body in a slot: they are over, or leave the short list. Takes no memory.
+    pub fn drop_of_body(&mut self, slot: u32)
+        ensures contacts { contacts_in self.new ≡ contacts_without slot (contacts_in self.old) }
+        ensures long { self.new.long ≡ self.old.long }
+    {
+        self.index.flag_places(&mut self.over, &self.long, slot);
+        drop_in(&mut self.short, slot);
+    }
+}

@@ -1,0 +1,8 @@
+use Rattle.kept_contacts.proofs.HeldLaws.{nothing_is_due}
+use Rattle.kept_contacts.proofs.kept.KeptContacts.from_contacts.Goals as goal
+
+pub invariant_of-result : goal.invariant_of-result
+invariant_of-result c = record {
+  held = c.nothing_beside.ensures c.in_ok-contacts.contacts.long;
+  due = nothing_is_due c.new.result c.in_ok-contacts.contacts c.new.ensures.nothing c.ascend.ensures.contacts;
+}

@@ -1,0 +1,97 @@
+//! Copies of the parts of a world, two at a time: where memory is wanting, few of them have to be let go.
+
+ghost use Rattle.std.specs.Prelude.{◌≡◌, IfOk};
+ghost use Rattle.std.specs.Result.{IsOkUnless};
+
+use body_handles::Handles;
+use contacts::Constraint;
+use event_feed::Events;
+use fixed_geom::Refusal;
+use impulse_ledger::Ledger;
+use joint_table::JointTable;
+use kept_contacts::KeptContacts;
+use sleep_wake::Sets;
+use std::alloc::Global;
+use world_core_base::BodyTable;
+
+/// The bodies and their handles.
+#[derive(Drop)]
+pub struct CopiedBodies {
+    pub handles: Handles,
+    pub table: BodyTable,
+}
+
+/// The joints and their handles.
+#[derive(Drop)]
+pub struct CopiedJoints {
+    pub handles: Handles,
+    pub table: JointTable,
+}
+
+/// The contacts, and the sets of the constraints.
+#[derive(Drop)]
+pub struct CopiedConstraints {
+    pub contacts: KeptContacts,
+    pub sets: Sets<Constraint>,
+}
+
+/// The ledger and the events.
+#[derive(Drop)]
+pub struct CopiedRecords {
+    pub ledger: Ledger,
+    pub events: Events,
+}
+
+/// A copy of the bodies and their handles. Refused 1 where memory is wanting.
+pub fn copy_body_parts(handles: &Handles, bodies: &BodyTable) -> Result<CopiedBodies, Refusal>
+    ensures places { IfOk result (λ copied. copied.handles.places ≡ handles.now.places) }
+    ensures bodies { IfOk result (λ copied. copied.table.bodies ≡ bodies.now.bodies) }
+    ensures marks { IfOk result (λ copied. copied.table.marks ≡ bodies.now.marks) }
+    ensures memory_only { IsOkUnless result Refusal.NoMemory }
+{
+    Ok(CopiedBodies {
+        handles: handles.try_copy()?,
+        table: bodies.try_copy()?,
+    })
+}
+
+/// A copy of the joints and their handles. Refused 1 where memory is wanting.
+pub fn copy_joint_parts(handles: &Handles, joints: &JointTable) -> Result<CopiedJoints, Refusal>
+    ensures places { IfOk result (λ copied. copied.handles.places ≡ handles.now.places) }
+    ensures joints { IfOk result (λ copied. copied.table.joints ≡ joints.now.joints) }
+    ensures memory_only { IsOkUnless result Refusal.NoMemory }
+{
+    Ok(CopiedJoints {
+        handles: handles.try_copy()?,
+        table: joints.try_copy()?,
+    })
+}
+
+/// A copy of the contacts and of the sets of the constraints. Refused 1 where memory is wanting.
+pub fn copy_constraint_parts(
+    contacts: &KeptContacts,
+    sets: &Sets<Constraint>,
+    alloc: Global,
+) -> Result<CopiedConstraints, Refusal>
+    ensures contacts { IfOk result (λ copied. copied.contacts.contacts ≡ contacts.now.contacts) }
+    ensures acting { IfOk result (λ copied. copied.sets.acting ≡ sets.now.acting) }
+    ensures memory_only { IsOkUnless result Refusal.NoMemory }
+{
+    Ok(CopiedConstraints {
+        contacts: contacts.try_copy(alloc)?,
+        sets: sets.try_copy()?,
+    })
+}
+
+/// A copy of the ledger and the events. Refused 1 where memory is wanting.
+pub fn copy_records(ledger: &Ledger, events: &Events) -> Result<CopiedRecords, Refusal>
+    ensures entries { IfOk result (λ copied. copied.ledger.entries ≡ ledger.now.entries) }
+    ensures settled { IfOk result (λ copied. copied.ledger.settled ≡ ledger.now.settled) }
+    ensures events { IfOk result (λ copied. copied.events ≡ events.now) }
+    ensures memory_only { IsOkUnless result Refusal.NoMemory }
+{
+    Ok(CopiedRecords {
+        ledger: ledger.try_copy()?,
+        events: events.try_copy()?,
+    })
+}
