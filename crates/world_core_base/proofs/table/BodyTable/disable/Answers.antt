@@ -13,35 +13,24 @@ use Rattle.world_core_base.proofs.GatherLaws.{length-states}
 use Rattle.world_core_base.proofs.ListingLaws.{listed_set}
 use Rattle.world_core_base.proofs.table.BodyTable.disable.Goals as goal
 
-pub relist-requires-clause-few : goal.relist-requires-clause-few
-relist-requires-clause-few c =
+-- there are as many states as bodies, as before
+as_many : (c : goal.After-deref-2) → length c.deref-2.result.now ≡ length c.self.inside.bodies.items
+as_many c =
     let bodies = c.self.inside.bodies.items in
     let there : c.args.slot < length bodies = rw (← c.self.view_is) at c.requires in
     let o : Option Body = option_map disabled_body (body_at bodies c.args.slot) in
     let now : c.renew_state.new.states.items ≡ states_of (changed_at disabled_body bodies c.args.slot) =
     rw (c.renew_state.ensures, c.deref.ensures.value, c.disable_slot.ensures) (renewed_states bodies c.self.inside.states.items c.args.slot o c.self.invariant.states there) in
-    let long = ap length c.deref-2.ensures.value ∙ ap length now ∙ length-states (changed_at disabled_body bodies c.args.slot) ∙ length-set bodies c.args.slot o in
-    omega (arith, long, c.self.invariant.few)
+    ap length c.deref-2.ensures.value ∙ ap length now ∙ length-states (changed_at disabled_body bodies c.args.slot) ∙ length-set bodies c.args.slot o
+
+pub relist-requires-clause-few : goal.relist-requires-clause-few
+relist-requires-clause-few c = let long = as_many c in omega (arith, long, c.self.invariant.few)
 
 pub relist-requires-clause-for_awake : goal.relist-requires-clause-for_awake
-relist-requires-clause-for_awake c =
-    let bodies = c.self.inside.bodies.items in
-    let there : c.args.slot < length bodies = rw (← c.self.view_is) at c.requires in
-    let o : Option Body = option_map disabled_body (body_at bodies c.args.slot) in
-    let now : c.renew_state.new.states.items ≡ states_of (changed_at disabled_body bodies c.args.slot) =
-    rw (c.renew_state.ensures, c.deref.ensures.value, c.disable_slot.ensures) (renewed_states bodies c.self.inside.states.items c.args.slot o c.self.invariant.states there) in
-    let long = ap length c.deref-2.ensures.value ∙ ap length now ∙ length-states (changed_at disabled_body bodies c.args.slot) ∙ length-set bodies c.args.slot o in
-    omega (arith, long, c.self.invariant.for_awake)
+relist-requires-clause-for_awake c = let long = as_many c in omega (arith, long, c.self.invariant.for_awake)
 
 pub relist-requires-clause-for_carried : goal.relist-requires-clause-for_carried
-relist-requires-clause-for_carried c =
-    let bodies = c.self.inside.bodies.items in
-    let there : c.args.slot < length bodies = rw (← c.self.view_is) at c.requires in
-    let o : Option Body = option_map disabled_body (body_at bodies c.args.slot) in
-    let now : c.renew_state.new.states.items ≡ states_of (changed_at disabled_body bodies c.args.slot) =
-    rw (c.renew_state.ensures, c.deref.ensures.value, c.disable_slot.ensures) (renewed_states bodies c.self.inside.states.items c.args.slot o c.self.invariant.states there) in
-    let long = ap length c.deref-2.ensures.value ∙ ap length now ∙ length-states (changed_at disabled_body bodies c.args.slot) ∙ length-set bodies c.args.slot o in
-    omega (arith, long, c.self.invariant.for_carried)
+relist-requires-clause-for_carried c = let long = as_many c in omega (arith, long, c.self.invariant.for_carried)
 
 pub invariant_of-self : goal.invariant_of-self
 invariant_of-self c =
