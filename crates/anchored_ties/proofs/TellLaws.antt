@@ -1,7 +1,6 @@
 -- What the lists tell when a constraint begins.
-use Rattle.std.proofs.Common.{◌≡◌, ◌∙◌, ℕ, ◌+◌, ◌<◌, ◌==◌, ◌++◌, Bool, true, List, [], ◌∷◌, length, take, Option, Some, None, inl, inr, refl, sym, ap, subst, append_assoc}
+use Rattle.std.proofs.Common.{◌≡◌, ◌∙◌, ℕ, ◌+◌, ◌<◌, ◌==◌, ◌++◌, Bool, true, List, [], ◌∷◌, length, take, Option, Some, inl, inr, refl, sym, ap, subst, append_assoc}
 use Rattle.std.specs.Prelude.{Contains, get_or}
-use Rattle.std.proofs.lemmas.Bool.{false≢true}
 use Rattle.std.proofs.lemmas.List.{take_more}
 use Rattle.std.proofs.lemmas.List.Elements.{Contains-append_cases}
 use Rattle.contacts.specs.Constraints.{constraint_number}
@@ -19,15 +18,6 @@ abbrev pub Ties : Type 0
 Ties = List (Member Constraint)
 
 -- ---- one more constraint
-
-pub told_none : (lists : List (List ℕ)) (ties : Ties) (tie : Member Constraint) → None ≡ anchor_of tie → AreAnchored lists ties → AreAnchored lists (ties ++ tie ∷ [])
-told_none lists ties tie none are m h slot on = elim (Contains-append_cases ties (tie ∷ []) m h) [
-  | inl k ↦ are m k slot on
-  | inr k ↦ elim (contains_cases tie [] m k) [
-    | inl e ↦ absurd (false≢true (ap (λ (o : Option ℕ). is_slot o slot) none ∙ ap (λ (x : Member Constraint). is_anchored slot x) e ∙ on))
-    | inr q ↦ absurd (none_in m q)
-  ]
-]
 
 pub told_listed : (old new : List (List ℕ)) (ties : Ties) (tie : Member Constraint) (anchor : ℕ) → Some anchor ≡ anchor_of tie → IsListed anchor (constraint_number tie.id) old new → AreAnchored old ties → AreAnchored new (ties ++ tie ∷ [])
 told_listed old new ties tie anchor some listed are m h slot on = elim (Contains-append_cases ties (tie ∷ []) m h) [

@@ -1,10 +1,8 @@
 -- A tree may cross threads, and be shared by them. A type that holds itself is shown to by a layer of it over any parts that do.
-use mathlib.Core.List.{List, [], ◌∷◌}
 use denote.RattleType.{RattleType}
 use denote.Struct.Field.{Field, row_field}
 use denote.Hole.{as_row}
-use denote.Model.{View}
-use denote.Model.Local.{Frame, Parts, rows}
+use denote.Model.Local.{Parts, rows}
 use denote.Model.Goals.{send, sync, part_has, has_of}
 use denote.Model.Marks.{tied_send, tied_sync}
 use denote.Param.Send.{IsSend, IsSync, sendable, recorded_send, recorded_sync, view_send, view_sync}
@@ -12,7 +10,7 @@ use denote.Param.SendFields.{as_row_send, as_row_sync, declared_send, declared_s
 use Rattle.std.specs.contracts.alloc.Global as Global
 use Rattle.std.specs.contracts.boxed.Box as Box
 use Rattle.std.specs.contracts.impls.GlobalAllocator.TheImpl.{ghosts}
-use Rattle.std.proofs.Crossing.{crosses, Box-send, Box-sync}
+use Rattle.std.proofs.Crossing.{Box-send, Box-sync}
 use Rattle.box_tree_base.specs.contracts.leaves.Leaf as Leaf
 use Rattle.box_tree_base.specs.contracts.tree.Stem as Stem
 use Rattle.box_tree_base.specs.contracts.tree.Tree as Tree

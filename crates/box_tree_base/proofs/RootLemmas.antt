@@ -1,4 +1,3 @@
-use Rattle.box_tree_base.proofs.CrossingLemmas.{tree_send}
 -- The tree of one leaf goes with it.
 use Rattle.std.proofs.Common.{◌≡◌, ◌++◌, sym, ap, length, slice_index_or, slice_set, List, [], ◌∷◌, inl, inr, refl, arith}
 use Rattle.box_tree_base.specs.Lists.{IsIn, IsAdded, IsRefitted}

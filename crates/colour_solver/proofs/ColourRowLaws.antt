@@ -136,10 +136,6 @@ pub last_low : (n : ℕ) (ends : List ℕ) (last : ℕ) → AreEnds n ends last 
 last_low n [] last h = omega arith
 last_low n (e ∷ ends) last h = let more : e ≤ last_end e ends = last_low e ends last h.1 in omega (arith, h.0, more)
 
-pub last_high : (n : ℕ) (ends : List ℕ) (last : ℕ) → AreEnds n ends last → last_end n ends ≤ last
-last_high n [] last h = h
-last_high n (e ∷ ends) last h = last_high e ends last h.1
-
 -- what is left behind the last end is what stands from there on
 pub left_is : {R : Type 0} (n : ℕ) (ends : List ℕ) (last : ℕ) (rows : List R) → AreEnds n ends last → left_of n ends rows ≡ drop (last_end n ends - n) rows
 left_is {R} n [] last rows h = let none : 0 ≡ n - n = omega arith in ap (λ (k : ℕ). drop k rows) none

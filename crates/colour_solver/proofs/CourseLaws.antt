@@ -129,9 +129,6 @@ reciprocals-carry [] slot = refl
 reciprocals-carry (s ∷ ss) zero = along_reciprocals s
 reciprocals-carry (s ∷ ss) (suc slot) = reciprocals-carry ss slot
 
-pub beside_at_first : (ss : List BodyState) → AreSameBeside ss ss
-beside_at_first ss = record { long = refl; standing = λ slot m c. refl; reciprocals = λ slot. refl; movable = λ slot. refl; mass = λ slot. refl }
-
 pub beside_same : (old new : List BodyState) → AreSameStates old new → AreSameBeside old new
 beside_same old new same = record { long = same.long; standing = λ slot m c. same.immovable slot m; reciprocals = same.reciprocals; movable = same.movable; mass = same.mass }
 

@@ -4,7 +4,7 @@ use Rattle.std.specs.List.{flat_map}
 use Rattle.std.proofs.lemmas.List.{append-nil, append_assoc, get_or-map, length-append, length-map, length-take, map-append, map_push, take_all, take_more, take_rest}
 use Rattle.std.proofs.lemmas.List.Concat.{flat_map-append}
 use Rattle.std.proofs.lemmas.List.Elements.{filter_map-append}
-use Rattle.fixed_geom.specs.Vectors.{plus, zero_vector}
+use Rattle.fixed_geom.specs.Vectors.{plus}
 use Rattle.fixed_geom.specs.declared.vectors.Vec2.{Vec2}
 use Rattle.joint_rows.specs.declared.row.JointRow.{JointRow}
 use Rattle.joint_rows.specs.Rows.{IsJointRow}
@@ -15,13 +15,12 @@ use Rattle.colour_solver_base.specs.Rows.{IsRow}
 use Rattle.colour_solver_base.specs.RowsAfter.{RowAfter}
 use Rattle.colour_solver.specs.declared.constraint_row.ConstraintRow.{ConstraintRow}
 use Rattle.colour_solver.specs.declared.constraint_row.ConstraintRow.TheVariants.{Joint, Contact}
-use Rattle.colour_solver.specs.States.{AreAllStates}
 use Rattle.colour_solver.specs.Turns.{AreRowsOn, IsPassed, between}
 use Rattle.colour_solver.specs.ConstraintTurns.{IsConstraintRow, both_turns, constraint_slots, contact_in, contact_slots, contacts_among, joint_in, joint_slots, joints_among}
 use Rattle.colour_solver.specs.ColourRows.{AreEnds, colours_of, cut, each_joints_first, joints_first, left_of, rows_kept, rows_left}
 use Rattle.colour_solver.proofs.ColourRowLaws.{cut_all, cut_count, cut_end, cut_long, cut_more, cut_next, cut_same, end_high, end_low, ends_end, ends_more, ends_taken, last_end, last_more, left_end, left_from, left_more, taken_high}
 use Rattle.colour_solver.proofs.KindLaws.{contacts_each, joints_each, joints_first_contacts, joints_first_joints}
-use Rattle.colour_solver.proofs.PassedLaws.{drop_further, passed_alike, passed_none, passed_on}
+use Rattle.colour_solver.proofs.PassedLaws.{drop_further, passed_alike, passed_on}
 
 -- ---- a row more, a colour more
 
@@ -253,19 +252,6 @@ all_passed f g k je ce ss ts us joints js kept contacts cs held given more ends 
     (ap (λ (l : List ConstraintRow). l ++ rows_left je ce joints contacts) (all_first joints contacts) ∙ ap (λ (l : List ConstraintRow). first_rows k je ce joints contacts ++ l) last_old)
     (ap (λ (l : List ConstraintRow). l ++ rows_left je ce kept held) (all_first kept held ∙ before) ∙ ap (λ (l : List ConstraintRow). first_rows k je ce js cs ++ l) last_now)
     (passed_on constraint_slots IsConstraintRow (both_turns f g) ss ts us (first_rows k je ce joints contacts) (joints_first (between n (length js) js) (between m (length cs) cs)) (first_rows k je ce js cs) (joints_first (between n (length js) kept) (between m (length cs) held)) given more known.passed made.passed)
-
--- no colour yet
-pub has_passed_none : (f : JointRow → Ends → RowAfter JointRow) (g : ContactRow → Ends → RowAfter ContactRow) (je ce : List ℕ) (ss : List BodyState) (joints : List JointRow) (contacts : List ContactRow) (given : Vec2) → AreAllStates ss → given ≡ zero_vector
-    → AreRowsOn joint_slots IsJointRow (length ss) joints → AreRowsOn contact_slots IsRow (length ss) contacts → HasPassed f g 0 je ce ss joints contacts ss joints contacts given
-has_passed_none f g je ce ss joints contacts given all none j c = record {
-  passed = passed_none constraint_slots IsConstraintRow (both_turns f g) ss given all none;
-  joints_behind = refl;
-  contacts_behind = refl;
-  as_many_joints = refl;
-  as_many_contacts = refl;
-  all_joints = j;
-  all_contacts = c;
-}
 
 -- the same pass, its places named otherwise
 pub turned_there : (f : JointRow → Ends → RowAfter JointRow) (g : ContactRow → Ends → RowAfter ContactRow) (n m d e a b p q : ℕ) (ss : List BodyState) (joints : List JointRow) (contacts : List ContactRow) (ts : List BodyState) (js : List JointRow) (cs : List ContactRow) (given : Vec2)

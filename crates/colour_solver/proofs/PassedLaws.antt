@@ -3,7 +3,7 @@ use Rattle.std.proofs.Common.{◌≡◌, ℕ, ◌+◌, ◌-◌, ◌<◌, ◌≤�
 use Rattle.std.proofs.lemmas.List.{drop-drop, drop-set-add, get_or-drop, length-drop, take_more, take_more_set}
 use Rattle.std.proofs.lemmas.List.Elements.{All-append, All-cons, All-nil}
 use Rattle.body_handles.specs.declared.places.TheConstants.{MAX_SLOTS}
-use Rattle.fixed_geom.specs.Vectors.{plus, zero_vector}
+use Rattle.fixed_geom.specs.Vectors.{plus}
 use Rattle.fixed_geom.specs.declared.vectors.Vec2.{Vec2}
 use Rattle.momenta.specs.Gains.{IsGain}
 use Rattle.momenta.specs.declared.gain.Gain.{Gain}
@@ -13,7 +13,7 @@ use Rattle.colour_solver_base.specs.RowsAfter.{RowAfter}
 use Rattle.colour_solver.specs.declared.turns.Slots.{Slots}
 use Rattle.colour_solver.specs.States.{AreAllStates, AreSameStates, as_vector, total}
 use Rattle.colour_solver.specs.Turns.{AreRowsOn, IsPassed, IsRowOn, after, between, ends_of, got, passed, rows_passed, share, turn_of}
-use Rattle.colour_solver.proofs.SameLaws.{same_at_first, same_on}
+use Rattle.colour_solver.proofs.SameLaws.{same_on}
 use Rattle.colour_solver.proofs.TurnLaws.{given-small}
 use Rattle.colour_solver.proofs.VectorLaws.{plus_assoc, plus_zero, zero_plus}
 
@@ -28,9 +28,6 @@ back n i low = omega (arith, low)
 
 inside : {R : Type 0} (n i : ℕ) (rows : List R) → n ≤ i → i < length rows → i - n < length (drop n rows)
 inside n i rows low h = let long = length-drop n rows in omega (arith, low, h, long)
-
-pub between_none : {R : Type 0} (n : ℕ) (rows : List R) → between n n rows ≡ []
-between_none {R} n rows = let none : n - n ≡ 0 = omega arith in ap (λ (k : ℕ). take k (drop n rows)) none
 
 pub between_more : {R : Type 0} (n i : ℕ) (rows : List R) (d : R) → n ≤ i → i < length rows → between n (i + 1) rows ≡ between n i rows ++ get_or rows i d ∷ []
 between_more {R} n i rows d low h =
@@ -67,23 +64,8 @@ share_then at f ss (x ∷ xs) ys =
     ap (plus (got (ends_of at ss x) (turn_of at f ss x).ends)) (share_then at f (after at f ss x) xs ys)
     ∙ plus_assoc (got (ends_of at ss x) (turn_of at f ss x).ends) (share at f (after at f ss x) xs) (share at f (passed at f (after at f ss x) xs) ys)
 
-adds_none : (a b : Vec2) → b ≡ zero_vector → a ≡ plus a b
-adds_none a b h = sym (plus_zero a) ∙ ap (plus a) (sym h)
-
 adds_both : (a b c v w : Vec2) → b ≡ plus a v → c ≡ plus b w → c ≡ plus a (plus v w)
 adds_both a b c v w h k = k ∙ (ap (λ (u : Vec2). plus u w) h ∙ sym (plus_assoc a v w))
-
--- nothing has been done yet
-pub passed_none : {R : Type 0} (at : R → Slots) (is : R → Type 0) (f : R → Ends → RowAfter R) (ss : List BodyState) (given : Vec2) → AreAllStates ss → given ≡ zero_vector → IsPassed at is f ss [] ss [] given
-passed_none at is f ss given all none = record {
-  states = refl;
-  rows_are = refl;
-  share_is = none;
-  all_states = all;
-  all_rows = All-nil (IsRowOn at is (length ss));
-  same = same_at_first ss;
-  momentum = adds_none (total ss) given none;
-}
 
 pub passed_on : {R : Type 0} (at : R → Slots) (is : R → Type 0) (f : R → Ends → RowAfter R) (ss ts us : List BodyState) (rows more turned rest : List R) (given extra : Vec2) → IsPassed at is f ss rows ts turned given → IsPassed at is f ts more us rest extra
     → IsPassed at is f ss (rows ++ more) us (turned ++ rest) (plus given extra)

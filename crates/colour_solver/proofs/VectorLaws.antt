@@ -23,8 +23,5 @@ zero_plus a = same_vector _ a (omega (arith, ints)) (omega (arith, ints))
 pub plus_assoc : (a b c : Vec2) → plus a (plus b c) ≡ plus (plus a b) c
 plus_assoc a b c = same_vector _ _ (omega (arith, ints)) (omega (arith, ints))
 
-pub plus_swap : (a b c : Vec2) → plus (plus a b) c ≡ plus (plus a c) b
-plus_swap a b c = same_vector _ _ (omega (arith, ints)) (omega (arith, ints))
-
 pub minus_same : (a : Vec2) → minus a a ≡ zero_vector
 minus_same a = same_vector _ zero_vector (omega (arith, ints)) (omega (arith, ints))

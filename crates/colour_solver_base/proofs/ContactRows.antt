@@ -22,8 +22,8 @@ use Rattle.colour_solver_base.specs.declared.row.Bodies.{Bodies}
 use Rattle.colour_solver_base.specs.declared.solve.PointAfter.{PointAfter}
 use Rattle.colour_solver_base.specs.RowsAfter.{RowAfter}
 use Rattle.colour_solver_base.specs.Rows as rows
-use Rattle.colour_solver_base.specs.Rows.{bias_of, is_springy, line_of, point_row, row_bounced, row_from, row_solved, row_warmed, start_speed}
-use Rattle.colour_solver_base.specs.ContactSolving.{AreMovedFrom, IsMovedFrom, IsRowOf, RowsAreContacts, SolvedContact, SolvedPoint, at_points, contact_bounced, contact_solved, contact_warmed, from_first, line_along, normal_line, normal_solved, point_bounced, point_solved, point_warmed, separation_now, tangent_line, tangent_solved, with_normal_impulse, with_tangent_impulse}
+use Rattle.colour_solver_base.specs.Rows.{bias_of, is_springy, point_row, row_bounced, row_from, row_solved, row_warmed, start_speed}
+use Rattle.colour_solver_base.specs.ContactSolving.{AreMovedFrom, IsMovedFrom, IsRowOf, RowsAreContacts, SolvedPoint, at_points, contact_bounced, contact_solved, contact_warmed, line_along, normal_line, normal_solved, point_bounced, point_solved, point_warmed, separation_now, tangent_line, tangent_solved, with_normal_impulse, with_tangent_impulse}
 
 -- ---- masses stay
 

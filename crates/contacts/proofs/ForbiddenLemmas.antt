@@ -1,7 +1,6 @@
 -- Pairs whose bodies are kept from colliding.
-use Rattle.std.proofs.Common.{◌≡◌, ℕ, ◌+◌, ◌<◌, Bool, true, false, cond, List, [], ◌∷◌, ◌++◌, length, take, get_or, refl, sym, ap}
+use Rattle.std.proofs.Common.{ℕ, ◌<◌, Bool, true, false, cond, List, [], ◌∷◌}
 use Rattle.std.specs.Prelude.{filter}
-use Rattle.std.proofs.lemmas.List.{take_more}
 use Rattle.std.proofs.lemmas.List.Elements.{All-filter}
 use Rattle.contacts_base.specs.declared.near.Proxy.{Proxy}
 use Rattle.contacts_base.specs.Near.{IsProxyList, near_codes}
@@ -32,15 +31,3 @@ filtered_are_pairs t ps codes h = record {
 
 pub allowed_are_pairs : (forbidden : List ℕ) (ps : List Proxy) → IsProxyList ps → ArePairs ps (allowed_codes forbidden ps)
 allowed_are_pairs forbidden ps h = filtered_are_pairs (is_allowed forbidden ps) ps (near_codes ps) (near_are_pairs ps h)
-
--- one more code, where it is allowed
-pub filter_step : (t : ℕ → Bool) (codes now next : List ℕ) (i d : ℕ) → i < length codes → now ≡ filter t (take i codes) → next ≡ now ++ cond (t (get_or codes i d)) (get_or codes i d ∷ []) [] → next ≡ filter t (take (i + 1) codes)
-filter_step t codes now next i d lt so step = rw (take_more codes i d lt, step, so) (sym (filter_more t (take i codes) (get_or codes i d)))
-  where
-    pass : (b : Bool) (t : ℕ → Bool) (x y : ℕ) (xs rest : List ℕ) → rest ≡ filter t xs ++ cond (t y) (y ∷ []) [] → cond b (x ∷ rest) rest ≡ cond b (x ∷ filter t xs) (filter t xs) ++ cond (t y) (y ∷ []) []
-    pass true t x y xs rest h = ap (λ l. x ∷ l) h
-    pass false t x y xs rest h = h
-
-    filter_more : (t : ℕ → Bool) (xs : List ℕ) (y : ℕ) → filter t (xs ++ y ∷ []) ≡ filter t xs ++ cond (t y) (y ∷ []) []
-    filter_more t [] y = refl
-    filter_more t (x ∷ xs) y = pass (t x) t x y xs (filter t (xs ++ y ∷ [])) (filter_more t xs y)

@@ -100,9 +100,6 @@ with_has ps p (s ∷ slots) slot n i h =
       | inr l ↦ in_right n (numbers_up ps p s MAX_SHAPES) (numbers_with ps p slots) (with_has ps p slots slot n l h)
     ]
 
-pub all_kept : (old more xs : List ℕ) → more ≡ old ++ xs → IsExtended old more
-all_kept old more xs is = λ n h. rw is (contains_from_in (old ++ xs) n (in_left n old xs (in_from_contains old n h)))
-
 has_by : (ps : List Proxy) (p : Proxy) (m n : ℕ) (r : Option Proxy) (slots : List ℕ) → IsProxyList ps → All (λ q. overlaps q.fat p.fat ≡ true → Contains slots q.id.slot) ps → found ps m ≡ r → number_with p r ≡ Some n → IsIn n (numbers_with ps p slots)
 has_by ps p m n None slots list complete f h = cc
 has_by ps p m n (Some q) slots list complete f h =
@@ -118,9 +115,6 @@ pub has_numbers : (ps : List Proxy) (i : ℕ) (p : Proxy) (slots old more : List
 has_numbers ps i p slots old more list f complete is = λ m n h.
     let with_p : number_with p (found ps m) ≡ Some n = ap (λ (o : Option Proxy). number_of_both o (found ps m)) (sym f) ∙ h in
     rw is (contains_from_in (old ++ numbers_with ps p slots) n (in_right n old (numbers_with ps p slots) (has_by ps p m n (found ps m) slots list complete refl with_p)))
-
-pub none_numbers : (ps : List Proxy) (i : ℕ) (numbers : List ℕ) → found ps i ≡ None → HasNumbers ps i numbers
-none_numbers ps i numbers f = λ m n h. let none : None ≡ Some n = ap (λ (o : Option Proxy). number_of_both o (found ps m)) (sym f) ∙ h in cc
 
 pub numbers_more : (ps : List Proxy) (i : ℕ) (numbers more : List ℕ) → IsExtended numbers more → HasNumbers ps i numbers → HasNumbers ps i more
 numbers_more ps i numbers more f has = λ m n h. f n (has m n h)

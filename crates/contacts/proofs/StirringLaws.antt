@@ -15,7 +15,7 @@ use Rattle.contacts_base.specs.declared.split.Renewal.{Renewal}
 use Rattle.contacts.specs.Changes.{key_if_new}
 use Rattle.contacts.specs.Known.{again, either_moved, found, stays}
 use Rattle.contacts.specs.declared.stirring.Stirring.{Stirring}
-use Rattle.contacts.specs.Stirring.{AreFlagsListed, AreHeld, AreQuiet, is_flagged, one_flagged, passed_by}
+use Rattle.contacts.specs.Stirring.{AreHeld, AreQuiet, is_flagged, one_flagged, passed_by}
 use Rattle.contacts_base.specs.Split.{places_from}
 use Rattle.contacts.specs.Turns.{moved_by, one_stirs_of, outcome, stirs_in}
 use Rattle.contacts_base.specs.Split.{renewed}
@@ -97,10 +97,6 @@ renewed_keys (r ∷ rs) es = renewed_keys rs (contact_set r.place r.contact es (
 pub held_over : (s : Stirring) (es fs : List ContactEntry) → AreHeld s es → map (λ e. e.key) fs ≡ map (λ e. e.key) es → AreHeld s fs
 held_over s es fs held same = record { flagged = held.flagged; places = λ h. held.places h ∙ sym (same_places s.flags.items 0 es fs same) }
 
--- where none are held, that serves for any contacts
-pub held_anew : (s : Stirring) (es : List ContactEntry) → AreFlagsListed s.flags.items s.flagged.items → s.holds ≡ false → AreHeld s es
-held_anew s es flagged none = record { flagged = flagged; places = λ h. cc }
-
 -- ---- the flags have all that stirs and all that is marked
 
 slot_is : (i : ShapeId) → i.index < 256 → id_number i / 256 ≡ i.slot
@@ -152,7 +148,3 @@ quiet_if flags marks marked awake carried ps listed few all moving both stirring
       neither_moved _ _ (not_moved flags marks marked e.key.first listed few all key.first_index a) (not_moved flags marks marked e.key.second listed few all key.second_index b),
       neither_stirs _ _ (not_stirring flags awake carried ps e.key.first moving both stirring key.first_index a) (not_stirring flags awake carried ps e.key.second moving both stirring key.second_index b),
     )
-
--- without flags all contacts are of bodies that may stir
-pub none_quiet : (flags marks : List Bool) (ps : List Proxy) → flags ≡ [] → AreQuiet flags marks ps
-none_quiet flags marks ps none = λ e key h. let all : one_flagged flags e ≡ true = ap (λ (l : List Bool). one_flagged l e) none in cc

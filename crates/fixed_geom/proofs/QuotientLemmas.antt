@@ -5,22 +5,6 @@ use Rattle.std.proofs.lemmas.Int.{ints}
 use Rattle.std.specs.Int.{int_div_euclid}
 use Rattle.fixed_geom.specs.Numbers.{nearest, rdiv, fdiv, IsNearest, IsFloor}
 
--- the quotient, and one more where what is left is at least half
-pub nearest_up : (n d : ℕ) → 0 < d → d ≤ 2 * (n % d) → nearest n d ≡ n / d + 1
-nearest_up n d p h =
-    let below : n % d < d = mod_below n d p in
-    let whole : n / d * d + n % d ≡ n = div-add-mod' n d in
-    let rest : 2 * (n % d) - d < 2 * d = omega arith in
-    let sum : 2 * n + d ≡ (n / d + 1) * (2 * d) + (2 * (n % d) - d) = omega arith in
-    ap (λ x. x / (2 * d)) sum ∙ div-mul-add (n / d + 1) (2 * d) (2 * (n % d) - d) rest
-
-pub nearest_down : (n d : ℕ) → 0 < d → 2 * (n % d) < d → nearest n d ≡ n / d
-nearest_down n d p h =
-    let whole : n / d * d + n % d ≡ n = div-add-mod' n d in
-    let rest : 2 * (n % d) + d < 2 * d = omega arith in
-    let sum : 2 * n + d ≡ (n / d) * (2 * d) + (2 * (n % d) + d) = omega arith in
-    ap (λ x. x / (2 * d)) sum ∙ div-mul-add (n / d) (2 * d) (2 * (n % d) + d) rest
-
 -- a guess a, between the bounds of the quotient, is the quotient
 pub nearest_at : (n d q a b s : ℕ) → 0 < d → a ≡ q → b ≡ 2 * d → s ≡ 2 * n + d → a * b ≤ s → s < a * b + 2 * d → q ≡ nearest n d
 nearest_at n d q a b s p e f g h l =

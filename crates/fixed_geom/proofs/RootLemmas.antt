@@ -1,5 +1,5 @@
 use Rattle.std.proofs.Common.{◌≡◌, ℕ, zero, suc, ◌+◌, ◌-◌, ◌*◌, ◌/◌, ◌%◌, ◌<◌, ◌≤◌, ℤ, pos, arith, refl, sym, ◌∙◌, ap, ◌⊎◌, inl, inr, cond, nat_le, nat_lt, Bool, true, false}
-use Rattle.std.proofs.lemmas.Nat.{div-add-mod', mod_below, mul-le, div_below}
+use Rattle.std.proofs.lemmas.Nat.{div-add-mod', mod_below, mul-le}
 use Rattle.std.proofs.lemmas.Int.{ints}
 use Rattle.std.proofs.lemmas.Bool.{cases_lt, leb-true, leb-false}
 use Rattle.std.proofs.lemmas.Bool.Decides.{nat_tests}
@@ -31,10 +31,6 @@ step_above a x y h k =
 pub square_positive : (a x : ℕ) → a < x * x → 0 < x
 square_positive a zero h = absurd (omega arith)
 square_positive a (suc x) h = omega arith
-
--- a step from above the root falls
-pub step_falls : (a x : ℕ) → a < x * x → a / x < x
-step_falls a x h = div_below a x x (square_positive a x h) h
 
 -- a number below the square of the cap has no root beyond it
 pub capped : (a y cap r : ℕ) → a < (y + 1) * (y + 1) → a < (cap + 1) * (cap + 1) → (r ≡ y) ⊎ (r ≡ cap) → a < (r + 1) * (r + 1)

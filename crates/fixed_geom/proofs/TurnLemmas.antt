@@ -1,5 +1,5 @@
 -- A turned facing is a facing: the sizes, over natural numbers.
-use Rattle.std.proofs.Common.{ℕ, zero, suc, ◌+◌, ◌-◌, ◌*◌, ◌/◌, ◌^◌, ◌<◌, ◌≤◌, ℤ, unsigned_abs, arith, inl, inr}
+use Rattle.std.proofs.Common.{ℕ, ◌+◌, ◌-◌, ◌*◌, ◌/◌, ◌^◌, ◌<◌, ◌≤◌, ℤ, unsigned_abs, arith, inl, inr}
 use Rattle.std.proofs.lemmas.Nat.{mul-le}
 use Rattle.std.proofs.lemmas.Bool.{cases_lt}
 use Rattle.fixed_geom.specs.Numbers.{nearest, root}
@@ -111,11 +111,6 @@ swung_long c s x y e f h i j l m =
     let squares : (3 * 2 ^ 30 - 12) * (3 * 2 ^ 30 - 12) ≤ (4 * (x + y)) * (4 * (x + y)) = square_le _ _ moved in
     let four : 4 * (x * y) ≤ (x + y) * (x + y) = square_of_sum x y in
     omega arith
-
-pub long_positive : (x y : ℕ) → (2 ^ 29) * (2 ^ 29) ≤ x * x + y * y → 0 < x + y
-long_positive zero zero h = absurd (omega arith)
-long_positive zero (suc y) h = omega arith
-long_positive (suc x) y h = omega arith
 
 -- a quarter of a turn's step, rounded
 pub tangent_le : (w s e : ℤ) → unsigned_abs w ≤ 2 ^ 28 → ((k : ℕ) → unsigned_abs w * unsigned_abs s ≤ k * 2 ^ 30 → unsigned_abs e ≤ k) → 4 * unsigned_abs e ≤ unsigned_abs s + 3

@@ -166,24 +166,6 @@ passed_step {C} number e later old now ms i rising takes before after up at is =
     let whole : all_edited number (e ∷ later) ms ≡ take i ms ++ rest = comes_to number e later ms i before up ∙ ap (λ (l : List (Member C)). take i ms ++ all_edited number later l) here in
     ap (λ (l : List (Member C)). l ++ rest) is ∙ append_assoc old (take i ms) rest ∙ ap (λ (l : List (Member C)). old ++ l) (sym whole)
 
--- the member in a place, and those after it
-pub at_front : {C : Type 0} (number : C → ℕ) (ms : List (Member C)) (i n : ℕ) (x : Member C) → i < length ms → x ≡ get_or ms i x → (number x.id == n) ≡ is_at number n (drop i ms)
-at_front number [] i n x lt is = absurd (omega arith)
-at_front {C} number (y ∷ ys) zero n x lt is = ap (λ (z : Member C). number z.id == n) is
-at_front number (y ∷ ys) (suc i) n x lt is = at_front number ys i n x (omega arith) is
-
-pub none_at_end : {C : Type 0} (number : C → ℕ) (ms : List (Member C)) (i n : ℕ) → length ms ≤ i → false ≡ is_at number n (drop i ms)
-none_at_end number [] zero n le = refl
-none_at_end number [] (suc i) n le = refl
-none_at_end number (y ∷ ys) zero n le = absurd (omega arith)
-none_at_end number (y ∷ ys) (suc i) n le = none_at_end number ys i n (omega arith)
-
-pub within_at : {C : Type 0} (number : C → ℕ) (ms : List (Member C)) (i n : ℕ) → is_at number n (drop i ms) ≡ true → i < length ms
-within_at number [] zero n at = absurd (true_or_false false at refl)
-within_at number [] (suc i) n at = absurd (true_or_false false at refl)
-within_at number (y ∷ ys) zero n at = omega arith
-within_at number (y ∷ ys) (suc i) n at = let r : i < length ys = within_at number ys i n at in omega (arith, r)
-
 -- ---- one after the other
 
 pub inserted_long : {C : Type 0} (number : C → ℕ) (m : Member C) (ms : List (Member C)) → length (inserted number m ms) ≤ length ms + 1
@@ -227,9 +209,6 @@ all_made number (e ∷ es) ms capacity is = all_made number es (edited number e 
 pub none_there : {X : Type 0} (xs : List X) → length xs ≡ 0 → xs ≡ []
 none_there [] h = refl
 none_there (x ∷ xs) h = absurd (omega (arith, h))
-
-pub none_made : {C : Type 0} (number : C → ℕ) (es : List (Edit C)) (ms : List (Member C)) → length es ≡ 0 → all_edited number es ms ≡ ms
-none_made {C} number es ms h = ap (λ (l : List (Edit C)). all_edited number l ms) (none_there es h)
 
 -- ---- a pass goes on
 

@@ -1,12 +1,11 @@
 -- The place of an id in a list that rises.
-use Rattle.std.proofs.Common.{◌≡◌, ℕ, zero, suc, ◌<◌, ◌≤◌, ◌==◌, ◌||◌, Bool, true, false, List, [], ◌∷◌, length, get_or, refl, sym, ap, ◌∙◌, Option, Some, None, subst, nat_lt, arith, inl, inr}
+use Rattle.std.proofs.Common.{◌≡◌, ℕ, zero, suc, ◌<◌, ◌≤◌, ◌==◌, ◌||◌, Bool, true, false, List, [], ◌∷◌, length, get_or, refl, sym, ap, ◌∙◌, Option, Some, None, subst, nat_lt, arith}
 use Rattle.std.specs.List.{AllWithin, list_any, insert, remove}
 use Rattle.std.specs.Option.{is_some}
 use Rattle.std.specs.List.Sorted.{IsNonDecreasingBy}
-use Rattle.std.proofs.lemmas.Bool.{cases_eq}
 use Rattle.std.proofs.lemmas.List.{get_or_default}
 use Rattle.std.proofs.lemmas.Bool.Decides.{nat_tests}
-use Rattle.std.proofs.lemmas.List.Folds.{list_any_at, list_any_none}
+use Rattle.std.proofs.lemmas.List.Folds.{list_any_none}
 use Rattle.graph_colours.specs.declared.member.Movers.{Movers}
 use Rattle.graph_colours.specs.declared.member.Member.{Member}
 use Rattle.graph_colours.specs.Members.{AreRising, has_id, inserted, without, movers_of}
@@ -40,12 +39,6 @@ nowhere_else number ms wanted i rising before after k d lt apart same =
     omega arith in
     apart (omega (arith, low, high))
 
-pub has_id_at : {C : Type 0} (number : C → ℕ) (ms : List (Member C)) (id : C) (i : ℕ) (d : Member C) → i < length ms → number (get_or ms i d).id ≡ number id → has_id number id ms ≡ true
-unfolding has_id
-has_id_at {C} number ms id i d lt h =
-    let p : Member C → Bool = λ m. number m.id == number id in
-    list_any_at p ms i d lt (is_same (number (get_or ms i d).id) (number id) h)
-
 pub has_no_id : {C : Type 0} (number : C → ℕ) (ms : List (Member C)) (id : C) → ((k : ℕ) (d : Member C) → k < length ms → number (get_or ms k d).id ≡ number id → ⊥) → has_id number id ms ≡ false
 unfolding has_id
 has_no_id {C} number ms id h =
@@ -65,19 +58,6 @@ absent_at {C} number ms id i e rising before after lt is other k d r same =
 
 pub absent_beyond : {C : Type 0} (number : C → ℕ) (ms : List (Member C)) (id : C) (i : ℕ) → AllWithin (λ m. number m.id < number id) ms 0 i → length ms ≤ i → (k : ℕ) (d : Member C) → k < length ms → number (get_or ms k d).id ≡ number id → ⊥
 absent_beyond number ms id i before ends k d lt same = let b : number (get_or ms k d).id < number id = before k d (omega arith) (omega arith) in omega arith
-
--- the member e stands at the place
-pub has_id_is : {C : Type 0} (number : C → ℕ) (ms : List (Member C)) (id : C) (i : ℕ) (e : Member C) → AreRising number ms → AllWithin (λ m. number m.id < number id) ms 0 i → AllWithin (λ m. number id ≤ number m.id) ms i (length ms) → i < length ms → e ≡ get_or ms i e → (number e.id == number id) ≡ has_id number id ms
-has_id_is {C} number ms id i e rising before after lt is =
-    let at : number (get_or ms i e).id ≡ number e.id = ap (λ (m : Member C). number m.id) (sym is) in
-    let yes : number e.id ≡ number id → (number e.id == number id) ≡ has_id number id ms = λ h.
-    rw (is_same (number e.id) (number id) h, has_id_at number ms id i e lt (omega arith)) refl in
-    let other : (number e.id ≡ number id → ⊥) → (number e.id == number id) ≡ has_id number id ms = λ h.
-    rw (not_same (number e.id) (number id) h, has_no_id number ms id (absent_at number ms id i e rising before after lt is h)) refl in
-    elim (cases_eq (number e.id) (number id)) [ inl h ↦ yes h | inr h ↦ other h ]
-
-pub has_id_beyond : {C : Type 0} (number : C → ℕ) (ms : List (Member C)) (id : C) (i : ℕ) → AllWithin (λ m. number m.id < number id) ms 0 i → length ms ≤ i → false ≡ has_id number id ms
-has_id_beyond number ms id i before ends = sym (has_no_id number ms id (absent_beyond number ms id i before ends))
 
 -- a member put at its place
 pub insert_is : {C : Type 0} (number : C → ℕ) (m : Member C) (ms : List (Member C)) (i : ℕ) → AllWithin (λ x. number x.id < number m.id) ms 0 i → AllWithin (λ x. number m.id ≤ number x.id) ms i (length ms) → i ≤ length ms → insert ms i m ≡ inserted number m ms

@@ -8,8 +8,7 @@ use Rattle.islands.specs.Labels.{Labels, label_at, is_in, IsIn, own_label, relab
 use Rattle.islands.specs.declared.parts.Note.{Note}
 use Rattle.islands.specs.Standing.{AreWidened, Places, node_at}
 use Rattle.islands.specs.Packed.{Heads, InPart, IsPlaced, Notes, in_part, label_in, labels_by, note_at}
-use Rattle.islands.specs.Partition.{IsPartition}
-use Rattle.islands.specs.Given.{IsNamed, CanCome, IsNext, labels_with, labels_with_any}
+use Rattle.islands.specs.Given.{IsNamed, CanCome, labels_with, labels_with_any}
 use Rattle.islands.proofs.LabelLemmas.{added_here, added_other, relabel_at, in_case, in_is, in_some, same_by_name, past}
 use Rattle.islands.proofs.SlotLemmas.{same_labels}
 use Rattle.islands.proofs.StandingLemmas.{own_inverse, slot_note}
@@ -95,9 +94,6 @@ come labels slot l can =
 
 -- ---- the calls
 
-pub merge_first : (labels : Labels) (slot : ℕ) (l : Label) → IsNamed labels slot l → (x : Label) × (label_at (added labels slot) l.name ≡ Some x)
-merge_first labels slot l named = let x = found labels slot l named in (x.0, x.1.0)
-
 pub in_merged : (labels : Labels) (slot : ℕ) (l : Label) → IsNamed labels slot l → IsIn (merged (added labels slot) l.name slot) l.name l.name
 unfolding merged
 in_merged labels slot l named =
@@ -171,31 +167,6 @@ blank_placed places now old new heads n v empty wide none nothing is sizes =
 
 pub none_first : (all now : Labels) (n : ℕ) → now ≡ replicate n None → n ≡ length all → AreFirst all 0 now
 none_first all now n is e = rw is (record { size = grind (arith, common_steps, e); done = λ s lt. absurd (omega arith); rest = λ s le. none_at n s })
-
-first_partition : (all now : Labels) (n : ℕ) → AreFirst all n now → IsPartition all → IsPartition now
-first_partition all now n first part =
-    let here : (s : ℕ) (l : Label) → label_at now s ≡ Some l → (s < n) × (label_at all s ≡ Some l) = λ s l e. elim (cases_lt s n) [
-      | inl lt ↦ (lt, sym (first.done s lt) ∙ e)
-      | inr le ↦ absurd (let wrong : None ≡ Some l = sym (first.rest s le) ∙ e in cc)
-    ] in
-    record {
-      low = λ s l e. part.low s l (here s l e).1;
-      named = λ s l e. let at = here s l e in let lt = at.0 in let le = part.low s l at.1 in first.done l.name (omega (arith, lt, le)) ∙ part.named s l at.1;
-    }
-
-pub next_comes : (all now : Labels) (n : ℕ) (o : Option Label) → AreFirst all n now → IsPartition all → n < length all → o ≡ label_at all n → IsNext now n o
-next_comes all now n o first part lt is l e =
-    let at : label_at all n ≡ Some l = sym is ∙ e in
-    let le = part.low n l at in
-    record {
-      partition = first_partition all now n first part;
-      fresh = first.rest n (omega arith);
-      there = let size = first.size in omega (arith, size, lt);
-      named = elim (cases_lt l.name n) [
-        | inl below ↦ inr (below, first.done l.name below ∙ part.named n l at)
-        | inr above ↦ inl (omega (arith, above, le))
-      ];
-    }
 
 one_more : (all now : Labels) (n : ℕ) (o : Option Label) → AreFirst all n now → n < length all → o ≡ label_at all n → AreFirst all (n + 1) (labels_with_any now n o)
 one_more all now n None first lt is = record {

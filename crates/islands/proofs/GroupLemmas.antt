@@ -54,9 +54,6 @@ some_note_of heads (Some n) h = refl
 pub some_note : (notes : Notes) (heads : Heads) (slot : ℕ) → IsSome (label_at (labels_of notes heads) slot) → IsSome (note_at notes slot)
 some_note notes heads slot h = let P : Option Label → Type 0 = λ o. IsSome o in some_note_of heads (note_at notes slot) (subst P (labels_at heads notes slot) h)
 
-pub in_some_note : (notes : Notes) (heads : Heads) (name slot : ℕ) → IsIn (labels_of notes heads) name slot → IsSome (note_at notes slot)
-in_some_note notes heads name slot h = let l = in_is (label_at (labels_of notes heads) slot) name h in let P : Option Label → Type 0 = λ o. IsSome o in some_note notes heads slot (subst P (sym l.1) refl)
-
 -- ---- the part of a mover
 
 label_by_part : (notes : Notes) (heads : Heads) (slot part : ℕ) → part_in (note_at notes slot) ≡ Some part → label_at (labels_of notes heads) slot ≡ Some (head_at heads part).label

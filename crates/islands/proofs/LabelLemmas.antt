@@ -261,6 +261,3 @@ gone_partition labels slot l p e none = record {
   low = λ s m k. (rest_others labels slot l p e s m k (none_left labels slot l none s m k)).0;
   named = λ s m k. (rest_others labels slot l p e s m k (none_left labels slot l none s m k)).1;
 }
-
-pub in_short : (labels : Labels) (name s : ℕ) → IsIn labels name s → s < length labels
-in_short labels name s h = let i = in_is (label_at labels s) name h in some_short labels s i.0 i.1

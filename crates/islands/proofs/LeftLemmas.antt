@@ -1,7 +1,7 @@
 -- What is left of the labels, and of the names of parts, once a mover has left its part: it has changed places with the one at the front, and the front has left the thread.
 use Rattle.std.proofs.Common.{◌≡◌, ◌≢◌, ℕ, ◌+◌, ◌<◌, length, Option, Some, None, false, ◌||◌, inl, inr, arith, refl, sym, ap, ◌∙◌, slice_set, get_or-set_same, get_or-set_other, eq-eqb}
 use Rattle.std.specs.Prelude.{cond}
-use Rattle.std.proofs.lemmas.Bool.{cases_lt, cases_eq, false≢true, lt-ltb, le-ltb}
+use Rattle.std.proofs.lemmas.Bool.{cases_eq, false≢true, lt-ltb, le-ltb}
 use Rattle.std.proofs.lemmas.List.{length-set, length-map}
 use Rattle.std.proofs.lemmas.List.Sums.{position_or_len_is}
 use Rattle.islands.specs.declared.parts.Note.{Note}
@@ -10,7 +10,7 @@ use Rattle.islands.specs.declared.label.Label.{Label}
 use Rattle.islands.specs.declared.label.IslandState.TheVariants.{Loose}
 use Rattle.islands.specs.Labels.{Labels, label_at, is_in, relabel, relabelled, lowest, left_behind, without, taken_out}
 use Rattle.islands.specs.Standing.{AreExchanged, AreInverse, Places, node_at, slot_at}
-use Rattle.islands.specs.Packed.{Notes, note_at, Heads, head_at, in_part, InPart, part_in, name_of, label_in, labels_of, by_slot, labels_by, AreNamed, IsLowestIn, IsPart, IsPacked, IsPlaced, IsDropped, dropped_head, labelled_head, HasNoneBelow, IsFirstFrom, IsLeftBy}
+use Rattle.islands.specs.Packed.{Notes, note_at, Heads, head_at, in_part, InPart, part_in, name_of, label_in, labels_of, by_slot, labels_by, AreNamed, IsLowestIn, IsPart, IsPacked, IsPlaced, IsDropped, dropped_head, labelled_head, HasNoneBelow, IsLeftBy}
 use Rattle.islands.proofs.LabelLemmas.{relabel_at}
 use Rattle.islands.proofs.SlotLemmas.{same_labels}
 use Rattle.islands.proofs.PartLemmas.{part_case, one_part, short, labels_at, label_of_part, in_name}
@@ -257,14 +257,8 @@ leaves_none places old heads slot k now new also p l e =
 
 -- ---- the lowest of those that are left
 
-pub first_lowest : (notes : Notes) (k from low : ℕ) → HasNoneBelow notes k from → IsFirstFrom notes k from low → IsLowestIn notes k low
-first_lowest notes k from low none first = (first.0, λ t h. elim (cases_lt t low) [ inl lt ↦ absurd (false≢true (sym (first.1 t (none t h) lt) ∙ h)) | inr le ↦ le ])
-
 pub none_below : (notes : Notes) (heads : Heads) (k slot : ℕ) → IsLeftBy notes heads k slot → name_of heads k ≡ slot → HasNoneBelow notes k (slot + 1)
 none_below notes heads k slot l e t h = let le = l.low t h in let away = l.gone t h in omega (arith, le, away, e)
-
-pub name_lowest : (notes : Notes) (heads : Heads) (k slot : ℕ) → IsLeftBy notes heads k slot → name_of heads k ≢ slot → IsLowestIn notes k (name_of heads k)
-name_lowest notes heads k slot l away = (l.home away, l.low)
 
 pub dropped_size : (old : Notes) (heads : Heads) (k : ℕ) (new : Notes) (also : Heads) → IsDropped old heads k new also → length also ≡ length heads
 dropped_size old heads k new also d = ap length d.heads_are ∙ length-set heads k (dropped_head old heads k)

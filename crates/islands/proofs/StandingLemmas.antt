@@ -123,45 +123,14 @@ are_exchanged old a b now new w p q =
 
 -- ---- more slots
 
-pushed_before : (places : Places) (p : Place) (s : ℕ) (d : Place) → s < length places → get_or (places ++ p ∷ []) s d ≡ get_or places s d
-pushed_before [] p s d lt = absurd (omega arith)
-pushed_before (q ∷ places) p zero d lt = refl
-pushed_before (q ∷ places) p (suc s) d lt = pushed_before places p s d (omega arith)
-
-pushed_here : (places : Places) (p d : Place) → get_or (places ++ p ∷ []) (length places) d ≡ p
-pushed_here [] p d = refl
-pushed_here (q ∷ places) p d = pushed_here places p d
-
-pushed_long : (places : Places) (p : Place) (s n : ℕ) → n ≡ length places → length places ≤ s → s ≢ n → length (places ++ p ∷ []) ≤ s
-pushed_long places p s n e le away = grind (arith, common_steps)
-
-own_pushed : (places : Places) (n s : ℕ) → n ≡ length places → get_or (places ++ own_place n ∷ []) s (own_place s) ≡ get_or places s (own_place s)
-own_pushed places n s e = elim (cases_lt s (length places)) [
-  | inl lt ↦ pushed_before places (own_place n) s (own_place s) lt
-  | inr le ↦ elim (cases_eq s n) [
-    | inl same ↦ rw (same, e) (pushed_here places (own_place (length places)) (own_place (length places)) ∙ sym (past_end places (length places) (own_place (length places)) (omega arith)))
-    | inr away ↦ past_end (places ++ own_place n ∷ []) s (own_place s) (pushed_long places (own_place n) s n e le away) ∙ sym (past_end places s (own_place s) le)
-  ]
-]
-
 -- the list has so many slots, and each stands where it stood
 pub record AreSoMany (old : Places) (n : ℕ) (now : Places) : Type 0 where
   pub size : length now ≡ n
   pub nodes : (s : ℕ) → node_at now s ≡ node_at old s
   pub slots : (k : ℕ) → slot_at now k ≡ slot_at old k
 
-pub many_first : (old : Places) → AreSoMany old (length old) old
-many_first old = record { size = refl; nodes = λ s. refl; slots = λ k. refl }
-
 one_more : (now new : Places) (n : ℕ) → length now ≡ n → length new ≡ length (now ++ own_place n ∷ []) → length new ≡ n + 1
 one_more now new n z long = grind (arith, common_steps)
-
-pub many_more : (old now new : Places) (n : ℕ) → AreSoMany old n now → new ≡ now ++ own_place n ∷ [] → AreSoMany old (n + 1) new
-many_more old now new n w e = record {
-  size = let z = w.size in let long : length new ≡ length (now ++ own_place n ∷ []) = ap length e in one_more now new n z long;
-  nodes = λ s. ap (λ (ps : Places). node_at ps s) e ∙ ap (λ (p : Place). p.node) (own_pushed now n s (sym w.size)) ∙ w.nodes s;
-  slots = λ k. ap (λ (ps : Places). slot_at ps k) e ∙ ap (λ (p : Place). p.slot) (own_pushed now n k (sym w.size)) ∙ w.slots k;
-}
 
 pub many_widened : (old now : Places) (n m : ℕ) → AreSoMany old m now → m ≡ length old + (n - length old) → AreWidened old n now
 many_widened old now n m w e = record { size = w.size ∙ e; nodes = w.nodes; slots = w.slots }

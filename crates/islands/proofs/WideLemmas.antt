@@ -1,5 +1,5 @@
 -- Slots without a mover, added at the end: no part and no label changes.
-use Rattle.std.proofs.Common.{◌≡◌, ℕ, zero, suc, ◌-◌, ◌<◌, ◌≤◌, ◌^◌, List, [], ◌∷◌, ◌++◌, length, get_or, replicate, Option, Some, None, arith, refl, sym, ap, ◌∙◌}
+use Rattle.std.proofs.Common.{◌≡◌, ℕ, zero, suc, ◌-◌, ◌≤◌, ◌^◌, List, [], ◌∷◌, ◌++◌, length, get_or, replicate, Option, Some, None, arith, refl, sym, ap, ◌∙◌}
 use Rattle.std.proofs.lemmas.Grind.{common_steps}
 use Rattle.std.proofs.lemmas.List.{length-map}
 use Rattle.islands.specs.declared.parts.Head.{Head}
@@ -83,15 +83,6 @@ wide_labels places notes heads n now w x =
 
 padded_long : (labels : Labels) (n : ℕ) → n ≤ length (padded labels n)
 padded_long labels n = grind (arith, common_steps)
-
--- so many slots as were asked for, or as there were
-pub wide_there : (places : Places) (notes : Notes) (heads : Heads) (n slot : ℕ) (now : Places) (new : Notes) (also : Heads) → labels_by now new also ≡ padded (labels_by places notes heads) n → IsPlaced now new also → slot < n → slot < length new
-wide_there places notes heads n slot now new also e w lt =
-    let same : length (labels_by now new also) ≡ length (padded (labels_by places notes heads) n) = ap (λ (ls : Labels). length ls) e in
-    let after = labels_by_size now new also in
-    let size = w.size in
-    let long : n ≤ length (padded (labels_by places notes heads) n) = padded_long (labels_by places notes heads) n in
-    omega (arith, same, after, size, long, lt)
 
 pub wide_fresh : (places : Places) (notes : Notes) (heads : Heads) (n slot : ℕ) (now : Places) (new : Notes) (also : Heads) → labels_by now new also ≡ padded (labels_by places notes heads) n → note_at (by_slot places notes) slot ≡ None → note_at (by_slot now new) slot ≡ None
 wide_fresh places notes heads n slot now new also e fresh =

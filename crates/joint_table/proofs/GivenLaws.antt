@@ -1,7 +1,6 @@
 -- A table of joints from a list.
-use Rattle.std.proofs.Common.{◌≡◌, ℕ, suc, ◌+◌, ◌≤◌, List, [], length, take, Option, Some, None, Bool, true, false, add-one, ◌==◌, sym, ap, ◌∙◌, subst, refl}
+use Rattle.std.proofs.Common.{◌≡◌, ℕ, suc, ◌+◌, ◌≤◌, List, length, take, Option, Some, None, Bool, true, false, add-one, ◌==◌, sym, ap, ◌∙◌, refl}
 use Rattle.std.specs.Prelude.{option_map}
-use Rattle.std.proofs.lemmas.List.{take_all}
 use Rattle.plain_world.specs.declared.joint.BodyJoint.{BodyJoint}
 use Rattle.plain_world.specs.Joints.{joint_at}
 use Rattle.body_handles.specs.declared.places.TheConstants.{MAX_SLOTS}
@@ -17,9 +16,6 @@ table_given joints kept sets joints_left same few ends = rw same (record { few =
 
 -- ---- the ends of the first joints
 
-pub none_yet : (joints : List (Option BodyJoint)) (sets : List (List ℕ)) → sets ≡ [] → AreEnds (take 0 joints) sets
-none_yet joints sets none = rw none (record { first = λ body slot. refl; second = λ body slot. refl; small = λ slot. tt })
-
 -- an empty slot
 pub ends_passed : (joints : List (Option BodyJoint)) (sets : List (List ℕ)) (slot : ℕ) → joint_at joints slot ≡ None → AreEnds (take slot joints) sets → AreEnds (take (slot + 1) joints) sets
 ends_passed joints sets slot free e = rw add-one (ends_stay (take slot joints) (take (suc slot) joints) sets (λ k. ap (option_map ends_of) (by_slot k (k == slot) refl)) e)
@@ -30,6 +26,3 @@ ends_passed joints sets slot free e = rw add-one (ends_stay (take slot joints) (
 
 pub ends_added : (joints : List (Option BodyJoint)) (old new : List (List ℕ)) (slot : ℕ) (j : BodyJoint) → joint_at joints slot ≡ Some j → AreNoted old new slot (ends_of j) → AreEnds (take slot joints) old → AreEnds (take (slot + 1) joints) new
 ends_added joints old new slot j there noted e = rw add-one (ends_more (take slot joints) (take (suc slot) joints) old new slot j e noted (take_next joints slot ∙ there) (λ k ne. take_other joints slot k ne))
-
-pub all_ends_are : (joints : List (Option BodyJoint)) (sets : List (List ℕ)) (slot : ℕ) → length joints ≤ slot → AreEnds (take slot joints) sets → AreEnds joints sets
-all_ends_are joints sets slot past e = subst (λ (l : List (Option BodyJoint)). AreEnds l sets) (take_all slot joints past) e

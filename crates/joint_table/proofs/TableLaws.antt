@@ -1,5 +1,5 @@
 -- What a table of joints keeps, as joints come, go and change.
-use Rattle.std.proofs.Common.{◌≡◌, ℕ, zero, suc, ◌+◌, ◌*◌, ◌<◌, ◌≤◌, Bool, true, false, cond, List, [], ◌∷◌, ◌++◌, length, get_or, Option, Some, None, ℤ, pos, slice_set, nat_lt, ltb-false, IfSome, refl, sym, ap, ◌∙◌, subst, arith}
+use Rattle.std.proofs.Common.{◌≡◌, ℕ, zero, suc, ◌+◌, ◌<◌, ◌≤◌, Bool, true, false, cond, List, [], ◌∷◌, ◌++◌, length, get_or, Option, Some, None, ℤ, pos, slice_set, nat_lt, ltb-false, refl, sym, ap, ◌∙◌, subst, arith}
 use Rattle.std.specs.Prelude.{◌↔◌, option_map}
 use Rattle.std.specs.List.{Contains, dedup}
 use Rattle.std.specs.List.Sorted.{IsPermutation}
@@ -9,13 +9,11 @@ use Rattle.std.proofs.lemmas.List.Sorted.{Contains-permutation, IsPermutation-sy
 use Rattle.std.proofs.Common.{eqb}
 use Rattle.body_handles.specs.declared.places.TheConstants.{MAX_SLOTS}
 use Rattle.graph_colours.proofs.Cases.{by_test}
-use Rattle.packed_sets.specs.Packs.{Packs}
 use Rattle.plain_world.specs.declared.joint.BodyJoint.{BodyJoint}
 use Rattle.plain_world.specs.Joints.{idle_if, idle_joints, is_joint_of, joint_at, with_impulse}
 use Rattle.plain_world.specs.Slots.{with_item}
 use Rattle.joint_table.specs.declared.ends.Ends.{Ends}
-use Rattle.joint_table.specs.Ends.{AreEnds, HasRoomFor, ends_of}
-use Rattle.joint_table.specs.JointTables.{HasRoom}
+use Rattle.joint_table.specs.Ends.{AreEnds, ends_of}
 use Rattle.joint_table.proofs.EndLaws.{ends_stay}
 
 -- ---- slots of the joints with some ends, ascending
@@ -27,12 +25,6 @@ same_slots halves sorted kept moved is slot = (
 )
 
 -- ---- room
-
-pub room_given : (room : Option Ends) (e : Ends) (slots : ℕ) (sets : Packs) (joints_left : ℕ) → room ≡ Some e → IfSome room (λ ends. HasRoom ends slots sets joints_left) → HasRoom e slots sets joints_left
-room_given room e slots sets joints_left is ready = subst (λ (o : Option Ends). IfSome o (λ ends. HasRoom ends slots sets joints_left)) is ready
-
-pub room_before : (e : Ends) (slot slots : ℕ) (sets : Packs) → slot ≤ slots → HasRoomFor e slots sets → HasRoomFor e slot sets
-room_before e slot slots sets le room = let ids : 2 * slots + 2 ≤ sets.ids = room.ids in record { first = room.first; second = room.second; ids = omega (arith, ids, le) }
 
 pub few_with : (joints : List (Option BodyJoint)) (slot : ℕ) (j : BodyJoint) → length joints ≤ MAX_SLOTS → slot < MAX_SLOTS → slot ≤ length joints → length (with_item joints slot j) ≤ MAX_SLOTS
 few_with joints slot j few below le =
@@ -76,6 +68,3 @@ ends_idle joints sets body e = ends_stay joints (idle_joints body joints) sets (
 pub length_idle : (body : ℕ) (joints : List (Option BodyJoint)) → length (idle_joints body joints) ≡ length joints
 length_idle body [] = refl
 length_idle body (o ∷ os) = ap suc (length_idle body os)
-
-pub no_ends : (sets : List (List ℕ)) → sets ≡ [] → AreEnds [] sets
-no_ends sets none = rw none (record { first = λ body slot. refl; second = λ body slot. refl; small = λ slot. tt })

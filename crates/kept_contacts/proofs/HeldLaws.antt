@@ -1,18 +1,13 @@
 -- What is due where nothing is, and the places of the contacts of which a body may stir.
-use Rattle.std.proofs.Common.{◌≡◌, List, [], Option, Some, None, refl, sym, subst}
-use Rattle.std.specs.Option.{ForSome}
-use Rattle.contacts_base.specs.declared.contact.ContactEntry.{ContactEntry}
+use Rattle.std.proofs.Common.{◌≡◌, refl, sym, subst}
 use Rattle.contacts_base.specs.Contacts.{AreContacts}
 use Rattle.contacts_base.specs.Split.{Split, contacts_in}
 use Rattle.contacts.specs.declared.due.Due.{Due}
-use Rattle.contacts.specs.Due.{IsDue, IsNothing, after, due_of}
+use Rattle.contacts.specs.Due.{IsDue, IsNothing, after}
 
 -- where nothing is noted the lists stay as they are
 pub nothing_after : (d : Due) (s : Split) → IsNothing d → after d s ≡ s
 nothing_after d s n = rw (n.notes, n.ends, n.short) refl
-
-pub due_of_nothing : (d : Due) (s : Split) → IsNothing d → due_of d s ≡ contacts_in s
-due_of_nothing d s n = rw (n.notes, n.ends, n.short, n.whole) refl
 
 -- and that can be carried out
 pub nothing_is_due : (d : Due) (s : Split) → IsNothing d → AreContacts (contacts_in s) → IsDue d s

@@ -1,7 +1,5 @@
 -- A body that is carried along: of mass 1, so that its momentum is its velocity.
-use Rattle.std.proofs.Common.{◌≡◌, ℕ, ◌+◌, ◌*◌, ◌<◌, ◌≤◌, Bool, true, false, cond, nat_le, ℤ, pos, unsigned_abs, arith, refl}
-use Rattle.std.proofs.lemmas.Int.{ints}
-use Rattle.fixed_geom.specs.Numbers.{rdiv}
+use Rattle.std.proofs.Common.{ℕ, ◌≤◌, Bool, true, false, cond, nat_le, ℤ, pos, unsigned_abs, arith}
 use Rattle.fixed_geom.specs.Vectors.{IsWithin}
 use Rattle.fixed_geom.specs.declared.limits.TheConstants.{MAX_POSITION}
 use Rattle.fixed_geom.specs.declared.vectors.Vec2.{Vec2}

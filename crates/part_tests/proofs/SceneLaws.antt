@@ -1,5 +1,5 @@
 -- In a scene all bodies may stir, and all slots are marked.
-use Rattle.std.proofs.Common.{◌≡◌, ℕ, zero, suc, ◌+◌, ◌<◌, ◌≤◌, List, [], ◌∷◌, ◌++◌, length, take, get_or, Bool, true, false, cond, is_some, Option, Some, None, ◌⊎◌, inl, inr, refl, sym, ap, ◌∙◌, subst, arith}
+use Rattle.std.proofs.Common.{◌≡◌, ℕ, zero, suc, ◌+◌, ◌<◌, ◌≤◌, List, [], ◌∷◌, ◌++◌, length, take, get_or, Bool, true, false, cond, is_some, Option, Some, None, inl, refl, sym, ap, ◌∙◌, subst, arith}
 use Rattle.std.specs.Prelude.{◌/◌, All, replicate}
 use Rattle.std.specs.List.{Contains}
 use Rattle.std.proofs.lemmas.List.{take_all}
@@ -14,7 +14,7 @@ use Rattle.contacts_base.specs.Near.{IsProxy, IsProxyList, number_of}
 use Rattle.contacts_base.specs.Surfaces.{IsSurface}
 use Rattle.contacts.specs.Changes.{contacts_of}
 use Rattle.contacts.specs.Forbidden.{allowed_codes}
-use Rattle.contacts.specs.Known.{IsKnown, IsPairKey, either_moved, found}
+use Rattle.contacts.specs.Known.{IsKnown, found}
 use Rattle.contacts.specs.Turns.{AreWithin, moved_by, stirs_in}
 use Rattle.contacts.proofs.KnownLemmas.{IsPlace, all_known_after-holds, place_of}
 use Rattle.contacts.proofs.Members.{contains_from_in, in_from_contains, in_left, in_right}

@@ -1,5 +1,5 @@
 -- Lists that are written item by item: once one of the lists that they are made of has ended, nothing is left.
-use Rattle.std.proofs.Common.{◌≡◌, ℕ, suc, ◌<◌, ◌≤◌, ◌++◌, ◌∷◌, Bool, true, false, List, [], length, drop, Option, refl, sym, ap, ◌∙◌, arith, ◌⊎◌, inl, inr}
+use Rattle.std.proofs.Common.{◌≡◌, ℕ, ◌<◌, ◌≤◌, ◌++◌, ◌∷◌, false, List, [], length, drop, Option, refl, sym, ap, ◌∙◌, arith, ◌⊎◌, inl, inr}
 use Rattle.std.proofs.lemmas.List.{append-nil, drop_all, length-drop}
 use Rattle.serde_json.specs.Data.{Data}
 use Rattle.body_handles.specs.declared.places.Place.{Place}

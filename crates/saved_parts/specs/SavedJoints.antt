@@ -1,5 +1,5 @@
 -- Saved joints.
-use Rattle.std.specs.Prelude.{ℕ, List, [], ◌∷◌, Option, Some, None, codes, ℤ, pos, neg_ℤ, slice_get, unsigned_abs}
+use Rattle.std.specs.Prelude.{ℕ, List, [], ◌∷◌, Option, Some, None, codes, pos, neg_ℤ, slice_get, unsigned_abs}
 use Rattle.serde_json.specs.Data.{Data, boolean}
 use Rattle.serde_json.specs.Find.{get}
 use Rattle.body_handles.specs.declared.places.Place.{Place}

@@ -1,5 +1,5 @@
 -- The shapes of a saved body, each with its fat box.
-use Rattle.std.specs.Prelude.{ℕ, ◌^◌, ◌-◌, List, [], ◌∷◌, Option, Some, None, codes, ℤ, pos, negsuc}
+use Rattle.std.specs.Prelude.{ℕ, ◌^◌, ◌-◌, List, [], ◌∷◌, Option, Some, None, codes}
 use Rattle.serde_json.specs.Data.{Data, Items, no_items, item, Members, no_members, object}
 use Rattle.serde_json.specs.Find.{get}
 use Rattle.fixed_geom.specs.declared.boxes.Box2.{Box2}
@@ -8,7 +8,7 @@ use Rattle.shapes.specs.declared.shape.Shape.TheVariants.{Circle, Capsule, Segme
 use Rattle.shapes.specs.declared.shape.ShapeDef.{ShapeDef}
 use Rattle.saved_values.specs.Asks.{Ask, all_asked, asked}
 use Rattle.saved_values.specs.Reading.{corners_in, ends_asks, first_in, group_asks, group_in, has_keys, number_asks, number_in, pair_asks, second_in, unsigned_asks, unsigned_in, vector_asks, vector_in}
-use Rattle.saved_values.specs.Written.{Member, corners_of, ends_of, integer, list_of, natural, vector_of, with_members}
+use Rattle.saved_values.specs.Written.{corners_of, ends_of, integer, natural, vector_of, with_members}
 use Rattle.saved_values.specs.declared.clause.Clause.TheVariants.{Form}
 use Rattle.saved_parts.specs.declared.saved_shapes.SavedShape.{SavedShape}
 

@@ -1,11 +1,10 @@
 -- The versions of the form of a saved world, and the colours that its numbers stand for.
-use Rattle.std.specs.Prelude.{ℕ, ◌==◌, Bool, true, false, cond, nat_lt, Option, Some, None, is_some}
+use Rattle.std.specs.Prelude.{ℕ, ◌==◌, cond, nat_lt, Option, Some, None, is_some}
 use Rattle.serde_json.specs.Data.{Data}
 use Rattle.body_handles.specs.declared.places.TheConstants.{MAX_SLOTS}
 use Rattle.graph_colours.specs.declared.limits.TheConstants.{OVERFLOW}
 use Rattle.saved_values.specs.Asks.{Ask, asked}
 use Rattle.saved_values.specs.Reading.{is_null, unsigned_asks, unsigned_in}
-use Rattle.saved_values.specs.Written.{natural_or_null}
 use Rattle.saved_values.specs.declared.clause.Clause.TheVariants.{Colours}
 use Rattle.saved_parts.specs.declared.version.Version.{Version}
 use Rattle.saved_parts.specs.declared.version.Version.TheVariants.{First, Second}

@@ -1,5 +1,5 @@
 -- What is parsed is the number that a text is.
-use Rattle.std.proofs.Common.{◌≡◌, ℕ, ◌<◌, ◌≤◌, ◌^◌, ◌∷◌, ◌&&◌, ◌==◌, Bool, true, false, not, cond, nat_lt, nat_le, List, [], length, drop, Option, Some, None, option_and_then, Result, Ok, Err, ℤ, pos, unsigned_abs, refl, sym, ap, ◌∙◌, arith, subst, FitsSigned}
+use Rattle.std.proofs.Common.{◌≡◌, ℕ, ◌<◌, ◌≤◌, ◌^◌, ◌∷◌, ◌&&◌, ◌==◌, Bool, true, false, not, cond, nat_lt, nat_le, List, [], length, drop, Some, None, option_and_then, Result, Ok, Err, ℤ, unsigned_abs, refl, sym, ap, ◌∙◌, arith, subst, FitsSigned}
 use Rattle.std.specs.List.{list_all}
 use Rattle.std.specs.Result.{result_ok}
 use Rattle.std.specs.Char.{digit_value}

@@ -1,7 +1,7 @@
 -- How the value of a key is read: what it means, and what is asked of it. What a value that breaks a clause is taken for means nothing.
-use Rattle.std.specs.Prelude.{ℕ, ◌-◌, ◌==◌, ◌&&◌, ◌^◌, Bool, true, false, cond, nat_le, nat_lt, List, [], Option, Some, None, option_map, option_and_then, is_some, unwrap_or, ℤ, pos, negsuc, int_le}
+use Rattle.std.specs.Prelude.{ℕ, ◌-◌, ◌==◌, ◌&&◌, ◌^◌, Bool, false, cond, nat_le, List, [], Option, Some, None, option_map, option_and_then, is_some, unwrap_or, ℤ, pos, negsuc, int_le}
 use Rattle.std.specs.Borrow.{Bor}
-use Rattle.serde_json.specs.Data.{Data, Items, no_items, Members, no_members}
+use Rattle.serde_json.specs.Data.{Data, Items, no_items}
 use Rattle.serde_json.specs.Events.{items_len, members_len}
 use Rattle.serde_json.specs.Find.{as_array, as_bool, as_integer, as_null, as_number, as_object, as_str, get_item}
 use Rattle.serde_json.specs.View.{view}
@@ -9,10 +9,8 @@ use Rattle.serde_json.specs.declared.value.Value.{Value}
 use Rattle.fixed_geom.specs.Vectors.{is_within, zero_vector}
 use Rattle.fixed_geom.specs.declared.vectors.Vec2.{Vec2}
 use Rattle.fixed_geom.specs.declared.boxes.Box2.{Box2}
-use Rattle.saved_values.specs.Asks.{Ask, all_asked, asked}
-use Rattle.saved_values.specs.declared.clause.Clause.{Clause}
+use Rattle.saved_values.specs.Asks.{Ask, asked}
 use Rattle.saved_values.specs.declared.clause.Clause.TheVariants.{Form, Limits}
-use Rattle.saved_values.specs.declared.reader.Reader.{Reader}
 
 -- the value that is read, if there is one
 abbrev pub seen : Option (Bor Value) → Option Data

@@ -1,5 +1,5 @@
 -- Ids and numbers as texts.
-use Rattle.std.specs.Prelude.{ℕ, ◌==◌, ◌&&◌, ◌^◌, Bool, true, false, not, cond, nat_lt, nat_le, List, [], ◌∷◌, length, drop, slice_index, Option, Some, None, option_and_then, is_some, unwrap_or, ℤ, pos, unsigned_abs}
+use Rattle.std.specs.Prelude.{ℕ, ◌==◌, ◌&&◌, ◌^◌, Bool, not, cond, nat_lt, nat_le, List, [], ◌∷◌, length, drop, slice_index, Option, Some, None, option_and_then, is_some, unwrap_or, ℤ, pos, unsigned_abs}
 use Rattle.std.specs.List.{list_all}
 use Rattle.std.specs.Str.{bytes_eq}
 use Rattle.std.specs.Str.Parse.{digits_value, signed_digits_value, starts_with_minus}

@@ -40,7 +40,7 @@ use Rattle.sleep_wake.proofs.AwakeLemmas.{all_awake, awake_first}
 use Rattle.sleep_wake.proofs.ListLemmas.{absent_from}
 use Rattle.solver_sets.specs.Tied.{AreJointSlots}
 use Rattle.solver_sets.specs.Ties as sets
-use Rattle.solver_sets.specs.Ties.{Bond, JointSlots, bond_before, bonds_of, contact_bond, contact_movers, joint_bond, joint_bonds, joint_bonds_from, joint_movers, tie_with, touching_keys}
+use Rattle.solver_sets.specs.Ties.{Bond, JointSlots, bonds_of, contact_bond, contact_movers, joint_bond, joint_bonds, joint_bonds_from, joint_movers, tie_with, touching_keys}
 use Rattle.solver_sets.proofs.BondLaws.{bond_number, bonds_rise, in_bonds, joint_below, rises_from_keys}
 use Rattle.solver_sets.proofs.ListLaws.{Rises, in_mapped, mapped_in, only_one, pairs_from_rises, same_members}
 use Rattle.solver_sets.proofs.TieLaws.{in_ties, tie_is, tie_number}

@@ -1,5 +1,5 @@
 -- A world that is read again goes on as the one that was written.
-use Rattle.std.proofs.Common.{◌≡◌, Result, Ok, Err, sym, ap, ◌∙◌}
+use Rattle.std.proofs.Common.{Result, Ok, Err, sym, ap, ◌∙◌}
 use Rattle.impulse_ledger.specs.declared.totals.Totals.{Totals}
 use Rattle.plain_world.specs.Plain.{Plain}
 use Rattle.saved_values.specs.declared.clause.Clause.{Clause}

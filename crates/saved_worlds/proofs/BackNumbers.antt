@@ -19,9 +19,9 @@ use Rattle.fixed_geom.specs.declared.vectors.Vec2.{Vec2}
 use Rattle.fixed_geom.proofs.FacingLemmas.{is_facing-square}
 use Rattle.line_json.specs.IdTexts.{id_text}
 use Rattle.saved_values.specs.Asks.{Ask, asked}
-use Rattle.saved_values.specs.Reading.{corners_in, ends_asks, greatest, island_asks, island_in, is_between, least, natural_of, number_asks, number_in, pair_asks, signed_asks, signed_in, unsigned_asks, unsigned_in, vector_asks, vector_in, vector_within, vector_within_asks, whole_asks, whole_in, whole_of}
+use Rattle.saved_values.specs.Reading.{corners_in, ends_asks, greatest, island_asks, island_in, is_between, least, natural_of, number_asks, number_in, signed_asks, signed_in, unsigned_asks, unsigned_in, vector_asks, vector_in, vector_within, vector_within_asks, whole_asks, whole_in, whole_of}
 use Rattle.saved_values.specs.Texts.{decimal_asks, decimal_in, handle_asks, handle_in, handle_of_text, is_decimal, is_digit, is_natural, number_of_text, sized}
-use Rattle.saved_values.specs.Written.{corners_of, decimal_of, id_of, integer, natural, pair_of, vector_of}
+use Rattle.saved_values.specs.Written.{corners_of, decimal_of, id_of, integer, natural, vector_of}
 use Rattle.saved_values.specs.declared.clause.Clause.{Clause}
 use Rattle.saved_values.specs.declared.clause.Clause.TheVariants.{Form, Limits}
 use Rattle.saved_values.specs.declared.reader.Reader.{Reader}
@@ -80,9 +80,6 @@ pub island_back : (n : ℕ) → n ≤ 2 ^ 32 - 1 → IsBack island_in island_ask
 island_back n h = let o = unsigned_back (2 ^ 32 - 1) n h in record { value = ap (λ (k : ℕ). Some k) o.value; asks = o.asks }
 
 -- ---- vectors
-
-pub pair_asked : (a b : Data) (r : Reader) → pair_asks (Some (pair_of a b)) r ≡ r
-pair_asked a b r = refl
 
 vector_is : (v w : Vec2) → v.x ≡ w.x → v.y ≡ w.y → v ≡ w
 vector_is v w e f = λ i. record { x = e i; y = f i }

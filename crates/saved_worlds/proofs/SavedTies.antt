@@ -13,7 +13,7 @@ use Rattle.plain_world.specs.declared.body.Body.{Body}
 use Rattle.saved_parts.specs.declared.saved.SavedContact.{SavedContact}
 use Rattle.saved_parts.specs.declared.saved.SavedJoint.{SavedJoint}
 use Rattle.solver_sets.specs.Ties as sets
-use Rattle.solver_sets.specs.Ties.{contact_bond, contact_movers, joint_bond, joint_bonds, joint_bonds_from, joint_movers, slots_of, tie_with, touching_keys}
+use Rattle.solver_sets.specs.Ties.{contact_bond, contact_movers, joint_bonds_from, joint_movers, slots_of, tie_with, touching_keys}
 use Rattle.world_file.specs.Fitting.{contact_listed, entry_of, joint_kept, joint_ties, listed, members_of, tie_of, ties_of}
 use Rattle.world_file.specs.Saved.{Saved}
 use Rattle.world_file.specs.declared.ties.Tie.{Tie}

@@ -1,5 +1,5 @@
 -- What a ray doesn't reach it doesn't hit.
-use Rattle.std.proofs.Common.{◌≡◌, ℕ, ◌^◌, ◌≤◌, Bool, true, false, ℤ, pos, ◌≤ℤ◌, ◌<ℤ◌, Option, None, Some, IfSome, arith, refl, sym, ◌∙◌, subst}
+use Rattle.std.proofs.Common.{◌≡◌, ℕ, ◌^◌, ◌≤◌, Bool, true, false, pos, Option, None, Some, IfSome, arith, refl, sym, ◌∙◌, subst}
 use Rattle.std.proofs.lemmas.Int.{ints}
 use Rattle.std.proofs.lemmas.Bool.{false≢true}
 use Rattle.fixed_geom.specs.Boxes.{Contains, grow}
@@ -9,9 +9,9 @@ use Rattle.shapes.specs.declared.pose.Pose.{Pose}
 use Rattle.shapes.specs.declared.shape.Shape.{Shape}
 use Rattle.shapes.specs.Bounds.{tight_box}
 use Rattle.shapes.specs.Poses.{core_of}
-use Rattle.shapes.specs.Rays.{IsBeam, whole, core_ray, ray_of}
+use Rattle.shapes.specs.Rays.{IsBeam, whole, ray_of}
 use Rattle.shapes.specs.Shapes.{IsShape, radius_of}
-use Rattle.shapes.proofs.RayLemmas.{IsRayOf, is_ray_of}
+use Rattle.shapes.proofs.RayLemmas.{is_ray_of}
 use Rattle.shape_rays.specs.declared.boxes.TheConstants.{SLACK}
 use Rattle.shape_rays.specs.Reach.{IsInAt, reaches}
 use Rattle.shape_rays.proofs.HitPlaces.{hit_is_in}

@@ -1,12 +1,11 @@
 -- The first of hits.
-use Rattle.std.proofs.Common.{◌≡◌, ℕ, Bool, true, false, cond, nat_lt, List, [], ◌∷◌, ◌++◌, Option, None, Some, ◌⊎◌, inl, inr, refl, ap, sym, ◌∙◌, arith}
-use Rattle.std.proofs.lemmas.Bool.{cases_Bool, false≢true}
+use Rattle.std.proofs.Common.{◌≡◌, ℕ, Bool, true, false, cond, List, [], ◌∷◌, ◌++◌, Option, None, Some, refl, ap, sym, ◌∙◌, arith}
+use Rattle.std.proofs.lemmas.Bool.{false≢true}
 use Rattle.std.proofs.lemmas.Bool.Decides.{nat_tests}
-use Rattle.contacts_base.specs.declared.key.ShapeId.{ShapeId}
 use Rattle.shapes.specs.declared.beam.Beam.{Beam}
 use Rattle.shape_rays.specs.declared.hits.Hit.{Hit}
 use Rattle.shape_rays.specs.declared.hits.PlacedShape.{PlacedShape}
-use Rattle.shape_rays.specs.Hits.{is_lesser, is_before, nearer, hit_on, first_hit}
+use Rattle.shape_rays.specs.Hits.{is_before, nearer, hit_on, first_hit}
 use Rattle.shape_rays.specs.Laws.{AreInAnyOrder}
 
 abbrev hit_by : ℕ → ℕ → ℕ → Hit
@@ -29,9 +28,6 @@ same_index a b h k = grind (arith, nat_tests)
 
 none_first : (a b : Hit) → is_before a b ≡ false → is_before b a ≡ false → a ≡ b
 none_first a b h k = same_hit a b (same_fraction a b h k) (same_slot a b h k) (same_index a b h k)
-
-not_before_itself : (a : Hit) → is_before a a ≡ false
-not_before_itself a = grind (arith, nat_tests)
 
 before_both : (a b c : Hit) → is_before b a ≡ true → is_before c b ≡ true → is_before c a ≡ true
 before_both a b c h k = grind (arith, nat_tests)

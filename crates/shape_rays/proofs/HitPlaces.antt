@@ -1,15 +1,15 @@
 -- A shape is hit at a point of the way that is no further from its tight box than the slack.
-use Rattle.std.proofs.Common.{◌≡◌, ℕ, zero, suc, ◌+◌, ◌*◌, ◌^◌, ◌<◌, ◌≤◌, Bool, true, false, cond, ◌&&◌, nat_lt, ℤ, pos, negsuc, neg_ℤ, ◌+ℤ◌, ◌-ℤ◌, ◌*ℤ◌, ◌≤ℤ◌, ◌<ℤ◌, int_lt, int_le, unsigned_abs, List, [], ◌∷◌, All, Option, None, Some, IfSome, ◌⊎◌, inl, inr, arith, refl, sym, ap, ◌∙◌, subst}
+use Rattle.std.proofs.Common.{◌≡◌, ℕ, ◌+◌, ◌*◌, ◌^◌, ◌<◌, ◌≤◌, Bool, true, false, cond, ◌&&◌, nat_lt, ℤ, pos, negsuc, neg_ℤ, ◌+ℤ◌, ◌-ℤ◌, ◌*ℤ◌, ◌≤ℤ◌, ◌<ℤ◌, int_lt, int_le, unsigned_abs, List, [], ◌∷◌, All, Option, None, Some, IfSome, ◌⊎◌, inl, inr, arith, refl, sym, ◌∙◌, subst}
 use Rattle.std.specs.Int.{int_min, int_max}
 use Rattle.std.specs.Ordering.{int_eq}
 use Rattle.std.proofs.lemmas.Int.{ints}
 use Rattle.std.proofs.lemmas.Nat.{mul-le}
-use Rattle.std.proofs.lemmas.Bool.{cases_Bool, false≢true}
+use Rattle.std.proofs.lemmas.Bool.{cases_Bool}
 use Rattle.std.proofs.lemmas.Bool.Decides.{nat_tests}
 use Rattle.std.proofs.lemmas.List.Elements.{All-nil, All-cons, All-head, All-tail}
 use Rattle.fixed_geom.specs.Boxes.{grow}
 use Rattle.fixed_geom.specs.Numbers.{rdiv, fdiv, isqrt, IsFloor}
-use Rattle.fixed_geom.specs.Vectors.{IsWithin, unit_length, dot, cross, plus, minus, opposite, span, unit}
+use Rattle.fixed_geom.specs.Vectors.{IsWithin, unit_length, dot, cross, minus, opposite, span, unit}
 use Rattle.fixed_geom.specs.declared.boxes.Box2.{Box2}
 use Rattle.fixed_geom.specs.declared.vectors.Vec2.{Vec2}
 use Rattle.fixed_geom.proofs.QuotientLemmas.{fdiv-floor, rdiv_le}
@@ -21,15 +21,15 @@ use Rattle.shapes.specs.declared.pose.Core.{Core}
 use Rattle.shapes.specs.Bounds.{box_of_ends}
 use Rattle.shapes.specs.Cores.{is_point, way_of, share_of, closest}
 use Rattle.shapes.specs.Spots.{square_to, across}
-use Rattle.shapes.specs.Rays.{IsBeam, whole, fraction, room_of, entered, circle_hit, end_hit, crossed, crossed_from_either_side, side_hit, shifted, to_side, side_hits, earlier, earliest, other_hits, is_inside, core_ray}
+use Rattle.shapes.specs.Rays.{IsBeam, whole, room_of, circle_hit, end_hit, crossed, crossed_from_either_side, side_hit, shifted, to_side, side_hits, earlier, earliest, other_hits, is_inside, core_ray}
 use Rattle.shapes.proofs.BeamLemmas.{ahead_positive}
 use Rattle.shapes.proofs.NearLemmas.{IsPart, part_is, share_is}
 use Rattle.shape_rays.specs.declared.boxes.TheConstants.{SLACK}
 use Rattle.shape_rays.specs.Reach.{IsInAt}
 use Rattle.shape_rays.proofs.PartLemmas.{max_is, min_is}
-use Rattle.shape_rays.proofs.RingLemmas.{Term, Num, Sub, Mul, value, part, ring}
-use Rattle.shape_rays.proofs.SignLemmas.{minus_both, by_value}
-use Rattle.shape_rays.proofs.PlaceLemmas.{T, D, IsClose, IsInside, IsRest, IsBetween, side_close, meeting_x, meeting_y, opposite_meeting, end_close, centre_x, centre_y, square_least, AreInside, turned_inside}
+use Rattle.shape_rays.proofs.RingLemmas.{Num, Sub, Mul, ring}
+use Rattle.shape_rays.proofs.SignLemmas.{minus_both}
+use Rattle.shape_rays.proofs.PlaceLemmas.{T, D, IsClose, IsInside, IsRest, IsBetween, side_close, meeting_x, meeting_y, opposite_meeting, end_close, centre_x, centre_y, turned_inside}
 
 -- the point at t of the ray's way is near the box
 record IsNearBox (r : Beam) (b : Box2) (t : ℕ) : Type 0 where

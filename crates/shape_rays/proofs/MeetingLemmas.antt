@@ -1,16 +1,16 @@
 -- A box is reached if a point of the way lies in it, or no further from it than the slack.
-use Rattle.std.proofs.Common.{◌≡◌, ℕ, suc, ◌+◌, ◌*◌, ◌^◌, ◌<◌, ◌≤◌, true, ℤ, pos, negsuc, neg_ℤ, ◌+ℤ◌, ◌-ℤ◌, ◌*ℤ◌, ◌≤ℤ◌, ◌<ℤ◌, unsigned_abs, ◌⊎◌, inl, inr, arith, refl, sym, ◌∙◌, subst}
+use Rattle.std.proofs.Common.{◌≡◌, ℕ, suc, true, ℤ, pos, negsuc, ◌+ℤ◌, ◌-ℤ◌, ◌*ℤ◌, ◌≤ℤ◌, ◌<ℤ◌, ◌⊎◌, inl, inr, arith, sym, subst}
 use Rattle.std.specs.Int.{int_min, int_max}
 use Rattle.std.proofs.lemmas.Int.{ints}
-use Rattle.fixed_geom.specs.Boxes.{Contains, Overlaps, grow}
+use Rattle.fixed_geom.specs.Boxes.{grow}
 use Rattle.fixed_geom.specs.Vectors.{minus}
 use Rattle.fixed_geom.specs.declared.boxes.Box2.{Box2}
 use Rattle.fixed_geom.specs.declared.vectors.Vec2.{Vec2}
 use Rattle.shapes.specs.declared.beam.Beam.{Beam}
 use Rattle.shape_rays.specs.declared.boxes.TheConstants.{SLACK}
 use Rattle.shape_rays.specs.Reach.{IsInAt, lowest, highest, box_round, common, reaches}
-use Rattle.shape_rays.proofs.PartLemmas.{IsMax, IsMin, max_is, min_is}
-use Rattle.shape_rays.proofs.RingLemmas.{Term, Num, Add, Sub, Mul, value, part, ring}
+use Rattle.shape_rays.proofs.PartLemmas.{max_is, min_is}
+use Rattle.shape_rays.proofs.RingLemmas.{Num, Add, Sub, Mul, ring}
 use Rattle.shape_rays.proofs.SignLemmas.{times, sum, over_sum, minus_both, by_value}
 use Rattle.shape_rays.proofs.WayLemmas.{upward, downward, IsWide, wide_to, reached_to}
 

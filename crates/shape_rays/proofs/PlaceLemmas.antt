@@ -1,8 +1,8 @@
 -- Where the hits on an end and on a side lie, on one axis.
-use Rattle.std.proofs.Common.{◌≡◌, ℕ, suc, ◌+◌, ◌*◌, ◌^◌, ◌<◌, ◌≤◌, ℤ, pos, negsuc, neg_ℤ, ◌+ℤ◌, ◌-ℤ◌, ◌*ℤ◌, ◌≤ℤ◌, ◌<ℤ◌, unsigned_abs, arith, refl, sym, ap, ◌∙◌, subst}
-use Rattle.std.proofs.lemmas.Int.{ints, unsigned_abs-mul}
+use Rattle.std.proofs.Common.{◌≡◌, ℕ, ◌*◌, ◌≤◌, ℤ, pos, negsuc, neg_ℤ, ◌+ℤ◌, ◌-ℤ◌, ◌*ℤ◌, ◌≤ℤ◌, ◌<ℤ◌, unsigned_abs, arith, refl, sym, ap, ◌∙◌}
+use Rattle.std.proofs.lemmas.Int.{ints}
 use Rattle.fixed_geom.proofs.RootLemmas.{root_below}
-use Rattle.shape_rays.proofs.RingLemmas.{Term, Num, Add, Sub, Mul, Neg, value, part, ring, lagrange}
+use Rattle.shape_rays.proofs.RingLemmas.{Num, Add, Sub, Mul, Neg, ring, lagrange}
 use Rattle.shape_rays.proofs.SignLemmas.{times, sum, over, minus_both, no_less, by_value}
 
 -- the whole way, and how far it goes at most

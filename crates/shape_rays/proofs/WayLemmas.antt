@@ -1,19 +1,18 @@
 -- A box through which a point of the way goes is reached, and so is each box that holds one that is reached.
-use Rattle.std.proofs.Common.{◌≡◌, ℕ, suc, ◌+◌, ◌*◌, ◌^◌, ◌<◌, ◌≤◌, Bool, true, false, cond, ◌&&◌, ℤ, pos, negsuc, neg_ℤ, ◌+ℤ◌, ◌-ℤ◌, ◌*ℤ◌, ◌≤ℤ◌, ◌<ℤ◌, int_lt, int_le, unsigned_abs, ◌⊎◌, inl, inr, arith, refl, sym, ◌∙◌, subst}
+use Rattle.std.proofs.Common.{◌≡◌, Bool, true, false, cond, ◌&&◌, ℤ, pos, neg_ℤ, ◌+ℤ◌, ◌-ℤ◌, ◌*ℤ◌, ◌≤ℤ◌, int_le, unsigned_abs, arith, refl, sym, ◌∙◌, subst}
 use Rattle.std.specs.Int.{int_min, int_max}
 use Rattle.std.proofs.lemmas.Int.{ints}
-use Rattle.std.proofs.lemmas.Bool.{cases_Bool, false≢true}
+use Rattle.std.proofs.lemmas.Bool.{false≢true}
 use Rattle.std.proofs.lemmas.Bool.Decides.{nat_tests}
-use Rattle.fixed_geom.specs.Boxes.{Contains, Overlaps, meets, overlaps, grow}
-use Rattle.fixed_geom.specs.Vectors.{dot, cross, plus, minus}
+use Rattle.fixed_geom.specs.Boxes.{Contains, Overlaps, meets, overlaps}
+use Rattle.fixed_geom.specs.Vectors.{dot, cross, minus}
 use Rattle.fixed_geom.specs.declared.boxes.Box2.{Box2}
 use Rattle.fixed_geom.specs.declared.vectors.Vec2.{Vec2}
 use Rattle.shapes.specs.declared.beam.Beam.{Beam}
-use Rattle.shape_rays.specs.declared.boxes.TheConstants.{SLACK}
-use Rattle.shape_rays.specs.Reach.{IsInAt, lowest, highest, box_round, common, extent, sizes_across, is_at_most, is_crossed, reaches}
+use Rattle.shape_rays.specs.Reach.{box_round, common, is_at_most, is_crossed, reaches}
 use Rattle.shape_rays.proofs.PartLemmas.{max_is, min_is}
-use Rattle.shape_rays.proofs.RingLemmas.{Term, Num, Add, Sub, Mul, value, part, ring}
-use Rattle.shape_rays.proofs.SignLemmas.{times, sum, over, over_sum}
+use Rattle.shape_rays.proofs.RingLemmas.{Num, Add, Sub, Mul, ring}
+use Rattle.shape_rays.proofs.SignLemmas.{times, sum}
 
 -- ---- tests and what they say
 

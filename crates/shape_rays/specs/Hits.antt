@@ -1,5 +1,5 @@
 -- The first hit of a ray among shapes, and the shapes over a region.
-use Rattle.std.specs.Prelude.{◌≡◌, ℕ, Bool, true, false, cond, nat_lt, List, [], ◌∷◌, Option, None, Some, All, Contains}
+use Rattle.std.specs.Prelude.{ℕ, Bool, true, false, cond, nat_lt, List, [], ◌∷◌, Option, None, Some}
 use Rattle.contacts_base.specs.declared.key.ShapeId.{ShapeId}
 use Rattle.fixed_geom.specs.Boxes.{overlaps}
 use Rattle.fixed_geom.specs.declared.boxes.Box2.{Box2}

@@ -1,18 +1,17 @@
 -- Laws of rays among shapes.
-use Rattle.std.specs.Prelude.{◌≡◌, ℕ, ◌^◌, false, true, ℤ, pos, ◌≤ℤ◌, ◌<ℤ◌, List, ◌++◌, Option, None, Some, All, Contains}
+use Rattle.std.specs.Prelude.{◌≡◌, ℕ, false, true, ℤ, pos, ◌≤ℤ◌, ◌<ℤ◌, List, ◌++◌, Option, None, Some}
 use Rattle.fixed_geom.specs.Boxes.{Contains as Holds, grow}
 use Rattle.fixed_geom.specs.declared.boxes.Box2.{Box2}
 use Rattle.shapes.specs.declared.beam.Beam.{Beam}
 use Rattle.shapes.specs.declared.pose.Pose.{Pose}
 use Rattle.shapes.specs.declared.shape.Shape.{Shape}
 use Rattle.shapes.specs.Bounds.{tight_box}
-use Rattle.shapes.specs.Poses.{IsPose}
 use Rattle.shapes.specs.Rays.{IsBeam, whole, ray_of}
 use Rattle.shapes.specs.Shapes.{IsShape}
 use Rattle.shape_rays.specs.declared.boxes.TheConstants.{SLACK}
 use Rattle.shape_rays.specs.declared.hits.Hit.{Hit}
 use Rattle.shape_rays.specs.declared.hits.PlacedShape.{PlacedShape}
-use Rattle.shape_rays.specs.Hits.{nearer, is_before, hit_on, first_hit}
+use Rattle.shape_rays.specs.Hits.{nearer, first_hit}
 use Rattle.shape_rays.specs.Reach.{IsInAt, reaches}
 
 -- the first of hits doesn't depend on their order or on how they are taken together

@@ -1,5 +1,5 @@
 -- Which boxes a ray may meet something in.
-use Rattle.std.specs.Prelude.{◌^◌, ◌*◌, Bool, false, cond, ℤ, pos, neg_ℤ, ◌+ℤ◌, ◌-ℤ◌, ◌*ℤ◌, ◌≤ℤ◌, int_lt, int_le, unsigned_abs}
+use Rattle.std.specs.Prelude.{Bool, false, cond, ℤ, pos, neg_ℤ, ◌+ℤ◌, ◌-ℤ◌, ◌*ℤ◌, ◌≤ℤ◌, int_lt, int_le, unsigned_abs}
 use Rattle.std.specs.Int.{int_min, int_max}
 use Rattle.fixed_geom.specs.Boxes.{overlaps}
 use Rattle.fixed_geom.specs.Vectors.{dot, cross, plus, minus}

@@ -1,5 +1,5 @@
 -- The first and the second point of a contact.
-use Rattle.std.specs.Prelude.{◌≡◌, ℕ, ◌==◌, nat_lt, Bool, false, ◌&&◌, ◌||◌, cond, ℤ, pos, int_lt, int_le, ◌≤ℤ◌, ◌+ℤ◌, ◌*ℤ◌, unsigned_abs, ◌^◌, ◌≤◌, List, [], ◌∷◌, Option, None, Some, All, ◌⊎◌, option_map, map, filter}
+use Rattle.std.specs.Prelude.{◌≡◌, ℕ, ◌==◌, nat_lt, Bool, false, ◌&&◌, ◌||◌, cond, ℤ, pos, int_lt, int_le, ◌≤ℤ◌, ◌+ℤ◌, ◌*ℤ◌, unsigned_abs, ◌≤◌, List, [], ◌∷◌, Option, None, Some, All, ◌⊎◌, option_map, map, filter}
 use Rattle.std.specs.Ordering.{int_eq}
 use Rattle.fixed_geom.specs.Vectors.{IsWithin, dot, minus}
 use Rattle.fixed_geom.specs.declared.vectors.TheConstants.{UNIT}

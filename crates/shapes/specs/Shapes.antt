@@ -1,5 +1,5 @@
 -- The parts of a shape, and which shapes a body may have.
-use Rattle.std.specs.Prelude.{◌^◌, ◌≤◌, Bool, false, ◌&&◌, not, cond, nat_le, List, length, ℤ, pos, int_le, ◌≤ℤ◌, unsigned_abs, Option, Some, None}
+use Rattle.std.specs.Prelude.{◌≤◌, Bool, false, ◌&&◌, not, cond, nat_le, List, length, ℤ, pos, int_le, ◌≤ℤ◌, unsigned_abs, Option, Some, None}
 use Rattle.std.specs.Ordering.{int_eq}
 use Rattle.std.specs.List.{list_all}
 use Rattle.fixed_geom.specs.Vectors.{IsWithin, is_within}

@@ -3,7 +3,7 @@ use Rattle.std.proofs.Common.{◌≡◌, ◌≢◌, ℕ, zero, suc, ◌+◌, ◌
 use Rattle.std.specs.Prelude.{Contains}
 use Rattle.std.specs.List.{All, AllPairs}
 use Rattle.std.proofs.lemmas.Bool.{false≢true, lt-ltb, le-ltb}
-use Rattle.std.proofs.lemmas.List.{append_assoc, append-nil, drop_more, drop_all}
+use Rattle.std.proofs.lemmas.List.{append-nil, drop_all}
 use Rattle.std.proofs.lemmas.List.Elements.{All-contains, Contains-get_or}
 use Rattle.std.proofs.lemmas.List.Kept.{AllPairs-cons}
 use Rattle.graph_colours.proofs.ListLemmas.{pairs_head, pairs_tail, pairs_none}
@@ -318,22 +318,6 @@ awake_short labels slots slot w h = short (label_at labels slot) refl ((w.each s
     short (Some l) e k = some_short labels slot l e
 
 -- ---- they are listed slot by slot
-
-found_next : (found more : List ℕ) (slot : ℕ) (t : Bool) → (found ++ cond t (slot ∷ []) []) ++ more ≡ found ++ cond t (slot ∷ more) more
-found_next found more slot true = append_assoc found (slot ∷ []) more
-found_next found more slot false = append_assoc found [] more
-
--- a slot more
-pub awake_listed : (labels : Labels) (slot : ℕ) (found now : List ℕ) → slot < length labels → now ≡ found ++ cond (is_awake labels slot) (slot ∷ []) []
-    → now ++ awake_from (slot + 1) (drop (slot + 1) labels) ≡ found ++ awake_from slot (drop slot labels)
-awake_listed labels slot found now lt is =
-    let more : List ℕ = awake_from (slot + 1) (drop (slot + 1) labels) in
-    let next : slot + 1 ≡ suc slot = omega arith in
-    let front : drop slot labels ≡ label_at labels slot ∷ drop (slot + 1) labels = drop_more labels slot None lt in
-    ap (λ (v : List ℕ). v ++ more) is
-    ∙ found_next found more slot (is_awake labels slot)
-    ∙ ap (λ (n : ℕ). found ++ cond (is_awake labels slot) (slot ∷ awake_from n (drop (slot + 1) labels)) (awake_from n (drop (slot + 1) labels))) next
-    ∙ ap (λ (v : Labels). found ++ awake_from slot v) (sym front)
 
 -- all slots
 pub all_awake_listed : (labels : Labels) (slot : ℕ) (found : List ℕ) → length labels ≤ slot → found ++ awake_from slot (drop slot labels) ≡ awake_from 0 labels → AreAwakeSlots labels found

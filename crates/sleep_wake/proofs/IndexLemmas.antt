@@ -17,9 +17,9 @@ use Rattle.graph_colours.proofs.Cases.{by_test}
 use Rattle.graph_colours.proofs.PlaceLemmas.{is_same, not_same, same_from, is_lower, without_none, without_same, has_movers}
 use Rattle.graph_colours.proofs.ListLemmas.{pairs_none, pairs_head, pairs_tail, rising_inserted, rising_without}
 use Rattle.graph_colours.proofs.SearchLemmas.{has_without}
-use Rattle.graph_colours.proofs.EditLemmas.{front_all, take_whole}
+use Rattle.graph_colours.proofs.EditLemmas.{front_all}
 use Rattle.graph_colours.proofs.StepLemmas.{map_kept}
-use Rattle.sleep_wake.specs.Indexed.{ties_of, AreByMover, AreAllRising, AreAlike, AreChangedWhere, IsAdded, IsTakenOut, is_other, IsIndexed}
+use Rattle.sleep_wake.specs.Indexed.{ties_of, AreByMover, AreAllRising, AreAlike, AreChangedWhere, IsAdded, IsTakenOut, IsIndexed}
 
 -- ---- one list is changed
 
@@ -92,9 +92,6 @@ both_by f x y z true u a b = b ∙ a
 both_by f x y z false true a b = b ∙ ap f a
 both_by f x y z false false a b = b ∙ a
 
-pub added_both : {C : Type 0} (number : C → ℕ) (m : Member C) (old then now : List (List (Member C))) → AreChangedWhere (λ s. m.movers.first == s) (inserted number m) old then → AreChangedWhere (is_other m.movers) (inserted number m) then now → IsAdded number m old now
-added_both number m old then now first second slot = both_by (inserted number m) (list_at old slot) (list_at then slot) (list_at now slot) (m.movers.first == slot) (is_slot m.movers.second slot) (first slot) (second slot)
-
 twice_by : {X : Type 0} (f : X → X) (x y z : X) (t u : Bool) → f (f x) ≡ f x → y ≡ cond t (f x) x → z ≡ cond u (f y) y → z ≡ cond (t || u) (f x) x
 twice_by f x y z true true e a b = b ∙ ap f a ∙ e
 twice_by f x y z true false e a b = b ∙ a
@@ -110,28 +107,13 @@ or_none : (t : Bool) → (t || false) ≡ t
 or_none true = refl
 or_none false = refl
 
-pub taken_one : {C : Type 0} (number : C → ℕ) (id : C) (movers : Movers) (old now : List (List (Member C))) → movers.second ≡ None → AreChangedWhere (λ s. movers.first == s) (without number id) old now → IsTakenOut number id movers old now
-taken_one number id movers old now is a slot =
-    let u : is_slot movers.second slot ≡ false = ap (λ (o : Option ℕ). is_slot o slot) is in
-    rw (u, or_none (movers.first == slot)) (a slot)
-
 and_none : (t : Bool) → (t && false) ≡ false
 and_none true = refl
 and_none false = refl
 
-pub no_other : (movers : Movers) (slot : ℕ) → movers.second ≡ None → is_other movers slot ≡ false
-no_other movers slot is =
-    let u : is_slot movers.second slot ≡ false = ap (λ (o : Option ℕ). is_slot o slot) is in
-    rw (u, and_none (not (movers.first == slot))) refl
-
 not_both : (t : Bool) → (not t && t) ≡ false
 not_both true = refl
 not_both false = refl
-
-pub same_other : (movers : Movers) (second slot : ℕ) → movers.second ≡ Some second → second ≡ movers.first → is_other movers slot ≡ false
-same_other movers second slot is same =
-    let u : is_slot movers.second slot ≡ (movers.first == slot) = ap (λ (o : Option ℕ). is_slot o slot) is ∙ ap (λ (n : ℕ). n == slot) same in
-    rw (u, not_both (movers.first == slot)) refl
 
 other_by : (first second slot : ℕ) → second ≢ first → (not (first == slot) && (second == slot)) ≡ (second == slot)
 other_by first second slot far = elim (cases_eq second slot) [
@@ -139,29 +121,13 @@ other_by first second slot far = elim (cases_eq second slot) [
   | inr e ↦ rw (not_same second slot e, and_none (not (first == slot))) refl
 ]
 
-pub other_is : (movers : Movers) (second slot : ℕ) → movers.second ≡ Some second → second ≢ movers.first → is_other movers slot ≡ (second == slot)
-other_is movers second slot is far =
-    let u : is_slot movers.second slot ≡ (second == slot) = ap (λ (o : Option ℕ). is_slot o slot) is in
-    rw u (other_by movers.first second slot far)
-
 -- no list is changed where the test holds for none
 pub unchanged : {C : Type 0} (test : ℕ → Bool) (f : List (Member C) → List (Member C)) (lists : List (List (Member C))) → ((slot : ℕ) → test slot ≡ false) → AreChangedWhere test f lists lists
 unchanged test f lists none slot = rw (none slot) refl
 
-pub changed_as : {C : Type 0} (p q : ℕ → Bool) (f : List (Member C) → List (Member C)) (old now : List (List (Member C))) → ((slot : ℕ) → q slot ≡ p slot) → AreChangedWhere p f old now → AreChangedWhere q f old now
-changed_as p q f old now same h slot = rw (same slot) (h slot)
-
 not_first : (t u : Bool) → (not t && u) ≡ true → t ≡ false
 not_first true u h = absurd (false≢true h)
 not_first false u h = refl
-
--- the first mover's list is changed: the other's stays as it was
-pub other_rises : {C : Type 0} (number : C → ℕ) (f : List (Member C) → List (Member C)) (movers : Movers) (old now : List (List (Member C))) → AreAllRising number old → AreChangedWhere (λ s. movers.first == s) f old now → (slot : ℕ) → is_other movers slot ≡ true → AreRising number (list_at now slot)
-other_rises {C} number f movers old now rising changed slot other =
-    let e : (movers.first == slot) ≡ false = not_first (movers.first == slot) (is_slot movers.second slot) other in
-    let same : list_at now slot ≡ list_at old slot = rw e at (changed slot) in
-    let P : List (Member C) → Type 0 = λ l. AreRising number l in
-    subst P (sym same) (rising slot)
 
 rises_by : {C : Type 0} (number : C → ℕ) (id : C) (ms : List (Member C)) (t : Bool) → AreRising number ms → AreRising number (cond t (without number id ms) ms)
 rises_by number id ms true rising = rising_without number id ms rising
@@ -334,13 +300,3 @@ next_added {C} number ties place m old now rising lt is by added =
     let next : inserted number m (take place ties) ≡ take (place + 1) ties = inserted_last number m (take place ties) before ∙ ap (λ (x : Member C). take place ties ++ x ∷ []) is ∙ sym (take_more ties place m lt) in
     let P : List (Member C) → Type 0 = λ l. AreByMover l now in
     subst P next (ties_added number m (take place ties) old now (rising_front number ties place (omega (arith, lt)) rising) by added)
-
-pub all_added : {C : Type 0} (ties : List (Member C)) (place : ℕ) (lists : List (List (Member C))) → length ties ≤ place → AreByMover (take place ties) lists → AreByMover ties lists
-all_added {C} ties place lists le by =
-    let P : List (Member C) → Type 0 = λ l. AreByMover l lists in
-    subst P (take_whole ties place le) by
-
-pub cleared_alike : {C : Type 0} (old now : List (Vec (Member C) Global)) → old ≡ [] → AreAlike (members_of old) (members_of now) → AreByMover [] (members_of now)
-cleared_alike {C} old now none alike slot =
-    let empty : List (Member C) = [] in
-    alike slot ∙ ap (λ (l : List (Vec (Member C) Global)). list_at (members_of l) slot) none

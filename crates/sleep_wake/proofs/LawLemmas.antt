@@ -73,9 +73,6 @@ sleep_keeps number s slot w = slept_by_keeps number s slot (label_at s.labels sl
 abbrev SameSlots : Labels → Labels → Type 0
 SameSlots old new = (slot : ℕ) → is_some (label_at new slot) ≡ is_some (label_at old slot)
 
-then_same : (a b d : Labels) → SameSlots a b → SameSlots b d → SameSlots a d
-then_same a b d f h = λ t. h t ∙ f t
-
 relabel_if : (to l : Label) (t : Bool) → is_some (cond t (Some to) (Some l)) ≡ true
 relabel_if to l true = refl
 relabel_if to l false = refl

@@ -1,6 +1,6 @@
 -- Islands fall asleep one after the other, and none of them makes another more ready, or less.
 use Rattle.std.proofs.Common.{◌≡◌, ◌≢◌, ℕ, ◌==◌, ◌&&◌, ◌||◌, Bool, true, false, not, cond, Option, Some, None, refl, sym, ap, ◌∙◌}
-use Rattle.std.proofs.lemmas.Bool.{false≢true, eqb-true, eq-eqb}
+use Rattle.std.proofs.lemmas.Bool.{false≢true, eqb-true}
 use Rattle.graph_colours.proofs.PlaceLemmas.{not_same}
 use Rattle.islands.specs.declared.label.IslandState.{IslandState}
 use Rattle.islands.specs.declared.label.IslandState.TheVariants.{Asleep}
@@ -9,8 +9,7 @@ use Rattle.islands.specs.Labels.{label_at, is_in, is_loose, is_asleep, relabel}
 use Rattle.islands.proofs.LabelLemmas.{in_of}
 use Rattle.islands.proofs.SplitLemmas.{split_is}
 use Rattle.sleep_wake.specs.Acting.{Acting, IsSettled}
-use Rattle.sleep_wake.specs.SleepPhase.{is_due, is_island, split_at, edges_of}
-use Rattle.sleep_wake.specs.Resting.{is_due_island}
+use Rattle.sleep_wake.specs.SleepPhase.{is_island, split_at, edges_of}
 use Rattle.sleep_wake.specs.Sleeping.{is_whole, split_if_loose}
 use Rattle.sleep_wake.proofs.EdgeLemmas.{edges_inside}
 
@@ -45,10 +44,6 @@ named_by : (slot : ℕ) (o : Option Label) → is_island false slot o ≡ true �
 named_by slot None h = absurd (false≢true h)
 named_by slot (Some l) h = both_are (l.name == slot) (not (is_loose l.state) && not (is_asleep l.state)) h
 
--- one that is ready is an island
-pub due_is_island : (timer : ℕ → Option ℕ) (slot : ℕ) (o : Option Label) → is_due_island false timer slot o ≡ true → is_in o slot ≡ true
-due_is_island timer slot o h = named_by slot o (both_are (is_island false slot o) (is_due (timer slot)) h)
-
 -- ---- one mover falls asleep
 
 whole_by : (state : IslandState) → is_loose state ≡ false → is_asleep state ≡ false → (not (is_loose state) && not (is_asleep state)) ≡ true
@@ -67,11 +62,3 @@ whole_if number s slot l false h w e a = ap is_whole e ∙ whole_by l.state h a
 -- the island of an awake mover is whole, once it was split if it was loose
 pub whole_after : {C : Type 0} (number : C → ℕ) (s : Acting C) (slot : ℕ) (l : Label) → IsSettled number s → label_at s.labels slot ≡ Some l → is_asleep l.state ≡ false → is_whole (label_at (split_if_loose l s).labels slot) ≡ true
 whole_after number s slot l w e a = whole_if number s slot l (is_loose l.state) refl w e a
-
--- a whole island may be put to rest by its name
-pub rests_by_name : {C : Type 0} (number : C → ℕ) (s : Acting C) (slot : ℕ) (l : Label) → IsSettled number s → label_at s.labels slot ≡ Some l → is_whole (label_at s.labels slot) ≡ true → is_island false l.name (label_at s.labels l.name) ≡ true
-rests_by_name number s slot l w e h =
-    let home : label_at s.labels l.name ≡ Some l = w.islands.partition.named slot l e in
-    let whole : is_whole (Some l) ≡ true = sym (ap is_whole e) ∙ h in
-    let own : (l.name == l.name) ≡ true = eq-eqb l.name l.name refl in
-    ap (is_island false l.name) home ∙ rw own whole

@@ -12,7 +12,7 @@ use Rattle.graph_colours.specs.Members.{inserted, without}
 use Rattle.graph_colours.proofs.ListLemmas.{same_inserted}
 use Rattle.islands.specs.declared.label.IslandState.TheVariants.{Whole, Loose, Asleep}
 use Rattle.islands.specs.declared.label.Label.{Label}
-use Rattle.islands.specs.Labels.{Labels, label_at, relabel, relabelled, padded, added, is_asleep, merged, merged_by, loosened, loosened_by, taken_out, split_by, lowest, left_behind, rested, woken}
+use Rattle.islands.specs.Labels.{Labels, label_at, relabel, relabelled, added, is_asleep, merged, merged_by, loosened, loosened_by, taken_out, split_by, lowest, rested, woken}
 use Rattle.islands.specs.Labels as labelled
 use Rattle.sleep_wake.specs.Acting.{Acting, acting}
 use Rattle.sleep_wake.specs.Changes.{parted, united, begun, ended}

@@ -205,9 +205,6 @@ pub record AreLeft (before ms : List Bool) (slots : List ℕ) : Type 0 where
   pub long : length ms ≡ length before
   pub left : (s : ℕ) → s < length ms → get_or ms s true ≡ true → Contains slots s
 
-pub left_first : (ms : List Bool) (slots : List ℕ) → AreListed ms slots → AreLeft ms ms slots
-left_first ms slots is = record { long = refl; left = is.all }
-
 later_slot : (x : ℕ) (slots : List ℕ) (s : ℕ) → s ≢ x → Contains (x ∷ slots) s → Contains slots s
 later_slot x slots s other h = by (Contains-append_cases (x ∷ []) slots s h)
   where

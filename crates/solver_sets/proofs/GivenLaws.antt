@@ -90,16 +90,6 @@ all_alone : (bodies : List (Option Body)) (s : JointSlots) (colours : List (List
 unfolding members_of
 all_alone bodies s colours = λ j. map (filter_map (λ (id : Constraint). member_alone bodies s id j)) colours
 
-pub members_more : (bodies : List (Option Body)) (joints : List (Option BodyJoint)) (colours : List (List Constraint)) (i : ℕ) (d : List Constraint) (now next all : List (List (Member Constraint))) (one : List (Member Constraint)) → i < length colours → next ≡ now ++ one ∷ []
-    → one ≡ members_alone bodies joints (get_or colours i d) → now ++ map (members_alone bodies joints) (drop i colours) ≡ all → next ++ map (members_alone bodies joints) (drop (i + 1) colours) ≡ all
-members_more bodies joints colours i d now next all one lt pushed is known =
-    let rest : List (List (Member Constraint)) = map (members_alone bodies joints) (drop (i + 1) colours) in
-    ap (λ (l : List (List (Member Constraint))). l ++ rest) pushed
-    ∙ append_assoc now (one ∷ []) rest
-    ∙ ap (λ (ms : List (Member Constraint)). now ++ ms ∷ rest) is
-    ∙ ap (λ (l : List (List Constraint)). now ++ map (members_alone bodies joints) l) (sym (drop_is colours i d lt))
-    ∙ known
-
 pub members_end : (bodies : List (Option Body)) (s : JointSlots) (colours : List (List Constraint)) (i : ℕ) (now : List (List (Member Constraint))) → length colours ≤ i → now ++ map (members_alone bodies s.joints) (drop i colours) ≡ map (members_alone bodies s.joints) colours
     → now ≡ members_of bodies s colours
 members_end bodies s colours i now le e =

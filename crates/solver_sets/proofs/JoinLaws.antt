@@ -13,7 +13,7 @@ use Rattle.graph_colours.specs.declared.member.Movers.{Movers}
 use Rattle.graph_colours.specs.Members.{AreRising, has_id, inserted, without}
 use Rattle.graph_colours.proofs.Cases.{true_or_false}
 use Rattle.graph_colours.proofs.ListLemmas.{rising_inserted, rising_without}
-use Rattle.graph_colours.proofs.PlaceLemmas.{is_same, not_same, same_from}
+use Rattle.graph_colours.proofs.PlaceLemmas.{is_same, same_from}
 use Rattle.contacts_base.specs.declared.contact.ContactEntry.{ContactEntry}
 use Rattle.contacts.specs.Constraints.{constraint_number, joint_number}
 use Rattle.contacts.specs.declared.constraint.Constraint.{Constraint}
@@ -43,17 +43,9 @@ pub live_at : (o : Option Place) (g : ℕ) → is_live_at o g ≡ true → o ≡
 live_at None g e = absurd (true_or_false false e refl)
 live_at (Some p) g e = live_place p.generation g p.live e
 
-dead_at : (o : Option Place) (g : ℕ) → is_taken_place o ≡ false → is_live_at o g ≡ false
-dead_at None g e = refl
-dead_at (Some p) g e = rw e refl
-
 taken_live : (o : Option Place) → is_taken_place o ≡ true → is_live_at o (generation_of o) ≡ true
 taken_live None e = absurd (true_or_false false e refl)
 taken_live (Some p) e = rw (e, is_same p.generation p.generation refl) refl
-
--- a handle with another generation than the live one
-stale_at : (o : Option Place) (g h : ℕ) → o ≡ Some (record { generation = h; live = true }) → g ≢ h → is_live_at o g ≡ false
-stale_at o g h at far = rw at (not_same h g (λ q. far (sym q)))
 
 -- ---- a joint that goes
 

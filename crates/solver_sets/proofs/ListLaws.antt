@@ -6,7 +6,7 @@ use Rattle.std.proofs.lemmas.Bool.{false≢true}
 use Rattle.std.proofs.lemmas.List.Kept.{AllPairs-cons}
 use Rattle.graph_colours.proofs.ListLemmas.{pairs_none, pairs_head, pairs_tail}
 use Rattle.std.proofs.lemmas.List.Elements.{All-contains}
-use Rattle.contacts.proofs.Members.{IsIn, in_append, in_left, in_from_contains, contains_from_in}
+use Rattle.contacts.proofs.Members.{IsIn, in_append, in_from_contains, contains_from_in}
 use Rattle.graph_colours.specs.declared.member.Member.{Member}
 use Rattle.graph_colours.specs.Members.{AreRising}
 use Rattle.sleep_wake.proofs.TurnLemmas.{one_order}
@@ -132,14 +132,6 @@ rises_append n (x ∷ xs) ys r s lt = (
   λ y h. elim (in_append y xs ys h) [ inl p ↦ r.0 y p | inr q ↦ lt x y (inl refl) q ],
   rises_append n xs ys r.1 s (λ a b p q. lt a b (inr p) q),
 )
-
-pub rises_left : {X : Type 0} (n : X → ℕ) (xs ys : List X) → Rises n (xs ++ ys) → Rises n xs
-rises_left n [] ys r = tt
-rises_left n (x ∷ xs) ys r = (λ y h. r.0 y (in_left y xs ys h), rises_left n xs ys r.1)
-
-pub rises_right : {X : Type 0} (n : X → ℕ) (xs ys : List X) → Rises n (xs ++ ys) → Rises n ys
-rises_right n [] ys r = r
-rises_right n (x ∷ xs) ys r = rises_right n xs ys r.1
 
 -- a number names one element
 pub only_one : {X : Type 0} (n : X → ℕ) (xs : List X) (x y : X) → Rises n xs → IsIn x xs → IsIn y xs → n x ≡ n y → x ≡ y

@@ -7,13 +7,10 @@ use Rattle.std.specs.List.{filter_map, cons_option}
 use Rattle.std.specs.Option.{option_to_list}
 use Rattle.std.proofs.lemmas.List.{append-nil, append_assoc}
 use Rattle.body_handles.specs.declared.handle.Handle.{Handle}
-use Rattle.body_handles.specs.declared.places.Place.{Place}
-use Rattle.graph_colours.specs.declared.member.Member.{Member}
-use Rattle.contacts.specs.declared.constraint.Constraint.{Constraint}
 use Rattle.plain_world.specs.declared.body.Body.{Body}
 use Rattle.plain_world.specs.declared.joint.BodyJoint.{BodyJoint}
 use Rattle.plain_world.specs.Joints.{is_joint_of}
-use Rattle.solver_sets.specs.Ties.{Bond, bond_before, is_bond_of, joint_bond, joint_bonds_from, joint_tie_of, joint_ties_at, slots_of, tie_of, ties_in}
+use Rattle.solver_sets.specs.Ties.{Bond, bond_before, is_bond_of, joint_bond, joint_tie_of, tie_of, ties_in}
 
 -- ---- one element more
 
@@ -42,9 +39,6 @@ listed_all f now all xs i le e = sym (append-nil now) ∙ ap (λ (l : List _). n
 
 -- ---- ties of joints
 
-pub joint_ties_from : List (Option Body) → ℕ → ℕ → List Place → List (Option BodyJoint) → List (Member Constraint)
-joint_ties_from bodies slot n places joints = ties_in bodies (filter (is_bond_of slot) (joint_bonds_from n places joints))
-
 tie_before : (bodies : List (Option Body)) (slot : ℕ) (h : Handle) (o : Option BodyJoint) (bonds : List Bond) → ties_in bodies (filter (is_bond_of slot) (bond_before h o bonds)) ≡ option_to_list (joint_tie_of bodies slot h o) ++ ties_in bodies (filter (is_bond_of slot) bonds)
 tie_before bodies slot h None bonds = refl
 tie_before bodies slot h (Some j) bonds = by_slot (is_joint_of slot j)
@@ -52,31 +46,6 @@ tie_before bodies slot h (Some j) bonds = by_slot (is_joint_of slot j)
     by_slot : (t : Bool) → ties_in bodies (cond t (joint_bond h j ∷ filter (is_bond_of slot) bonds) (filter (is_bond_of slot) bonds)) ≡ option_to_list (cond t (tie_of bodies (joint_bond h j)) None) ++ ties_in bodies (filter (is_bond_of slot) bonds)
     by_slot true = cons_is (tie_of bodies (joint_bond h j)) (ties_in bodies (filter (is_bond_of slot) bonds))
     by_slot false = refl
-
-pub joint_tie_step : (bodies : List (Option Body)) (slot i : ℕ) (places : List Place) (joints : List (Option BodyJoint)) (p : Place) (d o : Option BodyJoint) (now next : List (Member Constraint)) (tie : Option (Member Constraint))
-    → i < length places → i < length joints → next ≡ now ++ option_to_list tie → o ≡ get_or joints i d → tie ≡ joint_tie_of bodies slot (record { slot = i; generation = (get_or places i p).generation }) o
-    → next ++ joint_ties_from bodies slot (i + 1) (drop (i + 1) places) (drop (i + 1) joints) ≡ now ++ joint_ties_from bodies slot i (drop i places) (drop i joints)
-unfolding joint_ties_from
-joint_tie_step bodies slot i places joints p d o now next tie lt short pushed at is =
-    let rest : List (Member Constraint) = ties_in bodies (filter (is_bond_of slot) (joint_bonds_from (i + 1) (drop (i + 1) places) (drop (i + 1) joints))) in
-    let h : Handle = record { slot = i; generation = (get_or places i p).generation } in
-    let one : List (Member Constraint) = option_to_list (joint_tie_of bodies slot h (get_or joints i d)) in
-    let split : joint_bonds_from i (drop i places) (drop i joints) ≡ bond_before h (get_or joints i d) (joint_bonds_from (i + 1) (drop (i + 1) places) (drop (i + 1) joints)) =
-    rw (drop_is places i p lt, drop_is joints i d short) (ap (λ (k : ℕ). bond_before h (get_or joints i d) (joint_bonds_from k (drop (i + 1) places) (drop (i + 1) joints))) (sym (add-one i))) in
-    let here : ties_in bodies (filter (is_bond_of slot) (joint_bonds_from i (drop i places) (drop i joints))) ≡ one ++ rest =
-    ap (λ (bonds : List Bond). ties_in bodies (filter (is_bond_of slot) bonds)) split
-    ∙ tie_before bodies slot h (get_or joints i d) (joint_bonds_from (i + 1) (drop (i + 1) places) (drop (i + 1) joints)) in
-    ap (λ (l : List (Member Constraint)). l ++ rest) (pushed ∙ ap (λ (t : Option (Member Constraint)). now ++ option_to_list t) (is ∙ ap (joint_tie_of bodies slot h) at))
-    ∙ append_assoc now one rest
-    ∙ ap (λ (l : List (Member Constraint)). now ++ l) (sym here)
-
-pub joint_ties_end : (bodies : List (Option Body)) (slot i : ℕ) (places : List Place) (joints : List (Option BodyJoint)) (now : List (Member Constraint)) → length places ≤ i
-    → now ++ joint_ties_from bodies slot i (drop i places) (drop i joints) ≡ joint_ties_from bodies slot 0 places joints → now ≡ joint_ties_at slot bodies (slots_of places joints)
-unfolding joint_ties_from joint_ties_at
-joint_ties_end bodies slot i places joints now le e =
-    sym (append-nil now)
-    ∙ ap (λ (ps : List Place). now ++ ties_in bodies (filter (is_bond_of slot) (joint_bonds_from i ps (drop i joints)))) (sym (drop_past places i le))
-    ∙ e
 
 -- ---- a filter over two lists
 

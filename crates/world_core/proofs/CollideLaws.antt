@@ -13,9 +13,9 @@ use Rattle.plain_world.specs.declared.body.Body.{Body}
 use Rattle.plain_world.specs.declared.joint.BodyJoint.{BodyJoint}
 use Rattle.plain_world.specs.Joints.{forbidden_pairs}
 use Rattle.world_rules.specs.Collide.{contacts_after, proxies_of}
-use Rattle.contacts_base.specs.Contacts.{number_of, AreKeysRising}
+use Rattle.contacts_base.specs.Contacts.{number_of}
 use Rattle.contacts.proofs.Members.{Each}
-use Rattle.contacts.proofs.Rising.{IsRising, increasing_from_rising, rising_from_increasing}
+use Rattle.contacts.proofs.Rising.{IsRising}
 
 -- ---- contacts that are dropped
 
@@ -34,9 +34,6 @@ rise_step false e es h rest = rest
 filter_rises : (p : ContactEntry → Bool) (es : List ContactEntry) → IsRising (map number_of es) → IsRising (map number_of (filter p es))
 filter_rises p [] h = h
 filter_rises p (e ∷ es) h = rise_step (p e) e (filter p es) (filter_each p (number_of e) es h.0) (filter_rises p es h.1)
-
-pub AreKeysRising-filter : (p : ContactEntry → Bool) (es : List ContactEntry) → AreKeysRising es → AreKeysRising (filter p es)
-AreKeysRising-filter p es h = increasing_from_rising (map number_of (filter p es)) (filter_rises p es (rising_from_increasing (map number_of es) h))
 
 -- ---- a body has eight shapes at most
 

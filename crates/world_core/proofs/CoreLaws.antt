@@ -1,5 +1,5 @@
 -- A world after each command: whole, and with all marked of which its contacts don't tell.
-use Rattle.std.proofs.Common.{◌≡◌, ℕ, ◌≤◌, Bool, true, List, length, map, Option, Some, None, inl, inr, refl, sym, ap, ◌∙◌, subst}
+use Rattle.std.proofs.Common.{◌≡◌, ℕ, ◌≤◌, Bool, true, List, length, map, Option, Some, None, inl, inr, sym, ap, ◌∙◌, subst}
 use Rattle.std.specs.Prelude.{slice_index_or, slice_set}
 use Rattle.anchored_ties.specs.Anchors.{Anchored, Tell}
 use Rattle.contacts.specs.declared.constraint.Constraint.{Constraint}
@@ -39,10 +39,6 @@ pub core_bodies : {a : Anchored} (w x : World) (s t : Acting Constraint) (old ne
     → (l : Anchored) → Tell l.holds l.lists t.ties → IsWorldCore x t new.marks l
 core_bodies w x s t old new core is was now joints contacts marked l tell =
     core_changed w x s t old new core is was now (record { bodies = marked; pairs = pairs_stay new.marks w.plain.joints x.plain.joints (ap forbidden_pairs joints); keys = numbers_stay new.marks w.plain.contacts x.plain.contacts (ap (map number_of) contacts) }) l tell
-
--- there are more marks than before
-pub core_marked : {a : Anchored} (w : World) (s : Acting Constraint) (old new : Bodies) → IsWorldCore w s old.marks a → old.bodies ≡ w.plain.bodies → new.bodies ≡ w.plain.bodies → AreMarked old new → IsWorldCore w s new.marks a
-core_marked {a} w s old new core was now marked = core_bodies w w s s old new core core.whole was now refl refl marked a core.anchored
 
 -- all is marked
 pub core_all : (x : World) (t : Acting Constraint) (marks : List Bool) → IsWhole x t → ((slot : ℕ) → slice_index_or marks slot true ≡ true) → (l : Anchored) → Tell l.holds l.lists t.ties → IsWorldCore x t marks l

@@ -1,7 +1,6 @@
 -- A world in which a part was made or has ended is whole, and its answer is the one that is due.
-use Rattle.std.proofs.Common.{◌≡◌, ◌<◌, ◌≤◌, ℕ, zero, suc, List, [], ◌∷◌, length, Bool, true, false, cond, Option, Some, None, Ok, Err, refl, sym, ap, ◌∙◌, subst, arith}
+use Rattle.std.proofs.Common.{◌≡◌, ◌<◌, ℕ, zero, suc, List, [], ◌∷◌, length, Bool, true, false, cond, Option, Some, None, Ok, Err, refl, sym, ap, ◌∙◌, subst, arith}
 use Rattle.std.specs.Prelude.{Contains, filter, nat_lt, option_map, slice_set}
-use Rattle.std.proofs.lemmas.List.{length-set}
 use Rattle.std.proofs.lemmas.Option.{none-some, same_Some}
 use Rattle.std.proofs.lemmas.Grind.{common_steps}
 use Rattle.fixed_geom.specs.declared.refusal.Refusal.TheVariants.{BodyDisabled}
@@ -15,7 +14,7 @@ use Rattle.graph_colours.specs.Members.{has_id}
 use Rattle.graph_colours.specs.Movers.{has_mover}
 use Rattle.graph_colours.specs.declared.member.Member.{Member}
 use Rattle.graph_colours.specs.declared.member.Movers.{Movers}
-use Rattle.islands.specs.Labels.{Labels, label_at}
+use Rattle.islands.specs.Labels.{label_at}
 use Rattle.plain_world.specs.declared.body.Body.{Body}
 use Rattle.plain_world.specs.declared.body.BodyDef.{BodyDef}
 use Rattle.plain_world.specs.declared.joint.BodyJoint.{BodyJoint}
@@ -45,7 +44,6 @@ use Rattle.world_rules.proofs.PartsLeft.{IsLeft, ended_from, ended_is, ends_of, 
 use Rattle.solver_sets.proofs.SlotLemmas.{lowest-free, none_if}
 use Rattle.world_rules.proofs.SlotLemmas.{AreBodies-set, body_at-in}
 use Rattle.world_rules.proofs.KeptBodies.{disabled_is}
-use Rattle.world_rules.proofs.ToldLaws.{length_told}
 use Rattle.world_rules.proofs.SoundLaws.{IsKept, kept_sound, sound_kept}
 
 -- what a whole world keeps
@@ -91,9 +89,6 @@ pub unjoin_answers : (w : World) (h : Handle) (j : BodyJoint) (now : World) (s :
 unjoin_answers w h j now s named l = rw named (refl, l.same)
 
 -- ---- bodies that are told once one has left
-
-pub few_left : (w : World) (labels : Labels) (slot : ℕ) (o : Option Body) → IsKept w → length (slice_set (told labels w.plain.bodies) slot o) ≤ MAX_SLOTS
-few_left w labels slot o k = rw (length-set (told labels w.plain.bodies) slot o, length_told labels w.plain.bodies) k.matched.few
 
 pub bodies_without : (bodies : List (Option Body)) (slot : ℕ) → AreBodies bodies → AreBodies (slice_set bodies slot None)
 bodies_without bodies slot all = AreBodies-set bodies slot None all (λ b e. absurd (none-some b e))

@@ -22,7 +22,7 @@ use Rattle.plain_world.specs.Bodies.{AreBodies, is_awake, is_mover}
 use Rattle.plain_world.specs.Changes.{is_awake_in}
 use Rattle.plain_world.specs.Sleep.{sleeping_name, timed_bodies, told}
 use Rattle.plain_world.specs.Slots.{body_at}
-use Rattle.sleep_wake.specs.Acting.{Acting, IsSettled, are_awake, awake_label}
+use Rattle.sleep_wake.specs.Acting.{Acting, awake_label}
 use Rattle.sleep_wake.specs.Acting as acting
 use Rattle.sleep_wake.specs.SleepPhase.{all_put_to_rest, is_due, is_island, is_ready, least_timer, lesser, longest_at_rest, may_be_due, picked_to_split, ready, ready_from, ready_put_to_rest, sleep_phase, split_picked, ticks_to_sleep}
 use Rattle.sleep_wake.specs.Sleeping.{rested_at, slept_at, slept_by, split_if_loose}

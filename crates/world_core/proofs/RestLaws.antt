@@ -16,7 +16,7 @@ use Rattle.plain_world.specs.declared.joint.BodyJoint.{BodyJoint}
 use Rattle.plain_world.specs.Bodies.{is_mover}
 use Rattle.plain_world.specs.Changes.{is_awake_in}
 use Rattle.plain_world.specs.Slots.{body_at, item_in}
-use Rattle.sleep_wake.specs.Acting.{Acting, IsSettled, awake_label}
+use Rattle.sleep_wake.specs.Acting.{Acting, IsSettled}
 use Rattle.sleep_wake.specs.Acting as acting
 use Rattle.sleep_wake.specs.AwakeSlots.{AgreeAwake, AreAwakeSlots}
 use Rattle.sleep_wake.specs.SleepPhase.{sleep_phase}

@@ -2,7 +2,7 @@
 use Rattle.std.proofs.Common.{◌≡◌, ◌≢◌, ◌⊎◌, inl, inr, ℕ, zero, suc, ◌+◌, ◌<◌, ◌≤◌, Bool, true, false, cond, List, [], ◌∷◌, ◌++◌, length, nat_lt, get_or, slice_set, Option, Some, None, Result, Ok, Err, is_some, refl, sym, ap, subst, ◌∙◌, arith, true≢false}
 use Rattle.std.specs.Prelude.{◌==◌, OnErr, OnOk, option_map, slice_index_or}
 use Rattle.std.specs.List.{AllWithin}
-use Rattle.std.proofs.lemmas.Bool.{ltb-false, ltb-true}
+use Rattle.std.proofs.lemmas.Bool.{ltb-false}
 use Rattle.std.proofs.lemmas.Bool.Decides.{eqb_tells}
 use Rattle.std.proofs.lemmas.Int.{ints}
 use Rattle.std.proofs.lemmas.List.{get_or_default, length-append, length-set}
@@ -20,18 +20,12 @@ use Rattle.world_core_base.proofs.MarkedLaws.{get_body}
 contains_both : (outer middle inner : Box2) → Contains outer middle → Contains middle inner → Contains outer inner
 contains_both outer middle inner h k = record { left = omega (arith, ints, h.left, k.left); right = omega (arith, ints, h.right, k.right); down = omega (arith, ints, h.down, k.down); up = omega (arith, ints, h.up, k.up) }
 
-pub hull_first : (hull : Box2) (fats : List Box2) → AllWithin (λ fat. Contains hull fat) fats 0 0
-hull_first hull fats k d lo hi = absurd (omega (arith, hi))
-
 pub hull_next : (hull next : Box2) (fats : List Box2) (i : ℕ) (e : Box2) → i < length fats → AllWithin (λ fat. Contains hull fat) fats 0 i → Contains next hull → Contains next (get_or fats i e) → AllWithin (λ fat. Contains next fat) fats 0 (i + 1)
 hull_next hull next fats i e there all round last k d lo hi = by (eqb_tells k i)
   where
     by : (((k == i) ≡ true) × (k ≡ i)) ⊎ (((k == i) ≡ false) × (k ≢ i)) → Contains next (slice_index_or fats k d)
     by (inl f) = subst (λ (n : ℕ). Contains next (get_or fats n d)) (sym f.1) (subst (λ (b : Box2). Contains next b) (get_or_default fats i e d there) last)
     by (inr f) = let other : k ≢ i = f.1 in contains_both next hull (slice_index_or fats k d) round (all k d lo (omega (arith, hi, other)))
-
-pub hull_whole : (hull : Box2) (fats : List Box2) (i : ℕ) → length fats ≤ i → AllWithin (λ fat. Contains hull fat) fats 0 i → HoldsAll hull fats
-hull_whole hull fats i past all k d lt = all k d (omega arith) (omega (arith, lt, past))
 
 -- ---- boxes by slot
 
@@ -58,14 +52,8 @@ box_within [] slot e = absurd (true≢false (sym e))
 box_within (b ∷ boxes) zero e = omega arith
 box_within (b ∷ boxes) (suc slot) e = let rest : slot < length boxes = box_within boxes slot e in omega (arith, rest)
 
-pub other_boxes-set : (boxes : List (Option Box2)) (slot : ℕ) (o : Option Box2) → AreOtherBoxes slot boxes (slice_set boxes slot o)
-other_boxes-set boxes slot o = record { others = λ s other. box-set_other boxes slot o s other }
-
 pub other_boxes-same : (boxes : List (Option Box2)) (slot : ℕ) → AreOtherBoxes slot boxes boxes
 other_boxes-same boxes slot = record { others = λ s other. refl }
-
-pub other_boxes-then : (slot : ℕ) (boxes now later : List (Option Box2)) → AreOtherBoxes slot boxes now → AreOtherBoxes slot now later → AreOtherBoxes slot boxes later
-other_boxes-then slot boxes now later h k = record { others = λ s other. k.others s other ∙ h.others s other }
 
 pub cover_there : (o : Option Box2) (fats : List Box2) → IsCover o fats → is_some o ≡ true
 cover_there None fats h = absurd h
@@ -141,14 +129,6 @@ covered_put bodies boxes slot b next all here = by (nat_lt slot (length bodies))
     by true h = covered_set bodies boxes boxes slot (Some b) all (other_boxes-same boxes slot) here
     by false h = let past : length bodies ≤ slot = h refl in covered_end bodies boxes slot b (omega (arith, past, next)) all here
 
--- a slot without a body may have any box
-pub covered_free : (bodies : List (Option Body)) (boxes now : List (Option Box2)) (slot : ℕ) → body_at bodies slot ≡ None → AreCovered bodies boxes → AreOtherBoxes slot boxes now → AreCovered bodies now
-covered_free bodies boxes now slot free all others s = by (eqb_tells s slot)
-  where
-    by : (((s == slot) ≡ true) × (s ≡ slot)) ⊎ (((s == slot) ≡ false) × (s ≢ slot)) → IsCovered (box_at now s) (body_at bodies s)
-    by (inl e) = let none : body_at bodies s ≡ None = ap (λ (n : ℕ). body_at bodies n) e.1 ∙ free in subst (λ (o : Option Body). IsCovered (box_at now s) o) (sym none) tt
-    by (inr e) = subst (λ (c : Option Box2). IsCovered c (body_at bodies s)) (sym (others.others s e.1)) (all s)
-
 -- ---- bodies that show the same shapes
 
 alike_covered : (c : Option Box2) (o p : Option Body) → AreShownAlike o p → IsCovered c o → IsCovered c p
@@ -173,28 +153,6 @@ covered_if bodies boxes now slot o false all others here same alike =
 pub record AreCoveredBelow (bodies : List (Option Body)) (boxes : List (Option Box2)) (n : ℕ) : Type 0 where
   pub below : (slot : ℕ) → slot < n → IsCovered (box_at boxes slot) (body_at bodies slot)
   pub room : n ≤ length boxes
-
-pub covered_first : (bodies : List (Option Body)) → AreCoveredBelow bodies [] 0
-covered_first bodies = record { below = λ slot lt. absurd (omega (arith, lt)); room = omega arith }
-
-pub covered_next : (bodies : List (Option Body)) (boxes now : List (Option Box2)) (n : ℕ) (o : Option Body) → AreCoveredBelow bodies boxes n → o ≡ body_at bodies n → n < length now → IsCovered (box_at now n) o → AreOtherBoxes n boxes now → AreCoveredBelow bodies now (n + 1)
-covered_next bodies boxes now n o all e room here others = record { below = λ s lt. by s lt (eqb_tells s n); room = omega (arith, room) }
-  where
-    by : (s : ℕ) → s < n + 1 → (((s == n) ≡ true) × (s ≡ n)) ⊎ (((s == n) ≡ false) × (s ≢ n)) → IsCovered (box_at now s) (body_at bodies s)
-    by s lt (inl f) = subst (λ (k : ℕ). IsCovered (box_at now k) (body_at bodies k)) (sym f.1) (subst (λ (p : Option Body). IsCovered (box_at now n) p) e here)
-    by s lt (inr f) = let other : s ≢ n = f.1 in subst (λ (c : Option Box2). IsCovered c (body_at bodies s)) (sym (others.others s other)) (all.below s (omega (arith, lt, other)))
-
-past_none : (bodies : List (Option Body)) (slot : ℕ) → length bodies ≤ slot → body_at bodies slot ≡ None
-past_none [] slot h = refl
-past_none (o ∷ os) zero h = absurd (omega (arith, h))
-past_none (o ∷ os) (suc slot) h = past_none os slot (omega (arith, h))
-
-pub covered_last : (bodies : List (Option Body)) (boxes : List (Option Box2)) (n : ℕ) → length bodies ≤ n → AreCoveredBelow bodies boxes n → AreCovered bodies boxes
-covered_last bodies boxes n past all slot = by (nat_lt slot n) refl
-  where
-    by : (t : Bool) → nat_lt slot n ≡ t → IsCovered (box_at boxes slot) (body_at bodies slot)
-    by true e = all.below slot (ltb-true slot n e)
-    by false e = let beyond : n ≤ slot = ltb-false slot n e in subst (λ (o : Option Body). IsCovered (box_at boxes slot) o) (sym (past_none bodies slot (omega (arith, past, beyond)))) tt
 
 -- ---- what a table's methods leave
 

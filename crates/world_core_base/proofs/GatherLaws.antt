@@ -27,7 +27,6 @@ use Rattle.plain_world.specs.declared.kind.Course.{Course}
 use Rattle.plain_world.specs.Kinds.{IsCourseOf, carried_by, is_dynamic, is_kinematic, is_moving, is_static}
 use Rattle.plain_world.proofs.KindLaws.{awake_moves, carried_enabled, carried_kinematic, carried_rests, carried_still, mass_as, static_as}
 use Rattle.shapes.specs.Shapes.{IsShapeDef, shapes_refusal}
-use Rattle.shapes.specs.Poses.{IsPose}
 use Rattle.shapes.specs.declared.pose.Pose.{Pose}
 use Rattle.colour_solver.proofs.VectorLaws.{same_vector}
 use Rattle.plain_world.specs.Bodies.{AreBodies, IsAtRest, IsBody, IsMassOf, is_awake, is_carried, is_mover, pose_of}
@@ -332,22 +331,6 @@ forms_moved b s is = by (is_awake b) (is_carried b)
     by true c = is.forms
     by false true = is.forms
     by false false = is.forms
-
-pub pose_moved : (b : Body) (s : BodyState) → FitsState s b → IsPose (pose_of (with_motion s b))
-pose_moved b s fits = by (is_awake b) (is_carried b)
-  where
-    by : (m c : Bool) → IsPose (pose_of (cond m (record b { motion = s.motion }) (cond c (carried_to s.motion b) b)))
-    by true c = record { x = fits.state.motion.x; rot = fits.state.motion.facing }
-    by false true = record { x = fits.state.motion.x; rot = fits.state.motion.facing }
-    by false false = record { x = fits.body.motion.x; rot = fits.body.motion.facing }
-
-pub boxes_moved : (b : Body) (s : BodyState) → IsBody b → length (with_motion s b).fats ≡ length (with_motion s b).shapes
-boxes_moved b s is = by (is_awake b) (is_carried b)
-  where
-    by : (m c : Bool) → length (cond m (record b { motion = s.motion }) (cond c (carried_to s.motion b) b)).fats ≡ length (cond m (record b { motion = s.motion }) (cond c (carried_to s.motion b) b)).shapes
-    by true c = is.fats.long
-    by false true = is.fats.long
-    by false false = is.fats.long
 
 none_either : (e : Bool) → cond e false false ≡ false
 none_either true = refl

@@ -15,13 +15,12 @@ use Rattle.colour_solver.specs.States.{AreAllStates, nobody}
 use Rattle.colour_solver.specs.ConstraintTurns.{AreRowsBelow, IsRowBelow, contacts_among, joints_among}
 use Rattle.colour_solver.specs.declared.constraint_row.ConstraintRow.{ConstraintRow}
 use Rattle.colour_solver.specs.declared.constraint_row.ConstraintRow.TheVariants as rows
-use Rattle.contacts_base.specs.declared.contact.ContactEntry.{ContactEntry}
 use Rattle.plain_world.specs.declared.body.Body.{Body}
 use Rattle.plain_world.specs.declared.joint.BodyJoint.{BodyJoint}
 use Rattle.plain_world.specs.Joints.{AreJoints, IsBodyJoint, impulse_set, joint_at, with_impulse}
 use Rattle.plain_world.specs.Slots.{body_at}
 use Rattle.world_core_base.specs.ConstraintRows.{IsJointOn, IsJointThere, joint_bodies, joint_ends, joint_row_in, put_joint_row, with_joint_rows}
-use Rattle.world_core_base.specs.Gather.{HasMovable, IsContactRowBelow, states_of, with_rows}
+use Rattle.world_core_base.specs.Gather.{HasMovable, IsContactRowBelow, states_of}
 use Rattle.world_core_base.proofs.GatherLaws.{length-states, state_at}
 use Rattle.world_core_base.proofs.SolvingJoints.{bare_joints, bare_put, joint_put_other, joint_put_same}
 
@@ -40,15 +39,6 @@ contact_rows_whole n (rows.Contact r ∷ rs) all =
     let here : IsRowBelow n (rows.Contact r) = All-head (IsRowBelow n) (rows.Contact r) rs all in
     All-cons IsRow r (contacts_among rs) here.row (contact_rows_whole n rs (All-tail (IsRowBelow n) (rows.Contact r) rs all))
 contact_rows_whole n (rows.Joint r ∷ rs) all = contact_rows_whole n rs (All-tail (IsRowBelow n) (rows.Joint r) rs all)
-
--- one row and then the others
-pub put_one_joint : (joints : List (Option BodyJoint)) (r : ConstraintRow) (rs : List ConstraintRow) → with_joint_rows (with_joint_rows joints (joints_among (r ∷ []))) (joints_among rs) ≡ with_joint_rows joints (joints_among (r ∷ rs))
-put_one_joint joints (rows.Joint r) rs = refl
-put_one_joint joints (rows.Contact r) rs = refl
-
-pub put_one_contact : (contacts : List ContactEntry) (r : ConstraintRow) (rs : List ConstraintRow) → with_rows (with_rows contacts (contacts_among (r ∷ []))) (contacts_among rs) ≡ with_rows contacts (contacts_among (r ∷ rs))
-put_one_contact contacts (rows.Joint r) rs = refl
-put_one_contact contacts (rows.Contact r) rs = refl
 
 -- ---- the impulses given back
 

@@ -3,22 +3,14 @@ use Rattle.std.proofs.Common.{◌≡◌, ◌≢◌, ℕ, zero, suc, ◌+◌, ◌
 use Rattle.std.specs.Prelude.{option_map}
 use Rattle.std.proofs.lemmas.Bool.{ltb-false}
 use Rattle.std.proofs.lemmas.List.{length-set}
-use Rattle.fixed_geom.specs.declared.boxes.Box2.{Box2}
-use Rattle.momenta.specs.declared.motion.Motion.{Motion}
-use Rattle.momenta.specs.declared.state.BodyState.{BodyState}
 use Rattle.islands.specs.Labels.{Labels, label_at}
 use Rattle.islands.specs.declared.label.Label.{Label}
 use Rattle.plain_world.specs.declared.body.Body.{Body}
-use Rattle.plain_world.specs.declared.kind.Kind.{Kind}
-use Rattle.plain_world.specs.declared.kind.Kind.TheVariants.{Static, Kinematic, Dynamic}
-use Rattle.plain_world.specs.Bodies.{is_awake, is_carried, is_mover}
-use Rattle.plain_world.specs.Kinds.{is_dynamic, is_kinematic}
+use Rattle.plain_world.specs.Bodies.{is_awake, is_mover}
 use Rattle.plain_world.specs.Shown.{IsShownAlike}
 use Rattle.plain_world.specs.Sleep.{is_slow, roused, sleeping_name, timed, timed_bodies, told, told_body, told_by, told_from}
 use Rattle.plain_world.specs.Slots.{body_at, with_body}
-use Rattle.world_core_base.specs.Carried.{carried_to}
-use Rattle.world_core_base.specs.Gather.{with_motion}
-use Rattle.world_core_base.specs.Marked.{AreMarkedIn, AreMoreMarks, AreShownAlike, IsUnchangedAt}
+use Rattle.world_core_base.specs.Marked.{AreMarkedIn, AreShownAlike, IsUnchangedAt}
 
 -- ---- bodies that show the same shapes
 
@@ -49,10 +41,6 @@ marked_then first marks second later third last h k slot e =
     let one : IsUnchangedAt first marks second slot = h slot two.unmarked in
     record { unmarked = one.unmarked; alike = alike_then (body_at first slot) (body_at second slot) (body_at third slot) one.alike two.alike }
 
--- the bodies stay, and there are more marks
-pub marked_grown : (bodies : List (Option Body)) (marks now : List Bool) → AreMoreMarks marks now → AreMarkedIn bodies marks bodies now
-marked_grown bodies marks now more slot e = record { unmarked = more.unmarked slot e; alike = alike_same (body_at bodies slot) }
-
 -- all bodies show the same shapes, and the marks stay
 pub marked_alike : (bodies later : List (Option Body)) (marks : List Bool) → ((slot : ℕ) → AreShownAlike (body_at bodies slot) (body_at later slot)) → AreMarkedIn bodies marks later marks
 marked_alike bodies later marks alike slot e = record { unmarked = e; alike = alike slot }
@@ -61,18 +49,6 @@ pub marked_eq : (bodies : List (Option Body)) (marks : List Bool) (later others 
 marked_eq bodies marks later others now others_now e f h = subst (λ (l : List (Option Body)). AreMarkedIn bodies marks l others_now) (sym e) (subst (λ (l : List Bool). AreMarkedIn bodies marks later l) (sym f) h)
 
 -- ---- marks put
-
-pub more_same : (marks : List Bool) → AreMoreMarks marks marks
-more_same marks = record { unmarked = λ slot e. e }
-
-grown_unmarked : (marks : List Bool) (slot : ℕ) → get_or (marks ++ true ∷ []) slot true ≡ false → get_or marks slot true ≡ false
-grown_unmarked [] zero e = e
-grown_unmarked [] (suc slot) e = e
-grown_unmarked (m ∷ marks) zero e = e
-grown_unmarked (m ∷ marks) (suc slot) e = grown_unmarked marks slot e
-
-pub more_grown : (marks : List Bool) → AreMoreMarks marks (marks ++ true ∷ [])
-more_grown marks = record { unmarked = λ slot e. grown_unmarked marks slot e }
 
 pub mark_there : (marks : List Bool) (slot : ℕ) → get_or (slice_set marks slot true) slot true ≡ true
 mark_there [] slot = refl
@@ -91,9 +67,6 @@ set_unmarked (m ∷ marks) (suc slot) zero e = record { other = λ f. absurd (om
 set_unmarked (m ∷ marks) (suc slot) (suc s) e =
     let rest : WasUnmarked marks slot s = set_unmarked marks slot s e in
     record { other = λ f. rest.other (omega (arith, f)); unmarked = rest.unmarked }
-
-pub more_set : (marks : List Bool) (slot : ℕ) → AreMoreMarks marks (slice_set marks slot true)
-more_set marks slot = record { unmarked = λ s e. (set_unmarked marks slot s e).unmarked }
 
 -- ---- one slot changed
 
@@ -198,24 +171,3 @@ timed_each ticks (o ∷ os) (suc slot) = timed_each ticks os slot
 
 pub marked_timed : (ticks : ℕ) (bodies : List (Option Body)) (marks : List Bool) → AreMarkedIn bodies marks (timed_bodies ticks bodies) marks
 marked_timed ticks bodies marks = marked_alike bodies (timed_bodies ticks bodies) marks (timed_each ticks bodies)
-
-kinematic_there : (enabled : Bool) (k : Kind) → cond enabled (is_kinematic k) false ≡ true → is_dynamic k ≡ false
-kinematic_there true Static e = refl
-kinematic_there true (Kinematic course) e = refl
-kinematic_there true Dynamic e = absurd (true≢false (sym e))
-kinematic_there false k e = absurd (true≢false (sym e))
-
-carried_shown : (m : Motion) (b : Body) → is_carried b ≡ true → IsShownAlike b (carried_to m b)
-carried_shown m b e = record { enabled = refl; dynamic = kinematic_there b.enabled b.kind e; shapes = refl; fats = refl }
-
--- the motion of a body given back
-pub moved_shown : (s : BodyState) (b : Body) → IsShownAlike b (with_motion s b)
-moved_shown s b = by (is_awake b) (is_carried b) refl
-  where
-    by : (t c : Bool) → is_carried b ≡ c → IsShownAlike b (cond t (record b { motion = s.motion }) (cond c (carried_to s.motion b) b))
-    by true c e = record { enabled = refl; dynamic = refl; shapes = refl; fats = refl }
-    by false true e = carried_shown s.motion b e
-    by false false e = record { enabled = refl; dynamic = refl; shapes = refl; fats = refl }
-
-pub shown_with : (b c : Body) (fats : List Box2) → IsShownAlike b c → fats ≡ c.fats → IsShownAlike b (record c { fats = fats })
-shown_with b c fats h e = record { enabled = h.enabled; dynamic = h.dynamic; shapes = h.shapes; fats = h.fats ∙ sym e }

@@ -46,11 +46,6 @@ joint_put_other (p ∷ ps) zero (suc other) o ne = refl
 joint_put_other (p ∷ ps) (suc slot) zero o ne = refl
 joint_put_other (p ∷ ps) (suc slot) (suc other) o ne = joint_put_other ps slot other o (λ e. ne (ap suc e))
 
-pub joint_there_again : (js : List (Option BodyJoint)) (slot : ℕ) (j : BodyJoint) → joint_at js slot ≡ Some j → slice_set js slot (Some j) ≡ js
-joint_there_again [] slot j e = refl
-joint_there_again (o ∷ os) zero j e = ap (λ (p : Option BodyJoint). p ∷ os) (sym e)
-joint_there_again (o ∷ os) (suc slot) j e = ap (λ (l : List (Option BodyJoint)). o ∷ l) (joint_there_again os slot j e)
-
 -- one that differs in its impulse at most
 pub bare_put : (js : List (Option BodyJoint)) (slot : ℕ) (j k : BodyJoint) → joint_at js slot ≡ Some j → bare_joint k ≡ bare_joint j → bare_joints (slice_set js slot (Some k)) ≡ bare_joints js
 bare_put [] slot j k e same = refl

@@ -5,7 +5,7 @@ use Rattle.std.proofs.lemmas.List.{length-append, length-set}
 use Rattle.std.proofs.lemmas.Bool.Decides.{nat_tests}
 use Rattle.momenta.specs.declared.state.BodyState.{BodyState}
 use Rattle.colour_solver.specs.States as step
-use Rattle.colour_solver.specs.States.{carried_of, moves, movers_of, nobody, places_from}
+use Rattle.colour_solver.specs.States.{carried_of, moves, movers_of, places_from}
 use Rattle.std.specs.Option.{is_none}
 use Rattle.momenta.specs.declared.mass.MassData.{MassData}
 use Rattle.shapes.specs.Shapes.{shapes_refusal}

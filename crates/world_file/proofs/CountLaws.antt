@@ -2,7 +2,6 @@
 use Rattle.std.proofs.Common.{◌≡◌, ℕ, zero, suc, ◌+◌, length, List, [], ◌∷◌, refl, ap, ◌∙◌, arith}
 use Rattle.std.proofs.lemmas.List.{length-append}
 use Rattle.graph_colours.specs.declared.limits.TheConstants.{COLOURS}
-use Rattle.plain_world.specs.Plain.{Plain}
 use Rattle.world_file.specs.Files.{plain_of}
 use Rattle.world_file.specs.declared.ties.Tie.{Tie}
 use Rattle.world_file.specs.Fitting.{ids_below, ids_coloured, ties_of}

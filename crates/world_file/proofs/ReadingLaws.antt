@@ -9,7 +9,7 @@ use Rattle.saved_values.specs.Asks.{all_asked, asked, clause_number, due_of, fir
 use Rattle.saved_values.specs.declared.clause.Broken.{Broken}
 use Rattle.saved_values.specs.declared.clause.Broken.TheVariants as broken
 use Rattle.saved_values.specs.declared.clause.Clause.{Clause}
-use Rattle.saved_values.specs.declared.clause.Clause.TheVariants.{Form, Limits, Generations, References, FatBoxes, Memberships, Links, Islands, Colours, Momentum}
+use Rattle.saved_values.specs.declared.clause.Clause.TheVariants.{Generations, References, Memberships, Links, Islands, Colours, Momentum}
 use Rattle.saved_values.specs.declared.reader.Reader.{Reader}
 use Rattle.world_file.specs.Answers.{IsBrokenBy, IsRefusedBy, others_asks}
 use Rattle.world_file.specs.Files.{broken_by, plain_of, read_of, read_unless}
@@ -29,26 +29,6 @@ due_by last clause other due = elim (cases_lt (clause_number last) (clause_numbe
 pub due_is : (last clause : Clause) (o : Option Clause) → due_of last o ≡ Some clause → (o ≡ Some clause) × (clause_number clause ≤ clause_number last)
 due_is last clause None due = absurd (let wrong : None ≡ Some clause = due in cc)
 due_is last clause (Some other) due = due_by last clause other due
-
-clause_most : (clause : Clause) → clause_number clause ≤ 10
-clause_most Form = omega arith
-clause_most Limits = omega arith
-clause_most Generations = omega arith
-clause_most References = omega arith
-clause_most FatBoxes = omega arith
-clause_most Memberships = omega arith
-clause_most Links = omega arith
-clause_most Islands = omega arith
-clause_most Colours = omega arith
-clause_most Momentum = omega arith
-
--- where nothing is due up to the last clause, nothing is broken
-pub none_due : (o : Option Clause) → due_of Momentum o ≡ None → o ≡ None
-none_due None none = refl
-none_due (Some clause) none =
-    let here : due_of Momentum (Some clause) ≡ Some clause = rw (not_lower 10 (clause_number clause) (clause_most clause)) refl in
-    let wrong : Some clause ≡ None = sym here ∙ none in
-    absurd (cc)
 
 first_is : (clause next : Clause) (o : Option Clause) → o ≡ Some clause → clause_number clause ≤ clause_number next → first_of next o ≡ Some clause
 first_is clause next o is le = rw is (rw (not_lower (clause_number next) (clause_number clause) le) refl)
@@ -70,9 +50,6 @@ five_stay a b c d e clause r is le =
 -- a clause of those before stays the first
 pub others_stay : (s : Saved) (clause : Clause) (r : Reader) → r.broken ≡ Some clause → clause_number clause ≤ 4 → (others_asks s r).broken ≡ Some clause
 others_stay s clause r is le = five_stay _ _ _ _ _ clause r is le
-
-pub fitting_is : (s : Saved) (r : Reader) → fitting_asks s r ≡ others_asks s (asked (references_keep s) References r)
-fitting_is s r = refl
 
 pub fitting_stays : (s : Saved) (clause : Clause) (r : Reader) → r.broken ≡ Some clause → clause_number clause ≤ 3 → (fitting_asks s r).broken ≡ Some clause
 fitting_stays s clause r is le = others_stay s clause (asked (references_keep s) References r) (later_asked clause References (references_keep s) r is (omega arith)) (omega arith)

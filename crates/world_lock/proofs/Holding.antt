@@ -1,19 +1,17 @@
 -- What is kept under the lock, over a call, over settling, and at the start.
 use Rattle.std.proofs.Common.{◌≡◌, ℕ, zero, suc, ◌+◌, ◌^◌, ◌<◌, ◌≤◌, List, [], ◌∷◌, ◌++◌, length, take, Ok, ◌+ℤ◌, refl, sym, ap, ◌∙◌, subst, arith, append_assoc, length-append}
 use Rattle.std.specs.Prelude.{All, replicate, slice_index_or, slice_set}
-use Rattle.std.proofs.lemmas.List.{append-nil, drop-append-le, drop_all, take-append-drop, take-append-le, take_all}
+use Rattle.std.proofs.lemmas.List.{append-nil, drop-append-le, take-append-drop, take-append-le}
 use Rattle.std.proofs.lemmas.List.Elements.{All-nil}
-use Rattle.impulse_ledger.specs.Sums.{HaveSameTotals}
 use Rattle.fixed_geom.specs.Vectors.{plus}
 use Rattle.colour_solver.proofs.VectorLaws.{same_x, same_y}
 use Rattle.seat_book.specs.History.{IsPast, known}
 use Rattle.plain_world.specs.Plain.{Plain}
 use Rattle.world_rules.specs.declared.command.Command.{Command}
 use Rattle.world_rules.specs.declared.command.Reply.{Reply}
-use Rattle.world_rules.specs.World.{World, book_of}
+use Rattle.world_rules.specs.World.{World}
 use Rattle.world_rules.specs.Apply.{apply}
 use Rattle.world_rules.specs.Replay.{after, answer_of}
-use Rattle.world_core.specs.Frames.{settled_world}
 use Rattle.world_rules.specs.Laws.{EachCallCounts, PushesAreSmall, impulse_of}
 use Rattle.world_lock.specs.declared.tally.Tally.{Tally}
 use Rattle.world_lock.specs.Journals.{Beginning, IsLegal, IsLike, Journalled, KeepsHeadline, Line, command_of, journalled, left_by, line, reply_of}
@@ -74,32 +72,6 @@ held_call seats first s e h count small here ok few =
       small = subst (λ (n : ℕ). All (IsTally n) (slice_set s.tallies e.seat (with_call (slice_index_or s.tallies e.seat no_calls) (impulse_of (command_of e))))) (sym one)
           (small_set s.world.plain.calls s.tallies e.seat _ (small_with s.world.plain.calls _ _ own (small_push small s.world (command_of e) e.call.reply ok)) h.small);
     }
-
-same_through : (u v w : World) → HaveSameTotals (book_of v) (book_of u) → HaveSameTotals (book_of w) (book_of v) → HaveSameTotals (book_of w) (book_of u)
-same_through u v w a b = record { all = b.all ∙ a.all; of_cause = λ c. b.of_cause c ∙ a.of_cause c }
-
-pub held_settle : (seats : ℕ) (first : World) (s : Standing) → IsHeld seats first s → HaveSameTotals (book_of (settled_world s.world)) (book_of s.world)
-    → IsHeld seats first (record {
-      world = settled_world s.world;
-      opening = settled_world s.world;
-      journal = [];
-      settled = s.settled + length s.journal;
-      tallies = s.tallies;
-      settled_tallies = s.tallies;
-      history = s.history;
-    })
-held_settle seats first s h same = record {
-  legal = h.legal;
-  like = record { plain = h.like.plain; events = h.like.events; totals = same_through (left_by first s.history) s.world (settled_world s.world) h.like.totals same };
-  journal = sym (drop_all (s.settled + length s.journal) s.history (let c = h.count in omega arith));
-  count = let c = h.count in omega arith;
-  calls = h.calls;
-  few = h.few;
-  seated = h.seated;
-  tallies = h.tallies;
-  settled_tallies = h.tallies ∙ ap (tallies_of seats) (sym (take_all (s.settled + length s.journal) s.history (let c = h.count in omega arith)));
-  small = h.small;
-}
 
 pub held_new : (seats : ℕ) (first : World) → first.plain.calls ≤ 2 ^ 40
     → IsHeld seats first (record { world = first; opening = first; journal = []; settled = 0; tallies = replicate seats no_calls; settled_tallies = replicate seats no_calls; history = [] })

@@ -1,5 +1,5 @@
 -- The tallies of a longer list of calls.
-use Rattle.std.proofs.Common.{◌≡◌, ◌≢◌, ℕ, zero, suc, ◌+◌, ◌^◌, ◌<◌, ◌≤◌, eq-eqb, ne_eqb, List, [], ◌∷◌, ◌++◌, length, cond, Bool, true, false, refl, sym, ap, ◌∙◌, arith, length-append}
+use Rattle.std.proofs.Common.{◌≡◌, ◌≢◌, ℕ, zero, suc, ◌+◌, ◌^◌, ◌<◌, eq-eqb, ne_eqb, List, [], ◌∷◌, ◌++◌, length, cond, Bool, true, false, refl, sym, ap, ◌∙◌, arith, length-append}
 use Rattle.std.specs.Prelude.{All, ◌==◌, replicate, slice_index_or, slice_set}
 use Rattle.std.proofs.lemmas.Int.{ints}
 use Rattle.std.proofs.lemmas.List.{append-nil}
@@ -105,6 +105,3 @@ small_set m (t ∷ ts) zero v one all zero d l = one
 small_set m (t ∷ ts) zero v one all (suc k) d l = small_more m _ (all (suc k) d (omega arith))
 small_set m (t ∷ ts) (suc i) v one all zero d l = small_more m t (all zero d (omega arith))
 small_set m (t ∷ ts) (suc i) v one all (suc k) d l = small_set m ts i v one (λ j f h. all (suc j) f (omega arith)) k d (omega arith)
-
-pub small_all : (m n : ℕ) (ts : List Tally) → m ≤ n → All (IsTally m) ts → All (IsTally n) ts
-small_all m n ts le all k d l = let s = all k d l in let c = s.calls in let x = s.x in let y = s.y in record { calls = omega arith; x = omega (arith, le); y = omega (arith, le) }

@@ -16,7 +16,7 @@ use Rattle.shapes.specs.declared.beam.Beam.{Beam}
 use Rattle.shapes.specs.declared.pose.Pose.{Pose}
 use Rattle.shapes.specs.declared.shape.ShapeDef.{ShapeDef}
 use Rattle.contacts_base.specs.declared.key.ShapeId.{ShapeId}
-use Rattle.shape_rays.specs.Hits.{first_hit, hit_at, hit_on, is_before, is_lesser, nearer, region}
+use Rattle.shape_rays.specs.Hits.{first_hit, hit_at, hit_on, is_before, nearer, region}
 use Rattle.shape_rays.specs.Reach.{reaches}
 use Rattle.shape_rays.specs.declared.hits.Hit.{Hit}
 use Rattle.shape_rays.specs.declared.hits.PlacedShape.{PlacedShape}
@@ -120,9 +120,6 @@ side_next slot o bodies x boxes h = λ k. subst (λ (n : ℕ). AreIn (box_at box
 
 side_bare : (slot : ℕ) (o : Option Body) (bodies : List (Option Body)) → AreSide slot (o ∷ bodies) [] → AreSide (suc slot) bodies []
 side_bare slot o bodies h = λ k. subst (λ (n : ℕ). AreIn None (shapes_at n (body_at bodies k))) (next slot k) (h (suc k))
-
-no_bodies_side : (slot : ℕ) (boxes : List (Option Box2)) → AreSide slot [] boxes
-no_bodies_side slot boxes = λ k. tt
 
 none_placed : (slot : ℕ) (bodies : List (Option Body)) → AreSide slot bodies [] → placed_from slot bodies ≡ []
 none_placed slot [] h = refl

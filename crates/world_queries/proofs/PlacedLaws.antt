@@ -1,5 +1,5 @@
 -- The shapes of a body, one after another.
-use Rattle.std.proofs.Common.{◌≡◌, ℕ, zero, suc, ◌<◌, ◌≤◌, ◌+◌, Bool, true, false, cond, List, [], ◌∷◌, ◌++◌, length, drop, Option, None, Some, refl, ap, sym, ◌∙◌, arith}
+use Rattle.std.proofs.Common.{◌≡◌, ℕ, zero, suc, ◌≤◌, ◌+◌, Bool, true, false, cond, List, [], ◌∷◌, ◌++◌, length, drop, Option, None, Some, refl, ap, sym, ◌∙◌, arith}
 use Rattle.std.proofs.Math.Numerals.{add-one}
 use Rattle.std.proofs.lemmas.List.{append_assoc, append-nil}
 use Rattle.std.specs.Prelude.{option_map, slice_get, unwrap_or}
@@ -13,14 +13,14 @@ use Rattle.plain_world.specs.declared.body.Body.{Body}
 use Rattle.shape_rays.specs.declared.hits.Hit.{Hit}
 use Rattle.shape_rays.specs.declared.hits.PlacedShape.{PlacedShape}
 use Rattle.shape_rays.specs.Hits.{first_hit, hit_on, nearer, region}
-use Rattle.shape_rays.proofs.HitLemmas.{associate, first_of_parts, none_last}
+use Rattle.shape_rays.proofs.HitLemmas.{associate, none_last}
 use Rattle.shapes.specs.Bounds.{tight_box}
 use Rattle.shapes.specs.declared.beam.Beam.{Beam}
 use Rattle.shapes.specs.declared.pose.Pose.{Pose}
 use Rattle.shapes.specs.declared.shape.Shape.{Shape}
 use Rattle.shapes.specs.declared.shape.ShapeDef.{ShapeDef}
 use Rattle.world_rules.proofs.PairLaws.{eight_at_most}
-use Rattle.world_queries.specs.Placed.{named, shapes_from, shapes_at, placed_from}
+use Rattle.world_queries.specs.Placed.{named, shapes_from}
 
 -- ---- those of one body
 

@@ -23,7 +23,7 @@ use Rattle.plain_world.specs.Formed.{AreFiltered}
 use Rattle.plain_world.specs.Slots.{AreMatched, HaveSameSlots, body_at}
 use Rattle.sleep_wake.specs.Acting.{Acting, IsSettled}
 use Rattle.sleep_wake.specs.Acting as acting
-use Rattle.sleep_wake.specs.Sleeping.{islands_woken, names_of, with_name}
+use Rattle.sleep_wake.specs.Sleeping.{islands_woken, names_of}
 use Rattle.sleep_wake.specs.Sleeping as naming
 use Rattle.sleep_wake.specs.Waking.{set_woken, woken_at, woken_by}
 use Rattle.solver_sets.specs.Tied.{AreAlike, AreTied}
@@ -79,11 +79,6 @@ acted w s bodies is = record {
   labels = is.long ∙ sym (length_told s.labels w.bodies);
   moved = ap ids_of (told_lists w s is);
 }
-
--- the acting of a kept world
-pub acting_kept : (w : World) → IsKept w → IsActing w.plain (acting_of w.plain)
-unfolding acting_of
-acting_kept w k = record { settled = k.settled; ties = refl; tied = k.tied; long = k.labels }
 
 -- ---- the lists of a world, beside its islands and its colours
 
@@ -282,23 +277,6 @@ waking_kept w slots k =
       alike = told_alike s.labels w.plain.bodies;
       slots = told_same_slots s.labels w.plain.bodies;
     }
-
--- waking one mover's island by its name is waking it by the mover's slot
-pub waking_one : (s : Acting Constraint) (slot : ℕ) → IsSettled constraint_number s → islands_woken constraint_number (names_of s.labels (slot ∷ [])) s ≡ woken_at constraint_number slot s
-unfolding woken_at
-waking_one s slot settled = by_label (label_at s.labels slot) refl
-  where
-    by_sleep : (t : Bool) (l : Label) → is_asleep l.state ≡ t → label_at s.labels l.name ≡ Some l → islands_woken constraint_number (with_name (cond t (Some l.name) None) []) s ≡ cond t (set_woken constraint_number l.name s) s
-    by_sleep true l e named = ap (λ (o : Option Label). woken_by constraint_number o s) named ∙ ap (λ (t : Bool). cond t (set_woken constraint_number l.name s) s) e
-    by_sleep false l e named = refl
-
-    by_label : (o : Option Label) → label_at s.labels slot ≡ o → islands_woken constraint_number (with_name (naming.sleeping_name o) []) s ≡ woken_by constraint_number o s
-    by_label None e = refl
-    by_label (Some l) e = by_sleep (is_asleep l.state) l refl (settled.islands.partition.named slot l e)
-
-pub woken_one : (w : World) (slot : ℕ) → IsKept w → woken w.plain (slot ∷ []) ≡ with_acting (woken_at constraint_number slot (acting_of w.plain)) w.plain
-unfolding acting_of
-woken_one w slot k = ap (λ (s : Acting Constraint). with_acting s w.plain) (waking_one (acting_of w.plain) slot k.settled)
 
 -- the bodies of a kept world are told already
 pub told_kept : (w : World) → IsKept w → sleep.told w.plain.islands w.plain.bodies ≡ w.plain.bodies

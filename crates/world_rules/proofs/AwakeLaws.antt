@@ -13,7 +13,6 @@ use Rattle.islands.specs.Labels.{Labels, is_in, label_at, lowest, relabelled, ta
 use Rattle.islands.proofs.LabelLemmas.{relabel_at}
 use Rattle.plain_world.specs.declared.body.Body.{Body}
 use Rattle.plain_world.specs.Bodies as bodies
-use Rattle.plain_world.specs.Plain.{Plain}
 use Rattle.plain_world.specs.Slots.{body_at}
 use Rattle.sleep_wake.specs.Acting.{Acting, are_awake, awake_label, is_awake, second_awake}
 use Rattle.sleep_wake.specs.Bodies.{mover_gone}
@@ -27,16 +26,6 @@ use Rattle.world_rules.proofs.LowerLaws.{linked_stand_together, the_named_are_aw
 use Rattle.solver_sets.proofs.SlotLemmas.{item_at-set_other}
 use Rattle.world_rules.proofs.SoundLaws.{IsKept}
 use Rattle.world_rules.proofs.ToldLaws.{NobodyFallsAsleep}
-
--- ---- what acts of a world
-
-pub acting_ties : (w : Plain) → (acting_of w).ties ≡ ties_of w.bodies (joints_of w) w.contacts
-unfolding acting_of
-acting_ties w = refl
-
-pub acting_labels : (w : Plain) → (acting_of w).labels ≡ w.islands
-unfolding acting_of
-acting_labels w = refl
 
 -- ---- a mover that goes
 

@@ -1,29 +1,26 @@
 -- A kept world can be gathered for the ticks of a step: of each constraint that acts a body is an awake mover.
-use Rattle.std.proofs.Common.{◌≡◌, ◌⊎◌, inl, inr, ℕ, zero, suc, ◌+◌, ◌<◌, Bool, true, false, cond, is_some, List, [], ◌∷◌, ◌++◌, length, get_or, map, Option, Some, None, All, refl, sym, ap, ◌∙◌, subst, arith}
+use Rattle.std.proofs.Common.{◌≡◌, ◌⊎◌, inl, inr, ℕ, zero, suc, ◌+◌, ◌<◌, Bool, true, false, cond, is_some, List, [], ◌∷◌, ◌++◌, length, get_or, Option, Some, None, All, refl, sym, ap, ◌∙◌, subst, arith}
 use Rattle.std.specs.Prelude.{◌&&◌, slice_index_or}
 use Rattle.std.specs.List.{filter_map, flat_map, cons_option}
 use Rattle.std.proofs.lemmas.List.{length-append}
 use Rattle.std.proofs.lemmas.List.Elements.{All-append, All-cons, All-nil, Contains-get_or}
 use Rattle.std.proofs.lemmas.Option.{none-some, same_Some}
-use Rattle.contacts.specs.Constraints.{constraint_number}
 use Rattle.contacts.specs.declared.constraint.Constraint.{Constraint}
 use Rattle.contacts.specs.declared.constraint.Constraint.TheVariants as constraints
 use Rattle.contacts_base.specs.Contacts.{AreKeysRising}
-use Rattle.contacts_base.specs.declared.contact.ContactEntry.{ContactEntry}
-use Rattle.graph_colours.specs.Colours.{all_members, ids_of}
+use Rattle.graph_colours.specs.Colours.{all_members}
 use Rattle.graph_colours.specs.declared.member.Member.{Member}
 use Rattle.graph_colours.specs.declared.member.Movers.{Movers}
-use Rattle.islands.specs.Labels.{Labels, label_at}
+use Rattle.islands.specs.Labels.{label_at}
 use Rattle.islands.specs.declared.label.Label.{Label}
 use Rattle.plain_world.specs.declared.body.Body.{Body}
 use Rattle.plain_world.specs.declared.joint.BodyJoint.{BodyJoint}
-use Rattle.plain_world.specs.Joints.{AreJoints, joint_at}
+use Rattle.plain_world.specs.Joints.{joint_at}
 use Rattle.plain_world.specs.Sleep.{told}
 use Rattle.plain_world.specs.Slots.{body_at}
 use Rattle.colour_solver.specs.States.{nobody}
 use Rattle.sleep_wake.specs.Acting.{Acting, are_awake, awake_label, is_awake, second_awake}
-use Rattle.solver_sets.specs.Tied.{AreTied}
-use Rattle.solver_sets.specs.Ties.{JointSlots, Lists, is_mover_in, member_of, members_of, movers_if, movers_in, movers_of, movers_with, moves, is_enabled, tie_with}
+use Rattle.solver_sets.specs.Ties.{JointSlots, is_mover_in, member_of, members_of, movers_if, movers_in, movers_of, movers_with, moves, is_enabled, tie_with}
 use Rattle.world_core_base.specs.ConstraintRows.{HasJointOn, IsJointThere, IsMovable}
 use Rattle.world_core_base.specs.Gather.{HasMovable, states_of}
 use Rattle.world_core_base.specs.Gather as gathered
@@ -33,7 +30,6 @@ use Rattle.world_core_base.proofs.GatherLaws.{movable_at}
 use Rattle.world_core_base.proofs.JointLaws.{joint_on}
 use Rattle.world_rules.specs.Gathering.{CanGather}
 use Rattle.world_rules.specs.Sets.{acting_of}
-use Rattle.world_rules.specs.Sound.{AreTold}
 use Rattle.world_rules.specs.World.{World, joints_of}
 use Rattle.world_rules.proofs.ActingLaws.{awake_name}
 use Rattle.world_rules.proofs.KeptStep.{collide_kept, collided_in, collided_world, turned_in}

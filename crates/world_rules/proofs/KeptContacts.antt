@@ -1,7 +1,7 @@
 -- The contacts and the joints stay those of bodies that are there when bodies change, come and go.
 use Rattle.std.proofs.Common.{◌≡◌, ℕ, zero, suc, ◌<◌, ◌≤◌, Bool, true, false, cond, List, [], ◌∷◌, ◌++◌, length, Option, Some, None, All, inl, inr, nat_lt, arith, refl, sym, ap, ap₂, ◌∙◌, is_some, length-append}
-use Rattle.std.specs.Prelude.{◌==◌, ◌||◌, ◌≢◌, not, slice_set}
-use Rattle.std.proofs.lemmas.Bool.{cases_eq, eqb-false}
+use Rattle.std.specs.Prelude.{◌||◌, ◌≢◌, not, slice_set}
+use Rattle.std.proofs.lemmas.Bool.{cases_eq}
 use Rattle.std.proofs.lemmas.List.{length-set}
 use Rattle.std.proofs.lemmas.List.Elements.{All-nil, All-cons, All-head, All-tail, All-weaker}
 use Rattle.contacts_base.specs.declared.contact.ContactEntry.{ContactEntry}
@@ -29,9 +29,6 @@ pub record MovesSame (old new : List (Option Body)) : Type 0 where
   pub slots : length new ≡ length old
   pub same : (slot : ℕ) → moves new slot ≡ moves old slot
 
-pub MovesSame-trans : (old now new : List (Option Body)) → MovesSame old now → MovesSame now new → MovesSame old new
-MovesSame-trans old now new h k = record { slots = k.slots ∙ h.slots; same = λ slot. k.same slot ∙ h.same slot }
-
 pub MovesMore-same : (old new : List (Option Body)) → MovesSame old new → MovesMore old new
 MovesMore-same old new h = let s : length new ≡ length old = h.slots in record { slots = omega arith; more = λ slot m. h.same slot ∙ m }
 
@@ -56,13 +53,6 @@ contacts_of_same old new contacts h all = contacts_of_more old new contacts (Mov
 
 -- ---- one slot
 
-pub moves-set : (bodies : List (Option Body)) (slot : ℕ) (o : Option Body) → moves_in o ≡ moves bodies slot → (k : ℕ) → moves (slice_set bodies slot o) k ≡ moves bodies k
-moves-set [] slot o e k = refl
-moves-set (a ∷ bs) zero o e zero = e
-moves-set (a ∷ bs) zero o e (suc k) = refl
-moves-set (a ∷ bs) (suc slot) o e zero = refl
-moves-set (a ∷ bs) (suc slot) o e (suc k) = moves-set bs slot o e k
-
 pub moves-set_other : (bodies : List (Option Body)) (slot : ℕ) (o : Option Body) (k : ℕ) → k ≢ slot → moves (slice_set bodies slot o) k ≡ moves bodies k
 moves-set_other bodies slot o k ne = ap moves_in (item_at-set_other bodies slot o k ne)
 
@@ -75,11 +65,6 @@ pub moves-push : (bodies : List (Option Body)) (o : Option Body) (k : ℕ) → m
 moves-push [] o k m = cc
 moves-push (a ∷ bs) o zero m = m
 moves-push (a ∷ bs) o (suc k) m = moves-push bs o k m
-
--- ---- one body changed
-
-pub MovesSame-set : (bodies : List (Option Body)) (slot : ℕ) (o : Option Body) → moves_in o ≡ moves bodies slot → MovesSame bodies (slice_set bodies slot o)
-MovesSame-set bodies slot o e = record { slots = length-set bodies slot o; same = moves-set bodies slot o e }
 
 -- ---- a body that comes
 
@@ -126,23 +111,6 @@ neither true b e = cc
 neither false true e = cc
 neither false false e = (refl, refl)
 
-contact_without : (bodies : List (Option Body)) (slot : ℕ) (e : ContactEntry) → not (has_slot slot e) ≡ true → IsContactOf bodies e → IsContactOf (slice_set bodies slot None) e
-contact_without bodies slot e other is =
-    let t = neither (e.key.first.slot == slot) (e.key.second.slot == slot) other in
-    let s : length (slice_set bodies slot None) ≡ length bodies = length-set bodies slot None in
-    let a : e.key.first.slot < length bodies = is.first in
-    let b : e.key.second.slot < length bodies = is.second in
-    record {
-      first = omega arith;
-      second = omega arith;
-      apart = is.apart;
-      mover = elim is.mover [
-        | inl m ↦ inl (moves-set_other bodies slot None e.key.first.slot (eqb-false _ _ t.0) ∙ m)
-        | inr m ↦ inr (moves-set_other bodies slot None e.key.second.slot (eqb-false _ _ t.1) ∙ m)
-      ];
-      contact = is.contact;
-    }
-
 kept_if : (P : ContactEntry → Type 0) (t : Bool) (e : ContactEntry) (es : List ContactEntry) → (t ≡ true → P e) → All P es → All P (cond t (e ∷ es) es)
 kept_if P true e es h rest = All-cons P e es (h refl) rest
 kept_if P false e es h rest = rest
@@ -151,10 +119,6 @@ kept_if P false e es h rest = rest
 pub all_without : (P Q : ContactEntry → Type 0) (slot : ℕ) → ((e : ContactEntry) → not (has_slot slot e) ≡ true → P e → Q e) → (contacts : List ContactEntry) → All P contacts → All Q (contacts_without slot contacts)
 all_without P Q slot f [] all = All-nil Q
 all_without P Q slot f (e ∷ es) all = kept_if Q (not (has_slot slot e)) e (contacts_without slot es) (λ other. f e other (All-head P e es all)) (all_without P Q slot f es (All-tail P e es all))
-
--- its contacts go along, and the others stay
-pub contacts_of_without : (bodies : List (Option Body)) (slot : ℕ) (contacts : List ContactEntry) → AreContactsOf bodies contacts → AreContactsOf (slice_set bodies slot None) (contacts_without slot contacts)
-contacts_of_without bodies slot contacts all = all_without (IsContactOf bodies) (IsContactOf (slice_set bodies slot None)) slot (contact_without bodies slot) contacts all
 
 -- ---- the bodies of both shapes stay there
 
@@ -189,16 +153,6 @@ has_bodies_same old new contacts h alike same all =
 
 pub has_bodies_with : (bodies : List (Option Body)) (slot : ℕ) (b : Body) (contacts : List ContactEntry) → body_at bodies slot ≡ None → All (HasBodies bodies) contacts → All (HasBodies (with_body bodies slot b)) contacts
 has_bodies_with bodies slot b contacts none all = has_bodies_more bodies (with_body bodies slot b) contacts (λ k taken. kept_at bodies (with_body bodies slot b) k taken (body_at-with_body bodies slot b k none taken)) all
-
-others_have_bodies : (bodies : List (Option Body)) (slot : ℕ) (e : ContactEntry) → not (has_slot slot e) ≡ true → HasBodies bodies e → HasBodies (slice_set bodies slot None) e
-others_have_bodies bodies slot e other h =
-    let t = neither (e.key.first.slot == slot) (e.key.second.slot == slot) other in
-    kept_has_bodies bodies (slice_set bodies slot None) e
-    (kept_at bodies (slice_set bodies slot None) e.key.first.slot h.first (item_at-set_other bodies slot None e.key.first.slot (eqb-false _ _ t.0)))
-    (kept_at bodies (slice_set bodies slot None) e.key.second.slot h.second (item_at-set_other bodies slot None e.key.second.slot (eqb-false _ _ t.1))) h
-
-pub has_bodies_without : (bodies : List (Option Body)) (slot : ℕ) (contacts : List ContactEntry) → All (HasBodies bodies) contacts → All (HasBodies (slice_set bodies slot None)) (contacts_without slot contacts)
-has_bodies_without bodies slot contacts all = all_without (HasBodies bodies) (HasBodies (slice_set bodies slot None)) slot (others_have_bodies bodies slot) contacts all
 
 -- ---- the joints stay joints of bodies that are there
 

@@ -7,7 +7,7 @@ use Rattle.world_rules.specs.declared.command.Reply.{Reply}
 use Rattle.world_rules.specs.World.{World}
 use Rattle.world_rules.specs.Apply.{Applied, apply}
 use Rattle.world_rules.specs.Replay.{answer_of, after_one, after, replay, answers_to}
-use Rattle.world_rules.specs.Laws.{GoOnTheSame, PlainListsTellAll}
+use Rattle.world_rules.specs.Laws.{PlainListsTellAll}
 
 -- after the same outcome
 one_same : (v w : World) (outcome : Result Applied Refusal) → v.plain ≡ w.plain → (after_one v outcome).plain ≡ (after_one w outcome).plain

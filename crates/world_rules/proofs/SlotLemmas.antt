@@ -1,22 +1,16 @@
 -- One slot changed: what becomes of the movers' momentum, of the bodies, and of the slots that are taken.
-use Rattle.std.proofs.Common.{◌≡◌, ◌≢◌, ℕ, zero, suc, ◌*◌, ◌<◌, ◌≤◌, ◌^◌, List, [], ◌∷◌, ◌++◌, length, Option, Some, None, Bool, true, false, cond, arith, refl, sym, ap, ◌∙◌, is_some}
-use Rattle.std.specs.Prelude.{slice_get, slice_set, not, ◌&&◌}
-use Rattle.std.proofs.Common.{inl, inr, get_or}
-use Rattle.std.proofs.lemmas.Bool.{cases_lt}
-use Rattle.std.proofs.lemmas.List.Sums.{passes_at_first}
+use Rattle.std.proofs.Common.{◌≡◌, ℕ, zero, suc, ◌*◌, ◌<◌, ◌^◌, List, [], ◌∷◌, ◌++◌, length, Option, Some, None, Bool, true, false, cond, arith, refl, sym, ap, ◌∙◌, is_some}
+use Rattle.std.specs.Prelude.{slice_get, slice_set}
 use Rattle.std.proofs.lemmas.Int.{ints}
 use Rattle.std.proofs.lemmas.Grind.{common_steps}
 use Rattle.fixed_geom.specs.Vectors.{IsWithin, plus, zero_vector}
 use Rattle.fixed_geom.specs.declared.vectors.Vec2.{Vec2}
 use Rattle.body_handles.specs.declared.places.Place.{Place}
-use Rattle.body_handles.specs.Places.{is_open, lowest}
-use Rattle.body_handles.proofs.LowestLemmas.{no_place}
-use Rattle.body_handles.specs.declared.places.TheConstants.{MAX_SLOTS}
 use Rattle.colour_solver.proofs.VectorLaws.{plus_assoc, plus_zero, same_vector, zero_plus}
 use Rattle.plain_world.specs.declared.body.Body.{Body}
 use Rattle.plain_world.specs.Bodies.{is_mover, IsBody, AreBodies}
 use Rattle.plain_world.specs.Momentum.{momentum_in, momentum}
-use Rattle.plain_world.specs.Slots.{body_at, item_at, shapes_in, is_taken, AreMatched, HaveSameSlots}
+use Rattle.plain_world.specs.Slots.{body_at, shapes_in, AreMatched, HaveSameSlots}
 
 -- ---- the momentum
 

@@ -1,5 +1,5 @@
 -- A sound world, part by part: what each command's law keeps, and what follows from it.
-use Rattle.std.proofs.Common.{◌≡◌, ℕ, ◌+◌, ◌*◌, ◌^◌, ◌≤◌, All, length}
+use Rattle.std.proofs.Common.{◌≡◌, ◌+◌, ◌*◌, ◌^◌, ◌≤◌, All, length}
 use Rattle.fixed_geom.specs.Vectors.{IsWithin}
 use Rattle.impulse_ledger.specs.Sums.{total}
 use Rattle.contacts_base.specs.Contacts.{AreKeysRising}

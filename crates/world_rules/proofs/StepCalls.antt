@@ -1,17 +1,16 @@
 -- What the calls of a step ask for, and what its events are, of a kept world.
-use Rattle.std.proofs.Common.{◌≡◌, ℕ, ◌+◌, ◌*◌, ◌<◌, ◌≤◌, ◌^◌, List, length, Option, Some, sym, ap, ◌∙◌, subst, arith, All}
+use Rattle.std.proofs.Common.{◌≡◌, ℕ, ◌+◌, ◌<◌, ◌≤◌, ◌^◌, List, length, Option, sym, subst, arith, All}
 use Rattle.std.proofs.lemmas.List.Elements.{All-weaker}
-use Rattle.body_handles.specs.declared.handle.Handle.{Handle}
 use Rattle.contacts.specs.Constraints.{constraint_number}
 use Rattle.contacts.specs.declared.constraint.Constraint.{Constraint}
 use Rattle.contacts_base.specs.Contacts.{AreKeysRising}
 use Rattle.contacts_base.specs.declared.contact.ContactEntry.{ContactEntry}
 use Rattle.graph_colours.specs.Colours.{all_members}
 use Rattle.plain_world.specs.declared.body.Body.{Body}
-use Rattle.plain_world.specs.Sleep.{AreTimersWithin, timed_bodies, told}
+use Rattle.plain_world.specs.Sleep.{AreTimersWithin, told}
 use Rattle.sleep_wake.specs.Acting.{Acting, IsSettled}
 use Rattle.sleep_wake.specs.Changes.{AreChanges, begin_count}
-use Rattle.solver_sets.specs.Slept.{asleep_only_in, newly_asleep, newly_awake}
+use Rattle.solver_sets.specs.Slept.{asleep_only_in, newly_awake}
 use Rattle.solver_sets.specs.Ties.{IsNamed, key_changes}
 use Rattle.solver_sets.proofs.SleptLaws.{told_bodies_tell}
 use Rattle.world_core_base.specs.Renewal.{renewed_bodies}
@@ -23,7 +22,6 @@ use Rattle.world_rules.specs.World.{World, joints_of}
 use Rattle.world_rules.proofs.KeptStep.{IsTicked, collide_kept, collided_in, collided_world, step_solved_kept, turned_in}
 use Rattle.world_rules.proofs.LowerLaws.{few_begin, keys_can_turn}
 use Rattle.world_rules.proofs.PairLaws.{has_bodies_after}
-use Rattle.world_rules.proofs.SlotLemmas.{body_at-in}
 use Rattle.world_rules.proofs.SoundLaws.{IsKept, sound_kept}
 use Rattle.world_rules.proofs.StepParts.{few_act, step_acting, told_as}
 use Rattle.world_rules.proofs.ToldLaws.{at_from_in}

@@ -1,6 +1,6 @@
 -- Bodies that are told who sleeps: what they keep, what becomes of their momentum, and when they stay as they are.
 use Rattle.std.proofs.Common.{◌≡◌, ℕ, zero, suc, ◌+◌, ◌*◌, ◌≤◌, Bool, true, false, cond, is_some, List, [], ◌∷◌, length, Option, Some, None, pos, refl, sym, ap, ◌∙◌, subst, arith, ap₂}
-use Rattle.std.specs.Prelude.{option_map, slice_get, slice_set}
+use Rattle.std.specs.Prelude.{option_map, slice_get}
 use Rattle.std.specs.Option.{is_none}
 use Rattle.std.proofs.lemmas.Option.{none-some, same_Some}
 use Rattle.fixed_geom.specs.Vectors.{plus, zero_vector}
@@ -274,18 +274,6 @@ told_stays labels bodies all h =
 pub told_again : (labels : Labels) (bodies : List (Option Body)) → AreBodies bodies → AreTied bodies labels → told labels (told labels bodies) ≡ told labels bodies
 told_again labels bodies all tied = told_stays labels (told labels bodies) (told_are_bodies labels bodies all) (told_are_told labels bodies all tied)
 
--- ---- one slot set, and bodies told
-
-set_from : (n : ℕ) (labels : Labels) (bodies : List (Option Body)) (slot m : ℕ) (o : Option Body) → m ≡ n + slot → told_from n labels (slice_set bodies slot o) ≡ slice_set (told_from n labels bodies) slot (option_map (told_body (label_at labels m)) o)
-set_from n labels [] slot m o e = refl
-set_from n labels (a ∷ bs) zero m o e = let here : n ≡ m = omega (arith, e) in ap (λ (j : ℕ). option_map (told_body (label_at labels j)) o ∷ told_from (suc n) labels bs) here
-set_from n labels (a ∷ bs) (suc slot) m o e = ap (λ (l : List (Option Body)). option_map (told_body (label_at labels n)) a ∷ l) (set_from (suc n) labels bs slot m o (omega (arith, e)))
-
--- setting a slot and then telling is telling and then setting the slot to the body that is told
-pub told_set_slot : (labels : Labels) (bodies : List (Option Body)) (slot : ℕ) (o : Option Body) → told labels (slice_set bodies slot o) ≡ slice_set (told labels bodies) slot (option_map (told_body (label_at labels slot)) o)
-unfolding told
-told_set_slot labels bodies slot o = set_from 0 labels bodies slot slot o (omega arith)
-
 -- ---- bodies told again by other labels
 
 awake_if : (m : Bool) (a : Option ℕ) → m ≡ true → a ≡ None → cond m (is_none a) false ≡ true
@@ -354,21 +342,8 @@ over_from n first second (o ∷ bodies) all h k =
     let rest = over_from (suc n) first second bodies (λ i b e. all (suc i) b e) (tail_stays n o bodies first h) (tail_stays n (option_map (told_body (label_at first n)) o) (told_from (suc n) first bodies) second k) in
     λ j. one j ∷ rest j
 
--- where nobody falls asleep, neither first nor then, bodies that are told twice are as those that are told once, the last time
-pub told_over : (first second : Labels) (bodies : List (Option Body)) → AreBodies bodies → NobodyFallsAsleep bodies first → NobodyFallsAsleep (told first bodies) second → told second (told first bodies) ≡ told second bodies
-unfolding told
-told_over first second bodies all h k = over_from 0 first second bodies all (from_zero bodies first h) (from_zero (told_from 0 first bodies) second k)
-
 -- ---- a body that is told to sleep has no momentum
 
 no_part : (m : Bool) → cond m zero_vector zero_vector ≡ zero_vector
 no_part true = refl
 no_part false = refl
-
-pub rested_momentum : (l : Option Label) (b : Body) (name : ℕ) → sleeping_name l ≡ Some name → momentum_in (Some (told_body l b)) ≡ zero_vector
-rested_momentum l b name e = by (is_mover b) refl (sleeping_name l) e
-  where
-    by : (t : Bool) → is_mover b ≡ t → (o : Option ℕ) → o ≡ Some name → momentum_in (Some (cond t (told_by o b) b)) ≡ zero_vector
-    by true m None f = cc
-    by true m (Some n) f = no_part (is_mover b)
-    by false m o f = ap (λ (u : Bool). cond u b.motion.p zero_vector) m

@@ -1,5 +1,5 @@
 -- What each command does to the plain world, as a function.
-use Rattle.std.specs.Prelude.{◌≡◌, ℕ, ◌+◌, ◌^◌, Bool, true, false, cond, ◌&&◌, ◌==◌, nat_le, nat_lt, List, [], ◌∷◌, ◌++◌, Option, Some, None, is_some, Result, Ok, Err, ℤ, pos, neg_ℤ, ◌+ℤ◌, ◌-ℤ◌, unsigned_abs, slice_set, unwrap_or, replicate}
+use Rattle.std.specs.Prelude.{◌≡◌, ℕ, ◌+◌, ◌^◌, Bool, cond, ◌&&◌, ◌==◌, nat_le, nat_lt, List, [], ◌∷◌, ◌++◌, Option, Some, None, Result, Ok, Err, ℤ, pos, neg_ℤ, unsigned_abs, slice_set, unwrap_or, replicate}
 use Rattle.fixed_geom.specs.Facings.{is_facing}
 use Rattle.fixed_geom.specs.Vectors.{cross, is_within, minus, plus, zero_vector}
 use Rattle.fixed_geom.specs.declared.limits.TheConstants.{MAX_POSITION}
@@ -8,7 +8,7 @@ use Rattle.fixed_geom.specs.declared.refusal.Refusal.{Refusal}
 use Rattle.fixed_geom.specs.declared.refusal.Refusal.TheVariants.{NoMemory, StaleHandle, TooMany, OutOfRange, SameBody, NotAMover, NotKinematic, BodyDisabled, TooFast, WornOut}
 use Rattle.body_handles.specs.declared.handle.Handle.{Handle}
 use Rattle.body_handles.specs.declared.places.TheConstants.{MAX_SLOTS}
-use Rattle.body_handles.specs.Places.{lowest, generation_at, is_live, places_with, places_without}
+use Rattle.body_handles.specs.Places.{lowest, generation_at, places_with, places_without}
 use Rattle.momenta.specs.Impulses.{turned_by}
 use Rattle.momenta.specs.declared.limits.TheConstants.{MAX_ANGULAR_MOMENTUM, MAX_MOMENTUM}
 use Rattle.momenta.specs.declared.motion.Momenta.{Momenta}
@@ -38,7 +38,7 @@ use Rattle.solver_sets.specs.Ties.{JointSlots, begun_with, ended_with, joint_mov
 use Rattle.plain_world.specs.Bodies.{def_refusal, is_mover, made}
 use Rattle.plain_world.specs.Momentum.{momentum, momentum_in}
 use Rattle.plain_world.specs.Changes.{changed_at, disabled_body, enabled_body, put_course, put_momenta, put_pose}
-use Rattle.plain_world.specs.Joints.{idle_joints, joint_at, joint_made, joint_of, joint_refusal}
+use Rattle.plain_world.specs.Joints.{idle_joints, joint_made, joint_of, joint_refusal}
 use Rattle.plain_world.specs.Kinds.{is_course, is_dynamic, is_kinematic}
 use Rattle.plain_world.specs.Plain.{Plain}
 use Rattle.plain_world.specs.Sleep.{timed_bodies, told}

@@ -1,11 +1,7 @@
 -- The constraints, islands and colours of a world, taken together: what commands do to them, and the world that they leave.
-use Rattle.std.specs.Prelude.{ℕ, ◌==◌, Bool, true, false, cond, List, [], ◌∷◌, Option, Some, None}
-use Rattle.body_handles.specs.declared.handle.Handle.{Handle}
+use Rattle.std.specs.Prelude.{ℕ, Bool, cond, List}
 use Rattle.contacts.specs.Constraints.{constraint_number}
 use Rattle.contacts.specs.declared.constraint.Constraint.{Constraint}
-use Rattle.contacts.specs.declared.constraint.Constraint.TheVariants.{Joint}
-use Rattle.graph_colours.specs.declared.member.Member.{Member}
-use Rattle.graph_colours.specs.declared.member.Movers.{Movers}
 use Rattle.graph_colours.specs.Colours.{ids_of}
 use Rattle.sleep_wake.specs.Acting.{Acting, acting}
 use Rattle.sleep_wake.specs.Bodies.{mover_gone, mover_made}

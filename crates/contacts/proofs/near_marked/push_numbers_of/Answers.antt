@@ -1,5 +1,5 @@
 use Rattle.std.proofs.Common.{sym, ◌∙◌}
-use Rattle.contacts.proofs.NearMarkedLaws.{all_kept, has_numbers, none_numbers}
+use Rattle.contacts.proofs.NearMarkedLaws.{has_numbers}
 use Rattle.contacts.proofs.near_marked.push_numbers_of.Goals as goal
 
 pub returns-clause-near : goal.returns-clause-near

@@ -1,4 +1,4 @@
-use Rattle.std.proofs.Common.{◌≡◌, refl, length}
+use Rattle.std.proofs.Common.{refl}
 use Rattle.serde_json.proofs.Views.{members_len-members_view}
 use Rattle.saved_values.proofs.reader.has_keys.Goals as goal
 

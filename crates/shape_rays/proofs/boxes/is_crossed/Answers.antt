@@ -1,9 +1,8 @@
-use Rattle.std.proofs.Common.{◌≡◌, ℤ, refl}
+use Rattle.std.proofs.Common.{◌≡◌, refl}
 use Rattle.std.proofs.lemmas.Int.{to_z-of_z}
 use Rattle.std.specs.Int.{w64}
 use mir.Val.{SFits}
-use Rattle.fixed_geom.specs.Vectors.{dot, cross, plus}
-use Rattle.shape_rays.specs.Reach.{extent, sizes_across}
+use Rattle.fixed_geom.specs.Vectors.{dot, cross}
 use Rattle.shape_rays.proofs.boxes.is_crossed.Goals as goal
 
 pub returns : goal.returns

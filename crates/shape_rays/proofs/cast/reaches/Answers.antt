@@ -1,11 +1,4 @@
-use Rattle.std.proofs.Common.{◌≡◌, sym}
-use Rattle.fixed_geom.specs.Boxes.{Overlaps}
-use Rattle.fixed_geom.specs.declared.boxes.Box2.{Box2}
-use Rattle.fixed_geom.specs.declared.vectors.Vec2.{Vec2}
-use Rattle.fixed_geom.specs.Vectors.{IsWithin, minus}
-use Rattle.shapes.specs.Rays.{beam_of, IsBeam}
-use Rattle.shape_rays.specs.Reach.{box_round, common}
-use Rattle.shape_rays.proofs.PartLemmas.{AreNearCorners, corners_near}
+use Rattle.shape_rays.proofs.PartLemmas.{corners_near}
 use Rattle.shape_rays.proofs.cast.reaches.Goals as goal
 
 pub minus-requires-clause-first : goal.minus-requires-clause-first

@@ -1,6 +1,4 @@
-use Rattle.std.proofs.Common.{◌≡◌, slice_index_or, refl}
-use Rattle.colour_solver_base.specs.declared.row.ContactRow.{ContactRow}
-use Rattle.world_core_base.specs.Gather.{put_row}
+use Rattle.std.proofs.Common.{refl}
 use Rattle.world_core.proofs.GivenLaws.{all_given, next_given}
 use Rattle.world_core.proofs.impulses.put_contact_impulses.Goals as goal
 

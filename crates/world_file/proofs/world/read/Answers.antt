@@ -1,4 +1,4 @@
-use Rattle.std.proofs.Common.{◌≡◌, ◌+◌, length, sym, ap, ◌∙◌}
+use Rattle.std.proofs.Common.{length, sym, ap, ◌∙◌}
 use Rattle.std.specs.Prelude.{Result, Ok}
 use Rattle.serde_json.specs.View.{view}
 use Rattle.impulse_ledger.specs.declared.totals.Totals.{Totals}

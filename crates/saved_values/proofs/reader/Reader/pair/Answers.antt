@@ -1,6 +1,5 @@
 use Rattle.std.proofs.Common.{◌≡◌, length, ap, sym, ◌∙◌}
 use Rattle.serde_json.specs.Events.{items_len}
-use Rattle.serde_json.specs.View.{items_view}
 use Rattle.serde_json.proofs.Views.{items_len-items_view}
 use Rattle.saved_values.specs.Reading.{items_in, seen}
 use Rattle.saved_values.proofs.reader.Reader.pair.Goals as goal
