@@ -14,9 +14,9 @@ use Rattle.contacts_base.specs.declared.evaluation.Impulses.{Impulses}
 use Rattle.contacts_base.specs.declared.split.Renewal.{Renewal}
 use Rattle.contacts_base.specs.Keys.{key_number}
 use Rattle.contacts_base.specs.Surfaces.{IsSurface}
-use Rattle.contacts_base.specs.Contacts.{AreContacts, AreKeysRising, IsFirstFrom, contact_set, contacts_without, lookup, number_of, with_points}
+use Rattle.contacts_base.specs.Contacts.{AreContacts, AreKeysRising, IsFirstFrom, contact_set, contacts_without, impulses_given, lookup, number_of, with_points}
 use Rattle.contacts_base.specs.Merge.{AreAscending, below_of, beyond_of, merged}
-use Rattle.contacts_base.specs.Split.{counting, impulses_given, is_first, is_over, is_second, over_at, places_from, places_of, renewed}
+use Rattle.contacts_base.specs.Split.{counting, is_first, is_over, is_second, over_at, places_from, places_of, renewed}
 use Rattle.contacts_base.specs.ByBody.{keys_of}
 use Rattle.contacts_base.proofs.ContactsLemmas.{contacts_put}
 use Rattle.contacts_base.proofs.LookupLemmas.{keys_later, lookup-at, lookup-beyond, lookup-here, lookup-later, lookup-missed, lookup-none}

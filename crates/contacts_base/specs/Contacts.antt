@@ -69,6 +69,10 @@ with_second (Some i) point = option_map (with_impulses i) point
 abbrev pub with_points : Impulses → Option Impulses → ContactEntry → ContactEntry
 with_points first second e = record e { contact = record e.contact { first = option_map (with_impulses first) e.contact.first; second = with_second second e.contact.second } }
 
+-- the contact with the key has these impulses
+abbrev pub impulses_given : ContactKey → Impulses → Option Impulses → List ContactEntry → List ContactEntry
+impulses_given key first second es = map (λ e. cond (number_of e == key_number key) (with_points first second e) e) es
+
 -- the contact at the index, if there is one, has these points
 abbrev pub contact_set : ℕ → Contact → List ContactEntry → Option ContactEntry → List ContactEntry
 contact_set index c entries None = entries

@@ -1,11 +1,8 @@
 -- The contacts as a long list, which stands while contacts come and go, and a short one of those that have come since it was made.
-use Rattle.std.specs.Prelude.{ℕ, suc, ◌<◌, ◌==◌, ◌++◌, Bool, true, false, cond, List, [], ◌∷◌, map, Option, Some, None, slice_get, slice_index_or, slice_set, All}
-use Rattle.contacts_base.specs.declared.key.ContactKey.{ContactKey}
+use Rattle.std.specs.Prelude.{ℕ, suc, ◌<◌, ◌==◌, ◌++◌, Bool, true, false, cond, List, [], ◌∷◌, Option, Some, None, slice_get, slice_index_or, slice_set, All}
 use Rattle.contacts_base.specs.declared.contact.ContactEntry.{ContactEntry}
-use Rattle.contacts_base.specs.declared.evaluation.Impulses.{Impulses}
 use Rattle.contacts_base.specs.declared.split.Renewal.{Renewal}
-use Rattle.contacts_base.specs.Keys.{key_number}
-use Rattle.contacts_base.specs.Contacts.{contact_set, number_of, with_points}
+use Rattle.contacts_base.specs.Contacts.{contact_set, number_of}
 use Rattle.contacts_base.specs.Merge.{merged}
 
 -- what contracts see of the two lists: the long one, by place in it which contacts are over, and the short one
@@ -62,10 +59,6 @@ pub record AreSlotsBelow (count : ℕ) (es : List ContactEntry) : Type 0 where
   pub second : All (λ e. e.key.second.slot < count) es
 
 -- ---- what becomes of them
-
--- the contact with the key has these impulses
-abbrev pub impulses_given : ContactKey → Impulses → Option Impulses → List ContactEntry → List ContactEntry
-impulses_given key first second es = map (λ e. cond (number_of e == key_number key) (with_points first second e) e) es
 
 -- the contacts with what was noted of them
 abbrev pub renewed : List Renewal → List ContactEntry → List ContactEntry

@@ -3,9 +3,9 @@
 ghost use Rattle.std.specs.Prelude.{◌≡◌, ◌++◌, [], IfOk, IsTrue, OnErr, OnOk, false, length, map, option_copied, option_map};
 ghost use Rattle.std.specs.Option.{ForSome, is_some};
 ghost use Rattle.std.specs.Result.{IsOkUnless};
-ghost use Rattle.contacts_base.specs.Contacts.{AreContacts, AreKeysRising, contacts_without, lookup, number_of};
+ghost use Rattle.contacts_base.specs.Contacts.{AreContacts, AreKeysRising, contacts_without, impulses_given, lookup, number_of};
 ghost use Rattle.contacts_base.specs.Merge.{merged};
-ghost use Rattle.contacts_base.specs.Split.{AreSlotsBelow, carried, contacts_in, counting, counting_at, impulses_given, or_kept, places_of, renewed};
+ghost use Rattle.contacts_base.specs.Split.{AreSlotsBelow, carried, contacts_in, counting, counting_at, or_kept, places_of, renewed};
 
 use crate::by_body::BodyIndex;
 use crate::contacts::{has_slot, put_contact, set_points};

@@ -3,9 +3,9 @@
 ghost use Rattle.std.specs.Prelude.{◌≡◌, [], IfOk, IfSome, List, OnErr, OnOk, true};
 ghost use Rattle.std.specs.Result.{IsOkUnless};
 ghost use Rattle.contacts_base.specs.declared.contact.ContactEntry.{ContactEntry};
-ghost use Rattle.contacts_base.specs.Contacts.{AreContacts, contacts_without};
+ghost use Rattle.contacts_base.specs.Contacts.{AreContacts, contacts_without, impulses_given};
 ghost use Rattle.contacts_base.specs.Near.{IsProxyList};
-ghost use Rattle.contacts_base.specs.Split.{contacts_in, impulses_given};
+ghost use Rattle.contacts_base.specs.Split.{contacts_in};
 ghost use Rattle.contacts.specs.Changes.{AreRising, contacts_of, keys_touching_only_in};
 ghost use Rattle.contacts.specs.Due.{IsDue, IsNothing, due_of};
 ghost use Rattle.contacts.specs.Forbidden.{allowed_codes};
