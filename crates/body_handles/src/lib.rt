@@ -17,7 +17,7 @@ mod places;
 
 pub use handle::Handle;
 pub use handles::Handles;
-pub use places::{MAX_SLOTS, Place, WORN_OUT};
+pub use places::{MAX_SLOTS, Place, WORN_OUT, limits_in_digits};
 
 /// The law of generations: a handle that was taken back is never live again, whatever is given out and taken
 /// back afterwards. The function does nothing; its contract is the law.

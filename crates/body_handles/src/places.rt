@@ -82,3 +82,10 @@ pub(crate) fn take_back(places: &mut Vec<Place>, handle: Handle)
     place.generation += 1;
     place.live = false;
 }
+
+/// The law of the limits: the numbers that definitions take from the code, in digits. The function does nothing; its contract is
+/// the law.
+pub fn limits_in_digits()
+    ensures slots { MAX_SLOTS ≡ 65536 }
+    ensures worn_out { WORN_OUT ≡ 4294967295 }
+{}

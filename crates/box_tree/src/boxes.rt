@@ -149,8 +149,8 @@ impl BoxTree {
         roots::first_hit(&self.root, ray)
     }
 
-    /// How many nodes stand on the longest way from the root to a leaf.
-    pub fn depth(&self) -> u64
+    /// How many nodes stand on the longest way from the root to a leaf: what a walk costs. The tests ask it.
+    pub(crate) fn depth(&self) -> u64
         ensures { result ≤ 28 }
     {
         roots::depth(&self.root)

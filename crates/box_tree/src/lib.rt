@@ -16,7 +16,9 @@ mod boxes;
 mod index;
 mod places;
 mod table;
+#[cfg(test)]
+mod tests;
 
 pub use box_tree_base::{Hit, Ray};
 pub use boxes::BoxTree;
-pub use places::MAX_KEYS;
+pub use places::{MAX_KEYS, limits_in_digits};

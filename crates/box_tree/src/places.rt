@@ -111,3 +111,9 @@ pub(crate) fn place_after(key: u32, old: &Place, bounds: &Box2) -> Place
         place
     }
 }
+
+/// The law of the limits: the numbers that definitions take from the code, in digits. The function does nothing; its contract is
+/// the law.
+pub fn limits_in_digits()
+    ensures keys { MAX_KEYS ≡ 524288 }
+{}

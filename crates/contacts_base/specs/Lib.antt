@@ -11,3 +11,4 @@ pub mod Split
 pub mod Flags
 pub mod ByBody
 pub mod IsSplit
+pub mod Orders

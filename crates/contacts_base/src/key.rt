@@ -2,6 +2,9 @@
 
 ghost use Rattle.std.specs.Prelude.{◌≡◌, ◌^◌, ◌<◌};
 ghost use Rattle.contacts_base.specs.Keys.{id_number, key_number};
+ghost use Rattle.contacts_base.specs.Orders.{contact_key_cmp, shape_id_cmp};
+
+use std::cmp::Ordering;
 
 /// Names a shape by the slot of its body and its place among the body's shapes.
 #[derive(Clone, Copy, Debug, PartialEq, Eq, PartialOrd, Ord)]
@@ -25,6 +28,13 @@ impl ShapeId {
     {
         u64::from(self.slot) * 256 + u64::from(self.index)
     }
+
+    /// How two names of shapes compare: by slot, and of one body by index.
+    pub fn compare(self, other: ShapeId) -> Ordering
+        ensures { result ≡ shape_id_cmp self other }
+    {
+        self.cmp(&other)
+    }
 }
 
 impl ContactKey {
@@ -34,5 +44,12 @@ impl ContactKey {
         ensures small { result < 2 ^ 80 }
     {
         u128::from(self.first.number()) * (1 << 40) + u128::from(self.second.number())
+    }
+
+    /// How two keys compare: by the first shape, and then by the second.
+    pub fn compare(self, other: ContactKey) -> Ordering
+        ensures { result ≡ contact_key_cmp self other }
+    {
+        self.cmp(&other)
     }
 }

@@ -11,7 +11,7 @@ use Rattle.std.proofs.lemmas.List.{get_or-map, length-map, get_or_default}
 use Rattle.std.proofs.lemmas.List.Kept.{AllPairs-from_increasing}
 use Rattle.std.proofs.lemmas.List.Sorted.{Contains-permutation, IsPermutation-sym}
 use Rattle.body_handles.specs.declared.handle.Handle.{Handle}
-use Rattle.event_feed.specs.Orders.{handle_cmp, slot_of}
+use Rattle.body_handles.specs.Orders.{handle_cmp, slot_of}
 use Rattle.event_feed.proofs.OnceLemmas.{sorted_once}
 
 not_lt : (a b : ℕ) → b ≤ a → is_lt (nat_cmp a b) ≡ false

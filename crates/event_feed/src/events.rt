@@ -4,7 +4,7 @@ ghost use Rattle.std.specs.Prelude.{◌≡◌, IfOk, map};
 ghost use Rattle.std.specs.Result.{IsOkUnless};
 ghost use Rattle.std.specs.List.Sorted.{IsPermutation, IsSorted, IsNonDecreasingBy, IsStrictlyIncreasing};
 ghost use Rattle.contacts_base.specs.Keys.{key_number};
-ghost use Rattle.event_feed.specs.Orders.{handle_cmp, slot_of};
+ghost use Rattle.body_handles.specs.Orders.{handle_cmp, slot_of};
 ghost use Rattle.event_feed.specs.Events.{no_events};
 
 use body_handles::Handle;

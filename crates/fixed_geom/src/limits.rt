@@ -1,5 +1,9 @@
 //! The limits of the numbers of a world that several crates speak of.
 
+ghost use Rattle.std.specs.Prelude.{◌≡◌, pos};
+
+use crate::{MAX_FACING, MIN_FACING, UNIT};
+
 /// The greatest size of a coordinate of a body's centre, in u: the edge of the world.
 pub const MAX_POSITION: i64 = 1 << 36;
 
@@ -14,3 +18,16 @@ pub const MAX_NORMAL_IMPULSE: i64 = 1 << 42;
 
 /// The greatest size of the accumulated impulse along any line, in mass·u/tick: that of friction is up to twice the normal one.
 pub const MAX_IMPULSE: i64 = 1 << 43;
+
+/// The law of the limits: the numbers that definitions take from the code, in digits. The function does nothing; its contract is
+/// the law.
+pub fn limits_in_digits()
+    ensures position { MAX_POSITION ≡ pos 68719476736 }
+    ensures offset { MAX_OFFSET ≡ pos 134217728 }
+    ensures spin { MAX_SPIN ≡ pos 268435456 }
+    ensures normal_impulse { MAX_NORMAL_IMPULSE ≡ pos 4398046511104 }
+    ensures impulse { MAX_IMPULSE ≡ pos 8796093022208 }
+    ensures facing { MAX_FACING ≡ 1073741826 }
+    ensures least_facing { MIN_FACING ≡ 1073741822 }
+    ensures unit { UNIT ≡ pos 1073741824 }
+{}

@@ -17,5 +17,5 @@ mod removals;
 
 pub use colours::Colours;
 pub use edited::EditedList;
-pub use limits::{COLOURS, OVERFLOW};
+pub use limits::{COLOURS, OVERFLOW, limits_in_digits};
 pub use member::{Id, Member, Movers};

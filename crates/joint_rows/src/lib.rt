@@ -15,7 +15,9 @@ pub mod solve;
 
 pub use joint::Joint;
 pub use laws::rows_are_joints;
-pub use limits::{MAX_ANCHOR, MAX_JOINT_BIAS, MAX_JOINT_IMPULSE, MAX_JOINT_LENGTH, MAX_STRETCH};
+pub use limits::{
+    MAX_ANCHOR, MAX_JOINT_BIAS, MAX_JOINT_IMPULSE, MAX_JOINT_LENGTH, MAX_STRETCH, limits_in_digits,
+};
 pub use row::{JointBodies, JointRow, joint_row};
 pub use row_64::{solve_joint_64, warm_joint_64};
 pub use solve::{JointAfter, has_no_impulse, solve_joint, warm_joint};

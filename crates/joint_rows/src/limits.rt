@@ -1,5 +1,7 @@
 //! The limits of a joint, and how fast the solver takes its error away.
 
+ghost use Rattle.std.specs.Prelude.{◌≡◌, pos};
+
 /// The greatest size of a coordinate of an anchor, given from its body's centre in the body's own axes, in u.
 pub const MAX_ANCHOR: i64 = 1 << 24;
 
@@ -14,3 +16,13 @@ pub const MAX_JOINT_BIAS: i64 = 16_384;
 
 /// No joint's anchors are farther apart, or nearer, than its length by more than this when a step begins, in u.
 pub const MAX_STRETCH: i64 = 1 << 39;
+
+/// The law of the limits: the numbers that definitions take from the code, in digits. The function does nothing; its contract is
+/// the law.
+pub fn limits_in_digits()
+    ensures anchor { MAX_ANCHOR ≡ pos 16777216 }
+    ensures length { MAX_JOINT_LENGTH ≡ pos 33554432 }
+    ensures impulse { MAX_JOINT_IMPULSE ≡ pos 4398046511104 }
+    ensures bias { MAX_JOINT_BIAS ≡ pos 16384 }
+    ensures stretch { MAX_STRETCH ≡ pos 549755813888 }
+{}

@@ -24,7 +24,7 @@ pub use gravity::pull;
 pub use inverse::{inverse_mass, inverse_reciprocal};
 pub use limits::{
     MAX_ANGULAR_MOMENTUM, MAX_GRAVITY, MAX_INERTIA, MAX_INVERSE_MASS, MAX_MASS, MAX_MOMENTUM,
-    MAX_SPEED, MIN_INVERSE_MASS,
+    MAX_SPEED, MIN_INVERSE_MASS, limits_in_digits,
 };
 pub use line::{
     Exerted, Line, part_along, parting, solve_line, speed_along, warm_at_once, warm_line,

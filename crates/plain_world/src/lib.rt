@@ -28,6 +28,6 @@ pub use joint_rows::Joint;
 pub use kind::{Course, Kind, NO_COURSE};
 pub use placement::shape_of;
 pub use plain::Plain;
-pub use presets::SMOOTH;
-pub use sleep::{SLOW_SPEED, SLOW_SPIN};
+pub use presets::{SMOOTH, smooth_in_digits};
+pub use sleep::{SLOW_SPEED, SLOW_SPIN, limits_in_digits};
 pub use slots::{body_of, clear_slot, copy_bodies, item_at, put_item};

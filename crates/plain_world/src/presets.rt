@@ -1,6 +1,6 @@
 //! Bodies of one shape, whose mass and inertia follow from the shape and a density.
 
-ghost use Rattle.std.specs.Prelude.{◌≡◌, ◌*◌, ◌≤◌, ◌<◌, ◌^◌, IfOk, IfSome};
+ghost use Rattle.std.specs.Prelude.{◌≡◌, ◌*◌, ◌≤◌, ◌<◌, ◌^◌, IfOk, IfSome, pos};
 ghost use Rattle.std.specs.Result.{IsOkUnless};
 ghost use Rattle.fixed_geom.specs.Numbers.{nearest};
 ghost use Rattle.momenta.specs.Motions.{IsMass};
@@ -26,6 +26,11 @@ pub const SMOOTH: Surface = Surface {
     friction: 0,
     restitution: 0,
 };
+
+/// The law of the smooth surface: its numbers, in digits. The function does nothing; its contract is the law.
+pub fn smooth_in_digits()
+    ensures { SMOOTH ≡ record { friction = pos 0; restitution = pos 0 } }
+{}
 
 /// A shape of this form with this surface, which collides with all.
 fn formed(shape: Shape, surface: Surface) -> ShapeDef

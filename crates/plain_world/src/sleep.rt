@@ -1,6 +1,6 @@
 //! Bodies that fall asleep and wake, as the labels of the islands tell, and for how long each has been slow.
 
-ghost use Rattle.std.specs.Prelude.{◌≡◌, ◌+◌, ◌<◌, ◌≤◌, ◌^◌, true};
+ghost use Rattle.std.specs.Prelude.{◌≡◌, ◌+◌, ◌<◌, ◌≤◌, ◌^◌, pos, true};
 ghost use Rattle.std.specs.Option.{IfSome, ForSome};
 ghost use Rattle.momenta.specs.Motions.{IsMass, IsMotion};
 ghost use Rattle.plain_world.specs.Bodies.{IsBody, is_awake};
@@ -101,3 +101,10 @@ impl Body {
         };
     }
 }
+
+/// The law of the limits: the numbers that definitions take from the code, in digits. The function does nothing; its contract is
+/// the law.
+pub fn limits_in_digits()
+    ensures speed { SLOW_SPEED ≡ pos 205 }
+    ensures spin { SLOW_SPIN ≡ pos 209715 }
+{}

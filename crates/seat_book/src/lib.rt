@@ -18,5 +18,5 @@ mod rule;
 pub use book::{Book, Keeper, Pass};
 pub use call::{Call, Entry};
 pub use named::Named;
-pub use roster::{MAX_SEATS, Roster, open};
+pub use roster::{MAX_SEATS, Roster, limits_in_digits, open};
 pub use rule::{Desk, Known, View};

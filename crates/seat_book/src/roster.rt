@@ -115,3 +115,9 @@ fn deal<N: Named, Command, Reply>(
         named: PhantomData,
     }
 }
+
+/// The law of the limits: the numbers that definitions take from the code, in digits. The function does nothing; its contract is
+/// the law.
+pub fn limits_in_digits()
+    ensures seats { MAX_SEATS ≡ 64 }
+{}

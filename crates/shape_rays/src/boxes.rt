@@ -1,6 +1,6 @@
 //! Boxes along the way of a ray.
 
-ghost use Rattle.std.specs.Prelude.{◌≡◌, ◌+◌, ◌^◌, ◌≤◌, unsigned_abs};
+ghost use Rattle.std.specs.Prelude.{◌≡◌, ◌+◌, ◌^◌, ◌≤◌, pos, unsigned_abs};
 ghost use Rattle.fixed_geom.specs.Boxes.{IsBoxWithin, Overlaps};
 ghost use Rattle.fixed_geom.specs.Vectors.{IsWithin, minus};
 ghost use Rattle.shapes.specs.Rays.{beam_of};
@@ -115,3 +115,9 @@ pub(crate) fn is_crossed(along: Vec2, low: Vec2, high: Vec2) -> bool
     let half = dot_64(extent(low, high), sizes_across(along));
     is_at_most(middle, half)
 }
+
+/// The law of the limits: the numbers that definitions take from the code, in digits. The function does nothing; its contract is
+/// the law.
+pub fn limits_in_digits()
+    ensures slack { SLACK ≡ pos 64 }
+{}

@@ -24,7 +24,7 @@ pub use bounds::{fat_box, tight_box};
 pub use filter::{Filter, should_collide};
 pub use limits::{
     MARGIN, MAX_CORE, MAX_FRICTION, MAX_RADIUS, MAX_RAY, MAX_RESTITUTION, MAX_SHAPES, TOLERANCE,
-    check,
+    check, limits_in_digits,
 };
 pub use manifolds::manifold;
 pub use mixing::{mixed_friction, mixed_restitution};

@@ -1,10 +1,11 @@
 //! Which shapes a body may have.
 
-ghost use Rattle.std.specs.Prelude.{◌≡◌, All, OnOk};
+ghost use Rattle.std.specs.Prelude.{◌≡◌, All, OnOk, pos};
 ghost use Rattle.std.specs.Result.{result_err};
 ghost use Rattle.std.specs.List.{list_all};
 ghost use Rattle.shapes.specs.Shapes.{IsShapeDef, is_between, are_apart, is_form_allowed, is_core_near, is_in_range, are_forms_allowed, shapes_refusal};
 
+use crate::beam::WHOLE;
 use crate::{Shape, ShapeDef};
 use fixed_geom::{Refusal, Vec2, is_within};
 
@@ -119,3 +120,17 @@ pub fn check(defs: &[ShapeDef], segments: bool) -> Result<(), Refusal>
     }
     Ok(())
 }
+
+/// The law of the limits: the numbers that definitions take from the code, in digits. The function does nothing; its contract is
+/// the law.
+pub fn limits_in_digits()
+    ensures shapes { MAX_SHAPES ≡ 8 }
+    ensures core { MAX_CORE ≡ 16777216 }
+    ensures radius { MAX_RADIUS ≡ pos 16777216 }
+    ensures friction { MAX_FRICTION ≡ pos 512 }
+    ensures restitution { MAX_RESTITUTION ≡ pos 256 }
+    ensures ray { MAX_RAY ≡ pos 268435456 }
+    ensures margin { MARGIN ≡ pos 131072 }
+    ensures tolerance { TOLERANCE ≡ pos 20972 }
+    ensures whole { WHOLE ≡ pos 16777216 }
+{}

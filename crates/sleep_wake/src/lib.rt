@@ -27,5 +27,5 @@ mod ties;
 mod waking;
 
 pub use change::Change;
-pub use phase::TICKS_TO_SLEEP;
+pub use phase::{TICKS_TO_SLEEP, limits_in_digits};
 pub use sets::Sets;

@@ -259,3 +259,9 @@ pub(crate) fn rest_each(islands: &mut Islands, leasts: &[Option<u64>], awake: &[
         }
     }
 }
+
+/// The law of the limits: the numbers that definitions take from the code, in digits. The function does nothing; its contract is
+/// the law.
+pub fn limits_in_digits()
+    ensures ticks { TICKS_TO_SLEEP ≡ 128 }
+{}

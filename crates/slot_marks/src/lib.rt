@@ -4,4 +4,4 @@
 
 mod marks;
 
-pub use marks::{MAX_MARKS, Marks};
+pub use marks::{MAX_MARKS, Marks, limits_in_digits};

@@ -184,3 +184,9 @@ impl Marks {
         Ok(Marks { flags, slots })
     }
 }
+
+/// The law of the limits: the numbers that definitions take from the code, in digits. The function does nothing; its contract is
+/// the law.
+pub fn limits_in_digits()
+    ensures marks { MAX_MARKS ≡ 4294967296 }
+{}

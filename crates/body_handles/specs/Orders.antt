@@ -1,4 +1,4 @@
--- The order in which bodies are told: that of the handles' own comparison.
+-- The order of handles: that of their own comparison.
 use Rattle.std.specs.Prelude.{ℕ}
 use Rattle.std.specs.Ordering.{nat_cmp, ordering_then}
 use Rattle.std.specs.declared.cmp.Ordering.{Ordering}
