@@ -12,6 +12,7 @@ pub mod constraint_row;
 pub mod constraint_turns;
 mod courses;
 pub mod passes;
+pub mod step_solver;
 pub mod ticks;
 pub mod turns;
 
@@ -19,5 +20,6 @@ pub use colour_rows::Rows;
 pub use constraint_row::ConstraintRow;
 pub use constraint_turns::{Bounce, Solve, Warm};
 pub use passes::{Change, Gains, pass_two};
+pub use step_solver::{OneThread, StepSolver};
 pub use ticks::{StepSums, run_step};
 pub use turns::{Row, Slots, Turn, colours_at_once, pass_rows, solve_one};

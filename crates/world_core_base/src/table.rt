@@ -2,7 +2,7 @@
 
 mod from_bodies;
 
-ghost use Rattle.std.specs.Prelude.{◌≡◌, ◌+◌, ◌-◌, ◌<◌, ◌≤◌, ◌^◌, [], None, false, true, IfOk, OnOk, length, replicate, slice_index_or, slice_set, vec_len, vec_capacity};
+ghost use Rattle.std.specs.Prelude.{◌≡◌, ℕ, ◌+◌, ◌-◌, ◌<◌, ◌≤◌, ◌^◌, [], None, false, true, IfOk, OnOk, length, replicate, slice_index_or, slice_set, vec_len, vec_capacity};
 ghost use Rattle.std.specs.Option.{ForSome};
 ghost use Rattle.std.specs.Result.{IsOkUnless};
 ghost use Rattle.fixed_geom.specs.Vectors.{IsWithin, plus};
@@ -35,7 +35,7 @@ use crate::telling::{tell_bodies, tell_listed};
 use crate::timing::time_bodies;
 use body_handles::MAX_SLOTS;
 use box_tree::BoxTree;
-use colour_solver::{Rows, StepSums, run_step};
+use colour_solver::{Rows, StepSolver, StepSums};
 use fixed_geom::{Refusal, Vec2};
 use islands::Islands;
 use momenta::{BodyState, Gain};
@@ -412,14 +412,22 @@ impl BodyTable {
 
     /// Runs the ticks of a step, 0 to 8, and its restitution, over the movers, the bodies that are carried along, and the constraints in
     /// solve order; fat boxes that their shapes have left are then made anew, and the slots of their bodies marked. Answers what was added to the movers' momentum, by cause.
+    /// The solver has what it needs for all constraints, and runs the ticks.
     #[inline(never)]
-    pub fn run(&mut self, rows: &mut Rows, gravity: Vec2, count: u64) -> StepSums
+    pub fn run<S: StepSolver>(
+        &mut self,
+        solver: &mut S,
+        rows: &mut Rows,
+        gravity: Vec2,
+        count: u64,
+    ) -> StepSums
         requires few { length self.old.bodies ≤ MAX_SLOTS }
         requires bodies { AreBodies self.old.bodies }
         requires gravity { IsWithin (2 ^ 16) gravity }
         requires rows { AreRowsBelow (length self.old.bodies) (all_rows rows.old) }
         requires count { count ≤ 8 }
         requires settled { self.old.pending ≡ 0 }
+        requires fits { S.fits solver.old (length (all_rows rows.old)) }
         ensures run { run_of (ran count gravity (start (states_of self.old.bodies) (all_rows rows.old))).states (all_rows rows.new) result ≡ ran count gravity (start (states_of self.old.bodies) (all_rows rows.old)) }
         ensures bodies { self.new.bodies ≡ renewed_bodies (with_motions self.old.bodies (ran count gravity (start (states_of self.old.bodies) (all_rows rows.old))).states) }
         ensures rows { AreRowsBelow (length self.old.bodies) (all_rows rows.new) }
@@ -430,9 +438,10 @@ impl BodyTable {
         ensures momentum { momentum self.new.bodies ≡ plus (momentum self.old.bodies) (added result) }
         ensures marked { AreMarked self.old self.new }
         ensures settled { self.new.pending ≡ 0 }
+        ensures fits { (n : ℕ) → S.fits solver.old n → S.fits solver.new n }
     {
         self.room = 0;
-        let sums = run_step(
+        let sums = solver.run_step(
             &mut self.states,
             rows,
             self.awake.as_slice(),

@@ -12,54 +12,54 @@ use Rattle.world_core_base.proofs.GatherLaws.{courses-all, length-states, states
 use Rattle.world_core_base.proofs.table.BodyTable.run.Goals as goal
 
 pub run_step-sums-requires-clause-awake : goal.run_step-sums-requires-clause-awake
-run_step-sums-requires-clause-awake c =
+run_step-sums-requires-clause-awake g c =
     let settled : c.self.inside.awake.pending + c.self.inside.carried.pending ≡ 0 = rw (← c.self.view_is) at c.requires.settled in
     c.as_slice.ensures ∙ c.self.invariant.movers.exact (omega (arith, settled))
 
 pub run_step-sums-requires-clause-carried : goal.run_step-sums-requires-clause-carried
-run_step-sums-requires-clause-carried c =
+run_step-sums-requires-clause-carried g c =
     let settled : c.self.inside.awake.pending + c.self.inside.carried.pending ≡ 0 = rw (← c.self.view_is) at c.requires.settled in
     c.as_slice-2.ensures ∙ c.self.invariant.along.exact (omega (arith, settled))
 
 pub run_step-sums-requires-clause-states : goal.run_step-sums-requires-clause-states
-run_step-sums-requires-clause-states c =
+run_step-sums-requires-clause-states g c =
     let bodies : AreBodies c.self.inside.bodies.items = rw (← c.self.view_is) at c.requires.bodies in
     rw c.self.invariant.states (states-all c.self.inside.bodies.items bodies)
 
 pub run_step-sums-requires-clause-courses : goal.run_step-sums-requires-clause-courses
-run_step-sums-requires-clause-courses c =
+run_step-sums-requires-clause-courses g c =
     let bodies : AreBodies c.self.inside.bodies.items = rw (← c.self.view_is) at c.requires.bodies in
     rw c.self.invariant.states (courses-all c.self.inside.bodies.items bodies)
 
 pub move_bodies-requires-clause-awake : goal.move_bodies-requires-clause-awake
-move_bodies-requires-clause-awake c =
+move_bodies-requires-clause-awake g c =
     let settled : c.self.inside.awake.pending + c.self.inside.carried.pending ≡ 0 = rw (← c.self.view_is) at c.requires.settled in
     c.as_slice-3.ensures ∙ c.self.invariant.movers.exact (omega (arith, settled)) ∙ sym (movers_beside c.self.inside.states.items c.run_step-sums.new.states.items c.run_step-sums.ensures.same)
 
 pub move_bodies-requires-clause-carried : goal.move_bodies-requires-clause-carried
-move_bodies-requires-clause-carried c =
+move_bodies-requires-clause-carried g c =
     let settled : c.self.inside.awake.pending + c.self.inside.carried.pending ≡ 0 = rw (← c.self.view_is) at c.requires.settled in
     c.as_slice-4.ensures ∙ c.self.invariant.along.exact (omega (arith, settled)) ∙ sym (carried_beside c.self.inside.states.items c.run_step-sums.new.states.items c.run_step-sums.ensures.same)
 
 pub move_bodies-requires-clause-bodies : goal.move_bodies-requires-clause-bodies
-move_bodies-requires-clause-bodies c = rw (← c.self.view_is) at c.requires.bodies
+move_bodies-requires-clause-bodies g c = rw (← c.self.view_is) at c.requires.bodies
 
 pub returns-clause-rows : goal.returns-clause-rows
-returns-clause-rows c =
+returns-clause-rows g c =
     let long : length c.self.inside.bodies.items ≡ length c.run_step-sums.new.states.items = sym (c.run_step-sums.ensures.long ∙ ap length c.self.invariant.states ∙ length-states c.self.inside.bodies.items) in
     rw (← c.self.view_is) (rows_as_long (length c.self.inside.bodies.items) (length c.run_step-sums.new.states.items) (all_rows c.run_step-sums.new.rows) long c.run_step-sums.ensures.rows)
 
 pub returns-clause-momentum : goal.returns-clause-momentum
-returns-clause-momentum c =
+returns-clause-momentum g c =
     let bodies : AreBodies c.self.inside.bodies.items = rw (← c.self.view_is) at c.requires.bodies in
     rw (← c.self.view_is)
     (c.move_bodies.ensures.momentum ∙ c.run_step-sums.ensures.momentum ∙ ap (λ (v : Vec2). plus v (added c.run_step-sums.result)) (ap total c.self.invariant.states ∙ total-gathered c.self.inside.bodies.items bodies))
 
 pub returns-clause-marked : goal.returns-clause-marked
-returns-clause-marked c = rw (← c.self.view_is) c.move_bodies.ensures.marked
+returns-clause-marked g c = rw (← c.self.view_is) c.move_bodies.ensures.marked
 
 pub invariant_of-self : goal.invariant_of-self
-invariant_of-self c =
+invariant_of-self g c =
     let same : length c.move_bodies.new.bodies.items ≡ length c.self.inside.bodies.items = c.move_bodies.ensures.slots.slots in
     record {
       states = c.move_bodies.ensures.states;
