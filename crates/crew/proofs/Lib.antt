@@ -1,0 +1,3 @@
+pub mod Mailboxes
+mod PieceLaws
+mod StackLaws

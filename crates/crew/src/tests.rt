@@ -1,0 +1,230 @@
+use crate::{Gate, OpenGate, Work, map_pieces, start};
+use std::alloc::Global;
+use std::process::Abort;
+use std::sync::Wait;
+use std::sync::atomic::{AtomicU64, Ordering};
+use std::test::Fail;
+use std::thread;
+use std::thread::{Scope, Threads};
+
+/// How often a gate yields before it lets go.
+const LIMIT: u32 = 1_000_000;
+
+const MAPS: u32 = 50;
+
+/// Sums of two numbers, below 2^32 each. Notes which items were worked, by the first of their numbers.
+#[derive(Drop)]
+struct Sums<'a> {
+    worked: &'a AtomicU64,
+}
+
+impl Work for Sums<'_> {
+    type Item = (u32, u32);
+
+    type Out = u64;
+
+    ghost use Rattle.std.specs.Prelude.{◌+◌};
+
+    ghost answer = { λ _ x. x.0 + x.1 };
+
+    fn work(&self, item: (u32, u32)) -> u64 {
+        self.worked.fetch_or(1 << (item.0 % 64), Ordering::SeqCst);
+        item.0 as u64 + item.1 as u64
+    }
+}
+
+const ITEMS: [(u32, u32); 11] = [
+    (3, 1),
+    (1, 1),
+    (4, 1),
+    (1, 2),
+    (5, 1),
+    (9, 1),
+    (2, 1),
+    (6, 1),
+    (5, 3),
+    (3, 3),
+    (5, 5),
+];
+
+const SUMS: [u64; 11] = [4, 2, 5, 3, 6, 10, 3, 7, 8, 6, 10];
+
+/// Holds one piece until an item has been worked. Notes whether it waited too long, and what was worked as it let go.
+#[derive(Drop)]
+struct Holding<'a> {
+    piece: usize,
+    item: u32,
+    worked: &'a AtomicU64,
+    late: AtomicU64,
+    let_go: AtomicU64,
+}
+
+impl Holding<'_> {
+    /// Yields until the item has been worked.
+    fn wait(&self) -> bool {
+        for _ in 0..LIMIT {
+            if self.worked.load(Ordering::SeqCst) & (1 << (self.item % 64)) != 0 {
+                return true;
+            }
+            thread::yield_now();
+        }
+        false
+    }
+}
+
+impl Gate for Holding<'_> {
+    fn enter<R: Wait>(&self, _rt: &R, piece: usize, _of: usize) {
+        if piece == self.piece {
+            if !self.wait() {
+                self.late.fetch_add(1, Ordering::SeqCst);
+            }
+            self.let_go
+                .store(self.worked.load(Ordering::SeqCst), Ordering::SeqCst);
+        }
+    }
+}
+
+/// Two items on two workers, where one piece waits for the other's item.
+fn hold<R: Threads + Wait + Abort + Sync>(rt: &R, alloc: Global, piece: usize, item: u32) {
+    let worked = AtomicU64::new(0);
+    let gate = Holding {
+        piece,
+        item,
+        worked: &worked,
+        late: AtomicU64::new(0),
+        let_go: AtomicU64::new(0),
+    };
+    let sums = Sums { worked: &worked };
+    let answers = map_pieces(rt, alloc, &gate, &[(0u32, 5u32), (1, 6)], 2, &sums);
+    let Ok(answers) = answers else {
+        panic!(rt; "a map of two items")
+    };
+    assert_eq!(rt; answers.as_slice(), [5u64, 7].as_slice());
+    assert_eq!(rt; gate.late.load(Ordering::SeqCst), 0);
+    assert_eq!(rt; gate.let_go.load(Ordering::SeqCst), 1 << (item % 64));
+}
+
+/// The same by a crew, many times.
+fn hold_crew<'s, E, R: Threads + Wait + Abort + Sync>(
+    scope: &Scope<'s, E>,
+    rt: &'s R,
+    alloc: Global,
+    gate: &'s Holding<'s>,
+    worked: &'s AtomicU64,
+) {
+    let Ok(mut crew) = start(scope, rt, alloc, gate, 2, 1, 8) else {
+        panic!(rt; "a crew of two")
+    };
+    for _ in 0..MAPS {
+        worked.store(0, Ordering::SeqCst);
+        map_crew(rt, alloc, &mut crew, &[(0, 5), (1, 6)], &[5, 7], worked);
+        assert_eq!(rt; gate.late.load(Ordering::SeqCst), 0);
+    }
+    crew.end(rt);
+}
+
+/// One map by a crew.
+fn map_crew<'s, G: Gate, R: Wait + Abort>(
+    rt: &R,
+    alloc: Global,
+    crew: &mut crate::Crew<'s, G, Sums<'s>>,
+    items: &[(u32, u32)],
+    sums: &[u64],
+    worked: &'s AtomicU64,
+) {
+    let mut answers = Vec::new(alloc);
+    let Ok(mut stack) = Vec::from_slice(alloc, items) else {
+        panic!(rt; "a list of items")
+    };
+    if answers.reserve(stack.len()).is_err() {
+        panic!(rt; "room for the answers")
+    }
+    crew.map(rt, Sums { worked }, &mut stack, &mut answers);
+    assert_eq!(rt; answers.as_slice(), sums);
+}
+
+/// Lists of all lengths, many times by one crew.
+fn maps<'s, E, R: Threads + Wait + Abort + Sync>(
+    scope: &Scope<'s, E>,
+    rt: &'s R,
+    alloc: Global,
+    gate: &'s OpenGate,
+    workers: usize,
+    worked: &'s AtomicU64,
+) {
+    let Ok(mut crew) = start(scope, rt, alloc, gate, workers, 1, 4) else {
+        panic!(rt; "a crew")
+    };
+    for _ in 0..MAPS {
+        for count in 0..ITEMS.len() {
+            map_crew(
+                rt,
+                alloc,
+                &mut crew,
+                &ITEMS[..count],
+                &SUMS[..count],
+                worked,
+            );
+        }
+    }
+    crew.end(rt);
+}
+
+#[test]
+fn maps_stand_in_order(rt: HostRuntime) -> Result<(), Fail> {
+    let worked = AtomicU64::new(0);
+    let sums = Sums { worked: &worked };
+    for workers in [1usize, 2, 3, 64] {
+        let answers = map_pieces(&rt, rt.alloc(), &OpenGate, &ITEMS, workers, &sums)?;
+        assert_eq!(&rt; answers.as_slice(), SUMS.as_slice());
+    }
+    Ok(())
+}
+
+#[test]
+fn crews_map_in_order(rt: HostRuntime) -> Result<(), Fail> {
+    let worked = AtomicU64::new(0);
+    let word = &worked;
+    let alloc = rt.alloc();
+    let gate = &OpenGate;
+    let host = &rt;
+    for workers in [1usize, 2, 3, 64] {
+        thread::scope(
+            thread::scope_env(),
+            &rt,
+            |scope| maps(scope, host, alloc, gate, workers, word),
+        );
+    }
+    Ok(())
+}
+
+#[test]
+fn pieces_run_at_once(rt: HostRuntime) -> Result<(), Fail> {
+    hold(&rt, rt.alloc(), 1, 0);
+    hold(&rt, rt.alloc(), 0, 1);
+    Ok(())
+}
+
+#[test]
+fn pieces_of_a_crew_run_at_once(rt: HostRuntime) -> Result<(), Fail> {
+    let worked = AtomicU64::new(0);
+    let word = &worked;
+    let alloc = rt.alloc();
+    let host = &rt;
+    for (piece, item) in [(1usize, 0u32), (0, 1)] {
+        let gate = Holding {
+            piece,
+            item,
+            worked: word,
+            late: AtomicU64::new(0),
+            let_go: AtomicU64::new(0),
+        };
+        let held = &gate;
+        thread::scope(
+            thread::scope_env(),
+            &rt,
+            |scope| hold_crew(scope, host, alloc, held, word),
+        );
+    }
+    Ok(())
+}

@@ -1,0 +1,5 @@
+mod FairLaws
+mod CrewLaws
+mod ListLaws
+mod PassLaws
+mod PutLaws

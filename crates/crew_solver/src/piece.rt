@@ -1,0 +1,211 @@
+//! A piece of a colour: rows that one worker turns, and the momenta that its turns leave their bodies with.
+
+ghost use Rattle.std.specs.Prelude.{◌≡◌, ◌≤◌, All, length, map, vec_len, vec_capacity, IfOk};
+ghost use Rattle.std.specs.Result.{IsOkUnless};
+ghost use Rattle.momenta.specs.Impulses.{IsState};
+ghost use Rattle.momenta.specs.Line64.{ends_with};
+ghost use Rattle.momenta.specs.declared.state.BodyState.{BodyState};
+ghost use Rattle.colour_solver_base.specs.Row64.{both_ends};
+ghost use Rattle.colour_solver.specs.States.{AreAllStates};
+ghost use Rattle.colour_solver.specs.Turns.{AreRowsOn, IsRowOn, ends_of, turn_of};
+ghost use Rattle.crew_solver.specs.Turned.{IsPairWithin, momenta_of, worked};
+
+use crate::MomentaPair;
+use colour_solver::{Row, Turn};
+use fixed_geom::Refusal;
+use momenta::{BodyState, Ends, Momenta, MomentaPair64};
+use std::alloc::Global;
+use std::marker::Model;
+
+/// Rows of one colour, in order, whose bodies are below a number, and what their turns answer. Contracts see all three.
+pub struct Piece<R: Row> {
+    bodies: usize,
+    rows: Vec<R>,
+    turned: Vec<MomentaPair>,
+}
+
+impl<R: Row> Model for Piece<R> {
+    ghost use Rattle.std.specs.Prelude.{◌≤◌, All, vec_capacity, vec_len};
+    ghost use Rattle.colour_solver.specs.Turns.{AreRowsOn};
+    ghost use Rattle.crew_solver.specs.Turned.{IsPairWithin, PieceRows};
+
+    ghost Value = { PieceRows R };
+
+    ghost view = { λ a. record { bodies = a.bodies; rows = a.rows.items; turned = a.turned.items } };
+
+    ghost invariant = { λ a. AreRowsOn R.slots R.is_row a.bodies a.rows.items × All IsPairWithin a.turned.items × (vec_len a.rows ≤ vec_capacity a.turned) };
+}
+
+impl<R: Row> Drop for Piece<R> {
+    fn drop(self) {
+        let Self {
+            bodies: _,
+            rows: _,
+            turned: _,
+        } = self;
+    }
+}
+
+/// The momenta of two bodies.
+#[inline(always)]
+fn momenta_of(a: &BodyState, b: &BodyState) -> MomentaPair
+    ensures { result ≡ momenta_of (both_ends a.now b.now) }
+{
+    MomentaPair {
+        a: Momenta {
+            p: a.motion.p,
+            l: a.motion.l,
+        },
+        b: Momenta {
+            p: b.motion.p,
+            l: b.motion.l,
+        },
+    }
+}
+
+/// The momenta of two bodies that a turn in 64 bits has answered.
+#[inline(always)]
+fn widened(now: MomentaPair64) -> MomentaPair
+    ensures { (a : BodyState) (b : BodyState) → result ≡ momenta_of (ends_with a b now) }
+{
+    MomentaPair {
+        a: Momenta {
+            p: now.a.p,
+            l: i128::from(now.a.l),
+        },
+        b: Momenta {
+            p: now.b.p,
+            l: i128::from(now.b.l),
+        },
+    }
+}
+
+/// The turn of a row in full width.
+#[inline(never)]
+fn turn_wide<R: Row, T: Turn<R>>(row: &mut R, a: &BodyState, b: &BodyState, turn: &T) -> MomentaPair
+    requires row { R.is_row row.old }
+    requires first { IsState a.now }
+    requires second { IsState b.now }
+    ensures row { row.new ≡ (T.turn turn.now row.old (both_ends a.now b.now)).row }
+    ensures momenta { result ≡ momenta_of (T.turn turn.now row.old (both_ends a.now b.now)).ends }
+    ensures whole { R.is_row row.new }
+    ensures slots { R.slots row.new ≡ R.slots row.old }
+    ensures within { IsPairWithin result }
+{
+    let mut ends = Ends { a: *a, b: *b };
+    turn.turn(row, &mut ends);
+    momenta_of(&ends.a, &ends.b)
+}
+
+/// The turn of a row with its two bodies. Answers the momenta that it leaves them with.
+#[inline(always)]
+fn turn_between<R: Row, T: Turn<R>>(
+    row: &mut R,
+    a: &BodyState,
+    b: &BodyState,
+    turn: &T,
+) -> MomentaPair
+    requires row { R.is_row row.old }
+    requires first { IsState a.now }
+    requires second { IsState b.now }
+    ensures row { row.new ≡ (T.turn turn.now row.old (both_ends a.now b.now)).row }
+    ensures momenta { result ≡ momenta_of (T.turn turn.now row.old (both_ends a.now b.now)).ends }
+    ensures whole { R.is_row row.new }
+    ensures slots { R.slots row.new ≡ R.slots row.old }
+    ensures within { IsPairWithin result }
+{
+    if turn.is_idle(row) {
+        return momenta_of(a, b);
+    }
+    match turn.turn_64(row, a, b) {
+        None => turn_wide(row, a, b, turn),
+        Some(now) => widened(now),
+    }
+}
+
+/// The turn of one row, the bodies standing so. Answers the momenta that it leaves its two bodies with.
+#[inline(always)]
+fn turn_one<R: Row, T: Turn<R>>(states: &[BodyState], row: &mut R, turn: &T) -> MomentaPair
+    requires states { AreAllStates states.now }
+    requires row { IsRowOn R.slots R.is_row (length states.now) row.old }
+    ensures row { row.new ≡ (turn_of R.slots (T.turn turn.now) states.now row.old).row }
+    ensures momenta { result ≡ momenta_of (turn_of R.slots (T.turn turn.now) states.now row.old).ends }
+    ensures on { IsRowOn R.slots R.is_row (length states.now) row.new }
+    ensures within { IsPairWithin result }
+{
+    let slots = row.slots();
+    turn_between(
+        row,
+        &states[slots.a as usize],
+        &states[slots.b as usize],
+        turn,
+    )
+}
+
+/// The turns of rows, the bodies standing so.
+fn turn_rows<R: Row, T: Turn<R>>(
+    states: &[BodyState],
+    rows: &mut Vec<R>,
+    turned: &mut Vec<MomentaPair>,
+    turn: &T,
+)
+    requires states { AreAllStates states.now }
+    requires on { AreRowsOn R.slots R.is_row (length states.now) rows.old.items }
+    requires room { vec_len rows.old ≤ vec_capacity turned.old }
+    ensures rows { rows.new.items ≡ map (λ r. (turn_of R.slots (T.turn turn.now) states.now r).row) rows.old.items }
+    ensures turned { turned.new.items ≡ map (λ r. momenta_of (turn_of R.slots (T.turn turn.now) states.now r).ends) rows.old.items }
+    ensures on { AreRowsOn R.slots R.is_row (length states.now) rows.new.items }
+    ensures within { All IsPairWithin turned.new.items }
+    ensures long { vec_len rows.new ≡ vec_len rows.old }
+    ensures rows_room { vec_capacity rows.new ≡ vec_capacity rows.old }
+    ensures turned_room { vec_capacity turned.new ≡ vec_capacity turned.old }
+{
+    turned.clear();
+    for index in 0..rows.len() {
+        let pair = turn_one(states, &mut rows[index], turn);
+        turned.push_reserved(pair);
+    }
+}
+
+impl<R: Row> Piece<R> {
+    /// A copy of these rows, whose bodies are below that number. Refused 1 where memory is wanting.
+    pub fn of(alloc: Global, bodies: usize, rows: &[R]) -> Result<Piece<R>, Refusal>
+        requires { AreRowsOn R.slots R.is_row bodies rows.now }
+        ensures rows { IfOk result (λ p. p.rows ≡ rows.now) }
+        ensures bodies { IfOk result (λ p. p.bodies ≡ bodies) }
+        ensures memory_only { IsOkUnless result Refusal.NoMemory }
+    {
+        let turned = Vec::with_capacity(alloc, rows.len())?;
+        let rows = Vec::from_slice(alloc, rows)?;
+        Ok(Piece {
+            bodies,
+            rows,
+            turned,
+        })
+    }
+
+    /// Its rows.
+    pub fn rows(&self) -> &[R]
+        ensures rows { result.now ≡ self.now.rows }
+        ensures on { AreRowsOn R.slots R.is_row self.now.bodies result.now }
+    {
+        self.rows.as_slice()
+    }
+
+    /// The momenta of the bodies of each row after its turn.
+    pub fn turned(&self) -> &[MomentaPair]
+        ensures turned { result.now ≡ self.now.turned }
+        ensures within { All IsPairWithin result.now }
+    {
+        self.turned.as_slice()
+    }
+
+    /// The turns of its rows, each with the bodies as they are before all of them.
+    pub fn turn_all<T: Turn<R>>(&mut self, states: &[BodyState], turn: &T)
+        requires states { AreAllStates states.now }
+        requires bodies { self.old.bodies ≡ length states.now }
+        ensures { self.new ≡ worked R.slots (T.turn turn.now) states.now self.old }
+    {
+        turn_rows(states, &mut self.rows, &mut self.turned, turn);
+    }
+}
