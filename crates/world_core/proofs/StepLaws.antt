@@ -1,5 +1,5 @@
 -- A step's calls, one after another: what each asks for, and that what they leave together is the world that is due.
-use Rattle.std.proofs.Common.{◌≡◌, ℕ, suc, ◌+◌, ◌<◌, ◌≤◌, ◌^◌, ◌++◌, Bool, true, cond, List, [], ◌∷◌, length, map, Option, Result, Ok, Err, ℤ, pos, unsigned_abs, refl, sym, ap, ◌∙◌, subst, arith}
+use Rattle.std.proofs.Common.{◌≡◌, ℕ, suc, ◌+◌, ◌<◌, ◌≤◌, ◌^◌, ◌++◌, Bool, true, false, cond, List, [], ◌∷◌, length, map, Option, Result, Ok, Err, ℤ, pos, unsigned_abs, refl, sym, ap, ◌∙◌, subst, arith}
 use Rattle.std.specs.Result.{IsErr, IsErrAnd}
 use Rattle.fixed_geom.specs.Vectors.{plus}
 use Rattle.fixed_geom.specs.declared.vectors.Vec2.{Vec2}
@@ -15,7 +15,7 @@ use Rattle.contacts.specs.declared.constraint.Constraint.{Constraint}
 use Rattle.contacts_base.specs.Contacts.{AreKeysRising}
 use Rattle.contacts_base.specs.declared.contact.ContactEntry.{ContactEntry}
 use Rattle.event_feed.specs.Events.{EventLists}
-use Rattle.event_feed.specs.Orders.{slot_of}
+use Rattle.body_handles.specs.Orders.{slot_of}
 use Rattle.graph_colours.specs.Colours.{all_members, ids_of}
 use Rattle.impulse_ledger.specs.declared.entry.Cause.TheVariants as causes
 use Rattle.islands.specs.Labels.{Labels}
@@ -333,6 +333,32 @@ pub step_answers : (w : World) (ticks : ℤ) (n : ℕ) (now : World) (s : Acting
 step_answers w ticks n now s between count l =
     accepted (is_between (pos 1) (pos 8) ticks) w (step_done w.plain (unsigned_abs ticks) (collided_in w)) now between
     (l.same ∙ ap (λ (m : ℕ). world_with w (step_done w.plain m (collided_in w))) count)
+
+-- ---- how many ticks
+
+-- a number of ticks that is accepted
+pub record AreCounted (ticks : ℤ) (n : ℕ) : Type 0 where
+  pub between : is_between (pos 1) (pos 8) ticks ≡ true
+  pub count : n ≡ unsigned_abs ticks
+
+counted_when : (t : Bool) (m n : ℕ) → Ok n ≡ cond t (Ok m) (Err OutOfRange) → (t ≡ true) × (n ≡ m)
+counted_when true m n e = (refl, cc)
+counted_when false m n e = cc
+
+pub are_counted : (ticks z : ℤ) (n : ℕ) → z ≡ ticks → Ok n ≡ cond (is_between (pos 1) (pos 8) z) (Ok (unsigned_abs z)) (Err OutOfRange) → AreCounted ticks n
+are_counted ticks z n same e =
+    let both = counted_when (is_between (pos 1) (pos 8) z) (unsigned_abs z) n e in
+    record { between = subst (λ (i : ℤ). is_between (pos 1) (pos 8) i ≡ true) same both.0; count = both.1 ∙ ap unsigned_abs same }
+
+refused_otherwise : (t : Bool) (m : ℕ) (a : Applied) (w : World) (r : Result Reply Refusal) (x : Refusal) → Err x ≡ cond t (Ok m) (Err OutOfRange) → IsErr r → IsErrAnd r (λ e. e ≡ x) → Answers (cond t (Ok a) (Err OutOfRange)) w r w
+refused_otherwise true m a w r x e h k = cc
+refused_otherwise false m a w (Ok reply) x e h k = cc
+refused_otherwise false m a w (Err d) x e h k = (k ∙ cc, refl)
+
+pub ticks_refused : (w : World) (ticks z : ℤ) (r : Result Reply Refusal) (x : Refusal) → z ≡ ticks → Err x ≡ cond (is_between (pos 1) (pos 8) z) (Ok (unsigned_abs z)) (Err OutOfRange) → IsErr r → IsErrAnd r (λ e. e ≡ x) → Answers (apply_step w.plain ticks) w r w
+ticks_refused w ticks z r x same e h k =
+    subst (λ (i : ℤ). Answers (apply_step w.plain i) w r w) same
+    (refused_otherwise (is_between (pos 1) (pos 8) z) (unsigned_abs z) (step_done w.plain (unsigned_abs z) (collided_in w)) w r x e h k)
 
 -- ---- a refusal
 

@@ -20,7 +20,7 @@ use Rattle.islands.specs.Partition.{Inside, IsPartition, IsSplit}
 use Rattle.islands.proofs.JoinLemmas.{contains_head, contains_tail, joined_within}
 use Rattle.islands.proofs.LabelLemmas.{in_case, in_is, in_of, of_either, others_stay, relabel_at}
 use Rattle.islands.proofs.SplitLemmas.{split_is}
-use Rattle.event_feed.specs.Orders.{slot_of}
+use Rattle.body_handles.specs.Orders.{slot_of}
 use Rattle.plain_world.specs.declared.body.Body.{Body}
 use Rattle.plain_world.specs.Bodies.{AreBodies, is_mover}
 use Rattle.plain_world.specs.Sleep.{roused, sleeping_name, told, told_body, told_by}
@@ -85,10 +85,6 @@ pub first_all : (labels : Labels) (slots movers : List ℕ) (place : ℕ) → le
 first_all labels slots movers place h known slot c =
     let lt = c.1 in
     subst (λ (s : ℕ). HasIsland labels movers s) c.2 (known c.0 slot (omega (arith, h, lt)))
-
--- those that are listed for the islands of these names, by other names of the same lists
-pub listed_as : (labels : Labels) (listed names movers handed all : List ℕ) → listed ≡ all → names ≡ all → handed ≡ movers → HasIslands labels listed movers → HasIslands labels names handed
-listed_as labels listed names movers handed all e f g h = subst (λ (l : List ℕ). HasIslands labels names l) (sym g) (subst (λ (l : List ℕ). HasIslands labels l movers) (e ∙ sym f) h)
 
 pub own_island : (labels : Labels) (slot : ℕ) (movers handed : List ℕ) → handed ≡ movers → HasIslands labels (slot ∷ []) movers → HasIsland labels handed slot
 own_island labels slot movers handed e h = subst (λ (l : List ℕ). HasIsland labels l slot) (sym e) (h slot (contains_head slot []))

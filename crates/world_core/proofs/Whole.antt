@@ -36,7 +36,7 @@ use Rattle.sleep_wake.specs.Sleeping.{islands_woken, names_of, slept_at}
 use Rattle.solver_sets.specs.Beside.{stirred_by}
 use Rattle.world_rules.specs.declared.command.Reply.TheVariants as replies
 use Rattle.world_rules.specs.Apply.{Answers, apply_sleep, mover_refusal, body_changed, booked, counted, empty_world, gained, posed, pushed, rest_entries, steered}
-use Rattle.world_rules.specs.Sets.{acting_of, with_acting, woken}
+use Rattle.world_rules.specs.Sets.{acting_of, stirred, with_acting, woken}
 use Rattle.world_rules.specs.World.{World, body_of}
 use Rattle.world_rules.proofs.ActingLaws.{IsActed, acted, waking_kept}
 use Rattle.world_rules.proofs.KeptChanges.{can_pose, counted_acting, gravity_acting, gravity_kept, pose_acting, pose_kept, push_acting, push_kept, velocity_acting, velocity_kept, wake_kept}
@@ -45,6 +45,7 @@ use Rattle.world_rules.proofs.SlotLemmas.{body_at-in}
 use Rattle.world_rules.proofs.ToldLaws.{body_told, told_is, told_stays}
 use Rattle.world_rules.proofs.SoundLaws.{IsKept, kept_sound, sound_kept}
 use Rattle.world_core.specs.Inside.{IsWhole}
+use Rattle.world_core.specs.Stirring.{MayChange}
 
 pub whole_kept : (w : World) (acting : Acting Constraint) → IsWhole w acting → IsKept w
 whole_kept w acting is = kept_sound w is.sound
@@ -90,10 +91,9 @@ has_woken w slots names acting now bodies is named woke tell =
       bodies = tell ∙ ap (λ (s : Acting Constraint). told s.labels w.plain.bodies) all;
     }
 
--- a pose that can be given before islands were woken can be given after
-pub can_pose_woken : (w : World) (slots : List ℕ) (acting now : Acting Constraint) (bodies : List (Option Body)) (slot : ℕ) (o : Pose) → IsWhole w acting → HasWoken w slots now bodies → IsPose o → ForSome (body_at bodies slot) (CanPose o)
-can_pose_woken w slots acting now bodies slot o is woke pose =
-    subst (λ (bs : List (Option Body)). ForSome (body_at bs slot) (CanPose o)) (sym woke.bodies) (can_pose (record w { plain = woken w.plain slots }) slot o (waking_kept w slots (whole_kept w acting is)).kept pose)
+-- a pose can be given once islands were woken
+pub pose_fits : (w : World) (slot : ℕ) (o : Pose) (acting : Acting Constraint) → IsWhole w acting → IsPose o → ForSome (body_at (stirred w.plain slot).bodies slot) (CanPose o)
+pose_fits w slot o acting is pose = can_pose (record w { plain = stirred w.plain slot }) slot o (waking_kept w (stirred_by w.plain.bodies w.plain.joints w.plain.contacts slot) (whole_kept w acting is)).kept pose
 
 -- a kinematic body stays one when islands are woken
 kinematic_told : (label : Option Label) (o : Option Body) → ForSome o (λ (b : Body). is_kinematic b.kind ≡ true) → ForSome (option_map (told_body label) o) (λ (b : Body). is_kinematic b.kind ≡ true)
@@ -102,11 +102,10 @@ kinematic_told label (Some b) h x e =
     let same : told_body label b ≡ x = cc in
     subst (λ (c : Body). is_kinematic c.kind ≡ true) same (ap is_kinematic (told_is label b).kind ∙ h b refl)
 
-pub can_steer_woken : (w : World) (now : Acting Constraint) (bodies : List (Option Body)) (slot : ℕ) → bodies ≡ told now.labels w.plain.bodies → ForSome (body_at w.plain.bodies slot) (λ (b : Body). is_kinematic b.kind ≡ true)
-    → ForSome (body_at bodies slot) (λ (b : Body). is_kinematic b.kind ≡ true)
-can_steer_woken w now bodies slot tell h =
-    subst (λ (o : Option Body). ForSome o (λ (b : Body). is_kinematic b.kind ≡ true)) (sym (ap (λ (bs : List (Option Body)). body_at bs slot) tell ∙ body_told now.labels w.plain.bodies slot))
-    (kinematic_told (label_at now.labels slot) (body_at w.plain.bodies slot) h)
+pub course_fits : (w : World) (slot : ℕ) (acting : Acting Constraint) → IsWhole w acting → ForSome (body_at w.plain.bodies slot) (λ (b : Body). is_kinematic b.kind ≡ true) → ForSome (body_at (stirred w.plain slot).bodies slot) (λ (b : Body). is_kinematic b.kind ≡ true)
+course_fits w slot acting is h =
+    let labels : Labels = (islands_woken constraint_number (names_of w.plain.islands (stirred_by w.plain.bodies w.plain.joints w.plain.contacts slot)) (acting_of w.plain)).labels in
+    subst (λ (o : Option Body). ForSome o (λ (b : Body). is_kinematic b.kind ≡ true)) (sym (body_told labels w.plain.bodies slot)) (kinematic_told (label_at labels slot) (body_at w.plain.bodies slot) h)
 
 -- the world's lists with these
 abbrev pub lists_with : Plain → Acting Constraint → List (Option Body) → Plain
@@ -134,21 +133,21 @@ push_whole w h j r m acting now bodies is few woke due =
     subst (λ (p : Plain). IsWhole (record w { plain = counted (body_changed (put_momenta m) h.slot p); entries = w.entries ++ booked (w.plain.calls + 1) causes.Command j.x j.y }) now) (sym (woken_lists w (h.slot ∷ []) now bodies woke))
     (whole _ now (push_kept w h j r m (w.plain.calls + 1) causes.Command k few due) (woke.acting ∙ sym (push_acting w h j r m k due)))
 
-pub pose_whole : (w : World) (h : Handle) (asked given : Pose) (acting now : Acting Constraint) (bodies : List (Option Body)) → IsWhole w acting → w.plain.calls < 2 ^ 40
-    → HasWoken w (stirred_by w.plain.bodies w.plain.joints w.plain.contacts h.slot) now bodies → posed (body_of w.plain h) asked ≡ Ok given → IsPose given
-    → IsWhole (record w { plain = counted (body_changed (put_pose given) h.slot (lists_with w.plain now bodies)) }) now
-pose_whole w h asked given acting now bodies is few woke due pose =
-    let k = whole_kept w acting is in
-    subst (λ (p : Plain). IsWhole (record w { plain = counted (body_changed (put_pose given) h.slot p) }) now) (sym (woken_lists w (stirred_by w.plain.bodies w.plain.joints w.plain.contacts h.slot) now bodies woke))
-    (whole _ now (pose_kept w h asked given k few due pose) (woke.acting ∙ sym (pose_acting w h asked given k due pose)))
+pub changed_whole : (w : World) (h : Handle) (f : Body → Body) (acting now : Acting Constraint) (bodies : List (Option Body)) → IsWhole w acting
+    → HasWoken w (stirred_by w.plain.bodies w.plain.joints w.plain.contacts h.slot) now bodies → MayChange w h f → IsWhole (record w { plain = counted (body_changed f h.slot (lists_with w.plain now bodies)) }) now
+changed_whole w h f acting now bodies is woke may =
+    subst (λ (p : Plain). IsWhole (record w { plain = counted (body_changed f h.slot p) }) now) (sym (woken_lists w (stirred_by w.plain.bodies w.plain.joints w.plain.contacts h.slot) now bodies woke))
+    (record { sound = may.sound; same = woke.acting ∙ sym may.acting })
 
-pub velocity_whole : (w : World) (h : Handle) (asked given : Course) (acting now : Acting Constraint) (bodies : List (Option Body)) → IsWhole w acting → w.plain.calls < 2 ^ 40
-    → HasWoken w (stirred_by w.plain.bodies w.plain.joints w.plain.contacts h.slot) now bodies → steered (body_of w.plain h) asked ≡ Ok given
-    → IsWhole (record w { plain = counted (body_changed (put_course given) h.slot (lists_with w.plain now bodies)) }) now
-velocity_whole w h asked given acting now bodies is few woke due =
+pub may_pose : (w : World) (h : Handle) (asked given : Pose) (acting : Acting Constraint) → IsWhole w acting → w.plain.calls < 2 ^ 40 → posed (body_of w.plain h) asked ≡ Ok given → IsPose given → MayChange w h (put_pose given)
+may_pose w h asked given acting is few due pose =
     let k = whole_kept w acting is in
-    subst (λ (p : Plain). IsWhole (record w { plain = counted (body_changed (put_course given) h.slot p) }) now) (sym (woken_lists w (stirred_by w.plain.bodies w.plain.joints w.plain.contacts h.slot) now bodies woke))
-    (whole _ now (velocity_kept w h asked given k few due) (woke.acting ∙ sym (velocity_acting w h asked given k due)))
+    record { sound = sound_kept _ (pose_kept w h asked given k few due pose); acting = pose_acting w h asked given k due pose }
+
+pub may_steer : (w : World) (h : Handle) (asked given : Course) (acting : Acting Constraint) → IsWhole w acting → w.plain.calls < 2 ^ 40 → steered (body_of w.plain h) asked ≡ Ok given → MayChange w h (put_course given)
+may_steer w h asked given acting is few due =
+    let k = whole_kept w acting is in
+    record { sound = sound_kept _ (velocity_kept w h asked given k few due); acting = velocity_acting w h asked given k due }
 
 -- ---- an island put to rest
 

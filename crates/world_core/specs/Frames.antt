@@ -1,7 +1,8 @@
 -- What a frame shows of a world, and what settling the ledger leaves.
-use Rattle.std.specs.Prelude.{ℕ, zero, suc, ◌==◌, cond, List, [], ◌∷◌, ◌++◌, length, Option, Some, None, slice_get}
+use Rattle.std.specs.Prelude.{◌≡◌, ℕ, zero, suc, ◌<◌, ◌≤◌, ◌^◌, ◌==◌, cond, All, List, [], ◌∷◌, ◌++◌, length, Option, Some, None, slice_get}
 use Rattle.body_handles.specs.declared.handle.Handle.{Handle}
 use Rattle.body_handles.specs.declared.places.Place.{Place}
+use Rattle.body_handles.specs.declared.places.TheConstants.{MAX_SLOTS}
 use Rattle.body_handles.specs.Places.{generation_at}
 use Rattle.impulse_ledger.specs.declared.totals.Total.{Total}
 use Rattle.impulse_ledger.specs.Sums.{total, totals_of}
@@ -9,8 +10,12 @@ use Rattle.plain_world.specs.declared.body.Body.{Body}
 use Rattle.plain_world.specs.Bodies.{pose_of}
 use Rattle.plain_world.specs.Momentum.{momentum}
 use Rattle.plain_world.specs.Slots.{body_at}
+use Rattle.shapes.specs.Poses.{IsPose}
+use Rattle.shapes.specs.Shapes.{IsShapeDef}
+use Rattle.shapes.specs.declared.limits.TheConstants.{MAX_SHAPES}
 use Rattle.shapes.specs.declared.pose.Pose.{Pose}
 use Rattle.world_core.specs.declared.frame.FrameBody.{FrameBody}
+use Rattle.world_rules.specs.Sound.{IsSound}
 use Rattle.world_rules.specs.World.{World, book_of}
 
 -- ---- frames
@@ -56,6 +61,28 @@ frame_body_in (Some o) = o
 
 abbrev pub pose_in : List (Option FrameBody) → Handle → Option Pose
 pose_in bodies h = pose_if (frame_body_in (slice_get bodies h.slot)) h
+
+-- ---- what each frame keeps
+
+-- it is the frame of a sound world
+pub record IsFrame (f : View) : Type 0 where
+  pub world : World
+  pub sound : IsSound world
+  pub frame : f ≡ frame_of world
+
+-- a body that is shown in a slot: its handle names the slot, and it stands at a pose and has 1 to 8 shapes, all within their limits
+pub record IsFrameBody (at : ℕ) (b : FrameBody) : Type 0 where
+  pub slot : b.handle.slot ≡ at
+  pub generation : b.handle.generation < 2 ^ 32
+  pub pose : IsPose b.pose
+  pub forms : All IsShapeDef b.shapes
+  pub some : 1 ≤ length b.shapes
+  pub few : length b.shapes ≤ MAX_SHAPES
+
+-- the bodies by slot that a frame of a sound world shows
+pub record AreFrameBodies (bodies : List (Option FrameBody)) : Type 0 where
+  pub few : length bodies ≤ MAX_SLOTS
+  pub each : (slot : ℕ) (b : FrameBody) → frame_body_in (slice_get bodies slot) ≡ Some b → IsFrameBody slot b
 
 -- ---- settling
 

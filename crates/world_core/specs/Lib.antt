@@ -5,3 +5,7 @@ pub mod Walks
 pub mod RowColours
 pub mod Named
 pub mod Waking
+pub mod Stirring
+pub mod Trees
+pub mod SavedAgain
+pub mod Grown

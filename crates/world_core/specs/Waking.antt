@@ -2,7 +2,7 @@
 use Rattle.std.specs.Prelude.{◌≡◌, ℕ, All, List, Contains, Option, Some, None, map}
 use Rattle.body_handles.specs.declared.handle.Handle.{Handle}
 use Rattle.contacts.specs.declared.constraint.Constraint.{Constraint}
-use Rattle.event_feed.specs.Orders.{slot_of}
+use Rattle.body_handles.specs.Orders.{slot_of}
 use Rattle.graph_colours.specs.declared.member.Movers.{Movers}
 use Rattle.islands.specs.Labels.{IsIn, Labels, label_at}
 use Rattle.plain_world.specs.Sleep.{sleeping_name}

@@ -1,4 +1,9 @@
-ghost use Rattle.std.specs.Prelude.{◌≡◌, ◌+◌, ◌≤◌, ◌^◌, ◌++◌, pos, neg_ℤ, unsigned_abs};
+//! What commands and steps enter in the ledger, and the events of a step.
+
+ghost use Rattle.std.specs.Prelude.{◌≡◌, ◌+◌, ◌≤◌, ◌^◌, ◌++◌, map, pos, neg_ℤ, unsigned_abs};
+ghost use Rattle.std.specs.List.Sorted.{IsStrictlyIncreasing};
+ghost use Rattle.body_handles.specs.Orders.{slot_of};
+ghost use Rattle.contacts.specs.Changes.{AreRising};
 ghost use Rattle.fixed_geom.specs.Vectors.{IsWithin};
 ghost use Rattle.impulse_ledger.specs.Sums.{Fits};
 ghost use Rattle.world_rules.specs.Apply.{booked, step_entries};
@@ -6,9 +11,12 @@ ghost use Rattle.world_rules.specs.Sound.{IsRoomy};
 ghost use Rattle.colour_solver.specs.Ticks.{AreSums};
 ghost use Rattle.momenta.specs.Gains.{IsGain};
 
+use crate::scratch::Scratch;
 use colour_solver::StepSums;
+use event_feed::Events;
 use fixed_geom::Vec2;
 use impulse_ledger::{Cause, Entry, Ledger};
+use kept_contacts::Touches;
 use momenta::Gain;
 
 /// Books a sum of impulses for which there is room; one that is zero in both components is left out.
@@ -55,7 +63,7 @@ pub fn loss_of(v: Vec2) -> Gain
 }
 
 /// Books what a step has added, for which there is room.
-pub fn book_step(ledger: &mut Ledger, call: u64, sums: StepSums)
+fn book_step(ledger: &mut Ledger, call: u64, sums: StepSums)
     requires room { 3 ≤ ledger.old.room }
     requires roomy { IsRoomy ledger.old }
     requires small { AreSums (2 ^ 83) sums }
@@ -69,7 +77,7 @@ pub fn book_step(ledger: &mut Ledger, call: u64, sums: StepSums)
 }
 
 /// Books what the ticks of a step have added, and then what those that fell asleep have lost, for which there is room.
-pub fn book_rest(ledger: &mut Ledger, call: u64, sums: StepSums, rest: Gain)
+fn book_rest(ledger: &mut Ledger, call: u64, sums: StepSums, rest: Gain)
     requires room { 4 ≤ ledger.old.room }
     requires roomy { IsRoomy ledger.old }
     requires small { AreSums (2 ^ 83) sums }
@@ -79,4 +87,39 @@ pub fn book_rest(ledger: &mut Ledger, call: u64, sums: StepSums, rest: Gain)
 {
     book_step(ledger, call, sums);
     book(ledger, call, Cause::Rest, rest);
+}
+
+/// Records a step: books what its ticks have added and what those that fell asleep have lost, for which there is room, and makes what began and ended and who
+/// slept and woke its events. Takes no memory.
+pub fn record_step(
+    ledger: &mut Ledger,
+    events: &mut Events,
+    scratch: &mut Scratch,
+    call: u64,
+    sums: StepSums,
+    rest: Gain,
+    touches: Touches,
+)
+    requires room { 4 ≤ ledger.old.room }
+    requires roomy { IsRoomy ledger.old }
+    requires small { AreSums (2 ^ 83) sums }
+    requires rest { IsGain (2 ^ 78) rest }
+    requires begin { AreRising touches.begin.items }
+    requires end { AreRising touches.end.items }
+    requires slept { IsStrictlyIncreasing (map slot_of scratch.old.slept.items) }
+    requires woke { IsStrictlyIncreasing (map slot_of scratch.old.woke.items) }
+    ensures entries { ledger.new.entries ≡ ledger.old.entries ++ (step_entries call sums ++ booked call Cause.Rest rest.x rest.y) }
+    ensures settled { ledger.new.settled ≡ ledger.old.settled }
+    ensures begin { events.new.begin ≡ touches.begin.items }
+    ensures end { events.new.end ≡ touches.end.items }
+    ensures slept { events.new.slept ≡ scratch.old.slept.items }
+    ensures woke { events.new.woke ≡ scratch.old.woke.items }
+{
+    book_rest(ledger, call, sums, rest);
+    events.renew(
+        touches.begin,
+        touches.end,
+        &mut scratch.slept,
+        &mut scratch.woke,
+    );
 }

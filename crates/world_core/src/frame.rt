@@ -3,7 +3,7 @@
 ghost use Rattle.std.specs.Prelude.{◌≡◌, IfOk, Some, length};
 ghost use Rattle.std.specs.Result.{IsOkUnless};
 ghost use Rattle.plain_world.specs.Slots.{AreMatched};
-ghost use Rattle.world_core.specs.Frames.{pose_if, pose_in, shown, shown_body, shown_up};
+ghost use Rattle.world_core.specs.Frames.{AreFrameBodies, IsFrame, pose_if, pose_in, shown, shown_body, shown_up};
 
 use body_handles::{Handle, Place};
 use fixed_geom::Refusal;
@@ -22,7 +22,8 @@ pub struct FrameBody {
 }
 
 /// What a world shows at one moment: for each slot the pose and the shapes of the enabled body in it, the movers' momentum,
-/// the ledger's total, and how many calls were accepted. A frame is a copy of its own, which no later call changes.
+/// the ledger's total, and how many calls were accepted. A frame is a copy of its own, which no later call changes. Only
+/// `WorldCore::frame` makes one, so that each is the frame of a sound world.
 #[derive(Drop)]
 pub struct Frame {
     bodies: Vec<Option<FrameBody>>,
@@ -32,21 +33,24 @@ pub struct Frame {
 }
 
 impl Model for Frame {
-    ghost use Rattle.world_core.specs.Frames.{View};
+    ghost use Rattle.world_core.specs.Frames.{IsFrame, View};
 
     ghost Value = { View };
 
     ghost view = { λ f. record { bodies = f.bodies.items; momentum = f.momentum; booked = f.booked; calls = f.calls } };
+
+    ghost invariant = { λ f. IsFrame (record { bodies = f.bodies.items; momentum = f.momentum; booked = f.booked; calls = f.calls }) };
 }
 
 impl Frame {
-    /// A frame of these bodies by slot.
+    /// A frame of these bodies by slot, as a sound world shows them.
     pub(crate) fn new(
         bodies: Vec<Option<FrameBody>>,
         momentum: Total,
         booked: Total,
         calls: u64,
     ) -> Frame
+        requires { IsFrame (record { bodies = bodies.items; momentum = momentum; booked = booked; calls = calls }) }
         ensures { result ≡ record { bodies = bodies.items; momentum = momentum; booked = booked; calls = calls } }
     {
         Frame {
@@ -57,9 +61,12 @@ impl Frame {
         }
     }
 
-    /// The enabled body in each slot that was ever used.
+    /// The enabled body in each slot that was ever used. There are at most 65,536 slots. The handle of a body names its slot, and its
+    /// pose and its 1 to 8 shapes are within their limits, since the frame is that of a sound world.
     pub fn bodies(&self) -> &[Option<FrameBody>]
-        ensures { result.now ≡ self.now.bodies }
+        ensures bodies { result.now ≡ self.now.bodies }
+        ensures sound { IsFrame self.now }
+        ensures formed { AreFrameBodies self.now.bodies }
     {
         self.bodies.as_slice()
     }
@@ -74,16 +81,18 @@ impl Frame {
         }
     }
 
-    /// The movers' momentum, in mass·u/tick.
+    /// The movers' momentum, in mass·u/tick. It is the total of the ledger.
     pub fn momentum(&self) -> Total
-        ensures { result ≡ self.now.momentum }
+        ensures value { result ≡ self.now.momentum }
+        ensures booked { self.now.momentum ≡ self.now.booked }
     {
         self.momentum
     }
 
-    /// The total of the ledger, in mass·u/tick.
+    /// The total of the ledger, in mass·u/tick. It is the movers' momentum.
     pub fn booked(&self) -> Total
-        ensures { result ≡ self.now.booked }
+        ensures value { result ≡ self.now.booked }
+        ensures momentum { self.now.booked ≡ self.now.momentum }
     {
         self.booked
     }

@@ -1,6 +1,7 @@
 //! Laws of the definitions, for crates above. These functions do nothing; their contracts are the laws.
 
 ghost use Rattle.world_rules.specs.Laws.{EachCallCounts, PushesAreSmall};
+ghost use Rattle.world_core.specs.Grown.{EachCallBooksLittle, GrownWorldsHaveSmallTotals, SettlingBooksNothing};
 ghost use Rattle.world_core.specs.RowColours.{ColouredRowsAreColours};
 
 /// An accepted command counts one call more, and the impulse that it gives a body is at most 2^40 in each component.
@@ -14,4 +15,17 @@ pub fn each_call_counts()
 /// function does nothing; its contract is the law.
 pub fn coloured_rows_are_colours()
     ensures { ColouredRowsAreColours }
+{}
+
+/// A call adds at most 2^83 to the total of each cause, in each component, if it is accepted, and nothing if it is refused: by any command, where the
+/// world is sound before and after it, as each `WorldCore` is. Settling the ledger adds nothing.
+pub fn each_call_books_little()
+    ensures calls { EachCallBooksLittle }
+    ensures settling { SettlingBooksNothing }
+{}
+
+/// A world that has grown from a new one by calls, of which each adds at most 2^83 to the total of a cause, has totals within ±2^126: no more
+/// than 2^40 calls are accepted. By `WorldCore::save` it can so be saved and read again.
+pub fn grown_worlds_have_small_totals()
+    ensures { GrownWorldsHaveSmallTotals }
 {}

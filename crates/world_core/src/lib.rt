@@ -12,6 +12,7 @@ mod joining;
 mod laws;
 mod leaving;
 mod own_joints;
+mod preparing;
 mod pushes;
 mod queries;
 mod readiness;
@@ -29,8 +30,11 @@ pub use body_handles::{Handle, Place};
 pub use event_feed::Events;
 pub use fixed_geom::{Refusal, Rot, Vec2};
 pub use frame::{Frame, FrameBody};
-pub use impulse_ledger::{Cause, Ledger, Total};
-pub use laws::{coloured_rows_are_colours, each_call_counts};
+pub use impulse_ledger::{Cause, Ledger, Total, Totals};
+pub use laws::{
+    coloured_rows_are_colours, each_call_books_little, each_call_counts,
+    grown_worlds_have_small_totals,
+};
 pub use momenta::MassData;
 pub use plain_world::{
     Body, BodyDef, BodyJoint, BodyView, Constraint, ContactEntry, ContactKey, Course, FatBoxes,

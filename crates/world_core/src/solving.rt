@@ -1,6 +1,6 @@
 //! The ticks of a step, over what acts.
 
-ghost use Rattle.std.specs.Prelude.{◌≡◌, ◌≤◌, ◌+◌, ◌^◌, OnOk, length, map};
+ghost use Rattle.std.specs.Prelude.{◌≡◌, ℕ, ◌≤◌, ◌+◌, ◌^◌, OnOk, length, map};
 ghost use Rattle.std.specs.Result.{IsOkUnless};
 ghost use Rattle.fixed_geom.specs.Vectors.{IsWithin, plus};
 ghost use Rattle.contacts_base.specs.Contacts.{number_of};
@@ -18,7 +18,7 @@ ghost use Rattle.world_rules.specs.Gathering.{CanGather};
 
 use crate::impulses::put_impulses;
 use body_handles::MAX_SLOTS;
-use colour_solver::{Rows, StepSums};
+use colour_solver::{Rows, StepSolver, StepSums};
 use contacts::Constraint;
 use fixed_geom::{Refusal, Vec2};
 use graph_colours::{COLOURS, Colours};
@@ -46,9 +46,10 @@ pub fn reserve_rows(
     rows.reserve(count, COLOURS + 1)
 }
 
-/// Gathers what acts, lets so many ticks pass, and gives joints and contacts the impulses that they have left. Answers what was
-/// added to the movers' momentum, by cause. Room for the places of the contacts is the caller's. Takes no memory.
-pub fn solve(
+/// Gathers what acts, lets the solver run so many ticks, and gives joints and contacts the impulses that they have left. Answers what was
+/// added to the movers' momentum, by cause. Room for the places of the contacts is the caller's, and the solver has what it needs for what acts. Takes no memory.
+pub fn solve<S: StepSolver>(
+    solver: &mut S,
     rows: &mut Rows,
     places: &mut Vec<usize>,
     bodies: &mut BodyTable,
@@ -67,6 +68,7 @@ pub fn solve(
     requires ticks { ticks ≤ 8 }
     requires room { length (all_members colours.now.lists) ≤ rows.old.room }
     requires more { COLOURS + 1 ≤ rows.old.more }
+    requires fits { (n : ℕ) → n ≤ length (all_members colours.now.lists) → S.fits solver.old n }
     ensures bodies { bodies.new.bodies ≡ renewed_bodies (bodies_of (solved ticks gravity (solve_order (ids_of colours.now.lists)) bodies.old.bodies joints.old.joints contacts.old.contacts)) }
     ensures joints { joints.new.joints ≡ (solved ticks gravity (solve_order (ids_of colours.now.lists)) bodies.old.bodies joints.old.joints contacts.old.contacts).joints }
     ensures contacts { contacts.new.contacts ≡ (solved ticks gravity (solve_order (ids_of colours.now.lists)) bodies.old.bodies joints.old.joints contacts.old.contacts).contacts }
@@ -92,7 +94,7 @@ pub fn solve(
         places,
         colours,
     );
-    let sums = bodies.run(rows, gravity, ticks);
+    let sums = bodies.run(solver, rows, gravity, ticks);
     put_impulses(joints, contacts, rows, places);
     sums
 }

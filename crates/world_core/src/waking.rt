@@ -10,7 +10,7 @@ ghost use Rattle.plain_world.specs.Bodies.{AreBodies};
 ghost use Rattle.plain_world.specs.Momentum.{momentum};
 ghost use Rattle.plain_world.specs.Sleep.{told};
 ghost use Rattle.sleep_wake.specs.Acting.{IsSettled};
-ghost use Rattle.sleep_wake.specs.Sleeping.{islands_woken, slept_at};
+ghost use Rattle.sleep_wake.specs.Sleeping.{islands_woken, names_of, slept_at};
 ghost use Rattle.world_core.specs.Waking.{HasIsland, HasIslands, IsExtended};
 ghost use Rattle.world_core_base.specs.Marked.{AreMarked};
 
@@ -21,6 +21,13 @@ use momenta::Gain;
 use sleep_wake::Sets;
 use std::alloc::Global;
 use world_core_base::BodyTable;
+
+/// The sleeping islands that are to wake: their names, and the movers in them.
+#[derive(Drop)]
+pub struct Waking {
+    pub names: Vec<u32>,
+    pub movers: Vec<u32>,
+}
 
 /// Adds the movers of the island of the mover in a slot, if one is there. Refused 1 where memory is wanting.
 fn add_island(movers: &mut Vec<u32>, sets: &Sets<Constraint>, slot: u32) -> Result<(), Refusal>
@@ -53,19 +60,24 @@ pub fn list_movers(
     Ok(movers)
 }
 
-/// Wakes the islands of these names, and tells their movers, which are listed. All bodies had been told before. Where there are no names, it takes
-/// no time.
-pub fn wake_named(
-    sets: &mut Sets<Constraint>,
-    bodies: &mut BodyTable,
-    names: &[u32],
-    movers: &[u32],
-)
-    requires movers { HasIslands sets.old.acting.labels names.now movers.now }
+/// Which islands wake with the movers in these slots: those of them that sleep. Where none sleeps, it takes no memory. Refused 1 where memory is wanting.
+pub fn plan_waking(alloc: Global, sets: &Sets<Constraint>, slots: &[u32]) -> Result<Waking, Refusal>
+    ensures names { IfOk result (λ waking. waking.names.items ≡ names_of sets.now.acting.labels slots.now) }
+    ensures movers { IfOk result (λ waking. HasIslands sets.now.acting.labels waking.names.items waking.movers.items) }
+    ensures memory_only { IsOkUnless result Refusal.NoMemory }
+{
+    let names = sets.names_of(slots)?;
+    let movers = list_movers(alloc, sets, &names)?;
+    Ok(Waking { names, movers })
+}
+
+/// Wakes the islands that are to wake, and tells their movers. All bodies had been told before. Where there are none, it takes no time.
+pub fn wake_planned(sets: &mut Sets<Constraint>, bodies: &mut BodyTable, waking: &Waking)
+    requires movers { HasIslands sets.old.acting.labels waking.now.names.items waking.now.movers.items }
     requires few { length bodies.old.bodies ≤ MAX_SLOTS }
     requires bodies { AreBodies bodies.old.bodies }
     requires told { told sets.old.acting.labels bodies.old.bodies ≡ bodies.old.bodies }
-    ensures acting { sets.new.acting ≡ islands_woken constraint_number names.now sets.old.acting }
+    ensures acting { sets.new.acting ≡ islands_woken constraint_number waking.now.names.items sets.old.acting }
     ensures told { bodies.new.bodies ≡ told sets.new.acting.labels bodies.old.bodies }
     ensures count { length bodies.new.bodies ≡ length bodies.old.bodies }
     ensures all_bodies { AreBodies bodies.new.bodies }
@@ -73,11 +85,11 @@ pub fn wake_named(
     ensures slots { sets.new.slots ≡ sets.old.slots }
     ensures marked { AreMarked bodies.old bodies.new }
 {
-    if names.is_empty() {
+    if waking.names.is_empty() {
         return;
     }
-    sets.wake_named(names);
-    bodies.tell_some(movers, sets.islands());
+    sets.wake_named(&waking.names);
+    bodies.tell_some(&waking.movers, sets.islands());
 }
 
 /// Puts the mover in a slot to sleep with its island, and tells the movers of the island in which it was, which are listed. All bodies had been

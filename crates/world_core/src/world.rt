@@ -16,6 +16,7 @@ ghost use Rattle.impulse_ledger.specs.Sums.{HaveSameTotals};
 ghost use Rattle.world_core_base.specs.Covers.{AreCovered};
 ghost use Rattle.world_rules.specs.World.{body_of, book_of, joints_of};
 ghost use Rattle.world_core.specs.Frames.{frame_of, settled_world};
+ghost use Rattle.world_core.specs.Trees.{HoldsEnabled};
 ghost use Rattle.world_rules.specs.Sound.{IsSound};
 ghost use Rattle.world_rules.specs.Apply.{Answers, IsMade, empty_world, gravity_refusal, apply};
 
@@ -238,13 +239,21 @@ impl WorldCore {
         &self.events
     }
 
-    /// Boxes by slot: that of each slot with a body holds the body's fat boxes, whether it is enabled or not. A slot without a body may have
-    /// a box or none.
-    pub fn boxes(&self) -> &BoxTree
+    /// The tree of the bodies' boxes by slot: that of each enabled body holds each of its fat boxes. A disabled body keeps its box, and a
+    /// slot without a body may have one.
+    pub fn tree(&self) -> &BoxTree
+        ensures enabled { HoldsEnabled self.now.plain.bodies result.now }
         ensures covered { AreCovered self.now.plain.bodies result.now }
         ensures sound { IsSound self.now }
     {
         self.bodies.boxes()
+    }
+
+    /// The world is sound: its type keeps that. The function does nothing; its contract is the law.
+    pub fn sound(&self)
+        ensures { IsSound self.now }
+    {
+        let _ = &self.handles;
     }
 
     /// The world as plain lists. Refused 1 where memory is wanting.

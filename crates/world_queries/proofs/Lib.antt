@@ -1,2 +1,4 @@
 pub mod ByBoxesLaws
+pub mod FramedLaws
 pub mod PlacedLaws
+pub mod ShownLaws

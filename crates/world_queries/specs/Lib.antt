@@ -1,3 +1,5 @@
 pub mod ByBoxes
+pub mod Framed
+pub mod Laws
 pub mod Limits
 pub mod Placed

@@ -1,6 +1,6 @@
 //! Which rays and regions may be asked about.
 
-ghost use Rattle.std.specs.Prelude.{◌≡◌, ◌↔◌, IsTrue};
+ghost use Rattle.std.specs.Prelude.{◌≡◌, ◌↔◌, IsTrue, pos};
 ghost use Rattle.shapes.specs.Rays.{IsBeam, beam_of};
 ghost use Rattle.world_queries.specs.Limits.{is_ordered, is_region};
 
@@ -34,3 +34,9 @@ pub fn is_region(bounds: &Box2) -> bool
         && is_within(bounds.hi, MAX_CORNER as u64)
         && is_ordered(bounds.lo, bounds.hi)
 }
+
+/// The law of the limits: the numbers that definitions take from the code, in digits. The function does nothing; its contract is
+/// the law.
+pub fn limits_in_digits()
+    ensures corner { MAX_CORNER ≡ pos 137438953472 }
+{}

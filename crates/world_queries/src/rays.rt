@@ -77,8 +77,8 @@ pub fn ray(world: &WorldCore, from: Vec2, along: Vec2) -> Option<Hit>
     ensures { result ≡ first_hit (beam_of from along) (placed_shapes world.now.plain.bodies) }
 {
     let cast = RayCast::new(from, along);
-    let boxes = world.boxes();
-    match boxes.first_on_ray(&RayAmongBodies { world, cast: &cast }) {
+    let tree = world.tree();
+    match tree.first_on_ray(&RayAmongBodies { world, cast: &cast }) {
         None => None,
         Some(hit) => hit_at_slot(world, &cast, hit.key),
     }

@@ -14,7 +14,11 @@ use std::alloc::Global;
 use world_core::WorldCore;
 
 /// Adds the shape if it lies over the region. Refused 1 where memory is wanting.
-fn add_over(found: &mut Vec<ShapeId>, bounds: &Box2, placed: &PlacedShape) -> Result<(), Refusal>
+pub(crate) fn add_over(
+    found: &mut Vec<ShapeId>,
+    bounds: &Box2,
+    placed: &PlacedShape,
+) -> Result<(), Refusal>
     requires { IsPlacedShape placed.now }
     ensures found { OnOk result (found.new.items ≡ found.old.items ++ region bounds.now (placed.now ∷ [])) }
     ensures memory_only { IsOkUnless result Refusal.NoMemory }
@@ -55,7 +59,7 @@ pub fn region(alloc: Global, world: &WorldCore, bounds: &Box2) -> Result<Vec<Sha
     ensures shapes { IfOk result (λ found. found.items ≡ region bounds.now (placed_shapes world.now.plain.bodies)) }
     ensures memory_only { IsOkUnless result Refusal.NoMemory }
 {
-    let slots = world.boxes().overlapping(bounds)?;
+    let slots = world.tree().overlapping(bounds)?;
     let mut found = Vec::new(alloc);
     for slot in &slots {
         add_at_slot(&mut found, world, bounds, *slot)?;

@@ -1,18 +1,22 @@
 //! Bodies that come and go, and that are changed one by one.
 
-ghost use Rattle.std.specs.Prelude.{◌≡◌, ◌<◌, ◌^◌};
-ghost use Rattle.world_rules.specs.Apply.{Answers, apply_create, apply_destroy, apply_push, apply_pose, apply_velocity};
+ghost use Rattle.std.specs.Prelude.{◌≡◌, ◌<◌, ◌^◌, Ok, length};
+ghost use Rattle.std.specs.Option.{ForSome};
+ghost use Rattle.plain_world.specs.Slots.{body_at};
+ghost use Rattle.world_core.specs.Stirring.{MayChange};
+ghost use Rattle.world_rules.specs.Apply.{Answers, apply_create, apply_destroy, apply_push, apply_pose, apply_velocity, changed};
+ghost use Rattle.world_rules.specs.Sets.{stirred};
 
 use super::WorldCore;
 use crate::booking::{book, gain_of, loss_of};
 use crate::joining::drop_joints;
 use crate::leaving::{come, leave};
 use crate::pushes::{course_after, momenta_after, mover_momentum, pose_after};
-use crate::waking::{list_movers, wake_named};
+use crate::waking::wake_planned;
 use body_handles::Handle;
 use fixed_geom::{Refusal, Vec2};
 use impulse_ledger::Cause;
-use plain_world::{BodyDef, Course, body_of, filters_fit};
+use plain_world::{BodyChange, BodyDef, Course, body_of, filters_fit};
 use shapes::Pose;
 use world_rules::Reply;
 
@@ -48,12 +52,11 @@ impl WorldCore {
         let mover = body.is_mover();
         let p = mover_momentum(body);
         let ties = self.ties_at(handle.slot)?;
-        let names = self.names_by_ties(handle.slot, &ties)?;
+        let waking = self.plan_stir_by_ties(handle.slot, &ties)?;
         let own = self.joints.slots_of(handle.slot)?;
         self.contacts.reserve_drop()?;
         self.ledger.reserve(1)?;
-        let movers = list_movers(self.bodies.allocator(), &self.sets, &names)?;
-        wake_named(&mut self.sets, &mut self.bodies, &names, &movers);
+        wake_planned(&mut self.sets, &mut self.bodies, &waking);
         leave(&mut self.sets, handle.slot, mover, &ties);
         drop_joints(&mut self.joint_handles, &mut self.joints, handle.slot, &own);
         self.bodies.clear(handle.slot);
@@ -74,10 +77,9 @@ impl WorldCore {
         ensures { Answers (apply_push self.old.plain handle by offset) self.old result self.new }
     {
         let momenta = momenta_after(&self.handles, self.bodies.bodies(), handle, by, offset)?;
-        let names = self.sets.names_of(&[handle.slot])?;
+        let waking = self.plan_waking(&[handle.slot])?;
         self.ledger.reserve(1)?;
-        let movers = list_movers(self.bodies.allocator(), &self.sets, &names)?;
-        wake_named(&mut self.sets, &mut self.bodies, &names, &movers);
+        wake_planned(&mut self.sets, &mut self.bodies, &waking);
         self.bodies.change(handle.slot, &momenta);
         book(
             &mut self.ledger,
@@ -94,13 +96,7 @@ impl WorldCore {
         ensures { Answers (apply_pose self.old.plain handle pose) self.old result self.new }
     {
         let pose = pose_after(&self.handles, self.bodies.bodies(), handle, pose)?;
-        let names = self.names_stirred(handle.slot)?;
-        let movers = list_movers(self.bodies.allocator(), &self.sets, &names)?;
-        wake_named(&mut self.sets, &mut self.bodies, &names, &movers);
-        self.bodies.change(handle.slot, &pose);
-        self.anchors.tidy(&self.sets, handle.slot);
-        self.calls += 1;
-        Ok(Reply::Done)
+        self.change_stirred(handle, &pose)
     }
 
     pub(super) fn set_velocity(&mut self, handle: Handle, course: Course) -> Result<Reply, Refusal>
@@ -108,10 +104,24 @@ impl WorldCore {
         ensures { Answers (apply_velocity self.old.plain handle course) self.old result self.new }
     {
         let course = course_after(&self.handles, self.bodies.bodies(), handle, course)?;
-        let names = self.names_stirred(handle.slot)?;
-        let movers = list_movers(self.bodies.allocator(), &self.sets, &names)?;
-        wake_named(&mut self.sets, &mut self.bodies, &names, &movers);
-        self.bodies.change(handle.slot, &course);
+        self.change_stirred(handle, &course)
+    }
+
+    /// Makes a change to a body that is there, once the islands that this wakes are awake. Refused 1 where memory is wanting.
+    fn change_stirred<C: BodyChange>(
+        &mut self,
+        handle: Handle,
+        change: &C,
+    ) -> Result<Reply, Refusal>
+        requires calls { self.old.plain.calls < 2 ^ 40 }
+        requires present { handle.slot < length self.old.plain.bodies }
+        requires fits { ForSome (body_at (stirred self.old.plain handle.slot).bodies handle.slot) (C.fits change.now) }
+        requires may { MayChange self.old handle (C.after change.now) }
+        ensures { Answers (Ok (changed self.old.plain handle (C.after change.now))) self.old result self.new }
+    {
+        let waking = self.plan_stir(handle.slot)?;
+        wake_planned(&mut self.sets, &mut self.bodies, &waking);
+        self.bodies.change(handle.slot, change);
         self.anchors.tidy(&self.sets, handle.slot);
         self.calls += 1;
         Ok(Reply::Done)

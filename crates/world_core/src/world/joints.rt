@@ -5,7 +5,7 @@ ghost use Rattle.world_rules.specs.Apply.{Answers, apply_join, apply_unjoin};
 
 use super::WorldCore;
 use crate::joining::{check_join, joint_of};
-use crate::waking::{list_movers, wake_named};
+use crate::waking::wake_planned;
 use body_handles::Handle;
 use contacts::Constraint;
 use fixed_geom::Refusal;
@@ -23,12 +23,11 @@ impl WorldCore {
             return Err(Refusal::TooMany);
         }
         let joint = def.make();
+        let waking = self.plan_waking(&[joint.a, joint.b])?;
         self.joint_handles.reserve_one()?;
         self.joints.reserve_for(&joint)?;
         self.sets.reserve(1, 0)?;
-        let names = self.sets.names_of(&[joint.a, joint.b])?;
-        let movers = list_movers(self.bodies.allocator(), &self.sets, &names)?;
-        wake_named(&mut self.sets, &mut self.bodies, &names, &movers);
+        wake_planned(&mut self.sets, &mut self.bodies, &waking);
         let handle = self.joint_handles.insert()?;
         let movers = joint_movers(self.bodies.bodies(), &joint);
         begin_with(&mut self.sets, Constraint::Joint(handle), movers);
@@ -45,9 +44,8 @@ impl WorldCore {
         let Some(joint) = joint_of(&self.joint_handles, &self.joints, handle) else {
             return Err(Refusal::StaleHandle);
         };
-        let names = self.sets.names_of(&[joint.a, joint.b])?;
-        let movers = list_movers(self.bodies.allocator(), &self.sets, &names)?;
-        wake_named(&mut self.sets, &mut self.bodies, &names, &movers);
+        let waking = self.plan_waking(&[joint.a, joint.b])?;
+        wake_planned(&mut self.sets, &mut self.bodies, &waking);
         let movers = joint_movers(self.bodies.bodies(), &joint);
         end_with(&mut self.sets, Constraint::Joint(handle), movers);
         self.bodies.mark(joint.b);

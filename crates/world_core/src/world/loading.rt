@@ -7,6 +7,7 @@ ghost use Rattle.contacts.specs.Constraints.{constraint_number};
 ghost use Rattle.contacts_base.specs.Contacts.{AreContacts};
 ghost use Rattle.plain_world.specs.Slots.{AreMatched};
 ghost use Rattle.sleep_wake.specs.Acting.{IsSettled};
+ghost use Rattle.world_core.specs.SavedAgain.{ComesBack};
 ghost use Rattle.world_file.specs.Answers.{IsRefusedBy};
 ghost use Rattle.world_file.specs.Files.{read_of};
 ghost use Rattle.world_rules.specs.Sets.{acting_of};
@@ -88,11 +89,13 @@ impl WorldCore {
         })
     }
 
-    /// The world that a value of version 1 or 2 saves: its plain lists, with the totals of its ledger, all settled; it has no events. The
-    /// first of the clauses that the value breaks is answered, or that memory was wanting.
+    /// The world that a value of version 1 or 2 saves: its plain lists, with the totals of its ledger, all settled; it has no events. What
+    /// `save` made of a world whose totals by cause are within ±2^126 comes back. The first of the clauses that the value breaks is
+    /// answered, or that memory was wanting.
     pub fn load(alloc: Global, value: &Value) -> Result<WorldCore, Broken>
         ensures loaded { IfOk result (λ made. read_of (view value.now) ≡ Ok (made.plain, made.settled)) }
         ensures settled { IfOk result (λ made. made ≡ settled_world made.plain made.settled) }
+        ensures again { ComesBack (view value.now) result }
         ensures refused { IfErr result (λ e. IsRefusedBy (read_of (view value.now)) e) }
     {
         match read(alloc, value) {

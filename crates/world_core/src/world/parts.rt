@@ -8,7 +8,7 @@ use crate::booking::{book, loss_of};
 use crate::leaving::{come, leave};
 use crate::own_joints::{fill_joint_ties, list_joined};
 use crate::pushes::mover_momentum;
-use crate::waking::{list_movers, wake_named};
+use crate::waking::wake_planned;
 use body_handles::Handle;
 use fixed_geom::Refusal;
 use impulse_ledger::Cause;
@@ -29,11 +29,10 @@ impl WorldCore {
         let mover = body.is_mover();
         let p = mover_momentum(body);
         let ties = self.ties_at(handle.slot)?;
-        let names = self.names_by_ties(handle.slot, &ties)?;
+        let waking = self.plan_stir_by_ties(handle.slot, &ties)?;
         self.contacts.reserve_drop()?;
         self.ledger.reserve(1)?;
-        let movers = list_movers(self.bodies.allocator(), &self.sets, &names)?;
-        wake_named(&mut self.sets, &mut self.bodies, &names, &movers);
+        wake_planned(&mut self.sets, &mut self.bodies, &waking);
         leave(&mut self.sets, handle.slot, mover, &ties);
         self.bodies.disable(handle.slot);
         self.joints.idle(handle.slot);
@@ -68,11 +67,10 @@ impl WorldCore {
             &own,
             handle.slot,
         )?;
-        let names = self.sets.names_of(&joined)?;
+        let waking = self.plan_waking(&joined)?;
         let mut ties = Vec::with_capacity(self.bodies.allocator(), own.len())?;
         self.sets.reserve(own.len(), self.bodies.bodies().len())?;
-        let movers = list_movers(self.bodies.allocator(), &self.sets, &names)?;
-        wake_named(&mut self.sets, &mut self.bodies, &names, &movers);
+        wake_planned(&mut self.sets, &mut self.bodies, &waking);
         self.bodies.enable(handle.slot);
         fill_joint_ties(
             &mut ties,

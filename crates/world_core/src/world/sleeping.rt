@@ -5,6 +5,7 @@ ghost use Rattle.std.specs.Result.{IsOkUnless};
 ghost use Rattle.sleep_wake.specs.Sleeping.{names_of};
 ghost use Rattle.solver_sets.specs.Beside.{first_movers, stirred_by};
 ghost use Rattle.solver_sets.specs.Ties.{moves, ties_at};
+ghost use Rattle.world_core.specs.Waking.{HasIslands};
 ghost use Rattle.world_rules.specs.World.{joints_of};
 ghost use Rattle.world_rules.specs.Apply.{Answers, apply_wake, apply_sleep};
 
@@ -12,7 +13,7 @@ use super::WorldCore;
 use crate::booking::book;
 use crate::own_joints::joint_ties;
 use crate::pushes::check_mover;
-use crate::waking::{list_movers, put_to_sleep, wake_named};
+use crate::waking::{Waking, list_movers, plan_waking, put_to_sleep, wake_planned};
 use body_handles::Handle;
 use contacts::Constraint;
 use fixed_geom::Refusal;
@@ -23,33 +24,44 @@ use std::alloc::Global;
 use world_rules::Reply;
 
 impl WorldCore {
-    /// The names of the sleeping islands that a change of the body in a slot wakes. Refused 1 where memory is wanting.
-    pub(super) fn names_stirred(&self, slot: u32) -> Result<Vec<u32>, Refusal>
-        ensures value { IfOk result (λ names. names.items ≡ names_of self.now.plain.islands (stirred_by self.now.plain.bodies self.now.plain.joints self.now.plain.contacts slot)) }
+    /// Which islands wake with the movers in these slots. Refused 1 where memory is wanting.
+    pub(super) fn plan_waking(&self, slots: &[u32]) -> Result<Waking, Refusal>
+        ensures names { IfOk result (λ waking. waking.names.items ≡ names_of self.now.plain.islands slots.now) }
+        ensures movers { IfOk result (λ waking. HasIslands self.now.plain.islands waking.names.items waking.movers.items) }
+        ensures memory_only { IsOkUnless result Refusal.NoMemory }
+    {
+        plan_waking(self.bodies.allocator(), &self.sets, slots)
+    }
+
+    /// Which islands wake when the body in a slot is changed. Refused 1 where memory is wanting.
+    pub(super) fn plan_stir(&self, slot: u32) -> Result<Waking, Refusal>
+        ensures names { IfOk result (λ waking. waking.names.items ≡ names_of self.now.plain.islands (stirred_by self.now.plain.bodies self.now.plain.joints self.now.plain.contacts slot)) }
+        ensures movers { IfOk result (λ waking. HasIslands self.now.plain.islands waking.names.items waking.movers.items) }
         ensures memory_only { IsOkUnless result Refusal.NoMemory }
     {
         if is_mover_at(self.bodies.bodies(), slot) {
-            return self.sets.names_of(&[slot]);
+            return self.plan_waking(&[slot]);
         }
         let ties = self.ties_at(slot)?;
-        self.names_by_ties(slot, &ties)
+        self.plan_stir_by_ties(slot, &ties)
     }
 
     /// The same, where the constraints of the body are at hand. Refused 1 where memory is wanting.
-    pub(super) fn names_by_ties(
+    pub(super) fn plan_stir_by_ties(
         &self,
         slot: u32,
         ties: &[Member<Constraint>],
-    ) -> Result<Vec<u32>, Refusal>
+    ) -> Result<Waking, Refusal>
         requires { ties.now ≡ ties_at slot self.now.plain.bodies (joints_of self.now.plain) self.now.plain.contacts }
-        ensures value { IfOk result (λ names. names.items ≡ names_of self.now.plain.islands (stirred_by self.now.plain.bodies self.now.plain.joints self.now.plain.contacts slot)) }
+        ensures names { IfOk result (λ waking. waking.names.items ≡ names_of self.now.plain.islands (stirred_by self.now.plain.bodies self.now.plain.joints self.now.plain.contacts slot)) }
+        ensures movers { IfOk result (λ waking. HasIslands self.now.plain.islands waking.names.items waking.movers.items) }
         ensures memory_only { IsOkUnless result Refusal.NoMemory }
     {
         if is_mover_at(self.bodies.bodies(), slot) {
-            return self.sets.names_of(&[slot]);
+            return self.plan_waking(&[slot]);
         }
         let slots = list_first(self.bodies.allocator(), ties)?;
-        self.sets.names_of(&slots)
+        self.plan_waking(&slots)
     }
 
     /// The constraints of the body in a slot, ascending, which are at hand for a mover. Refused 1 where memory is wanting.
@@ -88,9 +100,8 @@ impl WorldCore {
         ensures { Answers (apply_wake self.old.plain handle) self.old result self.new }
     {
         check_mover(&self.handles, self.bodies.bodies(), handle)?;
-        let names = self.sets.names_of(&[handle.slot])?;
-        let movers = list_movers(self.bodies.allocator(), &self.sets, &names)?;
-        wake_named(&mut self.sets, &mut self.bodies, &names, &movers);
+        let waking = self.plan_waking(&[handle.slot])?;
+        wake_planned(&mut self.sets, &mut self.bodies, &waking);
         self.calls += 1;
         Ok(Reply::Done)
     }

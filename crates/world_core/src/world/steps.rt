@@ -1,18 +1,28 @@
-//! The gravity, and a step: the collide, the ticks, and the sleep phase.
+//! The gravity, and a step: what it is refused for, what it prepares, and its commit, in which nothing can fail.
 
-ghost use Rattle.std.specs.Prelude.{◌≡◌, ◌<◌, ◌^◌};
+ghost use Rattle.std.specs.Prelude.{◌≡◌, ◌<◌, ◌^◌, cond, pos, unsigned_abs, Ok, Err};
+ghost use Rattle.shapes.specs.Shapes.{is_between};
 ghost use Rattle.world_rules.specs.Apply.{Answers, apply_gravity, apply_step};
 
 use super::{MAX_GRAVITY, MAX_TICKS, WorldCore};
-use crate::booking::book_rest;
-use crate::collide::collide;
+use crate::booking::record_step;
+use crate::preparing::prepare;
 use crate::resting::rest_ready;
-use crate::sleepers::list_sleepers;
-use crate::solving::{reserve_rows, solve};
-use crate::turning::{renew_anchors, turn_all};
+use crate::solving::solve;
+use crate::turning::carry_out;
+use colour_solver::OneThread;
 use fixed_geom::{Refusal, Vec2, is_within};
-use solver_sets::list_changes;
 use world_rules::Reply;
+
+/// How many ticks a step takes: refused 5 outside 1 to 8.
+fn tick_count(ticks: i64) -> Result<u64, Refusal>
+    ensures { result ≡ cond (is_between (pos 1) (pos 8) ticks) (Ok (unsigned_abs ticks)) (Err Refusal.OutOfRange) }
+{
+    if ticks < 1 || ticks > MAX_TICKS {
+        return Err(Refusal::OutOfRange);
+    }
+    Ok(ticks.unsigned_abs())
+}
 
 impl WorldCore {
     pub(super) fn set_gravity(&mut self, gravity: Vec2) -> Result<Reply, Refusal>
@@ -31,36 +41,27 @@ impl WorldCore {
         requires { self.old.plain.calls < 2 ^ 40 }
         ensures { Answers (apply_step self.old.plain ticks) self.old result self.new }
     {
-        if ticks < 1 || ticks > MAX_TICKS {
-            return Err(Refusal::OutOfRange);
-        }
-        let alloc = self.bodies.allocator();
-        self.ledger.reserve(4)?;
-        self.bodies.settle();
-        let changes = collide(alloc, &mut self.contacts, &self.bodies, &self.joints)?;
-        let turns = list_changes(alloc, self.bodies.bodies(), &changes.begin, &changes.end)?;
-        self.sets.reserve(changes.begin.len(), 0)?;
-        reserve_rows(
-            &mut self.rows,
-            &mut self.scratch.places,
-            self.sets.tie_count(),
-            changes.begin.len(),
-        )?;
-        let asleep = list_sleepers(alloc, &self.sets, &turns)?;
-        self.scratch
-            .make_room(self.bodies.bodies().len(), asleep.len())?;
-        self.contacts.carry_out();
-        self.bodies.clear_marks();
-        turn_all(
-            &mut self.sets,
+        let ticks = tick_count(ticks)?;
+        let prepared = prepare(
+            &mut self.ledger,
             &mut self.bodies,
+            &self.joints,
+            &mut self.contacts,
+            &mut self.sets,
+            &mut self.rows,
+            &mut self.scratch,
+        )?;
+        carry_out(
+            &mut self.contacts,
+            &mut self.bodies,
+            &mut self.sets,
+            &mut self.anchors,
             &mut self.scratch.woke,
             self.handles.places(),
-            &turns,
-            &asleep,
+            &prepared,
         );
-        renew_anchors(&mut self.anchors, &self.sets, &turns);
         let sums = solve(
+            &mut OneThread,
             &mut self.rows,
             &mut self.scratch.places,
             &mut self.bodies,
@@ -68,7 +69,7 @@ impl WorldCore {
             &mut self.contacts,
             self.sets.colours(),
             self.gravity,
-            ticks.unsigned_abs(),
+            ticks,
         );
         let rest = rest_ready(
             &mut self.bodies,
@@ -77,19 +78,19 @@ impl WorldCore {
             self.handles.places(),
             self.joints.joints(),
             self.contacts.split(),
-            ticks.unsigned_abs(),
-        );
-        let call = self.calls + 1;
-        book_rest(&mut self.ledger, call, sums, rest);
-        let scratch = &mut self.scratch;
-        self.events.renew(
-            changes.begin,
-            changes.end,
-            &mut scratch.slept,
-            &mut scratch.woke,
+            ticks,
         );
         self.steps += 1;
-        self.calls = call;
+        self.calls += 1;
+        record_step(
+            &mut self.ledger,
+            &mut self.events,
+            &mut self.scratch,
+            self.calls,
+            sums,
+            rest,
+            prepared.touches,
+        );
         Ok(Reply::Stepped(self.steps))
     }
 }

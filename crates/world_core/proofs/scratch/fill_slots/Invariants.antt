@@ -1,5 +1,5 @@
 use Rattle.std.proofs.Common.{◌≡◌, ◌≤◌, ◌++◌, map, drop, vec_len, vec_capacity}
-use Rattle.event_feed.specs.Orders.{slot_of}
+use Rattle.body_handles.specs.Orders.{slot_of}
 use Rattle.world_core.proofs.scratch.fill_slots.Given as goal
 
 abbrev pub invariant-loop-place : goal.invariant-loop-place

@@ -17,42 +17,50 @@ use Rattle.world_core_base.proofs.ContactLaws.{contacts_on, keys_stay}
 use Rattle.world_core_base.proofs.JointLaws.{bare_rows}
 use Rattle.world_core_base.proofs.SolvingJoints.{bare_joints}
 use Rattle.world_core.proofs.ForbiddenLaws.{barely_pairs}
+use Rattle.world_core.proofs.RowCounts.{rows_few}
+use Rattle.world_core.proofs.solving.solve.Given
 use Rattle.world_core.proofs.solving.solve.Goals as goal
 
 pub gather_rows-requires-clause-all_states : goal.gather_rows-requires-clause-all_states
-gather_rows-requires-clause-all_states c = rw c.states.ensures (states-all c.args.bodies.now.bodies c.requires.bodies)
+gather_rows-requires-clause-all_states g c = rw c.states.ensures (states-all c.args.bodies.now.bodies c.requires.bodies)
 
 pub gather_rows-requires-clause-contacts : goal.gather_rows-requires-clause-contacts
-gather_rows-requires-clause-contacts c =
+gather_rows-requires-clause-contacts g c =
     rw c.states.ensures
     (contacts_on c.args.bodies.now.bodies (contacts_in c.split-kept.result.now) c.ascend.ensures.contacts (subst (λ (es : List ContactEntry). AreContactsOf c.args.bodies.now.bodies es) (sym c.split-kept.ensures) c.requires.can.pairs))
 
+-- there are no more rows than constraints that act
+pub run-sums-requires-clause-fits : goal.run-sums-requires-clause-fits
+run-sums-requires-clause-fits g c =
+    let gathered : all_rows c.gather_rows.new.rows ≡ rows_of (states_of c.args.bodies.now.bodies) c.args.joints.now.joints c.args.contacts.now.contacts c.args.colours.now.lists = rw (c.states.ensures, c.joints.ensures, c.split-kept.ensures) at c.gather_rows.ensures.value in
+    c.requires.fits (length (all_rows c.gather_rows.new.rows)) (rw gathered (rows_few (states_of c.args.bodies.now.bodies) c.args.joints.now.joints c.args.contacts.now.contacts c.args.colours.now.lists))
+
 -- what the arrays leave is what the definition of a step leaves
-left : (c : goal.After-put_impulses) → IsLeft c.args.bodies.now.bodies c.args.joints.now.joints c.args.contacts.now.contacts (ran c.args.ticks c.args.gravity (start (states_of c.args.bodies.now.bodies) (all_rows c.gather_rows.new.rows))).states (all_rows c.run-sums.new.rows) c.run-sums.result (solved c.args.ticks c.args.gravity (solve_order (ids_of c.args.colours.now.lists)) c.args.bodies.now.bodies c.args.joints.now.joints c.args.contacts.now.contacts)
-left c =
+left : (g : Given.Over) (c : goal.After-put_impulses g) → IsLeft c.args.bodies.now.bodies c.args.joints.now.joints c.args.contacts.now.contacts (ran c.args.ticks c.args.gravity (start (states_of c.args.bodies.now.bodies) (all_rows c.gather_rows.new.rows))).states (all_rows c.run-sums.new.rows) c.run-sums.result (solved c.args.ticks c.args.gravity (solve_order (ids_of c.args.colours.now.lists)) c.args.bodies.now.bodies c.args.joints.now.joints c.args.contacts.now.contacts)
+left g c =
     let gathered : all_rows c.gather_rows.new.rows ≡ rows_of (states_of c.args.bodies.now.bodies) c.args.joints.now.joints c.args.contacts.now.contacts c.args.colours.now.lists = rw (c.states.ensures, c.joints.ensures, c.split-kept.ensures) at c.gather_rows.ensures.value in
     arrays_left c.args.ticks c.args.gravity c.args.bodies.now.bodies c.args.joints.now.joints c.args.contacts.now.contacts c.args.colours.now.lists (all_rows c.gather_rows.new.rows) (all_rows c.run-sums.new.rows) c.run-sums.result c.requires.can.rising c.requires.can.once gathered c.run-sums.ensures.run
 
 pub returns-clause-bodies : goal.returns-clause-bodies
-returns-clause-bodies c = c.run-sums.ensures.bodies ∙ ap renewed_bodies (left c).bodies_left
+returns-clause-bodies g c = c.run-sums.ensures.bodies ∙ ap renewed_bodies (left g c).bodies_left
 
 pub returns-clause-joints : goal.returns-clause-joints
-returns-clause-joints c = c.put_impulses.ensures.joints ∙ (left c).joints_left
+returns-clause-joints g c = c.put_impulses.ensures.joints ∙ (left g c).joints_left
 
 pub returns-clause-contacts : goal.returns-clause-contacts
-returns-clause-contacts c = c.put_impulses.ensures.value ∙ (left c).contacts_left
+returns-clause-contacts g c = c.put_impulses.ensures.value ∙ (left g c).contacts_left
 
 pub returns-clause-sums : goal.returns-clause-sums
-returns-clause-sums c = (left c).sums_left
+returns-clause-sums g c = (left g c).sums_left
 
 pub returns-clause-all_joints : goal.returns-clause-all_joints
-returns-clause-all_joints c = c.put_impulses.ensures.all_joints c.args.bodies.now.bodies (length c.args.bodies.now.bodies) c.run-sums.ensures.rows c.requires.can.joints_there
+returns-clause-all_joints g c = c.put_impulses.ensures.all_joints c.args.bodies.now.bodies (length c.args.bodies.now.bodies) c.run-sums.ensures.rows c.requires.can.joints_there
 
 pub returns-clause-pairs : goal.returns-clause-pairs
-returns-clause-pairs c = c.put_impulses.ensures.contacts c.args.bodies.now.bodies (length c.args.bodies.now.bodies) c.run-sums.ensures.rows c.requires.can.pairs
+returns-clause-pairs g c = c.put_impulses.ensures.contacts c.args.bodies.now.bodies (length c.args.bodies.now.bodies) c.run-sums.ensures.rows c.requires.can.pairs
 
 pub returns-clause-forbidden : goal.returns-clause-forbidden
-returns-clause-forbidden c = barely_pairs c.args.joints.now.joints c.put_impulses.new.joints.joints (ap bare_joints c.put_impulses.ensures.joints ∙ bare_rows c.args.joints.now.joints (joints_among (all_rows c.run-sums.new.rows)))
+returns-clause-forbidden g c = barely_pairs c.args.joints.now.joints c.put_impulses.new.joints.joints (ap bare_joints c.put_impulses.ensures.joints ∙ bare_rows c.args.joints.now.joints (joints_among (all_rows c.run-sums.new.rows)))
 
 pub returns-clause-numbers : goal.returns-clause-numbers
-returns-clause-numbers c = ap (λ (es : List ContactEntry). map number_of es) c.put_impulses.ensures.value ∙ keys_stay c.args.contacts.now.contacts (contacts_among (all_rows c.run-sums.new.rows))
+returns-clause-numbers g c = ap (λ (es : List ContactEntry). map number_of es) c.put_impulses.ensures.value ∙ keys_stay c.args.contacts.now.contacts (contacts_among (all_rows c.run-sums.new.rows))

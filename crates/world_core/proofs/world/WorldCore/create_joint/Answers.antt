@@ -11,16 +11,15 @@ use Rattle.world_core.proofs.PartLaws.{can_join_from, free_joint, join_answers, 
 use Rattle.plain_world.specs.Slots.{with_item}
 use Rattle.world_core.proofs.CoreLaws.{core_joined}
 use Rattle.world_core.proofs.KnownLaws.{marked_after}
-use Rattle.world_core.proofs.TellingLaws.{listed_as}
 use Rattle.world_core.proofs.FewerTies.{fewer_joined, fewer_reserved}
 use Rattle.anchored_ties.proofs.FewerLaws.{tell_fewer}
 use Rattle.world_core.proofs.world.WorldCore.create_joint.Goals as goal
 
-pub wake_named-requires-clause-movers : goal.wake_named-requires-clause-movers
-wake_named-requires-clause-movers c = listed_as _ _ _ _ _ _ c.deref.ensures.value c.deref-2.ensures.value c.deref-3.ensures.value c.in_ok-movers.ensures.islands
+pub wake_planned-requires-clause-movers : goal.wake_planned-requires-clause-movers
+wake_planned-requires-clause-movers c = rw c.in_ok-reserve.ensures.acting (rw (← c.self.view_is) at c.in_ok-waking.ensures.movers)
 
-pub wake_named-requires-clause-told : goal.wake_named-requires-clause-told
-wake_named-requires-clause-told c = rw c.in_ok-reserve.ensures.acting (told_whole (the_view c.self.inside) _ c.self.invariant.whole)
+pub wake_planned-requires-clause-told : goal.wake_planned-requires-clause-told
+wake_planned-requires-clause-told c = rw c.in_ok-reserve.ensures.acting (told_whole (the_view c.self.inside) _ c.self.invariant.whole)
 
 pub begin_with-requires-clause-fresh : goal.begin_with-requires-clause-fresh
 begin_with-requires-clause-fresh c =
@@ -28,7 +27,7 @@ begin_with-requires-clause-fresh c =
     let slot = rw c.in_ok-reserve_one.ensures.kept at c.in_ok-handle.ensures.slot in
     let generation = rw c.in_ok-reserve_one.ensures.kept at c.in_ok-handle.ensures.generation in
     let free : lowest w.plain.joint_places < MAX_SLOTS = rw slot at c.in_ok-handle.ensures.slot_below in
-    rw (same_handle c.in_ok-handle.handle (next_joint w.plain) slot generation, c.wake_named.ensures.acting, c.deref-2.ensures.value, c.in_ok-names.ensures.value, c.in_ok-reserve.ensures.acting, c.make-joint.ensures)
+    rw (same_handle c.in_ok-handle.handle (next_joint w.plain) slot generation, c.wake_planned.ensures.acting, (rw (← c.self.view_is) at c.in_ok-waking.ensures.names), c.in_ok-reserve.ensures.acting, c.make-joint.ensures)
     (can_join_from w c.self.inside.sets.acting (joint_made c.args.def.now) c.self.invariant.whole free).fresh
 
 pub begin_with-requires-clause-awake : goal.begin_with-requires-clause-awake
@@ -36,13 +35,13 @@ begin_with-requires-clause-awake c =
     let w : World = the_view c.self.inside in
     let slot = rw c.in_ok-reserve_one.ensures.kept at c.in_ok-handle.ensures.slot in
     let free : lowest w.plain.joint_places < MAX_SLOTS = rw slot at c.in_ok-handle.ensures.slot_below in
-    rw (c.joint_movers-movers.ensures, c.bodies-2.ensures, c.wake_named.ensures.told, c.wake_named.ensures.acting, c.deref-2.ensures.value, c.in_ok-names.ensures.value, c.in_ok-reserve.ensures.acting, c.make-joint.ensures)
+    rw (c.joint_movers-movers.ensures, c.bodies-2.ensures, c.wake_planned.ensures.told, c.wake_planned.ensures.acting, (rw (← c.self.view_is) at c.in_ok-waking.ensures.names), c.in_ok-reserve.ensures.acting, c.make-joint.ensures)
     (can_join_from w c.self.inside.sets.acting (joint_made c.args.def.now) c.self.invariant.whole free).awake
 
 pub begin_with-requires-clause-room : goal.begin_with-requires-clause-room
 begin_with-requires-clause-room c =
     let room = c.in_ok-reserve.ensures.room_made in
-    rw (c.wake_named.ensures.room, c.wake_named.ensures.acting, c.in_ok-reserve.ensures.acting, woken_room c.deref-2.result.now c.self.inside.sets.acting) (omega (arith, room))
+    rw (c.wake_planned.ensures.room, c.wake_planned.ensures.acting, c.in_ok-reserve.ensures.acting, woken_room c.in_ok-waking.waking.names.items c.self.inside.sets.acting) (omega (arith, room))
 
 pub put-requires-clause-next : goal.put-requires-clause-next
 put-requires-clause-next c =
@@ -70,12 +69,12 @@ invariant_of-self-2 c =
     let slots : length w.plain.joint_places ≡ length w.plain.joints = (kept_of _ _ c.self.invariant.whole).joint_slots.slots in
     let le : c.in_ok-handle.handle.slot ≤ length w.plain.joints = rw slot (omega (arith, least, slots)) in
     core_joined w _ _ _ c.self.inside.bodies c.mark.new.self c.in_ok-handle.handle.slot c.make-joint.result c.self.invariant
-    (rw (c.in_ok-handle.ensures.given_out, c.put.ensures, c.mark.ensures.bodies, c.begin_with.ensures.acting, same_handle c.in_ok-handle.handle (next_joint w.plain) slot generation, c.joint_movers-movers.ensures, c.bodies-2.ensures, c.wake_named.ensures.told, c.wake_named.ensures.acting, c.deref-2.ensures.value, c.in_ok-names.ensures.value, c.in_ok-reserve.ensures.acting, c.in_ok-reserve_one.ensures.kept, c.in_ok-reserve_for.ensures.joints, c.make-joint.ensures)
+    (rw (c.in_ok-handle.ensures.given_out, c.put.ensures, c.mark.ensures.bodies, c.begin_with.ensures.acting, same_handle c.in_ok-handle.handle (next_joint w.plain) slot generation, c.joint_movers-movers.ensures, c.bodies-2.ensures, c.wake_planned.ensures.told, c.wake_planned.ensures.acting, (rw (← c.self.view_is) at c.in_ok-waking.ensures.names), c.in_ok-reserve.ensures.acting, c.in_ok-reserve_one.ensures.kept, c.in_ok-reserve_for.ensures.joints, c.make-joint.ensures)
     (whole w _ _ _ (join_left w c.self.inside.sets.acting c.args.def.now (kept_of _ _ c.self.invariant.whole) c.self.invariant.whole.same calls free is)))
     refl refl joint none le
-    (marked_after c.self.inside.bodies c.wake_named.new.bodies c.mark.new.self c.wake_named.ensures.marked c.mark.ensures.marked) c.mark.ensures.there put refl
+    (marked_after c.self.inside.bodies c.wake_planned.new.bodies c.mark.new.self c.wake_planned.ensures.marked c.mark.ensures.marked) c.mark.ensures.there put refl
     c.self.inside.anchors (tell_fewer c.self.inside.anchors.holds c.self.inside.anchors.lists c.self.inside.sets.acting.ties _ (fewer_reserved c.self.inside.sets.acting c.reserve.new.self.acting c.begin_with.new.sets.acting c.in_ok-reserve.ensures.acting
-    (fewer_joined c.in_ok-handle.handle c.joint_movers-movers.result c.deref-2.result.now c.reserve.new.self.acting c.wake_named.new.sets.acting c.begin_with.new.sets.acting c.wake_named.ensures.acting c.begin_with.ensures.acting)) c.self.invariant.anchored)
+    (fewer_joined c.in_ok-handle.handle c.joint_movers-movers.result c.in_ok-waking.waking.names.items c.reserve.new.self.acting c.wake_planned.new.sets.acting c.begin_with.new.sets.acting c.wake_planned.ensures.acting c.begin_with.ensures.acting)) c.self.invariant.anchored)
 
 pub returns : goal.returns
 returns c =
@@ -86,5 +85,5 @@ returns c =
     let free : lowest w.plain.joint_places < MAX_SLOTS = rw slot at c.in_ok-handle.ensures.slot_below in
     let is : IsBodyJoint w.plain.bodies (joint_made c.args.def.now) = rw c.bodies.ensures at c.in_ok-check_join.ensures.joint in
     let due = rw c.bodies.ensures at c.in_ok-check_join.ensures.refusal in
-    rw (← c.self.view_is, c.in_ok-handle.ensures.given_out, c.put.ensures, c.mark.ensures.bodies, c.begin_with.ensures.acting, same_handle c.in_ok-handle.handle (next_joint w.plain) slot generation, c.joint_movers-movers.ensures, c.bodies-2.ensures, c.wake_named.ensures.told, c.wake_named.ensures.acting, c.deref-2.ensures.value, c.in_ok-names.ensures.value, c.in_ok-reserve.ensures.acting, c.in_ok-reserve_one.ensures.kept, c.in_ok-reserve_for.ensures.joints, c.make-joint.ensures)
+    rw (← c.self.view_is, c.in_ok-handle.ensures.given_out, c.put.ensures, c.mark.ensures.bodies, c.begin_with.ensures.acting, same_handle c.in_ok-handle.handle (next_joint w.plain) slot generation, c.joint_movers-movers.ensures, c.bodies-2.ensures, c.wake_planned.ensures.told, c.wake_planned.ensures.acting, (rw (← c.self.view_is) at c.in_ok-waking.ensures.names), c.in_ok-reserve.ensures.acting, c.in_ok-reserve_one.ensures.kept, c.in_ok-reserve_for.ensures.joints, c.make-joint.ensures)
     (join_answers w c.args.def.now (next_joint w.plain) _ _ due free refl (join_left w c.self.inside.sets.acting c.args.def.now (kept_of _ _ c.self.invariant.whole) c.self.invariant.whole.same calls free is))

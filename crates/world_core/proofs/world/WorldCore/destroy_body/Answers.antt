@@ -14,24 +14,23 @@ use Rattle.plain_world.specs.Slots.{body_at}
 use Rattle.solver_sets.proofs.SlotLemmas.{item_at-set_none}
 use Rattle.world_core.proofs.CoreLaws.{core_destroyed}
 use Rattle.world_core.proofs.KnownLaws.{marked_after}
-use Rattle.world_core.proofs.TellingLaws.{listed_as}
 use Rattle.world_core.proofs.FewerTies.{fewer_left}
 use Rattle.anchored_ties.proofs.FewerLaws.{tell_fewer}
 use Rattle.world_core.proofs.world.WorldCore.destroy_body.Goals as goal
 
-pub wake_named-requires-clause-movers : goal.wake_named-requires-clause-movers
-wake_named-requires-clause-movers c = listed_as _ _ _ _ _ _ c.deref-2.ensures.value c.deref-3.ensures.value c.deref-4.ensures.value c.in_ok-movers.ensures.islands
+pub wake_planned-requires-clause-movers : goal.wake_planned-requires-clause-movers
+wake_planned-requires-clause-movers c = rw (← c.self.view_is) at c.in_ok-waking.ensures.movers
 
-pub wake_named-requires-clause-told : goal.wake_named-requires-clause-told
-wake_named-requires-clause-told c = (told_whole (the_view c.self.inside) _ c.self.invariant.whole)
+pub wake_planned-requires-clause-told : goal.wake_planned-requires-clause-told
+wake_planned-requires-clause-told c = (told_whole (the_view c.self.inside) _ c.self.invariant.whole)
 
-named : (c : goal.After-deref-5) → body_of (the_view c.self.inside).plain c.args.handle ≡ Some c.in-Some.body.now
+named : (c : goal.After-deref-2) → body_of (the_view c.self.inside).plain c.args.handle ≡ Some c.in-Some.body.now
 named c = rw (← c.bodies.ensures) (sym c.in-Some.ensures)
 
-going : (c : goal.After-deref-5) → IsGoing (the_view c.self.inside) c.self.inside.sets.acting c.wake_named.new.sets.acting c.args.handle c.in-Some.body.now c.is_mover-mover.result c.deref-5.result.now
+going : (c : goal.After-deref-2) → IsGoing (the_view c.self.inside) c.self.inside.sets.acting c.wake_planned.new.sets.acting c.args.handle c.in-Some.body.now c.is_mover-mover.result c.deref-2.result.now
 going c =
-    is_going (the_view c.self.inside) c.self.inside.sets.acting _ c.args.handle c.in-Some.body.now _ _ c.deref-3.result.now c.self.invariant.whole (named c) c.is_mover-mover.ensures (c.deref-5.ensures.value ∙ rw (← c.self.view_is) at c.in_ok-ties.ensures.ties) (c.deref-3.ensures.value ∙ rw (← c.self.view_is) at c.in_ok-names.ensures.value)
-    c.wake_named.ensures.acting
+    is_going (the_view c.self.inside) c.self.inside.sets.acting _ c.args.handle c.in-Some.body.now _ _ c.in_ok-waking.waking.names.items c.self.invariant.whole (named c) c.is_mover-mover.ensures (c.deref-2.ensures.value ∙ rw (← c.self.view_is) at c.in_ok-ties.ensures.ties) (rw (← c.self.view_is) at c.in_ok-waking.ensures.names)
+    c.wake_planned.ensures.acting
 
 pub leave-requires-clause-can : goal.leave-requires-clause-can
 leave-requires-clause-can c = (going c).can
@@ -43,7 +42,7 @@ pub leave-requires-clause-alone : goal.leave-requires-clause-alone
 leave-requires-clause-alone c = (going c).alone
 
 pub clear-requires : goal.clear-requires
-clear-requires c = there_still (the_view c.self.inside) c.args.handle c.in-Some.body.now _ _ (rw (← c.bodies.ensures) (sym c.in-Some.ensures)) c.wake_named.ensures.told
+clear-requires c = there_still (the_view c.self.inside) c.args.handle c.in-Some.body.now _ _ (rw (← c.bodies.ensures) (sym c.in-Some.ensures)) c.wake_planned.ensures.told
 
 pub book-requires-clause-fits : goal.book-requires-clause-fits
 book-requires-clause-fits c =
@@ -54,29 +53,29 @@ pub invariant_of-self-2 : goal.invariant_of-self-2
 invariant_of-self-2 c =
     let w : World = the_view c.self.inside in
     let named : body_of w.plain c.args.handle ≡ Some c.in-Some.body.now = rw (← c.bodies.ensures) (sym c.in-Some.ensures) in
-    let going : IsGoing w c.self.inside.sets.acting c.wake_named.new.sets.acting c.args.handle c.in-Some.body.now c.is_mover-mover.result c.deref-5.result.now =
-    is_going w c.self.inside.sets.acting _ c.args.handle c.in-Some.body.now _ _ c.deref-3.result.now c.self.invariant.whole named c.is_mover-mover.ensures (c.deref-5.ensures.value ∙ rw (← c.self.view_is) at c.in_ok-ties.ensures.ties) (c.deref-3.ensures.value ∙ rw (← c.self.view_is) at c.in_ok-names.ensures.value) c.wake_named.ensures.acting in
+    let going : IsGoing w c.self.inside.sets.acting c.wake_planned.new.sets.acting c.args.handle c.in-Some.body.now c.is_mover-mover.result c.deref-2.result.now =
+    is_going w c.self.inside.sets.acting _ c.args.handle c.in-Some.body.now _ _ c.in_ok-waking.waking.names.items c.self.invariant.whole named c.is_mover-mover.ensures (c.deref-2.ensures.value ∙ rw (← c.self.view_is) at c.in_ok-ties.ensures.ties) (rw (← c.self.view_is) at c.in_ok-waking.ensures.names) c.wake_planned.ensures.acting in
     let calls : c.self.inside.calls < 2 ^ 40 = rw (← c.self.view_is) at c.requires in
     let places = ap (λ (s : JointSlots). s.places) c.drop_joints.ensures.gone in
     let joints = ap (λ (s : JointSlots). s.joints) c.drop_joints.ensures.gone in
-    let none : body_at c.clear.new.self.bodies c.args.handle.slot ≡ None = ap (λ (bs : List (Option Body)). body_at bs c.args.handle.slot) c.clear.ensures.bodies ∙ item_at-set_none c.wake_named.new.bodies.bodies c.args.handle.slot in
+    let none : body_at c.clear.new.self.bodies c.args.handle.slot ≡ None = ap (λ (bs : List (Option Body)). body_at bs c.args.handle.slot) c.clear.ensures.bodies ∙ item_at-set_none c.wake_planned.new.bodies.bodies c.args.handle.slot in
     core_destroyed w _ _ _ c.self.inside.bodies c.clear.new.self c.args.handle.slot c.in-Some.body.now c.self.invariant
-    (rw (c.book.ensures.entries, c.book.ensures.settled, c.loss_of.ensures.x, c.loss_of.ensures.y, c.mover_momentum-p.ensures, c.in_ok-reserve.ensures.entries, c.in_ok-reserve.ensures.settled, c.clear.ensures.bodies, places, joints, c.drop_of_body.ensures, c.in_ok-reserve_drop.ensures.contacts, c.remove.ensures.taken_back, c.wake_named.ensures.told, going.bodies, c.leave.ensures.acting, going.gone)
+    (rw (c.book.ensures.entries, c.book.ensures.settled, c.loss_of.ensures.x, c.loss_of.ensures.y, c.mover_momentum-p.ensures, c.in_ok-reserve.ensures.entries, c.in_ok-reserve.ensures.settled, c.clear.ensures.bodies, places, joints, c.drop_of_body.ensures, c.in_ok-reserve_drop.ensures.contacts, c.remove.ensures.taken_back, c.wake_planned.ensures.told, going.bodies, c.leave.ensures.acting, going.gone)
     (whole w _ _ _ (destroyed_quietly w c.self.inside.sets.acting c.args.handle c.in-Some.body.now (kept_of _ _ c.self.invariant.whole) c.self.invariant.whole.same calls named)))
     refl refl (named_at w.plain c.args.handle c.in-Some.body.now named) none
-    (marked_after c.self.inside.bodies c.wake_named.new.bodies c.clear.new.self c.wake_named.ensures.marked c.clear.ensures.marked) joints (c.drop_of_body.ensures ∙ ap (contacts_without c.args.handle.slot) c.in_ok-reserve_drop.ensures.contacts)
-    c.self.inside.anchors (tell_fewer c.self.inside.anchors.holds c.self.inside.anchors.lists c.self.inside.sets.acting.ties _ (fewer_left c.is_mover-mover.result c.args.handle.slot c.deref-3.result.now c.deref-5.result.now c.self.inside.sets.acting c.wake_named.new.sets.acting c.leave.new.sets.acting c.wake_named.ensures.acting c.leave.ensures.acting) c.self.invariant.anchored)
+    (marked_after c.self.inside.bodies c.wake_planned.new.bodies c.clear.new.self c.wake_planned.ensures.marked c.clear.ensures.marked) joints (c.drop_of_body.ensures ∙ ap (contacts_without c.args.handle.slot) c.in_ok-reserve_drop.ensures.contacts)
+    c.self.inside.anchors (tell_fewer c.self.inside.anchors.holds c.self.inside.anchors.lists c.self.inside.sets.acting.ties _ (fewer_left c.is_mover-mover.result c.args.handle.slot c.in_ok-waking.waking.names.items c.deref-2.result.now c.self.inside.sets.acting c.wake_planned.new.sets.acting c.leave.new.sets.acting c.wake_planned.ensures.acting c.leave.ensures.acting) c.self.invariant.anchored)
 
 pub returns : goal.returns
 returns c =
     let w : World = the_view c.self.inside in
     let named : body_of w.plain c.args.handle ≡ Some c.in-Some.body.now = rw (← c.bodies.ensures) (sym c.in-Some.ensures) in
-    let going : IsGoing w c.self.inside.sets.acting c.wake_named.new.sets.acting c.args.handle c.in-Some.body.now c.is_mover-mover.result c.deref-5.result.now =
-    is_going w c.self.inside.sets.acting _ c.args.handle c.in-Some.body.now _ _ c.deref-3.result.now c.self.invariant.whole named c.is_mover-mover.ensures (c.deref-5.ensures.value ∙ rw (← c.self.view_is) at c.in_ok-ties.ensures.ties) (c.deref-3.ensures.value ∙ rw (← c.self.view_is) at c.in_ok-names.ensures.value) c.wake_named.ensures.acting in
+    let going : IsGoing w c.self.inside.sets.acting c.wake_planned.new.sets.acting c.args.handle c.in-Some.body.now c.is_mover-mover.result c.deref-2.result.now =
+    is_going w c.self.inside.sets.acting _ c.args.handle c.in-Some.body.now _ _ c.in_ok-waking.waking.names.items c.self.invariant.whole named c.is_mover-mover.ensures (c.deref-2.ensures.value ∙ rw (← c.self.view_is) at c.in_ok-ties.ensures.ties) (rw (← c.self.view_is) at c.in_ok-waking.ensures.names) c.wake_planned.ensures.acting in
     let calls : c.self.inside.calls < 2 ^ 40 = rw (← c.self.view_is) at c.requires in
     let places = ap (λ (s : JointSlots). s.places) c.drop_joints.ensures.gone in
     let joints = ap (λ (s : JointSlots). s.joints) c.drop_joints.ensures.gone in
     rw (← c.self.view_is)
     (destroy_answers w c.args.handle c.in-Some.body.now _ c.leave.new.sets.acting named
-    (rw (c.book.ensures.entries, c.book.ensures.settled, c.loss_of.ensures.x, c.loss_of.ensures.y, c.mover_momentum-p.ensures, c.in_ok-reserve.ensures.entries, c.in_ok-reserve.ensures.settled, c.clear.ensures.bodies, places, joints, c.drop_of_body.ensures, c.in_ok-reserve_drop.ensures.contacts, c.remove.ensures.taken_back, c.wake_named.ensures.told, going.bodies, c.leave.ensures.acting, going.gone)
+    (rw (c.book.ensures.entries, c.book.ensures.settled, c.loss_of.ensures.x, c.loss_of.ensures.y, c.mover_momentum-p.ensures, c.in_ok-reserve.ensures.entries, c.in_ok-reserve.ensures.settled, c.clear.ensures.bodies, places, joints, c.drop_of_body.ensures, c.in_ok-reserve_drop.ensures.contacts, c.remove.ensures.taken_back, c.wake_planned.ensures.told, going.bodies, c.leave.ensures.acting, going.gone)
     (destroyed_quietly w c.self.inside.sets.acting c.args.handle c.in-Some.body.now (kept_of _ _ c.self.invariant.whole) c.self.invariant.whole.same calls named)))

@@ -7,25 +7,24 @@ use Rattle.world_core.proofs.PartLaws.{can_unjoin_from, joint_below, kept_of, un
 use Rattle.world_rules.proofs.KeptJoints.{live_joint}
 use Rattle.world_core.proofs.CoreLaws.{core_unjoined}
 use Rattle.world_core.proofs.KnownLaws.{marked_after}
-use Rattle.world_core.proofs.TellingLaws.{listed_as}
 use Rattle.world_core.proofs.FewerTies.{fewer_unjoined}
 use Rattle.anchored_ties.proofs.FewerLaws.{tell_fewer}
 use Rattle.world_core.proofs.world.WorldCore.destroy_joint.Goals as goal
 
-pub wake_named-requires-clause-movers : goal.wake_named-requires-clause-movers
-wake_named-requires-clause-movers c = listed_as _ _ _ _ _ _ c.deref.ensures.value c.deref-2.ensures.value c.deref-3.ensures.value c.in_ok-movers.ensures.islands
+pub wake_planned-requires-clause-movers : goal.wake_planned-requires-clause-movers
+wake_planned-requires-clause-movers c = rw (← c.self.view_is) at c.in_ok-waking.ensures.movers
 
-pub wake_named-requires-clause-told : goal.wake_named-requires-clause-told
-wake_named-requires-clause-told c = (told_whole (the_view c.self.inside) _ c.self.invariant.whole)
+pub wake_planned-requires-clause-told : goal.wake_planned-requires-clause-told
+wake_planned-requires-clause-told c = (told_whole (the_view c.self.inside) _ c.self.invariant.whole)
 
 pub end_with-requires-clause-there : goal.end_with-requires-clause-there
 end_with-requires-clause-there c =
-    rw (c.joint_movers-movers.ensures, c.bodies.ensures, c.wake_named.ensures.told, c.wake_named.ensures.acting, c.deref-2.ensures.value, c.in_ok-names.ensures.value)
+    rw (c.joint_movers-movers.ensures, c.bodies.ensures, c.wake_planned.ensures.told, c.wake_planned.ensures.acting, (rw (← c.self.view_is) at c.in_ok-waking.ensures.names))
     (can_unjoin_from (the_view c.self.inside) c.self.inside.sets.acting c.args.handle c.in-Some.joint c.self.invariant.whole (sym c.in-Some.ensures)).there
 
 pub end_with-requires-clause-awake : goal.end_with-requires-clause-awake
 end_with-requires-clause-awake c =
-    rw (c.joint_movers-movers.ensures, c.bodies.ensures, c.wake_named.ensures.told, c.wake_named.ensures.acting, c.deref-2.ensures.value, c.in_ok-names.ensures.value)
+    rw (c.joint_movers-movers.ensures, c.bodies.ensures, c.wake_planned.ensures.told, c.wake_planned.ensures.acting, (rw (← c.self.view_is) at c.in_ok-waking.ensures.names))
     (can_unjoin_from (the_view c.self.inside) c.self.inside.sets.acting c.args.handle c.in-Some.joint c.self.invariant.whole (sym c.in-Some.ensures)).awake
 
 pub clear-requires : goal.clear-requires
@@ -36,15 +35,15 @@ invariant_of-self c =
     let w : World = the_view c.self.inside in
     let calls : c.self.inside.calls < 2 ^ 40 = rw (← c.self.view_is) at c.requires in
     core_unjoined w _ _ _ c.self.inside.bodies c.mark.new.self c.args.handle.slot c.in-Some.joint c.self.invariant
-    (rw (c.clear.ensures, c.mark.ensures.bodies, c.remove.ensures.taken_back, c.end_with.ensures.acting, c.joint_movers-movers.ensures, c.bodies.ensures, c.wake_named.ensures.told, c.wake_named.ensures.acting, c.deref-2.ensures.value, c.in_ok-names.ensures.value)
+    (rw (c.clear.ensures, c.mark.ensures.bodies, c.remove.ensures.taken_back, c.end_with.ensures.acting, c.joint_movers-movers.ensures, c.bodies.ensures, c.wake_planned.ensures.told, c.wake_planned.ensures.acting, (rw (← c.self.view_is) at c.in_ok-waking.ensures.names))
     (whole w _ _ _ (unjoin_left w c.self.inside.sets.acting c.args.handle c.in-Some.joint (kept_of _ _ c.self.invariant.whole) c.self.invariant.whole.same calls (sym c.in-Some.ensures))))
     refl refl (live_joint w c.args.handle c.in-Some.joint (sym c.in-Some.ensures)).1
-    (marked_after c.self.inside.bodies c.wake_named.new.bodies c.mark.new.self c.wake_named.ensures.marked c.mark.ensures.marked) c.mark.ensures.there c.clear.ensures refl
-    c.self.inside.anchors (tell_fewer c.self.inside.anchors.holds c.self.inside.anchors.lists c.self.inside.sets.acting.ties _ (fewer_unjoined c.args.handle c.joint_movers-movers.result c.deref-2.result.now c.self.inside.sets.acting c.wake_named.new.sets.acting c.end_with.new.sets.acting c.wake_named.ensures.acting c.end_with.ensures.acting) c.self.invariant.anchored)
+    (marked_after c.self.inside.bodies c.wake_planned.new.bodies c.mark.new.self c.wake_planned.ensures.marked c.mark.ensures.marked) c.mark.ensures.there c.clear.ensures refl
+    c.self.inside.anchors (tell_fewer c.self.inside.anchors.holds c.self.inside.anchors.lists c.self.inside.sets.acting.ties _ (fewer_unjoined c.args.handle c.joint_movers-movers.result c.in_ok-waking.waking.names.items c.self.inside.sets.acting c.wake_planned.new.sets.acting c.end_with.new.sets.acting c.wake_planned.ensures.acting c.end_with.ensures.acting) c.self.invariant.anchored)
 
 pub returns : goal.returns
 returns c =
     let w : World = the_view c.self.inside in
     let calls : c.self.inside.calls < 2 ^ 40 = rw (← c.self.view_is) at c.requires in
-    rw (← c.self.view_is, c.clear.ensures, c.mark.ensures.bodies, c.remove.ensures.taken_back, c.end_with.ensures.acting, c.joint_movers-movers.ensures, c.bodies.ensures, c.wake_named.ensures.told, c.wake_named.ensures.acting, c.deref-2.ensures.value, c.in_ok-names.ensures.value)
+    rw (← c.self.view_is, c.clear.ensures, c.mark.ensures.bodies, c.remove.ensures.taken_back, c.end_with.ensures.acting, c.joint_movers-movers.ensures, c.bodies.ensures, c.wake_planned.ensures.told, c.wake_planned.ensures.acting, (rw (← c.self.view_is) at c.in_ok-waking.ensures.names))
     (unjoin_answers w c.args.handle c.in-Some.joint _ _ (sym c.in-Some.ensures) (unjoin_left w c.self.inside.sets.acting c.args.handle c.in-Some.joint (kept_of _ _ c.self.invariant.whole) c.self.invariant.whole.same calls (sym c.in-Some.ensures)))

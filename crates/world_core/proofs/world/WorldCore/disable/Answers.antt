@@ -10,24 +10,23 @@ use Rattle.world_core.proofs.LeavingLaws.{disabled_quietly}
 use Rattle.world_core.proofs.PartLaws.{disable_answers, kept_of, whole}
 use Rattle.world_core.proofs.CoreLaws.{core_disabled}
 use Rattle.world_core.proofs.KnownLaws.{marked_after}
-use Rattle.world_core.proofs.TellingLaws.{listed_as}
 use Rattle.world_core.proofs.FewerTies.{fewer_left}
 use Rattle.anchored_ties.proofs.FewerLaws.{tell_fewer}
 use Rattle.world_core.proofs.world.WorldCore.disable.Goals as goal
 
-pub wake_named-requires-clause-movers : goal.wake_named-requires-clause-movers
-wake_named-requires-clause-movers c = listed_as _ _ _ _ _ _ c.deref-2.ensures.value c.deref-3.ensures.value c.deref-4.ensures.value c.in_ok-movers.ensures.islands
+pub wake_planned-requires-clause-movers : goal.wake_planned-requires-clause-movers
+wake_planned-requires-clause-movers c = rw (← c.self.view_is) at c.in_ok-waking.ensures.movers
 
-pub wake_named-requires-clause-told : goal.wake_named-requires-clause-told
-wake_named-requires-clause-told c = (told_whole (the_view c.self.inside) _ c.self.invariant.whole)
+pub wake_planned-requires-clause-told : goal.wake_planned-requires-clause-told
+wake_planned-requires-clause-told c = (told_whole (the_view c.self.inside) _ c.self.invariant.whole)
 
-named : (c : goal.After-deref-5) → body_of (the_view c.self.inside).plain c.args.handle ≡ Some c.in-Some.body.now
+named : (c : goal.After-deref-2) → body_of (the_view c.self.inside).plain c.args.handle ≡ Some c.in-Some.body.now
 named c = rw (← c.bodies.ensures) (sym c.in-Some.ensures)
 
-going : (c : goal.After-deref-5) → IsGoing (the_view c.self.inside) c.self.inside.sets.acting c.wake_named.new.sets.acting c.args.handle c.in-Some.body.now c.is_mover-mover.result c.deref-5.result.now
+going : (c : goal.After-deref-2) → IsGoing (the_view c.self.inside) c.self.inside.sets.acting c.wake_planned.new.sets.acting c.args.handle c.in-Some.body.now c.is_mover-mover.result c.deref-2.result.now
 going c =
-    is_going (the_view c.self.inside) c.self.inside.sets.acting _ c.args.handle c.in-Some.body.now _ _ c.deref-3.result.now c.self.invariant.whole (named c) c.is_mover-mover.ensures (c.deref-5.ensures.value ∙ rw (← c.self.view_is) at c.in_ok-ties.ensures.ties) (c.deref-3.ensures.value ∙ rw (← c.self.view_is) at c.in_ok-names.ensures.value)
-    c.wake_named.ensures.acting
+    is_going (the_view c.self.inside) c.self.inside.sets.acting _ c.args.handle c.in-Some.body.now _ _ c.in_ok-waking.waking.names.items c.self.invariant.whole (named c) c.is_mover-mover.ensures (c.deref-2.ensures.value ∙ rw (← c.self.view_is) at c.in_ok-ties.ensures.ties) (rw (← c.self.view_is) at c.in_ok-waking.ensures.names)
+    c.wake_planned.ensures.acting
 
 pub leave-requires-clause-can : goal.leave-requires-clause-can
 leave-requires-clause-can c = (going c).can
@@ -39,7 +38,7 @@ pub leave-requires-clause-alone : goal.leave-requires-clause-alone
 leave-requires-clause-alone c = (going c).alone
 
 pub disable-requires : goal.disable-requires
-disable-requires c = there_still (the_view c.self.inside) c.args.handle c.in-Some.body.now _ _ (rw (← c.bodies.ensures) (sym c.in-Some.ensures)) c.wake_named.ensures.told
+disable-requires c = there_still (the_view c.self.inside) c.args.handle c.in-Some.body.now _ _ (rw (← c.bodies.ensures) (sym c.in-Some.ensures)) c.wake_planned.ensures.told
 
 pub book-requires-clause-fits : goal.book-requires-clause-fits
 book-requires-clause-fits c =
@@ -50,24 +49,24 @@ pub invariant_of-self-2 : goal.invariant_of-self-2
 invariant_of-self-2 c =
     let w : World = the_view c.self.inside in
     let named : body_of w.plain c.args.handle ≡ Some c.in-Some.body.now = rw (← c.bodies.ensures) (sym c.in-Some.ensures) in
-    let going : IsGoing w c.self.inside.sets.acting c.wake_named.new.sets.acting c.args.handle c.in-Some.body.now c.is_mover-mover.result c.deref-5.result.now =
-    is_going w c.self.inside.sets.acting _ c.args.handle c.in-Some.body.now _ _ c.deref-3.result.now c.self.invariant.whole named c.is_mover-mover.ensures (c.deref-5.ensures.value ∙ rw (← c.self.view_is) at c.in_ok-ties.ensures.ties) (c.deref-3.ensures.value ∙ rw (← c.self.view_is) at c.in_ok-names.ensures.value) c.wake_named.ensures.acting in
+    let going : IsGoing w c.self.inside.sets.acting c.wake_planned.new.sets.acting c.args.handle c.in-Some.body.now c.is_mover-mover.result c.deref-2.result.now =
+    is_going w c.self.inside.sets.acting _ c.args.handle c.in-Some.body.now _ _ c.in_ok-waking.waking.names.items c.self.invariant.whole named c.is_mover-mover.ensures (c.deref-2.ensures.value ∙ rw (← c.self.view_is) at c.in_ok-ties.ensures.ties) (rw (← c.self.view_is) at c.in_ok-waking.ensures.names) c.wake_planned.ensures.acting in
     let calls : c.self.inside.calls < 2 ^ 40 = rw (← c.self.view_is) at c.requires in
-    core_disabled w _ _ _ c.self.inside.bodies c.disable.new.self c.args.handle.slot c.in-Some.body.now c.wake_named.new.bodies.bodies c.self.invariant
-    (rw (c.book.ensures.entries, c.book.ensures.settled, c.loss_of.ensures.x, c.loss_of.ensures.y, c.mover_momentum-p.ensures, c.in_ok-reserve.ensures.entries, c.in_ok-reserve.ensures.settled, c.disable.ensures.bodies, c.idle.ensures, c.drop_of_body.ensures, c.in_ok-reserve_drop.ensures.contacts, c.wake_named.ensures.told, going.bodies, c.leave.ensures.acting, going.gone)
+    core_disabled w _ _ _ c.self.inside.bodies c.disable.new.self c.args.handle.slot c.in-Some.body.now c.wake_planned.new.bodies.bodies c.self.invariant
+    (rw (c.book.ensures.entries, c.book.ensures.settled, c.loss_of.ensures.x, c.loss_of.ensures.y, c.mover_momentum-p.ensures, c.in_ok-reserve.ensures.entries, c.in_ok-reserve.ensures.settled, c.disable.ensures.bodies, c.idle.ensures, c.drop_of_body.ensures, c.in_ok-reserve_drop.ensures.contacts, c.wake_planned.ensures.told, going.bodies, c.leave.ensures.acting, going.gone)
     (whole w _ _ _ (disabled_quietly w c.self.inside.sets.acting c.args.handle c.in-Some.body.now (kept_of _ _ c.self.invariant.whole) c.self.invariant.whole.same calls named)))
     refl refl (named_at w.plain c.args.handle c.in-Some.body.now named) c.if-not-body.false c.disable.ensures.bodies
-    (marked_after c.self.inside.bodies c.wake_named.new.bodies c.disable.new.self c.wake_named.ensures.marked c.disable.ensures.marked) c.idle.ensures (c.drop_of_body.ensures ∙ ap (contacts_without c.args.handle.slot) c.in_ok-reserve_drop.ensures.contacts)
-    c.self.inside.anchors (tell_fewer c.self.inside.anchors.holds c.self.inside.anchors.lists c.self.inside.sets.acting.ties _ (fewer_left c.is_mover-mover.result c.args.handle.slot c.deref-3.result.now c.deref-5.result.now c.self.inside.sets.acting c.wake_named.new.sets.acting c.leave.new.sets.acting c.wake_named.ensures.acting c.leave.ensures.acting) c.self.invariant.anchored)
+    (marked_after c.self.inside.bodies c.wake_planned.new.bodies c.disable.new.self c.wake_planned.ensures.marked c.disable.ensures.marked) c.idle.ensures (c.drop_of_body.ensures ∙ ap (contacts_without c.args.handle.slot) c.in_ok-reserve_drop.ensures.contacts)
+    c.self.inside.anchors (tell_fewer c.self.inside.anchors.holds c.self.inside.anchors.lists c.self.inside.sets.acting.ties _ (fewer_left c.is_mover-mover.result c.args.handle.slot c.in_ok-waking.waking.names.items c.deref-2.result.now c.self.inside.sets.acting c.wake_planned.new.sets.acting c.leave.new.sets.acting c.wake_planned.ensures.acting c.leave.ensures.acting) c.self.invariant.anchored)
 
 pub returns : goal.returns
 returns c =
     let w : World = the_view c.self.inside in
     let named : body_of w.plain c.args.handle ≡ Some c.in-Some.body.now = rw (← c.bodies.ensures) (sym c.in-Some.ensures) in
-    let going : IsGoing w c.self.inside.sets.acting c.wake_named.new.sets.acting c.args.handle c.in-Some.body.now c.is_mover-mover.result c.deref-5.result.now =
-    is_going w c.self.inside.sets.acting _ c.args.handle c.in-Some.body.now _ _ c.deref-3.result.now c.self.invariant.whole named c.is_mover-mover.ensures (c.deref-5.ensures.value ∙ rw (← c.self.view_is) at c.in_ok-ties.ensures.ties) (c.deref-3.ensures.value ∙ rw (← c.self.view_is) at c.in_ok-names.ensures.value) c.wake_named.ensures.acting in
+    let going : IsGoing w c.self.inside.sets.acting c.wake_planned.new.sets.acting c.args.handle c.in-Some.body.now c.is_mover-mover.result c.deref-2.result.now =
+    is_going w c.self.inside.sets.acting _ c.args.handle c.in-Some.body.now _ _ c.in_ok-waking.waking.names.items c.self.invariant.whole named c.is_mover-mover.ensures (c.deref-2.ensures.value ∙ rw (← c.self.view_is) at c.in_ok-ties.ensures.ties) (rw (← c.self.view_is) at c.in_ok-waking.ensures.names) c.wake_planned.ensures.acting in
     let calls : c.self.inside.calls < 2 ^ 40 = rw (← c.self.view_is) at c.requires in
     rw (← c.self.view_is)
     (disable_answers w c.args.handle c.in-Some.body.now _ c.leave.new.sets.acting named c.if-not-body.false
-    (rw (c.book.ensures.entries, c.book.ensures.settled, c.loss_of.ensures.x, c.loss_of.ensures.y, c.mover_momentum-p.ensures, c.in_ok-reserve.ensures.entries, c.in_ok-reserve.ensures.settled, c.disable.ensures.bodies, c.idle.ensures, c.drop_of_body.ensures, c.in_ok-reserve_drop.ensures.contacts, c.wake_named.ensures.told, going.bodies, c.leave.ensures.acting, going.gone)
+    (rw (c.book.ensures.entries, c.book.ensures.settled, c.loss_of.ensures.x, c.loss_of.ensures.y, c.mover_momentum-p.ensures, c.in_ok-reserve.ensures.entries, c.in_ok-reserve.ensures.settled, c.disable.ensures.bodies, c.idle.ensures, c.drop_of_body.ensures, c.in_ok-reserve_drop.ensures.contacts, c.wake_planned.ensures.told, going.bodies, c.leave.ensures.acting, going.gone)
     (disabled_quietly w c.self.inside.sets.acting c.args.handle c.in-Some.body.now (kept_of _ _ c.self.invariant.whole) c.self.invariant.whole.same calls named)))

@@ -9,16 +9,15 @@ use Rattle.world_core.proofs.EnableLaws.{body_below, can_enable_from}
 use Rattle.world_core.proofs.PartLaws.{enable_answers, kept_of, whole, woken_room}
 use Rattle.world_core.proofs.CoreLaws.{core_bodies}
 use Rattle.world_core.proofs.KnownLaws.{marked_after}
-use Rattle.world_core.proofs.TellingLaws.{listed_as}
 use Rattle.world_core.proofs.FewerTies.{fewer_enabled, fewer_reserved, joints_have_none}
 use Rattle.anchored_ties.proofs.FewerLaws.{tell_fewer}
 use Rattle.world_core.proofs.world.WorldCore.enable.Goals as goal
 
-pub wake_named-requires-clause-movers : goal.wake_named-requires-clause-movers
-wake_named-requires-clause-movers c = listed_as _ _ _ _ _ _ c.deref-3.ensures.value c.deref-4.ensures.value c.deref-5.ensures.value c.in_ok-movers.ensures.islands
+pub wake_planned-requires-clause-movers : goal.wake_planned-requires-clause-movers
+wake_planned-requires-clause-movers c = rw c.in_ok-reserve.ensures.acting (rw (← c.self.view_is) at c.in_ok-waking.ensures.movers)
 
-pub wake_named-requires-clause-told : goal.wake_named-requires-clause-told
-wake_named-requires-clause-told c = rw c.in_ok-reserve.ensures.acting (told_whole (the_view c.self.inside) _ c.self.invariant.whole)
+pub wake_planned-requires-clause-told : goal.wake_planned-requires-clause-told
+wake_planned-requires-clause-told c = rw c.in_ok-reserve.ensures.acting (told_whole (the_view c.self.inside) _ c.self.invariant.whole)
 
 pub invariant_of-self : goal.invariant_of-self
 invariant_of-self c =
@@ -30,20 +29,20 @@ pub enable-requires-clause-slot : goal.enable-requires-clause-slot
 enable-requires-clause-slot c =
     let w : World = the_view c.self.inside in
     let named : body_of w.plain c.args.handle ≡ Some c.in-Some.body.now = rw (← c.bodies.ensures) (sym c.in-Some.ensures) in
-    rw (c.wake_named.ensures.told, length_told c.wake_named.new.sets.acting.labels c.self.inside.bodies.bodies) (body_below w c.args.handle c.in-Some.body.now named)
+    rw (c.wake_planned.ensures.told, length_told c.wake_planned.new.sets.acting.labels c.self.inside.bodies.bodies) (body_below w c.args.handle c.in-Some.body.now named)
 
 pub enable-requires-clause-disabled : goal.enable-requires-clause-disabled
 enable-requires-clause-disabled c =
     let w : World = the_view c.self.inside in
     let named : body_of w.plain c.args.handle ≡ Some c.in-Some.body.now = rw (← c.bodies.ensures) (sym c.in-Some.ensures) in
-    rw (c.wake_named.ensures.told, c.wake_named.ensures.acting, c.in_ok-reserve.ensures.acting, c.deref-4.ensures.value, c.in_ok-names.ensures.value, c.deref-2.ensures.value, c.in_ok-joined.ensures.slots, c.bodies-2.ensures, c.joints.ensures)
+    rw (c.wake_planned.ensures.told, c.wake_planned.ensures.acting, c.in_ok-reserve.ensures.acting, (rw (← c.self.view_is) at c.in_ok-waking.ensures.names), c.deref-2.ensures.value, c.in_ok-joined.ensures.slots, c.bodies-2.ensures, c.joints.ensures)
     (can_enable_from w c.self.inside.sets.acting c.args.handle c.in-Some.body.now c.self.invariant.whole named c.if-body.false).off
 
 pub come-requires-clause-fresh : goal.come-requires-clause-fresh
 come-requires-clause-fresh c =
     let w : World = the_view c.self.inside in
     let named : body_of w.plain c.args.handle ≡ Some c.in-Some.body.now = rw (← c.bodies.ensures) (sym c.in-Some.ensures) in
-    rw (c.wake_named.ensures.acting, c.in_ok-reserve.ensures.acting, c.deref-4.ensures.value, c.in_ok-names.ensures.value, c.deref-2.ensures.value, c.in_ok-joined.ensures.slots, c.bodies-2.ensures, c.joints.ensures)
+    rw (c.wake_planned.ensures.acting, c.in_ok-reserve.ensures.acting, (rw (← c.self.view_is) at c.in_ok-waking.ensures.names), c.deref-2.ensures.value, c.in_ok-joined.ensures.slots, c.bodies-2.ensures, c.joints.ensures)
     (can_enable_from w c.self.inside.sets.acting c.args.handle c.in-Some.body.now c.self.invariant.whole named c.if-body.false).fresh
 
 pub come-requires-clause-below : goal.come-requires-clause-below
@@ -52,20 +51,20 @@ come-requires-clause-below c =
     let named : body_of w.plain c.args.handle ≡ Some c.in-Some.body.now = rw (← c.bodies.ensures) (sym c.in-Some.ensures) in
     let below = body_below w c.args.handle c.in-Some.body.now named in
     let made = rw c.bodies-3.ensures at c.in_ok-reserve.ensures.slots_made in
-    rw c.wake_named.ensures.slots (omega (arith, below, made))
+    rw c.wake_planned.ensures.slots (omega (arith, below, made))
 
 pub begin_each-requires-clause-can : goal.begin_each-requires-clause-can
 begin_each-requires-clause-can c =
     let w : World = the_view c.self.inside in
     let named : body_of w.plain c.args.handle ≡ Some c.in-Some.body.now = rw (← c.bodies.ensures) (sym c.in-Some.ensures) in
-    rw (c.deref-7.ensures.value, c.fill_joint_ties.ensures.ties, c.bodies-4.ensures, c.places.ensures, c.joints-2.ensures, c.enable.ensures.bodies, c.come.ensures.acting, c.is_dynamic-mover.ensures, c.wake_named.ensures.told, c.wake_named.ensures.acting, c.in_ok-reserve.ensures.acting, c.deref-4.ensures.value, c.in_ok-names.ensures.value, c.deref-2.ensures.value, c.in_ok-joined.ensures.slots, c.bodies-2.ensures, c.joints.ensures)
+    rw (c.deref-4.ensures.value, c.fill_joint_ties.ensures.ties, c.bodies-4.ensures, c.places.ensures, c.joints-2.ensures, c.enable.ensures.bodies, c.come.ensures.acting, c.is_dynamic-mover.ensures, c.wake_planned.ensures.told, c.wake_planned.ensures.acting, c.in_ok-reserve.ensures.acting, (rw (← c.self.view_is) at c.in_ok-waking.ensures.names), c.deref-2.ensures.value, c.in_ok-joined.ensures.slots, c.bodies-2.ensures, c.joints.ensures)
     (can_enable_from w c.self.inside.sets.acting c.args.handle c.in-Some.body.now c.self.invariant.whole named c.if-body.false).can
 
 pub begin_each-requires-clause-room : goal.begin_each-requires-clause-room
 begin_each-requires-clause-room c =
-    let few = rw c.deref-6.ensures.value at c.fill_joint_ties.ensures.few in
+    let few = rw c.deref-3.ensures.value at c.fill_joint_ties.ensures.few in
     let made = c.in_ok-reserve.ensures.room_made in
-    rw (c.deref-7.ensures.value, c.come.ensures.room, c.wake_named.ensures.room, c.come.ensures.acting, come_ties c.is_dynamic-mover.result c.args.handle.slot c.wake_named.new.sets.acting, c.wake_named.ensures.acting, woken_room c.deref-4.result.now c.reserve.new.self.acting, c.in_ok-reserve.ensures.acting)
+    rw (c.deref-4.ensures.value, c.come.ensures.room, c.wake_planned.ensures.room, c.come.ensures.acting, come_ties c.is_dynamic-mover.result c.args.handle.slot c.wake_planned.new.sets.acting, c.wake_planned.ensures.acting, woken_room c.in_ok-waking.waking.names.items c.reserve.new.self.acting, c.in_ok-reserve.ensures.acting)
     (omega (arith, few, made))
 
 pub invariant_of-self-2 : goal.invariant_of-self-2
@@ -74,13 +73,13 @@ invariant_of-self-2 c =
     let named : body_of w.plain c.args.handle ≡ Some c.in-Some.body.now = rw (← c.bodies.ensures) (sym c.in-Some.ensures) in
     let calls : c.self.inside.calls < 2 ^ 40 = rw (← c.self.view_is) at c.requires in
     core_bodies (the_view c.self.inside) _ _ _ c.self.inside.bodies c.enable.new.self c.self.invariant
-    (rw (c.begin_each.ensures.acting, c.deref-7.ensures.value, c.fill_joint_ties.ensures.ties, c.bodies-4.ensures, c.places.ensures, c.joints-2.ensures, c.enable.ensures.bodies, c.come.ensures.acting, c.is_dynamic-mover.ensures, c.wake_named.ensures.told, c.wake_named.ensures.acting, c.in_ok-reserve.ensures.acting, c.deref-4.ensures.value, c.in_ok-names.ensures.value, c.deref-2.ensures.value, c.in_ok-joined.ensures.slots, c.bodies-2.ensures, c.joints.ensures)
+    (rw (c.begin_each.ensures.acting, c.deref-4.ensures.value, c.fill_joint_ties.ensures.ties, c.bodies-4.ensures, c.places.ensures, c.joints-2.ensures, c.enable.ensures.bodies, c.come.ensures.acting, c.is_dynamic-mover.ensures, c.wake_planned.ensures.told, c.wake_planned.ensures.acting, c.in_ok-reserve.ensures.acting, (rw (← c.self.view_is) at c.in_ok-waking.ensures.names), c.deref-2.ensures.value, c.in_ok-joined.ensures.slots, c.bodies-2.ensures, c.joints.ensures)
     (whole w _ _ _ (enable_left w c.self.inside.sets.acting c.args.handle c.in-Some.body.now (kept_of _ _ c.self.invariant.whole) c.self.invariant.whole.same calls named c.if-body.false)))
     refl refl refl refl
-    (marked_after c.self.inside.bodies c.wake_named.new.bodies c.enable.new.self c.wake_named.ensures.marked c.enable.ensures.marked)
+    (marked_after c.self.inside.bodies c.wake_planned.new.bodies c.enable.new.self c.wake_planned.ensures.marked c.enable.ensures.marked)
     c.self.inside.anchors (tell_fewer c.self.inside.anchors.holds c.self.inside.anchors.lists c.self.inside.sets.acting.ties _ (fewer_reserved c.self.inside.sets.acting c.reserve.new.self.acting c.begin_each.new.self.acting c.in_ok-reserve.ensures.acting
-    (fewer_enabled c.is_dynamic-mover.result c.args.handle.slot c.deref-4.result.now c.deref-7.result.now c.reserve.new.self.acting c.wake_named.new.sets.acting c.come.new.sets.acting c.begin_each.new.self.acting
-    (joints_have_none c.deref-7.result.now c.args.handle.slot _ _ (c.deref-7.ensures.value ∙ c.fill_joint_ties.ensures.ties)) c.wake_named.ensures.acting c.come.ensures.acting c.begin_each.ensures.acting)) c.self.invariant.anchored)
+    (fewer_enabled c.is_dynamic-mover.result c.args.handle.slot c.in_ok-waking.waking.names.items c.deref-4.result.now c.reserve.new.self.acting c.wake_planned.new.sets.acting c.come.new.sets.acting c.begin_each.new.self.acting
+    (joints_have_none c.deref-4.result.now c.args.handle.slot _ _ (c.deref-4.ensures.value ∙ c.fill_joint_ties.ensures.ties)) c.wake_planned.ensures.acting c.come.ensures.acting c.begin_each.ensures.acting)) c.self.invariant.anchored)
 
 pub returns : goal.returns
 returns c =
@@ -89,5 +88,5 @@ returns c =
     let calls : c.self.inside.calls < 2 ^ 40 = rw (← c.self.view_is) at c.requires in
     rw (← c.self.view_is)
     (enable_answers w c.args.handle c.in-Some.body.now _ c.begin_each.new.self.acting named
-    (rw (c.begin_each.ensures.acting, c.deref-7.ensures.value, c.fill_joint_ties.ensures.ties, c.bodies-4.ensures, c.places.ensures, c.joints-2.ensures, c.enable.ensures.bodies, c.come.ensures.acting, c.is_dynamic-mover.ensures, c.wake_named.ensures.told, c.wake_named.ensures.acting, c.in_ok-reserve.ensures.acting, c.deref-4.ensures.value, c.in_ok-names.ensures.value, c.deref-2.ensures.value, c.in_ok-joined.ensures.slots, c.bodies-2.ensures, c.joints.ensures)
+    (rw (c.begin_each.ensures.acting, c.deref-4.ensures.value, c.fill_joint_ties.ensures.ties, c.bodies-4.ensures, c.places.ensures, c.joints-2.ensures, c.enable.ensures.bodies, c.come.ensures.acting, c.is_dynamic-mover.ensures, c.wake_planned.ensures.told, c.wake_planned.ensures.acting, c.in_ok-reserve.ensures.acting, (rw (← c.self.view_is) at c.in_ok-waking.ensures.names), c.deref-2.ensures.value, c.in_ok-joined.ensures.slots, c.bodies-2.ensures, c.joints.ensures)
     (enable_left w c.self.inside.sets.acting c.args.handle c.in-Some.body.now (kept_of _ _ c.self.invariant.whole) c.self.invariant.whole.same calls named c.if-body.false)))

@@ -9,22 +9,21 @@ use Rattle.world_core.specs.contracts.world.WorldCore.{the_view}
 use Rattle.world_core.proofs.Whole.{HasWoken, has_woken, push_whole, told_whole}
 use Rattle.world_core.proofs.CoreLaws.{core_bodies}
 use Rattle.world_core.proofs.KnownLaws.{marked_after}
-use Rattle.world_core.proofs.TellingLaws.{listed_as}
 use Rattle.world_core.proofs.FewerTies.{fewer_woken}
 use Rattle.anchored_ties.proofs.FewerLaws.{tell_fewer}
 use Rattle.world_core.proofs.world.WorldCore.push.Goals as goal
 
-pub wake_named-requires-clause-movers : goal.wake_named-requires-clause-movers
-wake_named-requires-clause-movers c = listed_as _ _ _ _ _ _ c.deref.ensures.value c.deref-2.ensures.value c.deref-3.ensures.value c.in_ok-movers.ensures.islands
+pub wake_planned-requires-clause-movers : goal.wake_planned-requires-clause-movers
+wake_planned-requires-clause-movers c = rw (← c.self.view_is) at c.in_ok-waking.ensures.movers
 
-pub wake_named-requires-clause-told : goal.wake_named-requires-clause-told
-wake_named-requires-clause-told c = (told_whole (the_view c.self.inside) _ c.self.invariant.whole)
+pub wake_planned-requires-clause-told : goal.wake_planned-requires-clause-told
+wake_planned-requires-clause-told c = (told_whole (the_view c.self.inside) _ c.self.invariant.whole)
 
 pub momenta_after-requires : goal.momenta_after-requires
 momenta_after-requires c = rw c.bodies.ensures (kept_sound _ c.self.invariant.whole.sound).bodies
 
 pub change-requires-clause-slot : goal.change-requires-clause-slot
-change-requires-clause-slot c = rw (c.wake_named.ensures.count, ← c.bodies.ensures) c.in_ok-momenta.ensures.present
+change-requires-clause-slot c = rw (c.wake_planned.ensures.count, ← c.bodies.ensures) c.in_ok-momenta.ensures.present
 
 pub book-requires-clause-fits : goal.book-requires-clause-fits
 book-requires-clause-fits c =
@@ -35,11 +34,11 @@ pub invariant_of-self-2 : goal.invariant_of-self-2
 invariant_of-self-2 c =
     let calls : c.self.inside.calls < 2 ^ 40 = rw (← c.self.view_is) at c.requires in
     let due : pushed (slots.body_of c.self.inside.handles.places c.self.inside.bodies.bodies c.args.handle) c.args.by c.args.offset ≡ Ok c.in_ok-momenta.momenta = rw (← c.bodies.ensures) (sym c.in_ok-momenta.ensures.value) in
-    let woke : HasWoken (the_view c.self.inside) (c.args.handle.slot ∷ []) c.wake_named.new.sets.acting c.wake_named.new.bodies.bodies =
-    has_woken (the_view c.self.inside) (c.args.handle.slot ∷ []) _ c.self.inside.sets.acting _ _ c.self.invariant.whole c.in_ok-names.ensures.value (rw c.deref-2.ensures.value at c.wake_named.ensures.acting) c.wake_named.ensures.told in
+    let woke : HasWoken (the_view c.self.inside) (c.args.handle.slot ∷ []) c.wake_planned.new.sets.acting c.wake_planned.new.bodies.bodies =
+    has_woken (the_view c.self.inside) (c.args.handle.slot ∷ []) _ c.self.inside.sets.acting _ _ c.self.invariant.whole (rw (← c.self.view_is) at c.in_ok-waking.ensures.names) c.wake_planned.ensures.acting c.wake_planned.ensures.told in
     core_bodies (the_view c.self.inside) _ _ _ c.self.inside.bodies c.change.new.self c.self.invariant
     (rw (c.change.ensures.bodies, c.book.ensures.entries, c.book.ensures.settled, c.in_ok-reserve.ensures.entries, c.in_ok-reserve.ensures.settled, c.gain_of.ensures.x, c.gain_of.ensures.y)
     (push_whole (the_view c.self.inside) c.args.handle c.args.by c.args.offset c.in_ok-momenta.momenta c.self.inside.sets.acting _ _ c.self.invariant.whole calls woke due))
     refl refl refl refl
-    (marked_after c.self.inside.bodies c.wake_named.new.bodies c.change.new.self c.wake_named.ensures.marked c.change.ensures.marked)
-    c.self.inside.anchors (tell_fewer c.self.inside.anchors.holds c.self.inside.anchors.lists c.self.inside.sets.acting.ties _ (fewer_woken c.deref-2.result.now c.self.inside.sets.acting c.wake_named.new.sets.acting c.wake_named.ensures.acting) c.self.invariant.anchored)
+    (marked_after c.self.inside.bodies c.wake_planned.new.bodies c.change.new.self c.wake_planned.ensures.marked c.change.ensures.marked)
+    c.self.inside.anchors (tell_fewer c.self.inside.anchors.holds c.self.inside.anchors.lists c.self.inside.sets.acting.ties _ (fewer_woken c.in_ok-waking.waking.names.items c.self.inside.sets.acting c.wake_planned.new.sets.acting c.wake_planned.ensures.acting) c.self.invariant.anchored)

@@ -1,37 +1,18 @@
-use Rattle.std.proofs.Common.{◌≡◌, ◌<◌, ◌^◌, Ok, sym, refl}
+use Rattle.std.proofs.Common.{◌≡◌, ◌<◌, ◌^◌, Ok, sym}
 use Rattle.plain_world.specs.Slots as slots
-use Rattle.solver_sets.specs.Beside.{stirred_by}
 use Rattle.world_rules.specs.Apply.{steered}
 use Rattle.world_core.specs.contracts.world.WorldCore.{the_view}
-use Rattle.world_core.proofs.Whole.{HasWoken, can_steer_woken, has_woken, told_whole, velocity_whole}
-use Rattle.world_core.proofs.CoreLaws.{core_bodies}
-use Rattle.world_core.proofs.KnownLaws.{marked_after}
-use Rattle.world_core.proofs.TellingLaws.{listed_as}
-use Rattle.world_core.proofs.FewerTies.{fewer_woken}
-use Rattle.anchored_ties.proofs.FewerLaws.{tell_fewer}
+use Rattle.world_core.proofs.Whole.{course_fits, may_steer}
 use Rattle.world_core.proofs.world.WorldCore.set_velocity.Goals as goal
 
-pub wake_named-requires-clause-movers : goal.wake_named-requires-clause-movers
-wake_named-requires-clause-movers c = listed_as _ _ _ _ _ _ c.deref.ensures.value c.deref-2.ensures.value c.deref-3.ensures.value c.in_ok-movers.ensures.islands
+pub change_stirred-requires-clause-present : goal.change_stirred-requires-clause-present
+change_stirred-requires-clause-present c = rw (← c.self.view_is, ← c.bodies.ensures) c.in_ok-course.ensures.present
 
-pub wake_named-requires-clause-told : goal.wake_named-requires-clause-told
-wake_named-requires-clause-told c = (told_whole (the_view c.self.inside) _ c.self.invariant.whole)
+pub change_stirred-requires-clause-fits : goal.change_stirred-requires-clause-fits
+change_stirred-requires-clause-fits c = rw (← c.self.view_is) (course_fits (the_view c.self.inside) c.args.handle.slot c.self.inside.sets.acting c.self.invariant.whole (rw (← c.bodies.ensures) c.in_ok-course.ensures.kinematic))
 
-pub change-requires-clause-slot : goal.change-requires-clause-slot
-change-requires-clause-slot c = rw (c.wake_named.ensures.count, ← c.bodies.ensures) c.in_ok-course.ensures.present
-
-pub change-requires-clause-fits : goal.change-requires-clause-fits
-change-requires-clause-fits c =
-    can_steer_woken (the_view c.self.inside) c.wake_named.new.sets.acting _ c.args.handle.slot c.wake_named.ensures.told (rw (← c.bodies.ensures) c.in_ok-course.ensures.kinematic)
-
-pub invariant_of-self : goal.invariant_of-self
-invariant_of-self c =
+pub change_stirred-requires-clause-may : goal.change_stirred-requires-clause-may
+change_stirred-requires-clause-may c =
     let calls : c.self.inside.calls < 2 ^ 40 = rw (← c.self.view_is) at c.requires in
     let due : steered (slots.body_of c.self.inside.handles.places c.self.inside.bodies.bodies c.args.handle) c.args.course ≡ Ok c.in_ok-course.course = rw (← c.bodies.ensures) (sym c.in_ok-course.ensures.value) in
-    let woke : HasWoken (the_view c.self.inside) (stirred_by c.self.inside.bodies.bodies c.self.inside.joints.joints c.self.inside.contacts.contacts c.args.handle.slot) c.wake_named.new.sets.acting c.wake_named.new.bodies.bodies =
-    has_woken (the_view c.self.inside) _ _ c.self.inside.sets.acting _ _ c.self.invariant.whole (rw (← c.self.view_is) at c.in_ok-names.ensures.value) (rw c.deref-2.ensures.value at c.wake_named.ensures.acting) c.wake_named.ensures.told in
-    core_bodies (the_view c.self.inside) _ _ _ c.self.inside.bodies c.change.new.self c.self.invariant
-    (rw c.change.ensures.bodies (velocity_whole (the_view c.self.inside) c.args.handle c.args.course c.in_ok-course.course c.self.inside.sets.acting _ _ c.self.invariant.whole calls woke due))
-    refl refl refl refl
-    (marked_after c.self.inside.bodies c.wake_named.new.bodies c.change.new.self c.wake_named.ensures.marked c.change.ensures.marked)
-    c.tidy.new.self (c.tidy.ensures.told (tell_fewer c.self.inside.anchors.holds c.self.inside.anchors.lists c.self.inside.sets.acting.ties c.wake_named.new.sets.acting.ties (fewer_woken c.deref-2.result.now c.self.inside.sets.acting c.wake_named.new.sets.acting c.wake_named.ensures.acting) c.self.invariant.anchored))
+    rw (← c.self.view_is) (may_steer (the_view c.self.inside) c.args.handle c.args.course c.in_ok-course.course c.self.inside.sets.acting c.self.invariant.whole calls due)
