@@ -1,5 +1,5 @@
 -- The parts of the headline, of a sound world.
-use Rattle.std.proofs.Common.{◌≡◌, List, [], ◌∷◌, Option, Some, None, All, map, inl, inr, sym, ap, ◌∙◌}
+use Rattle.std.proofs.Common.{◌≡◌, ℕ, Bool, true, false, cond, is_some, List, [], ◌∷◌, Option, Some, None, All, map, inl, inr, refl, sym, ap, ◌∙◌}
 use Rattle.std.specs.Prelude.{Contains}
 use Rattle.std.specs.List.{filter_map}
 use Rattle.std.proofs.lemmas.List.Elements.{All-weaker}
@@ -10,18 +10,25 @@ use Rattle.contacts_base.specs.declared.contact.ContactEntry.{ContactEntry}
 use Rattle.graph_colours.specs.Colours.{all_members}
 use Rattle.graph_colours.specs.declared.member.Member.{Member}
 use Rattle.graph_colours.specs.declared.member.Movers.{Movers}
+use Rattle.islands.specs.Labels.{Labels, is_asleep, is_loose, label_at}
+use Rattle.islands.specs.declared.label.IslandState.{IslandState}
+use Rattle.islands.specs.declared.label.IslandState.TheVariants.{Asleep, Loose, Whole}
+use Rattle.islands.specs.declared.label.Label.{Label}
 use Rattle.plain_world.specs.declared.body.Body.{Body}
+use Rattle.plain_world.specs.Bodies.{IsAtRest}
+use Rattle.plain_world.specs.Sleep.{sleeping_name}
+use Rattle.plain_world.specs.Slots.{body_at}
 use Rattle.solver_sets.proofs.ListLaws.{in_map}
 use Rattle.solver_sets.specs.Census.{IsCensus, census_of, standings_of}
 use Rattle.solver_sets.specs.Laws.{ListsAreCensus, TiesAreNamed}
-use Rattle.solver_sets.specs.Tied.{AreJointSlots}
-use Rattle.solver_sets.specs.Ties.{IsNamed, JointSlots, member_of, members_of, movers_of, tie_with}
+use Rattle.solver_sets.specs.Tied.{AreJointSlots, AreTied}
+use Rattle.solver_sets.specs.Ties.{IsNamed, JointSlots, is_mover_in, member_of, members_of, movers_of, tie_with}
 use Rattle.world_rules.specs.Laws as rules
-use Rattle.world_rules.specs.Laws.{ColoursAreApart, LinkedMoversStandTogether, SleepingSetsAreComponents, WhatActsHasAColour}
+use Rattle.world_rules.specs.Laws.{ColoursAreApart, LinkedMoversStandTogether, SleepingSetsAreComponents, SleepsIn, WhatActsHasAColour}
 use Rattle.world_rules.specs.Sets.{acting_of}
-use Rattle.world_rules.specs.Sound.{HasBodies, IsSound}
+use Rattle.world_rules.specs.Sound.{AreTold, HasBodies, IsSound}
 use Rattle.world_rules.specs.World.{World, joints_of}
-use Rattle.world_lock.specs.Headline.{EachHasOneColour, EachSleepingSetIsOneComponent, EachStandsInOneSet, LinkedShareAnIsland, LinkedStandTogether, NoColourSharesAMover, WhatActsIsColoured, census_in}
+use Rattle.world_lock.specs.Headline.{EachHasOneColour, EachSleepingSetIsOneComponent, EachSleepingSetIsOneIsland, EachStandsInOneSet, LinkedShareAnIsland, LinkedStandTogether, NoColourSharesAMover, OnlyAwakeMoversHaveMomentum, WhatActsIsColoured, census_in}
 
 -- ---- solver sets
 
@@ -83,3 +90,61 @@ stand_together law w s a b x y linked at_x at_y = law w a b x y s linked at_x at
 
 pub one_component : SleepingSetsAreComponents → (w : World) → IsSound w → EachSleepingSetIsOneComponent w
 one_component law w s name slot other sleeps = law w name slot other s sleeps
+
+-- ---- sleeping sets are islands
+
+-- the label of an island that sleeps under this name
+record SleepsUnder (o : Option Label) (name : ℕ) : Type 0 where
+  label : Label
+  there : o ≡ Some label
+  asleep : is_asleep label.state ≡ true
+  named : label.name ≡ name
+
+sleeps_under : (o : Option Label) (name : ℕ) → sleeping_name o ≡ Some name → SleepsUnder o name
+sleeps_under None name e = absurd (none-some name e)
+sleeps_under (Some l) name e = by (is_asleep l.state) refl e
+  where
+    by : (t : Bool) → is_asleep l.state ≡ t → cond t (Some l.name) None ≡ Some name → SleepsUnder (Some l) name
+    by true up h = record { label = l; there = refl; asleep = up; named = same_Some l.name name h }
+    by false up h = absurd (none-some name h)
+
+label_of : (bodies : List (Option Body)) (labels : Labels) (name slot : ℕ) → AreTold bodies labels → SleepsIn bodies name slot → SleepsUnder (label_at labels slot) name
+label_of bodies labels name slot told h = sleeps_under (label_at labels slot) name (sym (told slot h.body h.there) ∙ h.asleep)
+
+not_loose : (s : IslandState) → is_asleep s ≡ true → is_loose s ≡ false
+not_loose Whole e = cc
+not_loose Loose e = cc
+not_loose Asleep e = refl
+
+-- whose mover has the label of an island that sleeps
+sleeper_of : (bodies : List (Option Body)) (labels : Labels) (name slot : ℕ) (l : Label) → AreTied bodies labels → AreTold bodies labels → label_at labels slot ≡ Some l → is_asleep l.state ≡ true → l.name ≡ name → SleepsIn bodies name slot
+sleeper_of bodies labels name slot l tied told at asleep named = by (body_at bodies slot) refl (sym (tied slot) ∙ ap is_some at)
+  where
+    by : (o : Option Body) → body_at bodies slot ≡ o → is_mover_in o ≡ true → SleepsIn bodies name slot
+    by None e mover = cc
+    by (Some b) e mover =
+        let under : sleeping_name (Some l) ≡ Some name = λ j. cond (asleep j) (Some (named j)) None in
+        record { body = b; there = e; asleep = told slot b e ∙ ap sleeping_name at ∙ under }
+
+pub one_island : (w : World) → IsSound w → EachSleepingSetIsOneIsland w
+unfolding acting_of
+one_island w s name slot sleeps =
+    let bodies = w.plain.bodies in
+    let labels = w.plain.islands in
+    let told = s.promises.told in
+    let partition = s.promises.settled.islands.partition in
+    let own : SleepsUnder (label_at labels slot) name = label_of bodies labels name slot told sleeps in
+    let named : label_at labels name ≡ Some own.label = ap (label_at labels) (sym own.named) ∙ partition.named slot own.label own.there in (
+      own.label,
+      not_loose own.label.state own.asleep,
+      λ other. (
+        λ h. let l : SleepsUnder (label_at labels other) name = label_of bodies labels name other told h in
+            l.there ∙ sym (partition.named other l.label l.there) ∙ ap (label_at labels) l.named ∙ named,
+        λ at. sleeper_of bodies labels name other own.label s.promises.tied told at own.asleep own.named,
+      ),
+    )
+
+-- ---- what has momentum
+
+pub only_awake_have : (w : World) → IsSound w → OnlyAwakeMoversHaveMomentum w
+only_awake_have w s slot b at up = let rest : IsAtRest b.motion = s.promises.rest slot b at up in (rest.x, rest.y, rest.l)

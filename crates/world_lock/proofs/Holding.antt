@@ -5,18 +5,19 @@ use Rattle.std.proofs.lemmas.List.{append-nil, drop-append-le, take-append-drop,
 use Rattle.std.proofs.lemmas.List.Elements.{All-nil}
 use Rattle.fixed_geom.specs.Vectors.{plus}
 use Rattle.colour_solver.proofs.VectorLaws.{same_x, same_y}
+use Rattle.impulse_ledger.specs.Sums.{totals_of}
 use Rattle.seat_book.specs.History.{IsPast, known}
 use Rattle.plain_world.specs.Plain.{Plain}
 use Rattle.world_rules.specs.declared.command.Command.{Command}
 use Rattle.world_rules.specs.declared.command.Reply.{Reply}
-use Rattle.world_rules.specs.World.{World}
+use Rattle.world_rules.specs.World.{World, book_of}
 use Rattle.world_rules.specs.Apply.{apply}
 use Rattle.world_rules.specs.Replay.{after, answer_of}
 use Rattle.world_rules.specs.Laws.{EachCallCounts, PushesAreSmall, impulse_of}
 use Rattle.world_lock.specs.declared.tally.Tally.{Tally}
 use Rattle.world_lock.specs.Journals.{Beginning, IsLegal, IsLike, Journalled, KeepsHeadline, Line, command_of, journalled, left_by, line, reply_of}
 use Rattle.world_lock.specs.Tallies.{IsTally, calls_of, no_calls, pushed, tallies_of, tally_of, with_call}
-use Rattle.world_lock.specs.Histories.{Called, IsAllOf, IsClosed, IsHeld, IsPastFor, IsSeated, Known, Standing, next_number}
+use Rattle.world_lock.specs.Histories.{Called, IsAllOf, IsClosed, IsHeld, IsPastFor, IsSeated, Known, Standing, next_number, with_line}
 use Rattle.world_lock.proofs.Tallying.{calls_append, past_calls, pushed-append, small_none, small_set, small_with, tallies_at, tallies_length, tallies_none, tallies_step}
 use Rattle.world_lock.proofs.Replaying.{counts, left_push, legal_push, like_after, small_push}
 
@@ -43,15 +44,7 @@ next_is seats first s k h l past =
 
 pub held_call : (seats : ℕ) (first : World) (s : Standing) (e : Line) → IsHeld seats first s → EachCallCounts → PushesAreSmall → e.seat < seats
     → answer_of (apply s.world.plain (command_of e)) ≡ reply_of e → (after s.world (command_of e)).plain.calls ≤ 2 ^ 40
-    → IsHeld seats first (record {
-      world = after s.world (command_of e);
-      opening = s.opening;
-      journal = s.journal ++ e ∷ [];
-      settled = s.settled;
-      tallies = slice_set s.tallies e.seat (with_call (slice_index_or s.tallies e.seat no_calls) (impulse_of (command_of e)));
-      settled_tallies = s.settled_tallies;
-      history = s.history ++ e ∷ [];
-    })
+    → IsHeld seats first (with_line s e)
 held_call seats first s e h count small here ok few =
     let was = left_by first s.history in
     let taken : answer_of (apply was.plain (command_of e)) ≡ reply_of e = ap (λ p. answer_of (apply p (command_of e))) (sym h.like.plain) ∙ ok in
@@ -74,7 +67,7 @@ held_call seats first s e h count small here ok few =
     }
 
 pub held_new : (seats : ℕ) (first : World) → first.plain.calls ≤ 2 ^ 40
-    → IsHeld seats first (record { world = first; opening = first; journal = []; settled = 0; tallies = replicate seats no_calls; settled_tallies = replicate seats no_calls; history = [] })
+    → IsHeld seats first (record { world = first; opening = first; opening_totals = totals_of (book_of first); journal = []; settled = 0; tallies = replicate seats no_calls; settled_tallies = replicate seats no_calls; history = [] })
 held_new seats first few = record {
   legal = refl;
   like = record { plain = refl; events = refl; totals = record { all = refl; of_cause = λ c. refl } };

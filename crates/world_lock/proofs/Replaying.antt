@@ -6,11 +6,14 @@ use Rattle.std.proofs.lemmas.List.{append-nil, map-append, take-append-le, take_
 use Rattle.fixed_geom.specs.Vectors.{IsWithin}
 use Rattle.fixed_geom.specs.declared.refusal.Refusal.{Refusal}
 use Rattle.fixed_geom.specs.declared.refusal.Refusal.TheVariants.{NoMemory}
+use Rattle.impulse_ledger.specs.declared.entry.Cause.{Cause}
 use Rattle.impulse_ledger.specs.declared.entry.Entry as ledger
 use Rattle.impulse_ledger.specs.declared.totals.Total.{Total}
+use Rattle.impulse_ledger.specs.declared.totals.Totals.{Totals}
 use Rattle.impulse_ledger.specs.Totals.{sum_of, total_in, total_over}
-use Rattle.impulse_ledger.specs.Sums.{HaveSameTotals, summed, summed_of, totals_of}
-use Rattle.impulse_ledger.proofs.SumLemmas.{sum_of-swap, summed-append, summed_of-append}
+use Rattle.impulse_ledger.specs.Sums.{HaveSameTotals, summed, summed_of, total_of, totals_of}
+use Rattle.impulse_ledger.proofs.KeptLemmas.{same_totals}
+use Rattle.impulse_ledger.proofs.SumLemmas.{sum_of-assoc, sum_of-swap, sum_of-zero, summed-append, summed_of-append, zero-sum_of}
 use Rattle.world_rules.specs.declared.command.Command.{Command}
 use Rattle.world_rules.specs.declared.command.Reply.{Reply}
 use Rattle.world_rules.specs.World.{World, book_of}
@@ -19,7 +22,8 @@ use Rattle.world_rules.specs.Apply.{Answers, Applied, apply, world_with}
 use Rattle.world_rules.specs.Replay.{after, after_one, answer_of, answers_to, replay}
 use Rattle.world_rules.specs.Laws.{EachCallCounts, PushesAreSmall, impulse_of}
 use Rattle.world_rules.specs.Sound.{IsSound}
-use Rattle.world_lock.specs.Journals.{Beginning, IsJournalled, IsLegal, IsLike, Journalled, KeepsHeadline, Line, beginning_at, booked_by, command_of, commands_of, entries_of, left_by, opening_of, replies_of, reply_of}
+use Rattle.world_core.specs.Frames.{settled_world}
+use Rattle.world_lock.specs.Journals.{AreTotalsSince, Beginning, IsJournalled, IsLegal, IsLike, Journalled, KeepsHeadline, Line, beginning_at, booked_by, command_of, commands_of, entries_of, left_by, opening_of, replies_of, reply_of}
 
 -- ---- one answer
 
@@ -79,6 +83,52 @@ like_one v w (Err e) like = like
 pub like_after : (v w : World) (c : Command) → IsLike v w → IsLike (after v c) (after w c)
 like_after v w c like = subst (λ (p : Plain). IsLike (after_one v (apply p c)) (after w c)) like.plain (like_one v w (apply w.plain c) like)
 
+-- ---- the ledger's entries
+
+booked_one : (w : World) (due : Result Applied Refusal) → (after_one w due).entries ≡ w.entries ++ entries_of due
+booked_one w (Ok a) = refl
+booked_one w (Err e) = sym (append-nil w.entries)
+
+booked : (w : World) (cs : List Command) → (replay w cs).entries ≡ w.entries ++ booked_by w cs
+booked w [] = sym (append-nil w.entries)
+booked w (c ∷ cs) =
+    let one : (after w c).entries ≡ w.entries ++ entries_of (apply w.plain c) = booked_one w (apply w.plain c) in
+    booked (after w c) cs ∙ ap (λ (es : List ledger.Entry). es ++ booked_by (after w c) cs) one ∙ append_assoc w.entries (entries_of (apply w.plain c)) (booked_by (after w c) cs)
+
+-- the entries since the opening are those of the replay
+pub booked_since : (j : Journalled) → KeepsHeadline j → drop (length j.opening.entries) j.world.entries ≡ booked_by j.opening (commands_of j.journal)
+booked_since j h =
+    let all : j.world.entries ≡ j.opening.entries ++ booked_by j.opening (commands_of j.journal) = ap (λ (w : World). w.entries) h.replay ∙ booked j.opening (commands_of j.journal) in
+    ap (drop (length j.opening.entries)) all ∙ drop-append_seam j.opening.entries (booked_by j.opening (commands_of j.journal))
+
+-- ---- the ledger's totals
+
+total_one : (cause : Cause) (w : World) (due : Result Applied Refusal) → total_of cause (book_of (after_one w due)) ≡ sum_of (total_of cause (book_of w)) (summed_of cause (entries_of due))
+total_one cause w (Ok a) =
+    ap (λ (t : Total). sum_of t (total_in cause w.settled)) (summed_of-append cause w.entries a.entries) ∙ sum_of-swap (summed_of cause w.entries) (summed_of cause a.entries) (total_in cause w.settled)
+total_one cause w (Err e) = sym (sum_of-zero (total_of cause (book_of w)))
+
+-- what a replay adds to the total of a cause
+total_more : (cause : Cause) (w : World) (cs : List Command) → total_of cause (book_of (replay w cs)) ≡ sum_of (total_of cause (book_of w)) (summed_of cause (booked_by w cs))
+total_more cause w [] = sym (sum_of-zero (total_of cause (book_of w)))
+total_more cause w (c ∷ cs) =
+    let first = entries_of (apply w.plain c) in
+    let later = booked_by (after w c) cs in
+    total_more cause (after w c) cs
+    ∙ ap (λ (t : Total). sum_of t (summed_of cause later)) (total_one cause w (apply w.plain c))
+    ∙ sym (sum_of-assoc (total_of cause (book_of w)) (summed_of cause first) (summed_of cause later))
+    ∙ ap (sum_of (total_of cause (book_of w))) (sym (summed_of-append cause first later))
+
+kept_total : (cause : Cause) (w : World) → total_in cause (totals_of (book_of w)) ≡ total_of cause (book_of w)
+kept_total cause w = zero-sum_of (total_in cause (totals_of (book_of w))) ∙ (same_totals (book_of w) 0).of_cause cause
+
+-- the totals since the opening, whose own were kept
+totals_since : (opening w : World) (kept : Totals) (journal : List Line) → kept ≡ totals_of (book_of opening) → w ≡ left_by opening journal → AreTotalsSince kept (booked_by opening (commands_of journal)) w
+totals_since opening w kept journal is replayed cause =
+    let cs = commands_of journal in
+    let first : total_of cause (book_of opening) ≡ total_in cause kept = sym (kept_total cause opening) ∙ ap (total_in cause) (sym is) in
+    ap (λ (v : World). total_of cause (book_of v)) replayed ∙ total_more cause opening cs ∙ ap (λ (t : Total). sum_of t (summed_of cause (booked_by opening cs))) first
+
 -- ---- a world with its journal
 
 grown : (w : World) (due : Result Applied Refusal) → (more : List ledger.Entry) × ((after_one w due).entries ≡ w.entries ++ more) × ((after_one w due).settled ≡ w.settled)
@@ -99,42 +149,49 @@ journalled_call b w journal e j ok sound =
     let same : opening_of b now ≡ old = opening_stays b w (command_of e) j.booked in
     let replay : now ≡ left_by old (journal ++ e ∷ []) = ap (λ (v : World). after v (command_of e)) j.headline.replay ∙ sym (left_push old journal e) in
     let taken : answer_of (apply (left_by old journal).plain (command_of e)) ≡ reply_of e = ap (λ (v : World). answer_of (apply v.plain (command_of e))) (sym j.headline.replay) ∙ ok in
+    let again : now ≡ left_by (opening_of b now) (journal ++ e ∷ []) = replay ∙ ap (λ (o : World). left_by o (journal ++ e ∷ [])) (sym same) in
+    let totals : b.totals ≡ totals_of (book_of (opening_of b now)) = j.totals ∙ ap (λ (o : World). totals_of (book_of o)) (sym same) in
     let g = grown w (apply w.plain (command_of e)) in
     record {
       headline = record {
         sound = sound;
-        replay = replay ∙ ap (λ (o : World). left_by o (journal ++ e ∷ [])) (sym same);
+        replay = again;
         replies = subst (λ (o : World). IsLegal o (journal ++ e ∷ [])) (sym same) (legal_push old journal e j.headline.replies taken);
+        totals = totals_since (opening_of b now) now b.totals (journal ++ e ∷ []) totals again;
       };
       booked = let le = j.booked in omega (arith, ap length g.1, length-append w.entries g.0);
-      totals = j.totals ∙ ap (λ (o : World). totals_of (book_of o)) (sym same);
+      totals = totals;
     }
 
--- ---- the ledger's entries
-
-booked_one : (w : World) (due : Result Applied Refusal) → (after_one w due).entries ≡ w.entries ++ entries_of due
-booked_one w (Ok a) = refl
-booked_one w (Err e) = sym (append-nil w.entries)
-
-booked : (w : World) (cs : List Command) → (replay w cs).entries ≡ w.entries ++ booked_by w cs
-booked w [] = sym (append-nil w.entries)
-booked w (c ∷ cs) =
-    let one : (after w c).entries ≡ w.entries ++ entries_of (apply w.plain c) = booked_one w (apply w.plain c) in
-    booked (after w c) cs ∙ ap (λ (es : List ledger.Entry). es ++ booked_by (after w c) cs) one ∙ append_assoc w.entries (entries_of (apply w.plain c)) (booked_by (after w c) cs)
-
--- the entries since the opening are those of the replay
-pub booked_since : (j : Journalled) → KeepsHeadline j → drop (length j.opening.entries) j.world.entries ≡ booked_by j.opening (commands_of j.journal)
-booked_since j h =
-    let all : j.world.entries ≡ j.opening.entries ++ booked_by j.opening (commands_of j.journal) = ap (λ (w : World). w.entries) h.replay ∙ booked j.opening (commands_of j.journal) in
-    ap (drop (length j.opening.entries)) all ∙ drop-append_seam j.opening.entries (booked_by j.opening (commands_of j.journal))
+-- ---- journals that begin
 
 -- a journal that begins now
 pub begun : (w : World) → IsSound w → IsJournalled (beginning_at w) w []
 begun w sound =
     let whole : take (length w.entries) w.entries ≡ w.entries = take_all (length w.entries) w.entries (omega arith) in
     let same : opening_of (beginning_at w) w ≡ w = λ i. record { plain = w.plain; entries = whole i; settled = w.settled; events = w.events } in
+    let totals : totals_of (book_of w) ≡ totals_of (book_of (opening_of (beginning_at w) w)) = ap (λ (v : World). totals_of (book_of v)) (sym same) in
     record {
-      headline = record { sound = sound; replay = sym same; replies = refl };
+      headline = record { sound = sound; replay = sym same; replies = refl; totals = totals_since (opening_of (beginning_at w) w) w (totals_of (book_of w)) [] totals (sym same) };
       booked = omega arith;
-      totals = ap (λ (v : World). totals_of (book_of v)) (sym same);
+      totals = totals;
+    }
+
+-- the same where the ledger's entries were settled
+pub begun_settled : (w : World) → IsSound (settled_world w) → IsJournalled (record (beginning_at w) { booked = 0 }) (settled_world w) []
+begun_settled w sound =
+    let kept = totals_of (book_of w) in
+    let totals : kept ≡ totals_of (book_of (settled_world w)) =
+    λ i. record {
+      command = zero-sum_of kept.command i;
+      gravity = zero-sum_of kept.gravity i;
+      immovable = zero-sum_of kept.immovable i;
+      clamp = zero-sum_of kept.clamp i;
+      rest = zero-sum_of kept.rest i;
+      departed = zero-sum_of kept.departed i;
+    } in
+    record {
+      headline = record { sound = sound; replay = refl; replies = refl; totals = totals_since (settled_world w) (settled_world w) kept [] totals refl };
+      booked = omega arith;
+      totals = totals;
     }

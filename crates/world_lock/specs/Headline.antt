@@ -1,16 +1,16 @@
 -- What the headline says of a world whose lock is free, part by part.
-use Rattle.std.specs.Prelude.{◌≡◌, ℕ, ◌↔◌, true, All, Contains, Some, take}
+use Rattle.std.specs.Prelude.{◌≡◌, ℕ, ◌↔◌, true, false, All, Contains, Some, pos, take}
 use Rattle.contacts.specs.Constraints.{constraint_number}
 use Rattle.contacts.specs.declared.constraint.Constraint.{Constraint}
 use Rattle.graph_colours.specs.Colours.{IsColouring, all_members, ids_of}
 use Rattle.graph_colours.specs.Members.{AreApart}
 use Rattle.graph_colours.specs.declared.limits.TheConstants.{COLOURS}
 use Rattle.graph_colours.specs.declared.member.Member.{Member}
-use Rattle.islands.specs.Labels.{label_at}
+use Rattle.islands.specs.Labels.{is_loose, label_at}
 use Rattle.islands.specs.Links.{Joined}
 use Rattle.islands.specs.declared.label.Label.{Label}
 use Rattle.plain_world.specs.declared.body.Body.{Body}
-use Rattle.plain_world.specs.Bodies.{standing_of}
+use Rattle.plain_world.specs.Bodies.{is_awake, standing_of}
 use Rattle.plain_world.specs.Slots.{body_at}
 use Rattle.solver_sets.specs.Census.{Census, IsCensus, census_of, standings_of}
 use Rattle.solver_sets.specs.EachOnce.{ListsEachOnce}
@@ -54,3 +54,12 @@ LinkedStandTogether w = (a b : ℕ) (x y : Body) → AreLinked w a b → body_at
 -- Each sleeping set is one connected component: those that sleep in it are just those that links join to one of them.
 abbrev pub EachSleepingSetIsOneComponent : World → Type 0
 EachSleepingSetIsOneComponent w = (name slot other : ℕ) → SleepsIn w.plain.bodies name slot → SleepsIn w.plain.bodies name other ↔ Joined (AreLinked w) slot other
+
+-- Each sleeping set is one island that isn't loose: those that sleep in it are just the movers of this island.
+abbrev pub EachSleepingSetIsOneIsland : World → Type 0
+EachSleepingSetIsOneIsland w =
+    (name slot : ℕ) → SleepsIn w.plain.bodies name slot → (l : Label) × (is_loose l.state ≡ false) × ((other : ℕ) → SleepsIn w.plain.bodies name other ↔ (label_at w.plain.islands other ≡ Some l))
+
+-- A body that isn't an awake mover has neither momentum nor angular momentum.
+abbrev pub OnlyAwakeMoversHaveMomentum : World → Type 0
+OnlyAwakeMoversHaveMomentum w = (slot : ℕ) (b : Body) → body_at w.plain.bodies slot ≡ Some b → is_awake b ≡ false → (b.motion.p.x ≡ pos 0) × (b.motion.p.y ≡ pos 0) × (b.motion.l ≡ pos 0)

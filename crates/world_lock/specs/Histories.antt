@@ -1,20 +1,23 @@
 -- The history of a shared world, and what each call on it tells a seat.
-use Rattle.std.specs.Prelude.{◌≡◌, ◌⊎◌, ℕ, suc, ◌+◌, ◌≤◌, ◌<◌, ◌^◌, ◌==◌, ◌||◌, Bool, true, false, All, List, [], ◌∷◌, ◌++◌, Err, length, take, drop, slice_index_or, ◌+ℤ◌}
+use Rattle.std.specs.Prelude.{◌≡◌, ◌⊎◌, ℕ, suc, ◌+◌, ◌≤◌, ◌<◌, ◌^◌, ◌==◌, ◌||◌, Bool, true, false, All, List, [], ◌∷◌, ◌++◌, Err, length, take, drop, slice_index_or, slice_set, ◌+ℤ◌}
 use Rattle.fixed_geom.specs.declared.refusal.Refusal.{Refusal}
 use Rattle.fixed_geom.specs.declared.refusal.Refusal.TheVariants.{NoMemory}
+use Rattle.impulse_ledger.specs.declared.totals.Totals.{Totals}
+use Rattle.impulse_ledger.specs.Sums.{totals_of}
 use Rattle.event_feed.specs.Events.{EventLists}
 use Rattle.seat_book.specs.declared.rule.Known as book
 use Rattle.seat_book.specs.History.{IsPast, known}
 use Rattle.world_rules.specs.declared.command.Command.{Command}
 use Rattle.world_rules.specs.declared.command.Reply.{Reply}
-use Rattle.world_rules.specs.World.{World}
+use Rattle.world_rules.specs.World.{World, book_of}
 use Rattle.world_rules.specs.Apply.{apply}
-use Rattle.world_rules.specs.Replay.{answer_of}
-use Rattle.world_core.specs.Frames.{View, frame_of}
+use Rattle.world_rules.specs.Laws.{impulse_of}
+use Rattle.world_rules.specs.Replay.{after, answer_of}
+use Rattle.world_core.specs.Frames.{View, frame_of, settled_world}
 use Rattle.world_lock.specs.declared.seat.Receipt.{Receipt}
 use Rattle.world_lock.specs.declared.tally.Tally.{Tally}
-use Rattle.world_lock.specs.Journals.{Beginning, IsLegal, IsLike, Journalled, KeepsHeadline, Line, journalled, left_by, line}
-use Rattle.world_lock.specs.Tallies.{IsTally, calls_of, no_calls, pushed, tallies_of}
+use Rattle.world_lock.specs.Journals.{Beginning, IsLegal, IsLike, Journalled, KeepsHeadline, Line, command_of, journalled, left_by, line}
+use Rattle.world_lock.specs.Tallies.{IsTally, calls_of, no_calls, pushed, tallies_of, with_call}
 
 -- a seat, and the calls that it has seen
 abbrev pub Known : Type 0
@@ -22,11 +25,12 @@ Known = book.Known Command Reply
 
 -- ---- what lies under the lock
 
--- a world with its journal, how many entries of the history were settled, what each seat did, also as it was when the last were settled, and the
--- history: all calls since the world was opened
+-- a world with its journal and the totals at the opening, how many entries of the history were settled, what each seat did, also as it was when the last
+-- were settled, and the history: all calls since the world was opened
 pub record Standing : Type 0 where
   pub world : World
   pub opening : World
+  pub opening_totals : Totals
   pub journal : List Line
   pub settled : ℕ
   pub tallies : List Tally
@@ -34,7 +38,29 @@ pub record Standing : Type 0 where
   pub history : List Line
 
 abbrev pub standing : Journalled → ℕ → List Tally → List Tally → List Line → Standing
-standing j settled tallies settled_tallies history = record { world = j.world; opening = j.opening; journal = j.journal; settled = settled; tallies = tallies; settled_tallies = settled_tallies; history = history }
+standing j settled tallies settled_tallies history =
+    record { world = j.world; opening = j.opening; opening_totals = j.opening_totals; journal = j.journal; settled = settled; tallies = tallies; settled_tallies = settled_tallies; history = history }
+
+-- A call leaves the world after it. The journal and the history are longer by just the call, which its seat's tally counts; all else stays.
+abbrev pub with_line : Standing → Line → Standing
+with_line s e = record s {
+  world = after s.world (command_of e);
+  journal = s.journal ++ e ∷ [];
+  tallies = slice_set s.tallies e.seat (with_call (slice_index_or s.tallies e.seat no_calls) (impulse_of (command_of e)));
+  history = s.history ++ e ∷ [];
+}
+
+-- Settling leaves the world with its ledger's entries settled. The journal begins anew there, with the totals of its ledger; the calls of the old one are
+-- settled, with what each seat did; all else stays.
+abbrev pub with_settled : Standing → Standing
+with_settled s = record s {
+  world = settled_world s.world;
+  opening = settled_world s.world;
+  opening_totals = totals_of (book_of s.world);
+  journal = [];
+  settled = s.settled + length s.journal;
+  settled_tallies = s.tallies;
+}
 
 -- made by one of so many seats
 abbrev pub IsSeated : ℕ → Line → Type 0
@@ -115,7 +141,7 @@ pub record IsAllOf (history journal : List Line) (settled : ℕ) (tallies : List
   pub pushed_x_is : (slice_index_or tallies k.seat no_calls).pushed.x +ℤ (pushed (calls_of k.seat journal)).x ≡ (pushed (calls_of k.seat k.seen)).x
   pub pushed_y_is : (slice_index_or tallies k.seat no_calls).pushed.y +ℤ (pushed (calls_of k.seat journal)).y ≡ (pushed (calls_of k.seat k.seen)).y
 
--- The headline holds of the closed world. The history is legal from the world at `open`, and its replay gives the closed world, but for entries that were
+-- The headline holds of the closed world, with the totals that were kept of the opening. The history is legal from the world at `open`, and its replay gives the closed world, but for entries that were
 -- settled; the journal is what of it wasn't settled, each call of it is of one of the seats, the settled tallies are those of its settled calls, and of each
 -- seat all is there.
 pub record IsClosing (count : ℕ) (first : World) (seats : List Known) (b : Beginning) (w : World) (journal : List Line) (tallies : List Tally) (settled : ℕ) (history : List Line) : Type 0 where

@@ -1,9 +1,11 @@
 -- The journal of a world, and whose replay the world is.
 use Rattle.std.specs.Prelude.{◌≡◌, ℕ, ◌≤◌, List, [], ◌∷◌, ◌++◌, Result, Ok, Err, length, map, take}
 use Rattle.fixed_geom.specs.declared.refusal.Refusal.{Refusal}
+use Rattle.impulse_ledger.specs.declared.entry.Cause.{Cause}
 use Rattle.impulse_ledger.specs.declared.entry.Entry as ledger
 use Rattle.impulse_ledger.specs.declared.totals.Totals.{Totals}
-use Rattle.impulse_ledger.specs.Sums.{HaveSameTotals, totals_of}
+use Rattle.impulse_ledger.specs.Totals.{sum_of, total_in}
+use Rattle.impulse_ledger.specs.Sums.{HaveSameTotals, summed_of, total_of, totals_of}
 use Rattle.event_feed.specs.Events.{EventLists}
 use Rattle.seat_book.specs.declared.call.Entry.{Entry}
 use Rattle.seat_book.specs.History.{entry}
@@ -53,20 +55,27 @@ abbrev pub booked_by : World → List Command → List ledger.Entry
 booked_by w [] = []
 booked_by w (c ∷ cs) = entries_of (apply w.plain c) ++ booked_by (after w c) cs
 
+-- The total of each cause is the one that was kept, and with it the sum of these entries of the cause.
+abbrev pub AreTotalsSince : Totals → List ledger.Entry → World → Type 0
+AreTotalsSince kept entries w = (cause : Cause) → total_of cause (book_of w) ≡ sum_of (total_in cause kept) (summed_of cause entries)
+
 -- ---- a world with its journal
 
--- a world, the world that its journal began with, and the calls since then
+-- a world, the world that its journal began with, the totals of the ledger as they were then, and the calls since then
 pub record Journalled : Type 0 where
   pub world : World
   pub opening : World
+  pub opening_totals : Totals
   pub journal : List Line
 
--- The world is sound, from which each part of the headline on its solver sets, colours, islands and momentum follows (`Headline`); and the world, with its
--- ledger and its events, is the replay of the journal on one thread, which gives the journal's replies.
+-- The world is sound, from which each part of the headline on its solver sets, colours, islands and momentum follows (`Headline`). The world, with its
+-- ledger and its events, is the replay of the journal on one thread, which gives the journal's replies. Each cause's total is the opening one, with the
+-- entries of the cause that this replay adds.
 pub record KeepsHeadline (j : Journalled) : Type 0 where
   pub sound : IsSound j.world
   pub replay : j.world ≡ left_by j.opening j.journal
   pub replies : IsLegal j.opening j.journal
+  pub totals : AreTotalsSince j.opening_totals (booked_by j.opening (commands_of j.journal)) j.world
 
 -- what is kept of the world that a journal begins with: the plain world, the events, the totals of the ledger, and how many entries the ledger had
 pub record Beginning : Type 0 where
@@ -83,7 +92,7 @@ abbrev pub opening_of : Beginning → World → World
 opening_of b now = record { plain = b.plain; entries = take b.booked now.entries; settled = now.settled; events = b.events }
 
 abbrev pub journalled : Beginning → World → List Line → Journalled
-journalled b w journal = record { world = w; opening = opening_of b w; journal = journal }
+journalled b w journal = record { world = w; opening = opening_of b w; opening_totals = b.totals; journal = journal }
 
 -- what is stored of the beginning is true of the opening world
 pub record IsJournalled (b : Beginning) (w : World) (journal : List Line) : Type 0 where

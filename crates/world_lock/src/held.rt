@@ -1,17 +1,17 @@
 //! What lies under the lock.
 
-ghost use Rattle.std.specs.Prelude.{◌≡◌, ◌+◌, ◌<◌, ◌≤◌, [], ◌∷◌, ◌++◌, All, Ok, IfOk, OnErr, OnOk, MatchResult, drop, length, replicate};
+ghost use Rattle.std.specs.Prelude.{◌≡◌, ◌⊎◌, ◌+◌, ◌<◌, ◌≤◌, [], All, Ok, Err, IfErr, IfOk, IsSomeAnd, OnErr, OnOk, MatchResult, drop, length, replicate};
 ghost use Rattle.std.specs.Result.{IsOkUnless};
 ghost use Rattle.world_rules.specs.Apply.{apply};
-ghost use Rattle.world_core.specs.Frames.{settled_world};
-ghost use Rattle.world_rules.specs.Replay.{after, answer_of};
-ghost use Rattle.impulse_ledger.specs.Sums.{total};
+ghost use Rattle.world_rules.specs.Replay.{answer_of};
+ghost use Rattle.std.specs.Arc.{arc_value};
+ghost use Rattle.impulse_ledger.specs.Sums.{HaveSameTotals, total, totals_of};
 ghost use Rattle.plain_world.specs.Momentum.{momentum};
 ghost use Rattle.world_rules.specs.World.{book_of};
-ghost use Rattle.world_lock.specs.Headline.{EachHasOneColour, EachSleepingSetIsOneComponent, EachStandsInOneSet, LinkedShareAnIsland, LinkedStandTogether, NoColourSharesAMover, WhatActsIsColoured};
-ghost use Rattle.world_lock.specs.Journals.{IsLegal, booked_by, commands_of, left_by, line};
+ghost use Rattle.world_lock.specs.Headline.{EachHasOneColour, EachSleepingSetIsOneComponent, EachSleepingSetIsOneIsland, EachStandsInOneSet, LinkedShareAnIsland, LinkedStandTogether, NoColourSharesAMover, OnlyAwakeMoversHaveMomentum, WhatActsIsColoured};
+ghost use Rattle.world_lock.specs.Journals.{AreTotalsSince, IsLegal, booked_by, commands_of, left_by, line};
 ghost use Rattle.world_lock.specs.Tallies.{no_calls};
-ghost use Rattle.world_lock.specs.Histories.{Called, IsClosed, IsPastFor, Met, Refused, Shown, Told, next_number};
+ghost use Rattle.world_lock.specs.Histories.{Called, IsClosed, IsPastFor, Met, Refused, Shown, Told, next_number, with_line, with_settled};
 
 use crate::journalled::{JournalEntry, JournalledWorld};
 use crate::opened::Opened;
@@ -21,7 +21,9 @@ use crate::tally::{Tally, calls_in, count_call};
 use fixed_geom::Refusal;
 use seat_book::{Book, Keeper};
 use solver_sets::laws::{lists_are_census, ties_are_named};
+use std::alloc::Global;
 use std::marker::Model;
+use std::sync::Arc;
 use world_core::{Command, Events, Frame, Reply, each_call_counts};
 use world_rules::{
     colours_are_apart, each_stands_in_one_set, linked_movers_stand_together,
@@ -58,7 +60,7 @@ impl<N: Opened> Held<N> {
         settled_tallies: Vec<Tally>,
         keeper: Keeper<N, Command, Reply>,
     ) -> Held<N>
-        requires world { journalled ≡ record { world = N.opening; opening = N.opening; journal = [] } }
+        requires world { journalled ≡ record { world = N.opening; opening = N.opening; opening_totals = totals_of (book_of N.opening); journal = [] } }
         requires tallies { tallies.items ≡ replicate N.seats no_calls }
         requires settled { settled_tallies.items ≡ replicate N.seats no_calls }
         requires keeper { keeper ≡ [] }
@@ -76,9 +78,10 @@ impl<N: Opened> Held<N> {
 
     /// The journal. Its contract is the headline, which holds whenever the lock is free: each body, joint and contact stands in exactly
     /// one solver set; no two constraints of a colour share a mover, what acts has a colour, and each just one; touching or jointed
-    /// movers share an island, awake or asleep together; each sleeping set is one connected component; the movers' momentum is
-    /// the ledger's total; and the world is the one-thread replay of the journal from the opening world, which gives the journal's
-    /// replies, and whose entries are the ledger's since the opening.
+    /// movers share an island, awake or asleep together; each sleeping set is one connected component, and one island that isn't
+    /// loose; what isn't an awake mover has no momentum; the movers' momentum is the ledger's total; and the world is the
+    /// one-thread replay of the journal from the opening world, which gives the journal's replies, and whose entries are the
+    /// ledger's since the opening. Each cause's total is what it was at the opening, and with it the sum of these entries.
     pub fn headline(&self) -> &[JournalEntry]
         ensures journal { result.now ≡ self.now.journal }
         ensures each_stands_in_one_set { EachStandsInOneSet self.now.world }
@@ -88,11 +91,14 @@ impl<N: Opened> Held<N> {
         ensures linked_share_an_island { LinkedShareAnIsland self.now.world }
         ensures linked_stand_together { LinkedStandTogether self.now.world }
         ensures each_sleeping_set_is_one_component { EachSleepingSetIsOneComponent self.now.world }
+        ensures each_sleeping_set_is_one_island { EachSleepingSetIsOneIsland self.now.world }
+        ensures only_awake_movers_have_momentum { OnlyAwakeMoversHaveMomentum self.now.world }
         ensures momentum_x_is_booked { (momentum self.now.world.plain.bodies).x ≡ (total (book_of self.now.world)).x }
         ensures momentum_y_is_booked { (momentum self.now.world.plain.bodies).y ≡ (total (book_of self.now.world)).y }
         ensures is_the_replay { self.now.world ≡ left_by self.now.opening self.now.journal }
         ensures replies { IsLegal self.now.opening self.now.journal }
         ensures entries { drop (length self.now.opening.entries) self.now.world.entries ≡ booked_by self.now.opening (commands_of self.now.journal) }
+        ensures totals { AreTotalsSince self.now.opening_totals (booked_by self.now.opening (commands_of self.now.journal)) self.now.world }
     {
         // What a sound world is, in the headline's words.
         lists_are_census();
@@ -105,9 +111,10 @@ impl<N: Opened> Held<N> {
         self.journalled.journal()
     }
 
-    /// A call of a seat. The world applies the command, the journal grows by just the seat's next call, and the receipt names
-    /// this entry; the seat has then seen all calls up to it. A refused call changes nothing and takes no number, and the seat
-    /// has then seen all calls before. Refused as the world refuses the command, or 1.
+    /// A call of a seat. The world applies the command, the journal and the history grow by just the seat's next call, which its
+    /// tally counts, and all else stays; the receipt names this entry. The seat has then seen all calls up to it. A refused call
+    /// changes nothing and takes no number, and the seat has then seen all calls before. Refused as this world refuses the
+    /// command, or 1 where memory is wanting.
     pub fn call(
         &mut self,
         book: &Book<N, Command, Reply>,
@@ -115,7 +122,11 @@ impl<N: Opened> Held<N> {
         command: Command,
     ) -> Result<(Reply, Receipt), Refusal>
         ensures told { MatchResult result (λ r. Called N.opening seat.old command r.0 r.1 seat.new) (λ refusal. Refused N.opening seat.old command refusal seat.new) }
-        ensures done { MatchResult result (λ r. (answer_of (apply self.old.world.plain command) ≡ Ok r.0) × (self.new.world ≡ after self.old.world command) × (self.new.opening ≡ self.old.opening) × (self.new.journal ≡ self.old.journal ++ line seat.old.seat (next_number seat.old) command r.0 ∷ [])) (λ refusal. self.new ≡ self.old) }
+        ensures reply { IfOk result (λ r. answer_of (apply self.old.world.plain command) ≡ Ok r.0) }
+        ensures done { IfOk result (λ r. self.new ≡ with_line self.old (line seat.old.seat (next_number seat.old) command r.0)) }
+        ensures place { IfOk result (λ r. r.1.place ≡ self.old.settled + length self.old.journal) }
+        ensures refused { IfErr result (λ refusal. (refusal ≡ Refusal.NoMemory) ⊎ (answer_of (apply self.old.world.plain command) ≡ Err refusal)) }
+        ensures err { OnErr result (self.new ≡ self.old) }
     {
         each_call_counts();
         let impulse = command.impulse();
@@ -139,31 +150,37 @@ impl<N: Opened> Held<N> {
         }
     }
 
-    /// Begins a new journal at the present world, and gives the entries of the old one; the ledger's entries are settled, and
-    /// no total changes. Refused 1 with nothing changed where memory is wanting.
-    pub fn settle(&mut self) -> Result<Vec<JournalEntry>, Refusal>
-        ensures settled { OnOk result (self.new ≡ record { world = settled_world self.old.world; opening = settled_world self.old.world; journal = []; settled = self.old.settled + length self.old.journal; tallies = self.old.tallies; settled_tallies = self.old.tallies; history = self.old.history }) }
-        ensures journal { IfOk result (λ journal. journal.items ≡ self.old.journal) }
+    /// Begins a new journal at the present world, and answers how many entries the old one had, which is put into `old`, so that
+    /// the caller drops it where it likes. The ledger's entries are settled, and no total changes. Refused 1 with nothing changed
+    /// where memory is wanting.
+    pub fn settle(&mut self, old: &mut Option<Vec<JournalEntry>>) -> Result<u64, Refusal>
+        ensures settled { OnOk result (self.new ≡ with_settled self.old) }
+        ensures totals { OnOk result (HaveSameTotals (book_of self.new.world) (book_of self.old.world)) }
+        ensures count { IfOk result (λ count. count ≡ length self.old.journal) }
+        ensures journal { OnOk result (IsSomeAnd old.new (λ journal. journal.items ≡ self.old.journal)) }
         ensures err { OnErr result (self.new ≡ self.old) }
         ensures memory_only { IsOkUnless result Refusal.NoMemory }
     {
         let journal = self.journalled.settle()?;
-        self.settled += journal.len() as u64;
+        let count = journal.len() as u64;
+        self.settled += count;
         self.settled_tallies.copy_from_slice(&self.tallies);
-        Ok(journal)
+        *old = Some(journal);
+        Ok(count)
     }
 
-    /// What the world shows, as the seat then has seen it. Refused 1 where memory is wanting.
+    /// What the world shows, as the seat then has seen it, to be shared without a copy. Refused 1 where memory is wanting.
     pub fn frame(
         &mut self,
         book: &Book<N, Command, Reply>,
         seat: &mut Seat<N>,
-    ) -> Result<Frame, Refusal>
-        ensures told { MatchResult result (λ frame. Shown N.opening seat.old frame seat.new) (λ refusal. (refusal ≡ Refusal.NoMemory) × Met N.opening seat.old seat.new) }
+    ) -> Result<Arc<Frame, Global>, Refusal>
+        ensures told { MatchResult result (λ frame. Shown N.opening seat.old (arc_value frame) seat.new) (λ refusal. (refusal ≡ Refusal.NoMemory) × Met N.opening seat.old seat.new) }
         ensures same { self.new ≡ self.old }
     {
         book.meet(&mut self.keeper, &mut seat.pass);
-        self.journalled.world().frame()
+        let frame = self.journalled.world().frame()?;
+        Ok(Arc::new(*self.tallies.allocator(), frame)?)
     }
 
     /// The events of the world's last step, as the seat then has seen it. Refused 1 where memory is wanting.

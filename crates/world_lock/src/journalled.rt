@@ -2,7 +2,7 @@
 
 ghost use Rattle.std.specs.Prelude.{◌≡◌, ◌⊎◌, ◌≤◌, [], ◌∷◌, ◌++◌, Ok, Err, IfOk, OnOk, OnErr, MatchResult, length};
 ghost use Rattle.std.specs.Result.{IsOkUnless};
-ghost use Rattle.impulse_ledger.specs.Sums.{HaveSameTotals};
+ghost use Rattle.impulse_ledger.specs.Sums.{HaveSameTotals, totals_of};
 ghost use Rattle.world_rules.specs.World.{book_of};
 ghost use Rattle.world_rules.specs.Apply.{apply};
 ghost use Rattle.world_core.specs.Frames.{settled_world};
@@ -21,7 +21,8 @@ use world_core::{Command, Reply, WorldCore};
 pub type JournalEntry = Entry<Command, Reply>;
 
 /// A world, with the calls that it accepted since its journal began. Whenever it is whole, the headline holds of it: the world is
-/// sound, and it is the one-thread replay of the journal from the world that the journal began with.
+/// sound, it is the one-thread replay of the journal from the world that the journal began with, and each cause's total is the one
+/// that its ledger had then, with what the journal's calls added.
 #[derive(Drop)]
 pub struct JournalledWorld {
     world: WorldCore,
@@ -60,7 +61,7 @@ impl JournalledWorld {
         requires opening { opening ≡ beginning_at world }
         requires sound { IsSound world }
         requires journal { journal.items ≡ [] }
-        ensures { result ≡ record { world = world; opening = world; journal = [] } }
+        ensures { result ≡ record { world = world; opening = world; opening_totals = totals_of (book_of world); journal = [] } }
     {
         JournalledWorld {
             world,
@@ -87,7 +88,7 @@ impl JournalledWorld {
     /// A call of a seat: the world applies the command, and the journal grows by just this. A refusal changes nothing; the room
     /// for the journal's entry is made before all else, so want of it is answered first.
     pub fn call(&mut self, seat: u64, number: u64, command: Command) -> Result<Reply, Refusal>
-        ensures { MatchResult result (λ reply. (answer_of (apply self.old.world.plain command) ≡ Ok reply) × (self.new ≡ record { world = after self.old.world command; opening = self.old.opening; journal = self.old.journal ++ line seat number command reply ∷ [] })) (λ refusal. (self.new ≡ self.old) × ((refusal ≡ Refusal.NoMemory) ⊎ (answer_of (apply self.old.world.plain command) ≡ Err refusal))) }
+        ensures { MatchResult result (λ reply. (answer_of (apply self.old.world.plain command) ≡ Ok reply) × (self.new ≡ record { world = after self.old.world command; opening = self.old.opening; opening_totals = self.old.opening_totals; journal = self.old.journal ++ line seat number command reply ∷ [] })) (λ refusal. (self.new ≡ self.old) × ((refusal ≡ Refusal.NoMemory) ⊎ (answer_of (apply self.old.world.plain command) ≡ Err refusal))) }
     {
         self.journal.reserve(1)?;
         let reply = applied(&mut self.world, &command)?;
@@ -102,8 +103,9 @@ impl JournalledWorld {
 
     /// Begins a new journal at the present world, whose ledger's entries are settled, and gives the old one. Refused 1 with
     /// nothing changed where memory is wanting.
+    #[tactic(auto, using(crate::proofs::Replaying::begun_settled))]
     pub fn settle(&mut self) -> Result<Vec<JournalEntry>, Refusal>
-        ensures settled { OnOk result (self.new ≡ record { world = settled_world self.old.world; opening = settled_world self.old.world; journal = [] }) }
+        ensures settled { OnOk result (self.new ≡ record { world = settled_world self.old.world; opening = settled_world self.old.world; opening_totals = totals_of (book_of self.old.world); journal = [] }) }
         ensures totals { OnOk result (HaveSameTotals (book_of self.new.world) (book_of self.old.world)) }
         ensures journal { IfOk result (λ journal. journal.items ≡ self.old.journal) }
         ensures err { OnErr result (self.new ≡ self.old) }

@@ -1,6 +1,7 @@
 //! A world that many callers share.
 
-ghost use Rattle.std.specs.Prelude.{◌≡◌, [], All, IfOk, MatchBool, MatchResult, replicate};
+ghost use Rattle.std.specs.Prelude.{◌≡◌, [], true, false, All, IfErr, IfOk, MatchResult, OnErr, OnOk, replicate};
+ghost use Rattle.std.specs.Arc.{arc_value};
 ghost use Rattle.std.specs.Result.{IsOkUnless};
 ghost use Rattle.seat_book.specs.Seats.{newcomers};
 ghost use Rattle.world_rules.specs.Sound.{IsSound};
@@ -17,7 +18,7 @@ use crate::tally::{Tally, no_tallies};
 use fixed_geom::Refusal;
 use seat_book::{Book, Keeper, Pass, Roster, open};
 use std::alloc::Global;
-use std::sync::{Mutex, Wait};
+use std::sync::{Arc, Mutex, Wait};
 use world_core::{Command, Events, Frame, Reply, WorldCore};
 
 /// A world that seats share. Each accepted call takes the lock, applies one command, appends one entry to the journal, and gives
@@ -138,7 +139,8 @@ fn has<N: Opened>(seats: &[Seat<N>], number: u64) -> bool
 
 /// Whether the seats of all numbers below the count are among these.
 fn has_all<N: Opened>(seats: &[Seat<N>], count: u64) -> bool
-    ensures { MatchBool result (HasAll count seats.now) (Misses count seats.now) }
+    ensures all { result ≡ true → HasAll count seats.now }
+    ensures missing { result ≡ false → Misses count seats.now }
 {
     for number in 0..count {
         if !has(seats, number) {
@@ -184,15 +186,17 @@ impl<N: Opened> SharedWorld<N> {
     pub fn settle<R: Wait>(&self, rt: &R) -> Result<u64, Refusal>
         ensures { IsOkUnless result Refusal.NoMemory }
     {
-        let settled = self.lock.lock(rt).settle()?;
-        // The old journal is dropped here, after the lock was given back.
-        Ok(settled.len() as u64)
+        let mut old = None;
+        let count = self.lock.lock(rt).settle(&mut old)?;
+        // The lock was given back before this.
+        drop(old);
+        Ok(count)
     }
 
-    /// What the world shows. The seat has then seen one past of it, and the frame is that of the past's world. Refused 1 where
-    /// memory is wanting.
-    pub fn frame<R: Wait>(&self, rt: &R, seat: &mut Seat<N>) -> Result<Frame, Refusal>
-        ensures { MatchResult result (λ frame. Shown N.opening seat.old frame seat.new) (λ refusal. (refusal ≡ Refusal.NoMemory) × Met N.opening seat.old seat.new) }
+    /// What the world shows, to be shared without a copy. The seat has then seen one past of it, and the frame is that of the
+    /// past's world. Refused 1 where memory is wanting.
+    pub fn frame<R: Wait>(&self, rt: &R, seat: &mut Seat<N>) -> Result<Arc<Frame, Global>, Refusal>
+        ensures { MatchResult result (λ frame. Shown N.opening seat.old (arc_value frame) seat.new) (λ refusal. (refusal ≡ Refusal.NoMemory) × Met N.opening seat.old seat.new) }
     {
         self.lock.lock(rt).frame(&self.book, seat)
     }
@@ -210,7 +214,10 @@ impl<N: Opened> SharedWorld<N> {
         self,
         seats: Vec<Seat<N>>,
     ) -> Result<Closed, (SharedWorld<N>, Vec<Seat<N>>, Refusal)>
-        ensures { MatchResult result (λ c. IsClosed N.seats N.opening seats.items c.opening c.world c.journal.items c.settled.items) (λ e. (e.1.items ≡ seats.items) × (e.2 ≡ Refusal.WrongSeats) × Misses N.seats seats.items) }
+        ensures closed { IfOk result (λ c. IsClosed N.seats N.opening seats.items c.opening c.world c.journal.items c.settled.items) }
+        ensures all_are_there { OnOk result (HasAll N.seats seats.items) }
+        ensures given_back { IfErr result (λ e. (e.1.items ≡ seats.items) × (e.2 ≡ Refusal.WrongSeats)) }
+        ensures one_is_missing { OnErr result (Misses N.seats seats.items) }
     {
         let SharedWorld { book, lock } = self;
         let held = lock.into_inner();

@@ -6,7 +6,7 @@ use Rattle.world_rules.specs.Replay.{after}
 use Rattle.world_rules.specs.Laws.{impulse_of}
 use Rattle.world_lock.specs.Journals.{Line, line}
 use Rattle.world_lock.specs.Tallies.{no_calls, with_call}
-use Rattle.world_lock.specs.Histories.{Known, next_number, standing}
+use Rattle.world_lock.specs.Histories.{IsHeld, Known, next_number, standing, with_line}
 use Rattle.world_lock.proofs.Replaying.{small_push}
 use Rattle.world_lock.proofs.Holding.{held_call, last_is, next_is, tallies_are, told_call}
 use Rattle.world_lock.proofs.held.Held.call.Given as given
@@ -45,16 +45,23 @@ begun g c = subst (λ (k : Known). IsPast k.seat k.seen c.self.inside.keeper) c.
 numbered : (g : given.Over) (c : goal.After-enter g) → c.calls_in.result + 1 ≡ (slice_index_or c.self.inside.tallies.items c.args.seat.now.seat no_calls).calls + 1
 numbered g c = ap (λ (n : ℕ). n + 1) (c.calls_in.ensures ∙ (λ i. (slice_index_or (c.deref.ensures.value i) (c.number-2.ensures.seat i) no_calls).calls))
 
+-- all that the call has changed
+made : (g : given.Over) (c : goal.After-enter g)
+    → standing c.call.new.self c.self.inside.settled c.count_call.new.tallies.items c.self.inside.settled_tallies.items c.enter.new.keeper
+    ≡ with_line (standing c.self.inside.journalled c.self.inside.settled c.self.inside.tallies.items c.self.inside.settled_tallies.items c.self.inside.keeper) (line c.number.result (c.calls_in.result + 1) c.args.command c.in-Ok.reply)
+made g c =
+    let tallies : c.count_call.new.tallies.items ≡ slice_set c.self.inside.tallies.items c.number.result (with_call (slice_index_or c.self.inside.tallies.items c.number.result no_calls) (impulse_of c.args.command)) =
+    c.count_call.ensures ∙ ap (λ j. slice_set c.self.inside.tallies.items c.number.result (with_call (slice_index_or c.self.inside.tallies.items c.number.result no_calls) j)) c.impulse-impulse.ensures in
+    λ i. standing (c.in-Ok.ensures.1 i) c.self.inside.settled (tallies i) c.self.inside.settled_tallies.items (grown g c i)
+
 pub invariant_of-self : goal.invariant_of-self
 invariant_of-self g c =
     let ok = c.in-Ok.ensures in
     let was = c.self.inside.journalled in
     let e = line c.number.result (c.calls_in.result + 1) c.args.command c.in-Ok.reply in
     let s = standing was c.self.inside.settled c.self.inside.tallies.items c.self.inside.settled_tallies.items c.self.inside.keeper in
-    let tallies : c.count_call.new.tallies.items ≡ slice_set c.self.inside.tallies.items c.number.result (with_call (slice_index_or c.self.inside.tallies.items c.number.result no_calls) (impulse_of c.args.command)) =
-    c.count_call.ensures ∙ ap (λ j. slice_set c.self.inside.tallies.items c.number.result (with_call (slice_index_or c.self.inside.tallies.items c.number.result no_calls) j)) c.impulse-impulse.ensures in
-    let few : (after was.world c.args.command).plain.calls ≤ 2 ^ 40 = subst (λ (w : World). w.plain.calls ≤ 2 ^ 40) (ap (λ j. j.world) ok.1) c.journal-journal.ensures.headline.sound.formed.calls in
-    rw (ok.1, tallies, grown g c) (held_call g.N.Named.seats g.N.Opened.opening s e c.self.invariant c.each_call_counts.ensures.calls c.each_call_counts.ensures.pushes c.number.ensures.range ok.0 few)
+    let few : (after was.world c.args.command).plain.calls ≤ 2 ^ 40 = subst (λ (w : World). w.plain.calls ≤ 2 ^ 40) (λ i. (ok.1 i).world) c.journal-journal.ensures.headline.sound.formed.calls in
+    subst (IsHeld g.N.Named.seats g.N.Opened.opening) (sym (made g c)) (held_call g.N.Named.seats g.N.Opened.opening s e c.self.invariant c.each_call_counts.ensures.calls c.each_call_counts.ensures.pushes c.number.ensures.range ok.0 few)
 
 pub returns-in-Ok-clause-told : goal.returns-in-Ok-clause-told
 returns-in-Ok-clause-told g c =
@@ -71,6 +78,5 @@ returns-in-Ok-clause-done g c =
     let s = standing was c.self.inside.settled c.self.inside.tallies.items c.self.inside.settled_tallies.items c.self.inside.keeper in
     let here : c.args.seat.now.seat < g.N.Named.seats = omega (arith, c.number.ensures.range, c.number.ensures.seat) in
     let number : c.calls_in.result + 1 ≡ next_number c.args.seat.now = numbered g c ∙ next_is g.N.Named.seats g.N.Opened.opening s c.args.seat.now c.self.invariant here (begun g c) in
-    let journal : c.call.new.self.journal ≡ was.journal ++ line c.args.seat.now.seat (next_number c.args.seat.now) c.args.command c.in-Ok.reply ∷ [] =
-    ap (λ j. j.journal) ok.1 ∙ (λ i. was.journal ++ line (c.number.ensures.seat i) (number i) c.args.command c.in-Ok.reply ∷ []) in
-    rw (← c.self.view_is) (ok.0, ap (λ j. j.world) ok.1, ap (λ j. j.opening) ok.1, journal)
+    let own : line c.number.result (c.calls_in.result + 1) c.args.command c.in-Ok.reply ≡ line c.args.seat.now.seat (next_number c.args.seat.now) c.args.command c.in-Ok.reply = λ i. line (c.number.ensures.seat i) (number i) c.args.command c.in-Ok.reply in
+    rw (← c.self.view_is) (made g c ∙ ap (with_line s) own)

@@ -1,4 +1,4 @@
-use Rattle.world_lock.proofs.HeadlineLaws.{acts_coloured, has_one_colour, in_one_set, no_colour_shares, one_component, share_island, stand_together}
+use Rattle.world_lock.proofs.HeadlineLaws.{acts_coloured, has_one_colour, in_one_set, no_colour_shares, one_component, one_island, only_awake_have, share_island, stand_together}
 use Rattle.world_lock.proofs.Replaying.{booked_since}
 use Rattle.world_lock.proofs.held.Held.headline.Goals as goal
 
@@ -25,3 +25,12 @@ returns-clause-each_sleeping_set_is_one_component g c = rw (← c.self.view_is) 
 
 pub returns-clause-entries : goal.returns-clause-entries
 returns-clause-entries g c = rw (← c.self.view_is) (booked_since c.self.inside.journalled c.journal.ensures.headline)
+
+pub returns-clause-each_sleeping_set_is_one_island : goal.returns-clause-each_sleeping_set_is_one_island
+returns-clause-each_sleeping_set_is_one_island g c = rw (← c.self.view_is) (one_island _ c.journal.ensures.headline.sound)
+
+pub returns-clause-only_awake_movers_have_momentum : goal.returns-clause-only_awake_movers_have_momentum
+returns-clause-only_awake_movers_have_momentum g c = rw (← c.self.view_is) (only_awake_have _ c.journal.ensures.headline.sound)
+
+pub returns-clause-totals : goal.returns-clause-totals
+returns-clause-totals g c = rw (← c.self.view_is) c.journal.ensures.headline.totals

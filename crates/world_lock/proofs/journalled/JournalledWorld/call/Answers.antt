@@ -17,4 +17,4 @@ returns c =
     let e = line c.args.seat c.args.number c.args.command c.in_ok-reply.reply in
     let items : c.push_reserved.new.self.items ≡ c.self.inside.journal.items ++ e ∷ [] = c.push_reserved.ensures.items ∙ ap (λ l. l ++ e ∷ []) c.reserve.ensures.items in
     let stays = ap (opening_of c.self.inside.opening) answer.1 ∙ opening_stays c.self.inside.opening c.self.inside.world c.args.command c.self.invariant.booked in
-    rw (← c.self.view_is) (answer.0, λ i. record { world = answer.1 i; opening = stays i; journal = items i })
+    rw (← c.self.view_is) (answer.0, λ i. record { world = answer.1 i; opening = stays i; opening_totals = c.self.inside.opening.totals; journal = items i })
