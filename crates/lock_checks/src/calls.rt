@@ -1,7 +1,9 @@
 //! Worlds, and worlds that seats share, by the calls that are made of them, in methods that promise nothing. The checks are generic over them, so that
 //! no proof of this program has to read what a world promises or keeps, but for those of the methods.
 
-use impulse_ledger::Ledger;
+use crate::claims::Account;
+use crate::text::text_of_frame;
+use impulse_ledger::{Ledger, Total};
 use std::alloc::Global;
 use std::sync::Wait;
 use world_core::{Command, Events, Frame, Plain, Refusal, Reply, Vec2, WorldCore};
@@ -16,8 +18,8 @@ pub struct Left<W: World> {
     pub world: W,
     pub journal: Vec<JournalEntry>,
     pub settled: Vec<Tally>,
-    /// Whether each seat was told what it should be.
-    pub honest: bool,
+    /// What the seats were told, if they worked on threads.
+    pub accounts: Vec<Account>,
     /// How long the seats worked.
     pub nanos: u128,
     /// What the seats have to tell, in a line.
@@ -31,6 +33,14 @@ pub enum Shut<W: World> {
     /// It couldn't be opened, and came back.
     Unopened(W, Refusal),
     Lost(Refusal),
+}
+
+/// What a frame counts and sums up.
+#[derive(Clone, Copy)]
+pub struct Shown {
+    pub calls: u64,
+    pub momentum: Total,
+    pub booked: Total,
 }
 
 /// The calls of a world.
@@ -61,7 +71,16 @@ pub trait Shared<T: Drop>: Drop {
 
     fn settle<R: Wait>(&self, rt: &R) -> Result<u64, Refusal>;
 
-    fn frame<R: Wait>(&self, rt: &R, seat: &mut T) -> Result<Frame, Refusal>;
+    /// What a frame counts and sums up.
+    fn shown<R: Wait>(&self, rt: &R, seat: &mut T) -> Result<Shown, Refusal>;
+
+    /// All that a frame shows, as text, if there is memory for that.
+    fn frame_text<R: Wait>(
+        &self,
+        rt: &R,
+        alloc: Global,
+        seat: &mut T,
+    ) -> Result<Result<String, Refusal>, Refusal>;
 
     fn events<R: Wait>(&self, rt: &R, seat: &mut T) -> Result<Events, Refusal>;
 
@@ -116,8 +135,30 @@ impl<N: Opened> Shared<Seat<N>> for SharedWorld<N> {
         SharedWorld::settle(self, rt)
     }
 
-    fn frame<R: Wait>(&self, rt: &R, seat: &mut Seat<N>) -> Result<Frame, Refusal> {
-        SharedWorld::frame(self, rt, seat)
+    fn shown<R: Wait>(&self, rt: &R, seat: &mut Seat<N>) -> Result<Shown, Refusal> {
+        match SharedWorld::frame(self, rt, seat) {
+            Ok(frame) => Ok(Shown {
+                calls: frame.calls(),
+                momentum: frame.momentum(),
+                booked: frame.booked(),
+            }),
+            Err(refusal) => Err(refusal),
+        }
+    }
+
+    fn frame_text<R: Wait>(
+        &self,
+        rt: &R,
+        alloc: Global,
+        seat: &mut Seat<N>,
+    ) -> Result<Result<String, Refusal>, Refusal> {
+        match SharedWorld::frame(self, rt, seat) {
+            Ok(frame) => {
+                let numbers = (frame.calls(), frame.momentum(), frame.booked());
+                Ok(text_of_frame(alloc, numbers, frame.bodies()))
+            }
+            Err(refusal) => Err(refusal),
+        }
     }
 
     fn events<R: Wait>(&self, rt: &R, seat: &mut Seat<N>) -> Result<Events, Refusal> {
@@ -147,12 +188,13 @@ fn left_of(closed: Closed) -> Left<WorldCore> {
         journal,
         settled,
     } = closed;
-    let told = String::new(*journal.allocator());
+    let alloc = *journal.allocator();
+    let (accounts, told) = (Vec::new(alloc), String::new(alloc));
     Left {
         world,
         journal,
         settled,
-        honest: true,
+        accounts,
         nanos: 0,
         told,
     }

@@ -1,7 +1,8 @@
 //! What shared worlds are checked for: lines that are the same whatever the schedule.
 
 use crate::calls::{Left, World};
-use crate::replay::{Both, share_and_replay};
+use crate::claims::{are_entries, are_honest};
+use crate::replay::{Both, share_made_and_replay};
 use crate::scene::{circle_world, heap_world};
 use crate::stop::Stop;
 use crate::text::text_of;
@@ -38,8 +39,8 @@ fn check_turns<R: Print + Threads + Wait + Clock + Sync>(
     rt: &R,
     alloc: Global,
 ) -> Result<(), Stop> {
-    let world: WorldCore = circle_world(alloc)?;
-    print_turns(rt, share_and_replay(rt, alloc, world, 2, Work::Turns))
+    let made = circle_world(alloc);
+    print_turns(rt, share_made_and_replay(rt, alloc, made, 2, Work::Turns))
 }
 
 /// What the seats told, and what is left of the world.
@@ -53,13 +54,15 @@ fn print_turns<W: World, R: Print>(rt: &R, both: Result<Both<W>, Refusal>) -> Re
     }
 }
 
-/// Tells whether the seats were told what they should be, and whether the replay gives the journal's replies and leaves the same world.
+/// Tells whether the seats were told what they should be, whether each receipt's entry is in its place, and whether the replay gives the journal's replies and leaves the same world.
 fn print_both<W: World, R: Print>(rt: &R, alloc: Global, both: &Both<W>) -> Result<(), Stop> {
-    let (honest, answered) = (both.left.honest, both.answered);
+    let (accounts, journal) = (both.left.accounts.as_slice(), both.left.journal.as_slice());
+    let (honest, found) = (are_honest(accounts), are_entries(accounts, journal));
+    let answered = both.answered;
     let text = text_of(alloc, &both.left.world)?;
     let is_same = text.as_str() == text_of(alloc, &both.replay)?.as_str();
     println!(rt;
-        "seats told the truth: {honest}, the same replies: {answered}, the same world: {is_same}"
+        "seats told the truth: {honest}, receipts have their entries: {found}, the same replies: {answered}, the same world: {is_same}"
     )?;
     Ok(())
 }
@@ -67,7 +70,7 @@ fn print_both<W: World, R: Print>(rt: &R, alloc: Global, both: &Both<W>) -> Resu
 fn check_work<R: Print + Threads + Wait + Clock + Sync>(
     rt: &R,
     alloc: Global,
-    world: WorldCore,
+    made: Result<WorldCore, Refusal>,
     seats: u64,
     work: Work,
 ) -> Result<(), Stop> {
@@ -75,7 +78,7 @@ fn check_work<R: Print + Threads + Wait + Clock + Sync>(
         rt,
         alloc,
         work,
-        share_and_replay(rt, alloc, world, seats, work),
+        share_made_and_replay(rt, alloc, made, seats, work),
     )
 }
 
@@ -112,14 +115,12 @@ fn check_threads<R: Print + Threads + Wait + Clock + Sync>(
     threads: u64,
 ) -> Result<(), Stop> {
     println!(rt; "threads: {threads}")?;
-    let circle: WorldCore = circle_world(alloc)?;
-    check_work(rt, alloc, circle, threads, Work::Push(100))?;
-    let heap: WorldCore = heap_world(alloc)?;
+    check_work(rt, alloc, circle_world(alloc), threads, Work::Push(100))?;
     let work = Work::Mix {
         seed: threads,
         calls: 100,
     };
-    check_work(rt, alloc, heap, threads, work)
+    check_work(rt, alloc, heap_world(alloc), threads, work)
 }
 
 /// Makes all checks.

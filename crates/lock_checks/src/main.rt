@@ -9,6 +9,7 @@
 mod calls;
 mod chance;
 mod checks;
+mod claims;
 mod open;
 mod refused;
 mod replay;

@@ -2,7 +2,7 @@
 
 ghost use Rattle.std.specs.Prelude.{◌≡◌};
 
-use crate::calls::Shut;
+use crate::calls::{Shut, World};
 use crate::work::{Work, let_work};
 use seat_book::Roster;
 use std::alloc::Global;
@@ -10,7 +10,7 @@ use std::marker::Brand;
 use std::sync::Wait;
 use std::thread::Threads;
 use std::time::Clock;
-use world_core::{Command, Reply, WorldCore};
+use world_core::{Command, Refusal, Reply, WorldCore};
 use world_lock::{Opened, SharedWorld};
 
 /// Opens the world to the seats of a roster. Where it can't be opened it comes back as it was.
@@ -29,6 +29,11 @@ fn share<N: Opened + Send + Sync, R: Threads + Wait + Clock + Sync>(
     }
 }
 
+/// Drops a world that can't be opened for want of a roster.
+fn lose<W: World>(_world: W, refusal: Refusal) -> Shut<W> {
+    Shut::Lost(refusal)
+}
+
 /// Opens the world to so many seats, lets them work, and closes it.
 pub fn open_to<R: Threads + Wait + Clock + Sync>(
     rt: &R,
@@ -39,6 +44,6 @@ pub fn open_to<R: Threads + Wait + Clock + Sync>(
 ) -> Shut<WorldCore> {
     match Roster::new(alloc, seats) {
         Ok(roster) => share::<Brand, R>(rt, alloc, world, roster, work),
-        Err(refusal) => Shut::Lost(refusal),
+        Err(refusal) => lose(world, refusal),
     }
 }

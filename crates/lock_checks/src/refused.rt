@@ -82,8 +82,8 @@ fn answer<T: Drop, S: Shared<T>, R: Wait>(
     match call {
         Call::Open => Ok(Some(String::new(alloc))),
         Call::Settle => settle_text(alloc, shared.settle(rt)),
-        Call::Frame => match shared.frame(rt, seat) {
-            Ok(frame) => Ok(Some(text_of_frame(alloc, &frame)?)),
+        Call::Frame => match shared.frame_text(rt, alloc, seat) {
+            Ok(text) => Ok(Some(text?)),
             Err(refusal) => refused(refusal),
         },
         Call::Events => match shared.events(rt, seat) {
@@ -195,7 +195,10 @@ fn look_at<W: World>(alloc: Global, world: &mut W, call: Call) -> Result<String,
             Ok(format!(in alloc; "1")?)
         }
         Call::Frame => match world.frame() {
-            Ok(frame) => text_of_frame(alloc, &frame),
+            Ok(frame) => {
+                let numbers = (frame.calls(), frame.momentum(), frame.booked());
+                text_of_frame(alloc, numbers, frame.bodies())
+            }
             Err(refusal) => Err(refusal),
         },
         _ => text_of_events(alloc, world.events()),
@@ -310,14 +313,20 @@ fn run<R: Threads + Wait + Clock + Sync>(
     }
 }
 
+/// The world of a trial, with what has to come of it.
+fn prepared<W: World>(alloc: Global, call: Call) -> Result<(W, Trial), Refusal> {
+    let world: W = heap_world(alloc)?;
+    let trial = trial_of(alloc, &world, call)?;
+    Ok((world, trial))
+}
+
 fn set_up<R: Threads + Wait + Clock + Sync>(
     rt: &R,
     alloc: Global,
     call: Call,
 ) -> Result<&'static str, Refusal> {
-    let world: WorldCore = heap_world(alloc)?;
-    match trial_of(alloc, &world, call) {
-        Ok(trial) => run(rt, alloc, world, &trial),
+    match prepared(alloc, call) {
+        Ok((world, trial)) => run(rt, alloc, world, &trial),
         Err(refusal) => Err(refusal),
     }
 }

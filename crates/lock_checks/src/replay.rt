@@ -47,6 +47,14 @@ fn replay_left<W: World>(shut: Shut<W>, replay: W) -> Result<Both<W>, Refusal> {
     }
 }
 
+/// The world, and a copy of it.
+fn with_copy<W: World>(world: W) -> Result<(W, W), Refusal> {
+    match world.copied() {
+        Ok(copy) => Ok((world, copy)),
+        Err(refusal) => Err(refusal),
+    }
+}
+
 /// Lets seats work in a world, and replays the journal in a copy that was made before.
 pub fn share_and_replay<R: Threads + Wait + Clock + Sync>(
     rt: &R,
@@ -55,6 +63,22 @@ pub fn share_and_replay<R: Threads + Wait + Clock + Sync>(
     seats: u64,
     work: Work,
 ) -> Result<Both<WorldCore>, Refusal> {
-    let replay = world.copied()?;
-    replay_left(open_to(rt, alloc, world, seats, work), replay)
+    match with_copy(world) {
+        Ok((world, replay)) => replay_left(open_to(rt, alloc, world, seats, work), replay),
+        Err(refusal) => Err(refusal),
+    }
+}
+
+/// The same in a world that is made for it.
+pub fn share_made_and_replay<R: Threads + Wait + Clock + Sync>(
+    rt: &R,
+    alloc: Global,
+    made: Result<WorldCore, Refusal>,
+    seats: u64,
+    work: Work,
+) -> Result<Both<WorldCore>, Refusal> {
+    match made {
+        Ok(world) => share_and_replay(rt, alloc, world, seats, work),
+        Err(refusal) => Err(refusal),
+    }
 }

@@ -1,6 +1,7 @@
 //! Many seats at work for a long time.
 
 use crate::calls::World;
+use crate::claims::{are_entries, are_honest};
 use crate::replay::{Both, share_and_replay};
 use crate::scene::heap_world;
 use crate::stop::Stop;
@@ -25,9 +26,12 @@ fn print_both<W: World, R: Print>(
     round: u64,
     both: &Both<W>,
 ) -> Result<(), Stop> {
-    let journal = both.left.journal.len();
-    let (honest, answered) = (both.left.honest, both.answered);
-    println!(rt; "round {round}: journal {journal}, honest {honest}, answered {answered}")?;
+    let (accounts, entries) = (both.left.accounts.as_slice(), both.left.journal.as_slice());
+    let (honest, found) = (are_honest(accounts), are_entries(accounts, entries));
+    let (journal, answered) = (entries.len(), both.answered);
+    println!(rt;
+        "round {round}: journal {journal}, honest {honest}, found {found}, answered {answered}"
+    )?;
     let shared = text_of(alloc, &both.left.world)?;
     println!(rt; "shared {shared}")?;
     let replay = text_of(alloc, &both.replay)?;

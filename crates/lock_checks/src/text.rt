@@ -1,10 +1,10 @@
 //! Worlds and what they show, as text: two are the same just where their texts are.
 
 use crate::calls::World;
-use impulse_ledger::{Cause, Ledger};
+use impulse_ledger::{Cause, Ledger, Total};
 use std::alloc::Global;
 use std::fmt::Write;
-use world_core::{Body, Events, Frame, FrameBody, Handle, Plain, Refusal};
+use world_core::{Body, Events, FrameBody, Handle, Plain, Refusal};
 
 const CAUSES: [Cause; 6] = [
     Cause::Command,
@@ -93,12 +93,15 @@ fn write_shown(text: &mut String, body: &FrameBody) -> Result<(), Refusal> {
     Ok(())
 }
 
-/// What a frame shows.
-pub fn text_of_frame(alloc: Global, frame: &Frame) -> Result<String, Refusal> {
+/// What a frame shows: its number of calls, the momentum and the booked total, and its bodies.
+pub fn text_of_frame(
+    alloc: Global,
+    numbers: (u64, Total, Total),
+    bodies: &[Option<FrameBody>],
+) -> Result<String, Refusal> {
     let mut text = String::new(alloc);
-    let (calls, momentum, booked) = (frame.calls(), frame.momentum(), frame.booked());
-    write!(text, "{calls} {momentum:?} {booked:?}")?;
-    for entry in frame.bodies() {
+    write!(text, "{numbers:?}")?;
+    for entry in bodies {
         if let Some(body) = entry {
             write_shown(&mut text, body)?;
         }

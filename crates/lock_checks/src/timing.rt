@@ -56,7 +56,7 @@ fn push_by_seats<R: Threads + Wait + Clock + Sync>(
     pushes: u64,
 ) -> Shut<WorldCore> {
     match circle_world(alloc) {
-        Ok(world) => open_to(rt, alloc, world, seats, Work::Push(pushes)),
+        Ok(world) => open_to(rt, alloc, world, seats, Work::Time(pushes)),
         Err(refusal) => Shut::Lost(refusal),
     }
 }

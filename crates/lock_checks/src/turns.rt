@@ -35,8 +35,8 @@ fn tell_frame<T: Drop, S: Shared<T>, R: Wait>(
     shared: &S,
     seat: &mut T,
 ) -> Result<(), Refusal> {
-    let frame = shared.frame(rt, seat)?;
-    let (calls, momentum) = (frame.calls(), frame.momentum());
+    let shown = shared.shown(rt, seat)?;
+    let (calls, momentum) = (shown.calls, shown.momentum);
     writeln!(told, "frame of {calls} calls: {momentum:?}")?;
     Ok(())
 }

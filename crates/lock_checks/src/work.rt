@@ -2,6 +2,7 @@
 
 use crate::calls::{Left, Shared, Shut};
 use crate::chance::Hand;
+use crate::claims::Account;
 use crate::refused::{Call, try_call};
 use crate::scene::FIRST;
 use crate::turns::take_turns;
@@ -23,8 +24,14 @@ pub enum Work {
     Turns,
     /// Each pushes the first body by 1 so many times, on a thread of its own.
     Push(u64),
+    /// The same as fast as it can: what it is told is not kept.
+    Time(u64),
     /// Each makes so many calls by chance, on a thread of its own.
     Mix { seed: u64, calls: u64 },
+}
+
+fn push() -> Command {
+    Command::Push(FIRST, Vec2 { x: 1, y: 0 })
 }
 
 /// Pushes the first body so many times.
@@ -35,10 +42,19 @@ fn push_often<T: Drop, S: Shared<T>, R: Wait>(
     times: u64,
 ) {
     for _ in 0..times {
-        let push = Command::Push(FIRST, Vec2 { x: 1, y: 0 });
-        if worker.call(rt, shared, push).is_none() {
-            worker.honest = false;
-        }
+        worker.call_surely(rt, shared, push());
+    }
+}
+
+/// The same without a word of what it is told.
+fn push_fast<T: Drop, S: Shared<T>, R: Wait>(
+    rt: &R,
+    shared: &S,
+    worker: &mut Worker<T>,
+    times: u64,
+) {
+    for _ in 0..times {
+        worker.call_fast(rt, shared, push());
     }
 }
 
@@ -76,32 +92,37 @@ fn mix<T: Drop, S: Shared<T>, R: Wait>(
     }
 }
 
-/// What one seat does. Answers the seat, and whether it was told what it should be.
+/// What one seat does. Answers the seat, and what it was told.
 fn work_alone<T: Drop, S: Shared<T>, R: Wait>(
     rt: &R,
     alloc: Global,
     shared: &S,
     seat: T,
     work: Work,
-) -> (T, bool) {
+) -> (T, Account) {
     let number = S::number(&seat);
-    let mut worker = Worker::new(seat, number);
+    let mut worker = Worker::new(alloc, seat, number);
     match work {
         Work::Push(times) => push_often(rt, shared, &mut worker, times),
+        Work::Time(times) => push_fast(rt, shared, &mut worker, times),
         Work::Mix { seed, calls } => mix(rt, alloc, shared, &mut worker, seed, calls),
         _ => {}
     }
     worker.into_parts()
 }
 
-/// Takes the seats out of what the threads answered. Answers whether all of them were told what they should be.
-fn gather<T: Drop>(answers: Vec<(T, bool)>, seats: &mut Vec<T>) -> Result<bool, Refusal> {
-    let mut honest = true;
-    for (seat, is_honest) in answers {
-        honest = honest && is_honest;
+/// Takes the seats out of what the threads answered. Answers what they were told.
+fn gather<T: Drop>(
+    alloc: Global,
+    answers: Vec<(T, Account)>,
+    seats: &mut Vec<T>,
+) -> Result<Vec<Account>, Refusal> {
+    let mut accounts = Vec::new(alloc);
+    for (seat, account) in answers {
+        accounts.push(account)?;
         seats.push(seat)?;
     }
-    Ok(honest)
+    Ok(accounts)
 }
 
 /// The time since some start, in nanoseconds.
@@ -120,10 +141,25 @@ pub fn close<T: Drop, S: Shared<T>>(shared: S, seats: Vec<T>) -> Result<Left<S::
     }
 }
 
+/// Closes a world whose seats have worked for so long.
+fn end<T: Drop, S: Shared<T>>(
+    alloc: Global,
+    shared: S,
+    answers: Result<Vec<(T, Account)>, Refusal>,
+    nanos: u128,
+) -> Result<Left<S::World>, Refusal> {
+    let mut seats = Vec::new(alloc);
+    let accounts = gather(alloc, answers?, &mut seats)?;
+    let mut left = close(shared, seats)?;
+    left.accounts = accounts;
+    left.nanos = nanos;
+    Ok(left)
+}
+
 /// A world at which seats of this type work.
 trait Workplace<T> {
     /// What one seat does.
-    fn work_alone<R: Wait>(&self, rt: &R, alloc: Global, seat: T, work: Work) -> (T, bool);
+    fn work_alone<R: Wait>(&self, rt: &R, alloc: Global, seat: T, work: Work) -> (T, Account);
 }
 
 impl<N: Opened> Workplace<Seat<N>> for SharedWorld<N> {
@@ -133,7 +169,7 @@ impl<N: Opened> Workplace<Seat<N>> for SharedWorld<N> {
         alloc: Global,
         seat: Seat<N>,
         work: Work,
-    ) -> (Seat<N>, bool) {
+    ) -> (Seat<N>, Account) {
         work_alone(rt, alloc, self, seat, work)
     }
 }
@@ -146,7 +182,7 @@ fn answers_at_once<T: Drop + Send, S: Workplace<T> + Sync, R: Threads + Wait + S
     shared: &S,
     seats: Vec<T>,
     work: Work,
-) -> Result<Vec<(T, bool)>, Refusal> {
+) -> Result<Vec<(T, Account)>, Refusal> {
     let answers = thread::map_vec(
         rt,
         seats,
@@ -165,14 +201,9 @@ fn work_at_once<N: Opened + Send + Sync, R: Threads + Wait + Clock + Sync>(
 ) -> Result<Left<WorldCore>, Refusal> {
     may_be_shared::<N>();
     let start = now(rt);
-    let answers = answers_at_once(rt, alloc, &shared, seats, work)?;
+    let answers = answers_at_once(rt, alloc, &shared, seats, work);
     let nanos = now(rt).saturating_sub(start);
-    let mut seats = Vec::new(alloc);
-    let honest = gather(answers, &mut seats)?;
-    let mut left = close(shared, seats)?;
-    left.honest = honest;
-    left.nanos = nanos;
-    Ok(left)
+    end(alloc, shared, answers, nanos)
 }
 
 fn work_all<N: Opened + Send + Sync, R: Threads + Wait + Clock + Sync>(

@@ -27,15 +27,23 @@ fn contact() -> Member<Constraint> {
     }
 }
 
-/// The mover in slot 3, in no constraint.
-fn mover(alloc: Global) -> Result<Sets<Constraint>, Refusal> {
-    let mut sets = Sets::new(alloc)?;
+/// Adds a mover in slot 3, after making room for it.
+fn add(sets: &mut Sets<Constraint>) -> Result<(), Refusal> {
     sets.reserve(0, 4)?;
     if sets.label_of(3).is_some() {
         return Err(Refusal::OutOfRange);
     }
     sets.add_mover(3);
-    Ok(sets)
+    Ok(())
+}
+
+/// The mover in slot 3, in no constraint.
+fn mover(alloc: Global) -> Result<Sets<Constraint>, Refusal> {
+    let mut sets = Sets::new(alloc)?;
+    match add(&mut sets) {
+        Ok(()) => Ok(sets),
+        Err(refusal) => Err(refusal),
+    }
 }
 
 /// The contact comes, after room was made for it.

@@ -68,38 +68,39 @@ fn a_hub_takes_all_colours(rt: HostRuntime) -> Result<(), Fail> {
     Ok(())
 }
 
-/// The hub without its fourth spoke.
-fn hub_without_one(alloc: Global) -> Result<Colours<Joint>, Refusal> {
-    let mut colours = hub(alloc)?;
-    colours.release(Joint(4));
-    Ok(colours)
-}
-
-#[test]
-fn a_released_colour_is_taken_next(rt: HostRuntime) -> Result<(), Fail> {
-    let mut colours = hub_without_one(rt.alloc())?;
-    same(&rt, &colours.colour_of(Joint(4)), &None);
-    same(&rt, &colours.colour_of(Joint(5)), &Some(4));
-    same(&rt, &colours.colour_of(Joint(25)), &Some(OVERFLOW));
-    same(&rt, &place(&mut colours, 40, between(40, 0)), &Ok(3));
-    Ok(())
-}
-
 /// A hub and its copy; the hub loses its fourth spoke and gets another constraint.
 fn hub_and_copy(alloc: Global) -> Result<[Colours<Joint>; 2], Refusal> {
     let mut colours = hub(alloc)?;
-    let before = colours.try_copy()?;
-    colours.release(Joint(4));
-    place(&mut colours, 40, between(40, 0))?;
-    Ok([colours, before])
+    match copy_and_change(&mut colours) {
+        Ok(before) => Ok([colours, before]),
+        Err(refusal) => Err(refusal),
+    }
 }
 
+fn copy_and_change(colours: &mut Colours<Joint>) -> Result<Colours<Joint>, Refusal>
+    requires { colours.old.pending ≡ 0 }
+{
+    let before = colours.try_copy()?;
+    colours.release(Joint(4));
+    match place(colours, 40, between(40, 0)) {
+        Ok(_) => Ok(before),
+        Err(refusal) => Err(refusal),
+    }
+}
+
+/// A released colour is taken next, and a copy keeps its colours.
 #[test]
-fn a_copy_keeps_its_colours(rt: HostRuntime) -> Result<(), Fail> {
+fn a_released_colour_is_taken_next(rt: HostRuntime) -> Result<(), Fail> {
     let [colours, before] = &hub_and_copy(rt.alloc())?;
-    same(&rt, &colours.colour_of(Joint(40)), &Some(3));
-    same(&rt, &before.colour_of(Joint(4)), &Some(3));
-    same(&rt, &before.colour_of(Joint(40)), &None);
+    let now = [
+        colours.colour_of(Joint(4)),
+        colours.colour_of(Joint(5)),
+        colours.colour_of(Joint(25)),
+        colours.colour_of(Joint(40)),
+    ];
+    same(&rt, &now, &[None, Some(4), Some(OVERFLOW), Some(3)]);
+    let then = [before.colour_of(Joint(4)), before.colour_of(Joint(40))];
+    same(&rt, &then, &[Some(3), None]);
     Ok(())
 }
 

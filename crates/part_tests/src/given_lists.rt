@@ -17,6 +17,7 @@ use momenta::{BodyState, MassData, Motion};
 use plain_world::{Body, BodyJoint, FatBoxes, Kind};
 use shapes::Shapes;
 use std::alloc::Global;
+use std::process::Abort;
 use std::test::Fail;
 use world_core_base::BodyTable;
 
@@ -181,13 +182,18 @@ fn have_boxes(boxes: &BoxTree) -> [bool; 2] {
     [boxes.get(0).is_some(), boxes.get(2).is_some()]
 }
 
+fn see_bodies(rt: &impl Abort, table: &BodyTable)
+    requires { table.now.pending ≡ 0 }
+{
+    same(rt, &table.bodies().len(), &3);
+    same_items(rt, table.awake(), &[2]);
+    same(rt, &is_last_movable(table.states()), &true);
+    same_items(rt, table.marks().slots(), &[0, 1, 2]);
+    same(rt, &have_boxes(table.boxes()), &[false, true]);
+}
+
 #[test]
 fn a_table_has_the_bodies_that_it_is_given(rt: HostRuntime) -> Result<(), Fail> {
-    let table = table_of_bodies(rt.alloc())?;
-    same(&rt, &table.bodies().len(), &3);
-    same_items(&rt, table.awake(), &[2]);
-    same(&rt, &is_last_movable(table.states()), &true);
-    same_items(&rt, table.marks().slots(), &[0, 1, 2]);
-    same(&rt, &have_boxes(table.boxes()), &[false, true]);
+    see_bodies(&rt, &table_of_bodies(rt.alloc())?);
     Ok(())
 }

@@ -55,14 +55,21 @@ fn gives_a_freed_slot_out_at_its_next_generation(rt: HostRuntime) -> Result<(), 
     Ok(())
 }
 
-#[test]
-fn a_copy_stays_as_it_was(rt: HostRuntime) -> Result<(), Fail> {
-    let mut handles = given(rt.alloc(), 3)?;
+/// Three slots of which the second was taken back, and a copy of before.
+fn taken_and_copied(alloc: Global) -> Result<[Handles; 2], Refusal> {
+    let mut handles = given(alloc, 3)?;
     let before = handles.try_copy()?;
     take(&mut handles, SECOND);
-    same(&rt, &before.is_live(SECOND), &true);
-    same(&rt, &give(&mut handles), &Ok(handle(1, 2)));
-    same(&rt, &before.slots(), &3);
+    Ok([handles, before])
+}
+
+#[test]
+fn a_copy_stays_as_it_was(rt: HostRuntime) -> Result<(), Fail> {
+    let mut pair = taken_and_copied(rt.alloc())?;
+    let are_live = [pair[0].is_live(SECOND), pair[1].is_live(SECOND)];
+    same(&rt, &are_live, &[false, true]);
+    same(&rt, &give(&mut pair[0]), &Ok(handle(1, 2)));
+    same(&rt, &pair[1].slots(), &3);
     Ok(())
 }
 

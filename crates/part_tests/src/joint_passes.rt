@@ -7,7 +7,7 @@ ghost use Rattle.momenta.specs.Impulses.{AreStates, IsState};
 ghost use Rattle.joint_rows.specs.Joints.{IsJoint};
 ghost use Rattle.joint_rows.specs.Rows.{IsJointRow};
 
-use crate::assertions::same;
+use crate::assertions::{same, same_items};
 use fixed_geom::{Rot, Vec2};
 use joint_rows::{
     Joint, JointAfter, JointBodies, JointRow, joint_row, solve_joint, solve_joint_64, warm_joint,
@@ -114,47 +114,66 @@ fn warmed(joint: Joint, mut ends: Ends) -> JointAfter
     JointAfter { row, ends }
 }
 
-/// The accumulated impulse and the two momenta.
-fn left_by(after: &JointAfter) -> (i64, Vec2, Vec2) {
+/// How far the anchors were apart beyond the length, the accumulated impulse and the two momenta.
+fn left_by(after: &JointAfter) -> (i64, i64, Vec2, Vec2) {
     (
+        after.row.stretch,
         after.row.impulse,
         after.ends.a.motion.p,
         after.ends.b.motion.p,
     )
 }
 
-#[test]
-fn a_stretched_joint_pulls_its_bodies_together(rt: HostRuntime) {
-    let after = solved(joint(984, 0), two_movers(ORIGIN, ORIGIN));
-    same(&rt, &after.row.stretch, &16);
-    same(&rt, &after.row.line.direction, &at(1 << 30, 0));
-    same(&rt, &left_by(&after), &(-1, at(1, 0), at(-1, 0)));
+/// A row of two movers that have parted by 16 u since the step began, after a pass.
+fn solved_apart() -> JointAfter {
+    let mut ends = two_movers(ORIGIN, ORIGIN);
+    let mut row = row_of(joint(984, 0), &ends);
+    ends.b.motion.x = Vec2 { x: 1016, y: 0 };
+    solve_joint(&mut row, &mut ends);
+    JointAfter { row, ends }
 }
 
+/// A stretched joint pulls its bodies together, and a pressed one pushes them apart. The error grows as the centres part.
 #[test]
-fn a_pressed_joint_pushes_its_bodies_apart(rt: HostRuntime) {
-    let after = solved(joint(1016, 0), two_movers(ORIGIN, ORIGIN));
-    same(&rt, &left_by(&after), &(1, at(-1, 0), at(1, 0)));
+fn joints_act_on_both_bodies(rt: HostRuntime) {
+    let still = two_movers(ORIGIN, ORIGIN);
+    let stretched = solved(joint(984, 0), still);
+    same(&rt, &stretched.row.line.direction, &at(1 << 30, 0));
+    let left = [
+        left_by(&stretched),
+        left_by(&solved(joint(1016, 0), still)),
+        left_by(&solved_apart()),
+        left_by(&warmed(joint(1000, -5), still)),
+    ];
+    let wanted = [
+        (16, -1, at(1, 0), at(-1, 0)),
+        (-16, 1, at(-1, 0), at(1, 0)),
+        (16, -2, at(2, 0), at(-2, 0)),
+        (0, -5, at(5, 0), at(-5, 0)),
+    ];
+    same_items(&rt, &left, &wanted);
 }
 
+/// An immovable end gets nothing. A far stretched joint has the greatest bias.
 #[test]
-fn a_far_stretched_joint_has_the_greatest_bias(rt: HostRuntime) {
-    let ends = Ends {
+fn bodies_far_apart_and_beside_one_that_stays(rt: HostRuntime) {
+    let far = Ends {
         a: body(true, ORIGIN, AHEAD, ORIGIN),
         b: body(true, Vec2 { x: 0, y: 1 << 20 }, AHEAD, ORIGIN),
     };
-    let after = solved(joint(0, 0), ends);
-    same(&rt, &left_by(&after), &(-8192, at(0, 8192), at(0, -8192)));
-}
-
-#[test]
-fn an_immovable_end_gets_nothing(rt: HostRuntime) {
-    let ends = Ends {
+    let beside = Ends {
         a: body(false, ORIGIN, AHEAD, ORIGIN),
         b: body(true, Vec2 { x: 1000, y: 0 }, AHEAD, ORIGIN),
     };
-    let after = solved(joint(984, 0), ends);
-    same(&rt, &left_by(&after), &(-2, ORIGIN, at(-2, 0)));
+    let left = [
+        left_by(&solved(joint(0, 0), far)),
+        left_by(&solved(joint(984, 0), beside)),
+    ];
+    let wanted = [
+        (1 << 20, -8192, at(0, 8192), at(0, -8192)),
+        (16, -2, ORIGIN, at(-2, 0)),
+    ];
+    same_items(&rt, &left, &wanted);
 }
 
 #[test]
@@ -171,37 +190,18 @@ fn anchors_at_one_point_part_upwards(rt: HostRuntime) {
     };
     let after = solved(pinned, ends);
     same(&rt, &after.row.line.ra, &at(1000, 0));
-    same(&rt, &after.row.stretch, &-16);
-    same(&rt, &left_by(&after), &(1, at(0, -1), at(0, 1)));
+    same(&rt, &left_by(&after), &(-16, 1, at(0, -1), at(0, 1)));
 }
 
 #[test]
 fn an_impulse_beyond_a_limit_is_dropped(rt: HostRuntime) {
     let fast = Vec2 { x: 1 << 60, y: 0 };
-    let after = solved(joint(984, 0), two_movers(fast, fast));
-    same(&rt, &left_by(&after), &(0, at(1 << 60, 0), at(1 << 60, 0)));
-    let after = warmed(joint(1000, 5), two_movers(ORIGIN, fast));
-    same(&rt, &left_by(&after), &(5, ORIGIN, at(1 << 60, 0)));
-}
-
-/// A row of two movers that have parted by 16 u since the step began, after a pass.
-fn solved_apart() -> JointAfter {
-    let mut ends = two_movers(ORIGIN, ORIGIN);
-    let mut row = row_of(joint(984, 0), &ends);
-    ends.b.motion.x = Vec2 { x: 1016, y: 0 };
-    solve_joint(&mut row, &mut ends);
-    JointAfter { row, ends }
-}
-
-#[test]
-fn an_error_grows_as_the_centres_part(rt: HostRuntime) {
-    same(&rt, &left_by(&solved_apart()), &(-2, at(2, 0), at(-2, 0)));
-}
-
-#[test]
-fn a_warm_start_gives_the_kept_impulse(rt: HostRuntime) {
-    let after = warmed(joint(1000, -5), two_movers(ORIGIN, ORIGIN));
-    same(&rt, &left_by(&after), &(-5, at(5, 0), at(-5, 0)));
+    let left = [
+        left_by(&solved(joint(984, 0), two_movers(fast, fast))),
+        left_by(&warmed(joint(1000, 5), two_movers(ORIGIN, fast))),
+    ];
+    let limit = at(1 << 60, 0);
+    same_items(&rt, &left, &[(16, 0, limit, limit), (0, 5, ORIGIN, limit)]);
 }
 
 /// What a pass in 64 bits leaves of two bodies that don't turn.
@@ -215,31 +215,28 @@ fn after_64(total: i64, p: Vec2, q: Vec2) -> Option<Exerted64> {
     })
 }
 
+/// What a pass in 64 bits leaves of two movers, the second of which has the momentum `q`.
+fn solved_64(q: Vec2) -> Option<Exerted64>
+    requires { IsWithin (2 ^ 60) q }
+{
+    let ends = two_movers(ORIGIN, q);
+    solve_joint_64(&row_of(joint(984, 0), &ends), &ends.a, &ends.b)
+}
+
+/// A warm start gives the kept impulse, and great momenta have no pass.
 #[test]
 fn a_pass_in_64_bits_is_the_pass(rt: HostRuntime) {
     let ends = two_movers(ORIGIN, ORIGIN);
-    let row = row_of(joint(984, 0), &ends);
-    same(
-        &rt,
-        &solve_joint_64(&row, &ends.a, &ends.b),
-        &after_64(-1, at(1, 0), at(-1, 0)),
-    );
-}
-
-#[test]
-fn a_warm_start_in_64_bits_gives_the_kept_impulse(rt: HostRuntime) {
-    let ends = two_movers(ORIGIN, ORIGIN);
-    let row = row_of(joint(1000, -5), &ends);
-    same(
-        &rt,
-        &warm_joint_64(&row, &ends.a, &ends.b),
-        &after_64(-5, at(5, 0), at(-5, 0)),
-    );
-}
-
-#[test]
-fn great_momenta_have_no_pass_in_64_bits(rt: HostRuntime) {
-    let ends = two_movers(ORIGIN, Vec2 { x: 1 << 50, y: 0 });
-    let row = row_of(joint(984, 0), &ends);
-    same(&rt, &solve_joint_64(&row, &ends.a, &ends.b), &None);
+    let kept = row_of(joint(1000, -5), &ends);
+    let left = [
+        solved_64(ORIGIN),
+        warm_joint_64(&kept, &ends.a, &ends.b),
+        solved_64(Vec2 { x: 1 << 50, y: 0 }),
+    ];
+    let wanted = [
+        after_64(-1, at(1, 0), at(-1, 0)),
+        after_64(-5, at(5, 0), at(-5, 0)),
+        None,
+    ];
+    same_items(&rt, &left, &wanted);
 }

@@ -48,20 +48,6 @@ fn booked(alloc: Global) -> Result<Books, Refusal> {
     Ok(Books { before, ledger })
 }
 
-#[test]
-fn sums_what_is_booked_by_cause(rt: HostRuntime) -> Result<(), Fail> {
-    let Books { before, ledger } = &booked(rt.alloc())?;
-    same_items(&rt, ledger.entries(), &[PUSHED, FELL, LEFT]);
-    same(&rt, &ledger.total(), &total(0, 0));
-    same(&rt, &ledger.total_of(Cause::Command), &total(5, -7));
-    same(&rt, &ledger.total_of(Cause::Gravity), &total(0, -100));
-    same(&rt, &ledger.total_of(Cause::Departed), &total(-5, 107));
-    same(&rt, &ledger.total_of(Cause::Rest), &total(0, 0));
-    same_items(&rt, before.entries(), &[PUSHED]);
-    same(&rt, &before.total(), &total(5, -7));
-    Ok(())
-}
-
 /// A book with one entry, which is settled.
 fn settled(alloc: Global) -> Result<Ledger, Refusal> {
     let mut ledger = Ledger::new(alloc);
@@ -79,14 +65,46 @@ fn booked_since(alloc: Global) -> Result<Ledger, Refusal> {
     Ok(ledger)
 }
 
+/// The sums of a book: those of the causes that are booked and of one that isn't, and the total.
+fn sums(ledger: &Ledger) -> [Total; 5] {
+    [
+        ledger.total_of(Cause::Command),
+        ledger.total_of(Cause::Gravity),
+        ledger.total_of(Cause::Departed),
+        ledger.total_of(Cause::Rest),
+        ledger.total(),
+    ]
+}
+
+/// How many entries a book has, the first of them, and its sums.
+fn told(made: Result<Ledger, Refusal>) -> Result<(usize, Option<Entry>, [Total; 5]), Refusal> {
+    match made {
+        Ok(ledger) => {
+            let entries = ledger.entries();
+            Ok((entries.len(), entries.first().copied(), sums(&ledger)))
+        }
+        Err(refusal) => Err(refusal),
+    }
+}
+
+/// Settled entries stay in the sums.
 #[test]
-fn settled_entries_stay_in_the_sums(rt: HostRuntime) -> Result<(), Fail> {
-    let ledger = settled(rt.alloc())?;
-    same(&rt, &ledger.entries().len(), &0);
-    same(&rt, &ledger.total(), &total(5, -7));
-    let since = booked_since(rt.alloc())?;
-    same_items(&rt, since.entries(), &[FELL]);
-    same(&rt, &since.total(), &total(5, -107));
-    same(&rt, &since.total_of(Cause::Command), &total(5, -7));
+fn sums_what_is_booked_by_cause(rt: HostRuntime) -> Result<(), Fail> {
+    let Books { before, ledger } = &booked(rt.alloc())?;
+    let (push, fall, none) = (total(5, -7), total(0, -100), total(0, 0));
+    same_items(&rt, ledger.entries(), &[PUSHED, FELL, LEFT]);
+    same(
+        &rt,
+        &sums(ledger),
+        &[push, fall, total(-5, 107), none, none],
+    );
+    same_items(&rt, before.entries(), &[PUSHED]);
+    same(&rt, &sums(before), &[push, none, none, none, push]);
+    let one_is_settled = told(settled(rt.alloc()));
+    let settled_sums = [push, none, none, none, push];
+    same(&rt, &one_is_settled, &Ok((0, None, settled_sums)));
+    let one_came_since = told(booked_since(rt.alloc()));
+    let sums_since = [push, fall, none, none, total(5, -107)];
+    same(&rt, &one_came_since, &Ok((1, Some(FELL), sums_since)));
     Ok(())
 }

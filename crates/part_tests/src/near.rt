@@ -222,40 +222,46 @@ fn lifted(alloc: Global, y: i64) -> Result<Changes, Refusal> {
     collide(alloc, &resting(alloc)?, &mut lying_at(alloc, y)?)
 }
 
-#[test]
-fn a_lifted_capsule_parts(rt: HostRuntime) -> Result<(), Fail> {
-    let lifted = lifted(rt.alloc(), 20_001)?;
-    same_items(&rt, &lifted.end, &[KEY]);
-    same_items(&rt, &lifted.gone, &[]);
-    same_items(
-        &rt,
-        lifted.now.as_slice(),
-        &[entry(KEPT, PackedContact::apart())],
-    );
-    Ok(())
+/// What comes of a lift: how many contacts were made, are gone, begin and end, whether the capsule's contact is the only one of these, and the contact
+/// that is there then.
+fn told(alloc: Global, y: i64) -> Result<([usize; 4], bool, Option<ContactEntry>), Refusal> {
+    let changes = lifted(alloc, y)?;
+    Ok((
+        counts(&changes),
+        are_of_capsule(&changes),
+        changes.now.as_slice().first().copied(),
+    ))
 }
 
-#[test]
-fn a_capsule_far_above_is_gone(rt: HostRuntime) -> Result<(), Fail> {
-    let gone = lifted(rt.alloc(), 1_000_000)?;
-    same_items(&rt, &gone.end, &[KEY]);
-    same_items(&rt, &gone.gone, &[KEY]);
-    same_items(&rt, gone.now.as_slice(), &[]);
-    Ok(())
+/// Whether no other contact is gone or ends.
+fn are_of_capsule(changes: &Changes) -> bool {
+    changes.gone.iter().all(|key| *key == KEY) && changes.end.iter().all(|key| *key == KEY)
 }
 
+/// A capsule that is lifted by one parts from its floor, one far above is gone, and one that stays keeps its impulses with their candidates.
 #[test]
-fn impulses_stay_with_their_candidates(rt: HostRuntime) -> Result<(), Fail> {
-    let lies = lifted(rt.alloc(), 20_000)?;
+fn a_capsule_is_lifted(rt: HostRuntime) {
     let first = point(2, -50_000, 5, 1);
     let second = point(3, 50_000, 7, -2);
-    same_items(
-        &rt,
-        lies.now.as_slice(),
-        &[entry(KEPT, two_points(&first, &second))],
-    );
-    same(&rt, &counts(&lies), &[0, 0, 0, 0]);
-    Ok(())
+    let lifts = [
+        told(rt.alloc(), 20_001),
+        told(rt.alloc(), 1_000_000),
+        told(rt.alloc(), 20_000),
+    ];
+    let wanted = [
+        Ok((
+            [0, 0, 0, 1],
+            true,
+            Some(entry(KEPT, PackedContact::apart())),
+        )),
+        Ok(([0, 1, 0, 1], true, None)),
+        Ok((
+            [0, 0, 0, 0],
+            true,
+            Some(entry(KEPT, two_points(&first, &second))),
+        )),
+    ];
+    same_items(&rt, &lifts, &wanted);
 }
 
 /// Five balls, whose fat boxes are 327,680 u wide: the third begins where the second and the fourth end.

@@ -5,22 +5,28 @@ ghost use Rattle.fixed_geom.specs.Numbers.{rdiv, fdiv, isqrt};
 ghost use Rattle.fixed_geom.specs.Vectors.{cross, unit};
 ghost use Rattle.fixed_geom.specs.Facings.{is_facing, turn};
 
-use crate::assertions::same;
+use crate::assertions::{same, same_items};
 use fixed_geom::*;
 use std::test::Fail;
 
 #[test]
 fn quotients_round(rt: HostRuntime) {
-    same(&rt, &rdiv(5, 2), &3);
-    same(&rt, &rdiv(-5, 2), &-3);
-    same(&rt, &rdiv(7, 3), &2);
-    same(&rt, &(rdiv(1 << 40, 3) + rdiv(1 << 40, 2)), &916259689813);
-    same(&rt, &rdiv_64(-1099511627776, 3), &-366503875925);
-    same(&rt, &rdiv_unit(-(1 << 29)), &-1);
-    same(&rt, &rdiv_unit((1 << 29) - 1), &0);
-    same(&rt, &rdiv_unit(-(1 << 92)), &-(1 << 62));
-    same(&rt, &fdiv(-20000, 3), &-6667);
-    same(&rt, &fdiv(20000, 3), &6666);
+    let wide = [
+        rdiv(5, 2),
+        rdiv(-5, 2),
+        rdiv(7, 3),
+        rdiv(1 << 40, 3) + rdiv(1 << 40, 2),
+        fdiv(-20000, 3),
+        fdiv(20000, 3),
+    ];
+    same_items(&rt, &wide, &[3, -3, 2, 916259689813, -6667, 6666]);
+    let narrow = [
+        rdiv_64(-1099511627776, 3),
+        rdiv_unit(-(1 << 29)),
+        rdiv_unit((1 << 29) - 1),
+        rdiv_unit(-(1 << 92)),
+    ];
+    same_items(&rt, &narrow, &[-366503875925, -1, 0, -(1 << 62)]);
 }
 
 /// A quotient by the reciprocal of the divisor.
@@ -51,136 +57,152 @@ fn impulse(x: i64, inverse: i64) -> i64
 
 #[test]
 fn quotients_by_reciprocals_round(rt: HostRuntime) {
-    same(&rt, &quotient(7, 2), &4);
-    same(&rt, &quotient(-7, 2), &-4);
-    same(&rt, &quotient(-5, 3), &-2);
-    same(&rt, &quotient(-1, 3), &0);
-    same(&rt, &quotient(1649267441664, 1048576), &1572864);
-    same(&rt, &quotient(-1649267441664, 1), &-1649267441664);
-    same(&rt, &inverse_by(3, rdiv_reciprocal(3)), &366503875925);
-    same(&rt, &part(1, 4), &268435456);
-    same(&rt, &part(-262144, 1048576), &-268435456);
-    same(&rt, &part(-1, 2147483648), &-1);
-    same(&rt, &part(-1, 2147483649), &0);
-    same(&rt, &part(1 << 40, 1 << 54), &65536);
-    same(&rt, &part(1 << 40, 1 << 58), &4096);
-    same(&rt, &impulse(55, 916259689813), &66);
-    same(&rt, &impulse(-10, 2199023255552), &-5);
-    same(&rt, &impulse(-1, 2199023255552), &-1);
-    same(&rt, &impulse(-3, 1048576), &-3145728);
-    same(&rt, &impulse(1000, 1048576), &1048576000);
-    same(&rt, &impulse(1048575, 3298534883328), &349525);
-    same(&rt, &impulse(7, 1 << 61), &0);
+    let quotients = [
+        quotient(7, 2),
+        quotient(-7, 2),
+        quotient(-5, 3),
+        quotient(-1, 3),
+        quotient(1649267441664, 1048576),
+        quotient(-1649267441664, 1),
+        inverse_by(3, rdiv_reciprocal(3)),
+    ];
+    same_items(
+        &rt,
+        &quotients,
+        &[4, -4, -2, 0, 1572864, -1649267441664, 366503875925],
+    );
+    let parts = [
+        part(1, 4),
+        part(-262144, 1048576),
+        part(-1, 2147483648),
+        part(-1, 2147483649),
+        part(1 << 40, 1 << 54),
+        part(1 << 40, 1 << 58),
+    ];
+    same_items(&rt, &parts, &[268435456, -268435456, -1, 0, 65536, 4096]);
+    let impulses = [
+        impulse(55, 916259689813),
+        impulse(-10, 2199023255552),
+        impulse(-1, 2199023255552),
+        impulse(-3, 1048576),
+        impulse(1000, 1048576),
+        impulse(1048575, 3298534883328),
+        impulse(7, 1 << 61),
+    ];
+    same_items(
+        &rt,
+        &impulses,
+        &[66, -5, -1, -3145728, 1048576000, 349525, 0],
+    );
 }
 
 #[test]
 fn roots_round_down(rt: HostRuntime) {
-    same(&rt, &isqrt(0), &0);
-    same(&rt, &isqrt(3), &1);
-    same(&rt, &isqrt(4), &2);
-    same(&rt, &isqrt(40000000000), &200000);
-    // The nearest float's root is one too great here.
-    same(
-        &rt,
-        &isqrt(((1 << 32) - 1) * ((1 << 32) - 1) - 1),
-        &((1 << 32) - 2),
-    );
-    same(&rt, &isqrt((1 << 64) - 1), &((1 << 32) - 1));
-    same(&rt, &isqrt(i128::MAX), &13043817825332782212);
+    let roots = [
+        isqrt(0),
+        isqrt(3),
+        isqrt(4),
+        isqrt(40000000000),
+        // The nearest float's root is one too great here.
+        isqrt(((1 << 32) - 1) * ((1 << 32) - 1) - 1),
+        isqrt((1 << 64) - 1),
+        isqrt(i128::MAX),
+    ];
+    let wanted = [
+        0,
+        1,
+        2,
+        200000,
+        (1 << 32) - 2,
+        (1 << 32) - 1,
+        13043817825332782212,
+    ];
+    same_items(&rt, &roots, &wanted);
 }
 
 #[test]
 fn vectors_have_products_and_lengths(rt: HostRuntime) {
     let a = Vec2 { x: 600, y: 800 };
     let b = Vec2 { x: -30, y: 7 };
-    same(&rt, &dot(a, b), &-12400);
-    same(&rt, &cross(a, b), &28200);
-    same(&rt, &minus(a, b), &Vec2 { x: 630, y: 793 });
-    same(&rt, &span(a), &1000);
-    same(
-        &rt,
-        &unit(a),
-        &Vec2 {
-            x: 644245094,
-            y: 858993459,
-        },
-    );
-    same(&rt, &unit_along(a, span(a)), &unit(a));
-    same(&rt, &unit(Vec2 { x: 1, y: 1 }), &Vec2 { x: UNIT, y: UNIT });
-    same(&rt, &moved(a, b, UNIT / 2), &Vec2 { x: 585, y: 804 });
-    same(&rt, &[is_within(b, 30), is_within(b, 29)], &[true, false]);
+    same_items(&rt, &[dot(a, b), cross(a, b)], &[-12400, 28200]);
+    same_items(&rt, &[dot_64(a, b), cross_64(a, b)], &[-12400, 28200]);
+    let numbers = [
+        span(a),
+        scaled_64(-3, UNIT / 2),
+        rdiv_unit_64(-(1 << 29)),
+        rdiv_unit_64(1 - (1 << 29)),
+    ];
+    same_items(&rt, &numbers, &[1000, -2, -1, 0]);
+    let vectors = [
+        minus(a, b),
+        unit(a),
+        unit_along(a, span(a)),
+        unit(Vec2 { x: 1, y: 1 }),
+        moved(a, b, UNIT / 2),
+    ];
+    let slanted = Vec2 {
+        x: 644245094,
+        y: 858993459,
+    };
+    let wanted = [
+        Vec2 { x: 630, y: 793 },
+        slanted,
+        slanted,
+        Vec2 { x: UNIT, y: UNIT },
+        Vec2 { x: 585, y: 804 },
+    ];
+    same_items(&rt, &vectors, &wanted);
+    same_items(&rt, &[is_within(b, 30), is_within(b, 29)], &[true, false]);
 }
 
 /// At the last size for which 64 bits have room, and beyond.
 #[test]
 fn near_and_far_lengths(rt: HostRuntime) {
     let near = 1 << 31;
-    same(&rt, &span(Vec2 { x: near, y: -near }), &3037000499);
     let far = (1 << 31) + 1;
-    same(&rt, &span(Vec2 { x: far, y: -far }), &3037000501);
-    same(
-        &rt,
-        &span(Vec2 {
+    let lengths = [
+        span(Vec2 { x: near, y: -near }),
+        span(Vec2 { x: far, y: -far }),
+        span(Vec2 {
             x: 3000000001,
             y: -4000000002,
         }),
-        &5000000002,
-    );
-}
-
-#[test]
-fn products_in_64_bits(rt: HostRuntime) {
-    let a = Vec2 { x: 600, y: 800 };
-    let b = Vec2 { x: -30, y: 7 };
-    same(&rt, &dot_64(a, b), &-12400);
-    same(&rt, &cross_64(a, b), &28200);
-    same(&rt, &scaled_64(-3, UNIT / 2), &-2);
-    same(&rt, &rdiv_unit_64(-(1 << 29)), &-1);
-    same(&rt, &rdiv_unit_64(1 - (1 << 29)), &0);
-    let quarter = Rot { c: 0, s: UNIT };
-    same(
-        &rt,
-        &rotate_64(quarter, Vec2 { x: UNIT, y: 7 }),
-        &Vec2 { x: -7, y: UNIT },
-    );
+    ];
+    same_items(&rt, &lengths, &[3037000499, 3037000501, 5000000002]);
 }
 
 #[test]
 fn facings_turn(rt: HostRuntime) {
     let ahead = Rot { c: UNIT, s: 0 };
     let quarter = Rot { c: 0, s: UNIT };
-    same(
+    let turned = [
+        rotate(quarter, Vec2 { x: 5, y: 7 }),
+        rotate_64(quarter, Vec2 { x: UNIT, y: 7 }),
+    ];
+    same_items(
         &rt,
-        &rotate(quarter, Vec2 { x: 5, y: 7 }),
-        &Vec2 { x: -7, y: 5 },
+        &turned,
+        &[Vec2 { x: -7, y: 5 }, Vec2 { x: -7, y: UNIT }],
     );
-    same(&rt, &turn(quarter, 0), &quarter);
-    same(
-        &rt,
-        &turn(ahead, 1 << 28),
-        &Rot {
-            c: 1041682578,
-            s: 260420645,
-        },
-    );
-    same(
-        &rt,
-        &turn(ahead, -(1 << 28)),
-        &Rot {
-            c: 1041682578,
-            s: -260420645,
-        },
-    );
-    same(&rt, &is_facing(ahead), &true);
-    let short = is_facing(Rot { c: UNIT - 3, s: 0 });
-    let long = is_facing(Rot { c: UNIT + 3, s: 0 });
-    let longest = is_facing(Rot { c: 0, s: -UNIT - 2 });
-    same(&rt, &[short, long, longest], &[false, false, true]);
+    let facings = [
+        turn(quarter, 0),
+        turn(ahead, 1 << 28),
+        turn(ahead, -(1 << 28)),
+    ];
+    let (c, s) = (1041682578, 260420645);
+    same_items(&rt, &facings, &[quarter, Rot { c, s }, Rot { c, s: -s }]);
     let least = Rot {
         c: i64::MIN,
         s: i64::MIN,
     };
-    same(&rt, &is_facing(least), &false);
+    let are_facings = [
+        is_facing(ahead),
+        is_facing(Rot { c: UNIT - 3, s: 0 }),
+        is_facing(Rot { c: UNIT + 3, s: 0 }),
+        is_facing(Rot { c: 0, s: -UNIT - 2 }),
+        is_facing(least),
+    ];
+    same_items(&rt, &are_facings, &[true, false, false, true, false]);
 }
 
 #[test]
@@ -197,8 +219,13 @@ fn boxes_touch_and_contain(rt: HostRuntime) {
         lo: Vec2 { x: 11, y: 0 },
         hi: Vec2 { x: 20, y: 11 },
     };
-    same(&rt, &[overlaps(a, b), overlaps(a, far)], &[true, false]);
-    same(&rt, &[contains(a, a), contains(a, b)], &[true, false]);
+    let found = [
+        overlaps(a, b),
+        overlaps(a, far),
+        contains(a, a),
+        contains(a, b),
+    ];
+    same_items(&rt, &found, &[true, false, true, false]);
     same(
         &rt,
         &grow(a, 3),
@@ -211,8 +238,8 @@ fn boxes_touch_and_contain(rt: HostRuntime) {
 
 #[test]
 fn refusals_have_texts(rt: HostRuntime) -> Result<(), Fail> {
-    same(&rt, &Refusal::WentBack.number(), &14);
-    same(&rt, &Refusal::NotKinematic.number(), &15);
+    let numbers = [Refusal::WentBack.number(), Refusal::NotKinematic.number()];
+    same_items(&rt, &numbers, &[14, 15]);
     let text = format!(in rt.alloc(); "{}", Refusal::BadFile(4))?;
     same(&rt, &text.as_str(), &"the saved world breaks clause 4");
     Ok(())

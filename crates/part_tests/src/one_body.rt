@@ -3,7 +3,7 @@ ghost use Rattle.fixed_geom.specs.Vectors.{IsWithin};
 ghost use Rattle.momenta.specs.Impulses.{AreStates, IsLine, IsState};
 ghost use Rattle.momenta.specs.Motions.{IsMass, IsMotion};
 
-use crate::assertions::same;
+use crate::assertions::{same, same_items};
 use fixed_geom::{Rot, Vec2};
 use momenta::{
     BodyState, Ends, Line, MassData, Momenta64, MomentaPair64, Motion, advance, clamp_speed,
@@ -11,6 +11,8 @@ use momenta::{
 };
 
 const AHEAD: Rot = Rot { c: 1 << 30, s: 0 };
+
+const ORIGIN: Vec2 = Vec2 { x: 0, y: 0 };
 
 fn at(x: i64, y: i64) -> Vec2 {
     Vec2 { x, y }
@@ -29,32 +31,34 @@ fn tick(motion: Motion, mass: MassData, gravity: Vec2) -> Motion
     moved
 }
 
+/// What a body has after its limits and after one tick, and what each of both takes from its momentum.
+fn moved(motion: Motion, mass: MassData) -> ([Vec2; 5], Rot, i128)
+    requires mass { IsMass mass }
+    requires motion { IsMotion mass motion }
+{
+    let (limited, change) = clamp_speed(motion, mass);
+    let (moved, lost) = advance(limited, mass, reciprocals_of(mass));
+    (
+        [limited.p, change, moved.x, moved.p, lost],
+        moved.rot,
+        moved.l,
+    )
+}
+
+/// A push beyond the speed limit is cut, the edge stops a body, and a fast spin turns by its limit.
 #[test]
-fn a_push_beyond_the_speed_limit_is_cut(rt: HostRuntime) {
-    let mass = MassData {
+fn limits_hold(rt: HostRuntime) {
+    let point = MassData {
         mass: 1,
         inertia: 0,
+    };
+    let wheel = MassData {
+        mass: 2,
+        inertia: 1,
     };
     let pushed = Motion {
         p: Vec2 { x: 2097152, y: 0 },
-        l: 0,
-        x: Vec2 { x: 0, y: 0 },
-        rot: AHEAD,
-    };
-    let (limited, change) = clamp_speed(pushed, mass);
-    same(&rt, &limited.p, &at(1048576, 0));
-    same(&rt, &change, &at(-1048576, 0));
-    let (moved, lost) = advance(limited, mass, reciprocals_of(mass));
-    same(&rt, &moved.x, &at(1048576, 0));
-    same(&rt, &moved.p, &at(1048576, 0));
-    same(&rt, &lost, &at(0, 0));
-}
-
-#[test]
-fn the_edge_stops_a_body(rt: HostRuntime) {
-    let mass = MassData {
-        mass: 1,
-        inertia: 0,
+        ..Motion::at_rest(ORIGIN, AHEAD)
     };
     let near = Motion {
         p: Vec2 { x: 10, y: 0 },
@@ -65,12 +69,31 @@ fn the_edge_stops_a_body(rt: HostRuntime) {
         },
         rot: AHEAD,
     };
-    let (slow, kept) = clamp_speed(near, mass);
-    same(&rt, &kept, &at(0, 0));
-    let (stopped, change) = advance(slow, mass, reciprocals_of(mass));
-    same(&rt, &stopped.x, &at(68719476736, 0));
-    same(&rt, &stopped.p, &at(0, 0));
-    same(&rt, &change, &at(-10, 0));
+    let spinning = Motion {
+        p: Vec2 { x: 0, y: 300 },
+        l: 150000,
+        x: ORIGIN,
+        rot: AHEAD,
+    };
+    let left = [
+        moved(pushed, point),
+        moved(near, point),
+        moved(spinning, wheel),
+    ];
+    let limit = at(1048576, 0);
+    let cut = [limit, at(-1048576, 0), limit, limit, ORIGIN];
+    let stopped = [at(10, 0), ORIGIN, at(68719476736, 0), ORIGIN, at(-10, 0)];
+    let turned = [at(0, 300), ORIGIN, at(0, 150), at(0, 300), ORIGIN];
+    let facing = Rot {
+        c: 1041682578,
+        s: 260420645,
+    };
+    let wanted = [
+        (cut, AHEAD, 0),
+        (stopped, AHEAD, 0),
+        (turned, facing, 150000),
+    ];
+    same_items(&rt, &left, &wanted);
 }
 
 #[test]
@@ -89,29 +112,6 @@ fn a_body_falls_for_four_ticks(rt: HostRuntime) {
     same(&rt, &four.p, &at(0, -160768));
     same(&rt, &four.rot, &AHEAD);
 }
-
-#[test]
-fn a_fast_spin_turns_by_its_limit(rt: HostRuntime) {
-    let mass = MassData {
-        mass: 2,
-        inertia: 1,
-    };
-    let start = Motion {
-        p: Vec2 { x: 0, y: 300 },
-        l: 150000,
-        x: Vec2 { x: 0, y: 0 },
-        rot: AHEAD,
-    };
-    let (limited, _) = clamp_speed(start, mass);
-    let (moved, change) = advance(limited, mass, reciprocals_of(mass));
-    same(&rt, &moved.x, &at(0, 150));
-    same(&rt, &moved.rot.c, &1041682578);
-    same(&rt, &moved.rot.s, &260420645);
-    same(&rt, &moved.l, &150000);
-    same(&rt, &change, &at(0, 0));
-}
-
-const ORIGIN: Vec2 = Vec2 { x: 0, y: 0 };
 
 /// A mover that never turns, at the origin.
 fn mover(mass: i64, p: Vec2) -> BodyState
@@ -162,55 +162,54 @@ fn push(line: &Line, bias: i64, ends: &mut Ends) -> i64
     solve_line(line, apart, bias, 0, 4398046511104, 0, ends)
 }
 
+/// One impulse, and the two momenta after it.
+fn pushed(line: Line, bias: i64, a: BodyState, b: BodyState) -> (i64, Vec2, Vec2)
+    requires line { IsLine line }
+    requires bias { unsigned_abs bias ≤ 2 ^ 62 }
+    requires first { IsState a }
+    requires second { IsState b }
+{
+    let mut ends = Ends { a, b };
+    let total = push(&line, bias, &mut ends);
+    (total, ends.a.motion.p, ends.b.motion.p)
+}
+
+const LIMIT: i64 = 1152921504606846976;
+
+/// Two masses that meet stop one another, an impulse is rounded once for both, and one beyond the limit is dropped.
 #[test]
-fn two_masses_that_meet_stop_one_another(rt: HostRuntime) {
-    let a = mover(3, Vec2 { x: 30, y: 0 });
-    let b = mover(2, Vec2 { x: -20, y: 0 });
+fn impulses_act_on_both(rt: HostRuntime) {
     let ahead = Vec2 {
         x: 1073741824,
         y: 0,
     };
-    let mut ends = Ends { a, b };
-    same(
-        &rt,
-        &inverse_mass(ahead, ORIGIN, ORIGIN, &ends),
-        &916259689813,
-    );
-    let total = push(&line(ahead, 916259689813), 0, &mut ends);
-    same(&rt, &total, &24);
-    same(&rt, &ends.a.motion.p, &at(6, 0));
-    same(&rt, &ends.b.motion.p, &at(4, 0));
-}
-
-#[test]
-fn an_impulse_is_rounded_once_for_both(rt: HostRuntime) {
-    let a = mover(1, Vec2 { x: 10, y: 0 });
-    let b = mover(1, ORIGIN);
     let slanted = Vec2 {
         x: 644245094,
         y: 858993459,
     };
-    let mut ends = Ends { a, b };
-    let total = push(&line(slanted, 2199023255552), 0, &mut ends);
-    same(&rt, &total, &3);
-    same(&rt, &ends.a.motion.p, &at(8, -2));
-    same(&rt, &ends.b.motion.p, &at(2, 2));
-}
-
-#[test]
-fn an_impulse_beyond_the_limit_is_dropped(rt: HostRuntime) {
-    let limit = 1152921504606846976;
-    let a = mover(1, ORIGIN);
-    let b = mover(1, Vec2 { x: limit, y: 0 });
-    let ahead = Vec2 {
-        x: 1073741824,
-        y: 0,
-    };
-    let mut ends = Ends { a, b };
-    let total = push(&line(ahead, 2199023255552), limit + 5, &mut ends);
-    same(&rt, &total, &0);
-    same(&rt, &ends.a.motion.p, &ORIGIN);
-    same(&rt, &ends.b.motion.p, &at(limit, 0));
+    let fast = mover(3, Vec2 { x: 30, y: 0 });
+    let slow = mover(2, Vec2 { x: -20, y: 0 });
+    let still = mover(1, ORIGIN);
+    let ends = Ends { a: fast, b: slow };
+    let inverse = inverse_mass(ahead, ORIGIN, ORIGIN, &ends);
+    same(&rt, &inverse, &916259689813);
+    let along = line(ahead, 2199023255552);
+    let left = [
+        pushed(line(ahead, 916259689813), 0, fast, slow),
+        pushed(
+            line(slanted, 2199023255552),
+            0,
+            mover(1, Vec2 { x: 10, y: 0 }),
+            still,
+        ),
+        pushed(along, LIMIT + 5, still, mover(1, Vec2 { x: LIMIT, y: 0 })),
+    ];
+    let wanted = [
+        (24, at(6, 0), at(4, 0)),
+        (3, at(8, -2), at(2, 2)),
+        (0, ORIGIN, at(LIMIT, 0)),
+    ];
+    same_items(&rt, &left, &wanted);
 }
 
 #[test]

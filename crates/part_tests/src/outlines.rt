@@ -6,9 +6,10 @@ ghost use Rattle.fixed_geom.specs.Vectors.{IsWithin};
 ghost use Rattle.shapes.specs.Shapes.{IsShape};
 ghost use Rattle.shapes.specs.Poses.{IsPose};
 
-use crate::assertions::same;
+use crate::assertions::{same, same_items};
 use fixed_geom::{Box2, Refusal, Rot, UNIT, Vec2};
 use shapes::*;
+use std::alloc::Global;
 use std::test::Fail;
 
 fn ahead() -> Rot
@@ -84,89 +85,88 @@ fn forms_are_refused_before_ranges(rt: HostRuntime) {
     let ball = def(circle(0, 0, 0));
     let bar = def(capsule(0, 0, 5, 0, 1));
     let line = def(segment(0, 0, 5, 0));
-    same(&rt, &check(&[ball, bar, line], true), &Ok(()));
-    same(
-        &rt,
-        &check(&[ball, bar, line], false),
-        &Err(Refusal::BadShape),
-    );
-    same(
-        &rt,
-        &check(&[def(capsule(0, 0, 5, 0, 0))], true),
-        &Err(Refusal::BadShape),
-    );
-    same(
-        &rt,
-        &check(&[def(capsule(5, 0, 5, 0, 1))], true),
-        &Err(Refusal::BadShape),
-    );
-    same(
-        &rt,
-        &check(&[def(segment(5, 7, 5, 7))], true),
-        &Err(Refusal::BadShape),
-    );
-    same(&rt, &check(&[], true), &Err(Refusal::BadShape));
-    same(&rt, &check(&[ball; 8], false), &Ok(()));
-    same(&rt, &check(&[ball; 9], false), &Err(Refusal::BadShape));
     let rough = ShapeDef {
         friction: 513,
         ..ball
     };
-    same(&rt, &check(&[rough], false), &Err(Refusal::OutOfRange));
-    same(&rt, &check(&[rough, line], false), &Err(Refusal::BadShape));
+    let of_static = [
+        check(&[ball, bar, line], true),
+        check(&[def(capsule(0, 0, 5, 0, 0))], true),
+        check(&[def(capsule(5, 0, 5, 0, 1))], true),
+        check(&[def(segment(5, 7, 5, 7))], true),
+        check(&[], true),
+    ];
+    let bad = Err(Refusal::BadShape);
+    same_items(&rt, &of_static, &[Ok(()), bad, bad, bad, bad]);
+    let of_movers = [
+        check(&[ball, bar, line], false),
+        check(&[ball; 8], false),
+        check(&[ball; 9], false),
+        check(&[rough], false),
+        check(&[rough, line], false),
+    ];
+    let wide = Err(Refusal::OutOfRange);
+    same_items(&rt, &of_movers, &[bad, Ok(()), bad, wide, bad]);
 }
 
 #[test]
 fn groups_decide_before_masks(rt: HostRuntime) {
     let plain = Filter::default();
     let shy = Filter { mask: 2, ..plain };
-    let either = [should_collide(plain, shy), should_collide(shy, plain)];
-    same(&rt, &should_collide(plain, plain), &true);
-    same(&rt, &either, &[false, false]);
     let broad = Filter {
         category: 6,
         ..plain
     };
-    same(&rt, &shy.meets(broad), &true);
     let friends = Filter { group: 3, ..shy };
-    same(&rt, &should_collide(friends, friends), &true);
     let strangers = Filter { group: -3, ..plain };
-    same(&rt, &should_collide(strangers, strangers), &false);
-    same(&rt, &should_collide(strangers, plain), &true);
+    let collide = [
+        should_collide(plain, plain),
+        should_collide(plain, shy),
+        should_collide(shy, plain),
+        shy.meets(broad),
+        should_collide(friends, friends),
+        should_collide(strangers, strangers),
+        should_collide(strangers, plain),
+    ];
+    same_items(
+        &rt,
+        &collide,
+        &[true, false, false, true, true, false, true],
+    );
 }
 
 #[test]
 fn numbers_of_two_shapes_mix(rt: HostRuntime) {
-    same(&rt, &mixed_friction(128, 511), &255);
-    same(&rt, &mixed_friction(512, 512), &512);
-    same(&rt, &mixed_restitution(7, 12), &12);
+    let mixed = [
+        mixed_friction(128, 511),
+        mixed_friction(512, 512),
+        mixed_restitution(7, 12),
+    ];
+    same_items(&rt, &mixed, &[255, 512, 12]);
 }
 
 #[test]
 fn boxes_hold_their_shapes(rt: HostRuntime) {
     let tight = tight_box(&circle(0, 0, 100), at(0, 0));
-    same(
-        &rt,
-        &fat_box(tight),
-        &Box2 {
-            lo: Vec2 {
-                x: -131172,
-                y: -131172,
-            },
-            hi: Vec2 {
-                x: 131172,
-                y: 131172,
-            },
+    let boxes = [
+        fat_box(tight),
+        tight_box(&capsule(7, 3, -5, 40, 2), at(100, 200)),
+    ];
+    let fat = Box2 {
+        lo: Vec2 {
+            x: -131172,
+            y: -131172,
         },
-    );
-    same(
-        &rt,
-        &tight_box(&capsule(7, 3, -5, 40, 2), at(100, 200)),
-        &Box2 {
-            lo: Vec2 { x: 93, y: 201 },
-            hi: Vec2 { x: 109, y: 242 },
+        hi: Vec2 {
+            x: 131172,
+            y: 131172,
         },
-    );
+    };
+    let turned = Box2 {
+        lo: Vec2 { x: 93, y: 201 },
+        hi: Vec2 { x: 109, y: 242 },
+    };
+    same_items(&rt, &boxes, &[fat, turned]);
     same(
         &rt,
         &placed(at(100, 200), Vec2 { x: -5, y: 40 }),
@@ -174,14 +174,19 @@ fn boxes_hold_their_shapes(rt: HostRuntime) {
     );
 }
 
-#[test]
-fn a_list_keeps_its_shapes(rt: HostRuntime) -> Result<(), Fail> {
-    let mut shapes = Shapes::new(rt.alloc());
+/// A copy of a list of two shapes.
+fn copied(alloc: Global) -> Result<Shapes, Refusal> {
+    let mut shapes = Shapes::new(alloc);
     shapes.push(def(circle(0, 0, 5)))?;
     shapes.push(def(segment(0, 0, 5, 0)))?;
-    let copy = shapes.try_copy()?;
-    same(&rt, &copy.as_slice().len(), &2);
-    same(&rt, &copy.as_slice()[1].shape.radius(), &0);
+    shapes.try_copy()
+}
+
+#[test]
+fn a_list_keeps_its_shapes(rt: HostRuntime) -> Result<(), Fail> {
+    let shapes = copied(rt.alloc())?;
+    let wanted = [def(circle(0, 0, 5)), def(segment(0, 0, 5, 0))];
+    same_items(&rt, shapes.as_slice(), &wanted);
     Ok(())
 }
 
@@ -211,9 +216,15 @@ fn a_capsule_rests_on_a_floor(rt: HostRuntime) {
         },
         candidate: 3,
     };
-    let found = manifold(&floor, at(0, 0), &bar, at(0, 20000));
-    same(&rt, &found.first, &first);
-    same(&rt, &found.second, &Some(second));
+    let wanted = Manifold {
+        first,
+        second: Some(second),
+    };
+    same(
+        &rt,
+        &manifold(&floor, at(0, 0), &bar, at(0, 20000)),
+        &wanted,
+    );
 }
 
 /// Cores that cross are pushed out by the end that is least far in.
@@ -229,8 +240,11 @@ fn crossing_cores_push_out(rt: HostRuntime) {
         rb: Vec2 { x: 0, y: -18 },
         candidate: 2,
     };
-    same(&rt, &found.first, &first);
-    same(&rt, &found.second, &None);
+    let wanted = Manifold {
+        first,
+        second: None,
+    };
+    same(&rt, &found, &wanted);
 }
 
 fn eighth_turn() -> Rot
@@ -262,8 +276,11 @@ fn a_turned_core_becomes_a_point(rt: HostRuntime) {
         rb: Vec2 { x: -8, y: 0 },
         candidate: 0,
     };
-    same(&rt, &found.first, &first);
-    same(&rt, &found.second, &None);
+    let wanted = Manifold {
+        first,
+        second: None,
+    };
+    same(&rt, &found, &wanted);
 }
 
 /// Where a ray from `(x, y)` along `(dx, dy)` meets a shape that stands at the origin.
@@ -286,42 +303,50 @@ fn bar() -> Shape
 #[test]
 fn rays_meet_circles_and_floors(rt: HostRuntime) {
     let ball = circle(0, 0, 100);
-    same(
-        &rt,
-        &ray(
-            &ball,
-            at(1000, 0),
-            Vec2 { x: 0, y: 0 },
-            Vec2 { x: 2000, y: 0 },
-        ),
-        &Some(7549747),
-    );
-    same(&rt, &hit(ball, -1000, 100, 2000, 0), &Some(8388608));
-    same(&rt, &hit(ball, -1000, 101, 2000, 0), &None);
-    same(
-        &rt,
-        &hit(circle(0, 0, 0), -1000, 0, 2000, 0),
-        &Some(8388608),
-    );
     let floor = segment(-1048576, 0, 1048576, 0);
-    same(&rt, &hit(floor, 0, 100, 0, -400), &Some(4194304));
-    same(&rt, &hit(floor, 0, 100, 0, 400), &None);
-    same(
-        &rt,
-        &hit(segment(-100, 0, 100, 0), -1000, 0, 2000, 0),
-        &Some(7549747),
-    );
+    let from = Vec2 { x: 0, y: 0 };
+    let hits = [
+        ray(&ball, at(1000, 0), from, Vec2 { x: 2000, y: 0 }),
+        hit(ball, -1000, 100, 2000, 0),
+        hit(ball, -1000, 101, 2000, 0),
+        hit(circle(0, 0, 0), -1000, 0, 2000, 0),
+        hit(floor, 0, 100, 0, -400),
+        hit(floor, 0, 100, 0, 400),
+        hit(segment(-100, 0, 100, 0), -1000, 0, 2000, 0),
+    ];
+    let wanted = [
+        Some(7549747),
+        Some(8388608),
+        None,
+        Some(8388608),
+        Some(4194304),
+        None,
+        Some(7549747),
+    ];
+    same_items(&rt, &hits, &wanted);
 }
 
 #[test]
 fn rays_meet_ends_and_sides(rt: HostRuntime) {
-    same(&rt, &hit(bar(), 0, 100000, 0, -200000), &Some(7549747));
-    same(&rt, &hit(bar(), 100000, 0, -200000, 0), &Some(5033164));
-    same(&rt, &hit(bar(), 37000, 100000, 0, -200000), &Some(7789541));
-    same(&rt, &hit(bar(), 0, 100000, 0, -90000), &Some(16777216));
-    same(&rt, &hit(bar(), 0, 100000, 0, -80000), &None);
-    same(&rt, &hit(bar(), 5, 5, 0, 0), &Some(0));
-    same(&rt, &hit(bar(), 50000, 0, 0, 0), &None);
+    let hits = [
+        hit(bar(), 0, 100000, 0, -200000),
+        hit(bar(), 100000, 0, -200000, 0),
+        hit(bar(), 37000, 100000, 0, -200000),
+        hit(bar(), 0, 100000, 0, -90000),
+        hit(bar(), 0, 100000, 0, -80000),
+        hit(bar(), 5, 5, 0, 0),
+        hit(bar(), 50000, 0, 0, 0),
+    ];
+    let wanted = [
+        Some(7549747),
+        Some(5033164),
+        Some(7789541),
+        Some(16777216),
+        None,
+        Some(0),
+        None,
+    ];
+    same_items(&rt, &hits, &wanted);
 }
 
 /// The distance from the ray's line, times the way's length, is beyond what may be squared.

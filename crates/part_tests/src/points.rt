@@ -3,7 +3,7 @@ ghost use Rattle.fixed_geom.specs.Vectors.{IsWithin};
 ghost use Rattle.momenta.specs.Impulses.{AreStates, IsState};
 ghost use Rattle.colour_solver_base.specs.Rows.{IsRow};
 
-use crate::assertions::same;
+use crate::assertions::{same, same_items};
 use colour_solver_base::{
     Bodies, ContactRow, PointRow, RowAfter64, bounce_row, solve_row, solve_row_64, warm_row,
     warm_row_64,
@@ -134,41 +134,42 @@ fn bounce(start_speed: i64) -> Turned
 
 #[test]
 fn an_overlap_beyond_the_slop_is_pushed_out(rt: HostRuntime) {
-    same(&rt, &push_out(-5243), &0);
-    same(&rt, &push_out(-5250), &0);
-    same(&rt, &push_out(-5251), &1);
-    same(&rt, &push_out(-200000), &16384);
+    let pushes = [
+        push_out(-5243),
+        push_out(-5250),
+        push_out(-5251),
+        push_out(-200000),
+    ];
+    same_items(&rt, &pushes, &[0, 0, 1, 16384]);
+}
+
+/// The two impulses of a turn, and the momenta after it.
+fn left_by(after: &Turned) -> (i64, i64, Vec2, Vec2) {
+    let Turned { row, ends } = after;
+    (
+        row.first.normal_impulse,
+        row.first.tangent_impulse,
+        ends.a.motion.p,
+        ends.b.motion.p,
+    )
+}
+
+/// Friction is at most its share of the push, which comes before it.
+#[test]
+fn a_pass_pushes_and_then_rubs(rt: HostRuntime) {
+    let passes = [
+        left_by(&solved(1000, Vec2 { x: 600, y: 0 })),
+        left_by(&solved(0, Vec2 { x: 600, y: -1000 })),
+    ];
+    let left = (1000, -500, ORIGIN, at(100, 0));
+    same_items(&rt, &passes, &[left, left]);
 }
 
 #[test]
-fn friction_is_at_most_its_share_of_the_push(rt: HostRuntime) {
-    let after = solved(1000, Vec2 { x: 600, y: 0 });
-    same(&rt, &after.row.first.normal_impulse, &1000);
-    same(&rt, &after.row.first.tangent_impulse, &-500);
-    same(&rt, &after.ends.b.motion.p, &at(100, 0));
-    same(&rt, &after.ends.a.motion.p, &ORIGIN);
-}
-
-#[test]
-fn the_normal_impulse_comes_before_friction(rt: HostRuntime) {
-    let after = solved(0, Vec2 { x: 600, y: -1000 });
-    same(&rt, &after.row.first.normal_impulse, &1000);
-    same(&rt, &after.row.first.tangent_impulse, &-500);
-    same(&rt, &after.ends.b.motion.p, &at(100, 0));
-}
-
-#[test]
-fn a_fast_meeting_bounces(rt: HostRuntime) {
-    let after = bounce(-10000);
-    same(&rt, &after.row.first.normal_impulse, &5001);
-    same(&rt, &after.ends.b.motion.p, &at(0, 5000));
-}
-
-#[test]
-fn a_slow_meeting_does_not_bounce(rt: HostRuntime) {
-    let after = bounce(-4096);
-    same(&rt, &after.row.first.normal_impulse, &1);
-    same(&rt, &after.ends.b.motion.p, &ORIGIN);
+fn a_fast_meeting_bounces_and_a_slow_one_does_not(rt: HostRuntime) {
+    let bounces = [left_by(&bounce(-10000)), left_by(&bounce(-4096))];
+    let fast = (5001, 0, ORIGIN, at(0, 5000));
+    same_items(&rt, &bounces, &[fast, (1, 0, ORIGIN, ORIGIN)]);
 }
 
 #[test]
@@ -176,8 +177,8 @@ fn a_warm_start_gives_the_kept_impulses(rt: HostRuntime) {
     let row = contact(0, 0, 1000);
     let mut ends = on_ground(ORIGIN);
     warm_row(&row, &mut ends);
-    same(&rt, &row.first.normal_impulse, &1000);
-    same(&rt, &ends.b.motion.p, &at(0, 1000));
+    let left = left_by(&Turned { row, ends });
+    same(&rt, &left, &(1000, 0, ORIGIN, at(0, 1000)));
 }
 
 /// What a pass in 64 bits leaves where the first body stands and the second has the momentum `p`.
@@ -200,21 +201,15 @@ fn solved_64(p: Vec2) -> Option<RowAfter64>
     solve_row_64(&contact(0, 0, 0), &ends.a, &ends.b)
 }
 
+/// Great momenta have no pass in 64 bits.
 #[test]
 fn a_pass_in_64_bits_is_the_pass(rt: HostRuntime) {
-    let after = solved(0, Vec2 { x: 600, y: -1000 });
-    let expected = after_64(
-        after.row.first.normal_impulse,
-        after.row.first.tangent_impulse,
-        after.ends.b.motion.p,
-    );
-    same(&rt, &expected, &after_64(1000, -500, at(100, 0)));
-    same(&rt, &solved_64(Vec2 { x: 600, y: -1000 }), &Some(expected));
-}
-
-#[test]
-fn great_momenta_have_no_pass_in_64_bits(rt: HostRuntime) {
-    same(&rt, &solved_64(Vec2 { x: 1 << 50, y: 0 }), &None);
+    let p = Vec2 { x: 600, y: -1000 };
+    let (normal_impulse, tangent_impulse, _, after) = left_by(&solved(0, p));
+    let expected = Some(after_64(normal_impulse, tangent_impulse, after));
+    let passes = [expected, solved_64(p), solved_64(Vec2 { x: 1 << 50, y: 0 })];
+    let left = Some(after_64(1000, -500, at(100, 0)));
+    same_items(&rt, &passes, &[left, left, None]);
 }
 
 #[test]

@@ -7,65 +7,12 @@ ghost use Rattle.shapes.specs.Shapes.{IsShape};
 ghost use Rattle.shapes.specs.Poses.{IsPose};
 ghost use Rattle.shape_rays.specs.Hits.{IsPlacedShape};
 
-use crate::assertions::same;
+use crate::assertions::{same, same_items};
+use crate::outlines::{at, capsule, circle, segment};
 use contacts_base::ShapeId;
 use fixed_geom::{Box2, MAX_POSITION, Rot, UNIT, Vec2, is_facing, is_within};
 use shape_rays::*;
 use shapes::{MAX_CORE, MAX_RADIUS, MAX_RAY, Pose, Shape};
-
-/// A pose that faces along the x axis.
-fn at(x: i64, y: i64) -> Pose
-    requires x { unsigned_abs x ≤ 2 ^ 36 }
-    requires y { unsigned_abs y ≤ 2 ^ 36 }
-    ensures { IsPose result }
-{
-    Pose {
-        x: Vec2 { x, y },
-        rot: Rot { c: UNIT, s: 0 },
-    }
-}
-
-fn circle(x: i64, y: i64, radius: i64) -> Shape
-    requires x { unsigned_abs x ≤ 2 ^ 24 }
-    requires y { unsigned_abs y ≤ 2 ^ 24 }
-    requires nonnegative { pos 0 ≤ℤ radius }
-    requires radius { unsigned_abs radius ≤ 2 ^ 24 }
-    ensures { IsShape result }
-{
-    Shape::Circle {
-        center: Vec2 { x, y },
-        radius,
-    }
-}
-
-fn capsule(px: i64, py: i64, qx: i64, qy: i64, radius: i64) -> Shape
-    requires px { unsigned_abs px ≤ 2 ^ 24 }
-    requires py { unsigned_abs py ≤ 2 ^ 24 }
-    requires qx { unsigned_abs qx ≤ 2 ^ 24 }
-    requires qy { unsigned_abs qy ≤ 2 ^ 24 }
-    requires nonnegative { pos 0 ≤ℤ radius }
-    requires radius { unsigned_abs radius ≤ 2 ^ 24 }
-    ensures { IsShape result }
-{
-    Shape::Capsule {
-        first: Vec2 { x: px, y: py },
-        second: Vec2 { x: qx, y: qy },
-        radius,
-    }
-}
-
-fn segment(px: i64, py: i64, qx: i64, qy: i64) -> Shape
-    requires px { unsigned_abs px ≤ 2 ^ 24 }
-    requires py { unsigned_abs py ≤ 2 ^ 24 }
-    requires qx { unsigned_abs qx ≤ 2 ^ 24 }
-    requires qy { unsigned_abs qy ≤ 2 ^ 24 }
-    ensures { IsShape result }
-{
-    Shape::Segment {
-        first: Vec2 { x: px, y: py },
-        second: Vec2 { x: qx, y: qy },
-    }
-}
 
 /// The ray from `(x, y)` along `(dx, dy)`.
 fn cast(x: i64, y: i64, dx: i64, dy: i64) -> RayCast
@@ -94,45 +41,54 @@ fn boxed(left: i64, down: i64, right: i64, up: i64) -> Box2 {
 #[test]
 fn rays_meet_circles_and_floors(rt: HostRuntime) {
     let ball = circle(0, 0, 100);
-    same(
-        &rt,
-        &cast(0, 0, 2000, 0).hit(&ball, at(1000, 0)),
-        &Some(7549747),
-    );
     let floor = segment(-1048576, 0, 1048576, 0);
-    same(&rt, &hit(floor, &cast(0, 100, 0, -400)), &Some(4194304));
-    same(&rt, &hit(floor, &cast(0, 100, 0, 400)), &None);
-    // A start in the shape, and a ray that has no way.
-    same(&rt, &hit(ball, &cast(10, -20, 5, 5)), &Some(0));
-    same(&rt, &hit(ball, &cast(60, 80, 0, 0)), &Some(0));
-    same(&rt, &hit(ball, &cast(61, 81, 0, 0)), &None);
-    // Circles that are grazed, passed, and of no radius.
-    same(&rt, &hit(ball, &cast(-1000, 100, 2000, 0)), &Some(8388608));
-    same(&rt, &hit(ball, &cast(-1000, 101, 2000, 0)), &None);
-    same(
-        &rt,
-        &hit(circle(0, 0, 0), &cast(-1000, 0, 2000, 0)),
-        &Some(8388608),
-    );
+    let hits = [
+        cast(0, 0, 2000, 0).hit(&ball, at(1000, 0)),
+        hit(floor, &cast(0, 100, 0, -400)),
+        hit(floor, &cast(0, 100, 0, 400)),
+        // A start in the shape, and a ray that has no way.
+        hit(ball, &cast(10, -20, 5, 5)),
+        hit(ball, &cast(60, 80, 0, 0)),
+        hit(ball, &cast(61, 81, 0, 0)),
+        // Circles that are grazed, passed, and of no radius.
+        hit(ball, &cast(-1000, 100, 2000, 0)),
+        hit(ball, &cast(-1000, 101, 2000, 0)),
+        hit(circle(0, 0, 0), &cast(-1000, 0, 2000, 0)),
+    ];
+    let wanted = [
+        Some(7549747),
+        Some(4194304),
+        None,
+        Some(0),
+        Some(0),
+        None,
+        Some(8388608),
+        None,
+        Some(8388608),
+    ];
+    same_items(&rt, &hits, &wanted);
 }
 
 #[test]
 fn rays_meet_the_sides_and_ends_of_a_capsule(rt: HostRuntime) {
     let bar = capsule(-30000, 0, 30000, 0, 10000);
-    same(&rt, &hit(bar, &cast(0, 100000, 0, -200000)), &Some(7549747));
-    same(
-        &rt,
-        &hit(bar, &cast(-100000, 10000, 200000, 0)),
-        &Some(5872025),
-    );
-    same(&rt, &hit(bar, &cast(-100000, 10001, 200000, 0)), &None);
-    same(&rt, &hit(bar, &cast(100000, 0, -200000, 0)), &Some(5033164));
-    same(&rt, &hit(bar, &cast(-100000, 0, 200000, 0)), &Some(5033164));
-    same(
-        &rt,
-        &hit(bar, &cast(37000, 100000, 0, -200000)),
-        &Some(7789541),
-    );
+    let hits = [
+        hit(bar, &cast(0, 100000, 0, -200000)),
+        hit(bar, &cast(-100000, 10000, 200000, 0)),
+        hit(bar, &cast(-100000, 10001, 200000, 0)),
+        hit(bar, &cast(100000, 0, -200000, 0)),
+        hit(bar, &cast(-100000, 0, 200000, 0)),
+        hit(bar, &cast(37000, 100000, 0, -200000)),
+    ];
+    let wanted = [
+        Some(7549747),
+        Some(5872025),
+        None,
+        Some(5033164),
+        Some(5033164),
+        Some(7789541),
+    ];
+    same_items(&rt, &hits, &wanted);
 }
 
 /// Boxes, and whether the ray from the origin to (100000, 100000) reaches them.
@@ -159,8 +115,11 @@ fn boxes_off_the_way_are_passed_over(rt: HostRuntime) {
         same(&rt, &(case.0, across.reaches(&case.0)), &case);
     }
     let nowhere = cast(5, 5, 0, 0);
-    same(&rt, &nowhere.reaches(&boxed(0, 0, 10, 10)), &true);
-    same(&rt, &nowhere.reaches(&boxed(70, 0, 80, 10)), &false);
+    let reached = [
+        nowhere.reaches(&boxed(0, 0, 10, 10)),
+        nowhere.reaches(&boxed(70, 0, 80, 10)),
+    ];
+    same_items(&rt, &reached, &[true, false]);
 }
 
 fn named(slot: u32, index: u8, shape: Shape, pose: Pose) -> PlacedShape
@@ -197,16 +156,21 @@ fn the_first_hit_is_the_nearest_and_then_of_the_lesser_name(rt: HostRuntime) {
     let near = named(7, 1, ball, at(1000, 0));
     let twin = named(7, 0, ball, at(1000, 0));
     let far = named(2, 0, ball, at(1500, 0));
-    same(&rt, &first_of(&ray, far, near), &on(7549747, 7, 1));
-    same(&rt, &first_of(&ray, near, twin), &on(7549747, 7, 0));
-    same(&rt, &first_of(&ray, twin, near), &on(7549747, 7, 0));
-    same(&rt, &first_of(&cast(0, 0, -2000, 0), twin, near), &None);
-    same(&rt, &nearer(on(5, 3, 0), on(5, 2, 4)), &on(5, 2, 4));
+    let hits = [
+        first_of(&ray, far, near),
+        first_of(&ray, near, twin),
+        first_of(&ray, twin, near),
+        first_of(&cast(0, 0, -2000, 0), twin, near),
+        nearer(on(5, 3, 0), on(5, 2, 4)),
+    ];
+    let lesser = on(7549747, 7, 0);
+    let wanted = [on(7549747, 7, 1), lesser, lesser, None, on(5, 2, 4)];
+    same_items(&rt, &hits, &wanted);
     let over = [
         is_over(&ball, at(1000, 0), &boxed(0, 0, 900, 5)),
         is_over(&ball, at(1000, 0), &boxed(0, 0, 899, 5)),
     ];
-    same(&rt, &over, &[true, false]);
+    same_items(&rt, &over, &[true, false]);
 }
 
 /// A shape, the position and facing of its body, the start and way of a ray, and where that hits.

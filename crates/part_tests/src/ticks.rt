@@ -10,13 +10,12 @@ ghost use Rattle.colour_solver.specs.ConstraintTurns.{AreRowsBelow, IsRowBelow};
 ghost use Rattle.colour_solver.specs.declared.constraint_row.ConstraintRow.TheVariants.{Contact};
 ghost use Rattle.colour_solver.specs.Ticks.{start, ticks};
 
-use crate::assertions::same;
+use crate::assertions::same_items;
 use colour_solver::{Rows, StepSums, run_step};
 use colour_solver_base::{Bodies, ContactRow, PointRow};
 use fixed_geom::{Refusal, Rot, Vec2};
 use momenta::{BodyState, Gain, MassData, Motion, inverse_reciprocal, reciprocals_of};
 use std::alloc::Global;
-use std::test::Fail;
 
 const ORIGIN: Vec2 = Vec2 { x: 0, y: 0 };
 
@@ -95,45 +94,11 @@ fn fallen(alloc: Global) -> Result<After, Refusal> {
     Ok(After { sums, states, rows })
 }
 
-#[test]
-fn a_point_falls_for_four_ticks(rt: HostRuntime) -> Result<(), Fail> {
-    let after = fallen(rt.alloc())?;
-    let sums = StepSums {
-        gravity: Gain { x: 0, y: -160768 },
-        immovable: NOTHING,
-        clamp: NOTHING,
-    };
-    same(&rt, &after.sums, &sums);
-    same(
-        &rt,
-        &motion_of(&after, 0),
-        &Some((at(0, -1570), at(0, -160768))),
-    );
-    Ok(())
-}
-
 fn limited(alloc: Global) -> Result<After, Refusal> {
     let mut states = one_body(alloc, point(true, 1, at(2097152, 0)))?;
     let mut rows = no_rows(alloc);
     let sums = run_step(&mut states, &mut rows, &[0], &[], ORIGIN, 1);
     Ok(After { sums, states, rows })
-}
-
-#[test]
-fn the_speed_limit_is_booked_as_clamp(rt: HostRuntime) -> Result<(), Fail> {
-    let after = limited(rt.alloc())?;
-    let sums = StepSums {
-        gravity: NOTHING,
-        immovable: NOTHING,
-        clamp: Gain { x: -1048576, y: 0 },
-    };
-    same(&rt, &after.sums, &sums);
-    same(
-        &rt,
-        &motion_of(&after, 0),
-        &Some((at(1048576, 0), at(1048576, 0))),
-    );
-    Ok(())
 }
 
 /// The contact of a point of mass 1 that comes down on an immovable body at 8,192 u a tick, and bounces in full.
@@ -204,19 +169,51 @@ fn first_impulse(after: &After) -> Option<i64> {
     }
 }
 
+/// What a step has booked, the motions of the first two bodies after it, and the impulse of the first contact.
+type Told = (StepSums, [Option<(Vec2, Vec2)>; 2], Option<i64>);
+
+fn told(stepped: Result<After, Refusal>) -> Result<Told, Refusal> {
+    match stepped {
+        Ok(after) => {
+            let motions = [motion_of(&after, 0), motion_of(&after, 1)];
+            Ok((after.sums, motions, first_impulse(&after)))
+        }
+        Err(refusal) => Err(refusal),
+    }
+}
+
+/// A point falls for four ticks, the speed limit is booked as clamp, and a point bounces off an immovable body.
 #[test]
-fn a_point_bounces_off_an_immovable_body(rt: HostRuntime) -> Result<(), Fail> {
-    let after = bounced(rt.alloc())?;
-    let sums = StepSums {
+fn steps_of_points(rt: HostRuntime) {
+    let steps = [
+        told(fallen(rt.alloc())),
+        told(limited(rt.alloc())),
+        told(bounced(rt.alloc())),
+    ];
+    let of_fall = StepSums {
+        gravity: Gain { x: 0, y: -160768 },
+        immovable: NOTHING,
+        clamp: NOTHING,
+    };
+    let of_limit = StepSums {
+        gravity: NOTHING,
+        immovable: NOTHING,
+        clamp: Gain { x: -1048576, y: 0 },
+    };
+    let of_bounce = StepSums {
         gravity: NOTHING,
         immovable: Gain { x: 0, y: 16384 },
         clamp: NOTHING,
     };
-    same(&rt, &after.sums, &sums);
-    same(&rt, &motion_of(&after, 0), &Some((ORIGIN, ORIGIN)));
-    same(&rt, &motion_of(&after, 1), &Some((ORIGIN, at(0, 8192))));
-    same(&rt, &first_impulse(&after), &Some(16384));
-    Ok(())
+    let fell = [Some((at(0, -1570), at(0, -160768))), None];
+    let flew = [Some((at(1048576, 0), at(1048576, 0))), None];
+    let back = [Some((ORIGIN, ORIGIN)), Some((ORIGIN, at(0, 8192)))];
+    let wanted = [
+        Ok((of_fall, fell, None)),
+        Ok((of_limit, flew, None)),
+        Ok((of_bounce, back, Some(16384))),
+    ];
+    same_items(&rt, &steps, &wanted);
 }
 
 /// The definitions give the same values, computed by themselves: a fall, the speed limit, the edge.

@@ -10,20 +10,12 @@ use body_handles::Handle;
 use fixed_geom::{Box2, Refusal, Vec2};
 use json::Scratch;
 use line_json::{LONGEST, LineFault, LineReader, Outbox, Reason, Stop};
+use script_options::Options;
 use std::alloc::Global;
 use std::io::{BufRead, Write};
 use std::sync::Wait;
 use std::thread::Threads;
 use world_core::{Command, Reply, WorldCore};
-
-/// How the program was asked to run.
-#[derive(Clone, Copy, Debug, PartialEq, Eq)]
-pub struct Options {
-    /// Whether each refusal is told in words on standard error.
-    pub explain: bool,
-    /// How many threads make the calls of a crowd, 1 to 64.
-    pub threads: u64,
-}
 
 /// The line that is read, and the room that its reading needs.
 #[derive(Drop)]

@@ -8,7 +8,7 @@ mod explanation;
 mod requests;
 mod status;
 
-pub use engine::{Options, run};
+pub use engine::run;
 pub use explanation::{Explanation, explain};
 pub use requests::{CrowdDef, Request, request_of};
 pub use status::Status;

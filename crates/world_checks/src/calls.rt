@@ -1,12 +1,13 @@
-//! A world by the calls that are made of it, in methods that promise nothing. The checks are generic over it, so that no proof of this program has to
+//! A world by the calls that are made of it, in methods that promise nothing. The checks and the trials are generic over it, so that no proof of this program has to
 //! read what a world promises or keeps, but for those of the methods.
 
 use fixed_geom::Box2;
-use impulse_ledger::Entry;
+use impulse_ledger::Ledger;
+use serde_json::Value;
 use std::alloc::Global;
 use world_core::{
-    BodyView, Cause, Census, Command, Constraint, Events, Frame, Handle, Item, Plain, Refusal,
-    Reply, ShapeId, Total, Vec2, WorldCore,
+    BodyView, Census, Command, Constraint, Events, Frame, Handle, Item, Plain, Refusal, Reply,
+    ShapeId, Vec2, WorldCore,
 };
 use world_queries::Hit;
 
@@ -24,11 +25,17 @@ pub trait World: Drop {
 
     fn replay(&mut self, alloc: Global, commands: &[Command]) -> Result<Vec<Answer>, Refusal>;
 
+    fn step(&mut self, ticks: i64) -> Answer;
+
     fn settle(&mut self);
 
     fn lists(&self) -> Result<Plain, Refusal>;
 
     fn census(&self) -> Result<Census, Refusal>;
+
+    fn saved(&self) -> Result<Value, Refusal>;
+
+    fn loaded(alloc: Global, value: &Value) -> Result<Self, Refusal>;
 
     fn frame(&self) -> Result<Frame, Refusal>;
 
@@ -38,17 +45,13 @@ pub trait World: Drop {
 
     fn events(&self) -> &Events;
 
-    fn entries(&self) -> &[Entry];
-
-    fn total_of(&self, cause: Cause) -> Total;
-
-    fn total(&self) -> Total;
+    fn ledger(&self) -> &Ledger;
 
     /// What a ray hits first, if its numbers are within their limits.
     fn hit(&self, from: Vec2, along: Vec2) -> Option<Hit>;
 
     /// The shapes that lie over a box.
-    fn over(&self, alloc: Global, bounds: &Box2) -> Result<Vec<ShapeId>, Refusal>;
+    fn region(&self, alloc: Global, bounds: &Box2) -> Result<Vec<ShapeId>, Refusal>;
 }
 
 impl World for WorldCore {
@@ -68,6 +71,10 @@ impl World for WorldCore {
         WorldCore::replay(self, alloc, commands)
     }
 
+    fn step(&mut self, ticks: i64) -> Answer {
+        self.step_one(ticks)
+    }
+
     fn settle(&mut self) {
         self.settle_ledger();
     }
@@ -78,6 +85,17 @@ impl World for WorldCore {
 
     fn census(&self) -> Result<Census, Refusal> {
         WorldCore::census(self)
+    }
+
+    fn saved(&self) -> Result<Value, Refusal> {
+        self.save()
+    }
+
+    fn loaded(alloc: Global, value: &Value) -> Result<WorldCore, Refusal> {
+        match WorldCore::load(alloc, value) {
+            Ok(world) => Ok(world),
+            Err(broken) => Err(broken.refusal()),
+        }
     }
 
     fn frame(&self) -> Result<Frame, Refusal> {
@@ -96,16 +114,8 @@ impl World for WorldCore {
         WorldCore::events(self)
     }
 
-    fn entries(&self) -> &[Entry] {
-        self.ledger().entries()
-    }
-
-    fn total_of(&self, cause: Cause) -> Total {
-        self.ledger().total_of(cause)
-    }
-
-    fn total(&self) -> Total {
-        self.ledger().total()
+    fn ledger(&self) -> &Ledger {
+        WorldCore::ledger(self)
     }
 
     fn hit(&self, from: Vec2, along: Vec2) -> Option<Hit> {
@@ -116,7 +126,7 @@ impl World for WorldCore {
         }
     }
 
-    fn over(&self, alloc: Global, bounds: &Box2) -> Result<Vec<ShapeId>, Refusal> {
+    fn region(&self, alloc: Global, bounds: &Box2) -> Result<Vec<ShapeId>, Refusal> {
         if world_queries::is_region(bounds) {
             world_queries::region(alloc, self, bounds)
         } else {
@@ -130,5 +140,13 @@ pub fn first_static(census: &Census) -> Option<Handle> {
     match census.static_set().first() {
         Some(Item::Body(handle)) => Some(*handle),
         _ => None,
+    }
+}
+
+/// How many calls it accepted.
+pub fn calls_of<W: World>(world: &W) -> Result<u64, Refusal> {
+    match world.lists() {
+        Ok(lists) => Ok(lists.calls()),
+        Err(refusal) => Err(refusal),
     }
 }

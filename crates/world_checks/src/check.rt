@@ -9,7 +9,7 @@ use fixed_geom::Box2;
 use islands::Label;
 use std::alloc::Global;
 use world_core::{
-    Body, Cause, Command, Constraint, Course, Handle, JointDef, Kind, MassData, Plain, Pose,
+    Body, Cause, Command, Constraint, Course, Handle, Item, JointDef, Kind, MassData, Plain, Pose,
     Refusal, ShapeDef, Vec2,
 };
 
@@ -66,9 +66,18 @@ impl<W: World> Check<W> {
         self.tell(Line::Saw(seen));
     }
 
+    pub fn alloc(&self) -> Global {
+        self.alloc
+    }
+
+    /// A check of this name begins.
+    pub fn name(&mut self, name: &'static str) {
+        self.tell(Line::Name(name));
+    }
+
     /// A check of this name begins, in an empty world.
     pub fn begin(&mut self, name: &'static str, gravity: Vec2) {
-        self.tell(Line::Name(name));
+        self.name(name);
         match W::empty(self.alloc, gravity) {
             Ok(world) => self.world = world,
             Err(_) => self.is_cut = true,
@@ -204,7 +213,7 @@ impl<W: World> Check<W> {
     }
 
     fn compare_entries(&mut self, copy: &W) {
-        let are_same = copy.entries() == self.world.entries();
+        let are_same = copy.ledger().entries() == self.world.ledger().entries();
         self.see(Seen::Truth("the entries are those of the copy", are_same));
     }
 
@@ -233,7 +242,7 @@ impl<W: World> Check<W> {
 
     /// Tells how many shapes lie over the box from the origin to this corner.
     pub fn see_over(&mut self, hi: Vec2) {
-        match self.world.over(self.alloc, &Box2 { lo: ORIGIN, hi }) {
+        match self.world.region(self.alloc, &Box2 { lo: ORIGIN, hi }) {
             Ok(shapes) => self.see(Seen::Count("shapes over the box", shapes.len() as u64)),
             Err(_) => self.is_cut = true,
         }
@@ -245,23 +254,23 @@ impl<W: World> Check<W> {
     }
 
     pub fn see_total(&mut self) {
-        let total = self.world.total();
+        let total = self.world.ledger().total();
         self.see(Seen::Total(None, total));
     }
 
     pub fn see_total_of(&mut self, cause: Cause) {
-        let total = self.world.total_of(cause);
+        let total = self.world.ledger().total_of(cause);
         self.see(Seen::Total(Some(cause), total));
     }
 
     /// Tells the entries of the book but the first ones, so many, or that there are none.
     pub fn see_entries_after(&mut self, skipped: usize) {
-        let count = self.world.entries().len();
+        let count = self.world.ledger().entries().len();
         if count <= skipped {
             self.see(Seen::Count("entries", 0));
         }
         for index in skipped..count {
-            if let Some(entry) = self.world.entries().get(index).copied() {
+            if let Some(entry) = self.world.ledger().entries().get(index).copied() {
                 self.see(Seen::Entry(entry));
             }
         }
@@ -398,6 +407,20 @@ impl<W: World> Check<W> {
                 self.see(Seen::Count("awake", census.awake().len() as u64));
             }
             Err(_) => self.is_cut = true,
+        }
+    }
+
+    /// Tells what stands in the set of the disabled.
+    pub fn see_disabled(&mut self) {
+        match self.world.census() {
+            Ok(census) => self.see_disabled_of(census.disabled()),
+            Err(_) => self.is_cut = true,
+        }
+    }
+
+    fn see_disabled_of(&mut self, items: &[Item]) {
+        for item in items {
+            self.see(Seen::Disabled(*item));
         }
     }
 

@@ -2,6 +2,10 @@
 //! line and each value on one of its own. The gate compares the lines with the stored ones.
 //!
 //! They are lines and no tests, since a test that calls a world costs the proof minutes, and a line none.
+//!
+//! `world_checks CALL` makes one call of a world while memory may be refused to it, and says in a line what came of it:
+//! `kept` where a refused call left everything as it was and then succeeded, `none` where the call met
+//! no refusal, `outside` where something beside the call met it, and else what differs. Without a word each of these calls is made too, after the checks.
 #![tactic(auto)]
 
 mod calls;
@@ -19,12 +23,24 @@ mod queries;
 mod readme;
 mod seen;
 mod sleeping;
+mod trials;
 
 use calls::World;
 use check::Check;
-use std::io;
 use std::process::ExitCode;
+use std::rt::Env;
+use std::{env, io};
+use trials::{Call, Outcome, Stop, try_call};
 use world_core::WorldCore;
+
+/// A line can't be written.
+const FAILED: u8 = 1;
+
+/// A word names no call.
+const BAD_WORDS: u8 = 2;
+
+/// Memory is wanting for something that has to be seen.
+const NO_MEMORY: u8 = 3;
 
 fn run_all<W: World>(check: &mut Check<W>) {
     one_body::run(check);
@@ -38,6 +54,7 @@ fn run_all<W: World>(check: &mut Check<W>) {
     platforms::run(check);
     queries::run(check);
     readme::run(check);
+    trials::run(check);
 }
 
 fn print<R: AllocGlobal + Print, W: World>(rt: &R, check: &Check<W>) -> io::Result<()> {
@@ -47,25 +64,74 @@ fn print<R: AllocGlobal + Print, W: World>(rt: &R, check: &Check<W>) -> io::Resu
     Ok(())
 }
 
-/// Runs all checks, and prints what they told. Status 3 where memory is wanting, and 1 where a line can't be written.
-fn run_and_print<R: AllocGlobal + Print, W: World>(rt: &R, check: &mut Check<W>) -> ExitCode {
-    run_all(check);
-    if print(rt, check).is_err() {
-        return ExitCode::from(1);
-    }
-    if check.is_cut() {
-        return ExitCode::from(3);
-    }
-    ExitCode::SUCCESS
+/// What the program's words ask for.
+enum Asked {
+    /// All checks.
+    All,
+    /// A call to which memory may be refused.
+    One(Call),
+    /// A word that names no call.
+    Unknown,
 }
 
-fn start<R: AllocGlobal + Print, W: World>(rt: &R) -> ExitCode {
+/// Reads the program's words, of which the first is its name.
+fn read_words<R: AllocGlobal + Env>(rt: &R) -> io::Result<Asked> {
+    let words: Vec<String> = env::args(rt)?.collect(rt.alloc())?;
+    match words.get(1) {
+        Some(word) => match Call::of_word(word.as_str()) {
+            Some(call) => Ok(Asked::One(call)),
+            None => Ok(Asked::Unknown),
+        },
+        None => Ok(Asked::All),
+    }
+}
+
+fn print_lines<R: Print, W: World>(rt: &R, check: &Check<W>) -> io::Result<()> {
+    for line in check.lines() {
+        println!(rt; "{line}")?;
+    }
+    Ok(())
+}
+
+/// Runs all checks, and prints what they told.
+fn run_and_print<R: Print, W: World>(rt: &R, check: &mut Check<W>) -> io::Result<ExitCode> {
+    run_all(check);
+    print_lines(rt, check)?;
+    if check.is_cut() {
+        return Ok(ExitCode::from(NO_MEMORY));
+    }
+    Ok(ExitCode::SUCCESS)
+}
+
+fn print_checks<R: AllocGlobal + Print, W: World>(rt: &R) -> io::Result<ExitCode> {
     match Check::<W>::new(rt.alloc()) {
         Ok(mut check) => run_and_print(rt, &mut check),
-        Err(_) => ExitCode::from(3),
+        Err(_) => Ok(ExitCode::from(NO_MEMORY)),
+    }
+}
+
+/// Prints what came of a call.
+fn print_trial<R: Print>(rt: &R, outcome: Result<Outcome, Stop>) -> io::Result<ExitCode> {
+    match outcome {
+        Ok(outcome) => println!(rt; "{outcome}")?,
+        Err(stop) => println!(rt; "{stop}")?,
+    }
+    Ok(ExitCode::SUCCESS)
+}
+
+/// Does what the program's words ask for.
+fn start<R: AllocGlobal + Env + Print, W: World>(rt: &R) -> io::Result<ExitCode> {
+    match read_words(rt) {
+        Ok(Asked::All) => print_checks::<R, W>(rt),
+        Ok(Asked::One(call)) => print_trial(rt, try_call::<W>(rt.alloc(), call)),
+        Ok(Asked::Unknown) => Ok(ExitCode::from(BAD_WORDS)),
+        Err(_) => print_trial(rt, Err(Stop::Outside)),
     }
 }
 
 fn main(rt: HostRuntime) -> ExitCode {
-    start::<_, WorldCore>(&rt)
+    match start::<_, WorldCore>(&rt) {
+        Ok(code) => code,
+        Err(_) => ExitCode::from(FAILED),
+    }
 }

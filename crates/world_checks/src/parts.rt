@@ -26,7 +26,7 @@ fn see_pair<W: World>(check: &mut Check<W>) {
     check.see_islands(2);
 }
 
-/// The momentum departs, the joint does nothing, and the neighbour stays behind in a loose island. Enabled, the body is at rest, and
+/// The momentum departs, body and joint stand in disabled, where the joint does nothing, and the neighbour stays behind in a loose island. Enabled, the body is at rest, and
 /// its joint makes one loose island of both, which is split into itself before it sleeps.
 fn a_disabled_body_leaves_and_comes_again<W: World>(check: &mut Check<W>) {
     check.begin("a disabled body leaves and comes again", NO_GRAVITY);
@@ -34,6 +34,7 @@ fn a_disabled_body_leaves_and_comes_again<W: World>(check: &mut Check<W>) {
     check.push(FIRST, 5, 0);
     check.ask(Command::Disable(FIRST));
     check.see_entries();
+    check.see_disabled();
     see_pair(check);
     check.ask_push(FIRST, 1, 0);
     check.ask(Command::Enable(FIRST));

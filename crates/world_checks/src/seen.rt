@@ -1,12 +1,14 @@
 //! What a check sees of a world, and how it is told.
 
 use crate::calls::Answer;
+use crate::trials::{Call, Difference, Outcome, Stop, Told};
 use fixed_geom::Box2;
 use impulse_ledger::Entry;
 use islands::{IslandState, Label};
 use std::fmt;
 use world_core::{
-    BodyView, Cause, ContactKey, Course, Handle, Pose, Reply, Rot, SetName, ShapeId, Total, Vec2,
+    BodyView, Cause, ContactKey, Course, Handle, Item, Pose, Reply, Rot, SetName, ShapeId, Total,
+    Vec2,
 };
 use world_queries::Hit;
 
@@ -37,7 +39,15 @@ pub enum Seen {
     Shown(&'static str, Total),
     /// A body of the census.
     Listed(Option<Handle>),
+    /// What stands in the set of the disabled.
+    Disabled(Item),
     Truth(&'static str, bool),
+    /// What came of a call to which memory may be refused.
+    Trial(Call, Result<Outcome, Stop>),
+    /// What is found in worlds that differ so.
+    Compared(Difference, Result<(), Stop>),
+    /// What a step told, in numbers.
+    Told(Result<Told, Stop>),
 }
 
 /// A line of output.
@@ -283,6 +293,14 @@ fn write_listed<W: fmt::Write>(f: &mut fmt::Formatter<W>, handle: Option<Handle>
     }
 }
 
+fn write_disabled<W: fmt::Write>(f: &mut fmt::Formatter<W>, item: Item) -> fmt::Result {
+    match item {
+        Item::Body(handle) => write_handle(f, "disabled: body", handle),
+        Item::Joint(handle) => write_handle(f, "disabled: joint", handle),
+        Item::Contact(key) => write_key(f, "disabled: contact", key),
+    }
+}
+
 fn write_key<W: fmt::Write>(f: &mut fmt::Formatter<W>, what: &str, key: ContactKey) -> fmt::Result {
     let key = Key(key);
     write!(f, "{what} {key}")
@@ -295,6 +313,35 @@ fn write_handle<W: fmt::Write>(
 ) -> fmt::Result {
     let id = Id(handle);
     write!(f, "{what} {id}")
+}
+
+fn write_trial<W: fmt::Write>(
+    f: &mut fmt::Formatter<W>,
+    call: Call,
+    outcome: Result<Outcome, Stop>,
+) -> fmt::Result {
+    match outcome {
+        Ok(outcome) => write!(f, "{call}: {outcome}"),
+        Err(stop) => write!(f, "{call}: {stop}"),
+    }
+}
+
+fn write_compared<W: fmt::Write>(
+    f: &mut fmt::Formatter<W>,
+    difference: Difference,
+    found: Result<(), Stop>,
+) -> fmt::Result {
+    match found {
+        Ok(()) => write!(f, "{difference}: the same"),
+        Err(stop) => write!(f, "{difference}: {stop}"),
+    }
+}
+
+fn write_told<W: fmt::Write>(f: &mut fmt::Formatter<W>, told: Result<Told, Stop>) -> fmt::Result {
+    match told {
+        Ok(told) => write!(f, "{told}"),
+        Err(stop) => write!(f, "{stop}"),
+    }
 }
 
 impl fmt::Display for Seen {
@@ -321,7 +368,11 @@ impl fmt::Display for Seen {
                 write!(f, "{what} {total}")
             }
             Seen::Listed(handle) => write_listed(f, handle),
+            Seen::Disabled(item) => write_disabled(f, item),
             Seen::Truth(what, is_true) => write!(f, "{what}: {is_true}"),
+            Seen::Trial(call, outcome) => write_trial(f, call, outcome),
+            Seen::Compared(difference, found) => write_compared(f, difference, found),
+            Seen::Told(told) => write_told(f, told),
         }
     }
 }

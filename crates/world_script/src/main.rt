@@ -3,10 +3,8 @@
 //! statuses.
 #![tactic(auto)]
 
-mod options;
-
-use options::Instead;
-use script_engine::{Options, Status, run};
+use script_engine::{Status, run};
+use script_options::{Instead, Options, options};
 use std::io::{BufReader, BufWriter};
 use std::process::ExitCode;
 use std::rt::Env;
@@ -54,7 +52,7 @@ fn start<R: AllocGlobal + Env + Input + Print + Eprint + Threads + Wait + Sync>(
             return status;
         }
     };
-    match options::options(rt.alloc(), words.as_slice()) {
+    match options(rt.alloc(), words.as_slice()) {
         Ok(options) => serve(rt, options),
         Err(Instead::Text(text)) => match print!(rt; "{text}") {
             Ok(()) => Status::Ended,
@@ -71,6 +69,3 @@ fn start<R: AllocGlobal + Env + Input + Print + Eprint + Threads + Wait + Sync>(
 fn main(rt: HostRuntime) -> ExitCode {
     ExitCode::from(start(&rt).code())
 }
-
-#[cfg(test)]
-mod tests;

@@ -1,10 +1,10 @@
 //! Trials of worlds that are saved and loaded, and of regions.
 
 use crate::calls::World;
-use crate::compare::expect;
-use crate::stop::{Moment, Part, Stop};
-use crate::trial::{Outcome, again, met};
-use crate::worlds::Worlds;
+use crate::trials::compare::expect;
+use crate::trials::stop::{Moment, Part, Stop};
+use crate::trials::trial::{Outcome, again, met};
+use crate::trials::worlds::Worlds;
 use contacts_base::ShapeId;
 use fixed_geom::{Box2, Vec2};
 use serde_json::Value;

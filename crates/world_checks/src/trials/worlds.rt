@@ -1,7 +1,7 @@
 use crate::calls::{Answer, World, calls_of};
-use crate::compare::expect_same_worlds;
-use crate::scene::{self, Setting};
-use crate::stop::{Moment, Stop};
+use crate::trials::compare::expect_same_worlds;
+use crate::trials::scene::{self, Setting};
+use crate::trials::stop::{Moment, Stop};
 use fixed_geom::Refusal;
 use std::alloc::Global;
 use world_core::Command;

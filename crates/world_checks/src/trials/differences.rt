@@ -1,13 +1,14 @@
 //! What the comparison finds in worlds that differ: one that found nothing would let every trial through.
 
 use crate::calls::World;
-use crate::resting;
-use crate::scene::{self, Setting};
-use crate::stop::Stop;
-use crate::worlds::Worlds;
+use crate::trials::resting;
+use crate::trials::scene::{self, Setting};
+use crate::trials::stop::Stop;
+use crate::trials::worlds::Worlds;
 use body_handles::Handle;
 use fixed_geom::{Refusal, Vec2};
 use std::alloc::Global;
+use std::fmt;
 use world_core::Command;
 
 /// In what a world differs from the one that it is compared with.
@@ -52,6 +53,21 @@ const PUSHED: Handle = Handle {
     slot: 1,
     generation: 1,
 };
+
+impl fmt::Display for Difference {
+    fn fmt<W: fmt::Write>(&self, f: &mut fmt::Formatter<W>) -> fmt::Result {
+        f.write_str(match self {
+            Difference::Created => "a body was created",
+            Difference::Pushed => "a body was pushed",
+            Difference::Joined => "a joint was made",
+            Difference::Loosened => "an island was loosened",
+            Difference::Woken => "sleepers woke",
+            Difference::Pulled => "gravity is another",
+            Difference::Order => "two pushes came in the other order",
+            Difference::Nothing => "nothing",
+        })
+    }
+}
 
 /// The world in which the difference can come about.
 fn setting_of(difference: Difference) -> Setting {

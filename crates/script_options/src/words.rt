@@ -1,6 +1,10 @@
+//! The words of the program, as `clap` reads them.
+
+ghost use Rattle.std.specs.Prelude.{◌≤◌, IfOk};
+
+use crate::asked::{Instead, Options};
 use clap::error::ErrorKind;
 use clap::{Arg, ArgAction, ArgMatches, Command};
-use script_engine::Options;
 use std::alloc::Global;
 use std::convert::AsStr;
 
@@ -8,6 +12,9 @@ const ABOUT: &str =
     "Keeps a world of bodies: reads one JSON request a line, and answers each with a line";
 
 const VERSION: &str = "0.1.0";
+
+/// How many threads make the calls of a crowd at most.
+const MOST_THREADS: u64 = 64;
 
 /// What follows the options in the help.
 const REQUESTS: &str =
@@ -36,26 +43,27 @@ Shapes are {\"circle\":[x,y],\"radius\":r}, {\"capsule\":[[x,y],[x,y]],\"radius\
 An answer is one line: {\"refused\":K} where the world refuses a request, and {\"bad\":N} where line N is no request; the
 program ends then with status 1, and says on standard error what is wrong. docs/SCRIPT.md has all of it.";
 
-/// Why the program's words give no options.
-#[derive(Debug, Drop)]
-pub enum Instead {
-    /// Help or the version was asked for: its text.
-    Text(String),
-    /// The words are bad: the text of the fault.
-    BadWords(String),
-    /// There was no memory to read them.
-    NoMemory,
-}
-
 /// Reads the program's words, of which the first is its name.
-pub fn options<S: AsStr>(alloc: Global, words: &[S]) -> Result<Options, Instead> {
+pub fn options<S: AsStr>(alloc: Global, words: &[S]) -> Result<Options, Instead>
+    ensures threads { IfOk result (λ options. (1 ≤ options.threads) × (options.threads ≤ 64)) }
+{
     match matches_of(alloc, words) {
         Ok(matches) => Ok(Options {
             explain: matches.get_flag("explain"),
-            threads: matches.get_one::<u64>("threads").unwrap_or(1),
+            threads: threads_of(&matches),
         }),
         Err(error) => Err(instead_of(alloc, &error)),
     }
+}
+
+/// The number of threads that the words ask for, and 1 where they name none. The parser lets no number beyond the limits through.
+fn threads_of(matches: &ArgMatches<'_>) -> u64
+    ensures { (1 ≤ result) × (result ≤ 64) }
+{
+    matches
+        .get_one::<u64>("threads")
+        .unwrap_or(1)
+        .clamp(1, MOST_THREADS)
 }
 
 /// What the words ask for.

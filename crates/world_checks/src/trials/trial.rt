@@ -1,14 +1,15 @@
-use crate::call::{Call, Change};
 use crate::calls::{Answer, World};
-use crate::compare::{are_same_censuses, expect, expect_same_lists, expect_same_worlds};
-use crate::resting;
-use crate::saved::{try_load, try_region, try_save};
-use crate::scene::{self, Setting};
-use crate::stop::{Moment, Part, Stop};
-use crate::worlds::Worlds;
+use crate::trials::call::{Call, Change};
+use crate::trials::compare::{are_same_censuses, expect, expect_same_lists, expect_same_worlds};
+use crate::trials::resting;
+use crate::trials::saved::{try_load, try_region, try_save};
+use crate::trials::scene::{self, Setting};
+use crate::trials::stop::{Moment, Part, Stop};
+use crate::trials::worlds::Worlds;
 use fixed_geom::Refusal;
 use solver_sets::Census;
 use std::alloc::Global;
+use std::fmt;
 use world_core::{Command, Plain, Reply};
 
 /// How a call went that did what it should.
@@ -20,9 +21,18 @@ pub enum Outcome {
     Unmet,
 }
 
+impl fmt::Display for Outcome {
+    fn fmt<W: fmt::Write>(&self, f: &mut fmt::Formatter<W>) -> fmt::Result {
+        f.write_str(match self {
+            Outcome::Kept => "kept",
+            Outcome::Unmet => "none",
+        })
+    }
+}
+
 /// Makes a call in the scene's world, and once more if memory was refused to it. The reference, the copy
 /// and whatever else needs memory come before the call.
-pub fn trial<W: World>(alloc: Global, call: Call) -> Result<Outcome, Stop> {
+pub fn try_call<W: World>(alloc: Global, call: Call) -> Result<Outcome, Stop> {
     match call {
         Call::Apply(change) => try_command::<W>(alloc, change),
         Call::Plain => try_plain::<W>(alloc),

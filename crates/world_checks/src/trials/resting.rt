@@ -2,7 +2,7 @@
 //! to part.
 
 use crate::calls::World;
-use crate::scene::Scene;
+use crate::trials::scene::Scene;
 use body_handles::Handle;
 use fixed_geom::{Refusal, Rot, UNIT, Vec2};
 use momenta::MassData;

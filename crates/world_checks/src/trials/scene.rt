@@ -1,5 +1,5 @@
 use crate::calls::World;
-use crate::resting;
+use crate::trials::resting;
 use body_handles::Handle;
 use fixed_geom::{Refusal, Rot, UNIT, Vec2};
 use momenta::MassData;

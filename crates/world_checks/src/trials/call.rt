@@ -1,3 +1,5 @@
+use std::fmt;
+
 /// A call of a world to which memory may be refused.
 #[derive(Clone, Copy)]
 pub enum Call {
@@ -72,31 +74,54 @@ pub const ALL: [Call; 23] = [
 impl Call {
     /// The call that a word of the program names.
     pub fn of_word(word: &str) -> Option<Call> {
-        match word {
-            "create" => Some(Call::Apply(Change::Create)),
-            "create_many_shapes" => Some(Call::Apply(Change::CreateManyShapes)),
-            "push" => Some(Call::Apply(Change::Push)),
-            "destroy" => Some(Call::Apply(Change::Destroy)),
-            "create_joint" => Some(Call::Apply(Change::CreateJoint)),
-            "destroy_joint" => Some(Call::Apply(Change::DestroyJoint)),
-            "set_pose" => Some(Call::Apply(Change::SetPose)),
-            "set_velocity" => Some(Call::Apply(Change::SetVelocity)),
-            "step" => Some(Call::Apply(Change::Step)),
-            "gravity" => Some(Call::Apply(Change::Gravity)),
-            "plain" => Some(Call::Plain),
-            "census" => Some(Call::Census),
-            "try_copy" => Some(Call::TryCopy),
-            "replay" => Some(Call::Replay),
-            "disable" => Some(Call::Apply(Change::Disable)),
-            "enable" => Some(Call::Apply(Change::Enable)),
-            "wake" => Some(Call::Apply(Change::Wake)),
-            "sleep" => Some(Call::Apply(Change::Sleep)),
-            "destroy_waking" => Some(Call::Apply(Change::DestroyWaking)),
-            "step_of_islands" => Some(Call::Apply(Change::StepOfIslands)),
-            "save" => Some(Call::Save),
-            "load" => Some(Call::Load),
-            "region" => Some(Call::Region),
-            _ => None,
+        for call in ALL {
+            if call.word() == word {
+                return Some(call);
+            }
         }
+        None
+    }
+
+    /// The word that names it.
+    fn word(self) -> &'static str {
+        match self {
+            Call::Apply(change) => change.word(),
+            Call::Plain => "plain",
+            Call::Census => "census",
+            Call::TryCopy => "try_copy",
+            Call::Replay => "replay",
+            Call::Save => "save",
+            Call::Load => "load",
+            Call::Region => "region",
+        }
+    }
+}
+
+impl Change {
+    fn word(self) -> &'static str {
+        match self {
+            Change::Create => "create",
+            Change::CreateManyShapes => "create_many_shapes",
+            Change::Push => "push",
+            Change::Destroy => "destroy",
+            Change::CreateJoint => "create_joint",
+            Change::DestroyJoint => "destroy_joint",
+            Change::SetPose => "set_pose",
+            Change::SetVelocity => "set_velocity",
+            Change::Step => "step",
+            Change::Gravity => "gravity",
+            Change::Disable => "disable",
+            Change::Enable => "enable",
+            Change::Wake => "wake",
+            Change::Sleep => "sleep",
+            Change::DestroyWaking => "destroy_waking",
+            Change::StepOfIslands => "step_of_islands",
+        }
+    }
+}
+
+impl fmt::Display for Call {
+    fn fmt<W: fmt::Write>(&self, f: &mut fmt::Formatter<W>) -> fmt::Result {
+        f.write_str(self.word())
     }
 }

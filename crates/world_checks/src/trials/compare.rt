@@ -1,5 +1,5 @@
 use crate::calls::World;
-use crate::stop::{Moment, Part, Stop};
+use crate::trials::stop::{Moment, Part, Stop};
 use graph_colours::COLOURS;
 use impulse_ledger::{Cause, Ledger};
 use plain_world::Body;

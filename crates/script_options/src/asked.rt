@@ -1,0 +1,21 @@
+//! What words ask for.
+
+/// How the program was asked to run.
+#[derive(Clone, Copy, Debug, PartialEq, Eq)]
+pub struct Options {
+    /// Whether each refusal is told in words on standard error.
+    pub explain: bool,
+    /// How many threads make the calls of a crowd, 1 to 64.
+    pub threads: u64,
+}
+
+/// Why the program's words give no options.
+#[derive(Debug, Drop)]
+pub enum Instead {
+    /// Help or the version was asked for: its text.
+    Text(String),
+    /// The words are bad: the text of the fault.
+    BadWords(String),
+    /// There was no memory to read them.
+    NoMemory,
+}

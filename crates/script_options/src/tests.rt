@@ -1,0 +1,71 @@
+use crate::{Instead, Options, options};
+use std::alloc::Global;
+use std::test::Fail;
+
+/// What words ask for: a run with its options, or a text in its place.
+fn asked(alloc: Global, words: &[&str]) -> Result<String, Fail> {
+    let asked = match options(alloc, words) {
+        Ok(Options { explain, threads }) => {
+            format!(in alloc; "explain {explain}, threads {threads}")?
+        }
+        Err(Instead::Text(text)) => format!(in alloc; "text: {text}")?,
+        Err(Instead::BadWords(text)) => format!(in alloc; "bad words: {text}")?,
+        Err(Instead::NoMemory) => String::from_str(alloc, "no memory")?,
+    };
+    Ok(asked)
+}
+
+/// Words, and how what they ask for begins.
+type Row = (&'static [&'static str], &'static str);
+
+const HELP: &str =
+    "text: Keeps a world of bodies: reads one JSON request a line, and answers each with a line
+
+Usage: world_script [OPTIONS]
+
+Options:
+      --explain      Say in words on standard error why a request is refused
+      --threads <N>  How many threads make the calls of a crowd, 1 to 64 [default: 1]
+  -h, --help         Print help
+  -V, --version      Print version
+
+Requests, each an object";
+
+const UNKNOWN: &str = "bad words: error: unexpected argument '--workers' found
+
+Usage: world_script [OPTIONS]
+
+For more information, try '--help'.
+";
+
+const ROWS: [Row; 14] = [
+    (&["world_script"], "explain false, threads 1"),
+    (&["world_script", "--explain"], "explain true, threads 1"),
+    (
+        &["world_script", "--threads", "64"],
+        "explain false, threads 64",
+    ),
+    (&["world_script", "--threads=2"], "explain false, threads 2"),
+    (&["world_script", "--threads", "0"], "bad words: "),
+    (&["world_script", "--threads", "65"], "bad words: "),
+    (&["world_script", "--threads", "-1"], "bad words: "),
+    (&["world_script", "--threads", "two"], "bad words: "),
+    (&["world_script", "--threads", ""], "bad words: "),
+    (&["world_script", "--threads"], "bad words: "),
+    (
+        &["world_script", "--threads=2", "--threads=2"],
+        "bad words: ",
+    ),
+    (&["world_script", "--help"], HELP),
+    (&["world_script", "--version"], "text: world_script 0.1.0\n"),
+    (&["world_script", "--workers"], UNKNOWN),
+];
+
+#[test]
+fn reads_its_words(rt: HostRuntime) -> Result<(), Fail> {
+    for (words, wanted) in ROWS.iter() {
+        let asked = asked(rt.alloc(), words)?;
+        assert_eq!(rt; (words, asked.get(..wanted.len())), (words, Some(*wanted)));
+    }
+    Ok(())
+}

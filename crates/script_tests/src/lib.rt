@@ -1,0 +1,8 @@
+//! Tests of the program's engine, by its public calls: what it tells of lines and refusals, and readers and writers that fail. They stand in a crate of
+//! their own because a crate with tests is proved twice.
+#![tactic(auto)]
+
+#[cfg(test)]
+mod lines;
+#[cfg(test)]
+mod streams;
