@@ -5,7 +5,7 @@
 
 The roots are the files of crates/*/specs that the main contracts cite: world_rules/Apply and world_rules/World (what `apply`
 promises), world_rules/Replay and world_rules/Sound. A file is listed where a root names it, or a file that a root names, and so
-on: so what is listed may be more than a contract needs, and never less. Crates come lowest first, and each line
+on: so what is listed may be more than a contract needs, and never less. Crates come in the order of crates.txt, and each line
 has the file's lines and its first comment.
 """
 import glob
@@ -40,7 +40,7 @@ def reached(files, roots):
 
 
 def crate_order():
-    """The crates, each after those that it stands on, as crates.txt has them."""
+    """The crates in the order of crates.txt."""
     with open(os.path.join(TOP, "crates.txt")) as lines:
         return [line.split(":")[0].split()[0] for line in lines if ":" in line and not line.startswith("#")]
 
@@ -50,7 +50,7 @@ def show(title, files, names):
     lines = sum(files[name].count("\n") for name in names)
     print(f"{title}: {len(names)} files, {lines} lines\n\n| File | Lines | It has |\n|---|---|---|")
     for name in sorted(names, key=lambda name: (order.index(name.split("/")[0]), name)):
-        comment = files[name].split("\n", 1)[0].removeprefix("-- ")
+        comment = files[name].split("\n", 1)[0].lstrip("- ")
         print(f"| `{name}` | {files[name].count(chr(10))} | {comment} |")
     print()
 
