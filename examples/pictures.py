@@ -4,9 +4,10 @@
     examples/pictures.py                              all pictures of docs/GALLERY.md, into docs/pictures
     examples/pictures.py SCRIPT STEP[,STEP..] FOLDER  the world of a script after these of its steps
 
-The program is crates/world_script/out/world_script, or what the variable WORLD_SCRIPT names. The script goes to it with a `show`
-for each living body after each step that is wanted. Movers are filled and have a line that shows their facing; sleepers
-are paler; what stands is grey. A red dot marks where two shapes touch that the events say to touch.
+The program is crates/world_script/out/world_script, or what the variable WORLD_SCRIPT names. The script goes to it with a `save`
+after each step that is wanted, so a script may load worlds and have crowds. Movers are filled and have a line that
+shows their facing; sleepers are paler; what is carried along is green, what stands grey. A brown line is a joint. A red
+dot marks where two shapes touch that touched when the step began.
 """
 import json
 import math
@@ -23,21 +24,23 @@ GALLERY = {
     "bouncing_balls": [1, 230, 400, 600],
     "capsule_wall": [1, 75, 110, 300],
     "pinball": [1, 150, 350, 700],
+    "pendulums": [1, 130, 260, 600],
+    "bridge": [1, 60, 200, 600],
+    "moving_platform": [1, 256, 512, 900],
 }
-FILLS = {"awake": "#7aa6d8", "disabled": "none", "static": "#b8b8b8"}
+FILLS = {"dynamic": "#7aa6d8", "asleep": "#d5e3f2", "kinematic": "#9cc79c", "static": "#b8b8b8", "disabled": "none"}
 
 
 class Body:
-    """A living body: its shapes as the script gave them, and what was shown of it."""
+    """A body of a saved world, in metres."""
 
-    def __init__(self, request):
-        self.shapes = request["shapes"]
-        self.at, self.facing, self.set = (0.0, 0.0), (1.0, 0.0), "static"
-
-    def see(self, shown):
-        self.at = tuple(part / METRE for part in shown["at"])
-        self.facing = tuple(part / UNIT for part in shown["facing"])
-        self.set = shown["set"]
+    def __init__(self, saved):
+        self.shapes = saved["shapes"]
+        self.at = tuple(part / METRE for part in saved["at"])
+        self.facing = tuple(part / UNIT for part in saved["facing"])
+        self.enabled = saved["enabled"]
+        self.fill = FILLS[fill_name(saved)]
+        self.turns = saved["kind"] != "static"
 
     def in_world(self, point):
         (x, y), (c, s) = (part / METRE for part in point), self.facing
@@ -53,35 +56,31 @@ class Body:
         return self.in_world(first), self.in_world(second), shape.get("radius", 0) / METRE
 
 
-def is_gone(request, answer):
-    """Whether the request has taken a body out of the play, whose contacts go with it."""
-    return request["do"] in ("destroy", "disable") and answer.get("done")
+def fill_name(saved):
+    if not saved["enabled"]:
+        return "disabled"
+    return "asleep" if saved["asleep"] else saved["kind"]
 
 
 class Scene:
-    """The bodies and the touching shapes of a world, as answers tell of them."""
+    """The bodies, the joints and the touching shapes of a saved world."""
 
-    def __init__(self):
-        self.bodies, self.touching = {}, set()
-
-    def take(self, request, answer):
-        if request["do"] == "create" and "body" in answer:
-            self.bodies[answer["body"]] = Body(request)
-        elif is_gone(request, answer):
-            slot = int(request["body"].split(".")[0])
-            if request["do"] == "destroy":
-                del self.bodies[request["body"]]
-            self.touching = {pair for pair in self.touching if slot not in (pair[0][0], pair[1][0])}
-        elif request["do"] == "step" and "step" in answer:
-            pairs = lambda key: {(tuple(first), tuple(second)) for first, second in answer[key]}
-            self.touching = (self.touching | pairs("begin")) - pairs("end")
-        elif request["do"] == "show" and "at" in answer:
-            self.bodies[request["body"]].see(answer)
+    def __init__(self, world):
+        slots = enumerate(world["bodies"])
+        self.bodies = {slot: Body(entry["body"]) for slot, entry in slots if "body" in entry}
+        self.joints = [entry["joint"] for entry in world["joints"] if "joint" in entry]
+        self.touching = [(contact["a"], contact["b"]) for contact in world["contacts"] if contact["touching"]]
 
     def contact_points(self):
-        by_slot = {int(name.split(".")[0]): body for name, body in self.bodies.items()}
-        for (slot, index), (other, place) in sorted(self.touching):
-            yield touching_point(by_slot[slot].core(index), by_slot[other].core(place))
+        for (slot, index), (other, place) in self.touching:
+            yield touching_point(self.bodies[slot].core(index), self.bodies[other].core(place))
+
+    def joint_lines(self):
+        """The two points that each joint holds, where both its bodies are enabled."""
+        for joint in self.joints:
+            first, second = (self.bodies[int(joint[end].split(".")[0])] for end in "ab")
+            if first.enabled and second.enabled:
+                yield first.in_world(joint["from"]), second.in_world(joint["to"])
 
 
 def nearest_on(core, point):
@@ -104,7 +103,7 @@ def touching_point(one, other):
 def shape_lines(body, index):
     """A shape as SVG, in metres with y upward."""
     (ax, ay), (bx, by), radius = body.core(index)
-    fill = FILLS.get(body.set, "#d5e3f2")
+    fill = body.fill
     if "segment" in body.shapes[index]:
         yield f'<line x1="{ax:.4f}" y1="{ay:.4f}" x2="{bx:.4f}" y2="{by:.4f}" stroke="#555" stroke-width="0.05"/>'
         return
@@ -116,7 +115,7 @@ def shape_lines(body, index):
         length = math.dist((ax, ay), (bx, by)) + 2 * radius
         box = f'x="{-radius:.4f}" y="{-radius:.4f}" width="{length:.4f}" height="{2 * radius:.4f}" rx="{radius:.4f}"'
         yield f'<rect {box} transform="translate({ax:.4f} {ay:.4f}) rotate({angle:.3f})" fill="{fill}" {edge}/>'
-    if body.set != "static":
+    if body.turns:
         (x, y), (c, s) = ((ax + bx) / 2, (ay + by) / 2), body.facing
         yield f'<line x1="{x:.4f}" y1="{y:.4f}" x2="{x + radius * c:.4f}" y2="{y + radius * s:.4f}" {edge}/>'
 
@@ -131,6 +130,8 @@ def drawn(scene, frame):
     for body in scene.bodies.values():
         for index in range(len(body.shapes)):
             lines.extend(shape_lines(body, index))
+    for (ax, ay), (bx, by) in scene.joint_lines():
+        lines.append(f'<line x1="{ax:.4f}" y1="{ay:.4f}" x2="{bx:.4f}" y2="{by:.4f}" stroke="#9a5b1e" stroke-width="0.03"/>')
     for x, y in scene.contact_points():
         lines.append(f'<circle cx="{x:.4f}" cy="{y:.4f}" r="0.05" fill="#d02020"/>')
     return "\n".join(lines + ["</g>", "</svg>", ""])
@@ -144,52 +145,30 @@ def bounds(scene):
     return [min(xs) - 0.5, min(ys) - 0.5, max(xs) + 0.5, max(ys) + 0.5]
 
 
-def marked(requests, wanted):
-    """The requests, and the number of each wanted step after it."""
-    step = 0
+def saved_worlds(script, wanted):
+    """Runs a script, and yields each wanted step with the world after it, which `save` answers."""
+    with open(script) as lines:
+        requests = [line.strip() for line in lines if line.strip()]
+    asked, step, marks = [], 0, []
     for request in requests:
-        yield request
-        if request["do"] == "step":
+        asked.append(request)
+        if json.loads(request)["do"] == "step":
             step += 1
             if step in wanted:
-                yield step
-
-
-def with_shows(requests, wanted):
-    """The requests to send, with a `show` of each living body after each wanted step; the last of them has the step's number
-    beside it, all others None. Slots are given out as the world does: the lowest that is free."""
-    slots, names, out = {}, [], []
-    for entry in marked(requests, wanted):
-        if isinstance(entry, int):
-            out.extend([({"do": "show", "body": name}, None) for name in names])
-            out[-1] = (out[-1][0], entry)
-            continue
-        out.append((entry, None))
-        if entry["do"] == "create":
-            slot = next(slot for slot in range(len(slots) + 1) if not slots.get(slot, (0, False))[1])
-            slots[slot] = (slots.get(slot, (0, False))[0] + 1, True)
-            names.append(f"{slot}.{slots[slot][0]}")
-        elif entry["do"] == "destroy" and entry["body"] in names:
-            slot = int(entry["body"].split(".")[0])
-            slots[slot] = (slots[slot][0], False)
-            names.remove(entry["body"])
-    return out
+                marks.append((step, len(asked)))
+                asked.append('{"do":"save"}')
+    run = subprocess.run([PROGRAM], input="\n".join(asked), capture_output=True, text=True, check=True)
+    answers = run.stdout.splitlines()
+    for step, place in marks:
+        yield step, json.loads(answers[place])["world"]
 
 
 def pictures(script, wanted, folder):
-    """Runs a script, and writes NAME_STEP.svg for each wanted step, all in one frame."""
-    with open(script) as lines:
-        requests = [json.loads(line) for line in lines if line.strip()]
-    asked = with_shows(requests, wanted)
-    text = "".join(json.dumps(request) + "\n" for request, _ in asked)
-    run = subprocess.run([PROGRAM], input=text, capture_output=True, text=True, check=True)
-    answers = [json.loads(line) for line in run.stdout.splitlines() if line.startswith("{")]
-    scene, frame = Scene(), None
+    """Writes NAME_STEP.svg for each wanted step of a script, all in one frame."""
+    frame = None
     os.makedirs(folder, exist_ok=True)
-    for (request, step), answer in zip(asked, answers):
-        scene.take(request, answer)
-        if step is None:
-            continue
+    for step, world in saved_worlds(script, wanted):
+        scene = Scene(world)
         frame = frame or bounds(scene)
         name = os.path.join(folder, f"{os.path.basename(script)}_{step}.svg")
         with open(name, "w") as picture:

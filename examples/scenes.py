@@ -1,5 +1,5 @@
 #!/usr/bin/env python3
-"""Writes the scripts of the three scenes of docs/GALLERY.md into this folder.
+"""Writes the scripts of the scenes of docs/GALLERY.md into this folder.
 
     examples/scenes.py
 
@@ -97,8 +97,60 @@ def pinball():
     yield from steps(700, 1)
 
 
+def joint(first, second, length, start=(0, 0), end=(0, 0)):
+    """Holds a point of the body in one slot at a distance from a point of the body in another."""
+    points = {"from": place(*start), "to": place(*end)}
+    return {"do": "joint", "a": f"{first}.1", "b": f"{second}.1", **points, "length": u(length)}
+
+
+def pendulums():
+    """Three discs on joints of half a metre, one and two, let go at 40 degrees; a tick a step, as joints want it."""
+    yield GRAVITY
+    angle = math.radians(40)
+    for index, length in enumerate((0.5, 1, 2)):
+        x = 2 * index
+        yield post(x, 0, 0.05)
+        yield ball(x + length * math.sin(angle), -length * math.cos(angle), 0.15, 64)
+        yield joint(2 * index, 2 * index + 1, length)
+    yield from steps(600, 1)
+
+
+def bridge():
+    """Four planks on five joints between two posts, and a ball that falls on them."""
+    planks, half, radius, gap = 4, 0.4, 0.1, 0.1
+    end = half + radius
+    span = 2 * end + gap
+    rough = {"friction": 160}
+    yield GRAVITY
+    yield post(0, 0, 0.05)
+    for index in range(planks):
+        yield bar(index * span + gap + end, 0, 2 * half, radius, 256, **rough)
+    yield post(planks * span + gap, 0, 0.05)
+    for index in range(planks + 1):
+        first, second = (0 if index == 0 else end, 0), (0 if index == planks else -end, 0)
+        yield joint(index, index + 1, gap + 0.01, first, second)
+    yield ball(2.25, 1.2, 0.3, 128, **rough)
+    yield from steps(600, 1)
+
+
+def moving_platform():
+    """A platform that goes to the right and back again, with two capsules on it."""
+    rough = {"friction": 200}
+    platform = {"capsule": [place(-1, 0), place(1, 0)], "radius": u(0.15), **rough}
+    yield GRAVITY
+    yield wall((-3, 0), (6, 0), **rough)
+    yield {"do": "create", "kind": "kinematic", "at": place(0, 1), "velocity": [u(1) // 256, 0], "shapes": [platform]}
+    yield bar(-0.4, 1.3, 0.4, 0.15, 256, **rough)
+    yield bar(0.4, 1.3, 0.4, 0.15, 256, **rough)
+    yield from steps(512, 1)
+    yield {"do": "set_velocity", "body": "1.1", "velocity": [-u(1) // 256, 0], "spin": 0}
+    yield from steps(256, 1)
+    yield {"do": "set_velocity", "body": "1.1", "velocity": [0, 0], "spin": 0}
+    yield from steps(132, 1)
+
+
 def main():
-    for scene in (bouncing_balls, capsule_wall, pinball):
+    for scene in (bouncing_balls, capsule_wall, pinball, pendulums, bridge, moving_platform):
         with open(os.path.join(HERE, scene.__name__), "w") as script:
             for request in scene():
                 script.write(json.dumps(request, separators=(",", ":")) + "\n")

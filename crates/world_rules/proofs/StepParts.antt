@@ -10,7 +10,7 @@ use Rattle.contacts.specs.Constraints.{constraint_number}
 use Rattle.contacts.specs.declared.constraint.Constraint.{Constraint}
 use Rattle.contacts.proofs.Members.{Each}
 use Rattle.contacts.proofs.Rising.{IsRising, increasing_from_rising}
-use Rattle.event_feed.specs.Orders.{slot_of}
+use Rattle.body_handles.specs.Orders.{slot_of}
 use Rattle.islands.specs.Labels.{Labels}
 use Rattle.solver_sets.specs.Slept.{asleep_only_in, handles_where, sleeps}
 use Rattle.contacts_base.specs.Contacts.{AreKeysRising}
