@@ -4,7 +4,7 @@ import math
 import subprocess
 
 from expected_worlds import (
-    METRE, RATES, TICKS, WEIGHT, a_step, capsule, disc, gravity, joint, line, post, push, run, seldom, speed, table, u,
+    METRE, TICKS, WEIGHT, a_step, capsule, disc, gravity, joint, line, post, push, run, seldom, speed, table, u,
 )
 
 ROPE_MASS = 64
