@@ -1,5 +1,6 @@
 """The program on a script, and what has to hold of its answers whatever the script is."""
 import json
+import os
 import subprocess
 from collections import Counter
 
@@ -46,7 +47,7 @@ def limited(program, words, memory):
 def least_memory(program):
     """The KB of address space with which the program starts and reads a line, in steps of 256."""
     memory = 1024
-    while subprocess.run(limited(program, (), memory), input=LEDGER, capture_output=True).returncode != 0:
+    while memory < AMPLE and subprocess.run(limited(program, (), memory), input=LEDGER, capture_output=True).returncode != 0:
         memory += 256
     return memory
 
@@ -109,6 +110,17 @@ def must_be_same(what, lines, one, other):
         place = next((n for n, (a, b) in enumerate(zip(one, other)) if a != b), min(len(one), len(other)))
         shown = [repr(answers[place][:200]) if place < len(answers) else "nothing" for answers in (one, other)]
         raise Broken(f"{what}: answer {place + 1} is {shown[0]}, and {shown[1]}", lines)
+
+
+def answers_as_stored(program, path):
+    """A stored script has the answers that are stored beside it, and the status that goes with them."""
+    words = open(path + ".args").read().split() if os.path.exists(path + ".args") else ()
+    with open(path, "rb") as script, open(path + ".stdout", "rb") as answers:
+        lines = script.read().split(b"\n")
+        wanted = answers.read().split(b"\n")[:-1]
+    if lines[-1] == b"":
+        lines.pop()
+    must_be_same(path, lines, wanted, Run(program, lines, words=words).texts)
 
 
 def sums_of(world):

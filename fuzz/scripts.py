@@ -1,4 +1,5 @@
 """Random scripts: the stored ones of cases/ and examples/, spliced, cut and changed, and the worlds that they save."""
+import glob
 import json
 import os
 
@@ -26,20 +27,13 @@ def leaves(value):
 
 
 def stored():
-    """The stored scripts, each a list of requests, without those that aren't JSON and those that are long."""
-    scripts = []
-    for folder, _, names in sorted(os.walk(TOP)):
-        below = os.path.relpath(folder, TOP).split(os.sep)[0]
-        if below not in ("cases", "examples"):
-            continue
-        for name in sorted(names):
-            path = os.path.join(folder, name)
-            if os.path.exists(path + ".stdout"):
-                scripts.append(requests_of(path))
-    return [script for script in scripts if script]
+    """The paths of the stored scripts."""
+    answers = glob.glob(os.path.join(TOP, "cases", "*", "*.stdout")) + glob.glob(os.path.join(TOP, "examples", "*.stdout"))
+    return sorted(path[: -len(".stdout")] for path in answers)
 
 
 def requests_of(path):
+    """The requests of a stored script, without lines that are no objects, and long ones."""
     requests = []
     for line in open(path, "rb"):
         try:
