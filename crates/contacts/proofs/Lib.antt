@@ -6,6 +6,7 @@ pub mod PairLemmas
 pub mod ForbiddenLemmas
 pub mod StripLemmas
 pub mod SweepLemmas
+pub mod DynamicLemmas
 pub mod SurfaceLemmas
 pub mod ChangeLemmas
 pub mod KnownLemmas

@@ -18,8 +18,8 @@ use Rattle.contacts_base.specs.Near.{is_near, pair_code, near_codes}
 use Rattle.fixed_geom.specs.declared.boxes.Box2.{Box2}
 use Rattle.contacts.specs.declared.sweep.TheConstants.{PLACES}
 use Rattle.contacts.specs.Pairs.{proxy_at}
-use Rattle.contacts.specs.Sweep.{boxes_of, pair_at, near_pair, strip_of, spot, start_in, strip_at, place_at, starts_of, IsPlaceIn, box_at, end_of, may_meet, pair_of, met, swept}
-use Rattle.contacts.proofs.Members.{Each, IsIn, each_in, in_append, in_left, in_right, in_from_contains, contains_from_in}
+use Rattle.contacts.specs.Sweep.{boxes_of, pair_at, near_pair, strip_of, spot, start_in, strip_at, place_at, starts_of, IsPlaceIn, box_at, end_of, may_meet, pair_of, met, is_dynamic_at, dynamics_of, swept}
+use Rattle.contacts.proofs.Members.{Each, IsIn, each_from, each_in, in_append, in_left, in_new, in_passed, in_right, in_from_contains, contains_from_in}
 use Rattle.contacts.proofs.StripLemmas.{box_there, strip_is, place_is, start_rises, listed_first, listed_from, places_in}
 use Rattle.contacts.proofs.NearLemmas.{IsNearFrom, from_has, from_is, from_rises}
 use Rattle.contacts.proofs.Rising.{IsRising, same_rising, rising_from_increasing}
@@ -111,6 +111,14 @@ pair_is_near : (ps : List Proxy) (i j c : ℕ) → i < length ps → j < length 
 unfolding near_pair
 pair_is_near ps i j c u v h = either ps i j c (nat_lt i j) refl u v h
 
+pair_step_of : (t : Bool) (o : Option ℕ) (c : ℕ) → cond t o None ≡ Some c → o ≡ Some c
+pair_step_of true o c h = h
+pair_step_of false o c h = cc
+
+near_of : (bits : ℕ) (ps : List Proxy) (s t c : ℕ) → pair_of bits ps s t ≡ Some c → near_pair ps (place_at s) (place_at t) ≡ Some c
+unfolding pair_of
+near_of bits ps s t c h = pair_step_of (may_meet bits (strip_at s) (box_at (boxes_of ps) s) (box_at (boxes_of ps) t)) (near_pair ps (place_at s) (place_at t)) c h
+
 -- ---- what the sweep finds
 
 record IsMet (bits : ℕ) (ps : List Proxy) (s : ℕ) (ts : List ℕ) (c : ℕ) : Type 0 where
@@ -144,6 +152,19 @@ met_is bits ps s (t ∷ ts) c h =
       | inr b ↦ met_later bits ps s t ts c (met_is bits ps s ts c b)
     ]
 
+dynamic_step : (b : Bool) (t s : ℕ) (ds ss : List ℕ) → (IsIn t ds → IsIn t ss) → IsIn t (cond b (s ∷ ds) ds) → IsIn t (s ∷ ss)
+dynamic_step true t s ds ss f h = elim h [ inl p ↦ inl p | inr q ↦ inr (f q) ]
+dynamic_step false t s ds ss f h = inr (f h)
+
+pub in_dynamics : (ps : List Proxy) (ss : List ℕ) (t : ℕ) → IsIn t (dynamics_of ps ss) → IsIn t ss
+in_dynamics ps [] t h = absurd h
+in_dynamics ps (s ∷ ss) t h = dynamic_step (is_dynamic_at ps s) t s (dynamics_of ps ss) ss (in_dynamics ps ss t) h
+
+-- what is met among all or among the dynamic ones is met among all
+met_of_all : (bits : ℕ) (ps : List Proxy) (s : ℕ) (ss : List ℕ) (c : ℕ) (b : Bool) → IsMet bits ps s (cond b ss (dynamics_of ps ss)) c → IsMet bits ps s ss c
+met_of_all bits ps s ss c true h = h
+met_of_all bits ps s ss c false h = record { other = h.other; among = in_dynamics ps ss h.other h.among; pair = h.pair }
+
 swept_first : (bits : ℕ) (ps : List Proxy) (s : ℕ) (ss : List ℕ) (c : ℕ) → IsMet bits ps s ss c → IsSwept bits ps (s ∷ ss) c
 swept_first bits ps s ss c h = record { first = s; second = h.other; first_among = inl refl; second_among = inr h.among; pair = h.pair }
 
@@ -153,8 +174,9 @@ swept_later bits ps s ss c h = record { first = h.first; second = h.second; firs
 swept_is : (bits : ℕ) (ps : List Proxy) (ss : List ℕ) (c : ℕ) → IsIn c (swept bits ps ss) → IsSwept bits ps ss c
 swept_is bits ps [] c h = absurd h
 swept_is bits ps (s ∷ ss) c h =
-    elim (in_append c (met bits ps s ss) (swept bits ps ss) h) [
-      | inl a ↦ swept_first bits ps s ss c (met_is bits ps s ss c a)
+    let others : List ℕ = cond (is_dynamic_at ps s) ss (dynamics_of ps ss) in
+    elim (in_append c (met bits ps s others) (swept bits ps ss) h) [
+      | inl a ↦ swept_first bits ps s ss c (met_of_all bits ps s ss c (is_dynamic_at ps s) (met_is bits ps s others c a))
       | inr b ↦ swept_later bits ps s ss c (swept_is bits ps ss c b)
     ]
 
@@ -180,6 +202,58 @@ met_has bits ps s (u ∷ us) t c h low le pair =
       | inr q ↦ in_right c (option_to_list (pair_of bits ps s u)) (met bits ps s us) (met_has bits ps s us t c q low.1 le pair)
     ])
 
+-- ---- of two near shapes one is of a dynamic body, so one that isn't is met among the dynamic ones
+
+one_dynamic_of : (a d r : Bool) → cond a false (cond d r false) ≡ true → d ≡ true
+one_dynamic_of true d r q = cc
+one_dynamic_of false true r q = refl
+one_dynamic_of false false r q = cc
+
+one_dynamic : (p q : Proxy) → is_near p q ≡ true → (p.dynamic || q.dynamic) ≡ true
+unfolding is_near
+one_dynamic p q h = one_dynamic_of (p.id.slot == q.id.slot) (p.dynamic || q.dynamic) _ h
+
+second_of : (a b : Bool) → (a || b) ≡ true → a ≡ false → b ≡ true
+second_of true b h e = cc
+second_of false b h e = h
+
+first_of : (a b : Bool) → (a || b) ≡ true → b ≡ false → a ≡ true
+first_of true b h e = refl
+first_of false b h e = cc
+
+dynamic_in_order : (ps : List Proxy) (i j c : ℕ) (t : Bool) → cond t (pair_at ps i j) (pair_at ps j i) ≡ Some c → (proxy_at ps i).dynamic ≡ false → (proxy_at ps j).dynamic ≡ true
+dynamic_in_order ps i j c true h e = second_of (proxy_at ps i).dynamic (proxy_at ps j).dynamic (one_dynamic (proxy_at ps i) (proxy_at ps j) (pair_some ps i j c h).0) e
+dynamic_in_order ps i j c false h e = first_of (proxy_at ps j).dynamic (proxy_at ps i).dynamic (one_dynamic (proxy_at ps j) (proxy_at ps i) (pair_some ps j i c h).0) e
+
+other_dynamic : (ps : List Proxy) (i j c : ℕ) → near_pair ps i j ≡ Some c → (proxy_at ps i).dynamic ≡ false → (proxy_at ps j).dynamic ≡ true
+unfolding near_pair
+other_dynamic ps i j c h e = dynamic_in_order ps i j c (nat_lt i j) h e
+
+dynamics_has : (ps : List Proxy) (ss : List ℕ) (t : ℕ) → IsIn t ss → is_dynamic_at ps t ≡ true → IsIn t (dynamics_of ps ss)
+dynamics_has ps [] t h d = absurd h
+dynamics_has ps (s ∷ ss) t h d =
+    elim h [
+      | inl p ↦ in_new t s (is_dynamic_at ps s) (dynamics_of ps ss) (subst (λ (x : ℕ). is_dynamic_at ps x ≡ true) p d) p
+      | inr q ↦ in_passed t s (is_dynamic_at ps s) (dynamics_of ps ss) (dynamics_has ps ss t q d)
+    ]
+
+each_dynamic : (P : ℕ → Type 0) (ps : List Proxy) (ss : List ℕ) → Each P ss → Each P (dynamics_of ps ss)
+each_dynamic P ps ss h = each_from P (dynamics_of ps ss) (λ x q. each_in P x ss h (in_dynamics ps ss x q))
+
+order_step : (b : Bool) (s : ℕ) (ds : List ℕ) → Each (λ t. s ≤ t) ds → IsInOrder ds → IsInOrder (cond b (s ∷ ds) ds)
+order_step true s ds a h = (a, h)
+order_step false s ds a h = h
+
+dynamics_in_order : (ps : List Proxy) (ss : List ℕ) → IsInOrder ss → IsInOrder (dynamics_of ps ss)
+dynamics_in_order ps [] h = tt
+dynamics_in_order ps (s ∷ ss) h = order_step (is_dynamic_at ps s) s (dynamics_of ps ss) (each_dynamic (λ t. s ≤ t) ps ss h.0) (dynamics_in_order ps ss h.1)
+
+met_among : (bits : ℕ) (ps : List Proxy) (s : ℕ) (ss : List ℕ) (t c : ℕ) (b : Bool) → is_dynamic_at ps s ≡ b → IsIn t ss → IsInOrder ss → t ≤ end_of (boxes_of ps) s → pair_of bits ps s t ≡ Some c → IsIn c (met bits ps s (cond b ss (dynamics_of ps ss)))
+met_among bits ps s ss t c true e h low le pair = met_has bits ps s ss t c h low le pair
+met_among bits ps s ss t c false e h low le pair =
+    let d : is_dynamic_at ps t ≡ true = other_dynamic ps (place_at s) (place_at t) c (near_of bits ps s t c pair) e in
+    met_has bits ps s (dynamics_of ps ss) t c (dynamics_has ps ss t h d) (dynamics_in_order ps ss low) le pair
+
 -- two starts of near shapes in one strip: neither begins further than the other ends
 record AreMet (bits : ℕ) (ps : List Proxy) (s t c : ℕ) : Type 0 where
   pub other : place_at s ≡ place_at t → ⊥
@@ -188,17 +262,21 @@ record AreMet (bits : ℕ) (ps : List Proxy) (s t c : ℕ) : Type 0 where
   pub pair : pair_of bits ps s t ≡ Some c
   pub pair_back : pair_of bits ps t s ≡ Some c
 
+-- the pairs of the first start of a list
+abbrev met_by : ℕ → List Proxy → ℕ → List ℕ → List ℕ
+met_by bits ps s ss = met bits ps s (cond (is_dynamic_at ps s) ss (dynamics_of ps ss))
+
 swept_has : (bits : ℕ) (ps : List Proxy) (ss : List ℕ) (s t c : ℕ) → IsIn s ss → IsIn t ss → IsInOrder ss → AreMet bits ps s t c → IsIn c (swept bits ps ss)
 swept_has bits ps [] s t c hs ht low m = absurd hs
 swept_has bits ps (u ∷ us) s t c hs ht low m =
     elim hs [
       | inl p ↦ elim ht [
         | inl q ↦ absurd (m.other (ap (λ (x : ℕ). place_at x) (p ∙ sym q)))
-        | inr q ↦ in_left c (met bits ps u us) (swept bits ps us) (subst (λ (x : ℕ). IsIn c (met bits ps x us)) p (met_has bits ps s us t c q low.1 m.second_low m.pair))
+        | inr q ↦ in_left c (met_by bits ps u us) (swept bits ps us) (subst (λ (x : ℕ). IsIn c (met_by bits ps x us)) p (met_among bits ps s us t c (is_dynamic_at ps s) refl q low.1 m.second_low m.pair))
       ]
       | inr p ↦ elim ht [
-        | inl q ↦ in_left c (met bits ps u us) (swept bits ps us) (subst (λ (x : ℕ). IsIn c (met bits ps x us)) q (met_has bits ps t us s c p low.1 m.first_low m.pair_back))
-        | inr q ↦ in_right c (met bits ps u us) (swept bits ps us) (swept_has bits ps us s t c p q low.1 m)
+        | inl q ↦ in_left c (met_by bits ps u us) (swept bits ps us) (subst (λ (x : ℕ). IsIn c (met_by bits ps x us)) q (met_among bits ps t us s c (is_dynamic_at ps t) refl p low.1 m.first_low m.pair_back))
+        | inr q ↦ in_right c (met_by bits ps u us) (swept bits ps us) (swept_has bits ps us s t c p q low.1 m)
       ]
     ]
 
@@ -253,14 +331,6 @@ no_further_than ps s t m j strip place h =
     (subst (λ (x : ℕ). s ≤ spot x (proxy_at ps (place_at t)).fat.hi.x + (PLACES - 1)) (sym strip)
     (subst (λ (x : ℕ). s ≤ spot m (proxy_at ps x).fat.hi.x + (PLACES - 1)) (sym place) h))
 
-pair_step_of : (t : Bool) (o : Option ℕ) (c : ℕ) → cond t o None ≡ Some c → o ≡ Some c
-pair_step_of true o c h = h
-pair_step_of false o c h = cc
-
-near_of : (bits : ℕ) (ps : List Proxy) (s t c : ℕ) → pair_of bits ps s t ≡ Some c → near_pair ps (place_at s) (place_at t) ≡ Some c
-unfolding pair_of
-near_of bits ps s t c h = pair_step_of (may_meet bits (strip_at s) (box_at (boxes_of ps) s) (box_at (boxes_of ps) t)) (near_pair ps (place_at s) (place_at t)) c h
-
 -- ---- the sweep's codes are the scan's
 
 turned : (p q : Proxy) → Overlaps p.fat q.fat → Overlaps q.fat p.fat
@@ -314,7 +384,7 @@ scan_is_near : (ps : List Proxy) (c : ℕ) → IsIn c (near_codes ps) → IsNear
 unfolding near_codes
 scan_is_near ps c h = from_is 0 ps c h
 
-each_from_all : (ps : List Proxy) (ss : List ℕ) → All (IsPlaceIn ps) ss → Each (IsPlaceIn ps) ss
+pub each_from_all : (ps : List Proxy) (ss : List ℕ) → All (IsPlaceIn ps) ss → Each (IsPlaceIn ps) ss
 each_from_all ps [] h = tt
 each_from_all ps (s ∷ ss) h = (h 0 s (omega arith), each_from_all ps ss (λ k d lt. h (suc k) d (omega arith)))
 

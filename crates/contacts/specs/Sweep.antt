@@ -99,7 +99,16 @@ abbrev pub met : ℕ → List Proxy → ℕ → List ℕ → List ℕ
 met bits ps s [] = []
 met bits ps s (t ∷ ts) = cond (nat_lt (end_of (boxes_of ps) s) t) [] (option_to_list (pair_of bits ps s t) ++ met bits ps s ts)
 
--- the pairs that each start makes with the later ones
+-- the start is of a dynamic body's shape
+abbrev pub is_dynamic_at : List Proxy → ℕ → Bool
+is_dynamic_at ps s = (proxy_at ps (place_at s)).dynamic
+
+-- the starts of dynamic bodies' shapes
+abbrev pub dynamics_of : List Proxy → List ℕ → List ℕ
+dynamics_of ps [] = []
+dynamics_of ps (s ∷ ss) = cond (is_dynamic_at ps s) (s ∷ dynamics_of ps ss) (dynamics_of ps ss)
+
+-- the pairs that each start makes with the later ones, of which one is of a dynamic body's shape
 abbrev pub swept : ℕ → List Proxy → List ℕ → List ℕ
 swept bits ps [] = []
-swept bits ps (s ∷ ss) = met bits ps s ss ++ swept bits ps ss
+swept bits ps (s ∷ ss) = met bits ps s (cond (is_dynamic_at ps s) ss (dynamics_of ps ss)) ++ swept bits ps ss

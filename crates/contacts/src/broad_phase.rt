@@ -26,6 +26,7 @@ pub struct BroadPhase {
     heights: u64,
     // Room that the sweep works in, kept from one to the next.
     starts: Vec<u64>,
+    dynamics: Vec<u64>,
     near: Vec<u64>,
     // The near pairs whose bodies nothing keeps from colliding, kept in the same way.
     allowed: Vec<u64>,
@@ -62,6 +63,7 @@ impl BroadPhase {
             boxes: Vec::new(alloc),
             heights: 0,
             starts: Vec::new(alloc),
+            dynamics: Vec::new(alloc),
             near: Vec::new(alloc),
             allowed: Vec::new(alloc),
         }
@@ -109,6 +111,7 @@ impl BroadPhase {
             boxes,
             heights: self.heights,
             starts: Vec::new(alloc),
+            dynamics: Vec::new(alloc),
             near: Vec::new(alloc),
             allowed: Vec::new(alloc),
         })
@@ -135,6 +138,7 @@ impl BroadPhase {
     {
         near_pairs(
             &mut self.starts,
+            &mut self.dynamics,
             &mut self.near,
             self.heights,
             &self.proxies,
@@ -171,6 +175,7 @@ impl BroadPhase {
     {
         near_pairs(
             &mut self.starts,
+            &mut self.dynamics,
             &mut self.near,
             self.heights,
             &self.proxies,

@@ -2,19 +2,21 @@
 //!
 //! The plane is cut into strips along x, each some fat boxes high, and each shape is listed in all
 //! strips that its box reaches. In each strip a shape is tested against those whose boxes begin no
-//! further right than its own ends. So the work grows with the shapes and with the pairs that are
-//! close, whether they are spread along x or along y.
+//! further right than its own ends. A shape of a dynamic body is tested against all of these, and any
+//! other against those of dynamic bodies alone, since two bodies that aren't dynamic never collide. So
+//! the work grows with the shapes and with the close pairs that have a dynamic body, whether they are
+//! spread along x or along y.
 //!
 //! A start, which is a shape in a strip, is one number of 64 bits, so that the list of all starts is
 //! small and quickly sorted. Its highest 20 bits are the strip's, the next 25 tell where the shape's
 //! box begins along x, in steps of `STEP`, and the lowest 19 are the shape's place.
 
-ghost use Rattle.std.specs.Prelude.{◌≡◌, ◌+◌, ◌^◌, ◌<◌, ◌≤◌, ◌++◌, length, All, OnOk, IfOk, IsTrue};
+ghost use Rattle.std.specs.Prelude.{◌≡◌, ◌+◌, ◌^◌, ◌<◌, ◌≤◌, ◌++◌, cond, drop, length, true, All, OnOk, IfOk, IsTrue};
 ghost use Rattle.std.specs.Result.{IsOkUnless};
 ghost use Rattle.std.specs.List.Sorted.{IsPermutation, IsSorted};
 ghost use Rattle.std.specs.Ordering.{nat_cmp};
 ghost use Rattle.std.specs.Option.{option_to_list};
-ghost use Rattle.contacts.specs.Sweep.{pair_at, near_pair, column, strip_of, spot, start_in, strip_at, place_at, reach, starts_up, firsts_from, furthers_from, starts_of, IsPlaceIn, boxes_of, end_of, may_meet, pair_of, met, swept};
+ghost use Rattle.contacts.specs.Sweep.{pair_at, near_pair, column, strip_of, spot, start_in, strip_at, place_at, reach, starts_up, firsts_from, furthers_from, starts_of, IsPlaceIn, boxes_of, end_of, may_meet, pair_of, met, is_dynamic_at, dynamics_of, swept};
 ghost use Rattle.contacts_base.specs.Near.{IsProxyList, near_codes};
 
 use body_handles::MAX_SLOTS;
@@ -267,23 +269,68 @@ fn push_met(
     Ok(())
 }
 
-/// Adds the pairs that each start makes with the later ones. Refused 1 where memory is wanting.
+/// Whether a start is of a dynamic body's shape.
+fn is_dynamic_at(proxies: &[Proxy], start: u64) -> bool
+    requires { IsPlaceIn proxies.now start }
+    ensures { result ≡ is_dynamic_at proxies.now start }
+{
+    proxies[place_at(start)].dynamic
+}
+
+/// Fills `dynamics` with the starts of dynamic bodies' shapes, in their order. Refused 1 where memory is wanting.
+fn list_dynamics(dynamics: &mut Vec<u64>, proxies: &[Proxy], starts: &[u64]) -> Result<(), Refusal>
+    requires { All (IsPlaceIn proxies.now) starts.now }
+    ensures listed { OnOk result (dynamics.new.items ≡ dynamics_of proxies.now starts.now) }
+    ensures memory_only { IsOkUnless result Refusal.NoMemory }
+{
+    dynamics.clear();
+    for &start in starts {
+        if is_dynamic_at(proxies, start) {
+            dynamics.push(start)?;
+        }
+    }
+    Ok(())
+}
+
+/// The starts without the first, if that is passed.
+fn after<'a>(is_passed: bool, starts: &'a [u64]) -> &'a [u64]
+    requires { is_passed ≡ true → 1 ≤ length starts.now }
+    ensures { result.now ≡ cond is_passed (drop 1 starts.now) starts.now }
+{
+    if is_passed { &starts[1..] } else { starts }
+}
+
+/// The first list or the second.
+fn either<'a>(is_first: bool, first: &'a [u64], second: &'a [u64]) -> &'a [u64]
+    ensures { result.now ≡ cond is_first first.now second.now }
+{
+    if is_first { first } else { second }
+}
+
+/// Adds the pairs that each start makes with the later ones: one of a dynamic body's shape with all of them, and any other with
+/// `dynamics`, which are the starts of dynamic bodies' shapes. Refused 1 where memory is wanting.
 fn sweep(
     near: &mut Vec<u64>,
     bits: u32,
     proxies: &[Proxy],
     boxes: &[Box2],
     starts: &[u64],
+    dynamics: &[u64],
 ) -> Result<(), Refusal>
     requires bits { bits ≤ MOST_BITS }
     requires few { length proxies.now ≤ PLACES }
     requires boxes { boxes.now ≡ boxes_of proxies.now }
     requires starts { All (IsPlaceIn proxies.now) starts.now }
+    requires dynamics { dynamics.now ≡ dynamics_of proxies.now starts.now }
     ensures pushed { OnOk result (near.new.items ≡ near.old.items ++ swept bits proxies.now starts.now) }
     ensures memory_only { IsOkUnless result Refusal.NoMemory }
 {
+    let mut later = dynamics;
     for (place, &start) in starts.iter().enumerate() {
-        push_met(near, bits, proxies, boxes, start, &starts[place + 1..])?;
+        let is_dynamic = is_dynamic_at(proxies, start);
+        later = after(is_dynamic, later);
+        let others = either(is_dynamic, &starts[place + 1..], later);
+        push_met(near, bits, proxies, boxes, start, others)?;
     }
     Ok(())
 }
@@ -298,11 +345,12 @@ fn strip_bits(heights: u64, count: usize) -> u32
     (65 - mean.leading_zeros()).max(LEAST_BITS).min(MOST_BITS)
 }
 
-/// Fills `near` with the numbers of all near pairs, ascending, and uses `starts` as room to work in.
+/// Fills `near` with the numbers of all near pairs, ascending, and uses `starts` and `dynamics` as room to work in.
 /// `boxes` are the shapes' fat boxes by themselves, so that the sweep reads little. `heights` is the
 /// sum of their heights, in u, and decides the time alone. Refused 1 where memory is wanting.
 pub fn near_pairs(
     starts: &mut Vec<u64>,
+    dynamics: &mut Vec<u64>,
     near: &mut Vec<u64>,
     heights: u64,
     proxies: &[Proxy],
@@ -315,8 +363,9 @@ pub fn near_pairs(
 {
     let bits = strip_bits(heights, proxies.len());
     list_starts(starts, bits, boxes)?;
+    list_dynamics(dynamics, proxies, starts)?;
     near.clear();
-    sweep(near, bits, proxies, boxes, starts)?;
+    sweep(near, bits, proxies, boxes, starts, dynamics)?;
     near.sort_unstable();
     near.dedup();
     Ok(())

@@ -15,6 +15,7 @@ ghost use Rattle.contacts.specs.Turns.{AreWithin, moved_by};
 ghost use Rattle.kept_contacts.specs.Kept.{CanCollide, IsMadeOf};
 ghost use Rattle.slot_marks.specs.Marks.{AreListed};
 
+use crate::crowded::are_crowded;
 use contacts::{
     BroadPhase, Due, ForbiddenPairs, ShapesByName, Stirring, Touches, carry_out, fresh_of_marked,
     refresh, update_known,
@@ -82,6 +83,22 @@ fn nothing_beside(alloc: Global) -> Beside
 fn are_many(marked: &[u32], marks: &[bool]) -> bool {
     let parts = if marks.len() < SMALL_WORLD { 12 } else { 7 };
     marked.len() > marks.len() / parts
+}
+
+/// Whether all near pairs are looked for: where many slots are marked, or where the marked bodies that aren't dynamic overlap more slots than there
+/// are, so that a step never costs by the square of what overlaps and can't collide. Refused 1 where memory is wanting.
+fn is_sweep_due<S: ShapesByName>(
+    shapes: &S,
+    marks: &[bool],
+    marked: &[u32],
+) -> Result<bool, Refusal>
+    ensures memory_only { IsOkUnless result Refusal.NoMemory }
+{
+    if are_many(marked, marks) {
+        Ok(true)
+    } else {
+        are_crowded(shapes, marked, marks.len())
+    }
 }
 
 /// The long list is another: the places don't hold for it, and nothing was looked at beside it.
@@ -224,7 +241,7 @@ fn make_due<S: ShapesByName, F: ForbiddenPairs>(
     ensures any { due.new.any ≡ true }
     ensures memory_only { IsOkUnless result Refusal.NoMemory }
 {
-    if are_many(marked, marks) {
+    if is_sweep_due(shapes, marks, marked)? {
         make_anew(beside, alloc, due, shapes, forbidden, contacts)
     } else {
         make_known(

@@ -2,6 +2,7 @@
 //! fat box, came or went.
 #![tactic(auto)]
 
+mod crowded;
 mod kept;
 
 pub use contacts::Touches;

@@ -10,3 +10,9 @@ invariant_of-self-2 c =
       list = rw c.in_ok-push.ensures.items (push_kept c.self.inside.proxies.items c.args.proxy c.self.invariant.list c.requires.proxy last);
       boxes = rw (c.push_within.ensures, c.in_ok-reserve.ensures.items, c.in_ok-push.ensures.items, c.self.invariant.boxes) (sym (map-append _ _ _));
     }
+
+pub invariant_of-self-in_err-push : goal.invariant_of-self-in_err-push
+invariant_of-self-in_err-push c = record {
+  list = rw c.in_err-push.ensures.items c.self.invariant.list;
+  boxes = rw (c.reserve.ensures.items, c.in_err-push.ensures.items) c.self.invariant.boxes;
+}
