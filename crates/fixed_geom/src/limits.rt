@@ -10,7 +10,7 @@ pub const MAX_POSITION: i64 = 1 << 36;
 /// The greatest size of a coordinate of a contact point, given from the centre of one of its bodies, and of its separation, in u.
 pub const MAX_OFFSET: i64 = 1 << 27;
 
-/// The greatest size of a spin, times 2^30: a body turns by at most a quarter of a radian in a tick.
+/// The greatest size of a spin, which is 2^30 times the tangent of the turn of a tick: a tangent of a quarter.
 pub const MAX_SPIN: i64 = 1 << 28;
 
 /// The greatest accumulated normal impulse of a contact point, in mass·u/tick.

@@ -49,7 +49,7 @@ limited k z = cond (nat_le (unsigned_abs z) k) z (signed_as z k)
 unfoldable pub velocity : ℤ → Vec2 → Vec2
 velocity mass p = record { x = rdiv p.x mass; y = rdiv p.y mass }
 
--- the turn of a tick, in radians times 2^30: none at inertia 0, and at most a quarter of a radian
+-- the tangent of the turn of a tick, times 2^30: none at inertia 0, and at most a quarter
 unfoldable pub spin : ℤ → ℤ → ℤ
 spin (pos zero) l = pos 0
 spin inertia l = limited (unsigned_abs MAX_SPIN) (rdiv (l *ℤ unit_length) inertia)

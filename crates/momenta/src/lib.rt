@@ -2,7 +2,7 @@
 //! and the impulses that two bodies give one another along a line.
 //!
 //! Lengths are in u, times in ticks, masses are whole numbers. A momentum is in mass·u/tick, an angular
-//! momentum in mass·u²/tick, a spin is the turn of a tick in radians times 2^30.
+//! momentum in mass·u²/tick, a spin is 2^30 times the tangent of the turn of a tick.
 #![tactic(auto)]
 
 pub mod gain;

@@ -59,7 +59,7 @@ pub fn velocity(p: Vec2, mass: i64) -> Vec2
     }
 }
 
-/// The spin of an angular momentum, in radians a tick times 2^30: `l / inertia`, rounded to the nearest,
+/// The spin of an angular momentum, a tangent a tick times 2^30: `l / inertia`, rounded to the nearest,
 /// ties away from zero, and then brought within `MAX_SPIN`. A body of inertia 0 has none.
 #[inline(always)]
 pub fn spin(l: i128, inertia: i64) -> i64
@@ -89,7 +89,7 @@ fn spin_64(l: i64, inertia: i64) -> i64
     limit_spin(share(l, inertia))
 }
 
-/// The spin of one that is greater, which would be more than a radian: the limit, with its sign.
+/// The spin of one that is greater, which would be a tangent of more than one: the limit, with its sign.
 #[cold]
 #[inline(never)]
 fn greatest_spin(l: i128, inertia: i64) -> i64

@@ -7,8 +7,8 @@ ghost use Rattle.plain_world.specs.Kinds.{carried_by, course_of, halted, is_cour
 use fixed_geom::{MAX_SPIN, Vec2, is_within};
 use momenta::MAX_SPEED;
 
-/// The velocity of a kinematic body (u/tick, each component within ±2^20) and its spin (the turn of a tick in radians
-/// times 2^30, within ±2^28).
+/// The velocity of a kinematic body (u/tick, each component within ±2^20) and its spin (the tangent of the turn of a
+/// tick times 2^30, within ±2^28).
 #[derive(Clone, Copy, Debug, PartialEq, Eq)]
 pub struct Course {
     pub velocity: Vec2,

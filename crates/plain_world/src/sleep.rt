@@ -14,7 +14,7 @@ use momenta::{MassData, Motion, spin, velocity};
 /// The greatest size of a component of the velocity of what is slow, in u/tick.
 pub const SLOW_SPEED: i64 = 205;
 
-/// The greatest spin of what is slow: the turn of a tick in radians times 2^30.
+/// The greatest spin of what is slow: the tangent of the turn of a tick times 2^30.
 pub const SLOW_SPIN: i64 = 209_715;
 
 /// The name with which a mover of an island with this label sleeps, if it does.
