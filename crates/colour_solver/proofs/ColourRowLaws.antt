@@ -2,7 +2,7 @@
 use Rattle.std.proofs.Common.{◌≡◌, ℕ, zero, suc, ◌+◌, ◌-◌, ◌≤◌, List, [], ◌∷◌, ◌++◌, ◌<◌, length, get_or, take, drop, map, arith, refl, sym, ap, ◌∙◌}
 use Rattle.std.specs.List.{flat_map}
 use Rattle.std.proofs.lemmas.List.{append_assoc, drop-drop, length-take-le}
-use Rattle.colour_solver.specs.ColourRows.{AreEnds, cut, left_of}
+use Rattle.colour_solver.specs.ColourRows.{AreEnds, cut, last_end, left_of}
 
 -- ---- lists
 
@@ -40,7 +40,7 @@ take-long (suc k) [] (x ∷ now) h = absurd (omega (arith, h))
 take-long (suc k) (r ∷ rows) [] h = absurd (omega (arith, h))
 take-long (suc k) (r ∷ rows) (x ∷ now) h = ap suc (take-long k rows now (omega (arith, h)))
 
-drop-long : {R : Type 0} (k : ℕ) (rows now : List R) → length now ≡ length rows → length (drop k now) ≡ length (drop k rows)
+pub drop-long : {R : Type 0} (k : ℕ) (rows now : List R) → length now ≡ length rows → length (drop k now) ≡ length (drop k rows)
 drop-long zero rows now h = h
 drop-long (suc k) [] [] h = refl
 drop-long (suc k) [] (x ∷ now) h = absurd (omega (arith, h))
@@ -117,11 +117,6 @@ cut_long n (e ∷ ends) rows now h =
     rw (here, rest) refl
 
 -- ---- the first colours
-
--- where the last of the colours ends
-abbrev pub last_end : ℕ → List ℕ → ℕ
-last_end n [] = n
-last_end n (e ∷ ends) = last_end e ends
 
 pub cut_count : {R : Type 0} (n : ℕ) (ends : List ℕ) (rows : List R) → length (cut n ends rows) ≡ length ends
 cut_count n [] rows = refl

@@ -17,8 +17,8 @@ use Rattle.colour_solver.specs.declared.constraint_row.ConstraintRow.{Constraint
 use Rattle.colour_solver.specs.declared.constraint_row.ConstraintRow.TheVariants.{Joint, Contact}
 use Rattle.colour_solver.specs.Turns.{AreRowsOn, IsPassed, between}
 use Rattle.colour_solver.specs.ConstraintTurns.{IsConstraintRow, both_turns, constraint_slots, contact_in, contact_slots, contacts_among, joint_in, joint_slots, joints_among}
-use Rattle.colour_solver.specs.ColourRows.{AreEnds, colours_of, cut, each_joints_first, joints_first, left_of, rows_kept, rows_left}
-use Rattle.colour_solver.proofs.ColourRowLaws.{cut_all, cut_count, cut_end, cut_long, cut_more, cut_next, cut_same, end_high, end_low, ends_end, ends_more, ends_taken, last_end, last_more, left_end, left_from, left_more, taken_high}
+use Rattle.colour_solver.specs.ColourRows.{AreEnds, colours_of, cut, each_joints_first, joints_first, last_end, left_of, rows_kept, rows_left}
+use Rattle.colour_solver.proofs.ColourRowLaws.{cut_all, cut_count, cut_end, cut_long, cut_more, cut_next, cut_same, end_high, end_low, ends_end, ends_more, ends_taken, last_more, left_end, left_from, left_more, taken_high}
 use Rattle.colour_solver.proofs.KindLaws.{contacts_each, joints_each, joints_first_contacts, joints_first_joints}
 use Rattle.colour_solver.proofs.PassedLaws.{drop_further, passed_alike, passed_on}
 
@@ -211,7 +211,7 @@ has_passed_more f g k je ce ss ts us joints js kept contacts cs held given more 
     }
 
 -- what is left behind the last end, as the rows between two places
-left_between : {R : Type 0} (ends : List ℕ) (rows : List R) → AreEnds 0 ends (length rows) → left_of 0 ends rows ≡ between (last_end 0 ends) (length rows) rows
+pub left_between : {R : Type 0} (ends : List ℕ) (rows : List R) → AreEnds 0 ends (length rows) → left_of 0 ends rows ≡ between (last_end 0 ends) (length rows) rows
 left_between ends rows h = left_from ends (length rows) rows h ∙ sym (take_rest rows (last_end 0 ends))
 
 left_rows : (je ce : List ℕ) (joints : List JointRow) (contacts : List ContactRow) → AreBothEnds je ce joints contacts
@@ -290,6 +290,12 @@ start_inside f ends k start last h e = let high = taken_high k 0 (map f ends) la
 pub start_more : {X : Type 0} (f : X → ℕ) (ends : List X) (k : ℕ) (d : X) → k < length ends → f (get_or ends k d) ≡ last_end 0 (take (k + 1) (map f ends))
 start_more f ends k d lt =
     end_there f ends k d lt ∙ sym (ap (last_end 0) (take_more (map f ends) k 0 (below_ends f ends k lt)) ∙ last_more 0 (take k (map f ends)) (get_or (map f ends) k 0))
+
+-- where the colour n begins
+pub start_back : {X : Type 0} (f : X → ℕ) (ends : List X) (n : ℕ) (d : X) → 1 ≤ n → n ≤ length ends → f (get_or ends (n - 1) d) ≡ last_end 0 (take n (map f ends))
+start_back f ends n d some h =
+    let whole : (n - 1) + 1 ≡ n = omega (arith, some) in
+    start_more f ends (n - 1) d (omega (arith, some, h)) ∙ ap (λ (k : ℕ). last_end 0 (take k (map f ends))) whole
 
 pub ends_pushed : {X : Type 0} (f : X → ℕ) (ends : List X) (e : X) (last : ℕ) → f e ≡ last → AreEnds 0 (map f ends) last → AreEnds 0 (map f (ends ++ e ∷ [])) last
 ends_pushed f ends e last is h =

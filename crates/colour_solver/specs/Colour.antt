@@ -7,6 +7,9 @@ use Rattle.momenta.specs.declared.state.Ends.{Ends}
 use Rattle.momenta.specs.Impulses.{AreSameBodies}
 use Rattle.colour_solver_base.specs.RowsAfter.{RowAfter}
 use Rattle.colour_solver.specs.declared.turns.Slots.{Slots}
+use Rattle.colour_solver.specs.declared.constraint_row.ConstraintRow.{ConstraintRow}
+use Rattle.colour_solver.specs.ColourRows.{ColourRows}
+use Rattle.colour_solver.specs.ConstraintTurns.{constraint_slots}
 use Rattle.colour_solver.specs.States.{nobody}
 use Rattle.colour_solver.specs.Turns.{after, ends_of, got, passed, rows_passed, share, turn_of, with_ends}
 
@@ -22,6 +25,10 @@ pub record ShareNone {R : Type 0} (at : R → Slots) (states : List BodyState) (
 
 abbrev pub IsColour : {R : Type 0} → (R → Slots) → List BodyState → List R → Type 0
 IsColour {R} at states rows = (i j : ℕ) (r e : R) → i < j → slice_get rows i ≡ Some r → slice_get rows j ≡ Some e → ShareNone at states r e
+
+-- the rows of each colour are one; those that have no colour may share movers
+abbrev pub AreColours : List BodyState → ColourRows ConstraintRow → Type 0
+AreColours states r = All (λ rs. IsColour constraint_slots states rs) r.colours
 
 -- ---- the turns one by one, and at once
 

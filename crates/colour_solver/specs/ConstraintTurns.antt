@@ -1,5 +1,5 @@
 -- Inner: the rows of joints and contacts among those that take turns.
-use Rattle.std.specs.Prelude.{ℕ, List, Option, Some, None}
+use Rattle.std.specs.Prelude.{ℕ, Bool, true, false, List, Option, Some, None}
 use Rattle.std.specs.List.{filter_map}
 use Rattle.momenta.specs.declared.state.Ends.{Ends}
 use Rattle.joint_rows.specs.declared.row.JointRow.{JointRow}
@@ -45,6 +45,11 @@ joint_in (Contact r) = None
 abbrev pub contact_in : ConstraintRow → Option ContactRow
 contact_in (Joint r) = None
 contact_in (Contact r) = Some r
+
+-- which kind a row is of
+abbrev pub is_joint : ConstraintRow → Bool
+is_joint (Joint r) = true
+is_joint (Contact r) = false
 
 abbrev pub joints_among : List ConstraintRow → List JointRow
 joints_among rs = filter_map joint_in rs

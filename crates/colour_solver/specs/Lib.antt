@@ -5,3 +5,4 @@ pub mod ConstraintTurns
 pub mod ColourRows
 pub mod Ticks
 pub mod Colour
+pub mod Phases

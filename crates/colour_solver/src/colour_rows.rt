@@ -1,6 +1,6 @@
 //! The rows of a step in two dense lists, colour after colour, with where each colour ends in both.
 
-ghost use Rattle.std.specs.Prelude.{◌≡◌, ◌^◌, ◌≤◌, ◌+◌, ◌∷◌, ◌++◌, [], length, map, take, drop, OnOk};
+ghost use Rattle.std.specs.Prelude.{◌≡◌, ◌^◌, ◌≤◌, ◌+◌, ◌<◌, ◌∷◌, ◌++◌, [], length, map, take, drop, slice_index_or, slice_set, OnOk};
 ghost use Rattle.std.specs.Result.{IsOkUnless};
 ghost use Rattle.fixed_geom.specs.Vectors.{plus};
 ghost use Rattle.joint_rows.specs.Rows.{IsJointRow};
@@ -8,11 +8,11 @@ ghost use Rattle.colour_solver_base.specs.Rows.{IsRow};
 ghost use Rattle.momenta.specs.Gains.{IsGain};
 ghost use Rattle.colour_solver.specs.States.{AreAllStates, AreSameStates, as_vector, total};
 ghost use Rattle.colour_solver.specs.Turns.{AreRowsOn, IsPassed, between, passed, rows_passed, share};
-ghost use Rattle.colour_solver.specs.ConstraintTurns.{AreRowsBelow, IsConstraintRow, both_turns, constraint_slots, contact_slots, contacts_among, joint_slots, joints_among};
+ghost use Rattle.colour_solver.specs.ConstraintTurns.{AreRowsBelow, IsConstraintRow, both_turns, constraint_slots, contact_slots, contacts_among, is_joint, joint_slots, joints_among};
 ghost use Rattle.colour_solver.specs.declared.constraint_row.ConstraintRow.TheVariants.{Joint, Contact};
-ghost use Rattle.colour_solver.specs.ColourRows.{AreEnds, all_rows, joints_first, rows_kept};
+ghost use Rattle.colour_solver.specs.ColourRows.{AreEnds, IsPlace, all_rows, cut, joints_first, last_end, left_of, rows_kept};
 
-use crate::{Turn, pass_rows};
+use crate::{ConstraintRow, Turn, pass_rows};
 use body_handles::MAX_SLOTS;
 use colour_solver_base::ContactRow;
 use fixed_geom::Refusal;
@@ -26,6 +26,13 @@ use std::marker::Model;
 struct ColourEnd {
     joints: usize,
     contacts: usize,
+}
+
+/// Where a row stands: how many joints and how many contacts stand before it.
+#[derive(Clone, Copy, Debug, PartialEq, Eq)]
+pub struct RowPlace {
+    pub joints: usize,
+    pub contacts: usize,
 }
 
 /// Rows by colour: in each its joints, and then its contacts. Contracts see those of each colour that has ended, those of the next one, and
@@ -52,6 +59,87 @@ impl Model for Rows {
     } };
 
     ghost invariant = { λ a. AreEnds 0 (map (λ e. e.joints) a.ends.items) (length a.joints.items) × AreEnds 0 (map (λ e. e.contacts) a.ends.items) (length a.contacts.items) };
+}
+
+/// Where a colour begins: at the end of the one before it.
+fn start_of(ends: &[ColourEnd], colour: usize) -> ColourEnd
+    requires { colour ≤ length ends.now }
+    ensures joints { result.joints ≡ last_end 0 (take colour (map (λ e. e.joints) ends.now)) }
+    ensures contacts { result.contacts ≡ last_end 0 (take colour (map (λ e. e.contacts) ends.now)) }
+{
+    if colour == 0 {
+        return ColourEnd {
+            joints: 0,
+            contacts: 0,
+        };
+    }
+    ends[colour - 1]
+}
+
+/// Puts a row into its place. Answers the next place.
+#[inline(always)]
+fn put_row<T: Copy>(rows: &mut Vec<T>, place: usize, row: T) -> usize
+    requires { place < length rows.old.items }
+    ensures rows { rows.new.items ≡ slice_set rows.old.items place row }
+    ensures next { result ≡ place + 1 }
+{
+    rows[place] = row;
+    place + 1
+}
+
+/// The rows from one place up to another.
+fn part<T: Copy>(rows: &[T], from: usize, to: usize) -> &[T]
+    requires ascend { from ≤ to }
+    requires end { to ≤ length rows.now }
+    ensures { result.now ≡ between from to rows.now }
+{
+    &rows[from..to]
+}
+
+/// The joints of a colour that has ended.
+fn joints_of<'a>(joints: &'a [JointRow], ends: &[ColourEnd], colour: usize) -> &'a [JointRow]
+    requires ends { AreEnds 0 (map (λ e. e.joints) ends.now) (length joints.now) }
+    requires colour { colour < length ends.now }
+    ensures { result.now ≡ slice_index_or (cut 0 (map (λ e. e.joints) ends.now) joints.now) colour [] }
+{
+    part(joints, start_of(ends, colour).joints, ends[colour].joints)
+}
+
+/// Its contacts.
+fn contacts_of<'a>(
+    contacts: &'a [ContactRow],
+    ends: &[ColourEnd],
+    colour: usize,
+) -> &'a [ContactRow]
+    requires ends { AreEnds 0 (map (λ e. e.contacts) ends.now) (length contacts.now) }
+    requires colour { colour < length ends.now }
+    ensures { result.now ≡ slice_index_or (cut 0 (map (λ e. e.contacts) ends.now) contacts.now) colour [] }
+{
+    part(
+        contacts,
+        start_of(ends, colour).contacts,
+        ends[colour].contacts,
+    )
+}
+
+/// The joints that have no colour.
+fn joints_behind<'a>(joints: &'a [JointRow], ends: &[ColourEnd]) -> &'a [JointRow]
+    requires { AreEnds 0 (map (λ e. e.joints) ends.now) (length joints.now) }
+    ensures { result.now ≡ left_of 0 (map (λ e. e.joints) ends.now) joints.now }
+{
+    part(joints, start_of(ends, ends.len()).joints, joints.len())
+}
+
+/// The contacts that have no colour.
+fn contacts_behind<'a>(contacts: &'a [ContactRow], ends: &[ColourEnd]) -> &'a [ContactRow]
+    requires { AreEnds 0 (map (λ e. e.contacts) ends.now) (length contacts.now) }
+    ensures { result.now ≡ left_of 0 (map (λ e. e.contacts) ends.now) contacts.now }
+{
+    part(
+        contacts,
+        start_of(ends, ends.len()).contacts,
+        contacts.len(),
+    )
 }
 
 /// One pass over the rows of a colour: over its joints, and then over its contacts.
@@ -219,6 +307,68 @@ impl Rows {
             joints: self.joints.len(),
             contacts: self.contacts.len(),
         });
+    }
+
+    /// How many colours have ended.
+    pub fn colours(&self) -> usize
+        ensures { result ≡ length self.now.colours }
+    {
+        self.ends.len()
+    }
+
+    /// The joints of a colour that has ended.
+    pub fn joints_in(&self, colour: usize) -> &[JointRow]
+        requires { colour < length self.now.colours }
+        ensures joints { result.now ≡ joints_among (slice_index_or self.now.colours colour []) }
+        ensures order { joints_first result.now (contacts_among (slice_index_or self.now.colours colour [])) ≡ slice_index_or self.now.colours colour [] }
+    {
+        joints_of(&self.joints, &self.ends, colour)
+    }
+
+    /// The contacts of a colour that has ended.
+    pub fn contacts_in(&self, colour: usize) -> &[ContactRow]
+        requires { colour < length self.now.colours }
+        ensures contacts { result.now ≡ contacts_among (slice_index_or self.now.colours colour []) }
+    {
+        contacts_of(&self.contacts, &self.ends, colour)
+    }
+
+    /// The joints that have no colour.
+    pub fn joints_left(&self) -> &[JointRow]
+        ensures joints { result.now ≡ joints_among self.now.left }
+        ensures order { joints_first result.now (contacts_among self.now.left) ≡ self.now.left }
+    {
+        joints_behind(&self.joints, &self.ends)
+    }
+
+    /// The contacts that have no colour.
+    pub fn contacts_left(&self) -> &[ContactRow]
+        ensures contacts { result.now ≡ contacts_among self.now.left }
+    {
+        contacts_behind(&self.contacts, &self.ends)
+    }
+
+    /// Puts a row that took its turns elsewhere back into its place, which has a row of its kind. Answers where the next one stands.
+    #[inline(always)]
+    pub fn put(&mut self, place: RowPlace, row: &ConstraintRow) -> RowPlace
+        requires inside { place.joints + place.contacts < length (all_rows self.old) }
+        requires place { IsPlace (all_rows self.old) place }
+        requires kind { is_joint row.now ≡ is_joint (slice_index_or (all_rows self.old) (place.joints + place.contacts) row.now) }
+        ensures rows { all_rows self.new ≡ slice_set (all_rows self.old) (place.joints + place.contacts) row.now }
+        ensures place { IsPlace (all_rows self.new) result }
+        ensures next { result.joints + result.contacts ≡ place.joints + place.contacts + 1 }
+        ensures counts { map length self.new.colours ≡ map length self.old.colours }
+    {
+        match row {
+            ConstraintRow::Joint(joint) => RowPlace {
+                joints: put_row(&mut self.joints, place.joints, *joint),
+                contacts: place.contacts,
+            },
+            ConstraintRow::Contact(contact) => RowPlace {
+                joints: place.joints,
+                contacts: put_row(&mut self.contacts, place.contacts, *contact),
+            },
+        }
     }
 
     /// The rows of all joints, in solve order.

@@ -8,18 +8,22 @@
 #![tactic(auto)]
 
 pub mod colour_rows;
+pub mod constraint_passes;
 pub mod constraint_row;
 pub mod constraint_turns;
 mod courses;
 pub mod passes;
+pub mod phase;
 pub mod step_solver;
 pub mod ticks;
 pub mod turns;
 
-pub use colour_rows::Rows;
+pub use colour_rows::{RowPlace, Rows};
+pub use constraint_passes::Passes;
 pub use constraint_row::ConstraintRow;
 pub use constraint_turns::{Bounce, Solve, Warm};
 pub use passes::{Change, Gains, pass_two};
+pub use phase::Phase;
 pub use step_solver::{OneThread, StepSolver};
-pub use ticks::{StepSums, run_step};
+pub use ticks::{StepSums, run_step, run_ticks};
 pub use turns::{Row, Slots, Turn, colours_at_once, pass_rows, solve_one};

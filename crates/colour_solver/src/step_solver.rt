@@ -1,8 +1,9 @@
 //! Who runs the ticks of a step: the thread that calls, or others with it.
 
-ghost use Rattle.std.specs.Prelude.{◌≡◌, ℕ, ◌^◌, ◌≤◌, length, map};
+ghost use Rattle.std.specs.Prelude.{◌≡◌, ◌^◌, ◌≤◌, length, map};
 ghost use Rattle.fixed_geom.specs.Vectors.{IsWithin, plus};
 ghost use Rattle.colour_solver.specs.States.{AreAllStates, AreSameBeside, HaveCourses, carried_of, movers_of, total};
+ghost use Rattle.colour_solver.specs.Colour.{AreColours};
 ghost use Rattle.colour_solver.specs.ColourRows.{all_rows};
 ghost use Rattle.colour_solver.specs.ConstraintTurns.{AreRowsBelow};
 ghost use Rattle.colour_solver.specs.Ticks.{AreSums, added, ran, run_of, start};
@@ -12,12 +13,9 @@ use body_handles::MAX_SLOTS;
 use fixed_geom::Vec2;
 use momenta::BodyState;
 
-/// Runs the ticks of a step as `run_step` does, with the same states, rows and sums. It has all threads and all memory that it needs
-/// for so many joints and contacts, so that it can't be refused.
+/// Runs the ticks of a step as `run_step` does, with the same states, rows and sums. It can't be refused: it has the threads that it needs,
+/// and where it lacks memory the calling thread runs the ticks alone.
 pub trait StepSolver {
-    /// It has what it needs for so many joints and contacts.
-    ghost fits: { Self → ℕ → Type 0 } = { λ _ _. Unit {0} };
-
     /// `run_step` of the same numbers.
     fn run_step(
         &mut self,
@@ -35,8 +33,8 @@ pub trait StepSolver {
         requires carried { carried.now ≡ carried_of states.old.items }
         requires courses { HaveCourses states.old.items }
         requires rows { AreRowsBelow (length states.old.items) (all_rows rows.old) }
+        requires apart { AreColours states.old.items rows.old }
         requires count { count ≤ 8 }
-        requires fits { fits self.old (length (all_rows rows.old)) }
         ensures run { run_of states.new.items (all_rows rows.new) result ≡ ran count gravity (start states.old.items (all_rows rows.old)) }
         ensures states { AreAllStates states.new.items }
         ensures rows { AreRowsBelow (length states.new.items) (all_rows rows.new) }
@@ -45,8 +43,7 @@ pub trait StepSolver {
         ensures same { AreSameBeside states.old.items states.new.items }
         ensures courses { HaveCourses states.new.items }
         ensures small { AreSums (2 ^ 83) result }
-        ensures momentum { total states.new.items ≡ plus (total states.old.items) (added result) }
-        ensures fits { (n : ℕ) → fits self.old n → fits self.new n };
+        ensures momentum { total states.new.items ≡ plus (total states.old.items) (added result) };
 }
 
 /// The calling thread alone, which needs nothing.

@@ -4,12 +4,13 @@ ghost use Rattle.std.specs.Prelude.{◌≡◌, ℕ, ◌^◌, ◌*◌, ◌+◌, �
 ghost use Rattle.fixed_geom.specs.Vectors.{IsWithin, plus};
 ghost use Rattle.momenta.specs.Motions.{pulled, clamped, advanced, IsMotion};
 ghost use Rattle.colour_solver.specs.States.{AreAllStates, AreSameBeside, HaveCourses, carried_of, movers_of, total};
+ghost use Rattle.colour_solver.specs.Colour.{AreColours};
 ghost use Rattle.colour_solver.specs.ColourRows.{all_rows};
-ghost use Rattle.colour_solver.specs.ConstraintTurns.{AreRowsBelow};
+ghost use Rattle.colour_solver.specs.ConstraintTurns.{AreRowsBelow, is_joint};
 ghost use Rattle.colour_solver.specs.Ticks.{AreSums, CanLimit, CanMove, CanPull, added, ran, run_of, start, tick, ticks};
 
 use crate::courses::carry_along;
-use crate::{Bounce, Change, Rows, Solve, Warm, pass_two};
+use crate::{Change, Passes, Phase, Rows, pass_two};
 use body_handles::MAX_SLOTS;
 use fixed_geom::Vec2;
 use momenta::{
@@ -81,9 +82,9 @@ impl Change for Move {
 /// One tick of the awake movers and the constraints: gravity, the speed limit, the warm start, the solver's pass, the speed limit again, the move; and then of
 /// the bodies that are carried along. Adds to the sums so far.
 #[tactic(auto, unfolding(crate::specs::Ticks::tick))]
-fn tick(
+fn tick<P: Passes>(
     states: &mut Vec<BodyState>,
-    rows: &mut Rows,
+    rows: &mut P,
     awake: &[u32],
     carried: &[u32],
     gravity: Vec2,
@@ -95,12 +96,16 @@ fn tick(
     requires awake { awake.now ≡ movers_of states.old.items }
     requires carried { carried.now ≡ carried_of states.old.items }
     requires courses { HaveCourses states.old.items }
-    requires rows { AreRowsBelow (length states.old.items) (all_rows rows.old) }
+    requires rows { AreRowsBelow (length states.old.items) (all_rows (P.rows rows.old)) }
+    requires apart { AreColours states.old.items (P.rows rows.old) }
+    requires fits { P.fits rows.old (length states.old.items) }
     requires sums { AreSums (2 ^ 83) sums }
-    ensures tick { run_of states.new.items (all_rows rows.new) result ≡ tick gravity (run_of states.old.items (all_rows rows.old) sums) }
+    ensures tick { run_of states.new.items (all_rows (P.rows rows.new)) result ≡ tick gravity (run_of states.old.items (all_rows (P.rows rows.old)) sums) }
     ensures states { AreAllStates states.new.items }
-    ensures rows { AreRowsBelow (length states.new.items) (all_rows rows.new) }
-    ensures colours { map length rows.new.colours ≡ map length rows.old.colours }
+    ensures rows { AreRowsBelow (length states.new.items) (all_rows (P.rows rows.new)) }
+    ensures apart { AreColours states.new.items (P.rows rows.new) }
+    ensures fits { (n : ℕ) → P.fits rows.old n → P.fits rows.new n }
+    ensures colours { map length (P.rows rows.new).colours ≡ map length (P.rows rows.old).colours }
     ensures long { length states.new.items ≡ length states.old.items }
     ensures same { AreSameBeside states.old.items states.new.items }
     ensures courses { HaveCourses states.new.items }
@@ -108,8 +113,8 @@ fn tick(
     ensures momentum { plus (total states.new.items) (added sums) ≡ plus (total states.old.items) (added result) }
 {
     let fallen = pass_two(states, awake, &Pull { gravity }, &Limit);
-    let warm = rows.pass(states, &Warm, &Warm);
-    let solved = rows.pass(states, &Solve, &Solve);
+    let warm = rows.pass(states, Phase::Warm);
+    let solved = rows.pass(states, Phase::Solve);
     let moved = pass_two(states, awake, &Limit, &Move);
     carry_along(states, carried);
     StepSums {
@@ -130,6 +135,53 @@ fn tick(
 /// Answers what gravity, what immovable bodies, and what the speed limit with the edge of the world have added to the movers'
 /// momentum (mass·u/tick).
 #[tactic(auto, unfolding(crate::specs::Ticks::ran))]
+pub fn run_ticks<P: Passes>(
+    states: &mut Vec<BodyState>,
+    rows: &mut P,
+    awake: &[u32],
+    carried: &[u32],
+    gravity: Vec2,
+    count: u64,
+) -> StepSums
+    requires few { length states.old.items ≤ MAX_SLOTS }
+    requires gravity { IsWithin (2 ^ 16) gravity }
+    requires states { AreAllStates states.old.items }
+    requires awake { awake.now ≡ movers_of states.old.items }
+    requires carried { carried.now ≡ carried_of states.old.items }
+    requires courses { HaveCourses states.old.items }
+    requires rows { AreRowsBelow (length states.old.items) (all_rows (P.rows rows.old)) }
+    requires apart { AreColours states.old.items (P.rows rows.old) }
+    requires fits { P.fits rows.old (length states.old.items) }
+    requires count { count ≤ 8 }
+    ensures run { run_of states.new.items (all_rows (P.rows rows.new)) result ≡ ran count gravity (start states.old.items (all_rows (P.rows rows.old))) }
+    ensures states { AreAllStates states.new.items }
+    ensures rows { AreRowsBelow (length states.new.items) (all_rows (P.rows rows.new)) }
+    ensures apart { AreColours states.new.items (P.rows rows.new) }
+    ensures kinds { map is_joint (all_rows (P.rows rows.new)) ≡ map is_joint (all_rows (P.rows rows.old)) }
+    ensures fits { (n : ℕ) → P.fits rows.old n → P.fits rows.new n }
+    ensures colours { map length (P.rows rows.new).colours ≡ map length (P.rows rows.old).colours }
+    ensures long { length states.new.items ≡ length states.old.items }
+    ensures same { AreSameBeside states.old.items states.new.items }
+    ensures courses { HaveCourses states.new.items }
+    ensures small { AreSums (2 ^ 83) result }
+    ensures momentum { total states.new.items ≡ plus (total states.old.items) (added result) }
+{
+    let mut sums = StepSums {
+        gravity: NOTHING,
+        immovable: NOTHING,
+        clamp: NOTHING,
+    };
+    for index in 0..count {
+        sums = tick(states, rows, awake, carried, gravity, sums);
+    }
+    let bounced = rows.pass(states, Phase::Bounce);
+    StepSums {
+        immovable: plus(sums.immovable, bounced),
+        ..sums
+    }
+}
+
+/// The same on the calling thread.
 pub fn run_step(
     states: &mut Vec<BodyState>,
     rows: &mut Rows,
@@ -145,10 +197,12 @@ pub fn run_step(
     requires carried { carried.now ≡ carried_of states.old.items }
     requires courses { HaveCourses states.old.items }
     requires rows { AreRowsBelow (length states.old.items) (all_rows rows.old) }
+    requires apart { AreColours states.old.items rows.old }
     requires count { count ≤ 8 }
     ensures run { run_of states.new.items (all_rows rows.new) result ≡ ran count gravity (start states.old.items (all_rows rows.old)) }
     ensures states { AreAllStates states.new.items }
     ensures rows { AreRowsBelow (length states.new.items) (all_rows rows.new) }
+    ensures apart { AreColours states.new.items rows.new }
     ensures colours { map length rows.new.colours ≡ map length rows.old.colours }
     ensures long { length states.new.items ≡ length states.old.items }
     ensures same { AreSameBeside states.old.items states.new.items }
@@ -156,17 +210,5 @@ pub fn run_step(
     ensures small { AreSums (2 ^ 83) result }
     ensures momentum { total states.new.items ≡ plus (total states.old.items) (added result) }
 {
-    let mut sums = StepSums {
-        gravity: NOTHING,
-        immovable: NOTHING,
-        clamp: NOTHING,
-    };
-    for index in 0..count {
-        sums = tick(states, rows, awake, carried, gravity, sums);
-    }
-    let bounced = rows.pass(states, &Bounce, &Bounce);
-    StepSums {
-        immovable: plus(sums.immovable, bounced),
-        ..sums
-    }
+    run_ticks(states, rows, awake, carried, gravity, count)
 }

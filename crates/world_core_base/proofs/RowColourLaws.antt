@@ -2,6 +2,7 @@
 use Rattle.std.proofs.Common.{◌≡◌, ◌≢◌, ℕ, zero, suc, ◌<◌, true, false, List, [], ◌∷◌, length, get_or, take, map, Option, Some, None, All, arith, refl, sym, ap, ◌∙◌, subst}
 use Rattle.std.specs.Prelude.{option_map}
 use Rattle.std.specs.List.{slice_get, cons_option, filter_map, AllPairs}
+use Rattle.std.proofs.lemmas.List.Elements.{All-map, All-take}
 use Rattle.std.proofs.lemmas.Option.{none-some, same_Some}
 use Rattle.momenta.specs.declared.state.BodyState.{BodyState}
 use Rattle.contacts_base.specs.declared.key.ContactKey.{ContactKey}
@@ -166,3 +167,11 @@ colour_rows_apart states joints contacts lists colour has apart many lt =
     let long = length-taken COLOURS lists many in
     let here : AreApart (get_or lists colour []) = subst AreApart (get_or-taken COLOURS lists colour [] lt) (apart colour [] (omega (arith, lt, long))) in
     subst (IsColour constraint_slots states) (sym (get_or-mapped (rows_in states joints contacts) lists colour [] [] inside)) (members_apart states joints contacts (get_or lists colour []) (has colour [] inside) here)
+
+-- of all colours but the overflow
+pub gathered_apart : (states : List BodyState) (joints : List (Option BodyJoint)) (contacts : List ContactEntry) (lists : List (List (Member Constraint))) → All (All (HasItsMovers states joints)) lists → All AreApart (take COLOURS lists)
+    → All (λ (rs : List ConstraintRow). IsColour constraint_slots states rs) (map (rows_in states joints contacts) (take COLOURS lists))
+gathered_apart states joints contacts lists has apart =
+    let have : All (All (HasItsMovers states joints)) (take COLOURS lists) = All-take (All (HasItsMovers states joints)) COLOURS lists has in
+    All-map (λ (rs : List ConstraintRow). IsColour constraint_slots states rs) (rows_in states joints contacts) (take COLOURS lists)
+    (λ k d lt. members_apart states joints contacts (get_or (take COLOURS lists) k d) (have k d lt) (apart k d lt))

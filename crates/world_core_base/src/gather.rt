@@ -1,6 +1,6 @@
 //! What a step works on: the bodies by slot, and the joints and the touching contacts in solve order, gathered when it begins.
 
-ghost use Rattle.std.specs.Prelude.{◌≡◌, ◌<◌, ◌≤◌, ◌≢◌, ◌⊎◌, ◌+◌, ◌^◌, ◌++◌, ◌∷◌, [], All, Option, Some, length, map, option_map};
+ghost use Rattle.std.specs.Prelude.{◌≡◌, ◌<◌, ◌≤◌, ◌≢◌, ◌⊎◌, ◌+◌, ◌^◌, ◌++◌, ◌∷◌, [], All, Option, Some, length, map, option_map, slice_index_or, take};
 ghost use Rattle.std.specs.Option.{ForSome, option_to_list};
 ghost use Rattle.contacts_base.specs.Keys.{key_number};
 ghost use Rattle.contacts_base.specs.Split.{contacts_in};
@@ -310,14 +310,14 @@ pub fn gather_rows(
     requires movable { All (HaveMovable states.now) colours.now.lists }
     requires room { length (all_members colours.now.lists) ≤ rows.old.room }
     requires more { COLOURS + 1 ≤ rows.old.more }
-    ensures colours { rows.new.colours ≡ map (rows_in states.now joints.now (contacts_in contacts.now)) colours.now.lists }
-    ensures left { rows.new.left ≡ [] }
+    ensures colours { rows.new.colours ≡ map (rows_in states.now joints.now (contacts_in contacts.now)) (take COLOURS colours.now.lists) }
+    ensures left { rows.new.left ≡ rows_in states.now joints.now (contacts_in contacts.now) (slice_index_or colours.now.lists COLOURS []) }
     ensures value { all_rows rows.new ≡ rows_of states.now joints.now (contacts_in contacts.now) colours.now.lists }
     ensures rows { AreRowsBelow (length states.now) (all_rows rows.new) }
 {
     rows.clear();
     places.clear();
-    for colour in 0..OVERFLOW + 1 {
+    for colour in 0..OVERFLOW {
         gather_colour(
             rows,
             states,
@@ -328,4 +328,12 @@ pub fn gather_rows(
         );
         rows.end_colour();
     }
+    gather_colour(
+        rows,
+        states,
+        joints,
+        contacts,
+        places,
+        colours.members(OVERFLOW),
+    );
 }

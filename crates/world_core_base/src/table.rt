@@ -2,7 +2,7 @@
 
 mod from_bodies;
 
-ghost use Rattle.std.specs.Prelude.{◌≡◌, ℕ, ◌+◌, ◌-◌, ◌<◌, ◌≤◌, ◌^◌, [], None, false, true, IfOk, OnOk, length, replicate, slice_index_or, slice_set, vec_len, vec_capacity};
+ghost use Rattle.std.specs.Prelude.{◌≡◌, ◌+◌, ◌-◌, ◌<◌, ◌≤◌, ◌^◌, [], None, false, true, IfOk, OnOk, length, replicate, slice_index_or, slice_set, vec_len, vec_capacity};
 ghost use Rattle.std.specs.Option.{ForSome};
 ghost use Rattle.std.specs.Result.{IsOkUnless};
 ghost use Rattle.fixed_geom.specs.Vectors.{IsWithin, plus};
@@ -10,6 +10,7 @@ ghost use Rattle.box_tree.specs.BoxLists.{box_at};
 ghost use Rattle.momenta.specs.declared.state.BodyState.{BodyState};
 ghost use Rattle.colour_solver.specs.States.{AreAllStates, as_vector, is_carried, moves, places_from};
 ghost use Rattle.colour_solver.specs.Ticks.{AreSums, added, ran, run_of, start};
+ghost use Rattle.colour_solver.specs.Colour.{AreColours};
 ghost use Rattle.colour_solver.specs.ColourRows.{all_rows};
 ghost use Rattle.colour_solver.specs.ConstraintTurns.{AreRowsBelow};
 ghost use Rattle.world_core_base.specs.Awake.{with_state};
@@ -412,7 +413,7 @@ impl BodyTable {
 
     /// Runs the ticks of a step, 0 to 8, and its restitution, over the movers, the bodies that are carried along, and the constraints in
     /// solve order; fat boxes that their shapes have left are then made anew, and the slots of their bodies marked. Answers what was added to the movers' momentum, by cause.
-    /// The solver has what it needs for all constraints, and runs the ticks.
+    /// The solver runs the ticks.
     #[inline(never)]
     pub fn run<S: StepSolver>(
         &mut self,
@@ -425,9 +426,9 @@ impl BodyTable {
         requires bodies { AreBodies self.old.bodies }
         requires gravity { IsWithin (2 ^ 16) gravity }
         requires rows { AreRowsBelow (length self.old.bodies) (all_rows rows.old) }
+        requires apart { AreColours (states_of self.old.bodies) rows.old }
         requires count { count ≤ 8 }
         requires settled { self.old.pending ≡ 0 }
-        requires fits { S.fits solver.old (length (all_rows rows.old)) }
         ensures run { run_of (ran count gravity (start (states_of self.old.bodies) (all_rows rows.old))).states (all_rows rows.new) result ≡ ran count gravity (start (states_of self.old.bodies) (all_rows rows.old)) }
         ensures bodies { self.new.bodies ≡ renewed_bodies (with_motions self.old.bodies (ran count gravity (start (states_of self.old.bodies) (all_rows rows.old))).states) }
         ensures rows { AreRowsBelow (length self.old.bodies) (all_rows rows.new) }
@@ -438,7 +439,6 @@ impl BodyTable {
         ensures momentum { momentum self.new.bodies ≡ plus (momentum self.old.bodies) (added result) }
         ensures marked { AreMarked self.old self.new }
         ensures settled { self.new.pending ≡ 0 }
-        ensures fits { (n : ℕ) → S.fits solver.old n → S.fits solver.new n }
     {
         self.room = 0;
         let sums = solver.run_step(

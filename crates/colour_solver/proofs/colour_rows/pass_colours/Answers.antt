@@ -2,9 +2,8 @@ use Rattle.std.proofs.Common.{ℕ, ◌+◌, ◌≤◌, length, get_or, map, take
 use Rattle.std.proofs.lemmas.List.{length-map, take_all}
 use Rattle.colour_solver.specs.declared.colour_rows.ColourEnd.{ColourEnd}
 use Rattle.colour_solver.specs.States.{as_vector}
-use Rattle.colour_solver.specs.ColourRows.{rows_kept}
+use Rattle.colour_solver.specs.ColourRows.{last_end, rows_kept}
 use Rattle.colour_solver.specs.ConstraintTurns.{IsConstraintRow, both_turns, constraint_slots}
-use Rattle.colour_solver.proofs.ColourRowLaws.{last_end}
 use Rattle.colour_solver.proofs.KeptRowLaws.{AreBothEnds, HasPassed, HasTurned, all_passed, as_many_ends, below_ends, end_inside, end_there, first_rows, has_passed_more, start_inside, start_low, start_more, turned_there}
 use Rattle.colour_solver.proofs.PassedLaws.{passed_small}
 use Rattle.colour_solver.proofs.colour_rows.pass_colours.Goals as goal

@@ -1,7 +1,7 @@
 use Rattle.std.proofs.Common.{◌≡◌, ◌^◌, map, take}
 use Rattle.momenta.specs.Gains.{IsGain}
+use Rattle.colour_solver.specs.ColourRows.{last_end}
 use Rattle.colour_solver.specs.States.{as_vector}
-use Rattle.colour_solver.proofs.ColourRowLaws.{last_end}
 use Rattle.colour_solver.proofs.KeptRowLaws.{HasPassed}
 use Rattle.colour_solver.proofs.colour_rows.pass_colours.Given as goal
 

@@ -1,4 +1,4 @@
-use Rattle.std.proofs.Common.{◌^◌, ◌∙◌, sym, length, arith}
+use Rattle.std.proofs.Common.{◌^◌, ◌∙◌, sym, subst, length, arith}
 use Rattle.momenta.specs.Motions.{pulled, clamped, advanced}
 use Rattle.colour_solver.specs.States.{as_vector, total}
 use Rattle.colour_solver.specs.ColourRows.{all_rows}
@@ -6,48 +6,49 @@ use Rattle.colour_solver.specs.Ticks.{tick}
 use Rattle.colour_solver.proofs.SameLaws.{same_four}
 use Rattle.colour_solver.proofs.CourseLaws.{beside_carry, beside_on, beside_same, carried_beside, carried_long, courses-carry, courses_same, total-carry}
 use Rattle.colour_solver.proofs.AwakeLaws.{movers_same}
+use Rattle.colour_solver.proofs.StillLaws.{colours_beside, colours_same}
 use Rattle.colour_solver.proofs.TickLaws.{long_after, one_more, rows_as_long, states_after, three_more, tick_adds, total-after, two_more}
 use Rattle.colour_solver.proofs.VectorLaws.{same_x, same_y}
 use Rattle.colour_solver.proofs.ticks.tick.Goals as goal
 
 pub pass_two-fallen-requires-clause-fits : goal.pass_two-fallen-requires-clause-fits
-pass_two-fallen-requires-clause-fits c = λ slot s e moves.
+pass_two-fallen-requires-clause-fits g c = λ slot s e moves.
     let state = c.requires.states slot s e in
     record { gravity = c.requires.gravity; mass = state.mass; motion = state.motion }
 
 pub pass_two-fallen-requires-clause-small : goal.pass_two-fallen-requires-clause-small
-pass_two-fallen-requires-clause-small c = λ slot s e moves.
+pass_two-fallen-requires-clause-small g c = λ slot s e moves.
     let p = (c.requires.states slot s e).motion.p in
     record { x = omega (arith, p.x); y = omega (arith, p.y) }
 
 pub pass-warm-requires-clause-states : goal.pass-warm-requires-clause-states
-pass-warm-requires-clause-states c =
+pass-warm-requires-clause-states g c =
     states_after (pulled c.args.gravity) clamped c.args.states.now.items _ c.pass_two-fallen.ensures.states c.requires.states (λ slot s e moves. (c.pass_two-fallen.ensures.gives slot s e moves).motion)
 
 pub pass-warm-requires-clause-rows : goal.pass-warm-requires-clause-rows
-pass-warm-requires-clause-rows c =
-    rows_as_long (length c.pass_two-fallen.new.states.items) (length c.args.states.now.items) (all_rows c.args.rows.now) (long_after (pulled c.args.gravity) clamped c.args.states.now.items c.pass_two-fallen.new.states.items c.pass_two-fallen.ensures.states) c.requires.rows
+pass-warm-requires-clause-rows g c =
+    rows_as_long (length c.pass_two-fallen.new.states.items) (length c.args.states.now.items) (all_rows (g.P.Passes.rows c.args.rows.now)) (long_after (pulled c.args.gravity) clamped c.args.states.now.items c.pass_two-fallen.new.states.items c.pass_two-fallen.ensures.states) c.requires.rows
 
 pub pass_two-moved-requires-clause-fits : goal.pass_two-moved-requires-clause-fits
-pass_two-moved-requires-clause-fits c = λ slot s e moves.
+pass_two-moved-requires-clause-fits g c = λ slot s e moves.
     let state = c.pass-solved.ensures.all_states slot s e in
     let m = state.motion in
     record { mass = state.mass; motion = record { p = record { x = omega (arith, m.p.x); y = omega (arith, m.p.y) }; l = m.l; still = m.still; x = m.x; facing = m.facing } }
 
 pub pass_two-moved-requires-clause-small : goal.pass_two-moved-requires-clause-small
-pass_two-moved-requires-clause-small c = λ slot s e moves.
+pass_two-moved-requires-clause-small g c = λ slot s e moves.
     let p = (c.pass-solved.ensures.all_states slot s e).motion.p in
     record { x = omega (arith, p.x); y = omega (arith, p.y) }
 
 pub plus-requires-6-clause-first : goal.plus-requires-6-clause-first
-plus-requires-6-clause-first c = record {
+plus-requires-6-clause-first g c = record {
   x = rw (c.plus-5.ensures.x, c.plus-4.ensures.x) (let small = two_more c.args.sums.clamp.x c.pass_two-fallen.result.second.x c.pass_two-moved.result.first.x (2 ^ 83) c.requires.sums.clamp.x c.pass_two-fallen.ensures.small_second.x c.pass_two-moved.ensures.small_first.x in omega (arith, small));
   y = rw (c.plus-5.ensures.y, c.plus-4.ensures.y) (let small = two_more c.args.sums.clamp.y c.pass_two-fallen.result.second.y c.pass_two-moved.result.first.y (2 ^ 83) c.requires.sums.clamp.y c.pass_two-fallen.ensures.small_second.y c.pass_two-moved.ensures.small_first.y in omega (arith, small));
 }
 
 pub returns-clause-tick : goal.returns-clause-tick
 unfolding tick
-returns-clause-tick c =
+returns-clause-tick g c =
     let fallen = c.pass_two-fallen in
     let warm = c.pass-warm in
     let solved = c.pass-solved in
@@ -65,15 +66,15 @@ returns-clause-tick c =
     (rw (fallen.ensures.states, same_x pulls, same_y pulls, same_x slows, same_y slows)))))
 
 pub carry_along-requires-clause-states : goal.carry_along-requires-clause-states
-carry_along-requires-clause-states c =
+carry_along-requires-clause-states g c =
     states_after clamped advanced c.pass-solved.new.states.items _ c.pass_two-moved.ensures.states c.pass-solved.ensures.all_states c.pass_two-moved.ensures.gives
 
 pub returns-clause-rows : goal.returns-clause-rows
-returns-clause-rows c =
-    rows_as_long (length c.carry_along.new.states.items) (length c.pass-solved.new.states.items) (all_rows c.pass-solved.new.self) (carried_long c.pass_two-moved.new.states.items c.carry_along.new.states.items c.carry_along.ensures.value ∙ long_after clamped advanced c.pass-solved.new.states.items c.pass_two-moved.new.states.items c.pass_two-moved.ensures.states) c.pass-solved.ensures.all_rows
+returns-clause-rows g c =
+    rows_as_long (length c.carry_along.new.states.items) (length c.pass-solved.new.states.items) (all_rows (g.P.Passes.rows c.pass-solved.new.self)) (carried_long c.pass_two-moved.new.states.items c.carry_along.new.states.items c.carry_along.ensures.value ∙ long_after clamped advanced c.pass-solved.new.states.items c.pass_two-moved.new.states.items c.pass_two-moved.ensures.states) c.pass-solved.ensures.all_rows
 
 pub returns-clause-grown : goal.returns-clause-grown
-returns-clause-grown c = λ n h.
+returns-clause-grown g c = λ n h.
     let fallen = c.pass_two-fallen in
     let moved = c.pass_two-moved in
     record {
@@ -92,7 +93,7 @@ returns-clause-grown c = λ n h.
     }
 
 pub returns-clause-momentum : goal.returns-clause-momentum
-returns-clause-momentum c =
+returns-clause-momentum g c =
     let fallen = c.pass_two-fallen in
     let warm = c.pass-warm in
     let solved = c.pass-solved in
@@ -106,7 +107,7 @@ returns-clause-momentum c =
     (total-after clamped advanced solved.new.states.items moved.new.states.items (as_vector moved.result.first) (as_vector moved.result.second) moved.ensures.states moved.ensures.first moved.ensures.second))
 
 pub carry_along-requires-clause-carried : goal.carry_along-requires-clause-carried
-carry_along-requires-clause-carried c =
+carry_along-requires-clause-carried g c =
     let first = c.args.states.now.items in
     let fallen = c.pass_two-fallen in
     let warm = c.pass-warm in
@@ -115,7 +116,7 @@ carry_along-requires-clause-carried c =
     c.requires.carried ∙ sym (carried_beside first moved.new.states.items (beside_same first moved.new.states.items (same_four first fallen.new.states.items warm.new.states.items solved.new.states.items moved.new.states.items fallen.ensures.same warm.ensures.same solved.ensures.same moved.ensures.same)))
 
 pub carry_along-requires-clause-courses : goal.carry_along-requires-clause-courses
-carry_along-requires-clause-courses c =
+carry_along-requires-clause-courses g c =
     let first = c.args.states.now.items in
     let fallen = c.pass_two-fallen in
     let warm = c.pass-warm in
@@ -124,7 +125,7 @@ carry_along-requires-clause-courses c =
     courses_same first moved.new.states.items (same_four first fallen.new.states.items warm.new.states.items solved.new.states.items moved.new.states.items fallen.ensures.same warm.ensures.same solved.ensures.same moved.ensures.same) c.requires.courses
 
 pub returns-clause-courses : goal.returns-clause-courses
-returns-clause-courses c =
+returns-clause-courses g c =
     let first = c.args.states.now.items in
     let fallen = c.pass_two-fallen in
     let warm = c.pass-warm in
@@ -134,7 +135,7 @@ returns-clause-courses c =
     (courses-carry moved.new.states.items (courses_same first moved.new.states.items (same_four first fallen.new.states.items warm.new.states.items solved.new.states.items moved.new.states.items fallen.ensures.same warm.ensures.same solved.ensures.same moved.ensures.same) c.requires.courses))
 
 pub returns-clause-same : goal.returns-clause-same
-returns-clause-same c =
+returns-clause-same g c =
     let first = c.args.states.now.items in
     let fallen = c.pass_two-fallen in
     let warm = c.pass-warm in
@@ -144,16 +145,39 @@ returns-clause-same c =
     (beside_on first moved.new.states.items _ (beside_same first moved.new.states.items (same_four first fallen.new.states.items warm.new.states.items solved.new.states.items moved.new.states.items fallen.ensures.same warm.ensures.same solved.ensures.same moved.ensures.same)) (beside_carry moved.new.states.items))
 
 pub returns-clause-long : goal.returns-clause-long
-returns-clause-long c = (returns-clause-same c).long
+returns-clause-long g c = (returns-clause-same g c).long
 
 pub pass_two-fallen-requires-clause-reciprocals : goal.pass_two-fallen-requires-clause-reciprocals
-pass_two-fallen-requires-clause-reciprocals c = λ slot s e. (c.requires.states slot s e).reciprocals
+pass_two-fallen-requires-clause-reciprocals g c = λ slot s e. (c.requires.states slot s e).reciprocals
 
 pub pass_two-moved-requires-clause-reciprocals : goal.pass_two-moved-requires-clause-reciprocals
-pass_two-moved-requires-clause-reciprocals c = λ slot s e. (c.pass-solved.ensures.all_states slot s e).reciprocals
+pass_two-moved-requires-clause-reciprocals g c = λ slot s e. (c.pass-solved.ensures.all_states slot s e).reciprocals
 
 pub pass_two-moved-requires-clause-awake : goal.pass_two-moved-requires-clause-awake
-pass_two-moved-requires-clause-awake c =
+pass_two-moved-requires-clause-awake g c =
     let fallen = c.pass_two-fallen.new.states.items in
     let warm = c.pass-warm.new.states.items in
     c.requires.awake ∙ sym c.pass_two-fallen.ensures.movers ∙ sym (movers_same fallen warm c.pass-warm.ensures.same) ∙ sym (movers_same warm c.pass-solved.new.states.items c.pass-solved.ensures.same)
+
+-- ---- colours that stay colours
+
+pub pass-warm-requires-clause-colours : goal.pass-warm-requires-clause-colours
+pass-warm-requires-clause-colours g c =
+    colours_same c.args.states.now.items c.pass_two-fallen.new.states.items (g.P.Passes.rows c.args.rows.now) c.pass_two-fallen.ensures.same c.requires.apart
+
+pub pass-warm-requires-clause-fits : goal.pass-warm-requires-clause-fits
+pass-warm-requires-clause-fits g c = subst (g.P.Passes.fits c.args.rows.now) (sym c.pass_two-fallen.ensures.same.long) c.requires.fits
+
+pub pass-solved-requires-clause-fits : goal.pass-solved-requires-clause-fits
+pass-solved-requires-clause-fits g c =
+    c.pass-warm.ensures.fits (length c.pass-warm.new.states.items) (subst (g.P.Passes.fits c.args.rows.now) (sym c.pass-warm.ensures.long) (subst (g.P.Passes.fits c.args.rows.now) (sym c.pass_two-fallen.ensures.same.long) c.requires.fits))
+
+pub returns-clause-apart : goal.returns-clause-apart
+returns-clause-apart g c =
+    let solved = c.pass-solved.new.states.items in
+    let moved = c.pass_two-moved.new.states.items in
+    rw c.carry_along.ensures.value
+    (colours_beside moved _ (g.P.Passes.rows c.pass-solved.new.self) (beside_carry moved) (colours_same solved moved (g.P.Passes.rows c.pass-solved.new.self) c.pass_two-moved.ensures.same c.pass-solved.ensures.colours))
+
+pub returns-clause-fits : goal.returns-clause-fits
+returns-clause-fits g c = λ n fits. c.pass-solved.ensures.fits n (c.pass-warm.ensures.fits n fits)

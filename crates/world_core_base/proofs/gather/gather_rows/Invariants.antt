@@ -1,4 +1,4 @@
-use Rattle.std.proofs.Common.{◌≡◌, ◌<◌, ◌≤◌, ◌+◌, ◌++◌, [], drop, length, map, All}
+use Rattle.std.proofs.Common.{◌≡◌, ◌≤◌, ◌+◌, [], drop, length, map, take, All}
 use Rattle.contacts_base.specs.Split.{contacts_in}
 use Rattle.colour_solver.specs.ConstraintTurns.{AreRowsBelow}
 use Rattle.graph_colours.specs.Colours.{all_members}
@@ -6,13 +6,12 @@ use Rattle.graph_colours.specs.declared.limits.TheConstants.{COLOURS}
 use Rattle.world_core_base.specs.ConstraintRows.{rows_in}
 use Rattle.world_core_base.proofs.gather.gather_rows.Given as goal
 
--- how many lists there are is known once the first was read
 abbrev pub invariant-loop-colour : goal.invariant-loop-colour
 invariant-loop-colour l = record {
-  colours : l.rows.colours ++ map (rows_in l.states l.joints (contacts_in l.contacts)) (drop l.colour l.colours.lists) ≡ map (rows_in l.states l.joints (contacts_in l.contacts)) l.colours.lists;
+  colours : l.rows.colours ≡ map (rows_in l.states l.joints (contacts_in l.contacts)) (take l.colour l.colours.lists);
   left : l.rows.left ≡ [];
   rows : All (AreRowsBelow (length l.states)) l.rows.colours;
   room : length (all_members (drop l.colour l.colours.lists)) ≤ l.rows.room;
   more : COLOURS + 1 ≤ l.rows.more + l.colour;
-  lists : 0 < l.colour → length l.colours.lists ≡ COLOURS + 1;
+  low : l.colour ≤ COLOURS;
 }
