@@ -20,9 +20,9 @@ use Rattle.colour_solver_base.proofs.Kept.{kept_then, same_then}
 use Rattle.colour_solver.specs.ConstraintTurns.{both_turns, constraint_slots, contact_slots, joint_slots, joint_unbounced, turned_joint}
 use Rattle.colour_solver.specs.declared.constraint_row.ConstraintRow.{ConstraintRow}
 use Rattle.colour_solver.specs.declared.constraint_row.ConstraintRow.TheVariants.{Contact, Joint}
-use Rattle.crew_solver.specs.declared.phase.Phase.{Phase}
-use Rattle.crew_solver.specs.declared.phase.Phase.TheVariants.{Bounce, Solve, Warm}
-use Rattle.crew_solver.specs.Phases.{constraint_turn, contact_turn, joint_turn}
+use Rattle.colour_solver.specs.declared.phase.Phase.{Phase}
+use Rattle.colour_solver.specs.declared.phase.Phase.TheVariants.{Bounce, Solve, Warm}
+use Rattle.colour_solver.specs.Phases.{constraint_turn, contact_turn, joint_turn}
 use Rattle.crew_solver.specs.Turned.{AreTurnsLawful, IsFair}
 
 -- ---- nothing, and one turn after another

@@ -3,3 +3,6 @@ mod CrewLaws
 mod ListLaws
 mod PassLaws
 mod PutLaws
+mod PlacedLaws
+mod CutLaws
+mod PutBackLaws

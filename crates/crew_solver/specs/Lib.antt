@@ -1,2 +1,2 @@
 pub mod Turned
-pub mod Phases
+pub mod Putting

@@ -8,7 +8,9 @@ use Rattle.momenta.specs.declared.state.BodyState.{BodyState}
 use Rattle.momenta.specs.declared.state.Ends.{Ends}
 use Rattle.momenta.specs.Impulses.{AreSameBodies, AreStates, IsMomentumKept}
 use Rattle.colour_solver_base.specs.RowsAfter.{RowAfter}
+use Rattle.colour_solver.specs.declared.constraint_row.ConstraintRow.{ConstraintRow}
 use Rattle.colour_solver.specs.declared.turns.Slots.{Slots}
+use Rattle.colour_solver.specs.ColourRows.{ColourRows}
 use Rattle.colour_solver.specs.Turns.{ends_of, got, turn_of, with_ends}
 use Rattle.crew_solver.specs.declared.momenta_pair.MomentaPair.{MomentaPair}
 
@@ -119,3 +121,7 @@ pub record StepRows (R : Type 0) : Type 0 where
 -- all of them, in solve order
 abbrev pub all_of : {R : Type 0} → StepRows R → List R
 all_of {R} s = flat_map (λ (rs : List R). rs) s.colours ++ s.left
+
+-- the same, as the rows of a step are seen wherever they are kept
+abbrev pub coloured : StepRows ConstraintRow → ColourRows ConstraintRow
+coloured s = record { colours = s.colours; left = s.left; room = 0; more = 0 }

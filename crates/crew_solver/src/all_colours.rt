@@ -8,12 +8,12 @@ ghost use Rattle.colour_solver.specs.Colour.{IsColour};
 ghost use Rattle.colour_solver.specs.ConstraintTurns.{AreRowsBelow, IsConstraintRow, constraint_slots};
 ghost use Rattle.colour_solver.specs.States.{AreAllStates, AreSameStates, as_vector, total};
 ghost use Rattle.colour_solver.specs.Turns.{IsPassed, passed, rows_passed, share};
-ghost use Rattle.crew_solver.specs.Phases.{constraint_turn};
+ghost use Rattle.colour_solver.specs.Phases.{constraint_turn};
 ghost use Rattle.crew_solver.specs.Turned.{ArePiecesOf, all_in, row_count, rows_in};
 
-use crate::{ColourPieces, Phase, Turning};
+use crate::{ColourPieces, Turning};
 use body_handles::MAX_SLOTS;
-use colour_solver::{ConstraintRow, pass_rows};
+use colour_solver::{ConstraintRow, Phase, pass_rows};
 use crew::{Crew, Gate};
 use momenta::{BodyState, Gain, NOTHING, plus};
 use std::alloc::Global;

@@ -7,12 +7,12 @@ ghost use Rattle.colour_solver.specs.Colour.{IsColour};
 ghost use Rattle.colour_solver.specs.ConstraintTurns.{AreRowsBelow, IsConstraintRow, constraint_slots};
 ghost use Rattle.colour_solver.specs.States.{AreAllStates, as_vector};
 ghost use Rattle.colour_solver.specs.Turns.{IsPassed};
-ghost use Rattle.crew_solver.specs.Phases.{constraint_turn};
+ghost use Rattle.colour_solver.specs.Phases.{constraint_turn};
 ghost use Rattle.crew_solver.specs.Turned.{ArePiecesOf, row_count, rows_in};
 
-use crate::{Phase, Piece, Turning, pass_pieces};
+use crate::{Piece, Turning, pass_pieces};
 use body_handles::MAX_SLOTS;
-use colour_solver::ConstraintRow;
+use colour_solver::{ConstraintRow, Phase};
 use crew::{Crew, Gate};
 use fixed_geom::Refusal;
 use momenta::{BodyState, Gain};

@@ -8,12 +8,12 @@ ghost use Rattle.colour_solver.specs.Colour.{IsColour};
 ghost use Rattle.colour_solver.specs.ConstraintTurns.{AreRowsBelow, IsRowBelow, constraint_slots};
 ghost use Rattle.colour_solver.specs.States.{AreAllStates, AreSameStates, as_vector, total};
 ghost use Rattle.colour_solver.specs.Turns.{passed, rows_passed, share};
-ghost use Rattle.crew_solver.specs.Phases.{constraint_turn};
+ghost use Rattle.colour_solver.specs.Phases.{constraint_turn};
 ghost use Rattle.crew_solver.specs.Turned.{all_of, rows_in};
 
-use crate::{ColourPieces, Phase, Turning, pass_crew};
+use crate::{ColourPieces, Turning, pass_crew};
 use body_handles::MAX_SLOTS;
-use colour_solver::ConstraintRow;
+use colour_solver::{ConstraintRow, Phase};
 use crew::{Crew, Gate};
 use fixed_geom::Refusal;
 use momenta::{BodyState, Gain};
@@ -120,6 +120,7 @@ impl CrewRows {
         ensures colours { map length self.new.colours ≡ map length self.old.colours }
         ensures share { as_vector result ≡ share constraint_slots (constraint_turn phase) states.old.items (all_of self.old) }
         ensures all_states { AreAllStates states.new.items }
+        ensures all_rows { AreRowsBelow (length states.new.items) (all_of self.new) }
         ensures bodies { self.new.bodies ≡ self.old.bodies }
         ensures long { length states.new.items ≡ length states.old.items }
         ensures same { AreSameStates states.old.items states.new.items }

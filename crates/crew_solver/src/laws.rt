@@ -1,8 +1,8 @@
 //! What the passes of the solver keep, each of them at any row.
 
 ghost use Rattle.colour_solver.specs.ConstraintTurns.{constraint_slots};
-ghost use Rattle.crew_solver.specs.declared.phase.Phase.{Phase};
-ghost use Rattle.crew_solver.specs.Phases.{constraint_turn};
+ghost use Rattle.colour_solver.specs.declared.phase.Phase.{Phase};
+ghost use Rattle.colour_solver.specs.Phases.{constraint_turn};
 ghost use Rattle.crew_solver.specs.Turned.{AreTurnsLawful};
 
 /// A turn of any pass leaves its two bodies within their limits, and alone but for their momenta; two movers' momenta keep their sum. The

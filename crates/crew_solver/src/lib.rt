@@ -8,12 +8,14 @@
 pub mod all_colours;
 pub mod colour_pieces;
 pub mod crew_rows;
+mod cutting;
 pub mod laws;
 pub mod momenta_pair;
 pub mod pass;
-pub mod phase;
 pub mod piece;
 pub mod put;
+mod putting;
+pub mod step_crew;
 pub mod turning;
 
 pub use all_colours::pass_crew;
@@ -21,6 +23,6 @@ pub use colour_pieces::ColourPieces;
 pub use crew_rows::CrewRows;
 pub use momenta_pair::MomentaPair;
 pub use pass::pass_pieces;
-pub use phase::Phase;
 pub use piece::Piece;
+pub use step_crew::StepCrew;
 pub use turning::Turning;

@@ -5,7 +5,7 @@ use Rattle.colour_solver.specs.ConstraintTurns.{IsConstraintRow, constraint_slot
 use Rattle.colour_solver.specs.States.{as_vector}
 use Rattle.colour_solver.specs.Turns.{IsPassed}
 use Rattle.colour_solver.proofs.VectorLaws.{same_vector}
-use Rattle.crew_solver.specs.Phases.{constraint_turn}
+use Rattle.colour_solver.specs.Phases.{constraint_turn}
 use Rattle.crew_solver.specs.Turned.{all_in, rows_in}
 use Rattle.crew_solver.proofs.FairLaws.{phase_lawful}
 use Rattle.crew_solver.proofs.PassLaws.{given_is_small, passed_then_left}

@@ -4,7 +4,7 @@ use Rattle.colour_solver.specs.declared.constraint_row.ConstraintRow.{Constraint
 use Rattle.colour_solver.specs.Colour.{IsColour}
 use Rattle.colour_solver.specs.ConstraintTurns.{AreRowsBelow, IsRowBelow, constraint_slots}
 use Rattle.colour_solver.specs.Turns.{passed, rows_passed, share}
-use Rattle.crew_solver.specs.Phases.{constraint_turn}
+use Rattle.colour_solver.specs.Phases.{constraint_turn}
 use Rattle.crew_solver.specs.Turned.{PieceRows, StepRows, all_in, all_of, row_count, rows_in}
 use Rattle.crew_solver.proofs.PassLaws.{all_behind, all_unmapped, as_many, counted, joined, written_back}
 use Rattle.crew_solver.proofs.crew_rows.CrewRows.pass.Goals as goal
@@ -74,3 +74,16 @@ returns-clause-share g c =
     let old : all_in c.as_mut_slice.result.now left ≡ all_of c.args.self.now =
     ap (λ (l : List (List (PieceRows ConstraintRow))). all_in l left) c.as_mut_slice.ensures.value ∙ sym (ap (λ (l : List ConstraintRow). l ++ left) (joined colours)) ∙ ap all_of c.self.view_is in
     c.pass_crew.ensures.share ∙ ap (share constraint_slots (constraint_turn c.args.phase) c.args.states.now.items) old
+
+pub returns-clause-all_rows : goal.returns-clause-all_rows
+returns-clause-all_rows g c =
+    let colours : List (List (PieceRows ConstraintRow)) = c.self.inside.colours.items in
+    let new : List (List (PieceRows ConstraintRow)) = c.pass_crew.new.colours in
+    let others = c.pass_crew.new.left.items in
+    let us = c.pass_crew.new.states.items in
+    let counts : map row_count new ≡ map row_count colours = c.pass_crew.ensures.counts ∙ ap (map row_count) c.as_mut_slice.ensures.value in
+    let back = written_back new colours c.self.inside.colours.len (search rules) (as_many row_count new colours counts) in
+    let whole =
+    ap (λ (l : List (List (PieceRows ConstraintRow))). flat_map (λ (rs : List ConstraintRow). rs) (map rows_in l) ++ others) back
+    ∙ ap (λ (l : List ConstraintRow). l ++ others) (joined new) in
+    subst (AreRowsBelow (length us)) (sym whole) c.pass_crew.ensures.all_rows
