@@ -30,7 +30,6 @@ pub mod SleeperLaws
 pub mod ClearedLaws
 pub mod MoverTies
 pub mod OwnJointLaws
-pub mod RowCounts
 pub mod FrameLaws
 pub mod SavedLaws
 pub mod ImpulseBounds

@@ -1,7 +1,8 @@
 -- A constraint with its movers, as the solver sees its bodies.
 use Rattle.std.proofs.Common.{◌≡◌, ℕ, zero, suc, ◌+◌, ◌==◌, ◌||◌, Bool, true, false, cond, List, [], ◌∷◌, length, get_or, Option, Some, None, All, arith, refl, subst}
 use Rattle.std.proofs.lemmas.Bool.Decides.{nat_tests}
-use Rattle.std.proofs.lemmas.List.Elements.{Contains-get_or}
+use Rattle.std.proofs.lemmas.List.Elements.{All-cons, All-nil, Contains-get_or}
+use Rattle.std.specs.List.{filter_map, cons_option}
 use Rattle.graph_colours.specs.Colours.{all_members}
 use Rattle.graph_colours.specs.declared.limits.TheConstants.{COLOURS}
 use Rattle.graph_colours.specs.declared.member.Movers.{Movers}
@@ -13,14 +14,17 @@ use Rattle.plain_world.specs.declared.body.Body.{Body}
 use Rattle.plain_world.specs.declared.joint.BodyJoint.{BodyJoint}
 use Rattle.plain_world.specs.Bodies as bodies_of
 use Rattle.plain_world.specs.Joints.{joint_at}
+use Rattle.plain_world.specs.Plain.{Plain}
 use Rattle.colour_solver.specs.Colour.{is_mover}
-use Rattle.solver_sets.specs.Ties.{JointSlots, movers_if, movers_in, movers_of, movers_with, moves}
+use Rattle.solver_sets.specs.Ties.{JointSlots, member_of, members_of, movers_if, movers_in, movers_of, movers_with, moves, tie_with}
 use Rattle.solver_sets.proofs.TieLaws as ties
 use Rattle.world_core_base.specs.Gather.{states_of}
 use Rattle.world_core_base.specs.RowColours.{HasBoth, HasItsMovers, HasMovers, JointHasMovers}
 use Rattle.world_core_base.proofs.RowColourLaws.{colour_rows_apart}
 use Rattle.world_core.specs.RowColours.{ColouredRowsAreColours}
 use Rattle.world_rules.proofs.GatherLaws.{in_each}
+use Rattle.world_rules.specs.Sets.{acting_of}
+use Rattle.world_rules.specs.World.{joints_of}
 
 -- what is awake is a mover
 awake_moves : (t u : Bool) → cond t u false ≡ true → t ≡ true
@@ -69,6 +73,27 @@ has_movers bodies s m (Joint h) e = by (joint_at s.joints h.slot) e
     by : (o : Option BodyJoint) → movers_in bodies o ≡ Some m → JointHasMovers (states_of bodies) m o
     by None e = tt
     by (Some j) e = both_among bodies j.a j.b m e
+
+-- ---- the constraints of a world
+
+before_others : (bodies : List (Option Body)) (s : JointSlots) (id : Constraint) (o : Option Movers) (ms : List (Member Constraint)) → movers_of bodies s id ≡ o → All (HasItsMovers (states_of bodies) s.joints) ms
+    → All (HasItsMovers (states_of bodies) s.joints) (cons_option (tie_with id o) ms)
+before_others bodies s id None ms e all = all
+before_others bodies s id (Some m) ms e all = All-cons (HasItsMovers (states_of bodies) s.joints) (record { id = id; movers = m }) ms (has_movers bodies s m id e) all
+
+members_have : (bodies : List (Option Body)) (s : JointSlots) (ids : List Constraint) → All (HasItsMovers (states_of bodies) s.joints) (filter_map (member_of bodies s) ids)
+members_have bodies s [] = All-nil (HasItsMovers (states_of bodies) s.joints)
+members_have bodies s (id ∷ ids) = before_others bodies s id (movers_of bodies s id) (filter_map (member_of bodies s) ids) refl (members_have bodies s ids)
+
+lists_have : (bodies : List (Option Body)) (s : JointSlots) (colours : List (List Constraint)) → All (All (HasItsMovers (states_of bodies) s.joints)) (members_of bodies s colours)
+unfolding members_of
+lists_have bodies s [] = All-nil (All (HasItsMovers (states_of bodies) s.joints))
+lists_have bodies s (ids ∷ colours) = All-cons (All (HasItsMovers (states_of bodies) s.joints)) (filter_map (member_of bodies s) ids) (members_of bodies s colours) (members_have bodies s ids) (lists_have bodies s colours)
+
+-- each constraint that acts stands in its colour with the movers of its bodies
+pub acting_have_movers : (w : Plain) → All (All (HasItsMovers (states_of w.bodies) w.joints)) (acting_of w).lists
+unfolding acting_of
+acting_have_movers w = lists_have w.bodies (joints_of w) w.colours
 
 pub coloured_rows : ColouredRowsAreColours
 coloured_rows bodies s contacts lists colour coloured lt =

@@ -1,5 +1,5 @@
 -- A step's calls, one after another: what each asks for, and that what they leave together is the world that is due.
-use Rattle.std.proofs.Common.{◌≡◌, ℕ, suc, ◌+◌, ◌<◌, ◌≤◌, ◌^◌, ◌++◌, Bool, true, false, cond, List, [], ◌∷◌, length, map, Option, Result, Ok, Err, ℤ, pos, unsigned_abs, refl, sym, ap, ◌∙◌, subst, arith}
+use Rattle.std.proofs.Common.{◌≡◌, ℕ, suc, ◌+◌, ◌<◌, ◌≤◌, ◌^◌, ◌++◌, Bool, true, false, cond, All, List, [], ◌∷◌, length, map, take, Option, Result, Ok, Err, ℤ, pos, unsigned_abs, refl, sym, ap, ◌∙◌, subst, arith}
 use Rattle.std.specs.Result.{IsErr, IsErrAnd}
 use Rattle.fixed_geom.specs.Vectors.{plus}
 use Rattle.fixed_geom.specs.declared.vectors.Vec2.{Vec2}
@@ -17,6 +17,8 @@ use Rattle.contacts_base.specs.declared.contact.ContactEntry.{ContactEntry}
 use Rattle.event_feed.specs.Events.{EventLists}
 use Rattle.body_handles.specs.Orders.{slot_of}
 use Rattle.graph_colours.specs.Colours.{all_members, ids_of}
+use Rattle.graph_colours.specs.Members.{AreApart}
+use Rattle.graph_colours.specs.declared.limits.TheConstants.{COLOURS}
 use Rattle.impulse_ledger.specs.declared.entry.Cause.TheVariants as causes
 use Rattle.islands.specs.Labels.{Labels}
 use Rattle.plain_world.specs.declared.body.Body.{Body}
@@ -40,11 +42,13 @@ use Rattle.solver_sets.proofs.SleptLaws.{told_bodies_tell}
 use Rattle.world_core_base.specs.ConstraintRows.{rows_of}
 use Rattle.world_core_base.specs.Gather.{AreContactsOf, states_of}
 use Rattle.world_core_base.specs.Renewal.{renewed_bodies}
+use Rattle.world_core_base.specs.RowColours.{HasItsMovers}
 use Rattle.world_core_base.specs.Solving.{Solving, bodies_of, solve_order, solved}
 use Rattle.world_core_base.proofs.SolvingLaws.{arrays_are_solving}
 use Rattle.world_core.specs.Inside.{IsWhole}
 use Rattle.world_core.proofs.PartLaws.{kept_of}
 use Rattle.world_core.proofs.RisingLaws.{contacts_after_rise}
+use Rattle.world_core.proofs.RowColourLaws.{acting_have_movers}
 use Rattle.world_rules.specs.Apply.{Answers, Applied, apply_step, bodies_ticked, booked, events_of, gained, rested_acting, step_done, step_entries, world_with}
 use Rattle.world_rules.specs.declared.command.Reply.{Reply}
 use Rattle.world_rules.specs.declared.command.Reply.TheVariants as replies
@@ -121,6 +125,19 @@ can_solve_turned w s now bodies contacts is h =
     subst (λ (bs : List (Option Body)). CanGather bs w.plain.joints contacts now.lists) (sym h.bodies)
     (subst (λ (es : List ContactEntry). CanGather (collided_world w).plain.bodies w.plain.joints es now.lists) (sym h.contacts)
     (subst (λ (a : Acting Constraint). CanGather (collided_world w).plain.bodies w.plain.joints (collided_in w).now a.lists) (sym h.acting) (can_gather_collided w (kept_of w s is) (rises_in w s is))))
+
+-- no two constraints of a colour share a mover
+pub apart_turned : (w : World) (s now : Acting Constraint) (bodies : List (Option Body)) (contacts : List ContactEntry) → IsWhole w s → HasTurned w now bodies contacts → All AreApart (take COLOURS now.lists)
+apart_turned w s now bodies contacts is h =
+    let collided = collide_kept w (kept_of w s is) (rises_in w s is) in
+    subst (λ (a : Acting Constraint). All AreApart (take COLOURS a.lists)) (collided.acting ∙ sym h.acting) collided.kept.settled.colouring.apart
+
+-- each has the movers that its bodies give it
+pub movers_turned : (w : World) (s now : Acting Constraint) (bodies : List (Option Body)) (contacts : List ContactEntry) → IsWhole w s → HasTurned w now bodies contacts → All (All (HasItsMovers (states_of bodies) w.plain.joints)) now.lists
+movers_turned w s now bodies contacts is h =
+    let collided = collide_kept w (kept_of w s is) (rises_in w s is) in
+    subst (λ (bs : List (Option Body)). All (All (HasItsMovers (states_of bs) w.plain.joints)) now.lists) (sym h.bodies)
+    (subst (λ (a : Acting Constraint). All (All (HasItsMovers (states_of (collided_world w).plain.bodies) w.plain.joints)) a.lists) (collided.acting ∙ sym h.acting) (acting_have_movers (collided_world w).plain))
 
 pub room_turned : (w : World) (s t now : Acting Constraint) (bodies : List (Option Body)) (contacts : List ContactEntry) (n room : ℕ) → IsWhole w s → HasTurned w now bodies contacts → t ≡ s
     → n ≡ length (collided_in w).begin → length t.ties + n ≤ room → length (all_members now.lists) ≤ room

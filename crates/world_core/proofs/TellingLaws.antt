@@ -86,9 +86,6 @@ first_all labels slots movers place h known slot c =
     let lt = c.1 in
     subst (λ (s : ℕ). HasIsland labels movers s) c.2 (known c.0 slot (omega (arith, h, lt)))
 
-pub own_island : (labels : Labels) (slot : ℕ) (movers handed : List ℕ) → handed ≡ movers → HasIslands labels (slot ∷ []) movers → HasIsland labels handed slot
-own_island labels slot movers handed e h = subst (λ (l : List ℕ). HasIsland labels l slot) (sym e) (h slot (contains_head slot []))
-
 -- ---- bodies that were told before
 
 -- what the bodies were told is what they are told by the same labels

@@ -27,6 +27,7 @@ mod walk;
 mod world;
 
 pub use body_handles::{Handle, Place};
+pub use colour_solver::{OneThread, StepSolver};
 pub use event_feed::Events;
 pub use fixed_geom::{Refusal, Rot, Vec2};
 pub use frame::{Frame, FrameBody};
@@ -42,6 +43,6 @@ pub use plain_world::{
 };
 pub use shapes::{Filter, Pose, Shape, ShapeDef, Shapes};
 pub use solver_sets::{Census, Item, SleepingSet};
-pub use world::WorldCore;
+pub use world::{WorldCore, is_tick_count};
 pub use world_file::{Broken, Clause};
 pub use world_rules::{Command, Reply};

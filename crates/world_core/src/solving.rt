@@ -1,18 +1,20 @@
 //! The ticks of a step, over what acts.
 
-ghost use Rattle.std.specs.Prelude.{◌≡◌, ℕ, ◌≤◌, ◌+◌, ◌^◌, OnOk, length, map};
+ghost use Rattle.std.specs.Prelude.{◌≡◌, ◌≤◌, ◌+◌, ◌^◌, All, OnOk, length, map, take};
 ghost use Rattle.std.specs.Result.{IsOkUnless};
 ghost use Rattle.fixed_geom.specs.Vectors.{IsWithin, plus};
 ghost use Rattle.contacts_base.specs.Contacts.{number_of};
 ghost use Rattle.colour_solver.specs.Ticks.{AreSums, added};
 ghost use Rattle.graph_colours.specs.Colours.{all_members, ids_of};
+ghost use Rattle.graph_colours.specs.Members.{AreApart};
 ghost use Rattle.plain_world.specs.Bodies.{AreBodies};
 ghost use Rattle.plain_world.specs.Momentum.{momentum};
 ghost use Rattle.plain_world.specs.Joints.{AreJoints, forbidden_pairs};
 ghost use Rattle.plain_world.specs.Slots.{HaveSameSlots};
-ghost use Rattle.world_core_base.specs.Gather.{AreContactsOf};
+ghost use Rattle.world_core_base.specs.Gather.{AreContactsOf, states_of};
 ghost use Rattle.world_core_base.specs.Marked.{AreMarked};
 ghost use Rattle.world_core_base.specs.Renewal.{renewed_bodies};
+ghost use Rattle.world_core_base.specs.RowColours.{HasItsMovers};
 ghost use Rattle.world_core_base.specs.Solving.{bodies_of, solve_order, solved};
 ghost use Rattle.world_rules.specs.Gathering.{CanGather};
 
@@ -47,7 +49,7 @@ pub fn reserve_rows(
 }
 
 /// Gathers what acts, lets the solver run so many ticks, and gives joints and contacts the impulses that they have left. Answers what was
-/// added to the movers' momentum, by cause. Room for the places of the contacts is the caller's, and the solver has what it needs for what acts. Takes no memory.
+/// added to the movers' momentum, by cause. No two constraints of a colour share a mover. Room for the places of the contacts is the caller's. Takes no memory.
 pub fn solve<S: StepSolver>(
     solver: &mut S,
     rows: &mut Rows,
@@ -68,7 +70,8 @@ pub fn solve<S: StepSolver>(
     requires ticks { ticks ≤ 8 }
     requires room { length (all_members colours.now.lists) ≤ rows.old.room }
     requires more { COLOURS + 1 ≤ rows.old.more }
-    requires fits { (n : ℕ) → n ≤ length (all_members colours.now.lists) → S.fits solver.old n }
+    requires apart { All AreApart (take COLOURS colours.now.lists) }
+    requires movers { All (All (HasItsMovers (states_of bodies.old.bodies) joints.old.joints)) colours.now.lists }
     ensures bodies { bodies.new.bodies ≡ renewed_bodies (bodies_of (solved ticks gravity (solve_order (ids_of colours.now.lists)) bodies.old.bodies joints.old.joints contacts.old.contacts)) }
     ensures joints { joints.new.joints ≡ (solved ticks gravity (solve_order (ids_of colours.now.lists)) bodies.old.bodies joints.old.joints contacts.old.contacts).joints }
     ensures contacts { contacts.new.contacts ≡ (solved ticks gravity (solve_order (ids_of colours.now.lists)) bodies.old.bodies joints.old.joints contacts.old.contacts).contacts }

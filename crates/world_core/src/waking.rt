@@ -1,6 +1,6 @@
 //! Islands that are woken or put to sleep, with their bodies.
 
-ghost use Rattle.std.specs.Prelude.{◌≡◌, ◌≤◌, ◌^◌, length, IfOk, OnOk};
+ghost use Rattle.std.specs.Prelude.{◌≡◌, ◌≤◌, ◌^◌, length, true, IfOk, OnOk};
 ghost use Rattle.std.specs.Result.{IsOkUnless};
 ghost use Rattle.fixed_geom.specs.Vectors.{plus};
 ghost use Rattle.contacts.specs.Constraints.{constraint_number};
@@ -9,7 +9,7 @@ ghost use Rattle.colour_solver.specs.States.{as_vector};
 ghost use Rattle.plain_world.specs.Bodies.{AreBodies};
 ghost use Rattle.plain_world.specs.Momentum.{momentum};
 ghost use Rattle.plain_world.specs.Sleep.{told};
-ghost use Rattle.sleep_wake.specs.Acting.{IsSettled};
+ghost use Rattle.sleep_wake.specs.Acting.{IsSettled, is_awake};
 ghost use Rattle.sleep_wake.specs.Sleeping.{islands_woken, names_of, slept_at};
 ghost use Rattle.world_core.specs.Waking.{HasIsland, HasIslands, IsExtended};
 ghost use Rattle.world_core_base.specs.Marked.{AreMarked};
@@ -60,6 +60,19 @@ pub fn list_movers(
     Ok(movers)
 }
 
+/// The movers of the island of the mover in a slot, where it is awake. Where it sleeps none are listed, and it takes no time and no memory. Refused 1 where
+/// memory is wanting.
+pub fn plan_rest(alloc: Global, sets: &Sets<Constraint>, slot: u32) -> Result<Vec<u32>, Refusal>
+    ensures island { IfOk result (λ movers. is_awake sets.now.acting.labels slot ≡ true → HasIsland sets.now.acting.labels movers.items slot) }
+    ensures memory_only { IsOkUnless result Refusal.NoMemory }
+{
+    let mut movers = Vec::new(alloc);
+    if sets.is_awake(slot) {
+        add_island(&mut movers, sets, slot)?;
+    }
+    Ok(movers)
+}
+
 /// Which islands wake with the movers in these slots: those of them that sleep. Where none sleeps, it takes no memory. Refused 1 where memory is wanting.
 pub fn plan_waking(alloc: Global, sets: &Sets<Constraint>, slots: &[u32]) -> Result<Waking, Refusal>
     ensures names { IfOk result (λ waking. waking.names.items ≡ names_of sets.now.acting.labels slots.now) }
@@ -92,7 +105,7 @@ pub fn wake_planned(sets: &mut Sets<Constraint>, bodies: &mut BodyTable, waking:
     bodies.tell_some(&waking.movers, sets.islands());
 }
 
-/// Puts the mover in a slot to sleep with its island, and tells the movers of the island in which it was, which are listed. All bodies had been
+/// Puts the mover in a slot to sleep with its island, and tells the movers of the island in which it was, which are listed where it is awake. All bodies had been
 /// told before. Answers what the movers' momentum gains. Where the mover sleeps already, it takes no time.
 pub fn put_to_sleep(
     sets: &mut Sets<Constraint>,
@@ -100,7 +113,7 @@ pub fn put_to_sleep(
     slot: u32,
     movers: &[u32],
 ) -> Gain
-    requires movers { HasIsland sets.old.acting.labels movers.now slot }
+    requires movers { is_awake sets.old.acting.labels slot ≡ true → HasIsland sets.old.acting.labels movers.now slot }
     requires settled { IsSettled constraint_number sets.old.acting }
     requires few { length bodies.old.bodies ≤ MAX_SLOTS }
     requires bodies { AreBodies bodies.old.bodies }

@@ -6,7 +6,7 @@ mod saving;
 mod sleeping;
 mod steps;
 
-ghost use Rattle.std.specs.Prelude.{◌≡◌, ◌+◌, ◌<◌, ◌≤◌, ◌^◌, [], IfOk, OnErr, option_map};
+ghost use Rattle.std.specs.Prelude.{◌≡◌, ◌+◌, ◌<◌, ◌≤◌, ◌^◌, [], IfOk, OnErr, length, nat_le, option_map};
 ghost use Rattle.std.specs.Result.{IsOkUnless};
 ghost use Rattle.plain_world.specs.Bodies.{view_of};
 ghost use Rattle.solver_sets.specs.Census.{IsCensus, census_of, standings_of};
@@ -14,6 +14,7 @@ ghost use Rattle.solver_sets.specs.EachOnce.{ListsEachOnce};
 ghost use Rattle.plain_world.specs.Plain.{colour_of};
 ghost use Rattle.impulse_ledger.specs.Sums.{HaveSameTotals};
 ghost use Rattle.world_core_base.specs.Covers.{AreCovered};
+ghost use Rattle.world_core_base.specs.Solving.{solve_order};
 ghost use Rattle.world_rules.specs.World.{body_of, book_of, joints_of};
 ghost use Rattle.world_core.specs.Frames.{frame_of, settled_world};
 ghost use Rattle.world_core.specs.Trees.{HoldsEnabled};
@@ -27,7 +28,7 @@ use crate::scratch::Scratch;
 use anchored_ties::Anchors;
 use body_handles::{Handle, Handles, Place};
 use box_tree::BoxTree;
-use colour_solver::Rows;
+use colour_solver::{OneThread, Rows, StepSolver};
 use contacts::Constraint;
 use contacts_base::ContactEntry;
 use event_feed::Events;
@@ -40,6 +41,7 @@ use sleep_wake::Sets;
 use solver_sets::{Census, take_census};
 use std::alloc::Global;
 use std::marker::Model;
+pub use steps::is_tick_count;
 use world_core_base::BodyTable;
 use world_rules::{Command, Reply};
 
@@ -148,6 +150,17 @@ impl WorldCore {
     pub fn apply(&mut self, command: &Command) -> Result<Reply, Refusal>
         ensures { Answers (apply self.old.plain command.now) self.old result self.new }
     {
+        self.apply_by(&mut OneThread, command)
+    }
+
+    /// The same, with this solver to run the ticks of a step, on one thread or on many.
+    pub fn apply_by<S: StepSolver>(
+        &mut self,
+        solver: &mut S,
+        command: &Command,
+    ) -> Result<Reply, Refusal>
+        ensures { Answers (apply self.old.plain command.now) self.old result self.new }
+    {
         if self.calls >= MAX_CALLS {
             return Err(Refusal::WornOut);
         }
@@ -165,7 +178,7 @@ impl WorldCore {
             Command::Enable(handle) => self.enable(*handle),
             Command::Wake(handle) => self.wake(*handle),
             Command::Sleep(handle) => self.sleep(*handle),
-            Command::Step(ticks) => self.step(*ticks),
+            Command::Step(ticks) => self.step(solver, *ticks),
         }
     }
 
@@ -174,6 +187,20 @@ impl WorldCore {
         ensures { Answers (apply self.old.plain (Command.Step ticks)) self.old result self.new }
     {
         self.apply(&Command::Step(ticks))
+    }
+
+    /// The same, its ticks run by this solver.
+    pub fn step_by<S: StepSolver>(&mut self, solver: &mut S, ticks: i64) -> Result<Reply, Refusal>
+        ensures { Answers (apply self.old.plain (Command.Step ticks)) self.old result self.new }
+    {
+        self.apply_by(solver, &Command::Step(ticks))
+    }
+
+    /// Whether it accepted so many calls that it refuses each further one 10.
+    pub fn is_worn_out(&self) -> bool
+        ensures { result ≡ nat_le (2 ^ 40) self.now.plain.calls }
+    {
+        self.calls >= MAX_CALLS
     }
 
     /// What can be seen of a body; `None` where the handle names none that lives.
@@ -221,6 +248,13 @@ impl WorldCore {
         ensures { result ≡ colour_of constraint self.now.plain.colours }
     {
         self.sets.colours().colour_of(constraint)
+    }
+
+    /// How many constraints act: joints and touching contacts between bodies that are awake.
+    pub fn acting_constraints(&self) -> usize
+        ensures { result ≡ length (solve_order self.now.plain.colours) }
+    {
+        self.sets.colours().count()
     }
 
     /// The ledger. Its total is the movers' momentum.

@@ -13,7 +13,7 @@ use super::WorldCore;
 use crate::booking::book;
 use crate::own_joints::joint_ties;
 use crate::pushes::check_mover;
-use crate::waking::{Waking, list_movers, plan_waking, put_to_sleep, wake_planned};
+use crate::waking::{Waking, plan_rest, plan_waking, put_to_sleep, wake_planned};
 use body_handles::Handle;
 use contacts::Constraint;
 use fixed_geom::Refusal;
@@ -112,7 +112,7 @@ impl WorldCore {
     {
         check_mover(&self.handles, self.bodies.bodies(), handle)?;
         self.ledger.reserve(1)?;
-        let movers = list_movers(self.bodies.allocator(), &self.sets, &[handle.slot])?;
+        let movers = plan_rest(self.bodies.allocator(), &self.sets, handle.slot)?;
         let rest = put_to_sleep(&mut self.sets, &mut self.bodies, handle.slot, &movers);
         book(&mut self.ledger, self.calls + 1, Cause::Rest, rest);
         self.calls += 1;

@@ -10,15 +10,22 @@ use crate::preparing::prepare;
 use crate::resting::rest_ready;
 use crate::solving::solve;
 use crate::turning::carry_out;
-use colour_solver::OneThread;
+use colour_solver::StepSolver;
 use fixed_geom::{Refusal, Vec2, is_within};
 use world_rules::Reply;
+
+/// Whether a step may take so many ticks: 1 to 8.
+pub fn is_tick_count(ticks: i64) -> bool
+    ensures { result ≡ is_between (pos 1) (pos 8) ticks }
+{
+    ticks >= 1 && ticks <= MAX_TICKS
+}
 
 /// How many ticks a step takes: refused 5 outside 1 to 8.
 fn tick_count(ticks: i64) -> Result<u64, Refusal>
     ensures { result ≡ cond (is_between (pos 1) (pos 8) ticks) (Ok (unsigned_abs ticks)) (Err Refusal.OutOfRange) }
 {
-    if ticks < 1 || ticks > MAX_TICKS {
+    if !is_tick_count(ticks) {
         return Err(Refusal::OutOfRange);
     }
     Ok(ticks.unsigned_abs())
@@ -37,7 +44,11 @@ impl WorldCore {
         Ok(Reply::Done)
     }
 
-    pub(super) fn step(&mut self, ticks: i64) -> Result<Reply, Refusal>
+    pub(super) fn step<S: StepSolver>(
+        &mut self,
+        solver: &mut S,
+        ticks: i64,
+    ) -> Result<Reply, Refusal>
         requires { self.old.plain.calls < 2 ^ 40 }
         ensures { Answers (apply_step self.old.plain ticks) self.old result self.new }
     {
@@ -61,7 +72,7 @@ impl WorldCore {
             &prepared,
         );
         let sums = solve(
-            &mut OneThread,
+            solver,
             &mut self.rows,
             &mut self.scratch.places,
             &mut self.bodies,

@@ -15,9 +15,9 @@ use Rattle.contacts_base.specs.Split.{contacts_in}
 use Rattle.world_core_base.specs.Gather.{AreContactsOf}
 use Rattle.world_core_base.proofs.ContactLaws.{contacts_on, keys_stay}
 use Rattle.world_core_base.proofs.JointLaws.{bare_rows}
+use Rattle.world_core_base.proofs.RowColourLaws.{gathered_apart}
 use Rattle.world_core_base.proofs.SolvingJoints.{bare_joints}
 use Rattle.world_core.proofs.ForbiddenLaws.{barely_pairs}
-use Rattle.world_core.proofs.RowCounts.{rows_few}
 use Rattle.world_core.proofs.solving.solve.Given
 use Rattle.world_core.proofs.solving.solve.Goals as goal
 
@@ -29,11 +29,9 @@ gather_rows-requires-clause-contacts g c =
     rw c.states.ensures
     (contacts_on c.args.bodies.now.bodies (contacts_in c.split-kept.result.now) c.ascend.ensures.contacts (subst (λ (es : List ContactEntry). AreContactsOf c.args.bodies.now.bodies es) (sym c.split-kept.ensures) c.requires.can.pairs))
 
--- there are no more rows than constraints that act
-pub run-sums-requires-clause-fits : goal.run-sums-requires-clause-fits
-run-sums-requires-clause-fits g c =
-    let gathered : all_rows c.gather_rows.new.rows ≡ rows_of (states_of c.args.bodies.now.bodies) c.args.joints.now.joints c.args.contacts.now.contacts c.args.colours.now.lists = rw (c.states.ensures, c.joints.ensures, c.split-kept.ensures) at c.gather_rows.ensures.value in
-    c.requires.fits (length (all_rows c.gather_rows.new.rows)) (rw gathered (rows_few (states_of c.args.bodies.now.bodies) c.args.joints.now.joints c.args.contacts.now.contacts c.args.colours.now.lists))
+-- no two rows of a colour share a mover
+pub run-sums-requires-clause-apart : goal.run-sums-requires-clause-apart
+run-sums-requires-clause-apart g c = rw (c.gather_rows.ensures.colours, c.states.ensures, c.joints.ensures) (gathered_apart (states_of c.args.bodies.now.bodies) c.args.joints.now.joints _ c.args.colours.now.lists c.requires.movers c.requires.apart)
 
 -- what the arrays leave is what the definition of a step leaves
 left : (g : Given.Over) (c : goal.After-put_impulses g) → IsLeft c.args.bodies.now.bodies c.args.joints.now.joints c.args.contacts.now.contacts (ran c.args.ticks c.args.gravity (start (states_of c.args.bodies.now.bodies) (all_rows c.gather_rows.new.rows))).states (all_rows c.run-sums.new.rows) c.run-sums.result (solved c.args.ticks c.args.gravity (solve_order (ids_of c.args.colours.now.lists)) c.args.bodies.now.bodies c.args.joints.now.joints c.args.contacts.now.contacts)

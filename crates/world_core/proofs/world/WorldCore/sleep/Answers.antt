@@ -9,13 +9,12 @@ use Rattle.world_core.specs.contracts.world.WorldCore.{the_view}
 use Rattle.world_core.proofs.Whole.{rest_booked, sleep_answers, sleep_whole, told_whole}
 use Rattle.world_core.proofs.CoreLaws.{core_bodies}
 use Rattle.world_core.proofs.StepLaws.{settled_found}
-use Rattle.world_core.proofs.TellingLaws.{own_island}
 use Rattle.world_core.proofs.FewerTies.{fewer_slept}
 use Rattle.anchored_ties.proofs.FewerLaws.{tell_fewer}
 use Rattle.world_core.proofs.world.WorldCore.sleep.Goals as goal
 
 pub put_to_sleep-rest-requires-clause-movers : goal.put_to_sleep-rest-requires-clause-movers
-put_to_sleep-rest-requires-clause-movers c = own_island _ c.args.handle.slot _ _ c.deref.ensures.value c.in_ok-movers.ensures.islands
+put_to_sleep-rest-requires-clause-movers c = rw c.deref.ensures.value c.in_ok-movers.ensures.island
 
 pub put_to_sleep-rest-requires-clause-settled : goal.put_to_sleep-rest-requires-clause-settled
 put_to_sleep-rest-requires-clause-settled c = settled_found (the_view c.self.inside) c.self.inside.sets.acting c.self.inside.sets.acting c.self.invariant.whole refl

@@ -24,34 +24,35 @@ use Rattle.world_rules.proofs.KeptChanges.{IsRoomy-kept, IsRoomy-same}
 use Rattle.world_rules.proofs.KeptStep.{collided_in}
 use Rattle.world_core.specs.contracts.world.WorldCore.{the_view}
 use Rattle.world_core.proofs.PartLaws.{kept_of, whole}
-use Rattle.world_core.proofs.StepLaws.{AreCounted, AreFound, AreLeft, AreTicks, HasSolved, HasTurned, are_counted, bodies_turned, can_solve_turned, can_turn_found, few_solved, few_turned, has_solved, has_turned, is_refusal, room_found, room_turned, settled_found, settled_turned, slept_rise, step_answers, step_is_left, step_refused, tell_solved, ticks_refused, tied_solved, timers_room, timers_solved, told_solved, woke_rise}
+use Rattle.world_core.proofs.StepLaws.{AreCounted, AreFound, AreLeft, AreTicks, HasSolved, HasTurned, apart_turned, are_counted, bodies_turned, can_solve_turned, can_turn_found, few_solved, few_turned, has_solved, has_turned, is_refusal, movers_turned, room_found, room_turned, settled_found, settled_turned, slept_rise, step_answers, step_is_left, step_refused, tell_solved, ticks_refused, tied_solved, timers_room, timers_solved, told_solved, woke_rise}
 use Rattle.world_core.proofs.CoreLaws.{core_stepped}
 use Rattle.world_core.proofs.KnownLaws.{marked_after}
 use Rattle.world_core.proofs.FewerTies.{fewer_rested}
 use Rattle.anchored_ties.proofs.FewerLaws.{tell_fewer}
+use Rattle.world_core.proofs.world.WorldCore.step.Given as given
 use Rattle.world_core.proofs.world.WorldCore.step.Goals as goal
 
 pub returns-in_err-ticks : goal.returns-in_err-ticks
-returns-in_err-ticks c =
+returns-in_err-ticks g c =
     let same : to_z w64 (of_z w64 c.args.ticks) ≡ c.args.ticks = grind (arith, to_z-of_z) in
     ticks_refused _ c.args.ticks _ _ _ same c.in_err-ticks.ensures c.from_residual.ensures.0 c.from_residual.ensures.1
 
 -- ---- what is prepared
 
 pub prepare-requires-clause-few : goal.prepare-requires-clause-few
-prepare-requires-clause-few c = (kept_of _ _ c.self.invariant.whole).matched.few
+prepare-requires-clause-few g c = (kept_of _ _ c.self.invariant.whole).matched.few
 
 pub prepare-requires-clause-bodies : goal.prepare-requires-clause-bodies
-prepare-requires-clause-bodies c = (kept_of _ _ c.self.invariant.whole).bodies
+prepare-requires-clause-bodies g c = (kept_of _ _ c.self.invariant.whole).bodies
 
 pub prepare-requires-clause-known : goal.prepare-requires-clause-known
-prepare-requires-clause-known c = c.self.invariant.known
+prepare-requires-clause-known g c = c.self.invariant.known
 
 pub prepare-requires-clause-settled : goal.prepare-requires-clause-settled
-prepare-requires-clause-settled c = settled_found (the_view c.self.inside) c.self.inside.sets.acting c.self.inside.sets.acting c.self.invariant.whole refl
+prepare-requires-clause-settled g c = settled_found (the_view c.self.inside) c.self.inside.sets.acting c.self.inside.sets.acting c.self.invariant.whole refl
 
 pub returns-in_err-prepared : goal.returns-in_err-prepared
-returns-in_err-prepared c =
+returns-in_err-prepared g c =
     let same : to_z w64 (of_z w64 c.args.ticks) ≡ c.args.ticks = grind (arith, to_z-of_z) in
     let counted : AreCounted c.args.ticks c.in_ok-ticks.ticks = are_counted c.args.ticks _ c.in_ok-ticks.ticks same c.in_ok-ticks.ensures in
     let refused : c.from_residual-in_err-prepared.result ≡ Err NoMemory = is_refusal _ _ c.from_residual-in_err-prepared.ensures.0 c.from_residual-in_err-prepared.ensures.1 c.in_err-prepared.ensures.memory_only in
@@ -59,71 +60,74 @@ returns-in_err-prepared c =
 
 -- ---- what is carried out before the ticks
 
-found_at_first : (c : goal.After-prepared-2-1) → AreFound (the_view c.self.inside) c.in_ok-prepared.prepared.changes.items
-found_at_first c = rw (c.in_ok-prepared.ensures.begin, c.in_ok-prepared.ensures.end) at c.in_ok-prepared.ensures.changes
+found_at_first : (g : given.Over) (c : goal.After-prepared-2-1 g) → AreFound (the_view c.self.inside) c.in_ok-prepared.prepared.changes.items
+found_at_first g c = rw (c.in_ok-prepared.ensures.begin, c.in_ok-prepared.ensures.end) at c.in_ok-prepared.ensures.changes
 
 pub carry_out-requires-clause-can : goal.carry_out-requires-clause-can
-carry_out-requires-clause-can c = can_turn_found (the_view c.self.inside) c.self.inside.sets.acting c.prepare.new.sets.acting c.in_ok-prepared.prepared.changes.items c.self.invariant.whole c.in_ok-prepared.ensures.acting (found_at_first c)
+carry_out-requires-clause-can g c = can_turn_found (the_view c.self.inside) c.self.inside.sets.acting c.prepare.new.sets.acting c.in_ok-prepared.prepared.changes.items c.self.invariant.whole c.in_ok-prepared.ensures.acting (found_at_first g c)
 
 pub carry_out-requires-clause-settled : goal.carry_out-requires-clause-settled
-carry_out-requires-clause-settled c = settled_found (the_view c.self.inside) c.self.inside.sets.acting c.prepare.new.sets.acting c.self.invariant.whole c.in_ok-prepared.ensures.acting
+carry_out-requires-clause-settled g c = settled_found (the_view c.self.inside) c.self.inside.sets.acting c.prepare.new.sets.acting c.self.invariant.whole c.in_ok-prepared.ensures.acting
 
 pub carry_out-requires-clause-room : goal.carry_out-requires-clause-room
-carry_out-requires-clause-room c =
+carry_out-requires-clause-room g c =
     let count : length c.in_ok-prepared.prepared.touches.begin.items ≡ length (collided_in (the_view c.self.inside)).begin = ap (λ (keys : List ContactKey). length keys) c.in_ok-prepared.ensures.begin in
-    room_found (the_view c.self.inside) c.self.inside.sets.acting c.prepare.new.sets.acting c.in_ok-prepared.prepared.changes.items (length c.in_ok-prepared.prepared.touches.begin.items) c.prepare.new.sets.room c.self.invariant.whole c.in_ok-prepared.ensures.acting (found_at_first c) count c.in_ok-prepared.ensures.for_ties
+    room_found (the_view c.self.inside) c.self.inside.sets.acting c.prepare.new.sets.acting c.in_ok-prepared.prepared.changes.items (length c.in_ok-prepared.prepared.touches.begin.items) c.prepare.new.sets.room c.self.invariant.whole c.in_ok-prepared.ensures.acting (found_at_first g c) count c.in_ok-prepared.ensures.for_ties
 
 pub carry_out-requires-clause-few_bodies : goal.carry_out-requires-clause-few_bodies
-carry_out-requires-clause-few_bodies c = rw c.in_ok-prepared.ensures.bodies (kept_of _ _ c.self.invariant.whole).matched.few
+carry_out-requires-clause-few_bodies g c = rw c.in_ok-prepared.ensures.bodies (kept_of _ _ c.self.invariant.whole).matched.few
 
 pub carry_out-requires-clause-bodies : goal.carry_out-requires-clause-bodies
-carry_out-requires-clause-bodies c = rw c.in_ok-prepared.ensures.bodies (kept_of _ _ c.self.invariant.whole).bodies
+carry_out-requires-clause-bodies g c = rw c.in_ok-prepared.ensures.bodies (kept_of _ _ c.self.invariant.whole).bodies
 
 pub carry_out-requires-clause-told : goal.carry_out-requires-clause-told
-carry_out-requires-clause-told c = rw (c.in_ok-prepared.ensures.bodies, c.in_ok-prepared.ensures.acting) (kept_of _ _ c.self.invariant.whole).told
+carry_out-requires-clause-told g c = rw (c.in_ok-prepared.ensures.bodies, c.in_ok-prepared.ensures.acting) (kept_of _ _ c.self.invariant.whole).told
 
 pub carry_out-requires-clause-sleepers : goal.carry_out-requires-clause-sleepers
-carry_out-requires-clause-sleepers c = rw c.in_ok-prepared.ensures.acting c.in_ok-prepared.ensures.sleepers
+carry_out-requires-clause-sleepers g c = rw c.in_ok-prepared.ensures.acting c.in_ok-prepared.ensures.sleepers
 
 -- ---- the ticks
 
-turned_then : (c : goal.After-solve-arg-7-1) → HasTurned (the_view c.self.inside) c.carry_out.new.sets.acting c.carry_out.new.bodies.bodies c.carry_out.new.contacts.contacts
-turned_then c =
+turned_then : (g : given.Over) (c : goal.After-solve-arg-7-1 g) → HasTurned (the_view c.self.inside) c.carry_out.new.sets.acting c.carry_out.new.bodies.bodies c.carry_out.new.contacts.contacts
+turned_then g c =
     has_turned (the_view c.self.inside) c.self.inside.sets.acting c.prepare.new.sets.acting c.carry_out.new.sets.acting c.in_ok-prepared.prepared.changes.items c.carry_out.new.bodies.bodies c.carry_out.new.contacts.contacts c.self.invariant.whole c.in_ok-prepared.ensures.acting (rw (c.in_ok-prepared.ensures.begin, c.in_ok-prepared.ensures.end) at c.in_ok-prepared.ensures.changes)
     c.carry_out.ensures.acting (rw c.in_ok-prepared.ensures.bodies at c.carry_out.ensures.bodies) (c.carry_out.ensures.contacts ∙ c.in_ok-prepared.ensures.due)
 
 pub solve-sums-requires-clause-few : goal.solve-sums-requires-clause-few
-solve-sums-requires-clause-few c = few_turned (the_view c.self.inside) c.self.inside.sets.acting c.carry_out.new.sets.acting c.carry_out.new.bodies.bodies c.carry_out.new.contacts.contacts c.self.invariant.whole (turned_then c)
+solve-sums-requires-clause-few g c = few_turned (the_view c.self.inside) c.self.inside.sets.acting c.carry_out.new.sets.acting c.carry_out.new.bodies.bodies c.carry_out.new.contacts.contacts c.self.invariant.whole (turned_then g c)
 
 pub solve-sums-requires-clause-bodies : goal.solve-sums-requires-clause-bodies
-solve-sums-requires-clause-bodies c = bodies_turned (the_view c.self.inside) c.self.inside.sets.acting c.carry_out.new.sets.acting c.carry_out.new.bodies.bodies c.carry_out.new.contacts.contacts c.self.invariant.whole (turned_then c)
+solve-sums-requires-clause-bodies g c = bodies_turned (the_view c.self.inside) c.self.inside.sets.acting c.carry_out.new.sets.acting c.carry_out.new.bodies.bodies c.carry_out.new.contacts.contacts c.self.invariant.whole (turned_then g c)
 
 pub solve-sums-requires-clause-can : goal.solve-sums-requires-clause-can
-solve-sums-requires-clause-can c = rw c.colours.ensures.lists (can_solve_turned (the_view c.self.inside) c.self.inside.sets.acting c.carry_out.new.sets.acting c.carry_out.new.bodies.bodies c.carry_out.new.contacts.contacts c.self.invariant.whole (turned_then c))
+solve-sums-requires-clause-can g c = rw c.colours.ensures.lists (can_solve_turned (the_view c.self.inside) c.self.inside.sets.acting c.carry_out.new.sets.acting c.carry_out.new.bodies.bodies c.carry_out.new.contacts.contacts c.self.invariant.whole (turned_then g c))
 
 pub solve-sums-requires-clause-ticks : goal.solve-sums-requires-clause-ticks
-solve-sums-requires-clause-ticks c =
+solve-sums-requires-clause-ticks g c =
     let same : to_z w64 (of_z w64 c.args.ticks) ≡ c.args.ticks = grind (arith, to_z-of_z) in
     let counted : AreCounted c.args.ticks c.in_ok-ticks.ticks = are_counted c.args.ticks _ c.in_ok-ticks.ticks same c.in_ok-ticks.ensures in
     rw counted.count (few_ticks c.args.ticks counted.between)
 
-pub solve-sums-requires-clause-fits : goal.solve-sums-requires-clause-fits
-solve-sums-requires-clause-fits c = λ n few. tt
+pub solve-sums-requires-clause-apart : goal.solve-sums-requires-clause-apart
+solve-sums-requires-clause-apart g c = rw c.colours.ensures.lists (apart_turned (the_view c.self.inside) c.self.inside.sets.acting c.carry_out.new.sets.acting c.carry_out.new.bodies.bodies c.carry_out.new.contacts.contacts c.self.invariant.whole (turned_then g c))
+
+pub solve-sums-requires-clause-movers : goal.solve-sums-requires-clause-movers
+solve-sums-requires-clause-movers g c = rw c.colours.ensures.lists (movers_turned (the_view c.self.inside) c.self.inside.sets.acting c.carry_out.new.sets.acting c.carry_out.new.bodies.bodies c.carry_out.new.contacts.contacts c.self.invariant.whole (turned_then g c))
 
 pub solve-sums-requires-clause-room : goal.solve-sums-requires-clause-room
-solve-sums-requires-clause-room c =
+solve-sums-requires-clause-room g c =
     let count : length c.in_ok-prepared.prepared.touches.begin.items ≡ length (collided_in (the_view c.self.inside)).begin = ap (λ (keys : List ContactKey). length keys) c.in_ok-prepared.ensures.begin in
-    rw c.colours.ensures.lists (room_turned (the_view c.self.inside) c.self.inside.sets.acting c.prepare.new.sets.acting c.carry_out.new.sets.acting c.carry_out.new.bodies.bodies c.carry_out.new.contacts.contacts (length c.in_ok-prepared.prepared.touches.begin.items) c.prepare.new.rows.room c.self.invariant.whole (turned_then c) c.in_ok-prepared.ensures.acting count (rw c.in_ok-prepared.ensures.acting c.in_ok-prepared.ensures.for_rows))
+    rw c.colours.ensures.lists (room_turned (the_view c.self.inside) c.self.inside.sets.acting c.prepare.new.sets.acting c.carry_out.new.sets.acting c.carry_out.new.bodies.bodies c.carry_out.new.contacts.contacts (length c.in_ok-prepared.prepared.touches.begin.items) c.prepare.new.rows.room c.self.invariant.whole (turned_then g c) c.in_ok-prepared.ensures.acting count (rw c.in_ok-prepared.ensures.acting c.in_ok-prepared.ensures.for_rows))
 
 -- ---- the sleep phase
 
-turned_left : (c : goal.After-split) → HasTurned (the_view c.self.inside) c.carry_out.new.sets.acting c.carry_out.new.bodies.bodies c.carry_out.new.contacts.contacts
-turned_left c =
+turned_left : (g : given.Over) (c : goal.After-split g) → HasTurned (the_view c.self.inside) c.carry_out.new.sets.acting c.carry_out.new.bodies.bodies c.carry_out.new.contacts.contacts
+turned_left g c =
     has_turned (the_view c.self.inside) c.self.inside.sets.acting c.prepare.new.sets.acting c.carry_out.new.sets.acting c.in_ok-prepared.prepared.changes.items c.carry_out.new.bodies.bodies c.carry_out.new.contacts.contacts c.self.invariant.whole c.in_ok-prepared.ensures.acting (rw (c.in_ok-prepared.ensures.begin, c.in_ok-prepared.ensures.end) at c.in_ok-prepared.ensures.changes)
     c.carry_out.ensures.acting (rw c.in_ok-prepared.ensures.bodies at c.carry_out.ensures.bodies) (c.carry_out.ensures.contacts ∙ c.in_ok-prepared.ensures.due)
 
-solved_left : (c : goal.After-split) → HasSolved (the_view c.self.inside) c.in_ok-ticks.ticks c.solve-sums.new.bodies.bodies c.solve-sums.new.joints.joints c.solve-sums.new.contacts.contacts c.solve-sums.result
-solved_left c =
+solved_left : (g : given.Over) (c : goal.After-split g) → HasSolved (the_view c.self.inside) c.in_ok-ticks.ticks c.solve-sums.new.bodies.bodies c.solve-sums.new.joints.joints c.solve-sums.new.contacts.contacts c.solve-sums.result
+solved_left g c =
     let to_bodies = rw c.colours.ensures.lists at c.solve-sums.ensures.bodies in
     let to_joints = rw c.colours.ensures.lists at c.solve-sums.ensures.joints in
     let to_contacts = rw c.colours.ensures.lists at c.solve-sums.ensures.contacts in
@@ -136,63 +140,63 @@ solved_left c =
       joints = c.solve-sums.ensures.all_joints;
       pairs = c.solve-sums.ensures.pairs;
     } in
-    has_solved (the_view c.self.inside) c.in_ok-ticks.ticks c.self.inside.sets.acting c.carry_out.new.sets.acting c.carry_out.new.bodies.bodies c.solve-sums.new.bodies.bodies c.solve-sums.new.joints.joints c.carry_out.new.contacts.contacts c.solve-sums.new.contacts.contacts c.solve-sums.result c.self.invariant.whole (turned_left c) to_bodies to_joints to_contacts to_sums are
+    has_solved (the_view c.self.inside) c.in_ok-ticks.ticks c.self.inside.sets.acting c.carry_out.new.sets.acting c.carry_out.new.bodies.bodies c.solve-sums.new.bodies.bodies c.solve-sums.new.joints.joints c.carry_out.new.contacts.contacts c.solve-sums.new.contacts.contacts c.solve-sums.result c.self.invariant.whole (turned_left g c) to_bodies to_joints to_contacts to_sums are
 
 pub rest_ready-rest-requires-clause-tied : goal.rest_ready-rest-requires-clause-tied
-rest_ready-rest-requires-clause-tied c = tied_solved (the_view c.self.inside) c.in_ok-ticks.ticks c.self.inside.sets.acting c.carry_out.new.sets.acting c.carry_out.new.bodies.bodies c.solve-sums.new.bodies.bodies c.solve-sums.new.joints.joints c.carry_out.new.contacts.contacts c.solve-sums.new.contacts.contacts c.solve-sums.result c.self.invariant.whole (turned_left c) (solved_left c)
+rest_ready-rest-requires-clause-tied g c = tied_solved (the_view c.self.inside) c.in_ok-ticks.ticks c.self.inside.sets.acting c.carry_out.new.sets.acting c.carry_out.new.bodies.bodies c.solve-sums.new.bodies.bodies c.solve-sums.new.joints.joints c.carry_out.new.contacts.contacts c.solve-sums.new.contacts.contacts c.solve-sums.result c.self.invariant.whole (turned_left g c) (solved_left g c)
 
 pub rest_ready-rest-requires-clause-told : goal.rest_ready-rest-requires-clause-told
-rest_ready-rest-requires-clause-told c = told_solved (the_view c.self.inside) c.in_ok-ticks.ticks c.self.inside.sets.acting c.carry_out.new.sets.acting c.carry_out.new.bodies.bodies c.solve-sums.new.bodies.bodies c.solve-sums.new.joints.joints c.carry_out.new.contacts.contacts c.solve-sums.new.contacts.contacts c.solve-sums.result c.self.invariant.whole (turned_left c) (solved_left c)
+rest_ready-rest-requires-clause-told g c = told_solved (the_view c.self.inside) c.in_ok-ticks.ticks c.self.inside.sets.acting c.carry_out.new.sets.acting c.carry_out.new.bodies.bodies c.solve-sums.new.bodies.bodies c.solve-sums.new.joints.joints c.carry_out.new.contacts.contacts c.solve-sums.new.contacts.contacts c.solve-sums.result c.self.invariant.whole (turned_left g c) (solved_left g c)
 
 pub rest_ready-rest-requires-clause-few_bodies : goal.rest_ready-rest-requires-clause-few_bodies
-rest_ready-rest-requires-clause-few_bodies c = few_solved (the_view c.self.inside) c.in_ok-ticks.ticks c.self.inside.sets.acting c.solve-sums.new.bodies.bodies c.solve-sums.new.joints.joints c.solve-sums.new.contacts.contacts c.solve-sums.result c.self.invariant.whole (solved_left c)
+rest_ready-rest-requires-clause-few_bodies g c = few_solved (the_view c.self.inside) c.in_ok-ticks.ticks c.self.inside.sets.acting c.solve-sums.new.bodies.bodies c.solve-sums.new.joints.joints c.solve-sums.new.contacts.contacts c.solve-sums.result c.self.invariant.whole (solved_left g c)
 
 pub rest_ready-rest-requires-clause-within : goal.rest_ready-rest-requires-clause-within
-rest_ready-rest-requires-clause-within c = timers_solved (the_view c.self.inside) c.in_ok-ticks.ticks c.self.inside.sets.acting c.solve-sums.new.bodies.bodies c.solve-sums.new.joints.joints c.solve-sums.new.contacts.contacts c.solve-sums.result c.self.invariant.whole (solved_left c)
+rest_ready-rest-requires-clause-within g c = timers_solved (the_view c.self.inside) c.in_ok-ticks.ticks c.self.inside.sets.acting c.solve-sums.new.bodies.bodies c.solve-sums.new.joints.joints c.solve-sums.new.contacts.contacts c.solve-sums.result c.self.invariant.whole (solved_left g c)
 
 pub rest_ready-rest-requires-clause-ticks : goal.rest_ready-rest-requires-clause-ticks
-rest_ready-rest-requires-clause-ticks c =
+rest_ready-rest-requires-clause-ticks g c =
     let same : to_z w64 (of_z w64 c.args.ticks) ≡ c.args.ticks = grind (arith, to_z-of_z) in
     let counted : AreCounted c.args.ticks c.in_ok-ticks.ticks = are_counted c.args.ticks _ c.in_ok-ticks.ticks same c.in_ok-ticks.ensures in
     rw counted.count (few_ticks c.args.ticks counted.between)
 
 pub rest_ready-rest-requires-clause-timers : goal.rest_ready-rest-requires-clause-timers
-rest_ready-rest-requires-clause-timers c = rw (timers_room (the_view c.self.inside) c.in_ok-ticks.ticks c.self.inside.sets.acting c.solve-sums.new.bodies.bodies c.solve-sums.new.joints.joints c.solve-sums.new.contacts.contacts c.solve-sums.result c.self.invariant.whole (solved_left c)) c.in_ok-prepared.ensures.for_timers
+rest_ready-rest-requires-clause-timers g c = rw (timers_room (the_view c.self.inside) c.in_ok-ticks.ticks c.self.inside.sets.acting c.solve-sums.new.bodies.bodies c.solve-sums.new.joints.joints c.solve-sums.new.contacts.contacts c.solve-sums.result c.self.invariant.whole (solved_left g c)) c.in_ok-prepared.ensures.for_timers
 
 pub rest_ready-rest-requires-clause-marks : goal.rest_ready-rest-requires-clause-marks
-rest_ready-rest-requires-clause-marks c = rw (timers_room (the_view c.self.inside) c.in_ok-ticks.ticks c.self.inside.sets.acting c.solve-sums.new.bodies.bodies c.solve-sums.new.joints.joints c.solve-sums.new.contacts.contacts c.solve-sums.result c.self.invariant.whole (solved_left c)) c.in_ok-prepared.ensures.for_marks
+rest_ready-rest-requires-clause-marks g c = rw (timers_room (the_view c.self.inside) c.in_ok-ticks.ticks c.self.inside.sets.acting c.solve-sums.new.bodies.bodies c.solve-sums.new.joints.joints c.solve-sums.new.contacts.contacts c.solve-sums.result c.self.invariant.whole (solved_left g c)) c.in_ok-prepared.ensures.for_marks
 
 pub rest_ready-rest-requires-clause-slept : goal.rest_ready-rest-requires-clause-slept
-rest_ready-rest-requires-clause-slept c = rw (timers_room (the_view c.self.inside) c.in_ok-ticks.ticks c.self.inside.sets.acting c.solve-sums.new.bodies.bodies c.solve-sums.new.joints.joints c.solve-sums.new.contacts.contacts c.solve-sums.result c.self.invariant.whole (solved_left c)) c.in_ok-prepared.ensures.for_slept
+rest_ready-rest-requires-clause-slept g c = rw (timers_room (the_view c.self.inside) c.in_ok-ticks.ticks c.self.inside.sets.acting c.solve-sums.new.bodies.bodies c.solve-sums.new.joints.joints c.solve-sums.new.contacts.contacts c.solve-sums.result c.self.invariant.whole (solved_left g c)) c.in_ok-prepared.ensures.for_slept
 
 pub rest_ready-rest-requires-clause-places : goal.rest_ready-rest-requires-clause-places
-rest_ready-rest-requires-clause-places c =
+rest_ready-rest-requires-clause-places g c =
     let slots : length c.self.inside.handles.places ≡ length c.self.inside.bodies.bodies = (kept_of _ _ c.self.invariant.whole).matched.slots in
     let there : length c.places-2.result.now ≡ length c.self.inside.handles.places = ap (λ (ps : List Place). length ps) c.places-2.ensures in
-    let long = timers_room (the_view c.self.inside) c.in_ok-ticks.ticks c.self.inside.sets.acting c.solve-sums.new.bodies.bodies c.solve-sums.new.joints.joints c.solve-sums.new.contacts.contacts c.solve-sums.result c.self.invariant.whole (solved_left c) in
+    let long = timers_room (the_view c.self.inside) c.in_ok-ticks.ticks c.self.inside.sets.acting c.solve-sums.new.bodies.bodies c.solve-sums.new.joints.joints c.solve-sums.new.contacts.contacts c.solve-sums.result c.self.invariant.whole (solved_left g c) in
     omega (arith, slots, there, long)
 
 pub rest_ready-rest-requires-clause-slots : goal.rest_ready-rest-requires-clause-slots
-rest_ready-rest-requires-clause-slots c =
+rest_ready-rest-requires-clause-slots g c =
     let slots : length c.self.inside.handles.places ≡ length c.self.inside.bodies.bodies = (kept_of _ _ c.self.invariant.whole).matched.slots in
     let there : length c.places-2.result.now ≡ length c.self.inside.handles.places = ap (λ (ps : List Place). length ps) c.places-2.ensures in
     omega (arith, slots, there, c.in_ok-prepared.ensures.for_slots)
 
 pub rest_ready-rest-requires-clause-settled : goal.rest_ready-rest-requires-clause-settled
-rest_ready-rest-requires-clause-settled c = settled_turned (the_view c.self.inside) c.self.inside.sets.acting c.carry_out.new.sets.acting c.carry_out.new.bodies.bodies c.carry_out.new.contacts.contacts c.self.invariant.whole (turned_left c)
+rest_ready-rest-requires-clause-settled g c = settled_turned (the_view c.self.inside) c.self.inside.sets.acting c.carry_out.new.sets.acting c.carry_out.new.bodies.bodies c.carry_out.new.contacts.contacts c.self.invariant.whole (turned_left g c)
 
 pub rest_ready-rest-requires-clause-tells : goal.rest_ready-rest-requires-clause-tells
-rest_ready-rest-requires-clause-tells c = rw (c.joints.ensures, c.split.ensures) (tell_solved (the_view c.self.inside) c.in_ok-ticks.ticks c.self.inside.sets.acting c.carry_out.new.sets.acting c.carry_out.new.bodies.bodies c.solve-sums.new.bodies.bodies c.solve-sums.new.joints.joints c.carry_out.new.contacts.contacts c.solve-sums.new.contacts.contacts c.solve-sums.result c.self.invariant.whole (turned_left c) (solved_left c))
+rest_ready-rest-requires-clause-tells g c = rw (c.joints.ensures, c.split.ensures) (tell_solved (the_view c.self.inside) c.in_ok-ticks.ticks c.self.inside.sets.acting c.carry_out.new.sets.acting c.carry_out.new.bodies.bodies c.solve-sums.new.bodies.bodies c.solve-sums.new.joints.joints c.carry_out.new.contacts.contacts c.solve-sums.new.contacts.contacts c.solve-sums.result c.self.invariant.whole (turned_left g c) (solved_left g c))
 
 -- ---- what is recorded
 
-turned_at_last : (c : goal.After-record_step-arg-3-1) → HasTurned (the_view c.self.inside) c.carry_out.new.sets.acting c.carry_out.new.bodies.bodies c.carry_out.new.contacts.contacts
-turned_at_last c =
+turned_at_last : (g : given.Over) (c : goal.After-record_step-arg-3-1 g) → HasTurned (the_view c.self.inside) c.carry_out.new.sets.acting c.carry_out.new.bodies.bodies c.carry_out.new.contacts.contacts
+turned_at_last g c =
     has_turned (the_view c.self.inside) c.self.inside.sets.acting c.prepare.new.sets.acting c.carry_out.new.sets.acting c.in_ok-prepared.prepared.changes.items c.carry_out.new.bodies.bodies c.carry_out.new.contacts.contacts c.self.invariant.whole c.in_ok-prepared.ensures.acting (rw (c.in_ok-prepared.ensures.begin, c.in_ok-prepared.ensures.end) at c.in_ok-prepared.ensures.changes)
     c.carry_out.ensures.acting (rw c.in_ok-prepared.ensures.bodies at c.carry_out.ensures.bodies) (c.carry_out.ensures.contacts ∙ c.in_ok-prepared.ensures.due)
 
-solved_at_last : (c : goal.After-record_step-arg-3-1) → HasSolved (the_view c.self.inside) c.in_ok-ticks.ticks c.solve-sums.new.bodies.bodies c.solve-sums.new.joints.joints c.solve-sums.new.contacts.contacts c.solve-sums.result
-solved_at_last c =
+solved_at_last : (g : given.Over) (c : goal.After-record_step-arg-3-1 g) → HasSolved (the_view c.self.inside) c.in_ok-ticks.ticks c.solve-sums.new.bodies.bodies c.solve-sums.new.joints.joints c.solve-sums.new.contacts.contacts c.solve-sums.result
+solved_at_last g c =
     let to_bodies = rw c.colours.ensures.lists at c.solve-sums.ensures.bodies in
     let to_joints = rw c.colours.ensures.lists at c.solve-sums.ensures.joints in
     let to_contacts = rw c.colours.ensures.lists at c.solve-sums.ensures.contacts in
@@ -205,34 +209,34 @@ solved_at_last c =
       joints = c.solve-sums.ensures.all_joints;
       pairs = c.solve-sums.ensures.pairs;
     } in
-    has_solved (the_view c.self.inside) c.in_ok-ticks.ticks c.self.inside.sets.acting c.carry_out.new.sets.acting c.carry_out.new.bodies.bodies c.solve-sums.new.bodies.bodies c.solve-sums.new.joints.joints c.carry_out.new.contacts.contacts c.solve-sums.new.contacts.contacts c.solve-sums.result c.self.invariant.whole (turned_at_last c) to_bodies to_joints to_contacts to_sums are
+    has_solved (the_view c.self.inside) c.in_ok-ticks.ticks c.self.inside.sets.acting c.carry_out.new.sets.acting c.carry_out.new.bodies.bodies c.solve-sums.new.bodies.bodies c.solve-sums.new.joints.joints c.carry_out.new.contacts.contacts c.solve-sums.new.contacts.contacts c.solve-sums.result c.self.invariant.whole (turned_at_last g c) to_bodies to_joints to_contacts to_sums are
 
-fell : (c : goal.After-record_step-arg-3-1) → c.rest_ready-rest.new.scratch.slept.items ≡ newly_asleep c.self.inside.handles.places (timed_bodies c.in_ok-ticks.ticks c.solve-sums.new.bodies.bodies) c.rest_ready-rest.new.sets.acting.labels
-fell c = rw c.places-2.ensures at c.rest_ready-rest.ensures.slept
+fell : (g : given.Over) (c : goal.After-record_step-arg-3-1 g) → c.rest_ready-rest.new.scratch.slept.items ≡ newly_asleep c.self.inside.handles.places (timed_bodies c.in_ok-ticks.ticks c.solve-sums.new.bodies.bodies) c.rest_ready-rest.new.sets.acting.labels
+fell g c = rw c.places-2.ensures at c.rest_ready-rest.ensures.slept
 
-woken : (c : goal.After-record_step-arg-3-1) → c.rest_ready-rest.new.scratch.woke.items ≡ newly_awake c.self.inside.handles.places c.self.inside.bodies.bodies c.carry_out.new.sets.acting.labels
-woken c = rw (← c.rest_ready-rest.ensures.woke, c.places.ensures, c.in_ok-prepared.ensures.bodies) at c.carry_out.ensures.woke
+woken : (g : given.Over) (c : goal.After-record_step-arg-3-1 g) → c.rest_ready-rest.new.scratch.woke.items ≡ newly_awake c.self.inside.handles.places c.self.inside.bodies.bodies c.carry_out.new.sets.acting.labels
+woken g c = rw (← c.rest_ready-rest.ensures.woke, c.places.ensures, c.in_ok-prepared.ensures.bodies) at c.carry_out.ensures.woke
 
 pub record_step-requires-clause-roomy : goal.record_step-requires-clause-roomy
-record_step-requires-clause-roomy c = IsRoomy-same _ _ c.in_ok-prepared.ensures.entries c.in_ok-prepared.ensures.settled (IsRoomy-kept (the_view c.self.inside) 0 (kept_of _ _ c.self.invariant.whole))
+record_step-requires-clause-roomy g c = IsRoomy-same _ _ c.in_ok-prepared.ensures.entries c.in_ok-prepared.ensures.settled (IsRoomy-kept (the_view c.self.inside) 0 (kept_of _ _ c.self.invariant.whole))
 
 pub record_step-requires-clause-slept : goal.record_step-requires-clause-slept
-record_step-requires-clause-slept c =
-    subst (λ (hs : List Handle). IsStrictlyIncreasing (map slot_of hs)) (sym (fell c)) (slept_rise (the_view c.self.inside) c.in_ok-ticks.ticks c.self.inside.sets.acting c.solve-sums.new.bodies.bodies c.solve-sums.new.joints.joints c.solve-sums.new.contacts.contacts c.solve-sums.result c.rest_ready-rest.new.sets.acting.labels c.self.invariant.whole (solved_at_last c))
+record_step-requires-clause-slept g c =
+    subst (λ (hs : List Handle). IsStrictlyIncreasing (map slot_of hs)) (sym (fell g c)) (slept_rise (the_view c.self.inside) c.in_ok-ticks.ticks c.self.inside.sets.acting c.solve-sums.new.bodies.bodies c.solve-sums.new.joints.joints c.solve-sums.new.contacts.contacts c.solve-sums.result c.rest_ready-rest.new.sets.acting.labels c.self.invariant.whole (solved_at_last g c))
 
 pub record_step-requires-clause-woke : goal.record_step-requires-clause-woke
-record_step-requires-clause-woke c =
-    subst (λ (hs : List Handle). IsStrictlyIncreasing (map slot_of hs)) (sym (woken c)) (woke_rise (the_view c.self.inside) c.self.inside.sets.acting c.carry_out.new.sets.acting c.carry_out.new.bodies.bodies c.carry_out.new.contacts.contacts c.self.invariant.whole (turned_at_last c))
+record_step-requires-clause-woke g c =
+    subst (λ (hs : List Handle). IsStrictlyIncreasing (map slot_of hs)) (sym (woken g c)) (woke_rise (the_view c.self.inside) c.self.inside.sets.acting c.carry_out.new.sets.acting c.carry_out.new.bodies.bodies c.carry_out.new.contacts.contacts c.self.invariant.whole (turned_at_last g c))
 
 -- ---- the whole
 
-turned : (c : goal.After-drop-prepared-2) → HasTurned (the_view c.self.inside) c.carry_out.new.sets.acting c.carry_out.new.bodies.bodies c.carry_out.new.contacts.contacts
-turned c =
+turned : (g : given.Over) (c : goal.After-drop-prepared-2 g) → HasTurned (the_view c.self.inside) c.carry_out.new.sets.acting c.carry_out.new.bodies.bodies c.carry_out.new.contacts.contacts
+turned g c =
     has_turned (the_view c.self.inside) c.self.inside.sets.acting c.prepare.new.sets.acting c.carry_out.new.sets.acting c.in_ok-prepared.prepared.changes.items c.carry_out.new.bodies.bodies c.carry_out.new.contacts.contacts c.self.invariant.whole c.in_ok-prepared.ensures.acting (rw (c.in_ok-prepared.ensures.begin, c.in_ok-prepared.ensures.end) at c.in_ok-prepared.ensures.changes)
     c.carry_out.ensures.acting (rw c.in_ok-prepared.ensures.bodies at c.carry_out.ensures.bodies) (c.carry_out.ensures.contacts ∙ c.in_ok-prepared.ensures.due)
 
-solved : (c : goal.After-drop-prepared-2) → HasSolved (the_view c.self.inside) c.in_ok-ticks.ticks c.solve-sums.new.bodies.bodies c.solve-sums.new.joints.joints c.solve-sums.new.contacts.contacts c.solve-sums.result
-solved c =
+solved : (g : given.Over) (c : goal.After-drop-prepared-2 g) → HasSolved (the_view c.self.inside) c.in_ok-ticks.ticks c.solve-sums.new.bodies.bodies c.solve-sums.new.joints.joints c.solve-sums.new.contacts.contacts c.solve-sums.result
+solved g c =
     let to_bodies = rw c.colours.ensures.lists at c.solve-sums.ensures.bodies in
     let to_joints = rw c.colours.ensures.lists at c.solve-sums.ensures.joints in
     let to_contacts = rw c.colours.ensures.lists at c.solve-sums.ensures.contacts in
@@ -245,14 +249,14 @@ solved c =
       joints = c.solve-sums.ensures.all_joints;
       pairs = c.solve-sums.ensures.pairs;
     } in
-    has_solved (the_view c.self.inside) c.in_ok-ticks.ticks c.self.inside.sets.acting c.carry_out.new.sets.acting c.carry_out.new.bodies.bodies c.solve-sums.new.bodies.bodies c.solve-sums.new.joints.joints c.carry_out.new.contacts.contacts c.solve-sums.new.contacts.contacts c.solve-sums.result c.self.invariant.whole (turned c) to_bodies to_joints to_contacts to_sums are
+    has_solved (the_view c.self.inside) c.in_ok-ticks.ticks c.self.inside.sets.acting c.carry_out.new.sets.acting c.carry_out.new.bodies.bodies c.solve-sums.new.bodies.bodies c.solve-sums.new.joints.joints c.carry_out.new.contacts.contacts c.solve-sums.new.contacts.contacts c.solve-sums.result c.self.invariant.whole (turned g c) to_bodies to_joints to_contacts to_sums are
 
-are_left : (c : goal.After-drop-prepared-2) → AreLeft (the_view c.self.inside) c.in_ok-ticks.ticks c.carry_out.new.sets.acting c.rest_ready-rest.new.sets.acting c.carry_out.new.bodies.bodies c.solve-sums.new.bodies.bodies c.rest_ready-rest.new.bodies.bodies c.solve-sums.new.joints.joints c.carry_out.new.contacts.contacts c.solve-sums.new.contacts.contacts
+are_left : (g : given.Over) (c : goal.After-drop-prepared-2 g) → AreLeft (the_view c.self.inside) c.in_ok-ticks.ticks c.carry_out.new.sets.acting c.rest_ready-rest.new.sets.acting c.carry_out.new.bodies.bodies c.solve-sums.new.bodies.bodies c.rest_ready-rest.new.bodies.bodies c.solve-sums.new.joints.joints c.carry_out.new.contacts.contacts c.solve-sums.new.contacts.contacts
     c.solve-sums.result (as_vector c.rest_ready-rest.result) c.record_step.new.events
-are_left c =
+are_left g c =
     record {
-      collide = turned c;
-      ticks = solved c;
+      collide = turned g c;
+      ticks = solved g c;
       phase = rw (c.joints.ensures, c.split.ensures) at c.rest_ready-rest.ensures.acting;
       bodies = c.rest_ready-rest.ensures.bodies;
       gain_is = c.rest_ready-rest.ensures.gain;
@@ -267,7 +271,7 @@ abbrev cleared : Bodies → Bodies
 cleared b = record b { marks = replicate (length b.marks) false }
 
 pub invariant_of-self-2 : goal.invariant_of-self-2
-invariant_of-self-2 c =
+invariant_of-self-2 g c =
     let w : World = the_view c.self.inside in
     let calls : c.self.inside.calls < 2 ^ 40 = rw (← c.self.view_is) at c.requires in
     let same : to_z w64 (of_z w64 c.args.ticks) ≡ c.args.ticks = grind (arith, to_z-of_z) in
@@ -276,7 +280,7 @@ invariant_of-self-2 c =
     core_stepped w _ _ _ (cleared c.prepare.new.bodies) c.rest_ready-rest.new.bodies c.self.invariant.whole
     (rw (c.record_step.ensures.entries, c.record_step.ensures.settled, c.in_ok-prepared.ensures.entries, c.in_ok-prepared.ensures.settled)
     (whole w _ _ _ (step_is_left w c.in_ok-ticks.ticks c.self.inside.sets.acting c.carry_out.new.sets.acting c.rest_ready-rest.new.sets.acting c.carry_out.new.bodies.bodies c.solve-sums.new.bodies.bodies c.rest_ready-rest.new.bodies.bodies c.solve-sums.new.joints.joints c.carry_out.new.contacts.contacts c.solve-sums.new.contacts.contacts
-    c.solve-sums.result (as_vector c.rest_ready-rest.result) c.record_step.new.events c.self.invariant.whole calls few (are_left c))))
+    c.solve-sums.result (as_vector c.rest_ready-rest.result) c.record_step.new.events c.self.invariant.whole calls few (are_left g c))))
     c.in_ok-prepared.ensures.bodies refl
     (marked_after (cleared c.prepare.new.bodies) c.solve-sums.new.bodies c.rest_ready-rest.new.bodies (marked_after (cleared c.prepare.new.bodies) c.carry_out.new.bodies c.solve-sums.new.bodies c.carry_out.ensures.marked c.solve-sums.ensures.marked) c.rest_ready-rest.ensures.marked)
     c.solve-sums.ensures.forbidden (c.solve-sums.ensures.numbers ∙ ap (λ (es : List ContactEntry). map number_of es) (c.carry_out.ensures.contacts ∙ c.in_ok-prepared.ensures.due))
@@ -285,7 +289,7 @@ invariant_of-self-2 c =
     (c.carry_out.ensures.anchored (subst (λ (a : Acting Constraint). Tell c.self.inside.anchors.holds c.self.inside.anchors.lists a.ties) (sym c.in_ok-prepared.ensures.acting) c.self.invariant.anchored)))
 
 pub returns : goal.returns
-returns c =
+returns g c =
     let w : World = the_view c.self.inside in
     let calls : c.self.inside.calls < 2 ^ 40 = rw (← c.self.view_is) at c.requires in
     let same : to_z w64 (of_z w64 c.args.ticks) ≡ c.args.ticks = grind (arith, to_z-of_z) in
@@ -295,4 +299,4 @@ returns c =
     (step_answers w c.args.ticks c.in_ok-ticks.ticks _ c.rest_ready-rest.new.sets.acting counted.between counted.count
     (rw (c.record_step.ensures.entries, c.record_step.ensures.settled, c.in_ok-prepared.ensures.entries, c.in_ok-prepared.ensures.settled)
     (step_is_left w c.in_ok-ticks.ticks c.self.inside.sets.acting c.carry_out.new.sets.acting c.rest_ready-rest.new.sets.acting c.carry_out.new.bodies.bodies c.solve-sums.new.bodies.bodies c.rest_ready-rest.new.bodies.bodies c.solve-sums.new.joints.joints c.carry_out.new.contacts.contacts c.solve-sums.new.contacts.contacts
-    c.solve-sums.result (as_vector c.rest_ready-rest.result) c.record_step.new.events c.self.invariant.whole calls few (are_left c))))
+    c.solve-sums.result (as_vector c.rest_ready-rest.result) c.record_step.new.events c.self.invariant.whole calls few (are_left g c))))
