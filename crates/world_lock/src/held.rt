@@ -24,7 +24,7 @@ use solver_sets::laws::{lists_are_census, ties_are_named};
 use std::alloc::Global;
 use std::marker::Model;
 use std::sync::Arc;
-use world_core::{Command, Events, Frame, Reply, each_call_counts};
+use world_core::{Command, Events, Frame, OneThread, Reply, StepSolver, each_call_counts};
 use world_rules::{
     colours_are_apart, each_stands_in_one_set, linked_movers_stand_together,
     sleeping_sets_are_components, what_acts_has_a_colour,
@@ -128,6 +128,42 @@ impl<N: Opened> Held<N> {
         ensures refused { IfErr result (λ refusal. (refusal ≡ Refusal.NoMemory) ⊎ (answer_of (apply self.old.world.plain command) ≡ Err refusal)) }
         ensures err { OnErr result (self.new ≡ self.old) }
     {
+        self.call_by(book, seat, &mut OneThread, command)
+    }
+
+    /// A step of a seat: a call of it, its ticks run by this solver.
+    pub fn step<S: StepSolver>(
+        &mut self,
+        book: &Book<N, Command, Reply>,
+        seat: &mut Seat<N>,
+        solver: &mut S,
+        ticks: i64,
+    ) -> Result<(Reply, Receipt), Refusal>
+        ensures told { MatchResult result (λ r. Called N.opening seat.old (Command.Step ticks) r.0 r.1 seat.new) (λ refusal. Refused N.opening seat.old (Command.Step ticks) refusal seat.new) }
+        ensures reply { IfOk result (λ r. answer_of (apply self.old.world.plain (Command.Step ticks)) ≡ Ok r.0) }
+        ensures done { IfOk result (λ r. self.new ≡ with_line self.old (line seat.old.seat (next_number seat.old) (Command.Step ticks) r.0)) }
+        ensures place { IfOk result (λ r. r.1.place ≡ self.old.settled + length self.old.journal) }
+        ensures refused { IfErr result (λ refusal. (refusal ≡ Refusal.NoMemory) ⊎ (answer_of (apply self.old.world.plain (Command.Step ticks)) ≡ Err refusal)) }
+        ensures err { OnErr result (self.new ≡ self.old) }
+    {
+        self.call_by(book, seat, solver, Command::Step(ticks))
+    }
+
+    /// A call of a seat, with this solver for the ticks of a step.
+    fn call_by<S: StepSolver>(
+        &mut self,
+        book: &Book<N, Command, Reply>,
+        seat: &mut Seat<N>,
+        solver: &mut S,
+        command: Command,
+    ) -> Result<(Reply, Receipt), Refusal>
+        ensures told { MatchResult result (λ r. Called N.opening seat.old command r.0 r.1 seat.new) (λ refusal. Refused N.opening seat.old command refusal seat.new) }
+        ensures reply { IfOk result (λ r. answer_of (apply self.old.world.plain command) ≡ Ok r.0) }
+        ensures done { IfOk result (λ r. self.new ≡ with_line self.old (line seat.old.seat (next_number seat.old) command r.0)) }
+        ensures place { IfOk result (λ r. r.1.place ≡ self.old.settled + length self.old.journal) }
+        ensures refused { IfErr result (λ refusal. (refusal ≡ Refusal.NoMemory) ⊎ (answer_of (apply self.old.world.plain command) ≡ Err refusal)) }
+        ensures err { OnErr result (self.new ≡ self.old) }
+    {
         each_call_counts();
         let impulse = command.impulse();
         let receipt = Receipt {
@@ -135,7 +171,10 @@ impl<N: Opened> Held<N> {
             number: calls_in(&self.tallies, seat.number()) + 1,
             place: self.settled + self.journalled.journal().len() as u64,
         };
-        match self.journalled.call(receipt.seat, receipt.number, command) {
+        match self
+            .journalled
+            .call(solver, receipt.seat, receipt.number, command)
+        {
             Ok(reply) => {
                 count_call(&mut self.tallies, receipt.seat, impulse);
                 let journal = self.journalled.journal();

@@ -15,7 +15,7 @@ use fixed_geom::Refusal;
 use seat_book::{Call, Entry};
 use std::marker::Model;
 use std::mem;
-use world_core::{Command, Reply, WorldCore};
+use world_core::{Command, Reply, StepSolver, WorldCore};
 
 /// An accepted call: its seat, which of the seat's calls it is, what was asked, and what was answered.
 pub type JournalEntry = Entry<Command, Reply>;
@@ -40,12 +40,16 @@ impl Model for JournalledWorld {
     ghost invariant = { λ a. IsJournalled a.opening a.world a.journal.items };
 }
 
-/// What the world answers to a command; it is sound whatever it answers.
-fn applied(world: &mut WorldCore, command: &Command) -> Result<Reply, Refusal>
+/// What the world answers to a command, the ticks of a step run by this solver; it is sound whatever it answers.
+fn applied<S: StepSolver>(
+    world: &mut WorldCore,
+    solver: &mut S,
+    command: &Command,
+) -> Result<Reply, Refusal>
     ensures answer { MatchResult result (λ reply. (answer_of (apply world.old.plain command.now) ≡ Ok reply) × (world.new ≡ after world.old command.now)) (λ refusal. (world.new ≡ world.old) × ((refusal ≡ Refusal.NoMemory) ⊎ (answer_of (apply world.old.plain command.now) ≡ Err refusal))) }
     ensures sound { IsSound world.new }
 {
-    let answer = world.apply(command);
+    let answer = world.apply_by(solver, command);
     // The ledger is read for its promise alone, that the world is sound.
     let _ = world.ledger();
     answer
@@ -85,13 +89,19 @@ impl JournalledWorld {
         self.journal.as_slice()
     }
 
-    /// A call of a seat: the world applies the command, and the journal grows by just this. A refusal changes nothing; the room
-    /// for the journal's entry is made before all else, so want of it is answered first.
-    pub fn call(&mut self, seat: u64, number: u64, command: Command) -> Result<Reply, Refusal>
+    /// A call of a seat: the world applies the command, with this solver for the ticks of a step, and the journal grows by just this. A
+    /// refusal changes nothing; the room for the journal's entry is made before all else, so want of it is answered first.
+    pub fn call<S: StepSolver>(
+        &mut self,
+        solver: &mut S,
+        seat: u64,
+        number: u64,
+        command: Command,
+    ) -> Result<Reply, Refusal>
         ensures { MatchResult result (λ reply. (answer_of (apply self.old.world.plain command) ≡ Ok reply) × (self.new ≡ record { world = after self.old.world command; opening = self.old.opening; opening_totals = self.old.opening_totals; journal = self.old.journal ++ line seat number command reply ∷ [] })) (λ refusal. (self.new ≡ self.old) × ((refusal ≡ Refusal.NoMemory) ⊎ (answer_of (apply self.old.world.plain command) ≡ Err refusal))) }
     {
         self.journal.reserve(1)?;
-        let reply = applied(&mut self.world, &command)?;
+        let reply = applied(&mut self.world, solver, &command)?;
         let call = Call {
             number,
             command,

@@ -19,7 +19,7 @@ use fixed_geom::Refusal;
 use seat_book::{Book, Keeper, Pass, Roster, open};
 use std::alloc::Global;
 use std::sync::{Arc, Mutex, Wait};
-use world_core::{Command, Events, Frame, Reply, WorldCore};
+use world_core::{Command, Events, Frame, Reply, StepSolver, WorldCore};
 
 /// A world that seats share. Each accepted call takes the lock, applies one command, appends one entry to the journal, and gives
 /// the lock back.
@@ -179,6 +179,19 @@ impl<N: Opened> SharedWorld<N> {
         ensures { MatchResult result (λ r. Called N.opening seat.old command r.0 r.1 seat.new) (λ refusal. Refused N.opening seat.old command refusal seat.new) }
     {
         self.lock.lock(rt).call(&self.book, seat, command)
+    }
+
+    /// Makes a step through a seat: a call of it, its ticks run by this solver, under the lock.
+    pub fn step<R: Wait, S: StepSolver>(
+        &self,
+        rt: &R,
+        seat: &mut Seat<N>,
+        solver: &mut S,
+        ticks: i64,
+    ) -> Result<(Reply, Receipt), Refusal>
+        ensures { MatchResult result (λ r. Called N.opening seat.old (Command.Step ticks) r.0 r.1 seat.new) (λ refusal. Refused N.opening seat.old (Command.Step ticks) refusal seat.new) }
+    {
+        self.lock.lock(rt).step(&self.book, seat, solver, ticks)
     }
 
     /// Settles the journal, which begins anew at the present world, and answers how many entries it had. Refused 1 where

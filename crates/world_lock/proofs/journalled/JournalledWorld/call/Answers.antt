@@ -5,14 +5,14 @@ use Rattle.world_lock.proofs.Replaying.{journalled_call, opening_stays}
 use Rattle.world_lock.proofs.journalled.JournalledWorld.call.Goals as goal
 
 pub invariant_of-self-2 : goal.invariant_of-self-2
-invariant_of-self-2 c =
+invariant_of-self-2 g c =
     let answer = c.in_ok-reply.ensures.answer in
     let e = line c.args.seat c.args.number c.args.command c.in_ok-reply.reply in
     let items : c.push_reserved.new.self.items ≡ c.self.inside.journal.items ++ e ∷ [] = c.push_reserved.ensures.items ∙ ap (λ l. l ++ e ∷ []) c.reserve.ensures.items in
     rw (answer.1, items) (journalled_call c.self.inside.opening c.self.inside.world c.self.inside.journal.items e c.self.invariant answer.0 (subst IsSound answer.1 c.in_ok-reply.ensures.sound))
 
 pub returns : goal.returns
-returns c =
+returns g c =
     let answer = c.in_ok-reply.ensures.answer in
     let e = line c.args.seat c.args.number c.args.command c.in_ok-reply.reply in
     let items : c.push_reserved.new.self.items ≡ c.self.inside.journal.items ++ e ∷ [] = c.push_reserved.ensures.items ∙ ap (λ l. l ++ e ∷ []) c.reserve.ensures.items in

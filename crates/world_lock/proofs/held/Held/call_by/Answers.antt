@@ -9,8 +9,8 @@ use Rattle.world_lock.specs.Tallies.{no_calls, with_call}
 use Rattle.world_lock.specs.Histories.{IsHeld, Known, next_number, standing, with_line}
 use Rattle.world_lock.proofs.Replaying.{small_push}
 use Rattle.world_lock.proofs.Holding.{held_call, last_is, next_is, tallies_are, told_call}
-use Rattle.world_lock.proofs.held.Held.call.Given as given
-use Rattle.world_lock.proofs.held.Held.call.Goals as goal
+use Rattle.world_lock.proofs.held.Held.call_by.Given as given
+use Rattle.world_lock.proofs.held.Held.call_by.Goals as goal
 
 pub calls_in-requires : goal.calls_in-requires
 calls_in-requires g c =
