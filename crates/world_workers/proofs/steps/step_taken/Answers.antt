@@ -1,0 +1,10 @@
+use Rattle.std.proofs.Common.{rules}
+use Rattle.std.specs.Int.{w64}
+use Rattle.std.proofs.lemmas.Int.{to_z-of_z}
+use mir.Val.{SFits}
+use Rattle.world_workers.proofs.steps.step_taken.Goals as goal
+
+pub returns : goal.returns
+returns g c =
+    let fits : SFits w64 c.args.task.ticks = search rules in
+    simp to_z-of_z at c.step_in-answer.ensures

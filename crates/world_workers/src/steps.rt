@@ -1,0 +1,153 @@
+//! A step by workers that are started for it.
+
+ghost use Rattle.std.specs.Prelude.{◌≡◌, ◌&&◌, ◌<◌, ◌^◌, true, nat_le, pos};
+ghost use Rattle.shapes.specs.Shapes.{is_between};
+ghost use Rattle.world_rules.specs.Apply.{apply};
+ghost use Rattle.world_rules.specs.declared.command.Command.TheVariants.{Step};
+ghost use Rattle.world_workers.specs.Workers.{AnswersByThreads, step_due};
+
+use crew::Gate;
+use crew_solver::StepCrew;
+use fixed_geom::{Refusal, ZERO_VECTOR};
+use std::alloc::Global;
+use std::sync::Wait;
+use std::thread::{Scope, Threads};
+use std::{mem, thread};
+use world_core::{Reply, WorldCore, is_tick_count};
+
+/// How many workers may solve a step at most.
+const MOST_WORKERS: u64 = 64;
+
+/// The fewest constraints that are worth a start of threads: where fewer act, the calling thread makes the step alone.
+const LEAST_CONSTRAINTS: usize = 512;
+
+fn are_workers(workers: u64) -> bool
+    ensures { result ≡ nat_le 1 workers && nat_le workers 64 }
+{
+    workers >= 1 && workers <= MOST_WORKERS
+}
+
+/// Makes a step with workers that start in the scope, and ends them.
+fn step_in<'s, E, R: Threads + Wait + Sync, G: Gate + Sync>(
+    scope: &Scope<'s, E>,
+    rt: &'s R,
+    alloc: Global,
+    gate: &'s G,
+    workers: usize,
+    world: &mut WorldCore,
+    ticks: i64,
+) -> Result<Reply, Refusal>
+    requires calls { world.old.plain.calls < 2 ^ 40 }
+    requires ticks { is_between (pos 1) (pos 8) ticks ≡ true }
+    ensures { AnswersByThreads (apply world.old.plain (Step ticks)) world.old result world.new }
+{
+    match StepCrew::start(scope, rt, alloc, gate, workers) {
+        Err(refused) => Err(refused),
+        Ok(mut crew) => {
+            let answer = world.step_by(&mut crew, ticks);
+            crew.end();
+            answer
+        }
+    }
+}
+
+/// A world, and how many ticks it is to make.
+#[derive(Drop)]
+struct Task {
+    world: WorldCore,
+    ticks: i64,
+}
+
+/// The same of a world that goes into the scope and comes back.
+fn step_taken<'s, E, R: Threads + Wait + Sync, G: Gate + Sync>(
+    scope: &Scope<'s, E>,
+    rt: &'s R,
+    alloc: Global,
+    gate: &'s G,
+    workers: usize,
+    task: Task,
+) -> (WorldCore, Result<Reply, Refusal>)
+    requires calls { task.world.plain.calls < 2 ^ 40 }
+    requires ticks { is_between (pos 1) (pos 8) task.ticks ≡ true }
+    ensures { AnswersByThreads (apply task.world.plain (Step task.ticks)) task.world result.1 result.0 }
+{
+    let Task { mut world, ticks } = task;
+    let answer = step_in(scope, rt, alloc, gate, workers, &mut world, ticks);
+    (world, answer)
+}
+
+/// Opens a scope for it.
+fn step_scoped<R: Threads + Wait + Sync, G: Gate + Sync>(
+    rt: &R,
+    alloc: Global,
+    gate: &G,
+    workers: usize,
+    task: Task,
+) -> (WorldCore, Result<Reply, Refusal>)
+    requires calls { task.world.plain.calls < 2 ^ 40 }
+    requires ticks { is_between (pos 1) (pos 8) task.ticks ≡ true }
+    ensures { AnswersByThreads (apply task.world.plain (Step task.ticks)) task.world result.1 result.0 }
+{
+    thread::scope(
+        thread::scope_env(),
+        rt,
+        move |scope| -> (WorldCore, Result<Reply, Refusal>)
+            requires { (task.world.plain.calls < 2 ^ 40) × (is_between (pos 1) (pos 8) task.ticks ≡ true) }
+            ensures { AnswersByThreads (apply task.world.plain (Step task.ticks)) task.world result.1 result.0 }
+        { step_taken(scope, rt, alloc, gate, workers, task) },
+    )
+}
+
+/// Makes a step with workers that start for it. Another world stands in this one's place meanwhile, since what a scope changes behind a
+/// reference can't be told.
+fn step_apart<R: Threads + Wait + Sync, G: Gate + Sync>(
+    world: &mut WorldCore,
+    aside: WorldCore,
+    rt: &R,
+    alloc: Global,
+    gate: &G,
+    workers: usize,
+    ticks: i64,
+) -> Result<Reply, Refusal>
+    requires calls { world.old.plain.calls < 2 ^ 40 }
+    requires ticks { is_between (pos 1) (pos 8) ticks ≡ true }
+    ensures { AnswersByThreads (apply world.old.plain (Step ticks)) world.old result world.new }
+{
+    let task = Task {
+        world: mem::replace(world, aside),
+        ticks,
+    };
+    let (given, answer) = step_scoped(rt, alloc, gate, workers, task);
+    drop(mem::replace(world, given));
+    answer
+}
+
+/// Lets 1 to 8 ticks pass, solved by 1 to 64 workers, of which the caller is one; each enters the gate before each of its pieces. It is what
+/// `step_one` does. Refused 10 or 5, 1 where memory is wanting, or 11 where a thread can't be started, with nothing changed.
+pub fn step_with<R: AllocGlobal + Threads + Wait + Sync, G: Gate + Sync>(
+    world: &mut WorldCore,
+    rt: &R,
+    gate: &G,
+    workers: u64,
+    ticks: i64,
+) -> Result<Reply, Refusal>
+    ensures { AnswersByThreads (step_due workers world.old.plain ticks) world.old result world.new }
+{
+    if world.is_worn_out() {
+        return Err(Refusal::WornOut);
+    }
+    if !are_workers(workers) {
+        return Err(Refusal::OutOfRange);
+    }
+    if !is_tick_count(ticks) {
+        return Err(Refusal::OutOfRange);
+    }
+    if workers == 1 || world.acting_constraints() < LEAST_CONSTRAINTS {
+        return world.step_one(ticks);
+    }
+    let alloc = rt.alloc();
+    match WorldCore::new(alloc, ZERO_VECTOR) {
+        Err(refused) => Err(refused),
+        Ok(aside) => step_apart(world, aside, rt, alloc, gate, workers as usize, ticks),
+    }
+}
