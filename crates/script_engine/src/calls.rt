@@ -6,9 +6,11 @@ use plain_world::BodyView;
 use serde_json::Value;
 use std::alloc::Global;
 use std::sync::Wait;
-use world_core::{Command, Events, Handle, Reply, ShapeId, WorldCore};
+use std::thread::Threads;
+use world_core::{Command, Events, Handle, Reply, ShapeId, StepSolver, WorldCore};
 use world_lock::{Opened, Seat, SharedWorld};
 use world_queries::Hit;
+use world_workers::{OpenGate, step_with};
 
 pub fn new_world(alloc: Global) -> Result<WorldCore, Refusal> {
     WorldCore::new(alloc, Vec2 { x: 0, y: 0 })
@@ -16,6 +18,20 @@ pub fn new_world(alloc: Global) -> Result<WorldCore, Refusal> {
 
 pub fn apply(world: &mut WorldCore, command: &Command) -> Result<Reply, Refusal> {
     world.apply(command)
+}
+
+/// A step by so many workers: with one, the calling thread makes it alone.
+pub fn step<R: AllocGlobal + Threads + Wait + Sync>(
+    rt: &R,
+    world: &mut WorldCore,
+    workers: u64,
+    ticks: i64,
+) -> Result<Reply, Refusal> {
+    if workers == 1 {
+        world.step_one(ticks)
+    } else {
+        step_with(world, rt, &OpenGate, workers, ticks)
+    }
 }
 
 pub fn body_of(world: &WorldCore, handle: Handle) -> Option<BodyView> {
@@ -61,12 +77,16 @@ pub fn load(alloc: Global, text: &str) -> Result<WorldCore, Refusal> {
     WorldCore::load(alloc, &value).map_err(|broken| broken.refusal())
 }
 
-/// Makes a call through a seat, and says whether it was accepted.
-pub fn call<N: Opened, R: Wait>(
+/// Makes a call through a seat, a step with this solver, and says whether it was accepted.
+pub fn call<N: Opened, R: Wait, S: StepSolver>(
     rt: &R,
     shared: &SharedWorld<N>,
     seat: &mut Seat<N>,
+    solver: &mut S,
     command: Command,
 ) -> bool {
-    shared.call(rt, seat, command).is_ok()
+    match command {
+        Command::Step(ticks) => shared.step(rt, seat, solver, ticks).is_ok(),
+        other => shared.call(rt, seat, other).is_ok(),
+    }
 }

@@ -13,8 +13,9 @@ use std::marker::Brand;
 use std::sync::Wait;
 use std::thread::{Scope, Threads};
 use std::{mem, thread};
-use world_core::{Command, Reply, WorldCore};
+use world_core::{Command, OneThread, Reply, StepSolver, WorldCore};
 use world_lock::{Closed, JournalEntry, Opened, Seat, SharedWorld, may_be_shared};
+use world_workers::{OpenGate, StepCrew};
 
 /// What a crowd left: how many calls were accepted, and what each seat did, in the order of the seats' numbers.
 #[derive(Drop)]
@@ -53,40 +54,96 @@ fn count_all(seats: &mut [SeatReport], journal: &[JournalEntry]) {
 }
 
 /// Makes a call; one that is refused is passed over.
-fn make_call<N: Opened, R: Wait>(
+fn make_call<N: Opened, R: Wait, S: StepSolver>(
     rt: &R,
     shared: &SharedWorld<N>,
     seat: &mut Seat<N>,
+    solver: &mut S,
     command: &Command,
 ) {
     if let Ok(copied) = copy_of(command) {
-        let _accepted = call(rt, shared, seat, copied);
+        let _accepted = call(rt, shared, seat, solver, copied);
     }
 }
 
 /// Makes each call in its order.
-fn make_each<N: Opened, R: Wait>(
+fn make_each<N: Opened, R: Wait, S: StepSolver>(
     rt: &R,
     shared: &SharedWorld<N>,
     seat: &mut Seat<N>,
+    solver: &mut S,
     each: &[Command],
 ) {
     for command in each {
-        make_call(rt, shared, seat, command);
+        make_call(rt, shared, seat, solver, command);
     }
+}
+
+/// What a crowd does, and how many workers solve each of its steps.
+#[derive(Clone, Copy)]
+pub struct CrowdPlan<'d> {
+    pub alloc: Global,
+    pub def: &'d CrowdDef,
+    pub workers: u64,
 }
 
 /// A world that seats of this type call.
 trait Called<T> {
-    /// What one thread does.
-    fn make_calls<R: Wait>(&self, rt: &R, seat: &mut T, def: &CrowdDef);
+    /// What one thread does, its steps made with this solver.
+    fn make_calls<R: Wait, S: StepSolver>(
+        &self,
+        rt: &R,
+        seat: &mut T,
+        solver: &mut S,
+        def: &CrowdDef,
+    );
 }
 
 impl<N: Opened> Called<Seat<N>> for SharedWorld<N> {
-    fn make_calls<R: Wait>(&self, rt: &R, seat: &mut Seat<N>, def: &CrowdDef) {
+    fn make_calls<R: Wait, S: StepSolver>(
+        &self,
+        rt: &R,
+        seat: &mut Seat<N>,
+        solver: &mut S,
+        def: &CrowdDef,
+    ) {
         for _ in 0..def.times {
-            make_each(rt, self, seat, def.each.as_slice());
+            make_each(rt, self, seat, solver, def.each.as_slice());
         }
+    }
+}
+
+/// What one thread does whose steps its own workers solve. They are started in the scope, and ended when all calls are made. Where one can't be
+/// started, the thread solves its steps alone.
+fn call_by_workers<'s, E, T, S: Called<T>, R: Threads + Wait + Sync>(
+    scope: &Scope<'s, E>,
+    rt: &'s R,
+    shared: &S,
+    seat: &mut T,
+    crowd: CrowdPlan,
+) {
+    match StepCrew::start(scope, rt, crowd.alloc, &OpenGate, crowd.workers as usize) {
+        Ok(mut crew) => {
+            shared.make_calls(rt, seat, &mut crew, crowd.def);
+            crew.end();
+        }
+        Err(_) => shared.make_calls(rt, seat, &mut OneThread, crowd.def),
+    }
+}
+
+/// What one thread does.
+fn call_through<T, S: Called<T>, R: Threads + Wait + Sync>(
+    rt: &R,
+    shared: &S,
+    seat: &mut T,
+    crowd: CrowdPlan,
+) {
+    if crowd.workers == 1 {
+        shared.make_calls(rt, seat, &mut OneThread, crowd.def);
+    } else {
+        thread::scope(thread::scope_env(), rt, |scope| {
+            call_by_workers(scope, rt, shared, seat, crowd)
+        })
     }
 }
 
@@ -97,11 +154,11 @@ fn start_all<'s, E, T: Send + 's, S: Called<T> + Sync + 's, R: Threads + Wait + 
     rt: &'s R,
     shared: &'s S,
     seats: &'s mut [T],
-    def: &'s CrowdDef,
+    crowd: CrowdPlan<'s>,
 ) -> Result<(), Refusal> {
     for seat in seats.iter_mut() {
         if scope
-            .spawn(move || shared.make_calls(rt, seat, def))
+            .spawn(move || call_through(rt, shared, seat, crowd))
             .is_err()
         {
             return Err(Refusal::NoThread);
@@ -116,10 +173,10 @@ fn start_seats<'s, E, N: Opened + Send + Sync + 's, R: Threads + Wait + Sync>(
     rt: &'s R,
     shared: &'s SharedWorld<N>,
     seats: &'s mut [Seat<N>],
-    def: &'s CrowdDef,
+    crowd: CrowdPlan<'s>,
 ) -> Result<(), Refusal> {
     may_be_shared::<N>();
-    start_all(scope, rt, shared, seats, def)
+    start_all(scope, rt, shared, seats, crowd)
 }
 
 /// All seats call at once, each on a thread of its own. Refused 11 where one can't be started.
@@ -127,10 +184,10 @@ fn call_at_once<N: Opened + Send + Sync, R: Threads + Wait + Sync>(
     rt: &R,
     shared: &SharedWorld<N>,
     seats: &mut [Seat<N>],
-    def: &CrowdDef,
+    crowd: CrowdPlan,
 ) -> Result<(), Refusal> {
     thread::scope(thread::scope_env(), rt, |scope| {
-        start_seats(scope, rt, shared, seats, def)
+        start_seats(scope, rt, shared, seats, crowd)
     })
 }
 
@@ -188,47 +245,44 @@ impl Left {
 /// Lets the seats call, and closes the world.
 fn gather<N: Opened + Send + Sync, R: Threads + Wait + Sync>(
     rt: &R,
-    alloc: Global,
     shared: SharedWorld<N>,
     mut seats: Vec<Seat<N>>,
-    def: &CrowdDef,
+    crowd: CrowdPlan,
 ) -> Left {
-    let answer = call_at_once(rt, &shared, seats.as_mut_slice(), def);
+    let answer = call_at_once(rt, &shared, seats.as_mut_slice(), crowd);
     match shared.close(seats) {
         Ok(closed) => Left::of(closed, answer),
         // It can't be: the seats were lent to the threads, and are all back.
-        Err((_, _, refusal)) => Left::uncalled(alloc, None, refusal),
+        Err((_, _, refusal)) => Left::uncalled(crowd.alloc, None, refusal),
     }
 }
 
 /// Opens the world to a crowd. Where it can't be opened it comes back as it was.
 fn share<N: Opened + Send + Sync, R: Threads + Wait + Sync>(
     rt: &R,
-    alloc: Global,
     world: WorldCore,
     roster: Roster<Command, Reply>,
-    def: &CrowdDef,
+    crowd: CrowdPlan,
 ) -> Left
     requires { (roster.table ≡ N.table) × (roster.seats ≡ N.seats) × (world ≡ N.opening) }
 {
-    match SharedWorld::<N>::open(alloc, world, roster) {
-        Ok((shared, seats)) => gather(rt, alloc, shared, seats, def),
-        Err((world, refusal)) => Left::uncalled(alloc, Some(world), refusal),
+    match SharedWorld::<N>::open(crowd.alloc, world, roster) {
+        Ok((shared, seats)) => gather(rt, shared, seats, crowd),
+        Err((world, refusal)) => Left::uncalled(crowd.alloc, Some(world), refusal),
     }
 }
 
 /// Lets as many seats call as there are reports, and answers how many calls were accepted.
 fn share_out<R: Threads + Wait + Sync>(
     rt: &R,
-    alloc: Global,
     place: &mut WorldCore,
-    def: &CrowdDef,
+    crowd: CrowdPlan,
     seats: &mut Vec<SeatReport>,
 ) -> Result<u64, Refusal> {
-    let roster = Roster::new(alloc, seats.len() as u64)?;
-    let spare = new_world(alloc)?;
+    let roster = Roster::new(crowd.alloc, seats.len() as u64)?;
+    let spare = new_world(crowd.alloc)?;
     let world = mem::replace(place, spare);
-    let left = share::<Brand, R>(rt, alloc, world, roster, def);
+    let left = share::<Brand, R>(rt, world, roster, crowd);
     left.settle(place, seats.as_mut_slice())
 }
 
@@ -236,12 +290,11 @@ fn share_out<R: Threads + Wait + Sync>(
 /// started: the calls of the threads that ran stand then.
 pub fn crowd<R: Threads + Wait + Sync>(
     rt: &R,
-    alloc: Global,
     world: &mut WorldCore,
-    def: &CrowdDef,
+    crowd: CrowdPlan,
     threads: u64,
 ) -> Result<Report, Refusal> {
-    let mut seats = no_calls(alloc, threads)?;
-    let journal = share_out(rt, alloc, world, def, &mut seats)?;
+    let mut seats = no_calls(crowd.alloc, threads)?;
+    let journal = share_out(rt, world, crowd, &mut seats)?;
     Ok(Report { journal, seats })
 }

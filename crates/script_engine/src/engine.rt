@@ -1,7 +1,9 @@
 //! Lines in, answers out.
 
-use crate::calls::{apply, body_of, events_of, ledger_of, load, new_world, ray, region, save};
-use crate::crowds::crowd;
+use crate::calls::{
+    apply, body_of, events_of, ledger_of, load, new_world, ray, region, save, step,
+};
+use crate::crowds::{CrowdPlan, crowd};
 use crate::explanation::explain;
 use crate::requests::{CrowdDef, Request, request_of};
 use crate::status::Status;
@@ -34,8 +36,26 @@ fn is_blank(line: &[u8]) -> bool {
         .all(|byte| matches!(byte, b' ' | b'\t' | b'\r' | b'\n'))
 }
 
-fn answer_command<'a>(world: &'a mut WorldCore, command: &Command) -> Answer<'a> {
-    match apply(world, command) {
+/// Makes a call; a step is made by so many workers.
+fn make<R: AllocGlobal + Threads + Wait + Sync>(
+    rt: &R,
+    world: &mut WorldCore,
+    command: &Command,
+    workers: u64,
+) -> Result<Reply, Refusal> {
+    match command {
+        Command::Step(ticks) => step(rt, world, workers, *ticks),
+        _ => apply(world, command),
+    }
+}
+
+fn answer_command<'a, R: AllocGlobal + Threads + Wait + Sync>(
+    rt: &R,
+    world: &'a mut WorldCore,
+    command: &Command,
+    workers: u64,
+) -> Answer<'a> {
+    match make(rt, world, command, workers) {
         Ok(Reply::Body(handle)) => Answer::Body(handle),
         Ok(Reply::Joint(handle)) => Answer::Joint(handle),
         Ok(Reply::Done) => Answer::Done,
@@ -86,14 +106,19 @@ fn answer_load<'a>(alloc: Global, world: &mut WorldCore, text: &str) -> Answer<'
     }
 }
 
-/// What a crowd of so many threads did. Refused 1 or 11.
+/// What a crowd did, of so many threads as the options say. Refused 1 or 11.
 fn answer_crowd<'a, R: AllocGlobal + Threads + Wait + Sync>(
     rt: &R,
     world: &mut WorldCore,
     def: &CrowdDef,
-    threads: u64,
+    options: Options,
 ) -> Answer<'a> {
-    match crowd(rt, rt.alloc(), world, def, threads) {
+    let asked = CrowdPlan {
+        alloc: rt.alloc(),
+        def,
+        workers: options.workers,
+    };
+    match crowd(rt, world, asked, options.threads) {
         Ok(report) => Answer::Crowd(report.journal, report.seats),
         Err(refusal) => Answer::Refused(refusal),
     }
@@ -104,17 +129,17 @@ fn answer<'a, R: AllocGlobal + Threads + Wait + Sync>(
     rt: &R,
     world: &'a mut WorldCore,
     request: &Request<'_>,
-    threads: u64,
+    options: Options,
 ) -> Answer<'a> {
     match request {
-        Request::Command(command) => answer_command(world, command),
+        Request::Command(command) => answer_command(rt, world, command, options.workers),
         Request::Show(handle) => show(world, *handle),
         Request::Ledger => Answer::Ledger(ledger_of(world)),
         Request::Ray(from, along) => answer_ray(world, *from, *along),
         Request::Region(bounds) => answer_region(rt.alloc(), world, bounds),
         Request::Save => answer_save(world),
         Request::Load(text) => answer_load(rt.alloc(), world, text),
-        Request::Crowd(def) => answer_crowd(rt, world, def, threads),
+        Request::Crowd(def) => answer_crowd(rt, world, def, options),
     }
 }
 
@@ -134,7 +159,7 @@ fn answer_request<R: AllocGlobal + Eprint + Threads + Wait + Sync, O: Write>(
     (number, options): (u64, Options),
     outbox: &mut Outbox<'_, O>,
 ) -> Result<(), Stop> {
-    let answer = answer(rt, world, request, options.threads);
+    let answer = answer(rt, world, request, options);
     if options.explain {
         tell(rt, number, request, &answer);
     }

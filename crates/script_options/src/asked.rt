@@ -7,6 +7,8 @@ pub struct Options {
     pub explain: bool,
     /// How many threads make the calls of a crowd, 1 to 64.
     pub threads: u64,
+    /// How many threads solve a step, 1 to 64.
+    pub workers: u64,
 }
 
 /// Why the program's words give no options.

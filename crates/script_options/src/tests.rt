@@ -5,9 +5,13 @@ use std::test::Fail;
 /// What words ask for: a run with its options, or a text in its place.
 fn asked(alloc: Global, words: &[&str]) -> Result<String, Fail> {
     let asked = match options(alloc, words) {
-        Ok(Options { explain, threads }) => {
-            format!(in alloc; "explain {explain}, threads {threads}")?
-        }
+        Ok(
+            Options {
+                explain,
+                threads,
+                workers,
+            },
+        ) => { format!(in alloc; "explain {explain}, threads {threads}, workers {workers}")? }
         Err(Instead::Text(text)) => format!(in alloc; "text: {text}")?,
         Err(Instead::BadWords(text)) => format!(in alloc; "bad words: {text}")?,
         Err(Instead::NoMemory) => String::from_str(alloc, "no memory")?,
@@ -26,39 +30,67 @@ Usage: world_script [OPTIONS]
 Options:
       --explain      Say in words on standard error why a request is refused
       --threads <N>  How many threads make the calls of a crowd, 1 to 64 [default: 1]
+      --workers <N>  How many threads solve a step, 1 to 64 [default: 1]
   -h, --help         Print help
   -V, --version      Print version
 
 Requests, each an object";
 
-const UNKNOWN: &str = "bad words: error: unexpected argument '--workers' found
+const UNKNOWN: &str = "bad words: error: unexpected argument '--gate' found
 
 Usage: world_script [OPTIONS]
 
 For more information, try '--help'.
 ";
 
-const ROWS: [Row; 14] = [
-    (&["world_script"], "explain false, threads 1"),
-    (&["world_script", "--explain"], "explain true, threads 1"),
+const MISSPELT: &str =
+    "bad words: error: invalid value '+1' for '--threads <N>': it has a sign or a leading zero
+
+For more information, try '--help'.
+";
+
+const ROWS: [Row; 23] = [
+    (&["world_script"], "explain false, threads 1, workers 1"),
+    (
+        &["world_script", "--explain"],
+        "explain true, threads 1, workers 1",
+    ),
     (
         &["world_script", "--threads", "64"],
-        "explain false, threads 64",
+        "explain false, threads 64, workers 1",
     ),
-    (&["world_script", "--threads=2"], "explain false, threads 2"),
+    (
+        &["world_script", "--threads=2"],
+        "explain false, threads 2, workers 1",
+    ),
+    (
+        &["world_script", "--workers", "64"],
+        "explain false, threads 1, workers 64",
+    ),
+    (
+        &["world_script", "--workers=2", "--threads=3"],
+        "explain false, threads 3, workers 2",
+    ),
+    (&["world_script", "--workers", "0"], "bad words: "),
+    (&["world_script", "--workers", "65"], "bad words: "),
+    (&["world_script", "--workers"], "bad words: "),
     (&["world_script", "--threads", "0"], "bad words: "),
     (&["world_script", "--threads", "65"], "bad words: "),
     (&["world_script", "--threads", "-1"], "bad words: "),
     (&["world_script", "--threads", "two"], "bad words: "),
     (&["world_script", "--threads", ""], "bad words: "),
     (&["world_script", "--threads"], "bad words: "),
+    (&["world_script", "--threads", "+1"], MISSPELT),
+    (&["world_script", "--threads=01"], "bad words: "),
+    (&["world_script", "--workers", "+64"], "bad words: "),
+    (&["world_script", "--workers=002"], "bad words: "),
     (
         &["world_script", "--threads=2", "--threads=2"],
         "bad words: ",
     ),
     (&["world_script", "--help"], HELP),
     (&["world_script", "--version"], "text: world_script 0.1.0\n"),
-    (&["world_script", "--workers"], UNKNOWN),
+    (&["world_script", "--gate"], UNKNOWN),
 ];
 
 #[test]

@@ -13,7 +13,7 @@ const ABOUT: &str =
 
 const VERSION: &str = "0.1.0";
 
-/// How many threads make the calls of a crowd at most.
+/// How many threads make the calls of a crowd at most, and how many solve a step.
 const MOST_THREADS: u64 = 64;
 
 /// What follows the options in the help.
@@ -46,24 +46,52 @@ program ends then with status 1, and says on standard error what is wrong. docs/
 /// Reads the program's words, of which the first is its name.
 pub fn options<S: AsStr>(alloc: Global, words: &[S]) -> Result<Options, Instead>
     ensures threads { IfOk result (λ options. (1 ≤ options.threads) × (options.threads ≤ 64)) }
+    ensures workers { IfOk result (λ options. (1 ≤ options.workers) × (options.workers ≤ 64)) }
 {
     match matches_of(alloc, words) {
-        Ok(matches) => Ok(Options {
-            explain: matches.get_flag("explain"),
-            threads: threads_of(&matches),
-        }),
+        Ok(matches) => options_of(alloc, &matches),
         Err(error) => Err(instead_of(alloc, &error)),
     }
 }
 
-/// The number of threads that the words ask for, and 1 where they name none. The parser lets no number beyond the limits through.
-fn threads_of(matches: &ArgMatches<'_>) -> u64
-    ensures { (1 ≤ result) × (result ≤ 64) }
+fn options_of(alloc: Global, matches: &ArgMatches<'_>) -> Result<Options, Instead>
+    ensures threads { IfOk result (λ options. (1 ≤ options.threads) × (options.threads ≤ 64)) }
+    ensures workers { IfOk result (λ options. (1 ≤ options.workers) × (options.workers ≤ 64)) }
 {
-    matches
-        .get_one::<u64>("threads")
-        .unwrap_or(1)
-        .clamp(1, MOST_THREADS)
+    let threads = number_of(alloc, matches, "threads")?;
+    let workers = number_of(alloc, matches, "workers")?;
+    Ok(Options {
+        explain: matches.get_flag("explain"),
+        threads,
+        workers,
+    })
+}
+
+/// The number of threads that the words ask for under this name, and 1 where they name none. The parser lets no number beyond the limits through,
+/// but takes signs and leading zeros, which are bad here as in a line.
+fn number_of(alloc: Global, matches: &ArgMatches<'_>, name: &str) -> Result<u64, Instead>
+    ensures { IfOk result (λ number. (1 ≤ number) × (number ≤ 64)) }
+{
+    let text = matches.get_str(name).unwrap_or("1");
+    if text.starts_with('+') || text.starts_with('0') {
+        return Err(misspelt(alloc, name, text));
+    }
+    let number = matches.get_one::<u64>(name).unwrap_or(1);
+    Ok(number.clamp(1, MOST_THREADS))
+}
+
+/// The fault of a number with a sign or a leading zero, as the parser words its own.
+fn misspelt(alloc: Global, name: &str, text: &str) -> Instead {
+    let fault = format!(in alloc;
+        "error: invalid value '{text}' for '--{name} <N>': it has a sign or a leading zero
+
+For more information, try '--help'.
+"
+    );
+    match fault {
+        Ok(fault) => Instead::BadWords(fault),
+        Err(_) => Instead::NoMemory,
+    }
 }
 
 /// What the words ask for.
@@ -78,12 +106,19 @@ fn matches_of<'a, S: AsStr>(alloc: Global, words: &'a [S]) -> Result<ArgMatches<
         .action(ArgAction::Set)
         .value_parser(clap::value_parser!(u64).range(1..=64))
         .help("How many threads make the calls of a crowd, 1 to 64 [default: 1]");
+    let workers = Arg::new(alloc, "workers")
+        .long("workers")
+        .value_name("N")
+        .action(ArgAction::Set)
+        .value_parser(clap::value_parser!(u64).range(1..=64))
+        .help("How many threads solve a step, 1 to 64 [default: 1]");
     let command = Command::new(alloc, "world_script")
         .about(ABOUT)
         .version(VERSION)
         .after_help(REQUESTS)
         .arg(explain)?
-        .arg(threads)?;
+        .arg(threads)?
+        .arg(workers)?;
     command.try_get_matches_from(words)
 }
 

@@ -68,6 +68,7 @@ const DONE: &[u8] = b"{\"done\":true}\n";
 const PLAIN: Options = Options {
     explain: false,
     threads: 1,
+    workers: 1,
 };
 
 /// Takes what is written, and counts what wasn't flushed.
