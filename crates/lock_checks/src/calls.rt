@@ -2,12 +2,12 @@
 //! no proof of this program has to read what a world promises or keeps, but for those of the methods.
 
 use crate::claims::Account;
-use crate::text::text_of_frame;
 use impulse_ledger::{Ledger, Total};
 use std::alloc::Global;
 use std::sync::Wait;
 use world_core::{Command, Events, Frame, Plain, Refusal, Reply, Vec2, WorldCore};
 use world_lock::{Closed, JournalEntry, Opened, Receipt, Seat, SharedWorld, Tally};
+use world_text::{text_of, text_of_frame};
 
 /// What a seat is answered.
 pub type Answer = Result<(Reply, Receipt), Refusal>;
@@ -61,6 +61,9 @@ pub trait World: Drop {
     fn events(&self) -> &Events;
 
     fn ledger(&self) -> &Ledger;
+
+    /// All of it as text: two worlds are the same just where their texts are.
+    fn text(&self, alloc: Global) -> Result<String, Refusal>;
 }
 
 /// The calls of a world that seats of this type share.
@@ -121,6 +124,10 @@ impl World for WorldCore {
 
     fn ledger(&self) -> &Ledger {
         WorldCore::ledger(self)
+    }
+
+    fn text(&self, alloc: Global) -> Result<String, Refusal> {
+        text_of(alloc, self)
     }
 }
 

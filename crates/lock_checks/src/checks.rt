@@ -5,7 +5,6 @@ use crate::claims::{are_entries, are_honest};
 use crate::replay::{Both, share_made_and_replay};
 use crate::scene::{circle_world, heap_world};
 use crate::stop::Stop;
-use crate::text::text_of;
 use crate::work::Work;
 use std::alloc::Global;
 use std::sync::Wait;
@@ -59,8 +58,8 @@ fn print_both<W: World, R: Print>(rt: &R, alloc: Global, both: &Both<W>) -> Resu
     let (accounts, journal) = (both.left.accounts.as_slice(), both.left.journal.as_slice());
     let (honest, found) = (are_honest(accounts), are_entries(accounts, journal));
     let answered = both.answered;
-    let text = text_of(alloc, &both.left.world)?;
-    let is_same = text.as_str() == text_of(alloc, &both.replay)?.as_str();
+    let text = both.left.world.text(alloc)?;
+    let is_same = text.as_str() == both.replay.text(alloc)?.as_str();
     println!(rt;
         "seats told the truth: {honest}, receipts have their entries: {found}, the same replies: {answered}, the same world: {is_same}"
     )?;

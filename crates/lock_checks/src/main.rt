@@ -16,7 +16,6 @@ mod replay;
 mod scene;
 mod stop;
 mod stress;
-mod text;
 mod timing;
 mod turns;
 mod work;

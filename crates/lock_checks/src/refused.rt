@@ -3,7 +3,6 @@
 use crate::calls::{Left, Shared, Shut, World};
 use crate::open::open_to;
 use crate::scene::{heap_world, mover};
-use crate::text::{text_of, text_of_events, text_of_frame};
 use crate::work::{Work, close};
 use std::alloc::Global;
 use std::sync::Wait;
@@ -11,6 +10,7 @@ use std::thread::Threads;
 use std::time::Clock;
 use world_core::{Command, Handle, Refusal, Vec2, WorldCore};
 use world_lock::Receipt;
+use world_text::{text_of_events, text_of_frame};
 
 /// A call to which memory may be refused.
 #[derive(Clone, Copy, PartialEq, Eq)]
@@ -209,7 +209,7 @@ fn expected_of<W: World>(alloc: Global, world: &mut W, call: Call) -> Result<Exp
     let answer = answer_of(alloc, world, call)?;
     Ok(Expected {
         answer,
-        world: text_of(alloc, world)?,
+        world: world.text(alloc)?,
     })
 }
 
@@ -222,7 +222,7 @@ struct Trial {
 }
 
 fn trial_of<W: World>(alloc: Global, world: &W, call: Call) -> Result<Trial, Refusal> {
-    let before = text_of(alloc, world)?;
+    let before = world.text(alloc)?;
     match world.copied() {
         Ok(mut copy) => Ok(Trial {
             call,
@@ -246,7 +246,7 @@ impl Trial {
         if left.journal.len() != self.call.journal() {
             return Ok("differs: the journal");
         }
-        if text_of(alloc, &left.world)?.as_str() != self.expected.world.as_str() {
+        if left.world.text(alloc)?.as_str() != self.expected.world.as_str() {
             return Ok("differs: the world");
         }
         Ok(if outcome == "kept" { "kept" } else { "none" })
@@ -270,7 +270,7 @@ impl Trial {
         if self.call != Call::Open {
             return Ok(End::Told("outside"));
         }
-        match text_of(alloc, &world) {
+        match world.text(alloc) {
             Ok(text) => Ok(if text.as_str() == self.before.as_str() {
                 End::Again(world)
             } else {

@@ -5,7 +5,6 @@ use crate::claims::{are_entries, are_honest};
 use crate::replay::{Both, share_and_replay};
 use crate::scene::heap_world;
 use crate::stop::Stop;
-use crate::text::text_of;
 use crate::work::Work;
 use std::alloc::Global;
 use std::sync::Wait;
@@ -32,9 +31,9 @@ fn print_both<W: World, R: Print>(
     println!(rt;
         "round {round}: journal {journal}, honest {honest}, found {found}, answered {answered}"
     )?;
-    let shared = text_of(alloc, &both.left.world)?;
+    let shared = both.left.world.text(alloc)?;
     println!(rt; "shared {shared}")?;
-    let replay = text_of(alloc, &both.replay)?;
+    let replay = both.replay.text(alloc)?;
     println!(rt; "replay {replay}")?;
     Ok(())
 }

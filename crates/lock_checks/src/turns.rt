@@ -2,12 +2,12 @@
 
 use crate::calls::{Left, Shared};
 use crate::scene::FIRST;
-use crate::text::text_of_events;
 use crate::work::close;
 use std::alloc::Global;
 use std::fmt::Write;
 use std::sync::Wait;
 use world_core::{Command, Handle, Refusal, Vec2};
+use world_text::text_of_events;
 
 /// Names no body.
 const STALE: Handle = Handle {

@@ -28,6 +28,9 @@ pub trait World: Drop {
 /// The calls of a world that seats of this type share.
 pub trait Shared<T: Drop>: Drop {
     fn call<R: Wait>(&self, rt: &R, seat: &mut T, command: Command) -> Result<(), Refusal>;
+
+    /// Has a frame made, and drops it.
+    fn look<R: Wait>(&self, rt: &R, seat: &mut T) -> Result<(), Refusal>;
 }
 
 /// The calls of a publisher with marks of this type, where it is fed from such a world through such a seat.
@@ -79,6 +82,11 @@ impl World for WorldCore {
 impl<N: Opened> Shared<Seat<N>> for SharedWorld<N> {
     fn call<R: Wait>(&self, rt: &R, seat: &mut Seat<N>, command: Command) -> Result<(), Refusal> {
         let _ = SharedWorld::call(self, rt, seat, command)?;
+        Ok(())
+    }
+
+    fn look<R: Wait>(&self, rt: &R, seat: &mut Seat<N>) -> Result<(), Refusal> {
+        let _ = SharedWorld::frame(self, rt, seat)?;
         Ok(())
     }
 }

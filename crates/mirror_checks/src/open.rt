@@ -5,14 +5,18 @@ ghost use Rattle.std.specs.Prelude.{◌≡◌};
 use crate::calls::World;
 use crate::crowd::{Letters, race};
 use crate::example::{publish_first, publish_second, read_on};
+use crate::mark::CallMark;
+use crate::refused::{Call, try_call};
 use crate::scene::falling_circle;
 use crate::stop::Stop;
+use crate::timing::{time_frames, time_poses, time_readers};
 use frame_mirror::{Absorb, Change, Mark, Mirror, Mirrored, Publisher, Reader, Showing};
 use seat_book::Roster;
 use std::alloc::Global;
 use std::marker::Brand;
 use std::sync::{Arc, Mutex, Wait};
 use std::thread::Threads;
+use std::time::Clock;
 use world_core::{Command, Frame, Refusal, Reply, WorldCore};
 use world_lock::{Opened, Seat, SharedWorld};
 
@@ -26,6 +30,12 @@ enum Work {
     Example,
     /// Readers on threads of their own.
     Crowd,
+    /// One call, while memory may be refused to it.
+    Try(Call),
+    /// So many poses, and as many thousandths of publications, are timed.
+    Time(u64),
+    /// So many poses of each of these readers are timed, while frames are published.
+    TimeReaders(usize, u64),
 }
 
 impl Work {
@@ -33,6 +43,17 @@ impl Work {
         match self {
             Work::Example => 2,
             Work::Crowd => CROWD,
+            Work::Try(_) => 1,
+            Work::Time(_) => 1,
+            Work::TimeReaders(readers, _) => readers,
+        }
+    }
+
+    /// Whether memory may be refused to the opening of the mirror.
+    fn tries_open(self) -> bool {
+        match self {
+            Work::Try(call) => call == Call::Open,
+            _ => false,
         }
     }
 }
@@ -141,7 +162,7 @@ where
     tell_crowd(rt, boxes)
 }
 
-fn do_work<N: Opened, J: Mirrored + Send + Sync, R: Print + Threads + Wait + Sync>(
+fn do_work<N: Opened, J: Mirrored + Send + Sync, R: Print + Threads + Wait + Clock + Sync>(
     rt: &R,
     alloc: Global,
     work: Work,
@@ -156,11 +177,55 @@ where
     match work {
         Work::Example => show_example(rt, alloc, shared, seat, publisher, readers),
         Work::Crowd => show_crowd(rt, alloc, shared, seat, publisher, readers),
+        Work::Try(Call::Open) => Ok(()),
+        Work::Try(call) => show_trial(rt, alloc, call, shared, seat, publisher, readers),
+        Work::Time(times) => show_times(rt, shared, seat, publisher, readers, times),
+        Work::TimeReaders(_, times) => time_readers(rt, shared, seat, publisher, readers, times),
     }
 }
 
+/// One call, while memory may be refused to it.
+fn show_trial<N: Opened, J: Mirrored, R: Print + Wait>(
+    rt: &R,
+    alloc: Global,
+    call: Call,
+    shared: &SharedWorld<N>,
+    seat: &mut Seat<N>,
+    publisher: &mut Publisher<J>,
+    mut readers: Vec<Reader<J>>,
+) -> Result<(), Stop>
+where
+    Showing<Mark<J>>: Absorb<Change<Mark<J>>, State = ()>,
+{
+    let Some(mut reader) = readers.pop() else {
+        return Err(Stop::Refused(Refusal::OutOfRange));
+    };
+    let told = try_call(rt, alloc, call, shared, seat, publisher, &mut reader)?;
+    println!(rt; "{told}")?;
+    Ok(())
+}
+
+/// How long poses and publications take.
+fn show_times<N: Opened, J: Mirrored, R: Print + Wait + Clock>(
+    rt: &R,
+    shared: &SharedWorld<N>,
+    seat: &mut Seat<N>,
+    publisher: &mut Publisher<J>,
+    mut readers: Vec<Reader<J>>,
+    times: u64,
+) -> Result<(), Stop>
+where
+    Showing<Mark<J>>: Absorb<Change<Mark<J>>, State = ()>,
+{
+    let Some(mut reader) = readers.pop() else {
+        return Err(Stop::Refused(Refusal::OutOfRange));
+    };
+    time_poses(rt, &mut reader, times)?;
+    time_frames(rt, shared, seat, publisher, times / 1_000)
+}
+
 /// Opens the mirror, lets the work be done, and ends the publisher.
-fn mirror_to<N: Opened + Mirrored + Send + Sync, R: Print + Threads + Wait + Sync>(
+fn mirror_to<N: Opened + Mirrored + Send + Sync, R: Print + Threads + Wait + Clock + Sync>(
     rt: &R,
     alloc: Global,
     work: Work,
@@ -171,14 +236,23 @@ fn mirror_to<N: Opened + Mirrored + Send + Sync, R: Print + Threads + Wait + Syn
 ) -> Result<(), Stop>
     requires { mirror ≡ N.book }
 {
-    let (mut publisher, readers) = mirror.open::<N>(alloc, frame, work.readers())?;
+    let mark = if work.tries_open() {
+        Some(CallMark::begin(alloc))
+    } else {
+        None
+    };
+    let opened = mirror.open::<N>(alloc, frame, work.readers());
+    if let Some(mark) = &mark {
+        let _was_there = mark.end();
+    }
+    let (mut publisher, readers) = opened?;
     let done = do_work(rt, alloc, work, shared, seat, &mut publisher, readers);
     publisher.close(rt);
     done
 }
 
 /// Opens the world and the mirror, which have one name.
-fn share<N: Opened + Mirrored + Send + Sync, R: Print + Threads + Wait + Sync>(
+fn share<N: Opened + Mirrored + Send + Sync, R: Print + Threads + Wait + Clock + Sync>(
     rt: &R,
     alloc: Global,
     work: Work,
@@ -194,7 +268,7 @@ fn share<N: Opened + Mirrored + Send + Sync, R: Print + Threads + Wait + Sync>(
     mirror_to(rt, alloc, work, frame, mirror, &shared, &mut seat)
 }
 
-fn share_circle<R: Print + Threads + Wait + Sync>(
+fn share_circle<R: Print + Threads + Wait + Clock + Sync>(
     rt: &R,
     alloc: Global,
     work: Work,
@@ -204,8 +278,45 @@ fn share_circle<R: Print + Threads + Wait + Sync>(
     share::<Brand, R>(rt, alloc, work, world, roster, Mirror::new())
 }
 
+/// Opens a mirror while memory may be refused to that, and once more where it was.
+fn try_open<R: Print + Threads + Wait + Clock + Sync>(rt: &R, alloc: Global) -> &'static str {
+    let work = Work::Try(Call::Open);
+    match share_circle(rt, alloc, work) {
+        Ok(()) => "none",
+        Err(Stop::Refused(Refusal::NoMemory)) => match share_circle(rt, alloc, work) {
+            Ok(()) => "kept",
+            Err(_) => "differs: it is refused again",
+        },
+        Err(_) => "differs: the refusal",
+    }
+}
+
+/// Makes one call while memory may be refused to it.
+pub fn try_one<R: Print + Threads + Wait + Clock + Sync>(
+    rt: &R,
+    alloc: Global,
+    call: Call,
+) -> Result<(), Stop> {
+    if call == Call::Open {
+        println!(rt; "{}", try_open(rt, alloc))?;
+        return Ok(());
+    }
+    share_circle(rt, alloc, Work::Try(call))
+}
+
+/// Times so many poses, and those of one reader and of four on threads of their own while frames are published.
+pub fn time<R: Print + Threads + Wait + Clock + Sync>(
+    rt: &R,
+    alloc: Global,
+    poses: u64,
+) -> Result<(), Stop> {
+    share_circle(rt, alloc, Work::Time(poses))?;
+    share_circle(rt, alloc, Work::TimeReaders(1, poses))?;
+    share_circle(rt, alloc, Work::TimeReaders(4, poses))
+}
+
 /// Makes all checks.
-pub fn check<R: Print + Threads + Wait + Sync>(rt: &R, alloc: Global) -> Result<(), Stop> {
+pub fn check<R: Print + Threads + Wait + Clock + Sync>(rt: &R, alloc: Global) -> Result<(), Stop> {
     share_circle(rt, alloc, Work::Example)?;
     share_circle(rt, alloc, Work::Crowd)
 }

@@ -2,6 +2,7 @@ use std::io;
 use world_core::Refusal;
 
 /// Why the program ends early.
+#[derive(Clone, Copy)]
 pub enum Stop {
     Refused(Refusal),
     /// A line couldn't be written.

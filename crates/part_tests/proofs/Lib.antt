@@ -1,1 +1,2 @@
 pub mod SceneLaws
+pub mod RowLaws

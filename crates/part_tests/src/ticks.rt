@@ -64,7 +64,8 @@ fn one_body(alloc: Global, state: BodyState) -> Result<Vec<BodyState>, Refusal>
 }
 
 fn no_rows(alloc: Global) -> Rows
-    ensures { all_rows result ≡ [] }
+    ensures rows { all_rows result ≡ [] }
+    ensures colours { result.colours ≡ [] }
 {
     Rows::new(alloc)
 }
@@ -144,19 +145,21 @@ fn two_bodies(alloc: Global) -> Result<Vec<BodyState>, Refusal>
     Ok(states)
 }
 
-fn one_row(alloc: Global) -> Result<Rows, Refusal>
-    ensures { IfOk result (λ rows. AreRowsBelow 2 (all_rows rows)) }
+fn one_row(alloc: Global, row: ContactRow) -> Result<Rows, Refusal>
+    requires { IsRowBelow 2 (Contact row) }
+    ensures rows { IfOk result (λ rows. AreRowsBelow 2 (all_rows rows)) }
+    ensures colours { IfOk result (λ rows. rows.colours ≡ (Contact row ∷ []) ∷ []) }
 {
     let mut rows = Rows::new(alloc);
     rows.reserve(1, 1)?;
-    rows.push_contact(landing());
+    rows.push_contact(row);
     rows.end_colour();
     Ok(rows)
 }
 
 fn bounced(alloc: Global) -> Result<After, Refusal> {
     let mut states = two_bodies(alloc)?;
-    let mut rows = one_row(alloc)?;
+    let mut rows = one_row(alloc, landing())?;
     let sums = run_step(&mut states, &mut rows, &[1], &[], ORIGIN, 1);
     Ok(After { sums, states, rows })
 }

@@ -4,10 +4,11 @@
 use fixed_geom::Box2;
 use impulse_ledger::Ledger;
 use serde_json::Value;
+use shapes::Shape;
 use std::alloc::Global;
 use world_core::{
-    BodyView, Census, Command, Constraint, Events, Frame, Handle, Item, Plain, Refusal, Reply,
-    ShapeId, Vec2, WorldCore,
+    BodyView, Census, Command, Constraint, Events, Frame, Handle, Item, Plain, Pose, Refusal,
+    Reply, ShapeId, Vec2, WorldCore,
 };
 use world_queries::Hit;
 
@@ -42,6 +43,11 @@ pub trait World: Drop {
     fn body(&self, handle: Handle) -> Option<BodyView>;
 
     fn colour(&self, constraint: Constraint) -> Option<u8>;
+
+    fn slots(&self) -> u32;
+
+    /// A shape of an enabled body, and where it is.
+    fn shape(&self, id: ShapeId) -> Option<(Shape, Pose)>;
 
     fn events(&self) -> &Events;
 
@@ -108,6 +114,17 @@ impl World for WorldCore {
 
     fn colour(&self, constraint: Constraint) -> Option<u8> {
         self.colour_of(constraint)
+    }
+
+    fn slots(&self) -> u32 {
+        WorldCore::slots(self)
+    }
+
+    fn shape(&self, id: ShapeId) -> Option<(Shape, Pose)> {
+        match self.shape_of(id) {
+            Some((shape, pose)) => Some((*shape, pose)),
+            None => None,
+        }
     }
 
     fn events(&self) -> &Events {

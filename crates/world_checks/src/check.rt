@@ -2,6 +2,7 @@
 
 use crate::calls::{Answer, World, first_static};
 use crate::making::{NO_GRAVITY, ORIGIN, body_of, create_of};
+use crate::queries::{hit_in, over_in};
 use crate::readme::fall;
 use crate::seen::{Line, Seen};
 use contacts_base::ContactEntry;
@@ -10,7 +11,7 @@ use islands::Label;
 use std::alloc::Global;
 use world_core::{
     Body, Cause, Command, Constraint, Course, Handle, Item, JointDef, Kind, MassData, Plain, Pose,
-    Refusal, ShapeDef, Vec2,
+    Refusal, ShapeDef, ShapeId, Vec2,
 };
 
 /// What a check asks of the plain lists.
@@ -238,12 +239,40 @@ impl<W: World> Check<W> {
     pub fn see_hit(&mut self, along: Vec2) {
         let hit = self.world.hit(ORIGIN, along);
         self.see(Seen::Hit(hit));
+        match self.world.frame() {
+            Ok(frame) => self.see_same(hit_in(&frame, ORIGIN, along) == hit),
+            Err(_) => self.is_cut = true,
+        }
+    }
+
+    /// Tells whether a frame shows the same.
+    fn see_same(&mut self, is_same: bool) {
+        self.see(Seen::Truth("the same in a frame", is_same));
     }
 
     /// Tells how many shapes lie over the box from the origin to this corner.
     pub fn see_over(&mut self, hi: Vec2) {
-        match self.world.region(self.alloc, &Box2 { lo: ORIGIN, hi }) {
-            Ok(shapes) => self.see(Seen::Count("shapes over the box", shapes.len() as u64)),
+        let bounds = Box2 { lo: ORIGIN, hi };
+        match self.world.region(self.alloc, &bounds) {
+            Ok(shapes) => {
+                self.see(Seen::Count("shapes over the box", shapes.len() as u64));
+                self.see_over_in_frame(&bounds, shapes.as_slice());
+            }
+            Err(_) => self.is_cut = true,
+        }
+    }
+
+    /// Tells whether just these shapes of a frame lie over the box.
+    fn see_over_in_frame(&mut self, bounds: &Box2, shapes: &[ShapeId]) {
+        match self.world.frame() {
+            Ok(frame) => self.compare_shapes(over_in(self.alloc, &frame, bounds), shapes),
+            Err(_) => self.is_cut = true,
+        }
+    }
+
+    fn compare_shapes(&mut self, found: Result<Vec<ShapeId>, Refusal>, shapes: &[ShapeId]) {
+        match found {
+            Ok(found) => self.see_same(found.as_slice() == shapes),
             Err(_) => self.is_cut = true,
         }
     }

@@ -3,9 +3,9 @@
 //!
 //! They are lines and no tests, since a test that calls a world costs the proof minutes, and a line none.
 //!
-//! `world_checks CALL` makes one call of a world while memory may be refused to it, and says in a line what came of it:
-//! `kept` where a refused call left everything as it was and then succeeded, `none` where the call met
-//! no refusal, `outside` where something beside the call met it, and else what differs. Without a word each of these calls is made too, after the checks.
+//! `world_checks WORLD CALL` makes one call while memory may be refused to it, in the world that the commands of a text make, and says in a line what
+//! came of it: `kept` where a refused call left everything as it was and then succeeded, `none` where the call met
+//! no refusal, `outside` where something beside the call met it, and else what differs.
 #![tactic(auto)]
 
 mod calls;
@@ -30,13 +30,13 @@ use check::Check;
 use std::process::ExitCode;
 use std::rt::Env;
 use std::{env, io};
-use trials::{Call, Outcome, Stop, try_call};
+use trials::{Outcome, Stop, try_call};
 use world_core::WorldCore;
 
 /// A line can't be written.
 const FAILED: u8 = 1;
 
-/// A word names no call.
+/// There is a text of a world, and no call.
 const BAD_WORDS: u8 = 2;
 
 /// Memory is wanting for something that has to be seen.
@@ -57,33 +57,9 @@ fn run_all<W: World>(check: &mut Check<W>) {
     trials::run(check);
 }
 
-fn print<R: AllocGlobal + Print, W: World>(rt: &R, check: &Check<W>) -> io::Result<()> {
-    for line in check.lines() {
-        println!(rt; "{line}")?;
-    }
-    Ok(())
-}
-
-/// What the program's words ask for.
-enum Asked {
-    /// All checks.
-    All,
-    /// A call to which memory may be refused.
-    One(Call),
-    /// A word that names no call.
-    Unknown,
-}
-
 /// Reads the program's words, of which the first is its name.
-fn read_words<R: AllocGlobal + Env>(rt: &R) -> io::Result<Asked> {
-    let words: Vec<String> = env::args(rt)?.collect(rt.alloc())?;
-    match words.get(1) {
-        Some(word) => match Call::of_word(word.as_str()) {
-            Some(call) => Ok(Asked::One(call)),
-            None => Ok(Asked::Unknown),
-        },
-        None => Ok(Asked::All),
-    }
+fn read_words<R: AllocGlobal + Env>(rt: &R) -> io::Result<Vec<String>> {
+    Ok(env::args(rt)?.collect(rt.alloc())?)
 }
 
 fn print_lines<R: Print, W: World>(rt: &R, check: &Check<W>) -> io::Result<()> {
@@ -119,12 +95,21 @@ fn print_trial<R: Print>(rt: &R, outcome: Result<Outcome, Stop>) -> io::Result<E
     Ok(ExitCode::SUCCESS)
 }
 
+/// Does what the words ask for.
+fn do_words<R: AllocGlobal + Print, W: World>(rt: &R, words: &[String]) -> io::Result<ExitCode> {
+    match words {
+        [_name, text, call] => {
+            print_trial(rt, try_call::<W>(rt.alloc(), text.as_str(), call.as_str()))
+        }
+        [_name, _text] => Ok(ExitCode::from(BAD_WORDS)),
+        _ => print_checks::<R, W>(rt),
+    }
+}
+
 /// Does what the program's words ask for.
 fn start<R: AllocGlobal + Env + Print, W: World>(rt: &R) -> io::Result<ExitCode> {
     match read_words(rt) {
-        Ok(Asked::All) => print_checks::<R, W>(rt),
-        Ok(Asked::One(call)) => print_trial(rt, try_call::<W>(rt.alloc(), call)),
-        Ok(Asked::Unknown) => Ok(ExitCode::from(BAD_WORDS)),
+        Ok(words) => do_words::<R, W>(rt, words.as_slice()),
         Err(_) => print_trial(rt, Err(Stop::Outside)),
     }
 }

@@ -1,7 +1,7 @@
 //! What a check sees of a world, and how it is told.
 
 use crate::calls::Answer;
-use crate::trials::{Call, Difference, Outcome, Stop, Told};
+use crate::trials::{Outcome, Stop};
 use fixed_geom::Box2;
 use impulse_ledger::Entry;
 use islands::{IslandState, Label};
@@ -43,11 +43,9 @@ pub enum Seen {
     Disabled(Item),
     Truth(&'static str, bool),
     /// What came of a call to which memory may be refused.
-    Trial(Call, Result<Outcome, Stop>),
+    Trial(&'static str, Result<Outcome, Stop>),
     /// What is found in worlds that differ so.
-    Compared(Difference, Result<(), Stop>),
-    /// What a step told, in numbers.
-    Told(Result<Told, Stop>),
+    Compared(&'static str, Result<(), Stop>),
 }
 
 /// A line of output.
@@ -317,7 +315,7 @@ fn write_handle<W: fmt::Write>(
 
 fn write_trial<W: fmt::Write>(
     f: &mut fmt::Formatter<W>,
-    call: Call,
+    call: &str,
     outcome: Result<Outcome, Stop>,
 ) -> fmt::Result {
     match outcome {
@@ -328,19 +326,12 @@ fn write_trial<W: fmt::Write>(
 
 fn write_compared<W: fmt::Write>(
     f: &mut fmt::Formatter<W>,
-    difference: Difference,
+    difference: &str,
     found: Result<(), Stop>,
 ) -> fmt::Result {
     match found {
         Ok(()) => write!(f, "{difference}: the same"),
         Err(stop) => write!(f, "{difference}: {stop}"),
-    }
-}
-
-fn write_told<W: fmt::Write>(f: &mut fmt::Formatter<W>, told: Result<Told, Stop>) -> fmt::Result {
-    match told {
-        Ok(told) => write!(f, "{told}"),
-        Err(stop) => write!(f, "{stop}"),
     }
 }
 
@@ -372,7 +363,6 @@ impl fmt::Display for Seen {
             Seen::Truth(what, is_true) => write!(f, "{what}: {is_true}"),
             Seen::Trial(call, outcome) => write_trial(f, call, outcome),
             Seen::Compared(difference, found) => write_compared(f, difference, found),
-            Seen::Told(told) => write_told(f, told),
         }
     }
 }

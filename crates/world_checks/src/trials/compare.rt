@@ -4,7 +4,7 @@ use graph_colours::COLOURS;
 use impulse_ledger::{Cause, Ledger};
 use plain_world::Body;
 use solver_sets::{Census, SleepingSet};
-use world_core::{Events, Plain};
+use world_core::{Events, Frame, FrameBody, Plain};
 
 const CAUSES: [Cause; 6] = [
     Cause::Command,
@@ -123,6 +123,34 @@ pub fn are_same_censuses(first: &Census, second: &Census) -> bool {
         && first.disabled() == second.disabled()
         && first.awake() == second.awake()
         && are_same_sleepers(first.sleeping(), second.sleeping())
+}
+
+/// Whether the two frames show the same.
+pub fn are_same_frames(first: &Frame, second: &Frame) -> bool {
+    first.calls() == second.calls()
+        && first.momentum() == second.momentum()
+        && first.booked() == second.booked()
+        && are_same_shown(first.bodies(), second.bodies())
+}
+
+fn are_same_shown(first: &[Option<FrameBody>], second: &[Option<FrameBody>]) -> bool {
+    first.len() == second.len()
+        && first
+            .iter()
+            .zip(second)
+            .all(|(entry, other)| is_same_shown(entry, other))
+}
+
+fn is_same_shown(first: &Option<FrameBody>, second: &Option<FrameBody>) -> bool {
+    match (first, second) {
+        (Some(body), Some(other)) => {
+            body.handle == other.handle
+                && body.pose == other.pose
+                && body.shapes.as_slice() == other.shapes.as_slice()
+        }
+        (None, None) => true,
+        _ => false,
+    }
 }
 
 fn are_same_sleepers(first: &[SleepingSet], second: &[SleepingSet]) -> bool {

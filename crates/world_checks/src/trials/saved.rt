@@ -23,19 +23,14 @@ const ALL_OVER: Box2 = Box2 {
 };
 
 /// Saves the scene's world.
-pub fn try_save<W: World>(alloc: Global) -> Result<Outcome, Stop> {
-    let worlds: Worlds<W> = Worlds::new(alloc)?;
-    save_twice(&worlds)
-}
-
-fn save_twice<W: World>(worlds: &Worlds<W>) -> Result<Outcome, Stop> {
+pub fn save_twice<W: World>(worlds: &mut Worlds<W>) -> Result<Outcome, Stop> {
     match worlds.reference.saved() {
         Ok(expected) => expect_saved_twice(worlds, &expected),
         Err(refusal) => Err(Stop::from(refusal)),
     }
 }
 
-fn expect_saved_twice<W: World>(worlds: &Worlds<W>, expected: &Value) -> Result<Outcome, Stop> {
+fn expect_saved_twice<W: World>(worlds: &mut Worlds<W>, expected: &Value) -> Result<Outcome, Stop> {
     if is_saved(worlds, expected)? {
         return Ok(Outcome::Unmet);
     }
@@ -43,20 +38,18 @@ fn expect_saved_twice<W: World>(worlds: &Worlds<W>, expected: &Value) -> Result<
     again(is_saved(worlds, expected)?)
 }
 
-fn is_saved<W: World>(worlds: &Worlds<W>, expected: &Value) -> Result<bool, Stop> {
-    match worlds.world.saved() {
+fn is_saved<W: World>(worlds: &mut Worlds<W>, expected: &Value) -> Result<bool, Stop> {
+    worlds.begin();
+    let saved = worlds.world.saved();
+    worlds.end();
+    match saved {
         Ok(value) => met(expect(Moment::Accepted, Part::Answer, value == *expected)),
         Err(_) => Ok(false),
     }
 }
 
 /// Loads the world that the scene's saved.
-pub fn try_load<W: World>(alloc: Global) -> Result<Outcome, Stop> {
-    let worlds: Worlds<W> = Worlds::new(alloc)?;
-    load_twice(alloc, &worlds)
-}
-
-fn load_twice<W: World>(alloc: Global, worlds: &Worlds<W>) -> Result<Outcome, Stop> {
+pub fn load_twice<W: World>(alloc: Global, worlds: &mut Worlds<W>) -> Result<Outcome, Stop> {
     match worlds.reference.saved() {
         Ok(value) => load_value_twice(alloc, worlds, &value),
         Err(refusal) => Err(Stop::from(refusal)),
@@ -65,19 +58,22 @@ fn load_twice<W: World>(alloc: Global, worlds: &Worlds<W>) -> Result<Outcome, St
 
 fn load_value_twice<W: World>(
     alloc: Global,
-    worlds: &Worlds<W>,
+    worlds: &mut Worlds<W>,
     value: &Value,
 ) -> Result<Outcome, Stop> {
-    if is_loaded::<W>(alloc, value)? {
+    if is_loaded(alloc, worlds, value)? {
         return Ok(Outcome::Unmet);
     }
     worlds.expect_kept()?;
-    again(is_loaded::<W>(alloc, value)?)
+    again(is_loaded(alloc, worlds, value)?)
 }
 
 /// Whether the value is loaded. Stops where the loaded world is saved as another value.
-fn is_loaded<W: World>(alloc: Global, value: &Value) -> Result<bool, Stop> {
-    match W::loaded(alloc, value) {
+fn is_loaded<W: World>(alloc: Global, worlds: &mut Worlds<W>, value: &Value) -> Result<bool, Stop> {
+    worlds.begin();
+    let loaded = W::loaded(alloc, value);
+    worlds.end();
+    match loaded {
         Ok(world) => is_saved_as(&world, value),
         Err(_) => Ok(false),
     }
@@ -91,12 +87,7 @@ fn is_saved_as<W: World>(world: &W, value: &Value) -> Result<bool, Stop> {
 }
 
 /// Asks for the shapes over all of the scene.
-pub fn try_region<W: World>(alloc: Global) -> Result<Outcome, Stop> {
-    let worlds: Worlds<W> = Worlds::new(alloc)?;
-    ask_twice(alloc, &worlds)
-}
-
-fn ask_twice<W: World>(alloc: Global, worlds: &Worlds<W>) -> Result<Outcome, Stop> {
+pub fn ask_twice<W: World>(alloc: Global, worlds: &mut Worlds<W>) -> Result<Outcome, Stop> {
     let expected = worlds.reference.region(alloc, &ALL_OVER)?;
     if is_answered(alloc, worlds, &expected)? {
         return Ok(Outcome::Unmet);
@@ -107,10 +98,13 @@ fn ask_twice<W: World>(alloc: Global, worlds: &Worlds<W>) -> Result<Outcome, Sto
 
 fn is_answered<W: World>(
     alloc: Global,
-    worlds: &Worlds<W>,
+    worlds: &mut Worlds<W>,
     expected: &[ShapeId],
 ) -> Result<bool, Stop> {
-    match worlds.world.region(alloc, &ALL_OVER) {
+    worlds.begin();
+    let answered = worlds.world.region(alloc, &ALL_OVER);
+    worlds.end();
+    match answered {
         Ok(shapes) => met(expect(
             Moment::Accepted,
             Part::Answer,

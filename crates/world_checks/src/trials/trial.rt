@@ -1,16 +1,17 @@
 use crate::calls::{Answer, World};
-use crate::trials::call::{Call, Change};
-use crate::trials::compare::{are_same_censuses, expect, expect_same_lists, expect_same_worlds};
-use crate::trials::resting;
-use crate::trials::saved::{try_load, try_region, try_save};
-use crate::trials::scene::{self, Setting};
+use crate::trials::compare::{
+    are_same_censuses, are_same_frames, expect, expect_same_lists, expect_same_worlds,
+};
+use crate::trials::looks::{try_look, try_settle};
+use crate::trials::saved::{ask_twice, load_twice, save_twice};
+use crate::trials::script::commands_of;
 use crate::trials::stop::{Moment, Part, Stop};
 use crate::trials::worlds::Worlds;
 use fixed_geom::Refusal;
 use solver_sets::Census;
 use std::alloc::Global;
 use std::fmt;
-use world_core::{Command, Plain, Reply};
+use world_core::{Command, Frame, Plain};
 
 /// How a call went that did what it should.
 #[derive(Clone, Copy)]
@@ -30,52 +31,37 @@ impl fmt::Display for Outcome {
     }
 }
 
-/// Makes a call in the scene's world, and once more if memory was refused to it. The reference, the copy
-/// and whatever else needs memory come before the call.
-pub fn try_call<W: World>(alloc: Global, call: Call) -> Result<Outcome, Stop> {
+/// Makes a call in the world of a text, and once more if memory was refused to it. The reference, the copy and whatever else needs memory
+/// come before the call. The call is one of these words, a line with a command, or lines with commands that are replayed.
+pub fn try_call<W: World>(alloc: Global, text: &str, call: &str) -> Result<Outcome, Stop> {
+    let mut worlds: Worlds<W> = Worlds::of(alloc, text)?;
+    try_in(alloc, &mut worlds, call)
+}
+
+fn try_in<W: World>(alloc: Global, worlds: &mut Worlds<W>, call: &str) -> Result<Outcome, Stop> {
     match call {
-        Call::Apply(change) => try_command::<W>(alloc, change),
-        Call::Plain => try_plain::<W>(alloc),
-        Call::Census => try_census::<W>(alloc),
-        Call::TryCopy => try_copy::<W>(alloc),
-        Call::Replay => try_replay::<W>(alloc),
-        Call::Save => try_save::<W>(alloc),
-        Call::Load => try_load::<W>(alloc),
-        Call::Region => try_region::<W>(alloc),
+        "plain" => list_twice(worlds),
+        "census" => count_twice(worlds),
+        "copy" => copy_twice(worlds),
+        "frame" => show_twice(worlds),
+        "save" => save_twice(worlds),
+        "load" => load_twice(alloc, worlds),
+        "region" => ask_twice(alloc, worlds),
+        "look" => try_look(worlds),
+        "settle" => try_settle(worlds),
+        _ => try_commands(alloc, worlds, call),
     }
 }
 
-/// The world in which a command is applied: that with sleepers, or that of movers.
-fn setting_of(change: Change) -> Setting {
-    match change {
-        Change::Disable
-        | Change::Enable
-        | Change::Wake
-        | Change::Sleep
-        | Change::DestroyWaking
-        | Change::StepOfIslands => Setting::Resting,
-        _ => Setting::Moving,
-    }
-}
-
-fn command_of(alloc: Global, change: Change) -> Result<Command, Refusal> {
-    match change {
-        Change::Create => scene::create(alloc),
-        Change::CreateManyShapes => scene::create_many_shapes(alloc),
-        Change::Push => Ok(scene::push()),
-        Change::Destroy => Ok(scene::destroy()),
-        Change::CreateJoint => Ok(scene::create_joint()),
-        Change::DestroyJoint => Ok(scene::destroy_joint()),
-        Change::SetPose => Ok(scene::set_pose()),
-        Change::SetVelocity => Ok(scene::set_velocity()),
-        Change::Step => Ok(scene::step_command()),
-        Change::Gravity => Ok(scene::gravity()),
-        Change::Disable => Ok(resting::disable()),
-        Change::Enable => Ok(resting::enable()),
-        Change::Wake => Ok(resting::wake()),
-        Change::Sleep => Ok(resting::sleep()),
-        Change::DestroyWaking => Ok(resting::destroy()),
-        Change::StepOfIslands => Ok(resting::step_command()),
+fn try_commands<W: World>(
+    alloc: Global,
+    worlds: &mut Worlds<W>,
+    text: &str,
+) -> Result<Outcome, Stop> {
+    let commands = commands_of(alloc, text)?;
+    match commands.as_slice() {
+        [command] => apply_twice(worlds, command),
+        commands => replay_all(alloc, worlds, commands),
     }
 }
 
@@ -93,20 +79,9 @@ pub(crate) fn again(is_accepted: bool) -> Result<Outcome, Stop> {
     Ok(Outcome::Kept)
 }
 
-fn try_command<W: World>(alloc: Global, change: Change) -> Result<Outcome, Stop> {
-    match command_of(alloc, change) {
-        Ok(command) => try_in::<W>(alloc, setting_of(change), &command),
-        Err(refusal) => Err(Stop::from(refusal)),
-    }
-}
-
-fn try_in<W: World>(alloc: Global, setting: Setting, command: &Command) -> Result<Outcome, Stop> {
-    let mut worlds: Worlds<W> = Worlds::of(alloc, setting)?;
-    apply_twice(&mut worlds, command)
-}
-
+/// Applies the command, which may also be refused for another reason: then it is refused so without memory.
 fn apply_twice<W: World>(worlds: &mut Worlds<W>, command: &Command) -> Result<Outcome, Stop> {
-    let expected = worlds.apply_to_reference(command)?;
+    let expected = worlds.apply_to_reference(command);
     if is_applied(worlds, command, expected)? {
         return Ok(Outcome::Unmet);
     }
@@ -118,30 +93,25 @@ fn apply_twice<W: World>(worlds: &mut Worlds<W>, command: &Command) -> Result<Ou
 fn is_applied<W: World>(
     worlds: &mut Worlds<W>,
     command: &Command,
-    expected: Reply,
+    expected: Answer,
 ) -> Result<bool, Stop> {
     let answer = worlds.apply(command);
     if answer == Err(Refusal::NoMemory) {
         return Ok(false);
     }
-    expect(Moment::Accepted, Part::Answer, answer == Ok(expected))?;
+    expect(Moment::Accepted, Part::Answer, answer == expected)?;
     worlds.expect_as_reference()?;
     Ok(true)
 }
 
-fn try_plain<W: World>(alloc: Global) -> Result<Outcome, Stop> {
-    let worlds: Worlds<W> = Worlds::new(alloc)?;
-    list_twice(&worlds)
-}
-
-fn list_twice<W: World>(worlds: &Worlds<W>) -> Result<Outcome, Stop> {
+fn list_twice<W: World>(worlds: &mut Worlds<W>) -> Result<Outcome, Stop> {
     match worlds.reference.lists() {
         Ok(expected) => expect_lists_twice(worlds, &expected),
         Err(refusal) => Err(Stop::from(refusal)),
     }
 }
 
-fn expect_lists_twice<W: World>(worlds: &Worlds<W>, expected: &Plain) -> Result<Outcome, Stop> {
+fn expect_lists_twice<W: World>(worlds: &mut Worlds<W>, expected: &Plain) -> Result<Outcome, Stop> {
     if is_listed(worlds, expected)? {
         return Ok(Outcome::Unmet);
     }
@@ -149,26 +119,27 @@ fn expect_lists_twice<W: World>(worlds: &Worlds<W>, expected: &Plain) -> Result<
     again(is_listed(worlds, expected)?)
 }
 
-fn is_listed<W: World>(worlds: &Worlds<W>, expected: &Plain) -> Result<bool, Stop> {
-    match worlds.world.lists() {
+fn is_listed<W: World>(worlds: &mut Worlds<W>, expected: &Plain) -> Result<bool, Stop> {
+    worlds.begin();
+    let listed = worlds.world.lists();
+    worlds.end();
+    match listed {
         Ok(plain) => met(expect_same_lists(Moment::Accepted, &plain, expected)),
         Err(_) => Ok(false),
     }
 }
 
-fn try_census<W: World>(alloc: Global) -> Result<Outcome, Stop> {
-    let worlds: Worlds<W> = Worlds::new(alloc)?;
-    count_twice(&worlds)
-}
-
-fn count_twice<W: World>(worlds: &Worlds<W>) -> Result<Outcome, Stop> {
+fn count_twice<W: World>(worlds: &mut Worlds<W>) -> Result<Outcome, Stop> {
     match worlds.reference.census() {
         Ok(expected) => expect_census_twice(worlds, &expected),
         Err(refusal) => Err(Stop::from(refusal)),
     }
 }
 
-fn expect_census_twice<W: World>(worlds: &Worlds<W>, expected: &Census) -> Result<Outcome, Stop> {
+fn expect_census_twice<W: World>(
+    worlds: &mut Worlds<W>,
+    expected: &Census,
+) -> Result<Outcome, Stop> {
     if is_counted(worlds, expected)? {
         return Ok(Outcome::Unmet);
     }
@@ -176,8 +147,11 @@ fn expect_census_twice<W: World>(worlds: &Worlds<W>, expected: &Census) -> Resul
     again(is_counted(worlds, expected)?)
 }
 
-fn is_counted<W: World>(worlds: &Worlds<W>, expected: &Census) -> Result<bool, Stop> {
-    match worlds.world.census() {
+fn is_counted<W: World>(worlds: &mut Worlds<W>, expected: &Census) -> Result<bool, Stop> {
+    worlds.begin();
+    let counted = worlds.world.census();
+    worlds.end();
+    match counted {
         Ok(census) => {
             let is_same = are_same_censuses(&census, expected);
             met(expect(Moment::Accepted, Part::Answer, is_same))
@@ -186,12 +160,7 @@ fn is_counted<W: World>(worlds: &Worlds<W>, expected: &Census) -> Result<bool, S
     }
 }
 
-fn try_copy<W: World>(alloc: Global) -> Result<Outcome, Stop> {
-    let worlds: Worlds<W> = Worlds::new(alloc)?;
-    copy_twice(&worlds)
-}
-
-fn copy_twice<W: World>(worlds: &Worlds<W>) -> Result<Outcome, Stop> {
+fn copy_twice<W: World>(worlds: &mut Worlds<W>) -> Result<Outcome, Stop> {
     if is_copied(worlds)? {
         return Ok(Outcome::Unmet);
     }
@@ -199,17 +168,42 @@ fn copy_twice<W: World>(worlds: &Worlds<W>) -> Result<Outcome, Stop> {
     again(is_copied(worlds)?)
 }
 
-fn is_copied<W: World>(worlds: &Worlds<W>) -> Result<bool, Stop> {
-    match worlds.world.copied() {
+fn is_copied<W: World>(worlds: &mut Worlds<W>) -> Result<bool, Stop> {
+    worlds.begin();
+    let copied = worlds.world.copied();
+    worlds.end();
+    match copied {
         Ok(copied) => met(expect_same_worlds(Moment::Accepted, &copied, &worlds.reference)),
         Err(_) => Ok(false),
     }
 }
 
-fn try_replay<W: World>(alloc: Global) -> Result<Outcome, Stop> {
-    let commands = scene::commands(alloc)?;
-    let mut worlds: Worlds<W> = Worlds::new(alloc)?;
-    replay_all(alloc, &mut worlds, &commands)
+fn show_twice<W: World>(worlds: &mut Worlds<W>) -> Result<Outcome, Stop> {
+    match worlds.reference.frame() {
+        Ok(expected) => expect_frame_twice(worlds, &expected),
+        Err(refusal) => Err(Stop::from(refusal)),
+    }
+}
+
+fn expect_frame_twice<W: World>(worlds: &mut Worlds<W>, expected: &Frame) -> Result<Outcome, Stop> {
+    if is_shown(worlds, expected)? {
+        return Ok(Outcome::Unmet);
+    }
+    worlds.expect_kept()?;
+    again(is_shown(worlds, expected)?)
+}
+
+fn is_shown<W: World>(worlds: &mut Worlds<W>, expected: &Frame) -> Result<bool, Stop> {
+    worlds.begin();
+    let shown = worlds.world.frame();
+    worlds.end();
+    match shown {
+        Ok(frame) => {
+            let is_same = are_same_frames(&frame, expected);
+            met(expect(Moment::Accepted, Part::Answer, is_same))
+        }
+        Err(_) => Ok(false),
+    }
 }
 
 fn replay_all<W: World>(
@@ -263,7 +257,10 @@ fn is_replayed<W: World>(
     commands: &[Command],
     expected: &[Answer],
 ) -> Result<bool, Stop> {
-    match worlds.world.replay(alloc, commands) {
+    worlds.begin();
+    let replayed = worlds.world.replay(alloc, commands);
+    worlds.end();
+    match replayed {
         Ok(answers) => expect_answers(worlds, answers.as_slice() == expected),
         Err(_) => Ok(false),
     }

@@ -1,50 +1,81 @@
 use crate::calls::{Answer, World, calls_of};
 use crate::trials::compare::expect_same_worlds;
-use crate::trials::scene::{self, Setting};
+use crate::trials::script::{commands_of, world_of};
 use crate::trials::stop::{Moment, Stop};
 use fixed_geom::Refusal;
 use std::alloc::Global;
+use std::fmt::Write;
 use world_core::Command;
+
+/// By a request for so many bytes the library that refuses memory knows that the call begins, and by the next size that it has ended.
+const MARK: usize = 1_234_567;
 
 /// Three equal worlds.
 #[derive(Drop)]
 pub struct Worlds<W: World> {
+    alloc: Global,
     /// The one in which the call is made that may meet a refusal.
     pub world: W,
     /// A copy of it, made before the call.
     pub before: W,
     /// One in which the call is made while all memory is there.
     pub reference: W,
+    /// The text that was asked for last.
+    mark: Option<String>,
+}
+
+/// A short text with so much room. It is written by `write!`, so that no compiler does without it.
+fn text_with_room(alloc: Global, room: usize) -> Result<String, Refusal> {
+    let mut text = String::with_capacity(alloc, room)?;
+    write!(text, "{room}")?;
+    Ok(text)
 }
 
 impl<W: World> Worlds<W> {
-    /// The world of movers, three times.
-    pub fn new(alloc: Global) -> Result<Worlds<W>, Refusal> {
-        Worlds::of(alloc, Setting::Moving)
-    }
-
-    /// A scene's world, three times.
-    pub fn of(alloc: Global, setting: Setting) -> Result<Worlds<W>, Refusal> {
-        match scene::world(alloc, setting) {
-            Ok(world) => Worlds::with(alloc, world, setting),
+    /// The world of a text, three times.
+    pub fn of(alloc: Global, text: &str) -> Result<Worlds<W>, Refusal> {
+        match commands_of(alloc, text) {
+            Ok(commands) => Worlds::after(alloc, commands.as_slice()),
             Err(refusal) => Err(refusal),
         }
     }
 
-    fn with(alloc: Global, world: W, setting: Setting) -> Result<Worlds<W>, Refusal> {
-        match (world.copied(), scene::world(alloc, setting)) {
+    fn after(alloc: Global, commands: &[Command]) -> Result<Worlds<W>, Refusal> {
+        match world_of(alloc, commands) {
+            Ok(world) => Worlds::with(alloc, world, commands),
+            Err(refusal) => Err(refusal),
+        }
+    }
+
+    fn with(alloc: Global, world: W, commands: &[Command]) -> Result<Worlds<W>, Refusal> {
+        match (world.copied(), world_of(alloc, commands)) {
             (Ok(before), Ok(reference)) => Ok(Worlds {
+                alloc,
                 world,
                 before,
                 reference,
+                mark: None,
             }),
             (Err(refusal), _) | (Ok(_), Err(refusal)) => Err(refusal),
         }
     }
 
+    /// The call begins, to which memory may be refused.
+    pub fn begin(&mut self) {
+        self.mark = text_with_room(self.alloc, MARK).ok();
+    }
+
+    /// The call has ended.
+    pub fn end(&mut self) {
+        self.mark = text_with_room(self.alloc, MARK + 1).ok();
+    }
+
     /// Applies a command to the world in which memory may be refused.
     pub fn apply(&mut self, command: &Command) -> Answer {
-        self.world.apply(command)
+        self.begin();
+        let answer = self.world.apply(command);
+        self.end();
+        answer
     }
 
     /// Applies a command to the reference.

@@ -1,10 +1,10 @@
-//! Worlds and what they show, as text: two are the same just where their texts are.
+//! All of a world as text.
 
-use crate::calls::World;
-use impulse_ledger::{Cause, Ledger, Total};
+use crate::shown::write_events;
+use impulse_ledger::{Cause, Ledger};
 use std::alloc::Global;
 use std::fmt::Write;
-use world_core::{Body, Events, FrameBody, Handle, Plain, Refusal};
+use world_core::{Body, Plain, Refusal, WorldCore};
 
 const CAUSES: [Cause; 6] = [
     Cause::Command,
@@ -56,12 +56,6 @@ fn write_lists(text: &mut String, lists: &Plain) -> Result<(), Refusal> {
     Ok(())
 }
 
-fn write_events(text: &mut String, events: &Events) -> Result<(), Refusal> {
-    write!(text, "{:?}{:?}", events.begin(), events.end())?;
-    write!(text, "{:?}{:?}", events.slept(), events.woke())?;
-    Ok(())
-}
-
 fn write_ledger(text: &mut String, ledger: &Ledger) -> Result<(), Refusal> {
     for cause in CAUSES {
         write!(text, "{:?}", ledger.total_of(cause))?;
@@ -70,48 +64,14 @@ fn write_ledger(text: &mut String, ledger: &Ledger) -> Result<(), Refusal> {
     Ok(())
 }
 
-/// All of a world: its plain lists, its events, its totals and its entries.
-pub fn text_of<W: World>(alloc: Global, world: &W) -> Result<String, Refusal> {
+/// All of a world: its plain lists, its events, its totals and its entries. Refused 1 where memory is wanting.
+pub fn text_of(alloc: Global, world: &WorldCore) -> Result<String, Refusal> {
     let mut text = String::new(alloc);
-    match world.lists() {
+    match world.plain() {
         Ok(lists) => write_lists(&mut text, &lists)?,
         Err(refusal) => return Err(refusal),
     }
     write_events(&mut text, world.events())?;
     write_ledger(&mut text, world.ledger())?;
-    Ok(text)
-}
-
-fn write_shown(text: &mut String, body: &FrameBody) -> Result<(), Refusal> {
-    let handle: Handle = body.handle;
-    write!(
-        text,
-        "{handle:?}{:?}{:?}",
-        body.pose,
-        body.shapes.as_slice()
-    )?;
-    Ok(())
-}
-
-/// What a frame shows: its number of calls, the momentum and the booked total, and its bodies.
-pub fn text_of_frame(
-    alloc: Global,
-    numbers: (u64, Total, Total),
-    bodies: &[Option<FrameBody>],
-) -> Result<String, Refusal> {
-    let mut text = String::new(alloc);
-    write!(text, "{numbers:?}")?;
-    for entry in bodies {
-        if let Some(body) = entry {
-            write_shown(&mut text, body)?;
-        }
-    }
-    Ok(text)
-}
-
-/// What events tell.
-pub fn text_of_events(alloc: Global, events: &Events) -> Result<String, Refusal> {
-    let mut text = String::new(alloc);
-    write_events(&mut text, events)?;
     Ok(text)
 }
