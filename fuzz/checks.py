@@ -176,6 +176,7 @@ class Checks:
         self.cut_in_two()
         self.crowds_are_their_requests()
         self.crowds_of_many_threads()
+        self.steps_by_workers()
         self.little_memory()
         self.changed_worlds()
 
@@ -284,6 +285,11 @@ class Checks:
         if can_be_loaded(run.answers[-1]["world"]):
             again = [load_of(saved), SAVE]
             must_be_same("a save after three threads", again, [b'{"done":true}', saved], self.run(again).texts)
+
+    def steps_by_workers(self):
+        """Steps by three workers, in a crowd too, give the answers and the world of one."""
+        run = self.run([*self.lines, SAVE], words=("--workers", "3"))
+        must_be_same("steps by three workers", self.lines, [*self.texts, self.saved], run.texts)
 
     def little_memory(self):
         """With little memory the lines that are refused for want of it leave the answers of all others as they are."""
