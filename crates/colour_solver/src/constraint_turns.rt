@@ -4,13 +4,13 @@ ghost use Rattle.std.specs.Prelude.{◌≡◌};
 ghost use Rattle.joint_rows.specs.Rows.{joint_solved, joint_warmed};
 ghost use Rattle.joint_rows.specs.Row64.{with_impulse};
 ghost use Rattle.colour_solver_base.specs.Rows.{row_bounced, row_solved, row_warmed};
-ghost use Rattle.colour_solver_base.specs.Row64.{with_first};
+ghost use Rattle.colour_solver_base.specs.Row64.{with_point_impulses, with_row_impulses};
 ghost use Rattle.colour_solver.specs.ConstraintTurns.{joint_unbounced, turned_joint};
 
 use crate::Turn;
 use colour_solver_base::{
-    ContactRow, RowAfter64, bounce_row, has_no_impulses, never_bounces, solve_row, solve_row_64,
-    warm_row, warm_row_64,
+    ContactRow, PointImpulses, PointRow, RowAfter64, bounce_row, has_no_impulses, never_bounces,
+    solve_row, solve_row_64, warm_row, warm_row_64,
 };
 use joint_rows::{
     JointRow, has_no_impulse, solve_joint, solve_joint_64, warm_joint, warm_joint_64,
@@ -27,14 +27,26 @@ fn put_impulse(row: &mut JointRow, turned: Exerted64) -> MomentaPair64
     turned.now
 }
 
+/// Writes the impulses of a point into it.
+#[inline(always)]
+fn put_point(point: &mut PointRow, impulses: PointImpulses)
+    ensures { point.new ≡ with_point_impulses impulses point.old }
+{
+    point.normal_impulse = impulses.normal;
+    point.tangent_impulse = impulses.tangent;
+}
+
 /// Writes what a turn in 64 bits has made of a contact's impulses into its row. Answers the momenta of its bodies.
 #[inline(always)]
 fn put_impulses(row: &mut ContactRow, turned: RowAfter64) -> MomentaPair64
-    ensures row { row.new ≡ with_first row.old turned.normal_impulse turned.tangent_impulse }
+    ensures row { row.new ≡ with_row_impulses row.old turned.first turned.second }
     ensures now { result ≡ turned.now }
 {
-    row.first.normal_impulse = turned.normal_impulse;
-    row.first.tangent_impulse = turned.tangent_impulse;
+    put_point(&mut row.first, turned.first);
+    match &mut row.second {
+        None => {}
+        Some(point) => put_point(point, turned.second),
+    }
     turned.now
 }
 

@@ -1,17 +1,19 @@
--- A pass over a contact with one point, in 64 bits.
-use Rattle.std.specs.Prelude.{◌≡◌, ◌<◌, ◌^◌, None, ℤ, pos, neg_ℤ, unsigned_abs}
+-- A pass over a contact in 64 bits.
+use Rattle.std.specs.Prelude.{◌≡◌, ◌<◌, ◌^◌, option_map, ℤ, pos, neg_ℤ, unsigned_abs}
+use Rattle.std.specs.Option.{ForSome}
 use Rattle.fixed_geom.specs.declared.limits.TheConstants.{MAX_NORMAL_IMPULSE}
 use Rattle.momenta.specs.declared.state.BodyState.{BodyState}
 use Rattle.momenta.specs.declared.state.Ends.{Ends}
-use Rattle.momenta.specs.declared.line_64.MomentaPair64.{MomentaPair64}
 use Rattle.momenta.specs.Impulses.{AreStates, AreSameBodies, IsMomentumKept}
 use Rattle.momenta.specs.Line64.{HasRoom64, FitsIn64, ends_with}
 use Rattle.colour_solver_base.specs.declared.row.PointRow.{PointRow}
 use Rattle.colour_solver_base.specs.declared.row.ContactRow.{ContactRow}
 use Rattle.colour_solver_base.specs.declared.solve.PointAfter.{PointAfter}
 use Rattle.colour_solver_base.specs.RowsAfter.{RowAfter}
+use Rattle.colour_solver_base.specs.declared.row_64.PointImpulses.{PointImpulses}
+use Rattle.colour_solver_base.specs.declared.row_64.PointAfter64.{PointAfter64}
 use Rattle.colour_solver_base.specs.declared.row_64.RowAfter64.{RowAfter64}
-use Rattle.colour_solver_base.specs.Rows.{IsPointRow, IsRow, bias_of, most_friction, normal_line, normal_solved, separation_now, tangent_line}
+use Rattle.colour_solver_base.specs.Rows.{IsPointRow, IsRow, bias_of, most_friction, normal_line, normal_solved, point_solved, separation_now, tangent_line}
 
 abbrev pub both_ends : BodyState → BodyState → Ends
 both_ends a b = record { a = a; b = b }
@@ -20,22 +22,25 @@ both_ends a b = record { a = a; b = b }
 abbrev pub with_impulses : PointRow → ℤ → ℤ → PointRow
 with_impulses p normal_impulse tangent_impulse = record p { normal_impulse = normal_impulse; tangent_impulse = tangent_impulse }
 
--- what stands in n is t, which a pass has left of the point p and of the bodies a and b with the momenta `old`
-pub record IsPointAfter64 (t : PointAfter) (p : PointRow) (a b : BodyState) (old : MomentaPair64) (n : RowAfter64) : Type 0 where
-  pub value : t ≡ record { point = with_impulses p n.normal_impulse n.tangent_impulse; ends = ends_with a b n.now }
-  pub point : IsPointRow (with_impulses p n.normal_impulse n.tangent_impulse)
-  pub states : AreStates (ends_with a b n.now)
-  pub same : AreSameBodies (ends_with a b old) (ends_with a b n.now)
-  pub kept : IsMomentumKept (ends_with a b old) (ends_with a b n.now)
+abbrev pub with_point_impulses : PointImpulses → PointRow → PointRow
+with_point_impulses i p = with_impulses p i.normal i.tangent
 
--- the contact with these accumulated impulses at its first point
-abbrev pub with_first : ContactRow → ℤ → ℤ → ContactRow
-with_first r normal_impulse tangent_impulse = record r { first = with_impulses r.first normal_impulse tangent_impulse }
+-- what stands in n is t, which a pass has left of the point p and of the two bodies: they are a and b, and stood as e has them before it
+pub record IsPointAfter64 (t : PointAfter) (p : PointRow) (a b : BodyState) (e : Ends) (n : PointAfter64) : Type 0 where
+  pub value : t ≡ record { point = with_point_impulses n.impulses p; ends = ends_with a b n.now }
+  pub point : IsPointRow (with_point_impulses n.impulses p)
+  pub states : AreStates (ends_with a b n.now)
+  pub same : AreSameBodies e (ends_with a b n.now)
+  pub kept : IsMomentumKept e (ends_with a b n.now)
+
+-- the contact with these accumulated impulses at its first point, and those at its second, if it has one
+abbrev pub with_row_impulses : ContactRow → PointImpulses → PointImpulses → ContactRow
+with_row_impulses r first second = record r { first = with_point_impulses first r.first; second = option_map (with_point_impulses second) r.second }
 
 -- what stands in n is t, which a pass has left of the contact r and of the bodies a and b
 pub record IsRowAfter64 (t : RowAfter ContactRow) (r : ContactRow) (a b : BodyState) (n : RowAfter64) : Type 0 where
-  pub value : t ≡ record { row = with_first r n.normal_impulse n.tangent_impulse; ends = ends_with a b n.now }
-  pub row : IsRow (with_first r n.normal_impulse n.tangent_impulse)
+  pub value : t ≡ record { row = with_row_impulses r n.first n.second; ends = ends_with a b n.now }
+  pub row : IsRow (with_row_impulses r n.first n.second)
   pub states : AreStates (ends_with a b n.now)
   pub same : AreSameBodies (both_ends a b) (ends_with a b n.now)
   pub kept : IsMomentumKept (both_ends a b) (ends_with a b n.now)
@@ -58,19 +63,24 @@ pub record HasPointRoom64 (friction : ℤ) (p : PointRow) (e : Ends) : Type 0 wh
   pub normal_impulse : HasNormalRoom64 p e
   pub tangent_impulse : HasTangentRoomAfter64 friction (normal_solved (bias_of (separation_now p e)) p e)
 
--- a contact with one point, of bodies with small momenta
-pub record IsRow64 (r : ContactRow) (a b : BodyState) : Type 0 where
-  pub single : r.second ≡ None
+-- the bodies' momenta
+pub record AreSmall64 (a b : BodyState) : Type 0 where
   pub first : FitsIn64 a.motion
   pub second : FitsIn64 b.motion
 
--- a solver pass over it
+-- a solver pass over a contact: its second point, if it has one, comes after the first
 pub record HasSolveRoom64 (r : ContactRow) (a b : BodyState) : Type 0 where
-  pub row : IsRow64 r a b
-  pub point : HasPointRoom64 r.bodies.friction r.first (both_ends a b)
+  pub bodies : AreSmall64 a b
+  pub first : HasPointRoom64 r.bodies.friction r.first (both_ends a b)
+  pub second : ForSome r.second (λ p. HasPointRoom64 r.bodies.friction p (point_solved r.bodies.friction r.first (both_ends a b)).ends)
 
--- its warm start
+-- the warm start of a point, however its bodies stand
+pub record HasWarmPointRoom64 (p : PointRow) : Type 0 where
+  pub normal_impulse : unsigned_abs p.normal_impulse < 2 ^ 29
+  pub tangent_impulse : unsigned_abs p.tangent_impulse < 2 ^ 29
+
+-- that of a contact
 pub record HasWarmRoom64 (r : ContactRow) (a b : BodyState) : Type 0 where
-  pub row : IsRow64 r a b
-  pub normal_impulse : unsigned_abs r.first.normal_impulse < 2 ^ 29
-  pub tangent_impulse : unsigned_abs r.first.tangent_impulse < 2 ^ 29
+  pub bodies : AreSmall64 a b
+  pub first : HasWarmPointRoom64 r.first
+  pub second : ForSome r.second HasWarmPointRoom64

@@ -14,5 +14,5 @@ pub mod solve;
 pub use laws::rows_are_contacts;
 pub use limits::{BOUNCE_SPEED, MAX_BIAS, SLOP, limits_in_digits};
 pub use row::{Bodies, ContactRow, PointRow, contact_row};
-pub use row_64::{RowAfter64, solve_row_64, warm_row_64};
+pub use row_64::{PointImpulses, RowAfter64, solve_row_64, warm_row_64};
 pub use solve::{PointAfter, bounce_row, has_no_impulses, never_bounces, solve_row, warm_row};

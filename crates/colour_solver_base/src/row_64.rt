@@ -1,10 +1,11 @@
-//! The impulses of a contact with one point in 64 bits, on copies of what they change: what `solve` does, where there is room.
+//! The impulses of a contact in 64 bits, on copies of what they change: what `solve` does, where there is room.
 
-ghost use Rattle.std.specs.Prelude.{◌≡◌, ◌^◌, ◌<◌, ◌≤◌, true, pos, ◌≤ℤ◌, unsigned_abs, IfSome, is_some};
+ghost use Rattle.std.specs.Prelude.{◌≡◌, ℕ, ◌+◌, ◌≤◌, true, pos, ◌≤ℤ◌, unsigned_abs, IfSome, is_some};
+ghost use Rattle.std.specs.Option.{ForSome};
 ghost use Rattle.momenta.specs.Impulses.{AreStates, IsState, parting};
 ghost use Rattle.momenta.specs.Line64.{LeaveRoom64, IsImpulse, ends_with};
 ghost use Rattle.colour_solver_base.specs.Rows.{IsPointRow, IsRow, bias_of, point_solved, point_warmed, normal_solved, row_solved, row_warmed, separation_now, tangent_solved};
-ghost use Rattle.colour_solver_base.specs.Row64.{HasPointRoom64, HasNormalRoom64, HasTangentRoom64, HasSolveRoom64, HasWarmRoom64, IsPointAfter64, IsRowAfter64, both_ends, with_impulses};
+ghost use Rattle.colour_solver_base.specs.Row64.{HasPointRoom64, HasNormalRoom64, HasTangentRoom64, HasSolveRoom64, HasWarmPointRoom64, HasWarmRoom64, IsPointAfter64, IsRowAfter64, both_ends, with_impulses};
 
 use crate::solve::{bias_of, most_friction, separation_between};
 use crate::{ContactRow, PointRow};
@@ -15,11 +16,31 @@ use momenta::{
 };
 use shapes::MAX_FRICTION;
 
-/// The accumulated impulses of a contact's point along the normal and across it (mass·u/tick), and the momenta of the two bodies.
+/// The accumulated impulses of a contact's point along the normal and across it (mass·u/tick).
+#[derive(Clone, Copy, Debug, PartialEq, Eq)]
+pub struct PointImpulses {
+    pub normal: i64,
+    pub tangent: i64,
+}
+
+/// What a point that a contact hasn't got has.
+const NO_IMPULSES: PointImpulses = PointImpulses {
+    normal: 0,
+    tangent: 0,
+};
+
+/// Those of a point after its turn, and the momenta of the two bodies.
+#[derive(Clone, Copy, Debug, PartialEq, Eq)]
+pub struct PointAfter64 {
+    pub impulses: PointImpulses,
+    pub now: MomentaPair64,
+}
+
+/// Those of the two points of a contact, and the momenta of the two bodies. A second point that isn't there has none.
 #[derive(Clone, Copy, Debug, PartialEq, Eq)]
 pub struct RowAfter64 {
-    pub normal_impulse: i64,
-    pub tangent_impulse: i64,
+    pub first: PointImpulses,
+    pub second: PointImpulses,
     pub now: MomentaPair64,
 }
 
@@ -144,7 +165,7 @@ fn solve_point_64(
     a: &BodyState,
     b: &BodyState,
     now: MomentaPair64,
-) -> Option<RowAfter64>
+) -> Option<PointAfter64>
     requires friction_low { pos 0 ≤ℤ friction }
     requires friction_high { unsigned_abs friction ≤ unsigned_abs MAX_FRICTION }
     requires point { IsPointRow point.now }
@@ -152,7 +173,8 @@ fn solve_point_64(
     requires second { IsState b.now }
     requires states { AreStates (ends_with a.now b.now now) }
     requires leaves_room { LeaveRoom64 3 now }
-    ensures value { IfSome result (IsPointAfter64 (point_solved friction point.now (ends_with a.now b.now now)) point.now a.now b.now now) }
+    ensures value { IfSome result (IsPointAfter64 (point_solved friction point.now (ends_with a.now b.now now)) point.now a.now b.now (ends_with a.now b.now now)) }
+    ensures leaves_room { IfSome result (λ r. (k : ℕ) → LeaveRoom64 k now → LeaveRoom64 (k + 2) r.now) }
     ensures room { HasPointRoom64 friction point.now (ends_with a.now b.now now) → is_some result ≡ true }
 {
     let apart = parting_64(a, b, now, point.ra, point.rb);
@@ -162,17 +184,51 @@ fn solve_point_64(
     };
     match solve_tangent_64(friction, apart, point, after_normal, a, b) {
         None => None,
-        Some(slid) => Some(RowAfter64 {
-            normal_impulse: after_normal.total,
-            tangent_impulse: slid.total,
+        Some(slid) => Some(PointAfter64 {
+            impulses: PointImpulses {
+                normal: after_normal.total,
+                tangent: slid.total,
+            },
             now: slid.now,
         }),
     }
 }
 
-/// A contact in a solver pass, as `solve_row` has it: `None` where it has a second point, or something is too large for
-/// 64 bits.
+/// The contact in a solver pass after the turn of its first point: that of the second follows, if there is one.
 #[tactic(auto, unfolding(crate::specs::Rows::row_solved))]
+#[inline(always)]
+fn solve_second_64(
+    row: &ContactRow,
+    a: &BodyState,
+    b: &BodyState,
+    after_first: PointAfter64,
+) -> Option<RowAfter64>
+    requires row { IsRow row.now }
+    requires first { IsState a.now }
+    requires second { IsState b.now }
+    requires after_first { IsPointAfter64 (point_solved row.now.bodies.friction row.now.first (both_ends a.now b.now)) row.now.first a.now b.now (both_ends a.now b.now) after_first }
+    requires leaves_room { LeaveRoom64 2 after_first.now }
+    ensures value { IfSome result (IsRowAfter64 (row_solved row.now (both_ends a.now b.now)) row.now a.now b.now) }
+    ensures room { ForSome row.now.second (λ p. HasPointRoom64 row.now.bodies.friction p (ends_with a.now b.now after_first.now)) → is_some result ≡ true }
+{
+    match &row.second {
+        None => Some(RowAfter64 {
+            first: after_first.impulses,
+            second: NO_IMPULSES,
+            now: after_first.now,
+        }),
+        Some(point) => match solve_point_64(row.bodies.friction, point, a, b, after_first.now) {
+            None => None,
+            Some(solved) => Some(RowAfter64 {
+                first: after_first.impulses,
+                second: solved.impulses,
+                now: solved.now,
+            }),
+        },
+    }
+}
+
+/// A contact in a solver pass, as `solve_row` has it: `None` where something is too large for 64 bits.
 #[inline(always)]
 pub fn solve_row_64(row: &ContactRow, a: &BodyState, b: &BodyState) -> Option<RowAfter64>
     requires row { IsRow row.now }
@@ -181,12 +237,13 @@ pub fn solve_row_64(row: &ContactRow, a: &BodyState, b: &BodyState) -> Option<Ro
     ensures value { IfSome result (IsRowAfter64 (row_solved row.now (both_ends a.now b.now)) row.now a.now b.now) }
     ensures room { HasSolveRoom64 row.now a.now b.now → is_some result ≡ true }
 {
-    match &row.second {
-        Some(_) => None,
-        None => match momenta_pair_64(a, b) {
-            None => None,
-            Some(now) => solve_point_64(row.bodies.friction, &row.first, a, b, now),
-        },
+    let now = match momenta_pair_64(a, b) {
+        None => return None,
+        Some(now) => now,
+    };
+    match solve_point_64(row.bodies.friction, &row.first, a, b, now) {
+        None => None,
+        Some(after_first) => solve_second_64(row, a, b, after_first),
     }
 }
 
@@ -198,12 +255,13 @@ fn warm_point_64(
     a: &BodyState,
     b: &BodyState,
     now: MomentaPair64,
-) -> Option<RowAfter64>
+) -> Option<PointAfter64>
     requires point { IsPointRow point.now }
     requires states { AreStates (ends_with a.now b.now now) }
     requires leaves_room { LeaveRoom64 4 now }
-    ensures value { IfSome result (IsPointAfter64 (record { point = point.now; ends = point_warmed point.now (ends_with a.now b.now now) }) point.now a.now b.now now) }
-    ensures room { unsigned_abs point.now.normal_impulse < 2 ^ 29 → unsigned_abs point.now.tangent_impulse < 2 ^ 29 → is_some result ≡ true }
+    ensures value { IfSome result (IsPointAfter64 (record { point = point.now; ends = point_warmed point.now (ends_with a.now b.now now) }) point.now a.now b.now (ends_with a.now b.now now)) }
+    ensures leaves_room { IfSome result (λ r. (k : ℕ) → LeaveRoom64 k now → LeaveRoom64 (k + 1) r.now) }
+    ensures room { HasWarmPointRoom64 point.now → is_some result ≡ true }
 {
     match warm_at_once_64(
         &point.normal_line(),
@@ -215,16 +273,49 @@ fn warm_point_64(
         now,
     ) {
         None => None,
-        Some(now) => Some(RowAfter64 {
-            normal_impulse: point.normal_impulse,
-            tangent_impulse: point.tangent_impulse,
+        Some(now) => Some(PointAfter64 {
+            impulses: PointImpulses {
+                normal: point.normal_impulse,
+                tangent: point.tangent_impulse,
+            },
             now,
         }),
     }
 }
 
-/// The warm start of a contact, as `warm_row` has it: `None` where it has a second point, or something is too large for 64 bits.
+/// The contact after the warm start of its first point: that of the second follows, if there is one.
 #[tactic(auto, unfolding(crate::specs::Rows::row_warmed))]
+#[inline(always)]
+fn warm_second_64(
+    row: &ContactRow,
+    a: &BodyState,
+    b: &BodyState,
+    after_first: PointAfter64,
+) -> Option<RowAfter64>
+    requires row { IsRow row.now }
+    requires after_first { IsPointAfter64 (record { point = row.now.first; ends = point_warmed row.now.first (both_ends a.now b.now) }) row.now.first a.now b.now (both_ends a.now b.now) after_first }
+    requires leaves_room { LeaveRoom64 1 after_first.now }
+    ensures value { IfSome result (IsRowAfter64 (row_warmed row.now (both_ends a.now b.now)) row.now a.now b.now) }
+    ensures room { ForSome row.now.second HasWarmPointRoom64 → is_some result ≡ true }
+{
+    match &row.second {
+        None => Some(RowAfter64 {
+            first: after_first.impulses,
+            second: NO_IMPULSES,
+            now: after_first.now,
+        }),
+        Some(point) => match warm_point_64(point, a, b, after_first.now) {
+            None => None,
+            Some(warmed) => Some(RowAfter64 {
+                first: after_first.impulses,
+                second: warmed.impulses,
+                now: warmed.now,
+            }),
+        },
+    }
+}
+
+/// The warm start of a contact, as `warm_row` has it: `None` where something is too large for 64 bits.
 #[inline(always)]
 pub fn warm_row_64(row: &ContactRow, a: &BodyState, b: &BodyState) -> Option<RowAfter64>
     requires row { IsRow row.now }
@@ -233,11 +324,12 @@ pub fn warm_row_64(row: &ContactRow, a: &BodyState, b: &BodyState) -> Option<Row
     ensures value { IfSome result (IsRowAfter64 (row_warmed row.now (both_ends a.now b.now)) row.now a.now b.now) }
     ensures room { HasWarmRoom64 row.now a.now b.now → is_some result ≡ true }
 {
-    match &row.second {
-        Some(_) => None,
-        None => match momenta_pair_64(a, b) {
-            None => None,
-            Some(now) => warm_point_64(&row.first, a, b, now),
-        },
+    let now = match momenta_pair_64(a, b) {
+        None => return None,
+        Some(now) => now,
+    };
+    match warm_point_64(&row.first, a, b, now) {
+        None => None,
+        Some(after_first) => warm_second_64(row, a, b, after_first),
     }
 }

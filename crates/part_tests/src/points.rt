@@ -1,12 +1,12 @@
 ghost use Rattle.std.specs.Prelude.{◌≡◌, ◌^◌, ◌≤◌, ◌≤ℤ◌, pos, unsigned_abs};
 ghost use Rattle.fixed_geom.specs.Vectors.{IsWithin};
 ghost use Rattle.momenta.specs.Impulses.{AreStates, IsState};
-ghost use Rattle.colour_solver_base.specs.Rows.{IsRow};
+ghost use Rattle.colour_solver_base.specs.Rows.{IsPointRow, IsRow};
 
 use crate::assertions::{same, same_items};
 use colour_solver_base::{
-    Bodies, ContactRow, PointRow, RowAfter64, bounce_row, solve_row, solve_row_64, warm_row,
-    warm_row_64,
+    Bodies, ContactRow, PointImpulses, PointRow, RowAfter64, bounce_row, solve_row, solve_row_64,
+    warm_row, warm_row_64,
 };
 use fixed_geom::{Rot, Vec2};
 use momenta::{
@@ -58,23 +58,15 @@ fn on_ground(p: Vec2) -> Ends
     }
 }
 
-/// A contact of both on a level line, with half of the friction and of the restitution that there can be.
-fn contact(separation: i64, start_speed: i64, normal_impulse: i64) -> ContactRow
+/// A point of both on a level line.
+fn point(separation: i64, start_speed: i64, normal_impulse: i64) -> PointRow
     requires separation { unsigned_abs separation ≤ 2 ^ 27 }
     requires start_speed { unsigned_abs start_speed ≤ 2 ^ 62 }
     requires normal_low { pos 0 ≤ℤ normal_impulse }
     requires normal_high { unsigned_abs normal_impulse ≤ 2 ^ 42 }
-    ensures { IsRow result }
+    ensures { IsPointRow result }
 {
-    let bodies = Bodies {
-        a: 0,
-        b: 1,
-        first: 0,
-        second: 0,
-        friction: 128,
-        restitution: 128,
-    };
-    let first = PointRow {
+    PointRow {
         normal: UPWARDS,
         ra: ORIGIN,
         rb: ORIGIN,
@@ -86,12 +78,58 @@ fn contact(separation: i64, start_speed: i64, normal_impulse: i64) -> ContactRow
         start_speed,
         normal_impulse,
         tangent_impulse: 0,
+    }
+}
+
+/// A contact with this point, with half of the friction and of the restitution that there can be.
+fn contact_at(first: PointRow) -> ContactRow
+    requires { IsPointRow first }
+    ensures { IsRow result }
+{
+    let bodies = Bodies {
+        a: 0,
+        b: 1,
+        first: 0,
+        second: 0,
+        friction: 128,
+        restitution: 128,
     };
     ContactRow {
         bodies,
         first,
         second: None,
     }
+}
+
+/// A contact of both on a level line.
+fn contact(separation: i64, start_speed: i64, normal_impulse: i64) -> ContactRow
+    requires separation { unsigned_abs separation ≤ 2 ^ 27 }
+    requires start_speed { unsigned_abs start_speed ≤ 2 ^ 62 }
+    requires normal_low { pos 0 ≤ℤ normal_impulse }
+    requires normal_high { unsigned_abs normal_impulse ≤ 2 ^ 42 }
+    ensures { IsRow result }
+{
+    contact_at(point(separation, start_speed, normal_impulse))
+}
+
+/// The contact with a second point.
+fn with_second(row: &ContactRow, second: PointRow) -> ContactRow
+    requires row { IsRow row.now }
+    requires second { IsPointRow second }
+    ensures { IsRow result }
+{
+    ContactRow {
+        bodies: row.bodies,
+        first: row.first,
+        second: Some(second),
+    }
+}
+
+/// A contact whose first point touches, and whose second one overlaps by more than can be taken away in a tick.
+fn two_points() -> ContactRow
+    ensures { IsRow result }
+{
+    with_second(&contact(0, 0, 0), point(-200000, 0, 0))
 }
 
 /// The normal impulse that two bodies at rest get where they overlap.
@@ -181,16 +219,26 @@ fn a_warm_start_gives_the_kept_impulses(rt: HostRuntime) {
     same(&rt, &left, &(1000, 0, ORIGIN, at(0, 1000)));
 }
 
+const NO_IMPULSES: PointImpulses = PointImpulses {
+    normal: 0,
+    tangent: 0,
+};
+
 /// What a pass in 64 bits leaves where the first body stands and the second has the momentum `p`.
-fn after_64(normal_impulse: i64, tangent_impulse: i64, p: Vec2) -> RowAfter64 {
+fn after_points(first: PointImpulses, second: PointImpulses, p: Vec2) -> RowAfter64 {
     RowAfter64 {
-        normal_impulse,
-        tangent_impulse,
+        first,
+        second,
         now: MomentaPair64 {
             a: Momenta64 { p: ORIGIN, l: 0 },
             b: Momenta64 { p, l: 0 },
         },
     }
+}
+
+/// The same of a contact with one point.
+fn after_64(normal: i64, tangent: i64, p: Vec2) -> RowAfter64 {
+    after_points(PointImpulses { normal, tangent }, NO_IMPULSES, p)
 }
 
 /// A pass in 64 bits over a mover with the momentum `p` on ground that doesn't move.
@@ -217,4 +265,31 @@ fn a_warm_start_in_64_bits_gives_the_kept_impulses(rt: HostRuntime) {
     let ends = on_ground(ORIGIN);
     let warmed = warm_row_64(&contact(0, 0, 1000), &ends.a, &ends.b);
     same(&rt, &warmed, &Some(after_64(1000, 0, at(0, 1000))));
+}
+
+/// A pass in 64 bits over the contact with two points, the mover having the momentum `p`.
+fn solved_at_two(p: Vec2) -> Option<RowAfter64>
+    requires { IsWithin (2 ^ 60) p }
+{
+    let ends = on_ground(p);
+    solve_row_64(&two_points(), &ends.a, &ends.b)
+}
+
+/// The second point begins with what the first has left: it rubs away the slip of 100, and gives the speed of its bias.
+#[test]
+fn a_pass_in_64_bits_solves_the_first_point_and_then_the_second(rt: HostRuntime) {
+    let first = PointImpulses {
+        normal: 1000,
+        tangent: -500,
+    };
+    let second = PointImpulses {
+        normal: 16384,
+        tangent: -100,
+    };
+    let left = Some(after_points(first, second, at(0, 16384)));
+    let passes = [
+        solved_at_two(Vec2 { x: 600, y: -1000 }),
+        solved_at_two(Vec2 { x: 1 << 50, y: 0 }),
+    ];
+    same_items(&rt, &passes, &[left, None]);
 }

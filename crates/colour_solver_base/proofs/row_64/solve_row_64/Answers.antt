@@ -3,25 +3,26 @@ use Rattle.std.proofs.lemmas.Int.{to_z-of_z}
 use Rattle.std.specs.Int.{w64}
 use mir.Val.{SFits}
 use Rattle.momenta.specs.Line64.{ends_with}
-use Rattle.momenta.proofs.Laws64.{some_then}
-use Rattle.colour_solver_base.specs.Rows.{point_solved, row_solved}
-use Rattle.colour_solver_base.specs.Row64.{HasPointRoom64, IsPointAfter64, IsRowAfter64, both_ends}
-use Rattle.colour_solver_base.proofs.Laws64.{row_after}
+use Rattle.colour_solver_base.specs.Rows.{point_solved}
+use Rattle.colour_solver_base.specs.Row64.{HasPointRoom64, both_ends, with_point_impulses}
+use Rattle.colour_solver_base.proofs.Laws64.{after_own, second_room}
 use Rattle.colour_solver_base.proofs.row_64.solve_row_64.Goals as goal
 
-pub returns-in-Some-momenta_pair_64-clause-value : goal.returns-in-Some-momenta_pair_64-clause-value
-unfolding row_solved
-returns-in-Some-momenta_pair_64-clause-value c =
+pub solve_second_64-requires-clause-leaves_room : goal.solve_second_64-requires-clause-leaves_room
+solve_second_64-requires-clause-leaves_room c = c.in-Some-solve_point_64.ensures.leaves_room 0 c.in-Some.ensures.leaves_room
+
+pub returns-in-None-solve_point_64-clause-room : goal.returns-in-None-solve_point_64-clause-room
+returns-in-None-solve_point_64-clause-room c =
+    let friction : SFits w64 c.args.row.now.bodies.friction = search rules in
+    let some = simp to_z-of_z at c.in-None-solve_point_64.ensures.room in
+    λ room. some (subst (HasPointRoom64 c.args.row.now.bodies.friction c.args.row.now.first) (sym c.in-Some.ensures.same) room.first)
+
+pub returns-in-Some-solve_point_64-clause-room : goal.returns-in-Some-solve_point_64-clause-room
+returns-in-Some-solve_point_64-clause-room c =
     let friction : SFits w64 c.args.row.now.bodies.friction = search rules in
     let r = c.args.row.now in
     let a = c.args.a.now in
     let b = c.args.b.now in
-    let now = c.in-Some-momenta_pair_64.now in
-    some_then (IsPointAfter64 (point_solved r.bodies.friction r.first (ends_with a b now)) r.first a b now) (IsRowAfter64 (row_solved r (both_ends a b)) r a b) c.solve_point_64.result
-    (λ n h. row_after (point_solved r.bodies.friction) r a b now n c.in-None.is c.requires.row c.in-Some-momenta_pair_64.ensures.same h) (simp to_z-of_z at c.solve_point_64.ensures.value)
-
-pub returns-in-Some-momenta_pair_64-clause-room : goal.returns-in-Some-momenta_pair_64-clause-room
-returns-in-Some-momenta_pair_64-clause-room c =
-    let friction : SFits w64 c.args.row.now.bodies.friction = search rules in
-    let some = simp to_z-of_z at c.solve_point_64.ensures.room in
-    λ room. some (subst (HasPointRoom64 c.args.row.now.bodies.friction c.args.row.now.first) (sym c.in-Some-momenta_pair_64.ensures.same) room.point)
+    let n = c.in-Some-solve_point_64.after_first in
+    let after = after_own (point_solved r.bodies.friction) r.first a b c.in-Some.now n c.in-Some.ensures.same (simp to_z-of_z at c.in-Some-solve_point_64.ensures.value) in
+    λ room. c.solve_second_64.ensures.room (second_room r.bodies.friction r.second (point_solved r.bodies.friction r.first (both_ends a b)) (with_point_impulses n.impulses r.first) (ends_with a b n.now) after.value room.second)
