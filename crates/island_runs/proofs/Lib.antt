@@ -1,0 +1,9 @@
+pub mod SumLaws
+pub mod HiddenLaws
+pub mod FairTurns
+pub mod PassApart
+pub mod WholeLaws
+pub mod RunApart
+pub mod BackLaws
+pub mod PartLaws
+pub mod StepLaws

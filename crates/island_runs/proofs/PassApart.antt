@@ -1,0 +1,187 @@
+-- A pass over the rows, as each share sees it, is the pass over the share's rows.
+use Rattle.std.proofs.Common.{◌≡◌, ℕ, zero, suc, ◌<◌, Bool, true, false, cond, List, [], ◌∷◌, length, get_or, set, refl, sym, ap, ap₂, ◌∙◌}
+use Rattle.std.specs.Prelude.{nat_eq}
+use Rattle.std.proofs.lemmas.List.{length-set, set-get_or}
+use Rattle.std.proofs.lemmas.List.Elements.{All-head, All-tail}
+use Rattle.fixed_geom.specs.Vectors.{plus, zero_vector}
+use Rattle.fixed_geom.specs.declared.vectors.Vec2.{Vec2}
+use Rattle.momenta.specs.declared.state.BodyState.{BodyState}
+use Rattle.momenta.specs.declared.state.Ends.{Ends}
+use Rattle.momenta.specs.Impulses.{AreSameBodies}
+use Rattle.colour_solver_base.specs.RowsAfter.{RowAfter}
+use Rattle.colour_solver.specs.declared.constraint_row.ConstraintRow.{ConstraintRow}
+use Rattle.colour_solver.specs.declared.turns.Slots.{Slots}
+use Rattle.colour_solver.specs.Colour.{is_mover}
+use Rattle.colour_solver.specs.ConstraintTurns.{constraint_slots}
+use Rattle.colour_solver.specs.States.{nobody}
+use Rattle.colour_solver.specs.Turns.{after, ends_of, got, passed, rows_passed, share, turn_of, with_ends}
+use Rattle.colour_solver.proofs.VectorLaws.{zero_plus}
+use Rattle.island_runs.specs.Apart.{AreShares, AreTogether, IsTogether, hidden, is_of, rows_of, seen, share_of, sum_below}
+use Rattle.island_runs.proofs.FairTurns.{IsFairTurn}
+use Rattle.island_runs.proofs.HiddenLaws.{get-hidden, hidden-set, seen_other, seen_own}
+use Rattle.island_runs.proofs.SumLaws.{added_apart, one_of, sum_alike, sum_none, sum_one}
+
+-- the same slots have movers
+abbrev pub SameMovers : List BodyState → List BodyState → Type 0
+SameMovers first now = (slot : ℕ) → is_mover now slot ≡ is_mover first slot
+
+set_moves : (ss : List BodyState) (i j : ℕ) (s : BodyState) → s.movable ≡ is_mover ss i → is_mover (set ss i s) j ≡ is_mover ss j
+set_moves [] i j s e = refl
+set_moves (a ∷ ss) zero zero s e = e
+set_moves (a ∷ ss) zero (suc j) s e = refl
+set_moves (a ∷ ss) (suc i) zero s e = refl
+set_moves (a ∷ ss) (suc i) (suc j) s e = set_moves ss i j s e
+
+-- ---- the share of a row
+
+below_if : (x : Bool) (i j n : ℕ) → i < n → j < n → cond x i j < n
+below_if true i j n h k = h
+below_if false i j n h k = k
+
+pub share_below : {R : Type 0} (at : R → Slots) (g : ℕ → ℕ) (n : ℕ) (first : List BodyState) (r : R) → AreShares g n → share_of at g first r < n
+share_below at g n first r shares = below_if (is_mover first (at r).a) (g (at r).a) (g (at r).b) n (shares (at r).a) (shares (at r).b)
+
+second_if : (x : Bool) (i j : ℕ) → (x ≡ true → i ≡ j) → cond x i j ≡ j
+second_if true i j h = h refl
+second_if false i j h = refl
+
+-- whether the movers of a row are of the share k
+record AreOf (g : ℕ → ℕ) (k : ℕ) (now : List BodyState) (slots : Slots) (t : Bool) : Type 0 where
+  a : is_mover now slots.a ≡ true → nat_eq (g slots.a) k ≡ t
+  b : is_mover now slots.b ≡ true → nat_eq (g slots.b) k ≡ t
+
+module _ (f : ConstraintRow → Ends → RowAfter ConstraintRow) (fair : IsFairTurn f) where
+  -- ---- what turns leave
+
+  after_moves : (ss : List BodyState) (r : ConstraintRow) → SameMovers ss (after constraint_slots f ss r)
+  after_moves ss r slot =
+      let s : Slots = constraint_slots r in
+      let e : Ends = ends_of constraint_slots ss r in
+      let t : Ends = (f r e).ends in
+      let same : AreSameBodies e t = (fair.ends r e).same in
+      set_moves (set ss s.a t.a) s.b slot t.b (same.b.movable ∙ sym (set_moves ss s.a s.b t.a same.a.movable)) ∙ set_moves ss s.a slot t.a same.a.movable
+
+  after_long : (ss : List BodyState) (r : ConstraintRow) → length (after constraint_slots f ss r) ≡ length ss
+  after_long ss r =
+      let s : Slots = constraint_slots r in
+      let t : Ends = (f r (ends_of constraint_slots ss r)).ends in
+      length-set (set ss s.a t.a) s.b t.b ∙ length-set ss s.a t.a
+
+  pub passed_moves : (rs : List ConstraintRow) (ss : List BodyState) → SameMovers ss (passed constraint_slots f ss rs)
+  passed_moves [] ss slot = refl
+  passed_moves (r ∷ rs) ss slot = passed_moves rs (after constraint_slots f ss r) slot ∙ after_moves ss r slot
+
+  pub passed_long : (rs : List ConstraintRow) (ss : List BodyState) → length (passed constraint_slots f ss rs) ≡ length ss
+  passed_long [] ss = refl
+  passed_long (r ∷ rs) ss = passed_long rs (after constraint_slots f ss r) ∙ after_long ss r
+
+module _ (f : ConstraintRow → Ends → RowAfter ConstraintRow) (fair : IsFairTurn f) (g : ℕ → ℕ) (first : List BodyState) where
+  are_of : (k : ℕ) (now : List BodyState) (r : ConstraintRow) (t : Bool) → SameMovers first now → IsTogether constraint_slots g first r → is_of constraint_slots g k first r ≡ t → AreOf g k now (constraint_slots r) t
+  are_of k now r t same together is =
+      let s : Slots = constraint_slots r in
+      record {
+        a = λ m. let moves : is_mover first s.a ≡ true = sym (same s.a) ∙ m in ap (λ (x : Bool). nat_eq (cond x (g s.a) (g s.b)) k) (sym moves) ∙ is;
+        b = λ m. let moves : is_mover first s.b ≡ true = sym (same s.b) ∙ m in
+            ap (λ (q : ℕ). nat_eq q k) (sym (second_if (is_mover first s.a) (g s.a) (g s.b) (λ h. together h moves))) ∙ is;
+      }
+
+  -- ---- one turn
+
+  own_ends : (k : ℕ) (ss : List BodyState) (r : ConstraintRow) → AreOf g k ss (constraint_slots r) true → ends_of constraint_slots (hidden g k ss) r ≡ ends_of constraint_slots ss r
+  own_ends k ss r own =
+      let s : Slots = constraint_slots r in
+      let at_a : get_or (hidden g k ss) s.a nobody ≡ get_or ss s.a nobody = get-hidden g k ss s.a ∙ seen_own g k s.a (get_or ss s.a nobody) own.a in
+      let at_b : get_or (hidden g k ss) s.b nobody ≡ get_or ss s.b nobody = get-hidden g k ss s.b ∙ seen_own g k s.b (get_or ss s.b nobody) own.b in
+      λ i. record { a = at_a i; b = at_b i }
+
+  own_turn : (k : ℕ) (ss : List BodyState) (r : ConstraintRow) → AreOf g k ss (constraint_slots r) true → turn_of constraint_slots f (hidden g k ss) r ≡ turn_of constraint_slots f ss r
+  own_turn k ss r own = ap (f r) (own_ends k ss r own)
+
+  -- a share sees the turn of its own row
+  own_after : (k : ℕ) (ss : List BodyState) (r : ConstraintRow) → AreOf g k ss (constraint_slots r) true → hidden g k (after constraint_slots f ss r) ≡ after constraint_slots f (hidden g k ss) r
+  own_after k ss r own =
+      let s : Slots = constraint_slots r in
+      let e : Ends = ends_of constraint_slots ss r in
+      let t : Ends = (f r e).ends in
+      let same : AreSameBodies e t = (fair.ends r e).same in
+      let seen_a : seen g k s.a t.a ≡ t.a = seen_own g k s.a t.a (λ m. own.a (sym same.a.movable ∙ m)) in
+      let seen_b : seen g k s.b t.b ≡ t.b = seen_own g k s.b t.b (λ m. own.b (sym same.b.movable ∙ m)) in
+      let set_a : hidden g k (set ss s.a t.a) ≡ set (hidden g k ss) s.a t.a = hidden-set g k ss s.a t.a ∙ ap (set (hidden g k ss) s.a) seen_a in
+      let set_b : hidden g k (set (set ss s.a t.a) s.b t.b) ≡ set (set (hidden g k ss) s.a t.a) s.b t.b = hidden-set g k (set ss s.a t.a) s.b t.b ∙ (λ i. set (set_a i) s.b (seen_b i)) in
+      set_b ∙ ap (λ (x : RowAfter ConstraintRow). with_ends constraint_slots (hidden g k ss) r x.ends) (sym (own_turn k ss r own))
+
+  -- and nothing of the turn of another row
+  other_after : (k : ℕ) (ss : List BodyState) (r : ConstraintRow) → AreOf g k ss (constraint_slots r) false → hidden g k (after constraint_slots f ss r) ≡ hidden g k ss
+  other_after k ss r other =
+      let s : Slots = constraint_slots r in
+      let e : Ends = ends_of constraint_slots ss r in
+      let t : Ends = (f r e).ends in
+      let same : AreSameBodies e t = (fair.ends r e).same in
+      let all : List BodyState = hidden g k ss in
+      let seen_a : seen g k s.a t.a ≡ get_or all s.a nobody = seen_other g k s.a e.a t.a same.a other.a ∙ sym (get-hidden g k ss s.a) in
+      let seen_b : seen g k s.b t.b ≡ get_or all s.b nobody = seen_other g k s.b e.b t.b same.b other.b ∙ sym (get-hidden g k ss s.b) in
+      let set_a : hidden g k (set ss s.a t.a) ≡ all = hidden-set g k ss s.a t.a ∙ (ap (set all s.a) seen_a ∙ set-get_or all s.a nobody) in
+      let set_b : hidden g k (set (set ss s.a t.a) s.b t.b) ≡ set all s.b (get_or all s.b nobody) = hidden-set g k (set ss s.a t.a) s.b t.b ∙ (λ i. set (set_a i) s.b (seen_b i)) in
+      set_b ∙ set-get_or all s.b nobody
+
+  -- ---- all turns
+
+  passed_step : (k : ℕ) (ss : List BodyState) (r : ConstraintRow) (rs : List ConstraintRow) (t : Bool) → AreOf g k ss (constraint_slots r) t
+      → passed constraint_slots f (hidden g k ss) (cond t (r ∷ rs) rs) ≡ passed constraint_slots f (hidden g k (after constraint_slots f ss r)) rs
+  passed_step k ss r rs true of = ap (λ (l : List BodyState). passed constraint_slots f l rs) (sym (own_after k ss r of))
+  passed_step k ss r rs false of = ap (λ (l : List BodyState). passed constraint_slots f l rs) (sym (other_after k ss r of))
+
+  pub passed_apart : (k : ℕ) (rs : List ConstraintRow) (ss : List BodyState) → SameMovers first ss → AreTogether constraint_slots g first rs
+      → hidden g k (passed constraint_slots f ss rs) ≡ passed constraint_slots f (hidden g k ss) (rows_of constraint_slots g k first rs)
+  passed_apart k [] ss same together = refl
+  passed_apart k (r ∷ rs) ss same together =
+      let is : IsTogether constraint_slots g first r = All-head (IsTogether constraint_slots g first) r rs together in
+      let rest : AreTogether constraint_slots g first rs = All-tail (IsTogether constraint_slots g first) r rs together in
+      let t : Bool = is_of constraint_slots g k first r in
+      passed_apart k rs (after constraint_slots f ss r) (λ slot. after_moves f fair ss r slot ∙ same slot) rest
+      ∙ sym (passed_step k ss r (rows_of constraint_slots g k first rs) t (are_of k ss r t same is refl))
+
+  rows_step : (k : ℕ) (ss : List BodyState) (r : ConstraintRow) (rs turned : List ConstraintRow) (t : Bool) → AreOf g k ss (constraint_slots r) t
+      → turned ≡ rows_passed constraint_slots f (hidden g k (after constraint_slots f ss r)) rs
+      → cond t ((turn_of constraint_slots f ss r).row ∷ turned) turned ≡ rows_passed constraint_slots f (hidden g k ss) (cond t (r ∷ rs) rs)
+  rows_step k ss r rs turned true of e =
+      let here = own_turn k ss r of in
+      let rest : turned ≡ rows_passed constraint_slots f (after constraint_slots f (hidden g k ss) r) rs = e ∙ ap (λ (l : List BodyState). rows_passed constraint_slots f l rs) (own_after k ss r of) in
+      ap₂ (λ (x : RowAfter ConstraintRow) (l : List ConstraintRow). x.row ∷ l) (sym here) rest
+  rows_step k ss r rs turned false of e = e ∙ ap (λ (l : List BodyState). rows_passed constraint_slots f l rs) (other_after k ss r of)
+
+  pub rows_apart : (k : ℕ) (rs : List ConstraintRow) (ss : List BodyState) → SameMovers first ss → AreTogether constraint_slots g first rs
+      → rows_of constraint_slots g k first (rows_passed constraint_slots f ss rs) ≡ rows_passed constraint_slots f (hidden g k ss) (rows_of constraint_slots g k first rs)
+  rows_apart k [] ss same together = refl
+  rows_apart k (r ∷ rs) ss same together =
+      let is : IsTogether constraint_slots g first r = All-head (IsTogether constraint_slots g first) r rs together in
+      let rest : AreTogether constraint_slots g first rs = All-tail (IsTogether constraint_slots g first) r rs together in
+      let t : Bool = is_of constraint_slots g k first r in
+      let row : ConstraintRow = (turn_of constraint_slots f ss r).row in
+      let turned : List ConstraintRow = rows_of constraint_slots g k first (rows_passed constraint_slots f (after constraint_slots f ss r) rs) in
+      let more = rows_apart k rs (after constraint_slots f ss r) (λ slot. after_moves f fair ss r slot ∙ same slot) rest in
+      let stays : is_of constraint_slots g k first row ≡ t = ap (λ (s : Slots). nat_eq (cond (is_mover first s.a) (g s.a) (g s.b)) k) (fair.slots r (ends_of constraint_slots ss r)) in
+      ap (λ (x : Bool). cond x (row ∷ turned) turned) stays ∙ rows_step k ss r (rows_of constraint_slots g k first rs) turned t (are_of k ss r t same is refl) more
+
+  share_step : (k : ℕ) (ss : List BodyState) (r : ConstraintRow) (rs : List ConstraintRow) (t : Bool) → AreOf g k ss (constraint_slots r) t
+      → plus (cond t (got (ends_of constraint_slots ss r) (turn_of constraint_slots f ss r).ends) zero_vector) (share constraint_slots f (hidden g k (after constraint_slots f ss r)) rs) ≡ share constraint_slots f (hidden g k ss) (cond t (r ∷ rs) rs)
+  share_step k ss r rs true of =
+      let ends = own_ends k ss r of in
+      let rest = own_after k ss r of in
+      λ i. plus (got (sym ends i) (f r (sym ends i)).ends) (share constraint_slots f (rest i) rs)
+  share_step k ss r rs false of = zero_plus _ ∙ ap (λ (l : List BodyState). share constraint_slots f l rs) (other_after k ss r of)
+
+  pub share_apart : (n : ℕ) → AreShares g n → (rs : List ConstraintRow) (ss : List BodyState) → SameMovers first ss → AreTogether constraint_slots g first rs
+      → share constraint_slots f ss rs ≡ sum_below n (λ k. share constraint_slots f (hidden g k ss) (rows_of constraint_slots g k first rs))
+  share_apart n shares [] ss same together = sym (sum_none n)
+  share_apart n shares (r ∷ rs) ss same together =
+      let is : IsTogether constraint_slots g first r = All-head (IsTogether constraint_slots g first) r rs together in
+      let rest : AreTogether constraint_slots g first rs = All-tail (IsTogether constraint_slots g first) r rs together in
+      let q : ℕ = share_of constraint_slots g first r in
+      let v : Vec2 = got (ends_of constraint_slots ss r) (turn_of constraint_slots f ss r).ends in
+      let behind : ℕ → Vec2 = λ k. share constraint_slots f (hidden g k (after constraint_slots f ss r)) (rows_of constraint_slots g k first rs) in
+      let more = share_apart n shares rs (after constraint_slots f ss r) (λ slot. after_moves f fair ss r slot ∙ same slot) rest in
+      let each : (k : ℕ) → plus (one_of q v k) (behind k) ≡ share constraint_slots f (hidden g k ss) (rows_of constraint_slots g k first (r ∷ rs)) = λ k.
+      share_step k ss r (rows_of constraint_slots g k first rs) (nat_eq q k) (are_of k ss r (nat_eq q k) same is refl) in
+      added_apart n v (share constraint_slots f (after constraint_slots f ss r) rs) (one_of q v) behind (sym (sum_one n q v (share_below constraint_slots g n first r shares))) more
+      ∙ sum_alike n (λ k. plus (one_of q v k) (behind k)) (λ k. share constraint_slots f (hidden g k ss) (rows_of constraint_slots g k first (r ∷ rs))) (λ k lt. each k)

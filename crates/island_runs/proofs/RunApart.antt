@@ -1,0 +1,243 @@
+-- The ticks and the restitution, as each share sees them, are those of the share; and its sums add up.
+use Rattle.std.proofs.Common.{◌≡◌, ℕ, zero, suc, true, List, [], ◌∷◌, length, map, arith, refl, sym, ap, ◌∙◌, subst}
+use Rattle.std.specs.Prelude.{All}
+use Rattle.std.proofs.lemmas.List.Elements.{All-cons, All-head, All-map, All-tail}
+use Rattle.fixed_geom.specs.Vectors.{plus}
+use Rattle.fixed_geom.specs.declared.vectors.Vec2.{Vec2}
+use Rattle.momenta.specs.Motions.{advanced, clamped, pulled}
+use Rattle.momenta.specs.declared.mass.MassData.{MassData}
+use Rattle.momenta.specs.declared.motion.Motion.{Motion}
+use Rattle.momenta.specs.declared.state.BodyState.{BodyState}
+use Rattle.momenta.specs.declared.state.Ends.{Ends}
+use Rattle.colour_solver_base.specs.RowsAfter.{RowAfter}
+use Rattle.colour_solver.specs.declared.constraint_row.ConstraintRow.{ConstraintRow}
+use Rattle.colour_solver.specs.declared.turns.Slots.{Slots}
+use Rattle.colour_solver.specs.Colour.{is_mover}
+use Rattle.colour_solver.specs.ConstraintTurns.{constraint_bounced, constraint_slots, constraint_solved, constraint_warmed, is_joint}
+use Rattle.colour_solver.specs.Passes.{carried_along, carry, changed, gain, pass}
+use Rattle.colour_solver.specs.States.{AreSameBeside, total}
+use Rattle.colour_solver.specs.Ticks.{Run, carry_all, clamp_all, pull_all, ran, start, tick, ticks, turn_all}
+use Rattle.colour_solver.specs.Turns.{passed, rows_passed, share}
+use Rattle.colour_solver.proofs.CourseLaws.{beside_on, beside_same, total-carry}
+use Rattle.colour_solver.proofs.VectorLaws.{plus_zero}
+use Rattle.colour_solver.proofs.SlotLaws.{passed_same}
+use Rattle.island_runs.specs.Apart.{added_in, AreShares, AreTogether, hidden, ran_of, rows_of, start_of, sum_below}
+use Rattle.island_runs.specs.Laws.{RunsAreApart}
+use Rattle.island_runs.proofs.FairTurns.{IsFairTurn, all_bounced_fair, all_solved_fair, all_warmed_fair}
+use Rattle.island_runs.proofs.HiddenLaws.{beside-map, hidden-map}
+use Rattle.island_runs.proofs.PassApart.{SameMovers, passed_apart, passed_long, passed_moves, rows_apart, share_apart}
+use Rattle.island_runs.proofs.WholeLaws.{ArePlaced, IsPlaced, along_is, changed_is, gain_apart, more_clamp, more_gravity, more_immovable, same-passed, same_still, total-pass, total-passed}
+use Rattle.island_runs.proofs.SumLaws.{added_apart, sum_alike, sum_none}
+
+-- ---- what a run keeps of the bodies and rows with which it began
+
+pub record IsKept (first : List BodyState) (before : List ConstraintRow) (r : Run) : Type 0 where
+  pub movers : SameMovers first r.states
+  pub long : length r.states ≡ length first
+  pub slots : map constraint_slots r.rows ≡ map constraint_slots before
+  pub kinds : map is_joint r.rows ≡ map is_joint before
+
+all_unmapped : {X Y : Type 0} (f : X → Y) (P : Y → Type 0) (xs : List X) → All P (map f xs) → All (λ (x : X). P (f x)) xs
+all_unmapped f P [] all = λ k d lt. absurd (omega (arith, lt))
+all_unmapped f P (x ∷ xs) all = All-cons (λ y. P (f y)) x xs (All-head P (f x) (map f xs) all) (all_unmapped f P xs (All-tail P (f x) (map f xs) all))
+
+-- what is told by the slots of rows alone stays
+pub slots_kept : (first : List BodyState) (before : List ConstraintRow) (r : Run) → IsKept first before r → (P : Slots → Type 0) → All (λ x. P (constraint_slots x)) before → All (λ x. P (constraint_slots x)) r.rows
+slots_kept first before r kept P all = all_unmapped constraint_slots P r.rows (subst (All P) (sym kept.slots) (All-map P constraint_slots before all))
+
+-- so do the shares of two movers of one row
+pub together_kept : (g : ℕ → ℕ) (first : List BodyState) (before : List ConstraintRow) (r : Run) → IsKept first before r → AreTogether constraint_slots g first before → AreTogether constraint_slots g first r.rows
+together_kept g first before r kept together =
+    slots_kept first before r kept (λ s. is_mover first s.a ≡ true → is_mover first s.b ≡ true → g s.a ≡ g s.b) together
+
+-- and where the bodies of a row stand, if the run has as many
+placed_kept : (first : List BodyState) (before : List ConstraintRow) (r : Run) → IsKept first before r → ArePlaced (length first) before → ArePlaced (length r.states) r.rows
+placed_kept first before r kept placed = subst (λ (n : ℕ). ArePlaced n r.rows) (sym kept.long) (slots_kept first before r kept (IsPlaced (length first)) placed)
+
+-- ---- acts
+
+-- each share sees its run of the whole
+pub record IsSeen (g : ℕ → ℕ) (first : List BodyState) (r : Run) (part : ℕ → Run) : Type 0 where
+  pub states : (k : ℕ) → hidden g k r.states ≡ (part k).states
+  pub rows : (k : ℕ) → rows_of constraint_slots g k first r.rows ≡ (part k).rows
+
+-- what was added to the momentum is the sum over the shares below n
+record IsAdded (n : ℕ) (r : Run) (part : ℕ → Run) : Type 0 where
+  gravity : r.gravity ≡ sum_below n (λ k. (part k).gravity)
+  immovable : r.immovable ≡ sum_below n (λ k. (part k).immovable)
+  clamp : r.clamp ≡ sum_below n (λ k. (part k).clamp)
+
+-- what stands and what bodies are is left alone, and the movers' momentum has grown by what was added
+pub record IsWhole (first : List BodyState) (r : Run) : Type 0 where
+  pub same : AreSameBeside first r.states
+  pub momentum : total r.states ≡ plus (total first) (added_in r)
+
+-- what an act of all bodies keeps, what each share sees of it, what it adds, and what it leaves alone
+record IsAct (h : Run → Run) : Type 0 where
+  kept : (first : List BodyState) (before : List ConstraintRow) (r : Run) → IsKept first before r → IsKept first before (h r)
+  seen : (g : ℕ → ℕ) (first : List BodyState) (before : List ConstraintRow) (r : Run) (part : ℕ → Run) → AreTogether constraint_slots g first before → IsKept first before r → IsSeen g first r part → IsSeen g first (h r) (λ k. h (part k))
+  added : (g : ℕ → ℕ) (n : ℕ) (first : List BodyState) (before : List ConstraintRow) (r : Run) (part : ℕ → Run) → AreShares g n → AreTogether constraint_slots g first before → IsKept first before r → IsSeen g first r part → IsAdded n r part → IsAdded n (h r) (λ k. h (part k))
+  whole : (first : List BodyState) (before : List ConstraintRow) (r : Run) → ArePlaced (length first) before → IsKept first before r → IsWhole first r → IsWhole first (h r)
+
+-- one act after another
+then_act : (h i : Run → Run) → IsAct h → IsAct i → IsAct (λ r. i (h r))
+then_act h i one more = record {
+  kept = λ first before r kept. more.kept first before (h r) (one.kept first before r kept);
+  seen = λ g first before r part together kept seen. more.seen g first before (h r) (λ k. h (part k)) together (one.kept first before r kept) (one.seen g first before r part together kept seen);
+  added = λ g n first before r part shares together kept seen added.
+      more.added g n first before (h r) (λ k. h (part k)) shares together (one.kept first before r kept) (one.seen g first before r part together kept seen) (one.added g n first before r part shares together kept seen added);
+  whole = λ first before r placed kept whole. more.whole first before (h r) placed (one.kept first before r kept) (one.whole first before r placed kept whole);
+}
+
+-- a change of each body, with what it adds to the momentum
+changed_gain : (f : MassData → Motion → Motion) (g : ℕ → ℕ) (n : ℕ) (first : List BodyState) (r : Run) (part : ℕ → Run) → AreShares g n → IsSeen g first r part → gain f r.states ≡ sum_below n (λ k. gain f (part k).states)
+changed_gain f g n first r part shares seen =
+    gain_apart f g n shares r.states ∙ sum_alike n (λ k. gain f (hidden g k r.states)) (λ k. gain f (part k).states) (λ k lt. ap (gain f) (seen.states k))
+
+pull_act : (v : Vec2) → IsAct (pull_all v)
+pull_act v = record {
+  kept = λ first before r kept. record {
+    movers = λ slot. (beside-map (changed (pulled v)) (changed_is (pulled v)) r.states).movable slot ∙ kept.movers slot;
+    long = (beside-map (changed (pulled v)) (changed_is (pulled v)) r.states).long ∙ kept.long;
+    slots = kept.slots;
+    kinds = kept.kinds;
+  };
+  seen = λ g first before r part together kept seen. record {
+    states = λ k. hidden-map (changed (pulled v)) (changed_is (pulled v)) g k r.states ∙ ap (pass (pulled v)) (seen.states k);
+    rows = seen.rows;
+  };
+  added = λ g n first before r part shares together kept seen added. record {
+    gravity = added_apart n r.gravity (gain (pulled v) r.states) (λ k. (part k).gravity) (λ k. gain (pulled v) (part k).states) added.gravity (changed_gain (pulled v) g n first r part shares seen);
+    immovable = added.immovable;
+    clamp = added.clamp;
+  };
+  whole = λ first before r placed kept whole. record {
+    same = beside_on first r.states (pass (pulled v) r.states) whole.same (beside-map (changed (pulled v)) (changed_is (pulled v)) r.states);
+    momentum = more_gravity (total (pass (pulled v) r.states)) (total r.states) (total first) r.gravity r.immovable r.clamp (gain (pulled v) r.states) (total-pass (pulled v) r.states) whole.momentum;
+  };
+}
+
+clamp_act : (f : MassData → Motion → Motion) → IsAct (clamp_all f)
+clamp_act f = record {
+  kept = λ first before r kept. record {
+    movers = λ slot. (beside-map (changed f) (changed_is f) r.states).movable slot ∙ kept.movers slot;
+    long = (beside-map (changed f) (changed_is f) r.states).long ∙ kept.long;
+    slots = kept.slots;
+    kinds = kept.kinds;
+  };
+  seen = λ g first before r part together kept seen. record {
+    states = λ k. hidden-map (changed f) (changed_is f) g k r.states ∙ ap (pass f) (seen.states k);
+    rows = seen.rows;
+  };
+  added = λ g n first before r part shares together kept seen added. record {
+    gravity = added.gravity;
+    immovable = added.immovable;
+    clamp = added_apart n r.clamp (gain f r.states) (λ k. (part k).clamp) (λ k. gain f (part k).states) added.clamp (changed_gain f g n first r part shares seen);
+  };
+  whole = λ first before r placed kept whole. record {
+    same = beside_on first r.states (pass f r.states) whole.same (beside-map (changed f) (changed_is f) r.states);
+    momentum = more_clamp (total (pass f r.states)) (total r.states) (total first) r.gravity r.immovable r.clamp (gain f r.states) (total-pass f r.states) whole.momentum;
+  };
+}
+
+carry_act : IsAct carry_all
+carry_act = record {
+  kept = λ first before r kept. record {
+    movers = λ slot. (beside-map carried_along along_is r.states).movable slot ∙ kept.movers slot;
+    long = (beside-map carried_along along_is r.states).long ∙ kept.long;
+    slots = kept.slots;
+    kinds = kept.kinds;
+  };
+  seen = λ g first before r part together kept seen. record {
+    states = λ k. hidden-map carried_along along_is g k r.states ∙ ap carry (seen.states k);
+    rows = seen.rows;
+  };
+  added = λ g n first before r part shares together kept seen added. record { gravity = added.gravity; immovable = added.immovable; clamp = added.clamp };
+  whole = λ first before r placed kept whole. record {
+    same = beside_on first r.states (carry r.states) whole.same (beside-map carried_along along_is r.states);
+    momentum = total-carry r.states ∙ whole.momentum;
+  };
+}
+
+turn_act : (f : ConstraintRow → Ends → RowAfter ConstraintRow) → IsFairTurn f → IsAct (turn_all f)
+turn_act f fair = record {
+  kept = λ first before r kept. record {
+    movers = λ slot. passed_moves f fair r.rows r.states slot ∙ kept.movers slot;
+    long = passed_long f fair r.rows r.states ∙ kept.long;
+    slots = passed_same constraint_slots f constraint_slots fair.slots r.states r.rows ∙ kept.slots;
+    kinds = passed_same constraint_slots f is_joint fair.kind r.states r.rows ∙ kept.kinds;
+  };
+  seen = λ g first before r part together kept seen. record {
+    states = λ k. passed_apart f fair g first k r.rows r.states kept.movers (together_kept g first before r kept together) ∙ (λ i. passed constraint_slots f (seen.states k i) (seen.rows k i));
+    rows = λ k. rows_apart f fair g first k r.rows r.states kept.movers (together_kept g first before r kept together) ∙ (λ i. rows_passed constraint_slots f (seen.states k i) (seen.rows k i));
+  };
+  added = λ g n first before r part shares together kept seen added. record {
+    gravity = added.gravity;
+    immovable = added_apart n r.immovable (share constraint_slots f r.states r.rows) (λ k. (part k).immovable) (λ k. share constraint_slots f (part k).states (part k).rows) added.immovable
+        (share_apart f fair g first n shares r.rows r.states kept.movers (together_kept g first before r kept together)
+        ∙ sum_alike n (λ k. share constraint_slots f (hidden g k r.states) (rows_of constraint_slots g k first r.rows)) (λ k. share constraint_slots f (part k).states (part k).rows)
+        (λ k lt i. share constraint_slots f (seen.states k i) (seen.rows k i)));
+    clamp = added.clamp;
+  };
+  whole = λ first before r placed kept whole.
+      let at : ArePlaced (length r.states) r.rows = placed_kept first before r kept placed in
+      let now : List BodyState = passed constraint_slots f r.states r.rows in
+      record {
+        same = beside_on first r.states now whole.same (beside_same r.states now (same-passed f fair r.rows r.states at));
+        momentum = more_immovable (total now) (total r.states) (total first) r.gravity r.immovable r.clamp (share constraint_slots f r.states r.rows) (total-passed f fair r.rows r.states at) whole.momentum;
+      };
+}
+
+-- ---- a tick, all ticks, and the restitution
+
+tick_act : (v : Vec2) → IsAct (tick v)
+unfolding tick
+tick_act v =
+    then_act (pull_all v) (λ r. carry_all (clamp_all advanced (clamp_all clamped (turn_all constraint_solved (turn_all constraint_warmed (clamp_all clamped r)))))) (pull_act v)
+    (then_act (clamp_all clamped) (λ r. carry_all (clamp_all advanced (clamp_all clamped (turn_all constraint_solved (turn_all constraint_warmed r))))) (clamp_act clamped)
+    (then_act (turn_all constraint_warmed) (λ r. carry_all (clamp_all advanced (clamp_all clamped (turn_all constraint_solved r)))) (turn_act constraint_warmed all_warmed_fair)
+    (then_act (turn_all constraint_solved) (λ r. carry_all (clamp_all advanced (clamp_all clamped r))) (turn_act constraint_solved all_solved_fair)
+    (then_act (clamp_all clamped) (λ r. carry_all (clamp_all advanced r)) (clamp_act clamped)
+    (then_act (clamp_all advanced) carry_all (clamp_act advanced) carry_act)))))
+
+no_act : IsAct (λ r. r)
+no_act = record {
+  kept = λ first before r kept. kept;
+  seen = λ g first before r part together kept seen. seen;
+  added = λ g n first before r part shares together kept seen added. added;
+  whole = λ first before r placed kept whole. whole;
+}
+
+ticks_act : (count : ℕ) (v : Vec2) → IsAct (ticks count v)
+ticks_act zero v = no_act
+ticks_act (suc count) v = then_act (ticks count v) (tick v) (ticks_act count v) (tick_act v)
+
+ran_act : (count : ℕ) (v : Vec2) → IsAct (ran count v)
+unfolding ran
+ran_act count v = then_act (ticks count v) (turn_all constraint_bounced) (ticks_act count v) (turn_act constraint_bounced all_bounced_fair)
+
+-- ---- from the start
+
+start_kept : (states : List BodyState) (rows : List ConstraintRow) → IsKept states rows (start states rows)
+start_kept states rows = record { movers = λ slot. refl; long = refl; slots = refl; kinds = refl }
+
+start_seen : (g : ℕ → ℕ) (states : List BodyState) (rows : List ConstraintRow) → IsSeen g states (start states rows) (λ k. start_of g k states rows)
+start_seen g states rows = record { states = λ k. refl; rows = λ k. refl }
+
+pub ran_kept : (count : ℕ) (v : Vec2) (states : List BodyState) (rows : List ConstraintRow) → IsKept states rows (ran count v (start states rows))
+ran_kept count v states rows = (ran_act count v).kept states rows (start states rows) (start_kept states rows)
+
+pub ran_seen : (g : ℕ → ℕ) (count : ℕ) (v : Vec2) (states : List BodyState) (rows : List ConstraintRow) → AreTogether constraint_slots g states rows → IsSeen g states (ran count v (start states rows)) (λ k. ran_of count v g k states rows)
+ran_seen g count v states rows together = (ran_act count v).seen g states rows (start states rows) (λ k. start_of g k states rows) together (start_kept states rows) (start_seen g states rows)
+
+pub ran_whole : (count : ℕ) (v : Vec2) (states : List BodyState) (rows : List ConstraintRow) → ArePlaced (length states) rows → IsWhole states (ran count v (start states rows))
+ran_whole count v states rows placed =
+    (ran_act count v).whole states rows (start states rows) placed (start_kept states rows) (record { same = beside_same states states (same_still states); momentum = sym (plus_zero (total states)) })
+
+pub runs_apart : RunsAreApart
+runs_apart g n count v states rows shares together =
+    let seen = ran_seen g count v states rows together in
+    let none = sum_none n in
+    let at_first : IsAdded n (start states rows) (λ k. start_of g k states rows) = record { gravity = sym none; immovable = sym none; clamp = sym none } in
+    let added = (ran_act count v).added g n states rows (start states rows) (λ k. start_of g k states rows) shares together (start_kept states rows) (start_seen g states rows) at_first in
+    record { states = seen.states; rows = seen.rows; gravity = added.gravity; immovable = added.immovable; clamp = added.clamp }
