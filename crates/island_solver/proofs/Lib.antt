@@ -1,0 +1,7 @@
+mod SeeLaws
+mod TogetherLaws
+mod SeatLaws
+mod ReadLaws
+mod SumSteps
+mod SolvedLaws
+mod CursorLaws

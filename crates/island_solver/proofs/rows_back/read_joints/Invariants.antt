@@ -1,0 +1,20 @@
+use Rattle.std.proofs.Common.{◌≡◌, ◌≤◌, ◌+◌, ◌-◌, ◌++◌, List, [], length, map}
+use Rattle.joint_rows.specs.declared.row.JointRow.{JointRow}
+use Rattle.colour_solver.specs.ConstraintTurns.{contacts_among, joint_slots, joints_among}
+use Rattle.colour_solver.specs.Turns.{between}
+use Rattle.colour_solver.specs.declared.constraint_row.ConstraintRow.TheVariants.{Joint}
+use Rattle.island_runs.specs.ReadBack.{AreRowsBack}
+use Rattle.island_solver.specs.ReadingBack.{AreCursors}
+use Rattle.island_solver.specs.Shares.{run_at, share_at}
+use Rattle.island_solver.proofs.rows_back.read_joints.Given as goal
+
+abbrev pub invariant-loop-index : goal.invariant-loop-index
+invariant-loop-index l = record {
+  left : (now : List JointRow) → AreRowsBack joint_slots (share_at l.shares) l.states l.joints (λ k. joints_among (run_at l.parts k).rows) now → length now ≡ length l.joints → l.out.left ≡ l.fn.out.left ++ map Joint (between l.start l.index now);
+  first : contacts_among l.out.left ≡ [];
+  colours : l.out.colours ≡ l.fn.out.colours;
+  room : l.fn.out.room ≤ l.out.room + (l.index - l.start);
+  more : l.out.more ≡ l.fn.out.more;
+  cursors : AreCursors joint_slots (share_at l.shares) l.states l.joints l.index l.cursors.items;
+  as_many : length l.cursors.items ≡ length l.fn.cursors.items;
+}

@@ -1,0 +1,14 @@
+use Rattle.std.proofs.Common.{◌≡◌, ◌≤◌, ◌+◌, ◌++◌, drop, map}
+use Rattle.colour_solver.specs.ConstraintTurns.{contact_slots}
+use Rattle.colour_solver.specs.declared.constraint_row.ConstraintRow.TheVariants.{Contact}
+use Rattle.island_runs.specs.Apart.{rows_of}
+use Rattle.island_solver.specs.Shares.{share_at}
+use Rattle.island_solver.proofs.seeing.see_contacts.Given as goal
+
+abbrev pub invariant-loop-index : goal.invariant-loop-index
+invariant-loop-index l = record {
+  done : l.out.left ++ map Contact (rows_of contact_slots (share_at l.shares) l.number l.states (drop l.index l.contacts)) ≡ l.fn.out.left ++ map Contact (rows_of contact_slots (share_at l.shares) l.number l.states l.contacts);
+  colours : l.out.colours ≡ l.fn.out.colours;
+  room : l.fn.out.room ≤ l.out.room + l.index;
+  more : l.out.more ≡ l.fn.out.more;
+}
