@@ -1,0 +1,4 @@
+pub mod Sums
+pub mod BodyWords
+pub mod ConstraintWords
+pub mod Digests

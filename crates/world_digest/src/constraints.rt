@@ -1,0 +1,110 @@
+//! Joints, contacts and colours as words.
+
+ghost use Rattle.std.specs.Prelude.{◌≡◌};
+ghost use Rattle.world_digest.specs.ConstraintWords.{colours_words, constraint_words, contact_words, handle_words, joint_words, key_words, point_words, row_joint_words};
+ghost use Rattle.world_digest.specs.Sums.{absorbed_all};
+ghost use Rattle.graph_colours.specs.declared.limits.TheConstants.{COLOURS};
+ghost use Rattle.std.specs.Prelude.{◌+◌};
+
+use crate::sums::Sums;
+use crate::words::{Words, tell_all};
+use body_handles::Handle;
+use contacts::Constraint;
+use contacts_base::{ContactEntry, ContactKey, ContactPoint};
+use graph_colours::COLOURS;
+use joint_rows::Joint;
+use plain_world::{BodyJoint, Plain};
+
+impl Words for Joint {
+    ghost words = { λ j. row_joint_words j };
+
+    fn tell(&self, sums: &mut Sums) {
+        self.from.tell(sums);
+        self.to.tell(sums);
+        sums.integer(self.length);
+        sums.integer(self.impulse);
+    }
+}
+
+impl Words for BodyJoint {
+    ghost words = { λ j. joint_words j };
+
+    fn tell(&self, sums: &mut Sums) {
+        sums.natural(u64::from(self.a));
+        sums.natural(u64::from(self.b));
+        sums.truth(self.collide);
+        self.joint.tell(sums);
+    }
+}
+
+impl Words for ContactKey {
+    ghost words = { λ k. key_words k };
+
+    fn tell(&self, sums: &mut Sums) {
+        sums.natural(self.first.number());
+        sums.natural(self.second.number());
+    }
+}
+
+impl Words for ContactPoint {
+    ghost words = { λ p. point_words p };
+
+    #[inline(always)]
+    fn tell(&self, sums: &mut Sums) {
+        self.normal.tell(sums);
+        sums.integer(self.separation);
+        self.ra.tell(sums);
+        self.rb.tell(sums);
+        sums.integer(self.normal_impulse);
+        sums.integer(self.tangent_impulse);
+        sums.natural(self.candidate);
+    }
+}
+
+impl Words for ContactEntry {
+    ghost words = { λ e. contact_words e };
+
+    fn tell(&self, sums: &mut Sums) {
+        let surface = self.surface.get();
+        self.key.tell(sums);
+        sums.integer(surface.friction);
+        sums.integer(surface.restitution);
+        self.contact.first().tell(sums);
+        self.contact.second().tell(sums);
+    }
+}
+
+impl Words for Handle {
+    ghost words = { λ h. handle_words h };
+
+    fn tell(&self, sums: &mut Sums) {
+        sums.natural(u64::from(self.slot));
+        sums.natural(u64::from(self.generation));
+    }
+}
+
+impl Words for Constraint {
+    ghost words = { λ c. constraint_words c };
+
+    fn tell(&self, sums: &mut Sums) {
+        match self {
+            Constraint::Joint(handle) => {
+                sums.natural(0);
+                handle.tell(sums);
+            }
+            Constraint::Contact(key) => {
+                sums.natural(1);
+                key.tell(sums);
+            }
+        }
+    }
+}
+
+/// The constraints of each colour, those in the overflow last.
+pub(crate) fn tell_colours(plain: &Plain, sums: &mut Sums)
+    ensures { sums.new ≡ absorbed_all sums.old (colours_words plain.now.colours (COLOURS + 1)) }
+{
+    for colour in 0..COLOURS + 1 {
+        tell_all(plain.members(colour), sums);
+    }
+}

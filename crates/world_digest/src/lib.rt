@@ -1,0 +1,13 @@
+//! The digest of a world: 32 bytes that tell two worlds apart.
+//!
+//! A world is told as words of 64 bits, in one order (`Words`). Four sums take the words in turn (`Sums`), and the digest is the
+//! SHA-256 of the sums. Worlds with the same plain lists, counts and totals have the same digest. It takes no memory.
+#![tactic(auto)]
+
+mod bodies;
+mod constraints;
+mod digests;
+mod sums;
+mod words;
+
+pub use digests::digest;
