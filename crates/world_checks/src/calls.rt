@@ -10,7 +10,7 @@ use world_core::{
     BodyView, Census, Command, Constraint, Events, Frame, Handle, Item, Plain, Pose, Refusal,
     Reply, ShapeId, Vec2, WorldCore,
 };
-use world_queries::Hit;
+use world_queries::{Hit, QueryFilter};
 
 /// What a world answers to a command.
 pub type Answer = Result<Reply, Refusal>;
@@ -55,6 +55,14 @@ pub trait World: Drop {
 
     /// What a ray hits first, if its numbers are within their limits.
     fn hit(&self, from: Vec2, along: Vec2) -> Option<Hit>;
+
+    /// What a ray hits first of the shapes that the filter lets through. Refused 5 where its numbers are beyond their limits.
+    fn hit_through(
+        &self,
+        from: Vec2,
+        along: Vec2,
+        filter: QueryFilter,
+    ) -> Result<Option<Hit>, Refusal>;
 
     /// The shapes that lie over a box.
     fn region(&self, alloc: Global, bounds: &Box2) -> Result<Vec<ShapeId>, Refusal>;
@@ -140,6 +148,19 @@ impl World for WorldCore {
             world_queries::ray(self, from, along)
         } else {
             None
+        }
+    }
+
+    fn hit_through(
+        &self,
+        from: Vec2,
+        along: Vec2,
+        filter: QueryFilter,
+    ) -> Result<Option<Hit>, Refusal> {
+        if world_queries::is_ray(from, along) {
+            world_queries::filtered_ray(self, from, along, filter)
+        } else {
+            Err(Refusal::OutOfRange)
         }
     }
 

@@ -13,6 +13,7 @@ use world_core::{
     Body, Cause, Command, Constraint, Course, Handle, Item, JointDef, Kind, MassData, Plain, Pose,
     Refusal, ShapeDef, ShapeId, Vec2,
 };
+use world_queries::QueryFilter;
 
 /// What a check asks of the plain lists.
 #[derive(Clone, Copy)]
@@ -242,6 +243,14 @@ impl<W: World> Check<W> {
         match self.world.frame() {
             Ok(frame) => self.see_same(hit_in(&frame, ORIGIN, along) == hit),
             Err(_) => self.is_cut = true,
+        }
+    }
+
+    /// Tells what a ray from the origin hits first of the shapes that the filter lets through.
+    pub fn see_hit_through(&mut self, along: Vec2, filter: QueryFilter) {
+        match self.world.hit_through(ORIGIN, along, filter) {
+            Ok(hit) => self.see(Seen::Hit(hit)),
+            Err(refusal) => self.see(Seen::Answer(Err(refusal))),
         }
     }
 

@@ -11,6 +11,7 @@
 mod calls;
 mod check;
 mod fat_boxes;
+mod filters;
 mod frames;
 mod islands_apart;
 mod joints;
@@ -53,6 +54,7 @@ fn run_all<W: World>(check: &mut Check<W>) {
     parts::run(check);
     platforms::run(check);
     queries::run(check);
+    filters::run(check);
     readme::run(check);
     trials::run(check);
 }

@@ -16,12 +16,12 @@ use Rattle.shapes.specs.declared.beam.Beam.{Beam}
 use Rattle.shapes.specs.declared.pose.Pose.{Pose}
 use Rattle.shapes.specs.declared.shape.ShapeDef.{ShapeDef}
 use Rattle.contacts_base.specs.declared.key.ShapeId.{ShapeId}
-use Rattle.shape_rays.specs.Hits.{first_hit, hit_at, hit_on, is_before, nearer, region}
+use Rattle.shape_rays.specs.Hits.{hit_at, hit_on, is_before, nearer, region}
 use Rattle.shape_rays.specs.Reach.{reaches}
 use Rattle.shape_rays.specs.declared.hits.Hit.{Hit}
 use Rattle.shape_rays.specs.declared.hits.PlacedShape.{PlacedShape}
 use Rattle.shape_rays.proofs.BoxLaws.{missed}
-use Rattle.shape_rays.proofs.HitLemmas.{associate, first_of_parts, none_last}
+use Rattle.shape_rays.proofs.HitLemmas.{associate, none_last}
 use Rattle.box_tree_base.specs.Rays.{nearer as nearer_key}
 use Rattle.box_tree_base.specs.declared.rays.Hit.{Hit as KeyHit}
 use Rattle.box_tree_base.proofs.WalkLemmas.{overlaps_within}
@@ -31,9 +31,10 @@ use Rattle.plain_world.specs.Fats.{EachIsFatBox}
 use Rattle.plain_world.specs.Slots.{body_at, item_in}
 use Rattle.plain_world.specs.declared.body.Body.{Body}
 use Rattle.world_core_base.specs.Covers.{IsCover, IsCovered, AreCovered}
-use Rattle.world_queries.specs.ByBoxes.{fraction_of, fraction_at, region_at}
+use Rattle.world_queries.specs.ByBoxes.{fraction_of, fraction_at, hit_through, region_at}
 use Rattle.world_queries.specs.Placed.{shapes_from, shapes_at, placed_from, placed_shapes}
 use Rattle.world_queries.proofs.PlacedLaws.{region_of_parts}
+use Rattle.world_queries.proofs.ThroughLaws.{first_through, through_first, through_parts}
 
 -- ---- shapes in a box
 
@@ -51,12 +52,18 @@ no_shapes : (ps : List PlacedShape) → AreIn None ps → ps ≡ []
 no_shapes [] h = refl
 no_shapes (p ∷ ps) h = absurd h
 
-missed_all : (r : Beam) (box : Box2) (ps : List PlacedShape) → IsBeam r → AreIn (Some box) ps → reaches r box ≡ false → first_hit r ps ≡ None
-missed_all r box [] b h e = refl
-missed_all r box (p ∷ ps) b h e =
+none_if : (t : Bool) (o : Option Hit) → o ≡ None → cond t o None ≡ None
+none_if true o e = e
+none_if false o e = refl
+
+missed_all : (r : Beam) (test : ShapeId → Bool) (box : Box2) (ps : List PlacedShape) → IsBeam r → AreIn (Some box) ps → reaches r box ≡ false → first_through r test ps ≡ None
+missed_all r test box [] b h e = refl
+missed_all r test box (p ∷ ps) b h e =
     let none : ray_of p.shape p.pose r.from r.along ≡ None = missed p.shape p.pose r box h.0.shape b h.0.inside e in
     let here : hit_on r p ≡ None = ap (λ (o : Option ℕ). hit_at o p.id) none in
-    ap (λ (o : Option Hit). nearer o (first_hit r ps)) here ∙ missed_all r box ps b h.1 e
+    through_first r test p ps
+    ∙ ap (λ (o : Option Hit). nearer o (first_through r test ps)) (none_if (test p.id) (hit_on r p) here)
+    ∙ missed_all r test box ps b h.1 e
 
 none_over : (q box : Box2) (ps : List PlacedShape) → AreIn (Some box) ps → overlaps box q ≡ false → region q ps ≡ []
 none_over q box [] h e = refl
@@ -96,9 +103,9 @@ there (Some o) b e = ap Some e
 pub in_box : (bodies : List (Option Body)) (boxes : List (Option Box2)) (slot : ℕ) → AreBodies bodies → AreCovered bodies boxes → AreIn (box_at boxes slot) (shapes_at slot (body_at bodies slot))
 in_box bodies boxes slot h c = in_slot slot (body_at bodies slot) (box_at boxes slot) (λ b e. h slot b (there _ b e)) (c slot)
 
-pub hits_within : (r : Beam) (bodies : List (Option Body)) (boxes : List (Option Box2)) → IsBeam r → AreBodies bodies → AreCovered bodies boxes → AreHitsWithin (reaches r) (fraction_at r bodies) boxes
-hits_within r bodies boxes b h c = λ key box e f.
-    ap fraction_of (missed_all r box (shapes_at key (body_at bodies key)) b (subst (λ (o : Option Box2). AreIn o (shapes_at key (body_at bodies key))) e (in_box bodies boxes key h c)) f)
+pub hits_within : (r : Beam) (test : ShapeId → Bool) (bodies : List (Option Body)) (boxes : List (Option Box2)) → IsBeam r → AreBodies bodies → AreCovered bodies boxes → AreHitsWithin (reaches r) (fraction_at r test bodies) boxes
+hits_within r test bodies boxes b h c = λ key box e f.
+    ap fraction_of (missed_all r test box (shapes_at key (body_at bodies key)) b (subst (λ (o : Option Box2). AreIn o (shapes_at key (body_at bodies key))) e (in_box bodies boxes key h c)) f)
 
 -- ---- bodies and boxes side by side
 
@@ -209,18 +216,26 @@ of_hit : (slot : ℕ) (o : Option ℕ) (id : ShapeId) → id.slot ≡ slot → I
 of_hit slot None id e = tt
 of_hit slot (Some f) id e = e
 
-of_shapes : (r : Beam) (slot index : ℕ) (o : Pose) (defs : List ShapeDef) → IsOf slot (first_hit r (shapes_from slot o index defs))
-of_shapes r slot index o [] = tt
-of_shapes r slot index o (d ∷ defs) = kept_nearer (IsOf slot) _ _ (of_hit slot (ray_of d.shape o r.from r.along) (record { slot = slot; index = index }) refl) (of_shapes r slot (suc index) o defs)
+of_shape : (r : Beam) (t : Bool) (slot : ℕ) (p : PlacedShape) → p.id.slot ≡ slot → IsOf slot (cond t (hit_on r p) None)
+of_shape r true slot p e = of_hit slot (ray_of p.shape p.pose r.from r.along) p.id e
+of_shape r false slot p e = tt
 
-of_enabled : (r : Beam) (slot : ℕ) (t : Bool) (ps : List PlacedShape) → IsOf slot (first_hit r ps) → IsOf slot (first_hit r (cond t ps []))
-of_enabled r slot true ps h = h
-of_enabled r slot false ps h = tt
+of_shapes : (r : Beam) (test : ShapeId → Bool) (slot index : ℕ) (o : Pose) (defs : List ShapeDef) → IsOf slot (first_through r test (shapes_from slot o index defs))
+of_shapes r test slot index o [] = tt
+of_shapes r test slot index o (d ∷ defs) =
+    let p : PlacedShape = record { id = record { slot = slot; index = index }; shape = d.shape; pose = o } in
+    let later = shapes_from slot o (suc index) defs in
+    subst (IsOf slot) (sym (through_first r test p later))
+    (kept_nearer (IsOf slot) (hit_through r test p) (first_through r test later) (of_shape r (test p.id) slot p refl) (of_shapes r test slot (suc index) o defs))
+
+of_enabled : (r : Beam) (test : ShapeId → Bool) (slot : ℕ) (t : Bool) (ps : List PlacedShape) → IsOf slot (first_through r test ps) → IsOf slot (first_through r test (cond t ps []))
+of_enabled r test slot true ps h = h
+of_enabled r test slot false ps h = tt
 
 -- a hit on the shapes of the body in a slot has the slot's name
-of_slot : (r : Beam) (slot : ℕ) (o : Option Body) → IsOf slot (first_hit r (shapes_at slot o))
-of_slot r slot None = tt
-of_slot r slot (Some b) = of_enabled r slot b.enabled _ (of_shapes r slot 0 (pose_of b) b.shapes)
+of_slot : (r : Beam) (test : ShapeId → Bool) (slot : ℕ) (o : Option Body) → IsOf slot (first_through r test (shapes_at slot o))
+of_slot r test slot None = tt
+of_slot r test slot (Some b) = of_enabled r test slot b.enabled _ (of_shapes r test slot 0 (pose_of b) b.shapes)
 
 abbrev key_hit : ℕ → ℕ → KeyHit
 key_hit f k = record { fraction = f; key = k }
@@ -259,42 +274,48 @@ of_below slot None h = tt
 of_below slot (Some g) h = omega (arith, h)
 
 -- where the ray hits the bodies' shapes, where the list of bodies begins with this slot
-abbrev AreTold : Beam → (ℕ → Option ℕ) → ℕ → List (Option Body) → Type 0
-AreTold r hit slot bodies = (k : ℕ) → hit (slot + k) ≡ fraction_of (first_hit r (shapes_at (slot + k) (body_at bodies k)))
+abbrev pub AreTold : Beam → (ShapeId → Bool) → (ℕ → Option ℕ) → ℕ → List (Option Body) → Type 0
+AreTold r test hit slot bodies = (k : ℕ) → hit (slot + k) ≡ fraction_of (first_through r test (shapes_at (slot + k) (body_at bodies k)))
 
-told_here : (r : Beam) (hit : ℕ → Option ℕ) (slot : ℕ) (o : Option Body) (bodies : List (Option Body)) → AreTold r hit slot (o ∷ bodies) → hit slot ≡ fraction_of (first_hit r (shapes_at slot o))
-told_here r hit slot o bodies h = subst (λ (n : ℕ). hit n ≡ fraction_of (first_hit r (shapes_at n o))) (first_of slot) (h 0)
+told_here : (r : Beam) (test : ShapeId → Bool) (hit : ℕ → Option ℕ) (slot : ℕ) (o : Option Body) (bodies : List (Option Body)) → AreTold r test hit slot (o ∷ bodies) → hit slot ≡ fraction_of (first_through r test (shapes_at slot o))
+told_here r test hit slot o bodies h = subst (λ (n : ℕ). hit n ≡ fraction_of (first_through r test (shapes_at n o))) (first_of slot) (h 0)
 
-told_next : (r : Beam) (hit : ℕ → Option ℕ) (slot : ℕ) (o : Option Body) (bodies : List (Option Body)) → AreTold r hit slot (o ∷ bodies) → AreTold r hit (suc slot) bodies
-told_next r hit slot o bodies h = λ k. subst (λ (n : ℕ). hit n ≡ fraction_of (first_hit r (shapes_at n (body_at bodies k)))) (next slot k) (h (suc k))
+told_next : (r : Beam) (test : ShapeId → Bool) (hit : ℕ → Option ℕ) (slot : ℕ) (o : Option Body) (bodies : List (Option Body)) → AreTold r test hit slot (o ∷ bodies) → AreTold r test hit (suc slot) bodies
+told_next r test hit slot o bodies h = λ k. subst (λ (n : ℕ). hit n ≡ fraction_of (first_through r test (shapes_at n (body_at bodies k)))) (next slot k) (h (suc k))
 
-told_nothing : (r : Beam) (hit : ℕ → Option ℕ) (slot : ℕ) → AreTold r hit slot [] → hit slot ≡ None
-told_nothing r hit slot h = subst (λ (n : ℕ). hit n ≡ None) (first_of slot) (h 0)
+-- no body is left, and no slot from this one on is hit
+abbrev IsUnhit : (ℕ → Option ℕ) → ℕ → Type 0
+IsUnhit hit slot = (k : ℕ) → hit (slot + k) ≡ None
 
-told_no_more : (r : Beam) (hit : ℕ → Option ℕ) (slot : ℕ) → AreTold r hit slot [] → AreTold r hit (suc slot) []
-told_no_more r hit slot h = λ k. subst (λ (n : ℕ). hit n ≡ None) (next slot k) (h (suc k))
+unhit_here : (hit : ℕ → Option ℕ) (slot : ℕ) → IsUnhit hit slot → hit slot ≡ None
+unhit_here hit slot h = subst (λ (n : ℕ). hit n ≡ None) (first_of slot) (h 0)
 
-no_more : (r : Beam) (hit : ℕ → Option ℕ) (slot : ℕ) (boxes : List (Option Box2)) (best : Option KeyHit) → AreTold r hit slot [] → best ≡ first_key hit slot boxes best
-no_more r hit slot [] best h = refl
-no_more r hit slot (None ∷ boxes) best h = no_more r hit (suc slot) boxes best (told_no_more r hit slot h)
-no_more r hit slot (Some box ∷ boxes) best h =
-    no_more r hit (suc slot) boxes best (told_no_more r hit slot h) ∙ ap (λ (o : Option ℕ). first_key hit (suc slot) boxes (nearer_key best slot o)) (sym (told_nothing r hit slot h))
+unhit_next : (hit : ℕ → Option ℕ) (slot : ℕ) → IsUnhit hit slot → IsUnhit hit (suc slot)
+unhit_next hit slot h = λ k. subst (λ (n : ℕ). hit n ≡ None) (next slot k) (h (suc k))
 
-told_from : (r : Beam) (hit : ℕ → Option ℕ) (slot : ℕ) (bodies : List (Option Body)) (boxes : List (Option Box2)) (a : Option Hit) → AreTold r hit slot bodies → AreSide slot bodies boxes → IsBelow slot a → told (nearer a (first_hit r (placed_from slot bodies))) ≡ first_key hit slot boxes (told a)
-told_from r hit slot [] boxes a h s below = ap told (none_last a) ∙ no_more r hit slot boxes (told a) h
-told_from r hit slot (o ∷ bodies) [] a h s below = ap (λ (ps : List PlacedShape). told (nearer a (first_hit r ps))) (none_placed slot (o ∷ bodies) s) ∙ ap told (none_last a)
-told_from r hit slot (o ∷ bodies) (None ∷ boxes) a h s below =
+no_more : (hit : ℕ → Option ℕ) (slot : ℕ) (boxes : List (Option Box2)) (best : Option KeyHit) → IsUnhit hit slot → best ≡ first_key hit slot boxes best
+no_more hit slot [] best h = refl
+no_more hit slot (None ∷ boxes) best h = no_more hit (suc slot) boxes best (unhit_next hit slot h)
+no_more hit slot (Some box ∷ boxes) best h =
+    no_more hit (suc slot) boxes best (unhit_next hit slot h) ∙ ap (λ (o : Option ℕ). first_key hit (suc slot) boxes (nearer_key best slot o)) (sym (unhit_here hit slot h))
+
+told_from : (r : Beam) (test : ShapeId → Bool) (hit : ℕ → Option ℕ) (slot : ℕ) (bodies : List (Option Body)) (boxes : List (Option Box2)) (a : Option Hit) →
+    AreTold r test hit slot bodies → AreSide slot bodies boxes → IsBelow slot a → told (nearer a (first_through r test (placed_from slot bodies))) ≡ first_key hit slot boxes (told a)
+told_from r test hit slot [] boxes a h s below = ap told (none_last a) ∙ no_more hit slot boxes (told a) h
+told_from r test hit slot (o ∷ bodies) [] a h s below = ap (λ (ps : List PlacedShape). told (nearer a (first_through r test ps))) (none_placed slot (o ∷ bodies) s) ∙ ap told (none_last a)
+told_from r test hit slot (o ∷ bodies) (None ∷ boxes) a h s below =
     let bare : shapes_at slot o ≡ [] = no_shapes (shapes_at slot o) (side_here slot o bodies (None ∷ boxes) s) in
-    ap (λ (ps : List PlacedShape). told (nearer a (first_hit r (ps ++ placed_from (suc slot) bodies)))) bare
-    ∙ told_from r hit (suc slot) bodies boxes a (told_next r hit slot o bodies h) (side_next slot o bodies None boxes s) (below_next slot a below)
-told_from r hit slot (o ∷ bodies) (Some box ∷ boxes) a h s below =
-    let here = first_hit r (shapes_at slot o) in
-    let later = first_hit r (placed_from (suc slot) bodies) in
-    let low : IsBelow (suc slot) (nearer a here) = kept_nearer (IsBelow (suc slot)) a here (below_next slot a below) (of_below slot here (of_slot r slot o)) in
-    ap (λ (x : Option Hit). told (nearer a x)) (first_of_parts r (shapes_at slot o) (placed_from (suc slot) bodies))
+    ap (λ (ps : List PlacedShape). told (nearer a (first_through r test (ps ++ placed_from (suc slot) bodies)))) bare
+    ∙ told_from r test hit (suc slot) bodies boxes a (told_next r test hit slot o bodies h) (side_next slot o bodies None boxes s) (below_next slot a below)
+told_from r test hit slot (o ∷ bodies) (Some box ∷ boxes) a h s below =
+    let here = first_through r test (shapes_at slot o) in
+    let later = first_through r test (placed_from (suc slot) bodies) in
+    let of : IsOf slot here = of_slot r test slot o in
+    let low : IsBelow (suc slot) (nearer a here) = kept_nearer (IsBelow (suc slot)) a here (below_next slot a below) (of_below slot here of) in
+    ap (λ (x : Option Hit). told (nearer a x)) (through_parts r test (shapes_at slot o) (placed_from (suc slot) bodies))
     ∙ ap told (sym (associate a here later))
-    ∙ told_from r hit (suc slot) bodies boxes (nearer a here) (told_next r hit slot o bodies h) (side_next slot o bodies (Some box) boxes s) low
-    ∙ ap (first_key hit (suc slot) boxes) (told_nearer slot a here below (of_slot r slot o) ∙ ap (nearer_key (told a) slot) (sym (told_here r hit slot o bodies h)))
+    ∙ told_from r test hit (suc slot) bodies boxes (nearer a here) (told_next r test hit slot o bodies h) (side_next slot o bodies (Some box) boxes s) low
+    ∙ ap (first_key hit (suc slot) boxes) (told_nearer slot a here below of ∙ ap (nearer_key (told a) slot) (sym (told_here r test hit slot o bodies h)))
 
 -- ---- the hit that a slot tells
 
@@ -306,35 +327,39 @@ told_of : (at : ℕ → Option Hit) (slot : ℕ) (o : Option Hit) → at slot �
 told_of at slot None e of = tt
 told_of at slot (Some h) e of = ap at of ∙ e
 
-told_in : (r : Beam) (all : List (Option Body)) (slot : ℕ) (bodies : List (Option Body)) → AreBodiesFrom slot bodies all → IsTold (λ k. first_hit r (shapes_at k (body_at all k))) (first_hit r (placed_from slot bodies))
-told_in r all slot [] h = tt
-told_in r all slot (o ∷ bodies) h =
-    let P = IsTold (λ k. first_hit r (shapes_at k (body_at all k))) in
-    subst P (sym (first_of_parts r (shapes_at slot o) (placed_from (suc slot) bodies)))
-    (kept_nearer P (first_hit r (shapes_at slot o)) (first_hit r (placed_from (suc slot) bodies))
-    (told_of _ slot (first_hit r (shapes_at slot o)) (ap (λ (x : Option Body). first_hit r (shapes_at slot x)) (from_here slot o bodies all h)) (of_slot r slot o))
-    (told_in r all (suc slot) bodies (from_next slot o bodies all h)))
+told_in : (r : Beam) (test : ShapeId → Bool) (all : List (Option Body)) (slot : ℕ) (bodies : List (Option Body)) → AreBodiesFrom slot bodies all → IsTold (λ k. first_through r test (shapes_at k (body_at all k))) (first_through r test (placed_from slot bodies))
+told_in r test all slot [] h = tt
+told_in r test all slot (o ∷ bodies) h =
+    let P = IsTold (λ k. first_through r test (shapes_at k (body_at all k))) in
+    let here = first_through r test (shapes_at slot o) in
+    let later = first_through r test (placed_from (suc slot) bodies) in
+    subst P (sym (through_parts r test (shapes_at slot o) (placed_from (suc slot) bodies)))
+    (kept_nearer P here later
+    (told_of _ slot here (ap (λ (x : Option Body). first_through r test (shapes_at slot x)) (from_here slot o bodies all h)) (of_slot r test slot o))
+    (told_in r test all (suc slot) bodies (from_next slot o bodies all h)))
 
 -- the first hit on the body that a tree tells
-abbrev pub hit_of : Beam → List (Option Body) → Option KeyHit → Option Hit
-hit_of r bodies None = None
-hit_of r bodies (Some h) = first_hit r (shapes_at h.key (body_at bodies h.key))
+abbrev pub hit_of : Beam → (ShapeId → Bool) → List (Option Body) → Option KeyHit → Option Hit
+hit_of r test bodies None = None
+hit_of r test bodies (Some h) = first_through r test (shapes_at h.key (body_at bodies h.key))
 
-hit_told : (r : Beam) (bodies : List (Option Body)) (o : Option Hit) → IsTold (λ k. first_hit r (shapes_at k (body_at bodies k))) o → hit_of r bodies (told o) ≡ o
-hit_told r bodies None h = refl
-hit_told r bodies (Some h) e = e
+hit_told : (r : Beam) (test : ShapeId → Bool) (bodies : List (Option Body)) (o : Option Hit) → IsTold (λ k. first_through r test (shapes_at k (body_at bodies k))) o → hit_of r test bodies (told o) ≡ o
+hit_told r test bodies None h = refl
+hit_told r test bodies (Some h) e = e
 
-told_at : (r : Beam) (bodies : List (Option Body)) → AreTold r (fraction_at r bodies) 0 bodies
-told_at r bodies = λ k. let e : k ≡ 0 + k = omega arith in ap (λ (n : ℕ). fraction_of (first_hit r (shapes_at (0 + k) (body_at bodies n)))) (sym e)
+told_at : (r : Beam) (test : ShapeId → Bool) (bodies : List (Option Body)) → AreTold r test (fraction_at r test bodies) 0 bodies
+told_at r test bodies = λ k. let e : k ≡ 0 + k = omega arith in ap (λ (n : ℕ). fraction_of (first_through r test (shapes_at (0 + k) (body_at bodies n)))) (sym e)
 
--- the first hit on all shapes is that on the body whose slot a tree of the boxes tells
-pub first_by_boxes : (r : Beam) (bodies : List (Option Body)) (boxes : List (Option Box2)) → AreBodies bodies → AreCovered bodies boxes → hit_of r bodies (first_key (fraction_at r bodies) 0 boxes None) ≡ first_hit r (placed_shapes bodies)
-first_by_boxes r bodies boxes h c =
-    ap (hit_of r bodies) (sym (told_from r (fraction_at r bodies) 0 bodies boxes None (told_at r bodies) (side_all bodies boxes h c) tt))
-    ∙ hit_told r bodies (first_hit r (placed_shapes bodies)) (told_in r bodies 0 bodies (bodies_themselves bodies))
+-- the first hit on all shapes that pass the test is that on the body whose slot a tree of the boxes tells
+pub first_by_boxes : (r : Beam) (test : ShapeId → Bool) (bodies : List (Option Body)) (boxes : List (Option Box2)) →
+    AreBodies bodies → AreCovered bodies boxes → hit_of r test bodies (first_key (fraction_at r test bodies) 0 boxes None) ≡ first_through r test (placed_shapes bodies)
+first_by_boxes r test bodies boxes h c =
+    ap (hit_of r test bodies) (sym (told_from r test (fraction_at r test bodies) 0 bodies boxes None (told_at r test bodies) (side_all bodies boxes h c) tt))
+    ∙ hit_told r test bodies (first_through r test (placed_shapes bodies)) (told_in r test bodies 0 bodies (bodies_themselves bodies))
 
-pub first_of_tree : (r beam : Beam) (bodies : List (Option Body)) (boxes : List (Option Box2)) (o : Option KeyHit) → r ≡ beam → AreBodies bodies → AreCovered bodies boxes → o ≡ first_key (fraction_at r bodies) 0 boxes None → hit_of r bodies o ≡ first_hit beam (placed_shapes bodies)
-first_of_tree r beam bodies boxes o same h c e = ap (hit_of r bodies) e ∙ first_by_boxes r bodies boxes h c ∙ ap (λ (x : Beam). first_hit x (placed_shapes bodies)) same
+pub first_of_tree : (r beam : Beam) (test : ShapeId → Bool) (bodies : List (Option Body)) (boxes : List (Option Box2)) (o : Option KeyHit) → r ≡ beam →
+    AreBodies bodies → AreCovered bodies boxes → o ≡ first_key (fraction_at r test bodies) 0 boxes None → hit_of r test bodies o ≡ first_through beam test (placed_shapes bodies)
+first_of_tree r beam test bodies boxes o same h c e = ap (hit_of r test bodies) e ∙ first_by_boxes r test bodies boxes h c ∙ ap (λ (x : Beam). first_through x test (placed_shapes bodies)) same
 
 -- ---- one slot after another
 

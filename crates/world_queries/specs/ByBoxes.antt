@@ -1,21 +1,27 @@
 -- What is asked of single slots, where a tree of boxes tells which are worth a question.
-use Rattle.std.specs.Prelude.{ℕ, List, [], ◌∷◌, ◌++◌, Option, Some, None}
+use Rattle.std.specs.Prelude.{ℕ, Bool, cond, List, [], ◌∷◌, ◌++◌, Option, Some, None}
 use Rattle.contacts_base.specs.declared.key.ShapeId.{ShapeId}
 use Rattle.fixed_geom.specs.declared.boxes.Box2.{Box2}
 use Rattle.plain_world.specs.declared.body.Body.{Body}
 use Rattle.plain_world.specs.Slots.{body_at}
-use Rattle.shape_rays.specs.Hits.{first_hit, region}
+use Rattle.shape_rays.specs.Hits.{first_hit, hit_on, region}
 use Rattle.shape_rays.specs.declared.hits.Hit.{Hit}
+use Rattle.shape_rays.specs.declared.hits.PlacedShape.{PlacedShape}
 use Rattle.shapes.specs.declared.beam.Beam.{Beam}
+use Rattle.world_queries.specs.Filters.{through}
 use Rattle.world_queries.specs.Placed.{shapes_at}
 
 abbrev pub fraction_of : Option Hit → Option ℕ
 fraction_of None = None
 fraction_of (Some h) = Some h.fraction
 
--- where the ray first hits the shapes of the body in a slot
-abbrev pub fraction_at : Beam → List (Option Body) → ℕ → Option ℕ
-fraction_at r bodies slot = fraction_of (first_hit r (shapes_at slot (body_at bodies slot)))
+-- the ray's hit on one shape, if its name passes the test
+abbrev pub hit_through : Beam → (ShapeId → Bool) → PlacedShape → Option Hit
+hit_through r test p = cond (test p.id) (hit_on r p) None
+
+-- where the ray first hits those shapes of the body in a slot whose names pass the test
+abbrev pub fraction_at : Beam → (ShapeId → Bool) → List (Option Body) → ℕ → Option ℕ
+fraction_at r test bodies slot = fraction_of (first_hit r (through test (shapes_at slot (body_at bodies slot))))
 
 -- the shapes over the region of the bodies in these slots, one slot after another
 abbrev pub region_at : Box2 → List (Option Body) → List ℕ → List ShapeId

@@ -1,4 +1,5 @@
 pub mod ByBoxes
+pub mod Filters
 pub mod Framed
 pub mod Laws
 pub mod Limits

@@ -4,6 +4,7 @@
 //! Only enabled bodies are seen. A question changes nothing, and is no call of the world.
 #![tactic(auto)]
 
+mod filters;
 mod frame_rays;
 mod frame_regions;
 mod framed;
@@ -13,10 +14,11 @@ mod rays;
 mod regions;
 mod shapes_in;
 
+pub use filters::QueryFilter;
 pub use frame_rays::frame_ray;
 pub use frame_regions::frame_region;
 pub use laws::frames_show_their_world;
 pub use limits::{MAX_CORNER, is_ray, is_region, limits_in_digits};
-pub use rays::ray;
+pub use rays::{filtered_ray, ray};
 pub use regions::region;
 pub use shape_rays::Hit;

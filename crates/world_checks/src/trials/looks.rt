@@ -11,7 +11,7 @@ use impulse_ledger::{Cause, Total};
 use plain_world::BodyView;
 use shapes::{Pose, Shape};
 use world_core::{Constraint, ShapeId};
-use world_queries::Hit;
+use world_queries::{Hit, QueryFilter};
 
 /// What is seen of a world without memory.
 #[derive(Clone, Copy, PartialEq)]
@@ -25,6 +25,17 @@ struct Sight {
     total: Total,
     gravity: Total,
     hit: Option<Hit>,
+    /// What the ray hits if the body is left out.
+    hit_behind: Option<Hit>,
+}
+
+/// What a ray hits first if a body is left out.
+fn hit_behind<W: World>(world: &W, handle: Handle, from: Vec2, along: Vec2) -> Option<Hit> {
+    let filter = QueryFilter {
+        without: Some(handle),
+        mask: None,
+    };
+    world.hit_through(from, along, filter).ok().flatten()
 }
 
 /// Looks at the body, the joint and the shape of a slot, and along the axis.
@@ -48,6 +59,7 @@ fn look<W: World>(world: &W, slot: u32) -> Sight {
         total: world.ledger().total(),
         gravity: world.ledger().total_of(Cause::Gravity),
         hit: world.hit(from, along),
+        hit_behind: hit_behind(world, handle, from, along),
     }
 }
 
