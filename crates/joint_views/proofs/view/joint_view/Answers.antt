@@ -1,0 +1,8 @@
+use Rattle.std.proofs.Common.{◌∙◌, sym, ap}
+use Rattle.std.specs.Option.{option_copied}
+use Rattle.joint_views.proofs.JointLaws.{joint_there}
+use Rattle.joint_views.proofs.view.joint_view.Goals as goal
+
+pub view_of-requires-clause-joint : goal.view_of-requires-clause-joint
+view_of-requires-clause-joint c =
+    joint_there c.args.bodies.now c.args.joints.now c.requires.joints c.args.slot c.in-Some.joint.now (sym c.item_at.ensures ∙ ap option_copied c.in-Some.is)

@@ -1,0 +1,268 @@
+//! The tokens of a text, asked for what a saved world has. Each value is read to its end, whatever it is.
+
+use json::{Reader, Token};
+
+/// What the value of a key has to be.
+#[derive(Clone, Copy)]
+pub(crate) enum Kind {
+    Number,
+    NumberOrNull,
+    Truth,
+    Text,
+    /// A list of two numbers.
+    Pair,
+    /// A list of two such lists.
+    Pairs,
+    /// A list of two texts.
+    Texts,
+    /// An object or a list of objects, which the form reads itself.
+    Parts,
+}
+
+/// A key of a form: its bit among those of the form, and what its value has to be.
+#[derive(Clone, Copy)]
+pub(crate) struct Field {
+    pub(crate) bit: u32,
+    pub(crate) kind: Kind,
+}
+
+/// An object of a saved world.
+pub(crate) trait Form {
+    /// The bits of the keys that each object of the form has.
+    fn needed() -> u32;
+
+    /// What a key is to the form, if an object of it may have the key.
+    fn field(key: &str) -> Option<Field>;
+
+    /// Reads the value of a key that is an object or a list of objects. Answers whether it may be one.
+    fn read_parts(scan: &mut Scan<'_>, bit: u32) -> bool;
+}
+
+/// What was read of an object: the keys that it has, those whose last value isn't what it has to be, and whether it has a key that isn't of
+/// its form.
+#[derive(Clone, Copy)]
+struct Seen {
+    keys: u32,
+    bad: u32,
+    has_other: bool,
+}
+
+impl Seen {
+    /// The same with one more value. Of a key that comes again the last value stands.
+    fn with(self, bit: u32, good: bool) -> Seen {
+        let bad = if good {
+            self.bad & !bit
+        } else {
+            self.bad | bit
+        };
+        Seen {
+            keys: self.keys | bit,
+            bad,
+            has_other: self.has_other,
+        }
+    }
+
+    /// Whether an object with these keys may be of a form.
+    fn may_be<F: Form>(self) -> bool {
+        !self.has_other && self.bad == 0 && self.keys & F::needed() == F::needed()
+    }
+}
+
+/// The tokens of a text that are still to come.
+#[derive(Drop)]
+pub(crate) struct Scan<'a> {
+    reader: Reader<'a>,
+    /// Whether a token was asked for and none was there.
+    has_ended: bool,
+}
+
+impl<'a> Scan<'a> {
+    pub(crate) fn new(reader: Reader<'a>) -> Scan<'a> {
+        Scan {
+            reader,
+            has_ended: false,
+        }
+    }
+
+    /// The next token; a bad one where none is left.
+    fn next(&mut self) -> Token<'a> {
+        match self.reader.next() {
+            Some(Token::Bad) | None => {
+                self.has_ended = true;
+                Token::Bad
+            }
+            Some(token) => token,
+        }
+    }
+
+    /// Passes by what is left of the value that begins with a token.
+    fn pass(&mut self, first: Token<'a>) {
+        let mut open = 0u64;
+        let mut token = first;
+        for _ in 0..u64::MAX {
+            match token {
+                Token::BeginObject | Token::BeginArray => open = open.saturating_add(1),
+                Token::EndObject | Token::EndArray => open = open.saturating_sub(1),
+                _ => {}
+            }
+            if open == 0 || self.has_ended {
+                return;
+            }
+            token = self.next();
+        }
+    }
+
+    /// Reads a value. Answers its first token.
+    fn read(&mut self) -> Token<'a> {
+        let token = self.next();
+        self.pass(token);
+        token
+    }
+
+    /// Reads a value. Answers whether it is a text or a number, as asked for.
+    fn read_one(&mut self, texts: bool) -> bool {
+        match self.read() {
+            Token::String(_) => texts,
+            Token::Number(_) => !texts,
+            _ => false,
+        }
+    }
+
+    fn read_number_or_null(&mut self) -> bool {
+        matches!(self.read(), Token::Number(_) | Token::Null)
+    }
+
+    fn read_truth(&mut self) -> bool {
+        matches!(self.read(), Token::Bool(_))
+    }
+
+    /// Reads the beginning of a list or of an object, or a value that is none. Answers whether it is one.
+    fn opens(&mut self, list: bool) -> bool {
+        let token = self.next();
+        let opens = match token {
+            Token::BeginArray => list,
+            Token::BeginObject => !list,
+            _ => false,
+        };
+        if !opens {
+            self.pass(token);
+        }
+        opens
+    }
+
+    /// Reads a value. Answers whether it is a list of two texts or of two numbers, as asked for.
+    fn read_two(&mut self, texts: bool) -> bool {
+        if !self.opens(true) {
+            return false;
+        }
+        let mut good = true;
+        for count in 0..usize::MAX {
+            if self.reader.take_end_array() {
+                return good && count == 2;
+            }
+            if !self.read_one(texts) {
+                good = false;
+            }
+            if self.has_ended {
+                break;
+            }
+        }
+        false
+    }
+
+    /// Reads a value. Answers whether it is a list of two lists of two numbers.
+    fn read_pairs(&mut self) -> bool {
+        if !self.opens(true) {
+            return false;
+        }
+        let mut good = true;
+        for count in 0..usize::MAX {
+            if self.reader.take_end_array() {
+                return good && count == 2;
+            }
+            if !self.read_two(false) {
+                good = false;
+            }
+            if self.has_ended {
+                break;
+            }
+        }
+        false
+    }
+
+    /// Reads the value of a key. Answers whether it is what it has to be.
+    fn read_field<F: Form>(&mut self, field: Field) -> bool {
+        match field.kind {
+            Kind::Number => self.read_one(false),
+            Kind::NumberOrNull => self.read_number_or_null(),
+            Kind::Truth => self.read_truth(),
+            Kind::Text => self.read_one(true),
+            Kind::Pair => self.read_two(false),
+            Kind::Pairs => self.read_pairs(),
+            Kind::Texts => self.read_two(true),
+            Kind::Parts => F::read_parts(self, field.bit),
+        }
+    }
+
+    /// Reads a key's value into what was seen of an object.
+    fn read_key<F: Form>(&mut self, seen: Seen, key: &str) -> Seen {
+        match F::field(key) {
+            Some(field) => {
+                let good = self.read_field::<F>(field);
+                seen.with(field.bit, good)
+            }
+            None => {
+                let _other = self.read();
+                Seen {
+                    has_other: true,
+                    ..seen
+                }
+            }
+        }
+    }
+
+    /// Reads what is left of an object. Answers whether it may be of this form.
+    fn read_keys<F: Form>(&mut self) -> bool {
+        let mut seen = Seen {
+            keys: 0,
+            bad: 0,
+            has_other: false,
+        };
+        for _ in 0..u64::MAX {
+            match self.reader.next_key() {
+                Ok(Some(key)) => seen = self.read_key::<F>(seen, key),
+                Ok(None) => return seen.may_be::<F>(),
+                Err(_) => {
+                    self.has_ended = true;
+                    return false;
+                }
+            }
+        }
+        false
+    }
+
+    /// Reads a value. Answers whether it may be an object of this form.
+    pub(crate) fn read_object<F: Form>(&mut self) -> bool {
+        self.opens(false) && self.read_keys::<F>()
+    }
+
+    /// Reads a value. Answers whether it may be a list of objects of this form.
+    pub(crate) fn read_list<F: Form>(&mut self) -> bool {
+        if !self.opens(true) {
+            return false;
+        }
+        let mut good = true;
+        for _item in 0..u64::MAX {
+            if self.reader.take_end_array() {
+                return good;
+            }
+            if !self.read_object::<F>() {
+                good = false;
+            }
+            if self.has_ended {
+                break;
+            }
+        }
+        false
+    }
+}
