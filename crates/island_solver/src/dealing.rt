@@ -10,7 +10,7 @@ use momenta::BodyState;
 use std::alloc::Global;
 
 /// Of a hundred rows, how many the largest share may have.
-const MOST_OF_HUNDRED: usize = 60;
+const MOST_OF_HUNDRED: usize = 55;
 
 /// The lists of a deal, which stay from step to step.
 #[derive(Drop)]

@@ -1,11 +1,11 @@
 //! Steps of a world by workers.
 //!
-//! `step_with` starts its workers for one step and joins them. A `StepCrew` keeps them for any number of steps, beside the world: pass it to
+//! `step_with` starts its workers for one step and joins them. An `IslandCrew` keeps them for any number of steps, beside the world: pass it to
 //! `WorldCore::step_by`, or to the step of a world that is shared.
 #![tactic(auto)]
 
 mod steps;
 
 pub use crew::{Gate, OpenGate};
-pub use crew_solver::StepCrew;
+pub use island_solver::IslandCrew;
 pub use steps::step_with;

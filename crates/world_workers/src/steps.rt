@@ -7,8 +7,8 @@ ghost use Rattle.world_rules.specs.declared.command.Command.TheVariants.{Step};
 ghost use Rattle.world_workers.specs.Workers.{AnswersByThreads, step_due};
 
 use crew::Gate;
-use crew_solver::StepCrew;
 use fixed_geom::{Refusal, ZERO_VECTOR};
+use island_solver::IslandCrew;
 use std::alloc::Global;
 use std::sync::Wait;
 use std::thread::{Scope, Threads};
@@ -41,7 +41,7 @@ fn step_in<'s, E, R: Threads + Wait + Sync, G: Gate + Sync>(
     requires ticks { is_between (pos 1) (pos 8) ticks ≡ true }
     ensures { AnswersByThreads (apply world.old.plain (Step ticks)) world.old result world.new }
 {
-    match StepCrew::start(scope, rt, alloc, gate, workers) {
+    match IslandCrew::start(scope, rt, alloc, gate, workers) {
         Err(refused) => Err(refused),
         Ok(mut crew) => {
             let answer = world.step_by(&mut crew, ticks);
