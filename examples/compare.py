@@ -4,7 +4,7 @@
     examples/compare.py A B
 
 A and B are either two saved worlds (what `save` answers, with or without `{"world":..}` round it), or two files with a digest a line
-(64 hexadecimal digits, or lines of JSON with a key `digest`). Of worlds it tells the first field that differs, in the order
+(`examples/replay.py --write` makes one; lines of JSON with a key `digest` do too). Of worlds it tells the first field that differs, in the order
 bodies, joints, contacts, counts, totals, and how many differ. Of digests it tells the first line that differs: save both worlds there, and
 compare those. It ends with status 0 where both are the same, and 1 where they differ.
 """

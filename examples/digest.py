@@ -3,7 +3,7 @@
 
     examples/digest.py FILE..      a saved world a file, as `save` answers it, with or without {"world":..} round it
 
-It prints 64 hexadecimal digits for each: those of the bytes that the crate `world_digest` answers for the world that was saved.
+It prints 64 hexadecimal digits for each. The library and the program answer the same for the world that was saved.
 """
 
 import hashlib

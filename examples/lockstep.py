@@ -7,7 +7,6 @@ PROGRAM is the built program, crates/world_script/out/world_script if it is left
 six hundred frames. Then a peer is made to differ and the difference is found, a peer is lost and comes back, frames are
 guessed and taken back, and a log is replayed. The last line is 'N passed, M failed'; the status is 1 where something failed.
 """
-import hashlib
 import json
 import math
 import os
@@ -21,7 +20,6 @@ UNIT = 1 << 30
 RATE = 240  # ticks a second
 FRAMES = 600  # of a sixtieth of a second each
 TICKS = RATE // 60
-COMPARED = 20  # frames from one comparison to the next
 BOXES = range(3, 15)
 LIFT, PLAYERS = 15, (16, 17)
 PLAYER_MASS = 512
@@ -83,7 +81,7 @@ class Peer:
     """A world in a process of its own, with the log of all frames that it has played."""
 
     def __init__(self, program):
-        self.process = subprocess.Popen([program], stdin=subprocess.PIPE, stdout=subprocess.PIPE)
+        self.process = subprocess.Popen([program, "--extended"], stdin=subprocess.PIPE, stdout=subprocess.PIPE)
         self.frames, self.answers = [], []
 
     def ask(self, lines):
@@ -110,7 +108,14 @@ class Peer:
         return self.ask([f'{{"do":"load","world":{text}}}']) == ['{"done":true}']
 
     def digest(self):
-        return digest_of(self.save())
+        (answer,) = self.ask([line(do="digest")])
+        return answer
+
+    def keep(self):
+        return self.ask([line(do="keep", number=0)]) == ['{"done":true}']
+
+    def back(self):
+        return self.ask([line(do="back", number=0)]) == ['{"done":true}']
 
     def end(self):
         self.process.stdin.close()
@@ -119,10 +124,6 @@ class Peer:
     def crash(self):
         self.process.kill()
         self.process.wait()
-
-
-def digest_of(text):
-    return hashlib.sha256(text.encode()).hexdigest()
 
 
 def begin(program):
@@ -165,19 +166,19 @@ def first_frame_apart(program, one, other):
 
 
 def in_lockstep(program):
-    """Both peers answer the same in each frame, and their worlds are the same text in each frame that is compared."""
+    """Both peers answer the same in each frame, and their worlds have the same digest. At the end they are the same text."""
     peers = [begin(program), begin(program)]
     for frame in range(1, FRAMES + 1):
         for peer in peers:
             peer.play(frame_lines(frame))
         yield peers[0].answers[-1] == peers[1].answers[-1]
-        if frame % COMPARED == 0:
-            yield peers[0].digest() == peers[1].digest()
+        yield peers[0].digest() == peers[1].digest()
+    yield peers[0].save() == peers[1].save()
     yield [peer.end() for peer in peers] == [0, 0]
 
 
 def found_apart(program):
-    """One peer pushes once by one unit more. The next comparison shows it; the logs tell the frame, and the saves the place."""
+    """One peer pushes once by one unit more. The digests of that frame show it, the logs tell the same frame, and the saves the place."""
     wrong = 250
     peers = [begin(program), begin(program)]
     for frame in range(1, FRAMES + 1):
@@ -186,9 +187,9 @@ def found_apart(program):
         if frame == wrong:
             peers[1].frames[-1].append(line(do="push", body="3.1", by=[1, 0]))
             peers[1].ask(peers[1].frames[-1][-1:])
-        if frame % COMPARED == 0 and peers[0].digest() != peers[1].digest():
+        if peers[0].digest() != peers[1].digest():
             break
-    yield frame == wrong + COMPARED - wrong % COMPARED
+    yield frame == wrong
     yield first_frame_apart(program, peers[0].frames, peers[1].frames) == wrong
     texts = [replayed(program, peer.frames[:wrong + 1])[0] for peer in peers]
     place = first_difference(*map(json.loads, texts))
@@ -221,17 +222,17 @@ def comes_back(program):
 
 
 def taken_back(program):
-    """Four frames are played on a guess of the other's inputs, taken back by a load, and played as they were."""
+    """Four frames are played on a guess of the other's inputs, taken back, and played as they were."""
     peers = [begin(program), begin(program)]
     for frame in range(1, 61):
         for peer in peers:
             peer.play(frame_lines(frame))
-    kept = peers[1].save()
+    yield peers[1].keep()
     for frame in range(61, 65):
         peers[0].play(frame_lines(frame))
         peers[1].ask([*inputs(frame, 0), *([line(do="step", ticks=1)] * TICKS)])
     yield peers[1].digest() != peers[0].digest()
-    yield peers[1].load(kept)
+    yield peers[1].back()
     for frame in range(61, 65):
         peers[1].play(frame_lines(frame))
     yield peers[1].digest() == peers[0].digest()

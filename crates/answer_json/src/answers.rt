@@ -1,12 +1,12 @@
 //! What a line is answered.
 
 use crate::pen::Pen;
-use body_handles::Handle;
+use body_handles::{Handle, Place};
 use contacts_base::ShapeId;
 use event_feed::Events;
-use fixed_geom::Refusal;
+use fixed_geom::{Refusal, Vec2};
 use impulse_ledger::{Ledger, Total};
-use plain_world::BodyView;
+use plain_world::{Body, BodyView, Plain, SetName};
 use serde_json::Value;
 use shape_rays::Hit;
 use std::fmt;
@@ -18,6 +18,28 @@ pub struct SeatReport {
     pub pushed: Total,
 }
 
+/// The bodies of a world by slot, of which all are told, or those alone that are awake.
+#[derive(Clone, Copy)]
+pub struct BodyList<'a> {
+    pub places: &'a [Place],
+    pub bodies: &'a [Option<Body>],
+    pub awake: bool,
+}
+
+/// What is told of a joint: where in the world its two ends are (u), the length that it is to hold, by how much the distance of its ends
+/// exceeds it now (u), the impulse that it keeps (mass·u/tick), and the set in which it stands.
+#[derive(Clone, Copy)]
+pub struct JointReport {
+    pub joint: Handle,
+    pub a: Handle,
+    pub b: Handle,
+    pub ends: (Vec2, Vec2),
+    pub length: i64,
+    pub stretch: i64,
+    pub impulse: i64,
+    pub set: SetName,
+}
+
 /// The answer to a line. Its text is compact JSON, the keys of each object ascending.
 #[derive(Drop)]
 pub enum Answer<'a> {
@@ -27,16 +49,24 @@ pub enum Answer<'a> {
     Body(Handle),
     /// The joint that was made.
     Joint(Handle),
-    /// The number of the step, and its events.
-    Stepped(u64, &'a Events),
+    /// The number of the step, and its events. A shape has its body's id where the places of all slots are given.
+    Stepped(u64, &'a Events, Option<&'a [Place]>),
     /// What can be seen of a body.
     Shown(BodyView),
     /// The ledger's totals.
     Ledger(&'a Ledger),
-    /// What a ray hits first.
-    Hit(Option<Hit>),
-    /// The shapes over a region, ascending.
-    Shapes(Vec<ShapeId>),
+    /// What a ray hits first; ids as above.
+    Hit(Option<Hit>, Option<&'a [Place]>),
+    /// The shapes over a region, ascending; ids as above.
+    Shapes(Vec<ShapeId>, Option<&'a [Place]>),
+    /// The bodies by slot.
+    Bodies(BodyList<'a>),
+    /// The touching contacts of a world, and whether ids are told.
+    Contacts(Plain, bool),
+    /// The joints by slot.
+    Joints(Vec<JointReport>),
+    /// The digest of the world.
+    Digest([u8; 32]),
     /// A saved world.
     World(Value),
     /// How many calls a crowd's journal has, and what each of its seats did.

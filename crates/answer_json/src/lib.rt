@@ -3,5 +3,6 @@
 
 mod answers;
 mod pen;
+mod reports;
 
-pub use answers::{Answer, SeatReport};
+pub use answers::{Answer, BodyList, JointReport, SeatReport};

@@ -1,7 +1,7 @@
 //! The parts of an answer.
 
 use crate::answers::{Answer, SeatReport};
-use body_handles::Handle;
+use body_handles::{Handle, Place};
 use contacts_base::{ContactKey, ShapeId};
 use event_feed::Events;
 use fixed_geom::{Refusal, Rot, Vec2};
@@ -29,13 +29,13 @@ impl<'a, W: fmt::Write> Pen<'a, W> {
         self.written
     }
 
-    fn text(&mut self, text: &str) {
+    pub(crate) fn text(&mut self, text: &str) {
         if self.written.is_ok() {
             self.written = self.f.write_str(text);
         }
     }
 
-    fn value<D: fmt::Display + Copy>(&mut self, value: D) {
+    pub(crate) fn value<D: fmt::Display + Copy>(&mut self, value: D) {
         if self.written.is_ok() {
             self.written = write!(self.f, "{value}");
         }
@@ -46,11 +46,15 @@ impl<'a, W: fmt::Write> Pen<'a, W> {
             Answer::Done => self.text("{\"done\":true}"),
             Answer::Body(handle) => self.made("{\"body\":", *handle),
             Answer::Joint(handle) => self.made("{\"joint\":", *handle),
-            Answer::Stepped(step, events) => self.step(*step, events),
+            Answer::Stepped(step, events, places) => self.step(*step, events, *places),
             Answer::Shown(view) => self.view(view),
             Answer::Ledger(ledger) => self.ledger(ledger),
-            Answer::Hit(hit) => self.hit(*hit),
-            Answer::Shapes(shapes) => self.shapes(shapes.as_slice()),
+            Answer::Hit(hit, places) => self.hit(*hit, *places),
+            Answer::Shapes(shapes, places) => self.shapes(shapes.as_slice(), *places),
+            Answer::Bodies(list) => self.body_list(*list),
+            Answer::Contacts(plain, ids) => self.touching(plain, *ids),
+            Answer::Joints(joints) => self.joints(joints.as_slice()),
+            Answer::Digest(digest) => self.digest(digest),
             Answer::World(world) => self.world(world),
             Answer::Crowd(journal, seats) => self.crowd(*journal, seats.as_slice()),
             Answer::Refused(refusal) => self.refusal(*refusal),
@@ -58,14 +62,29 @@ impl<'a, W: fmt::Write> Pen<'a, W> {
         }
     }
 
+    /// Writes a byte by two hexadecimal digits.
+    fn digits(&mut self, byte: u8) {
+        if self.written.is_ok() {
+            self.written = write!(self.f, "{byte:02x}");
+        }
+    }
+
+    fn digest(&mut self, digest: &[u8; 32]) {
+        self.text("{\"digest\":\"");
+        for byte in digest {
+            self.digits(*byte);
+        }
+        self.text("\"}");
+    }
+
     /// Writes what stands between two items of a list: nothing before the first.
-    fn comma(&mut self, index: usize) {
+    pub(crate) fn comma(&mut self, index: usize) {
         if index > 0 {
             self.text(",");
         }
     }
 
-    fn id(&mut self, handle: Handle) {
+    pub(crate) fn id(&mut self, handle: Handle) {
         self.text("\"");
         self.value(Id(handle));
         self.text("\"");
@@ -95,27 +114,40 @@ impl<'a, W: fmt::Write> Pen<'a, W> {
         self.text("}");
     }
 
-    fn shape(&mut self, shape: ShapeId) {
+    /// Writes the id of the body in a slot after what stands before it, where the slots' places are given.
+    fn id_in(&mut self, slot: u32, places: Option<&[Place]>) {
+        if let Some(place) = places.and_then(|places| places.get(slot as usize)) {
+            self.text(",");
+            self.id(Handle {
+                slot,
+                generation: place.generation,
+            });
+        }
+    }
+
+    /// Writes a shape, with its body's id where the slots' places are given.
+    pub(crate) fn shape(&mut self, shape: ShapeId, places: Option<&[Place]>) {
         self.text("[");
         self.value(shape.slot);
         self.text(",");
         self.value(shape.index);
+        self.id_in(shape.slot, places);
         self.text("]");
     }
 
-    fn contact(&mut self, contact: &ContactKey) {
+    fn contact(&mut self, contact: &ContactKey, places: Option<&[Place]>) {
         self.text("[");
-        self.shape(contact.first);
+        self.shape(contact.first, places);
         self.text(",");
-        self.shape(contact.second);
+        self.shape(contact.second, places);
         self.text("]");
     }
 
-    fn contacts(&mut self, contacts: &[ContactKey]) {
+    fn contacts(&mut self, contacts: &[ContactKey], places: Option<&[Place]>) {
         self.text("[");
         for (index, contact) in contacts.iter().enumerate() {
             self.comma(index);
-            self.contact(contact);
+            self.contact(contact, places);
         }
         self.text("]");
     }
@@ -129,11 +161,11 @@ impl<'a, W: fmt::Write> Pen<'a, W> {
         self.text("]");
     }
 
-    fn step(&mut self, step: u64, events: &Events) {
+    fn step(&mut self, step: u64, events: &Events, places: Option<&[Place]>) {
         self.text("{\"begin\":");
-        self.contacts(events.begin());
+        self.contacts(events.begin(), places);
         self.text(",\"end\":");
-        self.contacts(events.end());
+        self.contacts(events.end(), places);
         self.text(",\"slept\":");
         self.bodies(events.slept());
         self.text(",\"step\":");
@@ -151,15 +183,15 @@ impl<'a, W: fmt::Write> Pen<'a, W> {
         self.text("]");
     }
 
-    fn vector(&mut self, vector: Vec2) {
+    pub(crate) fn vector(&mut self, vector: Vec2) {
         self.pair(vector.x, vector.y);
     }
 
-    fn facing(&mut self, facing: Rot) {
+    pub(crate) fn facing(&mut self, facing: Rot) {
         self.pair(facing.c, facing.s);
     }
 
-    fn set(&mut self, set: SetName) {
+    pub(crate) fn set(&mut self, set: SetName) {
         match set {
             SetName::Static => self.text("static"),
             SetName::Disabled => self.text("disabled"),
@@ -189,7 +221,7 @@ impl<'a, W: fmt::Write> Pen<'a, W> {
         self.text("}");
     }
 
-    fn course(&mut self, course: Course) {
+    pub(crate) fn course(&mut self, course: Course) {
         self.text(",\"spin\":");
         self.value(course.spin);
         self.text(",\"velocity\":");
@@ -221,14 +253,14 @@ impl<'a, W: fmt::Write> Pen<'a, W> {
         self.text("}");
     }
 
-    fn hit(&mut self, hit: Option<Hit>) {
+    fn hit(&mut self, hit: Option<Hit>, places: Option<&[Place]>) {
         self.text("{\"hit\":");
         match hit {
             Some(hit) => {
                 self.text("{\"fraction\":");
                 self.value(hit.fraction);
                 self.text(",\"shape\":");
-                self.shape(hit.shape);
+                self.shape(hit.shape, places);
                 self.text("}");
             }
             None => self.text("null"),
@@ -236,11 +268,11 @@ impl<'a, W: fmt::Write> Pen<'a, W> {
         self.text("}");
     }
 
-    fn shapes(&mut self, shapes: &[ShapeId]) {
+    fn shapes(&mut self, shapes: &[ShapeId], places: Option<&[Place]>) {
         self.text("{\"shapes\":[");
         for (index, shape) in shapes.iter().enumerate() {
             self.comma(index);
-            self.shape(*shape);
+            self.shape(*shape, places);
         }
         self.text("]}");
     }

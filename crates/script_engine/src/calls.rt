@@ -2,14 +2,17 @@
 
 use fixed_geom::{Box2, Refusal, Vec2};
 use impulse_ledger::Ledger;
-use plain_world::BodyView;
+use json::Scratch;
+use plain_world::{Body, BodyView, Plain};
+use saved_form::may_be_world;
+use saved_values::{Broken, Clause};
 use serde_json::Value;
 use std::alloc::Global;
 use std::sync::Wait;
 use std::thread::Threads;
-use world_core::{Command, Events, Handle, Reply, ShapeId, StepSolver, WorldCore};
+use world_core::{Command, Events, Handle, Place, Reply, ShapeId, StepSolver, WorldCore};
 use world_lock::{Opened, Seat, SharedWorld};
-use world_queries::Hit;
+use world_queries::{Hit, QueryFilter};
 use world_workers::{OpenGate, step_with};
 
 pub fn new_world(alloc: Global) -> Result<WorldCore, Refusal> {
@@ -55,6 +58,21 @@ pub fn ray(world: &WorldCore, from: Vec2, along: Vec2) -> Result<Option<Hit>, Re
     }
 }
 
+/// What a ray hits first of the shapes that it may hit. Refused 5 where the ray is beyond its limits, and else 2 where the body that it passes by
+/// doesn't live.
+pub fn filtered_ray(
+    world: &WorldCore,
+    from: Vec2,
+    along: Vec2,
+    filter: QueryFilter,
+) -> Result<Option<Hit>, Refusal> {
+    if world_queries::is_ray(from, along) {
+        world_queries::filtered_ray(world, from, along, filter)
+    } else {
+        Err(Refusal::OutOfRange)
+    }
+}
+
 /// The shapes over a region. Refused 5 where the region is beyond its limits, and else 1 where memory is wanting.
 pub fn region(alloc: Global, world: &WorldCore, bounds: &Box2) -> Result<Vec<ShapeId>, Refusal> {
     if world_queries::is_region(bounds) {
@@ -64,13 +82,52 @@ pub fn region(alloc: Global, world: &WorldCore, bounds: &Box2) -> Result<Vec<Sha
     }
 }
 
+/// A copy of a world. Refused 1 where memory is wanting.
+pub fn copy_of_world(world: &WorldCore) -> Result<WorldCore, Refusal> {
+    world.try_copy()
+}
+
+/// The bodies by slot.
+pub fn bodies_of(world: &WorldCore) -> &[Option<Body>] {
+    world.bodies()
+}
+
+/// The slots of bodies that were ever used.
+pub fn places_of(world: &WorldCore) -> &[Place] {
+    world.places()
+}
+
+/// The world as plain lists. Refused 1 where memory is wanting.
+pub fn plain_of(world: &WorldCore) -> Result<Plain, Refusal> {
+    world.plain()
+}
+
+/// How many entries of its ledger a world keeps at most from one line to the next.
+const MOST_ENTRIES: usize = 32_768;
+
+/// Drops the ledger's single entries where they are many. No answer tells of them: its sums stay.
+pub fn settle(world: &mut WorldCore) {
+    if world.ledger().entries().len() > MOST_ENTRIES {
+        world.settle_ledger();
+    }
+}
+
+/// The digest of the world. Refused 1 where memory is wanting.
+pub fn digest(world: &WorldCore) -> Result<[u8; 32], Refusal> {
+    world_desk::digest_of(world)
+}
+
 /// The world as a value. Refused 1 where memory is wanting.
 pub fn save(world: &WorldCore) -> Result<Value, Refusal> {
     world.save()
 }
 
-/// The world of a text that is JSON. Refused 12 with the first clause that it breaks, or 1 where memory is wanting.
+/// The world of a text that is JSON. Refused 12 with the first clause that it breaks, or 1 where memory is wanting. What can't be a saved world at
+/// the first look is refused before a value is made of it.
 pub fn load(alloc: Global, text: &str) -> Result<WorldCore, Refusal> {
+    if !may_be_world(text, &mut Scratch::new(alloc))? {
+        return Err(Broken::Clause(Clause::Form).refusal());
+    }
     let Ok(value) = Value::from_str(alloc, text) else {
         return Err(Refusal::NoMemory);
     };

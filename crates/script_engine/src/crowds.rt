@@ -15,7 +15,7 @@ use std::thread::{Scope, Threads};
 use std::{mem, thread};
 use world_core::{Command, OneThread, Reply, StepSolver, WorldCore};
 use world_lock::{Closed, JournalEntry, Opened, Seat, SharedWorld, may_be_shared};
-use world_workers::{OpenGate, StepCrew};
+use world_workers::{IslandCrew, OpenGate};
 
 /// What a crowd left: how many calls were accepted, and what each seat did, in the order of the seats' numbers.
 #[derive(Drop)]
@@ -122,7 +122,7 @@ fn call_by_workers<'s, E, T, S: Called<T>, R: Threads + Wait + Sync>(
     seat: &mut T,
     crowd: CrowdPlan,
 ) {
-    match StepCrew::start(scope, rt, crowd.alloc, &OpenGate, crowd.workers as usize) {
+    match IslandCrew::start(scope, rt, crowd.alloc, &OpenGate, crowd.workers as usize) {
         Ok(mut crew) => {
             shared.make_calls(rt, seat, &mut crew, crowd.def);
             crew.end();

@@ -1,29 +1,28 @@
 //! Lines in, answers out.
 
-use crate::calls::{
-    apply, body_of, events_of, ledger_of, load, new_world, ray, region, save, step,
-};
-use crate::crowds::{CrowdPlan, crowd};
-use crate::explanation::explain;
-use crate::requests::{CrowdDef, Request, request_of};
+use crate::answers::answer;
+use crate::calls::settle;
+use crate::explanation::{BadLine, CrowdRefusals, explain};
+use crate::requests::{Request, request_of};
 use crate::status::Status;
+use crate::worlds::Worlds;
 use answer_json::Answer;
-use body_handles::Handle;
-use fixed_geom::{Box2, Refusal, Vec2};
+use fixed_geom::Refusal;
 use json::Scratch;
 use line_json::{LONGEST, LineFault, LineReader, Outbox, Reason, Stop};
+use saved_places::broken_place;
 use script_options::Options;
-use std::alloc::Global;
 use std::io::{BufRead, Write};
 use std::sync::Wait;
 use std::thread::Threads;
-use world_core::{Command, Reply, WorldCore};
 
 /// The line that is read, and the room that its reading needs.
 #[derive(Drop)]
 struct Page {
     line: Vec<u8>,
     scratch: Scratch,
+    /// Whether a line was bad.
+    has_bad: bool,
 }
 
 fn is_too_long(line: &[u8]) -> bool {
@@ -36,130 +35,47 @@ fn is_blank(line: &[u8]) -> bool {
         .all(|byte| matches!(byte, b' ' | b'\t' | b'\r' | b'\n'))
 }
 
-/// Makes a call; a step is made by so many workers.
-fn make<R: AllocGlobal + Threads + Wait + Sync>(
+/// Tells in words why a request is refused, and at which place of a saved world.
+fn tell_refusal<R: AllocGlobal + Eprint>(
     rt: &R,
-    world: &mut WorldCore,
-    command: &Command,
-    workers: u64,
-) -> Result<Reply, Refusal> {
-    match command {
-        Command::Step(ticks) => step(rt, world, workers, *ticks),
-        _ => apply(world, command),
-    }
-}
-
-fn answer_command<'a, R: AllocGlobal + Threads + Wait + Sync>(
-    rt: &R,
-    world: &'a mut WorldCore,
-    command: &Command,
-    workers: u64,
-) -> Answer<'a> {
-    match make(rt, world, command, workers) {
-        Ok(Reply::Body(handle)) => Answer::Body(handle),
-        Ok(Reply::Joint(handle)) => Answer::Joint(handle),
-        Ok(Reply::Done) => Answer::Done,
-        Ok(Reply::Stepped(step)) => Answer::Stepped(step, events_of(world)),
-        Err(refusal) => Answer::Refused(refusal),
-    }
-}
-
-fn show<'a>(world: &WorldCore, handle: Handle) -> Answer<'a> {
-    match body_of(world, handle) {
-        Some(view) => Answer::Shown(view),
-        None => Answer::Refused(Refusal::StaleHandle),
-    }
-}
-
-/// What a ray hits first. Refused 5 where the ray is beyond its limits.
-fn answer_ray<'a>(world: &WorldCore, from: Vec2, along: Vec2) -> Answer<'a> {
-    match ray(world, from, along) {
-        Ok(hit) => Answer::Hit(hit),
-        Err(refusal) => Answer::Refused(refusal),
-    }
-}
-
-/// The shapes over a region. Refused 5 where the region is beyond its limits, and else 1 where memory is wanting.
-fn answer_region<'a>(alloc: Global, world: &WorldCore, bounds: &Box2) -> Answer<'a> {
-    match region(alloc, world, bounds) {
-        Ok(shapes) => Answer::Shapes(shapes),
-        Err(refusal) => Answer::Refused(refusal),
-    }
-}
-
-/// The world as a value. Refused 1 where memory is wanting.
-fn answer_save<'a>(world: &WorldCore) -> Answer<'a> {
-    match save(world) {
-        Ok(value) => Answer::World(value),
-        Err(refusal) => Answer::Refused(refusal),
-    }
-}
-
-/// Puts the world of a text in place of the world. Refused 12 with the first clause that it breaks, or 1; the world stays then.
-fn answer_load<'a>(alloc: Global, world: &mut WorldCore, text: &str) -> Answer<'a> {
-    match load(alloc, text) {
-        Ok(loaded) => {
-            *world = loaded;
-            Answer::Done
-        }
-        Err(refusal) => Answer::Refused(refusal),
-    }
-}
-
-/// What a crowd did, of so many threads as the options say. Refused 1 or 11.
-fn answer_crowd<'a, R: AllocGlobal + Threads + Wait + Sync>(
-    rt: &R,
-    world: &mut WorldCore,
-    def: &CrowdDef,
-    options: Options,
-) -> Answer<'a> {
-    let asked = CrowdPlan {
-        alloc: rt.alloc(),
-        def,
-        workers: options.workers,
-    };
-    match crowd(rt, world, asked, options.threads) {
-        Ok(report) => Answer::Crowd(report.journal, report.seats),
-        Err(refusal) => Answer::Refused(refusal),
-    }
-}
-
-/// Does what a line asks for.
-fn answer<'a, R: AllocGlobal + Threads + Wait + Sync>(
-    rt: &R,
-    world: &'a mut WorldCore,
+    number: u64,
     request: &Request<'_>,
-    options: Options,
-) -> Answer<'a> {
-    match request {
-        Request::Command(command) => answer_command(rt, world, command, options.workers),
-        Request::Show(handle) => show(world, *handle),
-        Request::Ledger => Answer::Ledger(ledger_of(world)),
-        Request::Ray(from, along) => answer_ray(world, *from, *along),
-        Request::Region(bounds) => answer_region(rt.alloc(), world, bounds),
-        Request::Save => answer_save(world),
-        Request::Load(text) => answer_load(rt.alloc(), world, text),
-        Request::Crowd(def) => answer_crowd(rt, world, def, options),
-    }
+    refusal: Refusal,
+) {
+    let explanation = explain(request, refusal);
+    let place = match request {
+        Request::Load(text) => broken_place(rt.alloc(), text),
+        _ => Ok(None),
+    };
+    let _ = match place {
+        Ok(Some(place)) => eprintln!(rt; "line {number}: {explanation}, first at {place}"),
+        _ => eprintln!(rt; "line {number}: {explanation}"),
+    };
 }
 
-/// Tells in words why a request is refused.
-fn tell<R: Eprint>(rt: &R, number: u64, request: &Request<'_>, answer: &Answer<'_>) {
-    if let Answer::Refused(refusal) = answer {
-        let explanation = explain(request, *refusal);
-        let _ = eprintln!(rt; "line {number}: {explanation}");
+/// Tells in words why a request is refused, and how many of a crowd's calls were.
+fn tell<R: AllocGlobal + Eprint>(rt: &R, number: u64, request: &Request<'_>, answer: &Answer<'_>) {
+    match (answer, request) {
+        (Answer::Refused(refusal), _) => tell_refusal(rt, number, request, *refusal),
+        (Answer::Crowd(journal, seats), Request::Crowd(def)) => {
+            let refusals = CrowdRefusals::of(def, seats.len() as u64, *journal);
+            if refusals.refused > 0 {
+                let _ = eprintln!(rt; "line {number}: {refusals}");
+            }
+        }
+        _ => {}
     }
 }
 
 /// Answers the request of a line; a refusal is told in words where that is wanted.
 fn answer_request<R: AllocGlobal + Eprint + Threads + Wait + Sync, O: Write>(
     rt: &R,
-    world: &mut WorldCore,
+    worlds: &mut Worlds,
     request: &Request<'_>,
     (number, options): (u64, Options),
     outbox: &mut Outbox<'_, O>,
 ) -> Result<(), Stop> {
-    let answer = answer(rt, world, request, options);
+    let answer = answer(rt, worlds, request, options);
     if options.explain {
         tell(rt, number, request, &answer);
     }
@@ -180,14 +96,15 @@ fn refuse_line<R: Eprint, O: Write>(
     if outbox.write(&answer).is_err() || outbox.flush().is_err() {
         return Stop::WriteFailed;
     }
-    let _ = eprintln!(rt; "line {number}: {fault}");
+    let why = BadLine(fault);
+    let _ = eprintln!(rt; "line {number}: {why}");
     Stop::BadLine
 }
 
 /// Answers a line; one that is blank asks for nothing.
 fn answer_line<R: AllocGlobal + Eprint + Threads + Wait + Sync, O: Write>(
     rt: &R,
-    world: &mut WorldCore,
+    worlds: &mut Worlds,
     page: &mut Page,
     (number, options): (u64, Options),
     outbox: &mut Outbox<'_, O>,
@@ -199,16 +116,51 @@ fn answer_line<R: AllocGlobal + Eprint + Threads + Wait + Sync, O: Write>(
     if is_blank(page.line.as_slice()) {
         return Ok(());
     }
-    match request_of(rt.alloc(), page.line.as_slice(), &mut page.scratch) {
-        Ok(request) => answer_request(rt, world, &request, (number, options), outbox),
+    match request_of(
+        rt.alloc(),
+        page.line.as_slice(),
+        &mut page.scratch,
+        options.extended,
+    ) {
+        Ok(request) => answer_request(rt, worlds, &request, (number, options), outbox),
         Err(fault) => Err(refuse_line(rt, number, fault, outbox)),
     }
+}
+
+/// Passes by what is left of a line of which a part was read.
+fn pass_line<I: BufRead, O: Write>(
+    page: &mut Page,
+    lines: &mut LineReader<'_, I>,
+    outbox: &mut Outbox<'_, O>,
+) -> Result<(), Stop> {
+    for _ in 0..u64::MAX {
+        if !is_too_long(page.line.as_slice()) {
+            return Ok(());
+        }
+        lines.read_line(&mut page.line, outbox)?;
+    }
+    Err(Stop::ReadFailed)
+}
+
+/// Goes on after a line that couldn't be answered, if it was bad and the options say so.
+fn go_on<I: BufRead, O: Write>(
+    page: &mut Page,
+    options: Options,
+    stop: Stop,
+    lines: &mut LineReader<'_, I>,
+    outbox: &mut Outbox<'_, O>,
+) -> Result<(), Stop> {
+    if stop != Stop::BadLine || !options.go_on {
+        return Err(stop);
+    }
+    page.has_bad = true;
+    pass_line(page, lines, outbox)
 }
 
 /// Reads a line and answers it. Answers whether there was one.
 fn serve_line<R: AllocGlobal + Eprint + Threads + Wait + Sync, I: BufRead, O: Write>(
     rt: &R,
-    world: &mut WorldCore,
+    worlds: &mut Worlds,
     page: &mut Page,
     (number, options): (u64, Options),
     lines: &mut LineReader<'_, I>,
@@ -218,21 +170,24 @@ fn serve_line<R: AllocGlobal + Eprint + Threads + Wait + Sync, I: BufRead, O: Wr
     if page.line.is_empty() {
         return Ok(false);
     }
-    answer_line(rt, world, page, (number, options), outbox)?;
+    if let Err(stop) = answer_line(rt, worlds, page, (number, options), outbox) {
+        go_on(page, options, stop, lines, outbox)?;
+    }
+    settle(&mut worlds.world);
     Ok(true)
 }
 
-/// Answers each line of the reader, up to one that is no request.
+/// Answers each line of the reader, up to one that is no request, unless the options say to go on.
 fn serve_lines<R: AllocGlobal + Eprint + Threads + Wait + Sync, I: BufRead, O: Write>(
     rt: &R,
-    world: &mut WorldCore,
+    worlds: &mut Worlds,
     page: &mut Page,
     options: Options,
     lines: &mut LineReader<'_, I>,
     outbox: &mut Outbox<'_, O>,
 ) -> Result<(), Stop> {
     for number in 1..u64::MAX {
-        match serve_line(rt, world, page, (number, options), lines, outbox) {
+        match serve_line(rt, worlds, page, (number, options), lines, outbox) {
             Ok(true) => {}
             Ok(false) => return Ok(()),
             Err(stop) => return Err(stop),
@@ -244,7 +199,7 @@ fn serve_lines<R: AllocGlobal + Eprint + Threads + Wait + Sync, I: BufRead, O: W
 /// The same, with a page to read them.
 fn serve<R: AllocGlobal + Eprint + Threads + Wait + Sync, I: BufRead, O: Write>(
     rt: &R,
-    world: &mut WorldCore,
+    worlds: &mut Worlds,
     options: Options,
     reader: &mut I,
     outbox: &mut Outbox<'_, O>,
@@ -252,9 +207,14 @@ fn serve<R: AllocGlobal + Eprint + Threads + Wait + Sync, I: BufRead, O: Write>(
     let mut page = Page {
         line: Vec::new(rt.alloc()),
         scratch: Scratch::new(rt.alloc()),
+        has_bad: false,
     };
     let mut lines = LineReader::new(reader);
-    serve_lines(rt, world, &mut page, options, &mut lines, outbox)
+    serve_lines(rt, worlds, &mut page, options, &mut lines, outbox)?;
+    if page.has_bad {
+        return Err(Stop::BadLine);
+    }
+    Ok(())
 }
 
 /// Flushes the answers, unless a write failed, and says how the run ended.
@@ -271,7 +231,7 @@ fn end<O: Write>(writer: &mut O, answered: Result<(), Stop>) -> Status {
 }
 
 /// Answers each line of the reader, in a world that begins empty and without gravity. It ends with the
-/// input, at the first line that is no request (after an answer that names it), where memory is
+/// input, at the first line that is no request (after an answer that names it, and unless the options say to go on), where memory is
 /// wanting, or where a read or a write fails. What was answered is flushed before each read that may wait, and at the
 /// end, unless a write failed. Why a line is no request is told on standard error.
 pub fn run<R: AllocGlobal + Eprint + Threads + Wait + Sync, I: BufRead, O: Write>(
@@ -280,8 +240,8 @@ pub fn run<R: AllocGlobal + Eprint + Threads + Wait + Sync, I: BufRead, O: Write
     writer: &mut O,
     options: Options,
 ) -> Status {
-    let answered = match new_world(rt.alloc()) {
-        Ok(mut world) => serve(rt, &mut world, options, reader, &mut Outbox::new(writer)),
+    let answered = match Worlds::new(rt.alloc()) {
+        Ok(mut worlds) => serve(rt, &mut worlds, options, reader, &mut Outbox::new(writer)),
         Err(_) => Err(Stop::NoMemory),
     };
     end(writer, answered)

@@ -1,18 +1,22 @@
-//! Which key of a request a refusal speaks of.
+//! What standard error is told: which key of a request a refusal speaks of, what was refused in a crowd, and what is wrong with a line.
 
-use crate::requests::Request;
+use crate::extended::Extended;
+use crate::requests::{CrowdDef, Request};
 use fixed_geom::{MAX_POSITION, Refusal, is_facing, is_within};
 use joint_rows::MAX_ANCHOR;
+use line_json::{Fault, Reason};
 use momenta::{MAX_MASS, MAX_SPEED};
 use plain_world::{BodyDef, Course, JointDef, Kind};
-use shapes::{Pose, check};
+use shapes::{MAX_FRICTION, MAX_RESTITUTION, Pose, Shape, ShapeDef, check};
 use std::fmt;
 use world_core::Command;
 
 /// A refusal of the request of a line, told in words.
 #[derive(Clone, Copy)]
 pub struct Explanation {
-    /// The key of the request that it speaks of, if there is one.
+    /// The shape that it speaks of, counted from 0, if it is of one.
+    pub shape: Option<usize>,
+    /// The key of the request, or of the shape, that it speaks of, if there is one.
     pub key: Option<&'static str>,
     pub refusal: Refusal,
 }
@@ -21,11 +25,69 @@ impl fmt::Display for Explanation {
     fn fmt<W: fmt::Write>(&self, f: &mut fmt::Formatter<W>) -> fmt::Result {
         let number = self.refusal.number();
         write!(f, "refused {number}: ")?;
+        if let Some(shape) = self.shape {
+            write!(f, "shapes[{shape}]: ")?;
+        }
         if let Some(key) = self.key {
             write!(f, "{key}: ")?;
         }
         let refusal = self.refusal;
         write!(f, "{refusal}")
+    }
+}
+
+/// The first shape that is refused so by itself, if there is one.
+fn refused_shape(defs: &[ShapeDef], segments: bool, refusal: Refusal) -> Option<usize> {
+    defs.iter()
+        .position(|def| check(&[*def], segments).err() == Some(refusal))
+}
+
+/// The key of a shape's form.
+fn key_of_form(shape: &Shape) -> &'static str {
+    match shape {
+        Shape::Circle { .. } => "circle",
+        Shape::Capsule { .. } => "capsule",
+        Shape::Segment { .. } => "segment",
+    }
+}
+
+/// The key for which a shape isn't allowed: that of its form where its ends are equal or its body may have none of the form.
+fn key_of_bad_shape(shape: &Shape) -> &'static str {
+    match shape {
+        Shape::Capsule {
+            first,
+            second,
+            radius: _,
+        } if first == second => "capsule",
+        Shape::Segment { .. } => "segment",
+        _ => "radius",
+    }
+}
+
+/// The key of a shape's number that is outside its limit.
+fn key_of_shape_number(def: &ShapeDef) -> &'static str {
+    if def.friction < 0 || MAX_FRICTION < def.friction {
+        "friction"
+    } else if def.restitution < 0 || MAX_RESTITUTION < def.restitution {
+        "restitution"
+    } else {
+        key_of_form(&def.shape)
+    }
+}
+
+/// What a refusal says that a body's shapes met: of one of them where it is refused by itself, and else of their list.
+fn explain_shapes(def: &BodyDef, refusal: Refusal) -> Explanation {
+    let defs = def.shapes.as_slice();
+    let shape = refused_shape(defs, def.kind.is_static(), refusal);
+    let key = match shape.and_then(|place| defs.get(place)) {
+        None => "shapes",
+        Some(bad) if refusal == Refusal::BadShape => key_of_bad_shape(&bad.shape),
+        Some(bad) => key_of_shape_number(bad),
+    };
+    Explanation {
+        shape,
+        key: Some(key),
+        refusal,
     }
 }
 
@@ -87,6 +149,20 @@ fn key_of_number(command: &Command) -> Option<&'static str> {
     }
 }
 
+/// The key of a request of the extended form that a refusal speaks of, if it is of one.
+fn key_of_extended(request: Extended, refusal: Refusal) -> Option<&'static str> {
+    match (refusal, request) {
+        (Refusal::OutOfRange | Refusal::StaleHandle, Extended::Keep(_) | Extended::Back(_)) => {
+            Some("number")
+        }
+        (Refusal::OutOfRange, Extended::Step(_)) => Some("ticks"),
+        (Refusal::OutOfRange, Extended::Ray(_)) => Some("from or along"),
+        (Refusal::StaleHandle, Extended::Ray(_)) => Some("without"),
+        (Refusal::OutOfRange, Extended::Region(_)) => Some("lo or hi"),
+        _ => None,
+    }
+}
+
 /// The key of a request that a refusal speaks of, if it is of one.
 fn key_of(request: &Request<'_>, refusal: Refusal) -> Option<&'static str> {
     match (refusal, request) {
@@ -94,6 +170,7 @@ fn key_of(request: &Request<'_>, refusal: Refusal) -> Option<&'static str> {
         (Refusal::StaleHandle, Request::Command(Command::CreateJoint(_)))
         | (Refusal::BodyDisabled, Request::Command(Command::CreateJoint(_))) => Some("a or b"),
         (Refusal::SameBody, _) => Some("a and b"),
+        (_, Request::Extended(request)) => key_of_extended(*request, refusal),
         (Refusal::StaleHandle, _)
         | (Refusal::NotAMover, _)
         | (Refusal::NotKinematic, _)
@@ -110,8 +187,67 @@ fn key_of(request: &Request<'_>, refusal: Refusal) -> Option<&'static str> {
 
 /// What a refusal of a request says.
 pub fn explain(request: &Request<'_>, refusal: Refusal) -> Explanation {
+    if let Request::Command(Command::CreateBody(def)) = request {
+        let segments = def.kind.is_static();
+        if check(def.shapes.as_slice(), segments).err() == Some(refusal) {
+            return explain_shapes(def, refusal);
+        }
+    }
     Explanation {
+        shape: None,
         key: key_of(request, refusal),
         refusal,
+    }
+}
+
+/// How many of a crowd's calls were refused, told in words.
+#[derive(Clone, Copy)]
+pub struct CrowdRefusals {
+    pub refused: u64,
+    pub calls: u64,
+}
+
+impl CrowdRefusals {
+    /// Those of a crowd of so many threads, of whose calls so many were accepted.
+    pub fn of(def: &CrowdDef, threads: u64, accepted: u64) -> CrowdRefusals {
+        let each = threads.saturating_mul(def.each.len() as u64);
+        let calls = each.saturating_mul(def.times);
+        CrowdRefusals {
+            refused: calls.saturating_sub(accepted),
+            calls,
+        }
+    }
+}
+
+impl fmt::Display for CrowdRefusals {
+    fn fmt<W: fmt::Write>(&self, f: &mut fmt::Formatter<W>) -> fmt::Result {
+        let CrowdRefusals { refused, calls } = self;
+        write!(f, "each: {refused} of {calls} calls were refused")
+    }
+}
+
+/// What is wrong with a line, told in words. A shape that has the key of no form is told so.
+#[derive(Clone, Copy)]
+pub struct BadLine<'a>(pub Fault<'a>);
+
+/// Whether the fault is that a shape has the key of no form: a segment's is the last that is looked for.
+fn lacks_form(fault: &Fault<'_>) -> bool {
+    fault.shape.is_some() && fault.key == Some("segment") && matches!(fault.reason, Reason::Missing)
+}
+
+impl fmt::Display for BadLine<'_> {
+    fn fmt<W: fmt::Write>(&self, f: &mut fmt::Formatter<W>) -> fmt::Result {
+        let BadLine(fault) = self;
+        if !lacks_form(fault) {
+            return write!(f, "{fault}");
+        }
+        if let Some(each) = fault.each {
+            write!(f, "each[{each}]: ")?;
+        }
+        let shape = fault.shape.unwrap_or(0);
+        write!(
+            f,
+            "shapes[{shape}]: none of the forms circle, capsule and segment"
+        )
     }
 }

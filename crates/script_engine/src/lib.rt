@@ -1,14 +1,19 @@
 //! The program's engine: one JSON request a line, and one answer a line.
 #![tactic(auto)]
 
+mod answers;
 mod calls;
 mod crowds;
 mod engine;
 mod explanation;
+mod extended;
+mod joints;
 mod requests;
 mod status;
+mod worlds;
 
 pub use engine::run;
-pub use explanation::{Explanation, explain};
+pub use explanation::{BadLine, CrowdRefusals, Explanation, explain};
+pub use extended::Extended;
 pub use requests::{CrowdDef, Request, request_of};
 pub use status::Status;

@@ -1,5 +1,6 @@
 //! What a line asks for.
 
+use crate::extended::{Extended, take_box, take_extended};
 use body_handles::Handle;
 use fixed_geom::{Box2, Refusal, Rot, Vec2, ZERO_VECTOR};
 use json::Scratch;
@@ -39,6 +40,8 @@ pub enum Request<'a> {
     Load(&'a str),
     /// Calls of many threads at once.
     Crowd(CrowdDef),
+    /// What only the extended form has.
+    Extended(Extended),
 }
 
 /// A copy of a command. Refused 1 where memory is wanting.
@@ -201,12 +204,6 @@ fn take_ray<'a>(fields: &mut Fields<'a>) -> Request<'a> {
     Request::Ray(from, fields.take_vector("along"))
 }
 
-fn take_region<'a>(fields: &mut Fields<'a>) -> Request<'a> {
-    let lo = fields.take_vector("lo");
-    let hi = fields.take_vector("hi");
-    Request::Region(Box2 { lo, hi })
-}
-
 /// A call of a crowd, which has to be a command.
 fn take_call<'a>(alloc: Global, fields: &mut Fields<'a>, calls: &mut Vec<Command>) {
     let name = fields.take_text("do");
@@ -241,14 +238,25 @@ fn take_crowd<'a>(alloc: Global, line: &mut Line<'a>) -> Request<'a> {
     Request::Crowd(CrowdDef { each, times })
 }
 
-/// The request of a line; `None` where something is wrong, which is noted in the line's own object then.
-fn take_request<'a>(alloc: Global, line: &mut Line<'a>) -> Option<Request<'a>> {
+/// The request of a line by its name, of the extended form too where that is asked for; `None` where something is wrong, which is noted
+/// in the line's own object then.
+fn take_request<'a>(alloc: Global, line: &mut Line<'a>, extended: bool) -> Option<Request<'a>> {
     let name = line.own.take_text("do");
+    if extended {
+        if let Some(request) = take_extended(&mut line.own, name) {
+            return Some(Request::Extended(request));
+        }
+    }
+    take_plain(alloc, line, name)
+}
+
+/// The request of this name in the plain form.
+fn take_plain<'a>(alloc: Global, line: &mut Line<'a>, name: &'a str) -> Option<Request<'a>> {
     match name {
         "show" => Some(Request::Show(line.own.take_id("body"))),
         "ledger" => Some(Request::Ledger),
         "ray" => Some(take_ray(&mut line.own)),
-        "region" => Some(take_region(&mut line.own)),
+        "region" => Some(Request::Region(take_box(&mut line.own))),
         "save" => Some(Request::Save),
         "load" => Some(Request::Load(line.own.take_json("world"))),
         "crowd" => Some(take_crowd(alloc, line)),
@@ -262,15 +270,16 @@ fn take_request<'a>(alloc: Global, line: &mut Line<'a>) -> Option<Request<'a>> {
     }
 }
 
-/// Reads a line, with or without its end. The scratch grows to the longest line that was read.
+/// Reads a line, with or without its end, in the extended form where that is asked for. The scratch grows to the longest line that was read.
 pub fn request_of<'a>(
     alloc: Global,
     bytes: &'a [u8],
     scratch: &'a mut Scratch,
+    extended: bool,
 ) -> Result<Request<'a>, LineFault<'a>> {
     let mut line = Line::new(alloc);
     line.read(alloc, bytes, scratch);
-    let request = take_request(alloc, &mut line);
+    let request = take_request(alloc, &mut line, extended);
     match (line.own.fault(), request) {
         (None, Some(request)) => Ok(request),
         (Some(fault), _) => Err(fault),

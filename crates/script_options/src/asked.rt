@@ -5,6 +5,10 @@
 pub struct Options {
     /// Whether each refusal is told in words on standard error.
     pub explain: bool,
+    /// Whether the requests of the extended form are known too.
+    pub extended: bool,
+    /// Whether lines are read on after a bad one.
+    pub go_on: bool,
     /// How many threads make the calls of a crowd, 1 to 64.
     pub threads: u64,
     /// How many threads solve a step, 1 to 64.

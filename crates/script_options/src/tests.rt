@@ -8,10 +8,16 @@ fn asked(alloc: Global, words: &[&str]) -> Result<String, Fail> {
         Ok(
             Options {
                 explain,
+                extended,
+                go_on,
                 threads,
                 workers,
             },
-        ) => { format!(in alloc; "explain {explain}, threads {threads}, workers {workers}")? }
+        ) => {
+            format!(in alloc;
+                "explain {explain}, extended {extended}, go on {go_on}, threads {threads}, workers {workers}"
+            )?
+        }
         Err(Instead::Text(text)) => format!(in alloc; "text: {text}")?,
         Err(Instead::BadWords(text)) => format!(in alloc; "bad words: {text}")?,
         Err(Instead::NoMemory) => String::from_str(alloc, "no memory")?,
@@ -29,6 +35,8 @@ Usage: world_script [OPTIONS]
 
 Options:
       --explain      Say in words on standard error why a request is refused
+      --extended     Know the requests of the extended form too
+      --go-on        Read on after a bad line
       --threads <N>  How many threads make the calls of a crowd, 1 to 64 [default: 1]
       --workers <N>  How many threads solve a step, 1 to 64 [default: 1]
   -h, --help         Print help
@@ -49,27 +57,30 @@ const MISSPELT: &str =
 For more information, try '--help'.
 ";
 
-const ROWS: [Row; 23] = [
-    (&["world_script"], "explain false, threads 1, workers 1"),
+const ROWS: [Row; 27] = [
+    (
+        &["world_script"],
+        "explain false, extended false, go on false, threads 1, workers 1",
+    ),
     (
         &["world_script", "--explain"],
-        "explain true, threads 1, workers 1",
+        "explain true, extended false, go on false, threads 1, workers 1",
     ),
     (
         &["world_script", "--threads", "64"],
-        "explain false, threads 64, workers 1",
+        "explain false, extended false, go on false, threads 64, workers 1",
     ),
     (
         &["world_script", "--threads=2"],
-        "explain false, threads 2, workers 1",
+        "explain false, extended false, go on false, threads 2, workers 1",
     ),
     (
         &["world_script", "--workers", "64"],
-        "explain false, threads 1, workers 64",
+        "explain false, extended false, go on false, threads 1, workers 64",
     ),
     (
         &["world_script", "--workers=2", "--threads=3"],
-        "explain false, threads 3, workers 2",
+        "explain false, extended false, go on false, threads 3, workers 2",
     ),
     (&["world_script", "--workers", "0"], "bad words: "),
     (&["world_script", "--workers", "65"], "bad words: "),
@@ -88,8 +99,21 @@ const ROWS: [Row; 23] = [
         &["world_script", "--threads=2", "--threads=2"],
         "bad words: ",
     ),
+    (
+        &["world_script", "--go-on"],
+        "explain false, extended false, go on true, threads 1, workers 1",
+    ),
+    (&["world_script", "--go-on=1"], "bad words: "),
+    (
+        &["world_script", "--extended"],
+        "explain false, extended true, go on false, threads 1, workers 1",
+    ),
+    (&["world_script", "--extended", "--extended"], "bad words: "),
     (&["world_script", "--help"], HELP),
-    (&["world_script", "--version"], "text: world_script 0.1.0\n"),
+    (
+        &["world_script", "--version"],
+        "text: world_script 0.1.0, rules 1\n",
+    ),
     (&["world_script", "--gate"], UNKNOWN),
 ];
 

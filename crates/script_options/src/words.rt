@@ -11,7 +11,8 @@ use std::convert::AsStr;
 const ABOUT: &str =
     "Keeps a world of bodies: reads one JSON request a line, and answers each with a line";
 
-const VERSION: &str = "0.1.0";
+/// The version of the program, and the number of the rules: two programs with the same rules give the same answers to a script.
+const VERSION: &str = "0.1.0, rules 1";
 
 /// How many threads make the calls of a crowd at most, and how many solve a step.
 const MOST_THREADS: u64 = 64;
@@ -38,10 +39,21 @@ const REQUESTS: &str =
   load      world (what save answered)
   crowd     each (1 to 16 of the requests create to step), times (1 to 1000)
 
+With --extended also:
+  bodies    [awake]
+  contacts  [ids]
+  joints
+  digest
+  keep      number (0 to 15)
+  back      number (0 to 15)
+  ray       from, along, [without], [mask], [ids]
+  step, region  [ids]
+
 Shapes are {\"circle\":[x,y],\"radius\":r}, {\"capsule\":[[x,y],[x,y]],\"radius\":r} and {\"segment\":[[x,y],[x,y]]}, each with
 [friction], [restitution], [category], [mask], [group].
 An answer is one line: {\"refused\":K} where the world refuses a request, and {\"bad\":N} where line N is no request; the
-program ends then with status 1, and says on standard error what is wrong. docs/SCRIPT.md has all of it.";
+program ends then with status 1, or at the end of the input with --go-on, and says on standard error what is wrong.
+docs/SCRIPT.md has all of it.";
 
 /// Reads the program's words, of which the first is its name.
 pub fn options<S: AsStr>(alloc: Global, words: &[S]) -> Result<Options, Instead>
@@ -62,6 +74,8 @@ fn options_of(alloc: Global, matches: &ArgMatches<'_>) -> Result<Options, Instea
     let workers = number_of(alloc, matches, "workers")?;
     Ok(Options {
         explain: matches.get_flag("explain"),
+        extended: matches.get_flag("extended"),
+        go_on: matches.get_flag("go-on"),
         threads,
         workers,
     })
@@ -100,6 +114,14 @@ fn matches_of<'a, S: AsStr>(alloc: Global, words: &'a [S]) -> Result<ArgMatches<
         .long("explain")
         .action(ArgAction::SetTrue)
         .help("Say in words on standard error why a request is refused");
+    let extended = Arg::new(alloc, "extended")
+        .long("extended")
+        .action(ArgAction::SetTrue)
+        .help("Know the requests of the extended form too");
+    let go_on = Arg::new(alloc, "go-on")
+        .long("go-on")
+        .action(ArgAction::SetTrue)
+        .help("Read on after a bad line");
     let threads = Arg::new(alloc, "threads")
         .long("threads")
         .value_name("N")
@@ -117,6 +139,8 @@ fn matches_of<'a, S: AsStr>(alloc: Global, words: &'a [S]) -> Result<ArgMatches<
         .version(VERSION)
         .after_help(REQUESTS)
         .arg(explain)?
+        .arg(extended)?
+        .arg(go_on)?
         .arg(threads)?
         .arg(workers)?;
     command.try_get_matches_from(words)

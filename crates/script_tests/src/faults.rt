@@ -26,6 +26,8 @@ const ANSWERS: &[u8] = b"{\"done\":true}
 
 const OPTIONS: Options = Options {
     explain: false,
+    extended: false,
+    go_on: false,
     threads: 1,
     workers: 1,
 };

@@ -67,6 +67,8 @@ const DONE: &[u8] = b"{\"done\":true}\n";
 
 const PLAIN: Options = Options {
     explain: false,
+    extended: false,
+    go_on: false,
     threads: 1,
     workers: 1,
 };

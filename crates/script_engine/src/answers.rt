@@ -1,0 +1,225 @@
+//! What a request does, and what it is answered.
+
+use crate::calls::{
+    apply, bodies_of, body_of, digest, events_of, filtered_ray, ledger_of, load, places_of,
+    plain_of, ray, region, save, step,
+};
+use crate::crowds::{CrowdPlan, crowd};
+use crate::extended::{Extended, RayRequest};
+use crate::joints::joints_of;
+use crate::requests::{CrowdDef, Request};
+use crate::worlds::Worlds;
+use answer_json::{Answer, BodyList};
+use body_handles::Handle;
+use fixed_geom::{Box2, Refusal, Vec2};
+use script_options::Options;
+use std::alloc::Global;
+use std::sync::Wait;
+use std::thread::Threads;
+use world_core::{Command, Reply, WorldCore};
+
+/// Makes a call; a step is made by so many workers.
+fn make<R: AllocGlobal + Threads + Wait + Sync>(
+    rt: &R,
+    world: &mut WorldCore,
+    command: &Command,
+    workers: u64,
+) -> Result<Reply, Refusal> {
+    match command {
+        Command::Step(ticks) => step(rt, world, workers, *ticks),
+        _ => apply(world, command),
+    }
+}
+
+fn answer_command<'a, R: AllocGlobal + Threads + Wait + Sync>(
+    rt: &R,
+    world: &'a mut WorldCore,
+    command: &Command,
+    workers: u64,
+) -> Answer<'a> {
+    match make(rt, world, command, workers) {
+        Ok(Reply::Body(handle)) => Answer::Body(handle),
+        Ok(Reply::Joint(handle)) => Answer::Joint(handle),
+        Ok(Reply::Done) => Answer::Done,
+        Ok(Reply::Stepped(step)) => Answer::Stepped(step, events_of(world), None),
+        Err(refusal) => Answer::Refused(refusal),
+    }
+}
+
+fn show<'a>(world: &WorldCore, handle: Handle) -> Answer<'a> {
+    match body_of(world, handle) {
+        Some(view) => Answer::Shown(view),
+        None => Answer::Refused(Refusal::StaleHandle),
+    }
+}
+
+/// What a ray hits first. Refused 5 where the ray is beyond its limits.
+fn answer_ray<'a>(world: &WorldCore, from: Vec2, along: Vec2) -> Answer<'a> {
+    match ray(world, from, along) {
+        Ok(hit) => Answer::Hit(hit, None),
+        Err(refusal) => Answer::Refused(refusal),
+    }
+}
+
+/// The shapes over a region. Refused 5 where the region is beyond its limits, and else 1 where memory is wanting.
+fn answer_region<'a>(alloc: Global, world: &WorldCore, bounds: &Box2) -> Answer<'a> {
+    match region(alloc, world, bounds) {
+        Ok(shapes) => Answer::Shapes(shapes, None),
+        Err(refusal) => Answer::Refused(refusal),
+    }
+}
+
+/// The world as a value. Refused 1 where memory is wanting.
+fn answer_save<'a>(world: &WorldCore) -> Answer<'a> {
+    match save(world) {
+        Ok(value) => Answer::World(value),
+        Err(refusal) => Answer::Refused(refusal),
+    }
+}
+
+/// Puts the world of a text in place of the world. Refused 12 with the first clause that it breaks, or 1; the world stays then.
+fn answer_load<'a>(alloc: Global, world: &mut WorldCore, text: &str) -> Answer<'a> {
+    match load(alloc, text) {
+        Ok(loaded) => {
+            *world = loaded;
+            Answer::Done
+        }
+        Err(refusal) => Answer::Refused(refusal),
+    }
+}
+
+/// What a crowd did, of so many threads as the options say. Refused 1 or 11.
+fn answer_crowd<'a, R: AllocGlobal + Threads + Wait + Sync>(
+    rt: &R,
+    world: &mut WorldCore,
+    def: &CrowdDef,
+    options: Options,
+) -> Answer<'a> {
+    let asked = CrowdPlan {
+        alloc: rt.alloc(),
+        def,
+        workers: options.workers,
+    };
+    match crowd(rt, world, asked, options.threads) {
+        Ok(report) => Answer::Crowd(report.journal, report.seats),
+        Err(refusal) => Answer::Refused(refusal),
+    }
+}
+
+/// A step whose events have ids.
+fn answer_step<'a, R: AllocGlobal + Threads + Wait + Sync>(
+    rt: &R,
+    world: &'a mut WorldCore,
+    ticks: i64,
+    workers: u64,
+) -> Answer<'a> {
+    match step(rt, world, workers, ticks) {
+        Ok(Reply::Stepped(step)) => Answer::Stepped(step, events_of(world), Some(places_of(world))),
+        Ok(_) => Answer::Done,
+        Err(refusal) => Answer::Refused(refusal),
+    }
+}
+
+/// What a ray hits first of the shapes that it may hit. Refused 5 where it is beyond its limits, and else 2 where the body that it passes by doesn't
+/// live.
+fn answer_filtered_ray<'a>(world: &'a WorldCore, ray: RayRequest) -> Answer<'a> {
+    match filtered_ray(world, ray.from, ray.along, ray.filter) {
+        Ok(hit) if ray.ids => Answer::Hit(hit, Some(places_of(world))),
+        Ok(hit) => Answer::Hit(hit, None),
+        Err(refusal) => Answer::Refused(refusal),
+    }
+}
+
+/// The shapes over a region, with their bodies' ids. Refused 5 where the region is beyond its limits, and else 1 where memory is wanting.
+fn answer_region_with_ids<'a>(alloc: Global, world: &'a WorldCore, bounds: &Box2) -> Answer<'a> {
+    match region(alloc, world, bounds) {
+        Ok(shapes) => Answer::Shapes(shapes, Some(places_of(world))),
+        Err(refusal) => Answer::Refused(refusal),
+    }
+}
+
+/// The bodies by slot: all, or those alone that are awake.
+fn answer_bodies<'a>(world: &'a WorldCore, awake: bool) -> Answer<'a> {
+    Answer::Bodies(BodyList {
+        places: places_of(world),
+        bodies: bodies_of(world),
+        awake,
+    })
+}
+
+/// The touching contacts. Refused 1 where memory is wanting.
+fn answer_contacts<'a>(world: &WorldCore, ids: bool) -> Answer<'a> {
+    match plain_of(world) {
+        Ok(plain) => Answer::Contacts(plain, ids),
+        Err(refusal) => Answer::Refused(refusal),
+    }
+}
+
+/// The joints by slot. Refused 1 where memory is wanting.
+fn answer_joints<'a>(alloc: Global, world: &WorldCore) -> Answer<'a> {
+    match joints_of(alloc, world) {
+        Ok(joints) => Answer::Joints(joints),
+        Err(refusal) => Answer::Refused(refusal),
+    }
+}
+
+/// The digest of the world. Refused 1 where memory is wanting.
+fn answer_digest<'a>(world: &WorldCore) -> Answer<'a> {
+    match digest(world) {
+        Ok(digest) => Answer::Digest(digest),
+        Err(refusal) => Answer::Refused(refusal),
+    }
+}
+
+/// What a call without an answer of its own is answered.
+fn done_or_refused<'a>(done: Result<(), Refusal>) -> Answer<'a> {
+    match done {
+        Ok(()) => Answer::Done,
+        Err(refusal) => Answer::Refused(refusal),
+    }
+}
+
+/// Does what a line of the extended form asks for.
+fn answer_extended<'a, R: AllocGlobal + Threads + Wait + Sync>(
+    rt: &R,
+    worlds: &'a mut Worlds,
+    request: Extended,
+    options: Options,
+) -> Answer<'a> {
+    match request {
+        Extended::Bodies { awake } => answer_bodies(&worlds.world, awake),
+        Extended::Contacts { ids } => answer_contacts(&worlds.world, ids),
+        Extended::Joints => answer_joints(rt.alloc(), &worlds.world),
+        Extended::Digest => answer_digest(&worlds.world),
+        Extended::Keep(number) => done_or_refused(worlds.keep(number)),
+        Extended::Back(number) => done_or_refused(worlds.back(number)),
+        Extended::Step(ticks) => answer_step(rt, &mut worlds.world, ticks, options.workers),
+        Extended::Ray(ray) => answer_filtered_ray(&worlds.world, ray),
+        Extended::Region(bounds) => answer_region_with_ids(rt.alloc(), &worlds.world, &bounds),
+    }
+}
+
+/// Does what a line asks for.
+pub fn answer<'a, R: AllocGlobal + Threads + Wait + Sync>(
+    rt: &R,
+    worlds: &'a mut Worlds,
+    request: &Request<'_>,
+    options: Options,
+) -> Answer<'a> {
+    match request {
+        Request::Command(command) => answer_command(
+            rt,
+            &mut worlds.world,
+            command,
+            options.workers,
+        ),
+        Request::Show(handle) => show(&worlds.world, *handle),
+        Request::Ledger => Answer::Ledger(ledger_of(&worlds.world)),
+        Request::Ray(from, along) => answer_ray(&worlds.world, *from, *along),
+        Request::Region(bounds) => answer_region(rt.alloc(), &worlds.world, bounds),
+        Request::Save => answer_save(&worlds.world),
+        Request::Load(text) => answer_load(rt.alloc(), &mut worlds.world, text),
+        Request::Crowd(def) => answer_crowd(rt, &mut worlds.world, def, options),
+        Request::Extended(request) => answer_extended(rt, worlds, *request, options),
+    }
+}
