@@ -1,0 +1,10 @@
+mod RawBoxValues
+mod HeldValues
+mod CrossingLaws
+mod ListLaws
+mod StatusLaws
+mod FormLaws
+mod BatchLaws
+mod KeepingLaws
+mod PoseLaws
+mod QuestionLaws

@@ -1,0 +1,35 @@
+//! Worlds for programs in C, and in whatever calls C: the header is `embed/dillmonth.h`.
+//!
+//! A caller holds a world as a struct of one pointer (`CWorld`). Each call takes the desk out of it, works on it and puts it back. A call answers
+//! a status: 0 where it did what it says, the number of a refusal, or one of this boundary's own. Nothing is printed, no thread is started,
+//! and no call ends the process.
+#![tactic(auto)]
+
+mod batch;
+mod commands;
+mod forms;
+mod held;
+mod keeping;
+mod questions;
+mod raw_box;
+mod reading;
+mod shown;
+mod statuses;
+
+pub use batch::dm_apply_all;
+pub use commands::{
+    dm_create_body, dm_create_joint, dm_destroy_body, dm_destroy_joint, dm_disable, dm_enable,
+    dm_push, dm_push_at, dm_set_gravity, dm_set_pose, dm_set_velocity, dm_sleep, dm_step, dm_wake,
+};
+pub use forms::{
+    CAnswer, CBodyDef, CBox, CCommand, CContact, CFacing, CHandle, CJointDef, CPair, CPose, CShape,
+    CShapeId, CVector, CView,
+};
+pub use held::CWorld;
+pub use keeping::{
+    dm_close, dm_copy, dm_digest, dm_load, dm_open, dm_save, dm_saved, dm_settle, dm_version,
+};
+pub use questions::{CHit, dm_contacts, dm_contacts_listed, dm_ray, dm_region, dm_region_found};
+pub use reading::{
+    dm_begun, dm_body, dm_ended, dm_gravity, dm_moved, dm_poses, dm_slept, dm_steps, dm_woke,
+};

@@ -1,0 +1,125 @@
+//! Items as C has them, written into a caller's array.
+
+ghost use Rattle.std.specs.Prelude.{◌≡◌, ◌<◌, ◌+◌, [], ◌∷◌, length, map, nat_lt, slice_set, cond};
+ghost use Rattle.dillmonth.specs.Forms.{handle_shown, id_shown, pair_shown};
+ghost use Rattle.dillmonth.specs.Lists.{contact_shown, count_points, impulse_shown, normal_shown, offset_shown, written};
+
+use crate::forms::{
+    CContact, CHandle, CPair, CShapeId, CVector, show_handle, show_id, show_pair, show_vector,
+};
+use contacts_base::{ContactEntry, ContactKey, ContactPoint, ShapeId};
+use world_core::Handle;
+
+/// What has a form for C.
+pub(crate) trait Shown {
+    type Form: Copy;
+
+    // Its form.
+    ghost shown: { Self → Self.Form };
+
+    /// Its form.
+    fn show(&self) -> Self::Form
+        ensures { result ≡ shown self.now };
+}
+
+impl Shown for ContactKey {
+    type Form = CPair;
+
+    ghost shown = { λ k. pair_shown k };
+
+    fn show(&self) -> CPair {
+        show_pair(*self)
+    }
+}
+
+impl Shown for Handle {
+    type Form = CHandle;
+
+    ghost shown = { λ h. handle_shown h };
+
+    fn show(&self) -> CHandle {
+        show_handle(*self)
+    }
+}
+
+impl Shown for ShapeId {
+    type Form = CShapeId;
+
+    ghost shown = { λ id. id_shown id };
+
+    fn show(&self) -> CShapeId {
+        show_id(*self)
+    }
+}
+
+const NOWHERE: CVector = CVector { x: 0, y: 0 };
+
+fn offset_of(point: Option<ContactPoint>) -> CVector
+    ensures { result ≡ offset_shown point }
+{
+    match point {
+        None => NOWHERE,
+        Some(point) => show_vector(point.ra),
+    }
+}
+
+fn normal_of(point: Option<ContactPoint>) -> CVector
+    ensures { result ≡ normal_shown point }
+{
+    match point {
+        None => NOWHERE,
+        Some(point) => show_vector(point.normal),
+    }
+}
+
+fn impulse_of(point: Option<ContactPoint>) -> i64
+    ensures { result ≡ impulse_shown point }
+{
+    match point {
+        None => 0,
+        Some(point) => point.normal_impulse,
+    }
+}
+
+fn count_points(first: Option<ContactPoint>, second: Option<ContactPoint>) -> u32
+    ensures { result ≡ count_points first second }
+{
+    match (first, second) {
+        (None, _) => 0,
+        (Some(_), None) => 1,
+        (Some(_), Some(_)) => 2,
+    }
+}
+
+impl Shown for ContactEntry {
+    type Form = CContact;
+
+    ghost shown = { λ e. contact_shown e };
+
+    fn show(&self) -> CContact {
+        let first = self.contact.first();
+        let second = self.contact.second();
+        CContact {
+            pair: show_pair(self.key),
+            points: count_points(first, second),
+            unused: 0,
+            normal: normal_of(first),
+            first_offset: offset_of(first),
+            second_offset: offset_of(second),
+            first_impulse: impulse_of(first),
+            second_impulse: impulse_of(second),
+        }
+    }
+}
+
+/// Writes the forms of items, as many as fit, and tells how many items there are.
+pub(crate) fn write_all<T: Shown>(items: &[T], out: &mut [T::Form]) -> usize
+    ensures count { result ≡ length items.now }
+    ensures written { out.new ≡ written (map T.shown items.now) out.old }
+{
+    let count = items.len().min(out.len());
+    for at in 0..count {
+        out[at] = items[at].show();
+    }
+    items.len()
+}

@@ -1,0 +1,129 @@
+/* Each allocation of each call refused in turn: the call answers 1, the world is as it was by its digest, and the call made again does what it
+ * does in a world that met no refusal. Link it with -Wl,--wrap=malloc,--wrap=realloc. */
+#include "check.h"
+
+void *__real_malloc(size_t size);
+void *__real_realloc(void *at, size_t size);
+static long left = -1; /* how many allocations are granted still; below 0 all are */
+
+static int is_refused(void) { return left >= 0 && left-- == 0; }
+void *__wrap_malloc(size_t size) { return is_refused() ? 0 : __real_malloc(size); }
+void *__wrap_realloc(void *at, size_t size) { return is_refused() ? 0 : __real_realloc(at, size); }
+
+static dm_world other = DM_NONE;
+static uint8_t *text;
+static size_t text_len;
+
+static dm_status create(dm_world *world) {
+  dm_body_def def = {DM_DYNAMIC, 0, {0, 30 * METRE}, {1 << 30, 0}, 200, 27000000000000, {0, 0}, 0};
+  dm_shape shapes[3] = {circle_of(METRE), circle_of(METRE / 2), circle_of(METRE / 4)};
+  dm_handle made;
+  return dm_create_body(world, &def, shapes, 3, &made);
+}
+static dm_status join(dm_world *world) {
+  dm_joint_def def = {{1, 1}, {2, 1}, {0, 0}, {0, 0}, METRE, 0, 0};
+  dm_handle made;
+  return dm_create_joint(world, &def, &made);
+}
+static dm_status destroy(dm_world *world) { return dm_destroy_body(world, (dm_handle){1, 1}); }
+static dm_status push(dm_world *world) { return dm_push(world, (dm_handle){1, 1}, (dm_vec){1000, 1000}); }
+static dm_status disable(dm_world *world) { return dm_disable(world, (dm_handle){2, 1}); }
+static dm_status rest(dm_world *world) { return dm_sleep(world, (dm_handle){1, 1}); }
+static dm_status step(dm_world *world) {
+  uint64_t number;
+  return dm_step(world, 4, &number);
+}
+static dm_status copy(dm_world *world) { return dm_copy(world, &other); }
+static dm_status save(dm_world *world) {
+  size_t bytes;
+  return dm_save(world, &bytes);
+}
+static dm_status load(dm_world *world) {
+  uint32_t clause;
+  return dm_load(world, text, text_len, &clause);
+}
+static dm_status contacts(dm_world *world) {
+  size_t count;
+  return dm_contacts(world, &count);
+}
+static dm_status region(dm_world *world) {
+  dm_box box = {{-9 * METRE, -METRE}, {9 * METRE, 9 * METRE}};
+  size_t count;
+  return dm_region(world, &box, &count);
+}
+static dm_status digest(dm_world *world) {
+  uint8_t bytes[DM_DIGEST_SIZE];
+  return dm_digest(world, bytes, DM_DIGEST_SIZE);
+}
+static dm_status batch(dm_world *world) {
+  dm_command commands[2];
+  dm_answer answers[2];
+  dm_shape shapes[2] = {circle_of(METRE), circle_of(METRE / 2)};
+  memset(commands, 0, sizeof commands);
+  commands[0].kind = DM_DO_CREATE_BODY;
+  commands[0].shapes_count = 2;
+  commands[0].body = (dm_body_def){DM_DYNAMIC, 0, {0, 40 * METRE}, {1 << 30, 0}, 200, 27000000000000, {0, 0}, 0};
+  dm_apply_all(world, commands, 1, shapes, 2, answers, 2);
+  return answers[0].status;
+}
+
+typedef struct {
+  const char *name;
+  dm_status (*call)(dm_world *);
+} call_t;
+static const call_t calls[] = {{"create", create}, {"join", join}, {"destroy", destroy}, {"push", push}, {"disable", disable}, {"sleep", rest},
+                               {"step", step}, {"copy", copy}, {"save", save}, {"load", load}, {"contacts", contacts}, {"region", region},
+                               {"digest", digest}, {"batch", batch}};
+
+static int try_call(call_t each) {
+  dm_world before = DM_NONE, wanted = DM_NONE, world = DM_NONE;
+  make_heap(&before, 12, 40);
+  WANT(dm_copy(&before, &wanted) == DM_DONE && each.call(&wanted) == DM_DONE);
+  int refused = 0;
+  for (long granted = 0;; granted++) {
+    WANT(dm_copy(&before, &world) == DM_DONE);
+    left = granted;
+    dm_status status = each.call(&world);
+    int met = left < 0;
+    left = -1;
+    if (!met) {
+      WANT(status == DM_DONE && same(digest_of(&world), digest_of(&wanted)));
+      break;
+    }
+    refused++;
+    /* a call may do without memory that it was refused, and then it has done all that it says */
+    WANT(status == DM_NO_MEMORY || status == DM_DONE);
+    if (status == DM_NO_MEMORY) WANT(same(digest_of(&world), digest_of(&before)) && each.call(&world) == DM_DONE);
+    WANT(same(digest_of(&world), digest_of(&wanted)));
+  }
+  dm_close(&before);
+  dm_close(&wanted);
+  dm_close(&world);
+  return refused;
+}
+
+int main(void) {
+  dm_world world = DM_NONE;
+  int refused = 0;
+  make_heap(&world, 12, 60);
+  WANT(dm_save(&world, &text_len) == DM_DONE);
+  text = malloc(text_len);
+  dm_saved(&world, text, text_len);
+  for (size_t i = 0; i < sizeof calls / sizeof *calls; i++) refused += try_call(calls[i]);
+  for (long granted = 0;; granted++) {
+    dm_world none = DM_NONE;
+    left = granted;
+    dm_status status = dm_open(&none, (dm_vec){0, 0});
+    int met = left < 0;
+    left = -1;
+    dm_close(&none);
+    if (!met) break;
+    WANT(status == DM_NO_MEMORY);
+    refused++;
+  }
+  dm_close(&world);
+  dm_close(&other);
+  free(text);
+  printf("%d allocations were refused\n", refused);
+  return refused > 100 ? 0 : 1;
+}
