@@ -16,6 +16,7 @@
  *   REFUSE_CALL=23 ..                                  every 23rd of them, from the first on
  *   REFUSE_CALL=all ..                                 one copy, to which all growths of the call are refused. Of each copy it is
  *                                                      reported: refuse: growth 3, asked 40, refused 1, status 0
+ *   REFUSE_CALL=1 REFUSE_STARTS=1 ..                   the same of the call's starts of threads, in place of its growths
  *
  * Proved code asks the C library for memory by malloc and realloc alone, and for threads by pthread_create, so
  * each of its growths passes here. Calls are counted over all threads, from the program's start on: what the C
@@ -50,6 +51,9 @@ struct rule {
 
 static struct rule allocations, threads, reads, writes;
 
+/* What of the call is refused: its growths, or its starts of threads. */
+static struct rule *refused_of_call = &allocations;
+
 /* What a refused read or write answers, and how many bytes the others move at most; 0 for no limit. */
 static int error = EIO;
 static size_t most_bytes;
@@ -60,7 +64,7 @@ static const char *call;
 /* Whether the call is under way, and whether it has begun before. */
 static int is_under_way, has_begun;
 
-/* What a copy of the process tells: how many growths the call asked for, and how many of them were refused. */
+/* What a copy of the process tells: how many growths or starts the call asked for, and how many of them were refused. */
 static struct told {
     long asked, refused;
 } *told;
@@ -129,6 +133,7 @@ __attribute__((constructor)) static void begin(void) {
     if (number) error = atoi(number);
     if (most) most_bytes = strtoul(most, NULL, 10);
     call = getenv("REFUSE_CALL");
+    if (getenv("REFUSE_STARTS")) refused_of_call = &threads;
     if (call) told = mmap(NULL, sizeof *told, PROT_READ | PROT_WRITE, MAP_SHARED | MAP_ANONYMOUS, -1, 0);
 }
 
@@ -156,7 +161,7 @@ static void begin_call(void) {
         *told = (struct told){0, 0};
         pid_t copy = fork();
         if (copy == 0) {
-            allocations = (struct rule){.first = number, .onward = is_all};
+            *refused_of_call = (struct rule){.first = number, .onward = is_all};
             is_under_way = 1;
             return;
         }
@@ -167,8 +172,8 @@ static void begin_call(void) {
 
 /* The call has ended: nothing is refused any more. */
 static void end_call(void) {
-    *told = (struct told){allocations.asked, allocations.refused};
-    allocations = (struct rule){.first = 0};
+    *told = (struct told){refused_of_call->asked, refused_of_call->refused};
+    *refused_of_call = (struct rule){.first = 0};
     is_under_way = 0;
 }
 

@@ -1,0 +1,91 @@
+//! Checks steps by workers.
+//!
+//! Without a word it steps piles of circles by workers beside the same steps by one thread. It prints the same lines whatever the schedule, which
+//! the gate compares. `worker_checks steps N` makes only so many steps where there are forty else. `worker_checks try WORLD
+//! CALL` makes one step in the world that the commands of a text make, while memory or threads may be refused to it, as `faults/run` does, and says in a
+//! line what came of it.
+#![tactic(auto)]
+
+mod at_once;
+mod calls;
+mod gates;
+mod scene;
+mod stop;
+mod tries;
+
+use at_once::check;
+use scene::STEPS;
+use std::process::ExitCode;
+use std::rt::Env;
+use std::sync::Wait;
+use std::thread::Threads;
+use std::{env, io};
+use stop::Stop;
+use tries::{Call, tell_try};
+
+/// Reads the program's words, of which the first is its name.
+fn read_words<R: AllocGlobal + Env>(rt: &R) -> io::Result<Vec<String>> {
+    Ok(env::args(rt)?.collect(rt.alloc())?)
+}
+
+fn print_unknown<R: Print>(rt: &R) -> Result<(), Stop> {
+    println!(rt; "unknown words")?;
+    Ok(())
+}
+
+fn print_try<R: AllocGlobal + Print + Threads + Wait + Sync>(
+    rt: &R,
+    text: &str,
+    call: &str,
+) -> Result<(), Stop> {
+    match Call::of_word(call) {
+        Some(call) => {
+            println!(rt; "{}", tell_try(rt, text, call))?;
+            Ok(())
+        }
+        None => print_unknown(rt),
+    }
+}
+
+/// What a word and a number ask for.
+fn do_number<R: AllocGlobal + Print + Threads + Wait + Sync>(
+    rt: &R,
+    word: &str,
+    number: &str,
+) -> Result<(), Stop> {
+    match (word, number.parse::<u64>()) {
+        ("steps", Ok(steps)) => check(rt, steps),
+        _ => print_unknown(rt),
+    }
+}
+
+/// Does what the words ask for.
+fn do_words<R: AllocGlobal + Print + Threads + Wait + Sync>(
+    rt: &R,
+    words: &[String],
+) -> Result<(), Stop> {
+    match words {
+        [_name] => check(rt, STEPS),
+        [_name, word, number] => do_number(rt, word.as_str(), number.as_str()),
+        [_name, word, text, call] if word.as_str() == "try" => {
+            print_try(rt, text.as_str(), call.as_str())
+        }
+        _ => print_unknown(rt),
+    }
+}
+
+/// Status 3 where memory is wanting or a call is refused, and 1 where a line can't be written or the words can't be read.
+fn start<R: AllocGlobal + Env + Print + Threads + Wait + Sync>(rt: &R) -> ExitCode {
+    let Ok(words) = read_words(rt) else {
+        return ExitCode::from(1);
+    };
+    match do_words(rt, words.as_slice()) {
+        Ok(()) => ExitCode::SUCCESS,
+        Err(Stop::Refused(_)) => ExitCode::from(3),
+        Err(Stop::Unwritten) => ExitCode::from(1),
+    }
+}
+
+fn main(rt: HostRuntime) -> ExitCode {
+    start(&rt)
+}
