@@ -40,7 +40,7 @@ def wanted_of(crates, names):
     if unknown:
         sys.exit(f"no such crate: {', '.join(sorted(unknown))}")
     asked = {id(each) for crate in named for each in [crate, *crate.below()]} if names else set(map(id, crates))
-    found = [crate for crate in crates if id(crate) in asked and not crate.is_program]
+    found = [crate for crate in crates if id(crate) in asked and crate.makes_rlib()]
     return sorted(found, key=lambda crate: len(crate.below()))
 
 

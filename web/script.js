@@ -1,0 +1,212 @@
+// Lines of `world_script` as calls of the library, with the answers that the program gives (docs/SCRIPT.md).
+
+import { ALL, CAPSULE, CIRCLE, DYNAMIC, KINEMATIC, ONE, Refused, SEGMENT, SETS, STATIC, generationOf, handleOf, slotOf } from "./dillmonth.js";
+
+const KINDS = { static: STATIC, kinematic: KINEMATIC, dynamic: DYNAMIC };
+const ORIGIN = { x: 0n, y: 0n };
+
+/** A line that only the program knows. */
+export class NotOurs extends Error {}
+
+/** A line that isn't a request. */
+export class BadLine extends Error {}
+
+/** A number of JSON that isn't whole, or -0: kept as it is written. */
+class OtherNumber {
+  constructor(text) {
+    this.text = text;
+  }
+}
+
+const TOKEN = /"(?:[^"\\]|\\.)*"|-?\d+(?:\.\d+)?(?:[eE][+-]?\d+)?/g;
+const WHOLE = /^(?:0|-?[1-9]\d*)$/;
+const NUMBER = /^-?(?:0|[1-9]\d*)(?:\.\d+)?(?:[eE][+-]?\d+)?$/;
+
+/** JSON whose whole numbers become BigInt, since doubles don't hold them. */
+export function readExact(text) {
+  const marked = text.replace(TOKEN, (found) => {
+    if (found.startsWith('"')) return found.startsWith('"#') ? `"#${found.slice(1)}` : found;
+    return NUMBER.test(found) ? `"#${found}"` : found;
+  });
+  return JSON.parse(marked, (_, value) => {
+    if (typeof value !== "string" || !value.startsWith("#")) return value;
+    const rest = value.slice(1);
+    if (rest.startsWith("#")) return rest;
+    return WHOLE.test(rest) ? BigInt(rest) : new OtherNumber(rest);
+  });
+}
+
+/** Compact JSON, the keys of each object ascending. */
+export function writeExact(value) {
+  if (typeof value === "bigint") return value.toString();
+  if (value instanceof OtherNumber) return value.text;
+  if (Array.isArray(value)) return `[${value.map(writeExact).join(",")}]`;
+  if (value === null || typeof value !== "object") return JSON.stringify(value);
+  const member = (key) => `${JSON.stringify(key)}:${writeExact(value[key])}`;
+  return `{${Object.keys(value).sort().map(member).join(",")}}`;
+}
+
+export function handleOfText(text) {
+  const [slot, generation] = text.split(".");
+  return handleOf(slot, generation);
+}
+
+export const textOf = (handle) => `${slotOf(handle)}.${generationOf(handle)}`;
+const vec = ([x, y]) => ({ x, y });
+const pair = ({ x, y }) => [x, y];
+
+export function shapeOf(keys) {
+  const common = {
+    group: Number(keys.group ?? 0n), friction: keys.friction ?? 0n, restitution: keys.restitution ?? 0n,
+    category: keys.category ?? 1n, mask: keys.mask ?? ALL, radius: keys.radius ?? 0n,
+  };
+  if (keys.circle) return { ...common, form: CIRCLE, first: vec(keys.circle), second: ORIGIN };
+  const [first, second] = (keys.capsule ?? keys.segment).map(vec);
+  return { ...common, form: keys.capsule ? CAPSULE : SEGMENT, first, second };
+}
+
+function bodyOf(line) {
+  const [c, s] = line.facing ?? [ONE, 0n];
+  return {
+    kind: KINDS[line.kind], at: vec(line.at), facing: { c, s }, mass: line.mass, inertia: line.inertia,
+    velocity: line.velocity && vec(line.velocity), spin: line.spin,
+  };
+}
+
+function jointOf(line) {
+  const [a, b] = [handleOfText(line.a), handleOfText(line.b)];
+  return { a, b, from: vec(line.from), to: vec(line.to), length: line.length, collide: line.collide };
+}
+
+/** Requests that change bodies, shapes or joints: what is drawn is asked for anew after them. */
+export const REBUILDS = new Set(["create", "destroy", "joint", "unjoin", "load", "enable", "disable"]);
+
+const COMMANDS = {
+  create: (world, line) => ({ body: textOf(world.createBody(bodyOf(line), line.shapes.map(shapeOf))) }),
+  joint: (world, line) => ({ joint: textOf(world.createJoint(jointOf(line))) }),
+  destroy: (world, line) => world.destroyBody(handleOfText(line.body)),
+  unjoin: (world, line) => world.destroyJoint(handleOfText(line.joint)),
+  push: (world, line) => world.push(handleOfText(line.body), vec(line.by)),
+  push_at: (world, line) => world.pushAt(handleOfText(line.body), vec(line.by), vec(line.offset)),
+  set_pose: (world, line) => world.setPose(handleOfText(line.body), vec(line.at), { c: line.facing[0], s: line.facing[1] }),
+  set_velocity: (world, line) => world.setVelocity(handleOfText(line.body), vec(line.velocity), line.spin),
+  gravity: (world, line) => world.setGravity(vec(line.by)),
+  enable: (world, line) => world.enable(handleOfText(line.body)),
+  disable: (world, line) => world.disable(handleOfText(line.body)),
+  wake: (world, line) => world.wake(handleOfText(line.body)),
+  sleep: (world, line) => world.sleep(handleOfText(line.body)),
+  load: (world, line) => world.load(writeExact(line.world)),
+};
+
+function events(world, step) {
+  const texts = (handles) => handles.map(textOf);
+  return { begin: world.begun(), end: world.ended(), slept: texts(world.slept()), step, woke: texts(world.woke()) };
+}
+
+function ledger(world) {
+  const causes = readExact(world.save()).ledger;
+  const total = [0, 1].map((axis) => Object.values(causes).reduce((sum, pair) => sum + BigInt(pair[axis]), 0n).toString());
+  return { causes, total };
+}
+
+/** A world that answers the lines of a script. */
+export class Player {
+  constructor(library) {
+    this.world = library.open();
+    this.kinds = new Map(); // of a body's id, which a view doesn't tell
+  }
+
+  close() { this.world.close(); }
+
+  show(line) {
+    const view = this.world.body(handleOfText(line.body));
+    const set = view.set < 3 ? SETS[view.set] : `sleeping ${view.island}`;
+    const answer = { at: pair(view.at), facing: [view.facing.c, view.facing.s], l: view.l.toString(), p: pair(view.p), set };
+    if (this.kinds.get(line.body) === "kinematic") Object.assign(answer, { velocity: pair(view.velocity), spin: view.spin });
+    return answer;
+  }
+
+  does(line) {
+    const { world } = this;
+    switch (line.do) {
+      case "step": return events(world, world.step(line.ticks));
+      case "show": return this.show(line);
+      case "ledger": return ledger(world);
+      case "digest": return { digest: world.digest() };
+      case "region": return { shapes: world.region(vec(line.lo), vec(line.hi)) };
+      case "ray": {
+        const hit = world.ray(vec(line.from), vec(line.along));
+        return { hit: hit && { fraction: hit.fraction, shape: hit.shape } };
+      }
+      default:
+        if (!Object.hasOwn(COMMANDS, line.do)) throw new NotOurs(`the page doesn't know the request "${line.do}"`);
+        return COMMANDS[line.do](world, line) ?? { done: true };
+    }
+  }
+
+  note(line, answer) {
+    if (line.do === "create" && answer.body) this.kinds.set(answer.body, line.kind);
+    if (line.do !== "load" || !answer.done) return;
+    this.kinds = new Map(line.world.bodies.flatMap((slot, number) => (slot.body ? [[`${number}.${slot.generation}`, slot.body.kind]] : [])));
+  }
+
+  /** The answer to a request, as an object. */
+  ask(line) {
+    try {
+      const answer = this.does(line);
+      this.note(line, answer);
+      return answer;
+    } catch (error) {
+      if (error instanceof TypeError || error instanceof SyntaxError) throw new BadLine(`${line.do}: a key is missing, or its value is of another type`);
+      if (!(error instanceof Refused)) throw error;
+      return error.clause ? { clause: error.clause, refused: error.status } : { refused: error.status };
+    }
+  }
+
+  /** The answer as the program writes it. */
+  answer(line) {
+    if (line.do !== "save") return writeExact(this.ask(line));
+    try {
+      return `{"world":${this.world.save()}}`;
+    } catch (refused) {
+      if (!(refused instanceof Refused)) throw refused;
+      return writeExact({ refused: refused.status });
+    }
+  }
+}
+
+/** Whether all numbers of a request are whole, and fit 64 bits. */
+function areWhole(value, key = "") {
+  if (typeof value === "bigint") {
+    const isUnsigned = key === "mask" || key === "category";
+    return value === (isUnsigned ? BigInt.asUintN(64, value) : BigInt.asIntN(64, value));
+  }
+  if (value instanceof OtherNumber) return false;
+  if (value === null || typeof value !== "object") return true;
+  return Object.entries(value).every(([inner, each]) => areWhole(each, Array.isArray(value) ? key : inner));
+}
+
+/** A request; `BadLine` where the text is none. */
+export function requestOf(text) {
+  let line;
+  try {
+    line = readExact(text);
+  } catch (error) {
+    throw new BadLine(error.message);
+  }
+  if (line === null || typeof line !== "object" || typeof line.do !== "string") throw new BadLine('no object with a key "do"');
+  if (line.do !== "load" && !areWhole(line)) throw new BadLine("a number that isn't whole, or needs more than 64 bits");
+  return line;
+}
+
+/** The requests of a script's text, without empty lines. */
+export function requestsOf(text) {
+  return text.split("\n").flatMap((each, number) => {
+    if (!each.trim()) return [];
+    try {
+      return [requestOf(each)];
+    } catch (error) {
+      throw new BadLine(`line ${number + 1}: ${error.message}`);
+    }
+  });
+}
