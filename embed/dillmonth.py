@@ -9,7 +9,7 @@
 
 Needs Python 3.8 and nothing else. The library is looked for in the environment variable DILLMONTH, beside this file, and in out/ there.
 A refused call raises `Refused`, and has changed nothing. Lists of poses, events and contacts come as ctypes arrays, which NumPy takes as they
-are: `numpy.frombuffer(world.poses(), dtype=dillmonth.POSE)`. A call takes about half a microsecond: many commands go best by `apply_all`.
+are: `numpy.frombuffer(world.poses(), dtype=dillmonth.POSE)`. A call takes one to three microseconds: many commands go best by `apply_all`.
 """
 
 import ctypes
