@@ -68,9 +68,10 @@ impl<J: Mirrored> Mark<J> {
         })
     }
 
-    /// Whether it covers the other mark of this mirror. Both are beginnings of one list, so where it doesn't, the other covers it.
+    /// Whether it covers the other mark of this mirror. Both are beginnings of one list, so where it doesn't, the other is longer and
+    /// covers it.
     pub fn covers(&self, other: &Mark<J>) -> bool
-        ensures { MatchBool result (IsPrefix other.now self.now) (IsPrefix self.now other.now) }
+        ensures { MatchBool result (IsPrefix other.now self.now) (IsPrefix self.now other.now × (length self.now < length other.now)) }
     {
         let mut both = self.seen.again();
         both.learn(&other.seen);

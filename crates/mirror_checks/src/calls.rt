@@ -62,6 +62,8 @@ pub trait Told: Drop {
 
     /// The call number of its last frame.
     fn calls(&self) -> u64;
+
+    fn covers(&self, other: &Self) -> bool;
 }
 
 impl World for WorldCore {
@@ -142,5 +144,9 @@ impl<J: Mirrored> Told for Mark<J> {
 
     fn calls(&self) -> u64 {
         Mark::frame(self).calls()
+    }
+
+    fn covers(&self, other: &Mark<J>) -> bool {
+        Mark::covers(self, other)
     }
 }

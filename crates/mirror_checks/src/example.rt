@@ -75,6 +75,14 @@ fn tell_on<K: Told, D: Reads<K>>(from: &D, to: &mut D) -> Result<(), Refusal> {
     Ok(())
 }
 
+/// Which marks the longer of two covers, and whether the shorter one covers it.
+fn tell_covered<K: Told, R: Print>(rt: &R, short: &K, long: &K) -> Result<(), Stop> {
+    let copy = long.copied()?;
+    let (itself, before, after) = (long.covers(&copy), long.covers(short), short.covers(long));
+    println!(rt; "covers its copy: {itself}, the mark before: {before}, the mark after: {after}")?;
+    Ok(())
+}
+
 /// The first world is pushed and stepped, and published.
 pub fn publish_first<
     S: Shared<T>,
@@ -86,7 +94,9 @@ pub fn publish_first<
 >(rt: &R, shared: &S, seat: &mut T, publisher: &mut P, told: &mut D) -> Result<(), Stop> {
     push_twice(rt, shared, seat)?;
     shared.call(rt, seat, Command::Step(1))?;
+    let before = publisher.seen()?;
     tell_published(rt, publisher.publish(rt, shared, seat))?;
+    tell_covered(rt, &before, &publisher.seen()?)?;
     told.learn(publisher.seen()?);
     tell_reader(rt, "told", told)
 }
