@@ -7,7 +7,6 @@ use event_feed::Events;
 use fixed_geom::{Refusal, Vec2};
 use impulse_ledger::{Ledger, Total};
 use plain_world::{Body, BodyView, Plain, SetName};
-use serde_json::Value;
 use shape_rays::Hit;
 use std::fmt;
 
@@ -67,8 +66,8 @@ pub enum Answer<'a> {
     Joints(Vec<JointReport>),
     /// The digest of the world.
     Digest([u8; 32]),
-    /// A saved world.
-    World(Value),
+    /// The text of a saved world.
+    World(String),
     /// How many calls a crowd's journal has, and what each of its seats did.
     Crowd(u64, Vec<SeatReport>),
     /// A refused request.

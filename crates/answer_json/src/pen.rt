@@ -8,7 +8,6 @@ use fixed_geom::{Refusal, Rot, Vec2};
 use impulse_ledger::{Cause, Ledger, Total};
 use line_json::Id;
 use plain_world::{BodyView, Course, SetName};
-use serde_json::Value;
 use shape_rays::Hit;
 use std::fmt;
 
@@ -55,7 +54,7 @@ impl<'a, W: fmt::Write> Pen<'a, W> {
             Answer::Contacts(plain, ids) => self.touching(plain, *ids),
             Answer::Joints(joints) => self.joints(joints.as_slice()),
             Answer::Digest(digest) => self.digest(digest),
-            Answer::World(world) => self.world(world),
+            Answer::World(world) => self.world(world.as_str()),
             Answer::Crowd(journal, seats) => self.crowd(*journal, seats.as_slice()),
             Answer::Refused(refusal) => self.refusal(*refusal),
             Answer::Bad(line) => self.bad(*line),
@@ -277,9 +276,9 @@ impl<'a, W: fmt::Write> Pen<'a, W> {
         self.text("]}");
     }
 
-    fn world(&mut self, world: &Value) {
+    fn world(&mut self, world: &str) {
         self.text("{\"world\":");
-        self.value(world);
+        self.text(world);
         self.text("}");
     }
 

@@ -1,5 +1,6 @@
 //! Reads saved worlds and parts of them, one a line, and writes each again: the version's number, a tab, the part's word or `world`, a tab and the value. What is told of a
-//! line is the value that was written, or the number of the first clause that was found broken.
+//! line is the value that was written, or the number of the first clause that was found broken. The word `text` stands for a world whose text is written with no
+//! value between.
 #![tactic(auto)]
 
 mod parts;
@@ -43,7 +44,7 @@ fn answer(alloc: Global, request: &Request) -> Result<String, Broken> {
         return Ok(format!(in alloc; "no JSON")?);
     };
     match rewritten(alloc, request.version, request.part, &value) {
-        Ok(written) => Ok(written.to_string(alloc)?),
+        Ok(text) => Ok(text),
         Err(Broken::Clause(clause)) => {
             let number = clause.number();
             Ok(format!(in alloc; "clause {number}")?)

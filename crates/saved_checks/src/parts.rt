@@ -9,6 +9,7 @@ use saved_parts::{
     Membership, SavedContact, SavedJoint, Version, bodies_value, contacts_value, joints_value,
     read_bodies, read_contacts, read_joints, read_totals, totals_value,
 };
+use saved_text::write_text;
 use saved_values::{Broken, Clause, Reader};
 use serde_json::Value;
 use std::alloc::Global;
@@ -31,6 +32,8 @@ pub enum Part {
     Contacts,
     Totals,
     World,
+    /// A world whose text is written with no value between.
+    Text,
 }
 
 impl Part {
@@ -41,13 +44,27 @@ impl Part {
             "contacts" => Some(Part::Contacts),
             "ledger" => Some(Part::Totals),
             "world" => Some(Part::World),
+            "text" => Some(Part::Text),
             _ => None,
         }
     }
 }
 
-/// A part's value, read and written again, or the first clause that it breaks.
+/// The text of a part, read and written again, or the first clause that it breaks.
 pub fn rewritten(
+    alloc: Global,
+    version: Version,
+    part: Part,
+    value: &Value,
+) -> Result<String, Broken> {
+    if let Part::Text = part {
+        return text(alloc, value);
+    }
+    let written = written_again(alloc, version, part, value)?;
+    Ok(written.to_string(alloc)?)
+}
+
+fn written_again(
     alloc: Global,
     version: Version,
     part: Part,
@@ -59,7 +76,7 @@ pub fn rewritten(
         Part::Joints => joints(alloc, &mut reader, version, value)?,
         Part::Contacts => contacts(alloc, &mut reader, version, value)?,
         Part::Totals => totals(alloc, &mut reader, value)?,
-        Part::World => world(alloc, value)?,
+        Part::World | Part::Text => world(alloc, value)?,
     };
     reader.settle(Clause::Momentum)?;
     Ok(written)
@@ -199,4 +216,12 @@ fn totals(alloc: Global, reader: &mut Reader, value: &Value) -> Result<Value, Br
 fn world(alloc: Global, value: &Value) -> Result<Value, Broken> {
     let (plain, totals) = read(alloc, value)?;
     written(write(alloc, &plain, &totals))
+}
+
+fn text(alloc: Global, value: &Value) -> Result<String, Broken> {
+    let (plain, totals) = read(alloc, value)?;
+    match write_text(alloc, &plain, &totals) {
+        Ok(text) => Ok(text),
+        Err(_) => Err(Broken::NoMemory),
+    }
 }

@@ -6,6 +6,7 @@ ghost use Rattle.impulse_ledger.specs.Sums.{totals_of};
 ghost use Rattle.shape_rays.specs.Hits.{region};
 ghost use Rattle.world_desk.specs.Texts.{IsLoaded, IsText, IsUnread, region_refusal};
 ghost use Rattle.world_digest.specs.Digests.{digest_of};
+ghost use Rattle.serde_json.specs.Written.{compact_text};
 ghost use Rattle.world_file.specs.Files.{value_of};
 ghost use Rattle.world_queries.specs.Limits.{is_region};
 ghost use Rattle.world_queries.specs.Placed.{placed_shapes};
@@ -13,6 +14,7 @@ ghost use Rattle.world_rules.specs.Apply.{IsMade, empty_world, gravity_refusal};
 ghost use Rattle.world_rules.specs.World.{book_of};
 
 use crate::digest::digest_of;
+use crate::text::text_of;
 use crate::unread::{Unread, unread_of};
 use fixed_geom::{Box2, Refusal, Vec2};
 use serde_json::Value;
@@ -59,12 +61,12 @@ impl Desk {
     /// text stays.
     pub fn save(&mut self, alloc: Global) -> Result<(), Refusal>
         ensures text { OnOk result (IsText (value_of self.old.world.plain (totals_of (book_of self.old.world))) (string_bytes self.new.saved)) }
+        ensures printed { OnOk result (string_bytes self.new.saved ≡ compact_text (value_of self.old.world.plain (totals_of (book_of self.old.world)))) }
         ensures world { self.new.world ≡ self.old.world }
         ensures refused { OnErr result (self.new ≡ self.old) }
         ensures memory_only { IsOkUnless result Refusal.NoMemory }
     {
-        let value = self.world.save()?;
-        self.saved = value.to_string(alloc)?;
+        self.saved = text_of(alloc, &self.world)?;
         Ok(())
     }
 

@@ -6,8 +6,10 @@
 
 mod desk;
 mod digest;
+mod text;
 mod unread;
 
 pub use desk::Desk;
 pub use digest::digest_of;
+pub use text::text_of;
 pub use unread::Unread;

@@ -1,0 +1,37 @@
+-- Lists that are written item by item: once one of the lists that they are made of has ended, nothing is left.
+use Rattle.std.proofs.Common.{◌≡◌, ℕ, ◌≤◌, ◌∷◌, List, [], length, drop, Option, refl, arith, ◌⊎◌, inl, inr}
+use Rattle.std.proofs.lemmas.List.{drop_all}
+use Rattle.body_handles.specs.declared.places.Place.{Place}
+use Rattle.fixed_geom.specs.declared.boxes.Box2.{Box2}
+use Rattle.islands.specs.Labels.{Labels}
+use Rattle.plain_world.specs.declared.body.Body.{Body}
+use Rattle.plain_world.specs.declared.joint.BodyJoint.{BodyJoint}
+use Rattle.shapes.specs.declared.shape.ShapeDef.{ShapeDef}
+use Rattle.saved_parts.specs.SavedShapes.{shapes_of}
+use Rattle.saved_parts.specs.SavedSlots.{body_slots, joint_slots}
+
+no_shape : (defs : List ShapeDef) → shapes_of defs [] ≡ []
+no_shape [] = refl
+no_shape (d ∷ defs) = refl
+
+pub shapes_end : (defs : List ShapeDef) (fats : List Box2) (n k : ℕ) → (length defs ≤ n) ⊎ (length fats ≤ n) → n ≤ k → shapes_of (drop k defs) (drop k fats) ≡ []
+shapes_end defs fats n k (inl past) end = rw (drop_all k defs (omega arith)) refl
+shapes_end defs fats n k (inr past) end = rw (drop_all k fats (omega arith)) (no_shape (drop k defs))
+
+no_body : (slot : ℕ) (places : List Place) (labels : Labels) → body_slots slot places [] labels ≡ []
+no_body slot [] labels = refl
+no_body slot (place ∷ places) labels = refl
+
+pub bodies_end : (places : List Place) (bodies : List (Option Body)) (labels : Labels) (n k : ℕ) → (length places ≤ n) ⊎ (length bodies ≤ n) → n ≤ k → body_slots k (drop k places) (drop k bodies) labels ≡ []
+bodies_end places bodies labels n k (inl past) end = rw (drop_all k places (omega arith)) refl
+bodies_end places bodies labels n k (inr past) end = rw (drop_all k bodies (omega arith)) (no_body k (drop k places) labels)
+
+no_joint : (all places : List Place) (colours : List (Option ℕ)) → joint_slots all places [] colours ≡ []
+no_joint all [] colours = refl
+no_joint all (place ∷ places) colours = refl
+
+-- each place has a colour
+pub joints_end : (all places : List Place) (joints : List (Option BodyJoint)) (colours : ℕ → List Place → List (Option ℕ)) (n k : ℕ) → (length places ≤ n) ⊎ (length joints ≤ n) → n ≤ k
+    → joint_slots all (drop k places) (drop k joints) (colours k (drop k places)) ≡ []
+joints_end all places joints colours n k (inl past) end = rw (drop_all k places (omega arith)) refl
+joints_end all places joints colours n k (inr past) end = rw (drop_all k joints (omega arith)) (no_joint all (drop k places) (colours k (drop k places)))

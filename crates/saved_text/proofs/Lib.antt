@@ -1,0 +1,5 @@
+mod Adding
+mod Ends
+mod Narrow
+mod Objects
+mod Reading

@@ -1,0 +1,156 @@
+-- The members of each object in the order in which they are written.
+use Rattle.std.proofs.Common.{◌≡◌, ℕ, ℤ, Bool, ◌++◌, ◌∷◌, List, [], Option, Some, None, codes, refl}
+use Rattle.serde_json.specs.Data.{boolean, string}
+use Rattle.body_handles.specs.declared.places.Place.{Place}
+use Rattle.contacts_base.specs.declared.contact.ContactEntry.{ContactEntry}
+use Rattle.contacts_base.specs.declared.contact.ContactPoint.{ContactPoint}
+use Rattle.contacts_base.specs.Evaluate.{touches}
+use Rattle.fixed_geom.specs.declared.boxes.Box2.{Box2}
+use Rattle.fixed_geom.specs.declared.vectors.Vec2.{Vec2}
+use Rattle.impulse_ledger.specs.declared.totals.Totals.{Totals}
+use Rattle.islands.specs.declared.label.Label.{Label}
+use Rattle.plain_world.specs.Plain.{Plain}
+use Rattle.plain_world.specs.declared.body.Body.{Body}
+use Rattle.plain_world.specs.declared.joint.BodyJoint.{BodyJoint}
+use Rattle.plain_world.specs.declared.kind.Kind.{Kind}
+use Rattle.plain_world.specs.declared.kind.Kind.TheVariants.{Static, Kinematic, Dynamic}
+use Rattle.saved_parts.specs.SavedBodies.{body_of, put_numbers}
+use Rattle.saved_parts.specs.SavedContacts.{contact_of, contacts_of, point_of, points_of, shape_id_of}
+use Rattle.saved_parts.specs.SavedJoints.{id_at, joint_of}
+use Rattle.saved_parts.specs.SavedShapes.{shape_of, shapes_of}
+use Rattle.saved_parts.specs.SavedSlots.{bodies_of, body_slot_of, joint_slot_of, joints_of, slot_of}
+use Rattle.saved_parts.specs.SavedTotals.{total_of, totals_of}
+use Rattle.saved_values.specs.Written.{corners_of, ends_of, integer, list_of, natural, natural_or_null, vector_of}
+use Rattle.shapes.specs.declared.shape.Shape.TheVariants.{Circle, Capsule, Segment}
+use Rattle.shapes.specs.declared.shape.ShapeDef.{ShapeDef}
+use Rattle.world_file.specs.Files.{contact_colours, joint_colours, value_of, written_version}
+use Rattle.saved_text.specs.Bodies.{first_of_body, last_of_body, told_by}
+use Rattle.saved_text.specs.Tokens.{IsObject}
+use Rattle.saved_text.specs.declared.bodies.Told.{Told}
+
+-- ---- shapes
+
+pub circle_object : (def : ShapeDef) (fat : Box2) (center : Vec2) (radius : ℤ) → def.shape ≡ Circle center radius → IsObject (
+    (codes "category", natural def.filter.category)
+    ∷ (codes "circle", vector_of center)
+    ∷ (codes "fat", corners_of fat)
+    ∷ (codes "friction", integer def.friction)
+    ∷ (codes "group", integer def.filter.group)
+    ∷ (codes "mask", natural def.filter.mask)
+    ∷ (codes "radius", integer radius)
+    ∷ (codes "restitution", integer def.restitution)
+    ∷ []) (shape_of def fat)
+unfolding shape_of
+circle_object def fat center radius is = record { is = rw is refl; ascends = refl }
+
+pub capsule_object : (def : ShapeDef) (fat : Box2) (first second : Vec2) (radius : ℤ) → def.shape ≡ Capsule first second radius → IsObject (
+    (codes "capsule", ends_of first second)
+    ∷ (codes "category", natural def.filter.category)
+    ∷ (codes "fat", corners_of fat)
+    ∷ (codes "friction", integer def.friction)
+    ∷ (codes "group", integer def.filter.group)
+    ∷ (codes "mask", natural def.filter.mask)
+    ∷ (codes "radius", integer radius)
+    ∷ (codes "restitution", integer def.restitution)
+    ∷ []) (shape_of def fat)
+unfolding shape_of
+capsule_object def fat first second radius is = record { is = rw is refl; ascends = refl }
+
+pub segment_object : (def : ShapeDef) (fat : Box2) (first second : Vec2) → def.shape ≡ Segment first second → IsObject (
+    (codes "category", natural def.filter.category)
+    ∷ (codes "fat", corners_of fat)
+    ∷ (codes "friction", integer def.friction)
+    ∷ (codes "group", integer def.filter.group)
+    ∷ (codes "mask", natural def.filter.mask)
+    ∷ (codes "restitution", integer def.restitution)
+    ∷ (codes "segment", ends_of first second)
+    ∷ []) (shape_of def fat)
+unfolding shape_of
+segment_object def fat first second is = record { is = rw is refl; ascends = refl }
+
+-- ---- bodies
+
+body_by : (b : Body) (label : Option Label) (kind : Kind) → b.kind ≡ kind → IsObject (first_of_body b (told_by label) ++ ((codes "shapes", list_of (shapes_of b.shapes b.fats)) ∷ []) ++ last_of_body kind b.timer) (body_of b label)
+unfolding body_of put_numbers
+body_by b None Static is = record { is = rw is refl; ascends = refl }
+body_by b None (Kinematic course) is = record { is = rw is refl; ascends = refl }
+body_by b None Dynamic is = record { is = rw is refl; ascends = refl }
+body_by b (Some l) Static is = record { is = rw is refl; ascends = refl }
+body_by b (Some l) (Kinematic course) is = record { is = rw is refl; ascends = refl }
+body_by b (Some l) Dynamic is = record { is = rw is refl; ascends = refl }
+
+pub body_object : (b : Body) (label : Option Label) (told : Told) → told ≡ told_by label → IsObject (first_of_body b told ++ ((codes "shapes", list_of (shapes_of b.shapes b.fats)) ∷ []) ++ last_of_body b.kind b.timer) (body_of b label)
+body_object b label told is = rw is (body_by b label b.kind refl)
+
+pub free_object : (place : Place) → IsObject ((codes "generation", natural place.generation) ∷ []) (slot_of place [] None)
+free_object place = record { is = refl; ascends = refl }
+
+pub body_slot_object : (place : Place) (b : Body) (label : Option Label) → IsObject ((codes "body", body_of b label) ∷ (codes "generation", natural place.generation) ∷ []) (body_slot_of place (Some b) label)
+body_slot_object place b label = record { is = refl; ascends = refl }
+
+-- ---- contacts
+
+pub point_object : (p : ContactPoint) → IsObject (
+    (codes "candidate", natural p.candidate)
+    ∷ (codes "normal", vector_of p.normal)
+    ∷ (codes "push", integer p.normal_impulse)
+    ∷ (codes "ra", vector_of p.ra)
+    ∷ (codes "rb", vector_of p.rb)
+    ∷ (codes "sep", integer p.separation)
+    ∷ (codes "slip", integer p.tangent_impulse)
+    ∷ []) (point_of p)
+unfolding point_of
+point_object p = record { is = refl; ascends = refl }
+
+pub contact_object : (e : ContactEntry) (colour : Option ℕ) (touching : Bool) → touching ≡ touches e.contact → IsObject (
+    (codes "a", shape_id_of e.key.first)
+    ∷ (codes "b", shape_id_of e.key.second)
+    ∷ (codes "colour", natural_or_null colour)
+    ∷ (codes "points", points_of e.contact)
+    ∷ (codes "touching", boolean touching)
+    ∷ []) (contact_of e colour)
+unfolding contact_of
+contact_object e colour touching is = rw is (record { is = refl; ascends = refl })
+
+-- ---- joints
+
+pub joint_object : (places : List Place) (j : BodyJoint) (colour : Option ℕ) (a b : List ℕ) → string a ≡ id_at places j.a → string b ≡ id_at places j.b → IsObject (
+    (codes "a", string a)
+    ∷ (codes "b", string b)
+    ∷ (codes "collide", boolean j.collide)
+    ∷ (codes "colour", natural_or_null colour)
+    ∷ (codes "from", vector_of j.joint.from)
+    ∷ (codes "impulse", integer j.joint.impulse)
+    ∷ (codes "length", integer j.joint.length)
+    ∷ (codes "to", vector_of j.joint.to)
+    ∷ []) (joint_of places j colour)
+unfolding joint_of
+joint_object places j colour a b first second = record { is = rw (first, second) refl; ascends = refl }
+
+pub joint_slot_object : (places : List Place) (place : Place) (j : BodyJoint) (colour : Option ℕ) → IsObject ((codes "generation", natural place.generation) ∷ (codes "joint", joint_of places j colour) ∷ []) (joint_slot_of places place (Some j) colour)
+joint_slot_object places place j colour = record { is = refl; ascends = refl }
+
+-- ---- the world
+
+pub totals_object : (t : Totals) → IsObject (
+    (codes "clamp", total_of t.clamp)
+    ∷ (codes "command", total_of t.command)
+    ∷ (codes "departed", total_of t.departed)
+    ∷ (codes "gravity", total_of t.gravity)
+    ∷ (codes "immovable", total_of t.immovable)
+    ∷ (codes "rest", total_of t.rest)
+    ∷ []) (totals_of t)
+totals_object t = record { is = refl; ascends = refl }
+
+pub world_object : (p : Plain) (t : Totals) → IsObject (
+    (codes "bodies", bodies_of p.places p.bodies p.islands)
+    ∷ (codes "call", natural p.calls)
+    ∷ (codes "contacts", contacts_of p.contacts (contact_colours p.colours p.contacts))
+    ∷ (codes "gravity", vector_of p.gravity)
+    ∷ (codes "joints", joints_of p.places p.joint_places p.joints (joint_colours p.colours 0 p.joint_places))
+    ∷ (codes "ledger", totals_of t)
+    ∷ (codes "step", natural p.steps)
+    ∷ (codes "version", natural written_version)
+    ∷ []) (value_of p t)
+unfolding value_of
+world_object p t = record { is = refl; ascends = refl }

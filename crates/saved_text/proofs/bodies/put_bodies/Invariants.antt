@@ -1,0 +1,7 @@
+use Rattle.std.proofs.Common.{drop}
+use Rattle.saved_parts.specs.SavedSlots.{body_slots}
+use Rattle.saved_text.specs.Tokens.{ItemsLeft}
+use Rattle.saved_text.proofs.bodies.put_bodies.Given as goal
+
+abbrev pub invariant-loop-slot : goal.invariant-loop-slot
+invariant-loop-slot l = ItemsLeft (body_slots l.slot (drop l.slot l.places) (drop l.slot l.bodies) l.labels) (body_slots 0 l.places l.bodies l.labels) l.fn.out l.out

@@ -1,0 +1,19 @@
+use Rattle.std.proofs.Common.{◌∷◌, [], Some, codes}
+use Rattle.saved_parts.specs.SavedBodies.{body_of}
+use Rattle.saved_parts.specs.SavedSlots.{body_slot_of}
+use Rattle.saved_values.specs.Written.{natural}
+use Rattle.saved_text.proofs.Adding.{member_added, members_then, object_added, wrote}
+use Rattle.saved_text.proofs.Objects.{body_slot_object}
+use Rattle.saved_text.proofs.bodies.put_taken.Goals as goal
+
+pub returns : goal.returns
+returns c =
+    let place = c.args.place in
+    let b = c.args.body.now in
+    let body = (codes "body", body_of b c.args.label) ∷ [] in
+    let generation = (codes "generation", natural place.generation) ∷ [] in
+    let named = member_added (codes "body") (body_of b c.args.label) _ _ _ (wrote _ _ _ _ c.in_ok-key.ensures) c.in_ok-put_body.ensures.text in
+    record {
+      text = object_added ((codes "body", body_of b c.args.label) ∷ generation) (body_slot_of place (Some b) c.args.label) _ _ _ _ (body_slot_object place b c.args.label)
+          (wrote _ _ _ _ c.in_ok-begin_object.ensures) (members_then body generation _ _ _ named c.in_ok-put_members.ensures.text) (wrote _ _ _ _ c.in_ok-end_object.ensures);
+    }

@@ -1,0 +1,13 @@
+use Rattle.std.proofs.Common.{◌∷◌, [], refl}
+use Rattle.saved_values.specs.Written.{vector_of}
+use Rattle.saved_text.proofs.Adding.{item_gone, list_added, list_begun, wrote}
+use Rattle.saved_text.proofs.leaves.put_ends.Goals as goal
+
+pub returns : goal.returns
+returns c =
+    let x = vector_of c.args.first in
+    let y = vector_of c.args.second in
+    let begun = list_begun (x ∷ y ∷ []) _ _ (wrote _ _ _ _ c.in_ok-begin_array.ensures) in
+    let first = item_gone x (y ∷ []) (x ∷ y ∷ []) _ _ _ begun c.in_ok-put_vector.ensures.text in
+    let second = item_gone y [] (x ∷ y ∷ []) _ _ _ first c.in_ok-put_vector-2.ensures.text in
+    record { text = list_added [] (x ∷ y ∷ []) _ _ _ refl second (wrote _ _ _ _ c.in_ok-end_array.ensures) }

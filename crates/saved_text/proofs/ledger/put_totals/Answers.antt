@@ -1,0 +1,6 @@
+use Rattle.saved_parts.specs.SavedTotals.{totals_of}
+use Rattle.saved_text.proofs.Objects.{totals_object}
+use Rattle.saved_text.proofs.ledger.put_totals.Goals as goal
+
+pub returns : goal.returns
+returns c = record { text = c.put_object.ensures.text (totals_of c.args.totals.now) (totals_object c.args.totals.now) }

@@ -1,0 +1,6 @@
+use Rattle.saved_parts.specs.SavedContacts.{point_of}
+use Rattle.saved_text.proofs.Objects.{point_object}
+use Rattle.saved_text.proofs.saved_contacts.put_point.Goals as goal
+
+pub returns : goal.returns
+returns c = record { text = c.put_object.ensures.text (point_of c.args.point.now) (point_object c.args.point.now) }

@@ -1,0 +1,6 @@
+use Rattle.saved_parts.specs.SavedShapes.{shape_of}
+use Rattle.saved_text.proofs.Objects.{capsule_object}
+use Rattle.saved_text.proofs.saved_shapes.put_capsule.Goals as goal
+
+pub returns : goal.returns
+returns c = record { text = λ is. c.put_object.ensures.text (shape_of c.args.def.now c.args.fat) (capsule_object c.args.def.now c.args.fat c.args.first c.args.second c.args.radius.now is) }

@@ -1,0 +1,44 @@
+-- The members of a body before and behind its shapes.
+use Rattle.std.specs.Prelude.{◌∷◌, ◌++◌, ℕ, List, [], Option, Some, None, codes, false}
+use Rattle.islands.specs.Labels.{is_asleep, is_loose}
+use Rattle.islands.specs.declared.label.Label.{Label}
+use Rattle.plain_world.specs.declared.body.Body.{Body}
+use Rattle.plain_world.specs.declared.kind.Kind.{Kind}
+use Rattle.plain_world.specs.declared.kind.Kind.TheVariants.{Static, Kinematic, Dynamic}
+use Rattle.saved_parts.specs.SavedBodies.{kind_name}
+use Rattle.saved_values.specs.Written.{Member, decimal_of, integer, natural, natural_or_null, vector_of}
+use Rattle.serde_json.specs.Data.{boolean, string}
+use Rattle.saved_text.specs.Leaves.{facing_of}
+use Rattle.saved_text.specs.declared.bodies.Told.{Told}
+
+-- what a label tells of a body's island
+abbrev pub told_by : Option Label → Told
+told_by None = record { asleep = false; loose = false; island = None }
+told_by (Some l) = record { asleep = is_asleep l.state; loose = is_loose l.state; island = Some l.name }
+
+abbrev pub place_of_body : Body → Told → List Member
+place_of_body b told =
+    (codes "asleep", boolean told.asleep)
+    ∷ (codes "at", vector_of b.motion.x)
+    ∷ (codes "enabled", boolean b.enabled)
+    ∷ (codes "facing", facing_of b.motion.rot)
+    ∷ (codes "inertia", integer b.mass.inertia)
+    ∷ []
+
+abbrev pub numbers_of_body : Body → Told → List Member
+numbers_of_body b told =
+    (codes "island", natural_or_null told.island)
+    ∷ (codes "kind", string (kind_name b.kind))
+    ∷ (codes "l", decimal_of b.motion.l)
+    ∷ (codes "loose", boolean told.loose)
+    ∷ (codes "mass", integer b.mass.mass)
+    ∷ (codes "p", vector_of b.motion.p)
+    ∷ []
+
+abbrev pub first_of_body : Body → Told → List Member
+first_of_body b told = place_of_body b told ++ numbers_of_body b told
+
+abbrev pub last_of_body : Kind → ℕ → List Member
+last_of_body Static timer = (codes "timer", natural timer) ∷ []
+last_of_body (Kinematic course) timer = (codes "spin", integer course.spin) ∷ (codes "timer", natural timer) ∷ (codes "velocity", vector_of course.velocity) ∷ []
+last_of_body Dynamic timer = (codes "timer", natural timer) ∷ []

@@ -1,0 +1,5 @@
+pub mod Whole
+pub mod Tokens
+pub mod Leaves
+pub mod Bodies
+pub mod Texts

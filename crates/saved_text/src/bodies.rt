@@ -1,0 +1,187 @@
+//! The slots of bodies.
+
+ghost use Rattle.std.specs.Prelude.{◌≡◌, ◌∷◌, [], None, Some, OnOk, codes};
+ghost use Rattle.islands.specs.Labels.{label_at};
+ghost use Rattle.saved_parts.specs.SavedBodies.{body_of};
+ghost use Rattle.saved_parts.specs.SavedShapes.{shapes_of};
+ghost use Rattle.saved_parts.specs.SavedSlots.{bodies_of, body_slot_of, slot_of};
+ghost use Rattle.saved_values.specs.Written.{list_of};
+ghost use Rattle.saved_text.specs.Bodies.{first_of_body, last_of_body, numbers_of_body, place_of_body, told_by};
+ghost use Rattle.saved_text.specs.Tokens.{AddsMembers, AddsValue};
+
+use crate::counts::lesser;
+use crate::leaves::Leaf;
+use crate::members::{put_members, put_object};
+use crate::saved_shapes::put_shapes;
+use body_handles::Place;
+use islands::Label;
+use json::Writer;
+use plain_world::{Body, Kind};
+use std::alloc::AllocError;
+
+/// What is told of a body's island.
+#[derive(Clone, Copy)]
+pub(crate) struct Told {
+    pub(crate) asleep: bool,
+    pub(crate) loose: bool,
+    pub(crate) island: Option<u32>,
+}
+
+fn told_by(label: Option<Label>) -> Told
+    ensures { result ≡ told_by label }
+{
+    match label {
+        Some(label) => Told {
+            asleep: label.state.is_asleep(),
+            loose: label.state.is_loose(),
+            island: Some(label.name),
+        },
+        None => Told {
+            asleep: false,
+            loose: false,
+            island: None,
+        },
+    }
+}
+
+fn put_place(out: &mut Writer, body: &Body, told: Told) -> Result<(), AllocError>
+    ensures text { OnOk result (AddsMembers (place_of_body body.now told) out.old out.new) }
+{
+    put_members(
+        out,
+        &[
+            ("asleep", Leaf::Truth(told.asleep)),
+            ("at", Leaf::Vector(body.motion.x)),
+            ("enabled", Leaf::Truth(body.enabled)),
+            ("facing", Leaf::Facing(body.motion.rot)),
+            ("inertia", Leaf::Integer(&body.mass.inertia)),
+        ],
+    )
+}
+
+fn put_numbers(out: &mut Writer, body: &Body, told: Told) -> Result<(), AllocError>
+    ensures text { OnOk result (AddsMembers (numbers_of_body body.now told) out.old out.new) }
+{
+    put_members(
+        out,
+        &[
+            ("island", Leaf::Island(told.island)),
+            ("kind", Leaf::Kind(body.kind)),
+            ("l", Leaf::Decimal(&body.motion.l)),
+            ("loose", Leaf::Truth(told.loose)),
+            ("mass", Leaf::Integer(&body.mass.mass)),
+            ("p", Leaf::Vector(body.motion.p)),
+        ],
+    )
+}
+
+/// The members of a body that stand before its shapes.
+fn put_first(out: &mut Writer, body: &Body, told: Told) -> Result<(), AllocError>
+    ensures text { OnOk result (AddsMembers (first_of_body body.now told) out.old out.new) }
+{
+    put_place(out, body, told)?;
+    put_numbers(out, body, told)?;
+    Ok(())
+}
+
+/// Those that stand behind them.
+fn put_last(out: &mut Writer, kind: Kind, timer: u64) -> Result<(), AllocError>
+    ensures text { OnOk result (AddsMembers (last_of_body kind timer) out.old out.new) }
+{
+    match kind {
+        Kind::Kinematic(course) => put_members(
+            out,
+            &[
+                ("spin", Leaf::Integer(&course.spin)),
+                ("timer", Leaf::Natural(timer)),
+                ("velocity", Leaf::Vector(course.velocity)),
+            ],
+        ),
+        Kind::Static => put_members(out, &[("timer", Leaf::Natural(timer))]),
+        Kind::Dynamic => put_members(out, &[("timer", Leaf::Natural(timer))]),
+    }
+}
+
+fn put_body_shapes(out: &mut Writer, body: &Body) -> Result<(), AllocError>
+    ensures text { OnOk result (AddsValue (list_of (shapes_of body.now.shapes body.now.fats)) out.old out.new) }
+{
+    put_shapes(out, body.shapes.as_slice(), body.fats.as_slice())
+}
+
+/// Writes a body, with the label of its island if it is a mover.
+fn put_body(out: &mut Writer, body: &Body, label: Option<Label>) -> Result<(), AllocError>
+    ensures text { OnOk result (AddsValue (body_of body.now label) out.old out.new) }
+{
+    out.begin_object()?;
+    put_first(out, body, told_by(label))?;
+    out.key("shapes")?;
+    put_body_shapes(out, body)?;
+    put_last(out, body.kind, body.timer)?;
+    out.end_object()?;
+    Ok(())
+}
+
+/// Writes a slot in which nothing is.
+pub(crate) fn put_free(out: &mut Writer, place: Place) -> Result<(), AllocError>
+    ensures text { OnOk result (AddsValue (slot_of place [] None) out.old out.new) }
+{
+    put_object(out, &[("generation", Leaf::Count(place.generation))])
+}
+
+fn put_taken(
+    out: &mut Writer,
+    place: Place,
+    body: &Body,
+    label: Option<Label>,
+) -> Result<(), AllocError>
+    ensures text { OnOk result (AddsValue (body_slot_of place (Some body.now) label) out.old out.new) }
+{
+    out.begin_object()?;
+    out.key("body")?;
+    put_body(out, body, label)?;
+    put_members(out, &[("generation", Leaf::Count(place.generation))])?;
+    out.end_object()?;
+    Ok(())
+}
+
+fn put_slot(
+    out: &mut Writer,
+    place: Place,
+    entry: &Option<Body>,
+    label: Option<Label>,
+) -> Result<(), AllocError>
+    ensures text { OnOk result (AddsValue (body_slot_of place entry.now label) out.old out.new) }
+{
+    match entry {
+        Some(body) => put_taken(out, place, body, label),
+        None => put_free(out, place),
+    }
+}
+
+/// The label of the mover in a slot.
+fn label_at(labels: &[Option<Label>], slot: usize) -> Option<Label>
+    ensures { result ≡ label_at labels.now slot }
+{
+    if slot < labels.len() {
+        labels[slot]
+    } else {
+        None
+    }
+}
+
+/// Writes the bodies by slot.
+pub(crate) fn put_bodies(
+    out: &mut Writer,
+    places: &[Place],
+    bodies: &[Option<Body>],
+    labels: &[Option<Label>],
+) -> Result<(), AllocError>
+    ensures text { OnOk result (AddsValue (bodies_of places.now bodies.now labels.now) out.old out.new) }
+{
+    out.begin_array()?;
+    for slot in 0..lesser(places.len(), bodies.len()) {
+        put_slot(out, places[slot], &bodies[slot], label_at(labels, slot))?;
+    }
+    out.end_array()?;
+    Ok(())
+}

@@ -1,0 +1,131 @@
+//! The slots of joints.
+
+ghost use Rattle.std.specs.Prelude.{◌≡◌, ◌∷◌, [], List, Some, IfOk, OnOk, nat_eq, string_bytes};
+ghost use Rattle.std.specs.HashMap.{get};
+ghost use Rattle.body_handles.specs.declared.places.Place.{Place};
+ghost use Rattle.serde_json.specs.Data.{string};
+ghost use Rattle.saved_parts.specs.SavedJoints.{id_at, joint_of};
+ghost use Rattle.saved_parts.specs.SavedSlots.{joint_slot_of, joints_of};
+ghost use Rattle.world_file.specs.Marked.{joint_colours_by};
+ghost use Rattle.saved_text.specs.Tokens.{AddsValue};
+
+use crate::bodies::put_free;
+use crate::colours::{colour_at, joint_number};
+use crate::counts::lesser;
+use crate::leaves::Leaf;
+use crate::members::{put_members, put_object};
+use body_handles::{Handle, Place};
+use json::Writer;
+use line_json::Id;
+use plain_world::BodyJoint;
+use std::alloc::{AllocError, Global};
+use std::collections::HashMap;
+
+/// The id of the body in a slot.
+fn name_at(alloc: Global, places: &[Place], slot: u32) -> Result<String, AllocError>
+    ensures name { IfOk result (λ name. string (string_bytes name) ≡ id_at places.now slot) }
+{
+    let generation = match places.get(slot as usize) {
+        Some(place) => place.generation,
+        None => 0,
+    };
+    let id = Id(Handle { slot, generation });
+    let name = format!(in alloc; "{id}")?;
+    Ok(name)
+}
+
+/// Writes a joint between bodies of these names.
+fn put_named<'a>(
+    out: &mut Writer,
+    joint: &'a BodyJoint,
+    a: &'a str,
+    b: &'a str,
+    colour: Option<u8>,
+) -> Result<(), AllocError>
+    ensures text { (places : List Place) → string a.now ≡ id_at places joint.now.a → string b.now ≡ id_at places joint.now.b → OnOk result (AddsValue (joint_of places joint.now colour) out.old out.new) }
+{
+    put_object(
+        out,
+        &[
+            ("a", Leaf::Text(a)),
+            ("b", Leaf::Text(b)),
+            ("collide", Leaf::Truth(joint.collide)),
+            ("colour", Leaf::Colour(colour)),
+            ("from", Leaf::Vector(joint.joint.from)),
+            ("impulse", Leaf::Integer(&joint.joint.impulse)),
+            ("length", Leaf::Integer(&joint.joint.length)),
+            ("to", Leaf::Vector(joint.joint.to)),
+        ],
+    )
+}
+
+/// Writes a joint between bodies of these places, with its colour if it acts.
+fn put_joint(
+    out: &mut Writer,
+    alloc: Global,
+    places: &[Place],
+    joint: &BodyJoint,
+    colour: Option<u8>,
+) -> Result<(), AllocError>
+    ensures text { OnOk result (AddsValue (joint_of places.now joint.now colour) out.old out.new) }
+{
+    let a = name_at(alloc, places, joint.a)?;
+    let b = name_at(alloc, places, joint.b)?;
+    put_named(out, joint, &a, &b, colour)?;
+    Ok(())
+}
+
+fn put_taken(
+    out: &mut Writer,
+    alloc: Global,
+    places: &[Place],
+    place: Place,
+    joint: &BodyJoint,
+    colour: Option<u8>,
+) -> Result<(), AllocError>
+    ensures text { OnOk result (AddsValue (joint_slot_of places.now place (Some joint.now) colour) out.old out.new) }
+{
+    out.begin_object()?;
+    put_members(out, &[("generation", Leaf::Count(place.generation))])?;
+    out.key("joint")?;
+    put_joint(out, alloc, places, joint, colour)?;
+    out.end_object()?;
+    Ok(())
+}
+
+fn put_slot(
+    out: &mut Writer,
+    alloc: Global,
+    places: &[Place],
+    place: Place,
+    entry: &Option<BodyJoint>,
+    colour: Option<u8>,
+) -> Result<(), AllocError>
+    ensures text { OnOk result (AddsValue (joint_slot_of places.now place entry.now colour) out.old out.new) }
+{
+    match entry {
+        Some(joint) => put_taken(out, alloc, places, place, joint, colour),
+        None => put_free(out, place),
+    }
+}
+
+/// Writes the joints by slot, between bodies of these places, each with the colour of its number.
+pub(crate) fn put_joints(
+    out: &mut Writer,
+    alloc: Global,
+    places: &[Place],
+    joint_places: &[Place],
+    joints: &[Option<BodyJoint>],
+    by_number: &HashMap<u128, u8>,
+) -> Result<(), AllocError>
+    ensures text { OnOk result (AddsValue (joints_of places.now joint_places.now joints.now (joint_colours_by (get nat_eq by_number.now) 0 joint_places.now)) out.old out.new) }
+{
+    out.begin_array()?;
+    for slot in 0..lesser(joint_places.len(), joints.len()) {
+        let place = joint_places[slot];
+        let colour = colour_at(by_number, joint_number(slot, place.generation));
+        put_slot(out, alloc, places, place, &joints[slot], colour)?;
+    }
+    out.end_array()?;
+    Ok(())
+}
