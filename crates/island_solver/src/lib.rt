@@ -8,6 +8,7 @@
 mod back;
 mod dealing;
 mod island_crew;
+mod island_memory;
 mod labels;
 mod parting;
 mod rows_back;
@@ -18,3 +19,4 @@ mod sums;
 mod together;
 
 pub use island_crew::IslandCrew;
+pub use island_memory::IslandMemory;

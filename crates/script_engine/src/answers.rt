@@ -17,16 +17,18 @@ use std::alloc::Global;
 use std::sync::Wait;
 use std::thread::Threads;
 use world_core::{Command, Reply, WorldCore};
+use world_workers::IslandMemory;
 
 /// Makes a call; a step is made by so many workers.
 fn make<R: AllocGlobal + Threads + Wait + Sync>(
     rt: &R,
     world: &mut WorldCore,
+    memory: &mut IslandMemory,
     command: &Command,
     workers: u64,
 ) -> Result<Reply, Refusal> {
     match command {
-        Command::Step(ticks) => step(rt, world, workers, *ticks),
+        Command::Step(ticks) => step(rt, world, memory, workers, *ticks),
         _ => apply(world, command),
     }
 }
@@ -34,10 +36,11 @@ fn make<R: AllocGlobal + Threads + Wait + Sync>(
 fn answer_command<'a, R: AllocGlobal + Threads + Wait + Sync>(
     rt: &R,
     world: &'a mut WorldCore,
+    memory: &mut IslandMemory,
     command: &Command,
     workers: u64,
 ) -> Answer<'a> {
-    match make(rt, world, command, workers) {
+    match make(rt, world, memory, command, workers) {
         Ok(Reply::Body(handle)) => Answer::Body(handle),
         Ok(Reply::Joint(handle)) => Answer::Joint(handle),
         Ok(Reply::Done) => Answer::Done,
@@ -69,10 +72,10 @@ fn answer_region<'a>(alloc: Global, world: &WorldCore, bounds: &Box2) -> Answer<
     }
 }
 
-/// The world as a value. Refused 1 where memory is wanting.
-fn answer_save<'a>(world: &WorldCore) -> Answer<'a> {
-    match save(world) {
-        Ok(value) => Answer::World(value),
+/// The text of the world. Refused 1 where memory is wanting.
+fn answer_save<'a>(alloc: Global, world: &WorldCore) -> Answer<'a> {
+    match save(alloc, world) {
+        Ok(text) => Answer::World(text),
         Err(refusal) => Answer::Refused(refusal),
     }
 }
@@ -110,10 +113,11 @@ fn answer_crowd<'a, R: AllocGlobal + Threads + Wait + Sync>(
 fn answer_step<'a, R: AllocGlobal + Threads + Wait + Sync>(
     rt: &R,
     world: &'a mut WorldCore,
+    memory: &mut IslandMemory,
     ticks: i64,
     workers: u64,
 ) -> Answer<'a> {
-    match step(rt, world, workers, ticks) {
+    match step(rt, world, memory, workers, ticks) {
         Ok(Reply::Stepped(step)) => Answer::Stepped(step, events_of(world), Some(places_of(world))),
         Ok(_) => Answer::Done,
         Err(refusal) => Answer::Refused(refusal),
@@ -193,7 +197,10 @@ fn answer_extended<'a, R: AllocGlobal + Threads + Wait + Sync>(
         Extended::Digest => answer_digest(&worlds.world),
         Extended::Keep(number) => done_or_refused(worlds.keep(number)),
         Extended::Back(number) => done_or_refused(worlds.back(number)),
-        Extended::Step(ticks) => answer_step(rt, &mut worlds.world, ticks, options.workers),
+        Extended::Step(ticks) => {
+            let workers = options.workers;
+            answer_step(rt, &mut worlds.world, &mut worlds.memory, ticks, workers)
+        }
         Extended::Ray(ray) => answer_filtered_ray(&worlds.world, ray),
         Extended::Region(bounds) => answer_region_with_ids(rt.alloc(), &worlds.world, &bounds),
     }
@@ -210,6 +217,7 @@ pub fn answer<'a, R: AllocGlobal + Threads + Wait + Sync>(
         Request::Command(command) => answer_command(
             rt,
             &mut worlds.world,
+            &mut worlds.memory,
             command,
             options.workers,
         ),
@@ -217,7 +225,7 @@ pub fn answer<'a, R: AllocGlobal + Threads + Wait + Sync>(
         Request::Ledger => Answer::Ledger(ledger_of(&worlds.world)),
         Request::Ray(from, along) => answer_ray(&worlds.world, *from, *along),
         Request::Region(bounds) => answer_region(rt.alloc(), &worlds.world, bounds),
-        Request::Save => answer_save(&worlds.world),
+        Request::Save => answer_save(rt.alloc(), &worlds.world),
         Request::Load(text) => answer_load(rt.alloc(), &mut worlds.world, text),
         Request::Crowd(def) => answer_crowd(rt, &mut worlds.world, def, options),
         Request::Extended(request) => answer_extended(rt, worlds, *request, options),

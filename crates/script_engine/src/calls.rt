@@ -13,7 +13,7 @@ use std::thread::Threads;
 use world_core::{Command, Events, Handle, Place, Reply, ShapeId, StepSolver, WorldCore};
 use world_lock::{Opened, Seat, SharedWorld};
 use world_queries::{Hit, QueryFilter};
-use world_workers::{OpenGate, step_with};
+use world_workers::{IslandMemory, OpenGate, step_with_memory};
 
 pub fn new_world(alloc: Global) -> Result<WorldCore, Refusal> {
     WorldCore::new(alloc, Vec2 { x: 0, y: 0 })
@@ -23,17 +23,18 @@ pub fn apply(world: &mut WorldCore, command: &Command) -> Result<Reply, Refusal>
     world.apply(command)
 }
 
-/// A step by so many workers: with one, the calling thread makes it alone.
+/// A step by so many workers, who go on with what those before them left: with one, the calling thread makes it alone.
 pub fn step<R: AllocGlobal + Threads + Wait + Sync>(
     rt: &R,
     world: &mut WorldCore,
+    memory: &mut IslandMemory,
     workers: u64,
     ticks: i64,
 ) -> Result<Reply, Refusal> {
     if workers == 1 {
         world.step_one(ticks)
     } else {
-        step_with(world, rt, &OpenGate, workers, ticks)
+        step_with_memory(world, memory, rt, &OpenGate, workers, ticks)
     }
 }
 
@@ -117,9 +118,9 @@ pub fn digest(world: &WorldCore) -> Result<[u8; 32], Refusal> {
     world_desk::digest_of(world)
 }
 
-/// The world as a value. Refused 1 where memory is wanting.
-pub fn save(world: &WorldCore) -> Result<Value, Refusal> {
-    world.save()
+/// The text of the world. Refused 1 where memory is wanting.
+pub fn save(alloc: Global, world: &WorldCore) -> Result<String, Refusal> {
+    world_desk::text_of(alloc, world)
 }
 
 /// The world of a text that is JSON. Refused 12 with the first clause that it breaks, or 1 where memory is wanting. What can't be a saved world at

@@ -15,7 +15,7 @@ use std::thread::{Scope, Threads};
 use std::{mem, thread};
 use world_core::{Command, OneThread, Reply, StepSolver, WorldCore};
 use world_lock::{Closed, JournalEntry, Opened, Seat, SharedWorld, may_be_shared};
-use world_workers::{IslandCrew, OpenGate};
+use world_workers::{IslandCrew, IslandMemory, OpenGate};
 
 /// What a crowd left: how many calls were accepted, and what each seat did, in the order of the seats' numbers.
 #[derive(Drop)]
@@ -122,10 +122,18 @@ fn call_by_workers<'s, E, T, S: Called<T>, R: Threads + Wait + Sync>(
     seat: &mut T,
     crowd: CrowdPlan,
 ) {
-    match IslandCrew::start(scope, rt, crowd.alloc, &OpenGate, crowd.workers as usize) {
+    let memory = IslandMemory::new(crowd.alloc);
+    match IslandCrew::start(
+        scope,
+        rt,
+        crowd.alloc,
+        &OpenGate,
+        crowd.workers as usize,
+        memory,
+    ) {
         Ok(mut crew) => {
             shared.make_calls(rt, seat, &mut crew, crowd.def);
-            crew.end();
+            drop(crew.end());
         }
         Err(_) => shared.make_calls(rt, seat, &mut OneThread, crowd.def),
     }

@@ -1,18 +1,20 @@
-//! The world of a script, and the copies of it that a script keeps.
+//! The world of a script, what its workers remember, and the copies of it that a script keeps.
 
 use crate::calls::{copy_of_world, new_world};
 use fixed_geom::Refusal;
 use std::alloc::Global;
 use std::collections::BTreeMap;
 use world_core::WorldCore;
+use world_workers::IslandMemory;
 
 /// How many worlds may be kept: their numbers are below it.
 const MOST_KEPT: u64 = 16;
 
-/// The world of a script, and the kept worlds by number.
+/// The world of a script, what the workers of its steps left to those of the next, and the kept worlds by number.
 #[derive(Drop)]
 pub struct Worlds {
     pub world: WorldCore,
+    pub memory: IslandMemory,
     kept: BTreeMap<u64, WorldCore>,
 }
 
@@ -51,6 +53,7 @@ impl Worlds {
         let world = new_world(alloc)?;
         Ok(Worlds {
             world,
+            memory: IslandMemory::new(alloc),
             kept: BTreeMap::new(alloc),
         })
     }

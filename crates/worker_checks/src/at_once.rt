@@ -1,8 +1,8 @@
 //! Steps by workers beside the same steps by one thread.
 
-use crate::calls::{World, step_by_workers};
+use crate::calls::{World, step_by_next_workers, step_by_workers};
 use crate::gates::Meeting;
-use crate::scene::{TICKS, world_of_piles};
+use crate::scene::{TICKS, Worlds};
 use crate::stop::Stop;
 use crew::{Gate, OpenGate};
 use crew_solver::StepCrew;
@@ -11,20 +11,49 @@ use std::sync::Wait;
 use std::thread;
 use std::thread::{Scope, Threads};
 use text_commands::Piles;
-use world_core::{Refusal, StepSolver, WorldCore};
+use world_core::{Refusal, Reply, StepSolver, WorldCore};
+use world_workers::IslandMemory;
 
-/// How many workers make all steps.
-const WORKERS: [u64; 4] = [1, 2, 3, 64];
+/// Workers that are started for each step.
+#[derive(Clone, Copy)]
+struct Workers {
+    count: u64,
+    /// Whether they go on with what those of the step before left.
+    remember: bool,
+}
+
+/// Which workers make all steps.
+const WORKERS: [Workers; 5] = [
+    Workers {
+        count: 1,
+        remember: false,
+    },
+    Workers {
+        count: 2,
+        remember: false,
+    },
+    Workers {
+        count: 3,
+        remember: false,
+    },
+    Workers {
+        count: 64,
+        remember: false,
+    },
+    Workers {
+        count: 3,
+        remember: true,
+    },
+];
+
+/// Two that are started anew for each step.
+const TWO: Workers = Workers {
+    count: 2,
+    remember: false,
+};
 
 /// How many steps are made by workers that stay.
-const FEW: u64 = 3;
-
-/// A world in which no step was made, and its text after each of some steps.
-#[derive(Drop)]
-struct Scene<W: World> {
-    world: W,
-    after: Vec<String>,
-}
+const FEW: usize = 3;
 
 /// Makes so many steps in a world, and answers its text after each.
 fn texts_of<W: World>(alloc: Global, world: &mut W, steps: u64) -> Result<Vec<String>, Refusal> {
@@ -36,31 +65,24 @@ fn texts_of<W: World>(alloc: Global, world: &mut W, steps: u64) -> Result<Vec<St
     Ok(texts)
 }
 
-fn texts_after<W: World>(alloc: Global, start: &W, steps: u64) -> Result<Vec<String>, Refusal> {
-    match start.copied() {
-        Ok(mut world) => texts_of(alloc, &mut world, steps),
-        Err(refusal) => Err(refusal),
-    }
-}
-
-fn with_texts<W: World>(alloc: Global, world: W, steps: u64) -> Result<Scene<W>, Refusal> {
-    match texts_after(alloc, &world, steps) {
-        Ok(after) => Ok(Scene { world, after }),
-        Err(refusal) => Err(refusal),
-    }
-}
-
-/// A world of circles, in which one thread makes so many steps.
-fn scene_of<W: World>(alloc: Global, piles: Piles, steps: u64) -> Result<Scene<W>, Refusal> {
-    match world_of_piles(alloc, piles) {
-        Ok(world) => with_texts(alloc, world, steps),
-        Err(refusal) => Err(refusal),
-    }
-}
-
 /// Whether the world has this text.
 fn is_text<W: World>(alloc: Global, world: &W, text: &str) -> Result<bool, Refusal> {
     Ok(world.text(alloc)?.as_str() == text)
+}
+
+/// Makes a step by workers.
+fn make_step<R: AllocGlobal + Threads + Wait + Sync, G: Gate + Sync>(
+    rt: &R,
+    gate: &G,
+    world: &mut WorldCore,
+    memory: &mut IslandMemory,
+    workers: Workers,
+) -> Result<Reply, Refusal> {
+    if workers.remember {
+        step_by_next_workers(rt, gate, world, memory, workers.count, TICKS)
+    } else {
+        step_by_workers(rt, gate, world, workers.count, TICKS)
+    }
 }
 
 /// Whether each step by workers that are started for it leaves what one thread leaves.
@@ -68,11 +90,12 @@ fn are_steps_with<R: AllocGlobal + Threads + Wait + Sync, G: Gate + Sync>(
     rt: &R,
     gate: &G,
     world: &mut WorldCore,
-    workers: u64,
+    workers: Workers,
     after: &[String],
 ) -> Result<bool, Refusal> {
+    let mut memory = IslandMemory::new(rt.alloc());
     for text in after {
-        let _ = step_by_workers(rt, gate, world, workers, TICKS)?;
+        let _ = make_step(rt, gate, world, &mut memory, workers)?;
         if !is_text(rt.alloc(), world, text.as_str())? {
             return Ok(false);
         }
@@ -80,18 +103,16 @@ fn are_steps_with<R: AllocGlobal + Threads + Wait + Sync, G: Gate + Sync>(
     Ok(true)
 }
 
-/// The same in a copy of a world.
+/// The same from the beginning.
 fn are_alike<R: AllocGlobal + Threads + Wait + Sync, G: Gate + Sync>(
     rt: &R,
     gate: &G,
-    start: &WorldCore,
-    workers: u64,
+    worlds: &mut Worlds<WorldCore>,
+    workers: Workers,
     after: &[String],
 ) -> Result<bool, Refusal> {
-    match World::copied(start) {
-        Ok(mut world) => are_steps_with(rt, gate, &mut world, workers, after),
-        Err(refusal) => Err(refusal),
-    }
+    worlds.restart()?;
+    are_steps_with(rt, gate, &mut worlds.world, workers, after)
 }
 
 /// Whether each step by this solver leaves what one thread leaves.
@@ -110,17 +131,15 @@ fn are_steps_by<W: World, S: StepSolver>(
     Ok(true)
 }
 
-/// The same in a copy of a world.
+/// The same from the beginning.
 fn are_alike_by<W: World, S: StepSolver>(
     alloc: Global,
-    start: &W,
+    worlds: &mut Worlds<W>,
     solver: &mut S,
     after: &[String],
 ) -> Result<bool, Refusal> {
-    match start.copied() {
-        Ok(mut world) => are_steps_by(alloc, &mut world, solver, after),
-        Err(refusal) => Err(refusal),
-    }
+    worlds.restart()?;
+    are_steps_by(alloc, &mut worlds.world, solver, after)
 }
 
 /// Whether each step by a crew that stays leaves what one thread leaves.
@@ -130,12 +149,12 @@ fn are_steps_of<'s, E, W: World, R: Threads + Wait + Sync, G: Gate + Sync>(
     alloc: Global,
     gate: &'s G,
     workers: usize,
-    start: &W,
+    worlds: &mut Worlds<W>,
     after: &[String],
 ) -> Result<bool, Refusal> {
     match StepCrew::start(scope, rt, alloc, gate, workers) {
         Ok(mut crew) => {
-            let are_same = are_alike_by(alloc, start, &mut crew, after);
+            let are_same = are_alike_by(alloc, worlds, &mut crew, after);
             crew.end();
             are_same
         }
@@ -147,17 +166,25 @@ fn are_alike_by_crew<W: World, R: Threads + Wait + Sync, G: Gate + Sync>(
     rt: &R,
     alloc: Global,
     gate: &G,
-    start: &W,
+    worlds: &mut Worlds<W>,
     workers: usize,
     after: &[String],
 ) -> Result<bool, Refusal> {
     thread::scope(thread::scope_env(), rt, |scope| {
-        are_steps_of(scope, rt, alloc, gate, workers, start, after)
+        are_steps_of(scope, rt, alloc, gate, workers, worlds, after)
     })
 }
 
-fn print_workers<R: Print>(rt: &R, name: &str, workers: u64, are_same: bool) -> Result<(), Stop> {
-    println!(rt; "{name}, workers started for each step: {workers}, the same steps: {are_same}")?;
+fn print_workers<R: Print>(
+    rt: &R,
+    name: &str,
+    workers: Workers,
+    are_same: bool,
+) -> Result<(), Stop> {
+    let (count, remember) = (workers.count, workers.remember);
+    println!(rt;
+        "{name}, workers started for each step: {count}, remembering: {remember}, the same steps: {are_same}"
+    )?;
     Ok(())
 }
 
@@ -175,25 +202,16 @@ fn print_meeting<R: Print>(
     Ok(())
 }
 
-/// Makes all steps by so many workers, which are started for each.
-fn check_count<R: AllocGlobal + Print + Threads + Wait + Sync>(
+/// Makes all steps by workers that are started for each.
+fn check_workers<R: AllocGlobal + Print + Threads + Wait + Sync>(
     rt: &R,
     name: &str,
-    scene: &Scene<WorldCore>,
-    workers: u64,
-) -> Result<(), Stop> {
-    let after = scene.after.as_slice();
-    let are_same = are_alike(rt, &OpenGate, &scene.world, workers, after)?;
-    print_workers(rt, name, workers, are_same)
-}
-
-fn check_counts<R: AllocGlobal + Print + Threads + Wait + Sync>(
-    rt: &R,
-    name: &str,
-    scene: &Scene<WorldCore>,
+    worlds: &mut Worlds<WorldCore>,
+    after: &[String],
 ) -> Result<(), Stop> {
     for workers in WORKERS {
-        check_count(rt, name, scene, workers)?;
+        let are_same = are_alike(rt, &OpenGate, worlds, workers, after)?;
+        print_workers(rt, name, workers, are_same)?;
     }
     Ok(())
 }
@@ -201,70 +219,57 @@ fn check_counts<R: AllocGlobal + Print + Threads + Wait + Sync>(
 /// Makes all steps of two piles by two workers that wait for each other.
 fn check_meeting<R: AllocGlobal + Print + Threads + Wait + Sync>(
     rt: &R,
-    piles: &Scene<WorldCore>,
+    worlds: &mut Worlds<WorldCore>,
+    after: &[String],
 ) -> Result<(), Stop> {
     let meeting = Meeting::new();
-    let are_same = are_alike(rt, &meeting, &piles.world, 2, piles.after.as_slice())?;
+    let are_same = are_alike(rt, &meeting, worlds, TWO, after)?;
     print_meeting(rt, "two piles", are_same, &meeting)
 }
 
-/// One pile is one island, which one worker solves. Two are solved at once.
-fn check_scene<R: AllocGlobal + Print + Threads + Wait + Sync>(
+/// Makes some steps of a pile by crews that stay and solve a colour at a time. One has workers that wait for each other.
+fn check_crews<R: Print + Threads + Wait + Sync, W: World>(
+    rt: &R,
+    alloc: Global,
+    worlds: &mut Worlds<W>,
+    after: &[String],
+) -> Result<(), Stop> {
+    let are_same = are_alike_by_crew(rt, alloc, &OpenGate, worlds, 3, after)?;
+    println!(rt; "a pile, a crew of 3 that stays, the same steps: {are_same}")?;
+    let meeting = Meeting::new();
+    let are_same = are_alike_by_crew(rt, alloc, &meeting, worlds, 2, after)?;
+    print_meeting(rt, "a pile", are_same, &meeting)
+}
+
+/// Checks steps of piles. One pile is one island, which one worker solves. Two are solved at once.
+fn check_after<R: AllocGlobal + Print + Threads + Wait + Sync>(
     rt: &R,
     piles: Piles,
-    scene: &Scene<WorldCore>,
+    worlds: &mut Worlds<WorldCore>,
+    after: &[String],
 ) -> Result<(), Stop> {
     match piles {
-        Piles::One => check_counts(rt, "a pile", scene),
+        Piles::One => {
+            check_workers(rt, "a pile", worlds, after)?;
+            let few = after.get(..FEW).unwrap_or(after);
+            check_crews(rt, rt.alloc(), worlds, few)
+        }
         Piles::Two => {
-            check_counts(rt, "two piles", scene)?;
-            check_meeting(rt, scene)
+            check_workers(rt, "two piles", worlds, after)?;
+            check_meeting(rt, worlds, after)
         }
     }
 }
 
-/// Makes so many steps by workers that are started for each.
-fn check_piles<R: AllocGlobal + Print + Threads + Wait + Sync>(
-    rt: &R,
-    piles: Piles,
-    steps: u64,
-) -> Result<(), Stop> {
-    match scene_of::<WorldCore>(rt.alloc(), piles, steps) {
-        Ok(scene) => check_scene(rt, piles, &scene),
-        Err(refusal) => Err(Stop::Refused(refusal)),
-    }
-}
-
-/// Steps a pile by crews that stay and solve a colour at a time. One has workers that wait for each other.
-fn check_crews<R: Print + Threads + Wait + Sync, W: World>(
-    rt: &R,
-    alloc: Global,
-    pile: &Scene<W>,
-) -> Result<(), Stop> {
-    let after = pile.after.as_slice();
-    let are_same = are_alike_by_crew(rt, alloc, &OpenGate, &pile.world, 3, after)?;
-    println!(rt; "a pile, a crew of 3 that stays, the same steps: {are_same}")?;
-    let meeting = Meeting::new();
-    let are_same = are_alike_by_crew(rt, alloc, &meeting, &pile.world, 2, after)?;
-    print_meeting(rt, "a pile", are_same, &meeting)
-}
-
-fn check_staying<R: Print + Threads + Wait + Sync, W: World>(
-    rt: &R,
-    alloc: Global,
-) -> Result<(), Stop> {
-    match scene_of::<W>(alloc, Piles::One, FEW) {
-        Ok(pile) => check_crews(rt, alloc, &pile),
-        Err(refusal) => Err(Stop::Refused(refusal)),
-    }
-}
-
-/// Makes all these checks, with so many steps where workers are started for each.
+/// Makes so many steps of piles by one thread, and the same by workers.
 pub fn check<R: AllocGlobal + Print + Threads + Wait + Sync>(
     rt: &R,
+    piles: Piles,
+    worlds: &mut Worlds<WorldCore>,
     steps: u64,
 ) -> Result<(), Stop> {
-    check_piles(rt, Piles::One, steps)?;
-    check_piles(rt, Piles::Two, steps)?;
-    check_staying::<R, WorldCore>(rt, rt.alloc())
+    match texts_of(rt.alloc(), &mut worlds.world, steps) {
+        Ok(after) => check_after(rt, piles, worlds, after.as_slice()),
+        Err(refusal) => Err(Stop::Refused(refusal)),
+    }
 }

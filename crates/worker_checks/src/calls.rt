@@ -8,7 +8,7 @@ use std::thread::Threads;
 use text_commands::Taking;
 use world_core::{Refusal, Reply, StepSolver, Vec2, WorldCore};
 use world_text::text_of;
-use world_workers::step_with;
+use world_workers::{IslandMemory, step_with, step_with_memory};
 
 /// The calls of a world.
 pub trait World: Taking + Drop {
@@ -57,4 +57,16 @@ pub fn step_by_workers<R: AllocGlobal + Threads + Wait + Sync, G: Gate + Sync>(
     ticks: i64,
 ) -> Result<Reply, Refusal> {
     step_with(world, rt, gate, workers, ticks)
+}
+
+/// The same, by workers who go on with what those before them left.
+pub fn step_by_next_workers<R: AllocGlobal + Threads + Wait + Sync, G: Gate + Sync>(
+    rt: &R,
+    gate: &G,
+    world: &mut WorldCore,
+    memory: &mut IslandMemory,
+    workers: u64,
+    ticks: i64,
+) -> Result<Reply, Refusal> {
+    step_with_memory(world, memory, rt, gate, workers, ticks)
 }

@@ -1,7 +1,7 @@
 //! Steps by workers to which memory or threads may be refused.
 
 use crate::calls::{World, step_by_workers};
-use crate::scene::world_of_text;
+use crate::scene::Worlds;
 use crew::OpenGate;
 use std::alloc::Global;
 use std::sync::Wait;
@@ -61,10 +61,6 @@ fn is_wanting(answer: Result<Reply, Refusal>) -> bool {
     }
 }
 
-fn are_same<W: World>(alloc: Global, world: &W, reference: &W) -> Result<bool, Refusal> {
-    Ok(world.text(alloc)?.as_str() == reference.text(alloc)?.as_str())
-}
-
 /// One verdict where the worlds are the same, and else the other.
 fn verdict_by(are_same: bool, same: Verdict, else_told: &'static str) -> Verdict {
     if are_same {
@@ -79,18 +75,17 @@ fn judge<W: World>(
     alloc: Global,
     call: Call,
     answer: Result<Reply, Refusal>,
-    world: &W,
-    reference: &mut W,
+    worlds: &mut Worlds<W>,
 ) -> Result<Verdict, Refusal> {
     if is_wanting(answer) {
-        let are_same = are_same(alloc, world, reference)?;
+        let are_same = worlds.are_same(alloc)?;
         let told = "differs: the world after the refused call";
         return Ok(verdict_by(are_same, Verdict::Refused, told));
     }
-    if answer != call.due(reference) {
+    if answer != call.due(&mut worlds.reference) {
         return Ok(Verdict::Differs("differs: the answer"));
     }
-    let are_same = are_same(alloc, world, reference)?;
+    let are_same = worlds.are_same(alloc)?;
     Ok(verdict_by(are_same, Verdict::Due, "differs: the world"))
 }
 
@@ -119,63 +114,37 @@ fn told_again(verdict: Verdict) -> &'static str {
 fn try_twice<R: AllocGlobal + Threads + Wait + Sync>(
     rt: &R,
     call: Call,
-    world: &mut WorldCore,
-    reference: &mut WorldCore,
+    worlds: &mut Worlds<WorldCore>,
 ) -> Result<&'static str, Refusal> {
-    let answer = attempt(rt, call, world);
-    match judge(rt.alloc(), call, answer, world, reference)? {
+    let answer = attempt(rt, call, &mut worlds.world);
+    match judge(rt.alloc(), call, answer, worlds)? {
         Verdict::Due => Ok("none"),
         Verdict::Refused => {
-            let answer = attempt(rt, call, world);
-            let verdict = judge(rt.alloc(), call, answer, world, reference)?;
+            let answer = attempt(rt, call, &mut worlds.world);
+            let verdict = judge(rt.alloc(), call, answer, worlds)?;
             Ok(told_again(verdict))
         }
         Verdict::Differs(told) => Ok(told),
     }
 }
 
-/// A world, and a copy of it.
-#[derive(Drop)]
-struct Worlds<W: World> {
-    world: W,
-    reference: W,
-}
-
-fn with_copy<W: World>(world: W) -> Result<Worlds<W>, Refusal> {
-    match world.copied() {
-        Ok(reference) => Ok(Worlds { world, reference }),
-        Err(refusal) => Err(refusal),
+/// What is told where a call couldn't be tried: something beside it was refused memory, or anything else.
+pub fn told_untried(refusal: Refusal) -> &'static str {
+    match refusal {
+        Refusal::NoMemory => "outside",
+        _ => "refused",
     }
 }
 
-fn worlds_of<W: World>(alloc: Global, text: &str) -> Result<Worlds<W>, Refusal> {
-    match world_of_text::<W>(alloc, text) {
-        Ok(world) => with_copy(world),
-        Err(refusal) => Err(refusal),
-    }
-}
-
-fn try_in<R: AllocGlobal + Threads + Wait + Sync>(
-    rt: &R,
-    text: &str,
-    call: Call,
-) -> Result<&'static str, Refusal> {
-    match worlds_of::<WorldCore>(rt.alloc(), text) {
-        Ok(mut worlds) => try_twice(rt, call, &mut worlds.world, &mut worlds.reference),
-        Err(refusal) => Err(refusal),
-    }
-}
-
-/// Makes a call in the world of a text while memory or threads may be refused to it. Tells `kept` where a refused call left everything as it was and then
+/// Makes a call in a world while memory or threads may be refused to it. Tells `kept` where a refused call left everything as it was and then
 /// succeeded, `none` where it met no refusal, `outside` where something beside it met one, and else what differs.
 pub fn tell_try<R: AllocGlobal + Threads + Wait + Sync>(
     rt: &R,
-    text: &str,
     call: Call,
+    worlds: &mut Worlds<WorldCore>,
 ) -> &'static str {
-    match try_in(rt, text, call) {
+    match try_twice(rt, call, worlds) {
         Ok(told) => told,
-        Err(Refusal::NoMemory) => "outside",
-        Err(_) => "refused",
+        Err(refusal) => told_untried(refusal),
     }
 }

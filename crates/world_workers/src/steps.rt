@@ -8,7 +8,7 @@ ghost use Rattle.world_workers.specs.Workers.{AnswersByThreads, step_due};
 
 use crew::Gate;
 use fixed_geom::{Refusal, ZERO_VECTOR};
-use island_solver::IslandCrew;
+use island_solver::{IslandCrew, IslandMemory};
 use std::alloc::Global;
 use std::sync::Wait;
 use std::thread::{Scope, Threads};
@@ -27,53 +27,62 @@ fn are_workers(workers: u64) -> bool
     workers >= 1 && workers <= MOST_WORKERS
 }
 
-/// Makes a step with workers that start in the scope, and ends them.
+/// Whether the calling thread makes the step alone: no other worker is asked for, too little acts, or the islands could be dealt out in none of
+/// the last steps.
+fn is_for_one(world: &WorldCore, memory: &mut IslandMemory, workers: u64) -> bool {
+    workers == 1 || world.acting_constraints() < LEAST_CONSTRAINTS || memory.take_rest()
+}
+
+/// A world, what the workers of its steps have left, and how many ticks it is to make.
+#[derive(Drop)]
+struct Task {
+    world: WorldCore,
+    memory: IslandMemory,
+    ticks: i64,
+}
+
+/// A task that was made, or refused.
+#[derive(Drop)]
+struct Done {
+    world: WorldCore,
+    memory: IslandMemory,
+    answer: Result<Reply, Refusal>,
+}
+
+/// Makes a step with workers that start in the scope, and ends them. Where they can't be started, what those before them left is lost.
 fn step_in<'s, E, R: Threads + Wait + Sync, G: Gate + Sync>(
     scope: &Scope<'s, E>,
     rt: &'s R,
     alloc: Global,
     gate: &'s G,
     workers: usize,
-    world: &mut WorldCore,
-    ticks: i64,
-) -> Result<Reply, Refusal>
-    requires calls { world.old.plain.calls < 2 ^ 40 }
-    requires ticks { is_between (pos 1) (pos 8) ticks ≡ true }
-    ensures { AnswersByThreads (apply world.old.plain (Step ticks)) world.old result world.new }
-{
-    match IslandCrew::start(scope, rt, alloc, gate, workers) {
-        Err(refused) => Err(refused),
-        Ok(mut crew) => {
-            let answer = world.step_by(&mut crew, ticks);
-            crew.end();
-            answer
-        }
-    }
-}
-
-/// A world, and how many ticks it is to make.
-#[derive(Drop)]
-struct Task {
-    world: WorldCore,
-    ticks: i64,
-}
-
-/// The same of a world that goes into the scope and comes back.
-fn step_taken<'s, E, R: Threads + Wait + Sync, G: Gate + Sync>(
-    scope: &Scope<'s, E>,
-    rt: &'s R,
-    alloc: Global,
-    gate: &'s G,
-    workers: usize,
     task: Task,
-) -> (WorldCore, Result<Reply, Refusal>)
+) -> Done
     requires calls { task.world.plain.calls < 2 ^ 40 }
     requires ticks { is_between (pos 1) (pos 8) task.ticks ≡ true }
-    ensures { AnswersByThreads (apply task.world.plain (Step task.ticks)) task.world result.1 result.0 }
+    ensures { AnswersByThreads (apply task.world.plain (Step task.ticks)) task.world result.answer result.world }
 {
-    let Task { mut world, ticks } = task;
-    let answer = step_in(scope, rt, alloc, gate, workers, &mut world, ticks);
-    (world, answer)
+    let Task {
+        mut world,
+        memory,
+        ticks,
+    } = task;
+    match IslandCrew::start(scope, rt, alloc, gate, workers, memory) {
+        Err(refused) => Done {
+            world,
+            memory: IslandMemory::new(alloc),
+            answer: Err(refused),
+        },
+        Ok(mut crew) => {
+            let answer = world.step_by(&mut crew, ticks);
+            let memory = crew.end();
+            Done {
+                world,
+                memory,
+                answer,
+            }
+        }
+    }
 }
 
 /// Opens a scope for it.
@@ -83,18 +92,18 @@ fn step_scoped<R: Threads + Wait + Sync, G: Gate + Sync>(
     gate: &G,
     workers: usize,
     task: Task,
-) -> (WorldCore, Result<Reply, Refusal>)
+) -> Done
     requires calls { task.world.plain.calls < 2 ^ 40 }
     requires ticks { is_between (pos 1) (pos 8) task.ticks ≡ true }
-    ensures { AnswersByThreads (apply task.world.plain (Step task.ticks)) task.world result.1 result.0 }
+    ensures { AnswersByThreads (apply task.world.plain (Step task.ticks)) task.world result.answer result.world }
 {
     thread::scope(
         thread::scope_env(),
         rt,
-        move |scope| -> (WorldCore, Result<Reply, Refusal>)
+        move |scope| -> Done
             requires { (task.world.plain.calls < 2 ^ 40) × (is_between (pos 1) (pos 8) task.ticks ≡ true) }
-            ensures { AnswersByThreads (apply task.world.plain (Step task.ticks)) task.world result.1 result.0 }
-        { step_taken(scope, rt, alloc, gate, workers, task) },
+            ensures { AnswersByThreads (apply task.world.plain (Step task.ticks)) task.world result.answer result.world }
+        { step_in(scope, rt, alloc, gate, workers, task) },
     )
 }
 
@@ -102,6 +111,7 @@ fn step_scoped<R: Threads + Wait + Sync, G: Gate + Sync>(
 /// reference can't be told.
 fn step_apart<R: Threads + Wait + Sync, G: Gate + Sync>(
     world: &mut WorldCore,
+    memory: &mut IslandMemory,
     aside: WorldCore,
     rt: &R,
     alloc: Global,
@@ -115,10 +125,16 @@ fn step_apart<R: Threads + Wait + Sync, G: Gate + Sync>(
 {
     let task = Task {
         world: mem::replace(world, aside),
+        memory: mem::replace(memory, IslandMemory::new(alloc)),
         ticks,
     };
-    let (given, answer) = step_scoped(rt, alloc, gate, workers, task);
-    drop(mem::replace(world, given));
+    let Done {
+        world: made,
+        memory: left,
+        answer,
+    } = step_scoped(rt, alloc, gate, workers, task);
+    drop(mem::replace(world, made));
+    drop(mem::replace(memory, left));
     answer
 }
 
@@ -126,6 +142,22 @@ fn step_apart<R: Threads + Wait + Sync, G: Gate + Sync>(
 /// `step_one` does. Refused 10 or 5, 1 where memory is wanting, or 11 where a thread can't be started, with nothing changed.
 pub fn step_with<R: AllocGlobal + Threads + Wait + Sync, G: Gate + Sync>(
     world: &mut WorldCore,
+    rt: &R,
+    gate: &G,
+    workers: u64,
+    ticks: i64,
+) -> Result<Reply, Refusal>
+    ensures { AnswersByThreads (step_due workers world.old.plain ticks) world.old result world.new }
+{
+    let mut memory = IslandMemory::new(rt.alloc());
+    step_with_memory(world, &mut memory, rt, gate, workers, ticks)
+}
+
+/// The same, whose workers go on with what those of the steps before left in `memory`. So a program that makes many steps of a world is spared
+/// what the first one of them costs. Any memory serves any world: what it says of the world is tested.
+pub fn step_with_memory<R: AllocGlobal + Threads + Wait + Sync, G: Gate + Sync>(
+    world: &mut WorldCore,
+    memory: &mut IslandMemory,
     rt: &R,
     gate: &G,
     workers: u64,
@@ -142,12 +174,21 @@ pub fn step_with<R: AllocGlobal + Threads + Wait + Sync, G: Gate + Sync>(
     if !is_tick_count(ticks) {
         return Err(Refusal::OutOfRange);
     }
-    if workers == 1 || world.acting_constraints() < LEAST_CONSTRAINTS {
+    if is_for_one(world, memory, workers) {
         return world.step_one(ticks);
     }
     let alloc = rt.alloc();
     match WorldCore::new(alloc, ZERO_VECTOR) {
         Err(refused) => Err(refused),
-        Ok(aside) => step_apart(world, aside, rt, alloc, gate, workers as usize, ticks),
+        Ok(aside) => step_apart(
+            world,
+            memory,
+            aside,
+            rt,
+            alloc,
+            gate,
+            workers as usize,
+            ticks,
+        ),
     }
 }

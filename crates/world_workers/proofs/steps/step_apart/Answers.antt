@@ -7,5 +7,5 @@ use Rattle.world_workers.proofs.steps.step_apart.Goals as goal
 pub returns : goal.returns
 returns g c =
     let fits : SFits w64 c.args.ticks = search rules in
-    let known = simp to_z-of_z at c.step_scoped-given.ensures in
-    rw c.replace-2.ensures.after (rw c.replace.ensures.value at known)
+    let known = simp to_z-of_z at c.step_scoped-made.ensures in
+    rw c.replace-3.ensures.after (rw c.replace.ensures.value at known)
