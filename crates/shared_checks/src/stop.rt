@@ -1,0 +1,21 @@
+use std::io;
+use world_core::Refusal;
+
+/// Why the program ends early.
+pub enum Stop {
+    Refused(Refusal),
+    /// A line couldn't be written.
+    Unwritten,
+}
+
+impl From<Refusal> for Stop {
+    fn from(refusal: Refusal) -> Stop {
+        Stop::Refused(refusal)
+    }
+}
+
+impl From<io::Error> for Stop {
+    fn from(_error: io::Error) -> Stop {
+        Stop::Unwritten
+    }
+}
