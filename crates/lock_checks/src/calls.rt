@@ -5,7 +5,8 @@ use crate::claims::Account;
 use impulse_ledger::{Ledger, Total};
 use std::alloc::Global;
 use std::sync::Wait;
-use world_core::{Command, Events, Frame, Plain, Refusal, Reply, Vec2, WorldCore};
+use text_commands::{CallMark, Taking};
+use world_core::{Command, Events, Frame, OneThread, Plain, Refusal, Reply, Vec2, WorldCore};
 use world_lock::{Closed, JournalEntry, Opened, Receipt, Seat, SharedWorld, Tally};
 use world_text::{text_of, text_of_frame};
 
@@ -44,7 +45,7 @@ pub struct Shown {
 }
 
 /// The calls of a world.
-pub trait World: Drop {
+pub trait World: Taking + Drop {
     /// A world without bodies.
     fn empty(alloc: Global, gravity: Vec2) -> Result<Self, Refusal>;
 
@@ -72,12 +73,15 @@ pub trait Shared<T: Drop>: Drop {
 
     fn call<R: Wait>(&self, rt: &R, seat: &mut T, command: Command) -> Answer;
 
+    /// A step, solved by a solver that is handed in: the calling thread.
+    fn step<R: Wait>(&self, rt: &R, seat: &mut T, ticks: i64) -> Answer;
+
     fn settle<R: Wait>(&self, rt: &R) -> Result<u64, Refusal>;
 
     /// What a frame counts and sums up.
     fn shown<R: Wait>(&self, rt: &R, seat: &mut T) -> Result<Shown, Refusal>;
 
-    /// All that a frame shows, as text, if there is memory for that.
+    /// All that a frame shows, as text, if there is memory for that. Memory may be refused to the frame alone, between the marks.
     fn frame_text<R: Wait>(
         &self,
         rt: &R,
@@ -138,6 +142,10 @@ impl<N: Opened> Shared<Seat<N>> for SharedWorld<N> {
         SharedWorld::call(self, rt, seat, command)
     }
 
+    fn step<R: Wait>(&self, rt: &R, seat: &mut Seat<N>, ticks: i64) -> Answer {
+        SharedWorld::step(self, rt, seat, &mut OneThread, ticks)
+    }
+
     fn settle<R: Wait>(&self, rt: &R) -> Result<u64, Refusal> {
         SharedWorld::settle(self, rt)
     }
@@ -159,7 +167,10 @@ impl<N: Opened> Shared<Seat<N>> for SharedWorld<N> {
         alloc: Global,
         seat: &mut Seat<N>,
     ) -> Result<Result<String, Refusal>, Refusal> {
-        match SharedWorld::frame(self, rt, seat) {
+        let mark = CallMark::begin(alloc);
+        let shown = SharedWorld::frame(self, rt, seat);
+        let _was_there = mark.end();
+        match shown {
             Ok(frame) => {
                 let numbers = (frame.calls(), frame.momentum(), frame.booked());
                 Ok(text_of_frame(alloc, numbers, frame.bodies()))

@@ -2,8 +2,8 @@
 //!
 //! Without a word it lets seats take turns, and 1, 2 and 64 threads call at once, and prints what came of it: the same lines whatever the schedule,
 //! which the gate compares. `lock_checks stress ROUNDS` lets 16 threads make mixed calls, and prints after each round the shared world and the
-//! replay of its journal, for `stress/run` to compare. `lock_checks time PUSHES` measures pushes. `lock_checks CALL` makes one call while memory may be
-//! refused to it, as `faults/run` does, and says in a line what came of it.
+//! replay of its journal, for `stress/run` to compare. `lock_checks time PUSHES` measures pushes. `lock_checks try WORLD CALL` shares the world that the
+//! commands of a text make, and makes one call while memory may be refused to it, as `faults/run` does. It says in a line what came of it.
 #![tactic(auto)]
 
 mod calls;
@@ -34,77 +34,68 @@ use stop::Stop;
 use stress::stress;
 use timing::time;
 
-/// What the program's words ask for.
-#[derive(Clone, Copy)]
-enum Asked {
-    Checks,
-    Stress(u64),
-    Time(u64),
-    One(Call),
-    /// Words that ask for nothing.
-    Unknown,
-    /// Words that couldn't be read, for want of memory.
-    Unread,
+/// Reads the program's words, of which the first is its name.
+fn read_words<R: AllocGlobal + Env>(rt: &R) -> io::Result<Vec<String>> {
+    Ok(env::args(rt)?.collect(rt.alloc())?)
 }
 
-/// What one word asks for.
-fn asked_by(word: &str) -> Asked {
-    match Call::of_word(word) {
-        Some(call) => Asked::One(call),
-        None => Asked::Unknown,
-    }
+fn print_unknown<R: Print>(rt: &R) -> Result<(), Stop> {
+    println!(rt; "unknown words")?;
+    Ok(())
 }
 
 /// What a word and a number ask for.
-fn asked_by_two(word: &str, number: &str) -> Asked {
-    match (word, number.parse::<u64>()) {
-        ("stress", Ok(rounds)) => Asked::Stress(rounds),
-        ("time", Ok(pushes)) => Asked::Time(pushes),
-        _ => Asked::Unknown,
-    }
-}
-
-/// Reads the program's words, of which the first is its name.
-fn read_words<R: AllocGlobal + Env>(rt: &R) -> io::Result<Asked> {
-    let words: Vec<String> = env::args(rt)?.collect(rt.alloc())?;
-    match (words.get(1), words.get(2)) {
-        (None, _) => Ok(Asked::Checks),
-        (Some(word), None) => Ok(asked_by(word.as_str())),
-        (Some(word), Some(number)) => Ok(asked_by_two(word.as_str(), number.as_str())),
-    }
-}
-
-fn answer<R: Print + Threads + Wait + Clock + Sync>(
+fn do_number<R: Print + Threads + Wait + Clock + Sync>(
     rt: &R,
     alloc: Global,
-    asked: Asked,
+    word: &str,
+    number: &str,
 ) -> Result<(), Stop> {
-    match asked {
-        Asked::Checks => check(rt, alloc),
-        Asked::Stress(rounds) => stress(rt, alloc, rounds),
-        Asked::Time(pushes) => time(rt, alloc, pushes),
-        Asked::One(call) => {
-            println!(rt; "{}", tell_trial(rt, alloc, call))?;
-            Ok(())
-        }
-        Asked::Unknown => {
-            println!(rt; "unknown words")?;
-            Ok(())
-        }
-        Asked::Unread => {
-            println!(rt; "outside")?;
-            Ok(())
-        }
+    match (word, number.parse::<u64>()) {
+        ("stress", Ok(rounds)) => stress(rt, alloc, rounds),
+        ("time", Ok(pushes)) => time(rt, alloc, pushes),
+        _ => print_unknown(rt),
     }
 }
 
-/// Status 3 where memory is wanting or a call is refused, and 1 where a line can't be written.
+/// Makes a call in the world of a text while memory may be refused to it, and says in a line what came of it.
+fn do_try<R: Print + Threads + Wait + Clock + Sync>(
+    rt: &R,
+    alloc: Global,
+    text: &str,
+    call: &str,
+) -> Result<(), Stop> {
+    match Call::of_word(call) {
+        Some(call) => {
+            println!(rt; "{}", tell_trial(rt, alloc, text, call))?;
+            Ok(())
+        }
+        None => print_unknown(rt),
+    }
+}
+
+/// Does what the words ask for.
+fn do_words<R: Print + Threads + Wait + Clock + Sync>(
+    rt: &R,
+    alloc: Global,
+    words: &[String],
+) -> Result<(), Stop> {
+    match words {
+        [_name] => check(rt, alloc),
+        [_name, word, number] => do_number(rt, alloc, word.as_str(), number.as_str()),
+        [_name, word, text, call] if word.as_str() == "try" => {
+            do_try(rt, alloc, text.as_str(), call.as_str())
+        }
+        _ => print_unknown(rt),
+    }
+}
+
+/// Status 3 where memory is wanting or a call is refused, and 1 where a line can't be written or the words can't be read.
 fn start<R: AllocGlobal + Env + Print + Threads + Wait + Clock + Sync>(rt: &R) -> ExitCode {
-    let asked = match read_words(rt) {
-        Ok(asked) => asked,
-        Err(_) => Asked::Unread,
+    let Ok(words) = read_words(rt) else {
+        return ExitCode::from(1);
     };
-    match answer(rt, rt.alloc(), asked) {
+    match do_words(rt, rt.alloc(), words.as_slice()) {
         Ok(()) => ExitCode::SUCCESS,
         Err(Stop::Refused(_)) => ExitCode::from(3),
         Err(Stop::Unwritten) => ExitCode::from(1),

@@ -10,10 +10,11 @@ use std::marker::Brand;
 use std::sync::Wait;
 use std::thread::Threads;
 use std::time::Clock;
+use text_commands::CallMark;
 use world_core::{Command, Refusal, Reply, WorldCore};
 use world_lock::{Opened, SharedWorld};
 
-/// Opens the world to the seats of a roster. Where it can't be opened it comes back as it was.
+/// Opens the world to the seats of a roster, between marks where memory may be refused to that. Where it can't be opened it comes back as it was.
 fn share<N: Opened + Send + Sync, R: Threads + Wait + Clock + Sync>(
     rt: &R,
     alloc: Global,
@@ -23,7 +24,16 @@ fn share<N: Opened + Send + Sync, R: Threads + Wait + Clock + Sync>(
 ) -> Shut<WorldCore>
     requires { (roster.table ≡ N.table) × (roster.seats ≡ N.seats) × (world ≡ N.opening) }
 {
-    match SharedWorld::<N>::open(alloc, world, roster) {
+    let mark = if work.tries_open() {
+        Some(CallMark::begin(alloc))
+    } else {
+        None
+    };
+    let opened = SharedWorld::<N>::open(alloc, world, roster);
+    if let Some(mark) = &mark {
+        let _was_there = mark.end();
+    }
+    match opened {
         Ok((shared, seats)) => let_work(rt, alloc, shared, seats, work),
         Err((world, refusal)) => Shut::Unopened(world, refusal),
     }

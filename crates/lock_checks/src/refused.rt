@@ -1,14 +1,15 @@
 //! Calls of a shared world to which memory may be refused.
 
-use crate::calls::{Left, Shared, Shut, World};
+use crate::calls::{Answer, Left, Shared, Shut, World};
 use crate::open::open_to;
-use crate::scene::{heap_world, mover};
+use crate::scene::{mover, world_of_text};
 use crate::work::{Work, close};
 use std::alloc::Global;
 use std::sync::Wait;
 use std::thread::Threads;
 use std::time::Clock;
-use world_core::{Command, Handle, Refusal, Vec2, WorldCore};
+use text_commands::CallMark;
+use world_core::{Command, Events, Refusal, Vec2, WorldCore};
 use world_lock::Receipt;
 use world_text::{text_of_events, text_of_frame};
 
@@ -18,18 +19,16 @@ pub enum Call {
     Open,
     /// A body is made.
     Create,
-    /// A step in which contacts act.
     Step,
+    /// A step by a solver that is handed in.
+    SolvedStep,
     Settle,
     Frame,
     Events,
 }
 
-/// A circle of the heap.
-const PUSHED: Handle = Handle {
-    slot: 3,
-    generation: 1,
-};
+/// How many ticks a step has.
+const TICKS: i64 = 4;
 
 impl Call {
     /// The call that a word of the program names.
@@ -38,6 +37,7 @@ impl Call {
             "open" => Some(Call::Open),
             "create" => Some(Call::Create),
             "step" => Some(Call::Step),
+            "solved_step" => Some(Call::SolvedStep),
             "settle" => Some(Call::Settle),
             "frame" => Some(Call::Frame),
             "events" => Some(Call::Events),
@@ -49,8 +49,19 @@ impl Call {
     fn command(self, alloc: Global) -> Result<Option<Command>, Refusal> {
         match self {
             Call::Create => Ok(Some(mover(alloc, Vec2 { x: 0, y: 1 << 24 })?)),
-            Call::Step => Ok(Some(Command::Step(4))),
+            Call::Step => Ok(Some(step())),
+            Call::SolvedStep => Ok(Some(step())),
             _ => Ok(None),
+        }
+    }
+
+    /// Whether it tells of calls that were made before it. Then a step is made first.
+    fn looks_back(self) -> bool {
+        match self {
+            Call::Settle => true,
+            Call::Frame => true,
+            Call::Events => true,
+            _ => false,
         }
     }
 
@@ -58,20 +69,17 @@ impl Call {
     fn journal(self) -> usize {
         match self {
             Call::Open => 0,
-            Call::Create => 1,
-            Call::Step => 1,
             Call::Settle => 0,
-            Call::Frame => 1,
-            Call::Events => 1,
+            _ => 1,
         }
     }
 }
 
-fn push() -> Command {
-    Command::Push(PUSHED, Vec2 { x: 500, y: 900 })
+fn step() -> Command {
+    Command::Step(TICKS)
 }
 
-/// What the seat is answered, as text; `None` where memory was refused to the call.
+/// What the seat is answered, as text; `None` where memory was refused to the call. Memory may be refused between the marks alone.
 fn answer<T: Drop, S: Shared<T>, R: Wait>(
     rt: &R,
     alloc: Global,
@@ -81,15 +89,28 @@ fn answer<T: Drop, S: Shared<T>, R: Wait>(
 ) -> Result<Option<String>, Refusal> {
     match call {
         Call::Open => Ok(Some(String::new(alloc))),
-        Call::Settle => settle_text(alloc, shared.settle(rt)),
+        Call::Settle => {
+            let mark = CallMark::begin(alloc);
+            let settled = shared.settle(rt);
+            let _was_there = mark.end();
+            settle_text(alloc, settled)
+        }
         Call::Frame => match shared.frame_text(rt, alloc, seat) {
             Ok(text) => Ok(Some(text?)),
             Err(refusal) => refused(refusal),
         },
-        Call::Events => match shared.events(rt, seat) {
-            Ok(events) => Ok(Some(text_of_events(alloc, &events)?)),
-            Err(refusal) => refused(refusal),
-        },
+        Call::Events => {
+            let mark = CallMark::begin(alloc);
+            let events = shared.events(rt, seat);
+            let _was_there = mark.end();
+            events_text(alloc, events)
+        }
+        Call::SolvedStep => {
+            let mark = CallMark::begin(alloc);
+            let answer = shared.step(rt, seat, TICKS);
+            let _was_there = mark.end();
+            answer_text(alloc, answer)
+        }
         _ => command_text(rt, alloc, shared, seat, call),
     }
 }
@@ -109,6 +130,13 @@ fn settle_text(alloc: Global, settled: Result<u64, Refusal>) -> Result<Option<St
     }
 }
 
+fn events_text(alloc: Global, events: Result<Events, Refusal>) -> Result<Option<String>, Refusal> {
+    match events {
+        Ok(events) => Ok(Some(text_of_events(alloc, &events)?)),
+        Err(refusal) => refused(refusal),
+    }
+}
+
 fn command_text<T: Drop, S: Shared<T>, R: Wait>(
     rt: &R,
     alloc: Global,
@@ -119,7 +147,14 @@ fn command_text<T: Drop, S: Shared<T>, R: Wait>(
     let Some(command) = call.command(alloc)? else {
         return Ok(None);
     };
-    match shared.call(rt, seat, command) {
+    let mark = CallMark::begin(alloc);
+    let answer = shared.call(rt, seat, command);
+    let _was_there = mark.end();
+    answer_text(alloc, answer)
+}
+
+fn answer_text(alloc: Global, answer: Answer) -> Result<Option<String>, Refusal> {
+    match answer {
         Ok(answer) => Ok(Some(format!(in alloc; "{answer:?}")?)),
         Err(refusal) => refused(refusal),
     }
@@ -133,8 +168,8 @@ fn try_twice<T: Drop, S: Shared<T>, R: Wait>(
     seat: &mut T,
     call: Call,
 ) -> Result<String, Refusal> {
-    if call == Call::Settle || call == Call::Frame || call == Call::Events {
-        let _ = shared.call(rt, seat, push())?;
+    if call.looks_back() {
+        let _ = shared.call(rt, seat, step())?;
     }
     if let Some(told) = answer(rt, alloc, shared, seat, call)? {
         return Ok(format!(in alloc; "none {told}")?);
@@ -183,11 +218,11 @@ fn answer_of<W: World>(alloc: Global, world: &mut W, call: Call) -> Result<Strin
     if call == Call::Open {
         return Ok(String::new(alloc));
     }
-    let _ = world.apply(&push())?;
+    let _ = world.apply(&step())?;
     look_at(alloc, world, call)
 }
 
-/// What is seen of the world after the push.
+/// What is seen of the world after the step.
 fn look_at<W: World>(alloc: Global, world: &mut W, call: Call) -> Result<String, Refusal> {
     match call {
         Call::Settle => {
@@ -313,9 +348,9 @@ fn run<R: Threads + Wait + Clock + Sync>(
     }
 }
 
-/// The world of a trial, with what has to come of it.
-fn prepared<W: World>(alloc: Global, call: Call) -> Result<(W, Trial), Refusal> {
-    let world: W = heap_world(alloc)?;
+/// The world of a text, with what has to come of the call in it.
+fn prepared<W: World>(alloc: Global, text: &str, call: Call) -> Result<(W, Trial), Refusal> {
+    let world: W = world_of_text(alloc, text)?;
     let trial = trial_of(alloc, &world, call)?;
     Ok((world, trial))
 }
@@ -323,22 +358,24 @@ fn prepared<W: World>(alloc: Global, call: Call) -> Result<(W, Trial), Refusal> 
 fn set_up<R: Threads + Wait + Clock + Sync>(
     rt: &R,
     alloc: Global,
+    text: &str,
     call: Call,
 ) -> Result<&'static str, Refusal> {
-    match prepared(alloc, call) {
+    match prepared(alloc, text, call) {
         Ok((world, trial)) => run(rt, alloc, world, &trial),
         Err(refusal) => Err(refusal),
     }
 }
 
-/// Makes a call while memory may be refused to it. Tells `kept` where a refused call left everything as it was and then succeeded, `none` where it
+/// Makes a call in the shared world of a text while memory may be refused to it. Tells `kept` where a refused call left everything as it was and then succeeded, `none` where it
 /// met no refusal, `outside` where something beside it met one, and else what differs.
 pub fn tell_trial<R: Threads + Wait + Clock + Sync>(
     rt: &R,
     alloc: Global,
+    text: &str,
     call: Call,
 ) -> &'static str {
-    match set_up(rt, alloc, call) {
+    match set_up(rt, alloc, text, call) {
         Ok(told) => told,
         Err(Refusal::NoMemory) => "outside",
         Err(_) => "refused",

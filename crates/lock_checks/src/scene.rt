@@ -2,9 +2,8 @@
 
 use crate::calls::World;
 use std::alloc::Global;
-use world_core::{
-    BodyDef, Command, Course, Handle, Kind, MassData, Refusal, Rot, Shape, ShapeDef, Shapes, Vec2,
-};
+use text_commands::{body_of, take_text};
+use world_core::{Command, Course, Handle, Kind, MassData, Refusal, Shape, ShapeDef, Vec2};
 
 const METRE: i64 = 1 << 20;
 
@@ -44,32 +43,13 @@ fn circle(radius: i64) -> ShapeDef {
     }
 }
 
-/// A body of one shape.
-fn body(
-    alloc: Global,
-    kind: Kind,
-    mass: MassData,
-    x: Vec2,
-    shape: ShapeDef,
-) -> Result<Command, Refusal> {
-    let mut shapes = Shapes::new(alloc);
-    shapes.push(shape)?;
-    Ok(Command::CreateBody(BodyDef {
-        kind,
-        mass,
-        x,
-        rot: Rot { c: 1 << 30, s: 0 },
-        shapes,
-    }))
-}
-
 /// A circle of half a metre that moves.
 pub fn mover(alloc: Global, x: Vec2) -> Result<Command, Refusal> {
     let mass = MassData {
         mass: 256,
         inertia: 1 << 45,
     };
-    body(alloc, Kind::Dynamic, mass, x, circle(METRE / 2))
+    body_of(alloc, Kind::Dynamic, mass, x, circle(METRE / 2))
 }
 
 /// A circle of mass 1 that doesn't turn.
@@ -78,7 +58,7 @@ fn point(alloc: Global) -> Result<Command, Refusal> {
         mass: 1,
         inertia: 0,
     };
-    body(alloc, Kind::Dynamic, mass, STILL, circle(100))
+    body_of(alloc, Kind::Dynamic, mass, STILL, circle(100))
 }
 
 fn floor(alloc: Global) -> Result<Command, Refusal> {
@@ -95,7 +75,7 @@ fn floor(alloc: Global) -> Result<Command, Refusal> {
         friction: 128,
         ..ShapeDef::default()
     };
-    body(alloc, Kind::Static, mass, STILL, shape)
+    body_of(alloc, Kind::Static, mass, STILL, shape)
 }
 
 fn lift(alloc: Global) -> Result<Command, Refusal> {
@@ -111,7 +91,7 @@ fn lift(alloc: Global) -> Result<Command, Refusal> {
         x: -8 * METRE,
         y: 2 * METRE,
     };
-    body(alloc, Kind::Kinematic(course), mass, x, circle(METRE))
+    body_of(alloc, Kind::Kinematic(course), mass, x, circle(METRE))
 }
 
 /// A world with one circle, without gravity, which has accepted one call.
@@ -145,4 +125,18 @@ pub fn heap_world<W: World>(alloc: Global) -> Result<W, Refusal> {
     fill_heap(alloc, &mut world)?;
     let _ = world.apply(&Command::Step(4))?;
     Ok(world)
+}
+
+/// Copies the world in which the commands of a text were made. The copy's lists have no spare room, so that whatever grows asks for memory.
+fn with_text<W: World>(alloc: Global, world: &mut W, text: &str) -> Result<W, Refusal> {
+    take_text(alloc, world, text)?;
+    world.copied()
+}
+
+/// The world of a text.
+pub fn world_of_text<W: World>(alloc: Global, text: &str) -> Result<W, Refusal> {
+    match W::empty(alloc, STILL) {
+        Ok(mut world) => with_text(alloc, &mut world, text),
+        Err(refusal) => Err(refusal),
+    }
 }

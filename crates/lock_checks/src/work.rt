@@ -30,6 +30,16 @@ pub enum Work {
     Mix { seed: u64, calls: u64 },
 }
 
+impl Work {
+    /// Whether memory may be refused to the opening of the world.
+    pub fn tries_open(self) -> bool {
+        match self {
+            Work::Try(call) => call == Call::Open,
+            _ => false,
+        }
+    }
+}
+
 fn push() -> Command {
     Command::Push(FIRST, Vec2 { x: 1, y: 0 })
 }

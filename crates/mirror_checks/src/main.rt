@@ -8,7 +8,6 @@
 mod calls;
 mod crowd;
 mod example;
-mod mark;
 mod open;
 mod refused;
 mod scene;

@@ -5,7 +5,6 @@ ghost use Rattle.std.specs.Prelude.{◌≡◌};
 use crate::calls::World;
 use crate::crowd::{Letters, race};
 use crate::example::{publish_first, publish_second, read_on};
-use crate::mark::CallMark;
 use crate::refused::{Call, try_call};
 use crate::scene::falling_circle;
 use crate::stop::Stop;
@@ -17,6 +16,7 @@ use std::marker::Brand;
 use std::sync::{Arc, Mutex, Wait};
 use std::thread::Threads;
 use std::time::Clock;
+use text_commands::CallMark;
 use world_core::{Command, Frame, Refusal, Reply, WorldCore};
 use world_lock::{Opened, Seat, SharedWorld};
 

@@ -2,10 +2,10 @@
 
 use crate::calls::{Reads, Shared, Shows, Told};
 use crate::example::push;
-use crate::mark::CallMark;
 use crate::scene::FIRST;
 use std::alloc::Global;
 use std::sync::Wait;
+use text_commands::CallMark;
 use world_core::{Refusal, Total, Vec2};
 
 /// A call of a mirror.

@@ -1,11 +1,9 @@
 //! What the checks make their worlds of.
 
-use shapes::{Filter, Shape, ShapeDef, Shapes};
+use shapes::{Filter, Shape, ShapeDef};
 use std::alloc::Global;
-use world_core::{
-    BodyDef, Command, Constraint, ContactKey, Handle, JointDef, Kind, MassData, Refusal, Rot,
-    ShapeId, Vec2,
-};
+pub use text_commands::{UPRIGHT, between, body_of};
+use world_core::{Command, Constraint, ContactKey, Handle, Kind, MassData, Refusal, ShapeId, Vec2};
 
 /// The body, or the joint, in the first slot.
 pub const FIRST: Handle = Handle {
@@ -30,8 +28,6 @@ pub const STALE: Handle = Handle {
     slot: 0,
     generation: 9,
 };
-
-pub const UPRIGHT: Rot = Rot { c: 1 << 30, s: 0 };
 
 pub const ORIGIN: Vec2 = Vec2 { x: 0, y: 0 };
 
@@ -88,25 +84,6 @@ pub fn floor() -> ShapeDef {
     })
 }
 
-/// A body of one shape.
-pub fn body_of(
-    alloc: Global,
-    kind: Kind,
-    mass: MassData,
-    x: Vec2,
-    shape: ShapeDef,
-) -> Result<Command, Refusal> {
-    let mut shapes = Shapes::new(alloc);
-    shapes.push(shape)?;
-    Ok(Command::CreateBody(BodyDef {
-        kind,
-        mass,
-        x,
-        rot: UPRIGHT,
-        shapes,
-    }))
-}
-
 /// A dynamic body of one shape, or a static one where the mass is 0.
 pub fn create_of(alloc: Global, mass: i64, x: Vec2, shape: ShapeDef) -> Result<Command, Refusal> {
     let kind = if mass == 0 {
@@ -115,18 +92,6 @@ pub fn create_of(alloc: Global, mass: i64, x: Vec2, shape: ShapeDef) -> Result<C
         Kind::Dynamic
     };
     body_of(alloc, kind, MassData { mass, inertia: 0 }, x, shape)
-}
-
-/// A joint of two centres.
-pub fn between(a: Handle, b: Handle, length: i64) -> JointDef {
-    JointDef {
-        a,
-        b,
-        from: ORIGIN,
-        to: ORIGIN,
-        length,
-        collide: false,
-    }
 }
 
 /// The contact of the first shapes of the bodies in two slots.

@@ -2,10 +2,11 @@
 
 use crate::calls::World;
 use crate::trials::SCENE;
-use crate::trials::script::{apply_all, commands_of};
+use crate::trials::script::apply_all;
 use crate::trials::stop::Stop;
 use crate::trials::worlds::Worlds;
 use std::alloc::Global;
+use text_commands::commands_of;
 use world_core::Command;
 
 /// In what two worlds differ, and the commands that are applied to the one and to the other.

@@ -4,13 +4,13 @@ use crate::trials::compare::{
 };
 use crate::trials::looks::{try_look, try_settle};
 use crate::trials::saved::{ask_twice, load_twice, save_twice};
-use crate::trials::script::commands_of;
 use crate::trials::stop::{Moment, Part, Stop};
 use crate::trials::worlds::Worlds;
 use fixed_geom::Refusal;
 use solver_sets::Census;
 use std::alloc::Global;
 use std::fmt;
+use text_commands::commands_of;
 use world_core::{Command, Frame, Plain};
 
 /// How a call went that did what it should.

@@ -1,14 +1,11 @@
 use crate::calls::{Answer, World, calls_of};
 use crate::trials::compare::expect_same_worlds;
-use crate::trials::script::{commands_of, world_of};
+use crate::trials::script::world_of;
 use crate::trials::stop::{Moment, Stop};
 use fixed_geom::Refusal;
 use std::alloc::Global;
-use std::fmt::Write;
+use text_commands::{CallMark, commands_of};
 use world_core::Command;
-
-/// By a request for so many bytes the library that refuses memory knows that the call begins, and by the next size that it has ended.
-const MARK: usize = 1_234_567;
 
 /// Three equal worlds.
 #[derive(Drop)]
@@ -20,15 +17,8 @@ pub struct Worlds<W: World> {
     pub before: W,
     /// One in which the call is made while all memory is there.
     pub reference: W,
-    /// The text that was asked for last.
-    mark: Option<String>,
-}
-
-/// A short text with so much room. It is written by `write!`, so that no compiler does without it.
-fn text_with_room(alloc: Global, room: usize) -> Result<String, Refusal> {
-    let mut text = String::with_capacity(alloc, room)?;
-    write!(text, "{room}")?;
-    Ok(text)
+    /// Where the last call began to which memory may be refused.
+    mark: Option<CallMark>,
 }
 
 impl<W: World> Worlds<W> {
@@ -62,12 +52,14 @@ impl<W: World> Worlds<W> {
 
     /// The call begins, to which memory may be refused.
     pub fn begin(&mut self) {
-        self.mark = text_with_room(self.alloc, MARK).ok();
+        self.mark = Some(CallMark::begin(self.alloc));
     }
 
     /// The call has ended.
     pub fn end(&mut self) {
-        self.mark = text_with_room(self.alloc, MARK + 1).ok();
+        if let Some(mark) = self.mark.take() {
+            let _was_there = mark.end();
+        }
     }
 
     /// Applies a command to the world in which memory may be refused.
