@@ -1,5 +1,6 @@
 // Makes the steps of a scene by Box2D 2.4 (Debian's libbox2d-dev), for bench/peers, which writes the scene as lines of words and numbers, in metres and
-// seconds: 'gravity X Y'; 'circle X Y RADIUS FRICTION', a mover; 'segment X Y AX AY BX BY FRICTION' and 'nail X Y', which stand; 'velocity BODY VX VY';
+// seconds: 'gravity X Y'; 'circle X Y RADIUS FRICTION' and 'capsule X Y AX AY BX BY RADIUS INERTIA FRICTION', movers, whose inertia is that of a mass of 1;
+// 'segment X Y AX AY BX BY FRICTION' and 'nail X Y', which stand; 'velocity BODY VX VY';
 // 'joint A B LENGTH', between two centres; 'sleep BODY'; 'tick', a step of a 240th of a second; 'step', one of a 60th. A body is named by its place among
 // all bodies. It prints the nanoseconds of processor time of all 'step's together, how many there were, how many movers there are, and how many of them are awake.
 #include <box2d/box2d.h>
@@ -8,6 +9,8 @@
 #include <cstring>
 #include <ctime>
 #include <vector>
+
+static const float THIN = 0.01f; // metres
 
 static double nanoseconds() {
   timespec now;
@@ -52,6 +55,21 @@ int main() {
       fixture.density = 1;
       fixture.friction = number();
       mover->CreateFixture(&fixture);
+    } else if (!std::strcmp(word, "capsule")) {
+      // a thin box along the x axis, rounded: there is no capsule
+      b2Body *mover = add(b2_dynamicBody);
+      b2Vec2 first = place(), second = place();
+      float radius = number();
+      b2PolygonShape core;
+      core.SetAsBox((second.x - first.x) / 2, THIN);
+      core.m_radius = radius - THIN;
+      b2MassData mass = {1, b2Vec2(0, 0), number()};
+      b2FixtureDef fixture;
+      fixture.shape = &core;
+      fixture.density = 1;
+      fixture.friction = number();
+      mover->CreateFixture(&fixture);
+      mover->SetMassData(&mass);
     } else if (!std::strcmp(word, "segment")) {
       b2Body *floor = add(b2_staticBody);
       b2EdgeShape edge;

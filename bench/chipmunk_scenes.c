@@ -47,6 +47,16 @@ static void add_circle(void) {
   cpShapeSetFriction(cpSpaceAddShape(space, cpCircleShapeNew(mover, radius, cpvzero)), number());
 }
 
+static void add_capsule(void) {
+  cpVect at = place();
+  cpVect first = place();
+  cpVect second = place();
+  double radius = number();
+  cpBody *mover = add(cpBodyNew(1, number()));
+  cpBodySetPosition(mover, at);
+  cpShapeSetFriction(cpSpaceAddShape(space, cpSegmentShapeNew(mover, first, second, radius)), number());
+}
+
 static void add_segment(void) {
   cpBody *floor = add(cpBodyNewStatic());
   cpBodySetPosition(floor, place());
@@ -76,6 +86,8 @@ int main(void) {
       cpSpaceSetGravity(space, place());
     } else if (!strcmp(word, "circle")) {
       add_circle();
+    } else if (!strcmp(word, "capsule")) {
+      add_capsule();
     } else if (!strcmp(word, "segment")) {
       add_segment();
     } else if (!strcmp(word, "nail")) {

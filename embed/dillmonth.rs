@@ -8,31 +8,31 @@
 use std::fmt;
 
 macro_rules! values {
-    ($($(#[$note:meta])* $name:ident { $($field:ident: $type:ty),* $(,)? })*) => { $(
+    ($($(#[$note:meta])* $seen:vis $name:ident { $($field:ident: $type:ty),* $(,)? })*) => { $(
         $(#[$note])*
         #[repr(C)]
         #[derive(Clone, Copy, Debug, Default, PartialEq, Eq)]
-        pub struct $name { $(pub $field: $type),* }
+        $seen struct $name { $($seen $field: $type),* }
     )* };
 }
 
 values! {
-    Vec2 { x: i64, y: i64 }
-    Rot { c: i64, s: i64 }
+    pub Vec2 { x: i64, y: i64 }
+    pub Rot { c: i64, s: i64 }
     /// The id of a body or of a joint.
-    Handle { slot: u32, generation: u32 }
-    ShapeId { slot: u32, index: u32 }
-    Pair { first: ShapeId, second: ShapeId }
-    Box2 { lo: Vec2, hi: Vec2 }
+    pub Handle { slot: u32, generation: u32 }
+    pub ShapeId { slot: u32, index: u32 }
+    pub Pair { first: ShapeId, second: ShapeId }
+    pub Box2 { lo: Vec2, hi: Vec2 }
+    pub Pose { handle: Handle, at: Vec2, facing: Rot }
+    pub Contact { pair: Pair, points: u32, unused: u32, normal: Vec2, first_offset: Vec2, second_offset: Vec2, first_impulse: i64, second_impulse: i64 }
     RawShape { form: u32, group: i32, first: Vec2, second: Vec2, radius: i64, friction: i64, restitution: i64, category: u64, mask: u64 }
     RawBodyDef { kind: u32, unused: u32, at: Vec2, facing: Rot, mass: i64, inertia: i64, velocity: Vec2, spin: i64 }
     RawJointDef { a: Handle, b: Handle, from: Vec2, to: Vec2, length: i64, collide: u32, unused: u32 }
-    Pose { handle: Handle, at: Vec2, facing: Rot }
-    View { pose: Pose, p: Vec2, l_low: u64, l_high: i64, velocity: Vec2, spin: i64, set: u32, island: u32 }
-    Contact { pair: Pair, points: u32, unused: u32, normal: Vec2, first_offset: Vec2, second_offset: Vec2, first_impulse: i64, second_impulse: i64 }
+    RawView { pose: Pose, p: Vec2, l_low: u64, l_high: i64, velocity: Vec2, spin: i64, set: u32, island: u32 }
     RawHit { is_hit: u32, fraction: u32, shape: ShapeId }
     RawCommand { kind: u32, shapes_from: u32, shapes_count: u32, unused: u32, body: RawBodyDef, joint: RawJointDef, by: Vec2, offset: Vec2, ticks: i64 }
-    Answer { status: u32, unused: u32, made: Handle, step: u64 }
+    RawAnswer { status: u32, unused: u32, made: Handle, step: u64 }
 }
 
 #[repr(C)]
@@ -63,14 +63,14 @@ unsafe extern "C" {
     fn dm_wake(world: *mut Held, body: Handle) -> u32;
     fn dm_sleep(world: *mut Held, body: Handle) -> u32;
     fn dm_step(world: *mut Held, ticks: i64, step: *mut u64) -> u32;
-    fn dm_apply_all(world: *mut Held, commands: *const RawCommand, count: usize, shapes: *const RawShape, shapes_count: usize, answers: *mut Answer, room: usize) -> usize;
+    fn dm_apply_all(world: *mut Held, commands: *const RawCommand, count: usize, shapes: *const RawShape, shapes_count: usize, answers: *mut RawAnswer, room: usize) -> usize;
     fn dm_poses(world: *mut Held, out: *mut Pose, room: usize) -> usize;
     fn dm_moved(world: *mut Held, out: *mut Pose, room: usize) -> usize;
     fn dm_begun(world: *mut Held, out: *mut Pair, room: usize) -> usize;
     fn dm_ended(world: *mut Held, out: *mut Pair, room: usize) -> usize;
     fn dm_slept(world: *mut Held, out: *mut Handle, room: usize) -> usize;
     fn dm_woke(world: *mut Held, out: *mut Handle, room: usize) -> usize;
-    fn dm_body(world: *mut Held, body: Handle, out: *mut View) -> u32;
+    fn dm_body(world: *mut Held, body: Handle, out: *mut RawView) -> u32;
     fn dm_steps(world: *mut Held) -> u64;
     fn dm_gravity(world: *mut Held) -> Vec2;
     fn dm_ray(world: *mut Held, from: Vec2, along: Vec2, out: *mut RawHit) -> u32;
@@ -187,10 +187,135 @@ pub enum Kind {
 
 pub const UPRIGHT: Rot = Rot { c: 1 << 30, s: 0 };
 
-impl View {
+impl RawBodyDef {
+    fn new(kind: Kind, at: Vec2, facing: Rot) -> RawBodyDef {
+        let def = RawBodyDef { at, facing, ..RawBodyDef::default() };
+        match kind {
+            Kind::Static => RawBodyDef { kind: 0, ..def },
+            Kind::Kinematic { velocity, spin } => RawBodyDef { kind: 1, velocity, spin, ..def },
+            Kind::Dynamic { mass, inertia } => RawBodyDef { kind: 2, mass, inertia, ..def },
+        }
+    }
+}
+
+/// A joint to be made: each body with its anchor in the body's own axes.
+#[derive(Clone, Copy, Debug)]
+pub struct Joint {
+    pub a: (Handle, Vec2),
+    pub b: (Handle, Vec2),
+    pub length: i64,
+    /// Whether its two bodies collide.
+    pub collide: bool,
+}
+
+impl Joint {
+    fn raw(&self) -> RawJointDef {
+        RawJointDef { a: self.a.0, b: self.b.0, from: self.a.1, to: self.b.1, length: self.length, collide: self.collide.into(), unused: 0 }
+    }
+}
+
+/// A command of a batch.
+#[derive(Clone, Copy, Debug)]
+pub enum Command<'a> {
+    CreateBody { kind: Kind, at: Vec2, facing: Rot, shapes: &'a [Shape] },
+    DestroyBody(Handle),
+    CreateJoint(Joint),
+    DestroyJoint(Handle),
+    Push(Handle, Vec2),
+    PushAt { body: Handle, by: Vec2, offset: Vec2 },
+    SetPose { body: Handle, at: Vec2, facing: Rot },
+    SetVelocity { body: Handle, velocity: Vec2, spin: i64 },
+    SetGravity(Vec2),
+    Disable(Handle),
+    Enable(Handle),
+    Wake(Handle),
+    Sleep(Handle),
+    Step(i64),
+}
+
+/// What a command of a batch answers.
+#[derive(Clone, Copy, Debug, PartialEq, Eq)]
+pub enum Reply {
+    Body(Handle),
+    Joint(Handle),
+    /// The number of the step.
+    Step(u64),
+    Done,
+}
+
+impl Command<'_> {
+    /// The command as it lies in a batch, whose shapes its own are added to.
+    fn raw(&self, all: &mut Vec<RawShape>) -> RawCommand {
+        let of = |kind, id| RawCommand { kind, joint: RawJointDef { a: id, ..RawJointDef::default() }, ..RawCommand::default() };
+        let raw = RawCommand::default();
+        match *self {
+            Command::CreateBody { kind, at, facing, shapes } => {
+                let from = all.len();
+                all.extend(shapes.iter().map(Shape::raw));
+                RawCommand { body: RawBodyDef::new(kind, at, facing), shapes_from: from as u32, shapes_count: shapes.len() as u32, ..raw }
+            }
+            Command::DestroyBody(body) => of(1, body),
+            Command::CreateJoint(joint) => RawCommand { kind: 2, joint: joint.raw(), ..raw },
+            Command::DestroyJoint(joint) => of(3, joint),
+            Command::Push(body, by) => RawCommand { by, ..of(4, body) },
+            Command::PushAt { body, by, offset } => RawCommand { by, offset, ..of(5, body) },
+            Command::SetPose { body, at, facing } => RawCommand { body: RawBodyDef { at, facing, ..raw.body }, ..of(6, body) },
+            Command::SetVelocity { body, velocity, spin } => RawCommand { body: RawBodyDef { velocity, spin, ..raw.body }, ..of(7, body) },
+            Command::SetGravity(by) => RawCommand { kind: 8, by, ..raw },
+            Command::Disable(body) => of(9, body),
+            Command::Enable(body) => of(10, body),
+            Command::Wake(body) => of(11, body),
+            Command::Sleep(body) => of(12, body),
+            Command::Step(ticks) => RawCommand { kind: 13, ticks, ..raw },
+        }
+    }
+
+    fn reply(&self, answer: &RawAnswer) -> Result<Reply, Refused> {
+        outcome(answer.status, 0)?;
+        Ok(match self {
+            Command::CreateBody { .. } => Reply::Body(answer.made),
+            Command::CreateJoint(_) => Reply::Joint(answer.made),
+            Command::Step(_) => Reply::Step(answer.step),
+            _ => Reply::Done,
+        })
+    }
+}
+
+/// The set in which a body is.
+#[derive(Clone, Copy, Debug, PartialEq, Eq)]
+pub enum Set {
+    Static,
+    Disabled,
+    Awake,
+    /// With the name of the island with which it sleeps.
+    Asleep(u32),
+}
+
+/// What is seen of a body.
+#[derive(Clone, Copy, Debug, PartialEq, Eq)]
+pub struct View {
+    pub pose: Pose,
+    /// The momentum.
+    pub p: Vec2,
     /// The angular momentum.
-    pub fn l(&self) -> i128 {
-        i128::from(self.l_high) << 64 | i128::from(self.l_low)
+    pub l: i128,
+    /// Of a kinematic body.
+    pub velocity: Vec2,
+    pub spin: i64,
+    pub set: Set,
+}
+
+impl View {
+    fn of(raw: RawView) -> View {
+        let RawView { pose, p, velocity, spin, .. } = raw;
+        let l = i128::from(raw.l_high) << 64 | i128::from(raw.l_low);
+        let set = match raw.set {
+            0 => Set::Static,
+            1 => Set::Disabled,
+            2 => Set::Awake,
+            _ => Set::Asleep(raw.island),
+        };
+        View { pose, p, l, velocity, spin, set }
     }
 }
 
@@ -229,23 +354,16 @@ impl World {
     }
 
     pub fn create_body(&mut self, kind: Kind, at: Vec2, facing: Rot, shapes: &[Shape]) -> Result<Handle, Refused> {
-        let mut def = RawBodyDef { at, facing, ..RawBodyDef::default() };
-        match kind {
-            Kind::Static => def.kind = 0,
-            Kind::Kinematic { velocity, spin } => (def.kind, def.velocity, def.spin) = (1, velocity, spin),
-            Kind::Dynamic { mass, inertia } => (def.kind, def.mass, def.inertia) = (2, mass, inertia),
-        }
+        let def = RawBodyDef::new(kind, at, facing);
         let shapes: Vec<RawShape> = shapes.iter().map(Shape::raw).collect();
         let mut made = Handle::default();
         outcome(unsafe { dm_create_body(&mut self.held, &def, shapes.as_ptr(), shapes.len(), &mut made) }, 0)?;
         Ok(made)
     }
 
-    /// Joins two bodies at anchors in their own axes.
-    pub fn create_joint(&mut self, a: (Handle, Vec2), b: (Handle, Vec2), length: i64, collide: bool) -> Result<Handle, Refused> {
-        let def = RawJointDef { a: a.0, b: b.0, from: a.1, to: b.1, length, collide: collide.into(), unused: 0 };
+    pub fn create_joint(&mut self, joint: &Joint) -> Result<Handle, Refused> {
         let mut made = Handle::default();
-        outcome(unsafe { dm_create_joint(&mut self.held, &def, &mut made) }, 0)?;
+        outcome(unsafe { dm_create_joint(&mut self.held, &joint.raw(), &mut made) }, 0)?;
         Ok(made)
     }
 
@@ -306,12 +424,14 @@ impl World {
         unsafe { dm_settle(&mut self.held) };
     }
 
-    /// Does commands one after another.
-    pub fn apply_all(&mut self, commands: &[RawCommand], shapes: &[RawShape]) -> Vec<Answer> {
-        let mut answers = vec![Answer::default(); commands.len()];
-        unsafe { dm_apply_all(&mut self.held, commands.as_ptr(), commands.len(), shapes.as_ptr(), shapes.len(), answers.as_mut_ptr(), answers.len()) };
+    /// Does commands one after another, and answers each. A refused one changes nothing, and the next one follows.
+    pub fn apply_all(&mut self, commands: &[Command]) -> Vec<Result<Reply, Refused>> {
+        let mut shapes = Vec::new();
+        let raw: Vec<RawCommand> = commands.iter().map(|command| command.raw(&mut shapes)).collect();
+        let mut answers = vec![RawAnswer::default(); raw.len()];
+        unsafe { dm_apply_all(&mut self.held, raw.as_ptr(), raw.len(), shapes.as_ptr(), shapes.len(), answers.as_mut_ptr(), answers.len()) };
         self.settle();
-        answers
+        commands.iter().zip(&answers).map(|(command, answer)| command.reply(answer)).collect()
     }
 
     fn all<T: Clone + Default>(&mut self, read: unsafe extern "C" fn(*mut Held, *mut T, usize) -> usize) -> Vec<T> {
@@ -370,9 +490,9 @@ impl World {
 
     /// What is seen of a body; `None` where the id names none.
     pub fn body(&mut self, body: Handle) -> Option<View> {
-        let mut view = View::default();
+        let mut view = RawView::default();
         let status = unsafe { dm_body(&mut self.held, body, &mut view) };
-        (status == 0).then_some(view)
+        (status == 0).then(|| View::of(view))
     }
 
     pub fn steps(&mut self) -> u64 {

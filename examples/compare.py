@@ -5,8 +5,8 @@
 
 A and B are either two saved worlds (what `save` answers, with or without `{"world":..}` round it), or two files with a digest a line
 (`examples/replay.py --write` makes one; lines of JSON with a key `digest` do too). Of worlds it tells the first field that differs, in the order
-bodies, joints, contacts, counts, totals, and how many differ. Of digests it tells the first line that differs: save both worlds there, and
-compare those. It ends with status 0 where both are the same, and 1 where they differ.
+counts, gravity, bodies, joints, contacts, totals, and how many differ. Of digests it tells the first that differs: save both worlds after that step,
+and compare those. It ends with status 0 where both are the same, and 1 where they differ.
 """
 
 import json
@@ -82,13 +82,17 @@ def compare_digests(one, other):
 def main(words):
     if len(words) != 2:
         sys.exit(__doc__)
-    texts = [Path(word).read_text(encoding="utf-8") for word in words]
-    worlds = [world_in(text) for text in texts]
+    try:
+        texts = [Path(word).read_text(encoding="utf-8") for word in words]
+        worlds = [world_in(text) for text in texts]
+        digests = [[] if world else digests_in(text) for world, text in zip(worlds, texts)]
+    except (OSError, ValueError) as error:
+        sys.exit(f"the files can't be read: {error}")
     if all(worlds):
         return compare_worlds(*worlds)
     if any(worlds):
         sys.exit("one is a saved world, and the other isn't")
-    return compare_digests(*(digests_in(text) for text in texts))
+    return compare_digests(*digests)
 
 
 if __name__ == "__main__":

@@ -25,7 +25,9 @@ export const generationOf = (handle) => Number(handle >> 32n);
 
 const ORIGIN = { x: 0n, y: 0n };
 const UPRIGHT = { c: ONE, s: 0n };
-const SHAPE_BYTES = 80, POSE_BYTES = 40, CONTACT_BYTES = 88, PAIR_BYTES = 16, ID_BYTES = 8;
+const SHAPE_BYTES = 80, POSE_BYTES = 40, CONTACT_BYTES = 88, PAIR_BYTES = 16, ID_BYTES = 8, COMMAND_BYTES = 200, ANSWER_BYTES = 24;
+const BODY = 16, AT = 24, FACING = 40, VELOCITY = 72, SPIN = 88, JOINT = 96, ID = 96, BY = 160, OFFSET = 176, TICKS = 192; // places in a command
+const NO_WORLD = 32;
 
 /** A call that was refused: its status, and the clause that a text to be loaded breaks, or 0. */
 export class Refused extends Error {
@@ -89,6 +91,73 @@ class Reader {
     const normal = this.vec(), offsets = [this.vec(), this.vec()], impulses = [this.i64(), this.i64()];
     return { a, b, normal, offsets: offsets.slice(0, points), impulses: impulses.slice(0, points) };
   }
+  answer() {
+    const status = this.u32();
+    this.u32();
+    return { status, made: this.u64(), step: this.u64() };
+  }
+}
+
+/** Items of some bytes each, one behind another, in room that grows. */
+class Items {
+  constructor(size) {
+    this.size = size;
+    this.count = 0;
+    this.view = new DataView(new ArrayBuffer(64 * size));
+  }
+
+  get bytes() { return new Uint8Array(this.view.buffer, 0, this.count * this.size); }
+
+  /** Room for some more items, all zeros. They count once `count` says so. */
+  more(items) {
+    const wanted = (this.count + items) * this.size;
+    if (wanted > this.view.byteLength) {
+      const grown = new Uint8Array(2 * wanted);
+      grown.set(this.bytes);
+      this.view = new DataView(grown.buffer);
+    }
+    new Uint8Array(this.view.buffer, this.count * this.size, items * this.size).fill(0);
+    return new Writer(this.view, this.count * this.size);
+  }
+}
+
+/** Commands that a world does in one call, by `applyAll`. They are added by the methods that a world has for them. */
+export class Batch {
+  constructor() {
+    this.commands = new Items(COMMAND_BYTES);
+    this.shapes = new Items(SHAPE_BYTES);
+  }
+
+  get length() { return this.commands.count; }
+  clear() { this.commands.count = this.shapes.count = 0; }
+
+  /** Adds a command, each part at its place; throws and adds nothing where a value is of another type. */
+  add(kind, parts, shapes = []) {
+    const list = this.shapes.more(shapes.length), command = this.commands.more(1), start = command.at;
+    for (const shape of shapes) list.shape(shape);
+    command.u32(kind); command.u32(this.shapes.count); command.u32(shapes.length);
+    for (const [place, form, value] of parts) {
+      command.at = start + place;
+      command[form](value);
+    }
+    this.shapes.count += shapes.length;
+    this.commands.count += 1;
+  }
+
+  createBody(def, shapes) { this.add(0, [[BODY, "body", def]], shapes); }
+  destroyBody(body) { this.add(1, [[ID, "u64", body]]); }
+  createJoint(def) { this.add(2, [[JOINT, "joint", def]]); }
+  destroyJoint(joint) { this.add(3, [[ID, "u64", joint]]); }
+  push(body, by) { this.add(4, [[ID, "u64", body], [BY, "vec", by]]); }
+  pushAt(body, by, offset) { this.add(5, [[ID, "u64", body], [BY, "vec", by], [OFFSET, "vec", offset]]); }
+  setPose(body, at, facing) { this.add(6, [[ID, "u64", body], [AT, "vec", at], [FACING, "rot", facing]]); }
+  setVelocity(body, velocity, spin) { this.add(7, [[ID, "u64", body], [VELOCITY, "vec", velocity], [SPIN, "i64", spin]]); }
+  setGravity(gravity) { this.add(8, [[BY, "vec", gravity]]); }
+  disable(body) { this.add(9, [[ID, "u64", body]]); }
+  enable(body) { this.add(10, [[ID, "u64", body]]); }
+  wake(body) { this.add(11, [[ID, "u64", body]]); }
+  sleep(body) { this.add(12, [[ID, "u64", body]]); }
+  step(ticks) { this.add(13, [[TICKS, "i64", ticks]]); }
 }
 
 /** A module that is ready. After a call that traps it is spent: load it anew. */
@@ -204,6 +273,24 @@ export class World {
     done(this.calls.dm_step(this.world, ticks, BigInt(at)));
     this.calls.dm_settle(this.world);
     return this.library.view().getBigUint64(at, true);
+  }
+
+  /**
+   * Does the commands of a batch one after another, and answers each: its status, the id of what it made, and the number of a step. A refused
+   * one changes nothing, and the next one follows. What was booked is summed up.
+   */
+  applyAll({ commands, shapes }) {
+    const { library } = this, lists = [commands, shapes].map((items, number) => {
+      const { bytes } = items, at = library.room(number + 1, bytes.length);
+      library.bytes(at, bytes.length).set(bytes);
+      return [BigInt(at), BigInt(items.count)];
+    });
+    const out = library.room(3, ANSWER_BYTES * commands.count), count = BigInt(commands.count);
+    const answered = this.calls.dm_apply_all(this.world, ...lists.flat(), BigInt(out), count);
+    if (answered !== count) throw new Refused(NO_WORLD);
+    this.calls.dm_settle(this.world);
+    const reader = new Reader(library.view(), out);
+    return Array.from({ length: commands.count }, () => reader.answer());
   }
 
   // ---- reading ----

@@ -32,10 +32,14 @@ export class Run {
   /** Makes a request, and keeps it in the journal. */
   ask(line) {
     const answer = this.player.ask(line);
+    this.note(line, answer);
+    return answer;
+  }
+
+  note(line, answer) {
     this.journal.push(line);
     if (answer.refused) this.refusals += 1;
     if (REBUILDS.has(line.do)) this.version += 1;
-    return answer;
   }
 
   /** A request of somebody's own: from here on the world isn't the script's. */
@@ -45,9 +49,15 @@ export class Run {
     return this.ask(line);
   }
 
-  /** Plays the lines before the first step. */
+  /** Plays the lines before the next step, their commands in one call. A bad one throws, and is passed by. */
   begin() {
-    while (!this.isOver && this.requests[this.next].do !== "step") this.ask(this.requests[this.next++]);
+    let step = this.next;
+    while (step < this.requests.length && this.requests[step].do !== "step") step += 1;
+    const answered = this.player.askInBatches(this.requests.slice(this.next, step));
+    while (this.next < step) {
+      this.next += 1;
+      this.note(...answered.next().value);
+    }
   }
 
   /** Plays the lines up to the next step, and that step; a step of its own where there are no more. */

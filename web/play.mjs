@@ -2,7 +2,9 @@
 // Plays stored scripts by the module in Node, and compares the answers with those beside them, in FILE.stdout.
 //
 //     web/play.mjs FILE..                   the last line is 'N passed, M failed'
+//     web/play.mjs --batch FILE..           the same, with each run of commands by one call
 //     web/play.mjs --worlds FOLDER FILE..   writes each world at its script's end to FOLDER, and all their digests to FOLDER/digests
+//     web/play.mjs --bundle TO FILE..       plays none, and writes them with their answers to one file, for the page's tests in a browser
 //     web/play.mjs --refuse FILE..          refuses memory in each call, after no grant, one, two and so on, ever more: it answers 1, the world is as it was, and with
 //                                           memory the call is made
 //     web/play.mjs --guard                  a call with a bad pointer traps, and so does each call after it
@@ -13,12 +15,12 @@
 
 import { existsSync, readFileSync, writeFileSync } from "node:fs";
 import { Library } from "./dillmonth.js";
-import { NotOurs, Player, requestOf } from "./script.js";
+import { NotOurs, Player, difference, requestOf } from "./script.js";
 
 const MODULE = new URL("out/dillmonth.wasm", import.meta.url);
 const loaded = () => Library.load(readFileSync(MODULE));
 
-/** The requests of a script and the answers to them. */
+/** The lines of a script that are requests, and the answers to them. */
 function linesAndAnswers(path) {
   const texts = readFileSync(path, "latin1").split("\n").filter((text) => text.trim());
   const answers = readFileSync(`${path}.stdout`, "utf8").split("\n").slice(0, -1);
@@ -26,22 +28,26 @@ function linesAndAnswers(path) {
   const good = pairs.filter(([, answer]) => !answer.startsWith('{"bad"'));
   if (good.length < answers.length && texts.length !== answers.length) throw new NotOurs("lines without answers");
   const utf8 = (text) => Buffer.from(text, "latin1").toString("utf8");
-  const requests = good.map(([text]) => requestOf(utf8(text)));
-  if (requests.some((line) => line.do === "crowd")) throw new NotOurs("crowd");
-  return { requests, answers: good.map(([, answer]) => answer) };
+  const lines = good.map(([text]) => utf8(text));
+  if (lines.some((line) => requestOf(line).do === "crowd")) throw new NotOurs("crowd");
+  return { lines, answers: good.map(([, answer]) => answer) };
 }
 
-/** Nothing where the answers are those that are stored, else what differs. */
-function difference(player, { requests, answers }) {
-  for (const [number, line] of requests.entries()) {
-    const given = player.answer(line);
-    if (given !== answers[number]) return `answer ${number + 1} is ${given.slice(0, 300)}, not ${answers[number].slice(0, 300)}`;
+/** The scripts that can be played, and how many can't. */
+function scriptsAt(paths) {
+  const scripts = [];
+  for (const path of paths) {
+    try {
+      scripts.push({ path, ...linesAndAnswers(path) });
+    } catch (error) {
+      if (!(error instanceof NotOurs)) throw error;
+    }
   }
-  return null;
+  return { scripts, over: paths.length - scripts.length };
 }
 
 /** The same, with memory refused in each call: after no grant, one and so on, all at first and then in growing strides. */
-function differenceRefused(library, player, { requests, answers }) {
+function differenceRefused(library, player, requests, answers) {
   for (const [number, line] of requests.entries()) {
     for (let grants = 0; ; grants += 1 + (grants >> 2)) {
       const before = player.world.digest();
@@ -57,20 +63,14 @@ function differenceRefused(library, player, { requests, answers }) {
   return null;
 }
 
-async function play(paths, { worlds, refuse }) {
+async function play(paths, { worlds, refuse, batch }) {
   const library = await loaded(), empty = library.blocks(), digests = [];
-  let passed = 0, failed = 0, over = 0;
-  for (const path of paths) {
-    let script;
-    try {
-      script = linesAndAnswers(path);
-    } catch (error) {
-      if (!(error instanceof NotOurs)) throw error;
-      over += 1;
-      continue;
-    }
-    const player = new Player(library);
-    const differs = refuse ? differenceRefused(library, player, script) : difference(player, script);
+  const { scripts, over } = scriptsAt(paths);
+  let passed = 0, failed = 0;
+  for (const { path, lines, answers } of scripts) {
+    const player = new Player(library), requests = lines.map(requestOf);
+    const asked = batch ? player.askInBatches(requests) : player.askEach(requests);
+    const differs = refuse ? differenceRefused(library, player, requests, answers) : difference(asked, answers);
     if (differs) console.log(`${path}: ${differs}`);
     differs ? failed++ : passed++;
     if (worlds) {
@@ -87,6 +87,13 @@ async function play(paths, { worlds, refuse }) {
   }
   console.log(`${over} passed over: they have threads, or lines without an answer of their own`);
   return { passed, failed };
+}
+
+/** Writes scripts with their answers to one file. */
+function bundle([to, ...paths]) {
+  const { scripts } = scriptsAt(paths);
+  writeFileSync(to, JSON.stringify(scripts));
+  return { passed: scripts.length, failed: 0 };
 }
 
 /** Whether a call traps. */
@@ -133,10 +140,21 @@ async function heap() {
   return { passed: results.filter(Boolean).length, failed: results.filter((each) => !each).length };
 }
 
-const words = process.argv.slice(2), options = {};
-if (words[0] === "--worlds") [options.worlds] = words.splice(0, 2).slice(1);
-if (words[0] === "--refuse") options.refuse = Boolean(words.shift());
+/** What one asked for by the first word, or to play. */
+function run(words) {
+  const [first, ...rest] = words;
+  switch (first) {
+    case "--guard": return guard();
+    case "--heap": return heap();
+    case "--bundle": return bundle(rest);
+    case "--worlds": return play(rest.slice(1), { worlds: rest[0] });
+    case "--refuse": return play(rest, { refuse: true });
+    case "--batch": return play(rest, { batch: true });
+    default: return play(words, {});
+  }
+}
+
 if (!existsSync(MODULE)) throw new Error("there is no web/out/dillmonth.wasm: web/build makes it");
-const { passed, failed } = words[0] === "--guard" ? await guard() : words[0] === "--heap" ? await heap() : await play(words, options);
+const { passed, failed } = await run(process.argv.slice(2));
 console.log(`${passed} passed, ${failed} failed`);
 process.exit(failed || !passed ? 1 : 0);

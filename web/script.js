@@ -1,6 +1,6 @@
 // Lines of `world_script` as calls of the library, with the answers that the program gives (docs/SCRIPT.md).
 
-import { ALL, CAPSULE, CIRCLE, DYNAMIC, KINEMATIC, ONE, Refused, SEGMENT, SETS, STATIC, generationOf, handleOf, slotOf } from "./dillmonth.js";
+import { ALL, Batch, CAPSULE, CIRCLE, DYNAMIC, KINEMATIC, ONE, Refused, SEGMENT, SETS, STATIC, generationOf, handleOf, slotOf } from "./dillmonth.js";
 
 const KINDS = { static: STATIC, kinematic: KINEMATIC, dynamic: DYNAMIC };
 const ORIGIN = { x: 0n, y: 0n };
@@ -11,8 +11,8 @@ export class NotOurs extends Error {}
 /** A line that isn't a request. */
 export class BadLine extends Error {}
 
-/** A number of JSON that isn't whole, or -0: kept as it is written. */
-class OtherNumber {
+/** JSON that is kept as it is written: a number that isn't whole, or -0, or a saved world. */
+class Verbatim {
   constructor(text) {
     this.text = text;
   }
@@ -32,14 +32,14 @@ export function readExact(text) {
     if (typeof value !== "string" || !value.startsWith("#")) return value;
     const rest = value.slice(1);
     if (rest.startsWith("#")) return rest;
-    return WHOLE.test(rest) ? BigInt(rest) : new OtherNumber(rest);
+    return WHOLE.test(rest) ? BigInt(rest) : new Verbatim(rest);
   });
 }
 
 /** Compact JSON, the keys of each object ascending. */
 export function writeExact(value) {
   if (typeof value === "bigint") return value.toString();
-  if (value instanceof OtherNumber) return value.text;
+  if (value instanceof Verbatim) return value.text;
   if (Array.isArray(value)) return `[${value.map(writeExact).join(",")}]`;
   if (value === null || typeof value !== "object") return JSON.stringify(value);
   const member = (key) => `${JSON.stringify(key)}:${writeExact(value[key])}`;
@@ -81,22 +81,37 @@ function jointOf(line) {
 /** Requests that change bodies, shapes or joints: what is drawn is asked for anew after them. */
 export const REBUILDS = new Set(["create", "destroy", "joint", "unjoin", "load", "enable", "disable"]);
 
+/** Requests that are commands, given to a world or to a batch. */
 const COMMANDS = {
-  create: (world, line) => ({ body: textOf(world.createBody(bodyOf(line), line.shapes.map(shapeOf))) }),
-  joint: (world, line) => ({ joint: textOf(world.createJoint(jointOf(line))) }),
-  destroy: (world, line) => world.destroyBody(handleOfText(line.body)),
-  unjoin: (world, line) => world.destroyJoint(handleOfText(line.joint)),
-  push: (world, line) => world.push(handleOfText(line.body), vec(line.by)),
-  push_at: (world, line) => world.pushAt(handleOfText(line.body), vec(line.by), vec(line.offset)),
-  set_pose: (world, line) => world.setPose(handleOfText(line.body), vec(line.at), { c: line.facing[0], s: line.facing[1] }),
-  set_velocity: (world, line) => world.setVelocity(handleOfText(line.body), vec(line.velocity), line.spin),
-  gravity: (world, line) => world.setGravity(vec(line.by)),
-  enable: (world, line) => world.enable(handleOfText(line.body)),
-  disable: (world, line) => world.disable(handleOfText(line.body)),
-  wake: (world, line) => world.wake(handleOfText(line.body)),
-  sleep: (world, line) => world.sleep(handleOfText(line.body)),
-  load: (world, line) => world.load(writeExact(line.world)),
+  create: (to, line) => to.createBody(bodyOf(line), line.shapes.map(shapeOf)),
+  joint: (to, line) => to.createJoint(jointOf(line)),
+  destroy: (to, line) => to.destroyBody(handleOfText(line.body)),
+  unjoin: (to, line) => to.destroyJoint(handleOfText(line.joint)),
+  push: (to, line) => to.push(handleOfText(line.body), vec(line.by)),
+  push_at: (to, line) => to.pushAt(handleOfText(line.body), vec(line.by), vec(line.offset)),
+  set_pose: (to, line) => to.setPose(handleOfText(line.body), vec(line.at), { c: line.facing[0], s: line.facing[1] }),
+  set_velocity: (to, line) => to.setVelocity(handleOfText(line.body), vec(line.velocity), line.spin),
+  gravity: (to, line) => to.setGravity(vec(line.by)),
+  enable: (to, line) => to.enable(handleOfText(line.body)),
+  disable: (to, line) => to.disable(handleOfText(line.body)),
+  wake: (to, line) => to.wake(handleOfText(line.body)),
+  sleep: (to, line) => to.sleep(handleOfText(line.body)),
+  step: (to, line) => to.step(line.ticks),
 };
+const isCommand = (line) => Object.hasOwn(COMMANDS, line.do);
+
+/** Runs of requests: commands up to a step, whose events are to be heard, or another request by itself. */
+function* runsOf(lines) {
+  let run = [];
+  for (const line of lines) {
+    if (isCommand(line)) run.push(line);
+    if (isCommand(line) && line.do !== "step") continue;
+    if (run.length > 0) yield run;
+    if (!isCommand(line)) yield [line];
+    run = [];
+  }
+  if (run.length > 0) yield run;
+}
 
 function events(world, step) {
   const texts = (handles) => handles.map(textOf);
@@ -107,6 +122,12 @@ function ledger(world) {
   const causes = readExact(world.save()).ledger;
   const total = [0, 1].map((axis) => Object.values(causes).reduce((sum, pair) => sum + BigInt(pair[axis]), 0n).toString());
   return { causes, total };
+}
+
+/** What is thrown where a request can't be made. */
+function badLine(line, error) {
+  const isOfTypes = error instanceof TypeError || error instanceof SyntaxError;
+  return isOfTypes ? new BadLine(`${line.do}: a key is missing, or its value is of another type`) : error;
 }
 
 /** A world that answers the lines of a script. */
@@ -126,10 +147,17 @@ export class Player {
     return answer;
   }
 
+  /** What is answered to a command that was done, with the id of what was made, or the number of the step. */
+  answerTo(line, made) {
+    if (line.do === "create") return { body: textOf(made) };
+    if (line.do === "joint") return { joint: textOf(made) };
+    return line.do === "step" ? events(this.world, made) : { done: true };
+  }
+
   does(line) {
     const { world } = this;
+    if (isCommand(line)) return this.answerTo(line, COMMANDS[line.do](world, line));
     switch (line.do) {
-      case "step": return events(world, world.step(line.ticks));
       case "show": return this.show(line);
       case "ledger": return ledger(world);
       case "digest": return { digest: world.digest() };
@@ -138,9 +166,11 @@ export class Player {
         const hit = world.ray(vec(line.from), vec(line.along));
         return { hit: hit && { fraction: hit.fraction, shape: hit.shape } };
       }
-      default:
-        if (!Object.hasOwn(COMMANDS, line.do)) throw new NotOurs(`the page doesn't know the request "${line.do}"`);
-        return COMMANDS[line.do](world, line) ?? { done: true };
+      case "load":
+        world.load(writeExact(line.world));
+        return { done: true };
+      case "save": return { world: new Verbatim(world.save()) };
+      default: throw new NotOurs(`the page doesn't know the request "${line.do}"`);
     }
   }
 
@@ -157,22 +187,50 @@ export class Player {
       this.note(line, answer);
       return answer;
     } catch (error) {
-      if (error instanceof TypeError || error instanceof SyntaxError) throw new BadLine(`${line.do}: a key is missing, or its value is of another type`);
-      if (!(error instanceof Refused)) throw error;
+      if (!(error instanceof Refused)) throw badLine(line, error);
       return error.clause ? { clause: error.clause, refused: error.status } : { refused: error.status };
     }
   }
 
-  /** The answer as the program writes it. */
-  answer(line) {
-    if (line.do !== "save") return writeExact(this.ask(line));
+  /** Each command of a run with its answer, all by one call. Those before a bad one are done. */
+  *askRun(lines) {
+    const batch = new Batch();
+    let bad = null;
     try {
-      return `{"world":${this.world.save()}}`;
-    } catch (refused) {
-      if (!(refused instanceof Refused)) throw refused;
-      return writeExact({ refused: refused.status });
+      for (const line of lines) COMMANDS[line.do](batch, line);
+    } catch (error) {
+      bad = badLine(lines[batch.length], error);
     }
+    for (const [number, { status, made, step }] of this.world.applyAll(batch).entries()) {
+      const line = lines[number], answer = status ? { refused: status } : this.answerTo(line, line.do === "step" ? step : made);
+      this.note(line, answer);
+      yield [line, answer];
+    }
+    if (bad) throw bad;
   }
+
+  /** Each request with its answer. */
+  *askEach(lines) {
+    for (const line of lines) yield [line, this.ask(line)];
+  }
+
+  /** The same, with each run of commands by one call. */
+  *askInBatches(lines) {
+    for (const run of runsOf(lines)) yield* isCommand(run[0]) ? this.askRun(run) : this.askEach(run);
+  }
+
+  /** The answer as the program writes it. */
+  answer(line) { return writeExact(this.ask(line)); }
+}
+
+/** Nothing where the answers that were given are those that were wanted, else what differs. */
+export function difference(asked, answers) {
+  let number = 0;
+  for (const [, answer] of asked) {
+    const given = writeExact(answer), wanted = answers[number++];
+    if (given !== wanted) return `answer ${number} is ${given.slice(0, 300)}, not ${wanted.slice(0, 300)}`;
+  }
+  return number === answers.length ? null : `there are ${number} answers, not ${answers.length}`;
 }
 
 /** Whether all numbers of a request are whole, and fit 64 bits. */
@@ -181,7 +239,7 @@ function areWhole(value, key = "") {
     const isUnsigned = key === "mask" || key === "category";
     return value === (isUnsigned ? BigInt.asUintN(64, value) : BigInt.asIntN(64, value));
   }
-  if (value instanceof OtherNumber) return false;
+  if (value instanceof Verbatim) return false;
   if (value === null || typeof value !== "object") return true;
   return Object.entries(value).every(([inner, each]) => areWhole(each, Array.isArray(value) ? key : inner));
 }

@@ -1,6 +1,9 @@
 // Tests of the page in a browser, for web/run: `index.html?test&scene=NAME&steps=N&theme=dark`. What they find is posted to /report, and then the
 // page shows the scene after that step, for a picture.
 
+import { Player, difference, requestOf } from "./script.js";
+import { Batch, DYNAMIC, KINEMATIC, METRE, Refused, circle, handleOf } from "./dillmonth.js";
+
 const at = (id) => document.getElementById(id);
 const found = [];
 
@@ -20,6 +23,18 @@ async function scenes(page) {
     page.refresh();
     check(`verdict on ${name}`, at("verdict").textContent === `${steps} of ${steps} equal`, at("verdict").textContent);
   }
+}
+
+/** Each stored script by the library alone: the answers are those that are stored with it. */
+async function stored({ library }) {
+  const scripts = await (await fetch("cases.json")).json(), began = performance.now();
+  const differing = scripts.flatMap(({ path, lines, answers }) => {
+    const player = new Player(library), differs = difference(player.askEach(lines.map(requestOf)), answers);
+    player.close();
+    return differs ? [`${path}: ${differs}`] : [];
+  });
+  const seconds = ((performance.now() - began) / 1000).toFixed(1);
+  check("stored scripts", scripts.length > 0 && differing.length === 0, `${scripts.length - differing.length} of ${scripts.length} in ${seconds} s ${differing.slice(0, 3)}`);
 }
 
 function pointer(type, place, more = {}) {
@@ -85,6 +100,49 @@ function editor(page) {
   check("a script of one's own is played", !at("editor").open && page.picture.bodies.size === 1 && page.name === "own");
 }
 
+/** A hundred balls and a platform, commands of each kind, some of them refused, and a step. */
+function commandsOfAllKinds() {
+  const id = (slot) => handleOf(slot, 1), up = { x: 0n, y: 9000n }, right = { x: METRE / 8n, y: 0n }, shapes = [circle(METRE / 4n, { friction: 128n })];
+  const place = (number) => ({ x: BigInt(number) * METRE, y: 0n }), joint = { a: id(0), b: id(1), from: right, to: right, length: METRE, collide: true };
+  const balls = Array.from({ length: 100 }, (_, number) => ["createBody", { kind: DYNAMIC, at: place(number), mass: 256n, inertia: 1n << 46n }, shapes]);
+  return [
+    ...balls, ["createBody", { kind: KINEMATIC, at: place(200), velocity: right, spin: 5n }, shapes], ["setGravity", { x: 0n, y: -157n }],
+    ["createJoint", joint], ["createJoint", { ...joint, b: id(0) }], ["createJoint", { ...joint, b: id(2) }], ["destroyJoint", id(1)],
+    ["push", id(0), up], ["push", id(999), up], ["pushAt", id(3), up, right], ["setPose", id(4), place(300), { c: 0n, s: 1n << 30n }],
+    ["setVelocity", id(100), up, 7n], ["setVelocity", id(5), up, 7n], ["disable", id(6)], ["push", id(6), up], ["disable", id(7)], ["enable", id(7)],
+    ["sleep", id(8)], ["sleep", id(9)], ["wake", id(9)], ["destroyBody", id(10)], ["destroyBody", id(10)], ["step", 9n], ["step", 4n],
+  ];
+}
+
+/** A batch does what its commands do one by one, and tells the same of them. */
+function batches({ library }) {
+  const single = library.open(), world = library.open(), batch = new Batch(), commands = commandsOfAllKinds();
+  const said = commands.map(([name, ...values]) => {
+    try {
+      return [0, single[name](...values) ?? 0n];
+    } catch (error) {
+      if (!(error instanceof Refused)) throw error;
+      return [error.status, 0n];
+    }
+  });
+  for (const [name, ...values] of commands) batch[name](...values);
+  const answers = world.applyAll(batch), isSame = ({ status, made, step }, number) => said[number][0] === status && said[number][1] === (made || step);
+  check("a batch answers as its commands do", answers.length === said.length && answers.every(isSame), `statuses ${answers.slice(101).map(({ status }) => status)}`);
+  check("a batch does what its commands do", world.digest() === single.digest(), `${batch.length} commands`);
+  const before = batch.length;
+  let thrown = null;
+  try {
+    batch.push(handleOf(0, 1));
+  } catch (error) {
+    thrown = error;
+  }
+  check("a command without a value isn't added", thrown instanceof TypeError && batch.length === before);
+  batch.clear();
+  check("an empty batch does nothing", world.applyAll(batch).length === 0 && world.digest() === single.digest());
+  single.close();
+  world.close();
+}
+
 /** The clock: the world goes on while it runs, and stands once it is paused. */
 async function clock(page) {
   await page.choose("capsule_wall");
@@ -103,9 +161,11 @@ async function clock(page) {
 export async function main(page, asked) {
   try {
     await scenes(page);
+    if (asked.has("cases")) await stored(page);
     await hands(page);
     files(page);
     editor(page);
+    batches(page);
     await clock(page);
     const blocks = page.library.blocks();
     for (let round = 0; round < 3; round++) page.restart();

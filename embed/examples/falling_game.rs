@@ -1,11 +1,11 @@
 //! A game's loop over a world, in Rust: it prints what the program falling_game prints.
 //!
-//!     rustc --edition 2024 -O -L ../out falling_game.rs && ./falling_game
+//!     rustc --edition 2024 -O -L ../out -l static=dillmonth falling_game.rs && ./falling_game
 
 #[path = "../dillmonth.rs"]
 mod dillmonth;
 
-use dillmonth::{Form, Handle, Kind, Refused, Rot, Shape, UPRIGHT, Vec2, World};
+use dillmonth::{Form, Handle, Kind, Refused, Rot, Set, Shape, UPRIGHT, Vec2, World};
 
 const METRE: i64 = 1 << 20;
 const HALF: i64 = 1 << 19;
@@ -74,7 +74,7 @@ fn play_frame(world: &mut World, cast: &[Actor], frame: u32) -> Result<(), Refus
     if frame % 40 == 0 {
         println!("{frame}:");
         for pose in world.poses() {
-            if world.body(pose.handle).is_some_and(|view| view.set != 0) {
+            if world.body(pose.handle).is_some_and(|view| view.set != Set::Static) {
                 let name = name_of(cast, pose.handle.slot);
                 println!("   {name} is at {}, {} cm", pose.at.x / CENTIMETRE, pose.at.y / CENTIMETRE);
             }

@@ -1,6 +1,6 @@
 /* For libFuzzer: bytes are a saved world, or else eight shapes and the commands of a batch. A refused call leaves the digest as it was.
  *
- *     clang -g -O1 -fsanitize=fuzzer,address,undefined fuzz.c -I.. ../out/libdillmonth.a -o fuzz && ./fuzz -max_total_time=600 CORPUS
+ *     embed/run --fuzz 10
  */
 #include "check.h"
 

@@ -25,24 +25,6 @@ put_past [] at x high = refl
 put_past (o ∷ out) zero x high = let wrong : ⊥ = omega (arith, high) in absurd wrong
 put_past (o ∷ out) (suc at) x high = ap (λ l. o ∷ l) (put_past out at x (omega (arith, high)))
 
--- what is beyond the array isn't written
-pub written_room : {T : Type 0} (xs out : List T) (n : ℕ) → length out ≤ n → written (take n xs) out ≡ written xs out
-written_room [] [] zero high = refl
-written_room [] [] (suc n) high = refl
-written_room [] (o ∷ out) zero high = refl
-written_room [] (o ∷ out) (suc n) high = refl
-written_room (x ∷ xs) [] zero high = refl
-written_room (x ∷ xs) [] (suc n) high = refl
-written_room (x ∷ xs) (o ∷ out) zero high = let wrong : ⊥ = omega (arith, high) in absurd wrong
-written_room (x ∷ xs) (o ∷ out) (suc n) high = ap (λ l. x ∷ l) (written_room xs out n (omega (arith, high)))
-
--- as many as there are of both
-pub written_both : {T : Type 0} (xs out : List T) (n : ℕ) → n ≡ min (length xs) (length out) → written (take n xs) out ≡ written xs out
-written_both xs out n is = elim (cases_lt n (length out)) [
-  | inl low ↦ ap (λ l. written l out) (take_all n xs (omega (arith, is, low)))
-  | inr high ↦ written_room xs out n high
-]
-
 -- an array keeps its length
 pub length_written : {T : Type 0} (xs out : List T) → length (written xs out) ≡ length out
 length_written [] out = refl
@@ -82,17 +64,7 @@ written_at f xs out now new at x y low room is shown known put =
     ∙ ap (λ l. written l out) (sym (map-append f (take at xs) (x ∷ [])))
     ∙ ap (λ l. written (map f l) out) (sym (one_taken xs at x low is))
 
--- the same of a list that is written as it is
-pub item_written : {T : Type 0} (xs out now : List T) (at : ℕ) (d : T) → at < length xs → at < length out → now ≡ written (take at xs) out → slice_set now at (get_or xs at d) ≡ written (take (at + 1) xs) out
-item_written xs out now at d low room known =
-    let same : length (take at xs) ≡ at = length_take at xs low in
-    let long : at < length now = subst (λ l. at < length l) (sym known) (subst (λ n. at < n) (sym (length_written (take at xs) out)) room) in
-    let more : take (at + 1) xs ≡ take at xs ++ get_or xs at d ∷ [] = rw add-one (take-suc xs at d low) in
-    put_is now at (get_or xs at d) long
-    ∙ (λ i. put_at (known i) (sym same i) (get_or xs at d))
-    ∙ sym (written_more (take at xs) out (get_or xs at d))
-    ∙ ap (λ l. written l out) (sym more)
-
+-- what is beyond the array isn't written
 room_for : {S : Type 0} {T : Type 0} (f : S → T) (xs : List S) (out : List T) (n : ℕ) → length out ≤ n → written (map f (take n xs)) out ≡ written (map f xs) out
 room_for f [] [] zero high = refl
 room_for f [] [] (suc n) high = refl

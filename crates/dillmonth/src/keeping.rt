@@ -7,6 +7,7 @@ ghost use Rattle.dillmonth.specs.Lists.{written};
 
 use crate::forms::{CVector, vector_of};
 use crate::held::{CWorld, put, take};
+use crate::shown::write_all;
 use crate::statuses::{DONE, NO_WORLD, status_of, unread_status};
 use fixed_geom::Refusal;
 use std::alloc::Global;
@@ -132,10 +133,7 @@ pub extern "C" fn dm_save(alloc: Global, world: &mut CWorld, bytes: &mut usize) 
 fn write_bytes(bytes: &[u8], out: &mut [u8])
     ensures { out.new ≡ written bytes.now out.old }
 {
-    let count = bytes.len().min(out.len());
-    for at in 0..count {
-        out[at] = bytes[at];
-    }
+    write_all(bytes, out);
 }
 
 /// The bytes of the last save, as many as fit; tells how many there are.

@@ -52,6 +52,16 @@ impl Shown for ShapeId {
     }
 }
 
+impl Shown for u8 {
+    type Form = u8;
+
+    ghost shown = { λ b. b };
+
+    fn show(&self) -> u8 {
+        *self
+    }
+}
+
 const NOWHERE: CVector = CVector { x: 0, y: 0 };
 
 fn offset_of(point: Option<ContactPoint>) -> CVector

@@ -1,0 +1,123 @@
+/* A tour of the calls, which prints what they answer. tour.cpp, tour.rs and tour.py make the same calls by their owners, and print the same. */
+#include "check.h"
+#include <inttypes.h>
+
+static dm_world world = DM_NONE;
+static dm_handle balls[5], platform, nobody;
+
+static void make_scene(void) {
+  dm_shape capsule = {DM_CAPSULE, 0, {-METRE, 0}, {METRE, 0}, METRE / 4, 128, 64, 1, UINT64_MAX};
+  dm_body_def lift = {DM_KINEMATIC, 0, {0, 6 * METRE}, {1 << 30, 0}, 0, 0, {1000, 0}, 0};
+  WANT(dm_open(&world, (dm_vec){0, -179}) == DM_DONE);
+  add_floor(&world);
+  for (int i = 0; i < 5; i++) balls[i] = add_circle(&world, (i - 2) * METRE + i * 1000, METRE);
+  WANT(dm_create_body(&world, &lift, &capsule, 1, &platform) == DM_DONE);
+}
+
+static void play(int count) {
+  size_t begun = 0, ended = 0, slept = 0, woke = 0;
+  uint64_t step = 0;
+  dm_pair pair;
+  dm_handle handle;
+  for (int i = 0; i < count; i++) {
+    WANT(dm_step(&world, 4, &step) == DM_DONE && dm_settle(&world) == DM_DONE);
+    begun += dm_begun(&world, &pair, 1);
+    ended += dm_ended(&world, &pair, 1);
+    slept += dm_slept(&world, &handle, 1);
+    woke += dm_woke(&world, &handle, 1);
+  }
+  printf("step %" PRIu64 ": %zu begun, %zu ended, %zu slept, %zu woke\n", step, begun, ended, slept, woke);
+}
+
+static void command_each(void) {
+  dm_joint_def joint = {balls[0], balls[1], {0, METRE / 4}, {0, METRE / 4}, METRE, 1, 0};
+  dm_handle made = nobody;
+  WANT(dm_create_joint(&world, &joint, &made) == DM_DONE);
+  WANT(dm_push(&world, balls[2], (dm_vec){20000, 40000}) == DM_DONE);
+  WANT(dm_push_at(&world, balls[3], (dm_vec){1000, 0}, (dm_vec){0, METRE / 4}) == DM_DONE);
+  WANT(dm_set_pose(&world, balls[4], (dm_vec){3 * METRE, 5 * METRE}, (dm_rot){0, 1 << 30}) == DM_DONE);
+  WANT(dm_set_velocity(&world, platform, (dm_vec){2000, 0}, 1000) == DM_DONE);
+  WANT(dm_set_gravity(&world, (dm_vec){0, -157}) == DM_DONE);
+  WANT(dm_disable(&world, balls[1]) == DM_DONE && dm_enable(&world, balls[1]) == DM_DONE);
+  WANT(dm_sleep(&world, balls[3]) == DM_DONE && dm_wake(&world, balls[3]) == DM_DONE);
+  printf("joint %" PRIu32 ".%" PRIu32 ", refused %" PRIu32 "\n", made.slot, made.generation, dm_push(&world, nobody, (dm_vec){1, 1}));
+}
+
+static void command_all(void) {
+  dm_shape shape = circle_of(METRE / 4);
+  dm_command commands[7];
+  dm_answer answers[7];
+  memset(commands, 0, sizeof commands);
+  commands[0].kind = DM_DO_CREATE_BODY;
+  commands[0].shapes_count = 1;
+  commands[0].body = (dm_body_def){DM_DYNAMIC, 0, {-4 * METRE, 3 * METRE}, {1 << 30, 0}, 50, 1000000000000, {0, 0}, 0};
+  commands[1].kind = DM_DO_PUSH;
+  commands[1].joint.a = nobody;
+  commands[2].kind = DM_DO_CREATE_JOINT;
+  commands[2].joint = (dm_joint_def){balls[2], balls[3], {0, 0}, {0, 0}, 2 * METRE, 0, 0};
+  commands[3].kind = DM_DO_SET_POSE;
+  commands[3].joint.a = balls[0];
+  commands[3].body.at = (dm_vec){-6 * METRE, 2 * METRE};
+  commands[3].body.facing = (dm_rot){1 << 30, 0};
+  commands[4].kind = DM_DO_SET_VELOCITY;
+  commands[4].joint.a = platform;
+  commands[4].body.velocity = (dm_vec){-2000, 0};
+  commands[4].body.spin = 500;
+  commands[5].kind = DM_DO_DESTROY_BODY;
+  commands[5].joint.a = balls[4];
+  commands[6].kind = DM_DO_STEP;
+  commands[6].ticks = 4;
+  WANT(dm_apply_all(&world, commands, 7, &shape, 1, answers, 7) == 7);
+  printf("a body %" PRIu32 ".%" PRIu32 ", a joint %" PRIu32 ".%" PRIu32 ", step %" PRIu64 ", refused %" PRIu32 "\n", answers[0].made.slot,
+         answers[0].made.generation, answers[2].made.slot, answers[2].made.generation, answers[6].step, answers[1].status);
+  WANT(dm_destroy_joint(&world, answers[2].made) == DM_DONE && dm_destroy_body(&world, answers[0].made) == DM_DONE);
+}
+
+static void look(void) {
+  dm_box box = {{-9 * METRE, -METRE}, {0, 9 * METRE}};
+  dm_contact contacts[64];
+  dm_pose pose;
+  dm_view view;
+  dm_hit hit;
+  size_t near = 0, found = 0, points = 0;
+  WANT(dm_contacts(&world, &near) == DM_DONE && near <= 64 && dm_contacts_listed(&world, contacts, 64) == near);
+  for (size_t i = 0; i < near; i++) points += contacts[i].points;
+  WANT(dm_region(&world, &box, &found) == DM_DONE);
+  WANT(dm_ray(&world, (dm_vec){0, 20 * METRE}, (dm_vec){0, -40 * METRE}, &hit) == DM_DONE && hit.is_hit);
+  WANT(dm_body(&world, balls[2], &view) == DM_DONE && dm_body(&world, balls[4], &view) == DM_STALE_HANDLE);
+  printf("%zu poses, %zu moved, %zu contacts of %zu points, %zu in a region\n", dm_poses(&world, &pose, 1), dm_moved(&world, &pose, 1), near, points, found);
+  printf("a ray hits %" PRIu32 ".%" PRIu32 " at %" PRIu32 "\n", hit.shape.slot, hit.shape.index, hit.fraction);
+  printf("a body at %" PRId64 ", %" PRId64 " with %" PRId64 ", %" PRId64 " and %" PRId64 ", awake %d\n", view.pose.at.x, view.pose.at.y, view.p.x, view.p.y,
+         (int64_t)view.l_low, view.set == DM_SET_AWAKE);
+  printf("%" PRIu64 " steps, gravity %" PRId64 "\n", dm_steps(&world), dm_gravity(&world).y);
+}
+
+static void keep(void) {
+  dm_world other = DM_NONE;
+  digest_t digest = digest_of(&world);
+  size_t bytes = 0;
+  uint32_t clause = 0;
+  WANT(dm_save(&world, &bytes) == DM_DONE);
+  uint8_t *text = malloc(bytes);
+  WANT(dm_saved(&world, text, bytes) == bytes && dm_load(&other, text, bytes, &clause) == DM_DONE && same(digest, digest_of(&other)));
+  WANT(dm_copy(&world, &other) == DM_DONE && same(digest, digest_of(&other)));
+  dm_status status = dm_load(&other, (const uint8_t *)"{}", 2, &clause);
+  printf("%zu bytes, refused %" PRIu32 " by clause %" PRIu32 "\n", bytes, status, clause);
+  for (int i = 0; i < DM_DIGEST_SIZE; i++) printf("%02x", digest.bytes[i]);
+  printf("\n");
+  free(text);
+  dm_close(&other);
+}
+
+int main(void) {
+  make_scene();
+  play(60);
+  command_each();
+  play(60);
+  command_all();
+  play(60);
+  look();
+  keep();
+  dm_close(&world);
+  return 0;
+}
