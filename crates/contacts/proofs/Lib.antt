@@ -20,3 +20,4 @@ pub mod FlaggedLaws
 pub mod NearMarkedLaws
 pub mod SurveyLaws
 pub mod JoinLaws
+pub mod HeldLaws

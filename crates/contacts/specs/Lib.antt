@@ -10,3 +10,4 @@ pub mod Forbidden
 pub mod Inside
 pub mod Due
 pub mod Looked
+pub mod Kept

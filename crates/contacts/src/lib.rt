@@ -3,13 +3,18 @@
 //! `BroadPhase` has the shapes of the enabled bodies with their fat boxes and finds the near pairs;
 //! its `update_contacts` makes the new list of contacts and says which were made, which are gone,
 //! and which began or ended to touch.
+//!
+//! `KeptContacts` has the contacts of a world from one collide to the next. A collide looks for new ones only where a shape has a
+//! new fat box, came or went; where much has moved, it goes over all shapes by `BroadPhase`.
 #![tactic(auto)]
 
 mod broad_phase;
 mod changes;
 mod constraint;
+mod crowded;
 mod due;
 mod forbidden;
+mod kept_contacts;
 mod known;
 mod marks;
 mod near_marked;
@@ -23,10 +28,8 @@ mod update;
 pub use broad_phase::BroadPhase;
 pub use changes::Changes;
 pub use constraint::Constraint;
-pub use due::{Due, Touches, carry_out};
+pub use due::{Touches, carry_out};
 pub use forbidden::{ForbiddenPairs, pair_number};
+pub use kept_contacts::KeptContacts;
 pub use known::{all_known_after, contacts_in_parts, known_stays, near_are_known};
-pub use near_marked::fresh_of_marked;
-pub use stirring::{Stirring, refresh};
 pub use turns::{ShapesByName, Turn};
-pub use update::update_known;

@@ -13,7 +13,6 @@ use crate::near::{BALL, KEY, add, lying_at, proxy_of};
 use contacts::*;
 use contacts_base::{ContactKey, Proxy, ShapeId};
 use fixed_geom::{Box2, Refusal};
-use kept_contacts::{KeptContacts, Touches};
 use slot_marks::Marks;
 use std::alloc::Global;
 use std::marker::Model;

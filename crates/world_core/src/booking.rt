@@ -13,10 +13,10 @@ ghost use Rattle.momenta.specs.Gains.{IsGain};
 
 use crate::scratch::Scratch;
 use colour_solver::StepSums;
+use contacts::Touches;
 use event_feed::Events;
 use fixed_geom::Vec2;
 use impulse_ledger::{Cause, Entry, Ledger};
-use kept_contacts::Touches;
 use momenta::Gain;
 
 /// Books a sum of impulses for which there is room; one that is zero in both components is left out.

@@ -15,11 +15,10 @@ ghost use Rattle.world_core.specs.Named.{shape_of};
 ghost use Rattle.world_rules.specs.Collide.{body_proxies, proxies_of, contacts_after};
 
 use body_handles::MAX_SLOTS;
-use contacts::{BroadPhase, ShapesByName};
+use contacts::{BroadPhase, KeptContacts, ShapesByName, Touches};
 use contacts_base::{Proxy, ShapeId, Surface};
 use fixed_geom::{Box2, Refusal};
 use joint_table::JointTable;
-use kept_contacts::{KeptContacts, Touches};
 use plain_world::Body;
 use shapes::ShapeDef;
 use std::alloc::Global;

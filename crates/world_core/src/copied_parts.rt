@@ -4,12 +4,11 @@ ghost use Rattle.std.specs.Prelude.{◌≡◌, IfOk};
 ghost use Rattle.std.specs.Result.{IsOkUnless};
 
 use body_handles::Handles;
-use contacts::Constraint;
+use contacts::{Constraint, KeptContacts};
 use event_feed::Events;
 use fixed_geom::Refusal;
 use impulse_ledger::Ledger;
 use joint_table::JointTable;
-use kept_contacts::KeptContacts;
 use sleep_wake::Sets;
 use std::alloc::Global;
 use world_core_base::BodyTable;

@@ -10,10 +10,10 @@ ghost use Rattle.world_core_base.specs.Gather.{AreContactsOf, impulses_of, with_
 
 use colour_solver::Rows;
 use colour_solver_base::{ContactRow, PointRow};
+use contacts::KeptContacts;
 use contacts_base::Impulses;
 use joint_rows::JointRow;
 use joint_table::JointTable;
-use kept_contacts::KeptContacts;
 
 /// The impulses of a point's row.
 #[inline(always)]

@@ -21,11 +21,10 @@ ghost use Rattle.world_rules.specs.Gathering.{CanGather};
 use crate::impulses::put_impulses;
 use body_handles::MAX_SLOTS;
 use colour_solver::{Rows, StepSolver, StepSums};
-use contacts::Constraint;
+use contacts::{Constraint, KeptContacts};
 use fixed_geom::{Refusal, Vec2};
 use graph_colours::{COLOURS, Colours};
 use joint_table::JointTable;
-use kept_contacts::KeptContacts;
 use world_core_base::{BodyTable, gather_rows};
 
 /// Makes room for a row for each of so many constraints and for those that begin, for a place beside each, and for all colours. Refused 1 where memory

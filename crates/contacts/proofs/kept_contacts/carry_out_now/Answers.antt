@@ -1,6 +1,6 @@
 use Rattle.std.proofs.Common.{refl}
 use Rattle.contacts.proofs.StirringLaws.{held_over}
-use Rattle.kept_contacts.proofs.kept.carry_out_now.Goals as goal
+use Rattle.contacts.proofs.kept_contacts.carry_out_now.Goals as goal
 
 pub returns-else-not-carry_out-clause-held : goal.returns-else-not-carry_out-clause-held
 returns-else-not-carry_out-clause-held c = held_over c.args.beside.now.stirring c.args.contacts.now.long _ c.requires.held (c.if-not-carry_out.ensures.keys refl)

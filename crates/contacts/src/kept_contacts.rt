@@ -1,4 +1,5 @@
-//! The contacts of near shapes, kept from collide to collide.
+//! The contacts of near shapes, kept from collide to collide, so that a collide looks for new ones only where a shape has a new
+//! fat box, came or went.
 
 ghost use Rattle.std.specs.Prelude.{◌≡◌, [], IfOk, IfSome, List, OnErr, OnOk, true};
 ghost use Rattle.std.specs.Result.{IsOkUnless};
@@ -12,14 +13,17 @@ ghost use Rattle.contacts.specs.Forbidden.{allowed_codes};
 ghost use Rattle.contacts.specs.Known.{IsKnown};
 ghost use Rattle.contacts.specs.Stirring.{AreFlagsListed, AreHeld};
 ghost use Rattle.contacts.specs.Turns.{AreWithin, moved_by};
-ghost use Rattle.kept_contacts.specs.Kept.{CanCollide, IsMadeOf};
+ghost use Rattle.contacts.specs.Kept.{CanCollide, IsMadeOf};
 ghost use Rattle.slot_marks.specs.Marks.{AreListed};
 
+use crate::broad_phase::BroadPhase;
 use crate::crowded::are_crowded;
-use contacts::{
-    BroadPhase, Due, ForbiddenPairs, ShapesByName, Stirring, Touches, carry_out, fresh_of_marked,
-    refresh, update_known,
-};
+use crate::due::{Due, Touches, carry_out};
+use crate::forbidden::ForbiddenPairs;
+use crate::near_marked::fresh_of_marked;
+use crate::stirring::{Stirring, refresh};
+use crate::turns::ShapesByName;
+use crate::update::update_known;
 use contacts_base::{ContactEntry, ContactKey, Contacts, Impulses, SplitContacts};
 use fixed_geom::Refusal;
 use std::alloc::Global;
@@ -57,7 +61,7 @@ pub struct KeptContacts {
 impl Model for KeptContacts {
     ghost use Rattle.contacts_base.specs.Split.{contacts_in};
     ghost use Rattle.contacts.specs.Due.{due_of};
-    ghost use Rattle.kept_contacts.specs.Kept.{Kept, IsKeptContacts};
+    ghost use Rattle.contacts.specs.Kept.{Kept, IsKeptContacts};
 
     ghost Value = { Kept };
 
