@@ -15,7 +15,7 @@ use Rattle.contacts_base.proofs.MergeLaws.{drop_next}
 use Rattle.contacts.specs.Stirring.{AreFlagsListed, is_flagged, one_flagged, places_of_all, stirring_places}
 use Rattle.contacts.proofs.Members.{Each, IsIn, contains_from_in, in_append, in_from_contains, in_left, in_new, in_passed, in_right}
 use Rattle.contacts.proofs.Rising.{IsRising, rising_from_increasing, rising_passed, same_rising}
-use Rattle.slot_marks.proofs.MarkLaws.{marks_cleared, marks_put}
+use Rattle.packed_sets.proofs.MarkLaws.{marks_cleared, marks_put}
 
 -- ---- flags are set and taken away
 

@@ -30,7 +30,7 @@ use Rattle.contacts.proofs.KnownLemmas.{IsAllowedFrom, IsCodeOf, IsImage, IsPlac
 use Rattle.contacts.proofs.MergedMembers.{same_members}
 use Rattle.contacts.proofs.ProxyLemmas.{numbers_later}
 use Rattle.contacts.proofs.UpdateLemmas.{new_rise}
-use Rattle.slot_marks.specs.Marks.{AreListed}
+use Rattle.packed_sets.specs.Marks.{AreListed}
 
 -- ---- boxes that overlap, in either order
 

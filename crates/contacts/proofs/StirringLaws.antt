@@ -21,7 +21,7 @@ use Rattle.contacts.specs.Turns.{moved_by, one_stirs_of, outcome, stirs_in}
 use Rattle.contacts_base.specs.Split.{renewed}
 use Rattle.contacts_base.proofs.MergeLaws.{drop_next}
 use Rattle.contacts.proofs.TurnLemmas.{still_again}
-use Rattle.slot_marks.specs.Marks.{AreListed}
+use Rattle.packed_sets.specs.Marks.{AreListed}
 
 -- ---- one that stays as it is begins and ends nothing
 

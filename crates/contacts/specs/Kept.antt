@@ -9,7 +9,7 @@ use Rattle.contacts.specs.Due.{IsDue}
 use Rattle.contacts.specs.Known.{IsKnown}
 use Rattle.contacts.specs.Stirring.{AreHeld}
 use Rattle.contacts.specs.Turns.{AreWithin, IsMade, moved_by}
-use Rattle.slot_marks.specs.Marks.{AreListed}
+use Rattle.packed_sets.specs.Marks.{AreListed}
 use Rattle.contacts.specs.declared.kept_contacts.KeptContacts.TheInside.{Inside}
 
 -- the contacts, and what they become when the last collide is carried out

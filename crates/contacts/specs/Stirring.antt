@@ -6,7 +6,7 @@ use Rattle.contacts_base.specs.Split.{places_from, places_of}
 use Rattle.contacts.specs.declared.stirring.Stirring.{Stirring}
 use Rattle.contacts.specs.Known.{IsPairKey, either_moved}
 use Rattle.contacts.specs.Turns.{moved_by, one_stirs_of}
-use Rattle.slot_marks.specs.Marks.{IsMarks}
+use Rattle.packed_sets.specs.Marks.{IsMarks}
 
 -- the body in the slot may stir, as those in slots beyond the flags may
 abbrev pub is_flagged : List Bool → ℕ → Bool

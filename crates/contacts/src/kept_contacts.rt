@@ -14,7 +14,7 @@ ghost use Rattle.contacts.specs.Known.{IsKnown};
 ghost use Rattle.contacts.specs.Stirring.{AreFlagsListed, AreHeld};
 ghost use Rattle.contacts.specs.Turns.{AreWithin, moved_by};
 ghost use Rattle.contacts.specs.Kept.{CanCollide, IsMadeOf};
-ghost use Rattle.slot_marks.specs.Marks.{AreListed};
+ghost use Rattle.packed_sets.specs.Marks.{AreListed};
 
 use crate::broad_phase::BroadPhase;
 use crate::crowded::are_crowded;

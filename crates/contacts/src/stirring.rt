@@ -7,7 +7,7 @@ ghost use Rattle.contacts_base.specs.Split.{AreSlotsBelow};
 ghost use Rattle.contacts.specs.Known.{IsPairKey};
 ghost use Rattle.contacts.specs.Stirring.{AreFlagsListed, AreHeld, AreQuiet, is_flagged, one_flagged, places_of_all, stirring_places};
 ghost use Rattle.contacts.specs.Turns.{moved_by, outcome, turned};
-ghost use Rattle.slot_marks.specs.Marks.{AreListed};
+ghost use Rattle.packed_sets.specs.Marks.{AreListed};
 
 use crate::forbidden::ForbiddenPairs;
 use crate::turns::{ShapesByName, Turn, turn_of};

@@ -4,3 +4,4 @@ pub mod SpotLaws
 pub mod RoomLaws
 pub mod KeptLaws
 pub mod ViewLaws
+pub mod MarkLaws

@@ -15,13 +15,17 @@
 //! They see a list for each set ([`PackedSets::members`]), of which no order is promised: a call tells that a list is a
 //! permutation of the old one with one id more, or less, and that all others are what they were. No id stands twice in
 //! all of them (the clause `once` of `members`).
+//!
+//! # Marks
+//!
+//! [`Marks`] are one set of slots: a flag for each, and a list of those that are marked.
 #![tactic(auto)]
 
 mod copying;
+mod marks;
 mod packing;
 mod sets;
 mod spots;
-#[cfg(test)]
-mod tests;
 
+pub use marks::{MAX_MARKS, Marks, limits_in_digits};
 pub use sets::PackedSets;

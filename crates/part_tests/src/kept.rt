@@ -13,7 +13,7 @@ use crate::near::{BALL, KEY, add, lying_at, proxy_of};
 use contacts::*;
 use contacts_base::{ContactKey, Proxy, ShapeId};
 use fixed_geom::{Box2, Refusal};
-use slot_marks::Marks;
+use packed_sets::Marks;
 use std::alloc::Global;
 use std::marker::Model;
 use std::test::Fail;

@@ -41,6 +41,8 @@ mod one_body;
 #[cfg(test)]
 mod outlines;
 #[cfg(test)]
+mod packed;
+#[cfg(test)]
 mod placements;
 #[cfg(test)]
 mod points;

@@ -2,7 +2,7 @@
 
 use crate::assertions::{same, same_items};
 use fixed_geom::Refusal;
-use slot_marks::Marks;
+use packed_sets::Marks;
 use std::alloc::Global;
 use std::test::Fail;
 

@@ -18,8 +18,8 @@ ghost use Rattle.plain_world.specs.Slots.{HaveSameSlots};
 use crate::covers::cover_again;
 use box_tree::BoxTree;
 use momenta::BodyState;
+use packed_sets::Marks;
 use plain_world::{Body, Course, Kind};
-use slot_marks::Marks;
 
 /// Gives an awake mover its motion, and a body that is carried along its pose and what is left of its course.
 fn put_motion(body: &mut Body, state: &BodyState)

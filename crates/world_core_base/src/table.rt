@@ -40,10 +40,10 @@ use colour_solver::{Rows, StepSolver, StepSums};
 use fixed_geom::{Refusal, Vec2};
 use islands::Islands;
 use momenta::{BodyState, Gain};
+use packed_sets::Marks;
 use plain_world::{
     Body, BodyChange, change_slot, clear_slot, copy_bodies, disable_slot, enable_slot, put_item,
 };
-use slot_marks::Marks;
 use std::alloc::Global;
 use std::marker::Model;
 

@@ -11,8 +11,8 @@ use crate::table::BodyTable;
 use body_handles::MAX_SLOTS;
 use fixed_geom::Refusal;
 use momenta::BodyState;
+use packed_sets::Marks;
 use plain_world::{Body, copy_bodies};
-use slot_marks::Marks;
 use std::alloc::Global;
 
 /// The bodies by slot as the ticks work on them. Refused 1 where memory is wanting.

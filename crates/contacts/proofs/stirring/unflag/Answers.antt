@@ -1,5 +1,5 @@
 use Rattle.std.proofs.Common.{◌+◌, arith}
-use Rattle.slot_marks.proofs.MarkLaws.{left_next, left_none}
+use Rattle.packed_sets.proofs.MarkLaws.{left_next, left_none}
 use Rattle.contacts.proofs.stirring.unflag.Goals as goal
 
 pub loop-place-preserved : goal.loop-place-preserved

@@ -1,5 +1,5 @@
 use Rattle.std.proofs.Common.{drop}
-use Rattle.slot_marks.proofs.MarkLaws.{AreLeft}
+use Rattle.packed_sets.proofs.MarkLaws.{AreLeft}
 use Rattle.contacts.proofs.stirring.unflag.Given as goal
 
 abbrev pub invariant-loop-place : goal.invariant-loop-place

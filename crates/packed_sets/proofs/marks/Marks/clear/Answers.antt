@@ -1,6 +1,6 @@
 use Rattle.std.proofs.Common.{length, arith}
-use Rattle.slot_marks.proofs.MarkLaws.{marks_cleared}
-use Rattle.slot_marks.proofs.marks.Marks.clear.Goals as goal
+use Rattle.packed_sets.proofs.MarkLaws.{marks_cleared}
+use Rattle.packed_sets.proofs.marks.Marks.clear.Goals as goal
 
 pub invariant_of-self : goal.invariant_of-self
 invariant_of-self c =

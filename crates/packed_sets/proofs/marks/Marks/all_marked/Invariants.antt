@@ -1,5 +1,5 @@
 use Rattle.std.proofs.Common.{◌≡◌, true, replicate}
-use Rattle.slot_marks.proofs.marks.Marks.all_marked.Given as goal
+use Rattle.packed_sets.proofs.marks.Marks.all_marked.Given as goal
 
 abbrev pub invariant-loop : goal.invariant-loop
 invariant-loop l = l.marks ≡ replicate l.counter true

@@ -1,7 +1,7 @@
-//! Each call that takes memory gets it.
+//! Each call of a `PackedSets` that takes memory gets it.
 
-use super::*;
 use fixed_geom::Refusal;
+use packed_sets::PackedSets;
 use std::alloc::Global;
 use std::test::Fail;
 

@@ -1,6 +1,6 @@
 use Rattle.std.proofs.Common.{arith}
-use Rattle.slot_marks.proofs.MarkLaws.{marks_put, room_left}
-use Rattle.slot_marks.proofs.marks.mark_new.Goals as goal
+use Rattle.packed_sets.proofs.MarkLaws.{marks_put, room_left}
+use Rattle.packed_sets.proofs.marks.mark_new.Goals as goal
 
 pub push_slot-requires : goal.push_slot-requires
 push_slot-requires c = let left = room_left c.args.flags.now.items c.args.slots.now.items _ c.args.slot c.requires.kept c.requires.unmarked in omega (arith, left)

@@ -1,8 +1,9 @@
-//! Marks by slot, and the slots that are marked.
+//! Marks by slot: which slots are marked, and a list of those that are, so that what looks at the marked ones alone, and what takes
+//! all marks away, costs by their number.
 
 ghost use Rattle.std.specs.Prelude.{◌≡◌, ◌∷◌, ◌++◌, ◌<◌, ◌≤◌, [], false, true, cond, length, replicate, slice_index_or, slice_set, vec_capacity, vec_len, IfOk, OnErr, OnOk};
 ghost use Rattle.std.specs.Result.{IsOkUnless};
-ghost use Rattle.slot_marks.specs.Marks.{AreListed, IsMarks};
+ghost use Rattle.packed_sets.specs.Marks.{AreListed, IsMarks};
 
 use fixed_geom::Refusal;
 use std::alloc::Global;
@@ -21,7 +22,7 @@ pub struct Marks {
 
 impl Model for Marks {
     ghost use Rattle.std.specs.Prelude.{Bool, List, vec_capacity};
-    ghost use Rattle.slot_marks.specs.Marks.{IsMarks};
+    ghost use Rattle.packed_sets.specs.Marks.{IsMarks};
 
     ghost Value = { List Bool };
 

@@ -1,6 +1,6 @@
 use Rattle.std.proofs.Common.{drop}
-use Rattle.slot_marks.proofs.MarkLaws.{AreLeft}
-use Rattle.slot_marks.proofs.marks.unmark_all.Given as goal
+use Rattle.packed_sets.proofs.MarkLaws.{AreLeft}
+use Rattle.packed_sets.proofs.marks.unmark_all.Given as goal
 
 abbrev pub invariant-loop-place : goal.invariant-loop-place
 invariant-loop-place l = AreLeft l.fn.flags.items l.flags.items (drop l.place l.slots)

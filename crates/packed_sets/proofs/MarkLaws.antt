@@ -5,7 +5,7 @@ use Rattle.std.specs.List.{All, Contains}
 use Rattle.std.proofs.Math.Seq.{drop-cons}
 use Rattle.std.proofs.lemmas.List.{drop_all, length-append, length-replicate, length-set, get_or-replicate}
 use Rattle.std.proofs.lemmas.List.Elements.{All-append, All-nil, Contains-append_cases, Contains-append_left, Contains-append_right}
-use Rattle.slot_marks.specs.Marks.{AreListed, IsMarks, marked_count}
+use Rattle.packed_sets.specs.Marks.{AreListed, IsMarks, marked_count}
 
 -- ---- one flag changed
 
