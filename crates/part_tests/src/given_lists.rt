@@ -12,14 +12,13 @@ use fixed_geom::{Refusal, Rot, Vec2, ZERO_VECTOR};
 use impulse_ledger::*;
 use islands::{Islands, Label};
 use joint_rows::Joint;
-use joint_table::JointTable;
 use momenta::{BodyState, MassData, Motion};
 use plain_world::{Body, BodyJoint, FatBoxes, Kind};
 use shapes::Shapes;
 use std::alloc::Global;
 use std::process::Abort;
 use std::test::Fail;
-use world_core_base::BodyTable;
+use world_core_base::{BodyTable, JointTable};
 
 const NONE: Total = Total { x: 0, y: 0 };
 

@@ -23,6 +23,8 @@ mod handles;
 #[cfg(test)]
 mod joint_passes;
 #[cfg(test)]
+mod joint_tables;
+#[cfg(test)]
 mod joints;
 #[cfg(test)]
 mod kept;

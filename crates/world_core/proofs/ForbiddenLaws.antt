@@ -15,8 +15,8 @@ use Rattle.solver_sets.specs.Joining.{handle_at, unjoined, unjoined_all, unjoine
 use Rattle.solver_sets.specs.Ties.{JointSlots}
 use Rattle.world_core_base.proofs.SolvingJoints.{bare_entry, bare_joints}
 use Rattle.solver_sets.proofs.SlotLemmas.{below_length, item_at-set_none, item_at-set_other, slice_get-with, slice_get-with_own}
-use Rattle.joint_table.specs.Forbidding.{is_number, keeps_apart}
-use Rattle.joint_table.proofs.ForbiddingLaws.{any_joint}
+use Rattle.world_core_base.specs.ForbiddenPairs.{is_number, keeps_apart}
+use Rattle.world_core_base.proofs.ForbiddingLaws.{any_joint}
 use Rattle.world_core.proofs.ShownLaws.{is_pair_among}
 
 -- ---- the pairs of all joints

@@ -18,7 +18,7 @@ use Rattle.solver_sets.specs.Joining.{handle_at, unjoined, unjoined_all, unjoine
 use Rattle.solver_sets.specs.Ties.{Bond, JointSlots, bond_before, is_bond_of, joint_bond, joint_bonds_from, joint_tie_of, joint_ties_at, slots_of, tie_of, ties_in}
 use Rattle.solver_sets.proofs.SlotLemmas.{item_at-set_other}
 use Rattle.solver_sets.proofs.ListingLaws.{drop_is}
-use Rattle.joint_table.specs.JointTables.{own_from, own_slots}
+use Rattle.world_core_base.specs.JointTables.{own_from, own_slots}
 
 -- ---- all slots are below the joints' end
 

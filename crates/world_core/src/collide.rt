@@ -18,12 +18,11 @@ use body_handles::MAX_SLOTS;
 use contacts::{BroadPhase, KeptContacts, ShapesByName, Touches};
 use contacts_base::{Proxy, ShapeId, Surface};
 use fixed_geom::{Box2, Refusal};
-use joint_table::JointTable;
 use plain_world::Body;
 use shapes::ShapeDef;
 use std::alloc::Global;
 use std::marker::Model;
-use world_core_base::BodyTable;
+use world_core_base::{BodyTable, JointTable};
 
 /// The friction and the restitution of a shape.
 #[inline(always)]

@@ -8,10 +8,9 @@ use contacts::{Constraint, KeptContacts};
 use event_feed::Events;
 use fixed_geom::Refusal;
 use impulse_ledger::Ledger;
-use joint_table::JointTable;
 use sleep_wake::Sets;
 use std::alloc::Global;
-use world_core_base::BodyTable;
+use world_core_base::{BodyTable, JointTable};
 
 /// The bodies and their handles.
 #[derive(Drop)]

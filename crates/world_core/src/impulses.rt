@@ -13,7 +13,7 @@ use colour_solver_base::{ContactRow, PointRow};
 use contacts::KeptContacts;
 use contacts_base::Impulses;
 use joint_rows::JointRow;
-use joint_table::JointTable;
+use world_core_base::JointTable;
 
 /// The impulses of a point's row.
 #[inline(always)]

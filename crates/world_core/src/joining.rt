@@ -6,7 +6,7 @@ ghost use Rattle.std.specs.Result.{result_err};
 ghost use Rattle.body_handles.specs.Places.{IsLive, places_without};
 ghost use Rattle.plain_world.specs.Joints.{IsBodyJoint, is_end_in, joint_made, joint_of};
 ghost use Rattle.joint_rows.specs.Joints.{IsJoint};
-ghost use Rattle.joint_table.specs.JointTables.{own_slots};
+ghost use Rattle.world_core_base.specs.JointTables.{own_slots};
 ghost use Rattle.plain_world.specs.Slots.{AreMatched, body_of};
 ghost use Rattle.world_rules.specs.Apply.{join_refusal};
 ghost use Rattle.solver_sets.specs.Joining.{unjoined_all, unjoined_if};
@@ -14,8 +14,8 @@ ghost use Rattle.solver_sets.specs.Ties.{slots_of};
 
 use body_handles::{Handle, Handles};
 use fixed_geom::Refusal;
-use joint_table::JointTable;
 use plain_world::{Body, BodyJoint, JointDef, body_of, item_at};
+use world_core_base::JointTable;
 
 /// Tests whether two bodies can be joined so: refused 7, 8 or 5, in this order.
 fn can_join(a: &Body, b: &Body, def: &JointDef) -> Result<(), Refusal>

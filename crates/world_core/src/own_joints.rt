@@ -3,7 +3,7 @@
 ghost use Rattle.std.specs.Prelude.{◌≡◌, ◌<◌, ◌≤◌, ◌+◌, ◌++◌, IfOk, length, map, vec_capacity, vec_len};
 ghost use Rattle.std.specs.Option.{option_copied, option_to_list};
 ghost use Rattle.std.specs.Result.{IsOkUnless};
-ghost use Rattle.joint_table.specs.JointTables.{own_slots};
+ghost use Rattle.world_core_base.specs.JointTables.{own_slots};
 ghost use Rattle.plain_world.specs.Joints.{joint_at};
 ghost use Rattle.plain_world.specs.Slots.{AreMatched};
 ghost use Rattle.solver_sets.specs.Beside.{joined_to};
@@ -14,10 +14,10 @@ use body_handles::{Handle, Place};
 use contacts::Constraint;
 use fixed_geom::Refusal;
 use graph_colours::Member;
-use joint_table::JointTable;
 use plain_world::{Body, BodyJoint, item_at};
 use solver_sets::{joint_movers, tie_with};
 use std::alloc::Global;
+use world_core_base::JointTable;
 
 /// The joints in these slots. Refused 1 where memory is wanting.
 fn joints_in(

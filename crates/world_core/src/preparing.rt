@@ -22,10 +22,9 @@ use contacts::{Constraint, KeptContacts, Touches};
 use fixed_geom::Refusal;
 use graph_colours::COLOURS;
 use impulse_ledger::Ledger;
-use joint_table::JointTable;
 use sleep_wake::{Change, Sets};
 use solver_sets::list_changes;
-use world_core_base::BodyTable;
+use world_core_base::{BodyTable, JointTable};
 
 /// How many entries of the ledger a step makes at most.
 const MAX_STEP_ENTRIES: usize = 4;

@@ -24,8 +24,7 @@ use colour_solver::{Rows, StepSolver, StepSums};
 use contacts::{Constraint, KeptContacts};
 use fixed_geom::{Refusal, Vec2};
 use graph_colours::{COLOURS, Colours};
-use joint_table::JointTable;
-use world_core_base::{BodyTable, gather_rows};
+use world_core_base::{BodyTable, JointTable, gather_rows};
 
 /// Makes room for a row for each of so many constraints and for those that begin, for a place beside each, and for all colours. Refused 1 where memory
 /// is wanting.

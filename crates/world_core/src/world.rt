@@ -34,14 +34,13 @@ use contacts_base::ContactEntry;
 use event_feed::Events;
 use fixed_geom::{Refusal, Vec2, ZERO_VECTOR, is_within};
 use impulse_ledger::Ledger;
-use joint_table::JointTable;
 use plain_world::{Body, BodyView, Plain, body_of, copy_bodies};
 use sleep_wake::Sets;
 use solver_sets::{Census, take_census};
 use std::alloc::Global;
 use std::marker::Model;
 pub use steps::is_tick_count;
-use world_core_base::BodyTable;
+use world_core_base::{BodyTable, JointTable};
 use world_rules::{Command, Reply};
 
 /// How many calls a world accepts.

@@ -24,3 +24,9 @@ pub mod SolvingBack
 pub mod SolvingLaws
 pub mod MarkedLaws
 pub mod CoverLaws
+mod JointImpulseLaws
+mod GivenJointLaws
+mod JointEndLaws
+mod OwnJointLaws
+mod JointTableLaws
+pub mod ForbiddingLaws

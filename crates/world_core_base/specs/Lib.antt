@@ -14,3 +14,6 @@ pub mod SolvingArrays
 pub mod Standing
 pub mod Covers
 pub mod Marked
+pub mod JointTables
+pub mod JointEnds
+pub mod ForbiddenPairs

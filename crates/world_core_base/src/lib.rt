@@ -2,20 +2,29 @@
 //!
 //! The bodies of a world by slot with what a step goes over (`BodyTable`: their states, and the slots of the awake movers and of the bodies that are carried along), and
 //! what a step gathers of joints and contacts (`gather_rows`).
+//!
+//! The joints of a world by slot stand in [`JointTable`], with what a world asks of them at hand: beside them the ends of joints by
+//! body, so that what asks for the joints of one body costs by those alone. Whether joints keep two bodies from colliding is told
+//! by the joints of the one that has fewer.
 #![tactic(auto)]
 
+mod body_table;
 mod covers;
+mod forbidden_pairs;
 mod gather;
+mod joint_ends;
 mod joint_row;
+mod joint_table;
 mod laws;
 mod merging;
 mod moving;
 mod slot_list;
 mod slots;
-mod table;
 mod telling;
 mod timing;
 
+pub use body_table::BodyTable;
 pub use gather::gather_rows;
+pub use joint_ends::Ends;
+pub use joint_table::JointTable;
 pub use laws::{arrays_are_solving, rows_are_colours};
-pub use table::BodyTable;

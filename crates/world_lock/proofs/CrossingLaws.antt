@@ -2,9 +2,9 @@
 use denote.Param.Send.{IsSend, sendable}
 use Rattle.std.proofs.Crossing.{crosses}
 use Rattle.box_tree.specs.contracts.boxes.BoxTree as BoxTree
-use Rattle.world_core_base.specs.contracts.table.BodyTable as BodyTable
+use Rattle.world_core_base.specs.contracts.body_table.BodyTable as BodyTable
 use Rattle.body_handles.specs.contracts.handles.Handles as Handles
-use Rattle.joint_table.specs.contracts.table.JointTable as JointTable
+use Rattle.world_core_base.specs.contracts.joint_table.JointTable as JointTable
 use Rattle.anchored_ties.specs.contracts.anchors.Anchors as Anchors
 use Rattle.contacts_base.specs.contracts.split.SplitContacts as SplitContacts
 use Rattle.contacts.specs.contracts.due.Due as Due

@@ -24,13 +24,12 @@ use contacts_base::Contacts;
 use event_feed::Events;
 use fixed_geom::Refusal;
 use impulse_ledger::{Ledger, Totals};
-use joint_table::JointTable;
 use plain_world::Plain;
 use serde_json::Value;
 use sleep_wake::Sets;
 use solver_sets::{count_members, list_all_ties, list_members};
 use std::alloc::Global;
-use world_core_base::BodyTable;
+use world_core_base::{BodyTable, JointTable};
 use world_file::{Broken, read};
 
 /// The contacts of a plain world. Refused 1 where memory is wanting.

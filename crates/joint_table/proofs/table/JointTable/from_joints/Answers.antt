@@ -1,5 +1,0 @@
-use Rattle.joint_table.proofs.GivenLaws.{table_given}
-use Rattle.joint_table.proofs.table.JointTable.from_joints.Goals as goal
-
-pub invariant_of-result : goal.invariant_of-result
-invariant_of-result c = table_given c.args.joints.now c.in_ok-from_slice.field-0.items c.in_ok-list_ends.field-0 _ c.in_ok-from_slice.ensures.items c.requires c.in_ok-list_ends.ensures.ends

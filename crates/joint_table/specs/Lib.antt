@@ -1,3 +1,0 @@
-pub mod JointTables
-pub mod Ends
-pub mod Forbidding

@@ -1,9 +1,0 @@
-use Rattle.std.proofs.Common.{◌≡◌, ◌+◌, ap, ◌∙◌, arith}
-use Rattle.colour_solver.specs.States.{carried_of}
-use Rattle.world_core_base.proofs.TimeLaws.{carried_places}
-use Rattle.world_core_base.proofs.table.BodyTable.carried.Goals as goal
-
-pub returns : goal.returns
-returns c =
-    let settled : c.self.inside.awake.pending + c.self.inside.carried.pending ≡ 0 = rw (← c.self.view_is) at c.requires.settled in
-    rw (← c.self.view_is) (c.as_slice.ensures ∙ c.self.invariant.along.exact (omega (arith, settled)) ∙ ap carried_of c.self.invariant.states ∙ carried_places c.self.inside.bodies.items)
