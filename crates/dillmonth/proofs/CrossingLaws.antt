@@ -5,7 +5,7 @@ use Rattle.box_tree.specs.contracts.boxes.BoxTree as BoxTree
 use Rattle.world_core_base.specs.contracts.body_table.BodyTable as BodyTable
 use Rattle.body_handles.specs.contracts.handles.Handles as Handles
 use Rattle.world_core_base.specs.contracts.joint_table.JointTable as JointTable
-use Rattle.anchored_ties.specs.contracts.anchors.Anchors as Anchors
+use Rattle.solver_sets.specs.contracts.anchors.Anchors as Anchors
 use Rattle.contacts_base.specs.contracts.split.SplitContacts as SplitContacts
 use Rattle.contacts.specs.contracts.due.Due as Due
 use Rattle.contacts.specs.contracts.kept_contacts.KeptContacts as KeptContacts

@@ -5,12 +5,12 @@ ghost use Rattle.contacts.specs.Constraints.{constraint_number};
 ghost use Rattle.sleep_wake.specs.Changes.{begun};
 
 use crate::assertions::same_items;
-use anchored_ties::Anchors;
 use contacts::Constraint;
 use contacts_base::{ContactKey, ShapeId};
 use fixed_geom::Refusal;
 use graph_colours::{Member, Movers};
 use sleep_wake::{Change, Sets};
+use solver_sets::Anchors;
 use std::alloc::Global;
 use std::test::Fail;
 

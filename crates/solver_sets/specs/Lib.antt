@@ -8,3 +8,4 @@ pub mod Tied
 pub mod Laws
 pub mod Census
 pub mod EachOnce
+pub mod Anchors

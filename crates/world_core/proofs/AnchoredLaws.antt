@@ -4,7 +4,7 @@ use Rattle.std.specs.Prelude.{filter}
 use Rattle.std.specs.List.{cons_option}
 use Rattle.std.proofs.lemmas.Bool.{false≢true}
 use Rattle.std.proofs.lemmas.List.Elements.{filter_map-append}
-use Rattle.anchored_ties.specs.Anchors.{anchor_by, anchored_at, is_anchored}
+use Rattle.solver_sets.specs.Anchors.{anchor_by, anchored_at, is_anchored}
 use Rattle.body_handles.specs.declared.handle.Handle.{Handle}
 use Rattle.body_handles.specs.declared.places.Place.{Place}
 use Rattle.contacts.specs.declared.constraint.Constraint.{Constraint}

@@ -3,8 +3,8 @@ use Rattle.std.proofs.Common.{◌≡◌, ◌∙◌, ℕ, suc, ◌++◌, Bool, tr
 use Rattle.std.specs.Prelude.{filter}
 use Rattle.std.proofs.lemmas.Bool.{false≢true}
 use Rattle.std.specs.List.{cons_option}
-use Rattle.anchored_ties.specs.Anchors.{Tell, begins_of, is_anchored}
-use Rattle.anchored_ties.proofs.FewerLaws.{AreFewer, HaveNoAnchor, Ties, fewer_begun, fewer_both, fewer_ended, fewer_gone, fewer_one_begun, fewer_one_ended, fewer_same, fewer_turned, tell_fewer}
+use Rattle.solver_sets.specs.Anchors.{Tell, begins_of, is_anchored}
+use Rattle.solver_sets.proofs.FewerAnchoredLaws.{AreFewer, HaveNoAnchor, Ties, fewer_begun, fewer_both, fewer_ended, fewer_gone, fewer_one_begun, fewer_one_ended, fewer_same, fewer_turned, tell_fewer}
 use Rattle.body_handles.specs.declared.handle.Handle.{Handle}
 use Rattle.body_handles.specs.declared.places.Place.{Place}
 use Rattle.contacts.specs.Constraints.{constraint_number}

@@ -38,7 +38,7 @@ use Rattle.world_rules.specs.Settled.{settled_world}
 use Rattle.world_rules.specs.Sets.{acting_of}
 use Rattle.world_rules.specs.Sound.{HasBodies, IsSound}
 use Rattle.world_rules.specs.World.{World, joints_of}
-use Rattle.anchored_ties.specs.Anchors.{Anchored, Tell}
+use Rattle.solver_sets.specs.Anchors.{Anchored, Tell}
 use Rattle.world_core.specs.Inside.{IsWhole, IsWorldCore}
 use Rattle.world_core.proofs.CoreLaws.{core_all}
 

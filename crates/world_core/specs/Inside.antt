@@ -1,6 +1,6 @@
 -- The world that the fields of a `WorldCore` show, and what is kept of them.
 use Rattle.std.specs.Prelude.{◌≡◌, Bool, List, Option}
-use Rattle.anchored_ties.specs.Anchors.{Anchored, Tell}
+use Rattle.solver_sets.specs.Anchors.{Anchored, Tell}
 use Rattle.contacts.specs.declared.constraint.Constraint.{Constraint}
 use Rattle.contacts.specs.Known.{IsKnown}
 use Rattle.contacts.specs.Turns.{moved_by}

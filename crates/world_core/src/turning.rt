@@ -2,7 +2,7 @@
 
 ghost use Rattle.std.specs.Prelude.{◌≡◌, ◌≤◌, ◌+◌, false, length, replicate, vec_capacity};
 ghost use Rattle.std.specs.List.Sorted.{IsStrictlyIncreasing};
-ghost use Rattle.anchored_ties.specs.Anchors.{Tell};
+ghost use Rattle.solver_sets.specs.Anchors.{Tell};
 ghost use Rattle.contacts.specs.Constraints.{constraint_number};
 ghost use Rattle.contacts.specs.declared.constraint.Constraint.{Constraint as TheConstraint};
 ghost use Rattle.plain_world.specs.Bodies.{AreBodies};
@@ -15,11 +15,10 @@ ghost use Rattle.world_core_base.specs.Marked.{AreMarked, AreMarkedIn};
 ghost use Rattle.world_rules.specs.Sound.{AreTold};
 
 use crate::preparing::Prepared;
-use anchored_ties::Anchors;
 use body_handles::{Handle, MAX_SLOTS, Place};
 use contacts::{Constraint, KeptContacts};
 use sleep_wake::{Change, Sets};
-use solver_sets::fill_newly_awake;
+use solver_sets::{Anchors, fill_newly_awake};
 use world_core_base::BodyTable;
 
 /// Lets constraints begin and end, each in its turn, settles the colours, lists who has woken by that, tells those, and settles the bodies; all bodies had been told before.

@@ -25,7 +25,6 @@ use crate::copied_parts::{copy_body_parts, copy_constraint_parts, copy_joint_par
 use crate::copying::copy_ids;
 use crate::frame::{Frame, show_bodies};
 use crate::scratch::Scratch;
-use anchored_ties::Anchors;
 use body_handles::{Handle, Handles, Place};
 use box_tree::BoxTree;
 use colour_solver::{OneThread, Rows, StepSolver};
@@ -36,7 +35,7 @@ use fixed_geom::{Refusal, Vec2, ZERO_VECTOR, is_within};
 use impulse_ledger::Ledger;
 use plain_world::{Body, BodyView, Plain, body_of, copy_bodies};
 use sleep_wake::Sets;
-use solver_sets::{Census, take_census};
+use solver_sets::{Anchors, Census, take_census};
 use std::alloc::Global;
 use std::marker::Model;
 pub use steps::is_tick_count;

@@ -16,7 +16,6 @@ ghost use Rattle.world_rules.specs.Settled.{settled_world};
 
 use super::WorldCore;
 use crate::scratch::Scratch;
-use anchored_ties::Anchors;
 use body_handles::Handles;
 use colour_solver::Rows;
 use contacts::{Constraint, KeptContacts};
@@ -27,7 +26,7 @@ use impulse_ledger::{Ledger, Totals};
 use plain_world::Plain;
 use serde_json::Value;
 use sleep_wake::Sets;
-use solver_sets::{count_members, list_all_ties, list_members};
+use solver_sets::{Anchors, count_members, list_all_ties, list_members};
 use std::alloc::Global;
 use world_core_base::{BodyTable, JointTable};
 use world_file::{Broken, read};

@@ -4,8 +4,8 @@ use Rattle.contacts.specs.Constraints.{constraint_number}
 use Rattle.contacts.specs.declared.constraint.Constraint.{Constraint}
 use Rattle.sleep_wake.specs.Acting.{Acting}
 use Rattle.sleep_wake.specs.Changes.{begun}
-use Rattle.anchored_ties.specs.Anchors.{Tell}
-use Rattle.anchored_ties.proofs.FewerLaws.{fewer_with_begun, tell_fewer}
+use Rattle.solver_sets.specs.Anchors.{Tell}
+use Rattle.solver_sets.proofs.FewerAnchoredLaws.{fewer_with_begun, tell_fewer}
 use Rattle.part_tests.proofs.anchors.found_begun.Goals as goal
 
 pub contact_ties_of-requires : goal.contact_ties_of-requires

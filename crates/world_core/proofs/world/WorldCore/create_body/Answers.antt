@@ -13,7 +13,7 @@ use Rattle.world_core.proofs.PartLaws.{create_answers, free_label, kept_of, same
 use Rattle.world_core.proofs.CoreLaws.{core_bodies}
 use Rattle.world_core.proofs.KnownLaws.{marked_after}
 use Rattle.world_core.proofs.FewerTies.{fewer_made, fewer_reserved}
-use Rattle.anchored_ties.proofs.FewerLaws.{tell_fewer}
+use Rattle.solver_sets.proofs.FewerAnchoredLaws.{tell_fewer}
 use Rattle.world_core.proofs.world.WorldCore.create_body.Goals as goal
 
 pub come-requires-clause-fresh : goal.come-requires-clause-fresh

@@ -15,7 +15,7 @@ use Rattle.solver_sets.proofs.SlotLemmas.{item_at-set_none}
 use Rattle.world_core.proofs.CoreLaws.{core_destroyed}
 use Rattle.world_core.proofs.KnownLaws.{marked_after}
 use Rattle.world_core.proofs.FewerTies.{fewer_left}
-use Rattle.anchored_ties.proofs.FewerLaws.{tell_fewer}
+use Rattle.solver_sets.proofs.FewerAnchoredLaws.{tell_fewer}
 use Rattle.world_core.proofs.world.WorldCore.destroy_body.Goals as goal
 
 pub wake_planned-requires-clause-movers : goal.wake_planned-requires-clause-movers

@@ -8,7 +8,7 @@ use Rattle.world_rules.proofs.KeptJoints.{live_joint}
 use Rattle.world_core.proofs.CoreLaws.{core_unjoined}
 use Rattle.world_core.proofs.KnownLaws.{marked_after}
 use Rattle.world_core.proofs.FewerTies.{fewer_unjoined}
-use Rattle.anchored_ties.proofs.FewerLaws.{tell_fewer}
+use Rattle.solver_sets.proofs.FewerAnchoredLaws.{tell_fewer}
 use Rattle.world_core.proofs.world.WorldCore.destroy_joint.Goals as goal
 
 pub wake_planned-requires-clause-movers : goal.wake_planned-requires-clause-movers

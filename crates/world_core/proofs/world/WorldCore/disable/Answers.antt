@@ -11,7 +11,7 @@ use Rattle.world_core.proofs.PartLaws.{disable_answers, kept_of, whole}
 use Rattle.world_core.proofs.CoreLaws.{core_disabled}
 use Rattle.world_core.proofs.KnownLaws.{marked_after}
 use Rattle.world_core.proofs.FewerTies.{fewer_left}
-use Rattle.anchored_ties.proofs.FewerLaws.{tell_fewer}
+use Rattle.solver_sets.proofs.FewerAnchoredLaws.{tell_fewer}
 use Rattle.world_core.proofs.world.WorldCore.disable.Goals as goal
 
 pub wake_planned-requires-clause-movers : goal.wake_planned-requires-clause-movers

@@ -10,7 +10,7 @@ use Rattle.world_core.proofs.Whole.{rest_booked, sleep_answers, sleep_whole, tol
 use Rattle.world_core.proofs.CoreLaws.{core_bodies}
 use Rattle.world_core.proofs.StepLaws.{settled_found}
 use Rattle.world_core.proofs.FewerTies.{fewer_slept}
-use Rattle.anchored_ties.proofs.FewerLaws.{tell_fewer}
+use Rattle.solver_sets.proofs.FewerAnchoredLaws.{tell_fewer}
 use Rattle.world_core.proofs.world.WorldCore.sleep.Goals as goal
 
 pub put_to_sleep-rest-requires-clause-movers : goal.put_to_sleep-rest-requires-clause-movers

@@ -5,7 +5,7 @@ use Rattle.std.proofs.lemmas.Int.{to_z-of_z}
 use Rattle.std.specs.Vec.{vec_capacity}
 use Rattle.fixed_geom.specs.declared.refusal.Refusal.TheVariants.{NoMemory}
 use Rattle.std.specs.List.Sorted.{IsStrictlyIncreasing}
-use Rattle.anchored_ties.specs.Anchors.{Tell}
+use Rattle.solver_sets.specs.Anchors.{Tell}
 use Rattle.body_handles.specs.declared.handle.Handle.{Handle}
 use Rattle.body_handles.specs.declared.places.Place.{Place}
 use Rattle.body_handles.specs.Orders.{slot_of}
@@ -28,7 +28,7 @@ use Rattle.world_core.proofs.StepLaws.{AreCounted, AreFound, AreLeft, AreTicks, 
 use Rattle.world_core.proofs.CoreLaws.{core_stepped}
 use Rattle.world_core.proofs.KnownLaws.{marked_after}
 use Rattle.world_core.proofs.FewerTies.{fewer_rested}
-use Rattle.anchored_ties.proofs.FewerLaws.{tell_fewer}
+use Rattle.solver_sets.proofs.FewerAnchoredLaws.{tell_fewer}
 use Rattle.world_core.proofs.world.WorldCore.step.Given as given
 use Rattle.world_core.proofs.world.WorldCore.step.Goals as goal
 

@@ -3,7 +3,7 @@ use Rattle.world_core.specs.contracts.world.WorldCore.{the_view}
 use Rattle.world_core.proofs.Whole.{HasWoken, has_woken, told_whole, wake_whole}
 use Rattle.world_core.proofs.CoreLaws.{core_bodies}
 use Rattle.world_core.proofs.FewerTies.{fewer_woken}
-use Rattle.anchored_ties.proofs.FewerLaws.{tell_fewer}
+use Rattle.solver_sets.proofs.FewerAnchoredLaws.{tell_fewer}
 use Rattle.world_core.proofs.world.WorldCore.wake.Goals as goal
 
 pub wake_planned-requires-clause-movers : goal.wake_planned-requires-clause-movers

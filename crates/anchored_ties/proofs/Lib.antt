@@ -1,4 +1,0 @@
-pub mod TellLaws
-pub mod ListLaws
-pub mod QuestionLaws
-pub mod FewerLaws

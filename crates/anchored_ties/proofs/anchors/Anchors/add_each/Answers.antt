@@ -1,4 +1,0 @@
-use Rattle.anchored_ties.proofs.anchors.Anchors.add_each.Goals as goal
-
-pub returns : goal.returns
-returns c = rw (← c.self.view_is) (record { told = c.list_begins-self-inside.ensures })
