@@ -23,7 +23,7 @@ from pathlib import Path
 HERE = Path(__file__).resolve().parent
 TOP_CRATE = "world_queries"
 # What only saving and loading need, and what stands in the code of other crates for them.
-SAVING = {"line_json", "saved_values", "saved_parts", "world_file", "saved_worlds"}
+SAVING = {"line_json", "world_file_base", "world_file"}
 SAVING_FILES = {("world_core", "world/loading.rt"), ("world_core", "world/saving.rt")}
 SAVING_LINES = re.compile(r"^(?:mod loading;|mod saving;|pub use world_file::[^;]*;|pub use serde_json[^;]*;)\n", re.M)
 

@@ -4,8 +4,8 @@ use Rattle.fixed_geom.specs.Refusals.{number_of}
 use Rattle.fixed_geom.specs.declared.refusal.Refusal.{Refusal}
 use Rattle.dillmonth.specs.declared.statuses.TheConstants.{BAD_TEXT}
 use Rattle.dillmonth.specs.declared.statuses.UnreadStatus.{UnreadStatus}
-use Rattle.saved_values.specs.Asks.{clause_number}
-use Rattle.saved_values.specs.declared.clause.Broken.TheVariants as broken
+use Rattle.world_file_base.specs.Asks.{clause_number}
+use Rattle.world_file_base.specs.declared.clause.Broken.TheVariants as broken
 use Rattle.world_desk.specs.declared.unread.Unread.{Unread}
 use Rattle.world_desk.specs.declared.unread.Unread.TheVariants as unread
 

@@ -6,11 +6,10 @@
 mod parts;
 
 use parts::{Part, rewritten};
-use saved_parts::Version;
-use saved_values::Broken;
 use serde_json::Value;
 use std::alloc::Global;
 use std::io;
+use world_file_base::{Broken, Version};
 
 /// The version and the part that a line names, and the text of its value.
 #[derive(Clone, Copy)]

@@ -5,15 +5,15 @@ use contacts_base::{ContactEntry, PackedSurface, Surface};
 use fixed_geom::Refusal;
 use islands::{IslandState, Label};
 use plain_world::BodyJoint;
-use saved_parts::{
-    Membership, SavedContact, SavedJoint, Version, bodies_value, contacts_value, joints_value,
-    read_bodies, read_contacts, read_joints, read_totals, totals_value,
-};
 use saved_text::write_text;
-use saved_values::{Broken, Clause, Reader};
 use serde_json::Value;
 use std::alloc::Global;
 use world_file::{read, write};
+use world_file_base::{
+    Broken, Clause, Membership, Reader, SavedContact, SavedJoint, Version, bodies_value,
+    contacts_value, joints_value, read_bodies, read_contacts, read_joints, read_totals,
+    totals_value,
+};
 
 /// How many ticks a mover may have been slow.
 const MOST_TICKS: u64 = 1_000;

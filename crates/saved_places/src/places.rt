@@ -2,13 +2,14 @@
 
 use crate::ways::{BODY, CONTACT, JOINT, Mend, POINT, Part, SHAPE, SHAPES, SLOT, Way};
 use fixed_geom::Refusal;
-use saved_parts::{Version, read_bodies, read_contacts, read_joints};
-use saved_values::{Broken, Clause, Reader, array_value};
 use serde_json::Value;
 use shapes::MAX_SHAPES;
 use std::alloc::Global;
 use std::fmt;
 use world_file::read;
+use world_file_base::{
+    Broken, Clause, Reader, Version, array_value, read_bodies, read_contacts, read_joints,
+};
 
 /// For how many ticks a body may have been slow, for each step of its world.
 const TICKS_OF_A_STEP: u64 = 8;

@@ -7,7 +7,7 @@ use Rattle.json.specs.Written.{Writes, Written}
 use Rattle.serde_json.specs.Data.{Data}
 use Rattle.serde_json.specs.View.{items_of}
 use Rattle.serde_json.specs.Written.{items_outline, members_outline}
-use Rattle.saved_values.specs.Written.{Member, list_of}
+use Rattle.world_file_base.specs.Written.{Member, list_of}
 use Rattle.saved_text.specs.Tokens.{Adds, AddsItems, AddsMembers, AddsValue, IsObject, ItemsLeft, MembersLeft, are_whole, each_tokens, have_whole, in_order, members_tokens, tokens_of}
 use Rattle.saved_text.specs.Whole.{are_items_whole, is_whole}
 

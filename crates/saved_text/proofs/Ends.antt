@@ -7,8 +7,8 @@ use Rattle.islands.specs.Labels.{Labels}
 use Rattle.plain_world.specs.declared.body.Body.{Body}
 use Rattle.plain_world.specs.declared.joint.BodyJoint.{BodyJoint}
 use Rattle.shapes.specs.declared.shape.ShapeDef.{ShapeDef}
-use Rattle.saved_parts.specs.SavedShapes.{shapes_of}
-use Rattle.saved_parts.specs.SavedSlots.{body_slots, joint_slots}
+use Rattle.world_file_base.specs.SavedShapes.{shapes_of}
+use Rattle.world_file_base.specs.SavedSlots.{body_slots, joint_slots}
 
 no_shape : (defs : List ShapeDef) → shapes_of defs [] ≡ []
 no_shape [] = refl

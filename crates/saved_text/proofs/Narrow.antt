@@ -4,7 +4,7 @@ use Rattle.std.specs.Int.{w64}
 use Rattle.std.specs.Fmt.{signed_decimal}
 use Rattle.serde_json.specs.Written.{number_text}
 use Rattle.serde_json.specs.Find.{of_integer}
-use Rattle.saved_values.specs.Written.{integer, natural}
+use Rattle.world_file_base.specs.Written.{integer, natural}
 use Rattle.saved_text.specs.Whole.{is_whole}
 
 pub natural_whole : (n : ℕ) → n < 2 ^ 64 → is_whole (natural n) ≡ true

@@ -14,13 +14,13 @@ use Rattle.plain_world.specs.declared.body.Body.{Body}
 use Rattle.plain_world.specs.declared.joint.BodyJoint.{BodyJoint}
 use Rattle.plain_world.specs.declared.kind.Kind.{Kind}
 use Rattle.plain_world.specs.declared.kind.Kind.TheVariants.{Static, Kinematic, Dynamic}
-use Rattle.saved_parts.specs.SavedBodies.{body_of, put_numbers}
-use Rattle.saved_parts.specs.SavedContacts.{contact_of, contacts_of, point_of, points_of, shape_id_of}
-use Rattle.saved_parts.specs.SavedJoints.{id_at, joint_of}
-use Rattle.saved_parts.specs.SavedShapes.{shape_of, shapes_of}
-use Rattle.saved_parts.specs.SavedSlots.{bodies_of, body_slot_of, joint_slot_of, joints_of, slot_of}
-use Rattle.saved_parts.specs.SavedTotals.{total_of, totals_of}
-use Rattle.saved_values.specs.Written.{corners_of, ends_of, integer, list_of, natural, natural_or_null, vector_of}
+use Rattle.world_file_base.specs.SavedBodies.{body_of, put_numbers}
+use Rattle.world_file_base.specs.SavedContacts.{contact_of, contacts_of, point_of, points_of, shape_id_of}
+use Rattle.world_file_base.specs.SavedJoints.{id_at, joint_of}
+use Rattle.world_file_base.specs.SavedShapes.{shape_of, shapes_of}
+use Rattle.world_file_base.specs.SavedSlots.{bodies_of, body_slot_of, joint_slot_of, joints_of, slot_of}
+use Rattle.world_file_base.specs.SavedTotals.{total_of, totals_of}
+use Rattle.world_file_base.specs.Written.{corners_of, ends_of, integer, list_of, natural, natural_or_null, vector_of}
 use Rattle.shapes.specs.declared.shape.Shape.TheVariants.{Circle, Capsule, Segment}
 use Rattle.shapes.specs.declared.shape.ShapeDef.{ShapeDef}
 use Rattle.world_file.specs.Files.{contact_colours, joint_colours, value_of, written_version}

@@ -5,8 +5,8 @@ use Rattle.islands.specs.declared.label.Label.{Label}
 use Rattle.plain_world.specs.declared.body.Body.{Body}
 use Rattle.plain_world.specs.declared.kind.Kind.{Kind}
 use Rattle.plain_world.specs.declared.kind.Kind.TheVariants.{Static, Kinematic, Dynamic}
-use Rattle.saved_parts.specs.SavedBodies.{kind_name}
-use Rattle.saved_values.specs.Written.{Member, decimal_of, integer, natural, natural_or_null, vector_of}
+use Rattle.world_file_base.specs.SavedBodies.{kind_name}
+use Rattle.world_file_base.specs.Written.{Member, decimal_of, integer, natural, natural_or_null, vector_of}
 use Rattle.serde_json.specs.Data.{boolean, string}
 use Rattle.saved_text.specs.Leaves.{facing_of}
 use Rattle.saved_text.specs.declared.bodies.Told.{Told}

@@ -3,10 +3,10 @@ use Rattle.std.specs.Prelude.{ℕ, List}
 use Rattle.std.specs.Borrow.{Bor}
 use Rattle.serde_json.specs.Data.{Data, boolean, string}
 use Rattle.fixed_geom.specs.declared.facings.Rot.{Rot}
-use Rattle.saved_parts.specs.SavedBodies.{kind_name}
-use Rattle.saved_parts.specs.SavedContacts.{shape_id_of}
-use Rattle.saved_parts.specs.SavedTotals.{total_of}
-use Rattle.saved_values.specs.Written.{Member, decimal_of, ends_of, integer, natural, natural_or_null, vector_of}
+use Rattle.world_file_base.specs.SavedBodies.{kind_name}
+use Rattle.world_file_base.specs.SavedContacts.{shape_id_of}
+use Rattle.world_file_base.specs.SavedTotals.{total_of}
+use Rattle.world_file_base.specs.Written.{Member, decimal_of, ends_of, integer, natural, natural_or_null, vector_of}
 use Rattle.saved_text.specs.declared.leaves.Leaf.{Leaf}
 use Rattle.saved_text.specs.declared.leaves.Leaf.TheVariants.{Truth, Natural, Count, Integer, Group, Text, Decimal, Kind, Colour, Island, Vector, Facing, Ends, Shape, Total}
 

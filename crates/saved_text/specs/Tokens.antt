@@ -5,7 +5,7 @@ use Rattle.json.specs.Tree.{json_tokens}
 use Rattle.json.specs.Written.{Written}
 use Rattle.serde_json.specs.Data.{Data, Members, member, no_members, object}
 use Rattle.serde_json.specs.Written.{outline}
-use Rattle.saved_values.specs.Written.{Member}
+use Rattle.world_file_base.specs.Written.{Member}
 use Rattle.saved_text.specs.Whole.{are_members_whole, is_whole}
 
 -- ---- tokens

@@ -2,10 +2,10 @@
 
 ghost use Rattle.std.specs.Prelude.{◌≡◌, ◌∷◌, [], None, Some, OnOk, codes};
 ghost use Rattle.islands.specs.Labels.{label_at};
-ghost use Rattle.saved_parts.specs.SavedBodies.{body_of};
-ghost use Rattle.saved_parts.specs.SavedShapes.{shapes_of};
-ghost use Rattle.saved_parts.specs.SavedSlots.{bodies_of, body_slot_of, slot_of};
-ghost use Rattle.saved_values.specs.Written.{list_of};
+ghost use Rattle.world_file_base.specs.SavedBodies.{body_of};
+ghost use Rattle.world_file_base.specs.SavedShapes.{shapes_of};
+ghost use Rattle.world_file_base.specs.SavedSlots.{bodies_of, body_slot_of, slot_of};
+ghost use Rattle.world_file_base.specs.Written.{list_of};
 ghost use Rattle.saved_text.specs.Bodies.{first_of_body, last_of_body, numbers_of_body, place_of_body, told_by};
 ghost use Rattle.saved_text.specs.Tokens.{AddsMembers, AddsValue};
 

@@ -4,8 +4,8 @@ ghost use Rattle.std.specs.Prelude.{◌≡◌, ◌∷◌, [], List, Some, IfOk, 
 ghost use Rattle.std.specs.HashMap.{get};
 ghost use Rattle.body_handles.specs.declared.places.Place.{Place};
 ghost use Rattle.serde_json.specs.Data.{string};
-ghost use Rattle.saved_parts.specs.SavedJoints.{id_at, joint_of};
-ghost use Rattle.saved_parts.specs.SavedSlots.{joint_slot_of, joints_of};
+ghost use Rattle.world_file_base.specs.SavedJoints.{id_at, joint_of};
+ghost use Rattle.world_file_base.specs.SavedSlots.{joint_slot_of, joints_of};
 ghost use Rattle.world_file.specs.Marked.{joint_colours_by};
 ghost use Rattle.saved_text.specs.Tokens.{AddsValue};
 

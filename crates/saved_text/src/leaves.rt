@@ -2,10 +2,10 @@
 
 ghost use Rattle.std.specs.Prelude.{OnOk};
 ghost use Rattle.serde_json.specs.Data.{boolean, string};
-ghost use Rattle.saved_parts.specs.SavedBodies.{kind_name};
-ghost use Rattle.saved_parts.specs.SavedContacts.{shape_id_of};
-ghost use Rattle.saved_parts.specs.SavedTotals.{total_of};
-ghost use Rattle.saved_values.specs.Written.{ends_of, vector_of};
+ghost use Rattle.world_file_base.specs.SavedBodies.{kind_name};
+ghost use Rattle.world_file_base.specs.SavedContacts.{shape_id_of};
+ghost use Rattle.world_file_base.specs.SavedTotals.{total_of};
+ghost use Rattle.world_file_base.specs.Written.{ends_of, vector_of};
 ghost use Rattle.saved_text.specs.Leaves.{data_of, facing_of};
 ghost use Rattle.saved_text.specs.Tokens.{AddsValue};
 

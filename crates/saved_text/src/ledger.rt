@@ -1,7 +1,7 @@
 //! The totals of a ledger.
 
 ghost use Rattle.std.specs.Prelude.{OnOk};
-ghost use Rattle.saved_parts.specs.SavedTotals.{totals_of};
+ghost use Rattle.world_file_base.specs.SavedTotals.{totals_of};
 ghost use Rattle.saved_text.specs.Tokens.{AddsValue};
 
 use crate::leaves::Leaf;

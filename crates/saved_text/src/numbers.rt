@@ -3,7 +3,7 @@
 ghost use Rattle.std.specs.Prelude.{OnOk};
 ghost use Rattle.std.specs.Fmt.{signed_decimal};
 ghost use Rattle.serde_json.specs.Data.{null, string};
-ghost use Rattle.saved_values.specs.Written.{decimal_of, integer, natural, natural_or_null};
+ghost use Rattle.world_file_base.specs.Written.{decimal_of, integer, natural, natural_or_null};
 ghost use Rattle.saved_text.specs.Tokens.{AddsValue};
 
 use json::Writer;

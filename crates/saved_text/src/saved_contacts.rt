@@ -2,7 +2,7 @@
 
 ghost use Rattle.std.specs.Prelude.{◌∷◌, [], OnOk, codes, nat_eq};
 ghost use Rattle.std.specs.HashMap.{get};
-ghost use Rattle.saved_parts.specs.SavedContacts.{contact_of, contacts_of, point_of, point_or_none, points_of};
+ghost use Rattle.world_file_base.specs.SavedContacts.{contact_of, contacts_of, point_of, point_or_none, points_of};
 ghost use Rattle.world_file.specs.Marked.{contact_colours_by};
 ghost use Rattle.saved_text.specs.Tokens.{AddsItems, AddsMembers, AddsValue};
 

@@ -2,8 +2,8 @@
 
 ghost use Rattle.std.specs.Prelude.{◌≡◌, OnOk};
 ghost use Rattle.shapes.specs.declared.shape.Shape.TheVariants.{Capsule, Circle, Segment};
-ghost use Rattle.saved_parts.specs.SavedShapes.{shape_of, shapes_of};
-ghost use Rattle.saved_values.specs.Written.{list_of};
+ghost use Rattle.world_file_base.specs.SavedShapes.{shape_of, shapes_of};
+ghost use Rattle.world_file_base.specs.Written.{list_of};
 ghost use Rattle.saved_text.specs.Tokens.{AddsValue};
 
 use crate::counts::lesser;

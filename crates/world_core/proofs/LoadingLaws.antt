@@ -27,7 +27,7 @@ use Rattle.plain_world.specs.Formed.{is_surface, mixed_of, no_surface, shape_nam
 use Rattle.plain_world.specs.Plain.{Plain}
 use Rattle.plain_world.specs.declared.body.Body.{Body}
 use Rattle.plain_world.specs.declared.joint.BodyJoint.{BodyJoint}
-use Rattle.saved_worlds.proofs.Tests.{at_most, at_most_z, both_true}
+use Rattle.world_file.proofs.Tests.{at_most, at_most_z, both_true}
 use Rattle.shapes.specs.declared.shape.ShapeDef.{ShapeDef}
 use Rattle.sleep_wake.specs.Acting.{Acting, IsSettled, acting}
 use Rattle.sleep_wake.proofs.StandLemmas.{fewer_coloured}

@@ -3,11 +3,11 @@ use Rattle.std.proofs.Common.{◌≡◌, Option, Some, None, Result, Ok, Err, If
 use Rattle.serde_json.specs.Data.{Data}
 use Rattle.impulse_ledger.specs.declared.totals.Totals.{Totals}
 use Rattle.plain_world.specs.Plain.{Plain}
-use Rattle.saved_values.specs.declared.clause.Broken.{Broken}
-use Rattle.saved_values.specs.declared.clause.Broken.TheVariants as broken
-use Rattle.saved_values.specs.declared.clause.Clause.{Clause}
-use Rattle.saved_worlds.proofs.BackWhole.{what_is_written_is_read_again}
-use Rattle.saved_worlds.specs.Laws.{HasSmallTotals, totals_in}
+use Rattle.world_file_base.specs.declared.clause.Broken.{Broken}
+use Rattle.world_file_base.specs.declared.clause.Broken.TheVariants as broken
+use Rattle.world_file_base.specs.declared.clause.Clause.{Clause}
+use Rattle.world_file.proofs.BackWhole.{what_is_written_is_read_again}
+use Rattle.world_file.specs.Laws.{HasSmallTotals, totals_in}
 use Rattle.world_core.specs.SavedAgain.{ComesBack, IsReadAs}
 use Rattle.world_file.specs.Answers.{IsRefusedBy}
 use Rattle.world_file.specs.Files.{broken_by, read_of, read_unless, value_of}

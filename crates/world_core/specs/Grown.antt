@@ -1,7 +1,7 @@
 -- By how much the totals of a ledger grow by calls.
 use Rattle.std.specs.Prelude.{ℕ, ◌+◌, ◌*◌, ◌^◌}
 use Rattle.fixed_geom.specs.declared.vectors.Vec2.{Vec2}
-use Rattle.saved_worlds.specs.Laws.{HasSmallTotals}
+use Rattle.world_file.specs.Laws.{HasSmallTotals}
 use Rattle.world_core.specs.Frames.{settled_world}
 use Rattle.world_rules.specs.Apply.{empty_world}
 use Rattle.world_rules.specs.Replay.{after}

@@ -1,9 +1,9 @@
 -- What saving and loading promise together.
 use Rattle.std.specs.Prelude.{◌≡◌, None, Result, Ok, Err}
 use Rattle.serde_json.specs.Data.{Data}
-use Rattle.saved_values.specs.declared.clause.Broken.{Broken}
-use Rattle.saved_values.specs.declared.clause.Broken.TheVariants.{NoMemory}
-use Rattle.saved_worlds.specs.Laws.{HasSmallTotals, totals_in}
+use Rattle.world_file_base.specs.declared.clause.Broken.{Broken}
+use Rattle.world_file_base.specs.declared.clause.Broken.TheVariants.{NoMemory}
+use Rattle.world_file.specs.Laws.{HasSmallTotals, totals_in}
 use Rattle.world_file.specs.Files.{broken_by, read_of, value_of}
 use Rattle.world_rules.specs.Settled.{settled_world}
 use Rattle.world_rules.specs.Sound.{IsSound}

@@ -3,8 +3,8 @@ use Rattle.std.specs.Prelude.{◌≡◌, ℕ, ◌≤◌, ◌⊎◌, true, false,
 use Rattle.fixed_geom.specs.declared.boxes.Box2.{Box2}
 use Rattle.fixed_geom.specs.declared.refusal.Refusal.{Refusal}
 use Rattle.fixed_geom.specs.declared.refusal.Refusal.TheVariants.{NoMemory, OutOfRange}
-use Rattle.saved_values.specs.declared.clause.Broken.{Broken}
-use Rattle.saved_values.specs.declared.clause.Broken.TheVariants as broken
+use Rattle.world_file_base.specs.declared.clause.Broken.{Broken}
+use Rattle.world_file_base.specs.declared.clause.Broken.TheVariants as broken
 use Rattle.serde_json.specs.Data.{Data, depth}
 use Rattle.serde_json.specs.Errors.{IsMemory}
 use Rattle.serde_json.specs.Read.{max_depth, read}

@@ -8,8 +8,8 @@ use Rattle.islands.specs.Links.{Edges}
 use Rattle.islands.specs.declared.label.Label.{Label}
 use Rattle.islands.proofs.LabelLemmas.{added_here, added_other, relabel_at}
 use Rattle.sleep_wake.specs.Acting.{link_of, links_of}
-use Rattle.saved_parts.specs.SavedSlots.{no_membership}
-use Rattle.saved_parts.specs.declared.saved.Membership.{Membership}
+use Rattle.world_file_base.specs.SavedSlots.{no_membership}
+use Rattle.world_file_base.specs.declared.saved.Membership.{Membership}
 use Rattle.world_file.specs.Fitting.{alone_at, apart_from, are_whole, is_whole_at, members_of, membership_at}
 use Rattle.world_file.specs.Lone.{AreSameLabels, added_if, joined_by}
 use Rattle.world_file.specs.declared.ties.Tie.{Tie}

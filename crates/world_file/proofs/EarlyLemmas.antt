@@ -13,20 +13,20 @@ use Rattle.plain_world.specs.Kinds.{carried_by, is_moving, is_static}
 use Rattle.plain_world.specs.declared.body.Body.{Body}
 use Rattle.plain_world.specs.declared.kind.Kind.{Kind}
 use Rattle.plain_world.specs.declared.kind.Kind.TheVariants.{Dynamic, Kinematic, Static}
-use Rattle.saved_parts.specs.SavedBodies.{are_in_boxes, bare_kind, body_asks, body_in, course_asks, facing_asks, facing_in, fit_asks, is_at_rest, is_pose, island_fits, island_told, keys_asks, kind_asks, kind_in, least_mass, mass_asks, mass_in, membership_asks, membership_in, momenta_asks, most_angular, most_inertia, most_mass, motion_asks, named_kind, numbers_asks, pose_asks, rest_asks, told_asks, whole_body_asks}
-use Rattle.saved_parts.specs.SavedContacts.{contact_asks, contacts_asks, last_candidate, point_asks, points_asks, push_asks, shape_id_asks, size_asks}
-use Rattle.saved_parts.specs.SavedJoints.{joint_asks}
-use Rattle.saved_parts.specs.SavedShapes.{capsule_asks, circle_asks, core_asks, form_asks, long_asks, most_bits, most_corner, round_asks, segment_asks, shape_asks, shapes_asks}
-use Rattle.saved_parts.specs.SavedSlots.{bodies_asks, body_key, body_slot_asks, generation_asks, generation_of_value, is_in_time, item_asks, joint_key, joint_slot_asks, joints_asks, place_asks, place_in, slot_keys, slots_asks}
-use Rattle.saved_parts.specs.Versions.{colour_asks, colour_of_number, most_slots}
-use Rattle.saved_parts.specs.declared.saved.Membership.{Membership}
-use Rattle.saved_parts.specs.declared.version.Version.{Version}
-use Rattle.saved_values.specs.Asks.{Ask, asked, clause_number, first_of, noted}
-use Rattle.saved_values.specs.Reading.{ends_asks, first_in, greatest, greatest_group, group_asks, has_keys, is_between, is_null, island_asks, items_in, least, least_group, list_asks, natural_of, number_asks, number_in, pair_asks, second_in, signed_asks, text_asks, text_in, truth_asks, unsigned_asks, unsigned_in, vector_asks, vector_in, vector_within_asks, whole_asks, whole_in, whole_of}
-use Rattle.saved_values.specs.Texts.{decimal_asks, handle_asks, handle_of_text, number_of_text, sized}
-use Rattle.saved_values.specs.declared.clause.Clause.{Clause}
-use Rattle.saved_values.specs.declared.clause.Clause.TheVariants.{Colours, FatBoxes, Form, Generations, Islands, Limits, Memberships}
-use Rattle.saved_values.specs.declared.reader.Reader.{Reader}
+use Rattle.world_file_base.specs.SavedBodies.{are_in_boxes, bare_kind, body_asks, body_in, course_asks, facing_asks, facing_in, fit_asks, is_at_rest, is_pose, island_fits, island_told, keys_asks, kind_asks, kind_in, least_mass, mass_asks, mass_in, membership_asks, membership_in, momenta_asks, most_angular, most_inertia, most_mass, motion_asks, named_kind, numbers_asks, pose_asks, rest_asks, told_asks, whole_body_asks}
+use Rattle.world_file_base.specs.SavedContacts.{contact_asks, contacts_asks, last_candidate, point_asks, points_asks, push_asks, shape_id_asks, size_asks}
+use Rattle.world_file_base.specs.SavedJoints.{joint_asks}
+use Rattle.world_file_base.specs.SavedShapes.{capsule_asks, circle_asks, core_asks, form_asks, long_asks, most_bits, most_corner, round_asks, segment_asks, shape_asks, shapes_asks}
+use Rattle.world_file_base.specs.SavedSlots.{bodies_asks, body_key, body_slot_asks, generation_asks, generation_of_value, is_in_time, item_asks, joint_key, joint_slot_asks, joints_asks, place_asks, place_in, slot_keys, slots_asks}
+use Rattle.world_file_base.specs.Versions.{colour_asks, colour_of_number, most_slots}
+use Rattle.world_file_base.specs.declared.saved.Membership.{Membership}
+use Rattle.world_file_base.specs.declared.version.Version.{Version}
+use Rattle.world_file_base.specs.Asks.{Ask, asked, clause_number, first_of, noted}
+use Rattle.world_file_base.specs.Reading.{ends_asks, first_in, greatest, greatest_group, group_asks, has_keys, is_between, is_null, island_asks, items_in, least, least_group, list_asks, natural_of, number_asks, number_in, pair_asks, second_in, signed_asks, text_asks, text_in, truth_asks, unsigned_asks, unsigned_in, vector_asks, vector_in, vector_within_asks, whole_asks, whole_in, whole_of}
+use Rattle.world_file_base.specs.Texts.{decimal_asks, handle_asks, handle_of_text, number_of_text, sized}
+use Rattle.world_file_base.specs.declared.clause.Clause.{Clause}
+use Rattle.world_file_base.specs.declared.clause.Clause.TheVariants.{Colours, FatBoxes, Form, Generations, Islands, Limits, Memberships}
+use Rattle.world_file_base.specs.declared.reader.Reader.{Reader}
 use Rattle.serde_json.specs.Data.{Data, Items, item, no_items}
 use Rattle.serde_json.specs.Events.{items_len}
 use Rattle.serde_json.specs.Find.{as_array, as_bool, as_str, get}

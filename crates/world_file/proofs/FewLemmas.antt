@@ -7,16 +7,16 @@ use Rattle.std.proofs.lemmas.Bool.{false≢true}
 use Rattle.serde_json.specs.Data.{Data, Items, no_items, item}
 use Rattle.serde_json.specs.Events.{items_len}
 use Rattle.serde_json.specs.Find.{get}
-use Rattle.saved_values.specs.Asks.{asked, clause_number, due_of, first_of, no_asks}
-use Rattle.saved_values.specs.Reading.{items_in, list_asks}
-use Rattle.saved_values.specs.declared.clause.Clause.{Clause}
-use Rattle.saved_values.specs.declared.clause.Clause.TheVariants.{Limits, Generations}
-use Rattle.saved_values.specs.declared.reader.Reader.{Reader}
-use Rattle.saved_parts.specs.SavedSlots.{bodies_asks, joint_key, joints_asks, memberships_in, places_in, slots_asks}
-use Rattle.saved_parts.specs.SavedContacts.{contacts_asks}
-use Rattle.saved_parts.specs.Versions.{most_slots}
-use Rattle.saved_parts.specs.declared.version.Version.{Version}
-use Rattle.saved_parts.specs.declared.version.Version.TheVariants.{First, Second}
+use Rattle.world_file_base.specs.Asks.{asked, clause_number, due_of, first_of, no_asks}
+use Rattle.world_file_base.specs.Reading.{items_in, list_asks}
+use Rattle.world_file_base.specs.declared.clause.Clause.{Clause}
+use Rattle.world_file_base.specs.declared.clause.Clause.TheVariants.{Limits, Generations}
+use Rattle.world_file_base.specs.declared.reader.Reader.{Reader}
+use Rattle.world_file_base.specs.SavedSlots.{bodies_asks, joint_key, joints_asks, memberships_in, places_in, slots_asks}
+use Rattle.world_file_base.specs.SavedContacts.{contacts_asks}
+use Rattle.world_file_base.specs.Versions.{most_slots}
+use Rattle.world_file_base.specs.declared.version.Version.{Version}
+use Rattle.world_file_base.specs.declared.version.Version.TheVariants.{First, Second}
 use Rattle.world_file.specs.Saved.{Saved, heads_asks, parts_asks, saved_in, slow_ticks, version_in}
 use Rattle.world_file.proofs.EarlyLemmas.{bodies_stays, contacts_stays, is_early, joints_stays, list_stays, slots_stays}
 

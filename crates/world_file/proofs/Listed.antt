@@ -5,7 +5,7 @@ use Rattle.std.proofs.lemmas.Bool.{false≢true}
 use Rattle.std.proofs.lemmas.List.{append-nil, drop_all}
 use Rattle.body_handles.specs.declared.places.Place.{Place}
 use Rattle.plain_world.specs.declared.body.Body.{Body}
-use Rattle.saved_parts.specs.declared.saved.SavedJoint.{SavedJoint}
+use Rattle.world_file_base.specs.declared.saved.SavedJoint.{SavedJoint}
 use Rattle.world_file.specs.Fitting.{are_joints_colourless, is_colourless, joint_colour, joint_tie, joint_ties, listed}
 use Rattle.world_file.specs.declared.ties.Tie.{Tie}
 

@@ -5,12 +5,12 @@ use Rattle.std.specs.Result.{IfErr, IsErr, IsErrAnd}
 use Rattle.std.proofs.lemmas.Bool.{cases_lt}
 use Rattle.serde_json.specs.Data.{Data}
 use Rattle.graph_colours.proofs.PlaceLemmas.{is_lower, not_lower}
-use Rattle.saved_values.specs.Asks.{all_asked, asked, clause_number, due_of, first_of, no_asks}
-use Rattle.saved_values.specs.declared.clause.Broken.{Broken}
-use Rattle.saved_values.specs.declared.clause.Broken.TheVariants as broken
-use Rattle.saved_values.specs.declared.clause.Clause.{Clause}
-use Rattle.saved_values.specs.declared.clause.Clause.TheVariants.{Generations, References, Memberships, Links, Islands, Colours, Momentum}
-use Rattle.saved_values.specs.declared.reader.Reader.{Reader}
+use Rattle.world_file_base.specs.Asks.{all_asked, asked, clause_number, due_of, first_of, no_asks}
+use Rattle.world_file_base.specs.declared.clause.Broken.{Broken}
+use Rattle.world_file_base.specs.declared.clause.Broken.TheVariants as broken
+use Rattle.world_file_base.specs.declared.clause.Clause.{Clause}
+use Rattle.world_file_base.specs.declared.clause.Clause.TheVariants.{Generations, References, Memberships, Links, Islands, Colours, Momentum}
+use Rattle.world_file_base.specs.declared.reader.Reader.{Reader}
 use Rattle.world_file.specs.Answers.{IsBrokenBy, IsRefusedBy, others_asks}
 use Rattle.world_file.specs.Files.{broken_by, plain_of, read_of, read_unless}
 use Rattle.world_file.specs.Fitting.{fitting_asks, references_keep}

@@ -3,11 +3,11 @@ use Rattle.std.specs.Prelude.{◌≡◌, [], ◌∷◌, Option, Some, Result, Er
 use Rattle.std.specs.List.{list_all}
 use Rattle.impulse_ledger.specs.declared.totals.Totals.{Totals}
 use Rattle.plain_world.specs.Plain.{Plain}
-use Rattle.saved_values.specs.Asks.{Ask, all_asked, asked}
-use Rattle.saved_values.specs.declared.clause.Broken.{Broken}
-use Rattle.saved_values.specs.declared.clause.Broken.TheVariants as broken
-use Rattle.saved_values.specs.declared.clause.Clause.{Clause}
-use Rattle.saved_values.specs.declared.clause.Clause.TheVariants.{Colours, Islands, Links, Memberships, Momentum}
+use Rattle.world_file_base.specs.Asks.{Ask, all_asked, asked}
+use Rattle.world_file_base.specs.declared.clause.Broken.{Broken}
+use Rattle.world_file_base.specs.declared.clause.Broken.TheVariants as broken
+use Rattle.world_file_base.specs.declared.clause.Clause.{Clause}
+use Rattle.world_file_base.specs.declared.clause.Clause.TheVariants.{Colours, Islands, Links, Memberships, Momentum}
 use Rattle.world_file.specs.Fitting.{are_named_well, are_whole, colours_keep, is_tie_kept, momentum_keeps, ties_of}
 use Rattle.world_file.specs.Lone.{components_by}
 use Rattle.world_file.specs.Saved.{Saved}

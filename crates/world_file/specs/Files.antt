@@ -8,12 +8,12 @@ use Rattle.body_handles.specs.declared.places.Place.{Place}
 use Rattle.graph_colours.specs.declared.limits.TheConstants.{COLOURS}
 use Rattle.impulse_ledger.specs.declared.totals.Totals.{Totals}
 use Rattle.plain_world.specs.Plain.{Plain, colour_of}
-use Rattle.saved_values.specs.Asks.{no_asks}
-use Rattle.saved_values.specs.Written.{natural, object_of, vector_of}
-use Rattle.saved_values.specs.declared.clause.Clause.{Clause}
-use Rattle.saved_parts.specs.SavedContacts.{contacts_of}
-use Rattle.saved_parts.specs.SavedSlots.{bodies_of, joints_of}
-use Rattle.saved_parts.specs.SavedTotals.{totals_of}
+use Rattle.world_file_base.specs.Asks.{no_asks}
+use Rattle.world_file_base.specs.Written.{natural, object_of, vector_of}
+use Rattle.world_file_base.specs.declared.clause.Clause.{Clause}
+use Rattle.world_file_base.specs.SavedContacts.{contacts_of}
+use Rattle.world_file_base.specs.SavedSlots.{bodies_of, joints_of}
+use Rattle.world_file_base.specs.SavedTotals.{totals_of}
 use Rattle.world_file.specs.Fitting.{entry_of, fitting_asks, ids_below, joint_kept, label_of, ties_of}
 use Rattle.world_file.specs.Saved.{Saved, parts_asks, saved_in}
 

@@ -26,12 +26,12 @@ use Rattle.plain_world.specs.Kinds.{is_dynamic}
 use Rattle.plain_world.specs.Slots.{body_at}
 use Rattle.plain_world.specs.declared.body.Body.{Body}
 use Rattle.plain_world.specs.declared.joint.BodyJoint.{BodyJoint}
-use Rattle.saved_values.specs.Asks.{Ask, all_asked, asked}
-use Rattle.saved_values.specs.declared.clause.Clause.TheVariants.{Colours, Islands, Links, Memberships, Momentum, References}
-use Rattle.saved_parts.specs.SavedSlots.{no_membership}
-use Rattle.saved_parts.specs.declared.saved.Membership.{Membership}
-use Rattle.saved_parts.specs.declared.saved.SavedContact.{SavedContact}
-use Rattle.saved_parts.specs.declared.saved.SavedJoint.{SavedJoint}
+use Rattle.world_file_base.specs.Asks.{Ask, all_asked, asked}
+use Rattle.world_file_base.specs.declared.clause.Clause.TheVariants.{Colours, Islands, Links, Memberships, Momentum, References}
+use Rattle.world_file_base.specs.SavedSlots.{no_membership}
+use Rattle.world_file_base.specs.declared.saved.Membership.{Membership}
+use Rattle.world_file_base.specs.declared.saved.SavedContact.{SavedContact}
+use Rattle.world_file_base.specs.declared.saved.SavedJoint.{SavedJoint}
 use Rattle.sleep_wake.specs.Acting.{links_of}
 use Rattle.solver_sets.specs.Ties.{contact_movers, joint_movers, tie_with}
 use Rattle.world_file.specs.Saved.{Saved}

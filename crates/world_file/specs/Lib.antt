@@ -5,3 +5,5 @@ pub mod Files
 pub mod Marked
 pub mod Lone
 pub mod Answers
+pub mod Laws
+pub mod Again

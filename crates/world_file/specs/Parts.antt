@@ -2,9 +2,9 @@
 use Rattle.std.specs.Prelude.{[], ◌∷◌, codes, is_some}
 use Rattle.serde_json.specs.Data.{Data}
 use Rattle.serde_json.specs.Find.{get}
-use Rattle.saved_values.specs.Asks.{Ask, all_asked, asked}
-use Rattle.saved_values.specs.Reading.{has_keys, whole_asks, whole_in}
-use Rattle.saved_values.specs.declared.clause.Clause.TheVariants.{Form}
+use Rattle.world_file_base.specs.Asks.{Ask, all_asked, asked}
+use Rattle.world_file_base.specs.Reading.{has_keys, whole_asks, whole_in}
+use Rattle.world_file_base.specs.declared.clause.Clause.TheVariants.{Form}
 use Rattle.world_file.specs.Saved.{Saved, version_of}
 use Rattle.world_file.specs.declared.parts.Saved as kept
 

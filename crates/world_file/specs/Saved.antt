@@ -7,17 +7,17 @@ use Rattle.fixed_geom.specs.declared.vectors.Vec2.{Vec2}
 use Rattle.impulse_ledger.specs.declared.totals.Totals.{Totals}
 use Rattle.momenta.specs.declared.limits.TheConstants.{MAX_GRAVITY}
 use Rattle.plain_world.specs.declared.body.Body.{Body}
-use Rattle.saved_values.specs.Asks.{Ask, all_asked, asked}
-use Rattle.saved_values.specs.Reading.{has_keys, items_in, list_asks, unsigned_asks, unsigned_in, vector_within, vector_within_asks, whole_asks, whole_in}
-use Rattle.saved_values.specs.declared.clause.Clause.TheVariants.{Form}
-use Rattle.saved_parts.specs.SavedContacts.{contacts_asks, contacts_in}
-use Rattle.saved_parts.specs.SavedSlots.{bodies_asks, bodies_in, body_key, joint_key, joints_asks, joints_in, memberships_in, places_in, slots_asks}
-use Rattle.saved_parts.specs.SavedTotals.{totals_asks, totals_in}
-use Rattle.saved_parts.specs.declared.saved.Membership.{Membership}
-use Rattle.saved_parts.specs.declared.saved.SavedContact.{SavedContact}
-use Rattle.saved_parts.specs.declared.saved.SavedJoint.{SavedJoint}
-use Rattle.saved_parts.specs.declared.version.Version.{Version}
-use Rattle.saved_parts.specs.declared.version.Version.TheVariants.{First, Second}
+use Rattle.world_file_base.specs.Asks.{Ask, all_asked, asked}
+use Rattle.world_file_base.specs.Reading.{has_keys, items_in, list_asks, unsigned_asks, unsigned_in, vector_within, vector_within_asks, whole_asks, whole_in}
+use Rattle.world_file_base.specs.declared.clause.Clause.TheVariants.{Form}
+use Rattle.world_file_base.specs.SavedContacts.{contacts_asks, contacts_in}
+use Rattle.world_file_base.specs.SavedSlots.{bodies_asks, bodies_in, body_key, joint_key, joints_asks, joints_in, memberships_in, places_in, slots_asks}
+use Rattle.world_file_base.specs.SavedTotals.{totals_asks, totals_in}
+use Rattle.world_file_base.specs.declared.saved.Membership.{Membership}
+use Rattle.world_file_base.specs.declared.saved.SavedContact.{SavedContact}
+use Rattle.world_file_base.specs.declared.saved.SavedJoint.{SavedJoint}
+use Rattle.world_file_base.specs.declared.version.Version.{Version}
+use Rattle.world_file_base.specs.declared.version.Version.TheVariants.{First, Second}
 
 pub record Saved : Type 0 where
   pub places : List Place

@@ -8,7 +8,7 @@ ghost use Rattle.contacts.specs.declared.constraint.Constraint.TheVariants.{Join
 ghost use Rattle.graph_colours.specs.Marks.{is_marked};
 ghost use Rattle.graph_colours.specs.declared.limits.TheConstants.{COLOURS as most_colours};
 ghost use Rattle.plain_world.specs.Plain.{constraints_of};
-ghost use Rattle.saved_values.specs.declared.clause.Broken.TheVariants.{NoMemory};
+ghost use Rattle.world_file_base.specs.declared.clause.Broken.TheVariants.{NoMemory};
 ghost use Rattle.world_file.specs.Files.{contact_colours, joint_colours};
 ghost use Rattle.world_file.specs.Fitting.{are_apart, coloured, colours_below, has_colour, ids_below, ids_coloured};
 ghost use Rattle.world_file.specs.Marked.{
@@ -29,9 +29,9 @@ use contacts_base::ContactEntry;
 use fixed_geom::Refusal;
 use graph_colours::{Id, Movers, OVERFLOW};
 use plain_world::Plain;
-use saved_values::Broken;
 use std::alloc::Global;
 use std::collections::HashMap;
+use world_file_base::Broken;
 
 /// Whether a tie has this colour.
 fn has_colour(tie: Tie, colour: u8) -> bool

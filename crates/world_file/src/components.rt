@@ -2,16 +2,15 @@
 
 ghost use Rattle.std.specs.Prelude.{◌≡◌, ◌≤◌, ◌<◌, ◌^◌, ◌∷◌, [], None, length, IfErr, IfOk, IsSome};
 ghost use Rattle.islands.specs.Labels.{label_at, merged};
-ghost use Rattle.saved_values.specs.declared.clause.Broken.TheVariants.{NoMemory};
+ghost use Rattle.world_file_base.specs.declared.clause.Broken.TheVariants.{NoMemory};
 ghost use Rattle.world_file.specs.Fitting.{apart_from, are_whole, is_whole_at};
 ghost use Rattle.world_file.specs.Lone.{AreSameLabels, added_if, components_by, joined_by};
 
 use crate::memberships::membership_at;
 use crate::ties::Tie;
 use islands::Islands;
-use saved_parts::Membership;
-use saved_values::Broken;
 use std::alloc::Global;
+use world_file_base::{Broken, Membership};
 
 /// Makes what a slot has an island of its own, if it is a mover.
 fn add_if(islands: &mut Islands, slot: u32, island: Option<u32>)

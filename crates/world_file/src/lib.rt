@@ -8,6 +8,7 @@
 
 mod colours;
 mod components;
+mod laws;
 mod memberships;
 mod momentum;
 mod parts;
@@ -15,6 +16,6 @@ mod references;
 mod ties;
 mod world;
 
-pub use saved_parts::Version;
-pub use saved_values::{Broken, Clause};
+pub use laws::{what_is_read_is_sound, what_is_written_fits, what_is_written_is_read_again};
 pub use world::{read, write};
+pub use world_file_base::{Broken, Clause, Version};

@@ -2,7 +2,7 @@
 
 ghost use Rattle.std.specs.Prelude.{◌≡◌, IfErr, IfOk, map};
 ghost use Rattle.std.specs.List.{list_all};
-ghost use Rattle.saved_values.specs.declared.clause.Broken.TheVariants.{NoMemory};
+ghost use Rattle.world_file_base.specs.declared.clause.Broken.TheVariants.{NoMemory};
 ghost use Rattle.world_file.specs.Fitting.{
   are_named_well,
   is_coloured_well,
@@ -19,9 +19,8 @@ ghost use Rattle.world_file.specs.Fitting.{
 
 use crate::ties::Tie;
 use islands::{IslandState, Label};
-use saved_parts::{Membership, NO_MEMBERSHIP};
-use saved_values::Broken;
 use std::alloc::Global;
+use world_file_base::{Broken, Membership, NO_MEMBERSHIP};
 
 /// What the body in a slot says of its island.
 pub(crate) fn membership_at(memberships: &[Membership], slot: u32) -> Membership

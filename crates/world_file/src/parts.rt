@@ -1,9 +1,9 @@
 //! What is read of a saved world, before its parts are held against one another.
 
 ghost use Rattle.std.specs.Prelude.{◌≡◌, ◌≤◌, ◌^◌, unwrap_or, IfErr, IfOk, OnOk};
-ghost use Rattle.saved_parts.specs.declared.version.Version.TheVariants.{Second};
-ghost use Rattle.saved_values.specs.Reading.{seen};
-ghost use Rattle.saved_values.specs.declared.clause.Broken.TheVariants.{NoMemory};
+ghost use Rattle.world_file_base.specs.declared.version.Version.TheVariants.{Second};
+ghost use Rattle.world_file_base.specs.Reading.{seen};
+ghost use Rattle.world_file_base.specs.declared.clause.Broken.TheVariants.{NoMemory};
 ghost use Rattle.serde_json.specs.View.{view};
 ghost use Rattle.world_file.specs.Saved.{
   calls_in,
@@ -17,20 +17,19 @@ ghost use Rattle.world_file.specs.Saved.{
 };
 ghost use Rattle.world_file.specs.Parts.{parts_of, version_asks};
 ghost use Rattle.momenta.specs.declared.limits.TheConstants.{MAX_GRAVITY};
-ghost use Rattle.saved_values.specs.Reading.{vector_within};
-ghost use Rattle.saved_parts.specs.SavedTotals.{totals_in};
+ghost use Rattle.world_file_base.specs.Reading.{vector_within};
+ghost use Rattle.world_file_base.specs.SavedTotals.{totals_in};
 ghost use Rattle.serde_json.specs.Find.{get};
 
 use fixed_geom::Vec2;
 use impulse_ledger::Totals;
 use momenta::MAX_GRAVITY;
-use saved_parts::{
-    SavedBodies, SavedContact, SavedJoints, Version, read_bodies, read_contacts, read_joints,
-    read_totals,
-};
-use saved_values::{Broken, Clause, Reader, field, has_keys};
 use serde_json::Value;
 use std::alloc::Global;
+use world_file_base::{
+    Broken, Clause, Reader, SavedBodies, SavedContact, SavedJoints, Version, field, has_keys,
+    read_bodies, read_contacts, read_joints, read_totals,
+};
 
 /// How many calls a world accepts at most.
 const MAX_CALLS: u64 = 1 << 40;

@@ -6,7 +6,7 @@ ghost use Rattle.plain_world.specs.Slots.{body_at};
 ghost use Rattle.std.specs.List.{list_all};
 ghost use Rattle.body_handles.specs.Places.{is_live};
 ghost use Rattle.contacts_base.specs.Surfaces.{IsSurface};
-ghost use Rattle.saved_values.specs.declared.clause.Broken.TheVariants.{NoMemory};
+ghost use Rattle.world_file_base.specs.declared.clause.Broken.TheVariants.{NoMemory};
 ghost use Rattle.world_file.specs.Fitting.{
   are_points,
   are_rising_after,
@@ -23,10 +23,9 @@ use body_handles::{Handle, Place};
 use contacts_base::limits::{MAX_FRICTION, MAX_RESTITUTION};
 use contacts_base::{ContactEntry, ContactPoint, PackedSurface, ShapeId, Surface};
 use plain_world::{Body, BodyJoint};
-use saved_parts::{SavedContact, SavedJoint};
-use saved_values::Broken;
 use shapes::ShapeDef;
 use std::alloc::Global;
+use world_file_base::{Broken, SavedContact, SavedJoint};
 
 /// Whether the handle names a body that is there.
 fn is_live(places: &[Place], handle: Handle) -> bool

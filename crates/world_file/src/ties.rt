@@ -2,7 +2,7 @@
 
 ghost use Rattle.std.specs.Prelude.{◌≡◌, ◌≤◌, ◌^◌, ◌++◌, ◌⊎◌, IfErr, IfOk, OnOk, length};
 ghost use Rattle.std.specs.List.{flat_map, list_all};
-ghost use Rattle.saved_values.specs.declared.clause.Broken.TheVariants.{NoMemory};
+ghost use Rattle.world_file_base.specs.declared.clause.Broken.TheVariants.{NoMemory};
 ghost use Rattle.world_file.specs.Fitting.{
   are_joints_colourless,
   contact_listed,
@@ -21,10 +21,9 @@ use body_handles::{Handle, Place};
 use contacts::Constraint;
 use graph_colours::Member;
 use plain_world::Body;
-use saved_parts::{SavedContact, SavedJoint};
-use saved_values::Broken;
 use solver_sets::{contact_movers, joint_movers, tie_with};
 use std::alloc::Global;
+use world_file_base::{Broken, SavedContact, SavedJoint};
 
 /// A joint or a touching contact of enabled bodies, one of them a mover, with its colour.
 #[derive(Clone, Copy)]

@@ -6,7 +6,7 @@ ghost use Rattle.std.specs.Result.{IsOkUnless};
 ghost use Rattle.serde_json.specs.View.{view};
 ghost use Rattle.graph_colours.specs.declared.limits.TheConstants.{COLOURS as most_colours};
 ghost use Rattle.plain_world.specs.Plain.{constraints_of};
-ghost use Rattle.saved_values.specs.declared.clause.Broken.TheVariants.{NoMemory};
+ghost use Rattle.world_file_base.specs.declared.clause.Broken.TheVariants.{NoMemory};
 ghost use Rattle.world_file.specs.Answers.{IsBrokenBy, IsRefusedBy, others_asks};
 ghost use Rattle.world_file.specs.Files.{plain_of as world_of, read_of, value_of};
 ghost use Rattle.world_file.specs.Fitting.{
@@ -40,10 +40,11 @@ use fixed_geom::Refusal;
 use impulse_ledger::Totals;
 use islands::Label;
 use plain_world::{BodyJoint, Plain};
-use saved_parts::{bodies_value, contacts_value, joints_value, totals_value};
-use saved_values::{Broken, Clause, Members, Reader};
 use serde_json::Value;
 use std::alloc::Global;
+use world_file_base::{
+    Broken, Clause, Members, Reader, bodies_value, contacts_value, joints_value, totals_value,
+};
 
 /// The number of the version that is written.
 const WRITTEN: u8 = 2;

@@ -3,7 +3,7 @@
 ghost use Rattle.std.specs.Prelude.{◌≡◌, IfOk};
 ghost use Rattle.std.specs.Result.{IsOkUnless};
 ghost use Rattle.impulse_ledger.specs.Sums.{totals_of};
-ghost use Rattle.saved_worlds.specs.Laws.{HasSmallTotals};
+ghost use Rattle.world_file.specs.Laws.{HasSmallTotals};
 ghost use Rattle.serde_json.specs.View.{view};
 ghost use Rattle.world_core.specs.SavedAgain.{IsReadAs};
 ghost use Rattle.world_file.specs.Files.{value_of};

@@ -1,5 +1,5 @@
 use Rattle.std.proofs.Common.{drop, arith}
-use Rattle.saved_parts.specs.SavedSlots.{body_slots}
+use Rattle.world_file_base.specs.SavedSlots.{body_slots}
 use Rattle.saved_text.proofs.Adding.{list_added, list_begun, wrote}
 use Rattle.saved_text.proofs.Ends.{bodies_end}
 use Rattle.saved_text.proofs.bodies.put_bodies.Goals as goal

@@ -1,5 +1,5 @@
 use Rattle.std.proofs.Common.{drop}
-use Rattle.saved_parts.specs.SavedSlots.{body_slots}
+use Rattle.world_file_base.specs.SavedSlots.{body_slots}
 use Rattle.saved_text.specs.Tokens.{ItemsLeft}
 use Rattle.saved_text.proofs.bodies.put_bodies.Given as goal
 

@@ -1,7 +1,7 @@
 use Rattle.std.proofs.Common.{◌++◌, ◌∷◌, [], codes}
-use Rattle.saved_parts.specs.SavedBodies.{body_of}
-use Rattle.saved_parts.specs.SavedShapes.{shapes_of}
-use Rattle.saved_values.specs.Written.{list_of}
+use Rattle.world_file_base.specs.SavedBodies.{body_of}
+use Rattle.world_file_base.specs.SavedShapes.{shapes_of}
+use Rattle.world_file_base.specs.Written.{list_of}
 use Rattle.saved_text.specs.Bodies.{first_of_body, last_of_body}
 use Rattle.saved_text.proofs.Adding.{member_added, members_then, object_added, wrote}
 use Rattle.saved_text.proofs.Objects.{body_object}

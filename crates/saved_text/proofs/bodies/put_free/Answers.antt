@@ -1,5 +1,5 @@
 use Rattle.std.proofs.Common.{[], None}
-use Rattle.saved_parts.specs.SavedSlots.{slot_of}
+use Rattle.world_file_base.specs.SavedSlots.{slot_of}
 use Rattle.saved_text.proofs.Objects.{free_object}
 use Rattle.saved_text.proofs.bodies.put_free.Goals as goal
 

@@ -1,7 +1,7 @@
 use Rattle.std.proofs.Common.{◌∷◌, [], Some, codes}
-use Rattle.saved_parts.specs.SavedBodies.{body_of}
-use Rattle.saved_parts.specs.SavedSlots.{body_slot_of}
-use Rattle.saved_values.specs.Written.{natural}
+use Rattle.world_file_base.specs.SavedBodies.{body_of}
+use Rattle.world_file_base.specs.SavedSlots.{body_slot_of}
+use Rattle.world_file_base.specs.Written.{natural}
 use Rattle.saved_text.proofs.Adding.{member_added, members_then, object_added, wrote}
 use Rattle.saved_text.proofs.Objects.{body_slot_object}
 use Rattle.saved_text.proofs.bodies.put_taken.Goals as goal

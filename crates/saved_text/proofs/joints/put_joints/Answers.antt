@@ -1,6 +1,6 @@
 use Rattle.std.proofs.Common.{drop, arith, nat_eq}
 use Rattle.std.specs.HashMap.{get}
-use Rattle.saved_parts.specs.SavedSlots.{joint_slots}
+use Rattle.world_file_base.specs.SavedSlots.{joint_slots}
 use Rattle.world_file.specs.Marked.{joint_colours_by}
 use Rattle.saved_text.proofs.Adding.{list_added, list_begun, wrote}
 use Rattle.saved_text.proofs.Ends.{joints_end}

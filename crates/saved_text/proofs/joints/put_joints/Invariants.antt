@@ -1,6 +1,6 @@
 use Rattle.std.proofs.Common.{drop, nat_eq}
 use Rattle.std.specs.HashMap.{get}
-use Rattle.saved_parts.specs.SavedSlots.{joint_slots}
+use Rattle.world_file_base.specs.SavedSlots.{joint_slots}
 use Rattle.world_file.specs.Marked.{joint_colours_by}
 use Rattle.saved_text.specs.Tokens.{ItemsLeft}
 use Rattle.saved_text.proofs.joints.put_joints.Given as goal

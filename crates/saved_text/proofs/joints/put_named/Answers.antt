@@ -1,4 +1,4 @@
-use Rattle.saved_parts.specs.SavedJoints.{joint_of}
+use Rattle.world_file_base.specs.SavedJoints.{joint_of}
 use Rattle.saved_text.proofs.Objects.{joint_object}
 use Rattle.saved_text.proofs.joints.put_named.Goals as goal
 

@@ -1,7 +1,7 @@
 use Rattle.std.proofs.Common.{◌∷◌, [], Some, codes}
-use Rattle.saved_parts.specs.SavedJoints.{joint_of}
-use Rattle.saved_parts.specs.SavedSlots.{joint_slot_of}
-use Rattle.saved_values.specs.Written.{natural}
+use Rattle.world_file_base.specs.SavedJoints.{joint_of}
+use Rattle.world_file_base.specs.SavedSlots.{joint_slot_of}
+use Rattle.world_file_base.specs.Written.{natural}
 use Rattle.saved_text.proofs.Adding.{member_added, members_then, object_added, wrote}
 use Rattle.saved_text.proofs.Objects.{joint_slot_object}
 use Rattle.saved_text.proofs.joints.put_taken.Goals as goal

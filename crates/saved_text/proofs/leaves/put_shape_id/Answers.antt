@@ -1,5 +1,5 @@
 use Rattle.std.proofs.Common.{◌∷◌, [], refl}
-use Rattle.saved_values.specs.Written.{natural}
+use Rattle.world_file_base.specs.Written.{natural}
 use Rattle.saved_text.proofs.Adding.{item_gone, list_added, list_begun, wrote}
 use Rattle.saved_text.proofs.leaves.put_shape_id.Goals as goal
 

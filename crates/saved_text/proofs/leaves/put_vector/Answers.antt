@@ -1,7 +1,7 @@
 use Rattle.std.proofs.Common.{◌∷◌, [], refl, rules, to_z-of_z}
 use Rattle.std.specs.Int.{w64}
 use mir.Val.{SFits}
-use Rattle.saved_values.specs.Written.{integer}
+use Rattle.world_file_base.specs.Written.{integer}
 use Rattle.saved_text.specs.Tokens.{AddsValue}
 use Rattle.saved_text.proofs.Adding.{item_gone, list_added, list_begun, wrote}
 use Rattle.saved_text.proofs.leaves.put_vector.Goals as goal

@@ -1,4 +1,4 @@
-use Rattle.saved_parts.specs.SavedTotals.{totals_of}
+use Rattle.world_file_base.specs.SavedTotals.{totals_of}
 use Rattle.saved_text.proofs.Objects.{totals_object}
 use Rattle.saved_text.proofs.ledger.put_totals.Goals as goal
 

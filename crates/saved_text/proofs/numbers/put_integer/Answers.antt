@@ -4,7 +4,7 @@ use Rattle.std.specs.Int.{w64}
 use mir.Val.{SFits}
 use Rattle.json.specs.Token.{number}
 use Rattle.json.specs.Written.{Writes}
-use Rattle.saved_values.specs.Written.{integer}
+use Rattle.world_file_base.specs.Written.{integer}
 use Rattle.saved_text.proofs.Adding.{wrote_value}
 use Rattle.saved_text.proofs.Narrow.{integer_text, integer_whole}
 use Rattle.saved_text.proofs.numbers.put_integer.Goals as goal

@@ -1,6 +1,6 @@
 use Rattle.std.proofs.Common.{refl, arith, decimal}
 use Rattle.json.specs.Token.{number}
-use Rattle.saved_values.specs.Written.{natural}
+use Rattle.world_file_base.specs.Written.{natural}
 use Rattle.saved_text.proofs.Adding.{wrote_value}
 use Rattle.saved_text.proofs.Narrow.{natural_whole}
 use Rattle.saved_text.proofs.numbers.put_natural.Goals as goal

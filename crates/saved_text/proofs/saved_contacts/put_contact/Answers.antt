@@ -1,7 +1,7 @@
 use Rattle.std.proofs.Common.{◌∷◌, [], ◌++◌, codes}
 use Rattle.serde_json.specs.Data.{boolean}
-use Rattle.saved_parts.specs.SavedContacts.{contact_of, points_of, shape_id_of}
-use Rattle.saved_values.specs.Written.{natural_or_null}
+use Rattle.world_file_base.specs.SavedContacts.{contact_of, points_of, shape_id_of}
+use Rattle.world_file_base.specs.Written.{natural_or_null}
 use Rattle.saved_text.proofs.Adding.{member_added, members_then, object_added, wrote}
 use Rattle.saved_text.proofs.Objects.{contact_object}
 use Rattle.saved_text.proofs.saved_contacts.put_contact.Goals as goal

@@ -1,4 +1,4 @@
-use Rattle.saved_parts.specs.SavedContacts.{point_of}
+use Rattle.world_file_base.specs.SavedContacts.{point_of}
 use Rattle.saved_text.proofs.Objects.{point_object}
 use Rattle.saved_text.proofs.saved_contacts.put_point.Goals as goal
 

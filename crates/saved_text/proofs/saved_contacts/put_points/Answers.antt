@@ -1,5 +1,5 @@
 use Rattle.std.proofs.Common.{sym}
-use Rattle.saved_parts.specs.SavedContacts.{point_or_none}
+use Rattle.world_file_base.specs.SavedContacts.{point_or_none}
 use Rattle.saved_text.proofs.Adding.{points_added, wrote}
 use Rattle.saved_text.proofs.saved_contacts.put_points.Goals as goal
 

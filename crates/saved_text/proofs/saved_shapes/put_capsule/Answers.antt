@@ -1,4 +1,4 @@
-use Rattle.saved_parts.specs.SavedShapes.{shape_of}
+use Rattle.world_file_base.specs.SavedShapes.{shape_of}
 use Rattle.saved_text.proofs.Objects.{capsule_object}
 use Rattle.saved_text.proofs.saved_shapes.put_capsule.Goals as goal
 

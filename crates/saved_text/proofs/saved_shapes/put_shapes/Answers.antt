@@ -1,5 +1,5 @@
 use Rattle.std.proofs.Common.{drop, arith}
-use Rattle.saved_parts.specs.SavedShapes.{shapes_of}
+use Rattle.world_file_base.specs.SavedShapes.{shapes_of}
 use Rattle.saved_text.proofs.Adding.{list_added, list_begun, wrote}
 use Rattle.saved_text.proofs.Ends.{shapes_end}
 use Rattle.saved_text.proofs.saved_shapes.put_shapes.Goals as goal

@@ -1,5 +1,5 @@
 use Rattle.std.proofs.Common.{drop}
-use Rattle.saved_parts.specs.SavedShapes.{shapes_of}
+use Rattle.world_file_base.specs.SavedShapes.{shapes_of}
 use Rattle.saved_text.specs.Tokens.{ItemsLeft}
 use Rattle.saved_text.proofs.saved_shapes.put_shapes.Given as goal
 

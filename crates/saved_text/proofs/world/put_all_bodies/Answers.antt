@@ -1,5 +1,5 @@
 use Rattle.std.proofs.Common.{codes, sym}
-use Rattle.saved_parts.specs.SavedSlots.{bodies_of}
+use Rattle.world_file_base.specs.SavedSlots.{bodies_of}
 use Rattle.saved_text.proofs.Adding.{member_added, wrote}
 use Rattle.saved_text.proofs.world.put_all_bodies.Goals as goal
 

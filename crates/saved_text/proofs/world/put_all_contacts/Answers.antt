@@ -2,7 +2,7 @@ use Rattle.std.proofs.Common.{codes, List, Option, ℕ, ap, ◌∙◌, nat_eq, s
 use Rattle.std.specs.HashMap.{get}
 use Rattle.serde_json.specs.Data.{Data}
 use Rattle.contacts_base.specs.declared.contact.ContactEntry.{ContactEntry}
-use Rattle.saved_parts.specs.SavedContacts.{contacts_of}
+use Rattle.world_file_base.specs.SavedContacts.{contacts_of}
 use Rattle.world_file.specs.Files.{contact_colours}
 use Rattle.world_file.specs.Marked.{contact_colours_by}
 use Rattle.world_file.proofs.Numbered.{contacts_numbered}

@@ -1,7 +1,7 @@
 use Rattle.std.proofs.Common.{codes, List, Option, ℕ, ap, nat_eq, subst, sym}
 use Rattle.std.specs.HashMap.{get}
 use Rattle.serde_json.specs.Data.{Data}
-use Rattle.saved_parts.specs.SavedSlots.{joints_of}
+use Rattle.world_file_base.specs.SavedSlots.{joints_of}
 use Rattle.world_file.specs.Files.{joint_colours}
 use Rattle.world_file.specs.Marked.{joint_colours_by}
 use Rattle.world_file.proofs.Numbered.{joints_numbered}

@@ -1,5 +1,5 @@
 use Rattle.std.proofs.Common.{codes}
-use Rattle.saved_parts.specs.SavedTotals.{totals_of}
+use Rattle.world_file_base.specs.SavedTotals.{totals_of}
 use Rattle.saved_text.proofs.Adding.{member_added, wrote}
 use Rattle.saved_text.proofs.world.put_ledger.Goals as goal
 

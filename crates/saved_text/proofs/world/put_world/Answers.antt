@@ -1,8 +1,8 @@
 use Rattle.std.proofs.Common.{◌∷◌, [], ◌++◌, codes, sym}
-use Rattle.saved_parts.specs.SavedContacts.{contacts_of}
-use Rattle.saved_parts.specs.SavedSlots.{bodies_of, joints_of}
-use Rattle.saved_parts.specs.SavedTotals.{totals_of}
-use Rattle.saved_values.specs.Written.{natural, vector_of}
+use Rattle.world_file_base.specs.SavedContacts.{contacts_of}
+use Rattle.world_file_base.specs.SavedSlots.{bodies_of, joints_of}
+use Rattle.world_file_base.specs.SavedTotals.{totals_of}
+use Rattle.world_file_base.specs.Written.{natural, vector_of}
 use Rattle.world_file.specs.Files.{contact_colours, joint_colours, value_of, written_version}
 use Rattle.saved_text.specs.Tokens.{AddsMembers}
 use Rattle.saved_text.proofs.Adding.{members_then, object_added, wrote}

@@ -1,5 +1,5 @@
 use Rattle.std.proofs.Common.{arith, ap}
-use Rattle.saved_parts.specs.declared.saved.Membership.{Membership}
+use Rattle.world_file_base.specs.declared.saved.Membership.{Membership}
 use Rattle.world_file.proofs.Alone.{all_alone, done_more, rest_more}
 use Rattle.world_file.proofs.components.list_alone.Goals as goal
 

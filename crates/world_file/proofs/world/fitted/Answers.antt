@@ -1,6 +1,6 @@
 use Rattle.std.proofs.Common.{Bool, ap, ◌∙◌}
-use Rattle.saved_values.specs.Asks.{asked}
-use Rattle.saved_values.specs.declared.clause.Clause.TheVariants.{References}
+use Rattle.world_file_base.specs.Asks.{asked}
+use Rattle.world_file_base.specs.declared.clause.Clause.TheVariants.{References}
 use Rattle.world_file.specs.Answers.{IsBrokenBy}
 use Rattle.world_file.specs.Fitting.{fitting_asks}
 use Rattle.world_file.specs.Parts.{parts_of}

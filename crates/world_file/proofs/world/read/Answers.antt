@@ -3,7 +3,7 @@ use Rattle.std.specs.Prelude.{Result, Ok}
 use Rattle.serde_json.specs.View.{view}
 use Rattle.impulse_ledger.specs.declared.totals.Totals.{Totals}
 use Rattle.plain_world.specs.Plain.{Plain}
-use Rattle.saved_values.specs.declared.clause.Clause.{Clause}
+use Rattle.world_file_base.specs.declared.clause.Clause.{Clause}
 use Rattle.world_file.specs.Answers.{IsRefusedBy}
 use Rattle.world_file.specs.Files.{read_of}
 use Rattle.world_file.specs.Parts.{parts_of}

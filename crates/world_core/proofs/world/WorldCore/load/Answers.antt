@@ -1,5 +1,5 @@
 use Rattle.serde_json.specs.View.{view}
-use Rattle.saved_worlds.proofs.ReadSound.{what_is_read_is_sound}
+use Rattle.world_file.proofs.ReadSound.{what_is_read_is_sound}
 use Rattle.world_core.proofs.SavedLaws.{loaded_again, refused_again}
 use Rattle.world_core.proofs.world.WorldCore.load.Goals as goal
 

@@ -1,6 +1,0 @@
-use Rattle.std.proofs.Common.{sym, ◌∙◌, arith}
-use Rattle.saved_parts.proofs.Listed.{no_box}
-use Rattle.saved_parts.proofs.bodies.are_in_boxes.Goals as goal
-
-pub returns-then-place-fats : goal.returns-then-place-fats
-returns-then-place-fats c = sym (no_box c.args.pose c.args.defs.now c.args.fats.now c.loop-place.place (omega arith) (omega arith)) ∙ c.loop-place.invariant

@@ -1,7 +1,0 @@
-use Rattle.std.proofs.Common.{◌≡◌, ◌++◌, drop, map}
-use Rattle.serde_json.specs.View.{view}
-use Rattle.saved_parts.specs.SavedShapes.{shapes_of}
-use Rattle.saved_parts.proofs.bodies.shapes_value.Given as goal
-
-abbrev pub invariant-loop-place : goal.invariant-loop-place
-invariant-loop-place l = map view l.items.items ++ shapes_of (drop l.place l.defs) (drop l.place l.fats) ≡ shapes_of l.defs l.fats

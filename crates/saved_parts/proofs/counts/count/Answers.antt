@@ -1,6 +1,0 @@
-use Rattle.std.proofs.Common.{sym}
-use Rattle.serde_json.proofs.Views.{items_len-items_view}
-use Rattle.saved_parts.proofs.counts.count.Goals as goal
-
-pub returns : goal.returns
-returns c = sym (items_len-items_view c.args.items.now)

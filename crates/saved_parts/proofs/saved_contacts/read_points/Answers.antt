@@ -1,7 +1,0 @@
-use Rattle.std.proofs.Common.{subst, sym}
-use Rattle.contacts_base.specs.Limits.{IsPackable}
-use Rattle.saved_parts.proofs.PointLaws.{packable}
-use Rattle.saved_parts.proofs.saved_contacts.read_points.Goals as goal
-
-pub with_point-contact-requires : goal.with_point-contact-requires
-with_point-contact-requires c = subst IsPackable (sym c.read_point.ensures.value) (packable _)

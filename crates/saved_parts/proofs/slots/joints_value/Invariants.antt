@@ -1,8 +1,0 @@
-use Rattle.std.proofs.Common.{◌≡◌, ◌++◌, drop, map}
-use Rattle.serde_json.specs.View.{view}
-use Rattle.saved_parts.specs.SavedSlots.{joint_slots}
-use Rattle.saved_parts.proofs.slots.joints_value.Given as goal
-
-abbrev pub invariant-loop-slot : goal.invariant-loop-slot
-invariant-loop-slot l =
-    map view l.items.items ++ joint_slots l.places (drop l.slot l.joint_places) (drop l.slot l.joints) (drop l.slot l.colours) ≡ joint_slots l.places l.joint_places l.joints l.colours

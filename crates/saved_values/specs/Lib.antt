@@ -1,4 +1,0 @@
-pub mod Asks
-pub mod Reading
-pub mod Written
-pub mod Texts

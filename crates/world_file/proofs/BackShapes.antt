@@ -1,0 +1,101 @@
+-- Shapes are read as they are written.
+use Rattle.std.proofs.Common.{◌≡◌, ◌^◌, List, [], ◌∷◌, length, ℤ, refl, ap, ap₂, ◌∙◌, arith}
+use Rattle.std.proofs.lemmas.Int.{ints}
+use Rattle.plain_world.specs.Formed.{HasFilter}
+use Rattle.serde_json.specs.View.{items_of}
+use Rattle.contacts.proofs.Members.{Each}
+use Rattle.fixed_geom.specs.Boxes.{IsBoxWithin}
+use Rattle.fixed_geom.specs.Vectors.{IsWithin}
+use Rattle.fixed_geom.specs.declared.boxes.Box2.{Box2}
+use Rattle.fixed_geom.specs.declared.vectors.Vec2.{Vec2}
+use Rattle.shapes.specs.Shapes.{IsShapeDef}
+use Rattle.shapes.specs.declared.filter.Filter.{Filter}
+use Rattle.shapes.specs.declared.shape.Shape.{Shape}
+use Rattle.shapes.specs.declared.shape.Shape.TheVariants.{Circle, Capsule, Segment}
+use Rattle.shapes.specs.declared.shape.ShapeDef.{ShapeDef}
+use Rattle.world_file_base.specs.Reading.{greatest_group, least_group}
+use Rattle.world_file_base.specs.declared.reader.Reader.{Reader}
+use Rattle.world_file_base.specs.SavedShapes.{defs_in, fats_in, form_asks, form_in, most_bits, most_corner, shape_asks, shape_in, shape_of, shapes_asks, shapes_of}
+use Rattle.world_file_base.specs.declared.saved_shapes.SavedShape.{SavedShape}
+use Rattle.world_file.proofs.BackNumbers.{between_true, corners_back, number_back, signed_back, unsigned_back, vector_back}
+
+record IsShapeBack (def : ShapeDef) (fat : Box2) : Type 0 where
+  value : shape_in (shape_of def fat) ≡ record { def = def; fat = fat }
+  asks : (r : Reader) → shape_asks (shape_of def fat) r ≡ r
+
+near : (v : Vec2) → IsWithin (2 ^ 24) v → IsWithin (2 ^ 62) v
+near v h = let x = h.x in let y = h.y in record { x = omega (arith, x); y = omega (arith, y) }
+
+shape_back : (s : Shape) (friction restitution : ℤ) (filter : Filter) (fat : Box2) → let def : ShapeDef = record { shape = s; friction = friction; restitution = restitution; filter = filter } in IsShapeDef def → HasFilter filter → IsBoxWithin (2 ^ 37) fat → IsShapeBack def fat
+unfolding shape_in shape_of shape_asks form_in form_asks
+shape_back (Circle center radius) friction restitution filter fat h hf small =
+    let friction_small = h.friction_small in
+    let restitution_small = h.restitution_small in
+    let radius_small = h.shape.radius in
+    let x = vector_back center (near center h.shape.first) in
+    let k = number_back radius (omega (arith, ints, radius_small)) in
+    let f = number_back friction (omega (arith, ints, friction_small)) in
+    let e = number_back restitution (omega (arith, ints, restitution_small)) in
+    let c = unsigned_back most_bits filter.category hf.category in
+    let m = unsigned_back most_bits filter.mask hf.mask in
+    let g = signed_back least_group greatest_group filter.group (between_true least_group greatest_group filter.group hf.least hf.most) in
+    let b = corners_back most_corner fat (omega arith) small in
+    record {
+      value = λ i. record { def = record { shape = Circle (x.value i) (k.value i); friction = f.value i; restitution = e.value i; filter = record { category = c.value i; mask = m.value i; group = g.value i } }; fat = b.value i };
+      asks = λ r. b.asks _ ∙ g.asks _ ∙ m.asks _ ∙ c.asks _ ∙ e.asks _ ∙ f.asks _ ∙ k.asks _ ∙ x.asks r;
+    }
+shape_back (Capsule first second radius) friction restitution filter fat h hf small =
+    let friction_small = h.friction_small in
+    let restitution_small = h.restitution_small in
+    let radius_small = h.shape.radius in
+    let x = vector_back first (near first h.shape.first) in
+    let y = vector_back second (near second h.shape.second) in
+    let k = number_back radius (omega (arith, ints, radius_small)) in
+    let f = number_back friction (omega (arith, ints, friction_small)) in
+    let e = number_back restitution (omega (arith, ints, restitution_small)) in
+    let c = unsigned_back most_bits filter.category hf.category in
+    let m = unsigned_back most_bits filter.mask hf.mask in
+    let g = signed_back least_group greatest_group filter.group (between_true least_group greatest_group filter.group hf.least hf.most) in
+    let b = corners_back most_corner fat (omega arith) small in
+    record {
+      value = λ i. record { def = record { shape = Capsule (x.value i) (y.value i) (k.value i); friction = f.value i; restitution = e.value i; filter = record { category = c.value i; mask = m.value i; group = g.value i } }; fat = b.value i };
+      asks = λ r. b.asks _ ∙ g.asks _ ∙ m.asks _ ∙ c.asks _ ∙ e.asks _ ∙ f.asks _ ∙ k.asks _ ∙ y.asks _ ∙ x.asks r;
+    }
+shape_back (Segment first second) friction restitution filter fat h hf small =
+    let friction_small = h.friction_small in
+    let restitution_small = h.restitution_small in
+    let x = vector_back first (near first h.shape.first) in
+    let y = vector_back second (near second h.shape.second) in
+    let f = number_back friction (omega (arith, ints, friction_small)) in
+    let e = number_back restitution (omega (arith, ints, restitution_small)) in
+    let c = unsigned_back most_bits filter.category hf.category in
+    let m = unsigned_back most_bits filter.mask hf.mask in
+    let g = signed_back least_group greatest_group filter.group (between_true least_group greatest_group filter.group hf.least hf.most) in
+    let b = corners_back most_corner fat (omega arith) small in
+    record {
+      value = λ i. record { def = record { shape = Segment (x.value i) (y.value i); friction = f.value i; restitution = e.value i; filter = record { category = c.value i; mask = m.value i; group = g.value i } }; fat = b.value i };
+      asks = λ r. b.asks _ ∙ g.asks _ ∙ m.asks _ ∙ c.asks _ ∙ e.asks _ ∙ f.asks _ ∙ y.asks _ ∙ x.asks r;
+    }
+
+shape_is : (def : ShapeDef) (fat : Box2) → IsShapeDef def → HasFilter def.filter → IsBoxWithin (2 ^ 37) fat → IsShapeBack def fat
+shape_is def fat h f small = shape_back def.shape def.friction def.restitution def.filter fat h f small
+
+-- ---- those of a body
+
+pub record AreShapesBack (shapes : List ShapeDef) (boxes : List Box2) : Type 0 where
+  pub defs : defs_in (items_of (shapes_of shapes boxes)) ≡ shapes
+  pub fats : fats_in (items_of (shapes_of shapes boxes)) ≡ boxes
+  pub asks : (r : Reader) → shapes_asks (items_of (shapes_of shapes boxes)) r ≡ r
+
+pub shapes_back : (defs : List ShapeDef) (fats : List Box2) → length fats ≡ length defs → Each IsShapeDef defs → Each (λ (d : ShapeDef). HasFilter d.filter) defs → Each (IsBoxWithin (2 ^ 37)) fats → AreShapesBack defs fats
+shapes_back [] [] e hs fs bs = record { defs = refl; fats = refl; asks = λ r. refl }
+shapes_back [] (fat ∷ fats) e hs fs bs = absurd (omega arith)
+shapes_back (def ∷ defs) [] e hs fs bs = absurd (omega arith)
+shapes_back (def ∷ defs) (fat ∷ fats) e hs fs bs =
+    let one = shape_is def fat hs.0 fs.0 bs.0 in
+    let rest = shapes_back defs fats (omega arith) hs.1 fs.1 bs.1 in
+    record {
+      defs = ap₂ (λ (x : ShapeDef) (xs : List ShapeDef). x ∷ xs) (ap (λ (v : SavedShape). v.def) one.value) rest.defs;
+      fats = ap₂ (λ (x : Box2) (xs : List Box2). x ∷ xs) (ap (λ (v : SavedShape). v.fat) one.value) rest.fats;
+      asks = λ r. rest.asks (shape_asks (shape_of def fat) r) ∙ one.asks r;
+    }

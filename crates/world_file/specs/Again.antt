@@ -1,0 +1,66 @@
+-- What is written of a world, part by part.
+use Rattle.std.specs.Prelude.{ℕ, suc, ◌+◌, List, [], ◌∷◌, map, Option, Some, None, option_map, slice_get}
+use Rattle.body_handles.specs.declared.handle.Handle.{Handle}
+use Rattle.body_handles.specs.declared.places.Place.{Place}
+use Rattle.contacts.specs.declared.constraint.Constraint.{Constraint}
+use Rattle.contacts.specs.declared.constraint.Constraint.TheVariants.{Joint, Contact}
+use Rattle.contacts_base.specs.Evaluate.{touches}
+use Rattle.contacts_base.specs.declared.contact.ContactEntry.{ContactEntry}
+use Rattle.contacts_base.specs.declared.contact.ContactPoint.{ContactPoint}
+use Rattle.impulse_ledger.specs.declared.totals.Totals.{Totals}
+use Rattle.islands.specs.Labels.{is_asleep, is_loose}
+use Rattle.islands.specs.declared.label.Label.{Label}
+use Rattle.plain_world.specs.Plain.{Plain, colour_of}
+use Rattle.plain_world.specs.declared.joint.BodyJoint.{BodyJoint}
+use Rattle.world_file_base.specs.SavedJoints.{generation_of}
+use Rattle.world_file_base.specs.SavedSlots.{no_membership}
+use Rattle.world_file_base.specs.declared.saved.Membership.{Membership}
+use Rattle.world_file_base.specs.declared.saved.SavedContact.{SavedContact}
+use Rattle.world_file_base.specs.declared.saved.SavedJoint.{SavedJoint}
+use Rattle.world_file.specs.Saved.{Saved}
+
+-- what the label of a mover says of its island
+abbrev pub membership_of : Option Label → Membership
+membership_of None = no_membership
+membership_of (Some l) = record { island = Some l.name; loose = is_loose l.state; asleep = is_asleep l.state }
+
+abbrev pub id_in : List Place → ℕ → Handle
+id_in places slot = record { slot = slot; generation = generation_of (slice_get places slot) }
+
+abbrev pub saved_joint : List Place → Option ℕ → BodyJoint → SavedJoint
+saved_joint places colour j = record { a = id_in places j.a; b = id_in places j.b; joint = j; colour = colour }
+
+-- those of the slots from this one on
+abbrev pub saved_joints : List Place → List (List Constraint) → ℕ → List Place → List (Option BodyJoint) → List (Option SavedJoint)
+saved_joints places colours slot [] joints = []
+saved_joints places colours slot (p ∷ ps) [] = []
+saved_joints places colours slot (p ∷ ps) (o ∷ joints) =
+    option_map (saved_joint places (colour_of (Joint (record { slot = slot; generation = p.generation })) colours)) o ∷ saved_joints places colours (suc slot) ps joints
+
+abbrev pub count_of : Option ContactPoint → ℕ
+count_of None = 0
+count_of (Some p) = 1
+
+abbrev pub saved_contact : List (List Constraint) → ContactEntry → SavedContact
+saved_contact colours e = record {
+  key = e.key;
+  touching = touches e.contact;
+  colour = colour_of (Contact e.key) colours;
+  contact = e.contact;
+  points = count_of e.contact.first + count_of e.contact.second;
+}
+
+-- what is written of a world with these totals
+abbrev pub saved_of : Plain → Totals → Saved
+saved_of p t = record {
+  places = p.places;
+  bodies = p.bodies;
+  memberships = map membership_of p.islands;
+  joint_places = p.joint_places;
+  joints = saved_joints p.places p.colours 0 p.joint_places p.joints;
+  contacts = map (saved_contact p.colours) p.contacts;
+  totals = t;
+  gravity = p.gravity;
+  steps = p.steps;
+  calls = p.calls;
+}

@@ -1,0 +1,4 @@
+mod Listed
+pub mod PointLaws
+pub mod Ids
+mod Numbers

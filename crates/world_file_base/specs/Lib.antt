@@ -1,0 +1,11 @@
+pub mod Versions
+pub mod SavedShapes
+pub mod SavedJoints
+pub mod SavedContacts
+pub mod SavedTotals
+pub mod SavedBodies
+pub mod SavedSlots
+pub mod Asks
+pub mod Reading
+pub mod Written
+pub mod Texts

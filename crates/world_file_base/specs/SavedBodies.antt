@@ -1,0 +1,284 @@
+-- Saved bodies, and what they say of their islands.
+use Rattle.std.specs.Prelude.{ℕ, ◌&&◌, ◌||◌, Bool, true, false, not, cond, List, [], ◌∷◌, Option, Some, None, codes, is_some, unwrap_or, ℤ, pos, neg_ℤ, unsigned_abs}
+use Rattle.std.specs.Option.{is_none}
+use Rattle.std.specs.Ordering.{int_eq}
+use Rattle.std.specs.Str.{bytes_eq}
+use Rattle.serde_json.specs.Data.{Data, Members, boolean, no_members, null, object, string}
+use Rattle.serde_json.specs.Find.{get}
+use Rattle.fixed_geom.specs.Boxes.{contains}
+use Rattle.fixed_geom.specs.Facings.{is_facing}
+use Rattle.fixed_geom.specs.Vectors.{is_within}
+use Rattle.fixed_geom.specs.declared.boxes.Box2.{Box2}
+use Rattle.fixed_geom.specs.declared.facings.Rot.{Rot}
+use Rattle.fixed_geom.specs.declared.limits.TheConstants.{MAX_POSITION, MAX_SPIN}
+use Rattle.islands.specs.Labels.{is_asleep, is_loose}
+use Rattle.islands.specs.declared.label.Label.{Label}
+use Rattle.momenta.specs.declared.limits.TheConstants.{MAX_ANGULAR_MOMENTUM, MAX_INERTIA, MAX_MASS, MAX_MOMENTUM, MAX_SPEED}
+use Rattle.momenta.specs.declared.mass.MassData.{MassData}
+use Rattle.momenta.specs.declared.motion.Momenta.{Momenta}
+use Rattle.momenta.specs.declared.motion.Motion.{Motion}
+use Rattle.plain_world.specs.Bodies.{is_awake, is_mover, pose_of}
+use Rattle.plain_world.specs.Kinds.{carried_by, is_moving, is_static, no_course}
+use Rattle.plain_world.specs.declared.body.Body.{Body}
+use Rattle.plain_world.specs.declared.kind.Kind.{Kind}
+use Rattle.plain_world.specs.declared.kind.Kind.TheVariants.{Static, Kinematic, Dynamic}
+use Rattle.shapes.specs.Bounds.{tight_box}
+use Rattle.shapes.specs.Shapes.{shapes_refusal}
+use Rattle.shapes.specs.declared.pose.Pose.{Pose}
+use Rattle.shapes.specs.declared.shape.ShapeDef.{ShapeDef}
+use Rattle.world_file_base.specs.Asks.{Ask, all_asked, asked, noted}
+use Rattle.world_file_base.specs.Reading.{has_keys, island_asks, island_in, items_in, list_asks, signed_asks, signed_in, text_asks, text_in, truth_asks, truth_in, unsigned_asks, unsigned_in, vector_asks, vector_in, vector_within, vector_within_asks}
+use Rattle.world_file_base.specs.Texts.{decimal_asks, decimal_in}
+use Rattle.world_file_base.specs.Written.{decimal_of, integer, list_of, natural, vector_of, with_members}
+use Rattle.world_file_base.specs.declared.clause.Clause.TheVariants.{FatBoxes, Form, Islands, Limits, Memberships}
+use Rattle.world_file_base.specs.SavedShapes.{defs_in, fats_in, shapes_asks, shapes_of}
+use Rattle.world_file_base.specs.declared.saved.Membership.{Membership}
+
+-- ---- its kind
+
+abbrev pub named_kind : List ℕ → Option Kind
+named_kind text = cond (bytes_eq text (codes "static")) (Some Static) (cond (bytes_eq text (codes "kinematic")) (Some (Kinematic no_course)) (cond (bytes_eq text (codes "dynamic")) (Some Dynamic) None))
+
+-- the kind with its course, which a kinematic body has
+abbrev pub with_course : Kind → Data → Kind
+with_course Static d = Static
+with_course (Kinematic course) d = Kinematic (record {
+  velocity = vector_within (unsigned_abs MAX_SPEED) (get (codes "velocity") d);
+  spin = signed_in (neg_ℤ MAX_SPIN) MAX_SPIN (get (codes "spin") d);
+})
+with_course Dynamic d = Dynamic
+
+abbrev pub bare_kind : Data → Kind
+bare_kind d = unwrap_or (named_kind (text_in (get (codes "kind") d))) Static
+
+unfoldable pub kind_in : Data → Kind
+kind_in d = with_course (bare_kind d) d
+
+-- a kinematic body has two keys more
+abbrev pub course_asks : Kind → Data → Ask
+course_asks Static d = asked (has_keys 13 d) Form
+course_asks (Kinematic course) d = all_asked (
+    vector_within_asks (unsigned_abs MAX_SPEED) (get (codes "velocity") d)
+    ∷ signed_asks (neg_ℤ MAX_SPIN) MAX_SPIN (get (codes "spin") d)
+    ∷ asked (has_keys 15 d) Form
+    ∷ [])
+course_asks Dynamic d = asked (has_keys 13 d) Form
+
+unfoldable pub kind_asks : Data → Ask
+kind_asks d = all_asked (
+    text_asks (get (codes "kind") d)
+    ∷ asked (is_some (named_kind (text_in (get (codes "kind") d)))) Form
+    ∷ course_asks (bare_kind d) d
+    ∷ [])
+
+-- ---- its numbers
+
+-- none of a body that isn't dynamic
+abbrev pub least_mass : Kind → ℤ
+least_mass Static = pos 0
+least_mass (Kinematic course) = pos 0
+least_mass Dynamic = pos 1
+
+abbrev pub most_mass : Kind → ℤ
+most_mass Static = pos 0
+most_mass (Kinematic course) = pos 0
+most_mass Dynamic = MAX_MASS
+
+abbrev pub most_inertia : Kind → ℤ
+most_inertia Static = pos 0
+most_inertia (Kinematic course) = pos 0
+most_inertia Dynamic = MAX_INERTIA
+
+unfoldable pub mass_in : Kind → Data → MassData
+mass_in kind d = record {
+  mass = signed_in (least_mass kind) (most_mass kind) (get (codes "mass") d);
+  inertia = signed_in (pos 0) (most_inertia kind) (get (codes "inertia") d);
+}
+
+unfoldable pub mass_asks : Kind → Data → Ask
+mass_asks kind d = all_asked (
+    signed_asks (least_mass kind) (most_mass kind) (get (codes "mass") d)
+    ∷ signed_asks (pos 0) (most_inertia kind) (get (codes "inertia") d)
+    ∷ [])
+
+abbrev pub facing_in : Option Data → Rot
+facing_in value = record { c = (vector_in value).x; s = (vector_in value).y }
+
+abbrev pub facing_asks : Option Data → Ask
+facing_asks value reader = asked (is_facing (facing_in value)) Limits (vector_asks value reader)
+
+-- a body without inertia has no angular momentum
+abbrev pub most_angular : ℤ → ℕ
+most_angular inertia = cond (int_eq inertia (pos 0)) 0 (unsigned_abs MAX_ANGULAR_MOMENTUM)
+
+unfoldable pub momenta_in : ℕ → Data → Momenta
+momenta_in most d = record {
+  p = vector_within (unsigned_abs MAX_MOMENTUM) (get (codes "p") d);
+  l = decimal_in most (get (codes "l") d);
+}
+
+unfoldable pub momenta_asks : ℕ → Data → Ask
+momenta_asks most d = all_asked (
+    vector_within_asks (unsigned_abs MAX_MOMENTUM) (get (codes "p") d)
+    ∷ decimal_asks most (get (codes "l") d)
+    ∷ [])
+
+unfoldable pub pose_in : Data → Pose
+pose_in d = record {
+  x = vector_within (unsigned_abs MAX_POSITION) (get (codes "at") d);
+  rot = facing_in (get (codes "facing") d);
+}
+
+unfoldable pub pose_asks : Data → Ask
+pose_asks d = all_asked (
+    vector_within_asks (unsigned_abs MAX_POSITION) (get (codes "at") d)
+    ∷ facing_asks (get (codes "facing") d)
+    ∷ [])
+
+unfoldable pub motion_in : ℤ → Data → Motion
+motion_in inertia d = record {
+  p = (momenta_in (most_angular inertia) d).p;
+  l = (momenta_in (most_angular inertia) d).l;
+  x = (pose_in d).x;
+  rot = (pose_in d).rot;
+}
+
+unfoldable pub motion_asks : ℤ → Data → Ask
+motion_asks inertia d = all_asked (momenta_asks (most_angular inertia) d ∷ pose_asks d ∷ [])
+
+-- ---- its island
+
+unfoldable pub membership_in : Data → Membership
+membership_in d = record {
+  island = island_in (get (codes "island") d);
+  loose = truth_in (get (codes "loose") d);
+  asleep = truth_in (get (codes "asleep") d);
+}
+
+unfoldable pub membership_asks : Data → Ask
+membership_asks d = all_asked (
+    island_asks (get (codes "island") d)
+    ∷ truth_asks (get (codes "loose") d)
+    ∷ truth_asks (get (codes "asleep") d)
+    ∷ [])
+
+-- the name under which it sleeps
+abbrev pub sleeping_under : Membership → Option ℕ
+sleeping_under m = cond m.asleep m.island None
+
+-- ---- the body
+
+-- of a world in which none was slow for longer than so many ticks
+unfoldable pub body_in : ℕ → Data → Body
+body_in most_ticks d = record {
+  kind = kind_in d;
+  mass = mass_in (kind_in d) d;
+  motion = motion_in (mass_in (kind_in d) d).inertia d;
+  enabled = truth_in (get (codes "enabled") d);
+  asleep = sleeping_under (membership_in d);
+  timer = unsigned_in most_ticks (get (codes "timer") d);
+  fats = fats_in (items_in (get (codes "shapes") d));
+  shapes = defs_in (items_in (get (codes "shapes") d));
+}
+
+-- each shape lies in its fat box
+abbrev pub are_in_boxes : Pose → List ShapeDef → List Box2 → Bool
+are_in_boxes pose [] fats = true
+are_in_boxes pose (def ∷ defs) [] = false
+are_in_boxes pose (def ∷ defs) (fat ∷ fats) = cond (contains fat (tight_box def.shape pose)) (are_in_boxes pose defs fats) false
+
+abbrev pub is_pose : Pose → Bool
+is_pose pose = is_within (unsigned_abs MAX_POSITION) pose.x && is_facing pose.rot
+
+-- The body may have its shapes, and they lie in their fat boxes. The second is asked of shapes and of a pose that are within their limits.
+unfoldable pub fit_asks : Kind → Pose → List ShapeDef → List Box2 → Ask
+fit_asks kind pose defs fats reader =
+    cond (is_none (shapes_refusal (is_static kind) defs))
+    (cond (is_pose pose) (asked (are_in_boxes pose defs fats) FatBoxes reader) reader)
+    (noted Limits reader)
+
+abbrev pub is_at_rest : Motion → Bool
+is_at_rest m = int_eq m.p.x (pos 0) && (int_eq m.p.y (pos 0) && int_eq m.l (pos 0))
+
+-- what isn't an awake mover is at rest, and what is disabled has no course
+unfoldable pub rest_asks : Body → Ask
+rest_asks b = all_asked (
+    asked (is_awake b || is_at_rest b.motion) Islands
+    ∷ asked (b.enabled || not (is_moving (carried_by b.kind))) Islands
+    ∷ [])
+
+-- just a mover has an island, and what has none says nothing of one
+abbrev pub island_fits : Body → Membership → Bool
+island_fits b m = cond (is_mover b) (is_some m.island) (is_none m.island)
+
+abbrev pub island_told : Membership → Bool
+island_told m = is_some m.island || not (m.loose || m.asleep)
+
+unfoldable pub told_asks : Body → Membership → Ask
+told_asks b m = all_asked (
+    asked (island_fits b m) Memberships
+    ∷ asked (island_told m) Memberships
+    ∷ [])
+
+-- what is asked of its keys, but for its shapes
+unfoldable pub numbers_asks : ℕ → Data → Ask
+numbers_asks most_ticks d = all_asked (
+    kind_asks d
+    ∷ mass_asks (kind_in d) d
+    ∷ motion_asks (mass_in (kind_in d) d).inertia d
+    ∷ membership_asks d
+    ∷ truth_asks (get (codes "enabled") d)
+    ∷ unsigned_asks most_ticks (get (codes "timer") d)
+    ∷ [])
+
+unfoldable pub keys_asks : ℕ → Data → Ask
+keys_asks most_ticks d = all_asked (
+    numbers_asks most_ticks d
+    ∷ list_asks (get (codes "shapes") d)
+    ∷ shapes_asks (items_in (get (codes "shapes") d))
+    ∷ [])
+
+-- what is asked of it as a whole
+unfoldable pub whole_body_asks : Body → Membership → Ask
+whole_body_asks b m = all_asked (
+    fit_asks b.kind (pose_of b) b.shapes b.fats
+    ∷ rest_asks b
+    ∷ told_asks b m
+    ∷ [])
+
+unfoldable pub body_asks : ℕ → Data → Ask
+body_asks most_ticks d reader = whole_body_asks (body_in most_ticks d) (membership_in d) (keys_asks most_ticks d reader)
+
+-- ---- how it is written
+
+abbrev pub kind_name : Kind → List ℕ
+kind_name Static = codes "static"
+kind_name (Kinematic course) = codes "kinematic"
+kind_name Dynamic = codes "dynamic"
+
+abbrev pub put_course : Kind → Members → Members
+put_course Static ms = ms
+put_course (Kinematic course) ms = with_members ((codes "spin", integer course.spin) ∷ (codes "velocity", vector_of course.velocity) ∷ []) ms
+put_course Dynamic ms = ms
+
+abbrev pub put_label : Option Label → Members → Members
+put_label None ms = with_members ((codes "asleep", boolean false) ∷ (codes "island", null) ∷ (codes "loose", boolean false) ∷ []) ms
+put_label (Some l) ms = with_members ((codes "asleep", boolean (is_asleep l.state)) ∷ (codes "island", natural l.name) ∷ (codes "loose", boolean (is_loose l.state)) ∷ []) ms
+
+unfoldable pub put_numbers : Body → Members → Members
+put_numbers b = with_members (
+    (codes "at", vector_of b.motion.x)
+    ∷ (codes "enabled", boolean b.enabled)
+    ∷ (codes "facing", vector_of (record { x = b.motion.rot.c; y = b.motion.rot.s }))
+    ∷ (codes "inertia", integer b.mass.inertia)
+    ∷ (codes "kind", string (kind_name b.kind))
+    ∷ (codes "l", decimal_of b.motion.l)
+    ∷ (codes "mass", integer b.mass.mass)
+    ∷ (codes "p", vector_of b.motion.p)
+    ∷ (codes "shapes", list_of (shapes_of b.shapes b.fats))
+    ∷ (codes "timer", natural b.timer)
+    ∷ [])
+
+-- a body, with the label of its island if it is a mover
+unfoldable pub body_of : Body → Option Label → Data
+body_of b label = object (put_label label (put_course b.kind (put_numbers b no_members)))

@@ -1,0 +1,56 @@
+-- The totals of a saved ledger.
+use Rattle.std.specs.Prelude.{ℕ, List, [], ◌∷◌, Option, codes, option_and_then}
+use Rattle.serde_json.specs.Data.{Data}
+use Rattle.serde_json.specs.Find.{get}
+use Rattle.impulse_ledger.specs.declared.limits.TheConstants.{MAX_TOTAL}
+use Rattle.impulse_ledger.specs.declared.totals.Total.{Total}
+use Rattle.impulse_ledger.specs.declared.totals.Totals.{Totals}
+use Rattle.world_file_base.specs.Asks.{Ask, all_asked, asked}
+use Rattle.world_file_base.specs.Reading.{first_in, has_keys_in, pair_asks, second_in}
+use Rattle.world_file_base.specs.Texts.{decimal_asks, decimal_in}
+use Rattle.world_file_base.specs.Written.{decimal_of, object_of, pair_of}
+use Rattle.world_file_base.specs.declared.clause.Clause.TheVariants.{Form}
+
+abbrev pub total_in : Option Data → Total
+total_in value = record { x = decimal_in MAX_TOTAL (first_in value); y = decimal_in MAX_TOTAL (second_in value) }
+
+abbrev pub total_asks : Option Data → Ask
+total_asks value reader = decimal_asks MAX_TOTAL (second_in value) (decimal_asks MAX_TOTAL (first_in value) (pair_asks value reader))
+
+-- the total of the cause of a key
+abbrev pub cause_in : List ℕ → Option Data → Option Data
+cause_in key value = option_and_then (get key) value
+
+abbrev pub totals_in : Option Data → Totals
+totals_in value = record {
+  command = total_in (cause_in (codes "command") value);
+  gravity = total_in (cause_in (codes "gravity") value);
+  immovable = total_in (cause_in (codes "immovable") value);
+  clamp = total_in (cause_in (codes "clamp") value);
+  rest = total_in (cause_in (codes "rest") value);
+  departed = total_in (cause_in (codes "departed") value);
+}
+
+abbrev pub totals_asks : Option Data → Ask
+totals_asks value = all_asked (
+    asked (has_keys_in 6 value) Form
+    ∷ total_asks (cause_in (codes "command") value)
+    ∷ total_asks (cause_in (codes "gravity") value)
+    ∷ total_asks (cause_in (codes "immovable") value)
+    ∷ total_asks (cause_in (codes "clamp") value)
+    ∷ total_asks (cause_in (codes "rest") value)
+    ∷ total_asks (cause_in (codes "departed") value)
+    ∷ [])
+
+abbrev pub total_of : Total → Data
+total_of t = pair_of (decimal_of t.x) (decimal_of t.y)
+
+abbrev pub totals_of : Totals → Data
+totals_of t = object_of (
+    (codes "clamp", total_of t.clamp)
+    ∷ (codes "command", total_of t.command)
+    ∷ (codes "departed", total_of t.departed)
+    ∷ (codes "gravity", total_of t.gravity)
+    ∷ (codes "immovable", total_of t.immovable)
+    ∷ (codes "rest", total_of t.rest)
+    ∷ [])
