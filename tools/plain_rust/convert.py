@@ -23,9 +23,10 @@ from pathlib import Path
 HERE = Path(__file__).resolve().parent
 TOP_CRATE = "world_queries"
 # What only saving and loading need, and what stands in the code of other crates for them.
-SAVING = {"line_json", "world_file_base", "world_file"}
-SAVING_FILES = {("world_core", "world/loading.rt"), ("world_core", "world/saving.rt")}
-SAVING_LINES = re.compile(r"^(?:mod loading;|mod saving;|pub use world_file::[^;]*;|pub use serde_json[^;]*;)\n", re.M)
+SAVING = {"world_file_base", "world_file"}
+SAVING_FILES = {("body_handles", "ids.rt"), ("world_core", "world/loading.rt"), ("world_core", "world/saving.rt")}
+SAVING_CRATES = {crate for crate, _ in SAVING_FILES}
+SAVING_LINES = re.compile(r"^(?:mod loading;|mod saving;|mod ids;|pub use ids::[^;]*;|pub use world_file::[^;]*;|pub use serde_json[^;]*;)\n", re.M)
 
 CLAUSE = re.compile(r"^[ \t]*(?:ensures|requires|decreases)\b", re.M)
 MODEL = re.compile(r"^impl(?:<[^>]*>)? Model for [^{]*", re.M)
@@ -121,7 +122,7 @@ def write_crate(repository, out, crate, below):
         if name.parts[0].startswith("tests") or (crate, name.as_posix()) in SAVING_FILES:
             continue
         text = converted(path.read_text(encoding="utf-8"), name.as_posix() == "lib.rt")
-        write_changed(out / crate / "src" / name.with_suffix(".rs"), SAVING_LINES.sub("", text) if crate == "world_core" else text)
+        write_changed(out / crate / "src" / name.with_suffix(".rs"), SAVING_LINES.sub("", text) if crate in SAVING_CRATES else text)
     write_package(out / crate, crate, below)
 
 

@@ -1,12 +1,11 @@
 //! The parts of an answer.
 
 use crate::answers::{Answer, SeatReport};
-use body_handles::{Handle, Place};
+use body_handles::{Handle, Id, Place};
 use contacts_base::{ContactKey, ShapeId};
 use event_feed::Events;
 use fixed_geom::{Refusal, Rot, Vec2};
 use impulse_ledger::{Cause, Ledger, Total};
-use line_json::Id;
 use plain_world::{BodyView, Course, SetName};
 use shape_rays::Hit;
 use std::fmt;

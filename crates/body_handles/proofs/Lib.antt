@@ -1,3 +1,4 @@
 pub mod LowestLemmas
 pub mod TableLemmas
 pub mod GoneLemmas
+mod Decimals

@@ -7,16 +7,20 @@
 //!
 //! The scheme is that of Box2D's ids; to take always the lowest free slot is this project's own rule, which
 //! makes the answers of a world a function of its calls.
+//!
+//! An [`Id`] is written as a text of slot and generation, `0.1`, and [`handle_of`] reads just such texts.
 #![tactic(auto)]
 
 ghost use Rattle.body_handles.specs.Calls.{RemovedStaysGone};
 
 mod handle;
 mod handles;
+mod ids;
 mod places;
 
 pub use handle::Handle;
 pub use handles::Handles;
+pub use ids::{Id, handle_of};
 pub use places::{MAX_SLOTS, Place, WORN_OUT, limits_in_digits};
 
 /// The law of generations: a handle that was taken back is never live again, whatever is given out and taken

@@ -1,9 +1,8 @@
 //! The keys of an object of a line.
 
 use crate::faults::{LineFault, Reason};
-use crate::ids::handle_of;
 use crate::values::{Content, Value};
-use body_handles::Handle;
+use body_handles::{Handle, handle_of};
 use fixed_geom::{Rot, Vec2, ZERO_VECTOR};
 use shapes::{ShapeDef, Shapes};
 use std::alloc::Global;

@@ -3,7 +3,6 @@
 
 mod faults;
 mod fields;
-mod ids;
 mod line;
 mod line_reader;
 mod pairs;
@@ -14,7 +13,6 @@ mod values;
 
 pub use faults::{Fault, LineFault, Reason};
 pub use fields::Fields;
-pub use ids::{Id, handle_of};
 pub use line::Line;
 pub use line_reader::{LONGEST, LineReader, Outbox};
 pub use stop::Stop;

@@ -8,7 +8,7 @@ use Rattle.std.proofs.lemmas.Slice.Eq.{bytes_eq-Decides}
 use Rattle.std.proofs.lemmas.Fmt.{decimal_is_IsNumeral, digits_decimal}
 use Rattle.std.proofs.lemmas.Str.Parse.{IsNumeralModel, numerals_by_value, tells_digits, not_in_digits}
 use Rattle.body_handles.specs.declared.handle.Handle.{Handle}
-use Rattle.line_json.specs.IdTexts.{id_text, point}
+use Rattle.body_handles.specs.IdTexts.{id_text, point}
 use Rattle.world_file_base.specs.Texts.{after_point, before_point, handle_of_text, is_narrow, named_by}
 
 own : IsNumeralModel (AllDigits 10) (digits_value 10)

@@ -5,7 +5,7 @@ use Rattle.std.specs.Str.{bytes_eq}
 use Rattle.std.specs.Str.Parse.{digits_value, signed_digits_value, starts_with_minus}
 use Rattle.serde_json.specs.Data.{Data}
 use Rattle.body_handles.specs.declared.handle.Handle.{Handle}
-use Rattle.line_json.specs.IdTexts.{id_text, point}
+use Rattle.body_handles.specs.IdTexts.{id_text, point}
 use Rattle.world_file_base.specs.Asks.{Ask, asked}
 use Rattle.world_file_base.specs.Reading.{text_asks, text_in}
 use Rattle.world_file_base.specs.declared.clause.Clause.TheVariants.{Form, Limits}

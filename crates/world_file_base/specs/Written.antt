@@ -8,7 +8,7 @@ use Rattle.world_file_base.specs.declared.members.Members as declared
 use Rattle.fixed_geom.specs.declared.vectors.Vec2.{Vec2}
 use Rattle.fixed_geom.specs.declared.boxes.Box2.{Box2}
 use Rattle.body_handles.specs.declared.handle.Handle.{Handle}
-use Rattle.line_json.specs.IdTexts.{id_text}
+use Rattle.body_handles.specs.IdTexts.{id_text}
 
 -- what an object has so far
 abbrev pub written : declared.Members → Members

@@ -14,9 +14,8 @@ ghost use Rattle.world_file_base.specs.Written.{
   written,
 };
 
-use body_handles::Handle;
+use body_handles::{Handle, Id};
 use fixed_geom::{Box2, Refusal, Vec2};
-use line_json::Id;
 use serde_json::{Map, Value, put};
 use std::alloc::Global;
 

@@ -48,9 +48,8 @@ ghost use Rattle.world_file_base.specs.declared.clause.Broken.TheVariants.{Claus
 
 use crate::clause::{Broken, Clause};
 use crate::decimals::{is_number, sized_number};
-use body_handles::Handle;
+use body_handles::{Handle, handle_of};
 use fixed_geom::{Box2, Vec2, ZERO_VECTOR, is_within};
-use line_json::handle_of;
 use serde_json::Value;
 
 /// What is taken where a text is no id. The form is broken then.

@@ -1,9 +1,9 @@
 use Rattle.std.proofs.Common.{◌∙◌, ap, arith}
 use Rattle.std.specs.Result.{result_ok}
 use Rattle.std.proofs.lemmas.Fmt.{parse-decimal}
-use Rattle.line_json.specs.IdTexts.{IsPadded}
-use Rattle.line_json.proofs.Decimals.{read_is_written, written_is_plain}
-use Rattle.line_json.proofs.ids.part_of.Goals as goal
+use Rattle.body_handles.specs.IdTexts.{IsPadded}
+use Rattle.body_handles.proofs.Decimals.{read_is_written, written_is_plain}
+use Rattle.body_handles.proofs.ids.part_of.Goals as goal
 
 pub returns-then-is_padded-clause-all : goal.returns-then-is_padded-clause-all
 returns-then-is_padded-clause-all c = λ n small is. absurd (written_is_plain c.args.digits.now n small is (c.is_padded.ensures.0 c.if-is_padded.true))

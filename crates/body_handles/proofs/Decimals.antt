@@ -9,7 +9,7 @@ use Rattle.std.proofs.lemmas.Bool.{cases_lt}
 use Rattle.std.proofs.lemmas.Str.Pattern.{IsSplitOnceResult, split_after}
 use Rattle.std.proofs.lemmas.Str.Parse.{IsNumeralModel, numerals_by_value, tells_digits, parse_plain, not_in_digits}
 use Rattle.body_handles.specs.declared.handle.Handle.{Handle}
-use Rattle.line_json.specs.IdTexts.{IsPadded, id_text, point}
+use Rattle.body_handles.specs.IdTexts.{IsPadded, id_text, point}
 
 own : IsNumeralModel (AllDigits 10) (digits_value 10)
 own = numerals_by_value (AllDigits 10) tells_digits

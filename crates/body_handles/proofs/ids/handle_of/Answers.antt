@@ -1,6 +1,6 @@
 use Rattle.std.proofs.Common.{◌≡◌, refl}
-use Rattle.line_json.proofs.Decimals.{id_parts}
-use Rattle.line_json.proofs.ids.handle_of.Goals as goal
+use Rattle.body_handles.proofs.Decimals.{id_parts}
+use Rattle.body_handles.proofs.ids.handle_of.Goals as goal
 
 pub returns-in_err-slot-clause-all : goal.returns-in_err-slot-clause-all
 returns-in_err-slot-clause-all c = λ handle slot generation is.

@@ -1,8 +1,10 @@
+//! The text of an id, as scripts and saved worlds have it.
+
 ghost use Rattle.std.specs.Prelude.{◌≡◌, ◌<◌, ◌^◌, ◌↔◌, ℕ, Some, IsTrue, IfSome};
 ghost use Rattle.std.specs.Fmt.{decimal};
-ghost use Rattle.line_json.specs.IdTexts.{id_text, IsPadded};
+ghost use Rattle.body_handles.specs.IdTexts.{id_text, IsPadded};
 
-use body_handles::Handle;
+use crate::handle::Handle;
 use std::fmt;
 
 /// An id as a script writes it: the slot, a point and the generation, as `0.1`.
