@@ -9,7 +9,6 @@ use crate::extended::{Extended, RayRequest};
 use crate::joints::joints_of;
 use crate::requests::{CrowdDef, Request};
 use crate::worlds::Worlds;
-use answer_json::{Answer, BodyList};
 use body_handles::Handle;
 use fixed_geom::{Box2, Refusal, Vec2};
 use script_options::Options;
@@ -17,6 +16,7 @@ use std::alloc::Global;
 use std::sync::Wait;
 use std::thread::Threads;
 use world_core::{Command, Reply, WorldCore};
+use world_script_base::{Answer, BodyList};
 use world_workers::IslandMemory;
 
 /// Makes a call; a step is made by so many workers.

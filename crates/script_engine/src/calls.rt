@@ -4,7 +4,6 @@ use fixed_geom::{Box2, Refusal, Vec2};
 use impulse_ledger::Ledger;
 use json::Scratch;
 use plain_world::{Body, BodyView, Plain};
-use saved_form::may_be_world;
 use serde_json::Value;
 use std::alloc::Global;
 use std::sync::Wait;
@@ -13,6 +12,7 @@ use world_core::{Command, Events, Handle, Place, Reply, ShapeId, StepSolver, Wor
 use world_file_base::{Broken, Clause};
 use world_lock::{Opened, Seat, SharedWorld};
 use world_queries::{Hit, QueryFilter};
+use world_script_base::may_be_world;
 use world_workers::{IslandMemory, OpenGate, step_with_memory};
 
 pub fn new_world(alloc: Global) -> Result<WorldCore, Refusal> {

@@ -4,7 +4,6 @@ ghost use Rattle.std.specs.Prelude.{◌≡◌};
 
 use crate::calls::{call, new_world};
 use crate::requests::{CrowdDef, copy_of};
-use answer_json::SeatReport;
 use fixed_geom::Refusal;
 use impulse_ledger::Total;
 use seat_book::Roster;
@@ -15,6 +14,7 @@ use std::thread::{Scope, Threads};
 use std::{mem, thread};
 use world_core::{Command, OneThread, Reply, StepSolver, WorldCore};
 use world_lock::{Closed, JournalEntry, Opened, Seat, SharedWorld, may_be_shared};
+use world_script_base::SeatReport;
 use world_workers::{IslandCrew, IslandMemory, OpenGate};
 
 /// What a crowd left: how many calls were accepted, and what each seat did, in the order of the seats' numbers.

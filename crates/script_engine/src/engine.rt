@@ -6,15 +6,15 @@ use crate::explanation::{BadLine, CrowdRefusals, explain};
 use crate::requests::{Request, request_of};
 use crate::status::Status;
 use crate::worlds::Worlds;
-use answer_json::Answer;
 use fixed_geom::Refusal;
 use json::Scratch;
-use line_json::{LONGEST, LineFault, LineReader, Outbox, Reason, Stop};
-use saved_places::broken_place;
 use script_options::Options;
 use std::io::{BufRead, Write};
 use std::sync::Wait;
 use std::thread::Threads;
+use world_script_base::{
+    Answer, LONGEST, LineFault, LineReader, Outbox, Reason, Stop, broken_place,
+};
 
 /// The line that is read, and the room that its reading needs.
 #[derive(Drop)]

@@ -4,12 +4,12 @@ use crate::extended::Extended;
 use crate::requests::{CrowdDef, Request};
 use fixed_geom::{MAX_POSITION, Refusal, is_facing, is_within};
 use joint_rows::MAX_ANCHOR;
-use line_json::{Fault, Reason};
 use momenta::{MAX_MASS, MAX_SPEED};
 use plain_world::{BodyDef, Course, JointDef, Kind};
 use shapes::{MAX_FRICTION, MAX_RESTITUTION, Pose, Shape, ShapeDef, check};
 use std::fmt;
 use world_core::Command;
+use world_script_base::{Fault, Reason};
 
 /// A refusal of the request of a line, told in words.
 #[derive(Clone, Copy)]

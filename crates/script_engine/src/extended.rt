@@ -1,8 +1,8 @@
 //! What only the extended form of a script asks for.
 
 use fixed_geom::{Box2, Vec2};
-use line_json::Fields;
 use world_queries::QueryFilter;
+use world_script_base::Fields;
 
 /// A ray: its start and its way (u), which shapes it may hit, and whether the id of the body that it hits is told.
 #[derive(Clone, Copy)]

@@ -3,13 +3,12 @@
 ghost use Rattle.plain_world.specs.Bodies.{AreBodies};
 ghost use Rattle.plain_world.specs.Joints.{AreJoints};
 
-use answer_json::JointReport;
 use body_handles::{Handle, Place};
 use fixed_geom::Refusal;
-use joint_views::{JointView, joint_view};
 use plain_world::{BodyJoint, Plain, item_at};
 use std::alloc::Global;
 use world_core::WorldCore;
+use world_script_base::{JointReport, JointView, joint_view};
 
 /// The handle of what is in a slot.
 fn handle_in(places: &[Place], slot: u32) -> Handle {

@@ -4,12 +4,12 @@ use crate::extended::{Extended, take_box, take_extended};
 use body_handles::Handle;
 use fixed_geom::{Box2, Refusal, Rot, Vec2, ZERO_VECTOR};
 use json::Scratch;
-use line_json::{Fields, Line, LineFault, Reason};
 use momenta::MassData;
 use plain_world::{BodyDef, Course, JointDef, Kind};
 use shapes::Pose;
 use std::alloc::Global;
 use world_core::Command;
+use world_script_base::{Fields, Line, LineFault, Reason};
 
 /// How often a crowd may make its calls.
 const MOST_TIMES: u64 = 1_000;

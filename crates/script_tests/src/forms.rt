@@ -1,8 +1,8 @@
 //! Texts that may be a saved world, and texts that can't be one.
 
 use json::Scratch;
-use saved_form::may_be_world;
 use std::test::Fail;
+use world_script_base::may_be_world;
 
 const REST: &str =
     r#","joints":[],"contacts":[],"gravity":[0,0],"version":2,"call":0,"step":0,"ledger":{"clamp":["0","0"],

@@ -2,11 +2,10 @@
 
 use fixed_geom::Refusal;
 use json::Scratch;
-use line_json::LineFault;
-use saved_places::broken_place;
 use script_engine::{BadLine, explain, request_of};
 use std::alloc::Global;
 use std::test::Fail;
+use world_script_base::{LineFault, broken_place};
 
 /// What is wrong with a line, in words.
 fn told(alloc: Global, line: &[u8]) -> Result<String, Fail> {

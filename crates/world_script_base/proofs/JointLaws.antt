@@ -12,7 +12,7 @@ use Rattle.plain_world.specs.Joints.{AreJoints, joint_at}
 use Rattle.plain_world.specs.declared.body.Body.{Body}
 use Rattle.plain_world.specs.declared.joint.BodyJoint.{BodyJoint}
 use Rattle.shapes.specs.Poses.{placed}
-use Rattle.joint_views.specs.JointViews.{IsStretchOfTheRow}
+use Rattle.world_script_base.specs.JointViews.{IsStretchOfTheRow}
 
 -- what a slot contains
 item_there : {X : Type 0} (o : Option (Option X)) (x : X) → item_in o ≡ Some x → o ≡ Some (Some x)

@@ -1,7 +1,7 @@
 use Rattle.std.proofs.Common.{◌∙◌, sym, ap}
 use Rattle.std.specs.Option.{option_copied}
-use Rattle.joint_views.proofs.JointLaws.{joint_there}
-use Rattle.joint_views.proofs.view.joint_view.Goals as goal
+use Rattle.world_script_base.proofs.JointLaws.{joint_there}
+use Rattle.world_script_base.proofs.joint_views.joint_view.Goals as goal
 
 pub view_of-requires-clause-joint : goal.view_of-requires-clause-joint
 view_of-requires-clause-joint c =

@@ -1,6 +1,10 @@
-//! The first item of a saved world's lists that breaks a clause by itself, and the value of it that is to blame.
+//! Where a saved world breaks a clause, for whoever has to mend it.
+//!
+//! `world_file` answers the clause alone. Its first four ask much of each body, joint and contact by itself. So each of them is read
+//! here in a list of its own, by the readers that `world_file` has. Which value of it is to blame is found by putting another one in
+//! its place, that would do, and reading it again.
 
-use crate::ways::{BODY, CONTACT, JOINT, Mend, POINT, Part, SHAPE, SHAPES, SLOT, Way};
+use crate::saved_ways::{BODY, CONTACT, JOINT, Mend, POINT, Part, SHAPE, SHAPES, SLOT, Way};
 use fixed_geom::Refusal;
 use serde_json::Value;
 use shapes::MAX_SHAPES;

@@ -1,7 +1,7 @@
 use Rattle.std.proofs.Common.{◌∙◌, sym, ap}
 use Rattle.std.specs.Option.{option_copied}
-use Rattle.joint_views.proofs.JointLaws.{body_there}
-use Rattle.joint_views.proofs.view.view_of.Goals as goal
+use Rattle.world_script_base.proofs.JointLaws.{body_there}
+use Rattle.world_script_base.proofs.joint_views.view_of.Goals as goal
 
 pub view_between-requires-clause-first : goal.view_between-requires-clause-first
 view_between-requires-clause-first c =

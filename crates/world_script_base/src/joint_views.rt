@@ -1,4 +1,4 @@
-//! One joint, as its two bodies stand.
+//! What can be seen of a world's joints: where their ends are, and how far they are stretched.
 
 ghost use Rattle.std.specs.Prelude.{◌≡◌, ◌^◌, ◌+◌, ◌-ℤ◌, ◌≤◌, ◌≤ℤ◌, pos, option_and_then, unsigned_abs};
 ghost use Rattle.fixed_geom.specs.Vectors.{IsWithin, minus, span};
@@ -7,7 +7,7 @@ ghost use Rattle.joint_rows.specs.declared.limits.TheConstants.{MAX_ANCHOR, MAX_
 ghost use Rattle.plain_world.specs.Bodies.{AreBodies, IsBody, pose_of};
 ghost use Rattle.plain_world.specs.Joints.{AreJoints, joint_at};
 ghost use Rattle.shapes.specs.Poses.{placed};
-ghost use Rattle.joint_views.specs.JointViews.{IsStretchOfTheRow, view_between, view_of};
+ghost use Rattle.world_script_base.specs.JointViews.{IsStretchOfTheRow, view_between, view_of};
 
 use fixed_geom::{Vec2, minus, span};
 use joint_rows::MAX_ANCHOR;

@@ -11,7 +11,7 @@ use Rattle.plain_world.specs.Bodies.{pose_of}
 use Rattle.plain_world.specs.Slots.{body_at}
 use Rattle.shapes.specs.Poses.{placed}
 use Rattle.solver_sets.specs.Census.{standing_of_joint}
-use Rattle.joint_views.specs.declared.view.JointView.{JointView}
+use Rattle.world_script_base.specs.declared.joint_views.JointView.{JointView}
 
 -- the places of the two points that the joint holds
 abbrev pub from_of : Body → BodyJoint → Vec2
