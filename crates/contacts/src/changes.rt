@@ -10,7 +10,7 @@ ghost use Rattle.contacts.specs.Changes.{surface_with, contact_with, entry_with,
 
 use contacts_base::{
     ContactEntry, ContactKey, Contacts, PackedContact, PackedSurface, Proxy, contact_at,
-    contact_of, one_stirs, seek,
+    contact_of, one_stirs, seek_next,
 };
 use fixed_geom::Refusal;
 use std::alloc::Global;
@@ -60,6 +60,7 @@ fn kept_contact(old: Option<&ContactEntry>) -> PackedContact
 }
 
 /// What the contact of two shapes becomes, which was `old` until now: evaluated anew, if the body of one of them stirs.
+#[inline(always)]
 pub(crate) fn contact_with(old: Option<&ContactEntry>, p: &Proxy, q: &Proxy) -> PackedContact
     requires first { IsProxy p.now }
     requires second { IsProxy q.now }
@@ -185,7 +186,7 @@ fn contacts_of_pairs(
     let mut place = 0;
     for code in near {
         let key = key_at(proxies, *code);
-        place = seek(old, place, key);
+        place = seek_next(old, place, key);
         let before = contact_at(old, place, key);
         let entry = pair_entry(before, proxies, *code);
         push_key(&mut made, key_unless(before, &entry))?;
@@ -207,7 +208,7 @@ fn lost_keys(alloc: Global, now: &[ContactEntry], old: &[ContactEntry]) -> Resul
     let mut end = Vec::new(alloc);
     let mut place = 0;
     for entry in old {
-        place = seek(now, place, entry.key);
+        place = seek_next(now, place, entry.key);
         let after = contact_at(now, place, entry.key);
         push_key(&mut gone, key_unless(after, entry))?;
         push_key(&mut end, key_if_new(after, entry))?;

@@ -3,7 +3,6 @@ pub mod Surfaces
 pub mod Contacts
 pub mod Evaluate
 pub mod Near
-pub mod Circles
 pub mod Limits
 pub mod PackedPoints
 pub mod Merge

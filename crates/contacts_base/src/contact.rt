@@ -1,6 +1,6 @@
 //! Contacts, and how one is found by its key.
 
-ghost use Rattle.std.specs.Prelude.{◌≡◌, ◌≤◌, ◌+◌, true};
+ghost use Rattle.std.specs.Prelude.{◌≡◌, ◌≤◌, ◌+◌, IsTrue, true};
 ghost use Rattle.std.specs.Option.{option_copied};
 ghost use Rattle.contacts_base.specs.Keys.{key_number};
 ghost use Rattle.contacts_base.specs.Contacts.{lookup, AreKeysRising, IsAllBelow, IsNoneBelow, IsFirstFrom};
@@ -126,6 +126,45 @@ pub fn seek(entries: &[ContactEntry], hint: usize, key: ContactKey) -> usize
 {
     let wanted = key.number();
     place_from(entries, start_of(entries, hint, wanted), wanted)
+}
+
+/// Whether the contact at a place, if there is one, has this key.
+#[inline(always)]
+fn has_key_at(entries: &[ContactEntry], place: usize, key: ContactKey) -> bool
+    requires { AreKeysRising entries.now }
+    ensures { IsTrue result → IsFirstFrom entries.now (key_number key) place }
+{
+    if place < entries.len() {
+        entries[place].key == key
+    } else {
+        false
+    }
+}
+
+/// `seek` where the contact wanted is not the one at the hint or the next.
+#[inline(never)]
+fn seek_further(entries: &[ContactEntry], hint: usize, key: ContactKey) -> usize
+    requires { AreKeysRising entries.now }
+    ensures { IsFirstFrom entries.now (key_number key) result }
+{
+    seek(entries, hint, key)
+}
+
+/// `seek` for one key after another of a list that has mostly the same: the contact is looked for at the hint, which is the place where the last search ended,
+/// and at the next, before it is searched for.
+#[inline(always)]
+pub fn seek_next(entries: &[ContactEntry], hint: usize, key: ContactKey) -> usize
+    requires { AreKeysRising entries.now }
+    ensures { IsFirstFrom entries.now (key_number key) result }
+{
+    if has_key_at(entries, hint, key) {
+        return hint;
+    }
+    let next = hint.saturating_add(1);
+    if has_key_at(entries, next, key) {
+        return next;
+    }
+    seek_further(entries, hint, key)
 }
 
 /// The contact with this key, where `place` is that of the first contact whose key isn't below it; `None` where there is

@@ -1,15 +1,20 @@
 //! What a contact becomes when its two shapes are evaluated anew.
 
-ghost use Rattle.std.specs.Prelude.{◌≡◌, pos, ◌≤ℤ◌, unsigned_abs, IfSome};
+ghost use Rattle.std.specs.Prelude.{◌≡◌, None, pos, ◌≤ℤ◌, unsigned_abs, IfSome};
 ghost use Rattle.std.specs.Option.{option_copied};
 ghost use Rattle.shapes.specs.Manifolds.{IsPointWithin, manifold_of};
-ghost use Rattle.fixed_geom.specs.declared.limits.TheConstants.{MAX_OFFSET};
+ghost use Rattle.shapes.specs.Discs.{IsDisc, disc_point};
+ghost use Rattle.shapes.specs.Poses.{IsPose};
+ghost use Rattle.shapes.specs.Shapes.{IsShape};
+ghost use Rattle.fixed_geom.specs.Vectors.{IsWithin};
+ghost use Rattle.fixed_geom.specs.declared.limits.TheConstants.{MAX_OFFSET, MAX_POSITION};
 ghost use Rattle.contacts_base.specs.Near.{IsProxy};
 ghost use Rattle.contacts_base.specs.Evaluate.{impulses_at, kept, kept_point, evaluated};
 
-use crate::circles::are_circles_apart;
+use crate::circles::are_discs_apart;
 use crate::{ContactEntry, ContactPoint, PackedContact, Proxy};
-use shapes::{Manifold, Point, manifold};
+use fixed_geom::Vec2;
+use shapes::{Disc, Manifold, Point, Pose, Shape, disc_of, disc_point, manifold};
 
 /// The impulses that a point keeps from one step to the next, along the normal and across it, in
 /// mass·u/tick.
@@ -78,6 +83,7 @@ fn kept_point(old: Option<&ContactEntry>, point: &Point) -> ContactPoint
 /// manifold's points, each with the impulses that the old contact kept at the same candidate (as
 /// Box2D carries them over by feature id), or 0. One that doesn't touch has no points.
 #[tactic(auto, unfolding(crate::specs::Evaluate::evaluated))]
+#[inline(always)]
 pub fn evaluate(old: Option<&ContactEntry>, manifold: &Manifold) -> PackedContact
     requires first { manifold.now.first.separation ≤ℤ pos 0 → IsPointWithin (unsigned_abs MAX_OFFSET) manifold.now.first }
     requires second { IfSome manifold.now.second (λ p. IsPointWithin (unsigned_abs MAX_OFFSET) p) }
@@ -93,16 +99,66 @@ pub fn evaluate(old: Option<&ContactEntry>, manifold: &Manifold) -> PackedContac
     }
 }
 
-/// What the contact of two shapes becomes, where `old` is what it was before: `evaluate` of their
-/// manifold, which isn't computed where a quick look shows that they are apart.
+/// What the contact of two shapes becomes by the manifold of their cores. Shapes and poses are copied here rather than by whoever calls `contact_of`, which needs
+/// little of two circles.
+#[inline(never)]
+fn contact_by_cores(
+    old: Option<&ContactEntry>,
+    a: Shape,
+    pose_a: Pose,
+    b: Shape,
+    pose_b: Pose,
+) -> PackedContact
+    requires first { IsShape a }
+    requires first_pose { IsPose pose_a }
+    requires second { IsShape b }
+    requires second_pose { IsPose pose_b }
+    ensures { result ≡ evaluated (option_copied old.entry) (manifold_of a pose_a b pose_b) }
+{
+    evaluate(old, &manifold(&a, pose_a, &b, pose_b))
+}
+
+/// What the contact of two circles becomes, of bodies with these centres, where `old` is what it was before. Where a quick look shows that they are apart, no
+/// point is computed.
 #[tactic(auto, unfolding(crate::specs::Evaluate::evaluated))]
+#[inline(always)]
+fn contact_of_discs(
+    old: Option<&ContactEntry>,
+    a: Disc,
+    b: Disc,
+    center_a: Vec2,
+    center_b: Vec2,
+) -> PackedContact
+    requires first { IsDisc a }
+    requires second { IsDisc b }
+    requires first_center { IsWithin (unsigned_abs MAX_POSITION) center_a }
+    requires second_center { IsWithin (unsigned_abs MAX_POSITION) center_b }
+    requires touching { (disc_point a b center_a center_b).separation ≤ℤ pos 0 → IsPointWithin (unsigned_abs MAX_OFFSET) (disc_point a b center_a center_b) }
+    ensures { result ≡ evaluated (option_copied old.entry) (record { first = disc_point a b center_a center_b; second = None }) }
+{
+    if are_discs_apart(a, b) {
+        return PackedContact::apart();
+    }
+    let manifold = Manifold {
+        first: disc_point(a, b, center_a, center_b),
+        second: None,
+    };
+    evaluate(old, &manifold)
+}
+
+/// What the contact of two shapes becomes, where `old` is what it was before: `evaluate` of their manifold. Two circles go by a way of their own, which is
+/// shorter.
+#[inline(always)]
 pub fn contact_of(old: Option<&ContactEntry>, p: &Proxy, q: &Proxy) -> PackedContact
     requires first { IsProxy p.now }
     requires second { IsProxy q.now }
     ensures { result ≡ evaluated (option_copied old.entry) (manifold_of p.now.shape p.now.pose q.now.shape q.now.pose) }
 {
-    if are_circles_apart(p, q) {
-        return PackedContact::apart();
+    match disc_of(&p.shape, p.pose) {
+        None => contact_by_cores(old, p.shape, p.pose, q.shape, q.pose),
+        Some(a) => match disc_of(&q.shape, q.pose) {
+            None => contact_by_cores(old, p.shape, p.pose, q.shape, q.pose),
+            Some(b) => contact_of_discs(old, a, b, p.pose.x, q.pose.x),
+        },
     }
-    evaluate(old, &manifold(&p.shape, p.pose, &q.shape, q.pose))
 }

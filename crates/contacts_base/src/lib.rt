@@ -16,7 +16,7 @@ pub mod packed;
 pub mod split;
 pub mod surface;
 
-pub use contact::{Contact, ContactEntry, ContactPoint, contact_at, seek};
+pub use contact::{Contact, ContactEntry, ContactPoint, contact_at, seek_next};
 pub use contacts::{Contacts, put_contact};
 pub use evaluation::{Impulses, contact_of, evaluate};
 pub use key::{ContactKey, ShapeId};

@@ -8,10 +8,11 @@ ghost use Rattle.contacts_base.specs.Merge.{merged};
 ghost use Rattle.contacts_base.specs.Split.{AreSlotsBelow, carried, contacts_in, counting, counting_at, or_kept, places_of, renewed};
 
 use crate::by_body::BodyIndex;
+use crate::contact::seek;
 use crate::contacts::{has_slot, put_contact, set_points};
 use crate::flags::CountedFlags;
 use crate::merge::push_below;
-use crate::{ContactEntry, ContactKey, Impulses, PackedContact, contact_at, seek};
+use crate::{ContactEntry, ContactKey, Impulses, PackedContact, contact_at};
 use fixed_geom::Refusal;
 use std::alloc::Global;
 use std::marker::Model;

@@ -83,6 +83,7 @@ fn swung(q: Rot, w: i64) -> Vec2
 
 /// The facing along `d`, which is at least half as long as a unit vector: the rounding of both
 /// parts and of the length leaves it within 2 of 2^30.
+#[inline(always)]
 fn facing_along(d: Vec2) -> Rot
     requires position { IsWithin (2 ^ 61) d }
     requires long { IsLong d }
@@ -100,6 +101,7 @@ fn facing_along(d: Vec2) -> Rot
 /// At no spin it is `q`; else the direction moves along its tangent and is made a unit vector
 /// again, as Box2D's `b2IntegrateRotation` does, so that the angle is the arc tangent of
 /// `w / 2^30`. The result is a facing once more, after any number of turns.
+#[inline(always)]
 pub fn turn(q: Rot, w: i64) -> Rot
     requires facing { IsFacing q }
     requires spin { unsigned_abs w ≤ unsigned_abs MAX_SPIN }

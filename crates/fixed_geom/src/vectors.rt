@@ -191,6 +191,7 @@ pub fn unit_along(d: Vec2, k: i64) -> Vec2
 
 /// The unit vector along `d`, times 2^30, of components up to 2^61 that are not both zero. Its
 /// parts are rounded to the nearest, over a length that is rounded down.
+#[inline(always)]
 pub fn unit(d: Vec2) -> Vec2
     requires position { IsWithin (2 ^ 61) d }
     requires nonzero { 0 < unsigned_abs d.x + unsigned_abs d.y }

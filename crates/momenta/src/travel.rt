@@ -12,6 +12,7 @@ use fixed_geom::{MAX_POSITION, Vec2, minus, turn};
 ///
 /// A coordinate that would pass `MAX_POSITION` stops there, and that component of the momentum becomes 0; one
 /// that comes to stand on it just so keeps its momentum. Answers the motion and the change of its momentum.
+#[inline(always)]
 pub fn advance(motion: Motion, mass: MassData, reciprocals: Reciprocals) -> (Motion, Vec2)
     requires mass { IsMass mass }
     requires motion { IsMotion mass motion }

@@ -1,5 +1,6 @@
 pub mod BeamLemmas
 pub mod ChoiceLemmas
+pub mod CircleLaws
 pub mod CoreLemmas
 pub mod CrossLemmas
 pub mod DiscLemmas

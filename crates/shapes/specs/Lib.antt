@@ -1,6 +1,7 @@
 pub mod Bounds
 pub mod Choice
 pub mod Cores
+pub mod Discs
 pub mod Filters
 pub mod Manifolds
 pub mod Mixing

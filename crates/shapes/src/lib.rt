@@ -10,6 +10,7 @@ mod beam;
 mod bounds;
 mod choice;
 mod cores;
+mod discs;
 mod filter;
 mod limits;
 mod manifolds;
@@ -21,6 +22,7 @@ mod shape;
 mod spots;
 
 pub use bounds::{fat_box, tight_box};
+pub use discs::{Disc, disc_of, disc_point};
 pub use filter::{Filter, should_collide};
 pub use limits::{
     MARGIN, MAX_CORE, MAX_FRICTION, MAX_RADIUS, MAX_RAY, MAX_RESTITUTION, MAX_SHAPES, TOLERANCE,

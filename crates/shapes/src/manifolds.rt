@@ -13,7 +13,9 @@ use crate::spots::{Pair, Spot};
 use crate::{Core, MAX_RADIUS, Manifold, Point, Pose, Shape, core_of};
 use fixed_geom::{MAX_OFFSET, MAX_POSITION, Vec2, minus};
 
-fn point_of(center_a: Vec2, center_b: Vec2, spot: &Spot) -> Point
+/// A spot as two bodies with these centres keep it.
+#[inline(always)]
+pub(crate) fn point_of(center_a: Vec2, center_b: Vec2, spot: &Spot) -> Point
     requires first { IsWithin (unsigned_abs MAX_POSITION) center_a }
     requires second { IsWithin (unsigned_abs MAX_POSITION) center_b }
     requires spot { IsSpot spot.now }

@@ -102,6 +102,7 @@ fn flat_normal(a: &Core, b: &Core) -> Vec2
 }
 
 /// The normal of a candidate: along the way from `a` to `b`, and against it where the cores cross.
+#[inline(always)]
 #[tactic(auto, unfolding(crate::specs::Spots::normal_of))]
 fn normal_of(pair: &Pair, candidate: &Candidate) -> Vec2
     requires pair { IsPair pair.now }
@@ -186,8 +187,9 @@ fn position_along(from: Vec2, normal: Vec2, distance: i64) -> Vec2
     }
 }
 
-/// The contact point of a candidate.
-pub fn spot_of(pair: &Pair, candidate: &Candidate) -> Spot
+/// `spot_of`, written out where it is called: of cores that are known to be points little is left of it.
+#[inline(always)]
+pub fn spot_in_place(pair: &Pair, candidate: &Candidate) -> Spot
     requires pair { IsPair pair.now }
     requires candidate { IsCandidate candidate.now }
     ensures value { result ≡ spot_of pair.now candidate.now }
@@ -203,4 +205,15 @@ pub fn spot_of(pair: &Pair, candidate: &Candidate) -> Spot
         separation,
         at,
     }
+}
+
+/// The contact point of a candidate.
+#[inline(never)]
+pub fn spot_of(pair: &Pair, candidate: &Candidate) -> Spot
+    requires pair { IsPair pair.now }
+    requires candidate { IsCandidate candidate.now }
+    ensures value { result ≡ spot_of pair.now candidate.now }
+    ensures spot { IsSpot result }
+{
+    spot_in_place(pair, candidate)
 }

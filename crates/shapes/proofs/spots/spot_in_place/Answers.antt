@@ -3,7 +3,7 @@ use Rattle.std.proofs.lemmas.Int.{to_z-of_z}
 use Rattle.std.specs.Int.{w64}
 use mir.Val.{SFits}
 use Rattle.shapes.specs.Spots.{position_of, spot_of}
-use Rattle.shapes.proofs.spots.spot_of.Goals as goal
+use Rattle.shapes.proofs.spots.spot_in_place.Goals as goal
 
 pub returns-clause-value : goal.returns-clause-value
 unfolding position_of spot_of
