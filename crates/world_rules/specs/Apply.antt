@@ -57,6 +57,7 @@ use Rattle.world_rules.specs.declared.command.Command.TheVariants.{CreateBody, D
 use Rattle.world_rules.specs.declared.command.Reply.{Reply}
 use Rattle.world_rules.specs.declared.command.Reply.TheVariants as replies
 use Rattle.world_rules.specs.Collide.{Collided, collided}
+use Rattle.world_rules.specs.Needs.{need, refused_unless}
 use Rattle.world_rules.specs.Sets.{acting_of, body_come, body_gone, stirred, with_acting, woken}
 use Rattle.world_rules.specs.World.{World, body_of, joints_of}
 
@@ -101,7 +102,7 @@ created w d =
 
 abbrev pub create_due : Plain → BodyDef → Option Refusal → Result Applied Refusal
 create_due w d (Some e) = Err e
-create_due w d None = cond (nat_lt (lowest w.places) MAX_SLOTS) (Ok (created w d)) (Err TooMany)
+create_due w d None = need (nat_lt (lowest w.places) MAX_SLOTS) TooMany (Ok (created w d))
 
 abbrev pub apply_create : Plain → BodyDef → Result Applied Refusal
 apply_create w d = create_due w d (def_refusal d)
@@ -110,7 +111,13 @@ apply_create w d = create_due w d (def_refusal d)
 
 -- the lists without a body, its joints and its contacts
 abbrev pub without_body : Handle → JointSlots → Plain → Plain
-without_body h joints w = record w { places = places_without w.places h; bodies = slice_set w.bodies h.slot None; joint_places = joints.places; joints = joints.joints; contacts = contacts_without h.slot w.contacts }
+without_body h joints w = record w {
+  places = places_without w.places h;
+  bodies = slice_set w.bodies h.slot None;
+  joint_places = joints.places;
+  joints = joints.joints;
+  contacts = contacts_without h.slot w.contacts;
+}
 
 -- the body goes with its joints and its contacts
 abbrev pub body_destroyed : Handle → Bool → Plain → Plain
@@ -144,7 +151,11 @@ with_joints joints w = record w { joint_places = joints.places; joints = joints.
 abbrev pub join_refusal : Option Body → Option Body → JointDef → Option Refusal
 join_refusal None b d = Some StaleHandle
 join_refusal (Some a) None d = Some StaleHandle
-join_refusal (Some a) (Some b) d = cond (d.a.slot == d.b.slot) (Some SameBody) (cond a.enabled (cond b.enabled (joint_refusal d) (Some BodyDisabled)) (Some BodyDisabled))
+join_refusal (Some a) (Some b) d =
+    cond (d.a.slot == d.b.slot) (Some SameBody) (
+    refused_unless a.enabled BodyDisabled (
+    refused_unless b.enabled BodyDisabled (
+    joint_refusal d)))
 
 -- the joint comes, and begins
 abbrev pub joint_come : Handle → BodyJoint → Plain → Plain
@@ -161,7 +172,7 @@ joined w d h = record {
 
 abbrev pub join_due : Plain → JointDef → Option Refusal → Result Applied Refusal
 join_due w d (Some e) = Err e
-join_due w d None = cond (nat_lt (lowest w.joint_places) MAX_SLOTS) (Ok (joined w d (handle_at w.joint_places (lowest w.joint_places)))) (Err TooMany)
+join_due w d None = need (nat_lt (lowest w.joint_places) MAX_SLOTS) TooMany (Ok (joined w d (handle_at w.joint_places (lowest w.joint_places))))
 
 abbrev pub apply_join : Plain → JointDef → Result Applied Refusal
 apply_join w d = join_due w d (join_refusal (body_of w d.a) (body_of w d.b) d)
@@ -195,7 +206,12 @@ is_push j r = is_within (2 ^ 40) j && is_within (2 ^ 26) r
 -- the momenta that a push leaves, or the first reason why there are none
 abbrev pub pushed : Option Body → Vec2 → Vec2 → Result Momenta Refusal
 pushed None j r = Err StaleHandle
-pushed (Some b) j r = cond (is_dynamic b.kind) (cond b.enabled (cond (is_push j r) (cond (are_momenta (with_impulse j r b)) (Ok (with_impulse j r b)) (Err TooFast)) (Err OutOfRange)) (Err BodyDisabled)) (Err NotAMover)
+pushed (Some b) j r =
+    need (is_dynamic b.kind) NotAMover (
+    need b.enabled BodyDisabled (
+    need (is_push j r) OutOfRange (
+    need (are_momenta (with_impulse j r b)) TooFast (
+    Ok (with_impulse j r b)))))
 
 -- the body in the slot changed
 abbrev pub body_changed : (Body → Body) → ℕ → Plain → Plain
@@ -224,7 +240,10 @@ changed w h f = quietly (body_changed f h.slot (stirred w h.slot))
 -- the pose that a body gets, or the first reason why it gets none
 abbrev pub posed : Option Body → Pose → Result Pose Refusal
 posed None o = Err StaleHandle
-posed (Some b) o = cond (is_within (unsigned_abs MAX_POSITION) o.x) (cond (is_facing o.rot) (Ok o) (Err OutOfRange)) (Err OutOfRange)
+posed (Some b) o =
+    need (is_within (unsigned_abs MAX_POSITION) o.x) OutOfRange (
+    need (is_facing o.rot) OutOfRange (
+    Ok o))
 
 abbrev pub pose_due : Plain → Handle → Result Pose Refusal → Result Applied Refusal
 pose_due w h (Err e) = Err e
@@ -236,7 +255,11 @@ apply_pose w h o = pose_due w h (posed (body_of w h) o)
 -- the course that a body gets, or the first reason why it gets none
 abbrev pub steered : Option Body → Course → Result Course Refusal
 steered None course = Err StaleHandle
-steered (Some b) course = cond (is_kinematic b.kind) (cond b.enabled (cond (is_course course) (Ok course) (Err OutOfRange)) (Err BodyDisabled)) (Err NotKinematic)
+steered (Some b) course =
+    need (is_kinematic b.kind) NotKinematic (
+    need b.enabled BodyDisabled (
+    need (is_course course) OutOfRange (
+    Ok course)))
 
 abbrev pub course_due : Plain → Handle → Result Course Refusal → Result Applied Refusal
 course_due w h (Err e) = Err e
@@ -248,13 +271,17 @@ apply_velocity w h course = course_due w h (steered (body_of w h) course)
 -- ---- SetGravity
 
 abbrev pub apply_gravity : Plain → Vec2 → Result Applied Refusal
-apply_gravity w g = cond (is_within (2 ^ 16) g) (Ok (quietly (record w { gravity = g }))) (Err OutOfRange)
+apply_gravity w g = need (is_within (2 ^ 16) g) OutOfRange (Ok (quietly (record w { gravity = g })))
 
 -- ---- Disable and Enable
 
 -- the lists in which the body takes no part: its contacts are gone, and its joints have no impulse
 abbrev pub without_part : Handle → Plain → Plain
-without_part h w = record w { bodies = changed_at disabled_body w.bodies h.slot; joints = idle_joints h.slot w.joints; contacts = contacts_without h.slot w.contacts }
+without_part h w = record w {
+  bodies = changed_at disabled_body w.bodies h.slot;
+  joints = idle_joints h.slot w.joints;
+  contacts = contacts_without h.slot w.contacts;
+}
 
 -- it leaves, as one that is destroyed does
 abbrev pub body_disabled : Handle → Bool → Plain → Plain
@@ -270,7 +297,7 @@ disabled w h b = record {
 
 abbrev pub disable_due : Plain → Handle → Option Body → Result Applied Refusal
 disable_due w h None = Err StaleHandle
-disable_due w h (Some b) = cond b.enabled (Ok (disabled w h b)) (Err BodyDisabled)
+disable_due w h (Some b) = need b.enabled BodyDisabled (Ok (disabled w h b))
 
 abbrev pub apply_disable : Plain → Handle → Result Applied Refusal
 apply_disable w h = disable_due w h (body_of w h)
@@ -302,7 +329,10 @@ apply_enable w h = enable_due w h (body_of w h)
 -- why a body's island can't be woken or put to rest
 abbrev pub mover_refusal : Option Body → Option Refusal
 mover_refusal None = Some StaleHandle
-mover_refusal (Some b) = cond (is_dynamic b.kind) (cond b.enabled None (Some BodyDisabled)) (Some NotAMover)
+mover_refusal (Some b) =
+    refused_unless (is_dynamic b.kind) NotAMover (
+    refused_unless b.enabled BodyDisabled
+    None)
 
 abbrev pub wake_due : Plain → Handle → Option Refusal → Result Applied Refusal
 wake_due w h (Some e) = Err e
@@ -320,7 +350,12 @@ abbrev pub rest_entries : ℕ → Labels → List (Option Body) → List Entry
 rest_entries call labels bodies = booked call causes.Rest (gained bodies (told labels bodies)).x (gained bodies (told labels bodies)).y
 
 abbrev pub put_to_sleep : Plain → Acting Constraint → Applied
-put_to_sleep w s = record { plain = counted (with_acting s w); reply = replies.Done; entries = rest_entries (w.calls + 1) s.labels w.bodies; events = None }
+put_to_sleep w s = record {
+  plain = counted (with_acting s w);
+  reply = replies.Done;
+  entries = rest_entries (w.calls + 1) s.labels w.bodies;
+  events = None;
+}
 
 abbrev pub sleep_due : Plain → Handle → Option Refusal → Result Applied Refusal
 sleep_due w h (Some e) = Err e
@@ -354,16 +389,31 @@ rested_acting bodies joints contacts s = sleep_phase constraint_number (timers_o
 
 -- what the step has added to the movers' momentum, by cause
 abbrev pub step_entries : ℕ → StepSums → List Entry
-step_entries call sums = booked call causes.Gravity sums.gravity.x sums.gravity.y ++ (booked call causes.Immovable sums.immovable.x sums.immovable.y ++ booked call causes.Clamp sums.clamp.x sums.clamp.y)
+step_entries call sums =
+    booked call causes.Gravity sums.gravity.x sums.gravity.y ++ (
+    booked call causes.Immovable sums.immovable.x sums.immovable.y ++
+    booked call causes.Clamp sums.clamp.x sums.clamp.y)
 
 -- who fell asleep in the sleep phase, and who woke in the collide
 abbrev pub events_of : Plain → Collided → Labels → Labels → EventLists
-events_of w c woken rested = record { begin = c.begin; end = c.end; slept = asleep_only_in w.places woken rested; woke = asleep_only_in w.places woken w.islands }
+events_of w c woken rested = record {
+  begin = c.begin;
+  end = c.end;
+  slept = asleep_only_in w.places woken rested;
+  woke = asleep_only_in w.places woken w.islands;
+}
 
 -- the bodies, joints and contacts that the ticks have left, and then the sleep phase
 abbrev pub stepped : Plain → ℕ → Collided → Acting Constraint → Solving → Acting Constraint → Applied
 stepped w n c woken s rested = record {
-  plain = counted (record w { bodies = told rested.labels (bodies_ticked n s); joints = s.joints; contacts = s.contacts; islands = rested.labels; colours = ids_of rested.lists; steps = w.steps + 1 });
+  plain = counted (record w {
+    bodies = told rested.labels (bodies_ticked n s);
+    joints = s.joints;
+    contacts = s.contacts;
+    islands = rested.labels;
+    colours = ids_of rested.lists;
+    steps = w.steps + 1;
+  });
   reply = replies.Stepped (w.steps + 1);
   entries = step_entries (w.calls + 1) s.sums ++ rest_entries (w.calls + 1) rested.labels (bodies_ticked n s);
   events = Some (events_of w c woken.labels rested.labels);
@@ -377,15 +427,31 @@ abbrev pub step_done : Plain → ℕ → Collided → Applied
 step_done w n c = step_solved w n c (turned_acting w c) (solved_after w n c (turned_acting w c))
 
 abbrev pub apply_step : Plain → ℤ → Result Applied Refusal
-apply_step w n = cond (is_between (pos 1) (pos 8) n) (Ok (step_done w (unsigned_abs n) (collided w.bodies w.joints w.contacts))) (Err OutOfRange)
+apply_step w n = need (is_between (pos 1) (pos 8) n) OutOfRange (Ok (step_done w (unsigned_abs n) (collided w.bodies w.joints w.contacts)))
 
 -- ---- a new world
 
 abbrev pub gravity_refusal : Vec2 → Option Refusal
-gravity_refusal g = cond (is_within (2 ^ 16) g) None (Some OutOfRange)
+gravity_refusal g = refused_unless (is_within (2 ^ 16) g) OutOfRange None
 
 abbrev pub empty_world : Vec2 → World
-empty_world g = record { plain = record { places = []; bodies = []; joint_places = []; joints = []; contacts = []; islands = []; colours = replicate (COLOURS + 1) []; gravity = g; steps = 0; calls = 0 }; entries = []; settled = zero_totals; events = no_events }
+empty_world g = record {
+  plain = record {
+    places = [];
+    bodies = [];
+    joint_places = [];
+    joints = [];
+    contacts = [];
+    islands = [];
+    colours = replicate (COLOURS + 1) [];
+    gravity = g;
+    steps = 0;
+    calls = 0;
+  };
+  entries = [];
+  settled = zero_totals;
+  events = no_events;
+}
 
 -- just what is due; or, where nothing keeps the world from being made, want of memory
 abbrev pub IsMade : Option Refusal → World → Result World Refusal → Type 0

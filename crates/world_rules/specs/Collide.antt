@@ -21,7 +21,16 @@ abbrev pub shape_proxies : ℕ → Bool → Bool → Pose → ℕ → List Shape
 shape_proxies slot dynamic stirs pose index [] fats = []
 shape_proxies slot dynamic stirs pose index (d ∷ defs) [] = []
 shape_proxies slot dynamic stirs pose index (d ∷ defs) (fat ∷ fats) =
-    record { id = record { slot = slot; index = index }; fat = fat; filter = d.filter; dynamic = dynamic; stirs = stirs; surface = record { friction = d.friction; restitution = d.restitution }; shape = d.shape; pose = pose } ∷ shape_proxies slot dynamic stirs pose (suc index) defs fats
+    record {
+      id = record { slot = slot; index = index };
+      fat = fat;
+      filter = d.filter;
+      dynamic = dynamic;
+      stirs = stirs;
+      surface = record { friction = d.friction; restitution = d.restitution };
+      shape = d.shape;
+      pose = pose;
+    } ∷ shape_proxies slot dynamic stirs pose (suc index) defs fats
 
 abbrev pub body_proxies : ℕ → Body → List Proxy
 body_proxies slot b = cond b.enabled (shape_proxies slot (is_dynamic b.kind) (stirs b) (pose_of b) 0 b.shapes b.fats) []
