@@ -10,7 +10,6 @@ ghost use Rattle.world_file.specs.Marked.{joint_colours_by};
 ghost use Rattle.saved_text.specs.Tokens.{AddsValue};
 
 use crate::bodies::put_free;
-use crate::colours::{colour_at, joint_number};
 use crate::counts::lesser;
 use crate::leaves::Leaf;
 use crate::members::{put_members, put_object};
@@ -19,6 +18,7 @@ use json::Writer;
 use plain_world::BodyJoint;
 use std::alloc::{AllocError, Global};
 use std::collections::HashMap;
+use world_file::{colour_at, joint_number};
 
 /// The id of the body in a slot.
 fn name_at(alloc: Global, places: &[Place], slot: u32) -> Result<String, AllocError>

@@ -6,7 +6,6 @@ ghost use Rattle.world_file_base.specs.SavedContacts.{contact_of, contacts_of, p
 ghost use Rattle.world_file.specs.Marked.{contact_colours_by};
 ghost use Rattle.saved_text.specs.Tokens.{AddsItems, AddsMembers, AddsValue};
 
-use crate::colours::colour_at;
 use crate::leaves::Leaf;
 use crate::members::{put_members, put_object};
 use contacts::Constraint;
@@ -15,6 +14,7 @@ use graph_colours::Id;
 use json::Writer;
 use std::alloc::AllocError;
 use std::collections::HashMap;
+use world_file::colour_at;
 
 fn put_point(out: &mut Writer, point: &ContactPoint) -> Result<(), AllocError>
     ensures text { OnOk result (AddsValue (point_of point.now) out.old out.new) }

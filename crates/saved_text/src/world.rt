@@ -15,7 +15,6 @@ ghost use Rattle.saved_text.specs.Texts.{IsTextOf};
 ghost use Rattle.saved_text.specs.Tokens.{AddsMembers, AddsValue};
 
 use crate::bodies::put_bodies;
-use crate::colours::colours_by_number;
 use crate::joints::put_joints;
 use crate::leaves::Leaf;
 use crate::ledger::put_totals;
@@ -27,6 +26,7 @@ use json::Writer;
 use plain_world::Plain;
 use std::alloc::{AllocError, Global};
 use std::collections::HashMap;
+use world_file::colours_by_number;
 
 /// The number of the version that is written.
 const WRITTEN: u64 = 2;

@@ -6,7 +6,7 @@ use Rattle.world_file_base.specs.Asks.{Ask, all_asked, asked}
 use Rattle.world_file_base.specs.Reading.{has_keys, whole_asks, whole_in}
 use Rattle.world_file_base.specs.declared.clause.Clause.TheVariants.{Form}
 use Rattle.world_file.specs.Saved.{Saved, version_of}
-use Rattle.world_file.specs.declared.parts.Saved as kept
+use Rattle.world_file.specs.declared.saved_world.Saved as kept
 
 -- the lists of what was read
 abbrev pub parts_of : kept.Saved → Saved

@@ -1,10 +1,8 @@
 //! The colours of joints and contacts.
 
-ghost use Rattle.std.specs.Prelude.{◌≡◌, ◌≤◌, ◌+◌, ◌++◌, ◌∷◌, [], ℕ, Some, cond, false, nat_eq, length, map, slice_index_or, IfErr, IfOk, OnOk};
+ghost use Rattle.std.specs.Prelude.{◌≡◌, ◌≤◌, ◌+◌, ◌++◌, ◌∷◌, [], ℕ, false, nat_eq, length, map, slice_index_or, IfErr, IfOk, OnOk};
 ghost use Rattle.std.specs.List.{list_all};
 ghost use Rattle.std.specs.HashMap.{get};
-ghost use Rattle.contacts.specs.Constraints.{constraint_number};
-ghost use Rattle.contacts.specs.declared.constraint.Constraint.TheVariants.{Joint};
 ghost use Rattle.graph_colours.specs.Marks.{is_marked};
 ghost use Rattle.graph_colours.specs.declared.limits.TheConstants.{COLOURS as most_colours};
 ghost use Rattle.plain_world.specs.Plain.{constraints_of};
@@ -15,13 +13,12 @@ ghost use Rattle.world_file.specs.Marked.{
   AreMarkedToo,
   IsMarkedToo,
   IsTieMarked,
-  colour_numbered,
   contact_colours_by,
-  has_number,
   is_unshared,
   joint_colours_by,
 };
 
+use crate::numbered_colours::{colour_at, colours_by_number, joint_number};
 use crate::ties::Tie;
 use body_handles::Place;
 use contacts::Constraint;
@@ -174,40 +171,6 @@ pub(crate) fn list_colours(alloc: Global, ties: &[Tie]) -> Result<Vec<Vec<Constr
     Ok(colours)
 }
 
-/// Puts down the colour of these constraints, by their numbers.
-fn put_colour(
-    by_number: &mut HashMap<u128, u8>,
-    ids: &[Constraint],
-    colour: u8,
-) -> Result<(), Refusal>
-    ensures put { OnOk result ((number : ℕ) → get nat_eq by_number.new number ≡ cond (has_number number ids.now) (Some colour) (get nat_eq by_number.old number)) }
-{
-    for id in ids {
-        by_number.insert(id.number(), colour)?;
-    }
-    Ok(())
-}
-
-/// The colours of a world's constraints by their numbers.
-fn colours_by_number(alloc: Global, plain: &Plain) -> Result<HashMap<u128, u8>, Refusal>
-    requires few { length plain.now.colours ≤ most_colours + 1 }
-    ensures colours { IfOk result (λ by_number. (number : ℕ) → get nat_eq by_number number ≡ colour_numbered number plain.now.colours) }
-{
-    let mut by_number = HashMap::new(alloc);
-    let mut left = OVERFLOW + 1;
-    while left > 0 {
-        left -= 1;
-        put_colour(&mut by_number, plain.members(left as usize), left)?;
-    }
-    Ok(by_number)
-}
-
-fn colour_at(by_number: &HashMap<u128, u8>, number: u128) -> Option<u8>
-    ensures { result ≡ get nat_eq by_number.now number }
-{
-    by_number.get(&number).copied()
-}
-
 /// The colours of the contacts by their places.
 fn list_contact_colours(
     alloc: Global,
@@ -221,13 +184,6 @@ fn list_contact_colours(
         colours.push(colour_at(by_number, Constraint::Contact(entry.key).number()))?;
     }
     Ok(colours)
-}
-
-/// The number of the joint of this generation in a slot.
-fn joint_number(slot: usize, generation: u32) -> u128
-    ensures { result ≡ constraint_number (Joint (record { slot = slot; generation = generation })) }
-{
-    slot as u128 * (1 << 32) + u128::from(generation)
 }
 
 /// The colours of the joints by their slots.

@@ -11,11 +11,16 @@ mod components;
 mod laws;
 mod memberships;
 mod momentum;
-mod parts;
+mod numbered_colours;
 mod references;
+mod saved_world;
 mod ties;
 mod world;
 
+pub use impulse_ledger::Totals;
 pub use laws::{what_is_read_is_sound, what_is_written_fits, what_is_written_is_read_again};
-pub use world::{read, write};
+pub use numbered_colours::{colour_at, colours_by_number, joint_number};
+pub use plain_world::Plain;
+pub use saved_world::Saved;
+pub use world::{fit, read, write};
 pub use world_file_base::{Broken, Clause, Version};

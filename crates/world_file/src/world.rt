@@ -6,6 +6,7 @@ ghost use Rattle.std.specs.Result.{IsOkUnless};
 ghost use Rattle.serde_json.specs.View.{view};
 ghost use Rattle.graph_colours.specs.declared.limits.TheConstants.{COLOURS as most_colours};
 ghost use Rattle.plain_world.specs.Plain.{constraints_of};
+ghost use Rattle.world_file_base.specs.Asks.{no_asks};
 ghost use Rattle.world_file_base.specs.declared.clause.Broken.TheVariants.{NoMemory};
 ghost use Rattle.world_file.specs.Answers.{IsBrokenBy, IsRefusedBy, others_asks};
 ghost use Rattle.world_file.specs.Files.{plain_of as world_of, read_of, value_of};
@@ -29,10 +30,10 @@ use crate::colours::{are_apart, colours_of, list_colours};
 use crate::components::are_whole;
 use crate::memberships::{are_coloured_well, are_named_well, are_ties_kept, list_labels};
 use crate::momentum::is_momentum_kept;
-use crate::parts::{Saved, read_parts};
 use crate::references::{
     are_contacts_fitting, are_joints_fitting, are_rising, list_contacts, list_joints,
 };
+use crate::saved_world::{Saved, read_parts};
 use crate::ties::{Tie, are_contacts_colourless, are_joints_colourless, list_ties};
 use contacts::Constraint;
 use contacts_base::ContactEntry;
@@ -225,6 +226,22 @@ pub fn read(alloc: Global, value: &Value) -> Result<(Plain, Totals), Broken>
     let mut reader = Reader::new();
     let saved = read_parts(alloc, &mut reader, value)?;
     reader.settle(Clause::Generations)?;
+    let totals = saved.totals;
+    let parts = fitted(alloc, reader, &saved)?;
+    Ok((plain_of(saved, parts), totals))
+}
+
+/// The world of the parts of a saved one, and the totals of its ledger, where no clause is broken by what each part is read of. The first
+/// of the clauses that the parts break together is answered, or that memory was wanting.
+pub fn fit(alloc: Global, saved: Saved) -> Result<(Plain, Totals), Broken>
+    requires few { length saved.bodies.memberships.items ≤ 2 ^ 32 }
+    requires few_joints { length saved.joints.places.items ≤ 2 ^ 32 }
+    ensures keeps { OnOk result ((fitting_asks (parts_of saved) no_asks).broken ≡ None) }
+    ensures world { IfOk result (λ fit. fit.0 ≡ world_of (parts_of saved)) }
+    ensures totals { IfOk result (λ fit. fit.1 ≡ saved.totals) }
+    ensures refused { IfErr result (λ e. IsBrokenBy (fitting_asks (parts_of saved) no_asks).broken e) }
+{
+    let reader = Reader::new();
     let totals = saved.totals;
     let parts = fitted(alloc, reader, &saved)?;
     Ok((plain_of(saved, parts), totals))

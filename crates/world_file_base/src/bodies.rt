@@ -378,7 +378,7 @@ fn ask_membership(reader: &mut Reader, body: &Body, membership: Membership)
 
 /// Asks of a body as a whole.
 #[tactic(auto, unfolding(crate::specs::SavedBodies::whole_body_asks))]
-fn ask_body(reader: &mut Reader, body: &Body, membership: Membership)
+pub fn ask_body(reader: &mut Reader, body: &Body, membership: Membership)
     ensures { reader.new ≡ whole_body_asks body.now membership reader.old }
 {
     ask_shapes(

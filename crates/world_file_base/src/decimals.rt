@@ -40,7 +40,7 @@ pub(crate) fn is_number(text: &str) -> bool
 }
 
 /// The number that a text is, if its size is at most `most`.
-pub(crate) fn sized_number(text: &str, most: u128) -> Option<i128>
+pub fn sized_number(text: &str, most: u128) -> Option<i128>
     requires { most < 2 ^ 127 }
     ensures { result ≡ option_and_then (sized most) (number_of_text text.now) }
 {

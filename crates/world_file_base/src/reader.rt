@@ -362,7 +362,7 @@ impl Reader {
 }
 
 /// The handle that a text is the id of.
-fn handle_in_text(text: &str) -> Option<Handle>
+pub fn handle_in_text(text: &str) -> Option<Handle>
     ensures { result ≡ handle_of_text text.now }
 {
     match handle_of(text) {

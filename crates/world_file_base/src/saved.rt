@@ -1,4 +1,4 @@
-//! What is read of a saved world, before its parts are held against one another.
+//! The parts of a saved world as they are read: bodies, joints, contacts and totals with what the text says of each.
 
 use body_handles::{Handle, Place};
 use contacts_base::{ContactKey, PackedContact};

@@ -56,7 +56,7 @@ use serde_json::Value;
 use std::alloc::Global;
 
 /// The generation that a number is: 1 to the last one.
-fn generation_of(number: i128) -> Option<u32>
+pub fn generation_of(number: i128) -> Option<u32>
     ensures { result ≡ generation_of_number number }
 {
     match u32::try_from(number) {
@@ -85,7 +85,7 @@ fn slot_keys(live: bool) -> usize
 }
 
 /// Whether nothing is in a slot at its last generation.
-fn is_in_time(place: Place) -> bool
+pub fn is_in_time(place: Place) -> bool
     ensures { result ≡ is_in_time place }
 {
     !place.live || place.generation < WORN_OUT

@@ -1,7 +1,7 @@
 use Rattle.std.proofs.Common.{◌≡◌, ◌∙◌, None, nat_eq, arith, refl}
 use Rattle.std.specs.HashMap.{get}
 use Rattle.world_file.proofs.Numbered.{from_none, past_colours}
-use Rattle.saved_text.proofs.colours.colours_by_number.Goals as goal
+use Rattle.world_file.proofs.numbered_colours.colours_by_number.Goals as goal
 
 pub loop-left-init : goal.loop-left-init
 loop-left-init c = record {

@@ -1,4 +1,4 @@
-//! The colours of constraints, by their numbers.
+//! The colours of a world's constraints by their numbers, as a saved world tells them with each joint and contact.
 
 ghost use Rattle.std.specs.Prelude.{◌≡◌, ◌≤◌, ◌+◌, ℕ, Some, cond, length, nat_eq, IfOk, OnOk};
 ghost use Rattle.std.specs.HashMap.{get};
@@ -28,8 +28,8 @@ fn put_colour(
     Ok(())
 }
 
-/// The colours of a world's constraints by their numbers.
-pub(crate) fn colours_by_number(alloc: Global, plain: &Plain) -> Result<HashMap<u128, u8>, Refusal>
+/// The colours of a world's constraints by their numbers. Refused 1 where memory is wanting.
+pub fn colours_by_number(alloc: Global, plain: &Plain) -> Result<HashMap<u128, u8>, Refusal>
     requires few { length plain.now.colours ≤ most_colours + 1 }
     ensures colours { IfOk result (λ by_number. (number : ℕ) → get nat_eq by_number number ≡ colour_numbered number plain.now.colours) }
 {
@@ -42,14 +42,15 @@ pub(crate) fn colours_by_number(alloc: Global, plain: &Plain) -> Result<HashMap<
     Ok(by_number)
 }
 
-pub(crate) fn colour_at(by_number: &HashMap<u128, u8>, number: u128) -> Option<u8>
+/// The colour of the constraint of this number, if it has one.
+pub fn colour_at(by_number: &HashMap<u128, u8>, number: u128) -> Option<u8>
     ensures { result ≡ get nat_eq by_number.now number }
 {
     by_number.get(&number).copied()
 }
 
 /// The number of the joint of this generation in a slot.
-pub(crate) fn joint_number(slot: usize, generation: u32) -> u128
+pub fn joint_number(slot: usize, generation: u32) -> u128
     ensures { result ≡ constraint_number (Joint (record { slot = slot; generation = generation })) }
 {
     slot as u128 * (1 << 32) + u128::from(generation)

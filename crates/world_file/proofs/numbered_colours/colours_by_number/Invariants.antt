@@ -1,7 +1,7 @@
 use Rattle.std.proofs.Common.{◌≡◌, ◌≤◌, ℕ, drop, nat_eq}
 use Rattle.std.specs.HashMap.{get}
 use Rattle.world_file.proofs.Numbered.{colour_from}
-use Rattle.world_file.proofs.colours.colours_by_number.Given as goal
+use Rattle.world_file.proofs.numbered_colours.colours_by_number.Given as goal
 
 abbrev pub invariant-loop-left : goal.invariant-loop-left
 invariant-loop-left l = record {

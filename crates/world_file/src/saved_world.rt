@@ -1,4 +1,4 @@
-//! What is read of a saved world, before its parts are held against one another.
+//! A whole saved world as it is read, before its parts are held against one another.
 
 ghost use Rattle.std.specs.Prelude.{◌≡◌, ◌≤◌, ◌^◌, unwrap_or, IfErr, IfOk, OnOk};
 ghost use Rattle.world_file_base.specs.declared.version.Version.TheVariants.{Second};
