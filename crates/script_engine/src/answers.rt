@@ -207,7 +207,7 @@ fn answer_extended<'a, R: AllocGlobal + Threads + Wait + Sync>(
 }
 
 /// Does what a line asks for.
-pub fn answer<'a, R: AllocGlobal + Threads + Wait + Sync>(
+pub(crate) fn answer<'a, R: AllocGlobal + Threads + Wait + Sync>(
     rt: &R,
     worlds: &'a mut Worlds,
     request: &Request<'_>,

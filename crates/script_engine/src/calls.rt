@@ -15,16 +15,16 @@ use world_queries::{Hit, QueryFilter};
 use world_script_base::may_be_world;
 use world_workers::{IslandMemory, OpenGate, step_with_memory};
 
-pub fn new_world(alloc: Global) -> Result<WorldCore, Refusal> {
+pub(crate) fn new_world(alloc: Global) -> Result<WorldCore, Refusal> {
     WorldCore::new(alloc, Vec2 { x: 0, y: 0 })
 }
 
-pub fn apply(world: &mut WorldCore, command: &Command) -> Result<Reply, Refusal> {
+pub(crate) fn apply(world: &mut WorldCore, command: &Command) -> Result<Reply, Refusal> {
     world.apply(command)
 }
 
 /// A step by so many workers, who go on with what those before them left: with one, the calling thread makes it alone.
-pub fn step<R: AllocGlobal + Threads + Wait + Sync>(
+pub(crate) fn step<R: AllocGlobal + Threads + Wait + Sync>(
     rt: &R,
     world: &mut WorldCore,
     memory: &mut IslandMemory,
@@ -38,20 +38,20 @@ pub fn step<R: AllocGlobal + Threads + Wait + Sync>(
     }
 }
 
-pub fn body_of(world: &WorldCore, handle: Handle) -> Option<BodyView> {
+pub(crate) fn body_of(world: &WorldCore, handle: Handle) -> Option<BodyView> {
     world.body(handle)
 }
 
-pub fn ledger_of(world: &WorldCore) -> &Ledger {
+pub(crate) fn ledger_of(world: &WorldCore) -> &Ledger {
     world.ledger()
 }
 
-pub fn events_of(world: &WorldCore) -> &Events {
+pub(crate) fn events_of(world: &WorldCore) -> &Events {
     world.events()
 }
 
 /// What a ray hits first. Refused 5 where the ray is beyond its limits.
-pub fn ray(world: &WorldCore, from: Vec2, along: Vec2) -> Result<Option<Hit>, Refusal> {
+pub(crate) fn ray(world: &WorldCore, from: Vec2, along: Vec2) -> Result<Option<Hit>, Refusal> {
     if world_queries::is_ray(from, along) {
         Ok(world_queries::ray(world, from, along))
     } else {
@@ -61,7 +61,7 @@ pub fn ray(world: &WorldCore, from: Vec2, along: Vec2) -> Result<Option<Hit>, Re
 
 /// What a ray hits first of the shapes that it may hit. Refused 5 where the ray is beyond its limits, and else 2 where the body that it passes by
 /// doesn't live.
-pub fn filtered_ray(
+pub(crate) fn filtered_ray(
     world: &WorldCore,
     from: Vec2,
     along: Vec2,
@@ -75,7 +75,11 @@ pub fn filtered_ray(
 }
 
 /// The shapes over a region. Refused 5 where the region is beyond its limits, and else 1 where memory is wanting.
-pub fn region(alloc: Global, world: &WorldCore, bounds: &Box2) -> Result<Vec<ShapeId>, Refusal> {
+pub(crate) fn region(
+    alloc: Global,
+    world: &WorldCore,
+    bounds: &Box2,
+) -> Result<Vec<ShapeId>, Refusal> {
     if world_queries::is_region(bounds) {
         world_queries::region(alloc, world, bounds)
     } else {
@@ -84,22 +88,22 @@ pub fn region(alloc: Global, world: &WorldCore, bounds: &Box2) -> Result<Vec<Sha
 }
 
 /// A copy of a world. Refused 1 where memory is wanting.
-pub fn copy_of_world(world: &WorldCore) -> Result<WorldCore, Refusal> {
+pub(crate) fn copy_of_world(world: &WorldCore) -> Result<WorldCore, Refusal> {
     world.try_copy()
 }
 
 /// The bodies by slot.
-pub fn bodies_of(world: &WorldCore) -> &[Option<Body>] {
+pub(crate) fn bodies_of(world: &WorldCore) -> &[Option<Body>] {
     world.bodies()
 }
 
 /// The slots of bodies that were ever used.
-pub fn places_of(world: &WorldCore) -> &[Place] {
+pub(crate) fn places_of(world: &WorldCore) -> &[Place] {
     world.places()
 }
 
 /// The world as plain lists. Refused 1 where memory is wanting.
-pub fn plain_of(world: &WorldCore) -> Result<Plain, Refusal> {
+pub(crate) fn plain_of(world: &WorldCore) -> Result<Plain, Refusal> {
     world.plain()
 }
 
@@ -107,25 +111,25 @@ pub fn plain_of(world: &WorldCore) -> Result<Plain, Refusal> {
 const MOST_ENTRIES: usize = 32_768;
 
 /// Drops the ledger's single entries where they are many. No answer tells of them: its sums stay.
-pub fn settle(world: &mut WorldCore) {
+pub(crate) fn settle(world: &mut WorldCore) {
     if world.ledger().entries().len() > MOST_ENTRIES {
         world.settle_ledger();
     }
 }
 
 /// The digest of the world. Refused 1 where memory is wanting.
-pub fn digest(world: &WorldCore) -> Result<[u8; 32], Refusal> {
+pub(crate) fn digest(world: &WorldCore) -> Result<[u8; 32], Refusal> {
     world_desk::digest_of(world)
 }
 
 /// The text of the world. Refused 1 where memory is wanting.
-pub fn save(alloc: Global, world: &WorldCore) -> Result<String, Refusal> {
+pub(crate) fn save(alloc: Global, world: &WorldCore) -> Result<String, Refusal> {
     world_desk::text_of(alloc, world)
 }
 
 /// The world of a text that is JSON. Refused 12 with the first clause that it breaks, or 1 where memory is wanting. What can't be a saved world at
 /// the first look is refused before a value is made of it.
-pub fn load(alloc: Global, text: &str) -> Result<WorldCore, Refusal> {
+pub(crate) fn load(alloc: Global, text: &str) -> Result<WorldCore, Refusal> {
     if !may_be_world(text, &mut Scratch::new(alloc))? {
         return Err(Broken::Clause(Clause::Form).refusal());
     }
@@ -136,7 +140,7 @@ pub fn load(alloc: Global, text: &str) -> Result<WorldCore, Refusal> {
 }
 
 /// Makes a call through a seat, a step with this solver, and says whether it was accepted.
-pub fn call<N: Opened, R: Wait, S: StepSolver>(
+pub(crate) fn call<N: Opened, R: Wait, S: StepSolver>(
     rt: &R,
     shared: &SharedWorld<N>,
     seat: &mut Seat<N>,

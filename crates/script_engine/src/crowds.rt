@@ -19,7 +19,7 @@ use world_workers::{IslandCrew, IslandMemory, OpenGate};
 
 /// What a crowd left: how many calls were accepted, and what each seat did, in the order of the seats' numbers.
 #[derive(Drop)]
-pub struct Report {
+pub(crate) struct Report {
     pub journal: u64,
     pub seats: Vec<SeatReport>,
 }
@@ -81,7 +81,7 @@ fn make_each<N: Opened, R: Wait, S: StepSolver>(
 
 /// What a crowd does, and how many workers solve each of its steps.
 #[derive(Clone, Copy)]
-pub struct CrowdPlan<'d> {
+pub(crate) struct CrowdPlan<'d> {
     pub alloc: Global,
     pub def: &'d CrowdDef,
     pub workers: u64,
@@ -296,7 +296,7 @@ fn share_out<R: Threads + Wait + Sync>(
 
 /// So many threads make the crowd's calls. Refused 1, with nothing changed, where memory is wanting, and 11 where a thread can't be
 /// started: the calls of the threads that ran stand then.
-pub fn crowd<R: Threads + Wait + Sync>(
+pub(crate) fn crowd<R: Threads + Wait + Sync>(
     rt: &R,
     world: &mut WorldCore,
     crowd: CrowdPlan,

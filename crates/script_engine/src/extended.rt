@@ -42,7 +42,7 @@ fn take_choice<'a>(fields: &mut Fields<'a>, key: &'a str) -> bool {
 }
 
 /// The corners of a region.
-pub fn take_box<'a>(fields: &mut Fields<'a>) -> Box2 {
+pub(crate) fn take_box<'a>(fields: &mut Fields<'a>) -> Box2 {
     let lo = fields.take_vector("lo");
     let hi = fields.take_vector("hi");
     Box2 { lo, hi }
@@ -94,7 +94,7 @@ fn take_with_ids<'a>(fields: &mut Fields<'a>, name: &str) -> Option<Extended> {
 
 /// The request of this name that only the extended form has, if it is one's. A step, a ray and a region are such where they ask for ids, and a
 /// ray where it says which shapes it may hit.
-pub fn take_extended<'a>(fields: &mut Fields<'a>, name: &str) -> Option<Extended> {
+pub(crate) fn take_extended<'a>(fields: &mut Fields<'a>, name: &str) -> Option<Extended> {
     let request = match name {
         "bodies" => Extended::Bodies {
             awake: take_choice(fields, "awake"),

@@ -59,7 +59,7 @@ fn list_joints(alloc: Global, plain: &Plain) -> Result<Vec<JointReport>, Refusal
 }
 
 /// The joints by slot. Refused 1 where memory is wanting.
-pub fn joints_of(alloc: Global, world: &WorldCore) -> Result<Vec<JointReport>, Refusal> {
+pub(crate) fn joints_of(alloc: Global, world: &WorldCore) -> Result<Vec<JointReport>, Refusal> {
     let plain = world.plain()?;
     list_joints(alloc, &plain)
 }

@@ -45,7 +45,7 @@ pub enum Request<'a> {
 }
 
 /// A copy of a command. Refused 1 where memory is wanting.
-pub fn copy_of(command: &Command) -> Result<Command, Refusal> {
+pub(crate) fn copy_of(command: &Command) -> Result<Command, Refusal> {
     match command {
         Command::CreateBody(def) => copy_of_create(def),
         Command::CreateJoint(def) => Ok(Command::CreateJoint(*def)),

@@ -12,7 +12,7 @@ const MOST_KEPT: u64 = 16;
 
 /// The world of a script, what the workers of its steps left to those of the next, and the kept worlds by number.
 #[derive(Drop)]
-pub struct Worlds {
+pub(crate) struct Worlds {
     pub world: WorldCore,
     pub memory: IslandMemory,
     kept: BTreeMap<u64, WorldCore>,

@@ -35,3 +35,4 @@ pub mod SavedLaws
 pub mod ImpulseBounds
 pub mod SolvingBounds
 pub mod GrownLaws
+pub mod CrossingLaws

@@ -20,7 +20,7 @@ use impulse_ledger::{Cause, Entry, Ledger};
 use momenta::Gain;
 
 /// Books a sum of impulses for which there is room; one that is zero in both components is left out.
-pub fn book(ledger: &mut Ledger, call: u64, cause: Cause, gain: Gain)
+pub(crate) fn book(ledger: &mut Ledger, call: u64, cause: Cause, gain: Gain)
     requires fits { Fits ledger.old (record { call = call; cause = cause; x = gain.x; y = gain.y }) }
     requires room { 1 ≤ ledger.old.room }
     ensures entries { ledger.new.entries ≡ ledger.old.entries ++ booked call cause gain.x gain.y }
@@ -39,7 +39,7 @@ pub fn book(ledger: &mut Ledger, call: u64, cause: Cause, gain: Gain)
 }
 
 /// A momentum, as it is booked where it comes.
-pub fn gain_of(v: Vec2) -> Gain
+pub(crate) fn gain_of(v: Vec2) -> Gain
     ensures x { result.x ≡ v.x }
     ensures y { result.y ≡ v.y }
 {
@@ -50,7 +50,7 @@ pub fn gain_of(v: Vec2) -> Gain
 }
 
 /// A momentum, as it is booked where it goes.
-pub fn loss_of(v: Vec2) -> Gain
+pub(crate) fn loss_of(v: Vec2) -> Gain
     ensures x { result.x ≡ neg_ℤ v.x }
     ensures y { result.y ≡ neg_ℤ v.y }
     ensures small_x { unsigned_abs result.x ≤ 2 ^ 63 }
@@ -91,7 +91,7 @@ fn book_rest(ledger: &mut Ledger, call: u64, sums: StepSums, rest: Gain)
 
 /// Records a step: books what its ticks have added and what those that fell asleep have lost, for which there is room, and makes what began and ended and who
 /// slept and woke its events. Takes no memory.
-pub fn record_step(
+pub(crate) fn record_step(
     ledger: &mut Ledger,
     events: &mut Events,
     scratch: &mut Scratch,

@@ -157,7 +157,7 @@ fn stirs_named(bodies: &[Option<Body>], id: ShapeId) -> bool
 
 /// The table of a world's bodies, whose shapes a collide reads.
 #[derive(Drop)]
-pub struct BodyShapes<'a> {
+pub(crate) struct BodyShapes<'a> {
     table: &'a BodyTable,
 }
 
@@ -208,7 +208,7 @@ impl ShapesByName for BodyShapes<'_> {
 
 /// Finds the near pairs of shapes whose bodies no joint keeps from colliding, and evaluates a contact for each of which a body stirs: what the
 /// contacts become is due then. Those of bodies that aren't marked are known from the contacts that there are. Refused 1 where memory is wanting.
-pub fn collide(
+pub(crate) fn collide(
     alloc: Global,
     contacts: &mut KeptContacts,
     bodies: &BodyTable,

@@ -14,34 +14,37 @@ use world_core_base::{BodyTable, JointTable};
 
 /// The bodies and their handles.
 #[derive(Drop)]
-pub struct CopiedBodies {
+pub(crate) struct CopiedBodies {
     pub handles: Handles,
     pub table: BodyTable,
 }
 
 /// The joints and their handles.
 #[derive(Drop)]
-pub struct CopiedJoints {
+pub(crate) struct CopiedJoints {
     pub handles: Handles,
     pub table: JointTable,
 }
 
 /// The contacts, and the sets of the constraints.
 #[derive(Drop)]
-pub struct CopiedConstraints {
+pub(crate) struct CopiedConstraints {
     pub contacts: KeptContacts,
     pub sets: Sets<Constraint>,
 }
 
 /// The ledger and the events.
 #[derive(Drop)]
-pub struct CopiedRecords {
+pub(crate) struct CopiedRecords {
     pub ledger: Ledger,
     pub events: Events,
 }
 
 /// A copy of the bodies and their handles. Refused 1 where memory is wanting.
-pub fn copy_body_parts(handles: &Handles, bodies: &BodyTable) -> Result<CopiedBodies, Refusal>
+pub(crate) fn copy_body_parts(
+    handles: &Handles,
+    bodies: &BodyTable,
+) -> Result<CopiedBodies, Refusal>
     ensures places { IfOk result (λ copied. copied.handles.places ≡ handles.now.places) }
     ensures bodies { IfOk result (λ copied. copied.table.bodies ≡ bodies.now.bodies) }
     ensures marks { IfOk result (λ copied. copied.table.marks ≡ bodies.now.marks) }
@@ -54,7 +57,10 @@ pub fn copy_body_parts(handles: &Handles, bodies: &BodyTable) -> Result<CopiedBo
 }
 
 /// A copy of the joints and their handles. Refused 1 where memory is wanting.
-pub fn copy_joint_parts(handles: &Handles, joints: &JointTable) -> Result<CopiedJoints, Refusal>
+pub(crate) fn copy_joint_parts(
+    handles: &Handles,
+    joints: &JointTable,
+) -> Result<CopiedJoints, Refusal>
     ensures places { IfOk result (λ copied. copied.handles.places ≡ handles.now.places) }
     ensures joints { IfOk result (λ copied. copied.table.joints ≡ joints.now.joints) }
     ensures memory_only { IsOkUnless result Refusal.NoMemory }
@@ -66,7 +72,7 @@ pub fn copy_joint_parts(handles: &Handles, joints: &JointTable) -> Result<Copied
 }
 
 /// A copy of the contacts and of the sets of the constraints. Refused 1 where memory is wanting.
-pub fn copy_constraint_parts(
+pub(crate) fn copy_constraint_parts(
     contacts: &KeptContacts,
     sets: &Sets<Constraint>,
     alloc: Global,
@@ -82,7 +88,7 @@ pub fn copy_constraint_parts(
 }
 
 /// A copy of the ledger and the events. Refused 1 where memory is wanting.
-pub fn copy_records(ledger: &Ledger, events: &Events) -> Result<CopiedRecords, Refusal>
+pub(crate) fn copy_records(ledger: &Ledger, events: &Events) -> Result<CopiedRecords, Refusal>
     ensures entries { IfOk result (λ copied. copied.ledger.entries ≡ ledger.now.entries) }
     ensures settled { IfOk result (λ copied. copied.ledger.settled ≡ ledger.now.settled) }
     ensures events { IfOk result (λ copied. copied.events ≡ events.now) }

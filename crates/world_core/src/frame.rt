@@ -142,7 +142,7 @@ fn show(handle: Handle, entry: &Option<Body>) -> Result<Option<FrameBody>, Refus
 }
 
 /// What is shown of the bodies, by slot. Refused 1 where memory is wanting.
-pub fn show_bodies(
+pub(crate) fn show_bodies(
     alloc: Global,
     places: &[Place],
     bodies: &[Option<Body>],

@@ -1,4 +1,4 @@
-//! Joints that are made and that go.
+//! A joint in the tables of a world and among its constraints: how it comes and how it is taken out.
 
 ghost use Rattle.std.specs.Prelude.{◌≡◌, ◌≢◌, ◌<◌, None, OnOk, Some, length, slice_set};
 ghost use Rattle.std.specs.Option.{option_copied};
@@ -36,7 +36,11 @@ fn can_join(a: &Body, b: &Body, def: &JointDef) -> Result<(), Refusal>
 }
 
 /// Tests whether a joint can be made: refused 2, 7, 8 or 5, in this order.
-pub fn check_join(handles: &Handles, bodies: &[Option<Body>], def: &JointDef) -> Result<(), Refusal>
+pub(crate) fn check_join(
+    handles: &Handles,
+    bodies: &[Option<Body>],
+    def: &JointDef,
+) -> Result<(), Refusal>
     ensures refusal { result_err result ≡ join_refusal (body_of handles.now.places bodies.now def.now.a) (body_of handles.now.places bodies.now def.now.b) def.now }
     ensures joint { OnOk result (IsBodyJoint bodies.now (joint_made def.now)) }
 {
@@ -78,7 +82,7 @@ fn drop_if(handles: &mut Handles, joints: &mut JointTable, body: u32, slot: u32)
 }
 
 /// The joints of the body in a slot go, which are in these slots, in ascending order.
-pub fn drop_joints(handles: &mut Handles, joints: &mut JointTable, body: u32, slots: &[u32])
+pub(crate) fn drop_joints(handles: &mut Handles, joints: &mut JointTable, body: u32, slots: &[u32])
     requires matched { AreMatched handles.old.places joints.old.joints }
     requires slots { slots.now ≡ own_slots body joints.old.joints }
     ensures gone { slots_of handles.new.places joints.new.joints ≡ unjoined_all body (slots_of handles.old.places joints.old.joints) }
@@ -89,7 +93,7 @@ pub fn drop_joints(handles: &mut Handles, joints: &mut JointTable, body: u32, sl
 }
 
 /// The joint that a handle names; `None` where it names none that lives.
-pub fn joint_of(handles: &Handles, joints: &JointTable, handle: Handle) -> Option<BodyJoint>
+pub(crate) fn joint_of(handles: &Handles, joints: &JointTable, handle: Handle) -> Option<BodyJoint>
     ensures { result ≡ joint_of handles.now.places joints.now.joints handle }
 {
     if handles.is_live(handle) {

@@ -1,29 +1,28 @@
 //! A world of bodies, changed by one command at a time.
 #![tactic(auto)]
 
-mod beside;
 mod booking;
 mod collide;
 mod copied_parts;
-mod copying;
 mod frame;
 mod impulses;
 mod joining;
+mod kept_awake;
 mod laws;
-mod leaving;
+mod list_to_wake;
+mod membership;
 mod own_joints;
+mod plain_parts;
 mod preparing;
 mod pushes;
 mod queries;
-mod readiness;
 mod replay;
-mod resting;
 mod scratch;
-mod sleepers;
+mod sleep_phase;
+mod sleep_test;
 mod solving;
 mod turning;
-mod waking;
-mod walk;
+mod wake_and_sleep;
 mod world;
 
 pub use body_handles::{Handle, Place};
@@ -32,10 +31,7 @@ pub use event_feed::Events;
 pub use fixed_geom::{Refusal, Rot, Vec2};
 pub use frame::{Frame, FrameBody};
 pub use impulse_ledger::{Cause, Ledger, Total, Totals};
-pub use laws::{
-    coloured_rows_are_colours, each_call_books_little, each_call_counts,
-    grown_worlds_have_small_totals,
-};
+pub use laws::{coloured_rows_are_colours, each_call_books_little, grown_worlds_have_small_totals};
 pub use momenta::MassData;
 pub use plain_world::{
     Body, BodyDef, BodyJoint, BodyView, Constraint, ContactEntry, ContactKey, Course, FatBoxes,
@@ -45,4 +41,4 @@ pub use shapes::{Filter, Pose, Shape, ShapeDef, Shapes};
 pub use solver_sets::{Census, Item, SleepingSet};
 pub use world::{WorldCore, is_tick_count};
 pub use world_file::{Broken, Clause};
-pub use world_rules::{Command, Reply};
+pub use world_rules::{Command, Reply, each_call_counts};

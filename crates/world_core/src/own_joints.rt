@@ -36,7 +36,7 @@ fn joints_in(
 }
 
 /// The movers at the other ends of the joints of the body in a slot, which are in these slots, in their order. Refused 1 where memory is wanting.
-pub fn list_joined(
+pub(crate) fn list_joined(
     alloc: Global,
     bodies: &[Option<Body>],
     joints: &[Option<BodyJoint>],
@@ -104,7 +104,7 @@ fn put_tie(ties: &mut Vec<Member<Constraint>>, tie: Option<Member<Constraint>>)
 }
 
 /// Fills a list, which has room for a tie of each of these slots, with the ties of the joints of a body, which are in these slots, in their order.
-pub fn fill_joint_ties(
+pub(crate) fn fill_joint_ties(
     ties: &mut Vec<Member<Constraint>>,
     bodies: &[Option<Body>],
     places: &[Place],
@@ -126,7 +126,7 @@ pub fn fill_joint_ties(
 
 /// The ties of the joints of the body in a slot, in ascending order of the joints' slots. Costs by how many joints it has. Refused 1 where memory
 /// is wanting.
-pub fn joint_ties(
+pub(crate) fn joint_ties(
     alloc: Global,
     bodies: &[Option<Body>],
     places: &[Place],

@@ -13,8 +13,8 @@ ghost use Rattle.world_core.specs.Waking.{HasSleepers, OfAll};
 ghost use Rattle.world_rules.specs.Collide.{contacts_after};
 
 use crate::collide::collide;
+use crate::list_to_wake::list_sleepers;
 use crate::scratch::Scratch;
-use crate::sleepers::list_sleepers;
 use crate::solving::reserve_rows;
 use body_handles::MAX_SLOTS;
 use colour_solver::Rows;
@@ -32,7 +32,7 @@ const MAX_STEP_ENTRIES: usize = 4;
 /// What a step is to carry out, for which it has all room: what begins and ends to touch, the constraints that begin and end by that, each in its turn, and
 /// the slots of the movers that wake by them.
 #[derive(Drop)]
-pub struct Prepared {
+pub(crate) struct Prepared {
     pub touches: Touches,
     pub changes: Vec<Change<Constraint>>,
     pub asleep: Vec<u32>,
@@ -40,7 +40,7 @@ pub struct Prepared {
 
 /// Finds out what a step is to carry out, and makes all room that it wants. Nothing of the world is changed: what the collide made of the contacts is kept
 /// beside them, and the table of bodies only brings its lists of slots up to date. Refused 1 where memory is wanting.
-pub fn prepare(
+pub(crate) fn prepare(
     ledger: &mut Ledger,
     bodies: &mut BodyTable,
     joints: &JointTable,

@@ -85,7 +85,7 @@ fn pushed(body: &Body, by: Vec2, offset: Vec2) -> Result<Momenta, Refusal>
 }
 
 /// The momenta that the body named by a handle has once it is pushed: refused 2, 6, 8, 5 or 9, in this order.
-pub fn momenta_after(
+pub(crate) fn momenta_after(
     handles: &Handles,
     bodies: &[Option<Body>],
     handle: Handle,
@@ -117,7 +117,7 @@ fn posed(body: &Body, pose: Pose) -> Result<Pose, Refusal>
 }
 
 /// The pose that the body named by a handle gets: refused 2 or 5, in this order.
-pub fn pose_after(
+pub(crate) fn pose_after(
     handles: &Handles,
     bodies: &[Option<Body>],
     handle: Handle,
@@ -151,7 +151,7 @@ fn steered(body: &Body, course: Course) -> Result<Course, Refusal>
 }
 
 /// The course that the body named by a handle gets: refused 2, 15, 8 or 5, in this order.
-pub fn course_after(
+pub(crate) fn course_after(
     handles: &Handles,
     bodies: &[Option<Body>],
     handle: Handle,
@@ -168,7 +168,7 @@ pub fn course_after(
 }
 
 /// Tests whether the island of the body named by a handle can be woken or put to rest: refused 2, 6 or 8, in this order.
-pub fn check_mover(
+pub(crate) fn check_mover(
     handles: &Handles,
     bodies: &[Option<Body>],
     handle: Handle,
@@ -188,7 +188,7 @@ pub fn check_mover(
 }
 
 /// The momentum of a body, 0 where it is no mover.
-pub fn mover_momentum(body: &Body) -> Vec2
+pub(crate) fn mover_momentum(body: &Body) -> Vec2
     ensures { result ≡ momentum_in (Some body.now) }
 {
     if body.is_mover() {

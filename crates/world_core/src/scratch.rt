@@ -11,7 +11,7 @@ use std::alloc::Global;
 /// The movers' timers by slot, marks by slot, the handles of the bodies that woke and of those that fell asleep, the slots of either, and where the
 /// contacts stand that have rows. Their memory is kept from step to step.
 #[derive(Drop)]
-pub struct Scratch {
+pub(crate) struct Scratch {
     pub timers: Vec<u64>,
     pub marks: Vec<bool>,
     pub woke: Vec<Handle>,
@@ -52,7 +52,7 @@ fn push_slot(slots: &mut Vec<u32>, slot: u32)
 }
 
 /// Lists the slots of the bodies with these handles, for which there is room.
-pub fn fill_slots(slots: &mut Vec<u32>, handles: &[Handle])
+pub(crate) fn fill_slots(slots: &mut Vec<u32>, handles: &[Handle])
     requires { length handles.now ≤ vec_capacity slots.old }
     ensures slots { slots.new.items ≡ slots_of handles.now }
     ensures capacity { vec_capacity slots.old ≤ vec_capacity slots.new }

@@ -28,7 +28,7 @@ use world_core_base::{BodyTable, JointTable, gather_rows};
 
 /// Makes room for a row for each of so many constraints and for those that begin, for a place beside each, and for all colours. Refused 1 where memory
 /// is wanting.
-pub fn reserve_rows(
+pub(crate) fn reserve_rows(
     rows: &mut Rows,
     places: &mut Vec<usize>,
     ties: usize,
@@ -48,7 +48,7 @@ pub fn reserve_rows(
 
 /// Gathers what acts, lets the solver run so many ticks, and gives joints and contacts the impulses that they have left. Answers what was
 /// added to the movers' momentum, by cause. No two constraints of a colour share a mover. Room for the places of the contacts is the caller's. Takes no memory.
-pub fn solve<S: StepSolver>(
+pub(crate) fn solve<S: StepSolver>(
     solver: &mut S,
     rows: &mut Rows,
     places: &mut Vec<usize>,

@@ -64,7 +64,7 @@ fn renew_anchors(anchors: &mut Anchors, sets: &Sets<Constraint>, changes: &[Chan
 
 /// Carries out what the collide found: the contacts become what is due, the constraints begin and end, and who wakes by that is told so. Nothing stays marked but what
 /// that changes, since the contacts tell all from now on. Takes no memory.
-pub fn carry_out(
+pub(crate) fn carry_out(
     contacts: &mut KeptContacts,
     bodies: &mut BodyTable,
     sets: &mut Sets<Constraint>,

@@ -1,7 +1,7 @@
 mod bodies;
+mod enabling;
 mod joints;
 mod loading;
-mod parts;
 mod saving;
 mod sleeping;
 mod steps;
@@ -22,8 +22,8 @@ ghost use Rattle.world_rules.specs.Sound.{IsSound};
 ghost use Rattle.world_rules.specs.Apply.{Answers, IsMade, empty_world, gravity_refusal, apply};
 
 use crate::copied_parts::{copy_body_parts, copy_constraint_parts, copy_joint_parts, copy_records};
-use crate::copying::copy_ids;
 use crate::frame::{Frame, show_bodies};
+use crate::plain_parts::copy_ids;
 use crate::scratch::Scratch;
 use body_handles::{Handle, Handles, Place};
 use box_tree::BoxTree;

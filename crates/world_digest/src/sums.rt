@@ -9,7 +9,7 @@ use sha2::{Digest, Sha256};
 
 /// What a sum is multiplied by: an odd number, so that no two sums become one (the golden ratio times 2^64, from Knuth, 'The Art of
 /// Computer Programming', volume 3, section 6.4).
-pub const FACTOR: u64 = 0x9E37_79B9_7F4A_7C15;
+pub(crate) const FACTOR: u64 = 0x9E37_79B9_7F4A_7C15;
 
 /// Four sums. The first one takes the next word and becomes the last.
 #[derive(Drop)]

@@ -1,86 +1,11 @@
--- A world may cross threads, as each of its parts may: one search for all of them would come to its limit.
+-- A world with its journal may cross threads.
 use denote.Param.Send.{IsSend, sendable}
 use Rattle.std.proofs.Crossing.{crosses}
-use Rattle.box_tree.specs.contracts.boxes.BoxTree as BoxTree
-use Rattle.world_core_base.specs.contracts.body_table.BodyTable as BodyTable
-use Rattle.body_handles.specs.contracts.handles.Handles as Handles
-use Rattle.world_core_base.specs.contracts.joint_table.JointTable as JointTable
-use Rattle.solver_sets.specs.contracts.anchors.Anchors as Anchors
-use Rattle.contacts_base.specs.contracts.split.SplitContacts as SplitContacts
-use Rattle.contacts.specs.contracts.due.Due as Due
-use Rattle.contacts.specs.contracts.kept_contacts.KeptContacts as KeptContacts
-use Rattle.colour_solver.specs.contracts.colour_rows.Rows as Rows
-use Rattle.impulse_ledger.specs.contracts.ledger.Ledger as Ledger
-use Rattle.event_feed.specs.contracts.events.Events as Events
-use Rattle.world_core.specs.contracts.world.WorldCore as World
 use Rattle.world_rules.specs.contracts.command.Command as Command
 use Rattle.world_rules.specs.contracts.command.Reply as Reply
 use Rattle.world_lock.specs.contracts.journalled.JournalledWorld as JournalledWorld
 use Rattle.world_lock.specs.contracts.opening.Opening as Opening
-use denote.RattleType.{RattleType}
-use Rattle.graph_colours.specs.declared.member.Id.{Ghosts}
-use Rattle.graph_colours.specs.contracts.colours.Colours as Colours
-use Rattle.graph_colours.specs.contracts.edited.EditedList as EditedList
-use Rattle.islands.specs.contracts.islands.Islands as Islands
-use Rattle.islands.specs.contracts.scratch.SplitScratch as SplitScratch
-use Rattle.contacts.specs.contracts.constraint.Constraint as Constraint
-use Rattle.sleep_wake.specs.contracts.sets.Sets as Sets
-use Rattle.box_tree_base.proofs.CrossingLemmas.{tree_send}
-
-boxes_send : IsSend BoxTree.the_row
-boxes_send = search (tree_send, crosses, sendable) depth 40 fits 60000
-
-table_send : IsSend BodyTable.the_row
-table_send = search (boxes_send, crosses, sendable) depth 60 fits 60000
-
-handles_send : IsSend Handles.the_row
-handles_send = search (crosses, sendable) depth 60 fits 60000
-
-joints_send : IsSend JointTable.the_row
-joints_send = search (crosses, sendable) depth 60 fits 60000
-
-split_send : IsSend SplitContacts.the_row
-split_send = search (crosses, sendable) depth 60 fits 60000
-
-due_send : IsSend Due.the_row
-due_send = search (split_send, crosses, sendable) depth 60 fits 60000
-
-contacts_send : IsSend KeptContacts.the_row
-contacts_send = search (split_send, due_send, crosses, sendable) depth 60 fits 60000
-
-anchors_send : IsSend Anchors.the_row
-anchors_send = search (crosses, sendable) depth 60 fits 60000
-
-rows_send : IsSend Rows.the_row
-rows_send = search (crosses, sendable) depth 60 fits 60000
-
-ledger_send : IsSend Ledger.the_row
-ledger_send = search (crosses, sendable) depth 60 fits 60000
-
-events_send : IsSend Events.the_row
-events_send = search (crosses, sendable) depth 60 fits 60000
-
-constraint_send : IsSend Constraint.the_row
-constraint_send = search (crosses, sendable) depth 60 fits 60000
-
-islands_send : IsSend Islands.the_row
-islands_send = search (crosses, sendable) depth 60 fits 60000
-
-splits_send : IsSend SplitScratch.the_row
-splits_send = search (crosses, sendable) depth 60 fits 60000
-
-module _ (C : RattleType) (g : Ghosts C.Denot) (s : IsSend C) where
-  list_send : IsSend (EditedList.the_row C g)
-  list_send = search (crosses, sendable) depth 60 fits 60000
-
-  colours_send : IsSend (Colours.the_row C g)
-  colours_send = search (crosses, sendable) depth 60 fits 60000
-
-  sets_send : IsSend (Sets.the_row C g)
-  sets_send = search (list_send, colours_send, islands_send, splits_send, crosses, sendable) depth 60 fits 60000
-
-pub world_send : IsSend World.the_row
-world_send = search (sets_send, constraint_send, table_send, handles_send, joints_send, contacts_send, anchors_send, rows_send, ledger_send, events_send, crosses, sendable) depth 60 fits 60000
+use Rattle.world_core.proofs.CrossingLaws.{world_send}
 
 command_send : IsSend Command.the_row
 command_send = search (crosses, sendable) depth 60 fits 60000

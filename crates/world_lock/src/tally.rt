@@ -40,7 +40,7 @@ impl Tally {
 }
 
 /// The tallies of so many seats that made no calls. Refused 1 where memory is wanting.
-pub fn no_tallies(alloc: Global, seats: u64) -> Result<Vec<Tally>, Refusal>
+pub(crate) fn no_tallies(alloc: Global, seats: u64) -> Result<Vec<Tally>, Refusal>
     ensures none { IfOk result (λ tallies. tallies.items ≡ replicate seats no_calls) }
     ensures memory_only { IsOkUnless result Refusal.NoMemory }
 {
@@ -52,7 +52,7 @@ pub fn no_tallies(alloc: Global, seats: u64) -> Result<Vec<Tally>, Refusal>
 }
 
 /// How many calls a seat made.
-pub fn calls_in(tallies: &[Tally], seat: u64) -> u64
+pub(crate) fn calls_in(tallies: &[Tally], seat: u64) -> u64
     requires seat { seat < length tallies.now }
     ensures { result ≡ (slice_index_or tallies.now seat no_calls).calls }
 {
@@ -60,7 +60,7 @@ pub fn calls_in(tallies: &[Tally], seat: u64) -> u64
 }
 
 /// A seat made one call more, which gave a body this impulse.
-pub fn count_call(tallies: &mut Vec<Tally>, seat: u64, impulse: Vec2)
+pub(crate) fn count_call(tallies: &mut Vec<Tally>, seat: u64, impulse: Vec2)
     requires seat { seat < length tallies.old.items }
     requires tallies { All (IsTally (2 ^ 40)) tallies.old.items }
     requires impulse { IsWithin (2 ^ 40) impulse }

@@ -4,7 +4,7 @@ use fixed_geom::Vec2;
 
 /// An item of a list, as far as it matters there.
 #[derive(Clone, Copy)]
-pub enum Item {
+pub(crate) enum Item {
     Coordinate(i64),
     Place(Vec2),
     Other,
@@ -12,13 +12,13 @@ pub enum Item {
 
 /// A list of up to two items that matter.
 #[derive(Clone, Copy)]
-pub struct Pair {
+pub(crate) struct Pair {
     first: Item,
     second: Item,
     count: usize,
 }
 
-pub const NO_ITEMS: Pair = Pair {
+pub(crate) const NO_ITEMS: Pair = Pair {
     first: Item::Other,
     second: Item::Other,
     count: 0,

@@ -12,7 +12,7 @@ use std::fmt;
 
 /// Writes the parts of an answer one after another. After one that fails no more is written.
 #[derive(Drop)]
-pub struct Pen<'a, W: fmt::Write> {
+pub(crate) struct Pen<'a, W: fmt::Write> {
     f: &'a mut fmt::Formatter<W>,
     written: fmt::Result,
 }

@@ -48,7 +48,7 @@ fn take_or_zero<'a>(fields: &mut Fields<'a>, key: &'a str) -> i64 {
 }
 
 /// Reads a shape.
-pub fn take_shape<'a>(fields: &mut Fields<'a>) -> ShapeDef {
+pub(crate) fn take_shape<'a>(fields: &mut Fields<'a>) -> ShapeDef {
     ShapeDef {
         shape: take_form(fields),
         friction: take_or_zero(fields, "friction"),

@@ -14,7 +14,7 @@ use std::alloc::Global;
 /// The tokens of a line that was found to be JSON, and what is wrong with them all the same: a number that no float is near,
 /// or want of memory. After that no token follows.
 #[derive(Drop)]
-pub struct Tokens<'a> {
+pub(crate) struct Tokens<'a> {
     alloc: Global,
     text: &'a str,
     reader: Reader<'a>,

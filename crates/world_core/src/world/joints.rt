@@ -1,11 +1,11 @@
-//! Joints that are made and that go.
+//! The commands that make and destroy joints.
 
 ghost use Rattle.std.specs.Prelude.{◌≡◌, ◌<◌, ◌^◌};
 ghost use Rattle.world_rules.specs.Apply.{Answers, apply_join, apply_unjoin};
 
 use super::WorldCore;
 use crate::joining::{check_join, joint_of};
-use crate::waking::wake_planned;
+use crate::wake_and_sleep::wake_planned;
 use body_handles::Handle;
 use contacts::Constraint;
 use fixed_geom::Refusal;

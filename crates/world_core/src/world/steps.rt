@@ -7,7 +7,7 @@ ghost use Rattle.world_rules.specs.Apply.{Answers, apply_gravity, apply_step};
 use super::{MAX_GRAVITY, MAX_TICKS, WorldCore};
 use crate::booking::record_step;
 use crate::preparing::prepare;
-use crate::resting::rest_ready;
+use crate::sleep_phase::rest_ready;
 use crate::solving::solve;
 use crate::turning::carry_out;
 use colour_solver::StepSolver;

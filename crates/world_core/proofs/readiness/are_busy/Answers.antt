@@ -1,5 +1,0 @@
-use Rattle.world_core.proofs.QuietSteps.{busy_all}
-use Rattle.world_core.proofs.readiness.are_busy.Goals as goal
-
-pub returns : goal.returns
-returns c = λ e. busy_all c.args.bodies.now c.args.awake.now c.loop-place.place c.requires c.loop-place-test.false c.loop-place.invariant

@@ -1,6 +1,0 @@
-use Rattle.std.proofs.Common.{take}
-use Rattle.world_core.specs.Waking.{HasName, OfAll}
-use Rattle.world_core.proofs.sleepers.push_names_of_all.Given as goal
-
-abbrev pub invariant-loop-place : goal.invariant-loop-place
-invariant-loop-place l = OfAll (HasName l.sets.acting.labels l.names.items) (take l.place l.changes)

@@ -1,0 +1,135 @@
+//! Who wakes as constraints begin and end: the movers of the sleeping islands that these are of.
+
+ghost use Rattle.std.specs.Prelude.{◌≡◌, ◌++◌, IfOk, OnOk};
+ghost use Rattle.std.specs.List.Sorted.{IsStrictlyIncreasing};
+ghost use Rattle.std.specs.Option.{option_to_list};
+ghost use Rattle.std.specs.Result.{IsOkUnless};
+ghost use Rattle.contacts.specs.Constraints.{constraint_number};
+ghost use Rattle.islands.specs.Labels.{label_at};
+ghost use Rattle.plain_world.specs.Sleep.{sleeping_name};
+ghost use Rattle.sleep_wake.specs.Acting.{IsSettled};
+ghost use Rattle.world_core.specs.Waking.{HasName, HasSleepers, IsExtended, OfAll, OfBoth, movers_in};
+
+use crate::wake_and_sleep::list_movers;
+use contacts::Constraint;
+use fixed_geom::Refusal;
+use graph_colours::Movers;
+use sleep_wake::{Change, Sets};
+use std::alloc::Global;
+
+/// The name of the island of the mover in the slot, if it sleeps.
+fn sleeping_name(sets: &Sets<Constraint>, slot: u32) -> Option<u32>
+    ensures { result ≡ sleeping_name (label_at sets.now.acting.labels slot) }
+{
+    match sets.label_of(slot) {
+        None => None,
+        Some(label) => {
+            if label.state.is_asleep() {
+                Some(label.name)
+            } else {
+                None
+            }
+        }
+    }
+}
+
+/// Adds a name, if there is one. Refused 1 where memory is wanting.
+fn push_some(names: &mut Vec<u32>, name: Option<u32>) -> Result<(), Refusal>
+    ensures pushed { OnOk result (names.new.items ≡ names.old.items ++ option_to_list name) }
+    ensures memory_only { IsOkUnless result Refusal.NoMemory }
+{
+    if let Some(name) = name {
+        names.push(name)?;
+    }
+    Ok(())
+}
+
+/// Adds the name of the island of the mover in the slot, if it sleeps. Refused 1 where memory is wanting.
+fn push_name(names: &mut Vec<u32>, sets: &Sets<Constraint>, slot: u32) -> Result<(), Refusal>
+    ensures name { OnOk result (HasName sets.now.acting.labels names.new.items slot) }
+    ensures extended { OnOk result (IsExtended names.old.items names.new.items) }
+    ensures memory_only { IsOkUnless result Refusal.NoMemory }
+{
+    push_some(names, sleeping_name(sets, slot))?;
+    Ok(())
+}
+
+/// Adds the names of the islands of a constraint's movers, those that sleep. Refused 1 where memory is wanting.
+fn push_names(names: &mut Vec<u32>, sets: &Sets<Constraint>, movers: Movers) -> Result<(), Refusal>
+    ensures names { OnOk result (OfBoth (HasName sets.now.acting.labels names.new.items) movers) }
+    ensures extended { OnOk result (IsExtended names.old.items names.new.items) }
+    ensures memory_only { IsOkUnless result Refusal.NoMemory }
+{
+    push_name(names, sets, movers.first)?;
+    match movers.second {
+        None => Ok(()),
+        Some(second) => push_name(names, sets, second),
+    }
+}
+
+/// The movers of the constraint that begins or ends.
+fn movers_in(change: Change<Constraint>) -> Movers
+    ensures { result ≡ movers_in change }
+{
+    match change {
+        Change::Begin(member) => member.movers,
+        Change::End(member) => member.movers,
+    }
+}
+
+/// Adds the names of the sleeping islands of the movers of what begins and ends. Refused 1 where memory is wanting.
+fn push_names_of_all(
+    names: &mut Vec<u32>,
+    sets: &Sets<Constraint>,
+    changes: &[Change<Constraint>],
+) -> Result<(), Refusal>
+    ensures names { OnOk result (OfAll (HasName sets.now.acting.labels names.new.items) changes.now) }
+    ensures memory_only { IsOkUnless result Refusal.NoMemory }
+{
+    for place in 0..changes.len() {
+        push_names(names, sets, movers_in(changes[place]))?;
+    }
+    Ok(())
+}
+
+/// Sorts numbers, and leaves each of them once.
+fn sort_once(numbers: &mut Vec<u32>)
+    ensures rising { IsStrictlyIncreasing numbers.new.items }
+    ensures extended { IsExtended numbers.old.items numbers.new.items }
+{
+    numbers.sort_unstable();
+    numbers.dedup();
+}
+
+/// The names of the sleeping islands of the movers of what begins and ends, ascending, each once. Refused 1 where memory is wanting.
+fn list_names(
+    alloc: Global,
+    sets: &Sets<Constraint>,
+    changes: &[Change<Constraint>],
+) -> Result<Vec<u32>, Refusal>
+    ensures names { IfOk result (λ names. OfAll (HasName sets.now.acting.labels names.items) changes.now) }
+    ensures memory_only { IsOkUnless result Refusal.NoMemory }
+{
+    let mut names = Vec::new(alloc);
+    push_names_of_all(&mut names, sets, changes)?;
+    sort_once(&mut names);
+    Ok(names)
+}
+
+/// The slots of the movers that wake as these constraints begin and end, ascending: those of the sleeping islands of the constraints' movers. It costs by
+/// the constraints and by who wakes, and takes no memory where nobody does. Refused 1 where memory is wanting.
+pub(crate) fn list_sleepers(
+    alloc: Global,
+    sets: &Sets<Constraint>,
+    changes: &[Change<Constraint>],
+) -> Result<Vec<u32>, Refusal>
+    requires { IsSettled constraint_number sets.now.acting }
+    ensures sleepers { IfOk result (λ slots. OfAll (HasSleepers sets.now.acting.labels slots.items) changes.now) }
+    ensures rising { IfOk result (λ slots. IsStrictlyIncreasing slots.items) }
+    ensures memory_only { IsOkUnless result Refusal.NoMemory }
+{
+    let names = list_names(alloc, sets, changes)?;
+    let mut slots = list_movers(alloc, sets, &names)?;
+    sort_once(&mut slots);
+    Ok(slots)
+}

@@ -1,0 +1,95 @@
+//! The end of a step: timers grow, and islands that have been slow for long enough fall asleep.
+
+ghost use Rattle.std.specs.Prelude.{◌≡◌, ◌≤◌, ◌^◌, length, vec_capacity};
+ghost use Rattle.contacts.specs.Constraints.{constraint_number};
+ghost use Rattle.contacts_base.specs.Split.{contacts_in};
+ghost use Rattle.momenta.specs.Gains.{IsGain};
+ghost use Rattle.colour_solver.specs.States.{as_vector};
+ghost use Rattle.plain_world.specs.Bodies.{AreBodies};
+ghost use Rattle.plain_world.specs.Sleep.{AreTimersWithin, timed_bodies, told};
+ghost use Rattle.sleep_wake.specs.Acting.{IsSettled};
+ghost use Rattle.solver_sets.specs.Beside.{TellMoving};
+ghost use Rattle.solver_sets.specs.Slept.{newly_asleep};
+ghost use Rattle.solver_sets.specs.Tied.{AreTied};
+ghost use Rattle.world_core_base.specs.Marked.{AreMarked};
+ghost use Rattle.world_rules.specs.Apply.{gained, rested_acting};
+ghost use Rattle.world_rules.specs.Sound.{AreTold};
+
+use crate::scratch::{Scratch, fill_slots};
+use crate::sleep_test::are_kept_up;
+use body_handles::{MAX_SLOTS, Place};
+use contacts::Constraint;
+use contacts_base::SplitContacts;
+use momenta::{Gain, NOTHING};
+use plain_world::BodyJoint;
+use sleep_wake::Sets;
+use solver_sets::{fill_awake_timers, fill_newly_asleep};
+use world_core_base::BodyTable;
+
+/// Lets so many ticks pass for the timers, puts the islands to rest that are ready, lists who has fallen asleep by that, and tells
+/// those; all bodies had been told before. Answers what the movers' momentum gains, since those that fall asleep lose theirs. Where
+/// few fall asleep, it takes time by the awake movers alone. Takes no memory.
+pub(crate) fn rest_ready(
+    bodies: &mut BodyTable,
+    sets: &mut Sets<Constraint>,
+    scratch: &mut Scratch,
+    places: &[Place],
+    joints: &[Option<BodyJoint>],
+    contacts: &SplitContacts,
+    ticks: u64,
+) -> Gain
+    requires few_bodies { length bodies.old.bodies ≤ MAX_SLOTS }
+    requires bodies { AreBodies bodies.old.bodies }
+    requires within { AreTimersWithin (2 ^ 44) bodies.old.bodies }
+    requires tied { AreTied bodies.old.bodies sets.old.acting.labels }
+    requires told { AreTold bodies.old.bodies sets.old.acting.labels }
+    requires settled { IsSettled constraint_number sets.old.acting }
+    requires colours_settled { sets.old.pending ≡ 0 }
+    requires bodies_settled { bodies.old.pending ≡ 0 }
+    requires tells { TellMoving (timed_bodies ticks bodies.old.bodies) joints.now (contacts_in contacts.now) sets.old.acting.labels sets.old.acting.lists }
+    requires places { length bodies.old.bodies ≤ length places.now }
+    requires ticks { ticks ≤ 8 }
+    requires timers { length bodies.old.bodies ≤ vec_capacity scratch.old.timers }
+    requires marks { length bodies.old.bodies ≤ vec_capacity scratch.old.marks }
+    requires slept { length bodies.old.bodies ≤ vec_capacity scratch.old.slept }
+    requires slots { length places.now ≤ vec_capacity scratch.old.slots }
+    ensures acting { sets.new.acting ≡ rested_acting (timed_bodies ticks bodies.old.bodies) joints.now (contacts_in contacts.now) sets.old.acting }
+    ensures bodies { bodies.new.bodies ≡ told sets.new.acting.labels (timed_bodies ticks bodies.old.bodies) }
+    ensures slept { scratch.new.slept.items ≡ newly_asleep places.now (timed_bodies ticks bodies.old.bodies) sets.new.acting.labels }
+    ensures woke { scratch.new.woke ≡ scratch.old.woke }
+    ensures gain { as_vector result ≡ gained (timed_bodies ticks bodies.old.bodies) bodies.new.bodies }
+    ensures small { IsGain (2 ^ 78) result }
+    ensures marked { AreMarked bodies.old bodies.new }
+{
+    bodies.time(ticks);
+    let quiet = are_kept_up(
+        &mut scratch.marks,
+        sets.islands(),
+        bodies.bodies(),
+        bodies.awake(),
+        joints,
+        contacts,
+        sets.colours(),
+    );
+    if quiet {
+        scratch.slept.clear();
+        return NOTHING;
+    }
+    fill_awake_timers(
+        &mut scratch.timers,
+        bodies.bodies(),
+        bodies.awake(),
+        joints,
+        sets.colours(),
+    );
+    sets.sleep_phase(&scratch.timers, bodies.awake());
+    fill_newly_asleep(
+        &mut scratch.slept,
+        places,
+        bodies.bodies(),
+        sets.islands(),
+        bodies.awake(),
+    );
+    fill_slots(&mut scratch.slots, &scratch.slept);
+    bodies.tell_some(&scratch.slots, sets.islands())
+}
