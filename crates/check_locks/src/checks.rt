@@ -4,12 +4,12 @@ use crate::calls::{Left, World};
 use crate::claims::{are_entries, are_honest};
 use crate::replay::{Both, share_made_and_replay};
 use crate::scene::{circle_world, heap_world};
-use crate::stop::Stop;
 use crate::work::Work;
 use std::alloc::Global;
 use std::sync::Wait;
 use std::thread::Threads;
 use std::time::Clock;
+use text_commands::Stop;
 use world_core::{Refusal, Vec2, WorldCore};
 
 /// The momentum of the first body.

@@ -14,7 +14,6 @@ mod open;
 mod refused;
 mod replay;
 mod scene;
-mod stop;
 mod stress;
 mod timing;
 mod turns;
@@ -30,8 +29,8 @@ use std::sync::Wait;
 use std::thread::Threads;
 use std::time::Clock;
 use std::{env, io};
-use stop::Stop;
 use stress::stress;
+use text_commands::Stop;
 use timing::time;
 
 /// Reads the program's words, of which the first is its name.

@@ -3,12 +3,12 @@
 use crate::calls::{Shut, World};
 use crate::open::open_to;
 use crate::scene::{FIRST, circle_world};
-use crate::stop::Stop;
 use crate::work::{Work, now};
 use std::alloc::Global;
 use std::sync::Wait;
 use std::thread::Threads;
 use std::time::Clock;
+use text_commands::Stop;
 use world_core::{Command, Refusal, Vec2, WorldCore};
 
 /// Pushes the first body so many times, in a world that nobody shares.

@@ -2,9 +2,9 @@
 
 use crate::calls::{Reads, Shared, Shows, Told};
 use crate::scene::FIRST;
-use crate::stop::Stop;
 use std::alloc::Global;
 use std::sync::Wait;
+use text_commands::Stop;
 use world_core::{Command, Refusal, Vec2};
 
 /// How often a reader that was told nothing looks at most.

@@ -11,7 +11,6 @@ mod example;
 mod open;
 mod refused;
 mod scene;
-mod stop;
 mod timing;
 
 use open::{check, time, try_one};
@@ -22,7 +21,7 @@ use std::sync::Wait;
 use std::thread::Threads;
 use std::time::Clock;
 use std::{env, io};
-use stop::Stop;
+use text_commands::Stop;
 
 /// What the program's words ask for.
 #[derive(Clone, Copy)]

@@ -7,7 +7,6 @@ use crate::crowd::{Letters, race};
 use crate::example::{publish_first, publish_second, read_on};
 use crate::refused::{Call, try_call};
 use crate::scene::falling_circle;
-use crate::stop::Stop;
 use crate::timing::{time_frames, time_poses, time_readers};
 use frame_mirror::{Absorb, Change, Mark, Mirror, Mirrored, Publisher, Reader, Showing};
 use seat_book::Roster;
@@ -16,7 +15,7 @@ use std::marker::Brand;
 use std::sync::{Arc, Mutex, Wait};
 use std::thread::Threads;
 use std::time::Clock;
-use text_commands::CallMark;
+use text_commands::{CallMark, Stop};
 use world_core::{Command, Frame, Refusal, Reply, WorldCore};
 use world_lock::{Opened, Seat, SharedWorld};
 

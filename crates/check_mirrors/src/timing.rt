@@ -2,13 +2,13 @@
 
 use crate::calls::{Reads, Shared, Shows, Told};
 use crate::scene::FIRST;
-use crate::stop::Stop;
 use frame_mirror::{Absorb, Change, Mark, Mirrored, Publisher, Reader, Showing};
 use std::sync::Wait;
 use std::sync::atomic::{AtomicU64, Ordering};
 use std::thread;
 use std::thread::{Scope, Threads};
 use std::time::Clock;
+use text_commands::Stop;
 use world_core::Refusal;
 use world_lock::{Opened, Seat, SharedWorld};
 

@@ -12,7 +12,6 @@ mod readers;
 mod round;
 mod rounds;
 mod seats;
-mod stop;
 mod work;
 
 use rounds::{run_round, stress};
@@ -22,7 +21,7 @@ use std::rt::Env;
 use std::sync::Wait;
 use std::thread::Threads;
 use std::{env, io};
-use stop::Stop;
+use text_commands::Stop;
 use work::Work;
 
 /// What the program's words ask for.

@@ -6,7 +6,6 @@ use crate::calls::{Left, Shared, World};
 use crate::notes::Notes;
 use crate::readers::race;
 use crate::round::Round;
-use crate::stop::Stop;
 use crate::work::Work;
 use frame_mirror::{Mirror, Mirrored};
 use seat_book::Roster;
@@ -14,7 +13,7 @@ use std::alloc::Global;
 use std::marker::Brand;
 use std::sync::{Mutex, Wait};
 use std::thread::Threads;
-use text_commands::{Piles, add_piles};
+use text_commands::{Piles, Stop, add_piles};
 use world_core::{Command, Refusal, Reply, Vec2, WorldCore};
 use world_lock::{Opened, Seat, SharedWorld};
 

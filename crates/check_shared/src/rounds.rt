@@ -2,11 +2,11 @@
 
 use crate::calls::World;
 use crate::open::{Ended, Seen, share_piles, two_piles};
-use crate::stop::Stop;
 use crate::work::Work;
 use std::alloc::Global;
 use std::sync::Wait;
 use std::thread::Threads;
+use text_commands::Stop;
 use world_core::Refusal;
 use world_lock::JournalEntry;
 

@@ -3,14 +3,13 @@
 use crate::calls::{World, step_by_next_workers, step_by_workers};
 use crate::gates::Meeting;
 use crate::scene::{TICKS, Worlds};
-use crate::stop::Stop;
 use crew::{Gate, OpenGate};
 use crew_solver::StepCrew;
 use std::alloc::Global;
 use std::sync::Wait;
 use std::thread;
 use std::thread::{Scope, Threads};
-use text_commands::Piles;
+use text_commands::{Piles, Stop};
 use world_core::{Refusal, Reply, StepSolver, WorldCore};
 use world_workers::IslandMemory;
 

@@ -10,7 +10,6 @@ mod at_once;
 mod calls;
 mod gates;
 mod scene;
-mod stop;
 mod tries;
 
 use at_once::check;
@@ -20,8 +19,7 @@ use std::rt::Env;
 use std::sync::Wait;
 use std::thread::Threads;
 use std::{env, io};
-use stop::Stop;
-use text_commands::Piles;
+use text_commands::{Piles, Stop};
 use tries::{Call, tell_try, told_untried};
 use world_core::{Refusal, WorldCore};
 

@@ -1,3 +1,5 @@
+//! Why a program that checks worlds ends early.
+
 use std::io;
 use world_core::Refusal;
 
