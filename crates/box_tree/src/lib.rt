@@ -16,8 +16,6 @@ mod boxes;
 mod index;
 mod places;
 mod table;
-#[cfg(test)]
-mod tests;
 
 pub use box_tree_base::{Hit, Ray};
 pub use boxes::BoxTree;

@@ -1,6 +1,8 @@
-//! Boxes worked by hand.
+//! Boxes worked by hand, and many in a row: they are found, moved and taken.
 
-use crate::assertions::same_items;
+ghost use Rattle.std.specs.Prelude.{true, cond, nat_lt, None, Some};
+
+use crate::assertions::{same, same_items};
 use box_tree::*;
 use fixed_geom::{Box2, Refusal, Vec2};
 use std::alloc::Global;
@@ -77,5 +79,99 @@ fn boxes_move_and_go_and_a_copy_keeps_its_own(rt: HostRuntime) -> Result<(), Fai
     take(&mut tree, 2);
     same_items(&rt, &over(&tree, 0, 0, 60_000_000, 20)?, &[1]);
     same_items(&rt, &over(&copy, 0, 0, 20, 20)?, &[1, 2]);
+    Ok(())
+}
+
+/// A ray that reaches every box, and hits all keys from one on at the same place.
+#[derive(Clone, Copy)]
+struct Wave {
+    from: u32,
+}
+
+impl Ray for Wave {
+    ghost reaches = { λ wave bounds. true };
+
+    ghost hit = { λ wave key. cond (nat_lt key wave.from) None (Some 7) };
+
+    fn reaches(&self, _bounds: &Box2) -> bool {
+        true
+    }
+
+    fn hit(&self, key: u32) -> Option<u32> {
+        if key < self.from { None } else { Some(7) }
+    }
+
+    ghost misses_within = { λ wave outer inner h e. e };
+}
+
+/// The first hit of the wave.
+fn first(tree: &BoxTree, from: u32) -> Option<Hit> {
+    tree.first_on_ray(&Wave { from })
+}
+
+/// Boxes in a row along x, of which each touches the next.
+fn row_of(alloc: Global, boxes: u32) -> Result<BoxTree, Fail> {
+    let mut tree = tree_of(alloc, boxes)?;
+    for key in 0..boxes {
+        put(&mut tree, key, &in_row(key, 0))?;
+    }
+    Ok(tree)
+}
+
+/// How many boxes stand in the row. `rt try` takes too long for so many; the built test takes under a second.
+const ROW: u32 = 131_072;
+
+/// The box in the row that has this key, or the one as far above it.
+fn in_row(key: u32, up: u32) -> Box2 {
+    let left = i64::from(key) * 1000;
+    let down = i64::from(up);
+    boxed(left, down, left + 1000, down + 1000)
+}
+
+/// Whether every ninety-seventh key is found with the one before it, where their boxes touch.
+fn are_found(tree: &BoxTree) -> Result<bool, Fail> {
+    for key in 1..ROW {
+        if key % 97 == 0 {
+            let left = i64::from(key) * 1000;
+            let found = over(tree, left, 0, left + 1, 1000)?;
+            if found.as_slice() != [key - 1, key].as_slice() {
+                return Ok(false);
+            }
+        }
+    }
+    Ok(true)
+}
+
+/// How high the row is moved.
+const HIGH: u32 = 10_000_000;
+
+fn lift(tree: &mut BoxTree) {
+    for key in 0..ROW {
+        shift(tree, key, &in_row(key, HIGH));
+    }
+}
+
+fn take_all(tree: &mut BoxTree) {
+    for key in 0..ROW {
+        take(tree, key);
+    }
+}
+
+#[test]
+fn a_row_in_ascending_order_is_found_moved_and_taken(rt: HostRuntime) -> Result<(), Fail> {
+    let mut tree = row_of(rt.alloc(), ROW)?;
+    same(&rt, &are_found(&tree)?, &true);
+    let hit = Hit {
+        fraction: 7,
+        key: 5,
+    };
+    same(&rt, &first(&tree, 5), &Some(hit));
+    lift(&mut tree);
+    let below = over(&tree, 0, 0, 1 << 40, 1000)?;
+    same(&rt, &below.len(), &0);
+    let lifted = over(&tree, 0, i64::from(HIGH), 500, i64::from(HIGH))?;
+    same_items(&rt, &lifted, &[0]);
+    take_all(&mut tree);
+    same(&rt, &first(&tree, 5), &None);
     Ok(())
 }
