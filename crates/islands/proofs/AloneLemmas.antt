@@ -6,14 +6,14 @@ use Rattle.std.proofs.lemmas.List.{length-set, length-map, take_more}
 use Rattle.std.proofs.lemmas.List.Elements.{Contains-push, Contains-push_cases, Contains-append_left}
 use Rattle.islands.specs.declared.parts.Note.{Note}
 use Rattle.islands.specs.declared.parts.Head.{Head}
-use Rattle.islands.specs.Labels.{Labels, label_at, is_in, own_label, scattered_from, split_by}
+use Rattle.islands.specs.Labels.{Labels, label_at, is_in, own_label, split_by}
+use Rattle.islands.specs.Merging.{scattered_from}
 use Rattle.islands.specs.Links.{Edges}
 use Rattle.islands.specs.Partition.{Inside}
 use Rattle.islands.specs.Standing.{AreInverse, Places, node_at, slot_at}
 use Rattle.islands.specs.Packed.{Notes, note_at, Heads, head_at, no_head, own_note, own_head, in_part, InPart, rank_of, next_of, rank_at, next_at, name_of, label_in, labels_of, labels_by, by_slot, IsPart, IsPacked, IsPlaced, IsLowestIn, AreNamed, AreMembers, AreScattered}
-use Rattle.islands.proofs.JoinLemmas.{contains_head}
 use Rattle.islands.proofs.SlotLemmas.{same_labels}
-use Rattle.islands.proofs.SplitLemmas.{scattered_at, scattered_size}
+use Rattle.islands.proofs.SplitLemmas.{scattered_at, scattered_size, split_out, split_size}
 use Rattle.islands.proofs.PartLemmas.{part_case, part_some, part_of_some, one_part, not_part, short, part_stays, labels_at}
 use Rattle.islands.proofs.StandingLemmas.{node_note, node_short, one_slot, slot_note, slots_size}
 use Rattle.islands.proofs.LeavePartLemmas.{count_one}
@@ -340,8 +340,6 @@ scattered_ends places old heads k members new also edges w led list x inside a b
     subst P (sym (alone.notes_alone s (sym (named_test (by_slot places old) heads (name_of heads k) k (slot_at places k) s w.named (node_in places old heads k k w led) refl) ∙ i))) refl in
     (there a o.0, there b o.1)
 
--- an island that isn't there has no links, and its split is nothing
-pub nobody_split : (labels : Labels) (name : ℕ) (edges : Edges) → ((s : ℕ) → is_in (label_at labels s) name ≡ false) → Inside labels name edges → labels ≡ split_by labels name edges
-unfolding split_by
-nobody_split labels name [] none inside = same_labels labels (scattered_from 0 name labels) (sym (scattered_size 0 name labels)) (λ s. sym (scattered_at 0 name labels s ∙ rw (none s) refl))
-nobody_split labels name (e ∷ edges) none inside = absurd (false≢true (sym (none e.0) ∙ (inside e.0 e.1 (contains_head e edges)).0))
+-- a split of an island that isn't there is nothing
+pub nobody_split : (labels : Labels) (name : ℕ) (edges : Edges) → ((s : ℕ) → is_in (label_at labels s) name ≡ false) → labels ≡ split_by labels name edges
+nobody_split labels name edges none = same_labels labels (split_by labels name edges) (sym (split_size labels name edges)) (λ s. sym (split_out labels name edges s (none s)))

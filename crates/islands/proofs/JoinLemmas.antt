@@ -1,9 +1,9 @@
 -- Lemmas on who is joined, for any links.
-use Rattle.std.proofs.Common.{◌≡◌, ℕ, List, [], ◌∷◌, ◌⊎◌, inl, inr, refl, sym}
+use Rattle.std.proofs.Common.{◌≡◌, ℕ, List, [], ◌∷◌, ◌⊎◌, inl, inr, refl, sym, ap, subst}
 use Rattle.std.specs.Prelude.{Contains}
 use Rattle.std.proofs.Common.{arith}
 use Rattle.std.proofs.lemmas.List.Elements.{Contains-append_cases, Contains-append_left, Contains-append_right, Contains-push_cases, Contains-push}
-use Rattle.islands.specs.Links.{Edges, Linked, Leads, Joined}
+use Rattle.islands.specs.Links.{Edges, Linked, Leads, Joined, IsPairOf}
 
 pub linked_back : (edges : Edges) (a b : ℕ) → Linked edges a b → Linked edges b a
 linked_back edges a b h = elim h [ inl k ↦ inr k | inr k ↦ inl k ]
@@ -20,6 +20,14 @@ joined_both R a b c j k = joined_on R j.0 a b c j.1 k
 
 pub joined_one : (R : ℕ → ℕ → Type 0) (a b : ℕ) → R a b → Joined R a b
 joined_one R a b h = joined_step R a b b h ([], refl)
+
+-- a path leads back too, where each link goes both ways
+leads_back : (R : ℕ → ℕ → Type 0) → ((s t : ℕ) → R s t → R t s) → (path : List ℕ) (a b : ℕ) → Leads R a path b → Joined R b a
+leads_back R back [] a b h = ([], sym h)
+leads_back R back (c ∷ path) a b h = joined_both R b c a (leads_back R back path c b h.1) (joined_one R c a (back a c h.0))
+
+pub joined_back : (edges : Edges) (a b : ℕ) → Joined (Linked edges) a b → Joined (Linked edges) b a
+joined_back edges a b j = leads_back (Linked edges) (linked_back edges) j.0 a b j.1
 
 leads_more : (R S : ℕ → ℕ → Type 0) (path : List ℕ) (a b : ℕ) → ((s t : ℕ) → R s t → S s t) → Leads R a path b → Leads S a path b
 leads_more R S [] a b f h = h
@@ -53,3 +61,28 @@ contains_head x xs = Contains-append_left (x ∷ []) xs x (Contains-push [] x)
 
 pub contains_tail : {X : Type 0} (x : X) (xs : List X) (y : X) → Contains xs y → Contains (x ∷ xs) y
 contains_tail x xs y h = Contains-append_right (x ∷ []) xs y h
+
+-- ---- one link more
+
+pub pair_of : (e : ℕ × ℕ) (edges : Edges) (s t : ℕ) → Linked (e ∷ edges) s t → IsPairOf e.0 e.1 s t ⊎ Linked edges s t
+pair_of e edges s t h = elim h [
+  | inl k ↦ elim (contains_cases e edges (s, t) k) [
+    | inl m ↦ inl (inl (ap (λ (p : ℕ × ℕ). p.0) (sym m), ap (λ (p : ℕ × ℕ). p.1) (sym m)))
+    | inr m ↦ inr (inl m)
+  ]
+  | inr k ↦ elim (contains_cases e edges (t, s) k) [
+    | inl m ↦ inl (inr (ap (λ (p : ℕ × ℕ). p.1) (sym m), ap (λ (p : ℕ × ℕ). p.0) (sym m)))
+    | inr m ↦ inr (inr m)
+  ]
+]
+
+pub pair_linked : (e : ℕ × ℕ) (edges : Edges) (s t : ℕ) → IsPairOf e.0 e.1 s t → Linked (e ∷ edges) s t
+pair_linked e edges s t h =
+    let P : ℕ × ℕ → Type 0 = λ p. Contains (e ∷ edges) p in
+    elim h [
+      | inl k ↦ let same : e ≡ (s, t) = rw (k.0, k.1) refl in inl (subst P same (contains_head e edges))
+      | inr k ↦ let same : e ≡ (t, s) = rw (k.0, k.1) refl in inr (subst P same (contains_head e edges))
+    ]
+
+pub linked_tail : (e : ℕ × ℕ) (edges : Edges) (s t : ℕ) → Linked edges s t → Linked (e ∷ edges) s t
+linked_tail e edges s t h = elim h [ inl k ↦ inl (contains_tail e edges (s, t) k) | inr k ↦ inr (contains_tail e edges (t, s) k) ]

@@ -1,6 +1,7 @@
 pub mod JoinLemmas
 pub mod LabelLemmas
 pub mod KeptLemmas
+pub mod ReachLemmas
 pub mod SplitLemmas
 pub mod SlotLemmas
 pub mod GroupLemmas

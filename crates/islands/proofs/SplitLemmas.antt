@@ -1,15 +1,19 @@
--- A split by merges gives the components.
-use Rattle.std.proofs.Common.{◌≡◌, ℕ, zero, suc, ◌+◌, [], ◌∷◌, length, Option, Some, None, false, ◌⊎◌, inl, inr, arith, refl, sym, ap, ◌∙◌, subst}
-use Rattle.std.specs.Prelude.{min, Contains}
+-- A split gives the components, and merges from link to link are a split.
+use Rattle.std.proofs.Common.{◌≡◌, ◌≤◌, ℕ, zero, suc, ◌+◌, [], ◌∷◌, length, Option, Some, None, false, ◌⊎◌, inl, inr, arith, refl, sym, ap, ◌∙◌, subst}
+use Rattle.std.specs.Prelude.{min, cond, Contains}
 use Rattle.std.proofs.lemmas.Bool.{cases_lt, false≢true}
 use Rattle.std.proofs.lemmas.List.{length-map}
+use Rattle.std.proofs.lemmas.List.FromFn.{length-map-range_with_len, get_or-map-range_with_len}
 use Rattle.islands.specs.declared.label.Label.{Label}
-use Rattle.islands.specs.Links.{Edges, Linked, IsPairOf}
-use Rattle.islands.specs.Labels.{Labels, label_at, is_in, IsIn, relabel, relabelled, own_label, merged, merged_by, union_label, alone, scattered_from, merged_all, split_by}
+use Rattle.islands.specs.Links.{Edges, Linked, Joined, IsPairOf}
+use Rattle.islands.specs.Labels.{Labels, label_at, is_in, IsIn, relabel, relabelled, own_label, merged, merged_by, union_label, least_reached, split_label, split_by}
+use Rattle.islands.specs.Merging.{alone, scattered_from, merged_all}
 use Rattle.islands.specs.Partition.{IsPartition, AreTogether, AreIslands, Inside, IsComponent, IsSplit}
-use Rattle.islands.specs.Laws.{SplittingKeeps}
-use Rattle.islands.proofs.JoinLemmas.{joined_one, joined_within, contains_cases, contains_head, contains_tail}
-use Rattle.islands.proofs.LabelLemmas.{one_label, in_case, either_case, either_is, either_to, others_stay}
+use Rattle.islands.specs.Laws.{SplittingKeeps, MergingSplits}
+use Rattle.islands.proofs.JoinLemmas.{joined_one, joined_within, contains_head, contains_tail, pair_of, pair_linked, linked_tail}
+use Rattle.islands.proofs.LabelLemmas.{past, one_label, in_case, either_case, either_is, either_to, others_stay}
+use Rattle.islands.proofs.ReachLemmas.{reaching_is_joined, least_below, least_there}
+use Rattle.islands.proofs.SlotLemmas.{same_labels}
 use Rattle.islands.proofs.KeptLemmas.{same_links, merging}
 
 -- ---- a mover has a label
@@ -37,29 +41,6 @@ still_labelled labels a b s h = labelled_by labels a b s (label_at labels a) (la
 
 abbrev With : (ℕ → ℕ → Type 0) → Edges → ℕ → ℕ → Type 0
 With R edges s t = R s t ⊎ Linked edges s t
-
-pair_of : (e : ℕ × ℕ) (edges : Edges) (s t : ℕ) → Linked (e ∷ edges) s t → IsPairOf e.0 e.1 s t ⊎ Linked edges s t
-pair_of e edges s t h = elim h [
-  | inl k ↦ elim (contains_cases e edges (s, t) k) [
-    | inl m ↦ inl (inl (ap (λ (p : ℕ × ℕ). p.0) (sym m), ap (λ (p : ℕ × ℕ). p.1) (sym m)))
-    | inr m ↦ inr (inl m)
-  ]
-  | inr k ↦ elim (contains_cases e edges (t, s) k) [
-    | inl m ↦ inl (inr (ap (λ (p : ℕ × ℕ). p.1) (sym m), ap (λ (p : ℕ × ℕ). p.0) (sym m)))
-    | inr m ↦ inr (inr m)
-  ]
-]
-
-pair_linked : (e : ℕ × ℕ) (edges : Edges) (s t : ℕ) → IsPairOf e.0 e.1 s t → Linked (e ∷ edges) s t
-pair_linked e edges s t h =
-    let P : ℕ × ℕ → Type 0 = λ p. Contains (e ∷ edges) p in
-    elim h [
-      | inl k ↦ let same : e ≡ (s, t) = rw (k.0, k.1) refl in inl (subst P same (contains_head e edges))
-      | inr k ↦ let same : e ≡ (t, s) = rw (k.0, k.1) refl in inr (subst P same (contains_head e edges))
-    ]
-
-linked_tail : (e : ℕ × ℕ) (edges : Edges) (s t : ℕ) → Linked edges s t → Linked (e ∷ edges) s t
-linked_tail e edges s t h = elim h [ inl k ↦ inl (contains_tail e edges (s, t) k) | inr k ↦ inr (contains_tail e edges (t, s) k) ]
 
 pub merging_all : (edges : Edges) (R : ℕ → ℕ → Type 0) (labels : Labels) → AreIslands R labels → ((a b : ℕ) → Contains edges (a, b) → IsLabelled labels a × IsLabelled labels b) → AreIslands (With R edges) (merged_all labels edges)
 merging_all [] R labels w ends = same_links R (With R []) labels (λ s t h. inl h) (λ s t h. elim h [ inl k ↦ k | inr k ↦ absurd (elim k [ inl m ↦ omega (arith, m.1) | inr m ↦ omega (arith, m.1) ]) ]) w
@@ -224,26 +205,6 @@ component R old name edges new s p w v h =
       lowest = λ t j. v.partition.low t (own_label c) (joined_within (Linked edges) T P s t (λ a b r e. (inr r, on a b (inr r) e)) o.1 j).1;
     }
 
-pub splitting_keeps : SplittingKeeps
-unfolding split_by
-splitting_keeps links labels name edges w of =
-    let R : ℕ → ℕ → Type 0 = Linked links in
-    let start : AreIslands (Outside R labels name) (scattered name labels) = scattering R labels name w in
-    let ends : (a b : ℕ) → Contains edges (a, b) → IsLabelled (scattered name labels) a × IsLabelled (scattered name labels) b = λ a b h. let i = of.inside a b h in
-    ((own_label a, scattered_in labels name a i.0), (own_label b, scattered_in labels name b i.1)) in
-    let done : AreIslands (With (Outside R labels name) edges) (split_by labels name edges) = merging_all edges (Outside R labels name) (scattered name labels) start ends in
-    let parts : IsSplitting labels name (split_by labels name edges) = splitting_all edges labels name (scattered name labels) w.partition of.inside (splitting_starts labels name) in (
-      same_links (With (Outside R labels name) edges) R (split_by labels name edges)
-          (λ s t h. elim h [ inl k ↦ k.0 | inr k ↦ of.links s t k ])
-          (λ s t h. elim (in_case (label_at labels s) name) [ inl k ↦ inr (of.all s t h k) | inr k ↦ inl (h, k) ])
-          done,
-      record {
-        size = parts.size;
-        others = parts.others;
-        members = λ s h. component R labels name edges (split_by labels name edges) s w.partition parts done h;
-      },
-    )
-
 -- ---- with no links but those of the island: all movers of one island count as linked
 
 abbrev Mates : Labels → ℕ → ℕ → Type 0
@@ -255,19 +216,96 @@ partition_is labels p = record { partition = p; together = λ s t h. h; connecte
 ends_labelled : (labels : Labels) (name : ℕ) (edges : Edges) → Inside labels name edges → (a b : ℕ) → Contains edges (a, b) → IsLabelled (scattered name labels) a × IsLabelled (scattered name labels) b
 ends_labelled labels name edges inside a b h = let i = inside a b h in ((own_label a, scattered_in labels name a i.0), (own_label b, scattered_in labels name b i.1))
 
-split_islands : (labels : Labels) (name : ℕ) (edges : Edges) → IsPartition labels → Inside labels name edges → AreIslands (With (Outside (Mates labels) labels name) edges) (split_by labels name edges)
-unfolding split_by
-split_islands labels name edges p inside = merging_all edges (Outside (Mates labels) labels name) (scattered name labels) (scattering (Mates labels) labels name (partition_is labels p)) (ends_labelled labels name edges inside)
+merged_islands : (R : ℕ → ℕ → Type 0) (labels : Labels) (name : ℕ) (edges : Edges) → AreIslands R labels → Inside labels name edges → AreIslands (With (Outside R labels name) edges) (merged_all (scattered name labels) edges)
+merged_islands R labels name edges w inside = merging_all edges (Outside R labels name) (scattered name labels) (scattering R labels name w) (ends_labelled labels name edges inside)
 
-pub split_partition : (labels : Labels) (name : ℕ) (edges : Edges) → IsPartition labels → Inside labels name edges → IsPartition (split_by labels name edges)
-split_partition labels name edges p inside = (split_islands labels name edges p inside).partition
-
-pub split_is : (labels : Labels) (name : ℕ) (edges : Edges) → IsPartition labels → Inside labels name edges → IsSplit labels name edges (split_by labels name edges)
-unfolding split_by
-split_is labels name edges p inside =
-    let parts : IsSplitting labels name (split_by labels name edges) = splitting_all edges labels name (scattered name labels) p inside (splitting_starts labels name) in
+merged_is : (labels : Labels) (name : ℕ) (edges : Edges) → IsPartition labels → Inside labels name edges → IsSplit labels name edges (merged_all (scattered name labels) edges)
+merged_is labels name edges p inside =
+    let parts : IsSplitting labels name (merged_all (scattered name labels) edges) = splitting_all edges labels name (scattered name labels) p inside (splitting_starts labels name) in
     record {
       size = parts.size;
       others = parts.others;
-      members = λ s h. component (Mates labels) labels name edges (split_by labels name edges) s p parts (split_islands labels name edges p inside) h;
+      members = λ s h. component (Mates labels) labels name edges (merged_all (scattered name labels) edges) s p parts (merged_islands (Mates labels) labels name edges (partition_is labels p) inside) h;
     }
+
+-- ---- a split, slot by slot
+
+pub split_size : (labels : Labels) (name : ℕ) (edges : Edges) → length (split_by labels name edges) ≡ length labels
+unfolding split_by
+split_size labels name edges = length-map-range_with_len (split_label labels name edges) 0 (length labels)
+
+split_at : (labels : Labels) (name : ℕ) (edges : Edges) (s : ℕ) → label_at (split_by labels name edges) s ≡ split_label labels name edges s
+unfolding split_by
+split_at labels name edges s = elim (cases_lt s (length labels)) [
+  | inl lt ↦ get_or-map-range_with_len (split_label labels name edges) 0 (length labels) s s None lt (omega arith)
+  | inr le ↦
+      let size = split_size labels name edges in
+      let out : label_at (split_by labels name edges) s ≡ None = past (split_by labels name edges) s (omega (arith, size, le)) in
+      let none : split_label labels name edges s ≡ None = ap (λ o. cond (is_in o name) (Some (own_label (least_reached labels name edges s))) o) (past labels s le) in
+      out ∙ sym none
+]
+
+split_in : (labels : Labels) (name : ℕ) (edges : Edges) (s : ℕ) → IsIn labels name s → label_at (split_by labels name edges) s ≡ Some (own_label (least_reached labels name edges s))
+split_in labels name edges s h = split_at labels name edges s ∙ ap (λ t. cond t (Some (own_label (least_reached labels name edges s))) (label_at labels s)) h
+
+pub split_out : (labels : Labels) (name : ℕ) (edges : Edges) (s : ℕ) → is_in (label_at labels s) name ≡ false → label_at (split_by labels name edges) s ≡ label_at labels s
+split_out labels name edges s h = split_at labels name edges s ∙ ap (λ t. cond t (Some (own_label (least_reached labels name edges s))) (label_at labels s)) h
+
+linked_in : (labels : Labels) (name : ℕ) (edges : Edges) (a b : ℕ) → Inside labels name edges → Linked edges a b → IsIn labels name b
+linked_in labels name edges a b inside h = elim h [ inl k ↦ (inside a b k).1 | inr k ↦ (inside b a k).0 ]
+
+joined_in : (labels : Labels) (name : ℕ) (edges : Edges) (a b : ℕ) → Inside labels name edges → IsIn labels name a → Joined (Linked edges) a b → IsIn labels name b
+joined_in labels name edges a b inside h j =
+    let P : ℕ → Type 0 = λ s. IsIn labels name s in
+    (joined_within (Linked edges) (Linked edges) P a b (λ s t r i. (r, linked_in labels name edges s t inside r)) h j).1
+
+split_component : (labels : Labels) (name : ℕ) (edges : Edges) (s : ℕ) → Inside labels name edges → IsIn labels name s → IsComponent edges (split_by labels name edges) s
+split_component labels name edges s inside h = record {
+  name = least_reached labels name edges s;
+  label = split_in labels name edges s h;
+  joined = (reaching_is_joined edges s (least_reached labels name edges s)).0 (least_there labels name edges s h).1;
+  lowest = λ t j. least_below labels name edges s t (joined_in labels name edges s t inside h j) ((reaching_is_joined edges s t).1 j);
+}
+
+pub split_is : (labels : Labels) (name : ℕ) (edges : Edges) → IsPartition labels → Inside labels name edges → IsSplit labels name edges (split_by labels name edges)
+split_is labels name edges p inside = record {
+  size = split_size labels name edges;
+  others = λ s h. split_out labels name edges s h;
+  members = λ s h. split_component labels name edges s inside h;
+}
+
+-- ---- no other labels are a split
+
+same_component : (edges : Edges) (new other : Labels) (s : ℕ) → IsComponent edges new s → IsComponent edges other s → label_at new s ≡ label_at other s
+same_component edges new other s v w =
+    let under : v.name ≤ w.name = v.lowest w.name w.joined in
+    let over : w.name ≤ v.name = w.lowest v.name v.joined in
+    let same : v.name ≡ w.name = omega (arith, under, over) in
+    v.label ∙ ap (λ n. Some (own_label n)) same ∙ sym w.label
+
+same_split : (old : Labels) (name : ℕ) (edges : Edges) (new other : Labels) → IsSplit old name edges new → IsSplit old name edges other → new ≡ other
+same_split old name edges new other v w = same_labels new other (v.size ∙ sym w.size) (λ s. elim (in_case (label_at old s) name) [
+  | inl h ↦ same_component edges new other s (v.members s h) (w.members s h)
+  | inr h ↦ v.others s h ∙ sym (w.others s h)
+])
+
+pub merging_splits : MergingSplits
+merging_splits labels name edges p inside = same_split labels name edges (merged_all (scattered name labels) edges) (split_by labels name edges) (merged_is labels name edges p inside) (split_is labels name edges p inside)
+
+-- ---- what a split keeps
+
+pub splitting_keeps : SplittingKeeps
+splitting_keeps links labels name edges w of =
+    let R : ℕ → ℕ → Type 0 = Linked links in
+    let merges : Labels = merged_all (scattered name labels) edges in
+    let kept : AreIslands R merges = same_links (With (Outside R labels name) edges) R merges
+    (λ s t h. elim h [ inl k ↦ k.0 | inr k ↦ of.links s t k ])
+    (λ s t h. elim (in_case (label_at labels s) name) [ inl k ↦ inr (of.all s t h k) | inr k ↦ inl (h, k) ])
+    (merged_islands R labels name edges w of.inside) in
+    let P : Labels → Type 0 = λ l. AreIslands R l in
+    (subst P (merging_splits labels name edges w.partition of.inside) kept, split_is labels name edges w.partition of.inside)
+
+pub split_partition : (labels : Labels) (name : ℕ) (edges : Edges) → IsPartition labels → Inside labels name edges → IsPartition (split_by labels name edges)
+split_partition labels name edges p inside =
+    let P : Labels → Type 0 = λ l. IsPartition l in
+    subst P (merging_splits labels name edges p inside) (merged_islands (Mates labels) labels name edges (partition_is labels p) inside).partition

@@ -1,10 +1,10 @@
 -- Islands as labels: by slot the island of the mover there, and what each call makes of them.
-use Rattle.std.specs.Prelude.{◌≡◌, ℕ, suc, ◌+◌, ◌-◌, List, [], ◌∷◌, ◌++◌, length, Some, None, Option, map, replicate, slice_set, ◌==◌, ◌||◌, Bool, true, false, cond, min, nat_lt}
-use Rattle.std.specs.List.{slice_index_or, position_or_len}
+use Rattle.std.specs.Prelude.{◌≡◌, ℕ, ◌+◌, ◌-◌, List, ◌++◌, length, Some, None, Option, map, replicate, slice_set, ◌==◌, ◌||◌, ◌&&◌, Bool, true, false, cond, min, nat_lt}
+use Rattle.std.specs.List.{slice_index_or, position_or_len, range_with_len}
 use Rattle.islands.specs.declared.label.IslandState.{IslandState}
 use Rattle.islands.specs.declared.label.IslandState.TheVariants.{Whole, Loose, Asleep}
 use Rattle.islands.specs.declared.label.Label.{Label}
-use Rattle.islands.specs.Links.{Edges}
+use Rattle.islands.specs.Links.{Edges, reaches}
 
 -- by slot the label of the mover there, if there is one
 abbrev pub Labels : Type 0
@@ -104,19 +104,19 @@ rested labels name = with_state name Asleep labels
 unfoldable pub woken : Labels → ℕ → Labels
 woken labels name = with_state name Whole labels
 
--- ---- an island is split: each of its movers stands alone, and then the ends of each link are merged
+-- ---- an island is split: each of its movers gets the label of its component
 
-abbrev pub alone : ℕ → ℕ → Option Label → Option Label
-alone name slot o = cond (is_in o name) (Some (own_label slot)) o
+-- all slots, ascending: each stands at the index of its own number
+abbrev pub slots_of : Labels → List ℕ
+slots_of labels = range_with_len 0 (length labels)
 
--- where the list begins with this slot
-abbrev pub scattered_from : ℕ → ℕ → Labels → Labels
-scattered_from slot name [] = []
-scattered_from slot name (o ∷ labels) = alone name slot o ∷ scattered_from (suc slot) name labels
+-- the lowest slot of the island that the mover in this slot is joined to by the links
+abbrev pub least_reached : Labels → ℕ → Edges → ℕ → ℕ
+least_reached labels name edges slot = position_or_len (λ other. is_in (label_at labels other) name && reaches edges slot other) (slots_of labels)
 
-abbrev pub merged_all : Labels → Edges → Labels
-merged_all labels [] = labels
-merged_all labels (e ∷ edges) = merged_all (merged labels e.0 e.1) edges
+-- whoever isn't of the island keeps the label
+abbrev pub split_label : Labels → ℕ → Edges → ℕ → Option Label
+split_label labels name edges slot = cond (is_in (label_at labels slot) name) (Some (own_label (least_reached labels name edges slot))) (label_at labels slot)
 
 unfoldable pub split_by : Labels → ℕ → Edges → Labels
-split_by labels name edges = merged_all (scattered_from 0 name labels) edges
+split_by labels name edges = map (split_label labels name edges) (slots_of labels)

@@ -1,10 +1,11 @@
 -- What keeps the islands, as movers and links come and go.
-use Rattle.std.specs.Prelude.{◌≡◌, ℕ, ◌⊎◌, false, Some, None}
+use Rattle.std.specs.Prelude.{◌≡◌, ◌↔◌, ℕ, ◌⊎◌, true, false, Some, None}
 use Rattle.islands.specs.declared.label.IslandState.{IslandState}
 use Rattle.islands.specs.declared.label.Label.{Label}
-use Rattle.islands.specs.Links.{Edges, Linked, IsPairOf}
+use Rattle.islands.specs.Links.{Edges, Linked, Joined, reaches, IsPairOf}
 use Rattle.islands.specs.Labels.{Labels, label_at, IsIn, is_loose, added, merged, loosened, taken_out, with_state, split_by}
-use Rattle.islands.specs.Partition.{AreIslands, AreTogether, Inside, IsSplit}
+use Rattle.islands.specs.Merging.{scattered_from, merged_all}
+use Rattle.islands.specs.Partition.{IsPartition, AreIslands, AreTogether, Inside, IsSplit}
 
 -- each link of the first is a link of the second
 abbrev pub AreWithin : Edges → Edges → Type 0
@@ -54,3 +55,11 @@ pub record AreLinksOf (every : Edges) (labels : Labels) (name : ℕ) (edges : Ed
 -- an island may be split by its links, and its components take its place
 abbrev pub SplittingKeeps : Type 0
 SplittingKeeps = (links : Edges) (labels : Labels) (name : ℕ) (edges : Edges) → AreIslands (Linked links) labels → AreLinksOf links labels name edges → AreIslands (Linked links) (split_by labels name edges) × IsSplit labels name edges (split_by labels name edges)
+
+-- what is found link by link is what a path of links leads to
+abbrev pub ReachingIsJoined : Type 0
+ReachingIsJoined = (edges : Edges) (a b : ℕ) → (reaches edges a b ≡ true) ↔ Joined (Linked edges) a b
+
+-- an island whose movers stand alone, and are then merged from link to link, is split by these links
+abbrev pub MergingSplits : Type 0
+MergingSplits = (labels : Labels) (name : ℕ) (edges : Edges) → IsPartition labels → Inside labels name edges → merged_all (scattered_from 0 name labels) edges ≡ split_by labels name edges

@@ -1,6 +1,7 @@
 pub mod Links
 pub mod Labels
 pub mod Partition
+pub mod Merging
 pub mod Laws
 pub mod Kept
 pub mod Standing

@@ -1,5 +1,5 @@
 -- Which movers are linked, and which are joined by links.
-use Rattle.std.specs.Prelude.{◌≡◌, ℕ, List, [], ◌∷◌, ◌⊎◌, Contains}
+use Rattle.std.specs.Prelude.{◌≡◌, ◌==◌, ◌||◌, ◌&&◌, ℕ, Bool, List, [], ◌∷◌, ◌⊎◌, Contains}
 
 -- pairs of movers that are linked, each mover by its slot
 abbrev pub Edges : Type 0
@@ -17,6 +17,12 @@ Leads R a (c ∷ path) b = R a c × Leads R c path b
 -- a path of links leads from a to b; each mover is joined to itself
 abbrev pub Joined : (ℕ → ℕ → Type 0) → ℕ → ℕ → Type 0
 Joined R a b = (path : List ℕ) × Leads R a path b
+
+-- Whether a is joined to b, found link by link. With no links each is joined to itself alone. With one link more those that
+-- were joined stay so, and whoever was joined to an end of that link is joined to all others that were.
+abbrev pub reaches : Edges → ℕ → ℕ → Bool
+reaches [] a b = a == b
+reaches (e ∷ edges) a b = reaches edges a b || ((reaches edges a e.0 || reaches edges a e.1) && (reaches edges b e.0 || reaches edges b e.1))
 
 -- s and t are a and b, either first
 abbrev pub IsPairOf : ℕ → ℕ → ℕ → ℕ → Type 0

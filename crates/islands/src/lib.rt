@@ -6,7 +6,7 @@
 //! it by its connected components. One that isn't loose is a connected component, awake or asleep.
 #![tactic(auto)]
 
-ghost use Rattle.islands.specs.Laws.{AddingKeeps, MergingKeeps, LooseningKeeps, TakingOutKeeps, StateChangeKeeps, SplittingKeeps};
+ghost use Rattle.islands.specs.Laws.{AddingKeeps, MergingKeeps, LooseningKeeps, TakingOutKeeps, StateChangeKeeps, SplittingKeeps, ReachingIsJoined, MergingSplits};
 
 mod adding;
 mod islands;
@@ -38,4 +38,11 @@ pub fn islands_are_kept()
     ensures taking_out { TakingOutKeeps }
     ensures state_change { StateChangeKeeps }
     ensures splitting { SplittingKeeps }
+{}
+
+/// What a split rests on: who is joined is found link by link, and is who a path of links leads to; and merges from
+/// link to link make the same components. The function does nothing; its contract is the laws.
+pub fn splits_are_components()
+    ensures reaching { ReachingIsJoined }
+    ensures merging { MergingSplits }
 {}

@@ -1,7 +1,7 @@
 //! Movers whose islands are merged along links.
 
 ghost use Rattle.std.specs.Prelude.{◌≡◌, ◌≤◌, ◌^◌, ℕ, vec_capacity, length, Contains, IsSome};
-ghost use Rattle.islands.specs.Labels.{merged_all};
+ghost use Rattle.islands.specs.Merging.{merged_all};
 ghost use Rattle.islands.specs.Packed.{IsPlaced, by_slot, note_at, labels_by};
 
 use crate::joining::merge_movers;

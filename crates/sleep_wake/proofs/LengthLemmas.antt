@@ -7,10 +7,10 @@ use Rattle.graph_colours.specs.declared.member.Member.{Member}
 use Rattle.graph_colours.specs.declared.member.Movers.{Movers}
 use Rattle.islands.specs.declared.label.IslandState.TheVariants.{Whole, Loose, Asleep}
 use Rattle.islands.specs.declared.label.Label.{Label}
-use Rattle.islands.specs.Labels.{Labels, added, is_asleep, is_loose, label_at, loosened, loosened_by, lowest, merged, merged_all, merged_by, padded, relabel, relabelled, rested, scattered_from, split_by, taken_out, without, woken}
-use Rattle.islands.specs.Links.{Edges, Linked}
+use Rattle.islands.specs.Labels.{Labels, added, is_asleep, is_loose, label_at, loosened, loosened_by, lowest, merged, merged_by, padded, relabel, relabelled, rested, taken_out, without, woken}
+use Rattle.islands.specs.Links.{Linked}
 use Rattle.islands.specs.Partition.{AreIslands}
-use Rattle.islands.proofs.SplitLemmas.{scattered_size}
+use Rattle.islands.proofs.SplitLemmas.{split_size}
 use Rattle.islands.proofs.WideLemmas.{wide_at}
 use Rattle.sleep_wake.specs.declared.change.Change.{Change}
 use Rattle.sleep_wake.specs.declared.change.Change.TheVariants.{Begin, End}
@@ -35,14 +35,6 @@ merged_by_long (Some x) (Some y) labels = relabelled_long x.name y.name _ labels
 merged_long : (labels : Labels) (a b : ℕ) → length (merged labels a b) ≡ length labels
 unfolding merged
 merged_long labels a b = merged_by_long (label_at labels a) (label_at labels b) labels
-
-merged_all_long : (labels : Labels) (edges : Edges) → length (merged_all labels edges) ≡ length labels
-merged_all_long labels [] = refl
-merged_all_long labels (e ∷ edges) = merged_all_long (merged labels e.0 e.1) edges ∙ merged_long labels e.0 e.1
-
-split_long : (labels : Labels) (name : ℕ) (edges : Edges) → length (split_by labels name edges) ≡ length labels
-unfolding split_by
-split_long labels name edges = merged_all_long (scattered_from 0 name labels) edges ∙ scattered_size 0 name labels
 
 loosened_by_long : (o : Option Label) (labels : Labels) → length (loosened_by o labels) ≡ length labels
 loosened_by_long None labels = refl
@@ -131,7 +123,7 @@ all_rest_long number (name ∷ names) s = all_rest_long number names (put_to_res
 
 split_at_long : {C : Type 0} (name : ℕ) (s : Acting C) → IsAsLong s (split_at name s)
 unfolding split_at
-split_at_long name s = split_long s.labels name (edges_of s name)
+split_at_long name s = split_size s.labels name (edges_of s name)
 
 split_if_long : {C : Type 0} (name : ℕ) (t : Bool) (s : Acting C) → IsAsLong s (cond t (split_at name s) s)
 split_if_long name true s = split_at_long name s

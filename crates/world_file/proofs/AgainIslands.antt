@@ -1,7 +1,8 @@
 -- What is written of the islands of a world fits together.
 use Rattle.std.proofs.Common.{◌≡◌, ℕ, zero, suc, ◌+◌, ◌≤◌, ◌⊎◌, Bool, true, false, not, cond, nat_le, [], ◌∷◌, map, Option, Some, None, Contains, inl, inr, refl, sym, ap, ◌∙◌, subst, arith, eq-eqb, le-leb}
 use Rattle.std.proofs.lemmas.Option.{none-some, same_Some}
-use Rattle.islands.specs.Labels.{Labels, is_asleep, is_loose, label_at, merged, merged_all}
+use Rattle.islands.specs.Labels.{Labels, is_asleep, is_loose, label_at, merged}
+use Rattle.islands.specs.Merging.{merged_all}
 use Rattle.islands.specs.Links.{Edges, Linked}
 use Rattle.islands.specs.Partition.{AreIslands, AreTogether, IsPartition}
 use Rattle.islands.specs.declared.label.IslandState.{IslandState}

@@ -3,7 +3,8 @@ use Rattle.std.proofs.Common.{◌≡◌, ◌≢◌, ℕ, zero, suc, ◌+◌, ◌
 use Rattle.std.specs.Prelude.{◌&&◌}
 use Rattle.std.specs.List.{cons_option}
 use Rattle.std.proofs.lemmas.Bool.{cases_eq, cases_lt}
-use Rattle.islands.specs.Labels.{Labels, label_at, merged, merged_all, merged_by, relabel, union_label}
+use Rattle.islands.specs.Labels.{Labels, label_at, merged, merged_by, relabel, union_label}
+use Rattle.islands.specs.Merging.{merged_all}
 use Rattle.islands.specs.Links.{Edges}
 use Rattle.islands.specs.declared.label.Label.{Label}
 use Rattle.islands.proofs.LabelLemmas.{added_here, added_other, relabel_at}

@@ -2,7 +2,8 @@
 use Rattle.std.proofs.Common.{◌≡◌, ℕ, zero, suc, ◌+◌, ◌≤◌, ◌||◌, ◌⊎◌, Bool, true, false, not, cond, nat_le, List, [], ◌∷◌, map, Option, Some, None, is_some, option_map, Contains, inl, inr, refl, sym, ap, ◌∙◌, subst, arith}
 use Rattle.std.proofs.lemmas.Bool.{false≢true}
 use Rattle.std.proofs.lemmas.Option.{none-some, same_Some}
-use Rattle.islands.specs.Labels.{Labels, is_loose, label_at, merged, merged_all, merged_by, own_label, union_label}
+use Rattle.islands.specs.Labels.{Labels, is_loose, label_at, merged, merged_by, own_label, union_label}
+use Rattle.islands.specs.Merging.{merged_all}
 use Rattle.islands.specs.Links.{Edges, Joined, Linked}
 use Rattle.islands.specs.Partition.{AreIslands, AreTogether, IsPartition}
 use Rattle.islands.specs.declared.label.IslandState.{IslandState}

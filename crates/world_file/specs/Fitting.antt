@@ -15,7 +15,8 @@ use Rattle.graph_colours.specs.declared.limits.TheConstants.{COLOURS}
 use Rattle.graph_colours.specs.declared.member.Member.{Member}
 use Rattle.impulse_ledger.specs.Totals.{total_over}
 use Rattle.impulse_ledger.specs.declared.totals.Totals.{Totals}
-use Rattle.islands.specs.Labels.{Labels, label_at, merged_all, own_label}
+use Rattle.islands.specs.Labels.{Labels, label_at, own_label}
+use Rattle.islands.specs.Merging.{merged_all}
 use Rattle.islands.specs.Links.{Edges}
 use Rattle.islands.specs.declared.label.IslandState.{IslandState}
 use Rattle.islands.specs.declared.label.IslandState.TheVariants.{Asleep, Loose, Whole}

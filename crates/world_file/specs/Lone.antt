@@ -1,6 +1,7 @@
 -- Movers that stand alone, and are joined by ties.
 use Rattle.std.specs.Prelude.{◌≡◌, ℕ, List, Option, Some, None}
-use Rattle.islands.specs.Labels.{Labels, added, label_at, merged_all}
+use Rattle.islands.specs.Labels.{Labels, added, label_at}
+use Rattle.islands.specs.Merging.{merged_all}
 use Rattle.world_file_base.specs.declared.saved.Membership.{Membership}
 use Rattle.sleep_wake.specs.Acting.{links_of}
 use Rattle.world_file.specs.Fitting.{apart_from, members_of}

@@ -1,7 +1,7 @@
 use Rattle.std.proofs.Common.{◌≡◌, ◌+◌, ◌∷◌, suc, get_or, drop, sym, ap, ◌∙◌, arith}
 use Rattle.std.proofs.Math.Seq.{drop-cons}
 use Rattle.std.proofs.lemmas.List.Elements.{Contains-get_or}
-use Rattle.islands.specs.Labels.{merged_all}
+use Rattle.islands.specs.Merging.{merged_all}
 use Rattle.islands.specs.Packed.{by_slot, labels_by}
 use Rattle.islands.proofs.GroupLemmas.{still_there}
 use Rattle.islands.proofs.merging.merge_all.Goals as goal

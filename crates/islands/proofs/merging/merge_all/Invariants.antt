@@ -1,6 +1,6 @@
 use Rattle.std.proofs.Common.{◌≡◌, ◌≤◌, ℕ, length, drop, vec_capacity}
 use Rattle.std.specs.Prelude.{IsSome}
-use Rattle.islands.specs.Labels.{merged_all}
+use Rattle.islands.specs.Merging.{merged_all}
 use Rattle.islands.specs.Packed.{IsPlaced, by_slot, note_at, labels_by}
 use Rattle.islands.proofs.merging.merge_all.Given as goal
 

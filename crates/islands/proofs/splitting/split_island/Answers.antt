@@ -22,4 +22,4 @@ pub returns-in_default-clause-labels : goal.returns-in_default-clause-labels
 returns-in_default-clause-labels c =
     let P : Option ℕ → Type 0 = λ o. IsNamedPart c.args.places.now c.args.notes.now.items c.args.heads.now.items c.args.name o in
     let named : P c.part_named.result = rw (sym c.deref.ensures.value, sym c.deref-2.ensures.value) c.part_named.ensures.named in
-    nobody_split (labels_by c.args.places.now c.args.notes.now.items c.args.heads.now.items) c.args.name c.args.edges.now (subst P c.in_default.is named) c.requires.inside
+    nobody_split (labels_by c.args.places.now c.args.notes.now.items c.args.heads.now.items) c.args.name c.args.edges.now (subst P c.in_default.is named)
