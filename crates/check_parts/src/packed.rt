@@ -6,7 +6,7 @@ use std::alloc::Global;
 use std::test::Fail;
 
 /// Two sets of ids below four, with room for two in the second.
-fn two_sets(alloc: Global) -> Result<PackedSets, Refusal> {
+fn two_sets(alloc: Global) -> Result<PackedSets<u32>, Refusal> {
     let mut sets = PackedSets::new(alloc);
     sets.reserve(2, 4)?;
     sets.reserve_in(1, 2)?;
@@ -15,8 +15,11 @@ fn two_sets(alloc: Global) -> Result<PackedSets, Refusal> {
 
 #[test]
 fn memory_is_had(rt: HostRuntime) -> Result<(), Fail> {
-    let sets = two_sets(rt.alloc())?;
+    let mut sets = two_sets(rt.alloc())?;
+    let added = sets.add_set()?;
+    assert_eq!(rt; added, 2);
     let copied = sets.try_copy()?;
+    assert_eq!(rt; copied.len(), 3);
     assert_eq!(rt; copied.set_of(3), None);
     Ok(())
 }

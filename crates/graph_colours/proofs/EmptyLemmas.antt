@@ -1,14 +1,17 @@
 -- A graph with no members.
-use Rattle.std.proofs.Common.{◌≡◌, ℕ, ◌+◌, ◌<◌, ◌++◌, ◌∷◌, false, List, [], length, map, replicate, subst, refl, sym, ap, ◌∙◌, arith}
-use Rattle.std.proofs.lemmas.List.{length-map}
+use Rattle.std.proofs.Common.{◌≡◌, ℕ, ◌+◌, ◌<◌, false, List, [], length, replicate, subst, refl, sym, ap, ◌∙◌, arith}
 use Rattle.std.proofs.lemmas.List.Elements.{All-replicate}
+use Rattle.std.proofs.lemmas.Nat.Bits.{bit_at-zero}
 use Rattle.graph_colours.specs.declared.limits.TheConstants.{COLOURS}
 use Rattle.graph_colours.specs.declared.member.Member.{Member}
 use Rattle.graph_colours.specs.Movers.{shares}
 use Rattle.graph_colours.specs.Members.{AreRising, AreApart}
-use Rattle.graph_colours.specs.Marks.{Bucket, members_in, lists_of, IsGraph}
+use Rattle.graph_colours.specs.Edits.{Pended}
+use Rattle.graph_colours.specs.Marks.{bit_of, any_has_mover, AreMarks}
+use Rattle.graph_colours.specs.Graph.{lists_of, IsGraph}
 use Rattle.graph_colours.specs.Colours.{all_members, IsColouring}
 use Rattle.graph_colours.proofs.ListLemmas.{pairs_none}
+use Rattle.graph_colours.proofs.MarkLemmas.{none_at}
 
 -- the lists of a new colouring
 pub colouring_of_none : {C : Type 0} (number : C → ℕ) → IsColouring {C = C} number (replicate (COLOURS + 1) [])
@@ -22,16 +25,23 @@ colouring_of_none {C} number =
       once = λ n. omega arith;
     }
 
-pub graph_of_none : {C : Type 0} (number : C → ℕ) (colours : List (Bucket C)) (overflow : List (Member C)) (capacity : ℕ) → map members_in colours ≡ replicate COLOURS [] → overflow ≡ [] → IsGraph number colours overflow capacity (record { count = 0; total = 0; slots = 0 })
-graph_of_none {C} number colours overflow capacity none no_overflow =
-    let lists : List (List (Member C)) → List (Member C) → List (List (Member C)) = λ ls o. ls ++ o ∷ [] in
-    let e : lists_of colours overflow ≡ replicate (COLOURS + 1) [] = ap (λ ls. lists ls overflow) none ∙ ap (λ o. lists (replicate COLOURS []) o) no_overflow in
+-- lists without members, and no words
+pub marks_of_none : {C : Type 0} (n : ℕ) → AreMarks {C = C} (replicate n []) []
+marks_of_none {C} n = record {
+  own = λ slot c lt. bit_at-zero c ∙ ap (λ (ms : List (Member C)). bit_of (any_has_mover ms slot)) (sym (none_at n c));
+  no_more = λ slot c le. bit_at-zero c;
+}
+
+pub graph_of_none : {C : Type 0} (number : C → ℕ) (ks : List (Pended C)) (words : List ℕ) → lists_of ks ≡ replicate (COLOURS + 1) [] → words ≡ [] → IsGraph number ks words (record { count = 0; total = 0; slots = 0 })
+graph_of_none {C} number ks words none no_words =
     let P : List (List (Member C)) → Type 0 = λ l. IsColouring number l in
+    let Q : List (List (Member C)) → Type 0 = λ l. AreMarks l words in
+    let R : List ℕ → Type 0 = λ w. AreMarks {C = C} (replicate (COLOURS + 1) []) w in
     record {
-      colouring = subst P (sym e) (colouring_of_none number);
-      colours_count = sym (length-map colours members_in) ∙ ap length none;
+      colouring = subst P (sym none) (colouring_of_none number);
+      marks = subst Q (sym none) (subst R (sym no_words) (marks_of_none (COLOURS + 1)));
+      members = sym (ap (λ (ls : List (List (Member C))). length (all_members ls)) none);
       few = omega arith;
-      members = sym (ap (λ (ls : List (List (Member C))). length (all_members ls)) e);
-      rooms = λ k d lt. record { enough = omega arith; below = omega arith };
-      overflow_room = omega arith;
+      rooms = λ k d lt. omega arith;
+      slots = omega arith;
     }

@@ -2,6 +2,7 @@ pub mod Cases
 pub mod PlaceLemmas
 pub mod MoverLemmas
 pub mod ListLemmas
+pub mod BitLaws
 pub mod MarkLemmas
 pub mod SearchLemmas
 pub mod StepLemmas

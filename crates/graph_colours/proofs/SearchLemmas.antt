@@ -1,15 +1,9 @@
 -- The first list of a kind, in lists that change.
-use Rattle.std.proofs.Common.{◌≡◌, ◌≢◌, ℕ, ◌+◌, ◌<◌, ◌≤◌, ◌==◌, ◌||◌, ◌++◌, Bool, true, false, not, cond, List, [], ◌∷◌, length, get_or, take, map, subst, Some, None, refl, sym, ap, ◌∙◌, arith}
+use Rattle.std.proofs.Common.{◌≡◌, ◌≢◌, ℕ, ◌+◌, ◌<◌, ◌≤◌, ◌==◌, ◌||◌, Bool, true, false, not, cond, List, [], ◌∷◌, length, get_or, map, subst, Some, None, refl, sym, ap, ◌∙◌, arith}
 use Rattle.std.specs.List.{All, list_any, position, position_or_len}
-use Rattle.std.proofs.lemmas.List.{length-map}
 use Rattle.std.proofs.lemmas.List.Sums.{fails_before_first, passes_at_first}
-use Rattle.std.proofs.Math.Seq.{take-append_seam}
-use Rattle.graph_colours.specs.declared.limits.TheConstants.{COLOURS}
-use Rattle.graph_colours.specs.declared.member.Movers.{Movers}
 use Rattle.graph_colours.specs.declared.member.Member.{Member}
-use Rattle.graph_colours.specs.Members.{is_free, has_id, inserted, without}
-use Rattle.graph_colours.specs.Marks.{Bucket, lists_of}
-use Rattle.graph_colours.specs.Colours.{least_colour}
+use Rattle.graph_colours.specs.Members.{has_id, inserted, without}
 use Rattle.graph_colours.proofs.Cases.{by_test, not_true, true_or_false, not_false, not_true_then}
 use Rattle.graph_colours.proofs.PlaceLemmas.{is_lower, not_lower, same_from}
 use Rattle.graph_colours.proofs.ListLemmas.{any_inserted}
@@ -18,16 +12,6 @@ use Rattle.graph_colours.proofs.ListLemmas.{any_inserted}
 pub found_in_map : {X Y : Type 0} (f : X → Y) (p : Y → Bool) (q : X → Bool) (xs : List X) → ((x : X) → p (f x) ≡ q x) → position_or_len p (map f xs) ≡ position_or_len q xs
 found_in_map f p q [] same = refl
 found_in_map f p q (x ∷ xs) same = rw (same x) (ap (λ n. cond (not (q x)) (1 + n) 0) (found_in_map f p q xs same))
-
-pub take_colours : {X : Type 0} (xs ys : List X) → length xs ≡ COLOURS → take COLOURS (xs ++ ys) ≡ xs
-take_colours xs ys n = rw (← n) (take-append_seam xs ys)
-
--- the least colour is the first place in which the constraint is free
-pub least_is_first : {C : Type 0} (colours : List (Bucket C)) (overflow : List (Member C)) (movers : Movers) → length colours ≡ COLOURS → position_or_len (λ b. is_free b.members movers) colours ≡ least_colour (lists_of colours overflow) movers
-unfolding least_colour
-least_is_first {C} colours overflow movers n =
-    let f : Bucket C → List (Member C) = λ b. b.members in
-    rw (take_colours (map f colours) (overflow ∷ []) (length-map colours f ∙ n)) (sym (found_in_map f (λ ms. is_free ms movers) (λ b. is_free b.members movers) colours (λ b. refl)))
 
 pub position_none : {X : Type 0} (p : X → Bool) (xs : List X) → length xs ≤ position_or_len p xs → position p xs ≡ None
 position_none p xs h = rw (not_lower (position_or_len p xs) (length xs) h) refl

@@ -1,9 +1,8 @@
 -- Lists of members that make a colouring, as they are given.
-use Rattle.std.specs.Prelude.{ℕ, Bool, true, List, [], ◌∷◌, map, All, Vec, vec_items}
+use Rattle.std.specs.Prelude.{ℕ, List, map, All, Vec, vec_items}
 use Rattle.std.specs.declared.alloc.Global.{Global}
 use Rattle.graph_colours.specs.declared.member.Member.{Member}
 use Rattle.graph_colours.specs.Movers.{AreBelow}
-use Rattle.graph_colours.specs.Marks.{set_marks}
 
 -- the lists as they are kept
 abbrev pub members_of : {C : Type 0} → List (Vec (Member C) Global) → List (List (Member C))
@@ -12,8 +11,3 @@ members_of lists = map vec_items lists
 -- the movers' slots of all members are below the bound
 abbrev pub AreAllBelow : {C : Type 0} → ℕ → List (Member C) → Type 0
 AreAllBelow slots ms = All (λ m. AreBelow slots m.movers) ms
-
--- the marks of the movers of all members are set
-abbrev pub marked_all : {C : Type 0} → List Bool → List (Member C) → List Bool
-marked_all used [] = used
-marked_all used (m ∷ ms) = marked_all (set_marks used m.movers true) ms

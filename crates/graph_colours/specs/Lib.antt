@@ -4,5 +4,6 @@ pub mod Colours
 pub mod Edits
 pub mod Gaps
 pub mod Marks
+pub mod Graph
 pub mod Given
 pub mod Own

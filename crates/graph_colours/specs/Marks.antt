@@ -1,88 +1,59 @@
--- How one colour is kept: its members, and for each slot whether one of them has the mover there.
-use Rattle.std.specs.Prelude.{◌≡◌, ℕ, ◌≤◌, ◌||◌, ◌&&◌, Bool, true, false, List, ◌∷◌, [], ◌++◌, length, map, slice_index_or, slice_set, All, Option, Some, None}
+-- The marks of the movers: a word for each slot, and in it a bit for each colour, which is set where a member of the colour has the mover there.
+use Rattle.std.specs.Prelude.{◌≡◌, ◌≢◌, ℕ, ◌<◌, ◌≤◌, ◌-◌, ◌^◌, Bool, cond, List, length, slice_index_or, bit_and, bit_or, Option, Some, None}
 use Rattle.std.specs.List.{list_any}
+use Rattle.std.specs.Int.{bit_at}
 use Rattle.graph_colours.specs.declared.limits.TheConstants.{COLOURS}
 use Rattle.graph_colours.specs.declared.member.Movers.{Movers}
 use Rattle.graph_colours.specs.declared.member.Member.{Member}
 use Rattle.graph_colours.specs.Movers.{has_mover}
-use Rattle.graph_colours.specs.Members.{AreRising, AreApart}
-use Rattle.graph_colours.specs.declared.colours.Size.{Size}
-use Rattle.graph_colours.specs.Colours.{all_members, IsColouring}
+use Rattle.graph_colours.specs.Colours.{list_at}
 
--- what a colour shows: its members, for how many in all it has room, how many edits of them are put off, and the slots that have marks
-pub record Bucket (C : Type 0) : Type 0 where
-  pub members : List (Member C)
-  pub capacity : ℕ
-  pub pending : ℕ
-  pub slots : ℕ
+-- the bit that tells whether something holds
+abbrev pub bit_of : Bool → ℕ
+bit_of holds = cond holds 1 0
 
-abbrev pub is_marked_second : List Bool → Option ℕ → Bool
-is_marked_second used None = false
-is_marked_second used (Some slot) = slice_index_or used slot false
+-- the word of a slot; 0 where there is none
+abbrev pub word_at : List ℕ → ℕ → ℕ
+word_at words slot = slice_index_or words slot 0
 
--- a mover of the constraint is marked
-abbrev pub is_marked : List Bool → Movers → Bool
-is_marked used movers = slice_index_or used movers.first false || is_marked_second used movers.second
+-- the mark of a colour in a slot
+abbrev pub mark_at : List ℕ → ℕ → ℕ → ℕ
+mark_at words slot colour = bit_at (word_at words slot) colour
 
-abbrev pub second_has_mark : List Bool → Option ℕ → Bool
-second_has_mark used None = true
-second_has_mark used (Some slot) = slice_index_or used slot false
+-- a member has the mover in this slot
+abbrev pub any_has_mover : {C : Type 0} → List (Member C) → ℕ → Bool
+any_has_mover ms slot = list_any (λ m. has_mover m.movers slot) ms
 
--- all movers of the constraint are marked
-abbrev pub are_marked : List Bool → Movers → Bool
-are_marked used movers = slice_index_or used movers.first false && second_has_mark used movers.second
+-- the marks are those of the movers that the members of each colour have; the overflow has none
+pub record AreMarks {C : Type 0} (lists : List (List (Member C))) (words : List ℕ) : Type 0 where
+  pub own : (slot colour : ℕ) → colour < COLOURS → mark_at words slot colour ≡ bit_of (any_has_mover (list_at lists colour) slot)
+  pub no_more : (slot colour : ℕ) → COLOURS ≤ colour → mark_at words slot colour ≡ 0
 
--- a constraint of these movers may be there, as far as the marks tell
-abbrev pub may_have : List Bool → Option Movers → Bool
-may_have used None = true
-may_have used (Some movers) = are_marked used movers
+-- a word, or what it has in common with, or beside, that of the second mover
+abbrev pub or_second : List ℕ → ℕ → Option ℕ → ℕ
+or_second words word None = word
+or_second words word (Some slot) = bit_or word (word_at words slot)
 
--- a mark in a slot, if there is one
-abbrev pub set_second : List Bool → Option ℕ → Bool → List Bool
-set_second used None mark = used
-set_second used (Some slot) mark = slice_set used slot mark
+abbrev pub and_second : List ℕ → ℕ → Option ℕ → ℕ
+and_second words word None = word
+and_second words word (Some slot) = bit_and word (word_at words slot)
 
--- the marks of the movers are set
-abbrev pub set_marks : List Bool → Movers → Bool → List Bool
-set_marks used movers mark = set_second (slice_set used movers.first mark) movers.second mark
+-- the colours that a mover of the constraint has
+abbrev pub taken : List ℕ → Movers → ℕ
+taken words movers = or_second words (word_at words movers.first) movers.second
 
--- a slot is marked just where a member has the mover there
-abbrev pub AreMarks : {C : Type 0} → List (Member C) → List Bool → Type 0
-AreMarks ms used = (slot : ℕ) → slice_index_or used slot false ≡ list_any (λ m. has_mover m.movers slot) ms
+-- the colours that all movers of the constraint have
+abbrev pub common : List ℕ → Movers → ℕ
+common words movers = and_second words (word_at words movers.first) movers.second
 
--- what a colour keeps
-pub record IsKept {C : Type 0} (number : C → ℕ) (ms : List (Member C)) (used : List Bool) : Type 0 where
-  pub rising : AreRising number ms
-  pub apart : AreApart ms
-  pub marks : AreMarks ms used
+-- the lists in which a constraint of these movers may be, as far as the marks tell: the colours that all its movers have, and the overflow; each,
+-- where its movers aren't told
+abbrev pub candidates : List ℕ → Option Movers → ℕ
+candidates words None = 2 ^ 32 - 1
+candidates words (Some movers) = bit_or (common words movers) (2 ^ COLOURS)
 
--- there is room for that many in all, whose movers' slots are below the bound
-pub record HasRoom {C : Type 0} (constraints slots : ℕ) (b : Bucket C) : Type 0 where
-  pub enough : constraints ≤ b.capacity
-  pub below : slots ≤ b.slots
-
--- the members of the colours and of the overflow
-abbrev pub members_in : {C : Type 0} → Bucket C → List (Member C)
-members_in b = b.members
-
-abbrev pub lists_of : {C : Type 0} → List (Bucket C) → List (Member C) → List (List (Member C))
-lists_of colours overflow = map members_in colours ++ overflow ∷ []
-
--- what the whole graph keeps: a colouring of as many members as are counted, with room for all of them and more in each colour and in the overflow
-pub record IsGraph {C : Type 0} (number : C → ℕ) (colours : List (Bucket C)) (overflow : List (Member C)) (capacity : ℕ) (size : Size) : Type 0 where
-  pub colouring : IsColouring number (lists_of colours overflow)
-  pub colours_count : length colours ≡ COLOURS
-  pub members : size.count ≡ length (all_members (lists_of colours overflow))
-  pub few : size.count ≤ size.total
-  pub rooms : All (HasRoom size.total size.slots) colours
-  pub overflow_room : size.total ≤ capacity
-
--- no edit of a list is put off
-pub record AreAtRest {C : Type 0} (bs : List (Bucket C)) (pending : ℕ) : Type 0 where
-  pub colours : All (λ b. b.pending ≡ 0) bs
-  pub overflow : pending ≡ 0
-
--- a graph of which no edit is put off where it says so
-pub record IsKeptGraph {C : Type 0} (number : C → ℕ) (colours : List (Bucket C)) (overflow : List (Member C)) (capacity pending : ℕ) (size : Size) (settled : Bool) : Type 0 where
-  pub graph : IsGraph number colours overflow capacity size
-  pub rest : settled ≡ true → AreAtRest colours pending
+-- the marks of a colour in some slots become these, and no other changes
+pub record AreSet (old new : List ℕ) (which : ℕ → Bool) (colour : ℕ) (holds : Bool) : Type 0 where
+  pub own : (slot : ℕ) → mark_at new slot colour ≡ cond (which slot) (bit_of holds) (mark_at old slot colour)
+  pub others : (slot other : ℕ) → other ≢ colour → mark_at new slot other ≡ mark_at old slot other
+  pub long : length new ≡ length old

@@ -6,11 +6,11 @@
 //! body is no mover and doesn't count.
 #![tactic(auto)]
 
-mod colour;
 mod colours;
 mod edited;
 mod edits;
 mod limits;
+mod lists;
 mod marks;
 pub mod member;
 mod removals;

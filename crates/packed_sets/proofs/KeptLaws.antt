@@ -9,10 +9,11 @@ use Rattle.std.proofs.lemmas.List.Sorted.{IsPermutation-to_front}
 use Rattle.std.proofs.lemmas.Option.{slice_get_within, slice_get-get_or}
 use Rattle.packed_sets.specs.declared.spots.Spot.{Spot}
 use Rattle.packed_sets.specs.Packs.{list_at, IsAbsent, IsPut, IsTaken, EachOnce}
-use Rattle.packed_sets.specs.Notes.{spot_at, spot_of, renoted, IsKept, IsOut}
+use Rattle.packed_sets.specs.Notes.{spot_at, spot_of, numbers_of, renoted, IsKept, IsOut}
 use Rattle.packed_sets.proofs.ListLaws.{same_inside, none_not_some, place_of, member_at, more_cases}
 use Rattle.packed_sets.proofs.PackLaws.{HasCome, HasGone, one_spot, last_stood, come_packed, gone_packed, packed_same}
 use Rattle.packed_sets.proofs.SpotLaws.{noted_within, come_spots, gone_spots}
+use Rattle.packed_sets.proofs.NumberLaws.{number_in, numbers_out}
 use Rattle.packed_sets.proofs.RoomLaws.{no_more}
 
 pub each_once : (sets : List (List ℕ)) (notes : List (Option Spot)) → IsKept sets notes → EachOnce sets
@@ -84,6 +85,12 @@ distinct_fits xs x n lt below absent apart =
     ]) in
     omega (arith, all)
 
+-- different numbers below a bound are no more than it
+pub distinct_most : (xs : List ℕ) (n : ℕ) → ((k y : ℕ) → slice_get xs k ≡ Some y → y < n) → ((j k y : ℕ) → slice_get xs j ≡ Some y → slice_get xs k ≡ Some y → j ≡ k) → length xs ≤ n
+distinct_most xs n below apart =
+    let there : (k : ℕ) → k < length xs → slice_get xs k ≡ Some (get_or xs k 0) = λ k less. slice_get-get_or xs k 0 less in
+    no_more n (length xs) (λ k. get_or xs k 0) (λ k less. below k (get_or xs k 0) (there k less)) (λ j k less lesser same. apart j k (get_or xs k 0) (there j less ∙ ap (λ z. Some z) same) (there k lesser))
+
 -- a place in a set is a number of 32 bits
 pub place_fits : (sets : List (List ℕ)) (notes : List (Option Spot)) (s x : ℕ) → IsKept sets notes → IsAbsent sets x → x < 2 ^ 32 → length (list_at sets s) < 2 ^ 32
 place_fits sets notes s x is absent lt =
@@ -121,17 +128,17 @@ come_kept sets new notes later s x is there within lt absent list_is note_is =
       ];
     }))
 
-pub put_is : (sets new : List (List ℕ)) (s x : ℕ) → s < length sets → new ≡ slice_set sets s (list_at sets s ++ x ∷ []) → IsPut sets new s x
-put_is sets new s x lt is =
-    let list : list_at new s ≡ list_at sets s ++ x ∷ [] = ap (λ (l : List (List ℕ)). list_at l s) is ∙ get_or-set_same sets s (list_at sets s ++ x ∷ []) [] lt in
+pub put_is : {X : Type 0} (sets new : List (List X)) (s : ℕ) (x : X) → s < length sets → new ≡ slice_set sets s (list_at sets s ++ x ∷ []) → IsPut sets new s x
+put_is {X} sets new s x lt is =
+    let list : list_at new s ≡ list_at sets s ++ x ∷ [] = ap (λ (l : List (List X)). list_at l s) is ∙ get_or-set_same sets s (list_at sets s ++ x ∷ []) [] lt in
     record {
-      more = subst (λ (l : List ℕ). IsPermutation l (x ∷ list_at sets s)) (sym list) (IsPermutation-to_front (list_at sets s) x);
-      others = λ t d. ap (λ (l : List (List ℕ)). list_at l t) is ∙ get_or-set_other sets s t (list_at sets s ++ x ∷ []) [] d;
+      more = subst (λ (l : List X). IsPermutation l (x ∷ list_at sets s)) (sym list) (IsPermutation-to_front (list_at sets s) x);
+      others = λ t d. ap (λ (l : List (List X)). list_at l t) is ∙ get_or-set_other sets s t (list_at sets s ++ x ∷ []) [] d;
     }
 
 -- ---- an id is taken out
 
-gone_stood : (sets new : List (List ℕ)) (at : Spot) (x : ℕ) → IsOut sets new at x → (t y : ℕ) → Contains (list_at new t) y → Contains (list_at sets t) y
+pub gone_stood : (sets new : List (List ℕ)) (at : Spot) (x : ℕ) → IsOut sets new at x → (t y : ℕ) → Contains (list_at new t) y → Contains (list_at sets t) y
 gone_stood sets new at x w t y k = elim (cases_eq t at.set) [
   | inl m ↦
       let xs : List ℕ = list_at sets at.set in
@@ -147,7 +154,7 @@ gone_stood sets new at x w t y k = elim (cases_eq t at.set) [
 ]
 
 -- the id that stood at the spot is the one that was asked for
-out_is : (sets new : List (List ℕ)) (notes : List (Option Spot)) (x y : ℕ) (at : Spot) → IsKept sets notes → spot_of notes x ≡ Some at → IsOut sets new at y → y ≡ x
+pub out_is : (sets new : List (List ℕ)) (notes : List (Option Spot)) (x y : ℕ) (at : Spot) → IsKept sets notes → spot_of notes x ≡ Some at → IsOut sets new at y → y ≡ x
 out_is sets new notes x y at is e w = same_inside y x (sym w.swapped.there ∙ is.packed.there x at.set at.place e)
 
 pub gone_kept : (sets new : List (List ℕ)) (notes between later : List (Option Spot)) (x y : ℕ) (at : Spot) → IsKept sets notes → spot_of notes x ≡ Some at → IsOut sets new at y
@@ -161,11 +168,12 @@ gone_kept sets new notes between later x y at is e w between_is later_is =
       small = λ z t h. is.small z t (gone_stood sets new at x out t z h);
     })
 
-pub out_taken : (sets new : List (List ℕ)) (notes : List (Option Spot)) (set x y : ℕ) (at : Spot) → IsKept sets notes → spot_of notes x ≡ Some at → IsOut sets new at y → Contains (list_at sets set) x → IsTaken sets new set x
-out_taken sets new notes set x y at is e w h =
-    let out : IsOut sets new at x = subst (λ (z : ℕ). IsOut sets new at z) (out_is sets new notes x y at is e w) w in
+pub out_taken : {X : Type 0} (number : X → ℕ) → ((a b : X) → number a ≡ number b → a ≡ b) → (sets new : List (List X)) (notes : List (Option Spot)) (set : ℕ) (x y : X) (at : Spot) → IsKept (numbers_of number sets) notes → spot_of notes (number x) ≡ Some at → IsOut sets new at y → Contains (list_at sets set) x → IsTaken sets new set x
+out_taken {X} number known sets new notes set x y at is e w h =
+    let same : y ≡ x = known y x (out_is (numbers_of number sets) (numbers_of number new) notes (number x) (number y) at is e (numbers_out number sets new at y w)) in
+    let out : IsOut sets new at x = subst (λ (z : X). IsOut sets new at z) same w in
     let taken : IsTaken sets new at.set x = record { less = out.swapped.same; others = out.others } in
-    subst (λ (s : ℕ). IsTaken sets new s x) (one_set sets notes set x at is e h) taken
+    subst (λ (s : ℕ). IsTaken sets new s x) (one_set (numbers_of number sets) notes set (number x) at is e (number_in number sets set x h)) taken
 
 -- ---- more numbers, and no other ids
 

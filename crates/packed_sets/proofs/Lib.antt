@@ -2,6 +2,9 @@ pub mod ListLaws
 pub mod PackLaws
 pub mod SpotLaws
 pub mod RoomLaws
+pub mod NumberLaws
 pub mod KeptLaws
 pub mod ViewLaws
+pub mod DropLaws
+pub mod ShiftLaws
 pub mod MarkLaws

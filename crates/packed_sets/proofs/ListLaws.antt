@@ -77,17 +77,17 @@ got_taken [] (suc n) k lt = refl
 got_taken (x ∷ xs) (suc n) zero lt = refl
 got_taken (x ∷ xs) (suc n) (suc k) lt = got_taken xs n k (omega (arith, lt))
 
-pub swapped_out : (xs : List ℕ) (p x : ℕ) (rest : List ℕ) → p < length xs → x ≡ slice_index_or xs p x → rest ≡ swap_remove xs p x → IsSwappedOut xs rest p x
-swapped_out xs p x rest lt is e =
+pub swapped_out : {X : Type 0} (xs : List X) (p : ℕ) (x : X) (rest : List X) → p < length xs → x ≡ slice_index_or xs p x → rest ≡ swap_remove xs p x → IsSwappedOut xs rest p x
+swapped_out {X} xs p x rest lt is e =
     let n : ℕ = length xs - 1 in
-    let changed : List ℕ = slice_set xs p (slice_index_or xs n x) in
+    let changed : List X = slice_set xs p (slice_index_or xs n x) in
     let long : length changed ≡ length xs = length-set xs p (slice_index_or xs n x) in
     let short : length (take n changed) ≡ n = length-take-le n changed (omega (arith, long)) in
-    let lengths : length rest ≡ n = ap length e ∙ short in
+    let lengths : length rest ≡ n = ap (λ (l : List X). length l) e ∙ short in
     record {
       there = slice_get-get_or xs p x lt ∙ ap (λ y. Some y) (sym is);
-      same = subst (λ (l : List ℕ). IsPermutation xs (x ∷ l)) (sym e) (IsPermutation-swap_remove xs p x lt is);
+      same = subst (λ (l : List X). IsPermutation xs (x ∷ l)) (sym e) (IsPermutation-swap_remove xs p x lt is);
       short = omega (arith, lengths, lt);
-      stays = λ q other less. ap (λ l. slice_get l q) e ∙ got_taken changed n q (omega (arith, less, lengths)) ∙ got_other xs p q (slice_index_or xs n x) other;
-      moved = λ less. ap (λ l. slice_get l p) e ∙ got_taken changed n p (omega (arith, less, lengths)) ∙ got_set xs p (slice_index_or xs n x) lt ∙ sym (slice_get-get_or xs n x (omega (arith, lt))) ∙ ap (slice_get xs) (sym lengths);
+      stays = λ q other less. ap (λ (l : List X). slice_get l q) e ∙ got_taken changed n q (omega (arith, less, lengths)) ∙ got_other xs p q (slice_index_or xs n x) other;
+      moved = λ less. ap (λ (l : List X). slice_get l p) e ∙ got_taken changed n p (omega (arith, less, lengths)) ∙ got_set xs p (slice_index_or xs n x) lt ∙ sym (slice_get-get_or xs n x (omega (arith, lt))) ∙ ap (slice_get xs) (sym lengths);
     }

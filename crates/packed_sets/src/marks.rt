@@ -5,6 +5,7 @@ ghost use Rattle.std.specs.Prelude.{◌≡◌, ◌∷◌, ◌++◌, ◌<◌, ◌
 ghost use Rattle.std.specs.Result.{IsOkUnless};
 ghost use Rattle.packed_sets.specs.Marks.{AreListed, IsMarks};
 
+use crate::sets::MAX_SETS;
 use fixed_geom::Refusal;
 use std::alloc::Global;
 use std::marker::Model;
@@ -190,4 +191,5 @@ impl Marks {
 /// the law.
 pub fn limits_in_digits()
     ensures marks { MAX_MARKS ≡ 4294967296 }
+    ensures sets { MAX_SETS ≡ 4294967296 }
 {}

@@ -11,7 +11,7 @@ use Rattle.world_core_base.specs.JointEnds.{AreEnds, AreNoted, ends_of}
 use Rattle.world_core_base.specs.JointTables.{IsJointTable}
 use Rattle.world_core_base.proofs.JointEndLaws.{ends_more, ends_stay, take_here, take_next, take_other}
 
-pub table_given : (joints kept : List (Option BodyJoint)) (sets : Packs) (joints_left : ℕ) → kept ≡ joints → length joints ≤ MAX_SLOTS → AreEnds joints sets.sets → IsJointTable kept sets None joints_left
+pub table_given : (joints kept : List (Option BodyJoint)) (sets : Packs ℕ) (joints_left : ℕ) → kept ≡ joints → length joints ≤ MAX_SLOTS → AreEnds joints sets.sets → IsJointTable kept sets None joints_left
 table_given joints kept sets joints_left same few ends = rw same (record { few = few; ends = ends; ready = tt })
 
 -- ---- the ends of the first joints

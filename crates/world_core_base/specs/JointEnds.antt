@@ -47,12 +47,12 @@ abbrev pub halves : List ℕ → List ℕ
 halves ids = map (λ id. id / 2) ids
 
 -- the set of the body has room for two ends
-pub record HasRoomAt (body : ℕ) (sets : Packs) : Type 0 where
+pub record HasRoomAt (body : ℕ) (sets : Packs ℕ) : Type 0 where
   pub there : body < length sets.sets
   pub space : length (list_at sets.sets body) + 2 ≤ capacity_at sets.capacities body
 
 -- the sets have room for the ends of a joint in a slot
-pub record HasRoomFor (ends : Ends) (slot : ℕ) (sets : Packs) : Type 0 where
+pub record HasRoomFor (ends : Ends) (slot : ℕ) (sets : Packs ℕ) : Type 0 where
   pub first : HasRoomAt ends.a sets
   pub second : HasRoomAt ends.b sets
   pub ids : 2 * slot + 2 ≤ sets.ids

@@ -26,12 +26,12 @@ own_slots body joints = own_from body 0 joints
 -- ---- what is kept
 
 -- room for a joint between two bodies, in whatever slot
-pub record HasRoom (ends : Ends) (slots : ℕ) (sets : Packs) (joints_left : ℕ) : Type 0 where
+pub record HasRoom (ends : Ends) (slots : ℕ) (sets : Packs ℕ) (joints_left : ℕ) : Type 0 where
   pub for_joints : 1 ≤ joints_left
   pub for_ends : HasRoomFor ends slots sets
 
 -- The ends of the joints by body, and room in each list for what is named.
-pub record IsJointTable (joints : List (Option BodyJoint)) (sets : Packs) (room : Option Ends) (joints_left : ℕ) : Type 0 where
+pub record IsJointTable (joints : List (Option BodyJoint)) (sets : Packs ℕ) (room : Option Ends) (joints_left : ℕ) : Type 0 where
   pub few : length joints ≤ MAX_SLOTS
   pub ends : AreEnds joints sets.sets
   pub ready : IfSome room (λ ends. HasRoom ends (length joints) sets joints_left)

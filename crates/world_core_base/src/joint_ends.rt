@@ -33,7 +33,7 @@ pub(crate) fn ends_of(joint: &BodyJoint) -> Ends
 }
 
 /// Makes room for two ends in the set of a body. Refused 1 where memory is wanting.
-fn reserve_at(sets: &mut PackedSets, body: u32) -> Result<(), Refusal>
+fn reserve_at(sets: &mut PackedSets<u32>, body: u32) -> Result<(), Refusal>
     ensures made { OnOk result (HasRoomAt body sets.new) }
     ensures kept { (other : ℕ) → HasRoomAt other sets.old → HasRoomAt other sets.new }
     ensures sets { (set : ℕ) → list_at sets.new.sets set ≡ list_at sets.old.sets set }
@@ -45,7 +45,11 @@ fn reserve_at(sets: &mut PackedSets, body: u32) -> Result<(), Refusal>
 }
 
 /// Makes room for the ends of a joint in a slot. Refused 1 where memory is wanting.
-pub(crate) fn reserve_ends(sets: &mut PackedSets, slot: usize, ends: Ends) -> Result<(), Refusal>
+pub(crate) fn reserve_ends(
+    sets: &mut PackedSets<u32>,
+    slot: usize,
+    ends: Ends,
+) -> Result<(), Refusal>
     requires { slot ≤ MAX_SLOTS }
     ensures made { OnOk result (HasRoomFor ends slot sets.new) }
     ensures sets { (set : ℕ) → list_at sets.new.sets set ≡ list_at sets.old.sets set }
@@ -58,7 +62,7 @@ pub(crate) fn reserve_ends(sets: &mut PackedSets, slot: usize, ends: Ends) -> Re
 }
 
 /// Puts the ends of the joint in a slot in, for which there is room.
-pub(crate) fn note_ends(sets: &mut PackedSets, slot: u32, ends: Ends)
+pub(crate) fn note_ends(sets: &mut PackedSets<u32>, slot: u32, ends: Ends)
     requires few { slot < MAX_SLOTS }
     requires room { HasRoomFor ends slot sets.old }
     requires first { IsAbsent sets.old.sets (2 * slot) }
@@ -70,7 +74,7 @@ pub(crate) fn note_ends(sets: &mut PackedSets, slot: u32, ends: Ends)
 }
 
 /// Takes the ends of the joint in a slot out, if there is one.
-pub(crate) fn drop_ends(sets: &mut PackedSets, slot: u32)
+pub(crate) fn drop_ends(sets: &mut PackedSets<u32>, slot: u32)
     requires { slot < MAX_SLOTS }
     ensures { (joints : List (TheOption TheJoint)) → slot < length joints → AreEnds joints sets.old.sets → AreEnds (slice_set joints slot None) sets.new.sets }
 {

@@ -24,7 +24,7 @@ use std::marker::Model;
 pub struct JointTable {
     joints: Vec<Option<BodyJoint>>,
     // By body the ends of joints that stand at it.
-    ends: PackedSets,
+    ends: PackedSets<u32>,
     // For a joint of which bodies each list has room.
     room: Option<Ends>,
 }

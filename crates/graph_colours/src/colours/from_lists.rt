@@ -1,37 +1,82 @@
 //! The colours from their lists, as a saved world has them.
 
-ghost use Rattle.std.specs.Prelude.{◌≡◌, ◌≤◌, ◌+◌, All, IfOk, length, map, take};
+ghost use Rattle.std.specs.Prelude.{◌≡◌, ◌≢◌, ◌<◌, ◌+◌, ℕ, All, IfOk, length};
 ghost use Rattle.std.specs.Result.{IsOkUnless};
-ghost use Rattle.graph_colours.specs.Colours.{IsColouring, all_members, list_at};
-ghost use Rattle.graph_colours.specs.Members.{AreRising, AreApart};
-ghost use Rattle.graph_colours.specs.Marks.{members_in};
+ghost use Rattle.graph_colours.specs.declared.limits.TheConstants.{COLOURS};
+ghost use Rattle.graph_colours.specs.Colours.{IsColouring, all_members};
+ghost use Rattle.graph_colours.specs.Members.{AreRising};
+ghost use Rattle.graph_colours.specs.Marks.{AreMarks, any_has_mover, bit_of, mark_at};
+ghost use Rattle.graph_colours.specs.Graph.{lists_of, AreAtRest};
 ghost use Rattle.graph_colours.specs.Given.{AreAllBelow, members_of};
 
-use crate::colour::Colour;
-use crate::colours::{Colours, Size, reserve_lists};
+use crate::colours::{Colours, Size};
 use crate::edited::EditedList;
 use crate::limits::COLOURS;
+use crate::lists::reserve_all;
+use crate::marks::{grow, set_marks};
 use crate::{Id, Member};
 use fixed_geom::Refusal;
 use std::alloc::Global;
 
-/// A colour for each of the lists but the overflow's. Refused 1 where memory is wanting.
-fn colours_in<C: Id>(
+/// Sets the marks of a colour, which has none yet, in the slots of its members' movers.
+fn mark_list<C: Id>(words: &mut Vec<u32>, colour: usize, members: &[Member<C>])
+    requires colour { colour < COLOURS }
+    requires below { AreAllBelow (length words.old.items) members.now }
+    requires clear { (slot : ℕ) → mark_at words.old.items slot colour ≡ 0 }
+    ensures own { (slot : ℕ) → mark_at words.new.items slot colour ≡ bit_of (any_has_mover members.now slot) }
+    ensures others { (slot other : ℕ) → other ≢ colour → mark_at words.new.items slot other ≡ mark_at words.old.items slot other }
+    ensures long { length words.new.items ≡ length words.old.items }
+{
+    for place in 0..members.len() {
+        set_marks(words, colour, members[place].movers, true);
+    }
+}
+
+/// Sets the marks of all colours, where no mark is set yet.
+fn mark_all<C: Id>(words: &mut Vec<u32>, lists: &[Vec<Member<C>>])
+    requires count { length (members_of lists.now) ≡ COLOURS + 1 }
+    requires below { All (AreAllBelow (length words.old.items)) (members_of lists.now) }
+    requires clear { (slot colour : ℕ) → mark_at words.old.items slot colour ≡ 0 }
+    ensures marks { AreMarks (members_of lists.now) words.new.items }
+    ensures long { length words.new.items ≡ length words.old.items }
+{
+    for colour in 0..COLOURS {
+        mark_list(words, colour, lists[colour].as_slice());
+    }
+}
+
+/// The marks of these lists, for slots below `slots`. Refused 1 where memory is wanting.
+fn marks_of<C: Id>(
     alloc: Global,
     lists: &[Vec<Member<C>>],
     slots: usize,
-) -> Result<Vec<Colour<C>>, Refusal>
-    requires colouring { IsColouring C.number (members_of lists.now) }
+) -> Result<Vec<u32>, Refusal>
+    requires count { length (members_of lists.now) ≡ COLOURS + 1 }
     requires below { All (AreAllBelow slots) (members_of lists.now) }
-    ensures lists { IfOk result (λ colours. map members_in colours.items ≡ take COLOURS (members_of lists.now)) }
-    ensures rest { IfOk result (λ colours. All (λ b. b.pending ≡ 0) colours.items) }
+    ensures marks { IfOk result (λ words. AreMarks (members_of lists.now) words.items) }
+    ensures long { IfOk result (λ words. length words.items ≡ slots) }
     ensures memory_only { IsOkUnless result Refusal.NoMemory }
 {
-    let mut colours = Vec::new(alloc);
-    for place in 0..COLOURS {
-        colours.push(Colour::from_members(alloc, lists[place].as_slice(), slots)?)?;
+    let mut words = vec![in alloc; 0; slots]?;
+    mark_all(&mut words, lists);
+    Ok(words)
+}
+
+/// A list of each list's members. Refused 1 where memory is wanting.
+fn edited_lists<C: Id>(
+    alloc: Global,
+    lists: &[Vec<Member<C>>],
+) -> Result<Vec<EditedList<C>>, Refusal>
+    requires { All (AreRising C.number) (members_of lists.now) }
+    ensures lists { IfOk result (λ made. lists_of made.items ≡ members_of lists.now) }
+    ensures rest { IfOk result (λ made. AreAtRest made.items) }
+    ensures memory_only { IsOkUnless result Refusal.NoMemory }
+{
+    let mut made = Vec::new(alloc);
+    for place in 0..lists.len() {
+        made.push(EditedList::from_members(alloc, lists[place].as_slice())?)?;
     }
-    Ok(colours)
+    Ok(made)
 }
 
 impl<C: Id> Colours<C> {
@@ -52,12 +97,12 @@ impl<C: Id> Colours<C> {
         ensures pending { IfOk result (λ made. made.pending ≡ 0) }
         ensures memory_only { IsOkUnless result Refusal.NoMemory }
     {
-        let mut colours = colours_in(alloc, lists, slots)?;
-        let mut overflow = EditedList::from_members(alloc, lists[COLOURS].as_slice())?;
-        reserve_lists(&mut colours, &mut overflow, count, slots)?;
+        let words = marks_of(alloc, lists, slots)?;
+        let mut edited = edited_lists(alloc, lists)?;
+        reserve_all(&mut edited, count)?;
         Ok(Colours {
-            colours,
-            overflow,
+            lists: edited,
+            words,
             spare: Vec::new(alloc),
             size: Size {
                 count,

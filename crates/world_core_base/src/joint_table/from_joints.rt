@@ -14,7 +14,7 @@ use plain_world::BodyJoint;
 use std::alloc::Global;
 
 /// Adds the ends of the joint in a slot. Refused 1 where memory is wanting.
-fn add_ends(sets: &mut PackedSets, slot: u32, joint: &BodyJoint) -> Result<(), Refusal>
+fn add_ends(sets: &mut PackedSets<u32>, slot: u32, joint: &BodyJoint) -> Result<(), Refusal>
     requires few { slot < MAX_SLOTS }
     requires first { IsAbsent sets.old.sets (2 * slot) }
     requires second { IsAbsent sets.old.sets (2 * slot + 1) }
@@ -29,7 +29,7 @@ fn add_ends(sets: &mut PackedSets, slot: u32, joint: &BodyJoint) -> Result<(), R
 
 /// Adds the ends of the joint in a slot, if there is one. Refused 1 where memory is wanting.
 fn add_ends_at(
-    sets: &mut PackedSets,
+    sets: &mut PackedSets<u32>,
     joints: &[Option<BodyJoint>],
     slot: usize,
 ) -> Result<(), Refusal>
@@ -46,7 +46,7 @@ fn add_ends_at(
 }
 
 /// By body the ends of these joints. Refused 1 where memory is wanting.
-fn list_ends(alloc: Global, joints: &[Option<BodyJoint>]) -> Result<PackedSets, Refusal>
+fn list_ends(alloc: Global, joints: &[Option<BodyJoint>]) -> Result<PackedSets<u32>, Refusal>
     requires { length joints.now ≤ MAX_SLOTS }
     ensures ends { IfOk result (λ sets. AreEnds joints.now sets.sets) }
     ensures memory_only { IsOkUnless result Refusal.NoMemory }

@@ -1,66 +1,80 @@
-use Rattle.std.proofs.Common.{◌≡◌, ◌≤◌, ◌+◌, ◌∙◌, false, arith, List, length, Bool}
-use Rattle.std.specs.List.{position_or_len}
+use Rattle.std.proofs.Common.{◌≡◌, ◌<◌, ◌+◌, ◌∙◌, true, false, length, arith, List, subst, sym, ap}
+use Rattle.graph_colours.specs.declared.limits.TheConstants.{COLOURS}
 use Rattle.graph_colours.specs.declared.member.Member.{Member}
-use Rattle.graph_colours.specs.Members.{is_free, has_id}
-use Rattle.graph_colours.specs.Marks.{Bucket, lists_of}
-use Rattle.graph_colours.specs.Colours.{all_members, placed}
-use Rattle.graph_colours.proofs.SearchLemmas.{least_is_first}
-use Rattle.graph_colours.proofs.GraphLemmas.{placed_is, placed_count, lists_left, lists_right}
-use Rattle.graph_colours.proofs.ColouringLemmas.{absent_in_each, first_at_most, placed_keeps}
-use Rattle.graph_colours.proofs.SizeLemmas.{placed_size}
-use Rattle.graph_colours.proofs.StepLemmas.{one_fits, last_fewer}
+use Rattle.graph_colours.specs.Members.{has_id, inserted}
+use Rattle.graph_colours.specs.Marks.{AreMarks}
+use Rattle.graph_colours.specs.Graph.{lists_of}
+use Rattle.graph_colours.specs.Colours.{list_at}
+use Rattle.graph_colours.proofs.MarkLemmas.{marks_placed, same_length}
+use Rattle.graph_colours.proofs.StepLemmas.{lists_count, items_at, items_set, one_fits, rooms_set}
+use Rattle.graph_colours.proofs.GraphLemmas.{least_is, absent_at, placed_is, graph_placed, below_words}
 use Rattle.graph_colours.proofs.colours.place_in.Goals as goal
 
-pub put-requires-clause-absent : goal.put-requires-clause-absent
-put-requires-clause-absent g c =
-    let bs = c.args.colours.now.items in
-    let over = c.args.overflow.now.items in
-    lists_left (λ (ms : List (Member g.row.C.Denot)). has_id g.C.Id.number c.args.member.id ms ≡ false) bs over (absent_in_each g.C.Id.number c.args.member.id (lists_of bs over) c.requires.absent)
+pub first_free-colour-requires : goal.first_free-colour-requires
+first_free-colour-requires g c = rw c.deref.ensures.value (below_words c.args.words.now.items c.args.size.slots c.args.member.movers c.requires.graph.slots c.requires.below)
 
-pub put-requires-clause-absent_overflow : goal.put-requires-clause-absent_overflow
-put-requires-clause-absent_overflow g c =
-    let bs = c.args.colours.now.items in
-    let over = c.args.overflow.now.items in
-    lists_right (λ (ms : List (Member g.row.C.Denot)). has_id g.C.Id.number c.args.member.id ms ≡ false) bs over (absent_in_each g.C.Id.number c.args.member.id (lists_of bs over) c.requires.absent)
+pub index_mut-requires : goal.index_mut-requires
+index_mut-requires g c =
+    let n : length c.args.lists.now.items ≡ COLOURS + 1 = lists_count g.C.Id.number c.args.lists.now.items c.requires.graph.colouring in
+    omega (arith, n, c.first_free-colour.ensures.most, c.args.lists.now.ok.0)
 
-pub put-requires-clause-room : goal.put-requires-clause-room
-put-requires-clause-room g c = one_fits c.args.size.total c.args.size.slots c.args.size.count c.args.colours.now.items c.args.overflow.now.items c.requires.graph.rooms (omega (arith, c.requires.graph.members)) c.requires.room
+pub insert-requires-clause-absent : goal.insert-requires-clause-absent
+insert-requires-clause-absent g c =
+    let n = g.C.Id.number in
+    let ks = c.args.lists.now.items in
+    let x = c.index_mut.result.now in
+    let place = c.first_free-colour.result in
+    let many : length ks ≡ COLOURS + 1 = lists_count n ks c.requires.graph.colouring in
+    let lt : place < length ks = omega (arith, many, c.first_free-colour.ensures.most) in
+    let within : place < length (lists_of ks) = omega (arith, c.requires.graph.colouring.count, c.first_free-colour.ensures.most) in
+    let P : List (Member g.row.C.Denot) → Type 0 = λ ms. has_id n c.args.member.id ms ≡ false in
+    subst P (sym (items_at ks place x lt c.index_mut.ensures.value)) (absent_at n c.args.member.id (lists_of ks) place c.requires.absent within)
 
-pub put-requires-clause-overflow_room : goal.put-requires-clause-overflow_room
-put-requires-clause-overflow_room g c =
-    let few : length c.args.overflow.now.items ≤ length (all_members (lists_of c.args.colours.now.items c.args.overflow.now.items)) = last_fewer c.args.colours.now.items c.args.overflow.now.items in
-    omega (arith, few, c.requires.graph.members, c.requires.graph.overflow_room, c.requires.room)
+pub insert-requires-clause-room : goal.insert-requires-clause-room
+insert-requires-clause-room g c =
+    let ks = c.args.lists.now.items in
+    let place = c.first_free-colour.result in
+    let many : length ks ≡ COLOURS + 1 = lists_count g.C.Id.number ks c.requires.graph.colouring in
+    let lt : place < length ks = omega (arith, many, c.first_free-colour.ensures.most) in
+    one_fits c.args.size.total c.args.size.count ks place c.index_mut.result.now lt c.index_mut.ensures.value c.requires.graph.rooms (omega (arith, c.requires.graph.members)) c.requires.room
+
+pub set_marks-requires : goal.set_marks-requires
+set_marks-requires g c = λ lt. below_words c.args.words.now.items c.args.size.slots c.args.member.movers c.requires.graph.slots c.requires.below
 
 pub returns-clause-colour : goal.returns-clause-colour
 returns-clause-colour g c =
-    let e = rw c.deref.ensures.value at c.first_free-colour.ensures in
-    e ∙ least_is_first c.args.colours.now.items c.args.overflow.now.items c.args.member.movers c.requires.graph.colours_count
-
-pub returns-clause-most : goal.returns-clause-most
-returns-clause-most g c =
-    let p : Bucket g.row.C.Denot → Bool = λ b. is_free b.members c.args.member.movers in
-    let bs = c.args.colours.now.items in
-    let e = rw c.deref.ensures.value at c.first_free-colour.ensures in
-    let most : position_or_len p bs ≤ length bs = first_at_most p bs in
-    omega (arith, e, most, c.requires.graph.colours_count)
+    let before = rw c.deref.ensures.value at c.first_free-colour.ensures.before in
+    let free = rw c.deref.ensures.value at c.first_free-colour.ensures.free in
+    least_is (lists_of c.args.lists.now.items) c.args.words.now.items c.args.member.movers c.first_free-colour.result c.requires.graph.colouring.count c.requires.graph.marks c.first_free-colour.ensures.most before free
 
 pub returns-clause-lists : goal.returns-clause-lists
 returns-clause-lists g c =
-    let e = rw c.deref.ensures.value at c.first_free-colour.ensures in
-    placed_is g.C.Id.number c.args.member c.args.colours.now.items c.put.new.colours.items c.args.overflow.now.items c.put.new.overflow.items c.first_free-colour.result c.requires.graph.colours_count e c.put.ensures.lists
+    let n = g.C.Id.number in
+    let ks = c.args.lists.now.items in
+    let x = c.index_mut.result.now in
+    let place = c.first_free-colour.result in
+    let many : length ks ≡ COLOURS + 1 = lists_count n ks c.requires.graph.colouring in
+    let lt : place < length ks = omega (arith, many, c.first_free-colour.ensures.most) in
+    let at = items_at ks place x lt c.index_mut.ensures.value in
+    let put : List (Member g.row.C.Denot) = inserted n c.args.member (list_at (lists_of ks) place) in
+    placed_is n c.args.member (lists_of ks) _ place (returns-clause-colour g c) (items_set ks place c.insert.new.self put (c.insert.ensures.items ∙ ap (λ (ms : List (Member g.row.C.Denot)). inserted n c.args.member ms) at))
 
 pub returns-clause-graph : goal.returns-clause-graph
 returns-clause-graph g c =
     let n = g.C.Id.number in
-    let bs = c.args.colours.now.items in
-    let over = c.args.overflow.now.items in
-    let is = returns-clause-lists g c in
-    let more : length (all_members (placed n c.args.member (lists_of bs over))) ≡ length (all_members (lists_of bs over)) + 1 = placed_size n c.args.member (lists_of bs over) c.requires.graph.colouring in
-    record {
-      colouring = rw is (placed_keeps n c.args.member (lists_of bs over) c.requires.graph.colouring c.requires.absent);
-      colours_count = placed_count n c.args.member bs c.put.new.colours.items over c.put.new.overflow.items c.requires.graph.colours_count is;
-      members = rw is (omega (arith, more, c.requires.graph.members));
-      few = omega (arith, c.requires.room);
-      rooms = c.put.ensures.kept c.args.size.total c.args.size.slots c.requires.graph.rooms;
-      overflow_room = omega (arith, c.requires.graph.overflow_room, c.put.ensures.capacity);
-    }
+    let ks = c.args.lists.now.items in
+    let x = c.index_mut.result.now in
+    let place = c.first_free-colour.result in
+    let words = c.args.words.now.items in
+    let more = c.set_marks.new.words.items in
+    let many : length ks ≡ COLOURS + 1 = lists_count n ks c.requires.graph.colouring in
+    let lt : place < length ks = omega (arith, many, c.first_free-colour.ensures.most) in
+    let within : place < length (lists_of ks) = omega (arith, c.requires.graph.colouring.count, c.first_free-colour.ensures.most) in
+    let at = items_at ks place x lt c.index_mut.ensures.value in
+    let put : List (Member g.row.C.Denot) = inserted n c.args.member (list_at (lists_of ks) place) in
+    let is = items_set ks place c.insert.new.self put (c.insert.ensures.items ∙ ap (λ (ms : List (Member g.row.C.Denot)). inserted n c.args.member ms) at) in
+    let P : List (List (Member g.row.C.Denot)) → Type 0 = λ ls. AreMarks ls more in
+    let marks = subst P (sym is) (marks_placed n c.args.member (lists_of ks) words more place within c.requires.graph.marks c.set_marks.ensures.set c.set_marks.ensures.overflow) in
+    graph_placed n c.args.member ks _ words more c.args.size c.requires.graph c.requires.absent (returns-clause-lists g c) marks c.requires.room
+    (rooms_set c.args.size.total ks place x c.insert.new.self lt c.index_mut.ensures.value c.insert.ensures.capacity c.requires.graph.rooms)
+    (same_length words more place c.args.member.movers true c.set_marks.ensures.set c.set_marks.ensures.overflow)

@@ -1,25 +1,34 @@
-use Rattle.std.proofs.Common.{arith}
-use Rattle.std.proofs.lemmas.Grind.{common_steps}
-use Rattle.graph_colours.proofs.GraphLemmas.{rising_at, apart_at}
+use Rattle.std.proofs.Common.{◌≡◌, ◌+◌, ◌<◌, length, refl, ◌∙◌, arith}
+use Rattle.graph_colours.specs.declared.limits.TheConstants.{COLOURS}
+use Rattle.graph_colours.proofs.StepLemmas.{lists_count, items_at, rest_at}
+use Rattle.graph_colours.proofs.GraphLemmas.{rising_at, apart_at, settled_is}
 use Rattle.graph_colours.proofs.colours.Colours.members.Goals as goal
 
-pub returns-in-Some-clause-value : goal.returns-in-Some-clause-value
-returns-in-Some-clause-value g c = grind (arith, common_steps)
+pub index-requires : goal.index-requires
+index-requires g c =
+    let n : length c.self.inside.lists.items ≡ COLOURS + 1 = lists_count g.C.Id.number c.self.inside.lists.items c.self.invariant.graph.colouring in
+    omega (arith, n, c.requires.colour, c.self.inside.lists.ok.0)
 
-pub returns-in-Some-clause-colouring : goal.returns-in-Some-clause-colouring
-returns-in-Some-clause-colouring g c = rw (← c.self.view_is) c.self.invariant.graph.colouring
+pub as_slice-requires : goal.as_slice-requires
+as_slice-requires g c =
+    let ks = c.self.inside.lists.items in
+    let n : length ks ≡ COLOURS + 1 = lists_count g.C.Id.number ks c.self.invariant.graph.colouring in
+    let lt : c.args.colour < length ks = omega (arith, n, c.requires.colour) in
+    let none = rw (← c.self.view_is) at c.requires.settled in
+    rest_at ks c.args.colour c.index.result.now lt c.index.ensures (c.self.invariant.rest (settled_is c.self.inside.settled _ refl none))
 
-pub returns-in-Some-clause-rising : goal.returns-in-Some-clause-rising
-returns-in-Some-clause-rising g c = rising_at g.C.Id.number c.args.self.now.lists c.args.colour c.members.result.now (returns-in-Some-clause-colouring g c) c.requires.colour (returns-in-Some-clause-value g c)
+pub returns-clause-value : goal.returns-clause-value
+returns-clause-value g c =
+    let ks = c.self.inside.lists.items in
+    let n : length ks ≡ COLOURS + 1 = lists_count g.C.Id.number ks c.self.invariant.graph.colouring in
+    let lt : c.args.colour < length ks = omega (arith, n, c.requires.colour) in
+    rw (← c.self.view_is) (c.as_slice.ensures.value ∙ items_at ks c.args.colour c.index.result.now lt c.index.ensures)
 
-pub returns-in-Some-clause-apart : goal.returns-in-Some-clause-apart
-returns-in-Some-clause-apart g c = λ lt. apart_at g.C.Id.number c.args.self.now.lists c.args.colour c.members.result.now (returns-in-Some-clause-colouring g c) lt (returns-in-Some-clause-value g c)
+pub returns-clause-colouring : goal.returns-clause-colouring
+returns-clause-colouring g c = rw (← c.self.view_is) c.self.invariant.graph.colouring
 
-pub returns-in-None-clause-value : goal.returns-in-None-clause-value
-returns-in-None-clause-value g c = grind (arith, common_steps)
+pub returns-clause-rising : goal.returns-clause-rising
+returns-clause-rising g c = rising_at g.C.Id.number c.args.self.now.lists c.args.colour c.as_slice.result.now (returns-clause-colouring g c) c.requires.colour (returns-clause-value g c)
 
-pub returns-in-None-clause-colouring : goal.returns-in-None-clause-colouring
-returns-in-None-clause-colouring g c = rw (← c.self.view_is) c.self.invariant.graph.colouring
-
-pub returns-in-None-clause-rising : goal.returns-in-None-clause-rising
-returns-in-None-clause-rising g c = rising_at g.C.Id.number c.args.self.now.lists c.args.colour c.as_slice.result.now (returns-in-None-clause-colouring g c) c.requires.colour (returns-in-None-clause-value g c)
+pub returns-clause-apart : goal.returns-clause-apart
+returns-clause-apart g c = λ lt. apart_at g.C.Id.number c.args.self.now.lists c.args.colour c.as_slice.result.now (returns-clause-colouring g c) lt (returns-clause-value g c)

@@ -2,7 +2,7 @@ use Rattle.std.proofs.Common.{List, length, ap, arith}
 use Rattle.std.proofs.lemmas.Bool.{false≢true}
 use Rattle.graph_colours.specs.declared.member.Member.{Member}
 use Rattle.graph_colours.specs.Colours.{all_members}
-use Rattle.graph_colours.specs.Marks.{lists_of}
+use Rattle.graph_colours.specs.Graph.{lists_of}
 use Rattle.graph_colours.proofs.ColouringLemmas.{released_own, released_others, released_members}
 use Rattle.graph_colours.proofs.SizeLemmas.{released_size}
 use Rattle.graph_colours.proofs.colours.Colours.release.Goals as goal
@@ -29,7 +29,7 @@ pub returns-clause-room : goal.returns-clause-room
 returns-clause-room g c =
     let new = c.release_in-self-inside.ensures.graph in
     let old = c.self.invariant.graph in
-    let lists : List (List (Member g.row.C.Denot)) = lists_of c.self.inside.colours.items c.self.inside.overflow.items in
+    let lists : List (List (Member g.row.C.Denot)) = lists_of c.self.inside.lists.items in
     let fewer = released_size g.C.Id.number c.args.id lists in
     let same = ap (λ (ls : List (List (Member g.row.C.Denot))). length (all_members ls)) c.release_in-self-inside.ensures.lists in
     rw (← c.self.view_is) (omega (arith, new.members, new.few, old.members, old.few, same, fewer, c.release_in-self-inside.ensures.total))

@@ -1,4 +1,12 @@
+use Rattle.std.proofs.Common.{refl}
+use Rattle.graph_colours.proofs.GraphLemmas.{graph_same}
 use Rattle.graph_colours.proofs.colours.Colours.settle.Goals as goal
 
 pub invariant_of-self : goal.invariant_of-self
-invariant_of-self g c = record { graph = c.settle_lists.ensures.graph _ c.self.invariant.graph; rest = λ q. c.settle_lists.ensures.rest }
+invariant_of-self g c =
+    let a = c.self.inside in
+    let was = c.self.invariant.graph in
+    record {
+      graph = graph_same g.C.Id.number a.lists.items c.settle_all.new.lists.items a.words.items a.words.items a.size a.size was c.settle_all.ensures.lists (λ slot. refl) refl was.few (c.settle_all.ensures.kept a.size.total was.rooms) was.slots;
+      rest = λ q. c.settle_all.ensures.rest;
+    }

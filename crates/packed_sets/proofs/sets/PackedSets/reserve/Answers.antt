@@ -1,9 +1,10 @@
-use Rattle.std.proofs.Common.{refl}
+use Rattle.std.proofs.Common.{List, map}
 use Rattle.packed_sets.proofs.KeptLaws.{grown_kept}
+use Rattle.packed_sets.proofs.NumberLaws.{numbers_same}
 use Rattle.packed_sets.proofs.sets.PackedSets.reserve.Goals as goal
 
-pub invariant_of-self : goal.invariant_of-self
-invariant_of-self c = grown_kept _ _ c.self.inside.spots.items c.self.inside.spots.items c.grow_lists.ensures.same (λ x. refl) c.self.invariant
-
 pub invariant_of-self-2 : goal.invariant_of-self-2
-invariant_of-self-2 c = grown_kept _ _ c.self.inside.spots.items _ c.grow_lists.ensures.same c.grow_spots.ensures.same c.self.invariant
+invariant_of-self-2 g c =
+    let lists : List (List g.row.I.Denot) = map (λ v. v.items) c.self.inside.lists.items in
+    let same = rw c.reserve.ensures.items at c.push_lists.ensures.same in
+    grown_kept _ _ c.self.inside.spots.items c.grow_spots.new.spots.items (numbers_same g.I.Id.number lists (map (λ v. v.items) c.push_lists.new.lists.items) same) c.grow_spots.ensures.same c.self.invariant

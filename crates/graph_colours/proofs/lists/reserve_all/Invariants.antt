@@ -1,0 +1,7 @@
+use Rattle.std.proofs.Common.{◌≡◌, ◌≤◌, ℕ}
+use Rattle.std.specs.List.{AllWithin}
+use Rattle.graph_colours.specs.Graph.{lists_of, HaveRoom, AreAtRest}
+use Rattle.graph_colours.proofs.lists.reserve_all.Given as goal
+
+abbrev pub invariant-loop-place : goal.invariant-loop-place
+invariant-loop-place g l = (lists_of l.lists.items ≡ lists_of l.fn.lists.items) × ((room : ℕ) → HaveRoom room l.fn.lists.items → HaveRoom room l.lists.items) × AllWithin (λ k. l.constraints ≤ k.capacity) l.lists.items 0 l.place × (AreAtRest l.fn.lists.items → AreAtRest l.lists.items)
