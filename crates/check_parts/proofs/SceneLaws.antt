@@ -12,10 +12,11 @@ use Rattle.contacts_base.specs.Contacts.{AreContacts}
 use Rattle.contacts_base.specs.Keys.{id_number}
 use Rattle.contacts_base.specs.Near.{IsProxy, IsProxyList, number_of}
 use Rattle.contacts_base.specs.Surfaces.{IsSurface}
-use Rattle.contacts.specs.Changes.{contacts_of}
-use Rattle.contacts.specs.Forbidden.{allowed_codes}
+use Rattle.contacts.specs.declared.forbidden.BodyPair.{BodyPair}
+use Rattle.contacts.specs.ByPairs.{contacts_between}
 use Rattle.contacts.specs.Known.{IsKnown, found}
 use Rattle.contacts.specs.Turns.{AreWithin, moved_by, stirs_in}
+use Rattle.contacts.proofs.ByPairsLaws.{contacts_by_codes-holds}
 use Rattle.contacts.proofs.KnownLemmas.{IsPlace, all_known_after-holds, place_of}
 use Rattle.contacts.proofs.Members.{contains_from_in, in_from_contains, in_left, in_right}
 use Rattle.check_parts.specs.Scenes.{ArePairs, IsListed, IsShown}
@@ -72,14 +73,14 @@ all_moved : (m t : Bool) → m ≡ true → cond m true t ≡ false → ⊥
 all_moved true t e h = cc
 all_moved false t e h = cc
 
-pub nothing_known : (marks : List Bool) (pairs : List ℕ) (ps : List Proxy) (es : List ContactEntry) → marks ≡ replicate 64 true → ArePairs es → IsKnown (moved_by marks) pairs ps es
+pub nothing_known : (marks : List Bool) (pairs : List BodyPair) (ps : List Proxy) (es : List ContactEntry) → marks ≡ replicate 64 true → ArePairs es → IsKnown (moved_by marks) pairs ps es
 nothing_known marks pairs ps es is keys = record {
   keys = keys;
   still = λ k pair s. absurd (all_moved (moved_by marks (id_number k.first)) (moved_by marks (id_number k.second)) (ap (λ (l : List Bool). get_or l (id_number k.first / 256) true) is ∙ replicated 64 (id_number k.first / 256)) s);
 }
 
-pub pairs_after : (pairs : List ℕ) (ps : List Proxy) (old now : List ContactEntry) → IsProxyList ps → now ≡ contacts_of old ps (allowed_codes pairs ps) → ArePairs now
-pairs_after pairs ps old now list is = subst ArePairs (sym is) (all_known_after-holds pairs ps old list).keys
+pub pairs_after : (pairs : List BodyPair) (ps : List Proxy) (old now : List ContactEntry) → IsProxyList ps → now ≡ contacts_between pairs ps old → ArePairs now
+pairs_after pairs ps old now list is = subst ArePairs (sym (is ∙ contacts_by_codes-holds pairs ps old list)) (all_known_after-holds pairs ps old list).keys
 
 -- ---- the scene
 

@@ -1,25 +1,25 @@
-//! A pair of bodies that may not collide, named by its number.
+//! A pair of bodies that may not collide.
 
 ghost use Rattle.std.specs.Option.{option_to_list};
 
-use contacts::{ForbiddenPairs, pair_number};
+use contacts::{BodyPair, ForbiddenPairs};
 
 /// One pair of bodies, or none.
 #[derive(Clone, Copy)]
 pub(crate) struct OnePair {
-    pub number: Option<u64>,
+    pub pair: Option<BodyPair>,
 }
 
 /// No pair.
-pub(crate) const NO_PAIR: OnePair = OnePair { number: None };
+pub(crate) const NO_PAIR: OnePair = OnePair { pair: None };
 
 impl ForbiddenPairs for OnePair {
-    ghost numbers = { λ p. option_to_list p.number };
+    ghost pairs = { λ p. option_to_list p.pair };
 
     fn forbids(&self, a: u32, b: u32) -> bool {
-        match self.number {
+        match self.pair {
             None => false,
-            Some(number) => number == pair_number(a, b),
+            Some(pair) => pair.is_of(a, b),
         }
     }
 }

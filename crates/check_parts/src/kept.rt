@@ -165,7 +165,9 @@ fn a_contact_is_kept_while_its_shapes_are_near(rt: HostRuntime) {
 fn joined(alloc: Global) -> Result<(Touches, usize), Refusal> {
     let mut contacts = KeptContacts::new(alloc);
     laid_at(alloc, &mut contacts, 20_000)?;
-    let floor_and_capsule = OnePair { number: Some(1) };
+    let floor_and_capsule = OnePair {
+        pair: Some(BodyPair { a: 1, b: 0 }),
+    };
     let touches = collide(
         alloc,
         &mut contacts,

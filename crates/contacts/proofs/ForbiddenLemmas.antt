@@ -4,6 +4,7 @@ use Rattle.std.specs.Prelude.{filter}
 use Rattle.std.proofs.lemmas.List.Elements.{All-filter}
 use Rattle.contacts_base.specs.declared.near.Proxy.{Proxy}
 use Rattle.contacts_base.specs.Near.{IsProxyList, near_codes}
+use Rattle.contacts.specs.declared.forbidden.BodyPair.{BodyPair}
 use Rattle.contacts.specs.Forbidden.{allowed_codes, is_allowed}
 use Rattle.contacts.specs.Pairs.{IsPair, ArePairs}
 use Rattle.contacts.proofs.Members.{Each}
@@ -29,5 +30,5 @@ filtered_are_pairs t ps codes h = record {
   rising = increasing_from_rising (filter t codes) (rising_filter t codes (rising_from_increasing codes h.rising));
 }
 
-pub allowed_are_pairs : (forbidden : List ℕ) (ps : List Proxy) → IsProxyList ps → ArePairs ps (allowed_codes forbidden ps)
+pub allowed_are_pairs : (forbidden : List BodyPair) (ps : List Proxy) → IsProxyList ps → ArePairs ps (allowed_codes forbidden ps)
 allowed_are_pairs forbidden ps h = filtered_are_pairs (is_allowed forbidden ps) ps (near_codes ps) (near_are_pairs ps h)

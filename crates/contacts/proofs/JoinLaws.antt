@@ -17,8 +17,10 @@ use Rattle.contacts_base.specs.Split.{Split, carried, contacts_in, counting, or_
 use Rattle.contacts_base.proofs.LookupLemmas.{keys_later}
 use Rattle.contacts_base.proofs.MergeLaws.{is_lower, not_lower, tail_ascends}
 use Rattle.contacts_base.proofs.MergedLaws.{ascends_without, filter_merged, map_merged, merged_none}
+use Rattle.contacts.specs.declared.forbidden.BodyPair.{BodyPair}
 use Rattle.contacts.specs.declared.due.Due.{Due}
 use Rattle.contacts.specs.declared.rebuild.Rebuilt.{Rebuilt}
+use Rattle.contacts.specs.ByPairs.{contacts_between}
 use Rattle.contacts.specs.Changes.{AreRising, contacts_of, key_if_new, keys_touching_only_in}
 use Rattle.contacts.specs.Due.{IsDue}
 use Rattle.contacts.specs.Forbidden.{allowed_codes}
@@ -26,6 +28,7 @@ use Rattle.contacts.specs.Known.{IsKnown, IsPairKey, again, fresh, stays, stayin
 use Rattle.contacts.specs.Looked.{IsLookedOver, IsRebuilt, IsRebuiltIf}
 use Rattle.contacts.specs.Stirring.{AreQuiet, one_flagged}
 use Rattle.contacts.specs.Turns.{IsMade, begun_keys, ended_keys, key_if_begun, moved_by, outcome}
+use Rattle.contacts.proofs.ByPairsLaws.{contacts_by_codes-holds}
 use Rattle.contacts.proofs.ChangeLemmas.{PicksKeys, if_step, picked_rise, picked_rising, unless_step}
 use Rattle.contacts.proofs.KnownLemmas.{IsImage, in_map, map_in}
 use Rattle.contacts.proofs.Members.{Each, IsIn, all_from_each, each_from, each_in}
@@ -124,10 +127,10 @@ begun_by : (ps : List Proxy) (e : ContactEntry) (k : ContactKey) (t : Bool) → 
 begun_by ps e k true h = new_picks (Some e) (again ps e) k h ∙ ap key_number (again_key ps e)
 begun_by ps e k false h = cc
 
-begun_picks : (moved : ℕ → Bool) (pairs : List ℕ) (ps : List Proxy) → PicksKeys (λ e. key_if_begun e (outcome moved pairs ps e))
+begun_picks : (moved : ℕ → Bool) (pairs : List BodyPair) (ps : List Proxy) → PicksKeys (λ e. key_if_begun e (outcome moved pairs ps e))
 begun_picks moved pairs ps e k q = begun_by ps e k (stays moved pairs ps e) q
 
-ended_picks : (moved : ℕ → Bool) (pairs : List ℕ) (ps : List Proxy) → PicksKeys (λ e. key_if_new (outcome moved pairs ps e) e)
+ended_picks : (moved : ℕ → Bool) (pairs : List BodyPair) (ps : List Proxy) → PicksKeys (λ e. key_if_new (outcome moved pairs ps e) e)
 ended_picks moved pairs ps e k q = new_picks (outcome moved pairs ps e) e k q
 
 number_by : (o : Option ContactKey) (e : ContactEntry) (ks : List ContactKey) (es : List ContactEntry) (n : ℕ) → ((k : ContactKey) → o ≡ Some k → key_number k ≡ number_of e) → (IsIn n (map key_number ks) → IsIn n (map number_of es)) → IsIn n (map key_number (cons_option o ks)) → IsIn n (map number_of (e ∷ es))
@@ -150,12 +153,12 @@ second_has n es fs i =
     let m : IsImage number_of n fs = map_in number_of n fs i in
     subst (λ (k : ℕ). IsIn k (map number_of (merged number_of es fs))) (sym m.is) (in_map number_of m.from (merged number_of es fs) (merged_has number_of m.from es fs (inr m.among)))
 
-kept_both : (moved : ℕ → Bool) (pairs : List ℕ) (ps : List Proxy) (es fs : List ContactEntry) → AreAscending number_of (merged number_of es fs) → old_ones moved pairs ps (merged number_of es fs) ≡ merged number_of (old_ones moved pairs ps es) (old_ones moved pairs ps fs)
+kept_both : (moved : ℕ → Bool) (pairs : List BodyPair) (ps : List Proxy) (es fs : List ContactEntry) → AreAscending number_of (merged number_of es fs) → old_ones moved pairs ps (merged number_of es fs) ≡ merged number_of (old_ones moved pairs ps es) (old_ones moved pairs ps fs)
 kept_both moved pairs ps es fs r =
     ap (map (again ps)) (filter_merged number_of (stays moved pairs ps) es fs r) ∙ map_merged number_of number_of (again ps) (λ e. ap key_number (again_key ps e)) (staying moved pairs ps es) (staying moved pairs ps fs)
 
 -- the keys of the fresh ones are none of those that there were
-new_apart : (moved : ℕ → Bool) (pairs : List ℕ) (ps : List Proxy) (old es : List ContactEntry) (pick : ContactEntry → Option ContactKey) → PicksKeys pick → ((n : ℕ) → IsIn n (map number_of es) → IsIn n (map number_of old)) → (n : ℕ) → IsIn n (map key_number (filter_map (key_if_new None) (new_ones moved pairs ps old))) → IsIn n (map key_number (filter_map pick es)) → ⊥
+new_apart : (moved : ℕ → Bool) (pairs : List BodyPair) (ps : List Proxy) (old es : List ContactEntry) (pick : ContactEntry → Option ContactKey) → PicksKeys pick → ((n : ℕ) → IsIn n (map number_of es) → IsIn n (map number_of old)) → (n : ℕ) → IsIn n (map key_number (filter_map (key_if_new None) (new_ones moved pairs ps old))) → IsIn n (map key_number (filter_map pick es)) → ⊥
 new_apart moved pairs ps old es pick f among n i j =
     fresh_not_among moved pairs ps old n (picked_number (key_if_new None) (new_picks None) n (new_ones moved pairs ps old) i) (among n (picked_number pick f n es j))
 
@@ -170,16 +173,16 @@ pub record AreBothAscending (long_begin long_end short_begin short_end : List Co
 pub new_keys_ascend : (new : List ContactEntry) (keys : List ContactKey) → AreKeysRising new → keys ≡ filter_map (key_if_new None) new → AreAscending key_number keys
 new_keys_ascend new keys rises is = subst (AreAscending key_number) (sym is) (increasing_ascends key_number (filter_map (key_if_new None) new) (picked_rise (key_if_new None) (new_picks None) new rises))
 
-pub fresh_rises : (moved : ℕ → Bool) (pairs : List ℕ) (ps : List Proxy) (old new : List ContactEntry) → IsProxyList ps → new ≡ new_ones moved pairs ps old → AreKeysRising new
+pub fresh_rises : (moved : ℕ → Bool) (pairs : List BodyPair) (ps : List Proxy) (old new : List ContactEntry) → IsProxyList ps → new ≡ new_ones moved pairs ps old → AreKeysRising new
 fresh_rises moved pairs ps old new list made = subst AreKeysRising (sym made) (increasing_from_rising (map number_of (new_ones moved pairs ps old)) (new_rise moved pairs ps old list))
 
-short_begin_rises : (moved : ℕ → Bool) (pairs : List ℕ) (ps : List Proxy) (s : Split) → IsProxyList ps → AreContacts s.short → IsRising (map key_number (merged key_number (filter_map (key_if_new None) (new_ones moved pairs ps (contacts_in s))) (begun_keys moved pairs ps s.short)))
+short_begin_rises : (moved : ℕ → Bool) (pairs : List BodyPair) (ps : List Proxy) (s : Split) → IsProxyList ps → AreContacts s.short → IsRising (map key_number (merged key_number (filter_map (key_if_new None) (new_ones moved pairs ps (contacts_in s))) (begun_keys moved pairs ps s.short)))
 short_begin_rises moved pairs ps s list are =
     merged_rises key_number (filter_map (key_if_new None) (new_ones moved pairs ps (contacts_in s))) (begun_keys moved pairs ps s.short) (picked_rising (key_if_new None) (new_picks None) (new_ones moved pairs ps (contacts_in s)) (new_rise moved pairs ps (contacts_in s) list))
     (picked_rising (λ e. key_if_begun e (outcome moved pairs ps e)) (begun_picks moved pairs ps) s.short (rising_from_increasing (map number_of s.short) are.rising))
     (new_apart moved pairs ps (contacts_in s) s.short (λ e. key_if_begun e (outcome moved pairs ps e)) (begun_picks moved pairs ps) (λ n i. second_has n (counting s.over s.long) s.short i))
 
-pub touches_ascend : (moved : ℕ → Bool) (pairs : List ℕ) (ps : List Proxy) (s : Split) (notes : List Renewal) (ends : List ℕ) (new all : List ContactEntry) (long_begin long_end short_begin short_end : List ContactKey) → IsProxyList ps → AreContacts s.long → AreContacts s.short → new ≡ new_ones moved pairs ps (contacts_in s)
+pub touches_ascend : (moved : ℕ → Bool) (pairs : List BodyPair) (ps : List Proxy) (s : Split) (notes : List Renewal) (ends : List ℕ) (new all : List ContactEntry) (long_begin long_end short_begin short_end : List ContactKey) → IsProxyList ps → AreContacts s.long → AreContacts s.short → new ≡ new_ones moved pairs ps (contacts_in s)
     → IsLookedOver moved pairs ps s notes ends long_begin long_end → IsRebuilt moved pairs ps s.short new all short_begin short_end → AreBothAscending long_begin long_end short_begin short_end
 touches_ascend moved pairs ps s notes ends new all long_begin long_end short_begin short_end list long short made looked rebuilt =
     let begin : ContactEntry → Option ContactKey = λ e. key_if_begun e (outcome moved pairs ps e) in
@@ -197,7 +200,7 @@ touches_ascend moved pairs ps s notes ends new all long_begin long_end short_beg
 -- ---- both lists together
 
 -- all that is said of what is due, and of which contacts begin and end to touch
-pub record IsDone (pairs : List ℕ) (ps : List Proxy) (s : Split) (notes : List Renewal) (ends : List ℕ) (short : Option (List ContactEntry)) (begin end : List ContactKey) : Type 0 where
+pub record IsDone (pairs : List BodyPair) (ps : List Proxy) (s : Split) (notes : List Renewal) (ends : List ℕ) (short : Option (List ContactEntry)) (begin end : List ContactKey) : Type 0 where
   pub short_is : ForSome short (λ es. AreContacts es)
   pub contacts : AreContacts (contacts_in (carried notes ends short s))
   pub made : IsMade pairs ps (contacts_in s) (contacts_in (carried notes ends short s)) begin end
@@ -226,7 +229,7 @@ short_kept : (short : Option (List ContactEntry)) (es fs : List ContactEntry) �
 short_kept None es fs are = λ x h. cc
 short_kept (Some l) es fs are = λ x h. subst AreContacts (some_is l x h) (second_contacts es l are)
 
-now_by : (moved : ℕ → Bool) (pairs : List ℕ) (ps : List Proxy) (s : Split) (notes : List Renewal) (ends : List ℕ) (short : Option (List ContactEntry)) (new all : List ContactEntry) (long_begin long_end short_begin short_end : List ContactKey) → AreContacts (contacts_in s) → IsLookedOver moved pairs ps s notes ends long_begin long_end
+now_by : (moved : ℕ → Bool) (pairs : List BodyPair) (ps : List Proxy) (s : Split) (notes : List Renewal) (ends : List ℕ) (short : Option (List ContactEntry)) (new all : List ContactEntry) (long_begin long_end short_begin short_end : List ContactKey) → AreContacts (contacts_in s) → IsLookedOver moved pairs ps s notes ends long_begin long_end
     → IsRebuilt moved pairs ps s.short new all short_begin short_end → or_kept short s.short ≡ all → contacts_in (carried notes ends short s) ≡ merged number_of (old_ones moved pairs ps (contacts_in s)) new
 now_by moved pairs ps s notes ends short new all long_begin long_end short_begin short_end are looked rebuilt so =
     let long : List ContactEntry = old_ones moved pairs ps (counting s.over s.long) in
@@ -235,7 +238,7 @@ now_by moved pairs ps s notes ends short new all long_begin long_end short_begin
     ∙ sym (merged_assoc number_of long (old_ones moved pairs ps s.short) new)
     ∙ ap (λ (l : List ContactEntry). merged number_of l new) (sym (kept_both moved pairs ps (counting s.over s.long) s.short (keys_later (contacts_in s) are.rising)))
 
-begin_by : (moved : ℕ → Bool) (pairs : List ℕ) (ps : List Proxy) (s : Split) (notes : List Renewal) (ends : List ℕ) (new all : List ContactEntry) (long_begin long_end short_begin short_end begin : List ContactKey) → AreContacts (contacts_in s) → new ≡ new_ones moved pairs ps (contacts_in s) → IsLookedOver moved pairs ps s notes ends long_begin long_end
+begin_by : (moved : ℕ → Bool) (pairs : List BodyPair) (ps : List Proxy) (s : Split) (notes : List Renewal) (ends : List ℕ) (new all : List ContactEntry) (long_begin long_end short_begin short_end begin : List ContactKey) → AreContacts (contacts_in s) → new ≡ new_ones moved pairs ps (contacts_in s) → IsLookedOver moved pairs ps s notes ends long_begin long_end
     → IsRebuilt moved pairs ps s.short new all short_begin short_end → begin ≡ merged key_number long_begin short_begin → begin ≡ merged key_number (filter_map (key_if_new None) new) (begun_keys moved pairs ps (contacts_in s))
 begin_by moved pairs ps s notes ends new all long_begin long_end short_begin short_end begin are made looked rebuilt is =
     let pick : ContactEntry → Option ContactKey = λ e. key_if_begun e (outcome moved pairs ps e) in
@@ -250,7 +253,7 @@ begin_by moved pairs ps s notes ends new all long_begin long_end short_begin sho
     ∙ ap (merged key_number fresh_keys) (sym (picked_both pick (begun_picks moved pairs ps) (counting s.over s.long) s.short (keys_later (contacts_in s) are.rising)))
     ∙ ap (λ (l : List ContactKey). merged key_number l (begun_keys moved pairs ps (contacts_in s))) (sym same)
 
-end_by : (moved : ℕ → Bool) (pairs : List ℕ) (ps : List Proxy) (s : Split) (notes : List Renewal) (ends : List ℕ) (new all : List ContactEntry) (long_begin long_end short_begin short_end end : List ContactKey) → AreContacts (contacts_in s) → IsLookedOver moved pairs ps s notes ends long_begin long_end → IsRebuilt moved pairs ps s.short new all short_begin short_end → end ≡ merged key_number long_end short_end
+end_by : (moved : ℕ → Bool) (pairs : List BodyPair) (ps : List Proxy) (s : Split) (notes : List Renewal) (ends : List ℕ) (new all : List ContactEntry) (long_begin long_end short_begin short_end end : List ContactKey) → AreContacts (contacts_in s) → IsLookedOver moved pairs ps s notes ends long_begin long_end → IsRebuilt moved pairs ps s.short new all short_begin short_end → end ≡ merged key_number long_end short_end
     → end ≡ ended_keys moved pairs ps (contacts_in s)
 end_by moved pairs ps s notes ends new all long_begin long_end short_begin short_end end are looked rebuilt is =
     let pick : ContactEntry → Option ContactKey = λ e. key_if_new (outcome moved pairs ps e) e in
@@ -259,7 +262,7 @@ end_by moved pairs ps s notes ends new all long_begin long_end short_begin short
     ∙ ap (merged key_number (ended_keys moved pairs ps (counting s.over s.long))) rebuilt.end_is
     ∙ sym (picked_both pick (ended_picks moved pairs ps) (counting s.over s.long) s.short (keys_later (contacts_in s) are.rising))
 
-pub done_both : (moved : ℕ → Bool) (pairs : List ℕ) (ps : List Proxy) (s : Split) (notes : List Renewal) (ends : List ℕ) (short : Option (List ContactEntry)) (new all : List ContactEntry) (long_begin long_end short_begin short_end begin end : List ContactKey) → IsProxyList ps → AreContacts (contacts_in s) → IsKnown moved pairs ps (contacts_in s) → new ≡ new_ones moved pairs ps (contacts_in s)
+pub done_both : (moved : ℕ → Bool) (pairs : List BodyPair) (ps : List Proxy) (s : Split) (notes : List Renewal) (ends : List ℕ) (short : Option (List ContactEntry)) (new all : List ContactEntry) (long_begin long_end short_begin short_end begin end : List ContactKey) → IsProxyList ps → AreContacts (contacts_in s) → IsKnown moved pairs ps (contacts_in s) → new ≡ new_ones moved pairs ps (contacts_in s)
     → IsLookedOver moved pairs ps s notes ends long_begin long_end → IsRebuilt moved pairs ps s.short new all short_begin short_end → or_kept short s.short ≡ all → begin ≡ merged key_number long_begin short_begin → end ≡ merged key_number long_end short_end → IsDone pairs ps s notes ends short begin end
 done_both moved pairs ps s notes ends short new all long_begin long_end short_begin short_end begin end list are known made looked rebuilt so begins finishes =
     let old : List ContactEntry = contacts_in s in
@@ -270,16 +273,17 @@ done_both moved pairs ps s notes ends short new all long_begin long_end short_be
     begin_from moved pairs ps old new (filter_map (key_if_new None) new) (begun_keys moved pairs ps old) begin list are.rising known made refl refl (begin_by moved pairs ps s notes ends new all long_begin long_end short_begin short_end begin are made looked rebuilt begins) in
     let end_is : end ≡ keys_touching_only_in (contacts_of old ps (allowed_codes pairs ps)) old =
     end_by moved pairs ps s notes ends new all long_begin long_end short_begin short_end end are looked rebuilt finishes ∙ ended_is moved pairs ps old list are.rising known in
+    let same : contacts_of old ps (allowed_codes pairs ps) ≡ contacts_between pairs ps old = sym (contacts_by_codes-holds pairs ps old list) in
     record {
       short_is = short_kept short (counting (over_at ends s.over) (renewed notes s.long)) s.short all_are;
       contacts = all_are;
-      made = record { now_is = now; begin_is = begin_is; end_is = end_is };
+      made = record { now_is = now ∙ same; begin_is = begin_is ∙ ap (λ (es : List ContactEntry). keys_touching_only_in old es) same; end_is = end_is ∙ ap (λ (es : List ContactEntry). keys_touching_only_in es old) same };
       begin_rises = begin_rises pairs ps old begin list begin_is;
       end_rises = end_rises pairs ps old end are.rising end_is;
     }
 
 -- the short list stays as it is: the keys are those of the long one
-pub done_long : (moved : ℕ → Bool) (pairs : List ℕ) (ps : List Proxy) (s : Split) (notes : List Renewal) (ends : List ℕ) (new : List ContactEntry) (begin end : List ContactKey) → IsProxyList ps → AreContacts s.long → AreContacts s.short → AreContacts (contacts_in s) → IsKnown moved pairs ps (contacts_in s) → new ≡ new_ones moved pairs ps (contacts_in s)
+pub done_long : (moved : ℕ → Bool) (pairs : List BodyPair) (ps : List Proxy) (s : Split) (notes : List Renewal) (ends : List ℕ) (new : List ContactEntry) (begin end : List ContactKey) → IsProxyList ps → AreContacts s.long → AreContacts s.short → AreContacts (contacts_in s) → IsKnown moved pairs ps (contacts_in s) → new ≡ new_ones moved pairs ps (contacts_in s)
     → IsLookedOver moved pairs ps s notes ends begin end → IsRebuilt moved pairs ps s.short new s.short [] [] → IsDone pairs ps s notes ends None begin end
 done_long moved pairs ps s notes ends new begin end list long short are known made looked rebuilt =
     let rise : AreBothAscending begin end [] [] = touches_ascend moved pairs ps s notes ends new s.short begin end [] [] list long short made looked rebuilt in
@@ -291,28 +295,28 @@ still_by : (t : Bool) (ps : List Proxy) (e : ContactEntry) (es fs : List Contact
 still_by true ps e es fs h k = cc
 still_by false ps e es fs h k = cc
 
-abbrev AreStill : (ℕ → Bool) → List ℕ → List Proxy → List ContactEntry → Type 0
+abbrev AreStill : (ℕ → Bool) → List BodyPair → List Proxy → List ContactEntry → Type 0
 AreStill moved pairs ps es = Each (λ e. outcome moved pairs ps e ≡ Some e) es
 
-still_stay : (moved : ℕ → Bool) (pairs : List ℕ) (ps : List Proxy) (es : List ContactEntry) → AreStill moved pairs ps es → old_ones moved pairs ps es ≡ es
+still_stay : (moved : ℕ → Bool) (pairs : List BodyPair) (ps : List Proxy) (es : List ContactEntry) → AreStill moved pairs ps es → old_ones moved pairs ps es ≡ es
 still_stay moved pairs ps [] h = refl
 still_stay moved pairs ps (e ∷ es) h = still_by (stays moved pairs ps e) ps e es (staying moved pairs ps es) h.0 (still_stay moved pairs ps es h.1)
 
-none_begin : (moved : ℕ → Bool) (pairs : List ℕ) (ps : List Proxy) (es : List ContactEntry) → AreStill moved pairs ps es → [] ≡ begun_keys moved pairs ps es
+none_begin : (moved : ℕ → Bool) (pairs : List BodyPair) (ps : List Proxy) (es : List ContactEntry) → AreStill moved pairs ps es → [] ≡ begun_keys moved pairs ps es
 none_begin moved pairs ps [] h = refl
 none_begin moved pairs ps (e ∷ es) h = none_begin moved pairs ps es h.1 ∙ ap (λ (o : Option ContactKey). cons_option o (begun_keys moved pairs ps es)) (none_new e ∙ ap (key_if_begun e) (sym h.0))
 
-none_end : (moved : ℕ → Bool) (pairs : List ℕ) (ps : List Proxy) (es : List ContactEntry) → AreStill moved pairs ps es → [] ≡ ended_keys moved pairs ps es
+none_end : (moved : ℕ → Bool) (pairs : List BodyPair) (ps : List Proxy) (es : List ContactEntry) → AreStill moved pairs ps es → [] ≡ ended_keys moved pairs ps es
 none_end moved pairs ps [] h = refl
 none_end moved pairs ps (e ∷ es) h = none_end moved pairs ps es h.1 ∙ ap (λ (o : Option ContactKey). cons_option o (ended_keys moved pairs ps es)) (none_new e ∙ ap (λ (o : Option ContactEntry). key_if_new o e) (sym h.0))
 
-quiet_still : (flags marks : List Bool) (pairs : List ℕ) (ps : List Proxy) (es : List ContactEntry) → AreQuiet flags marks ps → All (λ e. IsPairKey e.key) es → All (λ e. one_flagged flags e ≡ false) es → AreStill (moved_by marks) pairs ps es
+quiet_still : (flags marks : List Bool) (pairs : List BodyPair) (ps : List Proxy) (es : List ContactEntry) → AreQuiet flags marks ps → All (λ e. IsPairKey e.key) es → All (λ e. one_flagged flags e ≡ false) es → AreStill (moved_by marks) pairs ps es
 quiet_still flags marks pairs ps [] quiet keys off = tt
 quiet_still flags marks pairs ps (e ∷ es) quiet keys off =
     let both = quiet e (keys 0 e (omega arith)) (off 0 e (omega arith)) in
     (quiet_outcome (moved_by marks) pairs ps e both.0 both.1, quiet_still flags marks pairs ps es quiet (λ k d lt. keys (suc k) d (omega (arith, lt))) (λ k d lt. off (suc k) d (omega (arith, lt))))
 
-pub short_stays : (flags marks : List Bool) (pairs : List ℕ) (ps : List Proxy) (short new : List ContactEntry) → AreQuiet flags marks ps → AreContacts short → All (λ e. IsPairKey e.key) short → All (λ e. one_flagged flags e ≡ false) short → new ≡ [] → IsRebuilt (moved_by marks) pairs ps short new short [] []
+pub short_stays : (flags marks : List Bool) (pairs : List BodyPair) (ps : List Proxy) (short new : List ContactEntry) → AreQuiet flags marks ps → AreContacts short → All (λ e. IsPairKey e.key) short → All (λ e. one_flagged flags e ≡ false) short → new ≡ [] → IsRebuilt (moved_by marks) pairs ps short new short [] []
 short_stays flags marks pairs ps short new quiet are keys off none =
     let still : AreStill (moved_by marks) pairs ps short = quiet_still flags marks pairs ps short quiet keys off in
     record {
@@ -335,13 +339,13 @@ short_pairs s all =
 
 -- ---- as the code has them
 
-pub rebuilt_none : (moved : ℕ → Bool) (pairs : List ℕ) (ps : List Proxy) (short same new : List ContactEntry) (o : Option Rebuilt) → same ≡ short → o ≡ None → IsRebuiltIf moved pairs ps same new o → IsRebuilt moved pairs ps short new short [] []
+pub rebuilt_none : (moved : ℕ → Bool) (pairs : List BodyPair) (ps : List Proxy) (short same new : List ContactEntry) (o : Option Rebuilt) → same ≡ short → o ≡ None → IsRebuiltIf moved pairs ps same new o → IsRebuilt moved pairs ps short new short [] []
 rebuilt_none moved pairs ps short same new o is none h = subst (λ (l : List ContactEntry). IsRebuilt moved pairs ps l new l [] []) is (subst (IsRebuiltIf moved pairs ps same new) none h)
 
-pub rebuilt_some : (moved : ℕ → Bool) (pairs : List ℕ) (ps : List Proxy) (short same new : List ContactEntry) (o : Option Rebuilt) (r : Rebuilt) → same ≡ short → o ≡ Some r → IsRebuiltIf moved pairs ps same new o → IsRebuilt moved pairs ps short new r.all.items r.touches.begin.items r.touches.end.items
+pub rebuilt_some : (moved : ℕ → Bool) (pairs : List BodyPair) (ps : List Proxy) (short same new : List ContactEntry) (o : Option Rebuilt) (r : Rebuilt) → same ≡ short → o ≡ Some r → IsRebuiltIf moved pairs ps same new o → IsRebuilt moved pairs ps short new r.all.items r.touches.begin.items r.touches.end.items
 rebuilt_some moved pairs ps short same new o r is some h = subst (λ (l : List ContactEntry). IsRebuilt moved pairs ps l new r.all.items r.touches.begin.items r.touches.end.items) is (subst (IsRebuiltIf moved pairs ps same new) some h)
 
-pub due_from : (pairs : List ℕ) (ps : List Proxy) (d : Due) (s : Split) (begin end : List ContactKey) → d.any ≡ true → IsDone pairs ps s d.notes.items d.ends.items (option_map (λ es. es.items) d.short) begin end → IsDue d s
+pub due_from : (pairs : List BodyPair) (ps : List Proxy) (d : Due) (s : Split) (begin end : List ContactKey) → d.any ≡ true → IsDone pairs ps s d.notes.items d.ends.items (option_map (λ es. es.items) d.short) begin end → IsDue d s
 due_from pairs ps d s begin end any done = record {
   short = for_some_map (λ es. es.items) (λ es. AreContacts es) d.short done.short_is;
   contacts = done.contacts;

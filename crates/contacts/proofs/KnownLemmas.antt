@@ -8,6 +8,7 @@ use Rattle.contacts_base.specs.declared.contact.ContactEntry.{ContactEntry}
 use Rattle.contacts_base.specs.Keys.{id_number, key_number}
 use Rattle.contacts_base.specs.Near.{IsProxy, IsProxyList, is_near, pair_code, near_codes, number_of}
 use Rattle.contacts_base.specs.Contacts.{lookup, number_of as entry_number}
+use Rattle.contacts.specs.declared.forbidden.BodyPair.{BodyPair}
 use Rattle.contacts.specs.Pairs.{proxy_at, key_of, pair_key, first_place, second_place}
 use Rattle.contacts.specs.Changes.{entry_of, entry_with, entry_at, contacts_of}
 use Rattle.contacts.specs.Forbidden.{is_forbidden, is_allowed, allowed_codes}
@@ -108,11 +109,11 @@ second_so true t h = h
 second_so false t h = cc
 
 -- a near pair's code has its shapes' key
-pub record IsNearKey (pairs : List ℕ) (ps : List Proxy) (k : ContactKey) : Type 0 where
+pub record IsNearKey (pairs : List BodyPair) (ps : List Proxy) (k : ContactKey) : Type 0 where
   pub pair : IsPairKey k
   pub near : near_key pairs ps k ≡ true
 
-near_key_at : (pairs : List ℕ) (ps : List Proxy) (i j : ℕ) → IsProxyList ps → i < j → j < length ps → may_touch pairs (proxy_at ps i) (proxy_at ps j) ≡ true → IsNearKey pairs ps (key_of (proxy_at ps i) (proxy_at ps j))
+near_key_at : (pairs : List BodyPair) (ps : List Proxy) (i j : ℕ) → IsProxyList ps → i < j → j < length ps → may_touch pairs (proxy_at ps i) (proxy_at ps j) ≡ true → IsNearKey pairs ps (key_of (proxy_at ps i) (proxy_at ps j))
 near_key_at pairs ps i j list b w h =
     let rising : IsRising (map number_of ps) = rising_from_increasing (map number_of ps) list.rising in
     let p : IsProxy (proxy_at ps i) = list.each i _ (omega arith) in
@@ -126,7 +127,7 @@ pub code_places : (i j c : ℕ) → j < 2 ^ 32 → c ≡ pair_code i j → (firs
 code_places i j c lt e = (omega arith, omega arith)
 
 -- a code of a pair that may touch: where its shapes stand
-pub record IsAllowedFrom (pairs : List ℕ) (ps : List Proxy) (c : ℕ) : Type 0 where
+pub record IsAllowedFrom (pairs : List BodyPair) (ps : List Proxy) (c : ℕ) : Type 0 where
   pub i : ℕ
   pub j : ℕ
   pub before : i < j
@@ -135,14 +136,14 @@ pub record IsAllowedFrom (pairs : List ℕ) (ps : List Proxy) (c : ℕ) : Type 0
   pub second : second_place c ≡ j
   pub touch : may_touch pairs (proxy_at ps i) (proxy_at ps j) ≡ true
 
-allowed_at : (pairs : List ℕ) (ps : List Proxy) (i j a b : ℕ) → a ≡ i → b ≡ j → not (is_forbidden pairs (proxy_at ps a) (proxy_at ps b)) ≡ true → not (is_forbidden pairs (proxy_at ps i) (proxy_at ps j)) ≡ true
+allowed_at : (pairs : List BodyPair) (ps : List Proxy) (i j a b : ℕ) → a ≡ i → b ≡ j → not (is_forbidden pairs (proxy_at ps a) (proxy_at ps b)) ≡ true → not (is_forbidden pairs (proxy_at ps i) (proxy_at ps j)) ≡ true
 allowed_at pairs ps i j a b p q h = rw (← p, ← q) h
 
 near_place : (ps : List Proxy) (c : ℕ) → IsIn c (near_codes ps) → IsNearFrom 0 ps c
 unfolding near_codes
 near_place ps c h = from_is 0 ps c h
 
-pub in_codes : (pairs : List ℕ) (ps : List Proxy) (c : ℕ) → IsProxyList ps → IsIn c (allowed_codes pairs ps) → IsAllowedFrom pairs ps c
+pub in_codes : (pairs : List BodyPair) (ps : List Proxy) (c : ℕ) → IsProxyList ps → IsIn c (allowed_codes pairs ps) → IsAllowedFrom pairs ps c
 in_codes pairs ps c list h =
     let f : IsIn c (near_codes ps) × (is_allowed pairs ps c ≡ true) = filter_in (is_allowed pairs ps) c (near_codes ps) h in
     let n : IsNearFrom 0 ps c = near_place ps c f.0 in
@@ -159,13 +160,13 @@ in_codes pairs ps c list h =
       touch = both_so (is_near (proxy_at ps n.i) (proxy_at ps n.j)) (not (is_forbidden pairs (proxy_at ps n.i) (proxy_at ps n.j))) n.near (allowed_at pairs ps n.i n.j (first_place c) (second_place c) at.0 at.1 f.1);
     }
 
-pub code_near : (pairs : List ℕ) (ps : List Proxy) (c : ℕ) → IsProxyList ps → IsIn c (allowed_codes pairs ps) → IsNearKey pairs ps (pair_key ps c)
+pub code_near : (pairs : List BodyPair) (ps : List Proxy) (c : ℕ) → IsProxyList ps → IsIn c (allowed_codes pairs ps) → IsNearKey pairs ps (pair_key ps c)
 code_near pairs ps c list h =
     let n : IsAllowedFrom pairs ps c = in_codes pairs ps c list h in
     rw (n.first, n.second) (near_key_at pairs ps n.i n.j list n.before n.within n.touch)
 
 -- the code of two near shapes, by the number of their key
-pub record IsCodeOf (pairs : List ℕ) (ps : List Proxy) (k : ContactKey) : Type 0 where
+pub record IsCodeOf (pairs : List BodyPair) (ps : List Proxy) (k : ContactKey) : Type 0 where
   pub code : ℕ
   pub among : IsIn code (allowed_codes pairs ps)
   pub number : code_number ps code ≡ key_number k
@@ -176,7 +177,7 @@ near_have : (ps : List Proxy) (i j : ℕ) → i < j → j < length ps → is_nea
 unfolding near_codes
 near_have ps i j b w h = from_has 0 ps i j (pair_code i j) b w h (omega arith)
 
-codes_have : (pairs : List ℕ) (ps : List Proxy) (i j : ℕ) → i < j → j < length ps → first_place (pair_code i j) ≡ i → second_place (pair_code i j) ≡ j → may_touch pairs (proxy_at ps i) (proxy_at ps j) ≡ true → IsIn (pair_code i j) (allowed_codes pairs ps)
+codes_have : (pairs : List BodyPair) (ps : List Proxy) (i j : ℕ) → i < j → j < length ps → first_place (pair_code i j) ≡ i → second_place (pair_code i j) ≡ j → may_touch pairs (proxy_at ps i) (proxy_at ps j) ≡ true → IsIn (pair_code i j) (allowed_codes pairs ps)
 codes_have pairs ps i j b w first second h =
     let near : is_near (proxy_at ps i) (proxy_at ps j) ≡ true = first_so _ _ h in
     let free : not (is_forbidden pairs (proxy_at ps i) (proxy_at ps j)) ≡ true = second_so (is_near (proxy_at ps i) (proxy_at ps j)) _ h in
@@ -188,7 +189,7 @@ in_order_from ps i j list wi wj h =
     let not_same : j ≡ i → ⊥ = λ e. let l : number_of (proxy_at ps i) < number_of (proxy_at ps i) = rw e at h in omega arith in
     omega (arith, not_after, not_same)
 
-code_at : (pairs : List ℕ) (ps : List Proxy) (k : ContactKey) (i j : ℕ) → IsProxyList ps → IsPairKey k → i < length ps → j < length ps → number_of (proxy_at ps i) ≡ id_number k.first → number_of (proxy_at ps j) ≡ id_number k.second → may_touch pairs (proxy_at ps i) (proxy_at ps j) ≡ true → IsCodeOf pairs ps k
+code_at : (pairs : List BodyPair) (ps : List Proxy) (k : ContactKey) (i j : ℕ) → IsProxyList ps → IsPairKey k → i < length ps → j < length ps → number_of (proxy_at ps i) ≡ id_number k.first → number_of (proxy_at ps j) ≡ id_number k.second → may_touch pairs (proxy_at ps i) (proxy_at ps j) ≡ true → IsCodeOf pairs ps k
 code_at pairs ps k i j list pair wi wj a b h =
     let most : length ps ≤ 2 ^ 20 = let l = few ps list in omega arith in
     let up : number_of (proxy_at ps i) < number_of (proxy_at ps j) = omega (arith, pair.before) in
@@ -198,7 +199,7 @@ code_at pairs ps k i j list pair wi wj a b h =
     let second : id_number (pair_key ps (pair_code i j)).second ≡ id_number k.second = rw at.1 b in
     record { code = pair_code i j; among = codes_have pairs ps i j before wj at.0 at.1 h; number = omega arith; first = first; second = second }
 
-code_found : (pairs : List ℕ) (ps : List Proxy) (k : ContactKey) (o r : Option Proxy) → IsProxyList ps → IsPairKey k → found ps (id_number k.first) ≡ o → found ps (id_number k.second) ≡ r → both_near pairs o r ≡ true → IsCodeOf pairs ps k
+code_found : (pairs : List BodyPair) (ps : List Proxy) (k : ContactKey) (o r : Option Proxy) → IsProxyList ps → IsPairKey k → found ps (id_number k.first) ≡ o → found ps (id_number k.second) ≡ r → both_near pairs o r ≡ true → IsCodeOf pairs ps k
 code_found pairs ps k None r list pair a b h = cc
 code_found pairs ps k (Some p) None list pair a b h = cc
 code_found pairs ps k (Some p) (Some q) list pair a b h =
@@ -206,7 +207,7 @@ code_found pairs ps k (Some p) (Some q) list pair a b h =
     let j : IsPlace ps (id_number k.second) q = place_of ps (id_number k.second) q b in
     code_at pairs ps k i.i j.i list pair i.within j.within (rw i.is i.number) (rw j.is j.number) (rw (i.is, j.is) h)
 
-pub near_code : (pairs : List ℕ) (ps : List Proxy) (k : ContactKey) → IsProxyList ps → IsPairKey k → near_key pairs ps k ≡ true → IsCodeOf pairs ps k
+pub near_code : (pairs : List BodyPair) (ps : List Proxy) (k : ContactKey) → IsProxyList ps → IsPairKey k → near_key pairs ps k ≡ true → IsCodeOf pairs ps k
 near_code pairs ps k list pair h = code_found pairs ps k (found ps (id_number k.first)) (found ps (id_number k.second)) list pair refl refl h
 
 -- ---- contacts by the numbers of their keys
@@ -249,11 +250,11 @@ pub each_from_all : (es : List ContactEntry) → All (λ e. IsPairKey e.key) es 
 each_from_all [] h = tt
 each_from_all (e ∷ es) h = (h 0 e (omega arith), each_from_all es (λ k d lt. h (suc k) d (omega arith)))
 
-pub stays_as : (moved : ℕ → Bool) (pairs : List ℕ) (ps : List Proxy) (e : ContactEntry) → near_key pairs ps e.key ≡ true → stays moved pairs ps e ≡ true
+pub stays_as : (moved : ℕ → Bool) (pairs : List BodyPair) (ps : List Proxy) (e : ContactEntry) → near_key pairs ps e.key ≡ true → stays moved pairs ps e ≡ true
 stays_as moved pairs ps e h = rw h (both_true (either_moved moved e.key))
 
 -- a near key with a contact is one of those that stay
-near_stays : (moved : ℕ → Bool) (pairs : List ℕ) (ps : List Proxy) (old : List ContactEntry) (k : ContactKey) → IsKnown moved pairs ps old → IsPairKey k → near_key pairs ps k ≡ true → has_key old k ≡ true → IsIn (key_number k) (map entry_number (staying moved pairs ps old))
+near_stays : (moved : ℕ → Bool) (pairs : List BodyPair) (ps : List Proxy) (old : List ContactEntry) (k : ContactKey) → IsKnown moved pairs ps old → IsPairKey k → near_key pairs ps k ≡ true → has_key old k ≡ true → IsIn (key_number k) (map entry_number (staying moved pairs ps old))
 near_stays moved pairs ps old k known pair near has =
     let m : IsImage entry_number (key_number k) old = map_in entry_number (key_number k) old (key_in old k has) in
     let e : ContactEntry = m.from in
@@ -263,30 +264,30 @@ near_stays moved pairs ps old k known pair near has =
     rw (m.is) (in_map entry_number e (staying moved pairs ps old) (in_filter (stays moved pairs ps) e old m.among (stays_as moved pairs ps e there)))
 
 -- a near key without a contact is of shapes of which one has moved
-by_contact : (moved : ℕ → Bool) (pairs : List ℕ) (ps : List Proxy) (old : List ContactEntry) (c : ℕ) (t : Bool) → IsProxyList ps → IsKnown moved pairs ps old → IsIn c (allowed_codes pairs ps) → has_key old (pair_key ps c) ≡ t → IsIn (code_number ps c) (map entry_number (staying moved pairs ps old)) ⊎ IsIn (code_number ps c) (map (code_number ps) (fresh moved pairs ps old))
+by_contact : (moved : ℕ → Bool) (pairs : List BodyPair) (ps : List Proxy) (old : List ContactEntry) (c : ℕ) (t : Bool) → IsProxyList ps → IsKnown moved pairs ps old → IsIn c (allowed_codes pairs ps) → has_key old (pair_key ps c) ≡ t → IsIn (code_number ps c) (map entry_number (staying moved pairs ps old)) ⊎ IsIn (code_number ps c) (map (code_number ps) (fresh moved pairs ps old))
 by_contact moved pairs ps old c true list known i h = let n : IsNearKey pairs ps (pair_key ps c) = code_near pairs ps c list i in inl (near_stays moved pairs ps old (pair_key ps c) known n.pair n.near h)
 by_contact moved pairs ps old c false list known i h =
     let n : IsNearKey pairs ps (pair_key ps c) = code_near pairs ps c list i in
     let gone : either_moved moved (pair_key ps c) ≡ true = moved_if (either_moved moved (pair_key ps c)) (λ s. sym n.near ∙ known.still (pair_key ps c) n.pair s ∙ h) in
     inr (in_map (code_number ps) c (fresh moved pairs ps old) (in_filter (is_fresh moved ps old) c (allowed_codes pairs ps) i (rw (gone, h) refl)))
 
-pub near_in_parts : (moved : ℕ → Bool) (pairs : List ℕ) (ps : List Proxy) (old : List ContactEntry) (n : ℕ) → IsProxyList ps → IsKnown moved pairs ps old → IsIn n (map (code_number ps) (allowed_codes pairs ps)) → IsIn n (map entry_number (staying moved pairs ps old)) ⊎ IsIn n (map (code_number ps) (fresh moved pairs ps old))
+pub near_in_parts : (moved : ℕ → Bool) (pairs : List BodyPair) (ps : List Proxy) (old : List ContactEntry) (n : ℕ) → IsProxyList ps → IsKnown moved pairs ps old → IsIn n (map (code_number ps) (allowed_codes pairs ps)) → IsIn n (map entry_number (staying moved pairs ps old)) ⊎ IsIn n (map (code_number ps) (fresh moved pairs ps old))
 near_in_parts moved pairs ps old n list known h =
     let m : IsImage (code_number ps) n (allowed_codes pairs ps) = map_in (code_number ps) n (allowed_codes pairs ps) h in
     rw m.is (by_contact moved pairs ps old m.from (has_key old (pair_key ps m.from)) list known m.among refl)
 
-pub stays_near : (moved : ℕ → Bool) (pairs : List ℕ) (ps : List Proxy) (e : ContactEntry) (t : Bool) → either_moved moved e.key ≡ t → (t ≡ false → near_key pairs ps e.key ≡ true) → cond t (near_key pairs ps e.key) true ≡ true → near_key pairs ps e.key ≡ true
+pub stays_near : (moved : ℕ → Bool) (pairs : List BodyPair) (ps : List Proxy) (e : ContactEntry) (t : Bool) → either_moved moved e.key ≡ t → (t ≡ false → near_key pairs ps e.key ≡ true) → cond t (near_key pairs ps e.key) true ≡ true → near_key pairs ps e.key ≡ true
 stays_near moved pairs ps e true q f h = h
 stays_near moved pairs ps e false q f h = f refl
 
-staying_near : (moved : ℕ → Bool) (pairs : List ℕ) (ps : List Proxy) (old : List ContactEntry) (e : ContactEntry) → IsProxyList ps → IsKnown moved pairs ps old → IsIn e old → stays moved pairs ps e ≡ true → IsIn (entry_number e) (map (code_number ps) (allowed_codes pairs ps))
+staying_near : (moved : ℕ → Bool) (pairs : List BodyPair) (ps : List Proxy) (old : List ContactEntry) (e : ContactEntry) → IsProxyList ps → IsKnown moved pairs ps old → IsIn e old → stays moved pairs ps e ≡ true → IsIn (entry_number e) (map (code_number ps) (allowed_codes pairs ps))
 staying_near moved pairs ps old e list known i h =
     let p : IsPairKey e.key = each_in (λ (f : ContactEntry). IsPairKey f.key) e old (each_from_all old known.keys) i in
     let near : near_key pairs ps e.key ≡ true = stays_near moved pairs ps e (either_moved moved e.key) refl (λ s. known.still e.key p s ∙ in_key old e.key (in_map entry_number e old i)) h in
     let c : IsCodeOf pairs ps e.key = near_code pairs ps e.key list p near in
     rw (← c.number) (in_map (code_number ps) c.code (allowed_codes pairs ps) c.among)
 
-pub parts_are_near : (moved : ℕ → Bool) (pairs : List ℕ) (ps : List Proxy) (old : List ContactEntry) (n : ℕ) → IsProxyList ps → IsKnown moved pairs ps old → IsIn n (map entry_number (staying moved pairs ps old)) ⊎ IsIn n (map (code_number ps) (fresh moved pairs ps old)) → IsIn n (map (code_number ps) (allowed_codes pairs ps))
+pub parts_are_near : (moved : ℕ → Bool) (pairs : List BodyPair) (ps : List Proxy) (old : List ContactEntry) (n : ℕ) → IsProxyList ps → IsKnown moved pairs ps old → IsIn n (map entry_number (staying moved pairs ps old)) ⊎ IsIn n (map (code_number ps) (fresh moved pairs ps old)) → IsIn n (map (code_number ps) (allowed_codes pairs ps))
 parts_are_near moved pairs ps old n list known h =
     elim h [
       | inl a ↦
@@ -313,23 +314,23 @@ same_truth true t f g = sym (f refl)
 same_truth false true f g = g refl
 same_truth false false f g = refl
 
-after_pairs : (pairs : List ℕ) (ps : List Proxy) (old : List ContactEntry) (e : ContactEntry) → IsProxyList ps → IsIn e (contacts_of old ps (allowed_codes pairs ps)) → IsPairKey e.key
+after_pairs : (pairs : List BodyPair) (ps : List Proxy) (old : List ContactEntry) (e : ContactEntry) → IsProxyList ps → IsIn e (contacts_of old ps (allowed_codes pairs ps)) → IsPairKey e.key
 after_pairs pairs ps old e list h =
     let m : IsImage (entry_at old ps) e (allowed_codes pairs ps) = map_in (entry_at old ps) e (allowed_codes pairs ps) h in
     let n : IsNearKey pairs ps (pair_key ps m.from) = code_near pairs ps m.from list m.among in
     subst IsPairKey (sym (ap (λ (f : ContactEntry). f.key) m.is ∙ key_of_entry old ps m.from)) n.pair
 
-near_has : (pairs : List ℕ) (ps : List Proxy) (old : List ContactEntry) (k : ContactKey) → IsProxyList ps → IsPairKey k → near_key pairs ps k ≡ true → has_key (contacts_of old ps (allowed_codes pairs ps)) k ≡ true
+near_has : (pairs : List BodyPair) (ps : List Proxy) (old : List ContactEntry) (k : ContactKey) → IsProxyList ps → IsPairKey k → near_key pairs ps k ≡ true → has_key (contacts_of old ps (allowed_codes pairs ps)) k ≡ true
 near_has pairs ps old k list pair h =
     let c : IsCodeOf pairs ps k = near_code pairs ps k list pair h in
     let e : entry_number (entry_at old ps c.code) ≡ key_number k = number_of_entry old ps c.code ∙ c.number in
     let there : IsIn (entry_number (entry_at old ps c.code)) (map entry_number (contacts_of old ps (allowed_codes pairs ps))) = in_map entry_number (entry_at old ps c.code) (contacts_of old ps (allowed_codes pairs ps)) (in_map (entry_at old ps) c.code (allowed_codes pairs ps) c.among) in
     in_key (contacts_of old ps (allowed_codes pairs ps)) k (subst (λ (n : ℕ). IsIn n (map entry_number (contacts_of old ps (allowed_codes pairs ps)))) e there)
 
-near_by_ids : (pairs : List ℕ) (ps : List Proxy) (k j : ContactKey) → id_number k.first ≡ id_number j.first → id_number k.second ≡ id_number j.second → near_key pairs ps k ≡ near_key pairs ps j
+near_by_ids : (pairs : List BodyPair) (ps : List Proxy) (k j : ContactKey) → id_number k.first ≡ id_number j.first → id_number k.second ≡ id_number j.second → near_key pairs ps k ≡ near_key pairs ps j
 near_by_ids pairs ps k j a b = rw (a, b) refl
 
-has_near : (pairs : List ℕ) (ps : List Proxy) (old : List ContactEntry) (k : ContactKey) → IsProxyList ps → IsPairKey k → has_key (contacts_of old ps (allowed_codes pairs ps)) k ≡ true → near_key pairs ps k ≡ true
+has_near : (pairs : List BodyPair) (ps : List Proxy) (old : List ContactEntry) (k : ContactKey) → IsProxyList ps → IsPairKey k → has_key (contacts_of old ps (allowed_codes pairs ps)) k ≡ true → near_key pairs ps k ≡ true
 has_near pairs ps old k list pair h =
     let m : IsImage entry_number (key_number k) (contacts_of old ps (allowed_codes pairs ps)) = map_in entry_number (key_number k) (contacts_of old ps (allowed_codes pairs ps)) (key_in (contacts_of old ps (allowed_codes pairs ps)) k h) in
     let l : IsImage (entry_at old ps) m.from (allowed_codes pairs ps) = map_in (entry_at old ps) m.from (allowed_codes pairs ps) m.among in
@@ -338,7 +339,7 @@ has_near pairs ps old k list pair h =
     let ids = ids_same (pair_key ps l.from) k n.pair pair same in
     sym (near_by_ids pairs ps (pair_key ps l.from) k ids.0 ids.1) ∙ n.near
 
-pub all_known_after-holds : (pairs : List ℕ) (ps : List Proxy) (old : List ContactEntry) → IsProxyList ps → IsKnown all_still pairs ps (contacts_of old ps (allowed_codes pairs ps))
+pub all_known_after-holds : (pairs : List BodyPair) (ps : List Proxy) (old : List ContactEntry) → IsProxyList ps → IsKnown all_still pairs ps (contacts_of old ps (allowed_codes pairs ps))
 all_known_after-holds pairs ps old list = record {
   keys = all_from_each (λ (e : ContactEntry). IsPairKey e.key) (contacts_of old ps (allowed_codes pairs ps)) (each_from (λ (e : ContactEntry). IsPairKey e.key) (contacts_of old ps (allowed_codes pairs ps)) (λ e i. after_pairs pairs ps old e list i));
   still = λ k pair s. same_truth (near_key pairs ps k) (has_key (contacts_of old ps (allowed_codes pairs ps)) k) (near_has pairs ps old k list pair) (has_near pairs ps old k list pair);
@@ -346,7 +347,7 @@ all_known_after-holds pairs ps old list = record {
 
 -- ---- what keeps it
 
-pub known_stays-holds : (moved after : ℕ → Bool) (pairs later : List ℕ) (ps qs : List Proxy) (old now : List ContactEntry) → IsKnown moved pairs ps old → All (λ e. IsPairKey e.key) now → ((k : ContactKey) → IsPairKey k → either_moved after k ≡ false → IsSameOf moved pairs later ps qs old now k) → IsKnown after later qs now
+pub known_stays-holds : (moved after : ℕ → Bool) (pairs later : List BodyPair) (ps qs : List Proxy) (old now : List ContactEntry) → IsKnown moved pairs ps old → All (λ e. IsPairKey e.key) now → ((k : ContactKey) → IsPairKey k → either_moved after k ≡ false → IsSameOf moved pairs later ps qs old now k) → IsKnown after later qs now
 known_stays-holds moved after pairs later ps qs old now known keys same = record {
   keys = keys;
   still = λ k pair s. let r : IsSameOf moved pairs later ps qs old now k = same k pair s in r.near ∙ known.still k pair r.unmoved ∙ sym r.contact;

@@ -10,6 +10,7 @@ pub mod DynamicLemmas
 pub mod SurfaceLemmas
 pub mod ChangeLemmas
 pub mod KnownLemmas
+pub mod ByPairsLaws
 pub mod MergedMembers
 pub mod PartLemmas
 pub mod TurnLemmas

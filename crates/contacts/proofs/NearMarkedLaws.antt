@@ -17,6 +17,7 @@ use Rattle.shapes.specs.declared.limits.TheConstants.{MAX_SHAPES}
 use Rattle.contacts_base.specs.Keys.{key_number}
 use Rattle.contacts_base.specs.Near.{IsProxy, IsProxyList, is_near, number_of}
 use Rattle.contacts_base.specs.Contacts.{lookup, number_of as entry_number}
+use Rattle.contacts.specs.declared.forbidden.BodyPair.{BodyPair}
 use Rattle.contacts.specs.Pairs.{proxy_at, key_of, pair_key, first_place, second_place}
 use Rattle.contacts.specs.Changes.{entry_of, entry_with, entry_at, contacts_of}
 use Rattle.contacts.specs.Forbidden.{allowed_codes}
@@ -222,7 +223,7 @@ picked_rises pick f (n ∷ ns) r = rises_option (pick n) (filter_map pick ns) (�
 -- ---- the fresh pairs
 
 -- the contact is that of two shapes of the list that are fresh
-pub record IsFreshOf (moved : ℕ → Bool) (pairs : List ℕ) (ps : List Proxy) (old : List ContactEntry) (n : ℕ) (e : ContactEntry) : Type 0 where
+pub record IsFreshOf (moved : ℕ → Bool) (pairs : List BodyPair) (ps : List Proxy) (old : List ContactEntry) (n : ℕ) (e : ContactEntry) : Type 0 where
   pub p : Proxy
   pub q : Proxy
   pub first : found ps (n / 2 ^ 40) ≡ Some p
@@ -240,7 +241,7 @@ four_tests true true false v x y h = cc
 four_tests true false u v x y h = cc
 four_tests false t u v x y h = cc
 
-fresh_from : (moved : ℕ → Bool) (pairs : List ℕ) (ps : List Proxy) (old : List ContactEntry) (n : ℕ) (e : ContactEntry) (o r : Option Proxy) → found ps (n / 2 ^ 40) ≡ o → found ps (n % 2 ^ 40) ≡ r → fresh_of_both moved pairs old o r ≡ Some e → IsFreshOf moved pairs ps old n e
+fresh_from : (moved : ℕ → Bool) (pairs : List BodyPair) (ps : List Proxy) (old : List ContactEntry) (n : ℕ) (e : ContactEntry) (o r : Option Proxy) → found ps (n / 2 ^ 40) ≡ o → found ps (n % 2 ^ 40) ≡ r → fresh_of_both moved pairs old o r ≡ Some e → IsFreshOf moved pairs ps old n e
 fresh_from moved pairs ps old n e None r a b h = cc
 fresh_from moved pairs ps old n e (Some p) None a b h = cc
 fresh_from moved pairs ps old n e (Some p) (Some q) a b h =
@@ -251,7 +252,7 @@ small_only : (t : Bool) (o : Option ContactEntry) (e : ContactEntry) → cond t 
 small_only true o e h = h
 small_only false o e h = cc
 
-fresh_is : (moved : ℕ → Bool) (pairs : List ℕ) (ps : List Proxy) (old : List ContactEntry) (n : ℕ) (e : ContactEntry) → fresh_by moved pairs ps old n ≡ Some e → IsFreshOf moved pairs ps old n e
+fresh_is : (moved : ℕ → Bool) (pairs : List BodyPair) (ps : List Proxy) (old : List ContactEntry) (n : ℕ) (e : ContactEntry) → fresh_by moved pairs ps old n ≡ Some e → IsFreshOf moved pairs ps old n e
 fresh_is moved pairs ps old n e h = fresh_from moved pairs ps old n e (found ps (n / 2 ^ 40)) (found ps (n % 2 ^ 40)) refl refl (small_only (nat_lt n (2 ^ 80)) _ e h)
 
 key_of_with : (o : Option ContactEntry) (p q : Proxy) → (entry_with o p q).key ≡ key_of p q
@@ -261,7 +262,7 @@ key_of_with o p q = refl
 number_from : (n a b : ℕ) → a ≡ n / 2 ^ 40 → b ≡ n % 2 ^ 40 → a * 2 ^ 40 + b ≡ n
 number_from n a b x y = omega arith
 
-fresh_number : (moved : ℕ → Bool) (pairs : List ℕ) (ps : List Proxy) (old : List ContactEntry) → PicksByNumber (fresh_by moved pairs ps old)
+fresh_number : (moved : ℕ → Bool) (pairs : List BodyPair) (ps : List Proxy) (old : List ContactEntry) → PicksByNumber (fresh_by moved pairs ps old)
 fresh_number moved pairs ps old n e h =
     let f : IsFreshOf moved pairs ps old n e = fresh_is moved pairs ps old n e h in
     let a : IsPlace ps (n / 2 ^ 40) f.p = place_of ps (n / 2 ^ 40) f.p f.first in
@@ -294,7 +295,7 @@ pair_of : (p q : Proxy) → IsProxy p → IsProxy q → number_of p < number_of 
 pair_of p q a b lt = record { before = lt; small = proxy_small q b; first_index = omega (arith, a.index); second_index = omega (arith, b.index) }
 
 -- what is picked is the contact of a fresh pair
-picked_is_fresh : (moved : ℕ → Bool) (pairs : List ℕ) (ps : List Proxy) (old : List ContactEntry) (n : ℕ) (e : ContactEntry) → IsProxyList ps → IsFreshOf moved pairs ps old n e → IsIn e (contacts_of old ps (fresh moved pairs ps old))
+picked_is_fresh : (moved : ℕ → Bool) (pairs : List BodyPair) (ps : List Proxy) (old : List ContactEntry) (n : ℕ) (e : ContactEntry) → IsProxyList ps → IsFreshOf moved pairs ps old n e → IsIn e (contacts_of old ps (fresh moved pairs ps old))
 picked_is_fresh moved pairs ps old n e list f =
     let a : IsPlace ps (n / 2 ^ 40) f.p = place_of ps (n / 2 ^ 40) f.p f.first in
     let b : IsPlace ps (n % 2 ^ 40) f.q = place_of ps (n % 2 ^ 40) f.q f.second in
@@ -316,10 +317,10 @@ picked_is_fresh moved pairs ps old n e list f =
     subst (λ (x : ContactEntry). IsIn x (contacts_of old ps (fresh moved pairs ps old))) entry (in_map (entry_at old ps) c.code (fresh moved pairs ps old) (in_filter (is_fresh moved ps old) c.code (allowed_codes pairs ps) c.among is_new))
 
 -- the list has the numbers of all fresh pairs
-abbrev pub HasAllFresh : (ℕ → Bool) → List ℕ → List Proxy → List ℕ → Type 0
+abbrev pub HasAllFresh : (ℕ → Bool) → List BodyPair → List Proxy → List ℕ → Type 0
 HasAllFresh moved pairs ps numbers = (i j : ℕ) → i < j → j < length ps → may_touch pairs (proxy_at ps i) (proxy_at ps j) ≡ true → either_moved moved (key_of (proxy_at ps i) (proxy_at ps j)) ≡ true → IsIn (key_number (key_of (proxy_at ps i) (proxy_at ps j))) numbers
 
-picks_it : (moved : ℕ → Bool) (pairs : List ℕ) (ps : List Proxy) (old : List ContactEntry) (p q : Proxy) (n : ℕ) → n < 2 ^ 80 → found ps (n / 2 ^ 40) ≡ Some p → found ps (n % 2 ^ 40) ≡ Some q → number_of p < number_of q → may_touch pairs p q ≡ true → either_moved moved (key_of p q) ≡ true → has_key old (key_of p q) ≡ false → fresh_by moved pairs ps old n ≡ Some (entry_with None p q)
+picks_it : (moved : ℕ → Bool) (pairs : List BodyPair) (ps : List Proxy) (old : List ContactEntry) (p q : Proxy) (n : ℕ) → n < 2 ^ 80 → found ps (n / 2 ^ 40) ≡ Some p → found ps (n % 2 ^ 40) ≡ Some q → number_of p < number_of q → may_touch pairs p q ≡ true → either_moved moved (key_of p q) ≡ true → has_key old (key_of p q) ≡ false → fresh_by moved pairs ps old n ≡ Some (entry_with None p q)
 picks_it moved pairs ps old p q n small a b lt touch moves none =
     let low : nat_lt n (2 ^ 80) ≡ true = grind (arith, nat_tests) in
     let less : nat_lt (number_of p) (number_of q) ≡ true = grind (arith, nat_tests) in
@@ -334,7 +335,7 @@ number_parts : (a b n : ℕ) → a < 2 ^ 40 → b < 2 ^ 40 → n ≡ a * 2 ^ 40 
 number_parts a b n x y e = ((omega arith, omega arith), omega arith)
 
 -- the contact of a fresh pair is picked
-fresh_is_picked : (moved : ℕ → Bool) (pairs : List ℕ) (ps : List Proxy) (old : List ContactEntry) (numbers : List ℕ) (e : ContactEntry) → IsProxyList ps → HasAllFresh moved pairs ps numbers → IsIn e (contacts_of old ps (fresh moved pairs ps old)) → IsIn e (filter_map (fresh_by moved pairs ps old) numbers)
+fresh_is_picked : (moved : ℕ → Bool) (pairs : List BodyPair) (ps : List Proxy) (old : List ContactEntry) (numbers : List ℕ) (e : ContactEntry) → IsProxyList ps → HasAllFresh moved pairs ps numbers → IsIn e (contacts_of old ps (fresh moved pairs ps old)) → IsIn e (filter_map (fresh_by moved pairs ps old) numbers)
 fresh_is_picked moved pairs ps old numbers e list has h =
     let m : IsImage (entry_at old ps) e (fresh moved pairs ps old) = map_in (entry_at old ps) e (fresh moved pairs ps old) h in
     let f : IsIn m.from (allowed_codes pairs ps) × (is_fresh moved ps old m.from ≡ true) = filter_in (is_fresh moved ps old) m.from (allowed_codes pairs ps) m.among in
@@ -353,7 +354,7 @@ fresh_is_picked moved pairs ps old numbers e list has h =
     let same : e ≡ entry_with None (proxy_at ps at.i) (proxy_at ps at.j) = m.is ∙ entry ∙ entry_fresh old (proxy_at ps at.i) (proxy_at ps at.j) none in
     rw same (in_picked (fresh_by moved pairs ps old) _ _ numbers (has at.i at.j at.before at.within at.touch moves) picks)
 
-pub picked_are_fresh : (moved : ℕ → Bool) (pairs : List ℕ) (ps : List Proxy) (old : List ContactEntry) (numbers : List ℕ) → IsProxyList ps → IsStrictlyIncreasing numbers → HasAllFresh moved pairs ps numbers → filter_map (fresh_by moved pairs ps old) numbers ≡ contacts_of old ps (fresh moved pairs ps old)
+pub picked_are_fresh : (moved : ℕ → Bool) (pairs : List BodyPair) (ps : List Proxy) (old : List ContactEntry) (numbers : List ℕ) → IsProxyList ps → IsStrictlyIncreasing numbers → HasAllFresh moved pairs ps numbers → filter_map (fresh_by moved pairs ps old) numbers ≡ contacts_of old ps (fresh moved pairs ps old)
 picked_are_fresh moved pairs ps old numbers list rising has =
     same_members entry_number (filter_map (fresh_by moved pairs ps old) numbers) (contacts_of old ps (fresh moved pairs ps old)) (picked_rises (fresh_by moved pairs ps old) (fresh_number moved pairs ps old) numbers (rising_from_increasing numbers rising)) (new_rise moved pairs ps old list)
     (λ e i. let r : IsPicked (fresh_by moved pairs ps old) e numbers = picked_in (fresh_by moved pairs ps old) e numbers i in picked_is_fresh moved pairs ps old r.from e list (fresh_is moved pairs ps old r.from e r.is)) (λ e i. fresh_is_picked moved pairs ps old numbers e list has i)
@@ -391,7 +392,7 @@ lesser_first p q lt near = let less : nat_lt (number_of p) (number_of q) ≡ tru
 greater_first : (p q : Proxy) → number_of p < number_of q → is_near p q ≡ true → near_number q p ≡ Some (key_number (key_of p q))
 greater_first p q lt near = let more : nat_lt (number_of q) (number_of p) ≡ false = grind (arith, nat_tests) in rw (more, near) refl
 
-pub marked_have_all : (marks : List Bool) (marked pairs : List ℕ) (ps : List Proxy) (numbers : List ℕ) → IsProxyList ps → AreWithin marks ps → AreListed marks marked → All (λ slot. HasNumbersIn ps slot numbers) marked → HasAllFresh (moved_by marks) pairs ps numbers
+pub marked_have_all : (marks : List Bool) (marked : List ℕ) (pairs : List BodyPair) (ps : List Proxy) (numbers : List ℕ) → IsProxyList ps → AreWithin marks ps → AreListed marks marked → All (λ slot. HasNumbersIn ps slot numbers) marked → HasAllFresh (moved_by marks) pairs ps numbers
 marked_have_all marks marked pairs ps numbers list within listed all = λ i j b w touch moves.
     let rising : IsRising (map number_of ps) = rising_from_increasing (map number_of ps) list.rising in
     let first : found ps (number_of (proxy_at ps i)) ≡ Some (proxy_at ps i) = found_at ps i rising (omega arith) in

@@ -8,6 +8,7 @@ use Rattle.contacts_base.specs.Keys.{id_number, key_number}
 use Rattle.contacts_base.specs.Near.{IsProxyList, number_of}
 use Rattle.contacts_base.specs.Contacts.{lookup, AreKeysRising, number_of as entry_number}
 use Rattle.contacts_base.proofs.LookupLemmas.{lookup-here, lookup-later}
+use Rattle.contacts.specs.declared.forbidden.BodyPair.{BodyPair}
 use Rattle.contacts.specs.Pairs.{proxy_at, key_of, pair_key, first_place}
 use Rattle.contacts.specs.Changes.{entry_of, entry_with, entry_at, contacts_of}
 use Rattle.contacts.specs.Forbidden.{allowed_codes}
@@ -92,7 +93,7 @@ again_at old ps f i j r wi wj k l =
     let b : found ps (id_number f.key.second) ≡ Some (proxy_at ps j) = ap (λ (x : ContactKey). found ps (id_number x.second)) k ∙ found_at ps j r wj in
     rw (a, b) (again_of_pair old f (proxy_at ps i) (proxy_at ps j) k l)
 
-pub again_is : (old : List ContactEntry) (pairs : List ℕ) (ps : List Proxy) (f : ContactEntry) (c : ℕ) → IsProxyList ps → IsRising (map entry_number old) → IsIn f old → IsPairKey f.key → IsIn c (allowed_codes pairs ps) → code_number ps c ≡ entry_number f → again ps f ≡ entry_at old ps c
+pub again_is : (old : List ContactEntry) (pairs : List BodyPair) (ps : List Proxy) (f : ContactEntry) (c : ℕ) → IsProxyList ps → IsRising (map entry_number old) → IsIn f old → IsPairKey f.key → IsIn c (allowed_codes pairs ps) → code_number ps c ≡ entry_number f → again ps f ≡ entry_at old ps c
 again_is old pairs ps f c list rising among pair h same =
     let n : IsAllowedFrom pairs ps c = in_codes pairs ps c list h in
     let k : IsNearKey pairs ps (pair_key ps c) = code_near pairs ps c list h in
@@ -105,7 +106,7 @@ again_is old pairs ps f c list rising among pair h same =
 -- ---- the law
 
 -- what is evaluated of a near pair is among the parts
-by_contact : (moved : ℕ → Bool) (pairs : List ℕ) (ps : List Proxy) (old : List ContactEntry) (c : ℕ) (t : Bool) → IsProxyList ps → IsRising (map entry_number old) → IsKnown moved pairs ps old → IsIn c (allowed_codes pairs ps) → has_key old (pair_key ps c) ≡ t → IsIn (entry_at old ps c) (contacts_of old ps (fresh moved pairs ps old)) ⊎ IsIn (entry_at old ps c) (map (again ps) (staying moved pairs ps old))
+by_contact : (moved : ℕ → Bool) (pairs : List BodyPair) (ps : List Proxy) (old : List ContactEntry) (c : ℕ) (t : Bool) → IsProxyList ps → IsRising (map entry_number old) → IsKnown moved pairs ps old → IsIn c (allowed_codes pairs ps) → has_key old (pair_key ps c) ≡ t → IsIn (entry_at old ps c) (contacts_of old ps (fresh moved pairs ps old)) ⊎ IsIn (entry_at old ps c) (map (again ps) (staying moved pairs ps old))
 by_contact moved pairs ps old c true list rising known i h =
     let n : IsNearKey pairs ps (pair_key ps c) = code_near pairs ps c list i in
     let m : IsImage entry_number (code_number ps c) old = map_in entry_number (code_number ps c) old (key_in old (pair_key ps c) h) in
@@ -121,7 +122,7 @@ by_contact moved pairs ps old c false list rising known i h =
     inl (in_map (entry_at old ps) c (fresh moved pairs ps old) (in_filter (is_fresh moved ps old) c (allowed_codes pairs ps) i (rw (gone, h) refl)))
 
 -- a contact that stays is evaluated as its pair's
-pub stays_is : (moved : ℕ → Bool) (pairs : List ℕ) (ps : List Proxy) (old : List ContactEntry) (f : ContactEntry) → IsProxyList ps → IsRising (map entry_number old) → IsKnown moved pairs ps old → IsIn f old → stays moved pairs ps f ≡ true → IsIn (again ps f) (contacts_of old ps (allowed_codes pairs ps))
+pub stays_is : (moved : ℕ → Bool) (pairs : List BodyPair) (ps : List Proxy) (old : List ContactEntry) (f : ContactEntry) → IsProxyList ps → IsRising (map entry_number old) → IsKnown moved pairs ps old → IsIn f old → stays moved pairs ps f ≡ true → IsIn (again ps f) (contacts_of old ps (allowed_codes pairs ps))
 stays_is moved pairs ps old f list rising known i h =
     let p : IsPairKey f.key = each_in (λ (g : ContactEntry). IsPairKey g.key) f old (each_from_all old known.keys) i in
     let near : near_key pairs ps f.key ≡ true = stays_near moved pairs ps f (either_moved moved f.key) refl (λ s. known.still f.key p s ∙ in_key old f.key (in_map entry_number f old i)) h in
@@ -141,7 +142,7 @@ fresh_apart moved ps old c false true h e = cc
 fresh_apart moved ps old c s false h e = h
 
 -- nor is one among those that there were
-pub fresh_not_among : (moved : ℕ → Bool) (pairs : List ℕ) (ps : List Proxy) (old : List ContactEntry) (n : ℕ) → IsIn n (map entry_number (contacts_of old ps (fresh moved pairs ps old))) → IsIn n (map entry_number old) → ⊥
+pub fresh_not_among : (moved : ℕ → Bool) (pairs : List BodyPair) (ps : List Proxy) (old : List ContactEntry) (n : ℕ) → IsIn n (map entry_number (contacts_of old ps (fresh moved pairs ps old))) → IsIn n (map entry_number old) → ⊥
 fresh_not_among moved pairs ps old n i j =
     let m : IsImage (code_number ps) n (fresh moved pairs ps old) = code_numbers old ps n (fresh moved pairs ps old) i in
     let f = filter_in (is_fresh moved ps old) m.from (allowed_codes pairs ps) m.among in
@@ -150,13 +151,13 @@ fresh_not_among moved pairs ps old n i j =
     let wrong : false ≡ true = sym none ∙ some in
     cc
 
-pub staying_among : (moved : ℕ → Bool) (pairs : List ℕ) (ps : List Proxy) (es : List ContactEntry) (n : ℕ) → IsIn n (map entry_number (map (again ps) (staying moved pairs ps es))) → IsIn n (map entry_number es)
+pub staying_among : (moved : ℕ → Bool) (pairs : List BodyPair) (ps : List Proxy) (es : List ContactEntry) (n : ℕ) → IsIn n (map entry_number (map (again ps) (staying moved pairs ps es))) → IsIn n (map entry_number es)
 staying_among moved pairs ps es n j =
     let l : IsImage entry_number n (staying moved pairs ps es) = map_in entry_number n (staying moved pairs ps es) (subst (λ (ns : List ℕ). IsIn n ns) (again_numbers ps (staying moved pairs ps es)) j) in
     let g = filter_in (stays moved pairs ps) l.from es l.among in
     subst (λ (k : ℕ). IsIn k (map entry_number es)) (sym l.is) (in_map entry_number l.from es g.0)
 
-pub apart : (moved : ℕ → Bool) (pairs : List ℕ) (ps : List Proxy) (old : List ContactEntry) (n : ℕ) → IsIn n (map entry_number (contacts_of old ps (fresh moved pairs ps old))) → IsIn n (map entry_number (map (again ps) (staying moved pairs ps old))) → ⊥
+pub apart : (moved : ℕ → Bool) (pairs : List BodyPair) (ps : List Proxy) (old : List ContactEntry) (n : ℕ) → IsIn n (map entry_number (contacts_of old ps (fresh moved pairs ps old))) → IsIn n (map entry_number (map (again ps) (staying moved pairs ps old))) → ⊥
 apart moved pairs ps old n i j = fresh_not_among moved pairs ps old n i (staying_among moved pairs ps old n j)
 
 -- codes that are picked out of the near ones
@@ -176,7 +177,7 @@ pub codes_rise : (old : List ContactEntry) (ps : List Proxy) (test : ℕ → Boo
 codes_rise old ps test [] r = tt
 codes_rise old ps test (c ∷ cs) r = picked_rises old ps (test c) c (filter test cs) (codes_above old ps test (entry_number (entry_at old ps c)) cs r.0) (codes_rise old ps test cs r.1)
 
-pub contacts_in_parts-holds : (moved : ℕ → Bool) (pairs : List ℕ) (ps : List Proxy) (old : List ContactEntry) → IsProxyList ps → AreKeysRising old → IsKnown moved pairs ps old → contacts_of old ps (allowed_codes pairs ps) ≡ merged entry_number (contacts_of old ps (fresh moved pairs ps old)) (map (again ps) (staying moved pairs ps old))
+pub contacts_in_parts-holds : (moved : ℕ → Bool) (pairs : List BodyPair) (ps : List Proxy) (old : List ContactEntry) → IsProxyList ps → AreKeysRising old → IsKnown moved pairs ps old → contacts_of old ps (allowed_codes pairs ps) ≡ merged entry_number (contacts_of old ps (fresh moved pairs ps old)) (map (again ps) (staying moved pairs ps old))
 contacts_in_parts-holds moved pairs ps old list keys known =
     let rising : IsRising (map entry_number old) = rising_from_increasing (map entry_number old) keys in
     let all : IsRising (map entry_number (contacts_of old ps (allowed_codes pairs ps))) = rising_from_increasing (map entry_number (contacts_of old ps (allowed_codes pairs ps))) (contacts_rise old ps (allowed_codes pairs ps) list (allowed_are_pairs pairs ps list)) in

@@ -12,6 +12,7 @@ use Rattle.contacts_base.specs.Contacts.{contact_set}
 use Rattle.contacts_base.specs.Evaluate.{touches}
 use Rattle.contacts_base.specs.Keys.{id_number}
 use Rattle.contacts_base.specs.declared.split.Renewal.{Renewal}
+use Rattle.contacts.specs.declared.forbidden.BodyPair.{BodyPair}
 use Rattle.contacts.specs.Changes.{key_if_new}
 use Rattle.contacts.specs.Known.{again, either_moved, found, stays}
 use Rattle.contacts.specs.declared.stirring.Stirring.{Stirring}
@@ -47,7 +48,7 @@ stays_still moved near h = rw h refl
 stays_so : (t : Bool) (a e : ContactEntry) → t ≡ true → a ≡ e → cond t (Some a) None ≡ Some e
 stays_so t a e h q = rw (h, q) refl
 
-pub quiet_outcome : (moved : ℕ → Bool) (pairs : List ℕ) (ps : List Proxy) (e : ContactEntry) → either_moved moved e.key ≡ false → one_stirs_of ps e.key ≡ false → outcome moved pairs ps e ≡ Some e
+pub quiet_outcome : (moved : ℕ → Bool) (pairs : List BodyPair) (ps : List Proxy) (e : ContactEntry) → either_moved moved e.key ≡ false → one_stirs_of ps e.key ≡ false → outcome moved pairs ps e ≡ Some e
 quiet_outcome moved pairs ps e a b = stays_so (stays moved pairs ps e) (again ps e) e (stays_still (either_moved moved e.key) _ a) (still_again ps e b)
 
 -- ---- the places are listed

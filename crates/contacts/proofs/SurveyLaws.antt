@@ -12,6 +12,7 @@ use Rattle.contacts_base.specs.declared.split.Renewal.{Renewal}
 use Rattle.contacts_base.specs.Contacts.{contact_set}
 use Rattle.contacts_base.specs.Split.{Split, counting, counting_at, is_over, over_at, places_from, renewed, unless_over}
 use Rattle.contacts_base.proofs.MergeLaws.{drop_next}
+use Rattle.contacts.specs.declared.forbidden.BodyPair.{BodyPair}
 use Rattle.contacts.specs.declared.turns.Turn.{Turn}
 use Rattle.contacts.specs.declared.turns.Turn.TheVariants.{Stays, Goes, Renewed}
 use Rattle.contacts.specs.Changes.{key_if_new}
@@ -122,7 +123,7 @@ all_passed old test places index I quiet h p = last_place old test I (drop (pass
 
 -- ---- what was found of the contacts before a place
 
-pub record IsFound (moved : ℕ → Bool) (pairs : List ℕ) (ps : List Proxy) (s : Split) (notes : List Renewal) (ends : List ℕ) (begin end : List ContactKey) (p : ℕ) : Type 0 where
+pub record IsFound (moved : ℕ → Bool) (pairs : List BodyPair) (ps : List Proxy) (s : Split) (notes : List Renewal) (ends : List ℕ) (begin end : List ContactKey) (p : ℕ) : Type 0 where
   -- what they become, which of them are over then, and those of them that counted
   pub done : List ContactEntry
   pub flags : List Bool
@@ -136,7 +137,7 @@ pub record IsFound (moved : ℕ → Bool) (pairs : List ℕ) (ps : List Proxy) (
   pub begin_are : begin ≡ begun_keys moved pairs ps met
   pub end_are : end ≡ ended_keys moved pairs ps met
 
-pub nothing_found : (moved : ℕ → Bool) (pairs : List ℕ) (ps : List Proxy) (s : Split) (notes : List Renewal) (ends : List ℕ) (begin end : List ContactKey) → notes ≡ [] → ends ≡ [] → begin ≡ [] → end ≡ [] → IsFound moved pairs ps s notes ends begin end 0
+pub nothing_found : (moved : ℕ → Bool) (pairs : List BodyPair) (ps : List Proxy) (s : Split) (notes : List Renewal) (ends : List ℕ) (begin end : List ContactKey) → notes ≡ [] → ends ≡ [] → begin ≡ [] → end ≡ [] → IsFound moved pairs ps s notes ends begin end 0
 nothing_found moved pairs ps s notes ends begin end a b c d = record {
   done = [];
   flags = [];
@@ -226,7 +227,7 @@ filter_more test (x ∷ es) e = ap (λ (l : List ContactEntry). cond (test x) (x
     passed_before true e xs ys = refl
     passed_before false e xs ys = refl
 
-staying_more : (moved : ℕ → Bool) (pairs : List ℕ) (ps : List Proxy) (es : List ContactEntry) (e : ContactEntry) → map (again ps) (staying moved pairs ps (es ++ e ∷ [])) ≡ map (again ps) (staying moved pairs ps es) ++ cond (stays moved pairs ps e) (again ps e ∷ []) []
+staying_more : (moved : ℕ → Bool) (pairs : List BodyPair) (ps : List Proxy) (es : List ContactEntry) (e : ContactEntry) → map (again ps) (staying moved pairs ps (es ++ e ∷ [])) ≡ map (again ps) (staying moved pairs ps es) ++ cond (stays moved pairs ps e) (again ps e ∷ []) []
 staying_more moved pairs ps es e =
     ap (map (again ps)) (filter_more (stays moved pairs ps) es e)
     ∙ map-append (again ps) (staying moved pairs ps es) (cond (stays moved pairs ps e) (e ∷ []) [])
@@ -271,7 +272,7 @@ picked_none ks more h = h ∙ nothing_after ks
 counting_is : (s : Split) (p : ℕ) (e : ContactEntry) (o : Bool) → IsAt s p e o → counting (drop p s.over) (drop p s.long) ≡ cond o (counting (drop (suc p) s.over) (drop (suc p) s.long)) (e ∷ counting (drop (suc p) s.over) (drop (suc p) s.long))
 counting_is s p e o at = ap (λ (l : List Bool). counting l (drop p s.long)) at.over ∙ ap (counting (o ∷ drop (suc p) s.over)) at.long
 
-step_by : (moved : ℕ → Bool) (pairs : List ℕ) (ps : List Proxy) (s : Split) (p : ℕ) (e : ContactEntry) (o : Bool) (turn : Turn) (notes later : List Renewal) (ends goes : List ℕ) (begin begins end ended : List ContactKey) → IsAt s p e o → IsTurn moved pairs ps (unless_over o (Some e)) turn
+step_by : (moved : ℕ → Bool) (pairs : List BodyPair) (ps : List Proxy) (s : Split) (p : ℕ) (e : ContactEntry) (o : Bool) (turn : Turn) (notes later : List Renewal) (ends goes : List ℕ) (begin begins end ended : List ContactKey) → IsAt s p e o → IsTurn moved pairs ps (unless_over o (Some e)) turn
     → later ≡ notes ++ noted p turn → goes ≡ ends ++ ending p turn → begins ≡ begin ++ option_to_list (begun_of (unless_over o (Some e)) turn) → ended ≡ end ++ option_to_list (ended_of (unless_over o (Some e)) turn)
     → IsFound moved pairs ps s notes ends begin end p → IsFound moved pairs ps s later goes begins ended (suc p)
 step_by moved pairs ps s p e true turn notes later ends goes begin begins end ended at is n g b x f = record {
@@ -317,7 +318,7 @@ there_is (e ∷ es) zero lt = record { entry = e; is = refl }
 there_is (e ∷ es) (suc k) lt = let r : IsThere es k = there_is es k (omega (arith, lt)) in record { entry = r.entry; is = r.is }
 
 -- as the code has it
-pub found_step : (moved : ℕ → Bool) (pairs : List ℕ) (ps : List Proxy) (s : Split) (p : ℕ) (turn : Turn) (notes later : List Renewal) (ends goes : List ℕ) (begin begins end ended : List ContactKey) → length s.over ≡ length s.long → p < length s.long → IsTurn moved pairs ps (counting_at s p) turn
+pub found_step : (moved : ℕ → Bool) (pairs : List BodyPair) (ps : List Proxy) (s : Split) (p : ℕ) (turn : Turn) (notes later : List Renewal) (ends goes : List ℕ) (begin begins end ended : List ContactKey) → length s.over ≡ length s.long → p < length s.long → IsTurn moved pairs ps (counting_at s p) turn
     → later ≡ notes ++ noted p turn → goes ≡ ends ++ ending p turn → begins ≡ begin ++ option_to_list (begun_of (counting_at s p) turn) → ended ≡ end ++ option_to_list (ended_of (counting_at s p) turn)
     → IsFound moved pairs ps s notes ends begin end p → IsFound moved pairs ps s later goes begins ended (suc p)
 found_step moved pairs ps s p turn notes later ends goes begin begins end ended flags lt is n g b x f =
@@ -344,7 +345,7 @@ counted_at (o ∷ over) (e ∷ es) zero d lt h = counted_by o e (counting over e
 counted_at (o ∷ over) (e ∷ es) (suc k) d lt h = counted_later o (get_or es k d) e (counting over es) (counted_at over es k d (omega (arith, lt)) h)
 
 -- what a contact that counts becomes where neither of its bodies is flagged
-quiet_turn : (flags marks : List Bool) (pairs : List ℕ) (ps : List Proxy) (o : Bool) (e : ContactEntry) → AreQuiet flags marks ps → (o ≡ false → IsPairKey e.key) → one_flagged flags e ≡ false → IsTurn (moved_by marks) pairs ps (unless_over o (Some e)) Stays
+quiet_turn : (flags marks : List Bool) (pairs : List BodyPair) (ps : List Proxy) (o : Bool) (e : ContactEntry) → AreQuiet flags marks ps → (o ≡ false → IsPairKey e.key) → one_flagged flags e ≡ false → IsTurn (moved_by marks) pairs ps (unless_over o (Some e)) Stays
 quiet_turn flags marks pairs ps true e quiet key t = refl
 quiet_turn flags marks pairs ps false e quiet key t = let both = quiet e (key refl) t in sym (quiet_outcome (moved_by marks) pairs ps e both.0 both.1)
 
@@ -356,7 +357,7 @@ quiet_ends : (o : Bool) (e : ContactEntry) (ks : List ContactKey) → ks ≡ ks 
 quiet_ends true e ks = sym (nothing_after ks)
 quiet_ends false e ks = sym (nothing_after ks) ∙ ap (λ (x : Option ContactKey). ks ++ option_to_list x) (none_new e)
 
-pub quiet_passes : (flags marks : List Bool) (pairs : List ℕ) (ps : List Proxy) (s : Split) (notes : List Renewal) (ends : List ℕ) (begin end : List ContactKey) → length s.over ≡ length s.long → AreQuiet flags marks ps → All (λ e. IsPairKey e.key) (counting s.over s.long)
+pub quiet_passes : (flags marks : List Bool) (pairs : List BodyPair) (ps : List Proxy) (s : Split) (notes : List Renewal) (ends : List ℕ) (begin end : List ContactKey) → length s.over ≡ length s.long → AreQuiet flags marks ps → All (λ e. IsPairKey e.key) (counting s.over s.long)
     → PassesBy s.long (one_flagged flags) (IsFound (moved_by marks) pairs ps s notes ends begin end)
 quiet_passes flags marks pairs ps s notes ends begin end same quiet keys = λ k e d lt is t f.
     let key : is_over s.over k ≡ false → IsPairKey e.key = λ h. subst (λ (x : ContactEntry). IsPairKey x.key) (sym is) (each_in (λ (x : ContactEntry). IsPairKey x.key) (get_or s.long k d) (counting s.over s.long) (each_from_all (counting s.over s.long) keys) (counted_at s.over s.long k d lt h)) in
@@ -372,7 +373,7 @@ ends_by over long p same h = nothing_left over p (let le : length long ≤ p = a
     all_dropped (e ∷ es) zero h = cc
     all_dropped (e ∷ es) (suc p) h = let le : length es ≤ p = all_dropped es p h in omega (arith, le)
 
-pub all_found : (moved : ℕ → Bool) (pairs : List ℕ) (ps : List Proxy) (s : Split) (notes : List Renewal) (ends : List ℕ) (begin end : List ContactKey) → length s.over ≡ length s.long → IsThrough s.long (IsFound moved pairs ps s notes ends begin end) → IsLookedOver moved pairs ps s notes ends begin end
+pub all_found : (moved : ℕ → Bool) (pairs : List BodyPair) (ps : List Proxy) (s : Split) (notes : List Renewal) (ends : List ℕ) (begin end : List ContactKey) → length s.over ≡ length s.long → IsThrough s.long (IsFound moved pairs ps s notes ends begin end) → IsLookedOver moved pairs ps s notes ends begin end
 all_found moved pairs ps s notes ends begin end same t =
     let f : IsFound moved pairs ps s notes ends begin end t.place = t.known in
     let none : drop t.place s.over ≡ [] = ends_by s.over s.long t.place same t.ends in

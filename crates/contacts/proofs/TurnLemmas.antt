@@ -11,6 +11,7 @@ use Rattle.contacts_base.specs.declared.contact.ContactEntry.{ContactEntry}
 use Rattle.contacts_base.specs.Contacts.{contact_set}
 use Rattle.contacts_base.specs.Keys.{id_number}
 use Rattle.contacts_base.specs.Near.{IsProxy, IsProxyList}
+use Rattle.contacts.specs.declared.forbidden.BodyPair.{BodyPair}
 use Rattle.contacts.specs.declared.turns.Turn.{Turn}
 use Rattle.contacts.specs.declared.turns.Turn.TheVariants.{Stays, Goes, Renewed}
 use Rattle.contacts_base.specs.declared.split.Renewal.{Renewal}
@@ -56,10 +57,10 @@ pub keys_step : (pick : ContactEntry → Option ContactKey) (old : List ContactE
 keys_step pick old k e d o keys more lt is so was added =
     added ∙ ap (λ (l : List ContactKey). l ++ option_to_list o) was ∙ sym (picked_more pick (take k old) e o (sym so)) ∙ ap (λ (x : ContactEntry). filter_map pick (take k old ++ x ∷ [])) is ∙ ap (filter_map pick) (sym (take_more old k d lt))
 
-pub begun_step : (moved : ℕ → Bool) (pairs : List ℕ) (ps : List Proxy) (old : List ContactEntry) (k : ℕ) (e d : ContactEntry) (turn : Turn) (o : Option ContactKey) (keys more : List ContactKey) → k < length old → e ≡ get_or old k d → turned e turn ≡ outcome moved pairs ps e → o ≡ key_if_begun e (turned e turn) → keys ≡ begun_keys moved pairs ps (take k old) → more ≡ keys ++ option_to_list o → more ≡ begun_keys moved pairs ps (take (k + 1) old)
+pub begun_step : (moved : ℕ → Bool) (pairs : List BodyPair) (ps : List Proxy) (old : List ContactEntry) (k : ℕ) (e d : ContactEntry) (turn : Turn) (o : Option ContactKey) (keys more : List ContactKey) → k < length old → e ≡ get_or old k d → turned e turn ≡ outcome moved pairs ps e → o ≡ key_if_begun e (turned e turn) → keys ≡ begun_keys moved pairs ps (take k old) → more ≡ keys ++ option_to_list o → more ≡ begun_keys moved pairs ps (take (k + 1) old)
 begun_step moved pairs ps old k e d turn o keys more lt is turns so was added =
     keys_step (λ (f : ContactEntry). key_if_begun f (outcome moved pairs ps f)) old k e d o keys more lt is (so ∙ ap (λ (x : Option ContactEntry). key_if_begun e x) turns) was added
 
-pub ended_step : (moved : ℕ → Bool) (pairs : List ℕ) (ps : List Proxy) (old : List ContactEntry) (k : ℕ) (e d : ContactEntry) (turn : Turn) (o : Option ContactKey) (keys more : List ContactKey) → k < length old → e ≡ get_or old k d → turned e turn ≡ outcome moved pairs ps e → o ≡ key_if_new (turned e turn) e → keys ≡ ended_keys moved pairs ps (take k old) → more ≡ keys ++ option_to_list o → more ≡ ended_keys moved pairs ps (take (k + 1) old)
+pub ended_step : (moved : ℕ → Bool) (pairs : List BodyPair) (ps : List Proxy) (old : List ContactEntry) (k : ℕ) (e d : ContactEntry) (turn : Turn) (o : Option ContactKey) (keys more : List ContactKey) → k < length old → e ≡ get_or old k d → turned e turn ≡ outcome moved pairs ps e → o ≡ key_if_new (turned e turn) e → keys ≡ ended_keys moved pairs ps (take k old) → more ≡ keys ++ option_to_list o → more ≡ ended_keys moved pairs ps (take (k + 1) old)
 ended_step moved pairs ps old k e d turn o keys more lt is turns so was added =
     keys_step (λ (f : ContactEntry). key_if_new (outcome moved pairs ps f) f) old k e d o keys more lt is (so ∙ ap (λ (x : Option ContactEntry). key_if_new x e) turns) was added

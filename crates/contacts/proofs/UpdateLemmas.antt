@@ -11,6 +11,7 @@ use Rattle.contacts_base.specs.declared.contact.ContactEntry.{ContactEntry}
 use Rattle.contacts_base.specs.Keys.{id_number, key_number}
 use Rattle.contacts_base.specs.Near.{IsProxyList}
 use Rattle.contacts_base.specs.Contacts.{lookup, AreContacts, AreKeysRising, number_of as entry_number}
+use Rattle.contacts.specs.declared.forbidden.BodyPair.{BodyPair}
 use Rattle.contacts.specs.Changes.{contacts_of, entry_at, key_if_new, key_if_touching, keys_touching_only_in, AreRising}
 use Rattle.contacts.specs.Pairs.{pair_key}
 use Rattle.contacts.specs.Forbidden.{allowed_codes}
@@ -53,13 +54,13 @@ not_near true n h = h
 not_near false n h = cc
 
 -- the contacts after a collide
-abbrev after : List ℕ → List Proxy → List ContactEntry → List ContactEntry
+abbrev after : List BodyPair → List Proxy → List ContactEntry → List ContactEntry
 after pairs ps old = contacts_of old ps (allowed_codes pairs ps)
 
-after_rises : (pairs : List ℕ) (ps : List Proxy) (old : List ContactEntry) → IsProxyList ps → IsRising (map entry_number (after pairs ps old))
+after_rises : (pairs : List BodyPair) (ps : List Proxy) (old : List ContactEntry) → IsProxyList ps → IsRising (map entry_number (after pairs ps old))
 after_rises pairs ps old list = rising_from_increasing (map entry_number (after pairs ps old)) (contacts_rise old ps (allowed_codes pairs ps) list (allowed_are_pairs pairs ps list))
 
-lookup_by : (moved : ℕ → Bool) (pairs : List ℕ) (ps : List Proxy) (old : List ContactEntry) (e : ContactEntry) (t : Bool) → IsProxyList ps → AreKeysRising old → IsKnown moved pairs ps old → IsIn e old → stays moved pairs ps e ≡ t → lookup (after pairs ps old) e.key ≡ cond t (Some (again ps e)) None
+lookup_by : (moved : ℕ → Bool) (pairs : List BodyPair) (ps : List Proxy) (old : List ContactEntry) (e : ContactEntry) (t : Bool) → IsProxyList ps → AreKeysRising old → IsKnown moved pairs ps old → IsIn e old → stays moved pairs ps e ≡ t → lookup (after pairs ps old) e.key ≡ cond t (Some (again ps e)) None
 lookup_by moved pairs ps old e true list keys known i h =
     let now : List ContactEntry = after pairs ps old in
     let rising : IsRising (map entry_number old) = rising_from_increasing (map entry_number old) keys in
@@ -72,10 +73,10 @@ lookup_by moved pairs ps old e false list keys known i h =
     let all : IsKnown all_still pairs ps now = all_known_after-holds pairs ps old list in
     none_if (lookup now e.key) (sym (all.still e.key pair refl) ∙ far)
 
-pub lookup_after : (moved : ℕ → Bool) (pairs : List ℕ) (ps : List Proxy) (old : List ContactEntry) (e : ContactEntry) → IsProxyList ps → AreKeysRising old → IsKnown moved pairs ps old → IsIn e old → lookup (after pairs ps old) e.key ≡ outcome moved pairs ps e
+pub lookup_after : (moved : ℕ → Bool) (pairs : List BodyPair) (ps : List Proxy) (old : List ContactEntry) (e : ContactEntry) → IsProxyList ps → AreKeysRising old → IsKnown moved pairs ps old → IsIn e old → lookup (after pairs ps old) e.key ≡ outcome moved pairs ps e
 lookup_after moved pairs ps old e list keys known i = lookup_by moved pairs ps old e (stays moved pairs ps e) list keys known i refl
 
-pub ended_is : (moved : ℕ → Bool) (pairs : List ℕ) (ps : List Proxy) (old : List ContactEntry) → IsProxyList ps → AreKeysRising old → IsKnown moved pairs ps old → ended_keys moved pairs ps old ≡ keys_touching_only_in (after pairs ps old) old
+pub ended_is : (moved : ℕ → Bool) (pairs : List BodyPair) (ps : List Proxy) (old : List ContactEntry) → IsProxyList ps → AreKeysRising old → IsKnown moved pairs ps old → ended_keys moved pairs ps old ≡ keys_touching_only_in (after pairs ps old) old
 unfolding key_if_touching
 ended_is moved pairs ps old list keys known = picked_same _ _ old (λ e i. ap (λ (o : Option ContactEntry). key_if_new o e) (sym (lookup_after moved pairs ps old e list keys known i)))
 
@@ -149,19 +150,19 @@ touching_picks others e k q = if_step _ _ k e.key (unless_step _ k e.key) q
 -- ---- both parts
 
 -- the contacts of the fresh pairs, and those that stay, evaluated anew
-abbrev pub new_ones : (ℕ → Bool) → List ℕ → List Proxy → List ContactEntry → List ContactEntry
+abbrev pub new_ones : (ℕ → Bool) → List BodyPair → List Proxy → List ContactEntry → List ContactEntry
 new_ones moved pairs ps old = contacts_of old ps (fresh moved pairs ps old)
 
-abbrev pub old_ones : (ℕ → Bool) → List ℕ → List Proxy → List ContactEntry → List ContactEntry
+abbrev pub old_ones : (ℕ → Bool) → List BodyPair → List Proxy → List ContactEntry → List ContactEntry
 old_ones moved pairs ps old = map (again ps) (staying moved pairs ps old)
 
-pub new_rise : (moved : ℕ → Bool) (pairs : List ℕ) (ps : List Proxy) (old : List ContactEntry) → IsProxyList ps → IsRising (map entry_number (new_ones moved pairs ps old))
+pub new_rise : (moved : ℕ → Bool) (pairs : List BodyPair) (ps : List Proxy) (old : List ContactEntry) → IsProxyList ps → IsRising (map entry_number (new_ones moved pairs ps old))
 new_rise moved pairs ps old list = codes_rise old ps (is_fresh moved ps old) (allowed_codes pairs ps) (after_rises pairs ps old list)
 
-pub old_rises : (moved : ℕ → Bool) (pairs : List ℕ) (ps : List Proxy) (es : List ContactEntry) → IsRising (map entry_number es) → IsRising (map entry_number (old_ones moved pairs ps es))
+pub old_rises : (moved : ℕ → Bool) (pairs : List BodyPair) (ps : List Proxy) (es : List ContactEntry) → IsRising (map entry_number es) → IsRising (map entry_number (old_ones moved pairs ps es))
 old_rises moved pairs ps es rising = subst (λ (ns : List ℕ). IsRising ns) (sym (again_numbers ps (staying moved pairs ps es))) (filter_rises (stays moved pairs ps) es rising)
 
-old_rise : (moved : ℕ → Bool) (pairs : List ℕ) (ps : List Proxy) (old : List ContactEntry) → AreKeysRising old → IsRising (map entry_number (old_ones moved pairs ps old))
+old_rise : (moved : ℕ → Bool) (pairs : List BodyPair) (ps : List Proxy) (old : List ContactEntry) → AreKeysRising old → IsRising (map entry_number (old_ones moved pairs ps old))
 old_rise moved pairs ps old keys = old_rises moved pairs ps old (rising_from_increasing (map entry_number old) keys)
 
 -- ---- what begins
@@ -174,14 +175,14 @@ lookup_known : (old : List ContactEntry) (ps : List Proxy) (e : ContactEntry) �
 unfolding key_if_touching
 lookup_known old ps e rising i = ap (λ (o : Option ContactEntry). key_if_new o (again ps e)) (ap (lookup old) (again_key ps e) ∙ lookup_in old e rising i)
 
-begun_among : (moved : ℕ → Bool) (pairs : List ℕ) (ps : List Proxy) (old es : List ContactEntry) → IsRising (map entry_number old) → ((e : ContactEntry) → IsIn e es → IsIn e old) → filter_map (key_if_touching old) (map (again ps) (staying moved pairs ps es)) ≡ begun_keys moved pairs ps es
+begun_among : (moved : ℕ → Bool) (pairs : List BodyPair) (ps : List Proxy) (old es : List ContactEntry) → IsRising (map entry_number old) → ((e : ContactEntry) → IsIn e es → IsIn e old) → filter_map (key_if_touching old) (map (again ps) (staying moved pairs ps es)) ≡ begun_keys moved pairs ps es
 begun_among moved pairs ps old [] rising i = refl
 begun_among moved pairs ps old (e ∷ es) rising i = begun_step old ps e (stays moved pairs ps e) (staying moved pairs ps es) (begun_keys moved pairs ps es) (begun_among moved pairs ps old es rising (λ f j. i f (inr j))) (lookup_known old ps e rising (i e (inl refl)))
 
-begun_is : (moved : ℕ → Bool) (pairs : List ℕ) (ps : List Proxy) (old : List ContactEntry) → AreKeysRising old → keys_touching_only_in old (old_ones moved pairs ps old) ≡ begun_keys moved pairs ps old
+begun_is : (moved : ℕ → Bool) (pairs : List BodyPair) (ps : List Proxy) (old : List ContactEntry) → AreKeysRising old → keys_touching_only_in old (old_ones moved pairs ps old) ≡ begun_keys moved pairs ps old
 begun_is moved pairs ps old keys = begun_among moved pairs ps old old (rising_from_increasing (map entry_number old) keys) (λ e i. i)
 
-fresh_none : (moved : ℕ → Bool) (pairs : List ℕ) (ps : List Proxy) (old : List ContactEntry) (e : ContactEntry) → IsIn e (new_ones moved pairs ps old) → lookup old e.key ≡ None
+fresh_none : (moved : ℕ → Bool) (pairs : List BodyPair) (ps : List Proxy) (old : List ContactEntry) (e : ContactEntry) → IsIn e (new_ones moved pairs ps old) → lookup old e.key ≡ None
 fresh_none moved pairs ps old e i =
     let m : IsImage (entry_at old ps) e (fresh moved pairs ps old) = map_in (entry_at old ps) e (fresh moved pairs ps old) i in
     let f : IsIn m.from (allowed_codes pairs ps) × (is_fresh moved ps old m.from ≡ true) = filter_in (is_fresh moved ps old) m.from (allowed_codes pairs ps) m.among in
@@ -190,11 +191,11 @@ fresh_none moved pairs ps old e i =
     ap (lookup old) key ∙ none_if (lookup old (pair_key ps m.from)) none
 
 -- the keys of new contacts that touch
-fresh_is : (moved : ℕ → Bool) (pairs : List ℕ) (ps : List Proxy) (old : List ContactEntry) → filter_map (key_if_new None) (new_ones moved pairs ps old) ≡ keys_touching_only_in old (new_ones moved pairs ps old)
+fresh_is : (moved : ℕ → Bool) (pairs : List BodyPair) (ps : List Proxy) (old : List ContactEntry) → filter_map (key_if_new None) (new_ones moved pairs ps old) ≡ keys_touching_only_in old (new_ones moved pairs ps old)
 unfolding key_if_touching
 fresh_is moved pairs ps old = picked_same _ _ (new_ones moved pairs ps old) (λ e i. ap (λ (o : Option ContactEntry). key_if_new o e) (sym (fresh_none moved pairs ps old e i)))
 
-pub begin_is : (moved : ℕ → Bool) (pairs : List ℕ) (ps : List Proxy) (old : List ContactEntry) → IsProxyList ps → AreKeysRising old → IsKnown moved pairs ps old → merged key_number (filter_map (key_if_new None) (contacts_of old ps (fresh moved pairs ps old))) (begun_keys moved pairs ps old) ≡ keys_touching_only_in old (contacts_of old ps (allowed_codes pairs ps))
+pub begin_is : (moved : ℕ → Bool) (pairs : List BodyPair) (ps : List Proxy) (old : List ContactEntry) → IsProxyList ps → AreKeysRising old → IsKnown moved pairs ps old → merged key_number (filter_map (key_if_new None) (contacts_of old ps (fresh moved pairs ps old))) (begun_keys moved pairs ps old) ≡ keys_touching_only_in old (contacts_of old ps (allowed_codes pairs ps))
 begin_is moved pairs ps old list keys known =
     let F : List ContactEntry = new_ones moved pairs ps old in
     let K : List ContactEntry = old_ones moved pairs ps old in
@@ -217,12 +218,12 @@ ascending number (x ∷ l) r (suc i) (suc j) d lt w = ascending number l r.1 i j
 pub increasing_ascends : {X : Type 0} (number : X → ℕ) (l : List X) → IsStrictlyIncreasing (map number l) → AreAscending number l
 increasing_ascends number l h = ascending number l (rising_from_increasing (map number l) h)
 
-pub begun_ascend : (moved : ℕ → Bool) (pairs : List ℕ) (ps : List Proxy) (old : List ContactEntry) → AreKeysRising old → AreAscending key_number (begun_keys moved pairs ps old)
+pub begun_ascend : (moved : ℕ → Bool) (pairs : List BodyPair) (ps : List Proxy) (old : List ContactEntry) → AreKeysRising old → AreAscending key_number (begun_keys moved pairs ps old)
 begun_ascend moved pairs ps old keys = subst (λ (ks : List ContactKey). AreAscending key_number ks) (begun_is moved pairs ps old keys) (increasing_ascends key_number (keys_touching_only_in old (old_ones moved pairs ps old)) (keys_touching_rise old (old_ones moved pairs ps old) (increasing_from_rising (map entry_number (old_ones moved pairs ps old)) (old_rise moved pairs ps old keys))))
 
 -- ---- the contacts themselves
 
-pub after_are_contacts : (pairs : List ℕ) (ps : List Proxy) (old : List ContactEntry) → IsProxyList ps → AreContacts old → AreContacts (contacts_of old ps (allowed_codes pairs ps))
+pub after_are_contacts : (pairs : List BodyPair) (ps : List Proxy) (old : List ContactEntry) → IsProxyList ps → AreContacts old → AreContacts (contacts_of old ps (allowed_codes pairs ps))
 after_are_contacts pairs ps old list are = record {
   rising = contacts_rise old ps (allowed_codes pairs ps) list (allowed_are_pairs pairs ps list);
   surfaces = surfaces_of old ps (allowed_codes pairs ps) are.surfaces list (allowed_are_pairs pairs ps list);
@@ -230,14 +231,14 @@ after_are_contacts pairs ps old list are = record {
 
 -- ---- as the code has them
 
-pub begin_from : (moved : ℕ → Bool) (pairs : List ℕ) (ps : List Proxy) (old new : List ContactEntry) (first second begin : List ContactKey) → IsProxyList ps → AreKeysRising old → IsKnown moved pairs ps old → new ≡ contacts_of old ps (fresh moved pairs ps old) → first ≡ filter_map (key_if_new None) new → second ≡ begun_keys moved pairs ps old → begin ≡ merged key_number first second → begin ≡ keys_touching_only_in old (contacts_of old ps (allowed_codes pairs ps))
+pub begin_from : (moved : ℕ → Bool) (pairs : List BodyPair) (ps : List Proxy) (old new : List ContactEntry) (first second begin : List ContactKey) → IsProxyList ps → AreKeysRising old → IsKnown moved pairs ps old → new ≡ contacts_of old ps (fresh moved pairs ps old) → first ≡ filter_map (key_if_new None) new → second ≡ begun_keys moved pairs ps old → begin ≡ merged key_number first second → begin ≡ keys_touching_only_in old (contacts_of old ps (allowed_codes pairs ps))
 begin_from moved pairs ps old new first second begin list keys known made one two is =
     is ∙ ap (λ (l : List ContactKey). merged key_number l second) (one ∙ ap (filter_map (key_if_new None)) made) ∙ ap (λ (l : List ContactKey). merged key_number (filter_map (key_if_new None) (contacts_of old ps (fresh moved pairs ps old))) l) two ∙ begin_is moved pairs ps old list keys known
 
-pub begin_rises : (pairs : List ℕ) (ps : List Proxy) (old : List ContactEntry) (begin : List ContactKey) → IsProxyList ps → begin ≡ keys_touching_only_in old (contacts_of old ps (allowed_codes pairs ps)) → AreRising begin
+pub begin_rises : (pairs : List BodyPair) (ps : List Proxy) (old : List ContactEntry) (begin : List ContactKey) → IsProxyList ps → begin ≡ keys_touching_only_in old (contacts_of old ps (allowed_codes pairs ps)) → AreRising begin
 begin_rises pairs ps old begin list is = subst AreRising (sym is) (keys_touching_rise old (contacts_of old ps (allowed_codes pairs ps)) (contacts_rise old ps (allowed_codes pairs ps) list (allowed_are_pairs pairs ps list)))
 
-pub end_rises : (pairs : List ℕ) (ps : List Proxy) (old : List ContactEntry) (end : List ContactKey) → AreKeysRising old → end ≡ keys_touching_only_in (contacts_of old ps (allowed_codes pairs ps)) old → AreRising end
+pub end_rises : (pairs : List BodyPair) (ps : List Proxy) (old : List ContactEntry) (end : List ContactKey) → AreKeysRising old → end ≡ keys_touching_only_in (contacts_of old ps (allowed_codes pairs ps)) old → AreRising end
 end_rises pairs ps old end keys is = subst AreRising (sym is) (keys_touching_rise (contacts_of old ps (allowed_codes pairs ps)) old keys)
 
 -- ---- the list made anew
@@ -258,7 +259,7 @@ merged_turn true a es fresh all more whole place next first second added so =
 merged_turn false a es fresh all more whole place next first second added so = rw (added.0, added.1) so
 
 -- one more contact has had its turn
-pub turn_more : (moved : ℕ → Bool) (pairs : List ℕ) (ps : List Proxy) (old : List ContactEntry) (k : ℕ) (e d : ContactEntry) (turn : Turn) (new all more whole : List ContactEntry) (place next : ℕ) → k < length old → e ≡ get_or old k d → turned e turn ≡ outcome moved pairs ps e → AreKeysRising old → AreAscending entry_number new
+pub turn_more : (moved : ℕ → Bool) (pairs : List BodyPair) (ps : List Proxy) (old : List ContactEntry) (k : ℕ) (e d : ContactEntry) (turn : Turn) (new all more whole : List ContactEntry) (place next : ℕ) → k < length old → e ≡ get_or old k d → turned e turn ≡ outcome moved pairs ps e → AreKeysRising old → AreAscending entry_number new
     → IsAdded (turned e turn) new place next all more → (all ++ merged entry_number (map (again ps) (staying moved pairs ps (drop k old))) (drop place new)) ≡ whole → (more ++ merged entry_number (map (again ps) (staying moved pairs ps (drop (k + 1) old))) (drop next new)) ≡ whole
 turn_more moved pairs ps old k e d turn new all more whole place next lt is turns keys rises added so =
     let rest : List ContactEntry = old_ones moved pairs ps (drop (suc k) old) in
@@ -277,11 +278,11 @@ merged_swaps : (es fs : List ContactEntry) → IsRising (map entry_number es) �
 merged_swaps es fs r s n =
     same_members entry_number (merged entry_number es fs) (merged entry_number fs es) (merged_rises entry_number es fs r s n) (merged_rises entry_number fs es s r (λ m i j. n m j i)) (λ k i. merged_has entry_number k fs es (swap (merged_is entry_number k es fs i))) (λ k i. merged_has entry_number k es fs (swap (merged_is entry_number k fs es i)))
 
-all_is : (moved : ℕ → Bool) (pairs : List ℕ) (ps : List Proxy) (old : List ContactEntry) → IsProxyList ps → AreKeysRising old → IsKnown moved pairs ps old → merged entry_number (old_ones moved pairs ps old) (new_ones moved pairs ps old) ≡ contacts_of old ps (allowed_codes pairs ps)
+all_is : (moved : ℕ → Bool) (pairs : List BodyPair) (ps : List Proxy) (old : List ContactEntry) → IsProxyList ps → AreKeysRising old → IsKnown moved pairs ps old → merged entry_number (old_ones moved pairs ps old) (new_ones moved pairs ps old) ≡ contacts_of old ps (allowed_codes pairs ps)
 all_is moved pairs ps old list keys known =
     merged_swaps (old_ones moved pairs ps old) (new_ones moved pairs ps old) (old_rise moved pairs ps old keys) (new_rise moved pairs ps old list) (λ m i j. apart moved pairs ps old m j i) ∙ sym (contacts_in_parts-holds moved pairs ps old list keys known)
 
-pub all_from : (moved : ℕ → Bool) (pairs : List ℕ) (ps : List Proxy) (old new all : List ContactEntry) → IsProxyList ps → AreKeysRising old → IsKnown moved pairs ps old → new ≡ contacts_of old ps (fresh moved pairs ps old) → all ≡ merged entry_number (map (again ps) (staying moved pairs ps old)) new → all ≡ contacts_of old ps (allowed_codes pairs ps)
+pub all_from : (moved : ℕ → Bool) (pairs : List BodyPair) (ps : List Proxy) (old new all : List ContactEntry) → IsProxyList ps → AreKeysRising old → IsKnown moved pairs ps old → new ≡ contacts_of old ps (fresh moved pairs ps old) → all ≡ merged entry_number (map (again ps) (staying moved pairs ps old)) new → all ≡ contacts_of old ps (allowed_codes pairs ps)
 all_from moved pairs ps old new all list keys known made are = are ∙ ap (λ (l : List ContactEntry). merged entry_number (old_ones moved pairs ps old) l) made ∙ all_is moved pairs ps old list keys known
 
 -- ---- in the code

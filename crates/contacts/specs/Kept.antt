@@ -3,6 +3,7 @@ use Rattle.std.specs.Prelude.{ℕ, Bool, List}
 use Rattle.contacts_base.specs.declared.contact.ContactEntry.{ContactEntry}
 use Rattle.contacts_base.specs.declared.near.Proxy.{Proxy}
 use Rattle.contacts_base.specs.Near.{IsProxyList}
+use Rattle.contacts.specs.declared.forbidden.BodyPair.{BodyPair}
 use Rattle.contacts.specs.declared.due.Touches.{Touches}
 use Rattle.contacts.specs.Changes.{AreRising}
 use Rattle.contacts.specs.Due.{IsDue}
@@ -23,14 +24,14 @@ pub record IsKeptContacts (a : Inside) : Type 0 where
   pub due : IsDue a.due a.contacts
 
 -- what a collide stands on: shapes in their order, marks for all of their bodies, and contacts that tell which of those that aren't marked are near
-pub record CanCollide (ps : List Proxy) (marks : List Bool) (marked : List ℕ) (forbidden : List ℕ) (contacts : List ContactEntry) : Type 0 where
+pub record CanCollide (ps : List Proxy) (marks : List Bool) (marked : List ℕ) (forbidden : List BodyPair) (contacts : List ContactEntry) : Type 0 where
   pub shapes : IsProxyList ps
   pub within : AreWithin marks ps
   pub listed : AreListed marks marked
   pub known : IsKnown (moved_by marks) forbidden ps contacts
 
 -- what a collide makes of the contacts, and what touches by it, which ascends
-pub record IsMadeOf (ps : List Proxy) (forbidden : List ℕ) (old now : List ContactEntry) (t : Touches) : Type 0 where
+pub record IsMadeOf (ps : List Proxy) (forbidden : List BodyPair) (old now : List ContactEntry) (t : Touches) : Type 0 where
   pub made : IsMade forbidden ps old now t.begin.items t.end.items
   pub begin_rising : AreRising t.begin.items
   pub end_rising : AreRising t.end.items

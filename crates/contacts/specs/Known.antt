@@ -7,6 +7,7 @@ use Rattle.contacts_base.specs.declared.contact.ContactEntry.{ContactEntry}
 use Rattle.contacts_base.specs.Keys.{id_number, key_number}
 use Rattle.contacts_base.specs.Near.{IsProxyList, is_near, number_of}
 use Rattle.contacts_base.specs.Contacts.{lookup, AreKeysRising, number_of as entry_number}
+use Rattle.contacts.specs.declared.forbidden.BodyPair.{BodyPair}
 use Rattle.contacts.specs.Changes.{contact_with, contacts_of}
 use Rattle.contacts.specs.Forbidden.{is_forbidden, allowed_codes}
 use Rattle.contacts_base.specs.Merge.{merged}
@@ -18,16 +19,16 @@ found [] n = None
 found (p ∷ ps) n = cond (number_of p == n) (Some p) (found ps n)
 
 -- the two shapes are near, and nothing keeps their bodies from colliding
-abbrev pub may_touch : List ℕ → Proxy → Proxy → Bool
+abbrev pub may_touch : List BodyPair → Proxy → Proxy → Bool
 may_touch pairs p q = cond (is_near p q) (not (is_forbidden pairs p q)) false
 
-abbrev pub both_near : List ℕ → Option Proxy → Option Proxy → Bool
+abbrev pub both_near : List BodyPair → Option Proxy → Option Proxy → Bool
 both_near pairs None q = false
 both_near pairs (Some p) None = false
 both_near pairs (Some p) (Some q) = may_touch pairs p q
 
 -- both shapes are there, are near, and may touch
-abbrev pub near_key : List ℕ → List Proxy → ContactKey → Bool
+abbrev pub near_key : List BodyPair → List Proxy → ContactKey → Bool
 near_key pairs ps k = both_near pairs (found ps (id_number k.first)) (found ps (id_number k.second))
 
 -- there is a contact with the key
@@ -46,13 +47,13 @@ abbrev pub either_moved : (ℕ → Bool) → ContactKey → Bool
 either_moved moved k = cond (moved (id_number k.first)) true (moved (id_number k.second))
 
 -- two shapes that haven't moved are near and may touch just where they have a contact
-pub record IsKnown (moved : ℕ → Bool) (pairs : List ℕ) (ps : List Proxy) (old : List ContactEntry) : Type 0 where
+pub record IsKnown (moved : ℕ → Bool) (pairs : List BodyPair) (ps : List Proxy) (old : List ContactEntry) : Type 0 where
   pub keys : All (λ e. IsPairKey e.key) old
   pub still : (k : ContactKey) → IsPairKey k → either_moved moved k ≡ false → near_key pairs ps k ≡ has_key old k
 
 -- what two shapes were to one another is what they are now: neither had moved, they are as near as they were, and they have a contact where they
 -- had one
-pub record IsSameOf (moved : ℕ → Bool) (pairs later : List ℕ) (ps qs : List Proxy) (old now : List ContactEntry) (k : ContactKey) : Type 0 where
+pub record IsSameOf (moved : ℕ → Bool) (pairs later : List BodyPair) (ps qs : List Proxy) (old now : List ContactEntry) (k : ContactKey) : Type 0 where
   pub unmoved : either_moved moved k ≡ false
   pub near : near_key later qs k ≡ near_key pairs ps k
   pub contact : has_key now k ≡ has_key old k
@@ -60,17 +61,17 @@ pub record IsSameOf (moved : ℕ → Bool) (pairs later : List ℕ) (ps qs : Lis
 -- ---- the near pairs in two parts
 
 -- the contact stays: its shapes haven't moved, or they are still near
-abbrev pub stays : (ℕ → Bool) → List ℕ → List Proxy → ContactEntry → Bool
+abbrev pub stays : (ℕ → Bool) → List BodyPair → List Proxy → ContactEntry → Bool
 stays moved pairs ps e = cond (either_moved moved e.key) (near_key pairs ps e.key) true
 
-abbrev pub staying : (ℕ → Bool) → List ℕ → List Proxy → List ContactEntry → List ContactEntry
+abbrev pub staying : (ℕ → Bool) → List BodyPair → List Proxy → List ContactEntry → List ContactEntry
 staying moved pairs ps old = filter (stays moved pairs ps) old
 
 -- the pair has a shape that has moved, and no contact
 abbrev pub is_fresh : (ℕ → Bool) → List Proxy → List ContactEntry → ℕ → Bool
 is_fresh moved ps old c = cond (either_moved moved (pair_key ps c)) (not (has_key old (pair_key ps c))) false
 
-abbrev pub fresh : (ℕ → Bool) → List ℕ → List Proxy → List ContactEntry → List ℕ
+abbrev pub fresh : (ℕ → Bool) → List BodyPair → List Proxy → List ContactEntry → List ℕ
 fresh moved pairs ps old = filter (is_fresh moved ps old) (allowed_codes pairs ps)
 
 abbrev pub code_number : List Proxy → ℕ → ℕ
@@ -82,15 +83,15 @@ all_still n = false
 
 -- the near pairs are the contacts that stay and the fresh ones
 abbrev pub NearAreKnown : Type 0
-NearAreKnown = (moved : ℕ → Bool) (pairs : List ℕ) (ps : List Proxy) (old : List ContactEntry) → IsProxyList ps → IsKnown moved pairs ps old → (n : ℕ) → Contains (map (code_number ps) (allowed_codes pairs ps)) n ↔ (Contains (map entry_number (staying moved pairs ps old)) n ⊎ Contains (map (code_number ps) (fresh moved pairs ps old)) n)
+NearAreKnown = (moved : ℕ → Bool) (pairs : List BodyPair) (ps : List Proxy) (old : List ContactEntry) → IsProxyList ps → IsKnown moved pairs ps old → (n : ℕ) → Contains (map (code_number ps) (allowed_codes pairs ps)) n ↔ (Contains (map entry_number (staying moved pairs ps old)) n ⊎ Contains (map (code_number ps) (fresh moved pairs ps old)) n)
 
 -- after a collide all is known, with nothing moved
 abbrev pub AllKnownAfter : Type 0
-AllKnownAfter = (pairs : List ℕ) (ps : List Proxy) (old : List ContactEntry) → IsProxyList ps → IsKnown all_still pairs ps (contacts_of old ps (allowed_codes pairs ps))
+AllKnownAfter = (pairs : List BodyPair) (ps : List Proxy) (old : List ContactEntry) → IsProxyList ps → IsKnown all_still pairs ps (contacts_of old ps (allowed_codes pairs ps))
 
 -- it stays so under a change that marks as moved whatever it changes
 abbrev pub KnownStays : Type 0
-KnownStays = (moved after : ℕ → Bool) (pairs later : List ℕ) (ps qs : List Proxy) (old now : List ContactEntry) → IsKnown moved pairs ps old → All (λ e. IsPairKey e.key) now → ((k : ContactKey) → IsPairKey k → either_moved after k ≡ false → IsSameOf moved pairs later ps qs old now k) → IsKnown after later qs now
+KnownStays = (moved after : ℕ → Bool) (pairs later : List BodyPair) (ps qs : List Proxy) (old now : List ContactEntry) → IsKnown moved pairs ps old → All (λ e. IsPairKey e.key) now → ((k : ContactKey) → IsPairKey k → either_moved after k ≡ false → IsSameOf moved pairs later ps qs old now k) → IsKnown after later qs now
 
 -- ---- the contacts of a collide in two parts
 
@@ -105,4 +106,4 @@ again ps e = again_of e (found ps (id_number e.key.first)) (found ps (id_number 
 
 -- the contacts after a collide: those that stay, evaluated in their places, with those of the fresh pairs put in
 abbrev pub ContactsInParts : Type 0
-ContactsInParts = (moved : ℕ → Bool) (pairs : List ℕ) (ps : List Proxy) (old : List ContactEntry) → IsProxyList ps → AreKeysRising old → IsKnown moved pairs ps old → contacts_of old ps (allowed_codes pairs ps) ≡ merged entry_number (contacts_of old ps (fresh moved pairs ps old)) (map (again ps) (staying moved pairs ps old))
+ContactsInParts = (moved : ℕ → Bool) (pairs : List BodyPair) (ps : List Proxy) (old : List ContactEntry) → IsProxyList ps → AreKeysRising old → IsKnown moved pairs ps old → contacts_of old ps (allowed_codes pairs ps) ≡ merged entry_number (contacts_of old ps (fresh moved pairs ps old)) (map (again ps) (staying moved pairs ps old))

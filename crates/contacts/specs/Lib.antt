@@ -7,6 +7,7 @@ pub mod Stirring
 pub mod NearMarked
 pub mod Constraints
 pub mod Forbidden
+pub mod ByPairs
 pub mod Inside
 pub mod Due
 pub mod Looked

@@ -7,6 +7,7 @@ use Rattle.contacts_base.specs.declared.near.Proxy.{Proxy}
 use Rattle.contacts_base.specs.declared.contact.ContactEntry.{ContactEntry}
 use Rattle.contacts_base.specs.Keys.{key_number}
 use Rattle.contacts_base.specs.Near.{is_near, number_of}
+use Rattle.contacts.specs.declared.forbidden.BodyPair.{BodyPair}
 use Rattle.contacts.specs.Changes.{entry_with}
 use Rattle.contacts.specs.Known.{either_moved, found, has_key, may_touch}
 use Rattle.contacts.specs.Pairs.{key_of}
@@ -55,15 +56,15 @@ IsExtended numbers more = (n : ℕ) → Contains numbers n → Contains more n
 -- ---- their contacts
 
 -- the contact of two shapes, if the first is the lesser, they may touch, one has moved, and they have none yet
-abbrev pub fresh_of : (ℕ → Bool) → List ℕ → List ContactEntry → Proxy → Proxy → Option ContactEntry
+abbrev pub fresh_of : (ℕ → Bool) → List BodyPair → List ContactEntry → Proxy → Proxy → Option ContactEntry
 fresh_of moved pairs old p q = cond (nat_lt (number_of p) (number_of q)) (cond (may_touch pairs p q) (cond (either_moved moved (key_of p q)) (cond (has_key old (key_of p q)) None (Some (entry_with None p q))) None) None) None
 
 -- of shapes that may not be there
-abbrev pub fresh_of_both : (ℕ → Bool) → List ℕ → List ContactEntry → Option Proxy → Option Proxy → Option ContactEntry
+abbrev pub fresh_of_both : (ℕ → Bool) → List BodyPair → List ContactEntry → Option Proxy → Option Proxy → Option ContactEntry
 fresh_of_both moved pairs old None r = None
 fresh_of_both moved pairs old (Some p) None = None
 fresh_of_both moved pairs old (Some p) (Some q) = fresh_of moved pairs old p q
 
 -- of the shapes of a key's number
-abbrev pub fresh_by : (ℕ → Bool) → List ℕ → List Proxy → List ContactEntry → ℕ → Option ContactEntry
+abbrev pub fresh_by : (ℕ → Bool) → List BodyPair → List Proxy → List ContactEntry → ℕ → Option ContactEntry
 fresh_by moved pairs ps old n = cond (nat_lt n (2 ^ 80)) (fresh_of_both moved pairs old (found ps (n / 2 ^ 40)) (found ps (n % 2 ^ 40))) None

@@ -6,11 +6,12 @@ use Rattle.contacts_base.specs.declared.key.ContactKey.{ContactKey}
 use Rattle.contacts_base.specs.declared.contact.ContactEntry.{ContactEntry}
 use Rattle.contacts_base.specs.Contacts.{number_of as entry_number}
 use Rattle.contacts_base.specs.Keys.{id_number}
+use Rattle.contacts.specs.declared.forbidden.BodyPair.{BodyPair}
 use Rattle.contacts.specs.declared.turns.Turn.{Turn}
 use Rattle.contacts.specs.declared.turns.Turn.TheVariants.{Stays, Goes, Renewed}
 use Rattle.contacts_base.specs.declared.split.Renewal.{Renewal}
-use Rattle.contacts.specs.Changes.{contacts_of, key_if_new, keys_touching_only_in}
-use Rattle.contacts.specs.Forbidden.{allowed_codes}
+use Rattle.contacts.specs.ByPairs.{contacts_between}
+use Rattle.contacts.specs.Changes.{key_if_new, keys_touching_only_in}
 use Rattle.contacts.specs.Known.{again, found, stays}
 use Rattle.contacts_base.specs.Merge.{below_of, beyond_of}
 
@@ -40,7 +41,7 @@ turned e Goes = None
 turned e (Renewed c) = Some (record e { contact = c })
 
 -- what becomes of the contact: evaluated anew in its place, or gone
-abbrev pub outcome : (ℕ → Bool) → List ℕ → List Proxy → ContactEntry → Option ContactEntry
+abbrev pub outcome : (ℕ → Bool) → List BodyPair → List Proxy → ContactEntry → Option ContactEntry
 outcome moved pairs ps e = cond (stays moved pairs ps e) (Some (again ps e)) None
 
 -- its key, if it touches after its turn and didn't before
@@ -51,11 +52,11 @@ key_if_begun e (Some f) = key_if_new (Some e) f
 -- ---- all of them
 
 -- the keys of those that begin to touch
-abbrev pub begun_keys : (ℕ → Bool) → List ℕ → List Proxy → List ContactEntry → List ContactKey
+abbrev pub begun_keys : (ℕ → Bool) → List BodyPair → List Proxy → List ContactEntry → List ContactKey
 begun_keys moved pairs ps old = filter_map (λ e. key_if_begun e (outcome moved pairs ps e)) old
 
 -- of those that touched, and don't any more or are gone
-abbrev pub ended_keys : (ℕ → Bool) → List ℕ → List Proxy → List ContactEntry → List ContactKey
+abbrev pub ended_keys : (ℕ → Bool) → List BodyPair → List Proxy → List ContactEntry → List ContactKey
 ended_keys moved pairs ps old = filter_map (λ e. key_if_new (outcome moved pairs ps e) e) old
 
 -- what a turn notes of the contact at a place
@@ -74,7 +75,7 @@ IsAdded (Some f) fresh place next all more = (more ≡ (all ++ below_of entry_nu
 -- ---- the whole
 
 -- what a collide makes of the contacts, and which begin and end to touch
-pub record IsMade (pairs : List ℕ) (ps : List Proxy) (old now : List ContactEntry) (begin end : List ContactKey) : Type 0 where
-  pub now_is : now ≡ contacts_of old ps (allowed_codes pairs ps)
-  pub begin_is : begin ≡ keys_touching_only_in old (contacts_of old ps (allowed_codes pairs ps))
-  pub end_is : end ≡ keys_touching_only_in (contacts_of old ps (allowed_codes pairs ps)) old
+pub record IsMade (pairs : List BodyPair) (ps : List Proxy) (old now : List ContactEntry) (begin end : List ContactKey) : Type 0 where
+  pub now_is : now ≡ contacts_between pairs ps old
+  pub begin_is : begin ≡ keys_touching_only_in old (contacts_between pairs ps old)
+  pub end_is : end ≡ keys_touching_only_in (contacts_between pairs ps old) old

@@ -4,9 +4,9 @@ ghost use Rattle.std.specs.Prelude.{◌≡◌, ◌<◌, ◌≤◌, ◌-◌, ◌�
 ghost use Rattle.std.specs.Result.{IsOkUnless};
 ghost use Rattle.contacts_base.specs.Contacts.{AreContacts};
 ghost use Rattle.contacts_base.specs.Near.{IsProxy, IsProxyList, number_of, near_codes};
-ghost use Rattle.contacts.specs.Forbidden.{allowed_codes};
+ghost use Rattle.contacts.specs.ByPairs.{contacts_between};
 ghost use Rattle.contacts.specs.Pairs.{ArePairs};
-ghost use Rattle.contacts.specs.Changes.{AreRising, contacts_of, keys_not_in, keys_touching_only_in};
+ghost use Rattle.contacts.specs.Changes.{AreRising, keys_not_in, keys_touching_only_in};
 
 use crate::changes::{Changes, update};
 use crate::forbidden::{ForbiddenPairs, list_allowed};
@@ -162,7 +162,7 @@ impl BroadPhase {
     ) -> Result<Changes, Refusal>
         requires old { AreContacts old.now }
         ensures kept { self.new ≡ self.old }
-        ensures now { IfOk result (λ changes. changes.now ≡ contacts_of old.now self.old (allowed_codes (F.numbers forbidden.now) self.old)) }
+        ensures now { IfOk result (λ changes. changes.now ≡ contacts_between (F.pairs forbidden.now) self.old old.now) }
         ensures made { IfOk result (λ changes. changes.made.items ≡ keys_not_in old.now changes.now) }
         ensures gone { IfOk result (λ changes. changes.gone.items ≡ keys_not_in changes.now old.now) }
         ensures begin { IfOk result (λ changes. changes.begin.items ≡ keys_touching_only_in old.now changes.now) }

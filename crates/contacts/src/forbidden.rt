@@ -1,38 +1,50 @@
 //! Pairs of bodies that something keeps from colliding.
 
-ghost use Rattle.std.specs.Prelude.{◌≡◌, ◌==◌, ◌++◌, ◌∷◌, ℕ, [], List, cond, filter, OnOk};
+ghost use Rattle.std.specs.Prelude.{◌≡◌, ◌++◌, ◌∷◌, [], List, cond, filter, OnOk};
 ghost use Rattle.std.specs.List.{list_any};
 ghost use Rattle.std.specs.Result.{IsOkUnless};
-ghost use Rattle.contacts.specs.Forbidden.{is_allowed, is_forbidden, pair_number};
+ghost use Rattle.contacts.specs.declared.forbidden.BodyPair.{BodyPair as TheBodyPair};
+ghost use Rattle.contacts.specs.Forbidden.{is_allowed, is_forbidden, is_in_order, is_pair_of};
 ghost use Rattle.contacts.specs.Pairs.{IsPair, ArePairs};
 
 use contacts_base::Proxy;
 use fixed_geom::Refusal;
 
-/// Pairs of bodies that may not collide. Contracts see their numbers (`numbers`), as `pair_number` tells them: a pair's number may stand there more
-/// than once.
+/// Two bodies, by their slots.
+#[derive(Clone, Copy)]
+pub struct BodyPair {
+    pub a: u32,
+    pub b: u32,
+}
+
+impl BodyPair {
+    /// Whether it is of the bodies in these two slots, in this order.
+    fn is_in_order(&self, a: u32, b: u32) -> bool
+        ensures { result ≡ is_in_order a b self.now }
+    {
+        self.a == a && self.b == b
+    }
+
+    /// Whether it is of the bodies in these two slots, whichever comes first.
+    pub fn is_of(&self, a: u32, b: u32) -> bool
+        ensures { result ≡ is_pair_of a b self.now }
+    {
+        self.is_in_order(a, b) || self.is_in_order(b, a)
+    }
+}
+
+/// Pairs of bodies that may not collide (`pairs`): a pair may stand there more than once.
 pub trait ForbiddenPairs {
-    ghost numbers: { Self → List ℕ };
+    ghost pairs: { Self → List TheBodyPair };
 
     /// Whether the bodies in two slots are one of the pairs, whichever comes first.
     fn forbids(&self, a: u32, b: u32) -> bool
-        ensures { result ≡ list_any (λ n. n == pair_number a b) (numbers self.now) };
-}
-
-/// The number of a pair of bodies, by their slots: the same whichever comes first.
-pub fn pair_number(a: u32, b: u32) -> u64
-    ensures { result ≡ pair_number a b }
-{
-    if a < b {
-        u64::from(a) * (1 << 32) + u64::from(b)
-    } else {
-        u64::from(b) * (1 << 32) + u64::from(a)
-    }
+        ensures { result ≡ list_any (is_pair_of a b) (pairs self.now) };
 }
 
 /// Whether the bodies of two shapes are among these pairs.
 pub(crate) fn is_forbidden<F: ForbiddenPairs>(forbidden: &F, p: &Proxy, q: &Proxy) -> bool
-    ensures { result ≡ is_forbidden (F.numbers forbidden.now) p.now q.now }
+    ensures { result ≡ is_forbidden (F.pairs forbidden.now) p.now q.now }
 {
     forbidden.forbids(p.id.slot, q.id.slot)
 }
@@ -40,7 +52,7 @@ pub(crate) fn is_forbidden<F: ForbiddenPairs>(forbidden: &F, p: &Proxy, q: &Prox
 /// Whether the bodies of the pair of shapes with this code aren't among these pairs.
 fn is_allowed<F: ForbiddenPairs>(forbidden: &F, proxies: &[Proxy], code: u64) -> bool
     requires pair { IsPair proxies.now code }
-    ensures { result ≡ is_allowed (F.numbers forbidden.now) proxies.now code }
+    ensures { result ≡ is_allowed (F.pairs forbidden.now) proxies.now code }
 {
     let first = (code / (1 << 32)) as usize;
     let second = (code % (1 << 32)) as usize;
@@ -67,7 +79,7 @@ pub(crate) fn list_allowed<F: ForbiddenPairs>(
     codes: &[u64],
 ) -> Result<(), Refusal>
     requires pairs { ArePairs proxies.now codes.now }
-    ensures listed { OnOk result (allowed.new.items ≡ filter (is_allowed (F.numbers forbidden.now) proxies.now) codes.now) }
+    ensures listed { OnOk result (allowed.new.items ≡ filter (is_allowed (F.pairs forbidden.now) proxies.now) codes.now) }
     ensures memory_only { IsOkUnless result Refusal.NoMemory }
 {
     allowed.clear();

@@ -7,9 +7,9 @@ ghost use Rattle.contacts_base.specs.declared.contact.ContactEntry.{ContactEntry
 ghost use Rattle.contacts_base.specs.Contacts.{AreContacts, contacts_without, impulses_given};
 ghost use Rattle.contacts_base.specs.Near.{IsProxyList};
 ghost use Rattle.contacts_base.specs.Split.{contacts_in};
-ghost use Rattle.contacts.specs.Changes.{AreRising, contacts_of, keys_touching_only_in};
+ghost use Rattle.contacts.specs.ByPairs.{contacts_between};
+ghost use Rattle.contacts.specs.Changes.{AreRising, keys_touching_only_in};
 ghost use Rattle.contacts.specs.Due.{IsDue, IsNothing, due_of};
-ghost use Rattle.contacts.specs.Forbidden.{allowed_codes};
 ghost use Rattle.contacts.specs.Known.{IsKnown};
 ghost use Rattle.contacts.specs.Stirring.{AreFlagsListed, AreHeld};
 ghost use Rattle.contacts.specs.Turns.{AreWithin, moved_by};
@@ -163,7 +163,7 @@ fn make_anew<S: ShapesByName, F: ForbiddenPairs>(
     ensures contacts { contacts_in contacts.new ≡ contacts_in contacts.old }
     ensures held { AreHeld beside.new.stirring contacts.new.long }
     ensures due { OnOk result (IsDue due.new contacts.new) }
-    ensures made { IfOk result (IsMadeOf (S.proxies shapes.now) (F.numbers forbidden.now) (contacts_in contacts.old) (due_of due.new contacts.new)) }
+    ensures made { IfOk result (IsMadeOf (S.proxies shapes.now) (F.pairs forbidden.now) (contacts_in contacts.old) (due_of due.new contacts.new)) }
     ensures any { due.new.any ≡ true }
     ensures memory_only { IsOkUnless result Refusal.NoMemory }
 {
@@ -190,13 +190,13 @@ fn make_known<S: ShapesByName, F: ForbiddenPairs>(
     forbidden: &F,
     contacts: &mut SplitContacts,
 ) -> Result<Touches, Refusal>
-    requires can { CanCollide (S.proxies shapes.now) marks.now marked.now (F.numbers forbidden.now) (contacts_in contacts.old) }
+    requires can { CanCollide (S.proxies shapes.now) marks.now marked.now (F.pairs forbidden.now) (contacts_in contacts.old) }
     requires held { AreHeld beside.old.stirring contacts.old.long }
     requires any { due.old.any ≡ true }
     ensures contacts { contacts_in contacts.new ≡ contacts_in contacts.old }
     ensures held { AreHeld beside.new.stirring contacts.new.long }
     ensures due { OnOk result (IsDue due.new contacts.new) }
-    ensures made { IfOk result (IsMadeOf (S.proxies shapes.now) (F.numbers forbidden.now) (contacts_in contacts.old) (due_of due.new contacts.new)) }
+    ensures made { IfOk result (IsMadeOf (S.proxies shapes.now) (F.pairs forbidden.now) (contacts_in contacts.old) (due_of due.new contacts.new)) }
     ensures any { due.new.any ≡ true }
     ensures memory_only { IsOkUnless result Refusal.NoMemory }
 {
@@ -234,14 +234,14 @@ fn make_due<S: ShapesByName, F: ForbiddenPairs>(
     forbidden: &F,
     contacts: &mut SplitContacts,
 ) -> Result<Touches, Refusal>
-    requires can { CanCollide (S.proxies shapes.now) marks.now marked.now (F.numbers forbidden.now) (contacts_in contacts.old) }
+    requires can { CanCollide (S.proxies shapes.now) marks.now marked.now (F.pairs forbidden.now) (contacts_in contacts.old) }
     requires held { AreHeld beside.old.stirring contacts.old.long }
     requires nothing { IsNothing due.old }
     requires any { due.old.any ≡ true }
     ensures contacts { contacts_in contacts.new ≡ contacts_in contacts.old }
     ensures held { AreHeld beside.new.stirring contacts.new.long }
     ensures due { OnOk result (IsDue due.new contacts.new) }
-    ensures made { IfOk result (IsMadeOf (S.proxies shapes.now) (F.numbers forbidden.now) (contacts_in contacts.old) (due_of due.new contacts.new)) }
+    ensures made { IfOk result (IsMadeOf (S.proxies shapes.now) (F.pairs forbidden.now) (contacts_in contacts.old) (due_of due.new contacts.new)) }
     ensures any { due.new.any ≡ true }
     ensures memory_only { IsOkUnless result Refusal.NoMemory }
 {
@@ -265,13 +265,13 @@ fn make_or_clear<S: ShapesByName, F: ForbiddenPairs>(
     forbidden: &F,
     contacts: &mut SplitContacts,
 ) -> Result<Touches, Refusal>
-    requires can { CanCollide (S.proxies shapes.now) marks.now marked.now (F.numbers forbidden.now) (contacts_in contacts.old) }
+    requires can { CanCollide (S.proxies shapes.now) marks.now marked.now (F.pairs forbidden.now) (contacts_in contacts.old) }
     requires held { AreHeld beside.old.stirring contacts.old.long }
     requires nothing { IsNothing due.old }
     ensures contacts { contacts_in contacts.new ≡ contacts_in contacts.old }
     ensures held { AreHeld beside.new.stirring contacts.new.long }
     ensures due { IsDue due.new contacts.new }
-    ensures made { IfOk result (IsMadeOf (S.proxies shapes.now) (F.numbers forbidden.now) (contacts_in contacts.old) (due_of due.new contacts.new)) }
+    ensures made { IfOk result (IsMadeOf (S.proxies shapes.now) (F.pairs forbidden.now) (contacts_in contacts.old) (due_of due.new contacts.new)) }
     ensures refused { OnErr result (due_of due.new contacts.new ≡ contacts_in contacts.old) }
     ensures memory_only { IsOkUnless result Refusal.NoMemory }
 {
@@ -424,12 +424,12 @@ impl KeptContacts {
         requires shapes { IsProxyList (S.proxies shapes.now) }
         requires within { AreWithin marks.now (S.proxies shapes.now) }
         requires listed { AreListed marks.now marked.now }
-        requires known { IsKnown (moved_by marks.now) (F.numbers forbidden.now) (S.proxies shapes.now) self.old.contacts }
+        requires known { IsKnown (moved_by marks.now) (F.pairs forbidden.now) (S.proxies shapes.now) self.old.contacts }
         ensures contacts { self.new.contacts ≡ self.old.contacts }
-        ensures due { OnOk result (self.new.due ≡ contacts_of self.old.contacts (S.proxies shapes.now) (allowed_codes (F.numbers forbidden.now) (S.proxies shapes.now))) }
+        ensures due { OnOk result (self.new.due ≡ contacts_between (F.pairs forbidden.now) (S.proxies shapes.now) self.old.contacts) }
         ensures refused { OnErr result (self.new.due ≡ self.old.contacts) }
-        ensures begin { IfOk result (λ touches. touches.begin.items ≡ keys_touching_only_in self.old.contacts (contacts_of self.old.contacts (S.proxies shapes.now) (allowed_codes (F.numbers forbidden.now) (S.proxies shapes.now)))) }
-        ensures end { IfOk result (λ touches. touches.end.items ≡ keys_touching_only_in (contacts_of self.old.contacts (S.proxies shapes.now) (allowed_codes (F.numbers forbidden.now) (S.proxies shapes.now))) self.old.contacts) }
+        ensures begin { IfOk result (λ touches. touches.begin.items ≡ keys_touching_only_in self.old.contacts (contacts_between (F.pairs forbidden.now) (S.proxies shapes.now) self.old.contacts)) }
+        ensures end { IfOk result (λ touches. touches.end.items ≡ keys_touching_only_in (contacts_between (F.pairs forbidden.now) (S.proxies shapes.now) self.old.contacts) self.old.contacts) }
         ensures begin_rising { IfOk result (λ touches. AreRising touches.begin.items) }
         ensures end_rising { IfOk result (λ touches. AreRising touches.end.items) }
         ensures memory_only { IsOkUnless result Refusal.NoMemory }

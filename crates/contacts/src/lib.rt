@@ -29,7 +29,9 @@ pub use broad_phase::BroadPhase;
 pub use changes::Changes;
 pub use constraint::Constraint;
 pub use due::{Touches, carry_out};
-pub use forbidden::{ForbiddenPairs, pair_number};
+pub use forbidden::{BodyPair, ForbiddenPairs};
 pub use kept_contacts::KeptContacts;
-pub use known::{all_known_after, contacts_in_parts, known_stays, near_are_known};
+pub use known::{
+    all_known_after, contacts_by_codes, contacts_in_parts, known_stays, near_are_known,
+};
 pub use turns::{ShapesByName, Turn};

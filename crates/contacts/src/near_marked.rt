@@ -221,7 +221,7 @@ fn fresh_of<F: ForbiddenPairs>(
 ) -> Option<ContactEntry>
     requires first { IsProxy p.now }
     requires second { IsProxy q.now }
-    ensures { result ≡ fresh_of (moved_by marks.now) (F.numbers forbidden.now) (contacts_in old.now) p.now q.now }
+    ensures { result ≡ fresh_of (moved_by marks.now) (F.pairs forbidden.now) (contacts_in old.now) p.now q.now }
 {
     if p.id.number() >= q.id.number() {
         return None;
@@ -252,7 +252,7 @@ fn fresh_by<S: ShapesByName, F: ForbiddenPairs>(
     number: u128,
 ) -> Option<ContactEntry>
     requires shapes { IsProxyList (S.proxies shapes.now) }
-    ensures { result ≡ fresh_by (moved_by marks.now) (F.numbers forbidden.now) (S.proxies shapes.now) (contacts_in old.now) number }
+    ensures { result ≡ fresh_by (moved_by marks.now) (F.pairs forbidden.now) (S.proxies shapes.now) (contacts_in old.now) number }
 {
     if number >= 1 << 80 {
         return None;
@@ -292,7 +292,7 @@ pub fn fresh_of_marked<S: ShapesByName, F: ForbiddenPairs>(
     requires shapes { IsProxyList (S.proxies shapes.now) }
     requires within { AreWithin marks.now (S.proxies shapes.now) }
     requires listed { AreListed marks.now marked.now }
-    ensures value { IfOk result (λ fresh. fresh.items ≡ contacts_of (contacts_in old.now) (S.proxies shapes.now) (fresh_codes (moved_by marks.now) (F.numbers forbidden.now) (S.proxies shapes.now) (contacts_in old.now))) }
+    ensures value { IfOk result (λ fresh. fresh.items ≡ contacts_of (contacts_in old.now) (S.proxies shapes.now) (fresh_codes (moved_by marks.now) (F.pairs forbidden.now) (S.proxies shapes.now) (contacts_in old.now))) }
     ensures memory_only { IsOkUnless result Refusal.NoMemory }
 {
     list_numbers(numbers, shapes, marked)?;

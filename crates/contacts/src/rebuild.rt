@@ -98,9 +98,9 @@ fn turn_each<S: ShapesByName, F: ForbiddenPairs>(
     requires keys { All (λ e. IsPairKey e.key) old.now }
     requires quiet { AreQuiet flags.now marks.now (S.proxies shapes.now) }
     requires fresh { AreAscending number_of fresh.now }
-    ensures all { IfOk result (λ found. found.all.items ≡ merged number_of (map (again (S.proxies shapes.now)) (staying (moved_by marks.now) (F.numbers forbidden.now) (S.proxies shapes.now) old.now)) fresh.now) }
-    ensures begin { IfOk result (λ found. found.begin.items ≡ begun_keys (moved_by marks.now) (F.numbers forbidden.now) (S.proxies shapes.now) old.now) }
-    ensures end { IfOk result (λ found. found.end.items ≡ ended_keys (moved_by marks.now) (F.numbers forbidden.now) (S.proxies shapes.now) old.now) }
+    ensures all { IfOk result (λ found. found.all.items ≡ merged number_of (map (again (S.proxies shapes.now)) (staying (moved_by marks.now) (F.pairs forbidden.now) (S.proxies shapes.now) old.now)) fresh.now) }
+    ensures begin { IfOk result (λ found. found.begin.items ≡ begun_keys (moved_by marks.now) (F.pairs forbidden.now) (S.proxies shapes.now) old.now) }
+    ensures end { IfOk result (λ found. found.end.items ≡ ended_keys (moved_by marks.now) (F.pairs forbidden.now) (S.proxies shapes.now) old.now) }
     ensures memory_only { IsOkUnless result Refusal.NoMemory }
 {
     let mut all = Vec::with_capacity(alloc, old.len().saturating_add(fresh.len()))?;
@@ -157,7 +157,7 @@ pub(crate) fn rebuild<S: ShapesByName, F: ForbiddenPairs>(
     requires keys { All (λ e. IsPairKey e.key) old.now }
     requires quiet { AreQuiet flags.now marks.now (S.proxies shapes.now) }
     requires fresh { AreKeysRising fresh.now }
-    ensures rebuilt { IfOk result (λ rebuilt. IsRebuilt (moved_by marks.now) (F.numbers forbidden.now) (S.proxies shapes.now) old.now fresh.now rebuilt.all.items rebuilt.touches.begin.items rebuilt.touches.end.items) }
+    ensures rebuilt { IfOk result (λ rebuilt. IsRebuilt (moved_by marks.now) (F.pairs forbidden.now) (S.proxies shapes.now) old.now fresh.now rebuilt.all.items rebuilt.touches.begin.items rebuilt.touches.end.items) }
     ensures memory_only { IsOkUnless result Refusal.NoMemory }
 {
     let survivors = turn_each(alloc, shapes, marks, forbidden, old, flags, fresh)?;

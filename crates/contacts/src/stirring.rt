@@ -361,7 +361,7 @@ pub(crate) fn turn_in<S: ShapesByName, F: ForbiddenPairs>(
     requires shapes { IsProxyList (S.proxies shapes.now) }
     requires quiet { AreQuiet flags.now marks.now (S.proxies shapes.now) }
     requires key { IsPairKey entry.now.key }
-    ensures { turned entry.now result ≡ outcome (moved_by marks.now) (F.numbers forbidden.now) (S.proxies shapes.now) entry.now }
+    ensures { turned entry.now result ≡ outcome (moved_by marks.now) (F.pairs forbidden.now) (S.proxies shapes.now) entry.now }
 {
     if !is_one_flagged(flags, entry) {
         return Turn::Stays;

@@ -32,7 +32,7 @@ fn look_at<S: ShapesByName, F: ForbiddenPairs>(
     place: usize,
 ) -> Result<Turn, Refusal>
     requires { IsProxyList (S.proxies shapes.now) }
-    ensures turn { IfOk result (λ turn. IsTurn (moved_by marks.now) (F.numbers forbidden.now) (S.proxies shapes.now) (counting_at old.now place) turn) }
+    ensures turn { IfOk result (λ turn. IsTurn (moved_by marks.now) (F.pairs forbidden.now) (S.proxies shapes.now) (counting_at old.now place) turn) }
     ensures notes { IfOk result (λ turn. notes.new.items ≡ notes.old.items ++ noted place turn) }
     ensures ends { IfOk result (λ turn. ends.new.items ≡ ends.old.items ++ ending place turn) }
     ensures begin { IfOk result (λ turn. touches.new.begin.items ≡ touches.old.begin.items ++ option_to_list (begun_of (counting_at old.now place) turn)) }
@@ -67,7 +67,7 @@ pub(crate) fn look_over<S: ShapesByName, F: ForbiddenPairs>(
     requires keys { All (λ e. IsPairKey e.key) (counting old.now.over old.now.long) }
     requires places { stirring.now.places.items ≡ stirring_places stirring.now.flags.items old.now.long }
     requires quiet { AreQuiet stirring.now.flags.items marks.now (S.proxies shapes.now) }
-    ensures looked { IfOk result (λ touches. IsLookedOver (moved_by marks.now) (F.numbers forbidden.now) (S.proxies shapes.now) old.now notes.new.items ends.new.items touches.begin.items touches.end.items) }
+    ensures looked { IfOk result (λ touches. IsLookedOver (moved_by marks.now) (F.pairs forbidden.now) (S.proxies shapes.now) old.now notes.new.items ends.new.items touches.begin.items touches.end.items) }
     ensures memory_only { IsOkUnless result Refusal.NoMemory }
 {
     notes.clear();

@@ -66,7 +66,7 @@ pub enum Turn {
 
 /// Whether two shapes are near, and nothing keeps their bodies from colliding.
 pub(crate) fn may_touch<F: ForbiddenPairs>(forbidden: &F, p: &Proxy, q: &Proxy) -> bool
-    ensures { result ≡ may_touch (F.numbers forbidden.now) p.now q.now }
+    ensures { result ≡ may_touch (F.pairs forbidden.now) p.now q.now }
 {
     if is_near(p, q) {
         !is_forbidden(forbidden, p, q)
@@ -82,7 +82,7 @@ fn is_near_key<S: ShapesByName, F: ForbiddenPairs>(
     forbidden: &F,
     key: ContactKey,
 ) -> bool
-    ensures { result ≡ near_key (F.numbers forbidden.now) (S.proxies shapes.now) key }
+    ensures { result ≡ near_key (F.pairs forbidden.now) (S.proxies shapes.now) key }
 {
     let Some(p) = shapes.shape(key.first) else {
         return false;
@@ -100,7 +100,7 @@ pub(crate) fn stays<S: ShapesByName, F: ForbiddenPairs>(
     forbidden: &F,
     key: ContactKey,
 ) -> bool
-    ensures { result ≡ cond (either_moved (moved_by marks.now) key) (near_key (F.numbers forbidden.now) (S.proxies shapes.now) key) true }
+    ensures { result ≡ cond (either_moved (moved_by marks.now) key) (near_key (F.pairs forbidden.now) (S.proxies shapes.now) key) true }
 {
     if either_moved(marks, key) {
         is_near_key(shapes, forbidden, key)
@@ -140,7 +140,7 @@ pub(crate) fn turn_of<S: ShapesByName, F: ForbiddenPairs>(
     entry: &ContactEntry,
 ) -> Turn
     requires shapes { IsProxyList (S.proxies shapes.now) }
-    ensures { turned entry.now result ≡ outcome (moved_by marks.now) (F.numbers forbidden.now) (S.proxies shapes.now) entry.now }
+    ensures { turned entry.now result ≡ outcome (moved_by marks.now) (F.pairs forbidden.now) (S.proxies shapes.now) entry.now }
 {
     if !stays(shapes, marks, forbidden, entry.key) {
         return Turn::Goes;

@@ -53,7 +53,7 @@ fn rebuild_if<S: ShapesByName, F: ForbiddenPairs>(
     requires keys { All (λ e. IsPairKey e.key) short.now }
     requires quiet { AreQuiet flags.now marks.now (S.proxies shapes.now) }
     requires fresh { AreKeysRising fresh.now }
-    ensures rebuilt { IfOk result (λ rebuilt. IsRebuiltIf (moved_by marks.now) (F.numbers forbidden.now) (S.proxies shapes.now) short.now fresh.now rebuilt) }
+    ensures rebuilt { IfOk result (λ rebuilt. IsRebuiltIf (moved_by marks.now) (F.pairs forbidden.now) (S.proxies shapes.now) short.now fresh.now rebuilt) }
     ensures memory_only { IsOkUnless result Refusal.NoMemory }
 {
     if fresh.is_empty() && !may_one_stir(flags, short) {
@@ -114,12 +114,12 @@ pub fn update_known<S: ShapesByName, F: ForbiddenPairs>(
     fresh: &[ContactEntry],
 ) -> Result<Touches, Refusal>
     requires shapes { IsProxyList (S.proxies shapes.now) }
-    requires known { IsKnown (moved_by marks.now) (F.numbers forbidden.now) (S.proxies shapes.now) (contacts_in old.now) }
+    requires known { IsKnown (moved_by marks.now) (F.pairs forbidden.now) (S.proxies shapes.now) (contacts_in old.now) }
     requires places { stirring.now.places.items ≡ stirring_places stirring.now.flags.items old.now.long }
     requires quiet { AreQuiet stirring.now.flags.items marks.now (S.proxies shapes.now) }
-    requires fresh { fresh.now ≡ contacts_of (contacts_in old.now) (S.proxies shapes.now) (fresh_codes (moved_by marks.now) (F.numbers forbidden.now) (S.proxies shapes.now) (contacts_in old.now)) }
+    requires fresh { fresh.now ≡ contacts_of (contacts_in old.now) (S.proxies shapes.now) (fresh_codes (moved_by marks.now) (F.pairs forbidden.now) (S.proxies shapes.now) (contacts_in old.now)) }
     ensures due { OnOk result (IsDue due.new old.now) }
-    ensures made { IfOk result (λ touches. IsMade (F.numbers forbidden.now) (S.proxies shapes.now) (contacts_in old.now) (due_of due.new old.now) touches.begin.items touches.end.items) }
+    ensures made { IfOk result (λ touches. IsMade (F.pairs forbidden.now) (S.proxies shapes.now) (contacts_in old.now) (due_of due.new old.now) touches.begin.items touches.end.items) }
     ensures begin_rising { IfOk result (λ touches. AreRising touches.begin.items) }
     ensures end_rising { IfOk result (λ touches. AreRising touches.end.items) }
     ensures memory_only { IsOkUnless result Refusal.NoMemory }

@@ -10,7 +10,7 @@ use Rattle.body_handles.specs.declared.places.Place.{Place}
 use Rattle.body_handles.specs.Places.{is_live}
 use Rattle.joint_rows.specs.Joints.{IsJoint}
 use Rattle.joint_rows.specs.declared.limits.TheConstants.{MAX_ANCHOR, MAX_JOINT_LENGTH}
-use Rattle.contacts.specs.Forbidden.{pair_number}
+use Rattle.contacts.specs.declared.forbidden.BodyPair.{BodyPair}
 use Rattle.plain_world.specs.declared.body.Body.{Body}
 use Rattle.plain_world.specs.declared.joint.BodyJoint.{BodyJoint}
 use Rattle.plain_world.specs.declared.joint.JointDef.{JointDef}
@@ -65,16 +65,16 @@ idle_joints slot joints = map (option_map (idle_if slot)) joints
 
 -- ---- which bodies joints keep from colliding
 
--- the number of the pair of bodies, if the joint keeps them from colliding
-abbrev pub forbidden_by : BodyJoint → Option ℕ
-forbidden_by j = cond j.collide None (Some (pair_number j.a j.b))
+-- the pair of bodies, if the joint keeps them from colliding
+abbrev pub forbidden_by : BodyJoint → Option BodyPair
+forbidden_by j = cond j.collide None (Some (record { a = j.a; b = j.b }))
 
-abbrev pub forbidden_in : Option BodyJoint → Option ℕ
+abbrev pub forbidden_in : Option BodyJoint → Option BodyPair
 forbidden_in None = None
 forbidden_in (Some j) = forbidden_by j
 
--- the numbers of all pairs of bodies that joints keep from colliding
-abbrev pub forbidden_pairs : List (Option BodyJoint) → List ℕ
+-- all pairs of bodies that joints keep from colliding
+abbrev pub forbidden_pairs : List (Option BodyJoint) → List BodyPair
 forbidden_pairs joints = filter_map forbidden_in joints
 
 -- ---- what must hold of joints

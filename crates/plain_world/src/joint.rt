@@ -6,7 +6,7 @@ ghost use Rattle.joint_rows.specs.Joints.{IsJoint};
 ghost use Rattle.plain_world.specs.Joints.{forbidden_by, is_joint_of, joint_made, joint_refusal};
 
 use body_handles::Handle;
-use contacts::pair_number;
+use contacts::BodyPair;
 use fixed_geom::{Refusal, Vec2, is_within};
 use joint_rows::{Joint, MAX_ANCHOR, MAX_JOINT_LENGTH};
 
@@ -28,14 +28,17 @@ impl BodyJoint {
         self.a == slot || self.b == slot
     }
 
-    /// The number of the pair of bodies that it keeps from colliding, if it does.
-    pub fn forbidden_pair(&self) -> Option<u64>
+    /// The pair of bodies that it keeps from colliding, if it does.
+    pub fn forbidden_pair(&self) -> Option<BodyPair>
         ensures { result ≡ forbidden_by self.now }
     {
         if self.collide {
             None
         } else {
-            Some(pair_number(self.a, self.b))
+            Some(BodyPair {
+                a: self.a,
+                b: self.b,
+            })
         }
     }
 }

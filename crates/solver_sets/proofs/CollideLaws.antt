@@ -15,8 +15,10 @@ use Rattle.contacts_base.specs.Contacts.{AreKeysRising, is_touching, lookup, num
 use Rattle.contacts_base.specs.Evaluate.{touches}
 use Rattle.contacts_base.specs.Keys.{key_number}
 use Rattle.contacts.specs.Changes.{key_if_new, key_if_touching, keys_touching_only_in}
-use Rattle.contacts.specs.Constraints.{constraint_number}
+use Rattle.body_handles.specs.declared.handle.Handle.{Handle}
+use Rattle.contacts.specs.Constraints.{constraint_number, joint_number}
 use Rattle.contacts.specs.declared.constraint.Constraint.{Constraint}
+use Rattle.contacts.specs.declared.constraint.Constraint.TheVariants.{Contact, Joint}
 use Rattle.contacts.proofs.Members.{IsIn, in_from_contains, contains_from_in}
 use Rattle.sleep_wake.specs.declared.change.Change.{Change}
 use Rattle.sleep_wake.specs.declared.change.Change.TheVariants.{Begin, End}
@@ -27,7 +29,7 @@ use Rattle.sleep_wake.proofs.BetweenLemmas.{changes_are}
 use Rattle.plain_world.specs.declared.body.Body.{Body}
 use Rattle.solver_sets.specs.Laws as laws
 use Rattle.solver_sets.specs.Tied.{AreJointSlots}
-use Rattle.solver_sets.specs.Ties.{Bond, IsNamed, JointSlots, bonds_of, contact_bond, key_changes, key_ties, tie_of, ties_of}
+use Rattle.solver_sets.specs.Ties.{Bond, IsNamed, IsNamedConstraint, IsNamedHandle, JointSlots, bonds_of, contact_bond, key_changes, key_ties, tie_of, ties_of}
 use Rattle.solver_sets.proofs.BondLaws.{bond_number, bonds_in, contact_above, in_bonds, joint_below, joints_in, joints_rise, rises_from_keys}
 use Rattle.solver_sets.proofs.ListLaws.{Rises, filter_in, in_filter, in_map, in_mapped, length_map, map_in, mapped_in, only_one, pairs_from_rises, rises_map, rises_mapped, same_members}
 use Rattle.solver_sets.proofs.MemberLaws.{no_id}
@@ -49,6 +51,20 @@ same_key a b p q e =
     ap₂ (λ (first second : ShapeId). record { first = first; second = second })
     (same_id a.first b.first (omega (arith, i, j, k, x, y, z, e)) (omega (arith, i, j, k, x, y, z, e)))
     (same_id a.second b.second (omega (arith, i, j, k, x, y, z, e)) (omega (arith, i, j, k, x, y, z, e)))
+
+same_handle : (a b : Handle) → IsNamedHandle a → IsNamedHandle b → joint_number a ≡ joint_number b → a ≡ b
+same_handle a b p q e =
+    let i = p.slot in
+    let j = p.generation in
+    let x = q.slot in
+    let y = q.generation in
+    ap₂ (λ (slot generation : ℕ). record { slot = slot; generation = generation }) (omega (arith, i, j, x, y, e)) (omega (arith, i, j, x, y, e))
+
+pub same_constraint : (a b : Constraint) → IsNamedConstraint a → IsNamedConstraint b → constraint_number a ≡ constraint_number b → a ≡ b
+same_constraint (Joint h) (Joint k) p q e = ap Joint (same_handle h k p q e)
+same_constraint (Joint h) (Contact key) p q e = let i = p.slot in let j = p.generation in absurd (omega (arith, i, j, e))
+same_constraint (Contact key) (Joint h) p q e = let i = q.slot in let j = q.generation in absurd (omega (arith, i, j, e))
+same_constraint (Contact key) (Contact other) p q e = ap Contact (same_key key other p q (omega (arith, e)))
 
 -- ---- contacts by their keys
 

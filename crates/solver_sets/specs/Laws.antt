@@ -12,6 +12,7 @@ use Rattle.graph_colours.specs.Colours.{all_members, ids_of}
 use Rattle.contacts_base.specs.declared.key.ContactKey.{ContactKey}
 use Rattle.contacts_base.specs.declared.contact.ContactEntry.{ContactEntry}
 use Rattle.contacts_base.specs.Contacts.{AreKeysRising, contacts_without}
+use Rattle.contacts_base.specs.Keys.{key_number}
 use Rattle.contacts.specs.declared.constraint.Constraint.{Constraint}
 use Rattle.contacts.specs.declared.constraint.Constraint.TheVariants.{Joint}
 use Rattle.contacts.specs.Constraints.{constraint_number}
@@ -41,6 +42,14 @@ TiesRise = (bodies : List (Option Body)) (s : JointSlots) (contacts : List Conta
 -- their names are within their ranges
 abbrev pub TiesAreNamed : Type 0
 TiesAreNamed = (bodies : List (Option Body)) (s : JointSlots) (contacts : List ContactEntry) (m : Member Constraint) → AreJointSlots s → All (λ (e : ContactEntry). IsNamed e.key) contacts → Contains (ties_of bodies s contacts) m → IsNamedConstraint m.id
+
+-- no two contacts have keys with one number, where the keys are within their ranges
+abbrev pub KeysTellApart : Type 0
+KeysTellApart = (a b : ContactKey) → IsNamed a → IsNamed b → key_number a ≡ key_number b → a ≡ b
+
+-- and no two constraints have one number
+abbrev pub ConstraintsTellApart : Type 0
+ConstraintsTellApart = (a b : Constraint) → IsNamedConstraint a → IsNamedConstraint b → constraint_number a ≡ constraint_number b → a ≡ b
 
 -- movers of two bodies have labels
 abbrev pub MoversHaveLabels : Type 0

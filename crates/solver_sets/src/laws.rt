@@ -1,6 +1,6 @@
 //! What is known of the ties of any world, and what changes of its bodies, joints and contacts do to them. Each function does nothing; its contract is a law.
 
-ghost use Rattle.solver_sets.specs.Laws.{ActingTellMoving, AlikeBodiesKeepTies, CensusListsEachOnce, ComingKeepsTies, DisablingTakesTies, EnablingAddsTies, FewBegin, GoingTakesTies, ImpulsesKeepTies, JoiningAddsTies, KeysCanTurn, KeysTurn, ListsAreCensus, ListsAreMembers, MoversHaveLabels, NoTiesOfDisabled, SameNamesSameTies, SameTouchingKeepTies, StirredArePicked, TiesAreNamed, TiesArePicked, TiesAtAreTies, TiesHaveLabels, TiesOfAMover, TiesOfNoMover, TellingKeepsTies, TiesRise, ToldAreTold, ToldBodiesTell, UnjoiningTakesTies};
+ghost use Rattle.solver_sets.specs.Laws.{ActingTellMoving, AlikeBodiesKeepTies, CensusListsEachOnce, ComingKeepsTies, ConstraintsTellApart, DisablingTakesTies, EnablingAddsTies, FewBegin, GoingTakesTies, ImpulsesKeepTies, JoiningAddsTies, KeysCanTurn, KeysTellApart, KeysTurn, ListsAreCensus, ListsAreMembers, MoversHaveLabels, NoTiesOfDisabled, SameNamesSameTies, SameTouchingKeepTies, StirredArePicked, TiesAreNamed, TiesArePicked, TiesAtAreTies, TiesHaveLabels, TiesOfAMover, TiesOfNoMover, TellingKeepsTies, TiesRise, ToldAreTold, ToldBodiesTell, UnjoiningTakesTies};
 
 // ---- what ties are
 
@@ -12,6 +12,16 @@ pub fn ties_rise()
 /// The names of ties are within their ranges, so that no two have one number.
 pub fn ties_are_named()
     ensures { TiesAreNamed }
+{}
+
+/// A contact's number tells which contact it is: no other key has it.
+pub fn keys_tell_apart()
+    ensures { KeysTellApart }
+{}
+
+/// A constraint's number tells which joint or which contact it is: no other one has it.
+pub fn constraints_tell_apart()
+    ensures { ConstraintsTellApart }
 {}
 
 /// Where just the movers have labels, those of two bodies that are movers have.

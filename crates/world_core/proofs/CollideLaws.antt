@@ -7,8 +7,7 @@ use Rattle.fixed_geom.specs.declared.refusal.Refusal.TheVariants.{BadShape, OutO
 use Rattle.shapes.specs.declared.shape.ShapeDef.{ShapeDef}
 use Rattle.shapes.specs.Shapes.{are_forms_allowed, shapes_refusal, is_in_range, is_form_allowed}
 use Rattle.contacts_base.specs.declared.contact.ContactEntry.{ContactEntry}
-use Rattle.contacts.specs.Changes.{contacts_of}
-use Rattle.contacts.specs.Forbidden.{allowed_codes}
+use Rattle.contacts.specs.ByPairs.{contacts_between}
 use Rattle.plain_world.specs.declared.body.Body.{Body}
 use Rattle.plain_world.specs.declared.joint.BodyJoint.{BodyJoint}
 use Rattle.plain_world.specs.Joints.{forbidden_pairs}
@@ -53,7 +52,7 @@ eight_at_most segments defs e =
 
 -- ---- what joints keep from colliding
 
-pub contacts_are_after : (bodies : List (Option Body)) (joints : List (Option BodyJoint)) (old : List ContactEntry) → contacts_of old (proxies_of bodies) (allowed_codes (forbidden_pairs joints) (proxies_of bodies)) ≡ contacts_after bodies joints old
+pub contacts_are_after : (bodies : List (Option Body)) (joints : List (Option BodyJoint)) (old : List ContactEntry) → contacts_between (forbidden_pairs joints) (proxies_of bodies) old ≡ contacts_after bodies joints old
 unfolding contacts_after
 contacts_are_after bodies joints old = refl
 

@@ -9,19 +9,18 @@ use Rattle.plain_world.specs.declared.body.Body.{Body}
 use Rattle.plain_world.specs.declared.joint.BodyJoint.{BodyJoint}
 use Rattle.plain_world.specs.Bodies.{AreBodies}
 use Rattle.plain_world.specs.Changes.{changed_at, disabled_body}
-use Rattle.plain_world.specs.Joints.{IsBodyJoint, forbidden_pairs, idle_joints, joint_at}
+use Rattle.plain_world.specs.Joints.{forbidden_pairs, idle_joints, joint_at}
 use Rattle.plain_world.specs.Slots.{body_at, with_item}
 use Rattle.sleep_wake.specs.Acting.{Acting}
 use Rattle.solver_sets.specs.Joining.{unjoined_all}
 use Rattle.world_core_base.specs.Awake.{Bodies}
 use Rattle.world_core_base.specs.Marked.{AreMarked}
 use Rattle.world_core.specs.Inside.{AreKnown, IsWhole, IsWorldCore}
-use Rattle.world_core.proofs.ForbiddenLaws.{HaveSamePairs, end_marked, idle_pairs, joint_comes, joint_goes, joints_go, pairs_stay}
+use Rattle.world_core.proofs.ForbiddenLaws.{HaveSamePairs, idle_pairs, joint_comes, joint_goes, joints_go, pairs_stay}
 use Rattle.world_core.proofs.KnownLaws.{HaveSameKeys, IsMarkedChange, dropped_keys, gone_marked, halted_marked, known_after, known_all, known_changed, numbers_stay, pair_keys_are}
 use Rattle.world_core.proofs.PartLaws.{kept_of}
 use Rattle.world_rules.specs.World.{World, joints_of}
 use Rattle.world_rules.proofs.KeptStep.{collided_in}
-use Rattle.world_rules.proofs.SoundLaws.{IsKept}
 
 -- a world that is whole again after a change of which all is marked
 pub core_changed : {a : Anchored} (w x : World) (s t : Acting Constraint) (old new : Bodies) → IsWorldCore w s old.marks a → IsWhole x t → old.bodies ≡ w.plain.bodies → new.bodies ≡ x.plain.bodies → IsMarkedChange old new w.plain.joints x.plain.joints w.plain.contacts x.plain.contacts
@@ -58,9 +57,8 @@ left_changed w x s old new slot core marked on pairs contacts = record {
 pub core_destroyed : {a : Anchored} (w x : World) (s t : Acting Constraint) (old new : Bodies) (slot : ℕ) (b : Body) → IsWorldCore w s old.marks a → IsWhole x t → old.bodies ≡ w.plain.bodies → new.bodies ≡ x.plain.bodies → body_at w.plain.bodies slot ≡ Some b → body_at new.bodies slot ≡ None → AreMarked old new
     → x.plain.joints ≡ (unjoined_all slot (joints_of w.plain)).joints → x.plain.contacts ≡ contacts_without slot w.plain.contacts → (l : Anchored) → Tell l.holds l.lists t.ties → IsWorldCore x t new.marks l
 core_destroyed w x s t old new slot b core is was now at none marked joints contacts l tell =
-    let k : IsKept w = kept_of w s core.whole in
     let on : slice_index_or new.marks slot true ≡ true = gone_marked old new slot b marked (ap (λ (bs : List (Option Body)). body_at bs slot) was ∙ at) none in
-    let pairs : HaveSamePairs new.marks w.plain.joints x.plain.joints = subst (λ (js : List (Option BodyJoint)). HaveSamePairs new.marks w.plain.joints js) (sym joints) (joints_go new.marks w.plain.bodies slot (joints_of w.plain) on k.matched.few k.joints) in
+    let pairs : HaveSamePairs new.marks w.plain.joints x.plain.joints = subst (λ (js : List (Option BodyJoint)). HaveSamePairs new.marks w.plain.joints js) (sym joints) (joints_go new.marks slot (joints_of w.plain) on) in
     core_changed w x s t old new core is was now (left_changed w x s old new slot core marked on pairs contacts) l tell
 
 pub core_disabled : {a : Anchored} (w x : World) (s t : Acting Constraint) (old new : Bodies) (slot : ℕ) (b : Body) (bodies : List (Option Body)) → IsWorldCore w s old.marks a → IsWhole x t → old.bodies ≡ w.plain.bodies → new.bodies ≡ x.plain.bodies → body_at w.plain.bodies slot ≡ Some b → b.enabled ≡ true
@@ -72,13 +70,12 @@ core_disabled w x s t old new slot b bodies core is was now at on halted marked 
 
 -- ---- a joint
 
-pub core_joined : {a : Anchored} (w x : World) (s t : Acting Constraint) (old new : Bodies) (slot : ℕ) (j : BodyJoint) → IsWorldCore w s old.marks a → IsWhole x t → old.bodies ≡ w.plain.bodies → new.bodies ≡ x.plain.bodies → IsBodyJoint w.plain.bodies j → joint_at w.plain.joints slot ≡ None → slot ≤ length w.plain.joints
+pub core_joined : {a : Anchored} (w x : World) (s t : Acting Constraint) (old new : Bodies) (slot : ℕ) (j : BodyJoint) → IsWorldCore w s old.marks a → IsWhole x t → old.bodies ≡ w.plain.bodies → new.bodies ≡ x.plain.bodies → joint_at w.plain.joints slot ≡ None → slot ≤ length w.plain.joints
     → AreMarked old new → slice_index_or new.marks j.a true ≡ true → x.plain.joints ≡ with_item w.plain.joints slot j → x.plain.contacts ≡ w.plain.contacts → (l : Anchored) → Tell l.holds l.lists t.ties → IsWorldCore x t new.marks l
-core_joined w x s t old new slot j core is was now joint free le marked on joints contacts l tell =
-    let k : IsKept w = kept_of w s core.whole in
+core_joined w x s t old new slot j core is was now free le marked on joints contacts l tell =
     core_changed w x s t old new core is was now (record {
       bodies = marked;
-      pairs = subst (λ (js : List (Option BodyJoint)). HaveSamePairs new.marks w.plain.joints js) (sym joints) (joint_comes new.marks w.plain.joints slot j free le (end_marked new.marks w.plain.bodies j joint k.matched.few (inl on)));
+      pairs = subst (λ (js : List (Option BodyJoint)). HaveSamePairs new.marks w.plain.joints js) (sym joints) (joint_comes new.marks w.plain.joints slot j free le (inl on));
       keys = numbers_stay new.marks w.plain.contacts x.plain.contacts (ap (map number_of) contacts);
     }) l tell
 
@@ -89,11 +86,10 @@ some_joint (Some k) i j a b = cc
 pub core_unjoined : {a : Anchored} (w x : World) (s t : Acting Constraint) (old new : Bodies) (slot : ℕ) (j : BodyJoint) → IsWorldCore w s old.marks a → IsWhole x t → old.bodies ≡ w.plain.bodies → new.bodies ≡ x.plain.bodies → joint_at w.plain.joints slot ≡ Some j → AreMarked old new
     → slice_index_or new.marks j.b true ≡ true → x.plain.joints ≡ slice_set w.plain.joints slot None → x.plain.contacts ≡ w.plain.contacts → (l : Anchored) → Tell l.holds l.lists t.ties → IsWorldCore x t new.marks l
 core_unjoined w x s t old new slot j core is was now at marked on joints contacts l tell =
-    let k : IsKept w = kept_of w s core.whole in
     core_changed w x s t old new core is was now (record {
       bodies = marked;
       pairs = subst (λ (js : List (Option BodyJoint)). HaveSamePairs new.marks w.plain.joints js) (sym joints)
-          (joint_goes new.marks w.plain.joints slot (λ i e. end_marked new.marks w.plain.bodies i (k.joints slot i e) k.matched.few (inr (ap (λ (l : BodyJoint). slice_index_or new.marks l.b true) (some_joint (joint_at w.plain.joints slot) i j e at) ∙ on))));
+          (joint_goes new.marks w.plain.joints slot (λ i e. inr (ap (λ (l : BodyJoint). slice_index_or new.marks l.b true) (some_joint (joint_at w.plain.joints slot) i j e at) ∙ on)));
       keys = numbers_stay new.marks w.plain.contacts x.plain.contacts (ap (map number_of) contacts);
     }) l tell
 

@@ -1,23 +1,21 @@
 -- The pairs that joints keep from colliding, as joints come and go: those of two bodies that aren't marked stay.
-use Rattle.std.proofs.Common.{◌≡◌, ℕ, zero, suc, ◌+◌, ◌*◌, ◌<◌, ◌≤◌, ◌==◌, ◌||◌, Bool, true, false, cond, List, [], ◌∷◌, length, Option, Some, None, is_some, inl, inr, refl, sym, ap, ◌∙◌, subst, arith}
-use Rattle.std.specs.Prelude.{◌^◌, ◌⊎◌, nat_lt, option_map, slice_index_or, slice_set}
+use Rattle.std.proofs.Common.{◌≡◌, ℕ, zero, suc, ◌≤◌, ◌==◌, ◌||◌, Bool, true, false, cond, List, [], ◌∷◌, length, Option, Some, None, inl, inr, refl, sym, ap, ◌∙◌, subst, arith}
+use Rattle.std.specs.Prelude.{◌&&◌, ◌⊎◌, nat_lt, option_map, slice_index_or, slice_set}
 use Rattle.std.specs.List.{cons_option, list_any}
 use Rattle.std.proofs.lemmas.Bool.{cases_eq}
 use Rattle.std.proofs.lemmas.Bool.Decides.{nat_tests}
-use Rattle.body_handles.specs.declared.places.TheConstants.{MAX_SLOTS}
-use Rattle.contacts.specs.Forbidden.{pair_number}
+use Rattle.contacts.specs.declared.forbidden.BodyPair.{BodyPair}
+use Rattle.contacts.specs.Forbidden.{is_pair_of}
 use Rattle.graph_colours.proofs.Cases.{by_test}
-use Rattle.plain_world.specs.declared.body.Body.{Body}
 use Rattle.plain_world.specs.declared.joint.BodyJoint.{BodyJoint}
-use Rattle.plain_world.specs.Joints.{AreJoints, IsBodyJoint, forbidden_by, forbidden_in, forbidden_pairs, idle_if, idle_joints, is_end_in, is_joint_of, joint_at}
-use Rattle.plain_world.specs.Slots.{body_at, item_in, with_item}
+use Rattle.plain_world.specs.Joints.{forbidden_by, forbidden_in, forbidden_pairs, idle_if, idle_joints, is_end_in, is_joint_of, joint_at}
+use Rattle.plain_world.specs.Slots.{item_in, with_item}
 use Rattle.solver_sets.specs.Joining.{handle_at, unjoined, unjoined_all, unjoined_up}
 use Rattle.solver_sets.specs.Ties.{JointSlots}
 use Rattle.world_core_base.proofs.SolvingJoints.{bare_entry, bare_joints}
-use Rattle.solver_sets.proofs.SlotLemmas.{below_length, item_at-set_none, item_at-set_other, slice_get-with, slice_get-with_own}
-use Rattle.world_core_base.specs.ForbiddenPairs.{is_number, keeps_apart}
+use Rattle.solver_sets.proofs.SlotLemmas.{item_at-set_none, item_at-set_other, slice_get-with, slice_get-with_own}
+use Rattle.world_core_base.specs.ForbiddenPairs.{is_of, keeps_apart}
 use Rattle.world_core_base.proofs.ForbiddingLaws.{any_joint}
-use Rattle.world_core.proofs.ShownLaws.{is_pair_among}
 
 -- ---- the pairs of all joints
 
@@ -25,79 +23,77 @@ either : (s t u v : Bool) → s ≡ u → t ≡ v → (s || t) ≡ (u || v)
 either s t u v a b = λ j. a j || b j
 
 -- it is one slot by slot
-any_same : (m : ℕ) (joints later : List (Option BodyJoint)) → ((slot : ℕ) → keeps_apart m (joint_at later slot) ≡ keeps_apart m (joint_at joints slot)) → list_any (keeps_apart m) later ≡ list_any (keeps_apart m) joints
-any_same m [] [] h = refl
-any_same m [] (o ∷ later) h = either (keeps_apart m o) (list_any (keeps_apart m) later) false false (h 0) (any_same m [] later (λ slot. h (suc slot)))
-any_same m (o ∷ joints) [] h = sym (either (keeps_apart m o) (list_any (keeps_apart m) joints) false false (sym (h 0)) (sym (any_same m joints [] (λ slot. h (suc slot)))))
-any_same m (o ∷ joints) (p ∷ later) h = either (keeps_apart m p) (list_any (keeps_apart m) later) (keeps_apart m o) (list_any (keeps_apart m) joints) (h 0) (any_same m joints later (λ slot. h (suc slot)))
+any_same : (a b : ℕ) (joints later : List (Option BodyJoint)) → ((slot : ℕ) → keeps_apart a b (joint_at later slot) ≡ keeps_apart a b (joint_at joints slot)) → list_any (keeps_apart a b) later ≡ list_any (keeps_apart a b) joints
+any_same a b [] [] h = refl
+any_same a b [] (o ∷ later) h = either (keeps_apart a b o) (list_any (keeps_apart a b) later) false false (h 0) (any_same a b [] later (λ slot. h (suc slot)))
+any_same a b (o ∷ joints) [] h = sym (either (keeps_apart a b o) (list_any (keeps_apart a b) joints) false false (sym (h 0)) (sym (any_same a b joints [] (λ slot. h (suc slot)))))
+any_same a b (o ∷ joints) (p ∷ later) h = either (keeps_apart a b p) (list_any (keeps_apart a b) later) (keeps_apart a b o) (list_any (keeps_apart a b) joints) (h 0) (any_same a b joints later (λ slot. h (suc slot)))
 
 -- ---- two pairs
 
--- two pairs of which one has a body that isn't in the other have other numbers
-first_apart : (t u : Bool) (x y a b : ℕ) → x < 2 ^ 32 → y < 2 ^ 32 → a < 2 ^ 32 → b < 2 ^ 32 → (x ≡ a → ⊥) → (x ≡ b → ⊥) → cond t (x * 2 ^ 32 + y) (y * 2 ^ 32 + x) ≡ cond u (a * 2 ^ 32 + b) (b * 2 ^ 32 + a) → ⊥
-first_apart true true x y a b lx ly la lb f g e = f (omega (arith, lx, ly, la, lb, e))
-first_apart true false x y a b lx ly la lb f g e = g (omega (arith, lx, ly, la, lb, e))
-first_apart false true x y a b lx ly la lb f g e = g (omega (arith, lx, ly, la, lb, e))
-first_apart false false x y a b lx ly la lb f g e = f (omega (arith, lx, ly, la, lb, e))
+-- where one of a pair's bodies is neither of two, the pair isn't of these two
+first_apart : (s t u v : Bool) → s ≡ false → u ≡ false → ((s && t) || (u && v)) ≡ false
+first_apart s t u v e f = rw (e, f) refl
 
-second_apart : (t u : Bool) (x y a b : ℕ) → x < 2 ^ 32 → y < 2 ^ 32 → a < 2 ^ 32 → b < 2 ^ 32 → (y ≡ a → ⊥) → (y ≡ b → ⊥) → cond t (x * 2 ^ 32 + y) (y * 2 ^ 32 + x) ≡ cond u (a * 2 ^ 32 + b) (b * 2 ^ 32 + a) → ⊥
-second_apart true true x y a b lx ly la lb f g e = g (omega (arith, lx, ly, la, lb, e))
-second_apart true false x y a b lx ly la lb f g e = f (omega (arith, lx, ly, la, lb, e))
-second_apart false true x y a b lx ly la lb f g e = f (omega (arith, lx, ly, la, lb, e))
-second_apart false false x y a b lx ly la lb f g e = g (omega (arith, lx, ly, la, lb, e))
+none_of : (s u : Bool) → ((s && false) || (u && false)) ≡ false
+none_of true true = refl
+none_of true false = refl
+none_of false true = refl
+none_of false false = refl
 
-other_number : (n m : ℕ) → (n ≡ m → ⊥) → (n == m) ≡ false
-other_number n m f = grind (arith, nat_tests)
+second_apart : (s t u v : Bool) → t ≡ false → v ≡ false → ((s && t) || (u && v)) ≡ false
+second_apart s t u v e f = rw (e, f) (none_of s u)
+
+other_slot : (n m : ℕ) → (n ≡ m → ⊥) → (n == m) ≡ false
+other_slot n m f = grind (arith, nat_tests)
 
 -- ---- marks
 
 -- of two slots that aren't marked the pair is among the one joints' pairs just if it is among the others'
 abbrev pub HaveSamePairs : List Bool → List (Option BodyJoint) → List (Option BodyJoint) → Type 0
-HaveSamePairs marks joints later = (a b : ℕ) → a < 2 ^ 32 → b < 2 ^ 32 → slice_index_or marks a true ≡ false → slice_index_or marks b true ≡ false → is_pair_among (forbidden_pairs later) a b ≡ is_pair_among (forbidden_pairs joints) a b
+HaveSamePairs marks joints later = (a b : ℕ) → slice_index_or marks a true ≡ false → slice_index_or marks b true ≡ false → list_any (is_pair_of a b) (forbidden_pairs later) ≡ list_any (is_pair_of a b) (forbidden_pairs joints)
 
--- the joint, if there is one, has an end that is marked
-pub record IsEndMarked (marks : List Bool) (j : BodyJoint) : Type 0 where
-  pub first : j.a < 2 ^ 32
-  pub second : j.b < 2 ^ 32
-  pub marked : (slice_index_or marks j.a true ≡ true) ⊎ (slice_index_or marks j.b true ≡ true)
+-- one of the joint's ends is marked
+abbrev pub IsEndMarked : List Bool → BodyJoint → Type 0
+IsEndMarked marks j = (slice_index_or marks j.a true ≡ true) ⊎ (slice_index_or marks j.b true ≡ true)
 
 marked_apart : (marks : List Bool) (x a : ℕ) → slice_index_or marks x true ≡ true → slice_index_or marks a true ≡ false → x ≡ a → ⊥
 marked_apart marks x a on off e =
     let same : slice_index_or marks x true ≡ slice_index_or marks a true = ap (λ (n : ℕ). slice_index_or marks n true) e in
     cc
 
-number_apart : (marks : List Bool) (j : BodyJoint) (a b : ℕ) → IsEndMarked marks j → a < 2 ^ 32 → b < 2 ^ 32 → slice_index_or marks a true ≡ false → slice_index_or marks b true ≡ false → (pair_number j.a j.b == pair_number a b) ≡ false
-number_apart marks j a b is la lb fa fb = elim is.marked [
-  | inl on ↦ other_number _ _ (first_apart (nat_lt j.a j.b) (nat_lt a b) j.a j.b a b is.first is.second la lb (marked_apart marks j.a a on fa) (marked_apart marks j.a b on fb))
-  | inr on ↦ other_number _ _ (second_apart (nat_lt j.a j.b) (nat_lt a b) j.a j.b a b is.first is.second la lb (marked_apart marks j.b a on fa) (marked_apart marks j.b b on fb))
+marked_other : (marks : List Bool) (x a : ℕ) → slice_index_or marks x true ≡ true → slice_index_or marks a true ≡ false → (x == a) ≡ false
+marked_other marks x a on off = other_slot x a (marked_apart marks x a on off)
+
+pair_apart : (marks : List Bool) (j : BodyJoint) (a b : ℕ) → IsEndMarked marks j → slice_index_or marks a true ≡ false → slice_index_or marks b true ≡ false → is_pair_of a b (record { a = j.a; b = j.b }) ≡ false
+pair_apart marks j a b is fa fb = elim is [
+  | inl on ↦ first_apart (j.a == a) (j.b == b) (j.a == b) (j.b == a) (marked_other marks j.a a on fa) (marked_other marks j.a b on fb)
+  | inr on ↦ second_apart (j.a == a) (j.b == b) (j.a == b) (j.b == a) (marked_other marks j.b b on fb) (marked_other marks j.b a on fa)
 ]
 
-number_if : (m : ℕ) (t : Bool) (n : ℕ) → (n == m) ≡ false → is_number m (cond t None (Some n)) ≡ false
-number_if m true n h = refl
-number_if m false n h = h
-
-forbids_nobody : (marks : List Bool) (j : BodyJoint) (a b : ℕ) → IsEndMarked marks j → a < 2 ^ 32 → b < 2 ^ 32 → slice_index_or marks a true ≡ false → slice_index_or marks b true ≡ false → keeps_apart (pair_number a b) (Some j) ≡ false
-forbids_nobody marks j a b is la lb fa fb = number_if (pair_number a b) j.collide (pair_number j.a j.b) (number_apart marks j a b is la lb fa fb)
+pair_if : (a b : ℕ) (t : Bool) (pair : BodyPair) → is_pair_of a b pair ≡ false → is_of a b (cond t None (Some pair)) ≡ false
+pair_if a b true pair h = refl
+pair_if a b false pair h = h
 
 -- the joint in a slot stays, or an end of what is there before and after is marked
 abbrev pub IsMarkedJoint : List Bool → Option BodyJoint → Option BodyJoint → Type 0
 IsMarkedJoint marks o p = (p ≡ o) ⊎ (((j : BodyJoint) → o ≡ Some j → IsEndMarked marks j) × ((j : BodyJoint) → p ≡ Some j → IsEndMarked marks j))
 
-forbids_none : (marks : List Bool) (o : Option BodyJoint) (a b : ℕ) → ((j : BodyJoint) → o ≡ Some j → IsEndMarked marks j) → a < 2 ^ 32 → b < 2 ^ 32 → slice_index_or marks a true ≡ false → slice_index_or marks b true ≡ false → keeps_apart (pair_number a b) o ≡ false
-forbids_none marks None a b is la lb fa fb = refl
-forbids_none marks (Some j) a b is la lb fa fb = forbids_nobody marks j a b (is j refl) la lb fa fb
+forbids_none : (marks : List Bool) (o : Option BodyJoint) (a b : ℕ) → ((j : BodyJoint) → o ≡ Some j → IsEndMarked marks j) → slice_index_or marks a true ≡ false → slice_index_or marks b true ≡ false → keeps_apart a b o ≡ false
+forbids_none marks None a b is fa fb = refl
+forbids_none marks (Some j) a b is fa fb = pair_if a b j.collide (record { a = j.a; b = j.b }) (pair_apart marks j a b (is j refl) fa fb)
 
 pub same_pairs : (marks : List Bool) (joints later : List (Option BodyJoint)) → ((slot : ℕ) → IsMarkedJoint marks (joint_at joints slot) (joint_at later slot)) → HaveSamePairs marks joints later
-same_pairs marks joints later h a b la lb fa fb =
-    any_joint (pair_number a b) later
-    ∙ any_same (pair_number a b) joints later (λ slot. elim (h slot) [
-      | inl same ↦ ap (keeps_apart (pair_number a b)) same
-      | inr is ↦ forbids_none marks (joint_at later slot) a b is.1 la lb fa fb ∙ sym (forbids_none marks (joint_at joints slot) a b is.0 la lb fa fb)
+same_pairs marks joints later h a b fa fb =
+    any_joint a b later
+    ∙ any_same a b joints later (λ slot. elim (h slot) [
+      | inl same ↦ ap (keeps_apart a b) same
+      | inr is ↦ forbids_none marks (joint_at later slot) a b is.1 fa fb ∙ sym (forbids_none marks (joint_at joints slot) a b is.0 fa fb)
     ])
-    ∙ sym (any_joint (pair_number a b) joints)
+    ∙ sym (any_joint a b joints)
 
 pub pairs_stay : (marks : List Bool) (joints later : List (Option BodyJoint)) → forbidden_pairs later ≡ forbidden_pairs joints → HaveSamePairs marks joints later
-pairs_stay marks joints later same a b la lb fa fb = ap (λ (pairs : List ℕ). is_pair_among pairs a b) same
+pairs_stay marks joints later same a b fa fb = ap (λ (pairs : List BodyPair). list_any (is_pair_of a b) pairs) same
 
 -- ---- joints whose impulses alone change
 
@@ -121,18 +117,6 @@ pub barely_pairs : (joints later : List (Option BodyJoint)) → bare_joints late
 barely_pairs joints later same = sym (bare_pairs later) ∙ ap forbidden_pairs same ∙ bare_pairs joints
 
 -- ---- joints that come and go
-
-below_slots : (bodies : List (Option Body)) (slot : ℕ) (o : Option Body) → body_at bodies slot ≡ o → is_some o ≡ true → length bodies ≤ MAX_SLOTS → slot < 2 ^ 32
-below_slots bodies slot None at e few = cc
-below_slots bodies slot (Some b) at e few = let lt : slot < length bodies = below_length bodies slot b at in omega (arith, lt, few)
-
--- a joint between two of these bodies, of which one is marked
-pub end_marked : (marks : List Bool) (bodies : List (Option Body)) (j : BodyJoint) → IsBodyJoint bodies j → length bodies ≤ MAX_SLOTS → (slice_index_or marks j.a true ≡ true) ⊎ (slice_index_or marks j.b true ≡ true) → IsEndMarked marks j
-end_marked marks bodies j is few on = record {
-  first = below_slots bodies j.a (body_at bodies j.a) refl is.first few;
-  second = below_slots bodies j.b (body_at bodies j.b) refl is.second few;
-  marked = on;
-}
 
 some_same : (x y : BodyJoint) → Some x ≡ Some y → x ≡ y
 some_same x y e = cc
@@ -192,19 +176,19 @@ one_of false t e = inr e
 same_slot : (x y : ℕ) → (x == y) ≡ true → x ≡ y
 same_slot x y e = grind (arith, nat_tests)
 
-end_of : (marks : List Bool) (body : ℕ) (j : BodyJoint) → slice_index_or marks body true ≡ true → is_joint_of body j ≡ true → (slice_index_or marks j.a true ≡ true) ⊎ (slice_index_or marks j.b true ≡ true)
+end_of : (marks : List Bool) (body : ℕ) (j : BodyJoint) → slice_index_or marks body true ≡ true → is_joint_of body j ≡ true → IsEndMarked marks j
 end_of marks body j on e = elim (one_of (j.a == body) (j.b == body) e) [
   | inl first ↦ inl (ap (λ (n : ℕ). slice_index_or marks n true) (same_slot j.a body first) ∙ on)
   | inr second ↦ inr (ap (λ (n : ℕ). slice_index_or marks n true) (same_slot j.b body second) ∙ on)
 ]
 
-left_marked : (marks : List Bool) (bodies : List (Option Body)) (body : ℕ) (o p : Option BodyJoint) → slice_index_or marks body true ≡ true → length bodies ≤ MAX_SLOTS → ((j : BodyJoint) → o ≡ Some j → IsBodyJoint bodies j) → IsLeftOf body o p → IsMarkedJoint marks o p
-left_marked marks bodies body o p on few is (inl same) = inl same
-left_marked marks bodies body o p on few is (inr gone) = inr (
-  λ j e. end_marked marks bodies j (is j e) few (end_of marks body j on (sym (ap (is_end_in body) e) ∙ gone.1)),
+left_marked : (marks : List Bool) (body : ℕ) (o p : Option BodyJoint) → slice_index_or marks body true ≡ true → IsLeftOf body o p → IsMarkedJoint marks o p
+left_marked marks body o p on (inl same) = inl same
+left_marked marks body o p on (inr gone) = inr (
+  λ j e. end_of marks body j on (sym (ap (is_end_in body) e) ∙ gone.1),
   λ j e. let none : None ≡ Some j = sym gone.0 ∙ e in cc,
 )
 
 -- all joints of a body go, whose slot is marked
-pub joints_go : (marks : List Bool) (bodies : List (Option Body)) (body : ℕ) (s : JointSlots) → slice_index_or marks body true ≡ true → length bodies ≤ MAX_SLOTS → AreJoints bodies s.joints → HaveSamePairs marks s.joints (unjoined_all body s).joints
-joints_go marks bodies body s on few all = same_pairs marks s.joints (unjoined_all body s).joints (λ k. left_marked marks bodies body (joint_at s.joints k) (joint_at (unjoined_all body s).joints k) on few (all k) (left_up body (length s.joints) s k))
+pub joints_go : (marks : List Bool) (body : ℕ) (s : JointSlots) → slice_index_or marks body true ≡ true → HaveSamePairs marks s.joints (unjoined_all body s).joints
+joints_go marks body s on = same_pairs marks s.joints (unjoined_all body s).joints (λ k. left_marked marks body (joint_at s.joints k) (joint_at (unjoined_all body s).joints k) on (left_up body (length s.joints) s k))

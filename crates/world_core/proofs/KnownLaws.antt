@@ -1,6 +1,6 @@
 -- What is known from the contacts stays known under whatever marks all that it changes.
 use Rattle.std.proofs.Common.{◌≡◌, ℕ, zero, suc, ◌<◌, ◌≤◌, ◌==◌, ◌||◌, Bool, true, false, cond, not, All, List, [], ◌∷◌, length, map, Option, Some, None, is_some, refl, sym, ap, ◌∙◌, subst, arith}
-use Rattle.std.specs.Prelude.{◌/◌, ◌^◌, option_map, slice_index_or}
+use Rattle.std.specs.Prelude.{◌/◌, option_map, slice_index_or}
 use Rattle.std.proofs.lemmas.Bool.Decides.{nat_tests}
 use Rattle.std.proofs.lemmas.List.Elements.{All-weaker}
 use Rattle.body_handles.specs.declared.places.TheConstants.{MAX_SLOTS}
@@ -24,7 +24,7 @@ use Rattle.world_core_base.specs.Marked.{AreMarked, AreShownAlike, IsUnchangedAt
 use Rattle.world_core_base.proofs.MarkedLaws.{marked_then}
 use Rattle.world_core.specs.Inside.{AreKnown}
 use Rattle.world_core.proofs.ForbiddenLaws.{HaveSamePairs}
-use Rattle.world_core.proofs.RisingLaws.{are_proxies}
+use Rattle.world_core.proofs.RisingLaws.{after_by_codes, are_proxies}
 use Rattle.world_core.proofs.ShownLaws.{near_same}
 use Rattle.world_rules.specs.Collide.{contacts_after, proxies_of}
 use Rattle.world_rules.specs.Sound.{HasBodies}
@@ -89,13 +89,6 @@ slot_of i small = omega arith
 
 moved_at : (marks : List Bool) (i : ShapeId) → i.index < 256 → moved_by marks (id_number i) ≡ slice_index_or marks i.slot true
 moved_at marks i small = ap (λ (n : ℕ). slice_index_or marks n true) (slot_of i small)
-
--- both slots of a pair's key are those of bodies
-slots_below : (k : ContactKey) → IsPairKey k → (k.first.slot < 2 ^ 32) × (k.second.slot < 2 ^ 32)
-slots_below k pair =
-    let before = pair.before in
-    let small = pair.small in
-    (omega (arith, before, small), omega (arith, small))
 
 -- ---- the contacts
 
@@ -176,10 +169,9 @@ known_changed old new joints later contacts left before after keys change known 
     let b : slice_index_or new.marks k.second.slot true ≡ false = sym (moved_at new.marks k.second pair.second_index) ∙ neither_second (moved_by new.marks (id_number k.first)) (moved_by new.marks (id_number k.second)) off in
     let first : IsUnchangedAt old.bodies old.marks new.bodies k.first.slot = change.bodies k.first.slot a in
     let second : IsUnchangedAt old.bodies old.marks new.bodies k.second.slot = change.bodies k.second.slot b in
-    let below = slots_below k pair in
     record {
       unmoved = neither_so (moved_by old.marks (id_number k.first)) (moved_by old.marks (id_number k.second)) (moved_at old.marks k.first pair.first_index ∙ first.unmarked) (moved_at old.marks k.second pair.second_index ∙ second.unmarked);
-      near = near_same old.bodies new.bodies (forbidden_pairs joints) (forbidden_pairs later) k before after pair first.alike second.alike (change.pairs k.first.slot k.second.slot below.0 below.1 a b);
+      near = near_same old.bodies new.bodies (forbidden_pairs joints) (forbidden_pairs later) k before after pair first.alike second.alike (change.pairs k.first.slot k.second.slot a b);
       contact = change.keys k pair a b;
     })
 
@@ -200,9 +192,9 @@ known_as marks shown bodies bs joints js contacts es known a b c d =
 
 -- after a collide all is known, whatever is marked
 pub known_after : (marks : List Bool) (bodies : List (Option Body)) (joints : List (Option BodyJoint)) (old : List ContactEntry) → length bodies ≤ MAX_SLOTS → AreBodies bodies → AreKnown marks bodies joints (contacts_after bodies joints old)
-unfolding contacts_after
 known_after marks bodies joints old few all =
-    let known : IsKnown all_still (forbidden_pairs joints) (proxies_of bodies) (contacts_after bodies joints old) = all_known_after-holds (forbidden_pairs joints) (proxies_of bodies) old (are_proxies bodies few all) in
+    let known : IsKnown all_still (forbidden_pairs joints) (proxies_of bodies) (contacts_after bodies joints old) =
+    subst (IsKnown all_still (forbidden_pairs joints) (proxies_of bodies)) (sym (after_by_codes bodies joints old few all)) (all_known_after-holds (forbidden_pairs joints) (proxies_of bodies) old (are_proxies bodies few all)) in
     record { keys = known.keys; still = λ k pair off. known.still k pair refl }
 
 -- ---- keys

@@ -1,5 +1,5 @@
 -- The shapes that a collide reads ascend, and so do the contacts that it leaves.
-use Rattle.std.proofs.Common.{◌≡◌, ℕ, suc, ◌+◌, ◌*◌, ◌<◌, ◌≤◌, Bool, true, false, cond, All, List, [], ◌∷◌, ◌++◌, length, map, Option, Some, None, refl, ap, arith, subst}
+use Rattle.std.proofs.Common.{◌≡◌, ℕ, suc, ◌+◌, ◌*◌, ◌<◌, ◌≤◌, Bool, true, false, cond, All, List, [], ◌∷◌, ◌++◌, length, map, Option, Some, None, refl, sym, ap, ◌∙◌, arith, subst}
 use Rattle.std.proofs.lemmas.List.{map-append}
 use Rattle.std.proofs.lemmas.List.Elements.{All-head, All-tail}
 use Rattle.fixed_geom.specs.declared.boxes.Box2.{Box2}
@@ -12,7 +12,9 @@ use Rattle.contacts_base.specs.Contacts.{AreKeysRising}
 use Rattle.contacts_base.specs.Near.{IsProxy, IsProxyList, number_of}
 use Rattle.contacts_base.specs.declared.contact.ContactEntry.{ContactEntry}
 use Rattle.contacts_base.specs.declared.near.Proxy.{Proxy}
+use Rattle.contacts.specs.Changes.{contacts_of}
 use Rattle.contacts.specs.Forbidden.{allowed_codes}
+use Rattle.contacts.proofs.ByPairsLaws.{contacts_by_codes-holds}
 use Rattle.contacts.proofs.ChangeLemmas.{contacts_rise}
 use Rattle.contacts.proofs.ForbiddenLemmas.{allowed_are_pairs}
 use Rattle.contacts.proofs.Members.{Each, all_from_each, each_append}
@@ -22,7 +24,7 @@ use Rattle.plain_world.specs.declared.joint.BodyJoint.{BodyJoint}
 use Rattle.plain_world.specs.Bodies.{AreBodies, IsBody, pose_of, stirs}
 use Rattle.plain_world.specs.Joints.{forbidden_pairs}
 use Rattle.plain_world.specs.Kinds.{is_dynamic}
-use Rattle.world_core.proofs.CollideLaws.{eight_at_most}
+use Rattle.world_core.proofs.CollideLaws.{contacts_are_after, eight_at_most}
 use Rattle.world_rules.specs.Collide.{contacts_after, entry_proxies, proxies_from, proxies_of, shape_proxies}
 
 -- a shape of the body in the slot
@@ -117,9 +119,12 @@ are_proxies bodies few all =
     let from : AreFrom 0 (proxies_of bodies) = all_from 0 bodies (omega (arith, few)) all in
     record { each = all_from_each IsProxy (proxies_of bodies) from.each; rising = increasing_from_rising (map number_of (proxies_of bodies)) from.rising }
 
--- the contacts that a collide leaves ascend
+-- the contacts that a collide leaves, by the codes of their pairs
+pub after_by_codes : (bodies : List (Option Body)) (joints : List (Option BodyJoint)) (old : List ContactEntry) → length bodies ≤ MAX_SLOTS → AreBodies bodies → contacts_after bodies joints old ≡ contacts_of old (proxies_of bodies) (allowed_codes (forbidden_pairs joints) (proxies_of bodies))
+after_by_codes bodies joints old few all = sym (contacts_are_after bodies joints old) ∙ contacts_by_codes-holds (forbidden_pairs joints) (proxies_of bodies) old (are_proxies bodies few all)
+
+-- they ascend
 pub contacts_after_rise : (bodies : List (Option Body)) (joints : List (Option BodyJoint)) (old : List ContactEntry) → length bodies ≤ MAX_SLOTS → AreBodies bodies → AreKeysRising (contacts_after bodies joints old)
-unfolding contacts_after
 contacts_after_rise bodies joints old few all =
     let are : IsProxyList (proxies_of bodies) = are_proxies bodies few all in
-    contacts_rise old (proxies_of bodies) (allowed_codes (forbidden_pairs joints) (proxies_of bodies)) are (allowed_are_pairs (forbidden_pairs joints) (proxies_of bodies) are)
+    subst AreKeysRising (sym (after_by_codes bodies joints old few all)) (contacts_rise old (proxies_of bodies) (allowed_codes (forbidden_pairs joints) (proxies_of bodies)) are (allowed_are_pairs (forbidden_pairs joints) (proxies_of bodies) are))

@@ -1,5 +1,5 @@
 -- Bodies that show the broad phase the same shapes are near the same others.
-use Rattle.std.proofs.Common.{◌≡◌, ℕ, zero, suc, ◌<◌, ◌==◌, Bool, true, false, cond, not, List, [], ◌∷◌, Option, Some, None, refl, sym, ap, ◌∙◌, subst}
+use Rattle.std.proofs.Common.{◌≡◌, ℕ, zero, suc, ◌<◌, Bool, true, false, cond, not, List, [], ◌∷◌, Option, Some, None, refl, sym, ap, ◌∙◌, subst}
 use Rattle.std.specs.List.{list_any}
 use Rattle.fixed_geom.specs.declared.boxes.Box2.{Box2}
 use Rattle.shapes.specs.declared.pose.Pose.{Pose}
@@ -9,7 +9,8 @@ use Rattle.contacts_base.specs.Near.{is_near}
 use Rattle.contacts_base.specs.declared.key.ContactKey.{ContactKey}
 use Rattle.contacts_base.specs.declared.key.ShapeId.{ShapeId}
 use Rattle.contacts_base.specs.declared.near.Proxy.{Proxy}
-use Rattle.contacts.specs.Forbidden.{is_forbidden, pair_number}
+use Rattle.contacts.specs.declared.forbidden.BodyPair.{BodyPair}
+use Rattle.contacts.specs.Forbidden.{is_forbidden, is_pair_of}
 use Rattle.contacts.specs.Known.{IsPairKey, both_near, found, may_touch, near_key}
 use Rattle.plain_world.specs.declared.body.Body.{Body}
 use Rattle.plain_world.specs.Bodies.{AreBodies, pose_of, stirs}
@@ -74,23 +75,19 @@ found_alike old new i before after small h =
 
 -- ---- two shapes
 
--- the bodies in the two slots are among these pairs
-abbrev pub is_pair_among : List ℕ → ℕ → ℕ → Bool
-is_pair_among pairs a b = list_any (λ n. n == pair_number a b) pairs
-
 near_alike : (i j : ShapeId) (p q r s : Proxy) → IsAlike i p r → IsAlike j q s → is_near p q ≡ is_near r s
 unfolding is_near
 near_alike i j p q r s a b = rw (a.first, a.second, b.first, b.second, a.fat, b.fat, a.filter, b.filter, a.dynamic, b.dynamic) refl
 
-forbidden_named : (pairs : List ℕ) (i j : ShapeId) (p q : Proxy) → p.id ≡ i → q.id ≡ j → is_forbidden pairs p q ≡ is_pair_among pairs i.slot j.slot
-forbidden_named pairs i j p q a b = λ k. is_pair_among pairs (a k).slot (b k).slot
+forbidden_named : (pairs : List BodyPair) (i j : ShapeId) (p q : Proxy) → p.id ≡ i → q.id ≡ j → is_forbidden pairs p q ≡ list_any (is_pair_of i.slot j.slot) pairs
+forbidden_named pairs i j p q a b = λ k. list_any (is_pair_of (a k).slot (b k).slot) pairs
 
-touch_alike : (pairs later : List ℕ) (i j : ShapeId) (p q r s : Proxy) → is_pair_among later i.slot j.slot ≡ is_pair_among pairs i.slot j.slot → IsAlike i p r → IsAlike j q s → may_touch pairs p q ≡ may_touch later r s
+touch_alike : (pairs later : List BodyPair) (i j : ShapeId) (p q r s : Proxy) → list_any (is_pair_of i.slot j.slot) later ≡ list_any (is_pair_of i.slot j.slot) pairs → IsAlike i p r → IsAlike j q s → may_touch pairs p q ≡ may_touch later r s
 touch_alike pairs later i j p q r s same a b =
     let forbidden : is_forbidden pairs p q ≡ is_forbidden later r s = forbidden_named pairs i j p q a.first b.first ∙ sym same ∙ sym (forbidden_named later i j r s a.second b.second) in
     ap (λ (t : Bool). cond t (not (is_forbidden pairs p q)) false) (near_alike i j p q r s a b) ∙ ap (λ (t : Bool). cond (is_near r s) (not t) false) forbidden
 
-both_alike : (pairs later : List ℕ) (i j : ShapeId) (o r u v : Option Proxy) → is_pair_among later i.slot j.slot ≡ is_pair_among pairs i.slot j.slot → AreAlikeAt i o u → AreAlikeAt j r v → both_near pairs o r ≡ both_near later u v
+both_alike : (pairs later : List BodyPair) (i j : ShapeId) (o r u v : Option Proxy) → list_any (is_pair_of i.slot j.slot) later ≡ list_any (is_pair_of i.slot j.slot) pairs → AreAlikeAt i o u → AreAlikeAt j r v → both_near pairs o r ≡ both_near later u v
 both_alike pairs later i j None r None v same a b = refl
 both_alike pairs later i j None r (Some u) v same a b = absurd a
 both_alike pairs later i j (Some p) r None v same a b = absurd a
@@ -100,7 +97,7 @@ both_alike pairs later i j (Some p) (Some q) (Some u) None same a b = absurd b
 both_alike pairs later i j (Some p) (Some q) (Some u) (Some v) same a b = touch_alike pairs later i j p q u v same a b
 
 -- two shapes are as near as before, if both bodies show the same and nothing keeps the two from colliding that didn't before
-pub near_same : (old new : List (Option Body)) (pairs later : List ℕ) (k : ContactKey) → AreBodies old → AreBodies new → IsPairKey k → AreShownAlike (body_at old k.first.slot) (body_at new k.first.slot) → AreShownAlike (body_at old k.second.slot) (body_at new k.second.slot)
-    → is_pair_among later k.first.slot k.second.slot ≡ is_pair_among pairs k.first.slot k.second.slot → near_key later (proxies_of new) k ≡ near_key pairs (proxies_of old) k
+pub near_same : (old new : List (Option Body)) (pairs later : List BodyPair) (k : ContactKey) → AreBodies old → AreBodies new → IsPairKey k → AreShownAlike (body_at old k.first.slot) (body_at new k.first.slot) → AreShownAlike (body_at old k.second.slot) (body_at new k.second.slot)
+    → list_any (is_pair_of k.first.slot k.second.slot) later ≡ list_any (is_pair_of k.first.slot k.second.slot) pairs → near_key later (proxies_of new) k ≡ near_key pairs (proxies_of old) k
 near_same old new pairs later k before after pair a b same =
     sym (both_alike pairs later k.first k.second _ _ _ _ same (found_alike old new k.first before after pair.first_index a) (found_alike old new k.second before after pair.second_index b))

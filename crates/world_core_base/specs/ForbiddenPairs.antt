@@ -1,17 +1,20 @@
 -- Which pairs of bodies joints keep from colliding, asked of the ends of some of them.
-use Rattle.std.specs.Prelude.{ℕ, ◌/◌, ◌==◌, Bool, false, List, Option, Some, None}
+use Rattle.std.specs.Prelude.{ℕ, ◌/◌, Bool, false, List, Option, Some, None}
 use Rattle.std.specs.List.{list_any}
+use Rattle.contacts.specs.declared.forbidden.BodyPair.{BodyPair}
+use Rattle.contacts.specs.Forbidden.{is_pair_of}
 use Rattle.plain_world.specs.declared.joint.BodyJoint.{BodyJoint}
 use Rattle.plain_world.specs.Joints.{forbidden_in, joint_at}
 
-abbrev pub is_number : ℕ → Option ℕ → Bool
-is_number number None = false
-is_number number (Some other) = other == number
+-- the pair, if there is one, is of the bodies in these two slots
+abbrev pub is_of : ℕ → ℕ → Option BodyPair → Bool
+is_of a b None = false
+is_of a b (Some pair) = is_pair_of a b pair
 
--- the joint, if there is one, keeps the pair of bodies with the number from colliding
-abbrev pub keeps_apart : ℕ → Option BodyJoint → Bool
-keeps_apart number o = is_number number (forbidden_in o)
+-- the joint, if there is one, keeps the two bodies from colliding
+abbrev pub keeps_apart : ℕ → ℕ → Option BodyJoint → Bool
+keeps_apart a b o = is_of a b (forbidden_in o)
 
 -- so does one of the joints with these ends
-abbrev pub one_keeps_apart : List (Option BodyJoint) → ℕ → List ℕ → Bool
-one_keeps_apart joints number ids = list_any (λ id. keeps_apart number (joint_at joints (id / 2))) ids
+abbrev pub one_keeps_apart : List (Option BodyJoint) → ℕ → ℕ → List ℕ → Bool
+one_keeps_apart joints a b ids = list_any (λ id. keeps_apart a b (joint_at joints (id / 2))) ids

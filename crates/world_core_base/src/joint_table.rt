@@ -12,7 +12,7 @@ ghost use Rattle.plain_world.specs.Slots.{with_item};
 
 use crate::forbidden_pairs::either_keeps_apart;
 use crate::joint_ends::{Ends, drop_ends, ends_of, list_slots, note_ends, reserve_ends};
-use contacts::{ForbiddenPairs, pair_number};
+use contacts::ForbiddenPairs;
 use fixed_geom::Refusal;
 use packed_sets::PackedSets;
 use plain_world::{BodyJoint, clear_slot, put_item};
@@ -180,7 +180,7 @@ impl JointTable {
 }
 
 impl ForbiddenPairs for JointTable {
-    ghost numbers = { λ t. forbidden_pairs t.joints };
+    ghost pairs = { λ t. forbidden_pairs t.joints };
 
     /// Whether a joint keeps two bodies from colliding. Costs by the joints of the one that has fewer.
     #[inline(always)]
@@ -189,6 +189,6 @@ impl ForbiddenPairs for JointTable {
         if ends.is_empty() {
             return false;
         }
-        either_keeps_apart(&self.joints, ends, self.ends.members(b), pair_number(a, b))
+        either_keeps_apart(&self.joints, ends, self.ends.members(b), a, b)
     }
 }

@@ -1,6 +1,6 @@
 -- The contacts that a collide makes are of bodies that are there, one of them a mover, and their numbers are within their limits.
-use Rattle.std.proofs.Common.{◌≡◌, ℕ, zero, suc, ◌+◌, ◌*◌, ◌^◌, ◌<◌, ◌≤◌, Bool, true, false, cond, ℤ, pos, ◌≤ℤ◌, unsigned_abs, List, [], ◌∷◌, ◌++◌, length, Option, Some, None, option_map, IfSome, All, ◌⊎◌, inl, inr, arith, refl, sym, ap, ap₂, ◌∙◌, subst, is_some, length-append, le-leb}
-use Rattle.std.specs.Prelude.{◌==◌, ◌&&◌, ◌||◌, ◌≢◌, int_le, int_lt, nat_le, slice_get}
+use Rattle.std.proofs.Common.{◌≡◌, ℕ, suc, ◌+◌, ◌^◌, ◌<◌, ◌≤◌, Bool, true, false, cond, ℤ, pos, ◌≤ℤ◌, unsigned_abs, List, [], ◌∷◌, ◌++◌, length, Option, Some, None, option_map, IfSome, All, ◌⊎◌, inl, inr, arith, refl, sym, ap, ap₂, ◌∙◌, subst, is_some, le-leb, map}
+use Rattle.std.specs.Prelude.{◌==◌, ◌&&◌, ◌||◌, ◌≢◌, filter, int_le, int_lt, nat_le, slice_get}
 use Rattle.std.specs.List.{list_all}
 use Rattle.fixed_geom.specs.declared.refusal.Refusal.TheVariants.{BadShape, OutOfRange}
 use Rattle.std.specs.Option.{ForSome}
@@ -34,18 +34,16 @@ use Rattle.contacts_base.specs.declared.surface.Surface.{Surface}
 use Rattle.contacts_base.specs.Contacts.{number_of, lookup}
 use Rattle.contacts_base.specs.Evaluate.{apart, impulses_at, first_of, kept, kept_point, evaluated}
 use Rattle.contacts_base.specs.Limits.{IsContactPoint, IsContact}
-use Rattle.contacts_base.specs.Near.{is_near, one_stirs, pair_code, near_from, near_codes}
-use Rattle.contacts.specs.Pairs.{no_proxy, proxy_at}
-use Rattle.contacts.specs.Pairs.{first_place, second_place, key_of}
-use Rattle.contacts.specs.Changes.{entry_with, entry_of, entry_at, kept_contact, surface_with}
+use Rattle.contacts_base.specs.Near.{is_near, one_stirs}
+use Rattle.contacts.specs.ByPairs.{contact_of_pair, contacts_between, may_collide, near_pairs, pairs_with}
+use Rattle.contacts.specs.Pairs.{key_of}
+use Rattle.contacts.specs.Changes.{entry_with, entry_of, kept_contact, surface_with}
 use Rattle.contacts.proofs.Members.{Each, each_in, each_from, each_append, all_from_each}
-use Rattle.contacts.proofs.NearLemmas.{IsNearFrom, from_is}
 use Rattle.graph_colours.proofs.PlaceLemmas.{same_from}
 use Rattle.body_handles.specs.declared.places.TheConstants.{MAX_SLOTS}
 use Rattle.plain_world.specs.declared.body.Body.{Body}
 use Rattle.plain_world.specs.declared.joint.BodyJoint.{BodyJoint}
 use Rattle.plain_world.specs.Joints.{forbidden_pairs}
-use Rattle.contacts.specs.Forbidden.{allowed_codes, is_allowed}
 use Rattle.plain_world.specs.Bodies.{is_mover, pose_of, stirs, IsBody, AreBodies}
 use Rattle.plain_world.specs.Kinds.{is_dynamic}
 use Rattle.plain_world.specs.Formed.{HasPoints, IsShapeOf, is_surface, mixed_of, mixed_surface, no_surface, shape_named, shape_of_body, surface_of}
@@ -193,53 +191,27 @@ proxies_ascend slot [] = tt
 proxies_ascend slot (o ∷ bodies) =
     ascend_both slot (entry_proxies slot o) (proxies_from (suc slot) bodies) (in_slot slot o) (from_next slot (proxies_from (suc slot) bodies) (all_from (suc slot) bodies)) (proxies_ascend (suc slot) bodies)
 
-ascend_at : (ps : List Proxy) (i j : ℕ) → AreAscending ps → i < j → j < length ps → (proxy_at ps i).id.slot ≤ (proxy_at ps j).id.slot
-ascend_at [] i j up before within = absurd (omega arith)
-ascend_at (p ∷ ps) i zero up before within = absurd (omega arith)
-ascend_at (p ∷ ps) zero (suc j) up before within = all_from_each (IsFrom p.id.slot) ps up.0 j no_proxy (omega (arith, within))
-ascend_at (p ∷ ps) (suc i) (suc j) up before within = ascend_at ps i j up.1 (omega (arith, before)) (omega (arith, within))
-
--- ---- there are eight a body at most
-
-shapes_few : (slot : ℕ) (b : Body) (index : ℕ) (defs : List ShapeDef) (fats : List Box2) → length (shape_proxies slot (is_dynamic b.kind) (stirs b) (pose_of b) index defs fats) ≤ length defs
-shapes_few slot b index [] fats = omega arith
-shapes_few slot b index (d ∷ defs) [] = omega arith
-shapes_few slot b index (d ∷ defs) (fat ∷ fats) = omega (arith, shapes_few slot b (suc index) defs fats)
-
-few_if : (t : Bool) (ps : List Proxy) → length ps ≤ 8 → length (cond t ps []) ≤ 8
-few_if true ps h = h
-few_if false ps h = omega arith
-
-entry_few : (n : ℕ) (o : Option Body) (bodies : List (Option Body)) → AreBodies (o ∷ bodies) → length (entry_proxies n o) ≤ 8
-entry_few n None bodies all = omega arith
-entry_few n (Some b) bodies all =
-    few_if b.enabled (shape_proxies n (is_dynamic b.kind) (stirs b) (pose_of b) 0 b.shapes b.fats) (let few = eight_at_most _ _ (all 0 b refl).shapes in omega (arith, few, shapes_few n b 0 b.shapes b.fats))
-
-pub proxies_few : (n : ℕ) (bodies : List (Option Body)) → AreBodies bodies → length (proxies_from n bodies) ≤ length bodies * 8
-proxies_few n [] all = omega arith
-proxies_few n (o ∷ bodies) all =
-    omega (arith, length-append (entry_proxies n o) (proxies_from (suc n) bodies), entry_few n o bodies all, proxies_few (suc n) bodies (rest_bodies o bodies all))
-
 -- ---- near pairs
 
--- the code of two places of the list, the lesser first, whose shapes are near
-pub record IsNearPair (ps : List Proxy) (code : ℕ) : Type 0 where
-  pub before : first_place code < second_place code
-  pub within : second_place code < length ps
-  pub near : is_near (proxy_at ps (first_place code)) (proxy_at ps (second_place code)) ≡ true
+-- two shapes of bodies that are near one another, the first in no greater slot
+pub record IsNearPair (bodies : List (Option Body)) (pair : Proxy × Proxy) : Type 0 where
+  pub first : IsProxyIn 0 bodies pair.0
+  pub second : IsProxyIn 0 bodies pair.1
+  pub order : pair.0.id.slot ≤ pair.1.id.slot
+  pub near : is_near pair.0 pair.1 ≡ true
 
-near_pair_from : (ps : List Proxy) (code : ℕ) → length ps ≤ 2 ^ 32 → IsNearFrom 0 ps code → IsNearPair ps code
-near_pair_from ps code few h =
-    let e : code ≡ pair_code (0 + h.i) (0 + h.j) = h.is in
-    let b : h.i < h.j = h.before in
-    let w : h.j < length ps = h.within in
-    let first : first_place code ≡ h.i = omega arith in
-    let second : second_place code ≡ h.j = omega arith in
-    record { before = rw (first, second) b; within = rw second w; near = rw (first, second) h.near }
+near_step : (bodies : List (Option Body)) (p q : Proxy) (t : Bool) (qs : List Proxy) → (t ≡ true → IsNearPair bodies (p, q)) → Each (IsNearPair bodies) (map (λ r. (p, r)) qs) → Each (IsNearPair bodies) (map (λ r. (p, r)) (cond t (q ∷ qs) qs))
+near_step bodies p q true qs h rest = (h refl, rest)
+near_step bodies p q false qs h rest = rest
 
-pub near_codes_are : (ps : List Proxy) → length ps ≤ 2 ^ 32 → Each (IsNearPair ps) (near_codes ps)
-unfolding near_codes
-near_codes_are ps few = each_from (IsNearPair ps) (near_from 0 ps) (λ c i. near_pair_from ps c few (from_is 0 ps c i))
+with_are : (bodies : List (Option Body)) (p : Proxy) (qs : List Proxy) → IsProxyIn 0 bodies p → Each (IsProxyIn 0 bodies) qs → Each (IsFrom p.id.slot) qs → Each (IsNearPair bodies) (pairs_with p qs)
+with_are bodies p [] is are from = tt
+with_are bodies p (q ∷ qs) is are from =
+    near_step bodies p q (is_near p q) (filter (is_near p) qs) (λ e. record { first = is; second = are.0; order = from.0; near = e }) (with_are bodies p qs is are.1 from.1)
+
+near_pairs_are : (bodies : List (Option Body)) (ps : List Proxy) → Each (IsProxyIn 0 bodies) ps → AreAscending ps → Each (IsNearPair bodies) (near_pairs ps)
+near_pairs_are bodies [] are up = tt
+near_pairs_are bodies (p ∷ ps) are up = each_append (IsNearPair bodies) (pairs_with p ps) (near_pairs ps) (with_are bodies p ps are.0 are.1 up.0) (near_pairs_are bodies ps are.1 up.1)
 
 near_if : (same a b collide over : Bool) → cond same false (cond (a || b) (cond collide over false) false) ≡ true → (same ≡ false) × ((a ≡ true) ⊎ (b ≡ true))
 near_if true a b collide over e = cc
@@ -485,25 +457,19 @@ entry_has_bodies bodies old p q few all hp hq order =
     }
 
 -- what holds of the contact of each two near shapes of bodies, the first in no greater slot, holds of all contacts
-pub all_after : (P : ContactEntry → Type 0) (bodies : List (Option Body)) (joints : List (Option BodyJoint)) (old : List ContactEntry) → AreBodies bodies → length bodies ≤ MAX_SLOTS
+pub all_after : (P : ContactEntry → Type 0) (bodies : List (Option Body)) (joints : List (Option BodyJoint)) (old : List ContactEntry) → AreBodies bodies
     → ((p q : Proxy) → IsProxyIn 0 bodies p → IsProxyIn 0 bodies q → p.id.slot ≤ q.id.slot → is_near p q ≡ true → P (entry_of old p q)) → All P (contacts_after bodies joints old)
-unfolding contacts_after
-all_after P bodies joints old all few each =
-    let ps = proxies_of bodies in
-    let are : All (IsProxyIn 0 bodies) ps = all_from_each (IsProxyIn 0 bodies) ps (proxies_are 0 bodies all) in
-    let short : length ps ≤ 2 ^ 32 = omega (arith, few, proxies_few 0 bodies all) in
-    let pair : (code : ℕ) → IsNearPair ps code → P (entry_at old ps code) = λ code h.
-    let b = h.before in
-    let w = h.within in
-    each (proxy_at ps (first_place code)) (proxy_at ps (second_place code)) (are (first_place code) no_proxy (omega (arith, b, w))) (are (second_place code) no_proxy w) (ascend_at ps (first_place code) (second_place code) (proxies_ascend 0 bodies) b w) h.near in
-    All-map P (entry_at old ps) (allowed_codes (forbidden_pairs joints) ps)
-    (All-filter (is_allowed (forbidden_pairs joints) ps) (λ c. P (entry_at old ps c)) (near_codes ps)
-    (all_from_each (λ c. P (entry_at old ps c)) (near_codes ps) (each_weaker (IsNearPair ps) (λ c. P (entry_at old ps c)) pair (near_codes ps) (near_codes_are ps short))))
+unfolding contacts_after contacts_between
+all_after P bodies joints old all each =
+    let pairs : List (Proxy × Proxy) = near_pairs (proxies_of bodies) in
+    let are : All (IsNearPair bodies) pairs = all_from_each (IsNearPair bodies) pairs (near_pairs_are bodies (proxies_of bodies) (proxies_are 0 bodies all) (proxies_ascend 0 bodies)) in
+    let each_pair : All (λ pair. P (contact_of_pair old pair)) pairs = All-weaker (IsNearPair bodies) (λ pair. P (contact_of_pair old pair)) (λ pair h. each pair.0 pair.1 h.first h.second h.order h.near) pairs are in
+    All-map P (contact_of_pair old) (filter (may_collide (forbidden_pairs joints)) pairs) (All-filter (may_collide (forbidden_pairs joints)) (λ pair. P (contact_of_pair old pair)) pairs each_pair)
 
-pub contacts_of_after : (bodies : List (Option Body)) (joints : List (Option BodyJoint)) (old : List ContactEntry) → AreBodies bodies → length bodies ≤ MAX_SLOTS → AreContactsOf bodies old → AreContactsOf bodies (contacts_after bodies joints old)
-contacts_of_after bodies joints old all few pairs =
-    all_after (IsContactOf bodies) bodies joints old all few (λ p q hp hq up near. entry_within bodies old p q hp hq near pairs)
+pub contacts_of_after : (bodies : List (Option Body)) (joints : List (Option BodyJoint)) (old : List ContactEntry) → AreBodies bodies → AreContactsOf bodies old → AreContactsOf bodies (contacts_after bodies joints old)
+contacts_of_after bodies joints old all pairs =
+    all_after (IsContactOf bodies) bodies joints old all (λ p q hp hq up near. entry_within bodies old p q hp hq near pairs)
 
 pub has_bodies_after : (bodies : List (Option Body)) (joints : List (Option BodyJoint)) (old : List ContactEntry) → AreBodies bodies → length bodies ≤ MAX_SLOTS → All (HasBodies bodies) old → All (HasBodies bodies) (contacts_after bodies joints old)
 has_bodies_after bodies joints old all few there =
-    all_after (HasBodies bodies) bodies joints old all few (λ p q hp hq up near. let apart = (near_apart p q near).slots in entry_has_bodies bodies old p q few there hp hq (omega (arith, up, apart)))
+    all_after (HasBodies bodies) bodies joints old all (λ p q hp hq up near. let apart = (near_apart p q near).slots in entry_has_bodies bodies old p q few there hp hq (omega (arith, up, apart)))

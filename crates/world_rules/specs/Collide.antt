@@ -6,8 +6,8 @@ use Rattle.shapes.specs.declared.shape.ShapeDef.{ShapeDef}
 use Rattle.contacts_base.specs.declared.key.ContactKey.{ContactKey}
 use Rattle.contacts_base.specs.declared.contact.ContactEntry.{ContactEntry}
 use Rattle.contacts_base.specs.declared.near.Proxy.{Proxy}
-use Rattle.contacts.specs.Forbidden.{allowed_codes}
-use Rattle.contacts.specs.Changes.{contacts_of, keys_touching_only_in}
+use Rattle.contacts.specs.ByPairs.{contacts_between}
+use Rattle.contacts.specs.Changes.{keys_touching_only_in}
 use Rattle.plain_world.specs.declared.body.Body.{Body}
 use Rattle.plain_world.specs.declared.joint.BodyJoint.{BodyJoint}
 use Rattle.plain_world.specs.Joints.{forbidden_pairs}
@@ -58,7 +58,7 @@ pub record Collided : Type 0 where
 -- Every near pair of shapes, whose bodies no joint keeps from colliding, has a contact: evaluated anew, with its kept impulses, if one of the two
 -- bodies stirs, and else as it was.
 unfoldable pub contacts_after : List (Option Body) → List (Option BodyJoint) → List ContactEntry → List ContactEntry
-contacts_after bodies joints old = contacts_of old (proxies_of bodies) (allowed_codes (forbidden_pairs joints) (proxies_of bodies))
+contacts_after bodies joints old = contacts_between (forbidden_pairs joints) (proxies_of bodies) old
 
 abbrev pub collided : List (Option Body) → List (Option BodyJoint) → List ContactEntry → Collided
 collided bodies joints old = record {

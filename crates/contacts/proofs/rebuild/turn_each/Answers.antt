@@ -10,7 +10,7 @@ pub loop-place-preserved : goal.loop-place-preserved
 loop-place-preserved g c =
     let ps = g.S.ShapesByName.proxies c.args.shapes.now in
     let moved = moved_by c.args.marks.now in
-    let pairs = g.F.ForbiddenPairs.numbers c.args.forbidden.now in
+    let pairs = g.F.ForbiddenPairs.pairs c.args.forbidden.now in
     let old = c.args.old.now in
     let place = c.loop-place.place in
     let entry = c.index-old-place.result in

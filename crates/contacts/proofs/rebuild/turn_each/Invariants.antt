@@ -8,7 +8,7 @@ use Rattle.contacts.proofs.rebuild.turn_each.Given as goal
 abbrev pub invariant-loop-place : goal.invariant-loop-place
 invariant-loop-place g l = record {
   within : l.next ≤ length l.fresh;
-  all : l.all.items ++ merged number_of (map (again (g.S.ShapesByName.proxies l.shapes)) (staying (moved_by l.marks) (g.F.ForbiddenPairs.numbers l.forbidden) (g.S.ShapesByName.proxies l.shapes) (drop l.place l.old))) (drop l.next l.fresh) ≡ merged number_of (map (again (g.S.ShapesByName.proxies l.shapes)) (staying (moved_by l.marks) (g.F.ForbiddenPairs.numbers l.forbidden) (g.S.ShapesByName.proxies l.shapes) l.old)) l.fresh;
-  begin : l.begin.items ≡ begun_keys (moved_by l.marks) (g.F.ForbiddenPairs.numbers l.forbidden) (g.S.ShapesByName.proxies l.shapes) (take l.place l.old);
-  end : l.end.items ≡ ended_keys (moved_by l.marks) (g.F.ForbiddenPairs.numbers l.forbidden) (g.S.ShapesByName.proxies l.shapes) (take l.place l.old);
+  all : l.all.items ++ merged number_of (map (again (g.S.ShapesByName.proxies l.shapes)) (staying (moved_by l.marks) (g.F.ForbiddenPairs.pairs l.forbidden) (g.S.ShapesByName.proxies l.shapes) (drop l.place l.old))) (drop l.next l.fresh) ≡ merged number_of (map (again (g.S.ShapesByName.proxies l.shapes)) (staying (moved_by l.marks) (g.F.ForbiddenPairs.pairs l.forbidden) (g.S.ShapesByName.proxies l.shapes) l.old)) l.fresh;
+  begin : l.begin.items ≡ begun_keys (moved_by l.marks) (g.F.ForbiddenPairs.pairs l.forbidden) (g.S.ShapesByName.proxies l.shapes) (take l.place l.old);
+  end : l.end.items ≡ ended_keys (moved_by l.marks) (g.F.ForbiddenPairs.pairs l.forbidden) (g.S.ShapesByName.proxies l.shapes) (take l.place l.old);
 }

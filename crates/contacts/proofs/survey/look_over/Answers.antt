@@ -6,14 +6,14 @@ use Rattle.contacts.proofs.survey.look_over.Goals as goal
 
 pub loop-index-init : goal.loop-index-init
 loop-index-init g c =
-    let pairs = g.F.ForbiddenPairs.numbers c.args.forbidden.now in
+    let pairs = g.F.ForbiddenPairs.pairs c.args.forbidden.now in
     let ps = g.S.ShapesByName.proxies c.args.shapes.now in
     none_passed c.args.old.now.long (one_flagged c.args.stirring.now.flags.items) c.as_slice-places.result.now (IsFound (moved_by c.args.marks.now) pairs ps c.args.old.now c.clear.new.self.items c.clear-2.new.self.items c.new.result.items c.new-2.result.items) (c.as_slice-places.ensures.value ∙ c.requires.places)
     (nothing_found (moved_by c.args.marks.now) pairs ps c.args.old.now _ _ _ _ c.clear.ensures.items c.clear-2.ensures.items c.new.ensures.items c.new-2.ensures.items)
 
 pub loop-index-preserved : goal.loop-index-preserved
 loop-index-preserved g c =
-    let pairs = g.F.ForbiddenPairs.numbers c.args.forbidden.now in
+    let pairs = g.F.ForbiddenPairs.pairs c.args.forbidden.now in
     let ps = g.S.ShapesByName.proxies c.args.shapes.now in
     let moved = moved_by c.args.marks.now in
     let old = c.args.old.now in
@@ -24,7 +24,7 @@ loop-index-preserved g c =
 
 pub returns-clause-looked : goal.returns-clause-looked
 returns-clause-looked g c =
-    let pairs = g.F.ForbiddenPairs.numbers c.args.forbidden.now in
+    let pairs = g.F.ForbiddenPairs.pairs c.args.forbidden.now in
     let ps = g.S.ShapesByName.proxies c.args.shapes.now in
     let moved = moved_by c.args.marks.now in
     let old = c.args.old.now in

@@ -17,13 +17,13 @@ pub rebuild_if-requires-clause-keys : goal.rebuild_if-requires-clause-keys
 rebuild_if-requires-clause-keys g c = subst (λ (l : List ContactEntry). All (λ e. IsPairKey e.key) l) (sym c.short.ensures.value) (short_pairs c.args.old.now c.requires.known.keys)
 
 pub rebuild_if-requires-clause-fresh : goal.rebuild_if-requires-clause-fresh
-rebuild_if-requires-clause-fresh g c = fresh_rises (moved_by c.args.marks.now) (g.F.ForbiddenPairs.numbers c.args.forbidden.now) (g.S.ShapesByName.proxies c.args.shapes.now) _ c.args.fresh.now c.requires.shapes c.requires.fresh
+rebuild_if-requires-clause-fresh g c = fresh_rises (moved_by c.args.marks.now) (g.F.ForbiddenPairs.pairs c.args.forbidden.now) (g.S.ShapesByName.proxies c.args.shapes.now) _ c.args.fresh.now c.requires.shapes c.requires.fresh
 
 -- ---- the short list stays as it is
 
-done_none : (g : Given.Over) (c : goal.In-None g) → IsDone (g.F.ForbiddenPairs.numbers c.args.forbidden.now) (g.S.ShapesByName.proxies c.args.shapes.now) c.args.old.now c.look_over.new.notes.items c.look_over.new.ends.items None c.in_ok-touches.touches.begin.items c.in_ok-touches.touches.end.items
+done_none : (g : Given.Over) (c : goal.In-None g) → IsDone (g.F.ForbiddenPairs.pairs c.args.forbidden.now) (g.S.ShapesByName.proxies c.args.shapes.now) c.args.old.now c.look_over.new.notes.items c.look_over.new.ends.items None c.in_ok-touches.touches.begin.items c.in_ok-touches.touches.end.items
 done_none g c =
-    let pairs = g.F.ForbiddenPairs.numbers c.args.forbidden.now in
+    let pairs = g.F.ForbiddenPairs.pairs c.args.forbidden.now in
     let ps = g.S.ShapesByName.proxies c.args.shapes.now in
     let moved = moved_by c.args.marks.now in
     done_long moved pairs ps c.args.old.now _ _ c.args.fresh.now _ _ c.requires.shapes c.ascend.ensures.long c.ascend.ensures.short c.ascend.ensures.contacts c.requires.known c.requires.fresh c.in_ok-touches.ensures.looked
@@ -44,14 +44,14 @@ returns-in-None-clause-end_rising g c = (done_none g c).end_rises
 -- ---- it is made anew
 
 abbrev IsNew : (g : Given.Over) (c : goal.Joined-due-3 g) → Type 0
-IsNew g c = IsRebuilt (moved_by c.args.marks.now) (g.F.ForbiddenPairs.numbers c.args.forbidden.now) (g.S.ShapesByName.proxies c.args.shapes.now) c.args.old.now.short c.args.fresh.now c.in-Some.rebuilt.all.items c.in-Some.rebuilt.touches.begin.items c.in-Some.rebuilt.touches.end.items
+IsNew g c = IsRebuilt (moved_by c.args.marks.now) (g.F.ForbiddenPairs.pairs c.args.forbidden.now) (g.S.ShapesByName.proxies c.args.shapes.now) c.args.old.now.short c.args.fresh.now c.in-Some.rebuilt.all.items c.in-Some.rebuilt.touches.begin.items c.in-Some.rebuilt.touches.end.items
 
 is_new : (g : Given.Over) (c : goal.Joined-due-3 g) → IsNew g c
-is_new g c = rebuilt_some (moved_by c.args.marks.now) (g.F.ForbiddenPairs.numbers c.args.forbidden.now) (g.S.ShapesByName.proxies c.args.shapes.now) c.args.old.now.short c.short.result.now c.args.fresh.now _ c.in-Some.rebuilt c.short.ensures.value c.in-Some.is c.in_ok-rebuilt.ensures.rebuilt
+is_new g c = rebuilt_some (moved_by c.args.marks.now) (g.F.ForbiddenPairs.pairs c.args.forbidden.now) (g.S.ShapesByName.proxies c.args.shapes.now) c.args.old.now.short c.short.result.now c.args.fresh.now _ c.in-Some.rebuilt c.short.ensures.value c.in-Some.is c.in_ok-rebuilt.ensures.rebuilt
 
 both_ascend : (g : Given.Over) (c : goal.Joined-due-3 g) → AreBothAscending c.in_ok-touches.touches.begin.items c.in_ok-touches.touches.end.items c.in-Some.rebuilt.touches.begin.items c.in-Some.rebuilt.touches.end.items
 both_ascend g c =
-    touches_ascend (moved_by c.args.marks.now) (g.F.ForbiddenPairs.numbers c.args.forbidden.now) (g.S.ShapesByName.proxies c.args.shapes.now) c.args.old.now _ _ c.args.fresh.now _ _ _ _ _ c.requires.shapes c.ascend.ensures.long c.ascend.ensures.short c.requires.fresh c.in_ok-touches.ensures.looked (is_new g c)
+    touches_ascend (moved_by c.args.marks.now) (g.F.ForbiddenPairs.pairs c.args.forbidden.now) (g.S.ShapesByName.proxies c.args.shapes.now) c.args.old.now _ _ c.args.fresh.now _ _ _ _ _ c.requires.shapes c.ascend.ensures.long c.ascend.ensures.short c.requires.fresh c.in_ok-touches.ensures.looked (is_new g c)
 
 pub join_touches-requires-clause-long_begin : goal.join_touches-requires-clause-long_begin
 join_touches-requires-clause-long_begin g c = (both_ascend g c).first
@@ -66,11 +66,11 @@ pub join_touches-requires-clause-short_end : goal.join_touches-requires-clause-s
 join_touches-requires-clause-short_end g c = (both_ascend g c).fourth
 
 abbrev IsJoined : (g : Given.Over) (c : goal.After-join_touches g) → Touches → Type 0
-IsJoined g c t = IsDone (g.F.ForbiddenPairs.numbers c.args.forbidden.now) (g.S.ShapesByName.proxies c.args.shapes.now) c.args.old.now c.look_over.new.notes.items c.look_over.new.ends.items (Some c.in-Some.rebuilt.all.items) t.begin.items t.end.items
+IsJoined g c t = IsDone (g.F.ForbiddenPairs.pairs c.args.forbidden.now) (g.S.ShapesByName.proxies c.args.shapes.now) c.args.old.now c.look_over.new.notes.items c.look_over.new.ends.items (Some c.in-Some.rebuilt.all.items) t.begin.items t.end.items
 
 done_some : (g : Given.Over) (c : goal.After-join_touches g) → IfOk c.join_touches.result (λ (t : Touches). IsJoined g c t)
 done_some g c =
-    let pairs = g.F.ForbiddenPairs.numbers c.args.forbidden.now in
+    let pairs = g.F.ForbiddenPairs.pairs c.args.forbidden.now in
     let ps = g.S.ShapesByName.proxies c.args.shapes.now in
     let moved = moved_by c.args.marks.now in
     let new : IsRebuilt moved pairs ps c.args.old.now.short c.args.fresh.now c.in-Some.rebuilt.all.items c.in-Some.rebuilt.touches.begin.items c.in-Some.rebuilt.touches.end.items =

@@ -1,8 +1,8 @@
 use Rattle.std.proofs.Common.{◌≡◌, List, subst}
 use Rattle.std.specs.Prelude.{IfOk, OnOk}
 use Rattle.contacts_base.specs.declared.contact.ContactEntry.{ContactEntry}
-use Rattle.contacts.specs.Changes.{contacts_of, keys_touching_only_in}
-use Rattle.contacts.specs.Forbidden.{allowed_codes}
+use Rattle.contacts.specs.ByPairs.{contacts_between}
+use Rattle.contacts.specs.Changes.{keys_touching_only_in}
 use Rattle.world_rules.specs.Collide.{contacts_after, proxies_of}
 use Rattle.plain_world.specs.Joints.{forbidden_pairs}
 use Rattle.world_core.proofs.CollideLaws.{contacts_are_after}
@@ -10,7 +10,7 @@ use Rattle.world_core.proofs.NamedLaws.{all_within}
 use Rattle.world_core.proofs.RisingLaws.{are_proxies}
 use Rattle.world_core.proofs.collide.collide.Goals as goal
 
-same : (c : goal.After-collide) → contacts_of c.args.contacts.now.contacts (proxies_of c.args.bodies.now.bodies) (allowed_codes (forbidden_pairs c.args.joints.now.joints) (proxies_of c.args.bodies.now.bodies)) ≡ contacts_after c.args.bodies.now.bodies c.args.joints.now.joints c.args.contacts.now.contacts
+same : (c : goal.After-collide) → contacts_between (forbidden_pairs c.args.joints.now.joints) (proxies_of c.args.bodies.now.bodies) c.args.contacts.now.contacts ≡ contacts_after c.args.bodies.now.bodies c.args.joints.now.joints c.args.contacts.now.contacts
 same c = contacts_are_after c.args.bodies.now.bodies c.args.joints.now.joints c.args.contacts.now.contacts
 
 pub returns-clause-due : goal.returns-clause-due

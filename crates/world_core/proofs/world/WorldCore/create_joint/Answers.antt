@@ -62,7 +62,6 @@ invariant_of-self-2 c =
     let generation = rw c.in_ok-reserve_one.ensures.kept at c.in_ok-handle.ensures.generation in
     let free : lowest w.plain.joint_places < MAX_SLOTS = rw slot at c.in_ok-handle.ensures.slot_below in
     let is : IsBodyJoint w.plain.bodies (joint_made c.args.def.now) = rw c.bodies.ensures at c.in_ok-check_join.ensures.joint in
-    let joint : IsBodyJoint w.plain.bodies c.make-joint.result = rw c.make-joint.ensures is in
     let put : c.put.new.self.joints ≡ with_item w.plain.joints c.in_ok-handle.handle.slot c.make-joint.result = rw c.in_ok-reserve_for.ensures.joints at c.put.ensures in
     let none : joint_at w.plain.joints c.in_ok-handle.handle.slot ≡ None = rw slot (free_joint w (kept_of _ _ c.self.invariant.whole)) in
     let least : lowest w.plain.joint_places ≤ length w.plain.joint_places = lowest-le-length w.plain.joint_places in
@@ -71,7 +70,7 @@ invariant_of-self-2 c =
     core_joined w _ _ _ c.self.inside.bodies c.mark.new.self c.in_ok-handle.handle.slot c.make-joint.result c.self.invariant
     (rw (c.in_ok-handle.ensures.given_out, c.put.ensures, c.mark.ensures.bodies, c.begin_with.ensures.acting, same_handle c.in_ok-handle.handle (next_joint w.plain) slot generation, c.joint_movers-movers.ensures, c.bodies-2.ensures, c.wake_planned.ensures.told, c.wake_planned.ensures.acting, (rw (← c.self.view_is) at c.in_ok-waking.ensures.names), c.in_ok-reserve.ensures.acting, c.in_ok-reserve_one.ensures.kept, c.in_ok-reserve_for.ensures.joints, c.make-joint.ensures)
     (whole w _ _ _ (join_left w c.self.inside.sets.acting c.args.def.now (kept_of _ _ c.self.invariant.whole) c.self.invariant.whole.same calls free is)))
-    refl refl joint none le
+    refl refl none le
     (marked_after c.self.inside.bodies c.wake_planned.new.bodies c.mark.new.self c.wake_planned.ensures.marked c.mark.ensures.marked) c.mark.ensures.there put refl
     c.self.inside.anchors (tell_fewer c.self.inside.anchors.holds c.self.inside.anchors.lists c.self.inside.sets.acting.ties _ (fewer_reserved c.self.inside.sets.acting c.reserve.new.self.acting c.begin_with.new.sets.acting c.in_ok-reserve.ensures.acting
     (fewer_joined c.in_ok-handle.handle c.joint_movers-movers.result c.in_ok-waking.waking.names.items c.reserve.new.self.acting c.wake_planned.new.sets.acting c.begin_with.new.sets.acting c.wake_planned.ensures.acting c.begin_with.ensures.acting)) c.self.invariant.anchored)
