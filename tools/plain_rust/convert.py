@@ -3,16 +3,16 @@
 
     tools/plain_rust/convert.py OUT [--repository TOP]
 
-OUT becomes a workspace of cargo: each crate without its contracts, and a program `drive` that times steps. Contracts, ghost
-items and models are dropped, and `shim` beside this script stands for the parts of the kit's library that the crates
+OUT becomes a workspace of cargo: each crate without its contracts, and a program `drive` that times steps and rays. Contracts,
+ghost items and models are dropped, and `shim` beside this script stands for the parts of the kit's library that the crates
 use. Saving and loading are left out. Written again after an edit, only files that differ are written.
 
     cd OUT && cargo build --offline --release
     bench/scenes SCENES --scenes pyramid --sizes 1000 --steps 100
     tools/plain_rust/compact.py < SCENES/pyramid_1000_100 | OUT/target/release/drive [--each] [--sum]
 
-`drive` prints the processor time of the steps; --each prints each step's, and --sum a number over all motions and events,
-which stays the same where two versions answer alike. On a busy machine count instructions in place of time, as by
+`drive` prints the processor time of the steps and of the rays; --each prints each step's, and --sum a number over all motions,
+events and hits, which stays the same where two versions answer alike. On a busy machine count instructions in place of time, as by
 `valgrind --tool=callgrind`.
 """
 
@@ -29,7 +29,8 @@ SAVING_CRATES = {crate for crate, _ in SAVING_FILES}
 SAVING_LINES = re.compile(r"^(?:mod loading;|mod saving;|mod ids;|pub use ids::[^;]*;|pub use world_file::[^;]*;|pub use serde_json[^;]*;)\n", re.M)
 
 CLAUSE = re.compile(r"^[ \t]*(?:ensures|requires|decreases)\b", re.M)
-MODEL = re.compile(r"^impl(?:<[^>]*>)? Model for [^{]*", re.M)
+# A drop ends by taking its value apart, and plain Rust does that by itself.
+DROPPED_BLOCK = re.compile(r"^impl(?:<[^>]*>)? (?:Model|Drop) for [^{]*", re.M)
 # Each is dropped wherever it stands.
 DROPPED = [
     re.compile(r"^[ \t]*ghost use [^;]*;\n", re.M),
@@ -95,7 +96,7 @@ def without_blocks(text, head):
 
 def converted(text, is_root):
     """A file of Rattle as one of Rust."""
-    text = without_blocks(without_blocks(text, MODEL), CLAUSE)
+    text = without_blocks(without_blocks(text, DROPPED_BLOCK), CLAUSE)
     for pattern in DROPPED:
         text = pattern.sub("", text)
     for pattern, other in WRITTEN:

@@ -1,11 +1,13 @@
-//! Reads a scene of compact lines, applies it, and prints the processor time of its steps.
+//! Reads a scene of compact lines, applies it, and prints the processor time of its steps and of its rays.
 //!
-//! `--each` prints that of each step, in nanoseconds; `--sum` prints a number over all motions and events after each step.
+//! `--each` prints that of each step, in nanoseconds; `--sum` prints a number over all motions and events after each step, and
+//! over all hits.
 
 use shim::Global;
 use std::io::Read;
 use std::str::FromStr;
 use world_core::*;
+use world_queries::Hit;
 
 /// The numbers of a line, by their place.
 struct Line<'a>(Vec<&'a str>);
@@ -88,9 +90,10 @@ fn processor_time() -> i64 {
     time.seconds * 1_000_000_000 + time.nanoseconds
 }
 
+const PRIME: u64 = 0x100000001b3;
+
 /// A number over all motions, and over how many contacts began and ended.
 fn mixed(mut sum: u64, world: &WorldCore) -> u64 {
-    const PRIME: u64 = 0x100000001b3;
     for (slot, body) in world.bodies().iter().enumerate() {
         if let Some(body) = body {
             let m = &body.motion;
@@ -101,6 +104,30 @@ fn mixed(mut sum: u64, world: &WorldCore) -> u64 {
     }
     let events = world.events();
     (sum ^ (events.begin().len() as u64 * 65_537 + events.end().len() as u64)).wrapping_mul(PRIME)
+}
+
+/// A number over where a ray hit.
+fn mixed_hit(sum: u64, hit: Option<Hit>) -> u64 {
+    let number = hit.map_or(0, |hit| 1 + u64::from(hit.fraction) * 65_536 + u64::from(hit.shape.slot));
+    (sum ^ number).wrapping_mul(PRIME).rotate_left(7)
+}
+
+/// The rays of a scene: how many, the processor time that they took, and a number over their hits.
+#[derive(Default)]
+struct Rays {
+    count: i64,
+    time: i64,
+    sum: u64,
+}
+
+impl Rays {
+    fn ask(&mut self, world: &WorldCore, line: &Line) {
+        let before = processor_time();
+        let hit = world_queries::ray(world, line.vector(1), line.vector(3));
+        self.time += processor_time() - before;
+        self.count += 1;
+        self.sum = mixed_hit(self.sum, hit);
+    }
 }
 
 /// Applies a command, and gives the processor time that it took.
@@ -116,9 +143,14 @@ fn main() {
     let asks = |word: &str| std::env::args().any(|given| given == word);
     let (each, summed) = (asks("--each"), asks("--sum"));
     let mut world = WorldCore::new(Global, Vec2 { x: 0, y: 0 }).expect("an empty world");
-    let (mut others, mut sum, mut steps) = (0, 0, Vec::new());
+    let (mut others, mut sum, mut steps, mut rays) = (0, 0, Vec::new(), Rays::default());
     for line in text.lines() {
-        let command = Line(line.split(' ').collect()).command();
+        let line = Line(line.split(' ').collect());
+        if line.0[0] == "r" {
+            rays.ask(&world, &line);
+            continue;
+        }
+        let command = line.command();
         let time = timed(&mut world, &command);
         if let Command::Step(_) = command {
             steps.push(time);
@@ -135,5 +167,8 @@ fn main() {
     let mean = steps.iter().sum::<i64>() as f64 / 1e3 / steps.len().max(1) as f64;
     let least = steps.iter().copied().min().unwrap_or(0) as f64 / 1e3;
     print!("steps: {}, mean {mean:.1} us, least {least:.1} us; other commands: {:.2} s", steps.len(), others as f64 / 1e9);
-    println!("{}", if summed { format!("; sum {sum:x}") } else { String::new() });
+    if rays.count > 0 {
+        print!("; rays: {}, mean {:.0} ns", rays.count, rays.time as f64 / rays.count as f64);
+    }
+    println!("{}", if summed { format!("; sum {:x}", sum ^ rays.sum) } else { String::new() });
 }

@@ -7,7 +7,7 @@ use Rattle.box_tree_base.specs.Lists.{Each, IsIn}
 use Rattle.box_tree_base.specs.Rays.{nearer, first_among, IsHitWithin}
 use Rattle.box_tree_base.specs.declared.leaves.Leaf.{Leaf}
 use Rattle.box_tree_base.specs.declared.rays.Hit.{Hit}
-use Rattle.box_tree.specs.BoxLists.{box_at, first_hit, AreHitsWithin}
+use Rattle.box_tree.specs.BoxLists.{box_at, first_hit, AreHitsWithin, found_in, asked_hit}
 use Rattle.box_tree.specs.Tables.{keys_of, place_at, place_of, leaf_of}
 use Rattle.box_tree.specs.Indexes.{IsStanding, IsIndex}
 use Rattle.box_tree.specs.declared.places.Place.{Place}
@@ -218,3 +218,37 @@ leaves_within reaches hit leaves places boxes law h within =
     each_from (IsHitWithin reaches hit) leaves (λ leaf i.
     let s : IsStanding leaf.key (place_at places leaf.key) (box_at boxes leaf.key) = standing_here leaf.key places boxes h.standing in
     loose_within reaches hit leaf.key (place_of leaf) (box_at boxes leaf.key) law (rw (h.kept.sound leaf i) at s) (λ b e m. within leaf.key b e m))
+
+-- ---- a key's own box is asked first
+
+found_by : (t : Bool) (found : Option ℕ) → (t ≡ false → found ≡ None) → cond t found None ≡ found
+found_by true found f = refl
+found_by false found f = sym (f refl)
+
+found_there : (reaches : Box2 → Bool) (o : Option Box2) (found : Option ℕ) → is_some o ≡ true → ((b : Box2) → o ≡ Some b → reaches b ≡ false → found ≡ None) → found_in reaches o found ≡ found
+found_there reaches None found h f = cc
+found_there reaches (Some b) found h f = found_by (reaches b) found (f b refl)
+
+-- a key whose box isn't reached has no hit left
+pub asked_within : (reaches : Box2 → Bool) (hit : ℕ → Option ℕ) (boxes : List (Option Box2)) → AreHitsWithin reaches (asked_hit reaches hit boxes) boxes
+asked_within reaches hit boxes = λ key b e missed.
+    let there : found_in reaches (box_at boxes key) (hit key) ≡ found_in reaches (Some b) (hit key) = ap (λ (o : Option Box2). found_in reaches o (hit key)) e in
+    let none : cond (reaches b) (hit key) None ≡ None = ap (λ (t : Bool). cond t (hit key) None) missed in
+    there ∙ none
+
+same_hits : (f g : ℕ → Option ℕ) (keys : List ℕ) (best : Option Hit) → ((k : ℕ) → IsIn k keys → f k ≡ g k) → first_of f keys best ≡ first_of g keys best
+same_hits f g [] best h = refl
+same_hits f g (k ∷ keys) best h =
+    ap (λ (o : Option ℕ). first_of f keys (nearer best k o)) (h k (inl refl))
+    ∙ same_hits f g keys (nearer best k (g k)) (λ x i. h x (inr i))
+
+-- so the first hit is the same whether or not the boxes are asked first
+pub asked_is_first : (reaches : Box2 → Bool) (hit : ℕ → Option ℕ) (boxes : List (Option Box2)) → AreHitsWithin reaches hit boxes → first_hit (asked_hit reaches hit boxes) 0 boxes None ≡ first_hit hit 0 boxes None
+asked_is_first reaches hit boxes within =
+    let same : (k : ℕ) → IsIn k (keys_in 0 boxes) → asked_hit reaches hit boxes k ≡ hit k = λ k i.
+    let t = key_at 0 k boxes i in
+    let e : t.at ≡ k = omega (arith, t.key) in
+    found_there reaches (box_at boxes k) (hit k) (ap (λ (n : ℕ). is_some (box_at boxes n)) (sym e) ∙ t.some) (λ b is missed. within k b is missed) in
+    scan_keys (asked_hit reaches hit boxes) 0 boxes None
+    ∙ same_hits (asked_hit reaches hit boxes) hit (keys_in 0 boxes) None same
+    ∙ sym (scan_keys hit 0 boxes None)

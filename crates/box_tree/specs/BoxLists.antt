@@ -11,6 +11,12 @@ box_at [] key = None
 box_at (o ∷ boxes) zero = o
 box_at (o ∷ boxes) (suc key) = box_at boxes key
 
+-- how many keys have a box
+abbrev pub boxed : List (Option Box2) → ℕ
+boxed [] = 0
+boxed (None ∷ boxes) = boxed boxes
+boxed (Some bounds ∷ boxes) = suc (boxed boxes)
+
 abbrev pub is_over : Box2 → Option Box2 → Bool
 is_over b None = false
 is_over b (Some bounds) = overlaps bounds b
@@ -30,3 +36,12 @@ first_hit hit key (Some bounds ∷ boxes) best = first_hit hit (suc key) boxes (
 -- a key is hit only where its box is reached
 abbrev pub AreHitsWithin : (Box2 → Bool) → (ℕ → Option ℕ) → List (Option Box2) → Type 0
 AreHitsWithin reaches hit boxes = (key : ℕ) (bounds : Box2) → box_at boxes key ≡ Some bounds → reaches bounds ≡ false → hit key ≡ None
+
+-- what is found, if the box is there and reached
+abbrev pub found_in : (Box2 → Bool) → Option Box2 → Option ℕ → Option ℕ
+found_in reaches None found = None
+found_in reaches (Some bounds) found = cond (reaches bounds) found None
+
+-- the hit on the key, where its box is asked first
+abbrev pub asked_hit : (Box2 → Bool) → (ℕ → Option ℕ) → List (Option Box2) → ℕ → Option ℕ
+asked_hit reaches hit boxes key = found_in reaches (box_at boxes key) (hit key)

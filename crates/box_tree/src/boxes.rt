@@ -1,11 +1,13 @@
 //! Boxes by key.
 
-ghost use Rattle.std.specs.Prelude.{◌≡◌, ◌≤◌, ◌<◌, ◌++◌, ◌∷◌, [], true, is_some, length, slice_set, IfOk, OnOk, OnErr, None, Some};
+ghost use Rattle.std.specs.Prelude.{◌≡◌, ℕ, ◌+◌, ◌≤◌, ◌<◌, ◌++◌, ◌∷◌, [], true, is_some, length, slice_set, IfOk, OnOk, OnErr, None, Some};
 ghost use Rattle.std.specs.Result.{IsOkUnless};
-ghost use Rattle.box_tree.specs.BoxLists.{box_at, keys_over, first_hit, AreHitsWithin};
+ghost use Rattle.box_tree_base.specs.Depths.{least_leaves};
+ghost use Rattle.box_tree.specs.BoxLists.{box_at, boxed, keys_over, first_hit, AreHitsWithin};
 
 use crate::index;
 use crate::places::{MAX_KEYS, Place};
+use crate::rays::RayAmongBoxes;
 use box_tree_base::{Hit, Ray, Tree, roots};
 use fixed_geom::{Box2, Refusal};
 use std::alloc::Global;
@@ -146,12 +148,20 @@ impl BoxTree {
         requires { AreHitsWithin (R.reaches ray.now) (R.hit ray.now) self.now }
         ensures { result ≡ first_hit (R.hit ray.now) 0 self.now None }
     {
-        roots::first_hit(&self.root, ray)
+        let among = RayAmongBoxes {
+            ray,
+            boxes: &self.boxes,
+        };
+        roots::first_hit(&self.root, &among)
     }
 
-    /// How many nodes stand on the longest way from the root to a leaf: what a walk costs. The tests ask it.
-    pub(crate) fn depth(&self) -> u64
-        ensures { result ≤ 28 }
+    /// How many nodes stand on the longest way from the root to a leaf: what a walk costs. Box2D's 'b2DynamicTree_GetHeight'
+    /// counts the forks of that way alone. It is 0 only where no key has a box. A tree so deep has at least the boxes of a
+    /// balanced one, so that the depth grows with the logarithm of their number.
+    pub fn depth(&self) -> u64
+        ensures few { result ≤ 28 }
+        ensures none { result ≡ 0 → boxed self.now ≡ 0 }
+        ensures balanced { (forks : ℕ) → result ≡ forks + 1 → least_leaves forks ≤ boxed self.now }
     {
         roots::depth(&self.root)
     }

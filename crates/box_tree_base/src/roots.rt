@@ -80,10 +80,11 @@ pub fn first_hit<R: Ray>(root: &[Tree], ray: &R) -> Option<Hit>
     requires { Each (IsHitWithin (R.reaches ray.now) (R.hit ray.now)) (leaves_of root.now) }
     ensures { result ≡ first_among (R.hit ray.now) (leaves_of root.now) None }
 {
-    match root.first() {
-        None => None,
-        Some(tree) => tree.first_hit(ray, None),
+    let mut best: Option<Hit> = None;
+    if let Some(tree) = root.first() {
+        tree.first_hit(ray, &mut best);
     }
+    best
 }
 
 /// How many nodes stand on the longest way from the root to a leaf.

@@ -33,24 +33,20 @@ impl Tree {
         Ok(())
     }
 
-    /// The nearest of the ray's hits on the keys of all leaves and of the best so far. A key is hit only where the ray
-    /// reaches its box.
-    pub fn first_hit<R: Ray>(&self, ray: &R, best: Option<Hit>) -> Option<Hit>
+    /// Puts the nearest of the best hit so far and the ray's hits on the keys of all leaves in the best one's place. A key is
+    /// hit only where the ray reaches its box.
+    pub fn first_hit<R: Ray>(&self, ray: &R, best: &mut Option<Hit>)
         requires { Each (IsHitWithin (R.reaches ray.now) (R.hit ray.now)) self.now.leaves }
-        ensures { result ≡ first_among (R.hit ray.now) self.now.leaves best }
+        ensures { best.new ≡ first_among (R.hit ray.now) self.now.leaves best.old }
     {
         match &self.node {
-            Node::Tip(leaf) => nearer(best, leaf.key, ray.hit(leaf.key)),
+            Node::Tip(leaf) => *best = nearer(*best, leaf.key, ray.hit(leaf.key)),
             Node::Fork(left, stem, right) => {
-                let best = if ray.reaches(&stem.left) {
-                    left.first_hit(ray, best)
-                } else {
-                    best
-                };
+                if ray.reaches(&stem.left) {
+                    left.first_hit(ray, best);
+                }
                 if ray.reaches(&stem.right) {
-                    right.first_hit(ray, best)
-                } else {
-                    best
+                    right.first_hit(ray, best);
                 }
             }
         }

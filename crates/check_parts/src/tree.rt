@@ -142,6 +142,12 @@ fn are_found(tree: &BoxTree) -> Result<bool, Fail> {
     Ok(true)
 }
 
+/// Whether the tree of the row is as deep as a balanced one of so many boxes may be: 2^17 need 18 nodes on some way.
+fn is_balanced(tree: &BoxTree) -> bool {
+    let depth = tree.depth();
+    depth >= 18 && depth <= 28
+}
+
 /// How high the row is moved.
 const HIGH: u32 = 10_000_000;
 
@@ -160,6 +166,7 @@ fn take_all(tree: &mut BoxTree) {
 #[test]
 fn a_row_in_ascending_order_is_found_moved_and_taken(rt: HostRuntime) -> Result<(), Fail> {
     let mut tree = row_of(rt.alloc(), ROW)?;
+    same(&rt, &is_balanced(&tree), &true);
     same(&rt, &are_found(&tree)?, &true);
     let hit = Hit {
         fraction: 7,
@@ -172,6 +179,7 @@ fn a_row_in_ascending_order_is_found_moved_and_taken(rt: HostRuntime) -> Result<
     let lifted = over(&tree, 0, i64::from(HIGH), 500, i64::from(HIGH))?;
     same_items(&rt, &lifted, &[0]);
     take_all(&mut tree);
+    same(&rt, &tree.depth(), &0);
     same(&rt, &first(&tree, 5), &None);
     Ok(())
 }
