@@ -7,9 +7,8 @@ use Rattle.momenta.specs.declared.state.BodyState.{BodyState}
 use Rattle.momenta.specs.declared.state.Ends.{Ends}
 use Rattle.momenta.specs.declared.line_64.MomentaPair64.{MomentaPair64}
 use Rattle.momenta.specs.Impulses.{AreStates, AreSameBodies, IsMomentumKept}
-use Rattle.momenta.specs.Line64.{ends_with}
+use Rattle.momenta.specs.Line64.{both_ends, ends_with}
 use Rattle.colour_solver_base.specs.RowsAfter.{RowAfter}
-use Rattle.colour_solver_base.specs.Row64.{both_ends}
 use Rattle.colour_solver.specs.declared.turns.Slots.{Slots}
 use Rattle.colour_solver.specs.States.{AreAllStates, AreSameStates, nobody, total}
 

@@ -5,7 +5,7 @@ ghost use Rattle.std.specs.Prelude.{◌≡◌, true, None, IfSome};
 ghost use Rattle.momenta.specs.declared.state.Ends.{Ends};
 ghost use Rattle.momenta.specs.Impulses.{AreSameBodies, AreStates, IsMomentumKept, IsState};
 ghost use Rattle.joint_rows.specs.Rows.{IsJointRow};
-ghost use Rattle.colour_solver_base.specs.Row64.{both_ends};
+ghost use Rattle.momenta.specs.Line64.{both_ends};
 ghost use Rattle.colour_solver_base.specs.Rows.{IsRow};
 ghost use Rattle.colour_solver.specs.ConstraintTurns.{contact_slots, joint_slots};
 ghost use Rattle.colour_solver.specs.Turns.{IsTurn64};

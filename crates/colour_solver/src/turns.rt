@@ -3,10 +3,9 @@
 ghost use Rattle.std.specs.Prelude.{◌≡◌, ◌≢◌, ◌^◌, ◌<◌, ◌≤◌, true, None, length, take, drop, IfSome};
 ghost use Rattle.momenta.specs.declared.state.Ends.{Ends};
 ghost use Rattle.momenta.specs.Impulses.{AreStates, AreSameBodies, IsMomentumKept, IsSameBody, IsState};
-ghost use Rattle.momenta.specs.Line64.{with_momenta};
+ghost use Rattle.momenta.specs.Line64.{both_ends, with_momenta};
 ghost use Rattle.momenta.specs.Gains.{IsGain};
 ghost use Rattle.colour_solver_base.specs.RowsAfter.{RowAfter};
-ghost use Rattle.colour_solver_base.specs.Row64.{both_ends};
 ghost use Rattle.fixed_geom.specs.Vectors.{IsWithin, minus, plus};
 ghost use Rattle.colour_solver.specs.Colour.{ColoursAreAtOnce};
 ghost use Rattle.colour_solver.specs.States.{AreAllStates, AreSameStates, as_vector, total};

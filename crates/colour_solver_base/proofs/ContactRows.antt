@@ -11,7 +11,7 @@ use Rattle.momenta.specs.declared.state.BodyState.{BodyState}
 use Rattle.momenta.specs.declared.state.Ends.{Ends}
 use Rattle.momenta.specs.declared.line.Line.{Line}
 use Rattle.momenta.specs.declared.line.Exerted.{Exerted}
-use Rattle.momenta.specs.Impulses.{along, between, both, exerted, fits, given, impulse_pair, inverse_mass, inverse_share, or_dropped, or_kept, solved, speed_along, taken, turning_share, wanted, warmed}
+use Rattle.momenta.specs.Impulses.{along, between, both, exerted, fits, given, impulse_pair, inverse_mass, inverse_share, line_along, or_dropped, or_kept, solved, speed_along, taken, turning_share, wanted, warmed}
 use Rattle.contacts_base.specs.declared.contact.ContactPoint.{ContactPoint}
 use Rattle.contacts_base.specs.declared.contact.Contact.{Contact}
 use Rattle.fixed_geom.specs.declared.limits.TheConstants.{MAX_NORMAL_IMPULSE}
@@ -23,7 +23,7 @@ use Rattle.colour_solver_base.specs.declared.solve.PointAfter.{PointAfter}
 use Rattle.colour_solver_base.specs.RowsAfter.{RowAfter}
 use Rattle.colour_solver_base.specs.Rows as rows
 use Rattle.colour_solver_base.specs.Rows.{bias_of, is_springy, point_row, row_bounced, row_from, row_solved, row_warmed, start_speed}
-use Rattle.colour_solver_base.specs.ContactSolving.{AreMovedFrom, IsMovedFrom, IsRowOf, RowsAreContacts, SolvedPoint, at_points, contact_bounced, contact_solved, contact_warmed, line_along, normal_line, normal_solved, point_bounced, point_solved, point_warmed, separation_now, tangent_line, tangent_solved, with_normal_impulse, with_tangent_impulse}
+use Rattle.colour_solver_base.specs.ContactSolving.{AreMovedFrom, IsMovedFrom, IsRowOf, RowsAreContacts, SolvedPoint, at_points, contact_bounced, contact_solved, contact_warmed, normal_line, normal_solved, point_bounced, point_solved, point_warmed, separation_now, tangent_line, tangent_solved, with_normal_impulse, with_tangent_impulse}
 
 -- ---- masses stay
 

@@ -5,7 +5,7 @@ use Rattle.momenta.specs.declared.state.BodyState.{BodyState}
 use Rattle.momenta.specs.declared.state.Ends.{Ends}
 use Rattle.momenta.specs.declared.line_64.MomentaPair64.{MomentaPair64}
 use Rattle.momenta.specs.declared.line_64.Exerted64.{Exerted64}
-use Rattle.momenta.specs.Line64.{IsImpulse, LeaveRoom64, ends_with}
+use Rattle.momenta.specs.Line64.{IsImpulse, LeaveRoom64, both_ends, ends_with}
 use Rattle.colour_solver_base.specs.declared.row.PointRow.{PointRow}
 use Rattle.colour_solver_base.specs.declared.row.ContactRow.{ContactRow}
 use Rattle.colour_solver_base.specs.declared.solve.PointAfter.{PointAfter}
@@ -13,7 +13,7 @@ use Rattle.colour_solver_base.specs.declared.row_64.PointImpulses.{PointImpulses
 use Rattle.colour_solver_base.specs.declared.row_64.PointAfter64.{PointAfter64}
 use Rattle.colour_solver_base.specs.declared.row_64.RowAfter64.{RowAfter64}
 use Rattle.colour_solver_base.specs.Rows.{IsPointRow, IsRow, at_points, bias_of, point_solved, normal_solved, separation_now, tangent_solved, then_tangent}
-use Rattle.colour_solver_base.specs.Row64.{HasPointRoom64, IsPointAfter64, IsRowAfter64, both_ends, with_impulses, with_point_impulses, with_row_impulses}
+use Rattle.colour_solver_base.specs.Row64.{HasPointRoom64, IsPointAfter64, IsRowAfter64, with_impulses, with_point_impulses, with_row_impulses}
 use Rattle.colour_solver_base.proofs.Kept.{kept_then, same_then}
 
 -- what impulses change has no part in the separation

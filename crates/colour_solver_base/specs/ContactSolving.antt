@@ -2,7 +2,6 @@
 -- here where it is used.
 use Rattle.std.specs.Prelude.{◌≡◌, Bool, false, cond, Option, Some, None, ℤ, pos, neg_ℤ, ◌+ℤ◌, ◌*ℤ◌, int_lt}
 use Rattle.fixed_geom.specs.Numbers.{rdiv}
-use Rattle.fixed_geom.specs.Reciprocals.{share_reciprocal}
 use Rattle.fixed_geom.specs.Vectors.{unit_length, dot, minus}
 use Rattle.fixed_geom.specs.declared.vectors.Vec2.{Vec2}
 use Rattle.fixed_geom.specs.declared.limits.TheConstants.{MAX_NORMAL_IMPULSE}
@@ -11,7 +10,7 @@ use Rattle.momenta.specs.declared.state.BodyState.{BodyState}
 use Rattle.momenta.specs.declared.state.Ends.{Ends}
 use Rattle.momenta.specs.declared.line.Line.{Line}
 use Rattle.momenta.specs.declared.line.Exerted.{Exerted}
-use Rattle.momenta.specs.Impulses.{inverse_mass, speed_along, solved, warmed, travelled}
+use Rattle.momenta.specs.Impulses.{line_along, speed_along, solved, warmed, travelled}
 use Rattle.contacts_base.specs.declared.contact.ContactPoint.{ContactPoint}
 use Rattle.contacts_base.specs.declared.contact.Contact.{Contact}
 use Rattle.colour_solver_base.specs.declared.row.ContactRow.{ContactRow}
@@ -29,10 +28,6 @@ pub record SolvedContact : Type 0 where
   pub ends : Ends
 
 -- ---- lines
-
--- the line along n through the points at these offsets from the two centres
-abbrev pub line_along : Vec2 → Vec2 → Vec2 → Ends → Line
-line_along n ra rb e = record { direction = n; ra = ra; rb = rb; inverse_mass = inverse_mass n ra rb e; reciprocal = share_reciprocal (inverse_mass n ra rb e) }
 
 abbrev pub normal_line : ContactPoint → Ends → Line
 normal_line p e = line_along p.normal p.ra p.rb e

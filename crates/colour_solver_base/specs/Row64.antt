@@ -5,7 +5,7 @@ use Rattle.fixed_geom.specs.declared.limits.TheConstants.{MAX_NORMAL_IMPULSE}
 use Rattle.momenta.specs.declared.state.BodyState.{BodyState}
 use Rattle.momenta.specs.declared.state.Ends.{Ends}
 use Rattle.momenta.specs.Impulses.{AreStates, AreSameBodies, IsMomentumKept}
-use Rattle.momenta.specs.Line64.{HasRoom64, FitsIn64, ends_with}
+use Rattle.momenta.specs.Line64.{HasRoom64, FitsIn64, both_ends, ends_with}
 use Rattle.colour_solver_base.specs.declared.row.PointRow.{PointRow}
 use Rattle.colour_solver_base.specs.declared.row.ContactRow.{ContactRow}
 use Rattle.colour_solver_base.specs.declared.solve.PointAfter.{PointAfter}
@@ -14,9 +14,6 @@ use Rattle.colour_solver_base.specs.declared.row_64.PointImpulses.{PointImpulses
 use Rattle.colour_solver_base.specs.declared.row_64.PointAfter64.{PointAfter64}
 use Rattle.colour_solver_base.specs.declared.row_64.RowAfter64.{RowAfter64}
 use Rattle.colour_solver_base.specs.Rows.{IsPointRow, IsRow, bias_of, most_friction, normal_line, normal_solved, point_solved, separation_now, tangent_line}
-
-abbrev pub both_ends : BodyState → BodyState → Ends
-both_ends a b = record { a = a; b = b }
 
 -- the point with these accumulated impulses
 abbrev pub with_impulses : PointRow → ℤ → ℤ → PointRow

@@ -5,7 +5,7 @@ use Rattle.fixed_geom.specs.Numbers.{rdiv, fdiv}
 use Rattle.fixed_geom.specs.Reciprocals.{share_reciprocal}
 use Rattle.fixed_geom.specs.Vectors.{unit_length, dot, minus}
 use Rattle.fixed_geom.specs.declared.vectors.Vec2.{Vec2}
-use Rattle.fixed_geom.specs.declared.limits.TheConstants.{MAX_IMPULSE, MAX_NORMAL_IMPULSE, MAX_OFFSET}
+use Rattle.fixed_geom.specs.declared.limits.TheConstants.{MAX_LINE_IMPULSE, MAX_NORMAL_IMPULSE, MAX_OFFSET}
 use Rattle.shapes.specs.declared.limits.TheConstants.{MAX_FRICTION, MAX_RESTITUTION}
 use Rattle.colour_solver_base.specs.declared.limits.TheConstants.{BOUNCE_SPEED, MAX_BIAS, SLOP}
 use Rattle.momenta.specs.declared.state.Ends.{Ends}
@@ -156,7 +156,7 @@ pub record IsPointRow (p : PointRow) : Type 0 where
   pub start_speed : unsigned_abs p.start_speed ≤ 2 ^ 62 + 2 ^ 28
   pub normal_low : pos 0 ≤ℤ p.normal_impulse
   pub normal_high : unsigned_abs p.normal_impulse ≤ unsigned_abs MAX_NORMAL_IMPULSE
-  pub tangent_impulse : unsigned_abs p.tangent_impulse ≤ unsigned_abs MAX_IMPULSE
+  pub tangent_impulse : unsigned_abs p.tangent_impulse ≤ unsigned_abs MAX_LINE_IMPULSE
 
 pub record AreSurfaces (b : Bodies) : Type 0 where
   pub friction_low : pos 0 ≤ℤ b.friction

@@ -3,13 +3,13 @@
 ghost use Rattle.std.specs.Prelude.{◌≡◌, ℕ, ◌+◌, ◌≤◌, true, pos, ◌≤ℤ◌, unsigned_abs, IfSome, is_some};
 ghost use Rattle.std.specs.Option.{ForSome};
 ghost use Rattle.momenta.specs.Impulses.{AreStates, IsState, parting};
-ghost use Rattle.momenta.specs.Line64.{LeaveRoom64, IsImpulse, ends_with};
+ghost use Rattle.momenta.specs.Line64.{LeaveRoom64, IsImpulse, ends_with, both_ends};
 ghost use Rattle.colour_solver_base.specs.Rows.{IsPointRow, IsRow, bias_of, point_solved, point_warmed, normal_solved, row_solved, row_warmed, separation_now, tangent_solved};
-ghost use Rattle.colour_solver_base.specs.Row64.{HasPointRoom64, HasNormalRoom64, HasTangentRoom64, HasSolveRoom64, HasWarmPointRoom64, HasWarmRoom64, IsPointAfter64, IsRowAfter64, both_ends, with_impulses};
+ghost use Rattle.colour_solver_base.specs.Row64.{HasPointRoom64, HasNormalRoom64, HasTangentRoom64, HasSolveRoom64, HasWarmPointRoom64, HasWarmRoom64, IsPointAfter64, IsRowAfter64, with_impulses};
 
 use crate::solve::{bias_of, most_friction, separation_between};
 use crate::{ContactRow, PointRow};
-use fixed_geom::{MAX_IMPULSE, MAX_NORMAL_IMPULSE, Vec2};
+use fixed_geom::{MAX_LINE_IMPULSE, MAX_NORMAL_IMPULSE, Vec2};
 use momenta::{
     BodyState, Exerted64, MomentaPair64, momenta_pair_64, parting_64, solve_line_64,
     warm_at_once_64,
@@ -97,7 +97,7 @@ fn solve_tangent_64(
     requires apart { after_normal.total ≡ point.now.normal_impulse → apart ≡ parting point.now.ra point.now.rb (ends_with a.now b.now after_normal.now) }
     ensures value { IfSome result (λ r. tangent_solved friction (with_impulses point.now after_normal.total point.now.tangent_impulse) (ends_with a.now b.now after_normal.now) ≡ record { point = with_impulses point.now after_normal.total r.total; ends = ends_with a.now b.now r.now }) }
     ensures impulse { IfSome result (λ r. IsImpulse a.now b.now after_normal.now r.now) }
-    ensures small { IfSome result (λ r. unsigned_abs r.total ≤ unsigned_abs MAX_IMPULSE) }
+    ensures small { IfSome result (λ r. unsigned_abs r.total ≤ unsigned_abs MAX_LINE_IMPULSE) }
     ensures room { HasTangentRoom64 friction (with_impulses point.now after_normal.total point.now.tangent_impulse) (ends_with a.now b.now after_normal.now) → is_some result ≡ true }
 {
     let most = most_friction(friction, after_normal.total);

@@ -8,7 +8,7 @@ ghost use Rattle.momenta.specs.Impulses.{AreStates, AreSameBodies, IsMomentumKep
 ghost use Rattle.colour_solver_base.specs.Rows.{IsPointRow, IsRow, bias_of, bounces, most_friction, normal_solved, tangent_solved, point_bounced, point_solved, point_warmed, row_bounced, row_solved, row_warmed, separation_now};
 
 use crate::{BOUNCE_SPEED, ContactRow, MAX_BIAS, PointRow, SLOP};
-use fixed_geom::{MAX_IMPULSE, MAX_NORMAL_IMPULSE, Vec2, minus, product, rdiv};
+use fixed_geom::{MAX_LINE_IMPULSE, MAX_NORMAL_IMPULSE, Vec2, minus, product, rdiv};
 use momenta::{BodyState, Ends, part_along, parting, solve_line, warm_at_once, warm_line};
 use shapes::{MAX_FRICTION, MAX_RESTITUTION};
 
@@ -150,7 +150,7 @@ pub(crate) fn most_friction(friction: i64, normal_impulse: i64) -> i64
     requires normal_high { unsigned_abs normal_impulse ≤ unsigned_abs MAX_NORMAL_IMPULSE }
     ensures value { result ≡ most_friction friction normal_impulse }
     ensures nonnegative { pos 0 ≤ℤ result }
-    ensures within { unsigned_abs result ≤ unsigned_abs MAX_IMPULSE }
+    ensures within { unsigned_abs result ≤ unsigned_abs MAX_LINE_IMPULSE }
 {
     floor_64(friction * normal_impulse, 256)
 }

@@ -2,13 +2,10 @@
 use Rattle.std.specs.Prelude.{ℕ, ◌<◌, ◌/◌, ◌%◌, ◌^◌, false, pos, List, length, slice_index_or, All}
 use Rattle.std.specs.List.Sorted.{IsStrictlyIncreasing}
 use Rattle.fixed_geom.specs.declared.boxes.Box2.{Box2}
-use Rattle.fixed_geom.specs.declared.vectors.Vec2.{Vec2}
+use Rattle.fixed_geom.specs.Vectors.{zero_vector}
 use Rattle.shapes.specs.declared.shape.Shape.TheVariants.{Circle}
 use Rattle.contacts_base.specs.declared.near.Proxy.{Proxy}
 use Rattle.contacts_base.specs.declared.key.ContactKey.{ContactKey}
-
-abbrev pub zero_vector : Vec2
-zero_vector = record { x = pos 0; y = pos 0 }
 
 -- what stands for a box beyond a list
 abbrev pub no_box : Box2

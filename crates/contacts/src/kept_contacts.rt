@@ -281,7 +281,7 @@ fn make_or_clear<S: ShapesByName, F: ForbiddenPairs>(
     );
     if made.is_err() {
         due.clear();
-        contacts.ascend();
+        contacts.know_ascending();
     }
     made
 }
@@ -305,7 +305,7 @@ impl KeptContacts {
         ensures { result.contacts ≡ [] }
     {
         let contacts = SplitContacts::new(alloc);
-        contacts.ascend();
+        contacts.know_ascending();
         KeptContacts {
             contacts,
             due: Due::new(alloc),
@@ -319,7 +319,7 @@ impl KeptContacts {
         ensures memory_only { IsOkUnless result Refusal.NoMemory }
     {
         let contacts = SplitContacts::from_entries(alloc, contacts.into_entries())?;
-        contacts.ascend();
+        contacts.know_ascending();
         Ok(KeptContacts {
             contacts,
             due: Due::new(alloc),
@@ -383,7 +383,7 @@ impl KeptContacts {
     {
         self.due.clear();
         self.contacts.drop_of_body(slot);
-        self.contacts.ascend();
+        self.contacts.know_ascending();
     }
 
     /// Gives the points of the contact with this key these impulses, in mass·u/tick. Without any for the second point that stays as it is, and so do
@@ -400,7 +400,7 @@ impl KeptContacts {
     {
         self.due.clear();
         self.contacts.set_impulses(place, key, first, second);
-        self.contacts.ascend();
+        self.contacts.know_ascending();
     }
 
     /// A collide of the shapes as they are now, in which the bodies of the forbidden pairs pass through
@@ -452,6 +452,6 @@ impl KeptContacts {
         ensures { self.new.contacts ≡ self.old.due }
     {
         carry_out_now(&mut self.contacts, &mut self.due, &mut self.beside);
-        self.contacts.ascend();
+        self.contacts.know_ascending();
     }
 }

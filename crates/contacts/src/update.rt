@@ -128,7 +128,7 @@ pub fn update_known<S: ShapesByName, F: ForbiddenPairs>(
     due.short = None;
     due.whole = None;
     due.any = true;
-    old.ascend();
+    old.know_ascending();
     let touches = look_over(
         alloc,
         &mut due.notes,

@@ -209,9 +209,9 @@ impl SplitContacts {
         })
     }
 
-    /// What is known of both lists and of the contacts.
+    /// What is known of both lists and of the contacts. The function does nothing; its contract is the law.
     #[inline(always)]
-    pub fn ascend(&self)
+    pub fn know_ascending(&self)
         ensures long { AreContacts self.now.long }
         ensures short { AreContacts self.now.short }
         ensures contacts { AreContacts (contacts_in self.now) }

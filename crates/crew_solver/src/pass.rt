@@ -18,13 +18,13 @@ use std::mem;
 use std::sync::Wait;
 
 /// What the pieces keep of their rows.
-fn rows_stand<R: Row>(pieces: &[Piece<R>], bodies: usize)
+fn know_rows_stand<R: Row>(pieces: &[Piece<R>], bodies: usize)
     requires bodies { All (λ p. p.bodies ≡ bodies) pieces.now }
     ensures rows { AreRowsOn R.slots R.is_row bodies (rows_in pieces.now) }
 {
     if let Some((first, rest)) = pieces.split_first() {
         let _ = first.rows();
-        rows_stand(rest, bodies);
+        know_rows_stand(rest, bodies);
     }
 }
 
@@ -79,8 +79,8 @@ pub fn pass_pieces<'s, H: Wait, G: Gate, R: Row, T: Turn<R> + Copy>(
     ensures other_room { vec_capacity spare.old ≤ vec_capacity pieces.new }
     ensures small { IsGain (2 ^ 78) result }
 {
-    rows_stand(pieces.as_slice(), states.len());
+    know_rows_stand(pieces.as_slice(), states.len());
     turn_pieces(rt, alloc, crew, states, pieces, spare, turn);
-    rows_stand(pieces.as_slice(), states.len());
+    know_rows_stand(pieces.as_slice(), states.len());
     put_pieces(states, pieces.as_slice(), NOTHING)
 }

@@ -3,9 +3,8 @@
 ghost use Rattle.std.specs.Prelude.{◌≡◌, ◌≤◌, All, length, map, vec_len, vec_capacity, IfOk};
 ghost use Rattle.std.specs.Result.{IsOkUnless};
 ghost use Rattle.momenta.specs.Impulses.{IsState};
-ghost use Rattle.momenta.specs.Line64.{ends_with};
+ghost use Rattle.momenta.specs.Line64.{both_ends, ends_with};
 ghost use Rattle.momenta.specs.declared.state.BodyState.{BodyState};
-ghost use Rattle.colour_solver_base.specs.Row64.{both_ends};
 ghost use Rattle.colour_solver.specs.States.{AreAllStates};
 ghost use Rattle.colour_solver.specs.Turns.{AreRowsOn, IsRowOn, ends_of, turn_of};
 ghost use Rattle.crew_solver.specs.Turned.{IsPairWithin, momenta_of, worked};

@@ -40,7 +40,8 @@ pub use boxes::{Box2, contains, grow, overlaps};
 pub use facings::{MAX_FACING, MIN_FACING, Rot, is_facing, rotate, rotate_64, turn};
 pub use inverses::{over_inverse, quotient_40};
 pub use limits::{
-    MAX_IMPULSE, MAX_NORMAL_IMPULSE, MAX_OFFSET, MAX_POSITION, MAX_SPIN, limits_in_digits,
+    MAX_CORNER, MAX_LINE_IMPULSE, MAX_NORMAL_IMPULSE, MAX_OFFSET, MAX_POSITION, MAX_SPIN,
+    limits_in_digits,
 };
 pub use products::{difference_of_products, product, scaled, sum_of_products};
 pub use products_64::{cross_64, dot_64, rdiv_unit_64, scaled_64};

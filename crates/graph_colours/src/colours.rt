@@ -266,7 +266,7 @@ impl<C: Id> Colours<C> {
     }
 
     /// What every colouring keeps: a law.
-    pub fn keeps(&self)
+    pub fn know_colouring(&self)
         ensures { IsColouring C.number self.now.lists }
     {
         let _ = self.count();

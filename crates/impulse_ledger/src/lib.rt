@@ -15,5 +15,5 @@ mod totals;
 
 pub use entry::{Cause, Entry};
 pub use ledger::Ledger;
-pub use limits::{MAX_IMPULSE, MAX_TOTAL, MAX_TOTAL_OF_CAUSE, limits_in_digits};
+pub use limits::{MAX_ENTRY, MAX_TOTAL, MAX_TOTAL_OF_CAUSE, limits_in_digits};
 pub use totals::{Total, Totals};

@@ -33,6 +33,11 @@ is_asleep Whole = false
 is_asleep Loose = false
 is_asleep Asleep = true
 
+-- the name of the island, if it sleeps: a mover of it sleeps with that name
+abbrev pub sleeping_name : Option Label → Option ℕ
+sleeping_name None = None
+sleeping_name (Some l) = cond (is_asleep l.state) (Some l.name) None
+
 -- ---- islands get another label
 
 -- the movers of the islands a and b get one label

@@ -1,7 +1,7 @@
 //! The label of an island.
 
 ghost use Rattle.std.specs.Prelude.{◌≡◌};
-ghost use Rattle.islands.specs.Labels.{is_loose, is_asleep, union_label};
+ghost use Rattle.islands.specs.Labels.{is_loose, is_asleep, sleeping_name, union_label};
 
 /// What is known of an island.
 #[derive(Clone, Copy, Debug, PartialEq, Eq)]
@@ -41,6 +41,22 @@ impl IslandState {
 pub struct Label {
     pub name: u32,
     pub state: IslandState,
+}
+
+/// The name of the island with this label, if there is one and it sleeps.
+pub fn sleeping_name(label: Option<Label>) -> Option<u32>
+    ensures { result ≡ sleeping_name label }
+{
+    match label {
+        None => None,
+        Some(label) => {
+            if label.state.is_asleep() {
+                Some(label.name)
+            } else {
+                None
+            }
+        }
+    }
 }
 
 /// The label of the union of two islands.

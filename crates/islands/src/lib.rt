@@ -23,7 +23,7 @@ mod scratch;
 mod splitting;
 
 pub use islands::Islands;
-pub use label::{IslandState, Label};
+pub use label::{IslandState, Label, sleeping_name};
 pub use scratch::SplitScratch;
 
 /// What keeps the islands: that linked movers are in one island, and that an island which isn't loose is one

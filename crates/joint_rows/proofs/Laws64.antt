@@ -5,12 +5,12 @@ use Rattle.momenta.specs.declared.state.BodyState.{BodyState}
 use Rattle.momenta.specs.declared.line_64.MomentaPair64.{MomentaPair64}
 use Rattle.momenta.specs.declared.line_64.Exerted64.{Exerted64}
 use Rattle.momenta.specs.Impulses.{solved}
-use Rattle.momenta.specs.Line64.{IsImpulse, ends_with}
+use Rattle.momenta.specs.Line64.{IsImpulse, both_ends, ends_with}
 use Rattle.joint_rows.specs.declared.row.JointRow.{JointRow}
 use Rattle.joint_rows.specs.declared.solve.JointAfter.{JointAfter}
 use Rattle.joint_rows.specs.Joints.{bias_of}
 use Rattle.joint_rows.specs.Rows.{IsJointRow, joint_solved, stretch_now, with_exerted}
-use Rattle.joint_rows.specs.Row64.{IsJointAfter64, IsRowAfter64, both_ends, with_impulse}
+use Rattle.joint_rows.specs.Row64.{IsJointAfter64, IsRowAfter64, with_impulse}
 
 -- what impulses change has no part in the stretch
 pub same_stretch : (r : JointRow) (a b : BodyState) (n : MomentaPair64) → stretch_now r (both_ends a b) ≡ stretch_now r (ends_with a b n)

@@ -3,7 +3,6 @@
 use Rattle.std.specs.Prelude.{Bool, ◌&&◌, ◌≤◌, cond, ℤ, pos, neg_ℤ, ◌+ℤ◌, ◌-ℤ◌, ◌≤ℤ◌, unsigned_abs}
 use Rattle.std.specs.Ordering.{int_eq}
 use Rattle.fixed_geom.specs.Numbers.{rdiv}
-use Rattle.fixed_geom.specs.Reciprocals.{share_reciprocal}
 use Rattle.fixed_geom.specs.Facings.{rotate}
 use Rattle.fixed_geom.specs.Vectors.{IsWithin, dot, minus, plus, span, unit, unit_length}
 use Rattle.fixed_geom.specs.declared.vectors.Vec2.{Vec2}
@@ -11,7 +10,7 @@ use Rattle.momenta.specs.declared.state.BodyState.{BodyState}
 use Rattle.momenta.specs.declared.state.Ends.{Ends}
 use Rattle.momenta.specs.declared.line.Line.{Line}
 use Rattle.momenta.specs.declared.line.Exerted.{Exerted}
-use Rattle.momenta.specs.Impulses.{between, inverse_mass, solved, travelled, warmed}
+use Rattle.momenta.specs.Impulses.{between, line_along, solved, travelled, warmed}
 use Rattle.joint_rows.specs.declared.limits.TheConstants.{MAX_ANCHOR, MAX_JOINT_BIAS, MAX_JOINT_IMPULSE, MAX_JOINT_LENGTH}
 use Rattle.joint_rows.specs.declared.joint.Joint.{Joint}
 
@@ -43,10 +42,6 @@ is_zero d = int_eq d.x (pos 0) && int_eq d.y (pos 0)
 -- the direction of a way: upwards where it leads nowhere
 unfoldable pub direction_along : Vec2 → Vec2
 direction_along d = cond (is_zero d) (record { x = pos 0; y = unit_length }) (unit d)
-
--- the line along n through the points at these offsets from the two centres
-abbrev pub line_along : Vec2 → Vec2 → Vec2 → Ends → Line
-line_along n ra rb e = record { direction = n; ra = ra; rb = rb; inverse_mass = inverse_mass n ra rb e; reciprocal = share_reciprocal (inverse_mass n ra rb e) }
 
 -- the way from one anchor to the other when the step begins
 abbrev pub joint_gap : Joint → Ends → Vec2

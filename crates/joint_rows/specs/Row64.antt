@@ -5,15 +5,12 @@ use Rattle.momenta.specs.declared.state.Ends.{Ends}
 use Rattle.momenta.specs.declared.line_64.MomentaPair64.{MomentaPair64}
 use Rattle.momenta.specs.declared.line_64.Exerted64.{Exerted64}
 use Rattle.momenta.specs.Impulses.{AreStates, AreSameBodies, IsMomentumKept}
-use Rattle.momenta.specs.Line64.{FitsIn64, HasRoom64, ends_with}
+use Rattle.momenta.specs.Line64.{FitsIn64, HasRoom64, both_ends, ends_with}
 use Rattle.joint_rows.specs.declared.limits.TheConstants.{MAX_JOINT_IMPULSE}
 use Rattle.joint_rows.specs.declared.row.JointRow.{JointRow}
 use Rattle.joint_rows.specs.declared.solve.JointAfter.{JointAfter}
 use Rattle.joint_rows.specs.Joints.{bias_of}
 use Rattle.joint_rows.specs.Rows.{IsJointRow, stretch_now}
-
-abbrev pub both_ends : BodyState → BodyState → Ends
-both_ends a b = record { a = a; b = b }
 
 -- the row with this accumulated impulse
 abbrev pub with_impulse : JointRow → ℤ → JointRow

@@ -110,6 +110,10 @@ inverse_share n r s = cond s.movable (rdiv (pos (2 ^ 40)) s.mass.mass +ℤ turni
 unfoldable pub inverse_mass : Vec2 → Vec2 → Vec2 → Ends → ℤ
 inverse_mass n ra rb e = inverse_share n ra e.a +ℤ inverse_share n rb e.b
 
+-- the line along n through the points at these offsets from the two centres
+abbrev pub line_along : Vec2 → Vec2 → Vec2 → Ends → Line
+line_along n ra rb e = record { direction = n; ra = ra; rb = rb; inverse_mass = inverse_mass n ra rb e; reciprocal = share_reciprocal (inverse_mass n ra rb e) }
+
 -- the impulse that brings the speed to the bias
 unfoldable pub wanted : ℤ → ℤ → ℤ → ℤ
 wanted speed bias inverse = rdiv (neg_ℤ (speed -ℤ bias) *ℤ pos (2 ^ 40)) inverse

@@ -13,6 +13,10 @@ use Rattle.momenta.specs.Impulses.{AreStates, AreSameBodies, IsMomentumKept, bet
 abbrev pub with_momenta : BodyState → Momenta64 → BodyState
 with_momenta s n = record s { motion = record s.motion { p = n.p; l = n.l } }
 
+abbrev pub both_ends : BodyState → BodyState → Ends
+both_ends a b = record { a = a; b = b }
+
+-- the two bodies with these momenta
 abbrev pub ends_with : BodyState → BodyState → MomentaPair64 → Ends
 ends_with a b n = record { a = with_momenta a n.a; b = with_momenta b n.b }
 

@@ -37,5 +37,5 @@ pub use mass::MassData;
 pub use motion::{Momenta, Motion, spin, velocity};
 pub use reciprocals::{Reciprocals, reciprocals_of};
 pub use speed_limit::clamp_speed;
-pub use state::{BodyState, Ends, impulse_pair};
+pub use state::{BodyState, Ends, impulse_pair, turned_by};
 pub use travel::advance;

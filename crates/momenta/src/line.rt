@@ -10,7 +10,7 @@ ghost use Rattle.momenta.specs.Impulses.{AreStates, AreSameBodies, IsMomentumKep
 use crate::ranges::are_in;
 use crate::{Ends, MIN_INVERSE_MASS, impulse_pair};
 use fixed_geom::{
-    MAX_IMPULSE, MAX_OFFSET, UNIT, Vec2, dot, dot_64, minus, over_inverse_by, plus, rdiv,
+    MAX_LINE_IMPULSE, MAX_OFFSET, UNIT, Vec2, dot, dot_64, minus, over_inverse_by, plus, rdiv,
     rdiv_unit_64, scaled, scaled_64,
 };
 
@@ -225,8 +225,8 @@ fn component_along(size: i64, part: i64) -> i64
 fn exert(line: &Line, old: i64, new: i64, ends: &mut Ends) -> i64
     requires line { IsLine line.now }
     requires states { AreStates ends.old }
-    requires old { unsigned_abs old ≤ unsigned_abs MAX_IMPULSE }
-    requires new { unsigned_abs new ≤ unsigned_abs MAX_IMPULSE }
+    requires old { unsigned_abs old ≤ unsigned_abs MAX_LINE_IMPULSE }
+    requires new { unsigned_abs new ≤ unsigned_abs MAX_LINE_IMPULSE }
     ensures value { record { ends = ends.new; total = result } ≡ exerted line.now old new ends.old }
     ensures states { AreStates ends.new }
     ensures total { (result ≡ new) ⊎ (result ≡ old) }
@@ -248,8 +248,8 @@ fn exert(line: &Line, old: i64, new: i64, ends: &mut Ends) -> i64
 fn exert_difference(line: &Line, old: i64, new: i64, ends: &mut Ends) -> i64
     requires line { IsLine line.now }
     requires states { AreStates ends.old }
-    requires old { unsigned_abs old ≤ unsigned_abs MAX_IMPULSE }
-    requires new { unsigned_abs new ≤ unsigned_abs MAX_IMPULSE }
+    requires old { unsigned_abs old ≤ unsigned_abs MAX_LINE_IMPULSE }
+    requires new { unsigned_abs new ≤ unsigned_abs MAX_LINE_IMPULSE }
     requires other { new ≡ old → ⊥ }
     ensures value { record { ends = ends.new; total = result } ≡ exerted line.now old new ends.old }
     ensures states { AreStates ends.new }
@@ -302,7 +302,7 @@ pub(crate) fn next_total_64(
     requires inverse_size { unsigned_abs inverse < 2 ^ 62 }
     requires reciprocal { reciprocal ≡ share_reciprocal inverse }
     requires order { low ≤ℤ high }
-    requires total { unsigned_abs total ≤ unsigned_abs MAX_IMPULSE }
+    requires total { unsigned_abs total ≤ unsigned_abs MAX_LINE_IMPULSE }
     ensures value { result ≡ between low high (total +ℤ wanted speed bias inverse) }
     ensures low { low ≤ℤ result }
     ensures high { result ≤ℤ high }
@@ -322,7 +322,7 @@ fn next_total_128(speed: i64, bias: i64, inverse: i128, low: i64, high: i64, tot
     requires bias { unsigned_abs bias ≤ 2 ^ 62 + 2 ^ 28 }
     requires inverse { MIN_INVERSE_MASS ≤ℤ inverse }
     requires order { low ≤ℤ high }
-    requires total { unsigned_abs total ≤ unsigned_abs MAX_IMPULSE }
+    requires total { unsigned_abs total ≤ unsigned_abs MAX_LINE_IMPULSE }
     ensures value { result ≡ between low high (total +ℤ wanted speed bias inverse) }
     ensures low { low ≤ℤ result }
     ensures high { result ≤ℤ high }
@@ -358,7 +358,7 @@ fn next_total(
     requires inverse { MIN_INVERSE_MASS ≤ℤ inverse }
     requires reciprocal { reciprocal ≡ share_reciprocal inverse }
     requires order { low ≤ℤ high }
-    requires total { unsigned_abs total ≤ unsigned_abs MAX_IMPULSE }
+    requires total { unsigned_abs total ≤ unsigned_abs MAX_LINE_IMPULSE }
     ensures value { result ≡ between low high (total +ℤ wanted speed bias inverse) }
     ensures low { low ≤ℤ result }
     ensures high { result ≤ℤ high }
@@ -392,12 +392,12 @@ pub fn solve_line(
     requires apart_size { IsWithin (2 ^ 61 + 2 ^ 26) apart }
     requires bias { unsigned_abs bias ≤ 2 ^ 62 + 2 ^ 28 }
     requires order { low ≤ℤ high }
-    requires low { unsigned_abs low ≤ unsigned_abs MAX_IMPULSE }
-    requires high { unsigned_abs high ≤ unsigned_abs MAX_IMPULSE }
-    requires total { unsigned_abs total ≤ unsigned_abs MAX_IMPULSE }
+    requires low { unsigned_abs low ≤ unsigned_abs MAX_LINE_IMPULSE }
+    requires high { unsigned_abs high ≤ unsigned_abs MAX_LINE_IMPULSE }
+    requires total { unsigned_abs total ≤ unsigned_abs MAX_LINE_IMPULSE }
     ensures value { record { ends = ends.new; total = result } ≡ solved line.now bias low high total ends.old }
     ensures states { AreStates ends.new }
-    ensures small { unsigned_abs result ≤ unsigned_abs MAX_IMPULSE }
+    ensures small { unsigned_abs result ≤ unsigned_abs MAX_LINE_IMPULSE }
     ensures low { low ≤ℤ total → low ≤ℤ result }
     ensures high { total ≤ℤ high → result ≤ℤ high }
     ensures still { result ≡ total → ends.new ≡ ends.old }
@@ -423,7 +423,7 @@ pub fn solve_line(
 pub fn warm_line(line: &Line, total: i64, ends: &mut Ends)
     requires line { IsLine line.now }
     requires states { AreStates ends.old }
-    requires total { unsigned_abs total ≤ unsigned_abs MAX_IMPULSE }
+    requires total { unsigned_abs total ≤ unsigned_abs MAX_LINE_IMPULSE }
     ensures value { ends.new ≡ warmed line.now total ends.old }
     ensures states { AreStates ends.new }
     ensures same { AreSameBodies ends.old ends.new }
@@ -440,7 +440,7 @@ pub fn warm_line(line: &Line, total: i64, ends: &mut Ends)
 fn warm(line: &Line, total: i64, ends: &mut Ends)
     requires line { IsLine line.now }
     requires states { AreStates ends.old }
-    requires total { unsigned_abs total ≤ unsigned_abs MAX_IMPULSE }
+    requires total { unsigned_abs total ≤ unsigned_abs MAX_LINE_IMPULSE }
     ensures value { ends.new ≡ warmed line.now total ends.old }
     ensures states { AreStates ends.new }
     ensures same { AreSameBodies ends.old ends.new }
@@ -460,8 +460,8 @@ pub fn warm_at_once(first: &Line, one: i64, second: &Line, other: i64, ends: &mu
     requires ra { second.now.ra ≡ first.now.ra }
     requires rb { second.now.rb ≡ first.now.rb }
     requires states { AreStates ends.old }
-    requires one { unsigned_abs one ≤ unsigned_abs MAX_IMPULSE }
-    requires other { unsigned_abs other ≤ unsigned_abs MAX_IMPULSE }
+    requires one { unsigned_abs one ≤ unsigned_abs MAX_LINE_IMPULSE }
+    requires other { unsigned_abs other ≤ unsigned_abs MAX_LINE_IMPULSE }
     ensures given { result ≡ true → ends.new ≡ warmed second.now other (warmed first.now one ends.old) }
     ensures left { result ≡ false → ends.new ≡ ends.old }
     ensures states { AreStates ends.new }

@@ -13,7 +13,7 @@ use crate::ranges::{are_in, is_in};
 use crate::state::{carried_back, carried_on};
 use crate::{BodyState, Line, MAX_ANGULAR_MOMENTUM, MAX_MASS, MIN_INVERSE_MASS, spin};
 use fixed_geom::{
-    MAX_IMPULSE, MAX_OFFSET, MAX_SPIN, Vec2, ZERO_VECTOR, cross_64, minus, opposite, plus, rdiv_by,
+    MAX_LINE_IMPULSE, MAX_OFFSET, MAX_SPIN, Vec2, ZERO_VECTOR, cross_64, minus, opposite, plus, rdiv_by,
     share_by,
 };
 
@@ -299,8 +299,8 @@ fn exert_64(
     requires line { IsLine line.now }
     requires states { AreStates (ends_with a.now b.now now) }
     requires leaves_room { LeaveRoom64 4 now }
-    requires old { unsigned_abs old ≤ unsigned_abs MAX_IMPULSE }
-    requires new { unsigned_abs new ≤ unsigned_abs MAX_IMPULSE }
+    requires old { unsigned_abs old ≤ unsigned_abs MAX_LINE_IMPULSE }
+    requires new { unsigned_abs new ≤ unsigned_abs MAX_LINE_IMPULSE }
     ensures value { IfSome result (λ r. exerted line.now old new (ends_with a.now b.now now) ≡ record { ends = ends_with a.now b.now r.now; total = r.total }) }
     ensures impulse { IfSome result (λ r. IsImpulse a.now b.now now r.now) }
     ensures total { IfSome result (λ r. r.total ≡ new) }
@@ -344,7 +344,7 @@ fn checked_total_64(
     requires inverse { MIN_INVERSE_MASS ≤ℤ inverse }
     requires reciprocal { reciprocal ≡ share_reciprocal inverse }
     requires order { low ≤ℤ high }
-    requires total { unsigned_abs total ≤ unsigned_abs MAX_IMPULSE }
+    requires total { unsigned_abs total ≤ unsigned_abs MAX_LINE_IMPULSE }
     ensures value { IfSome result (λ next. next ≡ between low high (total +ℤ wanted speed bias inverse)) }
     ensures low { IfSome result (λ next. low ≤ℤ next) }
     ensures high { IfSome result (λ next. next ≤ℤ high) }
@@ -378,9 +378,9 @@ pub fn solve_line_64(
     requires leaves_room { LeaveRoom64 4 now }
     requires apart { apart ≡ parting line.now.ra line.now.rb (ends_with a.now b.now now) }
     requires order { low ≤ℤ high }
-    requires low { unsigned_abs low ≤ unsigned_abs MAX_IMPULSE }
-    requires high { unsigned_abs high ≤ unsigned_abs MAX_IMPULSE }
-    requires total { unsigned_abs total ≤ unsigned_abs MAX_IMPULSE }
+    requires low { unsigned_abs low ≤ unsigned_abs MAX_LINE_IMPULSE }
+    requires high { unsigned_abs high ≤ unsigned_abs MAX_LINE_IMPULSE }
+    requires total { unsigned_abs total ≤ unsigned_abs MAX_LINE_IMPULSE }
     ensures value { IfSome result (λ r. solved line.now bias low high total (ends_with a.now b.now now) ≡ record { ends = ends_with a.now b.now r.now; total = r.total }) }
     ensures impulse { IfSome result (λ r. IsImpulse a.now b.now now r.now) }
     ensures low { IfSome result (λ r. low ≤ℤ r.total) }

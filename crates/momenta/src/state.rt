@@ -140,7 +140,7 @@ pub(crate) fn carried_on(v: i64, w: i64, r: i64) -> i64
 
 /// An angular momentum with the moment of an impulse, of a body that turns.
 #[inline(always)]
-fn turned_by(inertia: i64, l: i128, moment: i128) -> i128
+pub fn turned_by(inertia: i64, l: i128, moment: i128) -> i128
     requires l { unsigned_abs l ≤ 2 ^ 90 }
     requires moment { unsigned_abs moment ≤ 2 ^ 90 }
     ensures { result ≡ turned_by inertia l moment }

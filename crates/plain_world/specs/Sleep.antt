@@ -4,18 +4,13 @@ use Rattle.fixed_geom.specs.Vectors.{is_within, zero_vector}
 use Rattle.momenta.specs.Motions.{spin, velocity}
 use Rattle.momenta.specs.declared.mass.MassData.{MassData}
 use Rattle.momenta.specs.declared.motion.Motion.{Motion}
-use Rattle.islands.specs.Labels.{Labels, is_asleep, label_at}
+use Rattle.islands.specs.Labels.{Labels, label_at, sleeping_name}
 use Rattle.islands.specs.declared.label.Label.{Label}
 use Rattle.plain_world.specs.declared.body.Body.{Body}
 use Rattle.plain_world.specs.declared.sleep.TheConstants.{SLOW_SPEED, SLOW_SPIN}
 use Rattle.plain_world.specs.Bodies.{is_awake, is_mover}
 
 -- ---- what the islands tell
-
--- the name with which a mover of an island with this label sleeps, if it does
-abbrev pub sleeping_name : Option Label → Option ℕ
-sleeping_name None = None
-sleeping_name (Some l) = cond (is_asleep l.state) (Some l.name) None
 
 -- a mover that is put to rest in the island of this name: it loses its momenta, and its timer stays
 abbrev pub put_to_rest : ℕ → Body → Body

@@ -1,22 +1,16 @@
 ghost use Rattle.std.specs.Prelude.{◌≡◌, IfOk, OnOk, IsTrue};
 ghost use Rattle.std.specs.Result.{IsOkUnless, result_err};
-ghost use Rattle.shapes.specs.Shapes.{is_between};
 ghost use Rattle.plain_world.specs.Bodies.{can_move, is_awake, is_carried, is_mover, is_no_mass, pose_of, sleeping_set, standing_of, stirs, view_of, is_mass_allowed, def_refusal, made, IsMassOf, IsAllowed, IsBody};
 
 use crate::fats::FatBoxes;
 use crate::kind::{Course, Kind};
-use fixed_geom::{Refusal, Rot, Vec2, is_facing, is_within};
-use momenta::{MassData, Motion};
-use shapes::{Pose, Shapes, check};
+use fixed_geom::{MAX_POSITION, Refusal, Rot, Vec2, is_facing, is_within};
+use momenta::{MAX_INERTIA, MAX_MASS, MassData, Motion};
+use shapes::{Pose, Shapes, check, is_between};
 use std::alloc::Global;
 
 /// The greatest size of a coordinate of a place, in u.
-const MAX_PLACE: u64 = 1 << 36;
-
-const MAX_MASS: i64 = 1 << 20;
-
-/// The greatest inertia, in mass·u².
-const MAX_INERTIA: i64 = 1 << 60;
+const MAX_PLACE: u64 = MAX_POSITION as u64;
 
 /// A body to be made: at the place `x` (u) with the facing `rot` (times 2^30), at rest.
 #[derive(Drop)]
@@ -77,12 +71,6 @@ impl BodyDef {
             asleep: None,
         })
     }
-}
-
-fn is_between(low: i64, high: i64, value: i64) -> bool
-    ensures { result ≡ is_between low high value }
-{
-    low <= value && value <= high
 }
 
 fn is_no_mass(mass: MassData) -> bool

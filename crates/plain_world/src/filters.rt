@@ -5,15 +5,15 @@ ghost use Rattle.plain_world.specs.Formed.{HasFilter, HaveFilters};
 use shapes::{Filter, ShapeDef};
 
 /// The numbers of a filter are within the ranges of their types. The function does nothing; its contract tells it.
-fn filter_fits(_filter: Filter)
+fn know_filter_fits(_filter: Filter)
     ensures { HasFilter _filter }
 {}
 
 /// So are those of each of these shapes, as reading them tells. The function changes nothing.
-pub fn filters_fit(defs: &[ShapeDef])
+pub fn know_filters_fit(defs: &[ShapeDef])
     ensures { HaveFilters defs.now }
 {
     for def in defs {
-        filter_fits(def.filter);
+        know_filter_fits(def.filter);
     }
 }

@@ -4,11 +4,11 @@ ghost use Rattle.std.specs.Prelude.{◌≡◌, ◌+◌, ◌<◌, ◌≤◌, ◌^
 ghost use Rattle.std.specs.Option.{IfSome, ForSome};
 ghost use Rattle.momenta.specs.Motions.{IsMass, IsMotion};
 ghost use Rattle.plain_world.specs.Bodies.{IsBody, is_awake};
-ghost use Rattle.plain_world.specs.Sleep.{is_slow, put_to_rest, roused, sleeping_name, timed, told_body, told_by};
+ghost use Rattle.plain_world.specs.Sleep.{is_slow, put_to_rest, roused, timed, told_body, told_by};
 
 use crate::body::Body;
 use fixed_geom::{Vec2, is_within};
-use islands::Label;
+use islands::{Label, sleeping_name};
 use momenta::{MassData, Motion, spin, velocity};
 
 /// The greatest size of a component of the velocity of what is slow, in u/tick.
@@ -16,22 +16,6 @@ pub const SLOW_SPEED: i64 = 205;
 
 /// The greatest spin of what is slow: the tangent of the turn of a tick times 2^30.
 pub const SLOW_SPIN: i64 = 209_715;
-
-/// The name with which a mover of an island with this label sleeps, if it does.
-fn sleeping_name(label: Option<Label>) -> Option<u32>
-    ensures { result ≡ sleeping_name label }
-{
-    match label {
-        None => None,
-        Some(label) => {
-            if label.state.is_asleep() {
-                Some(label.name)
-            } else {
-                None
-            }
-        }
-    }
-}
 
 /// Whether a body with this mass and motion is slow.
 #[tactic(auto, unfolding(crate::specs::Sleep::is_slow))]

@@ -12,13 +12,13 @@ use Rattle.shapes.specs.Poses.{core_of}
 use Rattle.shapes.specs.Rays.{IsBeam, whole, ray_of}
 use Rattle.shapes.specs.Shapes.{IsShape, radius_of}
 use Rattle.shapes.proofs.RayLemmas.{is_ray_of}
-use Rattle.shape_rays.specs.declared.boxes.TheConstants.{SLACK}
+use Rattle.shape_rays.specs.declared.boxes.TheConstants.{RAY_SLACK}
 use Rattle.shape_rays.specs.Reach.{IsInAt, reaches}
 use Rattle.shape_rays.proofs.HitPlaces.{hit_is_in}
 use Rattle.shape_rays.proofs.MeetingLemmas.{IsPartOf, met_is_reached}
 use Rattle.shape_rays.proofs.WayLemmas.{reached_wider}
 
-pub in_the_box : (s : Shape) (o : Pose) (r : Beam) (t : ℕ) → IsShape s → IsBeam r → ray_of s o r.from r.along ≡ Some t → IsInAt r (pos t) whole (grow (tight_box s o) SLACK)
+pub in_the_box : (s : Shape) (o : Pose) (r : Beam) (t : ℕ) → IsShape s → IsBeam r → ray_of s o r.from r.along ≡ Some t → IsInAt r (pos t) whole (grow (tight_box s o) RAY_SLACK)
 in_the_box s o r t h b e = hit_is_in r (radius_of s) (core_of s o) t b h.nonnegative e
 
 small_of : (h : Option ℕ) (t : ℕ) → IfSome h (λ n. n ≤ 2 ^ 24) → h ≡ Some t → t ≤ 2 ^ 24

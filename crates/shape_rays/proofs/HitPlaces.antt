@@ -24,7 +24,7 @@ use Rattle.shapes.specs.Spots.{square_to, across}
 use Rattle.shapes.specs.Rays.{IsBeam, whole, room_of, circle_hit, end_hit, crossed, crossed_from_either_side, side_hit, shifted, to_side, side_hits, earlier, earliest, other_hits, is_inside, core_ray}
 use Rattle.shapes.proofs.BeamLemmas.{ahead_positive}
 use Rattle.shapes.proofs.NearLemmas.{IsPart, part_is, share_is}
-use Rattle.shape_rays.specs.declared.boxes.TheConstants.{SLACK}
+use Rattle.shape_rays.specs.declared.boxes.TheConstants.{RAY_SLACK}
 use Rattle.shape_rays.specs.Reach.{IsInAt}
 use Rattle.shape_rays.proofs.PartLemmas.{max_is, min_is}
 use Rattle.shape_rays.proofs.RingLemmas.{Num, Sub, Mul, ring}
@@ -433,7 +433,7 @@ in_left x m l h = omega (arith, ints, h)
 in_right : (x m h : ℤ) → pos 0 ≤ℤ (h *ℤ T +ℤ D -ℤ (x +ℤ m)) → (x +ℤ m) ≤ℤ ((h +ℤ pos 64) *ℤ T)
 in_right x m h k = omega (arith, ints, k)
 
-is_in : (r : Beam) (b : Box2) (t : ℕ) → IsNearBox r b t → IsInAt r (pos t) whole (grow b SLACK)
+is_in : (r : Beam) (b : Box2) (t : ℕ) → IsNearBox r b t → IsInAt r (pos t) whole (grow b RAY_SLACK)
 is_in r b t h = record {
   left = in_left (r.from.x *ℤ T) (r.along.x *ℤ pos t) b.lo.x h.x.left;
   right = in_right (r.from.x *ℤ T) (r.along.x *ℤ pos t) b.hi.x h.x.right;
@@ -441,7 +441,7 @@ is_in r b t h = record {
   up = in_right (r.from.y *ℤ T) (r.along.y *ℤ pos t) b.hi.y h.y.right;
 }
 
-pub hit_is_in : (r : Beam) (radius : ℤ) (c : Core) (t : ℕ) → IsBeam r → pos 0 ≤ℤ radius → core_ray r c radius ≡ Some t → IsInAt r (pos t) whole (grow (grow (box_of_ends c) radius) SLACK)
+pub hit_is_in : (r : Beam) (radius : ℤ) (c : Core) (t : ℕ) → IsBeam r → pos 0 ≤ℤ radius → core_ray r c radius ≡ Some t → IsInAt r (pos t) whole (grow (grow (box_of_ends c) radius) RAY_SLACK)
 hit_is_in r radius c t h k e =
     let b = grow (box_of_ends c) radius in
     let near : AreNear r b (core_ray r c radius) = core_ray_near r b radius c h k (ends_in c radius) in

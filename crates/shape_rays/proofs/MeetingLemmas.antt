@@ -7,7 +7,7 @@ use Rattle.fixed_geom.specs.Vectors.{minus}
 use Rattle.fixed_geom.specs.declared.boxes.Box2.{Box2}
 use Rattle.fixed_geom.specs.declared.vectors.Vec2.{Vec2}
 use Rattle.shapes.specs.declared.beam.Beam.{Beam}
-use Rattle.shape_rays.specs.declared.boxes.TheConstants.{SLACK}
+use Rattle.shape_rays.specs.declared.boxes.TheConstants.{RAY_SLACK}
 use Rattle.shape_rays.specs.Reach.{IsInAt, lowest, highest, box_round, common, reaches}
 use Rattle.shape_rays.proofs.PartLemmas.{max_is, min_is}
 use Rattle.shape_rays.proofs.RingLemmas.{Num, Add, Sub, Mul, ring}
@@ -172,7 +172,7 @@ near_between o f n d lo hi h i =
 at_of : (o f n d lo hi : ℤ) → ((lo -ℤ pos 64) *ℤ d) ≤ℤ (o *ℤ d +ℤ f *ℤ n) → (o *ℤ d +ℤ f *ℤ n) ≤ℤ ((hi +ℤ pos 64) *ℤ d) → IsAt o f n d lo hi
 at_of o f n d lo hi h k = record { low = minus_both _ _ h; high = minus_both _ _ k }
 
-pub met_is_reached : (r : Beam) (n d : ℤ) (b : Box2) → IsPartOf n d → IsInAt r n d (grow b SLACK) → reaches r b ≡ true
+pub met_is_reached : (r : Beam) (n d : ℤ) (b : Box2) → IsPartOf n d → IsInAt r n d (grow b RAY_SLACK) → reaches r b ≡ true
 met_is_reached r n d b h i =
     let x = at_of r.from.x r.along.x n d b.lo.x b.hi.x i.left i.right in
     let y = at_of r.from.y r.along.y n d b.lo.y b.hi.y i.down i.up in

@@ -8,7 +8,7 @@ use Rattle.shapes.specs.declared.shape.Shape.{Shape}
 use Rattle.shapes.specs.Bounds.{tight_box}
 use Rattle.shapes.specs.Rays.{IsBeam, whole, ray_of}
 use Rattle.shapes.specs.Shapes.{IsShape}
-use Rattle.shape_rays.specs.declared.boxes.TheConstants.{SLACK}
+use Rattle.shape_rays.specs.declared.boxes.TheConstants.{RAY_SLACK}
 use Rattle.shape_rays.specs.declared.hits.Hit.{Hit}
 use Rattle.shape_rays.specs.declared.hits.PlacedShape.{PlacedShape}
 use Rattle.shape_rays.specs.Hits.{nearer, first_hit}
@@ -32,11 +32,11 @@ MissesWithin = (r : Beam) (outer inner : Box2) → Holds outer inner → reaches
 -- a box is reached if a point of the way lies in it, or no further from it than the slack on each side: only boxes that
 -- the way misses are passed over
 abbrev pub MetIsReached : Type 0
-MetIsReached = (r : Beam) (n d : ℤ) (b : Box2) → pos 0 <ℤ d → pos 0 ≤ℤ n → n ≤ℤ d → IsInAt r n d (grow b SLACK) → reaches r b ≡ true
+MetIsReached = (r : Beam) (n d : ℤ) (b : Box2) → pos 0 <ℤ d → pos 0 ≤ℤ n → n ≤ℤ d → IsInAt r n d (grow b RAY_SLACK) → reaches r b ≡ true
 
 -- where a ray hits a shape, the point of its way lies in the shape's tight box, but for the slack on each side
 abbrev pub HitLiesInBox : Type 0
-HitLiesInBox = (s : Shape) (o : Pose) (r : Beam) (t : ℕ) → IsShape s → IsBeam r → ray_of s o r.from r.along ≡ Some t → IsInAt r (pos t) whole (grow (tight_box s o) SLACK)
+HitLiesInBox = (s : Shape) (o : Pose) (r : Beam) (t : ℕ) → IsShape s → IsBeam r → ray_of s o r.from r.along ≡ Some t → IsInAt r (pos t) whole (grow (tight_box s o) RAY_SLACK)
 
 -- a shape whose tight box lies in a box that the ray doesn't reach isn't hit
 abbrev pub UnreachedIsMissed : Type 0

@@ -6,7 +6,7 @@ use Rattle.fixed_geom.specs.Vectors.{dot, cross, plus, minus}
 use Rattle.fixed_geom.specs.declared.boxes.Box2.{Box2}
 use Rattle.fixed_geom.specs.declared.vectors.Vec2.{Vec2}
 use Rattle.shapes.specs.declared.beam.Beam.{Beam}
-use Rattle.shape_rays.specs.declared.boxes.TheConstants.{SLACK}
+use Rattle.shape_rays.specs.declared.boxes.TheConstants.{RAY_SLACK}
 
 -- the point at n / d of the ray's way lies in the box
 pub record IsInAt (r : Beam) (n d : ℤ) (b : Box2) : Type 0 where
@@ -17,10 +17,10 @@ pub record IsInAt (r : Beam) (n d : ℤ) (b : Box2) : Type 0 where
 
 -- from the least to the greatest number on a way along one axis, with the slack on each side
 abbrev pub lowest : ℤ → ℤ → ℤ
-lowest from along = from +ℤ int_min along (pos 0) -ℤ SLACK
+lowest from along = from +ℤ int_min along (pos 0) -ℤ RAY_SLACK
 
 abbrev pub highest : ℤ → ℤ → ℤ
-highest from along = from +ℤ int_max along (pos 0) +ℤ SLACK
+highest from along = from +ℤ int_max along (pos 0) +ℤ RAY_SLACK
 
 -- the box round the ray's way, with the slack on each side
 abbrev pub box_round : Beam → Box2
@@ -38,7 +38,7 @@ common a b = record {
 
 -- the width and the height of the box from low to high, with the slack on each side
 abbrev pub extent : Vec2 → Vec2 → Vec2
-extent low high = record { x = high.x -ℤ low.x +ℤ pos 2 *ℤ SLACK; y = high.y -ℤ low.y +ℤ pos 2 *ℤ SLACK }
+extent low high = record { x = high.x -ℤ low.x +ℤ pos 2 *ℤ RAY_SLACK; y = high.y -ℤ low.y +ℤ pos 2 *ℤ RAY_SLACK }
 
 -- the sizes of the parts of a way, exchanged
 abbrev pub sizes_across : Vec2 → Vec2

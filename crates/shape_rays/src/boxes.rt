@@ -11,7 +11,7 @@ use shapes::MAX_RAY;
 
 /// How far from a box, in u, a ray may pass and is still taken to meet what is in it. A hit is told in whole 2^24ths of
 /// the way, rounded down, so that its place is up to 16 u before the shape in each coordinate.
-pub const SLACK: i64 = 64;
+pub const RAY_SLACK: i64 = 64;
 
 /// The least number on the way along one axis, less the slack.
 fn lowest(from: i64, along: i64) -> i64
@@ -19,7 +19,7 @@ fn lowest(from: i64, along: i64) -> i64
     requires along { unsigned_abs along ≤ unsigned_abs MAX_RAY }
     ensures value { result ≡ lowest from along }
 {
-    from + along.min(0) - SLACK
+    from + along.min(0) - RAY_SLACK
 }
 
 /// The greatest number on the way along one axis, and the slack.
@@ -28,7 +28,7 @@ fn highest(from: i64, along: i64) -> i64
     requires along { unsigned_abs along ≤ unsigned_abs MAX_RAY }
     ensures value { result ≡ highest from along }
 {
-    from + along.max(0) + SLACK
+    from + along.max(0) + RAY_SLACK
 }
 
 /// The box round the way of a ray, with the slack on each side.
@@ -73,8 +73,8 @@ fn extent(low: Vec2, high: Vec2) -> Vec2
     ensures within { IsWithin (2 ^ 31) result }
 {
     Vec2 {
-        x: high.x - low.x + 2 * SLACK,
-        y: high.y - low.y + 2 * SLACK,
+        x: high.x - low.x + 2 * RAY_SLACK,
+        y: high.y - low.y + 2 * RAY_SLACK,
     }
 }
 
@@ -119,5 +119,5 @@ pub(crate) fn is_crossed(along: Vec2, low: Vec2, high: Vec2) -> bool
 /// The law of the limits: the numbers that definitions take from the code, in digits. The function does nothing; its contract is
 /// the law.
 pub fn limits_in_digits()
-    ensures slack { SLACK ≡ pos 64 }
+    ensures slack { RAY_SLACK ≡ pos 64 }
 {}

@@ -46,7 +46,7 @@ impl RayCast {
         }
     }
 
-    /// Whether the ray may meet something that lies in the box: whether its way passes the box with [`SLACK`](crate::SLACK)
+    /// Whether the ray may meet something that lies in the box: whether its way passes the box with [`RAY_SLACK`](crate::RAY_SLACK)
     /// on each side. Any box may be asked about. A shape whose tight box lies in a box that is refused isn't hit.
     pub fn reaches(&self, bounds: &Box2) -> bool
         ensures { result ≡ reaches self.now bounds.now }

@@ -11,6 +11,6 @@ mod cast;
 mod hits;
 pub mod laws;
 
-pub use boxes::{SLACK, limits_in_digits};
+pub use boxes::{RAY_SLACK, limits_in_digits};
 pub use cast::RayCast;
 pub use hits::{Hit, PlacedShape, first_hit, hit_on, is_over, nearer};

@@ -26,7 +26,7 @@ pub use discs::{Disc, disc_of, disc_point};
 pub use filter::{Filter, should_collide};
 pub use limits::{
     MARGIN, MAX_CORE, MAX_FRICTION, MAX_RADIUS, MAX_RAY, MAX_RESTITUTION, MAX_SHAPES, TOLERANCE,
-    check, limits_in_digits,
+    check, is_between, limits_in_digits,
 };
 pub use manifolds::manifold;
 pub use mixing::{mixed_friction, mixed_restitution};

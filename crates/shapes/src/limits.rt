@@ -34,7 +34,8 @@ pub const MARGIN: i64 = 131_072;
 /// (2 hundredths of a metre).
 pub const TOLERANCE: i64 = 20_972;
 
-fn is_between(low: i64, high: i64, value: i64) -> bool
+/// Whether a number is from `low` to `high`.
+pub fn is_between(low: i64, high: i64, value: i64) -> bool
     ensures { result ≡ is_between low high value }
 {
     low <= value && value <= high

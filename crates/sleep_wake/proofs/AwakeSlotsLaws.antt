@@ -97,7 +97,7 @@ not_first x y xs ys k e r h i = elim (contains_cases y ys k i) [
   | inr q ↦ q
 ]
 
-same_rising : (xs ys : List ℕ) → AllPairs Below xs → AllPairs Below ys → ((k : ℕ) → Contains xs k → Contains ys k) → ((k : ℕ) → Contains ys k → Contains xs k) → xs ≡ ys
+pub same_rising : (xs ys : List ℕ) → AllPairs Below xs → AllPairs Below ys → ((k : ℕ) → Contains xs k → Contains ys k) → ((k : ℕ) → Contains ys k → Contains xs k) → xs ≡ ys
 same_rising [] [] a b f g = refl
 same_rising [] (y ∷ ys) a b f g = absurd (none_in y (g y (contains_head y ys)))
 same_rising (x ∷ xs) [] a b f g = absurd (none_in x (f x (contains_head x xs)))

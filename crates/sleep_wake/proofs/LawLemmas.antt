@@ -7,7 +7,7 @@ use Rattle.graph_colours.specs.Members.{has_id}
 use Rattle.graph_colours.proofs.PlaceLemmas.{is_same, not_same, same_from}
 use Rattle.islands.specs.declared.label.IslandState.TheVariants.{Whole, Loose, Asleep}
 use Rattle.islands.specs.declared.label.Label.{Label}
-use Rattle.islands.specs.Labels.{Labels, label_at, is_in, is_loose, is_asleep, relabel, relabelled, merged, merged_by, loosened, loosened_by, rested, woken, added, without, taken_out, lowest}
+use Rattle.islands.specs.Labels.{Labels, label_at, is_in, is_loose, is_asleep, sleeping_name, relabel, relabelled, merged, merged_by, loosened, loosened_by, rested, woken, added, without, taken_out, lowest}
 use Rattle.islands.specs.Partition.{IsPartition}
 use Rattle.islands.proofs.JoinLemmas.{contains_cases, contains_head, contains_tail}
 use Rattle.islands.proofs.LabelLemmas.{relabel_at, others_stay, added_here, added_other, in_case, in_is}
@@ -19,7 +19,7 @@ use Rattle.sleep_wake.specs.Bodies.{mover_made, mover_gone}
 use Rattle.sleep_wake.specs.Changes.{begun, ended, united, parted, each_begun, each_ended, CanBegin, CanEnd, changed, turned, AreChanges}
 use Rattle.sleep_wake.specs.Waking.{set_woken, woken_by, woken_at, second_woken, movers_woken, put_to_rest}
 use Rattle.sleep_wake.specs.SleepPhase.{split_at, edges_of, split_picked, picked_to_split, all_put_to_rest, ready, sleep_phase}
-use Rattle.sleep_wake.specs.Sleeping.{name_at, sleeping_name, with_one_name, with_name, names_from, names_of, islands_woken, split_if_loose, rested_by, rested_at, slept_by, slept_at, is_whole}
+use Rattle.sleep_wake.specs.Sleeping.{name_at, with_one_name, with_name, names_from, names_of, islands_woken, split_if_loose, rested_by, rested_at, slept_by, slept_at, is_whole}
 use Rattle.sleep_wake.specs.Laws.{WakingNamedKeeps, BeginningEachKeeps, EndingEachKeeps, SleepKeeps, MoversStay, MoversComeAndGo, NobodyFallsAsleep, AwakeStayAwake, WakingLeavesTheAwake, TheNamedAreAwake, TheAwakeAct}
 use Rattle.sleep_wake.proofs.AwakeLemmas.{awake_as, united_awake, parted_awake}
 use Rattle.sleep_wake.proofs.KeptLemmas.{wakes, wakes_both, beginning, beginning_keeps, ending, ending_keeps, resting}
@@ -416,11 +416,11 @@ one_name_in name [] x h = elim h [
 ]
 one_name_in name (n ∷ names) x h = one_name_in_by name n names x (nat_lt n name) (n == name) (λ q. same_from n name q) h (λ k. one_name_in name names x k)
 
-name_in : (o : Option ℕ) (names : List ℕ) (x : ℕ) → (o ≡ Some x) ⊎ Contains names x → Contains (with_name o names) x
+pub name_in : (o : Option ℕ) (names : List ℕ) (x : ℕ) → (o ≡ Some x) ⊎ Contains names x → Contains (with_name o names) x
 name_in None names x h = elim h [ inl e ↦ absurd (let none : None ≡ Some x = e in cc) | inr i ↦ i ]
 name_in (Some name) names x h = one_name_in name names x (elim h [ inl e ↦ inl (let same : name ≡ x = cc in same) | inr i ↦ inr i ])
 
-names_kept : (labels : Labels) (names slots : List ℕ) (x : ℕ) → Contains names x → Contains (names_from labels names slots) x
+pub names_kept : (labels : Labels) (names slots : List ℕ) (x : ℕ) → Contains names x → Contains (names_from labels names slots) x
 names_kept labels names [] x h = h
 names_kept labels names (slot ∷ slots) x h = names_kept labels (with_name (name_at labels slot) names) slots x (name_in (name_at labels slot) names x (inr h))
 

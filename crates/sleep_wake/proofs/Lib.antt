@@ -16,8 +16,8 @@ pub mod AwakeSlotsLaws
 pub mod AgreeLaws
 pub mod RestingLaws
 pub mod ReleasingLaws
-pub mod NameLemmas
 pub mod LawLemmas
+pub mod NameLemmas
 pub mod IndexLemmas
 pub mod GivenLaws
 pub mod LengthLemmas

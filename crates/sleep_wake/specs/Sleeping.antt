@@ -1,16 +1,12 @@
 -- Which islands sleep, who wakes them by their names, and how one mover is put to sleep.
 use Rattle.std.specs.Prelude.{ℕ, ◌==◌, ◌&&◌, Bool, false, not, cond, nat_lt, List, [], ◌∷◌, Option, Some, None}
 use Rattle.islands.specs.declared.label.Label.{Label}
-use Rattle.islands.specs.Labels.{Labels, label_at, is_loose, is_asleep}
+use Rattle.islands.specs.Labels.{Labels, label_at, is_loose, is_asleep, sleeping_name}
 use Rattle.sleep_wake.specs.Acting.{Acting}
 use Rattle.sleep_wake.specs.Waking.{woken_at, put_to_rest}
 use Rattle.sleep_wake.specs.SleepPhase.{split_at}
 
 -- ---- the names of sleeping islands
-
-abbrev pub sleeping_name : Option Label → Option ℕ
-sleeping_name None = None
-sleeping_name (Some l) = cond (is_asleep l.state) (Some l.name) None
 
 -- the name of the island of the mover in the slot, if it sleeps
 abbrev pub name_at : Labels → ℕ → Option ℕ

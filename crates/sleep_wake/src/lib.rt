@@ -27,5 +27,6 @@ mod ties;
 mod waking;
 
 pub use change::Change;
+pub use names::{push_some, sort_once};
 pub use phase::{TICKS_TO_SLEEP, limits_in_digits};
 pub use sets::Sets;

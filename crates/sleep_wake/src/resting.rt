@@ -56,7 +56,7 @@ fn list_resting<C: Id>(
     ensures { result ≡ true → listed.new.items ≡ filter (is_to_rest (least_at leasts.now) islands.now.labels) (all_members colours.now.lists) }
 {
     listed.clear();
-    colours.keeps();
+    colours.know_colouring();
     for colour in 0..OVERFLOW + 1 {
         if !list_members(listed, islands, leasts, colours.members(colour)) {
             return false;

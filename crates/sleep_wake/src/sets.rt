@@ -2,7 +2,7 @@
 
 mod from_parts;
 
-ghost use Rattle.std.specs.Prelude.{◌≡◌, ◌<◌, ◌≤◌, ◌+◌, ◌∷◌, ℕ, List, true, false, length, filter, replicate, [], IfOk, OnOk, OnErr, Some, None, Contains, option_map};
+ghost use Rattle.std.specs.Prelude.{◌≡◌, ◌<◌, ◌≤◌, ◌+◌, ℕ, List, true, false, length, filter, replicate, [], IfOk, OnOk, OnErr, Some, None, Contains, option_map};
 ghost use Rattle.std.specs.Result.{IsOkUnless};
 ghost use Rattle.graph_colours.specs.declared.limits.TheConstants.{COLOURS};
 ghost use Rattle.graph_colours.specs.declared.member.Member.{Member as TheMember};
@@ -11,7 +11,7 @@ ghost use Rattle.graph_colours.specs.Movers.{has_mover};
 ghost use Rattle.islands.specs.Labels.{label_at};
 ghost use Rattle.sleep_wake.specs.Acting.{acting, is_awake, are_awake, AreMovers, IsSettled};
 ghost use Rattle.sleep_wake.specs.Waking.{woken_at, movers_woken, put_to_rest};
-ghost use Rattle.sleep_wake.specs.Changes.{begun, ended, each_begun, each_ended, CanBegin, CanEnd, changed, turned, begin_count, IsChange, AreChanges};
+ghost use Rattle.sleep_wake.specs.Changes.{begun, ended, each_begun, each_ended, CanBegin, CanEnd, turned, begin_count, AreChanges};
 ghost use Rattle.sleep_wake.specs.Bodies.{mover_made, mover_gone};
 ghost use Rattle.sleep_wake.specs.Widened.{widened};
 ghost use Rattle.sleep_wake.specs.SleepPhase.{is_island, split_at, picked_to_split, split_picked, sleep_phase, ready_put_to_rest};
@@ -203,7 +203,7 @@ impl<C: Id> Sets<C> {
     }
 
     /// What holds of all sets: a law.
-    pub fn settled(&self)
+    pub fn know_settled(&self)
         ensures { IsSettled C.number self.now.acting }
     {
         let _ = self.tie_count();
@@ -436,27 +436,6 @@ impl<C: Id> Sets<C> {
         );
     }
 
-    /// A constraint begins or ends, and its sleeping movers wake before.
-    pub fn change(&mut self, change: Change<C>)
-        requires can { IsChange C.number self.old.acting.labels self.old.acting.ties change }
-        requires room { length self.old.acting.ties + begin_count (change ∷ []) ≤ self.old.room }
-        ensures acting { self.new.acting ≡ changed C.number change self.old.acting }
-        ensures room { self.new.room ≡ self.old.room }
-        ensures slots { self.new.slots ≡ self.old.slots }
-    {
-        self.settled();
-        match change {
-            Change::Begin(member) => {
-                self.wake_movers(member.movers);
-                self.begin(member);
-            }
-            Change::End(member) => {
-                self.wake_movers(member.movers);
-                self.end(member);
-            }
-        }
-    }
-
     /// Constraints begin and end, each at its turn, as the contacts of a step do. The sleeping movers of each wake before it.
     pub fn turn(&mut self, changes: &[Change<C>])
         requires can { AreChanges C.number self.old.acting.labels self.old.acting.ties changes.now }
@@ -518,7 +497,7 @@ impl<C: Id> Sets<C> {
         ensures room { self.new.room ≡ self.old.room }
         ensures slots { self.new.slots ≡ self.old.slots }
     {
-        self.settled();
+        self.know_settled();
         if let Some(label) = self.label_of(slot)
             && !label.state.is_asleep()
         {
@@ -546,7 +525,7 @@ impl<C: Id> Sets<C> {
         ensures room { self.new.room ≡ self.old.room }
         ensures slots { self.new.slots ≡ self.old.slots }
     {
-        self.settled();
+        self.know_settled();
         if let Some(label) = self.label_of(slot) {
             self.put_to_rest(label.name);
         }
@@ -563,7 +542,7 @@ impl<C: Id> Sets<C> {
         ensures room { self.new.room ≡ self.old.room }
         ensures slots { self.new.slots ≡ self.old.slots }
     {
-        self.settled();
+        self.know_settled();
         self.split_ready(timers, awake);
         self.settle();
         self.rest_ready(timers, awake);

@@ -9,7 +9,8 @@ use Rattle.plain_world.specs.declared.body.Body.{Body}
 use Rattle.plain_world.specs.declared.body.SetName.{SetName}
 use Rattle.plain_world.specs.declared.body.SetName.TheVariants as sets
 use Rattle.plain_world.specs.declared.joint.BodyJoint.{BodyJoint}
-use Rattle.plain_world.specs.Bodies.{is_awake, is_mover, standing_of}
+use Rattle.plain_world.specs.Bodies.{is_mover, standing_of}
+use Rattle.plain_world.specs.Changes.{is_awake_in}
 use Rattle.plain_world.specs.Slots.{body_at}
 use Rattle.solver_sets.specs.Ties.{JointSlots, is_enabled}
 use Rattle.solver_sets.specs.declared.census.Item.{Item}
@@ -34,10 +35,6 @@ standing_between bodies a b = cond (is_enabled bodies a && is_enabled bodies b) 
 
 abbrev pub standing_of_joint : List (Option Body) → BodyJoint → SetName
 standing_of_joint bodies j = standing_between bodies j.a j.b
-
-abbrev pub is_awake_in : Option Body → Bool
-is_awake_in None = false
-is_awake_in (Some b) = is_awake b
 
 -- an awake mover is in the slot
 abbrev pub is_awake_at : List (Option Body) → ℕ → Bool

@@ -2,11 +2,10 @@
 use Rattle.std.specs.Prelude.{◌≡◌, ℕ, ◌==◌, true, false, List, Option, Some, None, All, is_some, map}
 use Rattle.body_handles.specs.Places.{IsPlace}
 use Rattle.contacts_base.specs.declared.contact.ContactEntry.{ContactEntry}
-use Rattle.islands.specs.Labels.{Labels, label_at}
+use Rattle.islands.specs.Labels.{Labels, label_at, sleeping_name}
 use Rattle.plain_world.specs.declared.body.Body.{Body}
 use Rattle.plain_world.specs.declared.joint.BodyJoint.{BodyJoint}
 use Rattle.plain_world.specs.Bodies.{is_mover}
-use Rattle.plain_world.specs.Sleep.{sleeping_name}
 use Rattle.plain_world.specs.Slots.{AreMatched, body_at}
 use Rattle.solver_sets.specs.Ties.{JointSlots, is_enabled, moves}
 

@@ -1,8 +1,7 @@
 //! The contacts of which one body is the anchor, from what is listed in its slot.
 
-ghost use Rattle.std.specs.Prelude.{◌≡◌, ◌++◌, IfOk, OnOk};
+ghost use Rattle.std.specs.Prelude.{◌≡◌, IfOk};
 ghost use Rattle.std.specs.List.Sorted.{IsStrictlyIncreasing};
-ghost use Rattle.std.specs.Option.{option_to_list};
 ghost use Rattle.std.specs.Result.{IsOkUnless};
 ghost use Rattle.contacts.specs.Constraints.{constraint_number};
 ghost use Rattle.graph_colours.specs.Members.{AreRising};
@@ -12,7 +11,7 @@ use crate::anchor::is_anchored;
 use contacts::Constraint;
 use fixed_geom::Refusal;
 use graph_colours::Member;
-use sleep_wake::Sets;
+use sleep_wake::{Sets, push_some};
 use std::alloc::Global;
 
 /// What is listed in a slot, ascending, each number once. Refused 1 where memory is wanting.
@@ -51,20 +50,6 @@ fn tie_with(sets: &Sets<Constraint>, slot: u32, number: u128) -> Option<Member<C
     }
 }
 
-/// Adds a constraint, if there is one. Refused 1 where memory is wanting.
-fn push_tie(
-    ties: &mut Vec<Member<Constraint>>,
-    tie: Option<Member<Constraint>>,
-) -> Result<(), Refusal>
-    ensures pushed { OnOk result (ties.new.items ≡ ties.old.items ++ option_to_list tie) }
-    ensures memory_only { IsOkUnless result Refusal.NoMemory }
-{
-    if let Some(tie) = tie {
-        ties.push(tie)?;
-    }
-    Ok(())
-}
-
 /// The contacts of which the body in the slot is the anchor, ascending, by what is listed. Refused 1 where memory is wanting.
 pub(crate) fn look_up(
     alloc: Global,
@@ -81,7 +66,7 @@ pub(crate) fn look_up(
     let listed = numbers.as_slice();
     let mut found = Vec::new(alloc);
     for place in 0..listed.len() {
-        push_tie(&mut found, tie_with(sets, slot, listed[place]))?;
+        push_some(&mut found, tie_with(sets, slot, listed[place]))?;
     }
     Ok(found)
 }

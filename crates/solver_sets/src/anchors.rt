@@ -113,7 +113,7 @@ impl Anchors {
     pub fn tidy(&mut self, sets: &Sets<Constraint>, slot: u32)
         ensures told { Tell self.old.holds self.old.lists sets.now.acting.ties → Tell self.new.holds self.new.lists sets.now.acting.ties }
     {
-        sets.settled();
+        sets.know_settled();
         tidy(&mut self.lists, sets, slot);
     }
 }

@@ -5,15 +5,16 @@ ghost use Rattle.std.specs.Option.{option_copied};
 ghost use Rattle.std.specs.Result.{IsOkUnless};
 ghost use Rattle.solver_sets.specs.Beside.{joined_by, joined_to, mover_at, mover_beside};
 
-use crate::ties::{moves, push_some};
+use crate::ties::is_mover_at;
 use fixed_geom::Refusal;
 use plain_world::{Body, BodyJoint, item_at};
+use sleep_wake::push_some;
 use std::alloc::Global;
 
 fn mover_at(bodies: &[Option<Body>], slot: u32) -> Option<u32>
     ensures { result ≡ mover_at bodies.now slot }
 {
-    if moves(bodies, slot) {
+    if is_mover_at(bodies, slot) {
         Some(slot)
     } else {
         None

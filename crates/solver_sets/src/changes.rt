@@ -6,13 +6,13 @@ ghost use Rattle.contacts.specs.Changes.{AreRising};
 ghost use Rattle.solver_sets.specs.Merging.{all_ends, begin_of, end_of, ends_from, ends_until, key_tie, merged};
 ghost use Rattle.solver_sets.specs.Ties.{key_changes};
 
-use crate::ties::{contact_movers, push_some, tie_with};
+use crate::ties::{contact_movers, tie_with};
 use contacts::Constraint;
 use contacts_base::ContactKey;
 use fixed_geom::Refusal;
 use graph_colours::Member;
 use plain_world::Body;
-use sleep_wake::Change;
+use sleep_wake::{Change, push_some};
 use std::alloc::Global;
 
 /// The contact with this key as a tie, if it has movers.

@@ -10,13 +10,14 @@ ghost use Rattle.plain_world.specs.Slots.{AreMatched};
 ghost use Rattle.solver_sets.specs.Given.{contact_tie_in, joint_tie_in, joints_alone};
 ghost use Rattle.solver_sets.specs.Ties.{joint_bonds, member_of, members_of, movers_of, slots_of, ties_in, ties_of};
 
-use crate::ties::{contact_movers, joint_movers, push_some, tie_with};
+use crate::ties::{contact_movers, joint_movers, tie_with};
 use body_handles::{Handle, Place};
 use contacts::Constraint;
 use contacts_base::ContactEntry;
 use fixed_geom::Refusal;
 use graph_colours::{COLOURS, Member, Movers};
 use plain_world::{Body, BodyJoint, Plain, item_at};
+use sleep_wake::push_some;
 use std::alloc::Global;
 
 /// The tie of what is in a joint's slot, if it is one.

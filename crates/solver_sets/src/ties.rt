@@ -1,18 +1,15 @@
 //! The movers of joints and contacts, and what constraint each is.
 
-ghost use Rattle.std.specs.Prelude.{◌≡◌, ◌++◌, ◌&&◌, OnOk};
-ghost use Rattle.std.specs.Option.{option_to_list};
-ghost use Rattle.std.specs.Result.{IsOkUnless};
+ghost use Rattle.std.specs.Prelude.{◌≡◌, ◌&&◌};
 ghost use Rattle.solver_sets.specs.Ties.{contact_movers, is_enabled, joint_movers, movers_if, movers_with, moves, tie_with};
 
 use contacts::Constraint;
 use contacts_base::ContactKey;
-use fixed_geom::Refusal;
 use graph_colours::{Member, Movers};
 use plain_world::{Body, BodyJoint, item_at};
 
 /// Whether a mover is in the slot.
-pub(crate) fn moves(bodies: &[Option<Body>], slot: u32) -> bool
+pub fn is_mover_at(bodies: &[Option<Body>], slot: u32) -> bool
     ensures { result ≡ moves bodies.now slot }
 {
     match item_at(bodies, slot as usize) {
@@ -57,7 +54,7 @@ pub fn movers_with(bodies: &[Option<Body>], a: u32, b: u32) -> Option<Movers>
     ensures { result ≡ movers_with bodies.now a b }
 {
     if is_enabled(bodies, a) && is_enabled(bodies, b) {
-        movers_if(moves(bodies, a), moves(bodies, b), a, b)
+        movers_if(is_mover_at(bodies, a), is_mover_at(bodies, b), a, b)
     } else {
         None
     }
@@ -85,15 +82,4 @@ pub fn tie_with(id: Constraint, movers: Option<Movers>) -> Option<Member<Constra
         None => None,
         Some(movers) => Some(Member { id, movers }),
     }
-}
-
-/// Adds an item, if there is one. Refused 1 where memory is wanting.
-pub(crate) fn push_some<T: Copy + Drop>(items: &mut Vec<T>, item: Option<T>) -> Result<(), Refusal>
-    ensures pushed { OnOk result (items.new.items ≡ items.old.items ++ option_to_list item) }
-    ensures memory_only { IsOkUnless result Refusal.NoMemory }
-{
-    if let Some(item) = item {
-        items.push(item)?;
-    }
-    Ok(())
 }

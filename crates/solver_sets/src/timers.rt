@@ -13,7 +13,7 @@ use graph_colours::{Colours, Member, OVERFLOW};
 use plain_world::{Body, BodyJoint, item_at};
 
 /// Whether a kinematic body that moves is in the slot.
-fn is_moving_at(bodies: &[Option<Body>], slot: u32) -> bool
+pub fn is_moving_at(bodies: &[Option<Body>], slot: u32) -> bool
     ensures { result ≡ is_moving_at bodies.now slot }
 {
     match item_at(bodies, slot as usize) {

@@ -13,7 +13,7 @@ use Rattle.graph_colours.specs.declared.member.Member.{Member}
 use Rattle.graph_colours.proofs.PlaceLemmas.{is_same}
 use Rattle.islands.specs.declared.label.IslandState.TheVariants.{Loose}
 use Rattle.islands.specs.declared.label.Label.{Label}
-use Rattle.islands.specs.Labels.{Labels, is_in, label_at, lowest, relabelled, taken_out, without}
+use Rattle.islands.specs.Labels.{Labels, is_in, label_at, lowest, relabelled, sleeping_name, taken_out, without}
 use Rattle.islands.specs.Partition.{IsPartition}
 use Rattle.islands.proofs.JoinLemmas.{contains_head}
 use Rattle.islands.proofs.LabelLemmas.{either_case, either_one, either_to, others_stay, rest_of, rest_stays}
@@ -21,7 +21,7 @@ use Rattle.plain_world.specs.declared.body.Body.{Body}
 use Rattle.plain_world.specs.Bodies.{AreBodies, is_mover}
 use Rattle.plain_world.specs.Changes.{changed_at, disabled_body}
 use Rattle.plain_world.specs.Joints.{idle_joints}
-use Rattle.plain_world.specs.Sleep.{sleeping_name, told}
+use Rattle.plain_world.specs.Sleep.{told}
 use Rattle.plain_world.specs.Slots.{body_at}
 use Rattle.sleep_wake.specs.Acting.{Acting, IsSettled, are_awake, awake_label, is_awake}
 use Rattle.sleep_wake.specs.Bodies.{mover_gone}

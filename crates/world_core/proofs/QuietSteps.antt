@@ -14,13 +14,13 @@ use Rattle.contacts_base.specs.declared.contact.ContactEntry.{ContactEntry}
 use Rattle.islands.specs.declared.label.IslandState.{IslandState}
 use Rattle.islands.specs.declared.label.IslandState.TheVariants.{Whole, Loose, Asleep}
 use Rattle.islands.specs.declared.label.Label.{Label}
-use Rattle.islands.specs.Labels.{Labels, is_asleep, is_in, is_loose, label_at}
+use Rattle.islands.specs.Labels.{Labels, is_asleep, is_in, is_loose, label_at, sleeping_name}
 use Rattle.islands.proofs.JoinLemmas.{contains_head, contains_tail}
 use Rattle.plain_world.specs.declared.body.Body.{Body}
 use Rattle.plain_world.specs.declared.joint.BodyJoint.{BodyJoint}
 use Rattle.plain_world.specs.Bodies.{AreBodies, is_awake, is_mover}
 use Rattle.plain_world.specs.Changes.{is_awake_in}
-use Rattle.plain_world.specs.Sleep.{sleeping_name, timed_bodies, told}
+use Rattle.plain_world.specs.Sleep.{timed_bodies, told}
 use Rattle.plain_world.specs.Slots.{body_at}
 use Rattle.sleep_wake.specs.Acting.{Acting, awake_label}
 use Rattle.sleep_wake.specs.Acting as acting

@@ -14,7 +14,7 @@ use Rattle.graph_colours.proofs.PlaceLemmas.{is_same, not_same}
 use Rattle.islands.specs.declared.label.IslandState.{IslandState}
 use Rattle.islands.specs.declared.label.IslandState.TheVariants.{Whole, Loose, Asleep}
 use Rattle.islands.specs.declared.label.Label.{Label}
-use Rattle.islands.specs.Labels.{IsIn, Labels, is_asleep, is_in, is_loose, label_at, loosened, loosened_by, merged, merged_by, own_label, relabel, relabelled, rested, union_label, with_state, woken}
+use Rattle.islands.specs.Labels.{IsIn, Labels, is_asleep, is_in, is_loose, label_at, loosened, loosened_by, merged, merged_by, own_label, relabel, relabelled, rested, sleeping_name, union_label, with_state, woken}
 use Rattle.islands.specs.Links.{Edges, Linked}
 use Rattle.islands.specs.Partition.{Inside, IsPartition, IsSplit}
 use Rattle.islands.proofs.JoinLemmas.{contains_head, contains_tail, joined_within}
@@ -23,7 +23,7 @@ use Rattle.islands.proofs.SplitLemmas.{split_is}
 use Rattle.body_handles.specs.Orders.{slot_of}
 use Rattle.plain_world.specs.declared.body.Body.{Body}
 use Rattle.plain_world.specs.Bodies.{AreBodies, is_mover}
-use Rattle.plain_world.specs.Sleep.{roused, sleeping_name, told, told_body, told_by}
+use Rattle.plain_world.specs.Sleep.{roused, told, told_body, told_by}
 use Rattle.plain_world.specs.Slots.{body_at}
 use Rattle.sleep_wake.specs.Acting.{Acting, IsSettled}
 use Rattle.sleep_wake.specs.Changes.{begun, changed, ended, parted, turned, united}

@@ -4,8 +4,7 @@ use Rattle.body_handles.specs.declared.handle.Handle.{Handle}
 use Rattle.contacts.specs.declared.constraint.Constraint.{Constraint}
 use Rattle.body_handles.specs.Orders.{slot_of}
 use Rattle.graph_colours.specs.declared.member.Movers.{Movers}
-use Rattle.islands.specs.Labels.{IsIn, Labels, label_at}
-use Rattle.plain_world.specs.Sleep.{sleeping_name}
+use Rattle.islands.specs.Labels.{IsIn, Labels, label_at, sleeping_name}
 use Rattle.sleep_wake.specs.declared.change.Change.{Change}
 use Rattle.sleep_wake.specs.declared.change.Change.TheVariants.{Begin, End}
 

@@ -2,8 +2,6 @@ ghost use Rattle.std.specs.Prelude.{◌≡◌, ◌<◌, ◌≤◌, ◌*◌, ◌+
 ghost use Rattle.colour_solver.specs.States.{places_from};
 ghost use Rattle.std.specs.Result.{IsOkUnless};
 ghost use Rattle.contacts_base.specs.Near.{number_of};
-ghost use Rattle.contacts_base.specs.Surfaces.{IsSurface};
-ghost use Rattle.shapes.specs.Shapes.{IsShapeDef};
 ghost use Rattle.contacts.specs.Changes.{keys_touching_only_in, AreRising};
 ghost use Rattle.contacts.specs.Turns.{stirs_in};
 ghost use Rattle.plain_world.specs.Bodies.{AreBodies, IsBody};
@@ -16,26 +14,12 @@ ghost use Rattle.world_rules.specs.Collide.{body_proxies, proxies_of, contacts_a
 
 use body_handles::MAX_SLOTS;
 use contacts::{BroadPhase, KeptContacts, ShapesByName, Touches};
-use contacts_base::{Proxy, ShapeId, Surface};
+use contacts_base::{Proxy, ShapeId};
 use fixed_geom::{Box2, Refusal};
-use plain_world::Body;
-use shapes::ShapeDef;
+use plain_world::{Body, surface_of};
 use std::alloc::Global;
 use std::marker::Model;
 use world_core_base::{BodyTable, JointTable};
-
-/// The friction and the restitution of a shape.
-#[inline(always)]
-fn surface_of(def: &ShapeDef) -> Surface
-    requires { IsShapeDef def.now }
-    ensures value { result ≡ record { friction = def.now.friction; restitution = def.now.restitution } }
-    ensures surface { IsSurface result }
-{
-    Surface {
-        friction: def.friction,
-        restitution: def.restitution,
-    }
-}
 
 /// Adds the shapes of an enabled body, in their order.
 fn gather_body(broad: &mut BroadPhase, slot: usize, body: &Body) -> Result<(), Refusal>

@@ -5,7 +5,6 @@ ghost use Rattle.std.specs.Option.{option_copied};
 ghost use Rattle.contacts_base.specs.Split.{contacts_in};
 ghost use Rattle.islands.specs.Labels.{label_at};
 ghost use Rattle.plain_world.specs.Slots.{item_at};
-ghost use Rattle.solver_sets.specs.Beside.{is_moving_at};
 ghost use Rattle.world_core.specs.Quiet.{HasMarked, KeepMarks, marked_if, marked_joined, marked_pair, marked_touched};
 
 use crate::sleep_test::mark;
@@ -14,16 +13,7 @@ use contacts_base::{ContactEntry, ContactKey, Hint, SplitContacts};
 use graph_colours::{Colours, Member, OVERFLOW};
 use islands::Islands;
 use plain_world::{Body, BodyJoint, item_at};
-
-/// Whether a kinematic body that moves is in the slot.
-fn is_moving_at(bodies: &[Option<Body>], slot: u32) -> bool
-    ensures { result ≡ is_moving_at bodies.now slot }
-{
-    match item_at(bodies, slot as usize) {
-        None => false,
-        Some(body) => body.enabled && body.kind.carried_by().is_moving(),
-    }
-}
+use solver_sets::is_moving_at;
 
 /// Marks the island of the mover in a slot, if what is beside it moves.
 fn mark_if(marks: &mut Vec<bool>, islands: &Islands, moving: bool, slot: u32)

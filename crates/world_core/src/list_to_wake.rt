@@ -1,12 +1,9 @@
 //! Who wakes as constraints begin and end: the movers of the sleeping islands that these are of.
 
-ghost use Rattle.std.specs.Prelude.{◌≡◌, ◌++◌, IfOk, OnOk};
+ghost use Rattle.std.specs.Prelude.{◌≡◌, IfOk, OnOk};
 ghost use Rattle.std.specs.List.Sorted.{IsStrictlyIncreasing};
-ghost use Rattle.std.specs.Option.{option_to_list};
 ghost use Rattle.std.specs.Result.{IsOkUnless};
 ghost use Rattle.contacts.specs.Constraints.{constraint_number};
-ghost use Rattle.islands.specs.Labels.{label_at};
-ghost use Rattle.plain_world.specs.Sleep.{sleeping_name};
 ghost use Rattle.sleep_wake.specs.Acting.{IsSettled};
 ghost use Rattle.world_core.specs.Waking.{HasName, HasSleepers, IsExtended, OfAll, OfBoth, movers_in};
 
@@ -14,35 +11,9 @@ use crate::wake_and_sleep::list_movers;
 use contacts::Constraint;
 use fixed_geom::Refusal;
 use graph_colours::Movers;
-use sleep_wake::{Change, Sets};
+use islands::sleeping_name;
+use sleep_wake::{Change, Sets, push_some, sort_once};
 use std::alloc::Global;
-
-/// The name of the island of the mover in the slot, if it sleeps.
-fn sleeping_name(sets: &Sets<Constraint>, slot: u32) -> Option<u32>
-    ensures { result ≡ sleeping_name (label_at sets.now.acting.labels slot) }
-{
-    match sets.label_of(slot) {
-        None => None,
-        Some(label) => {
-            if label.state.is_asleep() {
-                Some(label.name)
-            } else {
-                None
-            }
-        }
-    }
-}
-
-/// Adds a name, if there is one. Refused 1 where memory is wanting.
-fn push_some(names: &mut Vec<u32>, name: Option<u32>) -> Result<(), Refusal>
-    ensures pushed { OnOk result (names.new.items ≡ names.old.items ++ option_to_list name) }
-    ensures memory_only { IsOkUnless result Refusal.NoMemory }
-{
-    if let Some(name) = name {
-        names.push(name)?;
-    }
-    Ok(())
-}
 
 /// Adds the name of the island of the mover in the slot, if it sleeps. Refused 1 where memory is wanting.
 fn push_name(names: &mut Vec<u32>, sets: &Sets<Constraint>, slot: u32) -> Result<(), Refusal>
@@ -50,7 +21,7 @@ fn push_name(names: &mut Vec<u32>, sets: &Sets<Constraint>, slot: u32) -> Result
     ensures extended { OnOk result (IsExtended names.old.items names.new.items) }
     ensures memory_only { IsOkUnless result Refusal.NoMemory }
 {
-    push_some(names, sleeping_name(sets, slot))?;
+    push_some(names, sleeping_name(sets.label_of(slot)))?;
     Ok(())
 }
 
@@ -90,15 +61,6 @@ fn push_names_of_all(
         push_names(names, sets, movers_in(changes[place]))?;
     }
     Ok(())
-}
-
-/// Sorts numbers, and leaves each of them once.
-fn sort_once(numbers: &mut Vec<u32>)
-    ensures rising { IsStrictlyIncreasing numbers.new.items }
-    ensures extended { IsExtended numbers.old.items numbers.new.items }
-{
-    numbers.sort_unstable();
-    numbers.dedup();
 }
 
 /// The names of the sleeping islands of the movers of what begins and ends, ascending, each once. Refused 1 where memory is wanting.

@@ -45,7 +45,7 @@ pub(crate) fn copy_ids(
     ensures count { IfOk result (λ copied. length copied.items ≡ OVERFLOW + 1) }
     ensures memory_only { IsOkUnless result Refusal.NoMemory }
 {
-    colours.keeps();
+    colours.know_colouring();
     let mut copied = Vec::new(alloc);
     for colour in 0..OVERFLOW + 1 {
         copied.push(copy_colour(alloc, colours, colour)?)?;

@@ -9,12 +9,11 @@ ghost use Rattle.plain_world.specs.Momentum.{momentum_in};
 ghost use Rattle.plain_world.specs.Kinds.{is_kinematic};
 ghost use Rattle.plain_world.specs.Slots.{body_at, body_of};
 ghost use Rattle.shapes.specs.Poses.{IsPose};
-ghost use Rattle.momenta.specs.Impulses.{turned_by};
 ghost use Rattle.world_rules.specs.Apply.{are_momenta, is_push, mover_refusal, posed, pushed, steered, with_impulse};
 
 use body_handles::{Handle, Handles};
 use fixed_geom::{MAX_POSITION, Refusal, Vec2, cross, is_facing, is_within, plus};
-use momenta::{MAX_ANGULAR_MOMENTUM, MAX_MOMENTUM, Momenta};
+use momenta::{MAX_ANGULAR_MOMENTUM, MAX_MOMENTUM, Momenta, turned_by};
 use plain_world::{Body, Course, body_of};
 use shapes::Pose;
 
@@ -31,15 +30,6 @@ fn is_push(by: Vec2, offset: Vec2) -> bool
     ensures offset { result ≡ true → IsWithin (2 ^ 26) offset }
 {
     is_within(by, MAX_PUSH) && is_within(offset, MAX_PUSH_OFFSET)
-}
-
-/// The angular momentum with an impulse's moment, of a body that turns.
-fn turned_by(inertia: i64, l: i128, moment: i128) -> i128
-    requires l { unsigned_abs l ≤ 2 ^ 90 }
-    requires moment { unsigned_abs moment ≤ 2 ^ 90 }
-    ensures { result ≡ turned_by inertia l moment }
-{
-    if inertia == 0 { l } else { l + moment }
 }
 
 /// The momenta of a body with an impulse given at an offset.

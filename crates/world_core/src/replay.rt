@@ -43,9 +43,9 @@ fn apply_one(world: &mut WorldCore, command: &Command) -> Result<Reply, Refusal>
     ensures due { Answers (apply world.old.plain command.now) world.old result world.new }
     ensures grown { GrowsByCalls world.old world.new }
 {
-    world.sound();
+    world.know_sound();
     let answer = world.apply(command);
-    world.sound();
+    world.know_sound();
     answer
 }
 

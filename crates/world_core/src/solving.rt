@@ -86,7 +86,7 @@ pub(crate) fn solve<S: StepSolver>(
     ensures numbers { map number_of contacts.new.contacts ≡ map number_of contacts.old.contacts }
 {
     let kept = contacts.split();
-    kept.ascend();
+    kept.know_ascending();
     gather_rows(
         rows,
         bodies.states(),

@@ -40,16 +40,10 @@ use std::alloc::Global;
 use std::marker::Model;
 pub use steps::is_tick_count;
 use world_core_base::{BodyTable, JointTable};
-use world_rules::{Command, Reply};
-
-/// How many calls a world accepts.
-const MAX_CALLS: u64 = 1 << 40;
+use world_rules::{Command, MAX_CALLS, Reply};
 
 /// The greatest size of a component of gravity, in u/tick².
-const MAX_GRAVITY: u64 = 1 << 16;
-
-/// The most ticks of a step.
-const MAX_TICKS: i64 = 8;
+const MAX_GRAVITY: u64 = momenta::MAX_GRAVITY as u64;
 
 /// A world of bodies, changed by one command at a time.
 #[derive(Drop)]
@@ -281,7 +275,7 @@ impl WorldCore {
     }
 
     /// The world is sound: its type keeps that. The function does nothing; its contract is the law.
-    pub fn sound(&self)
+    pub fn know_sound(&self)
         ensures { IsSound self.now }
     {
         let _ = &self.handles;

@@ -3,12 +3,12 @@ use Rattle.std.proofs.Common.{◌≡◌, ◌≢◌, ℕ, zero, suc, ◌+◌, ◌
 use Rattle.std.specs.Prelude.{option_map}
 use Rattle.std.proofs.lemmas.Bool.{ltb-false}
 use Rattle.std.proofs.lemmas.List.{length-set}
-use Rattle.islands.specs.Labels.{Labels, label_at}
+use Rattle.islands.specs.Labels.{Labels, label_at, sleeping_name}
 use Rattle.islands.specs.declared.label.Label.{Label}
 use Rattle.plain_world.specs.declared.body.Body.{Body}
 use Rattle.plain_world.specs.Bodies.{is_awake, is_mover}
 use Rattle.plain_world.specs.Shown.{IsShownAlike}
-use Rattle.plain_world.specs.Sleep.{is_slow, roused, sleeping_name, timed, timed_bodies, told, told_body, told_by, told_from}
+use Rattle.plain_world.specs.Sleep.{is_slow, roused, timed, timed_bodies, told, told_body, told_by, told_from}
 use Rattle.plain_world.specs.Slots.{body_at, with_body}
 use Rattle.world_core_base.specs.Marked.{AreMarkedIn, AreShownAlike, IsUnchangedAt}
 

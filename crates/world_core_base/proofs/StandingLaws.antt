@@ -2,12 +2,12 @@
 use Rattle.std.proofs.Common.{◌≡◌, ℕ, zero, suc, ◌+◌, Bool, true, false, cond, List, [], ◌∷◌, length, map, Option, Some, None, is_some, refl, ◌∙◌}
 use Rattle.std.specs.Prelude.{option_map}
 use Rattle.momenta.specs.declared.state.BodyState.{BodyState}
-use Rattle.islands.specs.Labels.{Labels, label_at}
+use Rattle.islands.specs.Labels.{Labels, label_at, sleeping_name}
 use Rattle.islands.specs.declared.label.Label.{Label}
 use Rattle.plain_world.specs.declared.body.Body.{Body}
 use Rattle.plain_world.specs.Bodies.{can_move, is_awake, is_carried, is_mover, pose_of}
 use Rattle.plain_world.specs.Fats.{renewed_boxes}
-use Rattle.plain_world.specs.Sleep.{is_slow, roused, sleeping_name, timed, timed_bodies, told, told_body, told_by, told_from}
+use Rattle.plain_world.specs.Sleep.{is_slow, roused, timed, timed_bodies, told, told_body, told_by, told_from}
 use Rattle.plain_world.specs.Slots.{HaveSameSlots, body_at, shapes_in}
 use Rattle.world_core_base.specs.Carried.{carried_to}
 use Rattle.world_core_base.specs.Gather.{moves_in, with_motion, with_motions}

@@ -10,14 +10,14 @@ use Rattle.fixed_geom.proofs.Sizes.{sum_le}
 use Rattle.momenta.specs.Gains.{IsGain}
 use Rattle.momenta.specs.declared.gain.Gain.{Gain}
 use Rattle.momenta.specs.declared.state.BodyState.{BodyState}
-use Rattle.islands.specs.Labels.{Labels, label_at}
+use Rattle.islands.specs.Labels.{Labels, label_at, sleeping_name}
 use Rattle.islands.specs.declared.label.Label.{Label}
 use Rattle.colour_solver.specs.States as step
 use Rattle.colour_solver.specs.States.{as_vector, carried_of, places_from}
 use Rattle.plain_world.specs.declared.body.Body.{Body}
 use Rattle.plain_world.specs.Bodies.{AreBodies, IsBody, is_awake, is_carried, is_mover}
 use Rattle.plain_world.specs.Momentum.{momentum, momentum_in}
-use Rattle.plain_world.specs.Sleep.{put_to_rest, roused, sleeping_name, told, told_body, told_by, told_from}
+use Rattle.plain_world.specs.Sleep.{put_to_rest, roused, told, told_body, told_by, told_from}
 use Rattle.world_core_base.specs.Gather.{state_of, states_of}
 use Rattle.colour_solver.proofs.VectorLaws.{plus_assoc, plus_zero, same_vector}
 use Rattle.world_core_base.proofs.GatherLaws.{carried_state, length-states}

@@ -5,7 +5,8 @@ use Rattle.serde_json.specs.Events.{items_len}
 use Rattle.serde_json.specs.Find.{as_array, as_bool, as_str}
 use Rattle.fixed_geom.specs.Vectors.{is_within}
 use Rattle.world_file_base.specs.Asks.{Ask, asked, clause_number, first_of}
-use Rattle.world_file_base.specs.Reading.{ends_asks, first_in, greatest, greatest_group, group_asks, is_between, is_null, island_asks, items_in, least, least_group, list_asks, natural_of, number_asks, pair_asks, second_in, signed_asks, text_asks, text_in, truth_asks, unsigned_asks, vector_asks, vector_in, vector_within_asks, whole_asks, whole_in, whole_of}
+use Rattle.world_file_base.specs.Reading.{ends_asks, first_in, greatest, greatest_group, group_asks, is_null, island_asks, items_in, least, least_group, list_asks, natural_of, number_asks, pair_asks, second_in, signed_asks, text_asks, text_in, truth_asks, unsigned_asks, vector_asks, vector_in, vector_within_asks, whole_asks, whole_in, whole_of}
+use Rattle.shapes.specs.Shapes.{is_between}
 use Rattle.world_file_base.specs.Texts.{decimal_asks, handle_asks, handle_of_text, number_of_text, sized}
 use Rattle.world_file_base.specs.declared.clause.Clause.{Clause}
 use Rattle.world_file_base.specs.declared.clause.Clause.TheVariants.{Form, Limits}

@@ -24,13 +24,12 @@ use Rattle.impulse_ledger.specs.Sums.{total_of}
 use Rattle.impulse_ledger.specs.declared.entry.Cause.{Cause}
 use Rattle.impulse_ledger.specs.declared.entry.Cause.TheVariants as causes
 use Rattle.impulse_ledger.specs.declared.totals.Totals.{Totals}
-use Rattle.islands.specs.Labels.{Labels, label_at}
+use Rattle.islands.specs.Labels.{Labels, label_at, sleeping_name}
 use Rattle.islands.specs.declared.label.Label.{Label}
 use Rattle.islands.proofs.LabelLemmas.{some_short}
 use Rattle.momenta.specs.declared.limits.TheConstants.{MAX_GRAVITY}
 use Rattle.plain_world.specs.Joints.{AreJoints, IsBodyJoint}
 use Rattle.plain_world.specs.Plain.{Plain, colour_of, has_constraint}
-use Rattle.plain_world.specs.Sleep.{sleeping_name}
 use Rattle.plain_world.specs.Slots.{body_at, is_taken, item_at}
 use Rattle.plain_world.specs.declared.body.Body.{Body}
 use Rattle.plain_world.specs.declared.joint.BodyJoint.{BodyJoint}

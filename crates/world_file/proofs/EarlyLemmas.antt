@@ -22,7 +22,7 @@ use Rattle.world_file_base.specs.Versions.{colour_asks, colour_of_number, most_s
 use Rattle.world_file_base.specs.declared.saved.Membership.{Membership}
 use Rattle.world_file_base.specs.declared.version.Version.{Version}
 use Rattle.world_file_base.specs.Asks.{Ask, asked, clause_number, first_of, noted}
-use Rattle.world_file_base.specs.Reading.{ends_asks, first_in, greatest, greatest_group, group_asks, has_keys, is_between, is_null, island_asks, items_in, least, least_group, list_asks, natural_of, number_asks, number_in, pair_asks, second_in, signed_asks, text_asks, text_in, truth_asks, unsigned_asks, unsigned_in, vector_asks, vector_in, vector_within_asks, whole_asks, whole_in, whole_of}
+use Rattle.world_file_base.specs.Reading.{ends_asks, first_in, greatest, greatest_group, group_asks, has_keys, is_null, island_asks, items_in, least, least_group, list_asks, natural_of, number_asks, number_in, pair_asks, second_in, signed_asks, text_asks, text_in, truth_asks, unsigned_asks, unsigned_in, vector_asks, vector_in, vector_within_asks, whole_asks, whole_in, whole_of}
 use Rattle.world_file_base.specs.Texts.{decimal_asks, handle_asks, handle_of_text, number_of_text, sized}
 use Rattle.world_file_base.specs.declared.clause.Clause.{Clause}
 use Rattle.world_file_base.specs.declared.clause.Clause.TheVariants.{Colours, FatBoxes, Form, Generations, Islands, Limits, Memberships}
@@ -30,7 +30,7 @@ use Rattle.world_file_base.specs.declared.reader.Reader.{Reader}
 use Rattle.serde_json.specs.Data.{Data, Items, item, no_items}
 use Rattle.serde_json.specs.Events.{items_len}
 use Rattle.serde_json.specs.Find.{as_array, as_bool, as_str, get}
-use Rattle.shapes.specs.Shapes.{shapes_refusal}
+use Rattle.shapes.specs.Shapes.{is_between, shapes_refusal}
 use Rattle.shapes.specs.declared.pose.Pose.{Pose}
 use Rattle.shapes.specs.declared.shape.ShapeDef.{ShapeDef}
 use Rattle.std.proofs.lemmas.Bool.{false≢true}

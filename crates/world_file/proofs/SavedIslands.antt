@@ -2,7 +2,7 @@
 use Rattle.std.proofs.Common.{◌≡◌, ℕ, zero, suc, ◌+◌, ◌≤◌, ◌||◌, ◌⊎◌, Bool, true, false, not, cond, nat_le, List, [], ◌∷◌, map, Option, Some, None, is_some, option_map, Contains, inl, inr, refl, sym, ap, ◌∙◌, subst, arith}
 use Rattle.std.proofs.lemmas.Bool.{false≢true}
 use Rattle.std.proofs.lemmas.Option.{none-some, same_Some}
-use Rattle.islands.specs.Labels.{Labels, is_loose, label_at, merged, merged_by, own_label, union_label}
+use Rattle.islands.specs.Labels.{Labels, is_loose, label_at, merged, merged_by, own_label, sleeping_name, union_label}
 use Rattle.islands.specs.Merging.{merged_all}
 use Rattle.islands.specs.Links.{Edges, Joined, Linked}
 use Rattle.islands.specs.Partition.{AreIslands, AreTogether, IsPartition}
@@ -12,7 +12,6 @@ use Rattle.islands.specs.declared.label.Label.{Label}
 use Rattle.islands.proofs.JoinLemmas.{joined_more}
 use Rattle.islands.proofs.LabelLemmas.{either_cases, same_by_name}
 use Rattle.islands.proofs.SplitLemmas.{IsLabelled, merging_all}
-use Rattle.plain_world.specs.Sleep.{sleeping_name}
 use Rattle.plain_world.specs.Slots.{body_at}
 use Rattle.plain_world.specs.declared.body.Body.{Body}
 use Rattle.world_file_base.specs.declared.saved.Membership.{Membership}

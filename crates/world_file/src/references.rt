@@ -1,7 +1,7 @@
 //! Whether joints and contacts are of what is there, and what a world keeps of them.
 
 ghost use Rattle.std.specs.Prelude.{◌≡◌, IfErr, IfOk, IsTrue, None, map};
-ghost use Rattle.plain_world.specs.Formed.{is_surface, mixed_of, mixed_surface, shape_named, shape_of_body, surface_of};
+ghost use Rattle.plain_world.specs.Formed.{is_surface, mixed_of, mixed_surface, shape_named, shape_of_body};
 ghost use Rattle.plain_world.specs.Slots.{body_at};
 ghost use Rattle.std.specs.List.{list_all};
 ghost use Rattle.body_handles.specs.Places.{is_live};
@@ -22,7 +22,7 @@ ghost use Rattle.world_file.specs.Fitting.{
 use body_handles::{Handle, Place};
 use contacts_base::limits::{MAX_FRICTION, MAX_RESTITUTION};
 use contacts_base::{ContactEntry, ContactPoint, PackedSurface, ShapeId, Surface};
-use plain_world::{Body, BodyJoint};
+use plain_world::{Body, BodyJoint, surface_of};
 use shapes::ShapeDef;
 use std::alloc::Global;
 use world_file_base::{Broken, SavedContact, SavedJoint};
@@ -191,15 +191,6 @@ fn is_surface(surface: Surface) -> bool
         && surface.restitution.unsigned_abs() <= MAX_RESTITUTION
 }
 
-fn surface_of(def: ShapeDef) -> Surface
-    ensures { result ≡ surface_of def }
-{
-    Surface {
-        friction: def.friction,
-        restitution: def.restitution,
-    }
-}
-
 fn mixed_surface(first: Surface, second: Surface) -> Surface
     ensures value { result ≡ mixed_surface first second }
     ensures surface { IsSurface result }
@@ -219,7 +210,7 @@ fn mixed_of(first: Option<ShapeDef>, second: Option<ShapeDef>) -> Surface
     ensures surface { IsSurface result }
 {
     match (first, second) {
-        (Some(first), Some(second)) => mixed_surface(surface_of(first), surface_of(second)),
+        (Some(first), Some(second)) => mixed_surface(surface_of(&first), surface_of(&second)),
         _ => Surface {
             friction: 0,
             restitution: 0,

@@ -30,12 +30,10 @@ use world_file_base::{
     Broken, Clause, Reader, SavedBodies, SavedContact, SavedJoints, Version, field, has_keys,
     read_bodies, read_contacts, read_joints, read_totals,
 };
-
-/// How many calls a world accepts at most.
-const MAX_CALLS: u64 = 1 << 40;
+use world_rules::{MAX_CALLS, MAX_TICKS};
 
 /// How many ticks a step has at most.
-const MAX_TICKS: u64 = 8;
+const MOST_TICKS: u64 = MAX_TICKS as u64;
 
 /// What is read of a saved world.
 #[derive(Drop)]
@@ -123,7 +121,7 @@ pub(crate) fn read_parts(alloc: Global, reader: &mut Reader, value: &Value) -> R
     ensures memory { IfErr result (λ e. e ≡ NoMemory) }
 {
     let heads = read_heads(reader, value);
-    let most_ticks = heads.steps * MAX_TICKS;
+    let most_ticks = heads.steps * MOST_TICKS;
     let bodies = read_bodies(
         alloc,
         reader,

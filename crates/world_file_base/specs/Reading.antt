@@ -1,5 +1,5 @@
 -- How the value of a key is read: what it means, and what is asked of it. What a value that breaks a clause is taken for means nothing.
-use Rattle.std.specs.Prelude.{ℕ, ◌-◌, ◌==◌, ◌&&◌, ◌^◌, Bool, false, cond, nat_le, List, [], Option, Some, None, option_map, option_and_then, is_some, unwrap_or, ℤ, pos, negsuc, int_le}
+use Rattle.std.specs.Prelude.{ℕ, ◌-◌, ◌==◌, ◌^◌, Bool, false, cond, nat_le, List, [], Option, Some, None, option_map, option_and_then, is_some, unwrap_or, ℤ, pos, negsuc}
 use Rattle.std.specs.Borrow.{Bor}
 use Rattle.serde_json.specs.Data.{Data, Items, no_items}
 use Rattle.serde_json.specs.Events.{items_len, members_len}
@@ -9,6 +9,7 @@ use Rattle.serde_json.specs.declared.value.Value.{Value}
 use Rattle.fixed_geom.specs.Vectors.{is_within, zero_vector}
 use Rattle.fixed_geom.specs.declared.vectors.Vec2.{Vec2}
 use Rattle.fixed_geom.specs.declared.boxes.Box2.{Box2}
+use Rattle.shapes.specs.Shapes.{is_between}
 use Rattle.world_file_base.specs.Asks.{Ask, asked}
 use Rattle.world_file_base.specs.declared.clause.Clause.TheVariants.{Form, Limits}
 
@@ -70,9 +71,6 @@ whole_in value = unwrap_or (whole_of value) (pos 0)
 
 abbrev pub whole_asks : Option Data → Ask
 whole_asks value = asked (is_some (whole_of value)) Form
-
-abbrev pub is_between : ℤ → ℤ → ℤ → Bool
-is_between low high z = int_le low z && int_le z high
 
 -- a whole number from low to high
 abbrev pub signed_in : ℤ → ℤ → Option Data → ℤ

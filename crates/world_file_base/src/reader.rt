@@ -14,7 +14,6 @@ ghost use Rattle.world_file_base.specs.Reading.{
   least_group,
   has_keys_in,
   has_keys,
-  is_between,
   is_null,
   island_asks,
   island_in,
@@ -42,6 +41,7 @@ ghost use Rattle.world_file_base.specs.Reading.{
   whole_of,
   natural_of,
 };
+ghost use Rattle.shapes.specs.Shapes.{is_between};
 ghost use Rattle.world_file_base.specs.Texts.{decimal_asks, decimal_in, handle_asks, handle_in, handle_of_text};
 ghost use Rattle.world_file_base.specs.declared.clause.Clause.TheVariants.{Form, Limits};
 ghost use Rattle.world_file_base.specs.declared.clause.Broken.TheVariants.{Clause as BrokenClause};

@@ -34,7 +34,7 @@ use shapes::{Filter, Shape, ShapeDef};
 use std::alloc::Global;
 
 /// The greatest size of a coordinate of a fat box, in u.
-const MAX_CORNER: u64 = 1 << 37;
+const MAX_CORNER: u64 = fixed_geom::MAX_CORNER as u64;
 
 /// The two ends of a core.
 #[derive(Clone, Copy)]

@@ -10,13 +10,12 @@ use Rattle.contacts_base.specs.declared.contact.ContactEntry.{ContactEntry}
 use Rattle.graph_colours.specs.Colours.{all_members}
 use Rattle.graph_colours.specs.declared.member.Member.{Member}
 use Rattle.graph_colours.specs.declared.member.Movers.{Movers}
-use Rattle.islands.specs.Labels.{Labels, is_asleep, is_loose, label_at}
+use Rattle.islands.specs.Labels.{Labels, is_asleep, is_loose, label_at, sleeping_name}
 use Rattle.islands.specs.declared.label.IslandState.{IslandState}
 use Rattle.islands.specs.declared.label.IslandState.TheVariants.{Asleep, Loose, Whole}
 use Rattle.islands.specs.declared.label.Label.{Label}
 use Rattle.plain_world.specs.declared.body.Body.{Body}
 use Rattle.plain_world.specs.Bodies.{IsAtRest}
-use Rattle.plain_world.specs.Sleep.{sleeping_name}
 use Rattle.plain_world.specs.Slots.{body_at}
 use Rattle.solver_sets.proofs.ListLaws.{in_map}
 use Rattle.solver_sets.specs.Census.{IsCensus, census_of, standings_of}

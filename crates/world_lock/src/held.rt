@@ -65,8 +65,7 @@ impl<N: Opened> Held<N> {
         requires settled { settled_tallies.items ≡ replicate N.seats no_calls }
         requires keeper { keeper ≡ [] }
     {
-        // The journal is read for its promise alone, the headline.
-        let _ = journalled.journal();
+        journalled.know_headline();
         Held {
             journalled,
             settled: 0,
@@ -274,8 +273,7 @@ fn meet_all<N: Opened>(
     ensures same { keeper.new ≡ keeper.old }
 {
     for mut seat in seats {
-        // The number is read for its promise alone, that it is one of the roster's.
-        let _ = seat.number();
+        seat.know_seated();
         book.meet(keeper, &mut seat.pass);
     }
 }

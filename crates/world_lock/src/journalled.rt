@@ -50,8 +50,7 @@ fn applied<S: StepSolver>(
     ensures sound { IsSound world.new }
 {
     let answer = world.apply_by(solver, command);
-    // The ledger is read for its promise alone, that the world is sound.
-    let _ = world.ledger();
+    world.know_sound();
     answer
 }
 
@@ -89,6 +88,13 @@ impl JournalledWorld {
         self.journal.as_slice()
     }
 
+    /// The headline holds: the type keeps it. The function does nothing; its contract is the law.
+    pub(crate) fn know_headline(&self)
+        ensures { KeepsHeadline self.now }
+    {
+        let _ = &self.journal;
+    }
+
     /// A call of a seat: the world applies the command, with this solver for the ticks of a step, and the journal grows by just this. A
     /// refusal changes nothing; the room for the journal's entry is made before all else, so want of it is answered first.
     pub fn call<S: StepSolver>(
@@ -123,7 +129,7 @@ impl JournalledWorld {
     {
         let opening = Opening::at(&self.world)?;
         self.world.settle_ledger();
-        let _ = self.world.ledger();
+        self.world.know_sound();
         self.opening = opening.settled();
         let empty = Vec::new(*self.journal.allocator());
         Ok(mem::replace(&mut self.journal, empty))

@@ -37,4 +37,11 @@ impl<N: Named> Seat<N> {
     {
         self.pass.number()
     }
+
+    /// Its number is one of the roster's. The function does nothing; its contract is the law.
+    pub(crate) fn know_seated(&self)
+        ensures { self.now.seat < N.seats }
+    {
+        let _ = self.number();
+    }
 }

@@ -3,7 +3,7 @@ use Rattle.std.specs.Prelude.{Bool, ◌&&◌, int_le, unsigned_abs}
 use Rattle.fixed_geom.specs.Vectors.{is_within}
 use Rattle.fixed_geom.specs.declared.boxes.Box2.{Box2}
 use Rattle.fixed_geom.specs.declared.vectors.Vec2.{Vec2}
-use Rattle.world_queries.specs.declared.limits.TheConstants.{MAX_CORNER}
+use Rattle.fixed_geom.specs.declared.limits.TheConstants.{MAX_CORNER}
 
 -- neither coordinate of the first is above that of the second
 abbrev pub is_ordered : Vec2 → Vec2 → Bool

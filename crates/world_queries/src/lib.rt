@@ -15,10 +15,11 @@ mod regions;
 mod shapes_in;
 
 pub use filters::QueryFilter;
+pub use fixed_geom::MAX_CORNER;
 pub use frame_rays::frame_ray;
 pub use frame_regions::frame_region;
 pub use laws::frames_show_their_world;
-pub use limits::{MAX_CORNER, is_ray, is_region, limits_in_digits};
+pub use limits::{is_ray, is_region, limits_in_digits};
 pub use rays::{filtered_ray, ray};
 pub use regions::region;
 pub use shape_rays::Hit;

@@ -4,11 +4,8 @@ ghost use Rattle.std.specs.Prelude.{◌≡◌, ◌↔◌, IsTrue, pos};
 ghost use Rattle.shapes.specs.Rays.{IsBeam, beam_of};
 ghost use Rattle.world_queries.specs.Limits.{is_ordered, is_region};
 
-use fixed_geom::{Box2, MAX_POSITION, Vec2, is_within};
+use fixed_geom::{Box2, MAX_CORNER, MAX_POSITION, Vec2, is_within};
 use shapes::MAX_RAY;
-
-/// The greatest size of a coordinate of a region's corner, in u.
-pub const MAX_CORNER: i64 = 1 << 37;
 
 /// Whether a world may be asked about a ray: its start is within 2^36 u in each coordinate, its way within 2^28 u in each. A
 /// way of zero may be asked about.

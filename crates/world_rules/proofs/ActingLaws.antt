@@ -10,7 +10,7 @@ use Rattle.contacts.specs.Constraints.{constraint_number}
 use Rattle.contacts.specs.declared.constraint.Constraint.{Constraint}
 use Rattle.graph_colours.specs.Colours.{ids_of}
 use Rattle.graph_colours.specs.declared.member.Member.{Member}
-use Rattle.islands.specs.Labels.{Labels, is_asleep, label_at}
+use Rattle.islands.specs.Labels.{Labels, is_asleep, label_at, sleeping_name}
 use Rattle.islands.specs.declared.label.Label.{Label}
 use Rattle.colour_solver.proofs.VectorLaws.{same_x, same_y}
 use Rattle.plain_world.specs.declared.body.Body.{Body}
@@ -198,7 +198,7 @@ no_name false name h = refl
 no_name true name h = cc
 
 -- an awake label has no name under which to sleep
-pub awake_name : (o : Option Label) → acting.awake_label o ≡ true → sleep.sleeping_name o ≡ None
+pub awake_name : (o : Option Label) → acting.awake_label o ≡ true → sleeping_name o ≡ None
 awake_name None h = refl
 awake_name (Some l) h = no_name (is_asleep l.state) l.name h
 
@@ -206,7 +206,7 @@ not_asleep : (t : Bool) (name : ℕ) → cond t (Some name) None ≡ None → no
 not_asleep false name h = refl
 not_asleep true name h = cc
 
-pub name_awake : (o : Option Label) → is_some o ≡ true → sleep.sleeping_name o ≡ None → acting.awake_label o ≡ true
+pub name_awake : (o : Option Label) → is_some o ≡ true → sleeping_name o ≡ None → acting.awake_label o ≡ true
 name_awake None some h = cc
 name_awake (Some l) some h = not_asleep (is_asleep l.state) l.name h
 

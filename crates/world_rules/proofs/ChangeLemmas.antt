@@ -5,10 +5,9 @@ use Rattle.std.proofs.lemmas.Option.{same_Some}
 use Rattle.contacts.specs.declared.constraint.Constraint.{Constraint}
 use Rattle.graph_colours.specs.Colours.{ids_of}
 use Rattle.graph_colours.specs.declared.member.Member.{Member}
-use Rattle.islands.specs.Labels.{Labels, label_at}
+use Rattle.islands.specs.Labels.{Labels, label_at, sleeping_name}
 use Rattle.plain_world.specs.declared.body.Body.{Body}
 use Rattle.plain_world.specs.Bodies.{is_mover}
-use Rattle.plain_world.specs.Sleep.{sleeping_name}
 use Rattle.plain_world.specs.Slots.{body_at}
 use Rattle.solver_sets.specs.Tied.{AreAlike, AreTied}
 use Rattle.solver_sets.specs.Ties.{is_enabled_in, is_mover_in, members_of}

@@ -6,13 +6,13 @@ use Rattle.std.proofs.lemmas.Option.{same_Some}
 use Rattle.graph_colours.specs.declared.member.Member.{Member}
 use Rattle.contacts.specs.Constraints.{constraint_number}
 use Rattle.contacts.specs.declared.constraint.Constraint.{Constraint}
-use Rattle.islands.specs.Labels.{label_at}
+use Rattle.islands.specs.Labels.{label_at, sleeping_name}
 use Rattle.islands.proofs.LabelLemmas.{added_here, added_other}
 use Rattle.plain_world.specs.declared.body.Body.{Body}
 use Rattle.plain_world.specs.Bodies.{AreBodies, IsBody, is_mover}
 use Rattle.plain_world.specs.Changes.{enabled_body}
 use Rattle.plain_world.specs.Kinds.{is_dynamic}
-use Rattle.plain_world.specs.Sleep.{sleeping_name, told}
+use Rattle.plain_world.specs.Sleep.{told}
 use Rattle.plain_world.specs.Slots.{body_at, item_in}
 use Rattle.sleep_wake.specs.Acting.{Acting, are_awake}
 use Rattle.sleep_wake.specs.Bodies.{mover_made}

@@ -4,7 +4,7 @@ use Rattle.std.specs.Prelude.{not}
 use Rattle.std.specs.Option.{is_none}
 use Rattle.std.proofs.lemmas.Option.{none-some, same_Some}
 use Rattle.graph_colours.specs.declared.member.Movers.{Movers}
-use Rattle.islands.specs.Labels.{Labels, is_asleep, label_at}
+use Rattle.islands.specs.Labels.{Labels, is_asleep, label_at, sleeping_name}
 use Rattle.islands.specs.declared.label.IslandState.{IslandState}
 use Rattle.islands.specs.declared.label.IslandState.TheVariants.{Asleep, Loose, Whole}
 use Rattle.islands.specs.declared.label.Label.{Label}
@@ -13,13 +13,13 @@ use Rattle.plain_world.specs.declared.body.SetName.TheVariants as sets
 use Rattle.plain_world.specs.declared.kind.Kind.{Kind}
 use Rattle.plain_world.specs.declared.kind.Kind.TheVariants.{Dynamic, Kinematic, Static}
 use Rattle.plain_world.specs.Bodies.{is_mover, set_of, sleeping_set, standing_of}
+use Rattle.plain_world.specs.Changes.{is_awake_in}
 use Rattle.plain_world.specs.Kinds.{is_dynamic}
-use Rattle.plain_world.specs.Sleep.{sleeping_name}
 use Rattle.plain_world.specs.Slots.{body_at}
 use Rattle.sleep_wake.specs.Acting.{are_awake, awake_label, is_awake, second_awake}
 use Rattle.solver_sets.specs.Tied.{AreTied}
 use Rattle.solver_sets.specs.Ties.{is_mover_in}
-use Rattle.world_rules.specs.Laws.{ColoursAreApart, LinkedMoversStandTogether, SleepingSetsAreComponents, SleepsIn, WhatActsHasAColour, awake_in, movers_awake, second_awake_in}
+use Rattle.world_rules.specs.Laws.{ColoursAreApart, LinkedMoversStandTogether, SleepingSetsAreComponents, SleepsIn, WhatActsHasAColour, movers_awake, second_awake_in}
 use Rattle.world_rules.specs.Sets.{acting_of}
 use Rattle.world_rules.specs.Sound.{AreTold}
 use Rattle.world_rules.proofs.LowerLaws.{sleepers_are_one_component}
@@ -109,7 +109,7 @@ named_or_not : (t : Bool) (name : ℕ) → not t ≡ is_none (cond t (Some name)
 named_or_not true name = refl
 named_or_not false name = refl
 
-awake_by : (o : Option Body) (l : Option Label) → is_some l ≡ is_mover_in o → ((b : Body) → o ≡ Some b → b.asleep ≡ sleeping_name l) → awake_label l ≡ awake_in o
+awake_by : (o : Option Body) (l : Option Label) → is_some l ≡ is_mover_in o → ((b : Body) → o ≡ Some b → b.asleep ≡ sleeping_name l) → awake_label l ≡ is_awake_in o
 awake_by None None tied told = refl
 awake_by None (Some l) tied told = cc
 awake_by (Some b) None tied told = λ j. cond (tied j) (is_none b.asleep) false
@@ -118,7 +118,7 @@ awake_by (Some b) (Some l) tied told =
     name ∙ (λ j. cond (tied j) (is_none b.asleep) false)
 
 -- a mover is awake just if its island is
-pub awake_same : (bodies : List (Option Body)) (labels : Labels) (slot : ℕ) → AreTied bodies labels → AreTold bodies labels → is_awake labels slot ≡ awake_in (body_at bodies slot)
+pub awake_same : (bodies : List (Option Body)) (labels : Labels) (slot : ℕ) → AreTied bodies labels → AreTold bodies labels → is_awake labels slot ≡ is_awake_in (body_at bodies slot)
 awake_same bodies labels slot tied told = awake_by (body_at bodies slot) (label_at labels slot) (tied slot) (told slot)
 
 second_same : (bodies : List (Option Body)) (labels : Labels) (o : Option ℕ) → AreTied bodies labels → AreTold bodies labels → second_awake labels o ≡ second_awake_in bodies o

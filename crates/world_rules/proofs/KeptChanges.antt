@@ -21,7 +21,7 @@ use Rattle.impulse_ledger.specs.declared.entry.Cause.{Cause}
 use Rattle.impulse_ledger.specs.declared.entry.Cause.TheVariants as causes
 use Rattle.impulse_ledger.specs.Sums.{Book}
 use Rattle.contacts.specs.Constraints.{constraint_number}
-use Rattle.islands.specs.Labels.{label_at}
+use Rattle.islands.specs.Labels.{label_at, sleeping_name}
 use Rattle.islands.specs.declared.label.Label.{Label}
 use Rattle.colour_solver.proofs.VectorLaws.{plus_zero, same_x, same_y}
 use Rattle.plain_world.specs.declared.body.Body.{Body}
@@ -32,7 +32,7 @@ use Rattle.plain_world.specs.Momentum.{momentum_in}
 use Rattle.plain_world.specs.Changes.{CanPose, put_course, put_momenta, put_pose}
 use Rattle.plain_world.specs.Kinds.{IsCourse, is_course, is_dynamic, is_kinematic}
 use Rattle.plain_world.specs.Plain.{Plain}
-use Rattle.plain_world.specs.Sleep.{roused, sleeping_name, told_body}
+use Rattle.plain_world.specs.Sleep.{roused, told_body}
 use Rattle.plain_world.specs.Slots.{HaveSameSlots, body_at, shapes_in}
 use Rattle.plain_world.proofs.BoxLemmas.{renewed_are}
 use Rattle.plain_world.proofs.KindLaws.{mass_as, no_mover, static_as}

@@ -17,7 +17,7 @@ use Rattle.contacts_base.specs.declared.contact.ContactEntry.{ContactEntry}
 use Rattle.contacts.specs.Constraints.{constraint_number}
 use Rattle.contacts.specs.declared.constraint.Constraint.{Constraint}
 use Rattle.islands.specs.declared.label.Label.{Label}
-use Rattle.islands.specs.Labels.{Labels, label_at}
+use Rattle.islands.specs.Labels.{Labels, label_at, sleeping_name}
 use Rattle.colour_solver.proofs.VectorLaws.{same_vector, same_x, same_y}
 use Rattle.plain_world.specs.declared.body.Body.{Body}
 use Rattle.plain_world.specs.Bodies.{IsBody, is_mover}
@@ -27,7 +27,7 @@ use Rattle.plain_world.specs.Changes.{enabled_body}
 use Rattle.plain_world.specs.Formed.{HaveFilters, mixed_of, shape_of_body}
 use Rattle.plain_world.specs.Kinds.{is_dynamic}
 use Rattle.plain_world.specs.Plain.{Plain}
-use Rattle.plain_world.specs.Sleep.{told_body, told_by, sleeping_name}
+use Rattle.plain_world.specs.Sleep.{told_body, told_by}
 use Rattle.plain_world.specs.Slots.{body_at, shapes_in}
 use Rattle.sleep_wake.specs.Acting.{Acting, IsSettled, are_awake, is_awake}
 use Rattle.sleep_wake.specs.Changes.{CanBegin, each_begun, each_inserted}

@@ -17,7 +17,7 @@ use Rattle.contacts_base.specs.declared.contact.ContactEntry.{ContactEntry}
 use Rattle.contacts.specs.Constraints.{constraint_number}
 use Rattle.contacts.specs.declared.constraint.Constraint.{Constraint}
 use Rattle.graph_colours.specs.Colours.{ids_of}
-use Rattle.islands.specs.Labels.{label_at, padded}
+use Rattle.islands.specs.Labels.{label_at, padded, sleeping_name}
 use Rattle.islands.specs.declared.label.Label.{Label}
 use Rattle.islands.proofs.LabelLemmas.{added_here, added_other}
 use Rattle.colour_solver.proofs.VectorLaws.{same_x, same_y}
@@ -28,7 +28,7 @@ use Rattle.plain_world.specs.Bodies.{IsBody, is_awake, is_mover, made}
 use Rattle.plain_world.specs.Momentum.{momentum_in}
 use Rattle.plain_world.specs.Formed.{HaveFilters}
 use Rattle.plain_world.specs.Joints.{AreJoints}
-use Rattle.plain_world.specs.Sleep.{sleeping_name, told}
+use Rattle.plain_world.specs.Sleep.{told}
 use Rattle.plain_world.specs.Slots.{body_at, item_in, shapes_in, with_body}
 use Rattle.sleep_wake.specs.Acting.{Acting, IsSettled}
 use Rattle.sleep_wake.specs.Acting as acting

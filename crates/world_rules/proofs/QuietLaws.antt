@@ -8,12 +8,12 @@ use Rattle.contacts.specs.Constraints.{constraint_number}
 use Rattle.contacts.specs.declared.constraint.Constraint.{Constraint}
 use Rattle.islands.specs.declared.label.IslandState.TheVariants.{Whole, Loose}
 use Rattle.islands.specs.declared.label.Label.{Label}
-use Rattle.islands.specs.Labels.{Labels, is_loose, label_at, loosened, loosened_by, merged, merged_by, relabelled, union_label, with_state}
+use Rattle.islands.specs.Labels.{Labels, is_loose, label_at, loosened, loosened_by, merged, merged_by, relabelled, sleeping_name, union_label, with_state}
 use Rattle.islands.specs.Partition.{IsPartition}
 use Rattle.islands.proofs.LabelLemmas.{either_case, either_to, merged_partition, others_stay}
 use Rattle.plain_world.specs.declared.body.Body.{Body}
 use Rattle.plain_world.specs.Bodies.{is_mover}
-use Rattle.plain_world.specs.Sleep.{sleeping_name, told, told_body, told_by, told_from}
+use Rattle.plain_world.specs.Sleep.{told, told_body, told_by, told_from}
 use Rattle.sleep_wake.specs.Acting.{Acting, are_awake, awake_label, is_awake}
 use Rattle.sleep_wake.specs.Changes.{begun, each_begun, ended, parted, united}
 use Rattle.sleep_wake.proofs.AwakeLemmas.{and_is, parted_awake, same_awake, united_awake}

@@ -6,12 +6,12 @@ use Rattle.std.proofs.lemmas.Option.{none-some, same_Some}
 use Rattle.fixed_geom.specs.Vectors.{plus, zero_vector}
 use Rattle.fixed_geom.specs.declared.vectors.Vec2.{Vec2}
 use Rattle.islands.specs.declared.label.Label.{Label}
-use Rattle.islands.specs.Labels.{Labels, label_at}
+use Rattle.islands.specs.Labels.{Labels, label_at, sleeping_name}
 use Rattle.colour_solver.proofs.VectorLaws.{same_vector}
 use Rattle.plain_world.specs.declared.body.Body.{Body}
 use Rattle.plain_world.specs.Bodies.{AreBodies, IsAtRest, IsBody, is_awake, is_mover}
 use Rattle.plain_world.specs.Momentum.{momentum, momentum_in}
-use Rattle.plain_world.specs.Sleep.{put_to_rest, roused, sleeping_name, told, told_body, told_by, told_from}
+use Rattle.plain_world.specs.Sleep.{put_to_rest, roused, told, told_body, told_by, told_from}
 use Rattle.plain_world.specs.Slots.{HaveSameSlots, body_at, shapes_in}
 use Rattle.solver_sets.specs.Tied.{AreAlike, AreTied}
 use Rattle.solver_sets.specs.Ties.{is_enabled_in, is_mover_in}

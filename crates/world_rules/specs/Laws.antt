@@ -10,7 +10,8 @@ use Rattle.graph_colours.specs.declared.member.Member.{Member}
 use Rattle.graph_colours.specs.declared.member.Movers.{Movers}
 use Rattle.islands.specs.Links.{Joined, Linked}
 use Rattle.plain_world.specs.declared.body.Body.{Body}
-use Rattle.plain_world.specs.Bodies.{is_awake, standing_of}
+use Rattle.plain_world.specs.Bodies.{standing_of}
+use Rattle.plain_world.specs.Changes.{is_awake_in}
 use Rattle.plain_world.specs.Plain.{Plain}
 use Rattle.plain_world.specs.Slots.{body_at}
 use Rattle.sleep_wake.specs.Acting.{links_of}
@@ -83,17 +84,13 @@ coloured_in w = members_of w.plain.bodies (joints_of w.plain) w.plain.colours
 abbrev pub ColoursAreApart : Type 0
 ColoursAreApart = (w : World) → IsSound w → (ids_of (coloured_in w) ≡ w.plain.colours) × All AreApart (take COLOURS (coloured_in w))
 
-abbrev pub awake_in : Option Body → Bool
-awake_in None = false
-awake_in (Some b) = is_awake b
-
 abbrev pub second_awake_in : List (Option Body) → Option ℕ → Bool
 second_awake_in bodies None = true
-second_awake_in bodies (Some slot) = awake_in (body_at bodies slot)
+second_awake_in bodies (Some slot) = is_awake_in (body_at bodies slot)
 
 -- all movers of a constraint are awake
 abbrev pub movers_awake : List (Option Body) → Movers → Bool
-movers_awake bodies m = awake_in (body_at bodies m.first) && second_awake_in bodies m.second
+movers_awake bodies m = is_awake_in (body_at bodies m.first) && second_awake_in bodies m.second
 
 -- What acts has a colour, and nothing else has: a constraint whose movers are awake.
 abbrev pub WhatActsHasAColour : Type 0

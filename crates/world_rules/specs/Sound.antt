@@ -17,8 +17,7 @@ use Rattle.plain_world.specs.Slots.{AreMatched, body_at}
 use Rattle.sleep_wake.specs.Acting.{IsSettled}
 use Rattle.solver_sets.specs.Ties.{IsNamed, members_of}
 use Rattle.solver_sets.specs.Tied.{AreTied}
-use Rattle.islands.specs.Labels.{Labels, label_at}
-use Rattle.plain_world.specs.Sleep.{sleeping_name}
+use Rattle.islands.specs.Labels.{Labels, label_at, sleeping_name}
 use Rattle.world_core_base.specs.Gather.{AreContactsOf}
 use Rattle.world_rules.specs.Sets.{acting_of}
 use Rattle.world_rules.specs.World.{World, book_of, joints_of}

@@ -16,7 +16,7 @@ use crate::wake_and_sleep::wake_planned;
 use body_handles::Handle;
 use fixed_geom::{Refusal, Vec2};
 use impulse_ledger::Cause;
-use plain_world::{BodyChange, BodyDef, Course, body_of, filters_fit};
+use plain_world::{BodyChange, BodyDef, Course, body_of, know_filters_fit};
 use shapes::Pose;
 use world_rules::Reply;
 
@@ -26,7 +26,7 @@ impl WorldCore {
         ensures { Answers (apply_create self.old.plain def.now) self.old result self.new }
     {
         def.check()?;
-        filters_fit(def.shapes.as_slice());
+        know_filters_fit(def.shapes.as_slice());
         if self.handles.is_full() {
             return Err(Refusal::TooMany);
         }

@@ -19,7 +19,7 @@ use contacts::Constraint;
 use fixed_geom::Refusal;
 use graph_colours::Member;
 use impulse_ledger::Cause;
-use plain_world::{Body, item_at};
+use solver_sets::is_mover_at;
 use std::alloc::Global;
 use world_rules::Reply;
 
@@ -130,14 +130,4 @@ fn list_first(alloc: Global, ties: &[Member<Constraint>]) -> Result<Vec<u32>, Re
         slots.push(ties[place].movers.first)?;
     }
     Ok(slots)
-}
-
-/// Whether a mover is in the slot.
-fn is_mover_at(bodies: &[Option<Body>], slot: u32) -> bool
-    ensures { result ≡ moves bodies.now slot }
-{
-    match item_at(bodies, slot as usize) {
-        None => false,
-        Some(body) => body.is_mover(),
-    }
 }

@@ -4,7 +4,7 @@ ghost use Rattle.std.specs.Prelude.{◌≡◌, ◌<◌, ◌^◌, cond, pos, unsi
 ghost use Rattle.shapes.specs.Shapes.{is_between};
 ghost use Rattle.world_rules.specs.Apply.{Answers, apply_gravity, apply_step};
 
-use super::{MAX_GRAVITY, MAX_TICKS, WorldCore};
+use super::{MAX_GRAVITY, WorldCore};
 use crate::booking::record_step;
 use crate::preparing::prepare;
 use crate::sleep_phase::rest_ready;
@@ -12,13 +12,14 @@ use crate::solving::solve;
 use crate::turning::carry_out;
 use colour_solver::StepSolver;
 use fixed_geom::{Refusal, Vec2, is_within};
-use world_rules::Reply;
+use shapes::is_between;
+use world_rules::{MAX_TICKS, Reply};
 
 /// Whether a step may take so many ticks: 1 to 8.
 pub fn is_tick_count(ticks: i64) -> bool
     ensures { result ≡ is_between (pos 1) (pos 8) ticks }
 {
-    ticks >= 1 && ticks <= MAX_TICKS
+    is_between(1, MAX_TICKS, ticks)
 }
 
 /// How many ticks a step takes: refused 5 outside 1 to 8.

@@ -2,9 +2,9 @@ use Rattle.std.proofs.Common.{rules, subst, sym}
 use Rattle.std.proofs.lemmas.Int.{to_z-of_z}
 use Rattle.std.specs.Int.{w64}
 use mir.Val.{SFits}
-use Rattle.momenta.specs.Line64.{ends_with}
+use Rattle.momenta.specs.Line64.{both_ends, ends_with}
 use Rattle.colour_solver_base.specs.Rows.{point_solved}
-use Rattle.colour_solver_base.specs.Row64.{HasPointRoom64, both_ends, with_point_impulses}
+use Rattle.colour_solver_base.specs.Row64.{HasPointRoom64, with_point_impulses}
 use Rattle.colour_solver_base.proofs.Laws64.{after_own, second_room}
 use Rattle.colour_solver_base.proofs.row_64.solve_row_64.Goals as goal
 

@@ -26,7 +26,7 @@ done_none g c =
     let pairs = g.F.ForbiddenPairs.pairs c.args.forbidden.now in
     let ps = g.S.ShapesByName.proxies c.args.shapes.now in
     let moved = moved_by c.args.marks.now in
-    done_long moved pairs ps c.args.old.now _ _ c.args.fresh.now _ _ c.requires.shapes c.ascend.ensures.long c.ascend.ensures.short c.ascend.ensures.contacts c.requires.known c.requires.fresh c.in_ok-touches.ensures.looked
+    done_long moved pairs ps c.args.old.now _ _ c.args.fresh.now _ _ c.requires.shapes c.know_ascending.ensures.long c.know_ascending.ensures.short c.know_ascending.ensures.contacts c.requires.known c.requires.fresh c.in_ok-touches.ensures.looked
     (rebuilt_none moved pairs ps c.args.old.now.short c.short.result.now c.args.fresh.now _ c.short.ensures.value c.in-None.is c.in_ok-rebuilt.ensures.rebuilt)
 
 pub returns-in-None-clause-due : goal.returns-in-None-clause-due
@@ -51,7 +51,7 @@ is_new g c = rebuilt_some (moved_by c.args.marks.now) (g.F.ForbiddenPairs.pairs 
 
 both_ascend : (g : Given.Over) (c : goal.Joined-due-3 g) → AreBothAscending c.in_ok-touches.touches.begin.items c.in_ok-touches.touches.end.items c.in-Some.rebuilt.touches.begin.items c.in-Some.rebuilt.touches.end.items
 both_ascend g c =
-    touches_ascend (moved_by c.args.marks.now) (g.F.ForbiddenPairs.pairs c.args.forbidden.now) (g.S.ShapesByName.proxies c.args.shapes.now) c.args.old.now _ _ c.args.fresh.now _ _ _ _ _ c.requires.shapes c.ascend.ensures.long c.ascend.ensures.short c.requires.fresh c.in_ok-touches.ensures.looked (is_new g c)
+    touches_ascend (moved_by c.args.marks.now) (g.F.ForbiddenPairs.pairs c.args.forbidden.now) (g.S.ShapesByName.proxies c.args.shapes.now) c.args.old.now _ _ c.args.fresh.now _ _ _ _ _ c.requires.shapes c.know_ascending.ensures.long c.know_ascending.ensures.short c.requires.fresh c.in_ok-touches.ensures.looked (is_new g c)
 
 pub join_touches-requires-clause-long_begin : goal.join_touches-requires-clause-long_begin
 join_touches-requires-clause-long_begin g c = (both_ascend g c).first
@@ -76,7 +76,7 @@ done_some g c =
     let new : IsRebuilt moved pairs ps c.args.old.now.short c.args.fresh.now c.in-Some.rebuilt.all.items c.in-Some.rebuilt.touches.begin.items c.in-Some.rebuilt.touches.end.items =
     rebuilt_some moved pairs ps c.args.old.now.short c.short.result.now c.args.fresh.now _ c.in-Some.rebuilt c.short.ensures.value c.in-Some.is c.in_ok-rebuilt.ensures.rebuilt in
     if_ok_both _ _ (λ (t : Touches). IsJoined g c t) c.join_touches.result (λ t b e.
-    done_both moved pairs ps c.args.old.now _ _ (Some c.in-Some.rebuilt.all.items) c.args.fresh.now c.in-Some.rebuilt.all.items _ _ _ _ t.begin.items t.end.items c.requires.shapes c.ascend.ensures.contacts c.requires.known c.requires.fresh c.in_ok-touches.ensures.looked new refl b e) c.join_touches.ensures.begin c.join_touches.ensures.end
+    done_both moved pairs ps c.args.old.now _ _ (Some c.in-Some.rebuilt.all.items) c.args.fresh.now c.in-Some.rebuilt.all.items _ _ _ _ t.begin.items t.end.items c.requires.shapes c.know_ascending.ensures.contacts c.requires.known c.requires.fresh c.in_ok-touches.ensures.looked new refl b e) c.join_touches.ensures.begin c.join_touches.ensures.end
 
 pub returns-in-Some-clause-due : goal.returns-in-Some-clause-due
 returns-in-Some-clause-due g c = on_ok_by _ _ c.join_touches.result (λ t d. due_from _ _ _ _ _ _ refl d) (done_some g c)

@@ -6,8 +6,8 @@ use Rattle.crew_solver.proofs.PassLaws.{bodies_worked, given_is_small, lengths_w
 use Rattle.crew_solver.proofs.PutLaws.{within_all}
 use Rattle.crew_solver.proofs.pass.pass_pieces.Goals as goal
 
-pub rows_stand-requires-2 : goal.rows_stand-requires-2
-rows_stand-requires-2 g c =
+pub know_rows_stand-requires-2 : goal.know_rows_stand-requires-2
+know_rows_stand-requires-2 g c =
     let ss = c.args.states.now.items in
     let all = bodies_worked g.R.Row.slots (g.T.Turn.turn c.args.turn) ss (length ss) c.args.pieces.now.items c.requires.bodies in
     let long : c.len-2.result ≡ length ss = search rules in
@@ -32,8 +32,8 @@ put_pieces-requires-clause-small g c =
     let ss = c.args.states.now.items in
     let first_long : c.len.result ≡ length ss = search rules in
     let long : c.len-2.result ≡ length ss = search rules in
-    let on : AreRowsOn at is (length ss) (rows_in c.args.pieces.now.items) = rw (c.as_slice.ensures.value, first_long) at c.rows_stand.ensures.rows in
-    let below : AreRowsOn at is (length ss) (rows_in c.turn_pieces.new.pieces.items) = rw (c.as_slice-2.ensures.value, long) at c.rows_stand-2.ensures.rows in
+    let on : AreRowsOn at is (length ss) (rows_in c.args.pieces.now.items) = rw (c.as_slice.ensures.value, first_long) at c.know_rows_stand.ensures.rows in
+    let below : AreRowsOn at is (length ss) (rows_in c.turn_pieces.new.pieces.items) = rw (c.as_slice-2.ensures.value, long) at c.know_rows_stand-2.ensures.rows in
     rw c.as_slice-3.ensures.value (pieces_small at (g.T.Turn.turn c.args.turn) ss is c.requires.lawful c.requires.states c.args.pieces.now.items c.turn_pieces.new.pieces.items c.turn_pieces.new.states.items c.turn_pieces.ensures.pieces c.turn_pieces.ensures.states c.requires.few on below c.requires.colour)
 
 pub returns-clause-passed : goal.returns-clause-passed
@@ -43,8 +43,8 @@ returns-clause-passed g c =
     let ss = c.args.states.now.items in
     let first_long : c.len.result ≡ length ss = search rules in
     let long : c.len-2.result ≡ length ss = search rules in
-    let on : AreRowsOn at is (length ss) (rows_in c.args.pieces.now.items) = rw (c.as_slice.ensures.value, first_long) at c.rows_stand.ensures.rows in
-    let below : AreRowsOn at is (length ss) (rows_in c.turn_pieces.new.pieces.items) = rw (c.as_slice-2.ensures.value, long) at c.rows_stand-2.ensures.rows in
+    let on : AreRowsOn at is (length ss) (rows_in c.args.pieces.now.items) = rw (c.as_slice.ensures.value, first_long) at c.know_rows_stand.ensures.rows in
+    let below : AreRowsOn at is (length ss) (rows_in c.turn_pieces.new.pieces.items) = rw (c.as_slice-2.ensures.value, long) at c.know_rows_stand-2.ensures.rows in
     pieces_passed at (g.T.Turn.turn c.args.turn) ss is c.requires.lawful c.requires.states c.args.pieces.now.items c.turn_pieces.new.pieces.items c.turn_pieces.new.states.items c.put_pieces.new.states.items (as_vector c.put_pieces.result)
     c.turn_pieces.ensures.pieces c.turn_pieces.ensures.states on below c.requires.colour (rw c.as_slice-3.ensures.value at c.put_pieces.ensures.states) (rw c.as_slice-3.ensures.value at c.put_pieces.ensures.given)
 

@@ -10,7 +10,8 @@ use Rattle.momenta.specs.declared.line.Line.{Line}
 use Rattle.joint_rows.specs.declared.joint.Joint.{Joint}
 use Rattle.joint_rows.specs.declared.row.JointBodies.{JointBodies}
 use Rattle.joint_rows.specs.declared.row.JointRow.{JointRow}
-use Rattle.joint_rows.specs.Joints.{arm, direction_along, gap, joint_gap, line_along}
+use Rattle.joint_rows.specs.Joints.{arm, direction_along, gap, joint_gap}
+use Rattle.momenta.specs.Impulses.{line_along}
 use Rattle.joint_rows.specs.Rows.{joint_row}
 use Rattle.joint_rows.proofs.row.joint_row.Goals as goal
 

@@ -1,6 +1,7 @@
-use Rattle.std.proofs.Common.{◌≡◌, drop}
-use Rattle.sleep_wake.specs.Sleeping.{names_from, names_of}
+use Rattle.std.proofs.Common.{◌≡◌, ◌++◌, drop}
+use Rattle.std.specs.List.{filter_map}
+use Rattle.sleep_wake.specs.Sleeping.{name_at}
 use Rattle.sleep_wake.proofs.names.list_names.Given as goal
 
 abbrev pub invariant-loop-place : goal.invariant-loop-place
-invariant-loop-place l = names_from l.islands.labels l.names.items (drop l.place l.slots) ≡ names_of l.islands.labels l.slots
+invariant-loop-place l = (l.names.items ++ filter_map (name_at l.islands.labels) (drop l.place l.slots)) ≡ filter_map (name_at l.islands.labels) l.slots

@@ -5,7 +5,7 @@ use Rattle.solver_sets.proofs.AnchoredAtLaws.{looked_up, with_all, with_next}
 use Rattle.solver_sets.proofs.anchored_at.look_up.Goals as goal
 
 pub loop-place-preserved : goal.loop-place-preserved
-loop-place-preserved c = with_next c.args.slot c.args.sets.now.acting.ties c.as_slice-listed.result.now c.loop-place.place _ 0 _ _ _ _ c.loop-place-test.true refl c.tie_with.ensures c.in_ok-push_tie.ensures.pushed c.loop-place.invariant
+loop-place-preserved c = with_next c.args.slot c.args.sets.now.acting.ties c.as_slice-listed.result.now c.loop-place.place _ 0 _ _ _ _ c.loop-place-test.true refl c.tie_with.ensures c.in_ok-push_some.ensures.pushed c.loop-place.invariant
 
 pub returns-clause-value : goal.returns-clause-value
 returns-clause-value c =

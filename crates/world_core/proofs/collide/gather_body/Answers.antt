@@ -14,14 +14,9 @@ push-requires-clause-proxy c =
     let few : length c.as_slice-defs.result.now ≤ 8 = rw c.as_slice-defs.ensures (eight_at_most _ _ c.requires.body.shapes) in
     let forms : All IsShapeDef c.as_slice-defs.result.now = rw c.as_slice-defs.ensures c.requires.body.forms in
     let pose : IsPose c.pose-pose.result = rw c.pose-pose.ensures (record { x = c.requires.body.motion.x; rot = c.requires.body.motion.facing }) in
-    record { shape = (forms c.loop-index.index _ c.loop-index-test.true).shape; pose = pose; surface = c.surface_of.ensures.surface; slot = c.requires.slot; index = omega (arith, few) }
+    record { shape = (forms c.loop-index.index _ c.loop-index-test.true).shape; pose = pose; surface = c.surface_of.ensures.surface (forms c.loop-index.index _ c.loop-index-test.true); slot = c.requires.slot; index = omega (arith, few) }
 
 pub returns-clause-before : goal.returns-clause-before
 returns-clause-before c =
     let few : length c.as_slice-defs.result.now ≤ 8 = rw c.as_slice-defs.ensures (eight_at_most _ _ c.requires.body.shapes) in
     λ k d h. let before = c.loop-index.invariant.before k d h in omega (arith, before, few)
-
-pub surface_of-requires : goal.surface_of-requires
-surface_of-requires c =
-    let forms : All IsShapeDef c.as_slice-defs.result.now = rw c.as_slice-defs.ensures c.requires.body.forms in
-    forms c.loop-index.index _ c.loop-index-test.true

@@ -27,7 +27,7 @@ gather_rows-requires-clause-all_states g c = rw c.states.ensures (states-all c.a
 pub gather_rows-requires-clause-contacts : goal.gather_rows-requires-clause-contacts
 gather_rows-requires-clause-contacts g c =
     rw c.states.ensures
-    (contacts_on c.args.bodies.now.bodies (contacts_in c.split-kept.result.now) c.ascend.ensures.contacts (subst (λ (es : List ContactEntry). AreContactsOf c.args.bodies.now.bodies es) (sym c.split-kept.ensures) c.requires.can.pairs))
+    (contacts_on c.args.bodies.now.bodies (contacts_in c.split-kept.result.now) c.know_ascending.ensures.contacts (subst (λ (es : List ContactEntry). AreContactsOf c.args.bodies.now.bodies es) (sym c.split-kept.ensures) c.requires.can.pairs))
 
 -- no two rows of a colour share a mover
 pub run-sums-requires-clause-apart : goal.run-sums-requires-clause-apart

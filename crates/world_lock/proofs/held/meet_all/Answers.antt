@@ -1,4 +1,4 @@
-use Rattle.std.proofs.Common.{◌≡◌, ◌∷◌, [], ◌++◌, length, ◌<◌, ℕ, refl, subst, rules, ◌∙◌, List}
+use Rattle.std.proofs.Common.{◌≡◌, ◌∷◌, [], ◌++◌, length, ◌<◌, refl, subst, rules, ◌∙◌, List}
 use Rattle.seat_book.specs.History.{IsPast}
 use Rattle.world_lock.specs.Journals.{Line}
 use Rattle.world_lock.specs.Histories.{IsPastFor, Known}
@@ -12,7 +12,7 @@ loop-seat-preserved g c =
     let k = c.in-Some.seat in
     let met : IsPast k.seat k.seen c.loop-seat.keeper = subst (λ (p : Known). IsPast p.seat p.seen c.loop-seat.keeper) c.seat.view_is c.meet.ensures.past in
     let here : IsPast k.seat k.seen c.args.keeper.now = subst (λ (h : List Line). IsPast k.seat k.seen h) i.0 met in
-    let seated : k.seat < g.N.Named.seats = subst (λ (n : ℕ). n < g.N.Named.seats) c.number.ensures.seat c.number.ensures.range in (
+    let seated : k.seat < g.N.Named.seats = c.know_seated.ensures in (
       c.meet.ensures.history ∙ i.0,
       (i.1.0 ++ k ∷ [], one_more _ _ _ _ _ _ i.1.1 s.0 refl, all_push (IsPastFor g.N.Named.seats c.args.keeper.now) i.1.0 k i.1.2 (record { seated = seated; past = here })),
     )

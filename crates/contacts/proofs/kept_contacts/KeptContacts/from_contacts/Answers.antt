@@ -4,5 +4,5 @@ use Rattle.contacts.proofs.kept_contacts.KeptContacts.from_contacts.Goals as goa
 pub invariant_of-result : goal.invariant_of-result
 invariant_of-result c = record {
   held = c.nothing_beside.ensures c.in_ok-contacts.contacts.long;
-  due = nothing_is_due c.new.result c.in_ok-contacts.contacts c.new.ensures.nothing c.ascend.ensures.contacts;
+  due = nothing_is_due c.new.result c.in_ok-contacts.contacts c.new.ensures.nothing c.know_ascending.ensures.contacts;
 }

@@ -60,7 +60,7 @@ invariant_of-self-2 c =
     let calls : c.self.inside.calls < 2 ^ 40 = rw (← c.self.view_is) at c.requires in
     let free : lowest c.self.inside.handles.places < MAX_SLOTS = rw (c.in_ok-handle.ensures.slot, c.in_ok-reserve_one.ensures.kept) at c.in_ok-handle.ensures.slot_below in
     let body : IsBody (made c.args.def.now) = rw c.in_ok-body.ensures.made at c.in_ok-body.ensures.body in
-    let filters : HaveFilters c.args.def.now.shapes = rw c.as_slice.ensures at c.filters_fit.ensures in
+    let filters : HaveFilters c.args.def.now.shapes = rw c.as_slice.ensures at c.know_filters_fit.ensures in
     core_bodies (the_view c.self.inside) _ _ _ c.self.inside.bodies c.put.new.self c.self.invariant
     (rw (c.widen.ensures.acting, c.come.ensures.acting, c.is_mover.ensures, c.in_ok-handle.ensures.given_out, c.put.ensures.bodies, c.in_ok-handle.ensures.slot, c.in_ok-reserve_one.ensures.kept, c.in_ok-body.ensures.made, c.in_ok-reserve_one-2.ensures.bodies, c.in_ok-reserve.ensures.acting)
     (whole w _ _ _ (create_left w c.self.inside.sets.acting c.args.def.now (kept_of _ _ c.self.invariant.whole) c.self.invariant.whole.same calls free body filters)))
@@ -75,7 +75,7 @@ returns c =
     let calls : c.self.inside.calls < 2 ^ 40 = rw (← c.self.view_is) at c.requires in
     let free : lowest c.self.inside.handles.places < MAX_SLOTS = rw (c.in_ok-handle.ensures.slot, c.in_ok-reserve_one.ensures.kept) at c.in_ok-handle.ensures.slot_below in
     let body : IsBody (made c.args.def.now) = rw c.in_ok-body.ensures.made at c.in_ok-body.ensures.body in
-    let filters : HaveFilters c.args.def.now.shapes = rw c.as_slice.ensures at c.filters_fit.ensures in
+    let filters : HaveFilters c.args.def.now.shapes = rw c.as_slice.ensures at c.know_filters_fit.ensures in
     let slot = rw c.in_ok-reserve_one.ensures.kept at c.in_ok-handle.ensures.slot in
     let generation = rw c.in_ok-reserve_one.ensures.kept at c.in_ok-handle.ensures.generation in
     rw (← c.self.view_is)
