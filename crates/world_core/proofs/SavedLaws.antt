@@ -10,7 +10,8 @@ use Rattle.world_file.proofs.BackWhole.{what_is_written_is_read_again}
 use Rattle.world_file.specs.Laws.{HasSmallTotals, totals_in}
 use Rattle.world_core.specs.SavedAgain.{ComesBack, IsReadAs}
 use Rattle.world_file.specs.Answers.{IsRefusedBy}
-use Rattle.world_file.specs.Files.{broken_by, read_of, read_unless, value_of}
+use Rattle.world_file.specs.Clauses.{first_broken}
+use Rattle.world_file.specs.Files.{read_of, read_unless, value_of}
 use Rattle.world_file.specs.Saved.{Saved, saved_in}
 use Rattle.world_rules.specs.Settled.{settled_world}
 use Rattle.world_rules.specs.Sound.{IsSound}
@@ -22,9 +23,9 @@ none_broken : (o : Option Clause) (s : Saved) (r : Plain × Totals) → read_unl
 none_broken None s r e = refl
 none_broken (Some clause) s r e = cc
 
-unbroken : (d : Data) (r : Plain × Totals) → read_of d ≡ Ok r → broken_by d ≡ None
+unbroken : (d : Data) (r : Plain × Totals) → read_of d ≡ Ok r → first_broken d ≡ None
 unfolding read_of
-unbroken d r e = none_broken (broken_by d) (saved_in d) r e
+unbroken d r e = none_broken (first_broken d) (saved_in d) r e
 
 read_as : (w : World) (d : Data) → IsSound w → HasSmallTotals w → d ≡ value_of w.plain (totals_in w) → IsReadAs w d
 read_as w d sound small saved =

@@ -4,7 +4,8 @@ use Rattle.serde_json.specs.Data.{Data}
 use Rattle.world_file_base.specs.declared.clause.Broken.{Broken}
 use Rattle.world_file_base.specs.declared.clause.Broken.TheVariants.{NoMemory}
 use Rattle.world_file.specs.Laws.{HasSmallTotals, totals_in}
-use Rattle.world_file.specs.Files.{broken_by, read_of, value_of}
+use Rattle.world_file.specs.Clauses.{first_broken}
+use Rattle.world_file.specs.Files.{read_of, value_of}
 use Rattle.world_rules.specs.Settled.{settled_world}
 use Rattle.world_rules.specs.Sound.{IsSound}
 use Rattle.world_rules.specs.World.{World}
@@ -15,7 +16,7 @@ kept_of w = settled_world w.plain (totals_in w)
 
 -- the value breaks no clause, and what is read of it is this world, but for entries and events
 pub record IsReadAs (w : World) (d : Data) : Type 0 where
-  pub unbroken : broken_by d ≡ None
+  pub unbroken : first_broken d ≡ None
   pub read : read_of d ≡ Ok (w.plain, totals_in w)
 
 -- a call has made this world, or memory was wanting

@@ -1,5 +1,5 @@
 -- The parts that are written of a sound world fit together, and make that world again.
-use Rattle.std.proofs.Common.{◌≡◌, Bool, true, false, List, [], ◌∷◌, map, Option, None, Contains, ℤ, int_eq, refl, sym, ap₂, ◌∙◌, subst}
+use Rattle.std.proofs.Common.{◌≡◌, Bool, true, false, List, [], ◌∷◌, map, Option, None, Contains, ℤ, int_eq, refl, sym, ap, ap₂, ◌∙◌, subst}
 use Rattle.std.specs.List.{list_all}
 use Rattle.std.proofs.lemmas.Bool.Decides.{Decides-int_eq}
 use Rattle.contacts.proofs.Members.{Each, IsIn, contains_from_in, in_from_contains}
@@ -18,7 +18,7 @@ use Rattle.islands.specs.Partition.{AreIslands}
 use Rattle.plain_world.specs.Momentum.{momentum}
 use Rattle.plain_world.specs.Plain.{colour_of}
 use Rattle.plain_world.specs.declared.joint.BodyJoint.{BodyJoint}
-use Rattle.world_file_base.specs.Asks.{asked}
+use Rattle.world_file_base.specs.Asks.{asked, no_asks}
 use Rattle.world_file_base.specs.declared.clause.Clause.{Clause}
 use Rattle.world_file_base.specs.declared.clause.Clause.TheVariants.{Colours, Islands, Links, Memberships, Momentum, References}
 use Rattle.world_file_base.specs.declared.reader.Reader.{Reader}
@@ -42,6 +42,7 @@ use Rattle.world_file.specs.Laws.{WhatIsWrittenFits, totals_in}
 use Rattle.world_file.proofs.AgainColours.{AreActing, AreGiven, apart_again, colours_again, contact_lone, contacts_colourless, joint_lone, joints_colourless, lone, ties_named, touching_tie, well_again}
 use Rattle.world_file.proofs.AgainIslands.{component_labelled, named_again, tie_kept, whole_again}
 use Rattle.world_file.proofs.AgainParts.{both_hold, contacts_again, contacts_fit, each_from_all, each_pass, joints_again, joints_fit, keys_rise, labels_again}
+use Rattle.world_file.proofs.FirstBroken.{found_unfit}
 use Rattle.world_file.proofs.ReadParts.{AreFitting}
 use Rattle.world_file.proofs.SavedTies.{DoesTouch, ties_are}
 
@@ -188,4 +189,7 @@ plain_again w h = λ i. record {
 }
 
 pub what_is_written_fits : WhatIsWrittenFits
-what_is_written_fits w h = record { plain = plain_again w h; asks = fitting_holds (saved w) (fits w h) }
+what_is_written_fits w h = record {
+  plain = plain_again w h;
+  fit = sym (found_unfit (saved w)) ∙ ap (λ (r : Reader). r.broken) (fitting_holds (saved w) (fits w h) no_asks);
+}

@@ -47,7 +47,8 @@ use Rattle.solver_sets.specs.Ties.{is_mover_in}
 use Rattle.solver_sets.proofs.SlotLemmas.{below_length}
 use Rattle.solver_sets.specs.Ties.{Lists, members_of}
 use Rattle.world_core_base.specs.Gather.{IsContactOf}
-use Rattle.world_file.specs.Files.{broken_by, plain_of, read_of, read_unless, value_of}
+use Rattle.world_file.specs.Clauses.{first_broken, first_unfit}
+use Rattle.world_file.specs.Files.{plain_of, read_of, read_unless, value_of}
 use Rattle.world_file.specs.Fitting.{fitting_asks}
 use Rattle.world_file.specs.Saved.{Saved, calls_in, heads_asks, most_calls, parts_asks, saved_in, slow_ticks, steps_in}
 use Rattle.world_rules.specs.Sound.{HasBodies, IsSound}
@@ -61,6 +62,7 @@ use Rattle.world_file.proofs.BackNumbers.{asked_true, unsigned_back, within_back
 use Rattle.world_file.proofs.BackParts.{AreContactsBack, AreSmallTotals, IsContactWritten, IsJointWritten, contacts_back, totals_back}
 use Rattle.world_file.proofs.BackSlots.{AreBodiesBack, AreBodiesWritten, AreJointsBack, AreJointsWritten, OnJointWritten, OnWritten, bodies_back, joints_back}
 use Rattle.world_file.proofs.ContactAsks.{IsColour}
+use Rattle.world_file.proofs.FirstBroken.{asking_finds_the_first, found_unfit}
 use Rattle.world_file.proofs.ReadParts.{IsSmallTotal}
 use Rattle.world_file.proofs.PointAsks.{OnPoint}
 
@@ -253,6 +255,13 @@ written_back w h small =
     (contacts_back w.plain.colours w.plain.contacts (contacts_written w h w.plain.contacts (each_from_all (IsContactOf w.plain.bodies) w.plain.contacts h.formed.pairs) (each_from_all (HasBodies w.plain.bodies) w.plain.contacts h.formed.there)))
     (small_totals w small) h.formed.gravity h.formed.steps h.formed.calls h.formed.matched.few h.formed.joint_slots.few
 
+unbroken : (p : Plain) (t : Totals) → IsWholeBack p t → first_unfit (saved_of p t) ≡ None → first_broken (value_of p t) ≡ None
+unbroken p t back fit =
+    sym (asking_finds_the_first (value_of p t))
+    ∙ ap₂ (λ (s : Saved) (r : Reader). (fitting_asks s r).broken) back.saved (back.asks no_asks)
+    ∙ found_unfit (saved_of p t)
+    ∙ fit
+
 read_back : (o : Option Clause) (s : Saved) (p : Plain) (t : Totals) → o ≡ None → plain_of s ≡ p → s.totals ≡ t → read_unless o s ≡ Ok (p, t)
 read_back None s p t e f g = ap₂ (λ (x : Plain) (y : Totals). Ok (x, y)) f g
 read_back (Some clause) s p t e f g = cc
@@ -263,5 +272,4 @@ what_is_written_is_read_again w h small =
     let d : Data = value_of w.plain (totals_in w) in
     let back = written_back w h small in
     let made = what_is_written_fits w h in
-    let unbroken : broken_by d ≡ None = ap (λ (r : Reader). r.broken) (ap₂ (λ (s : Saved) (r : Reader). fitting_asks s r) back.saved (back.asks no_asks) ∙ made.asks no_asks) in
-    read_back (broken_by d) (saved_in d) w.plain (totals_in w) unbroken (ap (λ (s : Saved). plain_of s) back.saved ∙ made.plain) (ap (λ (s : Saved). s.totals) back.saved)
+    read_back (first_broken d) (saved_in d) w.plain (totals_in w) (unbroken w.plain (totals_in w) back made.fit) (ap (λ (s : Saved). plain_of s) back.saved ∙ made.plain) (ap (λ (s : Saved). s.totals) back.saved)

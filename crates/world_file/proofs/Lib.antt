@@ -1,5 +1,4 @@
 pub mod Listed
-pub mod EarlyLemmas
 pub mod FewLemmas
 pub mod Apart
 pub mod Numbered
@@ -15,6 +14,9 @@ pub mod ShapeAsks
 pub mod BodyAsks
 pub mod SlotAsks
 pub mod ReadParts
+pub mod TestLaws
+pub mod ClauseTests
+pub mod FirstBroken
 pub mod SavedTies
 pub mod SavedContacts
 pub mod SavedJoints

@@ -37,7 +37,8 @@ use Rattle.solver_sets.specs.Ties as sets
 use Rattle.solver_sets.specs.Ties.{slots_of}
 use Rattle.solver_sets.proofs.ListLaws.{Rises, in_mapped, mapped_in, pairs_from_rises, rises_from_pairs}
 use Rattle.solver_sets.proofs.TieLaws.{tie_number}
-use Rattle.world_file.specs.Files.{broken_by, plain_of, read_of, read_unless}
+use Rattle.world_file.specs.Clauses.{first_broken}
+use Rattle.world_file.specs.Files.{plain_of, read_of, read_unless}
 use Rattle.world_file.specs.Fitting.{are_apart, are_joints_colourless, are_rising_after, colours_below, entry_of, ids_below, is_coloured_well, is_contact_colourless, is_contact_fitting, is_joint_fitting, is_tie_kept, joint_kept, label_of, members_of, membership_at, ties_of}
 use Rattle.world_file.specs.Saved.{Saved, parts_asks, saved_in}
 use Rattle.world_file.specs.declared.ties.Tie.{Tie}
@@ -49,6 +50,7 @@ use Rattle.world_rules.proofs.LowerLaws.{lists_are_members, ties_have_labels, ti
 use Rattle.world_rules.proofs.SoundLaws.{IsKept, sound_kept}
 use Rattle.world_file.specs.Laws.{WhatIsReadIsSound}
 use Rattle.world_file.proofs.BodyAsks.{IsSavedBody}
+use Rattle.world_file.proofs.FirstBroken.{asking_finds_the_first}
 use Rattle.world_file.proofs.ReadParts.{AreFitting, HasParts, tells_fitting, tells_parts}
 use Rattle.world_file.proofs.SavedColours.{IsTie, acting_is, colouring_is, ids_are, lists_are_ties, saved_lists}
 use Rattle.world_file.proofs.SavedContacts.{IsFittingContact, contacts_of, contacts_rise, contacts_there, fitting_each, touching_each}
@@ -283,8 +285,8 @@ pub record HasRead (d : Data) (p : Plain) (t : Totals) : Type 0 where
 pub has_read : (d : Data) (p : Plain) (t : Totals) → read_of d ≡ Ok (p, t) → HasRead d p t
 unfolding read_of
 has_read d p t e =
-    let o = read_by (broken_by d) (saved_in d) p t e in
-    let whole = tells_fitting (saved_in d) (parts_asks d no_asks) o.unbroken in
+    let o = read_by (first_broken d) (saved_in d) p t e in
+    let whole = tells_fitting (saved_in d) (parts_asks d no_asks) (asking_finds_the_first d ∙ o.unbroken) in
     let parts = tells_parts d no_asks whole.1 in
     record { parts = parts.0; fitting = whole.0; plain = o.plain; totals = o.totals }
 

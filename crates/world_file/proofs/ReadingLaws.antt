@@ -11,10 +11,12 @@ use Rattle.world_file_base.specs.declared.clause.Broken.TheVariants as broken
 use Rattle.world_file_base.specs.declared.clause.Clause.{Clause}
 use Rattle.world_file_base.specs.declared.clause.Clause.TheVariants.{Generations, References, Memberships, Links, Islands, Colours, Momentum}
 use Rattle.world_file_base.specs.declared.reader.Reader.{Reader}
-use Rattle.world_file.specs.Answers.{IsBrokenBy, IsRefusedBy, others_asks}
-use Rattle.world_file.specs.Files.{broken_by, plain_of, read_of, read_unless}
+use Rattle.world_file.specs.Answers.{IsBrokenBy, IsRefusedBy, found_broken, others_asks}
+use Rattle.world_file.specs.Clauses.{first_unfit}
+use Rattle.world_file.specs.Files.{plain_of, read_of, read_unless}
 use Rattle.world_file.specs.Fitting.{fitting_asks, references_keep}
 use Rattle.world_file.specs.Saved.{Saved, parts_asks, saved_in}
+use Rattle.world_file.proofs.FirstBroken.{asking_finds_the_first, found_unfit}
 
 -- a clause that is due was found broken, and is none behind the last
 due_by : (last clause other : Clause) → due_of last (Some other) ≡ Some clause → (Some other ≡ Some clause) × (clause_number clause ≤ clause_number last)
@@ -63,31 +65,40 @@ refused_first s r then e is w =
     rw w.1 here
 
 -- a reading that ends before the parts are held against one another
-pub refused_early : (d : Data) (then : Reader) (e : Broken) → then ≡ parts_asks d no_asks → (clause : Clause) × (e ≡ broken.Clause clause) × (due_of Generations then.broken ≡ Some clause) → IsBrokenBy (broken_by d) e
+pub refused_early : (d : Data) (then : Reader) (e : Broken) → then ≡ parts_asks d no_asks → (clause : Clause) × (e ≡ broken.Clause clause) × (due_of Generations then.broken ≡ Some clause) → IsBrokenBy (found_broken d) e
 refused_early d then e is w =
     let due : (then.broken ≡ Some w.0) × (clause_number w.0 ≤ 3) = due_is Generations w.0 then.broken w.2 in
     let stays : (fitting_asks (saved_in d) then).broken ≡ Some w.0 = fitting_stays (saved_in d) w.0 then due.0 due.1 in
-    let here : broken_by d ≡ Some w.0 = ap (λ (q : Reader). (fitting_asks (saved_in d) q).broken) (sym is) ∙ stays in
+    let here : found_broken d ≡ Some w.0 = ap (λ (q : Reader). (fitting_asks (saved_in d) q).broken) (sym is) ∙ stays in
     rw w.1 here
+
+-- what breaks a clause of those that the parts keep together
+pub unfit_by : (s : Saved) (r : Reader) (e : Broken) → r ≡ no_asks → IsBrokenBy (fitting_asks s r).broken e → IsBrokenBy (first_unfit s) e
+unfit_by s r e fresh by =
+    let same : (fitting_asks s r).broken ≡ first_unfit s = ap (λ (q : Reader). (fitting_asks s q).broken) fresh ∙ found_unfit s in
+    subst (λ (o : Option Clause). IsBrokenBy o e) same by
 
 -- ---- what is answered
 
 pub read_ok : (d : Data) (s : Saved) → s ≡ saved_in d → (fitting_asks s (parts_asks d no_asks)).broken ≡ None → read_of d ≡ Ok (plain_of s, s.totals)
 unfolding read_of
-read_ok d s is none = ap (λ (x : Saved). read_unless (fitting_asks x (parts_asks d no_asks)).broken x) (sym is) ∙ ap (λ o. read_unless o s) none
+read_ok d s is none =
+    ap (λ o. read_unless o (saved_in d)) (sym (asking_finds_the_first d))
+    ∙ ap (λ (x : Saved). read_unless (fitting_asks x (parts_asks d no_asks)).broken x) (sym is)
+    ∙ ap (λ o. read_unless o s) none
 
-read_err : (d : Data) (clause : Clause) → broken_by d ≡ Some clause → read_of d ≡ Err clause
+read_err : (d : Data) (clause : Clause) → found_broken d ≡ Some clause → read_of d ≡ Err clause
 unfolding read_of
-read_err d clause is = ap (λ o. read_unless o (saved_in d)) is
+read_err d clause is = ap (λ o. read_unless o (saved_in d)) (sym (asking_finds_the_first d) ∙ is)
 
-pub refused_by : (d : Data) (e : Broken) → IsBrokenBy (broken_by d) e → IsRefusedBy (read_of d) e
+pub refused_by : (d : Data) (e : Broken) → IsBrokenBy (found_broken d) e → IsRefusedBy (read_of d) e
 refused_by d broken.NoMemory is = tt
 refused_by d (broken.Clause clause) is = read_err d clause is
 
 -- those of what was read, which is the same
 pub refused_as : (d : Data) (s : Saved) (r : Reader) (e : Broken) → s ≡ saved_in d → r ≡ parts_asks d no_asks → IsBrokenBy (fitting_asks s r).broken e → IsRefusedBy (read_of d) e
 refused_as d s r e is asks by =
-    let same : (fitting_asks s r).broken ≡ broken_by d = ap (λ (x : Saved). (fitting_asks x r).broken) is ∙ ap (λ (q : Reader). (fitting_asks (saved_in d) q).broken) asks in
+    let same : (fitting_asks s r).broken ≡ found_broken d = ap (λ (x : Saved). (fitting_asks x r).broken) is ∙ ap (λ (q : Reader). (fitting_asks (saved_in d) q).broken) asks in
     refused_by d e (rw same at by)
 
 pub read_is : (d : Data) (s : Saved) (r start : Reader) → s ≡ saved_in d → r ≡ parts_asks d start → start ≡ no_asks → (fitting_asks s r).broken ≡ None → read_of d ≡ Ok (plain_of s, s.totals)

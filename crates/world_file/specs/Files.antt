@@ -8,14 +8,14 @@ use Rattle.body_handles.specs.declared.places.Place.{Place}
 use Rattle.graph_colours.specs.declared.limits.TheConstants.{COLOURS}
 use Rattle.impulse_ledger.specs.declared.totals.Totals.{Totals}
 use Rattle.plain_world.specs.Plain.{Plain, colour_of}
-use Rattle.world_file_base.specs.Asks.{no_asks}
 use Rattle.world_file_base.specs.Written.{natural, object_of, vector_of}
 use Rattle.world_file_base.specs.declared.clause.Clause.{Clause}
 use Rattle.world_file_base.specs.SavedContacts.{contacts_of}
 use Rattle.world_file_base.specs.SavedSlots.{bodies_of, joints_of}
 use Rattle.world_file_base.specs.SavedTotals.{totals_of}
-use Rattle.world_file.specs.Fitting.{entry_of, fitting_asks, ids_below, joint_kept, label_of, ties_of}
-use Rattle.world_file.specs.Saved.{Saved, parts_asks, saved_in}
+use Rattle.world_file.specs.Clauses.{first_broken}
+use Rattle.world_file.specs.Fitting.{entry_of, ids_below, joint_kept, label_of, ties_of}
+use Rattle.world_file.specs.Saved.{Saved, saved_in}
 
 -- ---- the value of a world
 
@@ -62,14 +62,10 @@ plain_of s = record {
   calls = s.calls;
 }
 
--- the first clause that a value breaks: those of its parts, and then those of the whole
-abbrev pub broken_by : Data → Option Clause
-broken_by d = (fitting_asks (saved_in d) (parts_asks d no_asks)).broken
-
 abbrev pub read_unless : Option Clause → Saved → Result (Plain × Totals) Clause
 read_unless None s = Ok (plain_of s, s.totals)
 read_unless (Some clause) s = Err clause
 
 -- a world and the totals of its ledger, or the first clause that the value breaks
 unfoldable pub read_of : Data → Result (Plain × Totals) Clause
-read_of d = read_unless (broken_by d) (saved_in d)
+read_of d = read_unless (first_broken d) (saved_in d)

@@ -1,17 +1,21 @@
 -- What is known of a world that is read of a value, and of what is written of a world.
-use Rattle.std.specs.Prelude.{◌≡◌, ◌^◌, Ok}
+use Rattle.std.specs.Prelude.{◌≡◌, ◌^◌, None, Ok}
 use Rattle.serde_json.specs.Data.{Data}
 use Rattle.impulse_ledger.specs.Sums.{totals_of}
 use Rattle.impulse_ledger.specs.declared.totals.Totals.{Totals}
 use Rattle.plain_world.specs.Plain.{Plain}
-use Rattle.world_file_base.specs.declared.reader.Reader.{Reader}
+use Rattle.world_file.specs.Answers.{found_broken}
+use Rattle.world_file.specs.Clauses.{first_broken, first_unfit}
 use Rattle.world_file.specs.Files.{plain_of, read_of, value_of}
-use Rattle.world_file.specs.Fitting.{fitting_asks}
 use Rattle.world_rules.specs.Laws.{GoOnTheSame}
 use Rattle.world_rules.specs.Sound.{AreSmall, IsSound}
 use Rattle.world_rules.specs.Settled.{settled_world}
 use Rattle.world_rules.specs.World.{World, book_of}
 use Rattle.world_file.specs.Again.{saved_of}
+
+-- The questions that a reading asks, one after the other, find the first clause that the value breaks.
+abbrev pub AskingFindsTheFirst : Type 0
+AskingFindsTheFirst = (d : Data) → found_broken d ≡ first_broken d
 
 -- A world that is read is sound.
 abbrev pub WhatIsReadIsSound : Type 0
@@ -21,10 +25,10 @@ WhatIsReadIsSound = (d : Data) (p : Plain) (t : Totals) → read_of d ≡ Ok (p,
 abbrev pub totals_in : World → Totals
 totals_in w = totals_of (book_of w)
 
--- the parts that are written of a world make the world again, and nothing is found broken that is asked of them together
+-- the parts that are written of a world make the world again, and break no clause together
 pub record IsMadeAgain (w : World) : Type 0 where
   pub plain : plain_of (saved_of w.plain (totals_in w)) ≡ w.plain
-  pub asks : (r : Reader) → fitting_asks (saved_of w.plain (totals_in w)) r ≡ r
+  pub fit : first_unfit (saved_of w.plain (totals_in w)) ≡ None
 
 -- The parts that are written of a sound world make it again.
 abbrev pub WhatIsWrittenFits : Type 0

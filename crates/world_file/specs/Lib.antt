@@ -1,5 +1,8 @@
 pub mod Saved
 pub mod Fitting
+pub mod SavedForms
+pub mod SavedLimits
+pub mod Clauses
 pub mod Parts
 pub mod Files
 pub mod Marked

@@ -1,6 +1,11 @@
 //! What is known of saved worlds: laws over plain values. These functions do nothing; their contracts are the laws.
 
-ghost use Rattle.world_file.specs.Laws.{WhatIsReadAgainGoesOnTheSame, WhatIsReadHasSmallTotals, WhatIsReadIsSound, WhatIsWrittenFits, WhatIsWrittenIsReadAgain};
+ghost use Rattle.world_file.specs.Laws.{AskingFindsTheFirst, WhatIsReadAgainGoesOnTheSame, WhatIsReadHasSmallTotals, WhatIsReadIsSound, WhatIsWrittenFits, WhatIsWrittenIsReadAgain};
+
+/// The questions that `read` asks one after the other find the first clause of the table that the value breaks.
+pub fn asking_finds_the_first()
+    ensures { AskingFindsTheFirst }
+{}
 
 /// A world that is read of a value, with the totals of its ledger, is sound, and its totals are small, so that it can be written again.
 pub fn what_is_read_is_sound()

@@ -18,7 +18,10 @@ mod ties;
 mod world;
 
 pub use impulse_ledger::Totals;
-pub use laws::{what_is_read_is_sound, what_is_written_fits, what_is_written_is_read_again};
+pub use laws::{
+    asking_finds_the_first, what_is_read_is_sound, what_is_written_fits,
+    what_is_written_is_read_again,
+};
 pub use numbered_colours::{colour_at, colours_by_number, joint_number};
 pub use plain_world::Plain;
 pub use saved_world::Saved;

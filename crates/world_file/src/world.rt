@@ -6,9 +6,9 @@ ghost use Rattle.std.specs.Result.{IsOkUnless};
 ghost use Rattle.serde_json.specs.View.{view};
 ghost use Rattle.graph_colours.specs.declared.limits.TheConstants.{COLOURS as most_colours};
 ghost use Rattle.plain_world.specs.Plain.{constraints_of};
-ghost use Rattle.world_file_base.specs.Asks.{no_asks};
 ghost use Rattle.world_file_base.specs.declared.clause.Broken.TheVariants.{NoMemory};
 ghost use Rattle.world_file.specs.Answers.{IsBrokenBy, IsRefusedBy, others_asks};
+ghost use Rattle.world_file.specs.Clauses.{first_unfit};
 ghost use Rattle.world_file.specs.Files.{plain_of as world_of, read_of, value_of};
 ghost use Rattle.world_file.specs.Fitting.{
   are_joints_colourless,
@@ -236,10 +236,10 @@ pub fn read(alloc: Global, value: &Value) -> Result<(Plain, Totals), Broken>
 pub fn fit(alloc: Global, saved: Saved) -> Result<(Plain, Totals), Broken>
     requires few { length saved.bodies.memberships.items ≤ 2 ^ 32 }
     requires few_joints { length saved.joints.places.items ≤ 2 ^ 32 }
-    ensures keeps { OnOk result ((fitting_asks (parts_of saved) no_asks).broken ≡ None) }
+    ensures keeps { OnOk result (first_unfit (parts_of saved) ≡ None) }
     ensures world { IfOk result (λ fit. fit.0 ≡ world_of (parts_of saved)) }
     ensures totals { IfOk result (λ fit. fit.1 ≡ saved.totals) }
-    ensures refused { IfErr result (λ e. IsBrokenBy (fitting_asks (parts_of saved) no_asks).broken e) }
+    ensures refused { IfErr result (λ e. IsBrokenBy (first_unfit (parts_of saved)) e) }
 {
     let reader = Reader::new();
     let totals = saved.totals;
