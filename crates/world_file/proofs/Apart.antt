@@ -1,16 +1,33 @@
 -- Ties from the last to the first: whose movers are marked, and whether no two of a colour share one.
-use Rattle.std.proofs.Common.{◌≡◌, ℕ, suc, ◌+◌, ◌<◌, ◌&&◌, ◌||◌, Bool, true, false, not, cond, List, ◌∷◌, length, drop, get_or, refl, sym, ap, ◌∙◌, arith, drop-cons}
+use Rattle.std.proofs.Common.{◌≡◌, ℕ, suc, ◌+◌, ◌<◌, ◌&&◌, ◌||◌, Bool, true, false, not, cond, List, [], ◌∷◌, Option, Some, None, length, drop, get_or, refl, sym, ap, ◌∙◌, arith, drop-cons}
 use Rattle.std.specs.Prelude.{slice_index_or}
 use Rattle.std.proofs.lemmas.Bool.{false≢true}
+use Rattle.std.proofs.lemmas.List.Folds.{list_any_none}
 use Rattle.std.specs.List.{list_any}
-use Rattle.graph_colours.specs.Marks.{AreMarks, is_marked}
-use Rattle.graph_colours.specs.Movers.{has_mover}
+use Rattle.graph_colours.specs.Members.{is_free}
+use Rattle.graph_colours.specs.Movers.{has_mover, has_second}
+use Rattle.graph_colours.specs.declared.member.Movers.{Movers}
 use Rattle.graph_colours.specs.declared.member.Member.{Member}
-use Rattle.graph_colours.proofs.MarkLemmas.{free_is_unmarked}
+use Rattle.graph_colours.proofs.Cases.{or_pairs}
 use Rattle.contacts.specs.declared.constraint.Constraint.{Constraint}
 use Rattle.world_file.specs.Fitting.{are_apart, coloured, has_colour}
-use Rattle.world_file.specs.Marked.{IsTieMarked, is_unshared}
+use Rattle.world_file.specs.Marked.{AreMarks, IsTieMarked, is_marked, is_marked_second, is_unshared}
 use Rattle.world_file.specs.declared.ties.Tie.{Tie}
+
+-- a constraint is free where its movers have no marks
+any_or : {X : Type 0} (p q : X → Bool) (xs : List X) → list_any (λ x. p x || q x) xs ≡ (list_any p xs || list_any q xs)
+any_or p q [] = refl
+any_or p q (x ∷ xs) = ap (λ t. (p x || q x) || t) (any_or p q xs) ∙ or_pairs (p x) (q x) (list_any p xs) (list_any q xs)
+
+second_marked : {C : Type 0} (ms : List (Member C)) (used : List Bool) (second : Option ℕ) → AreMarks ms used → list_any (λ m. has_second m.movers second) ms ≡ is_marked_second used second
+second_marked ms used None marks = list_any_none (λ m. false) ms (λ k d lt. refl)
+second_marked ms used (Some s) marks = sym (marks s)
+
+free_is_unmarked : {C : Type 0} (ms : List (Member C)) (used : List Bool) (movers : Movers) → AreMarks ms used → not (is_marked used movers) ≡ is_free ms movers
+unfolding is_free
+free_is_unmarked ms used movers marks =
+    let all : list_any (λ m. has_mover m.movers movers.first || has_second m.movers movers.second) ms ≡ (list_any (λ m. has_mover m.movers movers.first) ms || list_any (λ m. has_second m.movers movers.second) ms) = any_or (λ m. has_mover m.movers movers.first) (λ m. has_second m.movers movers.second) ms in
+    ap not (sym (all ∙ rw (second_marked ms used movers.second marks, marks movers.first) refl))
 
 apart_by : (b : Bool) (t : Tie) (ms : List (Member Constraint)) (used : List Bool) → AreMarks ms used → (cond b (not (is_marked used t.member.movers)) true && are_apart ms) ≡ are_apart (cond b (t.member ∷ ms) ms)
 apart_by true t ms used marks = ap (λ x. x && are_apart ms) (free_is_unmarked ms used t.member.movers marks)

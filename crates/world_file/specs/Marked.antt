@@ -1,18 +1,30 @@
 -- The marks of one colour, and the colours of constraints by their numbers.
-use Rattle.std.specs.Prelude.{◌≡◌, ℕ, suc, ◌==◌, ◌||◌, Bool, true, false, not, cond, List, [], ◌∷◌, map, Option, slice_index_or}
+use Rattle.std.specs.Prelude.{◌≡◌, ℕ, suc, ◌==◌, ◌||◌, Bool, true, false, not, cond, List, [], ◌∷◌, map, Option, Some, None, slice_index_or}
 use Rattle.std.specs.List.{list_any, position}
 use Rattle.body_handles.specs.declared.places.Place.{Place}
 use Rattle.contacts.specs.Constraints.{constraint_number}
 use Rattle.contacts.specs.declared.constraint.Constraint.{Constraint}
 use Rattle.contacts.specs.declared.constraint.Constraint.TheVariants.{Joint, Contact}
 use Rattle.contacts_base.specs.declared.contact.ContactEntry.{ContactEntry}
-use Rattle.graph_colours.specs.Marks.{is_marked}
 use Rattle.graph_colours.specs.Movers.{has_mover}
+use Rattle.graph_colours.specs.declared.member.Member.{Member}
 use Rattle.graph_colours.specs.declared.member.Movers.{Movers}
 use Rattle.world_file.specs.Fitting.{has_colour}
 use Rattle.world_file.specs.declared.ties.Tie.{Tie}
 
 -- ---- marks
+
+-- a slot is marked just where a member has the mover there
+abbrev pub AreMarks : {C : Type 0} → List (Member C) → List Bool → Type 0
+AreMarks ms used = (slot : ℕ) → slice_index_or used slot false ≡ list_any (λ m. has_mover m.movers slot) ms
+
+abbrev pub is_marked_second : List Bool → Option ℕ → Bool
+is_marked_second used None = false
+is_marked_second used (Some slot) = slice_index_or used slot false
+
+-- a mover of the constraint is marked
+abbrev pub is_marked : List Bool → Movers → Bool
+is_marked used movers = slice_index_or used movers.first false || is_marked_second used movers.second
 
 -- the slot is marked, beside those that were
 abbrev pub IsMarkedToo : ℕ → List Bool → List Bool → Type 0

@@ -3,7 +3,6 @@
 ghost use Rattle.std.specs.Prelude.{◌≡◌, ◌≤◌, ◌+◌, ◌++◌, ◌∷◌, [], ℕ, false, nat_eq, length, map, slice_index_or, IfErr, IfOk, OnOk};
 ghost use Rattle.std.specs.List.{list_all};
 ghost use Rattle.std.specs.HashMap.{get};
-ghost use Rattle.graph_colours.specs.Marks.{is_marked};
 ghost use Rattle.graph_colours.specs.declared.limits.TheConstants.{COLOURS as most_colours};
 ghost use Rattle.plain_world.specs.Plain.{constraints_of};
 ghost use Rattle.world_file_base.specs.declared.clause.Broken.TheVariants.{NoMemory};
@@ -14,6 +13,7 @@ ghost use Rattle.world_file.specs.Marked.{
   IsMarkedToo,
   IsTieMarked,
   contact_colours_by,
+  is_marked,
   is_unshared,
   joint_colours_by,
 };

@@ -1,6 +1,6 @@
 use Rattle.std.proofs.Common.{◌≡◌, ◌≤◌, drop, length}
-use Rattle.graph_colours.specs.Marks.{AreMarks}
 use Rattle.world_file.specs.Fitting.{are_apart, coloured}
+use Rattle.world_file.specs.Marked.{AreMarks}
 use Rattle.world_file.proofs.colours.is_colour_apart.Given as goal
 
 abbrev pub invariant-loop-left : goal.invariant-loop-left
