@@ -1,3 +1,4 @@
+pub mod Masses
 pub mod States
 pub mod Passes
 pub mod Turns

@@ -2,7 +2,6 @@
 use Rattle.std.specs.Prelude.{◌≡◌, ℕ, suc, ◌^◌, ◌≤◌, Bool, true, false, cond, not, List, [], ◌∷◌, Some, pos, unsigned_abs, length, slice_get, slice_index_or}
 use Rattle.std.specs.Ordering.{int_eq}
 use Rattle.momenta.specs.declared.gain.Gain.{Gain}
-use Rattle.momenta.specs.declared.mass.MassData.{MassData}
 use Rattle.momenta.specs.declared.state.BodyState.{BodyState}
 use Rattle.momenta.specs.Impulses.{IsState}
 use Rattle.fixed_geom.specs.Vectors.{IsWithin, plus, zero_vector}
@@ -10,14 +9,7 @@ use Rattle.fixed_geom.specs.declared.vectors.Vec2.{Vec2}
 use Rattle.fixed_geom.specs.declared.limits.TheConstants.{MAX_SPIN}
 use Rattle.momenta.specs.declared.limits.TheConstants.{MAX_SPEED}
 use Rattle.momenta.specs.Reciprocals.{reciprocals_of}
-
--- the mass of a body that is carried along: with it the momentum is the velocity itself, and the angular momentum the spin
-abbrev pub carrier : MassData
-carrier = record { mass = pos 1; inertia = pos (2 ^ 30) }
-
--- the mass of a body that stands: it never turns either
-abbrev pub standing : MassData
-standing = record { mass = pos 1; inertia = pos 0 }
+use Rattle.colour_solver.specs.Masses.{carrier, standing}
 
 -- what stands for the body in an empty slot: nothing moves it
 abbrev pub nobody : BodyState

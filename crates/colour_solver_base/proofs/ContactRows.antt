@@ -22,8 +22,9 @@ use Rattle.colour_solver_base.specs.declared.row.Bodies.{Bodies}
 use Rattle.colour_solver_base.specs.declared.solve.PointAfter.{PointAfter}
 use Rattle.colour_solver_base.specs.RowsAfter.{RowAfter}
 use Rattle.colour_solver_base.specs.Rows as rows
-use Rattle.colour_solver_base.specs.Rows.{bias_of, is_springy, point_row, row_bounced, row_from, row_solved, row_warmed, start_speed}
-use Rattle.colour_solver_base.specs.ContactSolving.{AreMovedFrom, IsMovedFrom, IsRowOf, RowsAreContacts, SolvedPoint, at_points, contact_bounced, contact_solved, contact_warmed, normal_line, normal_solved, point_bounced, point_solved, point_warmed, separation_now, tangent_line, tangent_solved, with_normal_impulse, with_tangent_impulse}
+use Rattle.colour_solver_base.specs.Rows.{is_springy, point_row, row_bounced, row_from, row_solved, row_warmed, start_speed}
+use Rattle.colour_solver_base.specs.ContactSolving.{SolvedPoint, at_points, contact_bounced, contact_solved, contact_warmed, normal_line, normal_solved, point_bounced, point_solved, point_warmed, separation_now, tangent_line, tangent_solved, with_normal_impulse, with_tangent_impulse, bias_of, most_friction, tangent}
+use Rattle.colour_solver_base.specs.Laws.{AreMovedFrom, IsMovedFrom, IsRowOf, RowsAreContacts}
 
 -- ---- masses stay
 
@@ -115,22 +116,22 @@ normal_alike springy s e bias p h =
     ∙ normal_put springy s p (solved (normal_line p e) bias (pos 0) MAX_NORMAL_IMPULSE p.normal_impulse e)
 
 tangent_row : (springy : Bool) (s : Ends) (friction : ℤ) (t : SolvedPoint) → rows.then_tangent friction (row_point springy s t)
-    ≡ rows.with_tangent (point_row springy s t.point) (solved (tangent_line t.point s) (pos 0) (neg_ℤ (rows.most_friction friction t.point.normal_impulse)) (rows.most_friction friction t.point.normal_impulse) t.point.tangent_impulse t.ends)
+    ≡ rows.with_tangent (point_row springy s t.point) (solved (tangent_line t.point s) (pos 0) (neg_ℤ (most_friction friction t.point.normal_impulse)) (most_friction friction t.point.normal_impulse) t.point.tangent_impulse t.ends)
 unfolding point_row
 tangent_row springy s friction t = refl
 
 tangent_alike : (springy : Bool) (s : Ends) (friction : ℤ) (t : SolvedPoint) → AreMovedFrom s t.ends → rows.then_tangent friction (row_point springy s t) ≡ row_point springy s (tangent_solved friction t)
 tangent_alike springy s friction t h =
-    let most : ℤ = rows.most_friction friction t.point.normal_impulse in
+    let most : ℤ = most_friction friction t.point.normal_impulse in
     tangent_row springy s friction t
-    ∙ ap (λ (l : Line). rows.with_tangent (point_row springy s t.point) (solved l (pos 0) (neg_ℤ most) most t.point.tangent_impulse t.ends)) (same_line (rows.tangent t.point.normal) t.point.ra t.point.rb s t.ends h)
+    ∙ ap (λ (l : Line). rows.with_tangent (point_row springy s t.point) (solved l (pos 0) (neg_ℤ most) most t.point.tangent_impulse t.ends)) (same_line (tangent t.point.normal) t.point.ra t.point.rb s t.ends h)
     ∙ tangent_put springy s t.point (solved (tangent_line t.point t.ends) (pos 0) (neg_ℤ most) most t.point.tangent_impulse t.ends)
 
 normal_masses : (bias : ℤ) (p : ContactPoint) (e : Ends) → AreMovedFrom e (normal_solved bias p e).ends
 normal_masses bias p e = solved_masses (normal_line p e) bias (pos 0) MAX_NORMAL_IMPULSE p.normal_impulse e
 
 tangent_masses : (friction : ℤ) (t : SolvedPoint) → AreMovedFrom t.ends (tangent_solved friction t).ends
-tangent_masses friction t = solved_masses (tangent_line t.point t.ends) (pos 0) (neg_ℤ (rows.most_friction friction t.point.normal_impulse)) (rows.most_friction friction t.point.normal_impulse) t.point.tangent_impulse t.ends
+tangent_masses friction t = solved_masses (tangent_line t.point t.ends) (pos 0) (neg_ℤ (most_friction friction t.point.normal_impulse)) (most_friction friction t.point.normal_impulse) t.point.tangent_impulse t.ends
 
 same_separation : (springy : Bool) (s e : Ends) (p : ContactPoint) → rows.separation_now (point_row springy s p) e ≡ separation_now p e
 unfolding rows.separation_now point_row
@@ -167,7 +168,7 @@ warm_value springy s p e h =
     let first : Ends = warmed (normal_line p e) p.normal_impulse e in
     warm_row springy s p e
     ∙ ap (λ (l : Line). warmed (tangent_line p s) p.tangent_impulse (warmed l p.normal_impulse e)) (same_line p.normal p.ra p.rb s e h)
-    ∙ ap (λ (l : Line). warmed l p.tangent_impulse first) (same_line (rows.tangent p.normal) p.ra p.rb s first (masses_then s e first h (warmed_masses (normal_line p e) p.normal_impulse e)))
+    ∙ ap (λ (l : Line). warmed l p.tangent_impulse first) (same_line (tangent p.normal) p.ra p.rb s first (masses_then s e first h (warmed_masses (normal_line p e) p.normal_impulse e)))
 
 warm_alike : (springy : Bool) (s : Ends) → IsAlike springy s (λ p e. record { point = p; ends = point_warmed p e }) (λ p e. record { point = p; ends = rows.point_warmed p e })
 warm_alike springy s = record {

@@ -6,7 +6,8 @@ use Rattle.momenta.specs.declared.line.Line.{Line}
 use Rattle.momenta.specs.Impulses.{AreStates, between, solved, speed_along, wanted}
 use Rattle.momenta.proofs.NoImpulse.{exerted_none}
 use Rattle.colour_solver_base.specs.declared.row.PointRow.{PointRow}
-use Rattle.colour_solver_base.specs.Rows.{most_friction, tangent_line, tangent_solved, with_tangent}
+use Rattle.colour_solver_base.specs.Rows.{tangent_line, tangent_solved, with_tangent}
+use Rattle.colour_solver_base.specs.ContactSolving.{most_friction}
 
 no_room : (z : ℤ) → between (pos 0) (pos 0) z ≡ pos 0
 no_room z = grind (arith, ints)

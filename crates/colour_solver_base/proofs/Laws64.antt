@@ -12,7 +12,8 @@ use Rattle.colour_solver_base.specs.declared.solve.PointAfter.{PointAfter}
 use Rattle.colour_solver_base.specs.declared.row_64.PointImpulses.{PointImpulses}
 use Rattle.colour_solver_base.specs.declared.row_64.PointAfter64.{PointAfter64}
 use Rattle.colour_solver_base.specs.declared.row_64.RowAfter64.{RowAfter64}
-use Rattle.colour_solver_base.specs.Rows.{IsPointRow, IsRow, at_points, bias_of, point_solved, normal_solved, separation_now, tangent_solved, then_tangent}
+use Rattle.colour_solver_base.specs.Rows.{IsPointRow, IsRow, at_points, point_solved, normal_solved, separation_now, tangent_solved, then_tangent}
+use Rattle.colour_solver_base.specs.ContactSolving.{bias_of}
 use Rattle.colour_solver_base.specs.Row64.{HasPointRoom64, IsPointAfter64, IsRowAfter64, with_impulses, with_point_impulses, with_row_impulses}
 use Rattle.colour_solver_base.proofs.Kept.{kept_then, same_then}
 

@@ -1,22 +1,17 @@
 -- One contact in a step: what its impulses do to it and to its two bodies. All that the solver computes once a step is computed
 -- here where it is used.
-use Rattle.std.specs.Prelude.{◌≡◌, Bool, false, cond, Option, Some, None, ℤ, pos, neg_ℤ, ◌+ℤ◌, ◌*ℤ◌, int_lt}
-use Rattle.fixed_geom.specs.Numbers.{rdiv}
+use Rattle.std.specs.Prelude.{Bool, false, cond, Option, Some, None, ℤ, pos, neg_ℤ, ◌+ℤ◌, ◌*ℤ◌, int_lt, ◌-ℤ◌}
+use Rattle.fixed_geom.specs.Numbers.{rdiv, fdiv}
 use Rattle.fixed_geom.specs.Vectors.{unit_length, dot, minus}
-use Rattle.fixed_geom.specs.declared.vectors.Vec2.{Vec2}
 use Rattle.fixed_geom.specs.declared.limits.TheConstants.{MAX_NORMAL_IMPULSE}
-use Rattle.colour_solver_base.specs.declared.limits.TheConstants.{BOUNCE_SPEED}
-use Rattle.momenta.specs.declared.state.BodyState.{BodyState}
+use Rattle.fixed_geom.specs.declared.vectors.Vec2.{Vec2}
+use Rattle.colour_solver_base.specs.declared.limits.TheConstants.{BOUNCE_SPEED, MAX_BIAS, SLOP}
 use Rattle.momenta.specs.declared.state.Ends.{Ends}
 use Rattle.momenta.specs.declared.line.Line.{Line}
 use Rattle.momenta.specs.declared.line.Exerted.{Exerted}
 use Rattle.momenta.specs.Impulses.{line_along, speed_along, solved, warmed, travelled}
 use Rattle.contacts_base.specs.declared.contact.ContactPoint.{ContactPoint}
 use Rattle.contacts_base.specs.declared.contact.Contact.{Contact}
-use Rattle.colour_solver_base.specs.declared.row.ContactRow.{ContactRow}
-use Rattle.colour_solver_base.specs.declared.row.Bodies.{Bodies}
-use Rattle.colour_solver_base.specs.RowsAfter.{RowAfter}
-use Rattle.colour_solver_base.specs.Rows.{tangent, bias_of, most_friction, row_from, row_warmed, row_solved, row_bounced}
 
 -- a point of a contact with its two bodies, and a contact with them
 pub record SolvedPoint : Type 0 where
@@ -28,6 +23,10 @@ pub record SolvedContact : Type 0 where
   pub ends : Ends
 
 -- ---- lines
+
+-- the direction of friction: the normal turned to the right
+abbrev pub tangent : Vec2 → Vec2
+tangent n = record { x = n.y; y = neg_ℤ n.x }
 
 abbrev pub normal_line : ContactPoint → Ends → Line
 normal_line p e = line_along p.normal p.ra p.rb e
@@ -47,9 +46,17 @@ with_tangent_impulse p x = record { point = record p { tangent_impulse = x.total
 abbrev pub separation_now : ContactPoint → Ends → ℤ
 separation_now p e = p.separation +ℤ rdiv (dot (minus (travelled e.b) (travelled e.a)) p.normal) unit_length
 
+-- the speed at which an overlap beyond the slop is taken away: an eighth of it in a tick, and at most the greatest bias
+unfoldable pub bias_of : ℤ → ℤ
+bias_of separation = cond (int_lt (neg_ℤ SLOP) separation) (pos 0) (cond (int_lt MAX_BIAS (fdiv (neg_ℤ separation -ℤ SLOP) (pos 8))) MAX_BIAS (fdiv (neg_ℤ separation -ℤ SLOP) (pos 8)))
+
 -- an impulse along the normal towards the bias: never pulling
 abbrev pub normal_solved : ℤ → ContactPoint → Ends → SolvedPoint
 normal_solved bias p e = with_normal_impulse p (solved (normal_line p e) bias (pos 0) MAX_NORMAL_IMPULSE p.normal_impulse e)
+
+-- the most friction that a normal impulse allows, the coefficient being in 256ths
+abbrev pub most_friction : ℤ → ℤ → ℤ
+most_friction friction normal_impulse = fdiv (friction *ℤ normal_impulse) (pos 256)
 
 -- friction: as much as the normal impulse allows
 abbrev pub tangent_solved : ℤ → SolvedPoint → SolvedPoint
@@ -95,30 +102,3 @@ contact_solved friction c e = at_points (point_solved friction) c e
 
 unfoldable pub contact_bounced : ℤ → Ends → Contact → Ends → SolvedContact
 contact_bounced restitution start c e = at_points (point_bounced restitution start) c e
-
--- ---- the rows that the solver makes of contacts say the same
-
--- a body of which all but the motion is as it was
-pub record IsMovedFrom (s t : BodyState) : Type 0 where
-  pub movable : t.movable ≡ s.movable
-  pub mass : t.mass ≡ s.mass
-  pub start : t.start ≡ s.start
-  pub reciprocals : t.reciprocals ≡ s.reciprocals
-
-pub record AreMovedFrom (start e : Ends) : Type 0 where
-  pub a : IsMovedFrom start.a e.a
-  pub b : IsMovedFrom start.b e.b
-
--- what the turn of a contact's row has made of the row and its bodies is what s says of the contact and its bodies
-pub record IsRowOf (b : Bodies) (start : Ends) (s : SolvedContact) (t : RowAfter ContactRow) : Type 0 where
-  pub row : row_from b start s.contact.first s.contact.second ≡ Some t.row
-  pub ends : t.ends ≡ s.ends
-  pub moved : AreMovedFrom start s.ends
-
-abbrev pub TurnsAlike : (Bodies → Ends → Contact → Ends → SolvedContact) → (ContactRow → Ends → RowAfter ContactRow) → Type 0
-TurnsAlike f g = (b : Bodies) (start e : Ends) (c : Contact) (r : ContactRow) → row_from b start c.first c.second ≡ Some r → AreMovedFrom start e → IsRowOf b start (f b start c e) (g r e)
-
-pub record RowsAreContacts : Type 0 where
-  pub warm : TurnsAlike (λ b start c e. contact_warmed c e) row_warmed
-  pub solve : TurnsAlike (λ b start c e. contact_solved b.friction c e) row_solved
-  pub bounce : TurnsAlike (λ b start c e. contact_bounced b.restitution start c e) row_bounced

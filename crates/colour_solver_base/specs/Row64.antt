@@ -13,7 +13,8 @@ use Rattle.colour_solver_base.specs.RowsAfter.{RowAfter}
 use Rattle.colour_solver_base.specs.declared.row_64.PointImpulses.{PointImpulses}
 use Rattle.colour_solver_base.specs.declared.row_64.PointAfter64.{PointAfter64}
 use Rattle.colour_solver_base.specs.declared.row_64.RowAfter64.{RowAfter64}
-use Rattle.colour_solver_base.specs.Rows.{IsPointRow, IsRow, bias_of, most_friction, normal_line, normal_solved, point_solved, separation_now, tangent_line}
+use Rattle.colour_solver_base.specs.Rows.{IsPointRow, IsRow, normal_line, normal_solved, point_solved, separation_now, tangent_line}
+use Rattle.colour_solver_base.specs.ContactSolving.{bias_of, most_friction}
 
 -- the point with these accumulated impulses
 abbrev pub with_impulses : PointRow → ℤ → ℤ → PointRow

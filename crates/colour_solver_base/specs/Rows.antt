@@ -1,13 +1,12 @@
--- One contact in a step: its rows, and what its impulses do to its two bodies.
-use Rattle.std.specs.Prelude.{◌≤◌, ◌+◌, ◌^◌, Bool, false, cond, Option, Some, None, option_map, ℤ, pos, neg_ℤ, ◌+ℤ◌, ◌-ℤ◌, ◌*ℤ◌, ◌≤ℤ◌, unsigned_abs, int_lt}
+-- Inner: the row that the solver makes of a contact for a step, and what its impulses do to it and to its two bodies.
+use Rattle.std.specs.Prelude.{◌≤◌, ◌+◌, ◌^◌, Bool, false, cond, Option, Some, None, option_map, ℤ, pos, neg_ℤ, ◌+ℤ◌, ◌*ℤ◌, ◌≤ℤ◌, unsigned_abs, int_lt}
 use Rattle.std.specs.Option.{ForSome}
-use Rattle.fixed_geom.specs.Numbers.{rdiv, fdiv}
+use Rattle.fixed_geom.specs.Numbers.{rdiv}
 use Rattle.fixed_geom.specs.Reciprocals.{share_reciprocal}
 use Rattle.fixed_geom.specs.Vectors.{unit_length, dot, minus}
-use Rattle.fixed_geom.specs.declared.vectors.Vec2.{Vec2}
 use Rattle.fixed_geom.specs.declared.limits.TheConstants.{MAX_LINE_IMPULSE, MAX_NORMAL_IMPULSE, MAX_OFFSET}
 use Rattle.shapes.specs.declared.limits.TheConstants.{MAX_FRICTION, MAX_RESTITUTION}
-use Rattle.colour_solver_base.specs.declared.limits.TheConstants.{BOUNCE_SPEED, MAX_BIAS, SLOP}
+use Rattle.colour_solver_base.specs.declared.limits.TheConstants.{BOUNCE_SPEED}
 use Rattle.momenta.specs.declared.state.Ends.{Ends}
 use Rattle.momenta.specs.declared.line.Line.{Line}
 use Rattle.momenta.specs.declared.line.Exerted.{Exerted}
@@ -20,12 +19,9 @@ use Rattle.colour_solver_base.specs.declared.row.ContactRow.{ContactRow}
 use Rattle.colour_solver_base.specs.declared.row.Bodies.{Bodies}
 use Rattle.colour_solver_base.specs.declared.solve.PointAfter.{PointAfter}
 use Rattle.colour_solver_base.specs.RowsAfter.{RowAfter}
+use Rattle.colour_solver_base.specs.ContactSolving.{tangent, bias_of, most_friction}
 
 -- ---- lines
-
--- the direction of friction: the normal turned to the right
-abbrev pub tangent : Vec2 → Vec2
-tangent n = record { x = n.y; y = neg_ℤ n.x }
 
 abbrev pub normal_line : PointRow → Line
 normal_line p = record { direction = p.normal; ra = p.ra; rb = p.rb; inverse_mass = p.normal_inverse; reciprocal = p.normal_reciprocal }
@@ -81,10 +77,6 @@ contact_row bodies e c = row_from bodies e c.first c.second
 unfoldable pub separation_now : PointRow → Ends → ℤ
 separation_now p e = p.separation +ℤ rdiv (dot (minus (travelled e.b) (travelled e.a)) p.normal) unit_length
 
--- the speed at which an overlap beyond the slop is taken away: an eighth of it in a tick, and at most the greatest bias
-unfoldable pub bias_of : ℤ → ℤ
-bias_of separation = cond (int_lt (neg_ℤ SLOP) separation) (pos 0) (cond (int_lt MAX_BIAS (fdiv (neg_ℤ separation -ℤ SLOP) (pos 8))) MAX_BIAS (fdiv (neg_ℤ separation -ℤ SLOP) (pos 8)))
-
 abbrev pub with_normal : PointRow → Exerted → PointAfter
 with_normal p x = record { point = record p { normal_impulse = x.total }; ends = x.ends }
 
@@ -94,10 +86,6 @@ with_tangent p x = record { point = record p { tangent_impulse = x.total }; ends
 -- along the normal: never pulling, and at most the greatest normal impulse
 abbrev pub normal_solved : ℤ → PointRow → Ends → PointAfter
 normal_solved bias p e = with_normal p (solved (normal_line p) bias (pos 0) MAX_NORMAL_IMPULSE p.normal_impulse e)
-
--- the most friction that a normal impulse allows, the coefficient being in 256ths
-abbrev pub most_friction : ℤ → ℤ → ℤ
-most_friction friction normal_impulse = fdiv (friction *ℤ normal_impulse) (pos 256)
 
 -- across the normal: within what the normal impulse allows
 abbrev pub tangent_solved : ℤ → PointRow → Ends → PointAfter

@@ -1,4 +1,4 @@
-ghost use Rattle.colour_solver_base.specs.ContactSolving.{RowsAreContacts};
+ghost use Rattle.colour_solver_base.specs.Laws.{RowsAreContacts};
 
 /// The turns of a row are what the definition makes of its contact: what the solver computes once a step, and keeps in the row, is
 /// what the definition computes anew at each impulse. The function does nothing; its contract is the law.

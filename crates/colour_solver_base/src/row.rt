@@ -5,7 +5,8 @@ ghost use Rattle.std.specs.Option.{ForSome};
 ghost use Rattle.fixed_geom.specs.Vectors.{IsWithin};
 ghost use Rattle.momenta.specs.Impulses.{AreStates, IsLine};
 ghost use Rattle.contacts_base.specs.Limits.{IsContact, IsContactPoint};
-ghost use Rattle.colour_solver_base.specs.Rows.{AreSurfaces, IsPointRow, IsRow, contact_row, key_of, point_row, normal_line, tangent_line, start_speed, is_springy, tangent};
+ghost use Rattle.colour_solver_base.specs.Rows.{AreSurfaces, IsPointRow, IsRow, contact_row, key_of, point_row, normal_line, tangent_line, start_speed, is_springy};
+ghost use Rattle.colour_solver_base.specs.ContactSolving.{tangent};
 
 use contacts_base::{ContactKey, ContactPoint, PackedContact, ShapeId};
 use fixed_geom::{UNIT, Vec2};

@@ -4,7 +4,8 @@ ghost use Rattle.std.specs.Prelude.{◌≡◌, ℕ, ◌+◌, ◌≤◌, true, po
 ghost use Rattle.std.specs.Option.{ForSome};
 ghost use Rattle.momenta.specs.Impulses.{AreStates, IsState, parting};
 ghost use Rattle.momenta.specs.Line64.{LeaveRoom64, IsImpulse, ends_with, both_ends};
-ghost use Rattle.colour_solver_base.specs.Rows.{IsPointRow, IsRow, bias_of, point_solved, point_warmed, normal_solved, row_solved, row_warmed, separation_now, tangent_solved};
+ghost use Rattle.colour_solver_base.specs.Rows.{IsPointRow, IsRow, point_solved, point_warmed, normal_solved, row_solved, row_warmed, separation_now, tangent_solved};
+ghost use Rattle.colour_solver_base.specs.ContactSolving.{bias_of};
 ghost use Rattle.colour_solver_base.specs.Row64.{HasPointRoom64, HasNormalRoom64, HasTangentRoom64, HasSolveRoom64, HasWarmPointRoom64, HasWarmRoom64, IsPointAfter64, IsRowAfter64, with_impulses};
 
 use crate::solve::{bias_of, most_friction, separation_between};

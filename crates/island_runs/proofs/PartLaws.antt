@@ -17,7 +17,8 @@ use Rattle.colour_solver.specs.declared.turns.Slots.{Slots}
 use Rattle.colour_solver.specs.Colour.{IsColour, ShareNone, is_mover}
 use Rattle.colour_solver.specs.ColourRows.{ColourRows, all_rows}
 use Rattle.colour_solver.specs.ConstraintTurns.{AreRowsBelow, IsRowBelow, constraint_slots}
-use Rattle.colour_solver.specs.States.{AreAllStates, HasCourse, HaveCourses, is_carried, nobody, standing}
+use Rattle.colour_solver.specs.States.{AreAllStates, HasCourse, HaveCourses, is_carried, nobody}
+use Rattle.colour_solver.specs.Masses.{standing}
 use Rattle.island_runs.specs.Apart.{AreRowsOf, hidden, hidden_from, is_of, rows_of, seen}
 use Rattle.island_runs.specs.Laws.{PartsCanRun}
 use Rattle.island_runs.proofs.HiddenLaws.{get-hidden, length-hidden_from, seen_moves}

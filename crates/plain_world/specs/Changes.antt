@@ -1,12 +1,11 @@
 -- Changes of one body in its slot: those that leave it an awake mover, or carried along, or neither, as it was, and those that disable and enable it.
 use Rattle.std.specs.Prelude.{Bool, true, false, cond, ℕ, List, Option, Some, None, option_map, slice_set}
 use Rattle.momenta.specs.declared.motion.Momenta.{Momenta}
-use Rattle.shapes.specs.Poses.{IsPose}
 use Rattle.shapes.specs.declared.pose.Pose.{Pose}
 use Rattle.plain_world.specs.declared.body.Body.{Body}
 use Rattle.plain_world.specs.declared.kind.Course.{Course}
 use Rattle.plain_world.specs.declared.kind.Kind.TheVariants.{Kinematic}
-use Rattle.plain_world.specs.Bodies.{IsBody, at_rest, is_awake, is_carried}
+use Rattle.plain_world.specs.Bodies.{at_rest, is_awake}
 use Rattle.plain_world.specs.Kinds.{halted, is_dynamic}
 use Rattle.plain_world.specs.Fats.{renewed_boxes}
 use Rattle.plain_world.specs.Slots.{body_at}
@@ -19,11 +18,6 @@ changed_at f bodies slot = slice_set bodies slot (option_map f (body_at bodies s
 abbrev pub is_awake_in : Option Body → Bool
 is_awake_in None = false
 is_awake_in (Some b) = is_awake b
-
--- a body that is carried along is there
-abbrev pub is_carried_in : Option Body → Bool
-is_carried_in None = false
-is_carried_in (Some b) = is_carried b
 
 -- ---- the changes
 
@@ -46,8 +40,3 @@ disabled_body b = record b { enabled = false; kind = halted b.kind; motion = at_
 -- a body that is enabled: a mover is awake, and its timer 0
 abbrev pub enabled_body : Body → Body
 enabled_body b = record b { enabled = true; timer = cond (is_dynamic b.kind) 0 b.timer; asleep = None }
-
--- a body that can have another pose
-pub record CanPose (o : Pose) (b : Body) : Type 0 where
-  pub body : IsBody b
-  pub pose : IsPose o

@@ -1,5 +1,5 @@
 -- Joints by slot: which may be made, which stand between which bodies, and which bodies they keep from colliding.
-use Rattle.std.specs.Prelude.{◌≡◌, ◌≢◌, ℕ, ◌==◌, ◌||◌, Bool, true, false, cond, is_some, List, Option, Some, None, ℤ, pos, unsigned_abs, slice_set, map, option_map}
+use Rattle.std.specs.Prelude.{◌≡◌, ◌≢◌, ℕ, ◌==◌, ◌||◌, Bool, true, false, cond, is_some, List, Option, Some, None, pos, unsigned_abs, map, option_map}
 use Rattle.std.specs.List.{filter_map}
 use Rattle.fixed_geom.specs.Vectors.{is_within}
 use Rattle.fixed_geom.specs.declared.refusal.Refusal.{Refusal}
@@ -43,16 +43,6 @@ is_joint_of slot j = (j.a == slot) || (j.b == slot)
 abbrev pub is_end_in : ℕ → Option BodyJoint → Bool
 is_end_in slot None = false
 is_end_in slot (Some j) = is_joint_of slot j
-
--- ---- the impulse that a joint keeps
-
-abbrev pub with_impulse : ℤ → BodyJoint → BodyJoint
-with_impulse impulse j = record j { joint = record j.joint { impulse = impulse } }
-
--- the joint in the slot, if there is one, has this impulse
-abbrev pub impulse_set : ℕ → ℤ → List (Option BodyJoint) → Option BodyJoint → List (Option BodyJoint)
-impulse_set slot impulse joints None = joints
-impulse_set slot impulse joints (Some j) = slice_set joints slot (Some (with_impulse impulse j))
 
 -- ---- joints of a body that takes no part
 

@@ -2,11 +2,13 @@ pub mod Kinds
 pub mod Bodies
 pub mod Slots
 pub mod Sleep
+pub mod InSlots
 pub mod Changes
 pub mod Fats
 pub mod Formed
 pub mod Joints
 pub mod Placement
+pub mod KeptColours
 pub mod Plain
 pub mod Presets
 pub mod Shown

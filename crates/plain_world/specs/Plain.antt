@@ -1,7 +1,6 @@
 -- The plain world: what a world is, as lists, however it is kept.
 use Rattle.std.specs.List.{list_any, position}
-use Rattle.std.specs.Prelude.{ℕ, ◌==◌, Bool, List, [], map, Option, slice_index_or, Vec, vec_items}
-use Rattle.std.specs.declared.alloc.Global.{Global}
+use Rattle.std.specs.Prelude.{ℕ, ◌==◌, Bool, List, Option}
 use Rattle.fixed_geom.specs.declared.vectors.Vec2.{Vec2}
 use Rattle.body_handles.specs.declared.places.Place.{Place}
 use Rattle.contacts_base.specs.declared.contact.ContactEntry.{ContactEntry}
@@ -29,14 +28,6 @@ pub record Plain : Type 0 where
   -- how many steps and how many calls were accepted
   pub steps : ℕ
   pub calls : ℕ
-
--- the constraints of a colour: none where there is no such colour
-abbrev pub members_at : List (List Constraint) → ℕ → List Constraint
-members_at colours colour = slice_index_or colours colour []
-
--- the same as they are kept
-abbrev pub constraints_of : List (Vec Constraint Global) → List (List Constraint)
-constraints_of colours = map vec_items colours
 
 -- whether a constraint is among these
 abbrev pub has_constraint : Constraint → List Constraint → Bool

@@ -1,5 +1,5 @@
 -- Bodies that fall asleep and wake, as the labels of the islands tell, and for how long each has been slow.
-use Rattle.std.specs.Prelude.{◌≡◌, ℕ, suc, ◌+◌, ◌≤◌, Bool, ◌&&◌, cond, nat_le, is_some, List, [], ◌∷◌, Option, Some, None, option_map, map, pos, unsigned_abs, slice_get}
+use Rattle.std.specs.Prelude.{◌≡◌, ℕ, suc, ◌+◌, Bool, ◌&&◌, cond, nat_le, is_some, List, [], ◌∷◌, Option, Some, None, option_map, map, pos, unsigned_abs, slice_get}
 use Rattle.fixed_geom.specs.Vectors.{is_within, zero_vector}
 use Rattle.momenta.specs.Motions.{spin, velocity}
 use Rattle.momenta.specs.declared.mass.MassData.{MassData}
@@ -50,10 +50,6 @@ timed ticks b = cond (is_awake b) (record b { timer = cond (is_slow b.mass b.mot
 
 abbrev pub timed_bodies : ℕ → List (Option Body) → List (Option Body)
 timed_bodies ticks bodies = map (option_map (timed ticks)) bodies
-
--- no timer is beyond
-abbrev pub AreTimersWithin : ℕ → List (Option Body) → Type 0
-AreTimersWithin limit bodies = (slot : ℕ) (b : Body) → slice_get bodies slot ≡ Some (Some b) → b.timer ≤ limit
 
 -- nobody sleeps
 abbrev pub AreAwake : List (Option Body) → Type 0

@@ -47,9 +47,3 @@ pub record AreMatched {X : Type 0} (places : List Place) (items : List (Option X
 abbrev pub shapes_in : Option Body → ℕ
 shapes_in None = 0
 shapes_in (Some b) = cond b.enabled (length b.shapes) 0
-
--- there are bodies in the same slots as before, each with as many shapes that take part
-pub record HaveSameSlots (old new : List (Option Body)) : Type 0 where
-  pub slots : length new ≡ length old
-  pub taken : (slot : ℕ) → is_some (body_at new slot) ≡ is_some (body_at old slot)
-  pub shapes : (slot : ℕ) → shapes_in (body_at new slot) ≡ shapes_in (body_at old slot)

@@ -1,5 +1,5 @@
 ghost use Rattle.std.specs.Prelude.{◌≡◌, ◌<◌, length, map};
-ghost use Rattle.plain_world.specs.Plain.{constraints_of, members_at};
+ghost use Rattle.plain_world.specs.KeptColours.{constraints_of, members_at};
 
 use crate::body::Body;
 use crate::joint::BodyJoint;
@@ -27,7 +27,8 @@ pub struct Plain {
 
 impl Model for Plain {
     ghost use Rattle.std.specs.Prelude.{map};
-    ghost use Rattle.plain_world.specs.Plain.{Plain as PlainWorld, constraints_of};
+    ghost use Rattle.plain_world.specs.Plain.{Plain as PlainWorld};
+    ghost use Rattle.plain_world.specs.KeptColours.{constraints_of};
 
     ghost Value = { PlainWorld };
 

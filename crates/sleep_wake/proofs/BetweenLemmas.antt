@@ -13,7 +13,8 @@ use Rattle.islands.specs.Labels.{Labels}
 use Rattle.sleep_wake.specs.Acting.{AreMovers, IsSettled}
 use Rattle.sleep_wake.specs.declared.change.Change.{Change}
 use Rattle.sleep_wake.specs.declared.change.Change.TheVariants.{Begin, End}
-use Rattle.sleep_wake.specs.Changes.{turned, change_number, IsChange, AreChangesOf, only_in, change_inserted, begins_inserted, changes_between}
+use Rattle.sleep_wake.specs.Changes.{turned, change_number, change_inserted, begins_inserted}
+use Rattle.sleep_wake.specs.ChangeLists.{IsChange, AreChangesOf, only_in, changes_between}
 use Rattle.sleep_wake.specs.Laws.{TurnsInto}
 use Rattle.sleep_wake.proofs.ListLemmas.{filter_in, in_filter, has_from, rising_filter}
 use Rattle.sleep_wake.proofs.TurnLemmas.{changes_fold, ties_after_all, one_order, begin_is, end_is}

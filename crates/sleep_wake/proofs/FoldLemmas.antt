@@ -16,7 +16,8 @@ use Rattle.islands.proofs.SplitLemmas.{IsLabelled}
 use Rattle.sleep_wake.specs.declared.change.Change.{Change}
 use Rattle.sleep_wake.specs.declared.change.Change.TheVariants.{Begin, End}
 use Rattle.sleep_wake.specs.Acting.{Acting, AreMovers, IsSettled, awake_label, is_awake, second_awake, are_awake}
-use Rattle.sleep_wake.specs.Changes.{begun, ended, each_begun, each_ended, united, parted, CanBegin, CanEnd, changed, AreChanges, IsChange, begin_count}
+use Rattle.sleep_wake.specs.Changes.{begun, ended, each_begun, each_ended, united, parted, changed}
+use Rattle.sleep_wake.specs.ChangeLists.{CanBegin, CanEnd, AreChanges, IsChange, begin_count}
 use Rattle.sleep_wake.specs.Waking.{set_woken, woken_by, woken_at, second_woken, movers_woken}
 use Rattle.sleep_wake.proofs.ListLemmas.{above_head, in_without}
 use Rattle.sleep_wake.proofs.AwakeLemmas.{and_is, all_awake, same_awake, united_awake, united_labelled, parted_awake, parted_labelled, stated_labelled}

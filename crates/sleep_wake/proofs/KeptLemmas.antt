@@ -20,7 +20,8 @@ use Rattle.islands.proofs.SplitLemmas.{IsLabelled}
 use Rattle.sleep_wake.specs.Acting.{Acting, AreMovers, IsSettled, links_of, awake_label, is_awake, second_awake, are_awake}
 use Rattle.sleep_wake.specs.declared.change.Change.{Change}
 use Rattle.sleep_wake.specs.declared.change.Change.TheVariants.{Begin, End}
-use Rattle.sleep_wake.specs.Changes.{parted, united, ended, begun, turned, AreChanges}
+use Rattle.sleep_wake.specs.Changes.{parted, united, ended, begun, turned}
+use Rattle.sleep_wake.specs.ChangeLists.{AreChanges}
 use Rattle.sleep_wake.specs.Waking.{ties_of, has_mover_of, set_woken, woken_by, woken_at, second_woken, movers_woken, put_to_rest}
 use Rattle.sleep_wake.specs.Laws.{WakingKeeps, TurningKeeps, RestingKeeps, SleepersAreOneComponent, LinkedStandTogether, EndingKeeps, BeginningKeeps}
 use Rattle.sleep_wake.proofs.ListLemmas.{filter_in, in_filter, without_in, in_without, inserted_in, in_inserted, one_of, has_from, absent_from, places_one, places, Places, releases, Releases, released_in, in_released, rising_filter, link_in, in_links, links_more}

@@ -16,10 +16,12 @@ use Rattle.sleep_wake.specs.declared.change.Change.{Change}
 use Rattle.sleep_wake.specs.declared.change.Change.TheVariants.{Begin, End}
 use Rattle.sleep_wake.specs.Acting.{Acting, AreMovers, IsSettled, awake_label, is_awake}
 use Rattle.sleep_wake.specs.Bodies.{mover_made, mover_gone}
-use Rattle.sleep_wake.specs.Changes.{begun, ended, united, parted, each_begun, each_ended, CanBegin, CanEnd, changed, turned, AreChanges}
+use Rattle.sleep_wake.specs.Changes.{begun, ended, united, parted, each_begun, each_ended, changed, turned}
+use Rattle.sleep_wake.specs.ChangeLists.{CanBegin, CanEnd, AreChanges}
 use Rattle.sleep_wake.specs.Waking.{set_woken, woken_by, woken_at, second_woken, movers_woken, put_to_rest}
 use Rattle.sleep_wake.specs.SleepPhase.{split_at, edges_of, split_picked, picked_to_split, all_put_to_rest, ready, sleep_phase}
-use Rattle.sleep_wake.specs.Sleeping.{name_at, with_one_name, with_name, names_from, names_of, islands_woken, split_if_loose, rested_by, rested_at, slept_by, slept_at, is_whole}
+use Rattle.sleep_wake.specs.Sleeping.{name_at, with_one_name, with_name, names_from, names_of, islands_woken, split_if_loose, rested_by, rested_at, slept_by, slept_at}
+use Rattle.sleep_wake.specs.Resting.{is_whole}
 use Rattle.sleep_wake.specs.Laws.{WakingNamedKeeps, BeginningEachKeeps, EndingEachKeeps, SleepKeeps, MoversStay, MoversComeAndGo, NobodyFallsAsleep, AwakeStayAwake, WakingLeavesTheAwake, TheNamedAreAwake, TheAwakeAct}
 use Rattle.sleep_wake.proofs.AwakeLemmas.{awake_as, united_awake, parted_awake}
 use Rattle.sleep_wake.proofs.KeptLemmas.{wakes, wakes_both, beginning, beginning_keeps, ending, ending_keeps, resting}

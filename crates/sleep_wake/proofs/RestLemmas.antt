@@ -10,7 +10,8 @@ use Rattle.islands.proofs.LabelLemmas.{in_of}
 use Rattle.islands.proofs.SplitLemmas.{split_is}
 use Rattle.sleep_wake.specs.Acting.{Acting, IsSettled}
 use Rattle.sleep_wake.specs.SleepPhase.{is_island, split_at, edges_of}
-use Rattle.sleep_wake.specs.Sleeping.{is_whole, split_if_loose}
+use Rattle.sleep_wake.specs.Sleeping.{split_if_loose}
+use Rattle.sleep_wake.specs.Resting.{is_whole}
 use Rattle.sleep_wake.proofs.EdgeLemmas.{edges_inside}
 
 -- what an island's rest does to the label of a slot

@@ -13,7 +13,8 @@ use Rattle.islands.proofs.JoinLemmas.{contains_cases, contains_head, contains_ta
 use Rattle.sleep_wake.specs.Acting.{Acting}
 use Rattle.sleep_wake.specs.declared.change.Change.{Change}
 use Rattle.sleep_wake.specs.declared.change.Change.TheVariants.{Begin, End}
-use Rattle.sleep_wake.specs.Changes.{ended, begun, turned, change_number, IsChange, AreChangesOf}
+use Rattle.sleep_wake.specs.Changes.{ended, begun, turned, change_number}
+use Rattle.sleep_wake.specs.ChangeLists.{IsChange, AreChangesOf}
 use Rattle.sleep_wake.specs.Waking.{set_woken, woken_by, woken_at, second_woken, movers_woken}
 use Rattle.sleep_wake.specs.Laws.{ChangesFold, TiesAfter, OneOrder}
 use Rattle.sleep_wake.proofs.ListLemmas.{without_in, in_without, inserted_in, in_inserted, one_of, has_from}

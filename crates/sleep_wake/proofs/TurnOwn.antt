@@ -9,7 +9,8 @@ use Rattle.sleep_wake.specs.declared.change.Change.{Change}
 use Rattle.sleep_wake.specs.declared.change.Change.TheVariants.{Begin, End}
 use Rattle.sleep_wake.specs.Acting.{Acting, AreMovers, IsSettled}
 use Rattle.sleep_wake.specs.Waking.{movers_woken, released_all}
-use Rattle.sleep_wake.specs.Changes.{changed, turned, begin_count, IsChange, AreChanges}
+use Rattle.sleep_wake.specs.Changes.{changed, turned}
+use Rattle.sleep_wake.specs.ChangeLists.{begin_count, IsChange, AreChanges}
 use Rattle.sleep_wake.specs.Rooms.{OwnMovers}
 use Rattle.sleep_wake.proofs.ListLemmas.{one_of}
 use Rattle.sleep_wake.proofs.FoldLemmas.{count_next, movers_on, both_labelled}

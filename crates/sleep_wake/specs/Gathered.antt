@@ -1,7 +1,10 @@
 -- The constraints of an island, from those of its movers.
-use Rattle.std.specs.Prelude.{ℕ, ◌==◌, ◌||◌, ◌++◌, Bool, false, List, [], ◌∷◌, filter}
+use Rattle.std.specs.Prelude.{ℕ, ◌==◌, ◌||◌, ◌++◌, Bool, false, List, [], ◌∷◌, filter, cond, Option, Some, None}
 use Rattle.graph_colours.specs.declared.member.Member.{Member}
 use Rattle.graph_colours.specs.Colours.{list_at}
+use Rattle.graph_colours.specs.declared.member.Movers.{Movers}
+use Rattle.islands.specs.Links.{Edges}
+use Rattle.islands.specs.Labels.{Labels, label_at, is_in}
 
 -- the constraints that were gathered, and for how many constraints and slots there is room
 pub record Gathered (C : Type 0) : Type 0 where
@@ -26,3 +29,11 @@ firsts_at lists slot = filter (is_first slot) (list_at lists slot)
 abbrev pub firsts_of : {C : Type 0} → List (List (Member C)) → List ℕ → List (Member C)
 firsts_of lists [] = []
 firsts_of lists (slot ∷ slots) = firsts_at lists slot ++ firsts_of lists slots
+
+-- the link of one constraint, if it has one and that is of the island
+abbrev pub second_edge : Labels → ℕ → ℕ → Option ℕ → Edges
+second_edge labels name first None = []
+second_edge labels name first (Some second) = cond (is_in (label_at labels first) name) ((first, second) ∷ []) []
+
+abbrev pub edges_of_one : Labels → ℕ → Movers → Edges
+edges_of_one labels name m = second_edge labels name m.first m.second

@@ -10,7 +10,8 @@ use Rattle.sleep_wake.specs.Acting.{Acting, AreMovers, IsSettled, links_of, is_a
 use Rattle.sleep_wake.specs.Waking.{woken_at, put_to_rest}
 use Rattle.sleep_wake.specs.declared.change.Change.{Change}
 use Rattle.sleep_wake.specs.declared.change.Change.TheVariants.{Begin, End}
-use Rattle.sleep_wake.specs.Changes.{each_begun, each_ended, CanBegin, CanEnd, ended, begun, turned, AreChanges, AreChangesOf, changes_between}
+use Rattle.sleep_wake.specs.Changes.{each_begun, each_ended, ended, begun, turned}
+use Rattle.sleep_wake.specs.ChangeLists.{CanBegin, CanEnd, AreChanges, AreChangesOf, changes_between}
 use Rattle.sleep_wake.specs.Bodies.{dropped, mover_gone, mover_made}
 use Rattle.sleep_wake.specs.Sleeping.{names_of, islands_woken, slept_at}
 use Rattle.sleep_wake.specs.SleepPhase.{split_at, sleep_phase}

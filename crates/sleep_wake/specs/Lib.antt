@@ -3,6 +3,7 @@ pub mod Waking
 pub mod Rooms
 pub mod Indexed
 pub mod Changes
+pub mod ChangeLists
 pub mod Bodies
 pub mod Widened
 pub mod SleepPhase

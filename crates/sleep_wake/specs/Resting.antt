@@ -1,11 +1,11 @@
 -- All islands of a sleep phase together: the least timer of each, and what falls asleep by these.
-use Rattle.std.specs.Prelude.{◌≡◌, ℕ, suc, ◌&&◌, ◌||◌, Bool, true, false, not, cond, nat_lt, List, [], ◌∷◌, length, Option, Some, None, slice_set}
+use Rattle.std.specs.Prelude.{◌≡◌, ℕ, suc, ◌&&◌, ◌||◌, Bool, true, false, not, cond, nat_lt, List, [], ◌∷◌, length, Option, Some, None, slice_set, nat_le}
 use Rattle.std.specs.List.{slice_index_or}
 use Rattle.graph_colours.specs.declared.member.Movers.{Movers}
 use Rattle.graph_colours.specs.declared.member.Member.{Member}
 use Rattle.islands.specs.declared.label.Label.{Label}
 use Rattle.islands.specs.Labels.{Labels, label_at, is_loose, is_asleep, rested}
-use Rattle.sleep_wake.specs.SleepPhase.{lesser, least_timer, is_due, is_island, longer_at_rest, longest_at_rest}
+use Rattle.sleep_wake.specs.SleepPhase.{lesser, least_timer, is_due, is_island, longer_at_rest, longest_at_rest, ticks_to_sleep}
 
 -- ---- the least timer of each island
 
@@ -33,6 +33,11 @@ pub record AreLeast (labels : Labels) (timers : List ℕ) (leasts : List (Option
 
 -- ---- which islands are ready, where `timer` has the least timer of each
 
+-- a mover with this timer, if it has one, doesn't keep its island from being due
+abbrev pub may_be_due : Option ℕ → Bool
+may_be_due None = true
+may_be_due (Some t) = nat_le ticks_to_sleep t
+
 abbrev pub is_due_island : Bool → (ℕ → Option ℕ) → ℕ → Option Label → Bool
 is_due_island loose timer slot o = is_island loose slot o && is_due (timer slot)
 
@@ -56,6 +61,11 @@ abbrev pub longest_due : (ℕ → Option ℕ) → Labels → Option ℕ
 longest_due timer labels = longest_at_rest timer None (due_names true timer labels)
 
 -- ---- what falls asleep
+
+-- the label is that of a whole island that is awake
+abbrev pub is_whole : Option Label → Bool
+is_whole None = false
+is_whole (Some l) = not (is_loose l.state) && not (is_asleep l.state)
 
 -- a mover with this label is in a whole island that is awake and ready
 abbrev pub rests_by : (ℕ → Option ℕ) → Option Label → Bool

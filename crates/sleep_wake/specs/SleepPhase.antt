@@ -1,6 +1,5 @@
 -- The sleep phase: which islands are ready to sleep, by the timers of their movers, and what becomes of them.
 use Rattle.std.specs.Prelude.{ℕ, suc, ◌&&◌, ◌==◌, Bool, true, false, not, cond, nat_lt, nat_le, min, List, [], ◌∷◌, Option, Some, None, filter}
-use Rattle.graph_colours.specs.declared.member.Movers.{Movers}
 use Rattle.graph_colours.specs.declared.member.Member.{Member}
 use Rattle.islands.specs.declared.label.Label.{Label}
 use Rattle.islands.specs.Links.{Edges}
@@ -21,14 +20,6 @@ edges_in labels name ties = filter (λ e. is_in (label_at labels e.0) name) (lin
 abbrev pub edges_of : {C : Type 0} → Acting C → ℕ → Edges
 edges_of s name = edges_in s.labels name s.ties
 
--- the link of one constraint, if it has one and that is of the island
-abbrev pub second_edge : Labels → ℕ → ℕ → Option ℕ → Edges
-second_edge labels name first None = []
-second_edge labels name first (Some second) = cond (is_in (label_at labels first) name) ((first, second) ∷ []) []
-
-abbrev pub edges_of_one : Labels → ℕ → Movers → Edges
-edges_of_one labels name m = second_edge labels name m.first m.second
-
 -- the island is replaced by its components; no constraint changes
 unfoldable pub split_at : {C : Type 0} → ℕ → Acting C → Acting C
 split_at name s = record { ties = s.ties; labels = split_by s.labels name (edges_of s name); lists = s.lists }
@@ -48,11 +39,6 @@ least_timer name (o ∷ labels) (t ∷ timers) = cond (is_in o name) (Some (less
 abbrev pub is_due : Option ℕ → Bool
 is_due None = false
 is_due (Some t) = nat_le ticks_to_sleep t
-
--- a mover with this timer, if it has one, doesn't keep its island from being due
-abbrev pub may_be_due : Option ℕ → Bool
-may_be_due None = true
-may_be_due (Some t) = nat_le ticks_to_sleep t
 
 -- the label is that of an awake island of this name, a loose one or a whole one
 abbrev pub is_island : Bool → ℕ → Option Label → Bool

@@ -1,5 +1,5 @@
 -- Which islands sleep, who wakes them by their names, and how one mover is put to sleep.
-use Rattle.std.specs.Prelude.{ℕ, ◌==◌, ◌&&◌, Bool, false, not, cond, nat_lt, List, [], ◌∷◌, Option, Some, None}
+use Rattle.std.specs.Prelude.{ℕ, ◌==◌, cond, nat_lt, List, [], ◌∷◌, Option, Some, None}
 use Rattle.islands.specs.declared.label.Label.{Label}
 use Rattle.islands.specs.Labels.{Labels, label_at, is_loose, is_asleep, sleeping_name}
 use Rattle.sleep_wake.specs.Acting.{Acting}
@@ -40,11 +40,6 @@ islands_woken number (name ∷ names) s = islands_woken number names (woken_at n
 
 abbrev pub split_if_loose : {C : Type 0} → Label → Acting C → Acting C
 split_if_loose l s = cond (is_loose l.state) (split_at l.name s) s
-
--- the label is that of a whole island that is awake
-abbrev pub is_whole : Option Label → Bool
-is_whole None = false
-is_whole (Some l) = not (is_loose l.state) && not (is_asleep l.state)
 
 abbrev pub rested_by : {C : Type 0} → (C → ℕ) → Option Label → Acting C → Acting C
 rested_by number None s = s

@@ -6,7 +6,8 @@ ghost use Rattle.graph_colours.specs.Colours.{all_members};
 ghost use Rattle.graph_colours.specs.Movers.{AreBelow};
 ghost use Rattle.graph_colours.specs.Members.{has_id};
 ghost use Rattle.sleep_wake.specs.Acting.{acting, AreMovers, IsSettled};
-ghost use Rattle.sleep_wake.specs.Changes.{united, parted, begun, ended, each_begun, each_ended, CanBegin, CanEnd, changed, turned, begin_count, IsChange, AreChanges};
+ghost use Rattle.sleep_wake.specs.Changes.{united, parted, begun, ended, each_begun, each_ended, changed, turned};
+ghost use Rattle.sleep_wake.specs.ChangeLists.{CanBegin, CanEnd, begin_count, IsChange, AreChanges};
 
 use crate::change::Change;
 use crate::gathering::Gathering;

@@ -11,12 +11,14 @@ ghost use Rattle.graph_colours.specs.Movers.{has_mover};
 ghost use Rattle.islands.specs.Labels.{label_at};
 ghost use Rattle.sleep_wake.specs.Acting.{acting, is_awake, are_awake, AreMovers, IsSettled};
 ghost use Rattle.sleep_wake.specs.Waking.{woken_at, movers_woken, put_to_rest};
-ghost use Rattle.sleep_wake.specs.Changes.{begun, ended, each_begun, each_ended, CanBegin, CanEnd, turned, begin_count, AreChanges};
+ghost use Rattle.sleep_wake.specs.Changes.{begun, ended, each_begun, each_ended, turned};
+ghost use Rattle.sleep_wake.specs.ChangeLists.{CanBegin, CanEnd, begin_count, AreChanges};
 ghost use Rattle.sleep_wake.specs.Bodies.{mover_made, mover_gone};
 ghost use Rattle.sleep_wake.specs.Widened.{widened};
 ghost use Rattle.sleep_wake.specs.SleepPhase.{is_island, split_at, picked_to_split, split_picked, sleep_phase, ready_put_to_rest};
 ghost use Rattle.sleep_wake.specs.AwakeSlots.{AreAwakeSlots, AgreeAwake};
-ghost use Rattle.sleep_wake.specs.Sleeping.{names_of, is_whole, islands_woken, split_if_loose, rested_at, slept_at};
+ghost use Rattle.sleep_wake.specs.Sleeping.{names_of, islands_woken, split_if_loose, rested_at, slept_at};
+ghost use Rattle.sleep_wake.specs.Resting.{is_whole};
 
 use crate::change::Change;
 use crate::changing::{begin, begin_each, end, end_each, turn};

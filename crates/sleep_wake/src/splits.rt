@@ -6,7 +6,8 @@ ghost use Rattle.islands.specs.Labels.{label_at, is_in, split_by};
 ghost use Rattle.islands.specs.Links.{Linked};
 ghost use Rattle.islands.specs.Partition.{AreIslands};
 ghost use Rattle.sleep_wake.specs.Acting.{links_of};
-ghost use Rattle.sleep_wake.specs.SleepPhase.{edges_in, edges_of_one};
+ghost use Rattle.sleep_wake.specs.SleepPhase.{edges_in};
+ghost use Rattle.sleep_wake.specs.Gathered.{edges_of_one};
 
 use crate::gathering::Gathering;
 use crate::ties::Ties;

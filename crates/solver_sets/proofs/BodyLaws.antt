@@ -17,7 +17,7 @@ use Rattle.contacts_base.proofs.ContactsLemmas.{keys_rise-filter}
 use Rattle.contacts.specs.Constraints.{constraint_number}
 use Rattle.contacts.specs.declared.constraint.Constraint.{Constraint}
 use Rattle.contacts.proofs.Members.{IsIn, in_left, in_right, in_from_contains, contains_from_in}
-use Rattle.sleep_wake.specs.Changes.{each_inserted, each_without}
+use Rattle.sleep_wake.specs.ChangeLists.{each_inserted, each_without}
 use Rattle.plain_world.specs.declared.body.Body.{Body}
 use Rattle.plain_world.specs.declared.joint.BodyJoint.{BodyJoint}
 use Rattle.plain_world.specs.Joints.{AreJoints, is_end_in, is_joint_of, joint_at}
@@ -25,7 +25,7 @@ use Rattle.plain_world.specs.Slots.{body_at, item_in, with_body}
 use Rattle.solver_sets.specs.Beside.{joined_by, joined_to, mover_beside, neighbours, touched_by, touched_with}
 use Rattle.solver_sets.specs.Joining.{handle_at, unjoined, unjoined_all, unjoined_up}
 use Rattle.solver_sets.specs.Laws as laws
-use Rattle.solver_sets.specs.Tied.{AreAlikeBeside, AreJointSlots, IsBetweenEnabled}
+use Rattle.solver_sets.specs.Alike.{AreAlikeBeside, AreJointSlots, IsBetweenEnabled}
 use Rattle.solver_sets.specs.Ties.{Bond, JointSlots, bonds_of, contact_bond, is_bond_of, is_enabled, is_enabled_in, joint_bonds, joint_ties_at, movers_if, moves, slots_of, tie_of, ties_at, ties_in, ties_of, touching_keys}
 use Rattle.solver_sets.proofs.BondLaws.{IsContactBond, IsJointBond, bond_number, bonds_in, bonds_rise, in_bonds, in_joints, joints_in, joints_rise}
 use Rattle.solver_sets.proofs.JoinLaws.{handle_live, live_at, slots_unjoined}

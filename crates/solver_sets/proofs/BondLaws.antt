@@ -15,7 +15,7 @@ use Rattle.contacts.specs.Constraints.{constraint_number}
 use Rattle.contacts.proofs.Members.{each_in}
 use Rattle.plain_world.specs.declared.joint.BodyJoint.{BodyJoint}
 use Rattle.plain_world.specs.Joints.{joint_at}
-use Rattle.solver_sets.specs.Tied.{AreJointSlots}
+use Rattle.solver_sets.specs.Alike.{AreJointSlots}
 use Rattle.solver_sets.specs.Ties.{Bond, JointSlots, bond_before, bonds_of, contact_bond, joint_bond, joint_bonds, joint_bonds_from, touching_keys}
 use Rattle.solver_sets.proofs.ListLaws.{Rises, filter_in, in_filter, in_mapped, mapped_in, rises_append, rises_filter, rises_mapped}
 

@@ -17,7 +17,8 @@ use Rattle.plain_world.specs.declared.body.SetName.TheVariants as sets
 use Rattle.solver_sets.specs.declared.census.Item.{Item}
 use Rattle.solver_sets.specs.declared.census.Item.TheVariants as items
 use Rattle.solver_sets.specs.Laws as laws
-use Rattle.solver_sets.specs.Census.{AreNamed, Census, Sleepers, Standing, alone, census_in, contact_standings, empty_census, in_set, in_sleepers, is_same_set, items_of, listed, listed_in, names_of, names_with, sleepers_of, standing_if, standing_of_contact, standings_from, with_all, with_item, with_listed, with_name, with_name_of, with_sleeper}
+use Rattle.solver_sets.specs.Census.{AreNamed, Census, Sleepers, Standing, census_in, contact_standings, in_set, in_sleepers, is_same_set, items_of, listed, names_of, names_with, sleepers_of, standing_if, standing_of_contact, standings_from, with_name, with_name_of}
+use Rattle.solver_sets.specs.CensusListing.{alone, empty_census, listed_in, with_all, with_item, with_listed, with_sleeper}
 use Rattle.solver_sets.proofs.ListLaws.{Rises, pairs_from_rises, rises_from_pairs}
 use Rattle.solver_sets.proofs.ListingLaws.{drop_is, drop_past}
 

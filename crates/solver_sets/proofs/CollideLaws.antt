@@ -22,13 +22,14 @@ use Rattle.contacts.specs.declared.constraint.Constraint.TheVariants.{Contact, J
 use Rattle.contacts.proofs.Members.{IsIn, in_from_contains, contains_from_in}
 use Rattle.sleep_wake.specs.declared.change.Change.{Change}
 use Rattle.sleep_wake.specs.declared.change.Change.TheVariants.{Begin, End}
-use Rattle.sleep_wake.specs.Changes.{begin_count, begins_inserted, change_inserted, changes_between, only_in, AreChanges}
+use Rattle.sleep_wake.specs.Changes.{begins_inserted, change_inserted}
+use Rattle.sleep_wake.specs.ChangeLists.{begin_count, changes_between, only_in, AreChanges}
 use Rattle.sleep_wake.proofs.ListLemmas.{has_from, rising_filter}
 use Rattle.sleep_wake.proofs.TurnLemmas.{changes_fold}
 use Rattle.sleep_wake.proofs.BetweenLemmas.{changes_are}
 use Rattle.plain_world.specs.declared.body.Body.{Body}
 use Rattle.solver_sets.specs.Laws as laws
-use Rattle.solver_sets.specs.Tied.{AreJointSlots}
+use Rattle.solver_sets.specs.Alike.{AreJointSlots}
 use Rattle.solver_sets.specs.Ties.{Bond, IsNamed, IsNamedConstraint, IsNamedHandle, JointSlots, bonds_of, contact_bond, key_changes, key_ties, tie_of, ties_of}
 use Rattle.solver_sets.proofs.BondLaws.{bond_number, bonds_in, contact_above, in_bonds, joint_below, joints_in, joints_rise, rises_from_keys}
 use Rattle.solver_sets.proofs.ListLaws.{Rises, filter_in, in_filter, in_map, in_mapped, length_map, map_in, mapped_in, only_one, pairs_from_rises, rises_map, rises_mapped, same_members}

@@ -27,7 +27,7 @@ use Rattle.solver_sets.specs.declared.census.Item.TheVariants as items
 use Rattle.solver_sets.specs.Laws as laws
 use Rattle.solver_sets.specs.Census.{Standing, body_standings, census_in, census_of, contact_standing, contact_standings, in_set, is_awake_at, joint_standings, listed, mover_set, set_with, standing_apart, standing_between, standing_if, standing_of_contact, standing_of_joint, standings_from, standings_of}
 use Rattle.solver_sets.specs.EachOnce.{HasSleeper, IsPresent, ListsEachOnce, contact_of, has_key, is_same_shape, list_of, sleeping_names, stand}
-use Rattle.solver_sets.specs.Tied.{OnlyMoversSleep}
+use Rattle.solver_sets.specs.Alike.{OnlyMoversSleep}
 use Rattle.solver_sets.specs.Ties.{JointSlots, is_enabled}
 use Rattle.solver_sets.proofs.BondLaws.{rises_from_keys}
 use Rattle.solver_sets.proofs.CensusLaws.{lists_are_census}

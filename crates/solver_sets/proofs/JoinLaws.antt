@@ -25,7 +25,7 @@ use Rattle.plain_world.specs.Joints.{is_end_in, joint_at}
 use Rattle.plain_world.specs.Slots.{AreMatched, is_taken_place, item_in, with_item}
 use Rattle.solver_sets.specs.Joining.{handle_at, joined_with, unjoined}
 use Rattle.solver_sets.specs.Laws as laws
-use Rattle.solver_sets.specs.Tied.{AreJointSlots}
+use Rattle.solver_sets.specs.Alike.{AreJointSlots}
 use Rattle.solver_sets.specs.Ties.{Bond, JointSlots, bonds_of, joint_bond, joint_movers, movers_with, tie_of, tie_with, ties_of}
 use Rattle.solver_sets.proofs.BondLaws.{bond_number, bonds_in, bonds_rise, contact_above, in_bonds, place_is}
 use Rattle.solver_sets.proofs.ListLaws.{only_one, same_members}

@@ -10,7 +10,8 @@ use Rattle.body_handles.specs.declared.handle.Handle.{Handle}
 use Rattle.plain_world.specs.declared.body.Body.{Body}
 use Rattle.plain_world.specs.declared.joint.BodyJoint.{BodyJoint}
 use Rattle.plain_world.specs.Joints.{is_joint_of}
-use Rattle.solver_sets.specs.Ties.{Bond, bond_before, is_bond_of, joint_bond, joint_tie_of, tie_of, ties_in}
+use Rattle.solver_sets.specs.Ties.{Bond, bond_before, is_bond_of, joint_bond, tie_of, ties_in}
+use Rattle.solver_sets.specs.BesideByTies.{joint_tie_of}
 
 -- ---- one element more
 

@@ -23,7 +23,8 @@ use Rattle.plain_world.specs.Joints.{joint_at}
 use Rattle.plain_world.specs.Kinds.{carried_by, is_dynamic, is_moving}
 use Rattle.plain_world.specs.Slots.{body_at}
 use Rattle.sleep_wake.specs.Acting.{Acting, IsSettled, are_awake, awake_label, is_awake, second_awake}
-use Rattle.solver_sets.specs.Beside.{is_beside_moving, is_joined_to_moving, is_moving_at, is_moving_in, is_stirred_between, is_to_moving, is_touched_by_moving, ties_to_moving}
+use Rattle.solver_sets.specs.Beside.{is_beside_moving, is_joined_to_moving, is_moving_at, is_moving_in, is_stirred_between, is_touched_by_moving}
+use Rattle.solver_sets.specs.BesideByTies.{is_to_moving, ties_to_moving}
 use Rattle.solver_sets.specs.Laws as laws
 use Rattle.solver_sets.specs.Ties.{Bond, JointSlots, bonds_of, contact_bond, is_enabled, is_enabled_in, is_mover_in, joint_bond, movers_if, movers_with, moves, tie_of, tie_with, ties_of}
 use Rattle.solver_sets.proofs.AmongLaws.{if_both, movers_enabled}

@@ -12,8 +12,9 @@ use Rattle.islands.specs.Labels.{Labels, is_asleep, label_at, sleeping_name}
 use Rattle.plain_world.specs.declared.body.Body.{Body}
 use Rattle.plain_world.specs.Slots.{body_at}
 use Rattle.solver_sets.specs.Laws as laws
-use Rattle.solver_sets.specs.Slept.{asleep_only_in, handle_if, handles_where, is_asleep_in, is_asleep_label, newly_asleep, newly_awake, sleeps, was_asleep}
-use Rattle.solver_sets.specs.Tied.{AreTold}
+use Rattle.solver_sets.specs.Slept.{asleep_only_in, handles_where, is_asleep_label, sleeps}
+use Rattle.solver_sets.specs.SinceTold.{handle_if, is_asleep_in, newly_asleep, newly_awake, was_asleep}
+use Rattle.solver_sets.specs.Alike.{AreTold}
 use Rattle.solver_sets.specs.Ties.{is_mover_in}
 
 -- ---- the handles of some slots alone, among which are all that pass

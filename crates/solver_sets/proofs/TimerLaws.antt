@@ -16,7 +16,8 @@ use Rattle.plain_world.specs.declared.joint.BodyJoint.{BodyJoint}
 use Rattle.plain_world.specs.Joints.{joint_at}
 use Rattle.plain_world.specs.Slots.{body_at}
 use Rattle.sleep_wake.specs.Acting.{is_awake}
-use Rattle.solver_sets.specs.Beside.{TellMoving, is_beside_moving, is_joined_to_moving, is_moving_at, is_stirred_between, is_to_moving, own_set, stilled, stilled_alone, stilled_by, stilled_lists, stilled_pair, stilled_tie, stilled_ties, ties_to_moving, timer_if, timers_from, timers_of}
+use Rattle.solver_sets.specs.Beside.{is_beside_moving, is_joined_to_moving, is_moving_at, is_stirred_between, timer_if, timers_from, timers_of}
+use Rattle.solver_sets.specs.BesideByTies.{TellMoving, is_to_moving, own_set, stilled, stilled_alone, stilled_by, stilled_lists, stilled_pair, stilled_tie, stilled_ties, ties_to_moving}
 use Rattle.solver_sets.proofs.ListingLaws.{drop_is, drop_past}
 
 -- ---- an entry that is set

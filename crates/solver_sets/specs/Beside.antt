@@ -1,21 +1,14 @@
 -- Who stands beside a body: joined to it by a joint, or touching it.
-use Rattle.std.specs.Prelude.{◌≡◌, ℕ, suc, ◌==◌, ◌||◌, Bool, true, false, cond, is_none, List, [], ◌∷◌, ◌++◌, map, slice_set, Option, Some, None}
+use Rattle.std.specs.Prelude.{ℕ, suc, ◌==◌, ◌||◌, Bool, true, false, cond, List, [], ◌∷◌, ◌++◌, Option, Some, None}
 use Rattle.std.specs.List.{filter_map, list_any}
 use Rattle.contacts_base.specs.declared.contact.ContactEntry.{ContactEntry}
 use Rattle.contacts_base.specs.Evaluate.{touches}
-use Rattle.contacts.specs.declared.constraint.Constraint.{Constraint}
-use Rattle.contacts.specs.declared.constraint.Constraint.TheVariants.{Joint, Contact}
-use Rattle.graph_colours.specs.declared.member.Member.{Member}
-use Rattle.graph_colours.specs.Colours.{all_members}
-use Rattle.islands.specs.Labels.{Labels}
 use Rattle.plain_world.specs.declared.body.Body.{Body}
 use Rattle.plain_world.specs.declared.joint.BodyJoint.{BodyJoint}
 use Rattle.plain_world.specs.Bodies.{is_mover}
-use Rattle.plain_world.specs.Joints.{joint_at}
 use Rattle.plain_world.specs.Kinds.{carried_by, is_moving}
 use Rattle.plain_world.specs.Slots.{body_at}
-use Rattle.sleep_wake.specs.Acting.{is_awake}
-use Rattle.solver_sets.specs.Ties.{moves, ties_among}
+use Rattle.solver_sets.specs.Ties.{moves}
 
 -- ---- which movers are beside a body
 
@@ -52,14 +45,6 @@ stirred_if (Some b) slot beside = cond (is_mover b) (slot ∷ []) (cond b.enable
 
 unfoldable pub stirred_by : List (Option Body) → List (Option BodyJoint) → List ContactEntry → ℕ → List ℕ
 stirred_by bodies joints contacts slot = stirred_if (body_at bodies slot) slot (neighbours bodies joints contacts slot)
-
--- the first mover of each tie
-abbrev pub first_movers : List (Member Constraint) → List ℕ
-first_movers ties = map (λ (m : Member Constraint). m.movers.first) ties
-
--- whom it wakes by all ties that there are
-unfoldable pub stirred_among : List (Option Body) → List (Option BodyJoint) → List (Member Constraint) → ℕ → List ℕ
-stirred_among bodies joints ties slot = stirred_if (body_at bodies slot) slot (first_movers (ties_among slot joints ties))
 
 -- ---- who is kept awake by a kinematic body that moves
 
@@ -102,52 +87,3 @@ timers_from beside slot (o ∷ bodies) = timer_if (beside slot) o ∷ timers_fro
 -- by slot
 unfoldable pub timers_of : List (Option Body) → List (Option BodyJoint) → List ContactEntry → List ℕ
 timers_of bodies joints contacts = timers_from (is_beside_moving bodies joints contacts) 0 bodies
-
--- ---- timers that are put to 0
-
-abbrev pub stilled : Bool → ℕ → List ℕ → List ℕ
-stilled moving slot timers = cond moving (slice_set timers slot 0) timers
-
--- each of two bodies that are beside one another, if the other moves
-abbrev pub stilled_pair : List (Option Body) → ℕ → ℕ → List ℕ → List ℕ
-stilled_pair bodies a b timers = stilled (is_moving_at bodies a) b (stilled (is_moving_at bodies b) a timers)
-
-abbrev pub stilled_by : List (Option Body) → Option BodyJoint → List ℕ → List ℕ
-stilled_by bodies None timers = timers
-stilled_by bodies (Some j) timers = stilled_pair bodies j.a j.b timers
-
--- ---- the same by the constraints that act
-
--- the mover of a constraint that has but one, if the other of its two bodies moves
-abbrev pub stilled_alone : List (Option Body) → List (Option BodyJoint) → Constraint → List ℕ → List ℕ
-stilled_alone bodies joints (Joint h) timers = stilled_by bodies (joint_at joints h.slot) timers
-stilled_alone bodies joints (Contact key) timers = stilled_pair bodies key.first.slot key.second.slot timers
-
-abbrev pub stilled_tie : List (Option Body) → List (Option BodyJoint) → Member Constraint → List ℕ → List ℕ
-stilled_tie bodies joints m timers = cond (is_none m.movers.second) (stilled_alone bodies joints m.id timers) timers
-
-abbrev pub stilled_ties : List (Option Body) → List (Option BodyJoint) → List (Member Constraint) → List ℕ → List ℕ
-stilled_ties bodies joints [] timers = timers
-stilled_ties bodies joints (m ∷ ms) timers = stilled_ties bodies joints ms (stilled_tie bodies joints m timers)
-
--- of one colour after the other
-abbrev pub stilled_lists : List (Option Body) → List (Option BodyJoint) → List (List (Member Constraint)) → List ℕ → List ℕ
-stilled_lists bodies joints [] timers = timers
-stilled_lists bodies joints (ms ∷ lists) timers = stilled_lists bodies joints lists (stilled_ties bodies joints ms timers)
-
--- the timers of the bodies in these slots alone are written down
-abbrev pub own_set : List (Option Body) → List ℕ → List ℕ → List ℕ
-own_set bodies [] timers = timers
-own_set bodies (slot ∷ slots) timers = own_set bodies slots (slice_set timers slot (timer_if false (body_at bodies slot)))
-
--- the constraint is between the body in the slot and one that moves
-abbrev pub is_to_moving : List (Option Body) → List (Option BodyJoint) → ℕ → Constraint → Bool
-is_to_moving bodies joints slot (Joint h) = is_joined_to_moving bodies slot (joint_at joints h.slot)
-is_to_moving bodies joints slot (Contact key) = is_stirred_between bodies slot key.first.slot key.second.slot
-
-abbrev pub ties_to_moving : List (Option Body) → List (Option BodyJoint) → ℕ → Member Constraint → Bool
-ties_to_moving bodies joints slot m = cond (is_none m.movers.second) (is_to_moving bodies joints slot m.id) false
-
--- the constraints with a colour tell of each awake mover whether it is beside a body that moves
-abbrev pub TellMoving : List (Option Body) → List (Option BodyJoint) → List ContactEntry → Labels → List (List (Member Constraint)) → Type 0
-TellMoving bodies joints contacts labels lists = (slot : ℕ) → is_awake labels slot ≡ true → list_any (ties_to_moving bodies joints slot) (all_members lists) ≡ is_beside_moving bodies joints contacts slot

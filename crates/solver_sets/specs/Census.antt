@@ -136,38 +136,9 @@ census_in standings = record {
 unfoldable pub census_of : List Place → List (Option Body) → JointSlots → List ContactEntry → Census
 census_of places bodies s contacts = census_in (standings_of places bodies s contacts)
 
--- ---- one item after another
-
-abbrev pub empty_census : Census
-empty_census = record { static_set = []; disabled = []; awake = []; sleeping = [] }
-
 -- the names ascend, each once
 abbrev pub AreNamed : List Sleepers → Type 0
 AreNamed sleeping = AllPairs (λ (s later : Sleepers). s.name < later.name) sleeping
-
-abbrev pub with_item : Sleepers → Item → Sleepers
-with_item s item = record { name = s.name; items = s.items ++ item ∷ [] }
-
-abbrev pub alone : ℕ → Item → Sleepers
-alone name item = record { name = name; items = item ∷ [] }
-
--- an item listed in the sleeping set of a name, which comes where there is none yet
-abbrev pub with_sleeper : ℕ → Item → List Sleepers → List Sleepers
-with_sleeper name item [] = alone name item ∷ []
-with_sleeper name item (s ∷ sleeping) = cond (nat_lt s.name name) (s ∷ with_sleeper name item sleeping) (cond (s.name == name) (with_item s item ∷ sleeping) (alone name item ∷ s ∷ sleeping))
-
-abbrev pub listed_in : Census → Item → SetName → Census
-listed_in c item sets.Static = record c { static_set = c.static_set ++ item ∷ [] }
-listed_in c item sets.Disabled = record c { disabled = c.disabled ++ item ∷ [] }
-listed_in c item sets.Awake = record c { awake = c.awake ++ item ∷ [] }
-listed_in c item (sets.Sleeping name) = record c { sleeping = with_sleeper name item c.sleeping }
-
-abbrev pub with_listed : Census → Standing → Census
-with_listed c s = listed_in c s.item s.set
-
-abbrev pub with_all : Census → List Standing → Census
-with_all c [] = c
-with_all c (s ∷ standings) = with_all (with_listed c s) standings
 
 -- ---- what makes lists the census
 

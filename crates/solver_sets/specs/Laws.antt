@@ -19,7 +19,7 @@ use Rattle.contacts.specs.Constraints.{constraint_number}
 use Rattle.contacts.specs.Changes.{keys_touching_only_in}
 use Rattle.islands.specs.Labels.{Labels}
 use Rattle.sleep_wake.specs.Acting.{Acting, AreMovers, IsSettled}
-use Rattle.sleep_wake.specs.Changes.{AreChanges, begin_count, changes_between, each_inserted, each_without}
+use Rattle.sleep_wake.specs.ChangeLists.{AreChanges, begin_count, changes_between, each_inserted, each_without}
 use Rattle.plain_world.specs.declared.body.Body.{Body}
 use Rattle.plain_world.specs.declared.joint.BodyJoint.{BodyJoint}
 use Rattle.plain_world.specs.Joints.{AreJoints, joint_at}
@@ -27,11 +27,14 @@ use Rattle.plain_world.specs.Sleep.{told}
 use Rattle.plain_world.specs.Slots.{AreMatched, body_at, with_body}
 use Rattle.solver_sets.specs.Census.{IsCensus, Standing, census_in, census_of}
 use Rattle.solver_sets.specs.EachOnce.{ListsEachOnce}
-use Rattle.solver_sets.specs.Beside.{TellMoving, neighbours, stirred_among, stirred_by}
+use Rattle.solver_sets.specs.Beside.{neighbours, stirred_by}
+use Rattle.solver_sets.specs.BesideByTies.{TellMoving, stirred_among, ties_among}
 use Rattle.solver_sets.specs.Joining.{handle_at, joined_with, unjoined, unjoined_all}
-use Rattle.solver_sets.specs.Slept.{asleep_only_in, newly_asleep, newly_awake}
-use Rattle.solver_sets.specs.Tied.{AreAlike, AreAlikeBeside, AreJointSlots, AreTied, AreTold, HaveSameEnds, IsBetweenEnabled, OnlyMoversSleep}
-use Rattle.solver_sets.specs.Ties.{IsNamed, IsNamedConstraint, JointSlots, Lists, is_enabled, joint_movers, joint_ties_at, key_changes, members_of, movers_with, moves, slots_of, ties_among, ties_at, ties_of, touching_keys}
+use Rattle.solver_sets.specs.Slept.{asleep_only_in}
+use Rattle.solver_sets.specs.SinceTold.{newly_asleep, newly_awake}
+use Rattle.solver_sets.specs.Tied.{AreTied}
+use Rattle.solver_sets.specs.Alike.{AreAlike, AreAlikeBeside, AreJointSlots, AreTold, HaveSameEnds, IsBetweenEnabled, OnlyMoversSleep}
+use Rattle.solver_sets.specs.Ties.{IsNamed, IsNamedConstraint, JointSlots, Lists, is_enabled, joint_movers, joint_ties_at, key_changes, members_of, movers_with, moves, slots_of, ties_at, ties_of, touching_keys}
 
 -- ---- what ties are
 

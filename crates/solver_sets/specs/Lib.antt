@@ -1,11 +1,15 @@
 pub mod Ties
+pub mod BesideByTies
 pub mod Given
 pub mod Joining
 pub mod Beside
 pub mod Slept
+pub mod SinceTold
 pub mod Merging
 pub mod Tied
+pub mod Alike
 pub mod Laws
 pub mod Census
+pub mod CensusListing
 pub mod EachOnce
 pub mod Anchors

@@ -18,7 +18,7 @@ use Rattle.sleep_wake.specs.Changes.{begins_inserted, begun, ended}
 use Rattle.plain_world.specs.declared.body.Body.{Body}
 use Rattle.plain_world.specs.declared.joint.BodyJoint.{BodyJoint}
 use Rattle.plain_world.specs.Bodies.{is_mover}
-use Rattle.plain_world.specs.Joints.{is_end_in, is_joint_of, joint_at}
+use Rattle.plain_world.specs.Joints.{joint_at}
 use Rattle.plain_world.specs.Slots.{body_at}
 
 -- the members of each colour, and of the overflow
@@ -132,20 +132,6 @@ ties_at slot bodies s contacts = ties_in bodies (filter (is_bond_of slot) (bonds
 -- those of its joints
 unfoldable pub joint_ties_at : ℕ → List (Option Body) → JointSlots → List (Member Constraint)
 joint_ties_at slot bodies s = ties_in bodies (filter (is_bond_of slot) (joint_bonds s))
-
--- the tie of a joint, if one of its ends is the body in the slot
-abbrev pub joint_tie_of : List (Option Body) → ℕ → Handle → Option BodyJoint → Option (Member Constraint)
-joint_tie_of bodies slot h None = None
-joint_tie_of bodies slot h (Some j) = cond (is_joint_of slot j) (tie_with (Joint h) (joint_movers bodies j)) None
-
--- one of a constraint's two bodies is the one in the slot; those of a joint are the ends of the joint in its own slot
-abbrev pub is_tie_of : List (Option BodyJoint) → ℕ → Constraint → Bool
-is_tie_of joints slot (Joint h) = is_end_in slot (joint_at joints h.slot)
-is_tie_of joints slot (Contact key) = (key.first.slot == slot) || (key.second.slot == slot)
-
--- of these ties those of the body in the slot
-unfoldable pub ties_among : ℕ → List (Option BodyJoint) → List (Member Constraint) → List (Member Constraint)
-ties_among slot joints ties = filter (λ (m : Member Constraint). is_tie_of joints slot m.id) ties
 
 -- ---- the constraints that have a colour, each with its movers
 

@@ -5,7 +5,8 @@ ghost use Rattle.std.specs.List.{AllWithin};
 ghost use Rattle.std.specs.Result.{IsOkUnless};
 ghost use Rattle.plain_world.specs.Slots.{AreMatched, body_at};
 ghost use Rattle.solver_sets.specs.Ties.{slots_of};
-ghost use Rattle.solver_sets.specs.Census.{AreNamed, alone, body_standings, census_of, contact_standings, empty_census, is_awake_at, joint_standings, listed_in, mover_set, set_with, standing_apart, standing_between, standing_of_contact, standing_of_joint, with_all, with_item, with_sleeper};
+ghost use Rattle.solver_sets.specs.Census.{AreNamed, body_standings, census_of, contact_standings, is_awake_at, joint_standings, mover_set, set_with, standing_apart, standing_between, standing_of_contact, standing_of_joint};
+ghost use Rattle.solver_sets.specs.CensusListing.{alone, empty_census, listed_in, with_all, with_item, with_sleeper};
 
 use crate::ties::is_enabled;
 use body_handles::{Handle, Place};

@@ -3,7 +3,8 @@
 ghost use Rattle.std.specs.Prelude.{◌≡◌, ◌≤◌, ◌<◌, ◌+◌, ◌++◌, ◌&&◌, ℕ, Contains, not, length, slice_get, true, vec_len, vec_capacity};
 ghost use Rattle.std.specs.List.Sorted.{IsStrictlyIncreasing};
 ghost use Rattle.std.specs.Option.{option_to_list};
-ghost use Rattle.solver_sets.specs.Slept.{handle_if, newly_asleep, newly_awake, sleeps, was_asleep};
+ghost use Rattle.solver_sets.specs.Slept.{sleeps};
+ghost use Rattle.solver_sets.specs.SinceTold.{handle_if, newly_asleep, newly_awake, was_asleep};
 
 use body_handles::{Handle, Place};
 use islands::Islands;
@@ -100,7 +101,7 @@ fn push_some(handles: &mut Vec<Handle>, handle: Option<Handle>)
 
 /// Lists who sleeps and wasn't told so yet, ascending. Each of them is in one of the slots `awake`, of those who were awake before, so that it
 /// costs by their number. There is room for as many handles as there are such slots.
-#[tactic(auto, unfolding(crate::specs::Slept::newly_asleep))]
+#[tactic(auto, unfolding(crate::specs::SinceTold::newly_asleep))]
 pub fn fill_newly_asleep(
     handles: &mut Vec<Handle>,
     places: &[Place],
@@ -125,7 +126,7 @@ pub fn fill_newly_asleep(
 
 /// Lists who was told that it sleeps and is awake, ascending. Each of them is in one of the slots `asleep`, of sleepers who may have woken, so that
 /// it costs by their number. There is room for as many handles as there are such slots.
-#[tactic(auto, unfolding(crate::specs::Slept::newly_awake))]
+#[tactic(auto, unfolding(crate::specs::SinceTold::newly_awake))]
 pub fn fill_newly_awake(
     handles: &mut Vec<Handle>,
     places: &[Place],

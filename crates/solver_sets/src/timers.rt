@@ -6,7 +6,8 @@ ghost use Rattle.contacts_base.specs.declared.contact.ContactEntry.{ContactEntry
 ghost use Rattle.islands.specs.Labels.{Labels};
 ghost use Rattle.plain_world.specs.Slots.{body_at};
 ghost use Rattle.sleep_wake.specs.Acting.{is_awake};
-ghost use Rattle.solver_sets.specs.Beside.{TellMoving, is_moving_at, own_set, stilled, stilled_alone, stilled_by, stilled_lists, stilled_pair, stilled_tie, stilled_ties, timer_if, timers_of};
+ghost use Rattle.solver_sets.specs.Beside.{is_moving_at, timer_if, timers_of};
+ghost use Rattle.solver_sets.specs.BesideByTies.{TellMoving, own_set, stilled, stilled_alone, stilled_by, stilled_lists, stilled_pair, stilled_tie, stilled_ties};
 
 use contacts::Constraint;
 use graph_colours::{Colours, Member, OVERFLOW};

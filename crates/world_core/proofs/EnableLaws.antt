@@ -11,7 +11,7 @@ use Rattle.plain_world.specs.Bodies.{is_mover}
 use Rattle.plain_world.specs.Changes.{enabled_body}
 use Rattle.plain_world.specs.Slots.{body_at}
 use Rattle.sleep_wake.specs.Acting.{Acting}
-use Rattle.sleep_wake.specs.Changes.{CanBegin}
+use Rattle.sleep_wake.specs.ChangeLists.{CanBegin}
 use Rattle.solver_sets.specs.Ties.{joint_ties_at}
 use Rattle.world_core.specs.Inside.{IsWhole}
 use Rattle.world_rules.specs.Sets.{acting_of, woken}

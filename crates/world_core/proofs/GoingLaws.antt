@@ -11,7 +11,8 @@ use Rattle.plain_world.specs.Bodies.{is_mover}
 use Rattle.plain_world.specs.Sleep.{told}
 use Rattle.sleep_wake.specs.Acting.{Acting, is_awake}
 use Rattle.sleep_wake.specs.Bodies.{mover_gone}
-use Rattle.sleep_wake.specs.Changes.{CanEnd, each_ended}
+use Rattle.sleep_wake.specs.Changes.{each_ended}
+use Rattle.sleep_wake.specs.ChangeLists.{CanEnd}
 use Rattle.sleep_wake.specs.Sleeping.{islands_woken, names_of}
 use Rattle.solver_sets.specs.Beside.{stirred_by}
 use Rattle.solver_sets.specs.Ties.{is_mover_in, ties_at}

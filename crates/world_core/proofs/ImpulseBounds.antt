@@ -16,8 +16,7 @@ use Rattle.contacts_base.specs.declared.contact.Contact.{Contact}
 use Rattle.contacts_base.specs.declared.contact.ContactEntry.{ContactEntry}
 use Rattle.contacts_base.specs.declared.contact.ContactPoint.{ContactPoint}
 use Rattle.joint_rows.specs.declared.joint.Joint.{Joint}
-use Rattle.colour_solver_base.specs.ContactSolving.{SolvedPoint, bounces, contact_bounced, contact_solved, contact_warmed, from_first, normal_solved, point_bounced, point_solved, point_warmed, separation_now, tangent_solved, then_second}
-use Rattle.colour_solver_base.specs.Rows.{bias_of}
+use Rattle.colour_solver_base.specs.ContactSolving.{SolvedPoint, bounces, contact_bounced, contact_solved, contact_warmed, from_first, normal_solved, point_bounced, point_solved, point_warmed, separation_now, tangent_solved, then_second, bias_of}
 use Rattle.world_core_base.specs.Solving.{Turns, bounce, solve, warm}
 
 -- ---- two bodies

@@ -25,7 +25,8 @@ use Rattle.plain_world.specs.Sleep.{told}
 use Rattle.plain_world.specs.Slots.{body_at}
 use Rattle.sleep_wake.specs.Acting.{Acting, IsSettled, are_awake, awake_label, is_awake}
 use Rattle.sleep_wake.specs.Bodies.{mover_gone}
-use Rattle.sleep_wake.specs.Changes.{CanEnd, each_ended, ended}
+use Rattle.sleep_wake.specs.Changes.{each_ended, ended}
+use Rattle.sleep_wake.specs.ChangeLists.{CanEnd}
 use Rattle.sleep_wake.proofs.AwakeLemmas.{awake_as}
 use Rattle.sleep_wake.proofs.FoldLemmas.{are_up, end_next}
 use Rattle.solver_sets.specs.Joining.{unjoined_all}

@@ -13,7 +13,7 @@ use Rattle.islands.specs.Labels.{Labels, label_at}
 use Rattle.plain_world.specs.declared.body.Body.{Body}
 use Rattle.plain_world.specs.declared.joint.BodyJoint.{BodyJoint}
 use Rattle.plain_world.specs.Slots.{body_at, item_at}
-use Rattle.sleep_wake.specs.SleepPhase.{may_be_due}
+use Rattle.sleep_wake.specs.Resting.{may_be_due}
 use Rattle.solver_sets.specs.Beside.{is_beside_moving, is_joined_to_moving, is_moving_at, is_stirred_between, is_touched_by_moving, timer_if, timers_of}
 use Rattle.solver_sets.specs.Tied.{AreTied}
 use Rattle.world_core.specs.Quiet.{HasMarked, IsShort, KeepMarks, marked_by, marked_joined, marked_pair, marked_touched}

@@ -17,7 +17,8 @@ use Rattle.contacts.specs.Turns.{AreWithin, stirs_in}
 use Rattle.contacts.proofs.Members.{Each, IsIn, contains_from_in, in_new, in_passed}
 use Rattle.plain_world.specs.declared.body.Body.{Body}
 use Rattle.plain_world.specs.Bodies.{AreBodies, IsBody, is_awake, is_carried, pose_of, stirs}
-use Rattle.plain_world.specs.Changes.{is_awake_in, is_carried_in}
+use Rattle.plain_world.specs.Changes.{is_awake_in}
+use Rattle.plain_world.specs.InSlots.{is_carried_in}
 use Rattle.plain_world.specs.Kinds.{carried_by, is_dynamic, is_moving}
 use Rattle.plain_world.specs.Slots.{body_at}
 use Rattle.world_core.proofs.CollideLaws.{eight_at_most}

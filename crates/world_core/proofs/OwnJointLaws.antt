@@ -15,7 +15,8 @@ use Rattle.plain_world.specs.declared.joint.BodyJoint.{BodyJoint}
 use Rattle.plain_world.specs.Joints.{is_end_in, is_joint_of, joint_at}
 use Rattle.solver_sets.specs.Beside.{joined_by, joined_to}
 use Rattle.solver_sets.specs.Joining.{handle_at, unjoined, unjoined_all, unjoined_if, unjoined_up}
-use Rattle.solver_sets.specs.Ties.{Bond, JointSlots, bond_before, is_bond_of, joint_bond, joint_bonds_from, joint_tie_of, joint_ties_at, slots_of, tie_of, ties_in}
+use Rattle.solver_sets.specs.Ties.{Bond, JointSlots, bond_before, is_bond_of, joint_bond, joint_bonds_from, joint_ties_at, slots_of, tie_of, ties_in}
+use Rattle.solver_sets.specs.BesideByTies.{joint_tie_of}
 use Rattle.solver_sets.proofs.SlotLemmas.{item_at-set_other}
 use Rattle.solver_sets.proofs.ListingLaws.{drop_is}
 use Rattle.world_core_base.specs.JointTables.{own_from, own_slots}

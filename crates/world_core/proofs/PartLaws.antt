@@ -25,7 +25,7 @@ use Rattle.plain_world.specs.Sleep.{told}
 use Rattle.plain_world.specs.Slots.{body_at}
 use Rattle.plain_world.specs.Joints.{joint_at, joint_of}
 use Rattle.sleep_wake.specs.Acting.{Acting, are_awake, is_awake}
-use Rattle.sleep_wake.specs.Changes.{CanEnd}
+use Rattle.sleep_wake.specs.ChangeLists.{CanEnd}
 use Rattle.sleep_wake.specs.Sleeping.{islands_woken}
 use Rattle.solver_sets.specs.Joining.{handle_at}
 use Rattle.solver_sets.specs.Ties.{is_mover_in, joint_movers, moves, ties_at}

@@ -24,11 +24,13 @@ use Rattle.plain_world.specs.Sleep.{timed_bodies, told}
 use Rattle.plain_world.specs.Slots.{body_at}
 use Rattle.sleep_wake.specs.Acting.{Acting, awake_label}
 use Rattle.sleep_wake.specs.Acting as acting
-use Rattle.sleep_wake.specs.SleepPhase.{all_put_to_rest, is_due, is_island, is_ready, least_timer, lesser, longest_at_rest, may_be_due, picked_to_split, ready, ready_from, ready_put_to_rest, sleep_phase, split_picked, ticks_to_sleep}
+use Rattle.sleep_wake.specs.SleepPhase.{all_put_to_rest, is_due, is_island, is_ready, least_timer, lesser, longest_at_rest, picked_to_split, ready, ready_from, ready_put_to_rest, sleep_phase, split_picked, ticks_to_sleep}
+use Rattle.sleep_wake.specs.Resting.{may_be_due}
 use Rattle.sleep_wake.specs.Sleeping.{rested_at, slept_at, slept_by, split_if_loose}
 use Rattle.sleep_wake.proofs.AwakeLemmas.{and_is}
 use Rattle.solver_sets.specs.Beside.{is_beside_moving, timer_if, timers_from, timers_of}
-use Rattle.solver_sets.specs.Slept.{handles_where, is_asleep_in, is_asleep_label, newly_asleep, sleeps, was_asleep}
+use Rattle.solver_sets.specs.Slept.{handles_where, is_asleep_label, sleeps}
+use Rattle.solver_sets.specs.SinceTold.{is_asleep_in, newly_asleep, was_asleep}
 use Rattle.solver_sets.specs.Tied.{AreTied}
 use Rattle.solver_sets.specs.Ties.{is_mover_in}
 use Rattle.world_rules.specs.Apply.{rested_acting}

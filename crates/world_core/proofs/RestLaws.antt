@@ -22,9 +22,10 @@ use Rattle.sleep_wake.specs.AwakeSlots.{AgreeAwake, AreAwakeSlots}
 use Rattle.sleep_wake.specs.SleepPhase.{sleep_phase}
 use Rattle.sleep_wake.proofs.AwakeLemmas.{and_is}
 use Rattle.sleep_wake.proofs.PhaseLemmas.{not_is}
-use Rattle.solver_sets.specs.Beside.{TellMoving}
+use Rattle.solver_sets.specs.BesideByTies.{TellMoving}
 use Rattle.solver_sets.specs.Beside.{is_beside_moving, timers_from, timers_of}
-use Rattle.solver_sets.specs.Slept.{is_asleep_in, is_asleep_label, sleeps, was_asleep}
+use Rattle.solver_sets.specs.Slept.{is_asleep_label, sleeps}
+use Rattle.solver_sets.specs.SinceTold.{is_asleep_in, was_asleep}
 use Rattle.solver_sets.specs.Tied.{AreTied}
 use Rattle.solver_sets.specs.Ties.{is_mover_in}
 use Rattle.world_rules.specs.Sound.{AreTold}

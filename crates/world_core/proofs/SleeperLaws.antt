@@ -16,14 +16,16 @@ use Rattle.islands.proofs.LabelLemmas.{in_case, in_of}
 use Rattle.plain_world.specs.declared.body.Body.{Body}
 use Rattle.plain_world.specs.Slots.{body_at}
 use Rattle.sleep_wake.specs.Acting.{Acting, IsSettled}
-use Rattle.sleep_wake.specs.Changes.{AreChanges, IsChange, begun, changed, ended, turned}
+use Rattle.sleep_wake.specs.Changes.{begun, changed, ended, turned}
+use Rattle.sleep_wake.specs.ChangeLists.{AreChanges, IsChange}
 use Rattle.sleep_wake.specs.Waking.{movers_woken, second_woken, set_woken, woken_at, woken_by}
 use Rattle.sleep_wake.specs.declared.change.Change.{Change}
 use Rattle.sleep_wake.specs.declared.change.Change.TheVariants.{Begin, End}
 use Rattle.sleep_wake.proofs.AwakeLemmas.{and_is}
 use Rattle.sleep_wake.proofs.FoldLemmas.{Labelled, change_next, change_now, changed_labelled, woken_ready}
 use Rattle.sleep_wake.proofs.TurnOwn.{IsReady, change_keeps, ready_for}
-use Rattle.solver_sets.specs.Slept.{is_asleep_in, sleeps, was_asleep}
+use Rattle.solver_sets.specs.Slept.{sleeps}
+use Rattle.solver_sets.specs.SinceTold.{is_asleep_in, was_asleep}
 use Rattle.world_rules.specs.Sound.{AreTold}
 use Rattle.world_rules.proofs.QuietLaws.{SleepAlike, begun_alike, ended_alike}
 use Rattle.world_core.specs.Waking.{HasIslands, HasName, HasSleepers, IsExtended, OfAll, OfBoth, OfSecond, movers_in}

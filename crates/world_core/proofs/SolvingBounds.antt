@@ -16,7 +16,7 @@ use Rattle.momenta.specs.declared.limits.TheConstants.{MAX_SPEED}
 use Rattle.momenta.specs.declared.mass.MassData.{MassData}
 use Rattle.momenta.specs.declared.motion.Motion.{Motion}
 use Rattle.momenta.specs.declared.state.BodyState.{BodyState}
-use Rattle.colour_solver.specs.States.{carrier}
+use Rattle.colour_solver.specs.Masses.{carrier}
 use Rattle.contacts.specs.declared.constraint.Constraint.{Constraint}
 use Rattle.contacts.specs.declared.constraint.Constraint.TheVariants as constraints
 use Rattle.contacts_base.specs.Contacts.{lookup}

@@ -26,21 +26,26 @@ use Rattle.plain_world.specs.declared.joint.BodyJoint.{BodyJoint}
 use Rattle.plain_world.specs.Bodies.{AreBodies}
 use Rattle.plain_world.specs.Momentum.{momentum}
 use Rattle.plain_world.specs.Joints.{AreJoints}
-use Rattle.plain_world.specs.Sleep.{AreTimersWithin, timed_bodies, told}
+use Rattle.plain_world.specs.Sleep.{timed_bodies, told}
+use Rattle.plain_world.specs.InSlots.{AreTimersWithin, HaveSameSlots}
 use Rattle.plain_world.specs.Plain.{Plain}
-use Rattle.plain_world.specs.Slots.{AreMatched, HaveSameSlots}
+use Rattle.plain_world.specs.Slots.{AreMatched}
 use Rattle.shapes.specs.Shapes.{is_between}
 use Rattle.sleep_wake.specs.Acting.{Acting, IsSettled}
-use Rattle.sleep_wake.specs.Changes.{AreChanges, begin_count, turned}
+use Rattle.sleep_wake.specs.Changes.{turned}
+use Rattle.sleep_wake.specs.ChangeLists.{AreChanges, begin_count}
 use Rattle.sleep_wake.specs.declared.change.Change.{Change}
-use Rattle.solver_sets.specs.Beside.{TellMoving}
-use Rattle.solver_sets.specs.Slept.{asleep_only_in, newly_asleep, newly_awake}
-use Rattle.solver_sets.specs.Tied.{AreAlike, AreTied, ends_in}
+use Rattle.solver_sets.specs.BesideByTies.{TellMoving}
+use Rattle.solver_sets.specs.Slept.{asleep_only_in}
+use Rattle.solver_sets.specs.SinceTold.{newly_asleep, newly_awake}
+use Rattle.solver_sets.specs.Tied.{AreTied}
+use Rattle.solver_sets.specs.Alike.{AreAlike, ends_in}
 use Rattle.solver_sets.specs.Ties.{JointSlots, key_changes, slots_of, ties_of}
 use Rattle.solver_sets.proofs.MovingLaws.{tell_moving}
 use Rattle.solver_sets.proofs.SleptLaws.{told_bodies_tell}
 use Rattle.world_core_base.specs.ConstraintRows.{rows_of}
-use Rattle.world_core_base.specs.Gather.{AreContactsOf, states_of}
+use Rattle.world_core_base.specs.Gather.{states_of}
+use Rattle.world_core_base.specs.ContactBodies.{AreContactsOf}
 use Rattle.world_core_base.specs.Renewal.{renewed_bodies}
 use Rattle.world_core_base.specs.RowColours.{HasItsMovers}
 use Rattle.world_core_base.specs.Solving.{Solving, bodies_of, solve_order, solved}

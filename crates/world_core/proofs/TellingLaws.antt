@@ -35,7 +35,8 @@ use Rattle.sleep_wake.specs.declared.change.Change.TheVariants.{Begin, End}
 use Rattle.sleep_wake.proofs.EdgeLemmas.{edges_inside}
 use Rattle.sleep_wake.proofs.AwakeLemmas.{and_is}
 use Rattle.sleep_wake.proofs.PhaseLemmas.{picked_is}
-use Rattle.solver_sets.specs.Slept.{handles_where, is_asleep_in, is_asleep_label, newly_asleep, sleeps, was_asleep}
+use Rattle.solver_sets.specs.Slept.{handles_where, is_asleep_label, sleeps}
+use Rattle.solver_sets.specs.SinceTold.{is_asleep_in, newly_asleep, was_asleep}
 use Rattle.world_core_base.specs.Telling.{AreToldBeside}
 use Rattle.world_rules.specs.Sound.{AreTold}
 use Rattle.world_rules.proofs.ToldLaws.{body_told, told_stays}

@@ -24,7 +24,7 @@ use Rattle.plain_world.specs.declared.kind.Course.{Course}
 use Rattle.plain_world.specs.Bodies.{AreBodies, IsBody}
 use Rattle.plain_world.specs.Momentum.{momentum}
 use Rattle.plain_world.specs.Slots.{body_at}
-use Rattle.plain_world.specs.Changes.{CanPose}
+use Rattle.plain_world.specs.InSlots.{CanPose}
 use Rattle.plain_world.specs.Changes.{put_course, put_momenta, put_pose}
 use Rattle.plain_world.specs.Plain.{Plain}
 use Rattle.plain_world.specs.Sleep.{told, told_body}

@@ -11,7 +11,8 @@ use Rattle.plain_world.specs.declared.joint.BodyJoint.{BodyJoint}
 use Rattle.plain_world.specs.Bodies.{is_awake}
 use Rattle.plain_world.specs.Slots.{body_at, item_at}
 use Rattle.sleep_wake.specs.Acting.{awake_label}
-use Rattle.sleep_wake.specs.SleepPhase.{may_be_due, ticks_to_sleep}
+use Rattle.sleep_wake.specs.SleepPhase.{ticks_to_sleep}
+use Rattle.sleep_wake.specs.Resting.{may_be_due}
 use Rattle.solver_sets.specs.Beside.{is_moving_at}
 
 -- a body is there that hasn't been slow for long enough to sleep

@@ -6,7 +6,8 @@ ghost use Rattle.colour_solver.specs.ConstraintTurns.{AreRowsBelow, contacts_amo
 ghost use Rattle.plain_world.specs.declared.body.Body.{Body};
 ghost use Rattle.plain_world.specs.Joints.{AreJoints};
 ghost use Rattle.world_core_base.specs.ConstraintRows.{with_joint_rows};
-ghost use Rattle.world_core_base.specs.Gather.{AreContactsOf, impulses_of, with_rows};
+ghost use Rattle.world_core_base.specs.Gather.{impulses_of, with_rows};
+ghost use Rattle.world_core_base.specs.ContactBodies.{AreContactsOf};
 
 use colour_solver::Rows;
 use colour_solver_base::{ContactRow, PointRow};

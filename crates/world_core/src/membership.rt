@@ -6,7 +6,8 @@ ghost use Rattle.graph_colours.specs.Movers.{has_mover};
 ghost use Rattle.islands.specs.Labels.{label_at};
 ghost use Rattle.sleep_wake.specs.Acting.{is_awake};
 ghost use Rattle.sleep_wake.specs.Bodies.{mover_gone, mover_made};
-ghost use Rattle.sleep_wake.specs.Changes.{CanEnd, each_ended};
+ghost use Rattle.sleep_wake.specs.Changes.{each_ended};
+ghost use Rattle.sleep_wake.specs.ChangeLists.{CanEnd};
 
 use contacts::Constraint;
 use graph_colours::Member;

@@ -8,7 +8,8 @@ ghost use Rattle.plain_world.specs.Joints.{joint_at};
 ghost use Rattle.plain_world.specs.Slots.{AreMatched};
 ghost use Rattle.solver_sets.specs.Beside.{joined_to};
 ghost use Rattle.solver_sets.specs.Joining.{handle_at};
-ghost use Rattle.solver_sets.specs.Ties.{joint_tie_of, joint_ties_at, slots_of};
+ghost use Rattle.solver_sets.specs.Ties.{joint_ties_at, slots_of};
+ghost use Rattle.solver_sets.specs.BesideByTies.{joint_tie_of};
 
 use body_handles::{Handle, Place};
 use contacts::Constraint;

@@ -3,7 +3,7 @@
 ghost use Rattle.std.specs.Prelude.{◌≡◌, ◌≤◌, ◌+◌, IfOk, length, map};
 ghost use Rattle.std.specs.Result.{IsOkUnless};
 ghost use Rattle.graph_colours.specs.Colours.{ids_of, list_at};
-ghost use Rattle.plain_world.specs.Plain.{constraints_of};
+ghost use Rattle.plain_world.specs.KeptColours.{constraints_of};
 
 use contacts::Constraint;
 use fixed_geom::Refusal;

@@ -8,8 +8,9 @@ ghost use Rattle.contacts.specs.declared.constraint.Constraint.{Constraint as Th
 ghost use Rattle.plain_world.specs.Bodies.{AreBodies};
 ghost use Rattle.plain_world.specs.Sleep.{told};
 ghost use Rattle.sleep_wake.specs.Acting.{Acting, IsSettled};
-ghost use Rattle.sleep_wake.specs.Changes.{AreChanges, begin_count, turned};
-ghost use Rattle.solver_sets.specs.Slept.{newly_awake};
+ghost use Rattle.sleep_wake.specs.Changes.{turned};
+ghost use Rattle.sleep_wake.specs.ChangeLists.{AreChanges, begin_count};
+ghost use Rattle.solver_sets.specs.SinceTold.{newly_awake};
 ghost use Rattle.world_core.specs.Waking.{HasSleepers, OfAll};
 ghost use Rattle.world_core_base.specs.Marked.{AreMarked, AreMarkedIn};
 ghost use Rattle.world_rules.specs.Sound.{AreTold};

@@ -10,7 +10,8 @@ use Rattle.momenta.specs.declared.motion.Motion.{Motion}
 use Rattle.momenta.specs.declared.reciprocals.Reciprocals.{Reciprocals}
 use Rattle.momenta.specs.declared.state.BodyState.{BodyState}
 use Rattle.colour_solver.specs.States as step
-use Rattle.colour_solver.specs.States.{AreAllStates, AreSameBeside, HaveCourses, carried_of, carrier, moves, movers_of, nobody, places_from}
+use Rattle.colour_solver.specs.States.{AreAllStates, AreSameBeside, HaveCourses, carried_of, moves, movers_of, nobody, places_from}
+use Rattle.colour_solver.specs.Masses.{carrier}
 use Rattle.colour_solver.proofs.CourseLaws.{course_at}
 use Rattle.colour_solver.proofs.PlaceLaws.{IsNext, IsReached, map_still, places_low, reached, reached_at_first, reached_first, reached_last, reached_more, reached_next, reached_there}
 use Rattle.plain_world.specs.declared.body.Body.{Body}

@@ -24,7 +24,8 @@ use Rattle.colour_solver_base.specs.declared.row.ContactRow.{ContactRow}
 use Rattle.colour_solver_base.specs.declared.row.PointRow.{PointRow}
 use Rattle.colour_solver_base.specs.Rows.{IsPointRow, IsRow, contact_row, is_springy, key_of, point_row, row_from}
 use Rattle.plain_world.specs.declared.body.Body.{Body}
-use Rattle.world_core_base.specs.Gather.{AreContactsOf, AreContactsOn, IsContactOf, IsContactOn, IsContactRowBelow, bodies_of, impulses_of, put_row, row_in, row_of, states_of, with_row, with_rows}
+use Rattle.world_core_base.specs.Gather.{AreContactsOn, IsContactOn, IsContactRowBelow, bodies_of, impulses_of, put_row, row_in, row_of, states_of, with_row, with_rows}
+use Rattle.world_core_base.specs.ContactBodies.{AreContactsOf, IsContactOf}
 use Rattle.world_core_base.proofs.GatherLaws.{length-states}
 
 -- ---- keys by their numbers

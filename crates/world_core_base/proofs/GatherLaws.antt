@@ -14,7 +14,8 @@ use Rattle.momenta.specs.declared.mass.MassData.{MassData}
 use Rattle.momenta.specs.declared.state.BodyState.{BodyState}
 use Rattle.contacts_base.specs.declared.key.ContactKey.{ContactKey}
 use Rattle.colour_solver.specs.States as step
-use Rattle.colour_solver.specs.States.{carrier, nobody, standing, AreAllStates, AreSameBeside, HasCourse, HaveCourses, total}
+use Rattle.colour_solver.specs.States.{nobody, AreAllStates, AreSameBeside, HasCourse, HaveCourses, total}
+use Rattle.colour_solver.specs.Masses.{carrier, standing}
 use Rattle.fixed_geom.specs.Vectors.{IsWithin, plus, zero_vector}
 use Rattle.fixed_geom.specs.declared.vectors.Vec2.{Vec2}
 use Rattle.fixed_geom.specs.declared.limits.TheConstants.{MAX_SPIN}
@@ -33,10 +34,12 @@ use Rattle.plain_world.specs.Bodies.{AreBodies, IsAtRest, IsBody, IsMassOf, is_a
 use Rattle.plain_world.specs.Momentum.{momentum, momentum_in}
 use Rattle.plain_world.specs.Fats.{AreFatBoxes}
 use Rattle.plain_world.specs.Changes.{is_awake_in}
-use Rattle.plain_world.specs.Slots.{HaveSameSlots, body_at, shapes_in}
+use Rattle.plain_world.specs.Slots.{body_at, shapes_in}
+use Rattle.plain_world.specs.InSlots.{HaveSameSlots}
 use Rattle.world_core_base.specs.Carried.{carried_motion, carried_to, solver_mass, solver_motion}
 use Rattle.world_core_base.specs.Moved.{FitsState}
-use Rattle.world_core_base.specs.Gather.{ends_at, moves, moves_in, state_of, states_of, with_motion, with_motions}
+use Rattle.world_core_base.specs.Gather.{ends_at, state_of, states_of, with_motion, with_motions}
+use Rattle.world_core_base.specs.ContactBodies.{moves, moves_in}
 
 -- ---- the bodies as states
 

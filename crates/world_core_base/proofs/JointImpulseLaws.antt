@@ -2,7 +2,8 @@
 use Rattle.std.proofs.Common.{◌≡◌, ℕ, zero, suc, ◌<◌, List, [], ◌∷◌, length, get_or, Option, Some, None, ℤ, slice_set, refl, sym, ap, ◌∙◌, arith}
 use Rattle.std.specs.Prelude.{option_map}
 use Rattle.plain_world.specs.declared.joint.BodyJoint.{BodyJoint}
-use Rattle.plain_world.specs.Joints.{impulse_set, joint_at, with_impulse}
+use Rattle.plain_world.specs.Joints.{joint_at}
+use Rattle.plain_world.specs.InSlots.{impulse_set, with_impulse}
 
 behind : (p o : Option BodyJoint) (os : List (Option BodyJoint)) (slot : ℕ) (impulse : ℤ) → impulse_set (suc slot) impulse (o ∷ os) p ≡ o ∷ impulse_set slot impulse os p
 behind None o os slot impulse = refl

@@ -17,7 +17,8 @@ use Rattle.colour_solver.specs.declared.constraint_row.ConstraintRow.{Constraint
 use Rattle.colour_solver.specs.declared.constraint_row.ConstraintRow.TheVariants as rows
 use Rattle.plain_world.specs.declared.body.Body.{Body}
 use Rattle.plain_world.specs.declared.joint.BodyJoint.{BodyJoint}
-use Rattle.plain_world.specs.Joints.{AreJoints, IsBodyJoint, impulse_set, joint_at, with_impulse}
+use Rattle.plain_world.specs.Joints.{AreJoints, IsBodyJoint, joint_at}
+use Rattle.plain_world.specs.InSlots.{impulse_set, with_impulse}
 use Rattle.plain_world.specs.Slots.{body_at}
 use Rattle.world_core_base.specs.ConstraintRows.{IsJointOn, IsJointThere, joint_bodies, joint_ends, joint_row_in, put_joint_row, with_joint_rows}
 use Rattle.world_core_base.specs.Gather.{HasMovable, IsContactRowBelow, states_of}

@@ -10,7 +10,8 @@ use Rattle.std.proofs.Common.{eqb}
 use Rattle.body_handles.specs.declared.places.TheConstants.{MAX_SLOTS}
 use Rattle.graph_colours.proofs.Cases.{by_test}
 use Rattle.plain_world.specs.declared.joint.BodyJoint.{BodyJoint}
-use Rattle.plain_world.specs.Joints.{idle_if, idle_joints, is_joint_of, joint_at, with_impulse}
+use Rattle.plain_world.specs.Joints.{idle_if, idle_joints, is_joint_of, joint_at}
+use Rattle.plain_world.specs.InSlots.{with_impulse}
 use Rattle.plain_world.specs.Slots.{with_item}
 use Rattle.world_core_base.specs.declared.joint_ends.Ends.{Ends}
 use Rattle.world_core_base.specs.JointEnds.{AreEnds, ends_of}

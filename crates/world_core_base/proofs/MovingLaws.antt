@@ -6,7 +6,7 @@ use Rattle.colour_solver.proofs.PlaceLaws.{AreOthers}
 use Rattle.plain_world.specs.declared.body.Body.{Body}
 use Rattle.plain_world.specs.Bodies.{AreBodies}
 use Rattle.plain_world.specs.Momentum.{momentum}
-use Rattle.plain_world.specs.Slots.{HaveSameSlots}
+use Rattle.plain_world.specs.InSlots.{HaveSameSlots}
 use Rattle.world_core_base.specs.Gather.{begun, states_of, with_motions}
 use Rattle.world_core_base.specs.Moved.{moved_entry}
 use Rattle.world_core_base.specs.Renewal.{renewed_bodies}

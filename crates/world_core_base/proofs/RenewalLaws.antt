@@ -9,7 +9,8 @@ use Rattle.plain_world.specs.Fats.{renewed_boxes}
 use Rattle.plain_world.proofs.BoxLemmas.{renewed_are}
 use Rattle.world_core_base.proofs.GatherLaws.{AreMovedBodies, IsMovedBody}
 use Rattle.world_core_base.specs.Renewal.{with_renewed, renewed_bodies}
-use Rattle.plain_world.specs.Slots.{body_at, shapes_in, HaveSameSlots}
+use Rattle.plain_world.specs.Slots.{body_at, shapes_in}
+use Rattle.plain_world.specs.InSlots.{HaveSameSlots}
 
 renewed_body : (b : Body) → IsMovedBody b → IsBody (record b { fats = renewed_boxes (pose_of b) b.shapes b.fats })
 renewed_body b is = record {

@@ -11,7 +11,8 @@ use Rattle.contacts.specs.declared.constraint.Constraint.{Constraint}
 use Rattle.contacts.specs.declared.constraint.Constraint.TheVariants as constraints
 use Rattle.plain_world.specs.declared.body.Body.{Body}
 use Rattle.plain_world.specs.declared.joint.BodyJoint.{BodyJoint}
-use Rattle.plain_world.specs.Joints.{impulse_set, joint_at, with_impulse}
+use Rattle.plain_world.specs.Joints.{joint_at}
+use Rattle.plain_world.specs.InSlots.{impulse_set, with_impulse}
 use Rattle.plain_world.specs.Slots.{item_in}
 use Rattle.world_core_base.specs.ConstraintRows.{joint_bodies, joint_ends, joint_row_in, joint_row_of, put_joint_row, with_joint_rows}
 use Rattle.world_core_base.specs.SolvingArrays.{HasEnds, JointHasEnds}

@@ -23,7 +23,7 @@ use Rattle.colour_solver_base.specs.declared.row.ContactRow.{ContactRow}
 use Rattle.colour_solver_base.specs.RowsAfter.{RowAfter}
 use Rattle.colour_solver_base.specs.Rows.{row_bounced, row_solved, row_warmed}
 use Rattle.colour_solver_base.specs.ContactSolving.{SolvedPoint, at_points, contact_bounced, contact_solved, contact_warmed, from_first, point_bounced, point_solved, point_warmed}
-use Rattle.colour_solver_base.specs.ContactSolving.{AreMovedFrom}
+use Rattle.colour_solver_base.specs.Laws.{AreMovedFrom}
 use Rattle.colour_solver_base.proofs.ContactRows.{masses_then, rows_are_contacts, solved_masses, warmed_masses}
 use Rattle.joint_rows.specs.declared.joint.Joint.{Joint}
 use Rattle.joint_rows.specs.declared.limits.TheConstants.{MAX_JOINT_IMPULSE}
@@ -36,7 +36,8 @@ use Rattle.colour_solver.specs.declared.constraint_row.ConstraintRow.{Constraint
 use Rattle.colour_solver.specs.ConstraintTurns.{constraint_bounced, either_turn, joint_unbounced}
 use Rattle.colour_solver.specs.Passes as arrays
 use Rattle.colour_solver.specs.States as step
-use Rattle.colour_solver.specs.States.{as_vector, carrier, nobody, standing}
+use Rattle.colour_solver.specs.States.{as_vector, nobody}
+use Rattle.colour_solver.specs.Masses.{carrier, standing}
 use Rattle.colour_solver.specs.Ticks as runs
 use Rattle.colour_solver.specs.Ticks.{Run, carry_all, clamp_all, pull_all, ran, run_of, start, turn_all}
 use Rattle.colour_solver.proofs.VectorLaws.{minus_same}

@@ -30,7 +30,8 @@ use Rattle.colour_solver_base.specs.declared.row.Bodies as pairs
 use Rattle.colour_solver_base.specs.declared.row.ContactRow.{ContactRow}
 use Rattle.colour_solver_base.specs.RowsAfter.{RowAfter}
 use Rattle.colour_solver_base.specs.Rows.{contact_row, row_from}
-use Rattle.colour_solver_base.specs.ContactSolving.{AreMovedFrom, IsMovedFrom, IsRowOf, SolvedContact}
+use Rattle.colour_solver_base.specs.ContactSolving.{SolvedContact}
+use Rattle.colour_solver_base.specs.Laws.{AreMovedFrom, IsMovedFrom, IsRowOf}
 use Rattle.colour_solver.specs.declared.ticks.StepSums.{StepSums}
 use Rattle.colour_solver.proofs.VectorLaws.{plus_assoc, plus_zero}
 use Rattle.colour_solver.specs.States.{as_vector, nobody}

@@ -8,9 +8,11 @@ use Rattle.plain_world.specs.declared.body.Body.{Body}
 use Rattle.plain_world.specs.Bodies.{can_move, is_awake, is_carried, is_mover, pose_of}
 use Rattle.plain_world.specs.Fats.{renewed_boxes}
 use Rattle.plain_world.specs.Sleep.{is_slow, roused, timed, timed_bodies, told, told_body, told_by, told_from}
-use Rattle.plain_world.specs.Slots.{HaveSameSlots, body_at, shapes_in}
+use Rattle.plain_world.specs.Slots.{body_at, shapes_in}
+use Rattle.plain_world.specs.InSlots.{HaveSameSlots}
 use Rattle.world_core_base.specs.Carried.{carried_to}
-use Rattle.world_core_base.specs.Gather.{moves_in, with_motion, with_motions}
+use Rattle.world_core_base.specs.Gather.{with_motion, with_motions}
+use Rattle.world_core_base.specs.ContactBodies.{moves_in}
 use Rattle.world_core_base.specs.Renewal.{renewed_bodies, with_renewed}
 use Rattle.world_core_base.specs.Standing.{HaveSameStanding, is_enabled_in}
 use Rattle.world_core_base.proofs.GatherLaws.{mover_moved}

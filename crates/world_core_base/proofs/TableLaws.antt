@@ -17,7 +17,8 @@ use Rattle.plain_world.specs.Bodies.{IsBody, IsMassOf}
 use Rattle.plain_world.specs.declared.body.Body.{Body}
 use Rattle.world_core_base.specs.Awake.{with_state}
 use Rattle.world_core_base.specs.Gather.{state_of, states_of}
-use Rattle.plain_world.specs.Changes.{disabled_body, enabled_body, is_awake_in, is_carried_in}
+use Rattle.plain_world.specs.Changes.{disabled_body, enabled_body, is_awake_in}
+use Rattle.plain_world.specs.InSlots.{is_carried_in}
 use Rattle.plain_world.specs.Slots.{body_at, with_body}
 use Rattle.world_core_base.proofs.GatherLaws.{carried_state, length-states}
 use Rattle.world_core_base.proofs.SlotsRising.{places-set_same}

@@ -9,8 +9,9 @@ use Rattle.colour_solver.specs.States.{carried_of, moves, movers_of, places_from
 use Rattle.colour_solver.proofs.PlaceLaws.{IsNext, IsReached, map_still, reached, reached_at_first, reached_first, reached_last, reached_more, reached_next, reached_there}
 use Rattle.plain_world.specs.declared.body.Body.{Body}
 use Rattle.plain_world.specs.Bodies.{AreBodies, IsBody, is_awake}
-use Rattle.plain_world.specs.Changes.{is_awake_in, is_carried_in}
-use Rattle.plain_world.specs.Sleep.{AreTimersWithin, is_slow, timed, timed_bodies}
+use Rattle.plain_world.specs.Changes.{is_awake_in}
+use Rattle.plain_world.specs.InSlots.{is_carried_in, AreTimersWithin}
+use Rattle.plain_world.specs.Sleep.{is_slow, timed, timed_bodies}
 use Rattle.world_core_base.specs.Gather.{state_of, states_of}
 use Rattle.world_core_base.specs.Timing.{CanTime}
 use Rattle.world_core_base.proofs.GatherLaws.{carried_state}

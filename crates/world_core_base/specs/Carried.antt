@@ -2,7 +2,7 @@
 use Rattle.std.specs.Prelude.{cond}
 use Rattle.momenta.specs.declared.mass.MassData.{MassData}
 use Rattle.momenta.specs.declared.motion.Motion.{Motion}
-use Rattle.colour_solver.specs.States.{carrier, standing}
+use Rattle.colour_solver.specs.Masses.{carrier, standing}
 use Rattle.plain_world.specs.declared.body.Body.{Body}
 use Rattle.plain_world.specs.Bodies.{is_awake, is_carried}
 use Rattle.plain_world.specs.declared.kind.Kind.TheVariants.{Kinematic}

@@ -15,7 +15,8 @@ use Rattle.colour_solver.specs.States.{nobody}
 use Rattle.colour_solver.specs.declared.constraint_row.ConstraintRow.{ConstraintRow}
 use Rattle.colour_solver.specs.declared.constraint_row.ConstraintRow.TheVariants as rows
 use Rattle.plain_world.specs.declared.joint.BodyJoint.{BodyJoint}
-use Rattle.plain_world.specs.Joints.{impulse_set, joint_at}
+use Rattle.plain_world.specs.Joints.{joint_at}
+use Rattle.plain_world.specs.InSlots.{impulse_set}
 use Rattle.world_core_base.specs.Gather.{HasMovable, row_of}
 
 -- ---- joints

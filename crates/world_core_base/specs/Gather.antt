@@ -1,5 +1,5 @@
--- What a step works on, gathered from the bodies, the contacts and their colours, and written back to them.
-use Rattle.std.specs.Prelude.{◌≡◌, ℕ, ◌<◌, ◌⊎◌, ◌≢◌, Bool, true, false, List, [], ◌∷◌, length, map, All, Option, Some, None, option_map, slice_index_or}
+-- Inner: what a step works on in dense arrays, gathered from the bodies, the contacts and their colours, and written back.
+use Rattle.std.specs.Prelude.{◌≡◌, ℕ, ◌<◌, ◌⊎◌, ◌≢◌, true, List, [], ◌∷◌, length, map, All, Option, Some, None, option_map, slice_index_or}
 use Rattle.momenta.specs.Reciprocals.{reciprocals_of}
 use Rattle.momenta.specs.declared.state.BodyState.{BodyState}
 use Rattle.momenta.specs.declared.state.Ends.{Ends}
@@ -18,8 +18,7 @@ use Rattle.colour_solver_base.specs.declared.row.Bodies as pairs
 use Rattle.colour_solver_base.specs.Rows.{IsRow, contact_row, key_of}
 use Rattle.colour_solver.specs.States.{nobody}
 use Rattle.plain_world.specs.declared.body.Body.{Body}
-use Rattle.plain_world.specs.Bodies.{is_awake, is_mover}
-use Rattle.plain_world.specs.Slots.{body_at}
+use Rattle.plain_world.specs.Bodies.{is_awake}
 use Rattle.world_core_base.specs.Carried.{moved_to, solver_mass, solver_motion}
 
 -- ---- the bodies
@@ -84,25 +83,6 @@ with_rows contacts [] = contacts
 with_rows contacts (r ∷ rs) = with_rows (put_row r contacts) rs
 
 -- ---- what must hold of the contacts
-
-abbrev pub moves_in : Option Body → Bool
-moves_in None = false
-moves_in (Some b) = is_mover b
-
--- the body in a slot is there and moves
-abbrev pub moves : List (Option Body) → ℕ → Bool
-moves bodies slot = moves_in (body_at bodies slot)
-
--- a contact of two different bodies, one of them a mover at least
-pub record IsContactOf (bodies : List (Option Body)) (e : ContactEntry) : Type 0 where
-  pub first : e.key.first.slot < length bodies
-  pub second : e.key.second.slot < length bodies
-  pub apart : e.key.first.slot ≢ e.key.second.slot
-  pub mover : (moves bodies e.key.first.slot ≡ true) ⊎ (moves bodies e.key.second.slot ≡ true)
-  pub contact : IsContact e.contact
-
-abbrev pub AreContactsOf : List (Option Body) → List ContactEntry → Type 0
-AreContactsOf bodies contacts = All (IsContactOf bodies) contacts
 
 -- one of the two states is movable
 abbrev pub HasMovable : List BodyState → ℕ → ℕ → Type 0

@@ -1,5 +1,6 @@
 pub mod Renewal
 pub mod Carried
+pub mod ContactBodies
 pub mod Gather
 pub mod ConstraintRows
 pub mod Moved

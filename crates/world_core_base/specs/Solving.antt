@@ -21,7 +21,7 @@ use Rattle.joint_rows.specs.declared.joint.Joint.{Joint}
 use Rattle.joint_rows.specs.Joints.{SolvedJoint, joint_solved, joint_warmed}
 use Rattle.colour_solver_base.specs.ContactSolving.{SolvedContact, contact_bounced, contact_solved, contact_warmed}
 use Rattle.colour_solver.specs.declared.ticks.StepSums.{StepSums}
-use Rattle.colour_solver.specs.States.{carrier}
+use Rattle.colour_solver.specs.Masses.{carrier}
 use Rattle.plain_world.specs.declared.body.Body.{Body}
 use Rattle.plain_world.specs.declared.joint.BodyJoint.{BodyJoint}
 use Rattle.plain_world.specs.Joints.{joint_at}

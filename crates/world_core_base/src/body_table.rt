@@ -24,9 +24,10 @@ ghost use Rattle.world_core_base.specs.Renewal.{renewed_bodies};
 ghost use Rattle.world_core_base.specs.Standing.{HaveSameStanding};
 ghost use Rattle.world_core_base.specs.Telling.{AreToldBeside};
 ghost use Rattle.momenta.specs.Gains.{IsGain};
-ghost use Rattle.plain_world.specs.Changes.{changed_at, disabled_body, enabled_body, is_awake_in, is_carried_in};
-ghost use Rattle.plain_world.specs.Sleep.{AreTimersWithin, timed_bodies, told};
-ghost use Rattle.plain_world.specs.Slots.{HaveSameSlots, body_at, with_body};
+ghost use Rattle.plain_world.specs.Changes.{changed_at, disabled_body, enabled_body, is_awake_in};
+ghost use Rattle.plain_world.specs.InSlots.{is_carried_in, HaveSameSlots, AreTimersWithin};
+ghost use Rattle.plain_world.specs.Sleep.{timed_bodies, told};
+ghost use Rattle.plain_world.specs.Slots.{body_at, with_body};
 
 use crate::covers::{cover, cover_again, uncover};
 use crate::gather::{NOBODY, body_state};

@@ -13,7 +13,7 @@ ghost use Rattle.world_core_base.specs.Moved.{FitsState, moved_entry};
 ghost use Rattle.world_core_base.specs.Renewal.{renewed_bodies, with_renewed};
 ghost use Rattle.world_core_base.specs.Standing.{HaveSameStanding};
 ghost use Rattle.plain_world.specs.Shown.{IsShownAlike};
-ghost use Rattle.plain_world.specs.Slots.{HaveSameSlots};
+ghost use Rattle.plain_world.specs.InSlots.{HaveSameSlots};
 
 use crate::covers::cover_again;
 use box_tree::BoxTree;

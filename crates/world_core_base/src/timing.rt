@@ -5,7 +5,8 @@ ghost use Rattle.std.specs.Option.{ForSome};
 ghost use Rattle.colour_solver.specs.States.{places_from};
 ghost use Rattle.plain_world.specs.Bodies.{AreBodies};
 ghost use Rattle.plain_world.specs.Changes.{is_awake_in};
-ghost use Rattle.plain_world.specs.Sleep.{AreTimersWithin, timed, timed_bodies};
+ghost use Rattle.plain_world.specs.Sleep.{timed, timed_bodies};
+ghost use Rattle.plain_world.specs.InSlots.{AreTimersWithin};
 ghost use Rattle.world_core_base.specs.Timing.{CanTime};
 
 use plain_world::Body;

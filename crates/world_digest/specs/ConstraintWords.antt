@@ -8,7 +8,7 @@ use Rattle.contacts_base.specs.declared.contact.ContactEntry.{ContactEntry}
 use Rattle.contacts_base.specs.declared.contact.ContactPoint.{ContactPoint}
 use Rattle.contacts_base.specs.declared.key.ContactKey.{ContactKey}
 use Rattle.joint_rows.specs.declared.joint.Joint.{Joint as RowJoint}
-use Rattle.plain_world.specs.Plain.{members_at}
+use Rattle.plain_world.specs.KeptColours.{members_at}
 use Rattle.plain_world.specs.declared.joint.BodyJoint.{BodyJoint}
 use Rattle.world_digest.specs.BodyWords.{vector_words}
 use Rattle.world_digest.specs.Sums.{integer_word, list_words, option_words, truth_word}

@@ -38,7 +38,7 @@ use Rattle.world_file_base.specs.declared.saved.Membership.{Membership}
 use Rattle.sleep_wake.specs.Acting.{AreMovers, are_awake, awake_label, is_awake}
 use Rattle.sleep_wake.proofs.AwakeLemmas.{all_awake, awake_first}
 use Rattle.sleep_wake.proofs.ListLemmas.{absent_from}
-use Rattle.solver_sets.specs.Tied.{AreJointSlots}
+use Rattle.solver_sets.specs.Alike.{AreJointSlots}
 use Rattle.solver_sets.specs.Ties as sets
 use Rattle.solver_sets.specs.Ties.{Bond, JointSlots, bonds_of, contact_bond, contact_movers, joint_bond, joint_bonds, joint_bonds_from, joint_movers, tie_with, touching_keys}
 use Rattle.solver_sets.proofs.BondLaws.{bond_number, bonds_rise, in_bonds, joint_below, rises_from_keys}

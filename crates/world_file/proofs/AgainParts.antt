@@ -29,7 +29,7 @@ use Rattle.plain_world.specs.declared.body.Body.{Body}
 use Rattle.plain_world.specs.declared.joint.BodyJoint.{BodyJoint}
 use Rattle.world_file_base.specs.SavedJoints.{generation_of}
 use Rattle.shapes.specs.declared.shape.ShapeDef.{ShapeDef}
-use Rattle.world_core_base.specs.Gather.{IsContactOf, moves_in}
+use Rattle.world_core_base.specs.ContactBodies.{IsContactOf, moves_in}
 use Rattle.world_file.specs.Fitting.{are_points, are_rising_after, entry_of, is_above, is_contact_fitting, is_dynamic_body, is_joint_fitting, joint_kept, label_of}
 use Rattle.world_rules.specs.Sound.{HasBodies}
 use Rattle.world_file.specs.Again.{count_of, id_in, membership_of, saved_contact, saved_joint, saved_joints}

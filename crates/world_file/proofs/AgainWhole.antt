@@ -24,7 +24,7 @@ use Rattle.world_file_base.specs.declared.clause.Clause.TheVariants.{Colours, Is
 use Rattle.world_file_base.specs.declared.reader.Reader.{Reader}
 use Rattle.sleep_wake.specs.Acting.{IsSettled, acting, links_of}
 use Rattle.sleep_wake.proofs.AwakeLemmas.{tie_together}
-use Rattle.solver_sets.specs.Tied.{AreJointSlots}
+use Rattle.solver_sets.specs.Alike.{AreJointSlots}
 use Rattle.solver_sets.specs.Ties as sets
 use Rattle.solver_sets.specs.Ties.{Bond, joint_bonds}
 use Rattle.solver_sets.proofs.ListLaws.{mapped_in, rises_from_pairs}
@@ -34,7 +34,7 @@ use Rattle.world_file.specs.Fitting.{are_apart, are_joints_colourless, are_named
 use Rattle.world_file.specs.Saved.{Saved}
 use Rattle.world_file.specs.declared.ties.Tie.{Tie}
 use Rattle.world_rules.specs.Sets.{acting_of}
-use Rattle.world_core_base.specs.Gather.{IsContactOf}
+use Rattle.world_core_base.specs.ContactBodies.{IsContactOf}
 use Rattle.world_rules.specs.Sound.{HasBodies, IsSound}
 use Rattle.world_rules.specs.World.{World, book_of, joints_of}
 use Rattle.world_file.specs.Again.{saved_contact, saved_of}

@@ -46,7 +46,7 @@ use Rattle.world_file_base.specs.declared.version.Version.TheVariants.{Second}
 use Rattle.solver_sets.specs.Ties.{is_mover_in}
 use Rattle.solver_sets.proofs.SlotLemmas.{below_length}
 use Rattle.solver_sets.specs.Ties.{Lists, members_of}
-use Rattle.world_core_base.specs.Gather.{IsContactOf}
+use Rattle.world_core_base.specs.ContactBodies.{IsContactOf}
 use Rattle.world_file.specs.Clauses.{first_broken, first_unfit}
 use Rattle.world_file.specs.Files.{plain_of, read_of, read_unless, value_of}
 use Rattle.world_file.specs.Fitting.{fitting_asks}

@@ -32,7 +32,8 @@ use Rattle.world_file_base.specs.declared.saved.Membership.{Membership}
 use Rattle.shapes.specs.declared.shape.ShapeDef.{ShapeDef}
 use Rattle.sleep_wake.specs.Acting.{AreMovers, IsSettled, acting, links_of}
 use Rattle.sleep_wake.proofs.ListLemmas.{link_in}
-use Rattle.solver_sets.specs.Tied.{AreJointSlots, AreTied}
+use Rattle.solver_sets.specs.Tied.{AreTied}
+use Rattle.solver_sets.specs.Alike.{AreJointSlots}
 use Rattle.solver_sets.specs.Ties as sets
 use Rattle.solver_sets.specs.Ties.{slots_of}
 use Rattle.solver_sets.proofs.ListLaws.{Rises, in_mapped, mapped_in, pairs_from_rises, rises_from_pairs}

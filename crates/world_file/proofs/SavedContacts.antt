@@ -21,7 +21,7 @@ use Rattle.world_file_base.specs.declared.saved.SavedContact.{SavedContact}
 use Rattle.shapes.specs.declared.shape.ShapeDef.{ShapeDef}
 use Rattle.solver_sets.specs.Ties.{is_enabled_in}
 use Rattle.solver_sets.proofs.SlotLemmas.{below_length}
-use Rattle.world_core_base.specs.Gather.{AreContactsOf, IsContactOf, moves_in}
+use Rattle.world_core_base.specs.ContactBodies.{AreContactsOf, IsContactOf, moves_in}
 use Rattle.world_file.specs.Fitting.{are_points, are_rising_after, entry_of, has_points, is_above, is_contact_fitting, is_dynamic_body}
 use Rattle.world_rules.specs.Sound.{HasBodies}
 use Rattle.world_file.proofs.ContactAsks.{IsSavedContact}

@@ -4,7 +4,7 @@ ghost use Rattle.std.specs.Prelude.{◌≡◌, ◌≤◌, ◌+◌, ◌++◌, ◌
 ghost use Rattle.std.specs.List.{list_all};
 ghost use Rattle.std.specs.HashMap.{get};
 ghost use Rattle.graph_colours.specs.declared.limits.TheConstants.{COLOURS as most_colours};
-ghost use Rattle.plain_world.specs.Plain.{constraints_of};
+ghost use Rattle.plain_world.specs.KeptColours.{constraints_of};
 ghost use Rattle.world_file_base.specs.declared.clause.Broken.TheVariants.{NoMemory};
 ghost use Rattle.world_file.specs.Files.{contact_colours, joint_colours};
 ghost use Rattle.world_file.specs.Fitting.{are_apart, coloured, colours_below, has_colour, ids_below, ids_coloured};

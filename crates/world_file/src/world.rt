@@ -5,7 +5,7 @@ ghost use Rattle.std.specs.List.{list_all};
 ghost use Rattle.std.specs.Result.{IsOkUnless};
 ghost use Rattle.serde_json.specs.View.{view};
 ghost use Rattle.graph_colours.specs.declared.limits.TheConstants.{COLOURS as most_colours};
-ghost use Rattle.plain_world.specs.Plain.{constraints_of};
+ghost use Rattle.plain_world.specs.KeptColours.{constraints_of};
 ghost use Rattle.world_file_base.specs.declared.clause.Broken.TheVariants.{NoMemory};
 ghost use Rattle.world_file.specs.Answers.{IsBrokenBy, IsRefusedBy, others_asks};
 ghost use Rattle.world_file.specs.Clauses.{first_unfit};

@@ -20,7 +20,8 @@ use Rattle.plain_world.specs.Slots.{body_at}
 use Rattle.solver_sets.proofs.ListLaws.{in_map}
 use Rattle.solver_sets.specs.Census.{IsCensus, census_of, standings_of}
 use Rattle.solver_sets.specs.Laws.{ListsAreCensus, TiesAreNamed}
-use Rattle.solver_sets.specs.Tied.{AreJointSlots, AreTied}
+use Rattle.solver_sets.specs.Tied.{AreTied}
+use Rattle.solver_sets.specs.Alike.{AreJointSlots}
 use Rattle.solver_sets.specs.Ties.{IsNamed, JointSlots, is_mover_in, member_of, members_of, movers_of, tie_with}
 use Rattle.world_rules.specs.Laws as rules
 use Rattle.world_rules.specs.Laws.{ColoursAreApart, LinkedMoversStandTogether, SleepingSetsAreComponents, SleepsIn, WhatActsHasAColour}

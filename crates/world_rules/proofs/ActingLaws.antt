@@ -20,15 +20,17 @@ use Rattle.plain_world.specs.Joints.{AreJoints}
 use Rattle.plain_world.specs.Plain.{Plain}
 use Rattle.plain_world.specs.Sleep as sleep
 use Rattle.plain_world.specs.Formed.{AreFiltered}
-use Rattle.plain_world.specs.Slots.{AreMatched, HaveSameSlots, body_at}
+use Rattle.plain_world.specs.Slots.{AreMatched, body_at}
+use Rattle.plain_world.specs.InSlots.{HaveSameSlots}
 use Rattle.sleep_wake.specs.Acting.{Acting, IsSettled}
 use Rattle.sleep_wake.specs.Acting as acting
 use Rattle.sleep_wake.specs.Sleeping.{islands_woken, names_of}
 use Rattle.sleep_wake.specs.Sleeping as naming
 use Rattle.sleep_wake.specs.Waking.{set_woken, woken_at, woken_by}
-use Rattle.solver_sets.specs.Tied.{AreAlike, AreTied}
+use Rattle.solver_sets.specs.Tied.{AreTied}
+use Rattle.solver_sets.specs.Alike.{AreAlike}
 use Rattle.solver_sets.specs.Ties.{is_mover_in, members_of, ties_of}
-use Rattle.world_core_base.specs.Gather.{AreContactsOf}
+use Rattle.world_core_base.specs.ContactBodies.{AreContactsOf}
 use Rattle.world_rules.specs.Sets.{acting_of, with_acting, woken}
 use Rattle.world_rules.specs.Sound.{AreSmall, AreTimers, AreTold, HasBodies}
 use Rattle.world_rules.specs.World.{World, book_of, joints_of}

@@ -17,9 +17,10 @@ use Rattle.plain_world.specs.Joints.{AreJoints, IsBodyJoint, idle_if, idle_joint
 use Rattle.plain_world.specs.Formed.{mixed_of, shape_of_body}
 use Rattle.plain_world.specs.Slots.{AreMatched, body_at, shapes_in}
 use Rattle.solver_sets.specs.Joining.{handle_at, unjoined, unjoined_all, unjoined_up}
-use Rattle.solver_sets.specs.Tied.{AreAlikeBeside, AreTied, HaveSameEnds, ends_in}
+use Rattle.solver_sets.specs.Tied.{AreTied}
+use Rattle.solver_sets.specs.Alike.{AreAlikeBeside, HaveSameEnds, ends_in}
 use Rattle.solver_sets.specs.Ties.{JointSlots, is_enabled_in, is_mover_in}
-use Rattle.world_core_base.specs.Gather.{AreContactsOf, IsContactOf}
+use Rattle.world_core_base.specs.ContactBodies.{AreContactsOf, IsContactOf}
 use Rattle.world_rules.specs.Sound.{AreTimers, HasBodies}
 use Rattle.world_rules.proofs.KeptContacts.{all_without}
 use Rattle.solver_sets.proofs.SlotLemmas.{below_length, item_at-set_none, item_at-set_other}

@@ -16,7 +16,7 @@ use Rattle.plain_world.specs.Changes.{enabled_body}
 use Rattle.plain_world.specs.Joints.{joint_of}
 use Rattle.plain_world.specs.Slots.{body_at}
 use Rattle.sleep_wake.specs.Acting.{are_awake, is_awake}
-use Rattle.sleep_wake.specs.Changes.{CanBegin, CanEnd}
+use Rattle.sleep_wake.specs.ChangeLists.{CanBegin, CanEnd}
 use Rattle.solver_sets.specs.Beside.{joined_to, stirred_by}
 use Rattle.solver_sets.specs.Joining.{handle_at}
 use Rattle.solver_sets.specs.Ties.{joint_movers, joint_ties_at, moves, ties_at}

@@ -20,7 +20,7 @@ use Rattle.plain_world.specs.Plain.{Plain}
 use Rattle.sleep_wake.proofs.LengthLemmas.{each_ended_long, gone_long}
 use Rattle.sleep_wake.specs.Acting.{Acting, AreMovers, IsSettled, is_awake}
 use Rattle.sleep_wake.specs.Bodies.{mover_gone}
-use Rattle.sleep_wake.specs.Changes.{CanEnd, each_without}
+use Rattle.sleep_wake.specs.ChangeLists.{CanEnd, each_without}
 use Rattle.solver_sets.specs.Joining.{unjoined_all}
 use Rattle.solver_sets.specs.Tied.{AreTied}
 use Rattle.solver_sets.specs.Ties.{JointSlots, is_mover_in, moves, ties_at, ties_of}

@@ -16,9 +16,11 @@ use Rattle.plain_world.specs.Plain.{Plain}
 use Rattle.plain_world.specs.Slots.{with_item}
 use Rattle.sleep_wake.proofs.LengthLemmas.{each_begun_long, each_ended_long}
 use Rattle.sleep_wake.specs.Acting.{Acting, IsSettled, are_awake, is_awake}
-use Rattle.sleep_wake.specs.Changes.{CanBegin, CanEnd, begun, each_begun, each_ended, each_inserted, each_without, ended}
+use Rattle.sleep_wake.specs.Changes.{begun, each_begun, each_ended, ended}
+use Rattle.sleep_wake.specs.ChangeLists.{CanBegin, CanEnd, each_inserted, each_without}
 use Rattle.solver_sets.specs.Laws.{with_tie, without_tie}
-use Rattle.solver_sets.specs.Tied.{AreJointSlots, AreTied}
+use Rattle.solver_sets.specs.Tied.{AreTied}
+use Rattle.solver_sets.specs.Alike.{AreJointSlots}
 use Rattle.solver_sets.specs.Ties.{JointSlots, begun_with, ended_with, is_enabled, movers_if, movers_with, moves, ties_of}
 use Rattle.world_rules.specs.Apply.{with_joints}
 use Rattle.world_rules.specs.Sets.{acting_of, woken}

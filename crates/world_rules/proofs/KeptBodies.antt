@@ -30,7 +30,7 @@ use Rattle.sleep_wake.specs.Acting as acting
 use Rattle.sleep_wake.specs.Sleeping.{names_of}
 use Rattle.solver_sets.specs.Beside.{stirred_by}
 use Rattle.solver_sets.specs.Joining.{unjoined_all}
-use Rattle.solver_sets.specs.Tied.{AreJointSlots}
+use Rattle.solver_sets.specs.Alike.{AreJointSlots}
 use Rattle.solver_sets.specs.Ties.{JointSlots, is_enabled_in, is_mover_in, slots_of}
 use Rattle.world_rules.specs.Apply.{departed, destroyed, disabled, world_with}
 use Rattle.world_rules.specs.Sets.{acting_of, body_gone, stirred, woken}

@@ -29,18 +29,19 @@ use Rattle.plain_world.specs.declared.kind.Course.{Course}
 use Rattle.plain_world.specs.declared.kind.Kind.TheVariants.{Kinematic}
 use Rattle.plain_world.specs.Bodies.{IsBody, is_awake, is_mover, pose_of}
 use Rattle.plain_world.specs.Momentum.{momentum_in}
-use Rattle.plain_world.specs.Changes.{CanPose, put_course, put_momenta, put_pose}
+use Rattle.plain_world.specs.Changes.{put_course, put_momenta, put_pose}
+use Rattle.plain_world.specs.InSlots.{CanPose, HaveSameSlots}
 use Rattle.plain_world.specs.Kinds.{IsCourse, is_course, is_dynamic, is_kinematic}
 use Rattle.plain_world.specs.Plain.{Plain}
 use Rattle.plain_world.specs.Sleep.{roused, told_body}
-use Rattle.plain_world.specs.Slots.{HaveSameSlots, body_at, shapes_in}
+use Rattle.plain_world.specs.Slots.{body_at, shapes_in}
 use Rattle.plain_world.proofs.BoxLemmas.{renewed_are}
 use Rattle.plain_world.proofs.KindLaws.{mass_as, no_mover, static_as}
 use Rattle.sleep_wake.specs.Acting.{IsSettled}
 use Rattle.sleep_wake.specs.Acting as acting
 use Rattle.sleep_wake.specs.Sleeping.{islands_woken, names_of}
 use Rattle.solver_sets.specs.Beside.{stirred_by}
-use Rattle.solver_sets.specs.Tied.{AreAlike}
+use Rattle.solver_sets.specs.Alike.{AreAlike}
 use Rattle.solver_sets.specs.Ties.{is_mover_in}
 use Rattle.world_rules.specs.Apply.{are_momenta, body_changed, booked, counted, is_push, posed, pushed, steered, with_impulse}
 use Rattle.world_rules.specs.Sets.{acting_of, stirred, woken}

@@ -10,9 +10,10 @@ use Rattle.plain_world.specs.declared.body.Body.{Body}
 use Rattle.plain_world.specs.declared.joint.BodyJoint.{BodyJoint}
 use Rattle.plain_world.specs.Formed.{mixed_of, shape_of_body}
 use Rattle.plain_world.specs.Joints.{AreJoints, IsBodyJoint}
-use Rattle.plain_world.specs.Slots.{HaveSameSlots, body_at, shapes_in, with_body}
-use Rattle.solver_sets.specs.Tied.{AreAlike}
-use Rattle.world_core_base.specs.Gather.{AreContactsOf, IsContactOf, moves, moves_in}
+use Rattle.plain_world.specs.Slots.{body_at, shapes_in, with_body}
+use Rattle.plain_world.specs.InSlots.{HaveSameSlots}
+use Rattle.solver_sets.specs.Alike.{AreAlike}
+use Rattle.world_core_base.specs.ContactBodies.{AreContactsOf, IsContactOf, moves, moves_in}
 use Rattle.world_rules.specs.Sound.{HasBodies}
 use Rattle.world_rules.proofs.ShapeLaws.{HaveSameShapes, same_shape}
 use Rattle.solver_sets.proofs.SlotLemmas.{item_at-set_other}

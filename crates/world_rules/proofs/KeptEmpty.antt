@@ -15,7 +15,7 @@ use Rattle.graph_colours.specs.Members.{AreApart, AreRising}
 use Rattle.graph_colours.specs.declared.limits.TheConstants.{COLOURS}
 use Rattle.sleep_wake.specs.Acting.{IsSettled}
 use Rattle.solver_sets.specs.Ties.{members_of, ties_of}
-use Rattle.world_core_base.specs.Gather.{IsContactOf}
+use Rattle.world_core_base.specs.ContactBodies.{IsContactOf}
 use Rattle.world_rules.specs.Apply.{empty_world}
 use Rattle.world_rules.specs.Sets.{acting_of}
 use Rattle.world_rules.specs.Sound.{HasBodies}

@@ -30,11 +30,13 @@ use Rattle.plain_world.specs.Plain.{Plain}
 use Rattle.plain_world.specs.Sleep.{told_body, told_by}
 use Rattle.plain_world.specs.Slots.{body_at, shapes_in}
 use Rattle.sleep_wake.specs.Acting.{Acting, IsSettled, are_awake, is_awake}
-use Rattle.sleep_wake.specs.Changes.{CanBegin, each_begun, each_inserted}
+use Rattle.sleep_wake.specs.Changes.{each_begun}
+use Rattle.sleep_wake.specs.ChangeLists.{CanBegin, each_inserted}
 use Rattle.solver_sets.specs.Beside.{joined_to}
-use Rattle.solver_sets.specs.Tied.{AreAlike, AreAlikeBeside, AreTied, IsBetweenEnabled}
+use Rattle.solver_sets.specs.Tied.{AreTied}
+use Rattle.solver_sets.specs.Alike.{AreAlike, AreAlikeBeside, IsBetweenEnabled}
 use Rattle.solver_sets.specs.Ties.{is_enabled, is_enabled_in, is_mover_in, joint_ties_at, moves, ties_of}
-use Rattle.world_core_base.specs.Gather.{IsContactOf}
+use Rattle.world_core_base.specs.ContactBodies.{IsContactOf}
 use Rattle.world_rules.specs.Apply.{counted, enabled}
 use Rattle.world_rules.specs.Sets.{acting_of, body_come, with_acting, woken}
 use Rattle.world_rules.specs.Sound.{HasBodies}

@@ -36,9 +36,10 @@ use Rattle.sleep_wake.specs.Bodies.{mover_made}
 use Rattle.sleep_wake.specs.Widened.{widened}
 use Rattle.islands.proofs.WideLemmas.{wide_at}
 use Rattle.sleep_wake.proofs.LengthLemmas.{made_long, wide_long, wide_settled}
-use Rattle.solver_sets.specs.Tied.{AreTied, IsBetweenEnabled}
+use Rattle.solver_sets.specs.Tied.{AreTied}
+use Rattle.solver_sets.specs.Alike.{IsBetweenEnabled}
 use Rattle.solver_sets.specs.Ties.{is_enabled_in, is_mover_in, members_of, moves}
-use Rattle.world_core_base.specs.Gather.{AreContactsOf}
+use Rattle.world_core_base.specs.ContactBodies.{AreContactsOf}
 use Rattle.world_rules.specs.Apply.{body_made, counted, with_made}
 use Rattle.world_rules.specs.Sets.{acting_of, body_come}
 use Rattle.world_rules.specs.Sound.{AreTimers, AreTold, HasBodies}

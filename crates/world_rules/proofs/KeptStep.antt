@@ -20,7 +20,8 @@ use Rattle.plain_world.specs.Momentum.{momentum}
 use Rattle.plain_world.specs.Joints.{AreJoints}
 use Rattle.plain_world.specs.Plain.{Plain}
 use Rattle.plain_world.specs.Sleep.{timed_bodies, told}
-use Rattle.plain_world.specs.Slots.{AreMatched, HaveSameSlots, item_at}
+use Rattle.plain_world.specs.Slots.{AreMatched, item_at}
+use Rattle.plain_world.specs.InSlots.{HaveSameSlots}
 use Rattle.sleep_wake.proofs.LengthLemmas.{phase_long, turned_long}
 use Rattle.sleep_wake.specs.Acting.{Acting, IsSettled}
 use Rattle.sleep_wake.specs.Changes.{turned}
@@ -28,9 +29,9 @@ use Rattle.sleep_wake.specs.SleepPhase.{all_put_to_rest, picked_to_split, ready,
 use Rattle.sleep_wake.specs.Waking.{put_to_rest}
 use Rattle.sleep_wake.specs.declared.change.Change.{Change}
 use Rattle.solver_sets.specs.Beside.{timers_of}
-use Rattle.solver_sets.specs.Tied.{AreAlike, AreJointSlots, HaveSameEnds, ends_in}
+use Rattle.solver_sets.specs.Alike.{AreAlike, AreJointSlots, HaveSameEnds, ends_in}
 use Rattle.solver_sets.specs.Ties.{IsNamed, JointSlots, key_changes, slots_of, ties_of, touching_keys}
-use Rattle.world_core_base.specs.Gather.{AreContactsOf}
+use Rattle.world_core_base.specs.ContactBodies.{AreContactsOf}
 use Rattle.world_core_base.specs.Renewal.{renewed_bodies}
 use Rattle.world_core_base.specs.Solving.{Solving, bodies_of}
 use Rattle.world_rules.specs.Apply.{bodies_ticked, events_of, gained, rest_entries, rested_acting, step_entries, step_solved, turned_acting, world_with}

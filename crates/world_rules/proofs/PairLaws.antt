@@ -50,7 +50,7 @@ use Rattle.plain_world.specs.Formed.{HasPoints, IsShapeOf, is_surface, mixed_of,
 use Rattle.plain_world.specs.Slots.{body_at, shapes_in}
 use Rattle.solver_sets.specs.Ties.{IsNamed}
 use Rattle.solver_sets.proofs.CollideLaws.{same_key}
-use Rattle.world_core_base.specs.Gather.{moves_in, moves, IsContactOf, AreContactsOf}
+use Rattle.world_core_base.specs.ContactBodies.{moves_in, moves, IsContactOf, AreContactsOf}
 use Rattle.world_rules.specs.Collide.{shape_proxies, body_proxies, entry_proxies, proxies_from, proxies_of, contacts_after}
 use Rattle.world_rules.specs.Sound.{HasBodies}
 use Rattle.solver_sets.proofs.SlotLemmas.{below_length}

@@ -31,7 +31,7 @@ use Rattle.sleep_wake.specs.Changes.{each_begun, each_ended}
 use Rattle.sleep_wake.specs.Sleeping.{islands_woken, names_of}
 use Rattle.solver_sets.specs.Beside.{joined_to, stirred_by}
 use Rattle.solver_sets.specs.Joining.{handle_at, joined_with, unjoined, unjoined_all}
-use Rattle.solver_sets.specs.Tied.{AreAlike}
+use Rattle.solver_sets.specs.Alike.{AreAlike}
 use Rattle.solver_sets.specs.Ties.{Bond, JointSlots, begun_with, bonds_of, ended_with, is_bond_of, joint_movers, joint_ties_at, tie_of, ties_at}
 use Rattle.world_rules.specs.Apply.{Applied, counted, created, departed, destroyed, disabled, enabled, joined, joint_gone, quietly, with_made, world_with}
 use Rattle.world_rules.specs.Sets.{acting_of, body_gone, stirred, with_acting, woken}

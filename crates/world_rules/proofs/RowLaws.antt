@@ -22,12 +22,13 @@ use Rattle.plain_world.specs.declared.joint.BodyJoint.{BodyJoint}
 use Rattle.plain_world.specs.Bodies.{AreBodies}
 use Rattle.plain_world.specs.Momentum.{momentum}
 use Rattle.plain_world.specs.Formed.{HasPoints}
-use Rattle.plain_world.specs.Joints.{AreJoints, impulse_set, joint_at, with_impulse}
-use Rattle.plain_world.specs.Slots.{HaveSameSlots}
-use Rattle.solver_sets.specs.Tied.{HaveSameEnds, ends_in}
+use Rattle.plain_world.specs.Joints.{AreJoints, joint_at}
+use Rattle.plain_world.specs.InSlots.{impulse_set, with_impulse, HaveSameSlots}
+use Rattle.solver_sets.specs.Alike.{HaveSameEnds, ends_in}
 use Rattle.solver_sets.specs.Ties.{touching_keys}
 use Rattle.world_core_base.specs.ConstraintRows.{put_joint_row, with_joint_rows}
-use Rattle.world_core_base.specs.Gather.{AreContactsOf, impulses_of, with_motions, with_row, with_rows}
+use Rattle.world_core_base.specs.Gather.{impulses_of, with_motions, with_row, with_rows}
+use Rattle.world_core_base.specs.ContactBodies.{AreContactsOf}
 use Rattle.world_core_base.specs.Renewal.{renewed_bodies}
 use Rattle.world_core_base.proofs.ContactLaws.{keys_stay, rows_kept, rows_same, touches_with_row}
 use Rattle.world_rules.specs.Sound.{HasBodies}

@@ -6,7 +6,7 @@ use Rattle.plain_world.specs.declared.body.Body.{Body}
 use Rattle.plain_world.specs.Formed.{AreFiltered, HasFilter, HaveFilters, shape_of_body}
 use Rattle.plain_world.specs.Slots.{body_at}
 use Rattle.shapes.specs.declared.shape.ShapeDef.{ShapeDef}
-use Rattle.solver_sets.specs.Tied.{AreAlike}
+use Rattle.solver_sets.specs.Alike.{AreAlike}
 use Rattle.solver_sets.specs.Ties.{is_enabled_in}
 
 -- the shapes of the body in a slot, whether it is enabled or not

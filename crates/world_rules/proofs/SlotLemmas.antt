@@ -10,7 +10,8 @@ use Rattle.colour_solver.proofs.VectorLaws.{plus_assoc, plus_zero, same_vector, 
 use Rattle.plain_world.specs.declared.body.Body.{Body}
 use Rattle.plain_world.specs.Bodies.{is_mover, IsBody, AreBodies}
 use Rattle.plain_world.specs.Momentum.{momentum_in, momentum}
-use Rattle.plain_world.specs.Slots.{body_at, shapes_in, AreMatched, HaveSameSlots}
+use Rattle.plain_world.specs.Slots.{body_at, shapes_in, AreMatched}
+use Rattle.plain_world.specs.InSlots.{HaveSameSlots}
 
 -- ---- the momentum
 

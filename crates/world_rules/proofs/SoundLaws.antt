@@ -14,7 +14,7 @@ use Rattle.plain_world.specs.Slots.{AreMatched}
 use Rattle.sleep_wake.specs.Acting.{IsSettled}
 use Rattle.solver_sets.specs.Tied.{AreTied}
 use Rattle.solver_sets.specs.Ties.{members_of}
-use Rattle.world_core_base.specs.Gather.{AreContactsOf}
+use Rattle.world_core_base.specs.ContactBodies.{AreContactsOf}
 use Rattle.world_rules.specs.Sets.{acting_of}
 use Rattle.world_rules.specs.Sound.{AreSmall, AreTimers, AreTold, HasBodies, IsSound}
 use Rattle.world_rules.specs.World.{World, book_of, joints_of}

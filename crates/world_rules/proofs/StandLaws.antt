@@ -1,6 +1,6 @@
 -- The census of a sound world lists each of its bodies, joints and contacts once, where it stands.
 use Rattle.solver_sets.specs.Laws as sets
-use Rattle.solver_sets.specs.Tied.{OnlyMoversSleep}
+use Rattle.solver_sets.specs.Alike.{OnlyMoversSleep}
 use Rattle.solver_sets.proofs.EachOnceLaws as set_census_laws
 use Rattle.world_rules.specs.Laws.{EachStandsInOneSet}
 use Rattle.world_rules.specs.Sound.{IsSound}

@@ -7,10 +7,12 @@ use Rattle.contacts_base.specs.Contacts.{AreKeysRising}
 use Rattle.contacts_base.specs.declared.contact.ContactEntry.{ContactEntry}
 use Rattle.graph_colours.specs.Colours.{all_members}
 use Rattle.plain_world.specs.declared.body.Body.{Body}
-use Rattle.plain_world.specs.Sleep.{AreTimersWithin, told}
+use Rattle.plain_world.specs.Sleep.{told}
+use Rattle.plain_world.specs.InSlots.{AreTimersWithin}
 use Rattle.sleep_wake.specs.Acting.{Acting, IsSettled}
-use Rattle.sleep_wake.specs.Changes.{AreChanges, begin_count}
-use Rattle.solver_sets.specs.Slept.{asleep_only_in, newly_awake}
+use Rattle.sleep_wake.specs.ChangeLists.{AreChanges, begin_count}
+use Rattle.solver_sets.specs.Slept.{asleep_only_in}
+use Rattle.solver_sets.specs.SinceTold.{newly_awake}
 use Rattle.solver_sets.specs.Ties.{IsNamed, key_changes}
 use Rattle.solver_sets.proofs.SleptLaws.{told_bodies_tell}
 use Rattle.world_core_base.specs.Renewal.{renewed_bodies}

@@ -30,14 +30,16 @@ use Rattle.plain_world.specs.Momentum.{momentum}
 use Rattle.plain_world.specs.Joints.{AreJoints}
 use Rattle.plain_world.specs.Plain.{Plain}
 use Rattle.plain_world.specs.Sleep.{timed_bodies, told}
-use Rattle.plain_world.specs.Slots.{HaveSameSlots}
+use Rattle.plain_world.specs.InSlots.{HaveSameSlots}
 use Rattle.sleep_wake.specs.Acting.{Acting, IsSettled}
-use Rattle.sleep_wake.specs.Changes.{begin_count, changed, turned}
+use Rattle.sleep_wake.specs.Changes.{changed, turned}
+use Rattle.sleep_wake.specs.ChangeLists.{begin_count}
 use Rattle.sleep_wake.specs.declared.change.Change.{Change}
 use Rattle.sleep_wake.proofs.FoldLemmas.{count_next}
 use Rattle.sleep_wake.proofs.StandLemmas.{fewer_coloured}
 use Rattle.world_core_base.specs.ConstraintRows.{rows_of, with_joint_rows}
-use Rattle.world_core_base.specs.Gather.{AreContactsOf, states_of, with_motions, with_rows}
+use Rattle.world_core_base.specs.Gather.{states_of, with_motions, with_rows}
+use Rattle.world_core_base.specs.ContactBodies.{AreContactsOf}
 use Rattle.world_core_base.specs.Renewal.{renewed_bodies}
 use Rattle.fixed_geom.specs.declared.vectors.Vec2.{Vec2}
 use Rattle.graph_colours.specs.declared.member.Member.{Member}
@@ -47,7 +49,7 @@ use Rattle.world_core_base.proofs.SolvingLaws.{arrays_are_solving}
 use Rattle.world_rules.specs.Apply.{bodies_ticked, rested_acting, step_entries, step_solved}
 use Rattle.world_rules.specs.Sets.{acting_of}
 use Rattle.solver_sets.specs.Tied.{AreTied}
-use Rattle.solver_sets.specs.Tied as tied
+use Rattle.solver_sets.specs.Alike.{AreTold}
 use Rattle.world_rules.specs.Sound as sound
 use Rattle.world_rules.specs.Sound.{AreSmall, IsRoomy}
 use Rattle.world_rules.specs.World.{World}
@@ -195,5 +197,5 @@ arrays_left n g bodies joints contacts lists rows left sums rising can gathered 
 -- ---- who fell asleep and who woke
 
 -- the two forms of 'just the movers have labels, and each body sleeps just if its label does'
-pub told_as : (bodies : List (Option Body)) (labels : Labels) → AreTied bodies labels → sound.AreTold bodies labels → tied.AreTold bodies labels
+pub told_as : (bodies : List (Option Body)) (labels : Labels) → AreTied bodies labels → sound.AreTold bodies labels → AreTold bodies labels
 told_as bodies labels are told = record { tied = are; asleep = told }

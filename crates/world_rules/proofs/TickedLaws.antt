@@ -10,10 +10,11 @@ use Rattle.plain_world.specs.Momentum.{momentum, momentum_in}
 use Rattle.plain_world.specs.Fats.{renewed_boxes}
 use Rattle.plain_world.specs.Kinds.{is_dynamic, is_kinematic}
 use Rattle.plain_world.specs.Sleep.{is_slow, timed, timed_bodies}
-use Rattle.plain_world.specs.Slots.{HaveSameSlots, body_at, shapes_in}
+use Rattle.plain_world.specs.Slots.{body_at, shapes_in}
+use Rattle.plain_world.specs.InSlots.{HaveSameSlots}
 use Rattle.plain_world.specs.declared.kind.Kind.{Kind}
 use Rattle.plain_world.specs.declared.kind.Kind.TheVariants.{Static, Kinematic, Dynamic}
-use Rattle.solver_sets.specs.Tied.{AreAlike}
+use Rattle.solver_sets.specs.Alike.{AreAlike}
 use Rattle.solver_sets.specs.Ties.{is_enabled_in, is_mover_in}
 use Rattle.world_core_base.specs.Carried.{carried_to}
 use Rattle.world_core_base.specs.Gather.{with_motion, with_motions}

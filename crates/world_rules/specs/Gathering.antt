@@ -9,7 +9,8 @@ use Rattle.plain_world.specs.declared.body.Body.{Body}
 use Rattle.plain_world.specs.declared.joint.BodyJoint.{BodyJoint}
 use Rattle.plain_world.specs.Joints.{AreJoints}
 use Rattle.world_core_base.specs.ConstraintRows.{HaveJointsOn, HaveMovable}
-use Rattle.world_core_base.specs.Gather.{AreContactsOf, states_of}
+use Rattle.world_core_base.specs.Gather.{states_of}
+use Rattle.world_core_base.specs.ContactBodies.{AreContactsOf}
 use Rattle.world_core_base.specs.Solving.{solve_order}
 use Rattle.world_core_base.specs.SolvingArrays.{CanSolve}
 

@@ -18,7 +18,7 @@ use Rattle.sleep_wake.specs.Acting.{IsSettled}
 use Rattle.solver_sets.specs.Ties.{IsNamed, members_of}
 use Rattle.solver_sets.specs.Tied.{AreTied}
 use Rattle.islands.specs.Labels.{Labels, label_at, sleeping_name}
-use Rattle.world_core_base.specs.Gather.{AreContactsOf}
+use Rattle.world_core_base.specs.ContactBodies.{AreContactsOf}
 use Rattle.world_rules.specs.Sets.{acting_of}
 use Rattle.world_rules.specs.World.{World, book_of, joints_of}
 

@@ -3,7 +3,8 @@
 ghost use Rattle.std.specs.Prelude.{◌≡◌, ◌<◌, ◌^◌, false, IfOk};
 ghost use Rattle.std.specs.Result.{IsOkUnless};
 ghost use Rattle.sleep_wake.specs.Sleeping.{names_of};
-ghost use Rattle.solver_sets.specs.Beside.{first_movers, stirred_by};
+ghost use Rattle.solver_sets.specs.Beside.{stirred_by};
+ghost use Rattle.solver_sets.specs.BesideByTies.{first_movers};
 ghost use Rattle.solver_sets.specs.Ties.{moves, ties_at};
 ghost use Rattle.world_core.specs.Waking.{HasIslands};
 ghost use Rattle.world_rules.specs.World.{joints_of};

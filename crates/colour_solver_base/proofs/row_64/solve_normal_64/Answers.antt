@@ -6,7 +6,8 @@ use Rattle.momenta.specs.declared.line_64.Exerted64.{Exerted64}
 use Rattle.momenta.specs.Impulses.{solved}
 use Rattle.momenta.specs.Line64.{ends_with}
 use Rattle.momenta.proofs.Laws64.{some_both, some_then}
-use Rattle.colour_solver_base.specs.Rows.{bias_of, normal_line, normal_solved, separation_now, with_normal}
+use Rattle.colour_solver_base.specs.Rows.{normal_line, normal_solved, separation_now, with_normal}
+use Rattle.colour_solver_base.specs.ContactSolving.{bias_of}
 use Rattle.colour_solver_base.specs.Row64.{with_impulses}
 use Rattle.colour_solver_base.proofs.Laws64.{same_separation}
 use Rattle.colour_solver_base.proofs.row_64.solve_normal_64.Goals as goal

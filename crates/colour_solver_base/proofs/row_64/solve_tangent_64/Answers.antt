@@ -9,7 +9,8 @@ use Rattle.colour_solver_base.specs.declared.row.PointRow.{PointRow}
 use Rattle.colour_solver_base.specs.declared.solve.PointAfter.{PointAfter}
 use Rattle.momenta.specs.Line64.{ends_with}
 use Rattle.momenta.proofs.Laws64.{some_both, some_then}
-use Rattle.colour_solver_base.specs.Rows.{most_friction, tangent_line, tangent_solved, with_tangent}
+use Rattle.colour_solver_base.specs.Rows.{tangent_line, tangent_solved, with_tangent}
+use Rattle.colour_solver_base.specs.ContactSolving.{most_friction}
 use Rattle.colour_solver_base.specs.Row64.{with_impulses}
 use Rattle.colour_solver_base.proofs.Frictionless.{frictionless}
 use Rattle.colour_solver_base.proofs.row_64.solve_tangent_64.Goals as goal

@@ -6,7 +6,8 @@ use Rattle.momenta.specs.declared.state.Ends.{Ends}
 use Rattle.momenta.specs.declared.line.Exerted.{Exerted}
 use Rattle.momenta.specs.Impulses.{solved}
 use Rattle.colour_solver_base.specs.declared.row.PointRow.{PointRow}
-use Rattle.colour_solver_base.specs.Rows.{most_friction, tangent_line, with_tangent}
+use Rattle.colour_solver_base.specs.Rows.{tangent_line, with_tangent}
+use Rattle.colour_solver_base.specs.ContactSolving.{most_friction}
 use Rattle.colour_solver_base.proofs.solve.apply_friction.Goals as goal
 
 abbrev tangent_by : ℤ → PointRow → Ends → Exerted

@@ -2,7 +2,7 @@ use Rattle.std.proofs.Common.{◌≡◌, ◌∙◌, ap, sym, pos, rules}
 use Rattle.std.proofs.lemmas.Int.{to_z-of_z}
 use Rattle.std.specs.Int.{w64}
 use mir.Val.{SFits, to_z}
-use Rattle.colour_solver_base.specs.Rows.{most_friction}
+use Rattle.colour_solver_base.specs.ContactSolving.{most_friction}
 use Rattle.colour_solver_base.proofs.Frictionless.{frictionless}
 use Rattle.colour_solver_base.proofs.solve.is_frictionless.Goals as goal
 

@@ -2,7 +2,8 @@ use Rattle.std.proofs.Common.{◌≡◌, ◌+◌, ◌<◌, ◌≤◌, ◌∷◌,
 use Rattle.graph_colours.specs.Colours.{all_members}
 use Rattle.islands.proofs.JoinLemmas.{contains_head}
 use Rattle.sleep_wake.specs.Acting.{Acting, acting, IsSettled}
-use Rattle.sleep_wake.specs.Changes.{CanBegin, each_begun, begun}
+use Rattle.sleep_wake.specs.Changes.{each_begun, begun}
+use Rattle.sleep_wake.specs.ChangeLists.{CanBegin}
 use Rattle.sleep_wake.proofs.SetLemmas.{front_is}
 use Rattle.sleep_wake.proofs.SizeLemmas.{begun_size}
 use Rattle.sleep_wake.proofs.FoldLemmas.{are_up, begin_next, begun_more}

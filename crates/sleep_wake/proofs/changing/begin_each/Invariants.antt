@@ -1,7 +1,8 @@
 use Rattle.std.proofs.Common.{◌≡◌, ◌≤◌, ◌+◌, length, drop}
 use Rattle.graph_colours.specs.Colours.{all_members}
 use Rattle.sleep_wake.specs.Acting.{acting, IsSettled}
-use Rattle.sleep_wake.specs.Changes.{CanBegin, each_begun}
+use Rattle.sleep_wake.specs.Changes.{each_begun}
+use Rattle.sleep_wake.specs.ChangeLists.{CanBegin}
 use Rattle.sleep_wake.proofs.changing.begin_each.Given as goal
 
 abbrev pub invariant-loop-place : goal.invariant-loop-place

@@ -1,7 +1,8 @@
 use Rattle.std.proofs.Common.{◌≡◌, ◌+◌, ◌<◌, ◌∷◌, drop, length, sym, ap, ◌∙◌, subst, arith}
 use Rattle.islands.proofs.JoinLemmas.{contains_head}
 use Rattle.sleep_wake.specs.Acting.{Acting, acting, IsSettled}
-use Rattle.sleep_wake.specs.Changes.{CanEnd, each_ended, ended}
+use Rattle.sleep_wake.specs.Changes.{each_ended, ended}
+use Rattle.sleep_wake.specs.ChangeLists.{CanEnd}
 use Rattle.sleep_wake.proofs.SetLemmas.{front_is}
 use Rattle.sleep_wake.proofs.FoldLemmas.{are_up, end_next}
 use Rattle.sleep_wake.proofs.KeptLemmas.{ending_keeps}

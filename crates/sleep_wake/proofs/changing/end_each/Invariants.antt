@@ -1,7 +1,8 @@
 use Rattle.std.proofs.Common.{◌≡◌, ◌≤◌, ◌+◌, length, drop}
 use Rattle.graph_colours.specs.Colours.{all_members}
 use Rattle.sleep_wake.specs.Acting.{acting, IsSettled}
-use Rattle.sleep_wake.specs.Changes.{CanEnd, each_ended}
+use Rattle.sleep_wake.specs.Changes.{each_ended}
+use Rattle.sleep_wake.specs.ChangeLists.{CanEnd}
 use Rattle.sleep_wake.proofs.changing.end_each.Given as goal
 
 abbrev pub invariant-loop-place : goal.invariant-loop-place

@@ -1,7 +1,8 @@
 use Rattle.std.proofs.Common.{◌≡◌, ◌+◌, ◌<◌, ◌≤◌, ◌∷◌, [], drop, length, sym, ap, ◌∙◌, subst, arith}
 use Rattle.graph_colours.specs.Colours.{all_members}
 use Rattle.sleep_wake.specs.Acting.{Acting, acting, IsSettled}
-use Rattle.sleep_wake.specs.Changes.{AreChanges, IsChange, turned, changed, begin_count}
+use Rattle.sleep_wake.specs.Changes.{turned, changed}
+use Rattle.sleep_wake.specs.ChangeLists.{AreChanges, IsChange, begin_count}
 use Rattle.sleep_wake.proofs.FoldLemmas.{Labelled, change_now, change_next, one_count, count_next, changed_labelled, first_is}
 use Rattle.sleep_wake.proofs.LengthLemmas.{turned_long}
 use Rattle.sleep_wake.proofs.TurnOwn.{change_keeps}

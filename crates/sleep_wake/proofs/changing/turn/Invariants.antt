@@ -1,7 +1,8 @@
 use Rattle.std.proofs.Common.{◌≡◌, ◌≤◌, ◌+◌, length, drop}
 use Rattle.graph_colours.specs.Colours.{all_members}
 use Rattle.sleep_wake.specs.Acting.{acting, IsSettled}
-use Rattle.sleep_wake.specs.Changes.{AreChanges, turned, begin_count}
+use Rattle.sleep_wake.specs.Changes.{turned}
+use Rattle.sleep_wake.specs.ChangeLists.{AreChanges, begin_count}
 use Rattle.sleep_wake.proofs.FoldLemmas.{Labelled}
 use Rattle.sleep_wake.proofs.changing.turn.Given as goal
 

@@ -2,7 +2,8 @@ use Rattle.std.proofs.Common.{◌≡◌, ◌<◌, ◌≤◌, refl, get_or, lengt
 use Rattle.body_handles.specs.declared.places.Place.{Place}
 use Rattle.plain_world.specs.Bodies.{standing_of}
 use Rattle.solver_sets.specs.declared.census.Item.TheVariants as items
-use Rattle.solver_sets.specs.Census.{body_standings, listed_in, with_all}
+use Rattle.solver_sets.specs.Census.{body_standings}
+use Rattle.solver_sets.specs.CensusListing.{listed_in, with_all}
 use Rattle.solver_sets.proofs.CensusLaws.{named_listed, slot_listed, slot_passed, slots_end}
 use Rattle.solver_sets.proofs.census.list_bodies.Goals as goal
 use Rattle.solver_sets.proofs.census.list_bodies.Goals.{in-Some+in_ok-list, in_default}

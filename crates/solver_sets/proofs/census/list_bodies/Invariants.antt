@@ -1,7 +1,8 @@
 use Rattle.std.proofs.Common.{◌≡◌, drop}
 use Rattle.plain_world.specs.Bodies.{standing_of}
 use Rattle.solver_sets.specs.declared.census.Item.TheVariants as items
-use Rattle.solver_sets.specs.Census.{AreNamed, body_standings, standings_from, with_all}
+use Rattle.solver_sets.specs.Census.{AreNamed, body_standings, standings_from}
+use Rattle.solver_sets.specs.CensusListing.{with_all}
 use Rattle.solver_sets.proofs.census.list_bodies.Given as goal
 
 abbrev pub invariant-loop-slot : goal.invariant-loop-slot

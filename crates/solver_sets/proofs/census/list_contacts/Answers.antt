@@ -1,7 +1,8 @@
 use Rattle.std.proofs.Common.{ap, sym, subst, ◌∙◌}
 use Rattle.contacts_base.specs.declared.contact.ContactEntry.{ContactEntry}
 use Rattle.solver_sets.specs.declared.census.Item.TheVariants as items
-use Rattle.solver_sets.specs.Census.{AreNamed, Census, listed_in, standing_of_contact}
+use Rattle.solver_sets.specs.Census.{AreNamed, Census, standing_of_contact}
+use Rattle.solver_sets.specs.CensusListing.{listed_in}
 use Rattle.solver_sets.proofs.CensusLaws.{contact_step, named_listed}
 use Rattle.solver_sets.proofs.census.list_contacts.Goals as goal
 

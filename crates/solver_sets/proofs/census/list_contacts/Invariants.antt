@@ -1,5 +1,6 @@
 use Rattle.std.proofs.Common.{◌≡◌, drop}
-use Rattle.solver_sets.specs.Census.{AreNamed, contact_standings, with_all}
+use Rattle.solver_sets.specs.Census.{AreNamed, contact_standings}
+use Rattle.solver_sets.specs.CensusListing.{with_all}
 use Rattle.solver_sets.proofs.census.list_contacts.Given as goal
 
 abbrev pub invariant-loop-entry : goal.invariant-loop-entry

@@ -3,7 +3,8 @@ use Rattle.std.proofs.lemmas.List.{get_or_default}
 use Rattle.body_handles.specs.declared.places.Place.{Place}
 use Rattle.solver_sets.specs.Ties.{slots_of}
 use Rattle.solver_sets.specs.declared.census.Item.TheVariants as items
-use Rattle.solver_sets.specs.Census.{joint_standings, listed_in, standing_of_joint, with_all}
+use Rattle.solver_sets.specs.Census.{joint_standings, standing_of_joint}
+use Rattle.solver_sets.specs.CensusListing.{listed_in, with_all}
 use Rattle.solver_sets.proofs.CensusLaws.{named_listed, slot_listed, slot_passed, slots_end}
 use Rattle.solver_sets.proofs.census.list_joints.Goals as goal
 use Rattle.solver_sets.proofs.census.list_joints.Goals.{in-Some+in_ok-list, in_default}

@@ -1,7 +1,8 @@
 use Rattle.std.proofs.Common.{◌≡◌, drop}
 use Rattle.solver_sets.specs.declared.census.Item.TheVariants as items
 use Rattle.solver_sets.specs.Ties.{slots_of}
-use Rattle.solver_sets.specs.Census.{AreNamed, joint_standings, standing_of_joint, standings_from, with_all}
+use Rattle.solver_sets.specs.Census.{AreNamed, joint_standings, standing_of_joint, standings_from}
+use Rattle.solver_sets.specs.CensusListing.{with_all}
 use Rattle.solver_sets.proofs.census.list_joints.Given as goal
 
 abbrev pub invariant-loop-slot : goal.invariant-loop-slot

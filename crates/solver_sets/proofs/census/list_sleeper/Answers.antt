@@ -3,7 +3,8 @@ use Rattle.std.specs.List.{insert}
 use Rattle.std.proofs.lemmas.Grind.{common_steps}
 use Rattle.std.proofs.lemmas.List.{get_or_default}
 use Rattle.std.proofs.lemmas.Result.{on_ok_weaker}
-use Rattle.solver_sets.specs.Census.{Sleepers, with_item}
+use Rattle.solver_sets.specs.Census.{Sleepers}
+use Rattle.solver_sets.specs.CensusListing.{with_item}
 use Rattle.solver_sets.proofs.CensusLaws.{with_sleeper-in, with_sleeper-new}
 use Rattle.solver_sets.proofs.census.list_sleeper.Goals as goal
 use Rattle.solver_sets.proofs.census.list_sleeper.Goals.{else-place-len-via-then-place-len+else-index-name, else-place-len-via-else-place-len}

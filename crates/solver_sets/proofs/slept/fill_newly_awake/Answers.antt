@@ -1,5 +1,6 @@
 use Rattle.std.proofs.Common.{◌∙◌, ◌&&◌, not, slice_get, arith}
-use Rattle.solver_sets.specs.Slept.{handle_if, newly_awake, sleeps, was_asleep}
+use Rattle.solver_sets.specs.Slept.{sleeps}
+use Rattle.solver_sets.specs.SinceTold.{handle_if, newly_awake, was_asleep}
 use Rattle.solver_sets.proofs.ListingLaws.{listed_all, listed_more}
 use Rattle.solver_sets.proofs.SleptLaws.{listed_where}
 use Rattle.solver_sets.proofs.slept.fill_newly_awake.Goals as goal

@@ -1,6 +1,7 @@
 use Rattle.std.proofs.Common.{◌≡◌, ◌≤◌, ◌++◌, ◌&&◌, not, drop, slice_get, vec_len, vec_capacity}
 use Rattle.std.specs.List.{filter_map}
-use Rattle.solver_sets.specs.Slept.{handle_if, sleeps, was_asleep}
+use Rattle.solver_sets.specs.Slept.{sleeps}
+use Rattle.solver_sets.specs.SinceTold.{handle_if, was_asleep}
 use Rattle.solver_sets.proofs.slept.fill_newly_awake.Given as goal
 
 abbrev pub invariant-loop-place : goal.invariant-loop-place

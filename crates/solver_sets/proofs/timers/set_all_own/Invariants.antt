@@ -1,5 +1,5 @@
 use Rattle.std.proofs.Common.{◌≡◌, drop}
-use Rattle.solver_sets.specs.Beside.{own_set}
+use Rattle.solver_sets.specs.BesideByTies.{own_set}
 use Rattle.solver_sets.proofs.timers.set_all_own.Given as goal
 
 abbrev pub invariant-loop-slot : goal.invariant-loop-slot

@@ -1,6 +1,6 @@
 use Rattle.std.proofs.Common.{◌≡◌, ◌∙◌, ◌+◌, ℕ, ap, sym, arith}
 use Rattle.graph_colours.specs.Colours.{list_at}
-use Rattle.solver_sets.specs.Beside.{stilled_lists, stilled_ties}
+use Rattle.solver_sets.specs.BesideByTies.{stilled_lists, stilled_ties}
 use Rattle.solver_sets.proofs.TimerLaws.{lists_last}
 use Rattle.solver_sets.proofs.timers.still_acting.Goals as goal
 

@@ -1,5 +1,5 @@
 use Rattle.std.proofs.Common.{◌≡◌, drop}
-use Rattle.solver_sets.specs.Beside.{stilled_lists}
+use Rattle.solver_sets.specs.BesideByTies.{stilled_lists}
 use Rattle.solver_sets.proofs.timers.still_acting.Given as goal
 
 abbrev pub invariant-loop-colour : goal.invariant-loop-colour

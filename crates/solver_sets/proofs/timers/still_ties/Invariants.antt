@@ -1,5 +1,5 @@
 use Rattle.std.proofs.Common.{◌≡◌, drop}
-use Rattle.solver_sets.specs.Beside.{stilled_ties}
+use Rattle.solver_sets.specs.BesideByTies.{stilled_ties}
 use Rattle.solver_sets.proofs.timers.still_ties.Given as goal
 
 abbrev pub invariant-loop-member : goal.invariant-loop-member

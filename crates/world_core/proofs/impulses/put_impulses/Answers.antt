@@ -2,7 +2,7 @@ use Rattle.std.proofs.Common.{sym, subst}
 use Rattle.colour_solver.specs.ColourRows.{all_rows}
 use Rattle.colour_solver.specs.ConstraintTurns.{contacts_among, joints_among}
 use Rattle.plain_world.specs.Joints.{AreJoints}
-use Rattle.world_core_base.specs.Gather.{AreContactsOf}
+use Rattle.world_core_base.specs.ContactBodies.{AreContactsOf}
 use Rattle.world_core_base.proofs.ContactLaws.{contacts_stay}
 use Rattle.world_core_base.proofs.JointLaws.{contact_rows_whole, joint_rows_whole, joints_stay}
 use Rattle.world_core.proofs.impulses.put_impulses.Goals as goal

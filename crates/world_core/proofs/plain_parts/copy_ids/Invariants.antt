@@ -1,6 +1,6 @@
 use Rattle.std.proofs.Common.{◌≡◌, ◌++◌, drop}
 use Rattle.graph_colours.specs.Colours.{ids_of}
-use Rattle.plain_world.specs.Plain.{constraints_of}
+use Rattle.plain_world.specs.KeptColours.{constraints_of}
 use Rattle.world_core.proofs.plain_parts.copy_ids.Given as goal
 
 abbrev pub invariant-loop-colour : goal.invariant-loop-colour

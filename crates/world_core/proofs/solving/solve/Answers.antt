@@ -12,7 +12,7 @@ use Rattle.world_rules.proofs.StepParts.{IsLeft, arrays_left}
 use Rattle.contacts_base.specs.Contacts.{number_of}
 use Rattle.contacts_base.specs.declared.contact.ContactEntry.{ContactEntry}
 use Rattle.contacts_base.specs.Split.{contacts_in}
-use Rattle.world_core_base.specs.Gather.{AreContactsOf}
+use Rattle.world_core_base.specs.ContactBodies.{AreContactsOf}
 use Rattle.world_core_base.proofs.ContactLaws.{contacts_on, keys_stay}
 use Rattle.world_core_base.proofs.JointLaws.{bare_rows}
 use Rattle.world_core_base.proofs.RowColourLaws.{gathered_apart}

@@ -1,5 +1,5 @@
 use Rattle.std.proofs.Common.{add-one}
-use Rattle.plain_world.specs.Plain.{members_at}
+use Rattle.plain_world.specs.KeptColours.{members_at}
 use Rattle.world_digest.specs.ConstraintWords.{colours_words, constraint_words}
 use Rattle.world_digest.specs.Sums.{list_words}
 use Rattle.world_digest.proofs.SumLaws.{told_both, told_list}

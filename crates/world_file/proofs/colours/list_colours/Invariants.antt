@@ -1,5 +1,5 @@
 use Rattle.std.proofs.Common.{◌≡◌}
-use Rattle.plain_world.specs.Plain.{constraints_of}
+use Rattle.plain_world.specs.KeptColours.{constraints_of}
 use Rattle.world_file.specs.Fitting.{ids_below}
 use Rattle.world_file.proofs.colours.list_colours.Given as goal
 

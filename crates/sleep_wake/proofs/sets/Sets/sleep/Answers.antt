@@ -1,7 +1,7 @@
 use Rattle.std.proofs.Common.{sym, ap, ◌∙◌}
 use Rattle.islands.specs.Labels.{label_at}
 use Rattle.sleep_wake.specs.Acting.{Acting}
-use Rattle.sleep_wake.specs.Sleeping.{is_whole}
+use Rattle.sleep_wake.specs.Resting.{is_whole}
 use Rattle.sleep_wake.proofs.RestLemmas.{whole_after}
 use Rattle.sleep_wake.proofs.sets.Sets.sleep.Goals as goal
 

@@ -1,6 +1,7 @@
 use Rattle.std.proofs.Common.{◌≡◌, ◌∙◌, ℕ, true, false, List, sym, subst, ap, IfOk}
 use Rattle.sleep_wake.specs.Sleeping.{names_of}
-use Rattle.solver_sets.specs.Beside.{first_movers, stirred_by}
+use Rattle.solver_sets.specs.Beside.{stirred_by}
+use Rattle.solver_sets.specs.BesideByTies.{first_movers}
 use Rattle.solver_sets.specs.Ties.{moves}
 use Rattle.world_core.specs.contracts.world.WorldCore.{the_view}
 use Rattle.world_core.proofs.AnchoredLaws.{mover_stirs, still_stirs}

@@ -16,7 +16,7 @@ use Rattle.contacts_base.specs.declared.key.ContactKey.{ContactKey}
 use Rattle.colour_solver.specs.States.{as_vector}
 use Rattle.plain_world.specs.Sleep.{timed_bodies}
 use Rattle.sleep_wake.specs.Acting.{Acting}
-use Rattle.solver_sets.specs.Slept.{newly_asleep, newly_awake}
+use Rattle.solver_sets.specs.SinceTold.{newly_asleep, newly_awake}
 use Rattle.world_core_base.specs.Awake.{Bodies}
 use Rattle.world_rules.specs.World.{World}
 use Rattle.world_rules.proofs.AcceptedAll.{few_ticks}

@@ -1,5 +1,5 @@
 use Rattle.std.proofs.Common.{◌≡◌, take}
-use Rattle.solver_sets.specs.Beside.{first_movers}
+use Rattle.solver_sets.specs.BesideByTies.{first_movers}
 use Rattle.world_core.proofs.world.sleeping.list_first.Given as goal
 
 abbrev pub invariant-loop-place : goal.invariant-loop-place

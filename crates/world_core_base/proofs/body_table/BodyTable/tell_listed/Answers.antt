@@ -3,7 +3,7 @@ use Rattle.colour_solver.specs.States.{carried_of, is_carried}
 use Rattle.plain_world.specs.declared.body.Body.{Body}
 use Rattle.plain_world.specs.Bodies.{AreBodies}
 use Rattle.plain_world.specs.Sleep.{told}
-use Rattle.plain_world.specs.Slots.{HaveSameSlots}
+use Rattle.plain_world.specs.InSlots.{HaveSameSlots}
 use Rattle.world_core_base.specs.Gather.{states_of}
 use Rattle.world_core_base.specs.Standing.{HaveSameStanding}
 use Rattle.world_core_base.proofs.StandingLaws.{slots-told, standing-told}

@@ -1,7 +1,7 @@
 use Rattle.std.proofs.Common.{◌≡◌, ◌+◌, length, ap, sym, subst, ◌∙◌, arith, refl}
 use Rattle.colour_solver.specs.States.{movers_of}
 use Rattle.plain_world.specs.Bodies.{AreBodies}
-use Rattle.plain_world.specs.Slots.{HaveSameSlots}
+use Rattle.plain_world.specs.InSlots.{HaveSameSlots}
 use Rattle.world_core_base.specs.Standing.{HaveSameStanding}
 use Rattle.world_core_base.proofs.StandingLaws.{slots-timed, standing-timed}
 use Rattle.world_core_base.proofs.TimeLaws.{awake_places, length-timed, states_timed, timed_are_bodies}

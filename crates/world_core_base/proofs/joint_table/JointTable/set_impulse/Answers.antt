@@ -1,7 +1,7 @@
 use Rattle.std.proofs.Common.{rules, w64, SFits, ◌≡◌, ◌<◌, length, option_map, slice_index_or, slice_set, ap, ◌∙◌}
 use Rattle.std.proofs.lemmas.Int.{to_z-of_z}
 use Rattle.std.proofs.lemmas.List.{length-set}
-use Rattle.plain_world.specs.Joints.{with_impulse}
+use Rattle.plain_world.specs.InSlots.{with_impulse}
 use Rattle.world_core_base.proofs.JointImpulseLaws.{impulse_put}
 use Rattle.world_core_base.proofs.JointTableLaws.{impulse_ends}
 use Rattle.world_core_base.proofs.joint_table.JointTable.set_impulse.Goals as goal
