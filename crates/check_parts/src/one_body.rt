@@ -6,8 +6,7 @@ ghost use Rattle.momenta.specs.Motions.{IsMass, IsMotion};
 use crate::assertions::{same, same_items};
 use fixed_geom::{Rot, Vec2};
 use momenta::{
-    BodyState, Ends, Line, MassData, Momenta64, MomentaPair64, Motion, advance, clamp_speed,
-    inverse_mass, inverse_reciprocal, momenta_pair_64, parting, pull, reciprocals_of, solve_line,
+    BodyState, Ends, Goal, Line, MassData, Momenta64, MomentaPair64, Motion, advance, clamp_speed, inverse_mass, inverse_reciprocal, momenta_pair_64, parting, pull, reciprocals_of, solve_line,
 };
 
 const AHEAD: Rot = Rot { c: 1 << 30, s: 0 };
@@ -159,7 +158,13 @@ fn push(line: &Line, bias: i64, ends: &mut Ends) -> i64
     requires states { AreStates ends.old }
 {
     let apart = parting(line.ra, line.rb, ends);
-    solve_line(line, apart, bias, 0, 4398046511104, 0, ends)
+    let goal = Goal {
+        bias,
+        low: 0,
+        high: 4398046511104,
+        total: 0,
+    };
+    solve_line(line, apart, goal, ends)
 }
 
 /// One impulse, and the two momenta after it.

@@ -12,7 +12,7 @@ use crate::solve::{bias_of, most_friction, separation_between};
 use crate::{ContactRow, PointRow};
 use fixed_geom::{MAX_LINE_IMPULSE, MAX_NORMAL_IMPULSE, Vec2};
 use momenta::{
-    BodyState, Exerted64, MomentaPair64, momenta_pair_64, parting_64, solve_line_64,
+    BodyState, Exerted64, Goal, MomentaPair64, momenta_pair_64, parting_64, solve_line_64,
     warm_at_once_64,
 };
 use shapes::MAX_FRICTION;
@@ -109,13 +109,16 @@ fn solve_tangent_64(
         });
     }
     let apart = parting_after(point.normal_impulse, apart, after_normal, point, a, b);
+    let goal = Goal {
+        bias: 0,
+        low: -most,
+        high: most,
+        total: point.tangent_impulse,
+    };
     solve_line_64(
         &point.tangent_line(),
         apart,
-        0,
-        -most,
-        most,
-        point.tangent_impulse,
+        goal,
         a,
         b,
         after_normal.now,
@@ -145,13 +148,16 @@ fn solve_normal_64(
     ensures room { HasNormalRoom64 point.now (ends_with a.now b.now now) → is_some result ≡ true }
 {
     let bias = bias_of(separation_between(point, a, b));
+    let goal = Goal {
+        bias,
+        low: 0,
+        high: MAX_NORMAL_IMPULSE,
+        total: point.normal_impulse,
+    };
     solve_line_64(
         &point.normal_line(),
         apart,
-        bias,
-        0,
-        MAX_NORMAL_IMPULSE,
-        point.normal_impulse,
+        goal,
         a,
         b,
         now,

@@ -10,7 +10,7 @@ ghost use Rattle.colour_solver_base.specs.ContactSolving.{bias_of, most_friction
 
 use crate::{BOUNCE_SPEED, ContactRow, MAX_BIAS, PointRow, SLOP};
 use fixed_geom::{MAX_LINE_IMPULSE, MAX_NORMAL_IMPULSE, Vec2, minus, product, rdiv};
-use momenta::{BodyState, Ends, part_along, parting, solve_line, warm_at_once, warm_line};
+use momenta::{BodyState, Ends, Goal, part_along, parting, solve_line, warm_at_once, warm_line};
 use shapes::{MAX_FRICTION, MAX_RESTITUTION};
 
 /// A point after its impulses, with the two bodies.
@@ -130,13 +130,16 @@ fn solve_normal(bias: i64, apart: Vec2, point: &mut PointRow, ends: &mut Ends)
     ensures same { AreSameBodies ends.old ends.new }
     ensures kept { IsMomentumKept ends.old ends.new }
 {
+    let goal = Goal {
+        bias,
+        low: 0,
+        high: MAX_NORMAL_IMPULSE,
+        total: point.normal_impulse,
+    };
     let total = solve_line(
         &point.normal_line(),
         apart,
-        bias,
-        0,
-        MAX_NORMAL_IMPULSE,
-        point.normal_impulse,
+        goal,
         ends,
     );
     point.normal_impulse = total;
@@ -189,13 +192,16 @@ fn apply_friction(friction: i64, apart: Vec2, point: &mut PointRow, ends: &mut E
     ensures kept { IsMomentumKept ends.old ends.new }
 {
     let most = most_friction(friction, point.normal_impulse);
+    let goal = Goal {
+        bias: 0,
+        low: -most,
+        high: most,
+        total: point.tangent_impulse,
+    };
     let total = solve_line(
         &point.tangent_line(),
         apart,
-        0,
-        -most,
-        most,
-        point.tangent_impulse,
+        goal,
         ends,
     );
     point.tangent_impulse = total;

@@ -10,7 +10,7 @@ ghost use Rattle.joint_rows.specs.Row64.{HasLineRoom64, HasSolveRoom64, HasWarmR
 use crate::solve::{bias_of, stretch_between};
 use crate::{JointRow, MAX_JOINT_IMPULSE};
 use momenta::{
-    BodyState, Exerted64, MomentaPair64, momenta_pair_64, parting_64, solve_line_64,
+    BodyState, Exerted64, Goal, MomentaPair64, momenta_pair_64, parting_64, solve_line_64,
     warm_at_once_64,
 };
 
@@ -32,13 +32,16 @@ fn solve_with_64(
 {
     let bias = bias_of(stretch_between(row, a, b));
     let apart = parting_64(a, b, now, row.line.ra, row.line.rb);
+    let goal = Goal {
+        bias,
+        low: -MAX_JOINT_IMPULSE,
+        high: MAX_JOINT_IMPULSE,
+        total: row.impulse,
+    };
     solve_line_64(
         &row.line,
         apart,
-        bias,
-        -MAX_JOINT_IMPULSE,
-        MAX_JOINT_IMPULSE,
-        row.impulse,
+        goal,
         a,
         b,
         now,

@@ -10,7 +10,7 @@ ghost use Rattle.joint_rows.specs.Rows.{IsJointRow, joint_solved, joint_warmed, 
 
 use crate::{JointRow, MAX_JOINT_BIAS, MAX_JOINT_IMPULSE};
 use fixed_geom::{minus, rdiv_64};
-use momenta::{BodyState, Ends, part_along, parting, solve_line, warm_line};
+use momenta::{BodyState, Ends, Goal, part_along, parting, solve_line, warm_line};
 
 /// A joint after its impulse, with the two bodies.
 #[derive(Clone, Copy, Debug, PartialEq, Eq)]
@@ -101,13 +101,16 @@ pub fn solve_joint(row: &mut JointRow, ends: &mut Ends)
 {
     let bias = bias_of(stretch_between(row, &ends.a, &ends.b));
     let apart = parting(row.line.ra, row.line.rb, ends);
+    let goal = Goal {
+        bias,
+        low: -MAX_JOINT_IMPULSE,
+        high: MAX_JOINT_IMPULSE,
+        total: row.impulse,
+    };
     row.impulse = solve_line(
         &row.line,
         apart,
-        bias,
-        -MAX_JOINT_IMPULSE,
-        MAX_JOINT_IMPULSE,
-        row.impulse,
+        goal,
         ends,
     );
 }

@@ -6,6 +6,7 @@
 #![tactic(auto)]
 
 pub mod gain;
+mod goal;
 pub mod gravity;
 pub mod inverse;
 pub mod limits;
@@ -20,6 +21,7 @@ pub mod state;
 pub mod travel;
 
 pub use gain::{Gain, NOTHING, gain_between, plus};
+pub use goal::Goal;
 pub use gravity::pull;
 pub use inverse::{inverse_mass, inverse_reciprocal};
 pub use limits::{

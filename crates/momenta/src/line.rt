@@ -8,7 +8,7 @@ ghost use Rattle.fixed_geom.specs.Vectors.{IsWithin, dot, unit_length};
 ghost use Rattle.momenta.specs.Impulses.{AreStates, AreSameBodies, IsMomentumKept, IsLine, parting, speed_along, wanted, between, along, exerted, solved, warmed};
 
 use crate::ranges::are_in;
-use crate::{Ends, MIN_INVERSE_MASS, impulse_pair};
+use crate::{Ends, Goal, MIN_INVERSE_MASS, impulse_pair};
 use fixed_geom::{
     MAX_LINE_IMPULSE, MAX_OFFSET, UNIT, Vec2, dot, dot_64, minus, over_inverse_by, plus, rdiv,
     rdiv_unit_64, scaled, scaled_64,
@@ -287,48 +287,40 @@ fn between_64(low: i64, high: i64, value: i64) -> i64
 /// 64 bits.
 #[tactic(auto, unfolding(crate::specs::Impulses::wanted))]
 #[inline(always)]
-pub(crate) fn next_total_64(
-    speed: i64,
-    bias: i64,
-    inverse: i64,
-    reciprocal: i64,
-    low: i64,
-    high: i64,
-    total: i64,
-) -> i64
+pub(crate) fn next_total_64(speed: i64, inverse: i64, reciprocal: i64, goal: Goal) -> i64
     requires speed { unsigned_abs speed ≤ 2 ^ 20 }
-    requires bias { unsigned_abs bias ≤ 2 ^ 20 }
+    requires bias { unsigned_abs goal.bias ≤ 2 ^ 20 }
     requires inverse { MIN_INVERSE_MASS ≤ℤ inverse }
     requires inverse_size { unsigned_abs inverse < 2 ^ 62 }
     requires reciprocal { reciprocal ≡ share_reciprocal inverse }
-    requires order { low ≤ℤ high }
-    requires total { unsigned_abs total ≤ unsigned_abs MAX_LINE_IMPULSE }
-    ensures value { result ≡ between low high (total +ℤ wanted speed bias inverse) }
-    ensures low { low ≤ℤ result }
-    ensures high { result ≤ℤ high }
+    requires order { goal.low ≤ℤ goal.high }
+    requires total { unsigned_abs goal.total ≤ unsigned_abs MAX_LINE_IMPULSE }
+    ensures value { result ≡ between goal.low goal.high (goal.total +ℤ wanted speed goal.bias inverse) }
+    ensures low { goal.low ≤ℤ result }
+    ensures high { result ≤ℤ goal.high }
 {
-    if speed >= bias && total == low {
-        return low;
+    if speed >= goal.bias && goal.total == goal.low {
+        return goal.low;
     }
-    let wanted = over_inverse_by(bias - speed, inverse, reciprocal);
-    between_64(low, high, total + wanted)
+    let wanted = over_inverse_by(goal.bias - speed, inverse, reciprocal);
+    between_64(goal.low, goal.high, goal.total + wanted)
 }
 
 /// The same for any other, in 128 bits.
 #[cold]
 #[inline(never)]
-fn next_total_128(speed: i64, bias: i64, inverse: i128, low: i64, high: i64, total: i64) -> i64
+fn next_total_128(speed: i64, inverse: i128, goal: Goal) -> i64
     requires speed { unsigned_abs speed ≤ 2 ^ 62 + 2 ^ 28 }
-    requires bias { unsigned_abs bias ≤ 2 ^ 62 + 2 ^ 28 }
+    requires bias { unsigned_abs goal.bias ≤ 2 ^ 62 + 2 ^ 28 }
     requires inverse { MIN_INVERSE_MASS ≤ℤ inverse }
-    requires order { low ≤ℤ high }
-    requires total { unsigned_abs total ≤ unsigned_abs MAX_LINE_IMPULSE }
-    ensures value { result ≡ between low high (total +ℤ wanted speed bias inverse) }
-    ensures low { low ≤ℤ result }
-    ensures high { result ≤ℤ high }
+    requires order { goal.low ≤ℤ goal.high }
+    requires total { unsigned_abs goal.total ≤ unsigned_abs MAX_LINE_IMPULSE }
+    ensures value { result ≡ between goal.low goal.high (goal.total +ℤ wanted speed goal.bias inverse) }
+    ensures low { goal.low ≤ℤ result }
+    ensures high { result ≤ℤ goal.high }
 {
-    let wanted = wanted(speed, bias, inverse);
-    between(low, high, i128::from(total) + wanted)
+    let wanted = wanted(speed, goal.bias, inverse);
+    between(goal.low, goal.high, i128::from(goal.total) + wanted)
 }
 
 /// Whether these speeds and this inverse mass have room in 64 bits for the impulse between them.
@@ -344,77 +336,52 @@ pub(crate) fn has_room_64(speed: i64, bias: i64, inverse: i128) -> bool
 
 /// The accumulated impulse with what brings the speed to the bias, within its range.
 #[inline(always)]
-fn next_total(
-    speed: i64,
-    bias: i64,
-    inverse: i128,
-    reciprocal: i64,
-    low: i64,
-    high: i64,
-    total: i64,
-) -> i64
+fn next_total(speed: i64, inverse: i128, reciprocal: i64, goal: Goal) -> i64
     requires speed { unsigned_abs speed ≤ 2 ^ 62 + 2 ^ 28 }
-    requires bias { unsigned_abs bias ≤ 2 ^ 62 + 2 ^ 28 }
+    requires bias { unsigned_abs goal.bias ≤ 2 ^ 62 + 2 ^ 28 }
     requires inverse { MIN_INVERSE_MASS ≤ℤ inverse }
     requires reciprocal { reciprocal ≡ share_reciprocal inverse }
-    requires order { low ≤ℤ high }
-    requires total { unsigned_abs total ≤ unsigned_abs MAX_LINE_IMPULSE }
-    ensures value { result ≡ between low high (total +ℤ wanted speed bias inverse) }
-    ensures low { low ≤ℤ result }
-    ensures high { result ≤ℤ high }
+    requires order { goal.low ≤ℤ goal.high }
+    requires total { unsigned_abs goal.total ≤ unsigned_abs MAX_LINE_IMPULSE }
+    ensures value { result ≡ between goal.low goal.high (goal.total +ℤ wanted speed goal.bias inverse) }
+    ensures low { goal.low ≤ℤ result }
+    ensures high { result ≤ℤ goal.high }
 {
-    if has_room_64(speed, bias, inverse) {
-        next_total_64(speed, bias, inverse as i64, reciprocal, low, high, total)
+    if has_room_64(speed, goal.bias, inverse) {
+        next_total_64(speed, inverse as i64, reciprocal, goal)
     } else {
-        next_total_128(speed, bias, inverse, low, high, total)
+        next_total_128(speed, inverse, goal)
     }
 }
 
-/// One impulse of the solver: what brings the speed along the line to `bias` (u/tick), with the accumulated impulse
-/// `total` (mass·u/tick) kept within `low` to `high`. It is dropped where a momentum would leave its limits. Answers the
+/// One impulse of the solver towards a goal. It is dropped where a momentum would leave its limits. Answers the
 /// accumulated impulse after it: where that is as before, so are the bodies.
 ///
 /// `apart` is the velocity at which the line's point on the second body leaves that on the first, as `parting` has it.
 #[tactic(auto, unfolding(crate::specs::Impulses::solved, crate::specs::Impulses::speed_along))]
 #[inline(always)]
-pub fn solve_line(
-    line: &Line,
-    apart: Vec2,
-    bias: i64,
-    low: i64,
-    high: i64,
-    total: i64,
-    ends: &mut Ends,
-) -> i64
+pub fn solve_line(line: &Line, apart: Vec2, goal: Goal, ends: &mut Ends) -> i64
     requires line { IsLine line.now }
     requires states { AreStates ends.old }
     requires apart { apart ≡ parting line.now.ra line.now.rb ends.old }
     requires apart_size { IsWithin (2 ^ 61 + 2 ^ 26) apart }
-    requires bias { unsigned_abs bias ≤ 2 ^ 62 + 2 ^ 28 }
-    requires order { low ≤ℤ high }
-    requires low { unsigned_abs low ≤ unsigned_abs MAX_LINE_IMPULSE }
-    requires high { unsigned_abs high ≤ unsigned_abs MAX_LINE_IMPULSE }
-    requires total { unsigned_abs total ≤ unsigned_abs MAX_LINE_IMPULSE }
-    ensures value { record { ends = ends.new; total = result } ≡ solved line.now bias low high total ends.old }
+    requires bias { unsigned_abs goal.bias ≤ 2 ^ 62 + 2 ^ 28 }
+    requires order { goal.low ≤ℤ goal.high }
+    requires low { unsigned_abs goal.low ≤ unsigned_abs MAX_LINE_IMPULSE }
+    requires high { unsigned_abs goal.high ≤ unsigned_abs MAX_LINE_IMPULSE }
+    requires total { unsigned_abs goal.total ≤ unsigned_abs MAX_LINE_IMPULSE }
+    ensures value { record { ends = ends.new; total = result } ≡ solved line.now goal.bias goal.low goal.high goal.total ends.old }
     ensures states { AreStates ends.new }
     ensures small { unsigned_abs result ≤ unsigned_abs MAX_LINE_IMPULSE }
-    ensures low { low ≤ℤ total → low ≤ℤ result }
-    ensures high { total ≤ℤ high → result ≤ℤ high }
-    ensures still { result ≡ total → ends.new ≡ ends.old }
+    ensures low { goal.low ≤ℤ goal.total → goal.low ≤ℤ result }
+    ensures high { goal.total ≤ℤ goal.high → result ≤ℤ goal.high }
+    ensures still { result ≡ goal.total → ends.new ≡ ends.old }
     ensures same { AreSameBodies ends.old ends.new }
     ensures kept { IsMomentumKept ends.old ends.new }
 {
     let speed = part_along(apart, line.direction);
-    let next = next_total(
-        speed,
-        bias,
-        line.inverse_mass,
-        line.reciprocal,
-        low,
-        high,
-        total,
-    );
-    exert(line, total, next, ends)
+    let next = next_total(speed, line.inverse_mass, line.reciprocal, goal);
+    exert(line, goal.total, next, ends)
 }
 
 /// The warm start of a tick: the accumulated impulse `total` (mass·u/tick) given once more; dropped where a momentum would

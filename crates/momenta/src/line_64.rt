@@ -11,7 +11,7 @@ ghost use Rattle.momenta.specs.Line64.{LeaveRoom64, HasRoom64, IsImpulse, Leaves
 use crate::line::{VELOCITY_LIMIT_64, along_64, has_room_64, next_total_64, part_along_64};
 use crate::ranges::{are_in, is_in};
 use crate::state::{carried_back, carried_on};
-use crate::{BodyState, Line, MAX_ANGULAR_MOMENTUM, MAX_MASS, MIN_INVERSE_MASS, spin};
+use crate::{BodyState, Goal, Line, MAX_ANGULAR_MOMENTUM, MAX_MASS, MIN_INVERSE_MASS, spin};
 use fixed_geom::{
     MAX_LINE_IMPULSE, MAX_OFFSET, MAX_SPIN, Vec2, ZERO_VECTOR, cross_64, minus, opposite, plus, rdiv_by,
     share_by,
@@ -332,27 +332,19 @@ fn has_product_64(v: Vec2) -> bool
 
 /// The accumulated impulse with what brings the speed to the bias, within its range, if there is room.
 #[inline(always)]
-fn checked_total_64(
-    speed: i64,
-    bias: i64,
-    inverse: i128,
-    reciprocal: i64,
-    low: i64,
-    high: i64,
-    total: i64,
-) -> Option<i64>
+fn checked_total_64(speed: i64, inverse: i128, reciprocal: i64, goal: Goal) -> Option<i64>
     requires inverse { MIN_INVERSE_MASS ≤ℤ inverse }
     requires reciprocal { reciprocal ≡ share_reciprocal inverse }
-    requires order { low ≤ℤ high }
-    requires total { unsigned_abs total ≤ unsigned_abs MAX_LINE_IMPULSE }
-    ensures value { IfSome result (λ next. next ≡ between low high (total +ℤ wanted speed bias inverse)) }
-    ensures low { IfSome result (λ next. low ≤ℤ next) }
-    ensures high { IfSome result (λ next. next ≤ℤ high) }
-    ensures room { unsigned_abs speed < 2 ^ 20 → unsigned_abs bias < 2 ^ 20 → inverse <ℤ pos (2 ^ 62) → is_some result ≡ true }
+    requires order { goal.low ≤ℤ goal.high }
+    requires total { unsigned_abs goal.total ≤ unsigned_abs MAX_LINE_IMPULSE }
+    ensures value { IfSome result (λ next. next ≡ between goal.low goal.high (goal.total +ℤ wanted speed goal.bias inverse)) }
+    ensures low { IfSome result (λ next. goal.low ≤ℤ next) }
+    ensures high { IfSome result (λ next. next ≤ℤ goal.high) }
+    ensures room { unsigned_abs speed < 2 ^ 20 → unsigned_abs goal.bias < 2 ^ 20 → inverse <ℤ pos (2 ^ 62) → is_some result ≡ true }
 {
-    if has_room_64(speed, bias, inverse) {
+    if has_room_64(speed, goal.bias, inverse) {
         let inverse = inverse as i64;
-        Some(next_total_64(speed, bias, inverse, reciprocal, low, high, total))
+        Some(next_total_64(speed, inverse, reciprocal, goal))
     } else {
         None
     }
@@ -365,10 +357,7 @@ fn checked_total_64(
 pub fn solve_line_64(
     line: &Line,
     apart: Vec2,
-    bias: i64,
-    low: i64,
-    high: i64,
-    total: i64,
+    goal: Goal,
     a: &BodyState,
     b: &BodyState,
     now: MomentaPair64,
@@ -377,32 +366,24 @@ pub fn solve_line_64(
     requires states { AreStates (ends_with a.now b.now now) }
     requires leaves_room { LeaveRoom64 4 now }
     requires apart { apart ≡ parting line.now.ra line.now.rb (ends_with a.now b.now now) }
-    requires order { low ≤ℤ high }
-    requires low { unsigned_abs low ≤ unsigned_abs MAX_LINE_IMPULSE }
-    requires high { unsigned_abs high ≤ unsigned_abs MAX_LINE_IMPULSE }
-    requires total { unsigned_abs total ≤ unsigned_abs MAX_LINE_IMPULSE }
-    ensures value { IfSome result (λ r. solved line.now bias low high total (ends_with a.now b.now now) ≡ record { ends = ends_with a.now b.now r.now; total = r.total }) }
+    requires order { goal.low ≤ℤ goal.high }
+    requires low { unsigned_abs goal.low ≤ unsigned_abs MAX_LINE_IMPULSE }
+    requires high { unsigned_abs goal.high ≤ unsigned_abs MAX_LINE_IMPULSE }
+    requires total { unsigned_abs goal.total ≤ unsigned_abs MAX_LINE_IMPULSE }
+    ensures value { IfSome result (λ r. solved line.now goal.bias goal.low goal.high goal.total (ends_with a.now b.now now) ≡ record { ends = ends_with a.now b.now r.now; total = r.total }) }
     ensures impulse { IfSome result (λ r. IsImpulse a.now b.now now r.now) }
-    ensures low { IfSome result (λ r. low ≤ℤ r.total) }
-    ensures high { IfSome result (λ r. r.total ≤ℤ high) }
-    ensures still { IfSome result (λ r. r.total ≡ total → r.now ≡ now) }
-    ensures room { HasRoom64 line.now bias low high total (ends_with a.now b.now now) → is_some result ≡ true }
+    ensures low { IfSome result (λ r. goal.low ≤ℤ r.total) }
+    ensures high { IfSome result (λ r. r.total ≤ℤ goal.high) }
+    ensures still { IfSome result (λ r. r.total ≡ goal.total → r.now ≡ now) }
+    ensures room { HasRoom64 line.now goal.bias goal.low goal.high goal.total (ends_with a.now b.now now) → is_some result ≡ true }
 {
     if !has_product_64(apart) {
         return None;
     }
     let speed = part_along_64(apart, line.direction);
-    match checked_total_64(
-        speed,
-        bias,
-        line.inverse_mass,
-        line.reciprocal,
-        low,
-        high,
-        total,
-    ) {
+    match checked_total_64(speed, line.inverse_mass, line.reciprocal, goal) {
         None => None,
-        Some(next) => exert_64(line, total, next, a, b, now),
+        Some(next) => exert_64(line, goal.total, next, a, b, now),
     }
 }
 

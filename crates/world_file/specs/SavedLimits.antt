@@ -15,8 +15,8 @@ use Rattle.plain_world.specs.Kinds.{is_static}
 use Rattle.plain_world.specs.declared.body.Body.{Body}
 use Rattle.plain_world.specs.declared.kind.Kind.{Kind}
 use Rattle.plain_world.specs.declared.kind.Kind.TheVariants.{Static, Kinematic, Dynamic}
-use Rattle.shapes.specs.Shapes.{shapes_refusal}
-use Rattle.world_file_base.specs.Reading.{first_in, greatest, greatest_group, is_between, is_null, items_in, least, least_group, natural_of, number_in, second_in, text_in, vector_in, whole_in}
+use Rattle.shapes.specs.Shapes.{is_between, shapes_refusal}
+use Rattle.world_file_base.specs.Reading.{first_in, greatest, greatest_group, is_null, items_in, least, least_group, natural_of, number_in, second_in, text_in, vector_in, whole_in}
 use Rattle.world_file_base.specs.SavedBodies.{bare_kind, body_in, facing_in, kind_in, least_mass, mass_in, most_angular, most_inertia, most_mass}
 use Rattle.world_file_base.specs.SavedContacts.{last_candidate}
 use Rattle.world_file_base.specs.SavedShapes.{most_bits, most_corner}

@@ -20,10 +20,10 @@ most_by high total new r (inr e) h k = rw e k
 pub returns-clause-value : goal.returns-clause-value
 unfolding solved speed_along
 returns-clause-value c =
-    let bias : SFits w64 c.args.bias = c.ranges.bias in
-    let low : SFits w64 c.args.low = c.ranges.low in
-    let high : SFits w64 c.args.high = c.ranges.high in
-    let total : SFits w64 c.args.total = c.ranges.total in
+    let bias : SFits w64 c.args.goal.bias = search rules in
+    let low : SFits w64 c.args.goal.low = search rules in
+    let high : SFits w64 c.args.goal.high = search rules in
+    let total : SFits w64 c.args.goal.total = search rules in
     let inverse : SFits w128 c.args.line.now.inverse_mass = search rules in
     let speed : SFits w64 c.part_along-speed.result = record { sfits = c.part_along-speed.type_inv } in
     let next : SFits w64 c.next_total-next.result = record { sfits = c.next_total-next.type_inv } in
@@ -34,31 +34,31 @@ returns-clause-value c =
 
 pub returns-clause-small : goal.returns-clause-small
 returns-clause-small c =
-    let low : SFits w64 c.args.low = c.ranges.low in
-    let high : SFits w64 c.args.high = c.ranges.high in
-    let total : SFits w64 c.args.total = c.ranges.total in
+    let low : SFits w64 c.args.goal.low = search rules in
+    let high : SFits w64 c.args.goal.high = search rules in
+    let total : SFits w64 c.args.goal.total = search rules in
     let next : SFits w64 c.next_total-next.result = record { sfits = c.next_total-next.type_inv } in
     let result : SFits w64 c.exert.result = record { sfits = c.exert.type_inv } in
-    simp to_z-of_z (small_by c.args.low c.args.high c.args.total c.next_total-next.result c.exert.result (simp to_z-of_z at c.exert.ensures.total) (simp to_z-of_z at c.next_total-next.ensures.low) (simp to_z-of_z at c.next_total-next.ensures.high) c.requires.low c.requires.high c.requires.total)
+    simp to_z-of_z (small_by c.args.goal.low c.args.goal.high c.args.goal.total c.next_total-next.result c.exert.result (simp to_z-of_z at c.exert.ensures.total) c.next_total-next.ensures.low c.next_total-next.ensures.high c.requires.low c.requires.high c.requires.total)
 
 pub returns-clause-low : goal.returns-clause-low
 returns-clause-low c =
-    let low : SFits w64 c.args.low = c.ranges.low in
-    let total : SFits w64 c.args.total = c.ranges.total in
+    let low : SFits w64 c.args.goal.low = search rules in
+    let total : SFits w64 c.args.goal.total = search rules in
     let next : SFits w64 c.next_total-next.result = record { sfits = c.next_total-next.type_inv } in
     let result : SFits w64 c.exert.result = record { sfits = c.exert.type_inv } in
-    simp to_z-of_z (least_by c.args.low c.args.total c.next_total-next.result c.exert.result (simp to_z-of_z at c.exert.ensures.total) (simp to_z-of_z at c.next_total-next.ensures.low))
+    simp to_z-of_z (least_by c.args.goal.low c.args.goal.total c.next_total-next.result c.exert.result (simp to_z-of_z at c.exert.ensures.total) c.next_total-next.ensures.low)
 
 pub returns-clause-high : goal.returns-clause-high
 returns-clause-high c =
-    let high : SFits w64 c.args.high = c.ranges.high in
-    let total : SFits w64 c.args.total = c.ranges.total in
+    let high : SFits w64 c.args.goal.high = search rules in
+    let total : SFits w64 c.args.goal.total = search rules in
     let next : SFits w64 c.next_total-next.result = record { sfits = c.next_total-next.type_inv } in
     let result : SFits w64 c.exert.result = record { sfits = c.exert.type_inv } in
-    simp to_z-of_z (most_by c.args.high c.args.total c.next_total-next.result c.exert.result (simp to_z-of_z at c.exert.ensures.total) (simp to_z-of_z at c.next_total-next.ensures.high))
+    simp to_z-of_z (most_by c.args.goal.high c.args.goal.total c.next_total-next.result c.exert.result (simp to_z-of_z at c.exert.ensures.total) c.next_total-next.ensures.high)
 
 pub returns-clause-still : goal.returns-clause-still
 returns-clause-still c =
-    let total : SFits w64 c.args.total = c.ranges.total in
+    let total : SFits w64 c.args.goal.total = search rules in
     let result : SFits w64 c.exert.result = record { sfits = c.exert.type_inv } in
     simp to_z-of_z (simp to_z-of_z at c.exert.ensures.still)

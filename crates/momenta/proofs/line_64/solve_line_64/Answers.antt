@@ -16,20 +16,20 @@ inside low high x n a b c d = omega (arith, ints, a, b, c, d)
 
 pub exert_64-requires-clause-new : goal.exert_64-requires-clause-new
 exert_64-requires-clause-new c =
-    let low : SFits w64 c.args.low = c.ranges.low in
-    let high : SFits w64 c.args.high = c.ranges.high in
+    let low : SFits w64 c.args.goal.low = search rules in
+    let high : SFits w64 c.args.goal.high = search rules in
     let next : SFits w64 c.in-Some.next = search rules in
-    let least = rw c.in-Some.is at (simp to_z-of_z at c.checked_total_64.ensures.low) in
-    let most = rw c.in-Some.is at (simp to_z-of_z at c.checked_total_64.ensures.high) in
-    simp to_z-of_z (inside c.args.low c.args.high c.in-Some.next (2 ^ 43) c.requires.low c.requires.high least most)
+    let least = rw c.in-Some.is at c.checked_total_64.ensures.low in
+    let most = rw c.in-Some.is at c.checked_total_64.ensures.high in
+    simp to_z-of_z (inside c.args.goal.low c.args.goal.high c.in-Some.next (2 ^ 43) c.requires.low c.requires.high least most)
 
 pub returns-in-Some-clause-value : goal.returns-in-Some-clause-value
 unfolding solved speed_along
 returns-in-Some-clause-value c =
-    let bias : SFits w64 c.args.bias = c.ranges.bias in
-    let low : SFits w64 c.args.low = c.ranges.low in
-    let high : SFits w64 c.args.high = c.ranges.high in
-    let total : SFits w64 c.args.total = c.ranges.total in
+    let bias : SFits w64 c.args.goal.bias = search rules in
+    let low : SFits w64 c.args.goal.low = search rules in
+    let high : SFits w64 c.args.goal.high = search rules in
+    let total : SFits w64 c.args.goal.total = search rules in
     let inverse : SFits w128 c.args.line.now.inverse_mass = search rules in
     let speed : SFits w64 c.part_along_64-speed.result = record { sfits = c.part_along_64-speed.type_inv } in
     let next : SFits w64 c.in-Some.next = search rules in
@@ -39,21 +39,21 @@ returns-in-Some-clause-value c =
 
 pub returns-in-Some-clause-low : goal.returns-in-Some-clause-low
 returns-in-Some-clause-low c =
-    let low : SFits w64 c.args.low = c.ranges.low in
+    let low : SFits w64 c.args.goal.low = search rules in
     let next : SFits w64 c.in-Some.next = search rules in
-    let least = rw c.in-Some.is at (simp to_z-of_z at c.checked_total_64.ensures.low) in
-    some_then (λ (r : Exerted64). r.total ≡ c.in-Some.next) (λ (r : Exerted64). c.args.low ≤ℤ r.total) c.exert_64.result (λ r e. rw e least) (simp to_z-of_z at c.exert_64.ensures.total)
+    let least = rw c.in-Some.is at c.checked_total_64.ensures.low in
+    some_then (λ (r : Exerted64). r.total ≡ c.in-Some.next) (λ (r : Exerted64). c.args.goal.low ≤ℤ r.total) c.exert_64.result (λ r e. rw e least) (simp to_z-of_z at c.exert_64.ensures.total)
 
 pub returns-in-Some-clause-high : goal.returns-in-Some-clause-high
 returns-in-Some-clause-high c =
-    let high : SFits w64 c.args.high = c.ranges.high in
+    let high : SFits w64 c.args.goal.high = search rules in
     let next : SFits w64 c.in-Some.next = search rules in
-    let most = rw c.in-Some.is at (simp to_z-of_z at c.checked_total_64.ensures.high) in
-    some_then (λ (r : Exerted64). r.total ≡ c.in-Some.next) (λ (r : Exerted64). r.total ≤ℤ c.args.high) c.exert_64.result (λ r e. rw e most) (simp to_z-of_z at c.exert_64.ensures.total)
+    let most = rw c.in-Some.is at c.checked_total_64.ensures.high in
+    some_then (λ (r : Exerted64). r.total ≡ c.in-Some.next) (λ (r : Exerted64). r.total ≤ℤ c.args.goal.high) c.exert_64.result (λ r e. rw e most) (simp to_z-of_z at c.exert_64.ensures.total)
 
 pub returns-in-Some-clause-still : goal.returns-in-Some-clause-still
 returns-in-Some-clause-still c =
-    let total : SFits w64 c.args.total = c.ranges.total in
+    let total : SFits w64 c.args.goal.total = search rules in
     simp to_z-of_z at c.exert_64.ensures.still
 
 pub returns-then-not-has_product_64-clause-room : goal.returns-then-not-has_product_64-clause-room
@@ -62,7 +62,7 @@ returns-then-not-has_product_64-clause-room c = λ room. c.if-not-has_product_64
 pub returns-in-None-clause-room : goal.returns-in-None-clause-room
 unfolding speed_along
 returns-in-None-clause-room c =
-    let bias : SFits w64 c.args.bias = c.ranges.bias in
+    let bias : SFits w64 c.args.goal.bias = search rules in
     let inverse : SFits w128 c.args.line.now.inverse_mass = search rules in
     let speed : SFits w64 c.part_along_64-speed.result = record { sfits = c.part_along_64-speed.type_inv } in
     let along = rw c.requires.apart at c.part_along_64-speed.ensures.value in
@@ -72,10 +72,10 @@ returns-in-None-clause-room c =
 pub returns-in-Some-clause-room : goal.returns-in-Some-clause-room
 unfolding speed_along
 returns-in-Some-clause-room c =
-    let bias : SFits w64 c.args.bias = c.ranges.bias in
-    let low : SFits w64 c.args.low = c.ranges.low in
-    let high : SFits w64 c.args.high = c.ranges.high in
-    let total : SFits w64 c.args.total = c.ranges.total in
+    let bias : SFits w64 c.args.goal.bias = search rules in
+    let low : SFits w64 c.args.goal.low = search rules in
+    let high : SFits w64 c.args.goal.high = search rules in
+    let total : SFits w64 c.args.goal.total = search rules in
     let inverse : SFits w128 c.args.line.now.inverse_mass = search rules in
     let speed : SFits w64 c.part_along_64-speed.result = record { sfits = c.part_along_64-speed.type_inv } in
     let next : SFits w64 c.in-Some.next = search rules in
