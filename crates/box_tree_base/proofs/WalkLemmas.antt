@@ -3,7 +3,7 @@ use Rattle.std.proofs.Common.{◌≡◌, ℕ, Bool, true, false, cond, ◌&&◌,
 use Rattle.std.specs.Prelude.{int_le}
 use Rattle.std.proofs.lemmas.Int.{ints}
 use Rattle.std.proofs.lemmas.List.{append_assoc, append-nil}
-use Rattle.fixed_geom.specs.Boxes.{Contains, meets, overlaps}
+use Rattle.fixed_geom.specs.Boxes.{Contains, spans_meet, overlaps}
 use Rattle.fixed_geom.specs.declared.boxes.Box2.{Box2}
 use Rattle.box_tree_base.specs.Joins.{IsBounded}
 use Rattle.box_tree_base.specs.Lists.{Each}
@@ -26,8 +26,8 @@ both_true : (s t : Bool) → s ≡ true → t ≡ true → (s && t) ≡ true
 both_true true t h k = k
 both_true false t h k = cc
 
-meets_wider : (lo hi lo' hi' low high : ℤ) → lo' ≤ℤ lo → hi ≤ℤ hi' → meets lo hi low high ≡ true → meets lo' hi' low high ≡ true
-unfolding meets
+meets_wider : (lo hi lo' hi' low high : ℤ) → lo' ≤ℤ lo → hi ≤ℤ hi' → spans_meet lo hi low high ≡ true → spans_meet lo' hi' low high ≡ true
+unfolding spans_meet
 meets_wider lo hi lo' hi' low high h k e =
     let p = both_parts (int_le lo high) (int_le low hi) e in
     let q : lo ≤ℤ high = le_from lo high p.0 in
@@ -36,7 +36,7 @@ meets_wider lo hi lo' hi' low high h k e =
 
 overlaps_wider : (outer inner q : Box2) → Contains outer inner → overlaps inner q ≡ true → overlaps outer q ≡ true
 overlaps_wider outer inner q h e =
-    let p = both_parts (meets inner.lo.x inner.hi.x q.lo.x q.hi.x) (meets inner.lo.y inner.hi.y q.lo.y q.hi.y) e in
+    let p = both_parts (spans_meet inner.lo.x inner.hi.x q.lo.x q.hi.x) (spans_meet inner.lo.y inner.hi.y q.lo.y q.hi.y) e in
     both_true _ _ (meets_wider _ _ _ _ _ _ h.left h.right p.0) (meets_wider _ _ _ _ _ _ h.down h.up p.1)
 
 not_if : (s t : Bool) → (s ≡ true → t ≡ true) → t ≡ false → s ≡ false

@@ -2,7 +2,7 @@
 use Rattle.std.specs.Prelude.{ℕ, zero, suc, ◌^◌, List}
 use Rattle.fixed_geom.specs.Vectors.{IsWithin, plus, zero_vector}
 use Rattle.fixed_geom.specs.declared.vectors.Vec2.{Vec2}
-use Rattle.momenta.specs.Motions.{IsMass, IsMotion, IsPulled, pulled, clamped, advanced, velocity}
+use Rattle.momenta.specs.Motions.{IsMass, IsMotion, IsPulled, pulled, speed_clamped, advanced, velocity}
 use Rattle.momenta.specs.Gains.{IsGain}
 use Rattle.momenta.specs.declared.mass.MassData.{MassData}
 use Rattle.momenta.specs.declared.motion.Motion.{Motion}
@@ -53,7 +53,7 @@ carry_all r = record r { states = carry r.states }
 
 -- gravity, the speed limit, the warm start, the solver's pass, the speed limit again, the move, and what is carried along
 unfoldable pub tick : Vec2 → Run → Run
-tick g r = carry_all (clamp_all advanced (clamp_all clamped (turn_all constraint_solved (turn_all constraint_warmed (clamp_all clamped (pull_all g r))))))
+tick g r = carry_all (clamp_all advanced (clamp_all speed_clamped (turn_all constraint_solved (turn_all constraint_warmed (clamp_all speed_clamped (pull_all g r))))))
 
 abbrev pub ticks : ℕ → Vec2 → Run → Run
 ticks zero g r = r

@@ -2,7 +2,7 @@
 
 ghost use Rattle.std.specs.Prelude.{◌≡◌, ℕ, ◌^◌, ◌*◌, ◌+◌, ◌≤◌, length, map};
 ghost use Rattle.fixed_geom.specs.Vectors.{IsWithin, plus};
-ghost use Rattle.momenta.specs.Motions.{pulled, clamped, advanced, IsMotion};
+ghost use Rattle.momenta.specs.Motions.{pulled, speed_clamped, advanced, IsMotion};
 ghost use Rattle.colour_solver.specs.States.{AreAllStates, AreSameBeside, HaveCourses, carried_of, movers_of, total};
 ghost use Rattle.colour_solver.specs.Colour.{AreColours};
 ghost use Rattle.colour_solver.specs.ColourRows.{all_rows};
@@ -50,7 +50,7 @@ impl Change for Pull {
 pub struct Limit;
 
 impl Change for Limit {
-    ghost after = { λ _ m s. clamped m s };
+    ghost after = { λ _ m s. speed_clamped m s };
 
     ghost fits = { λ _ m s. CanLimit m s };
 

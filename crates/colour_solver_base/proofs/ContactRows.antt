@@ -11,7 +11,7 @@ use Rattle.momenta.specs.declared.state.BodyState.{BodyState}
 use Rattle.momenta.specs.declared.state.Ends.{Ends}
 use Rattle.momenta.specs.declared.line.Line.{Line}
 use Rattle.momenta.specs.declared.line.Exerted.{Exerted}
-use Rattle.momenta.specs.Impulses.{along, between, both, exerted, fits, given, impulse_pair, inverse_mass, inverse_share, line_along, or_dropped, or_kept, solved, speed_along, taken, turning_share, wanted, warmed}
+use Rattle.momenta.specs.Impulses.{along, between, both, exerted, fits, given, impulse_pair, inverse_mass, inverse_share, line_along, or_dropped, or_kept, solved_impulse, speed_along, taken, turning_share, wanted, warmed}
 use Rattle.contacts_base.specs.declared.contact.ContactPoint.{ContactPoint}
 use Rattle.contacts_base.specs.declared.contact.Contact.{Contact}
 use Rattle.fixed_geom.specs.declared.limits.TheConstants.{MAX_NORMAL_IMPULSE}
@@ -23,7 +23,7 @@ use Rattle.colour_solver_base.specs.declared.solve.PointAfter.{PointAfter}
 use Rattle.colour_solver_base.specs.RowsAfter.{RowAfter}
 use Rattle.colour_solver_base.specs.Rows as rows
 use Rattle.colour_solver_base.specs.Rows.{is_springy, point_row, row_bounced, row_from, row_solved, row_warmed, start_speed}
-use Rattle.colour_solver_base.specs.ContactSolving.{SolvedPoint, at_points, contact_bounced, contact_solved, contact_warmed, normal_line, normal_solved, point_bounced, point_solved, point_warmed, separation_now, tangent_line, tangent_solved, with_normal_impulse, with_tangent_impulse, bias_of, most_friction, tangent}
+use Rattle.colour_solver_base.specs.ContactSolving.{SolvedPoint, at_points, contact_bounced, contact_solved, contact_warmed, normal_line, normal_solved, point_bounced, point_solved, point_warmed, separation_now, tangent_line, tangent_solved, with_normal_impulse, with_tangent_impulse, overlap_bias, most_friction, tangent}
 use Rattle.colour_solver_base.specs.Laws.{AreMovedFrom, IsMovedFrom, IsRowOf, RowsAreContacts}
 
 -- ---- masses stay
@@ -71,8 +71,8 @@ exerted_masses line old new e =
     let j : Vec2 = along line.direction (new -ℤ old) in
     subst (AreMovedFrom e) (dropped_ends old new e (impulse_pair j line.ra line.rb e)) (pair_masses j line.ra line.rb e)
 
-pub solved_masses : (line : Line) (bias low high total : ℤ) (e : Ends) → AreMovedFrom e (solved line bias low high total e).ends
-unfolding solved
+pub solved_masses : (line : Line) (bias low high total : ℤ) (e : Ends) → AreMovedFrom e (solved_impulse line bias low high total e).ends
+unfolding solved_impulse
 solved_masses line bias low high total e = exerted_masses line total (between low high (total +ℤ wanted (speed_along line e) bias line.inverse_mass)) e
 
 -- ---- lines stay
@@ -105,18 +105,18 @@ tangent_put : (springy : Bool) (s : Ends) (p : ContactPoint) (x : Exerted) → r
 unfolding point_row
 tangent_put springy s p x = refl
 
-normal_row : (springy : Bool) (s e : Ends) (bias : ℤ) (p : ContactPoint) → rows.normal_solved bias (point_row springy s p) e ≡ rows.with_normal (point_row springy s p) (solved (normal_line p s) bias (pos 0) MAX_NORMAL_IMPULSE p.normal_impulse e)
+normal_row : (springy : Bool) (s e : Ends) (bias : ℤ) (p : ContactPoint) → rows.normal_solved bias (point_row springy s p) e ≡ rows.with_normal (point_row springy s p) (solved_impulse (normal_line p s) bias (pos 0) MAX_NORMAL_IMPULSE p.normal_impulse e)
 unfolding point_row
 normal_row springy s e bias p = refl
 
 normal_alike : (springy : Bool) (s e : Ends) (bias : ℤ) (p : ContactPoint) → AreMovedFrom s e → rows.normal_solved bias (point_row springy s p) e ≡ row_point springy s (normal_solved bias p e)
 normal_alike springy s e bias p h =
     normal_row springy s e bias p
-    ∙ ap (λ (l : Line). rows.with_normal (point_row springy s p) (solved l bias (pos 0) MAX_NORMAL_IMPULSE p.normal_impulse e)) (same_line p.normal p.ra p.rb s e h)
-    ∙ normal_put springy s p (solved (normal_line p e) bias (pos 0) MAX_NORMAL_IMPULSE p.normal_impulse e)
+    ∙ ap (λ (l : Line). rows.with_normal (point_row springy s p) (solved_impulse l bias (pos 0) MAX_NORMAL_IMPULSE p.normal_impulse e)) (same_line p.normal p.ra p.rb s e h)
+    ∙ normal_put springy s p (solved_impulse (normal_line p e) bias (pos 0) MAX_NORMAL_IMPULSE p.normal_impulse e)
 
 tangent_row : (springy : Bool) (s : Ends) (friction : ℤ) (t : SolvedPoint) → rows.then_tangent friction (row_point springy s t)
-    ≡ rows.with_tangent (point_row springy s t.point) (solved (tangent_line t.point s) (pos 0) (neg_ℤ (most_friction friction t.point.normal_impulse)) (most_friction friction t.point.normal_impulse) t.point.tangent_impulse t.ends)
+    ≡ rows.with_tangent (point_row springy s t.point) (solved_impulse (tangent_line t.point s) (pos 0) (neg_ℤ (most_friction friction t.point.normal_impulse)) (most_friction friction t.point.normal_impulse) t.point.tangent_impulse t.ends)
 unfolding point_row
 tangent_row springy s friction t = refl
 
@@ -124,8 +124,8 @@ tangent_alike : (springy : Bool) (s : Ends) (friction : ℤ) (t : SolvedPoint) �
 tangent_alike springy s friction t h =
     let most : ℤ = most_friction friction t.point.normal_impulse in
     tangent_row springy s friction t
-    ∙ ap (λ (l : Line). rows.with_tangent (point_row springy s t.point) (solved l (pos 0) (neg_ℤ most) most t.point.tangent_impulse t.ends)) (same_line (tangent t.point.normal) t.point.ra t.point.rb s t.ends h)
-    ∙ tangent_put springy s t.point (solved (tangent_line t.point t.ends) (pos 0) (neg_ℤ most) most t.point.tangent_impulse t.ends)
+    ∙ ap (λ (l : Line). rows.with_tangent (point_row springy s t.point) (solved_impulse l (pos 0) (neg_ℤ most) most t.point.tangent_impulse t.ends)) (same_line (tangent t.point.normal) t.point.ra t.point.rb s t.ends h)
+    ∙ tangent_put springy s t.point (solved_impulse (tangent_line t.point t.ends) (pos 0) (neg_ℤ most) most t.point.tangent_impulse t.ends)
 
 normal_masses : (bias : ℤ) (p : ContactPoint) (e : Ends) → AreMovedFrom e (normal_solved bias p e).ends
 normal_masses bias p e = solved_masses (normal_line p e) bias (pos 0) MAX_NORMAL_IMPULSE p.normal_impulse e
@@ -145,16 +145,16 @@ record IsAlike (springy : Bool) (s : Ends) (f : ContactPoint → Ends → Solved
 solve_value : (springy : Bool) (s : Ends) (friction : ℤ) (p : ContactPoint) (e : Ends) → AreMovedFrom s e → rows.point_solved friction (point_row springy s p) e ≡ row_point springy s (point_solved friction p e)
 unfolding rows.point_solved
 solve_value springy s friction p e h =
-    let bias : ℤ = bias_of (separation_now p e) in
+    let bias : ℤ = overlap_bias (separation_now p e) in
     let first : SolvedPoint = normal_solved bias p e in
-    ap (λ (z : ℤ). rows.then_tangent friction (rows.normal_solved (bias_of z) (point_row springy s p) e)) (same_separation springy s e p)
+    ap (λ (z : ℤ). rows.then_tangent friction (rows.normal_solved (overlap_bias z) (point_row springy s p) e)) (same_separation springy s e p)
     ∙ ap (rows.then_tangent friction) (normal_alike springy s e bias p h)
     ∙ tangent_alike springy s friction first (masses_then s e first.ends h (normal_masses bias p e))
 
 solve_alike : (springy : Bool) (s : Ends) (friction : ℤ) → IsAlike springy s (point_solved friction) (rows.point_solved friction)
 solve_alike springy s friction = record {
   value = solve_value springy s friction;
-  masses = λ p e. masses_then e (normal_solved (bias_of (separation_now p e)) p e).ends (point_solved friction p e).ends (normal_masses (bias_of (separation_now p e)) p e) (tangent_masses friction (normal_solved (bias_of (separation_now p e)) p e));
+  masses = λ p e. masses_then e (normal_solved (overlap_bias (separation_now p e)) p e).ends (point_solved friction p e).ends (normal_masses (overlap_bias (separation_now p e)) p e) (tangent_masses friction (normal_solved (overlap_bias (separation_now p e)) p e));
 }
 
 -- ---- the warm start

@@ -13,7 +13,7 @@ use Rattle.colour_solver_base.specs.declared.row_64.PointImpulses.{PointImpulses
 use Rattle.colour_solver_base.specs.declared.row_64.PointAfter64.{PointAfter64}
 use Rattle.colour_solver_base.specs.declared.row_64.RowAfter64.{RowAfter64}
 use Rattle.colour_solver_base.specs.Rows.{IsPointRow, IsRow, at_points, point_solved, normal_solved, separation_now, tangent_solved, then_tangent}
-use Rattle.colour_solver_base.specs.ContactSolving.{bias_of}
+use Rattle.colour_solver_base.specs.ContactSolving.{overlap_bias}
 use Rattle.colour_solver_base.specs.Row64.{HasPointRoom64, IsPointAfter64, IsRowAfter64, with_impulses, with_point_impulses, with_row_impulses}
 use Rattle.colour_solver_base.proofs.Kept.{kept_then, same_then}
 
@@ -37,13 +37,13 @@ point_with p normal_impulse tangent_impulse h low high small = record {
 
 -- ---- the normal impulse, then friction
 
-point_solved_by : (friction normal_impulse tangent_impulse : ℤ) (p : PointRow) (d e f : Ends) → normal_solved (bias_of (separation_now p d)) p d ≡ record { point = with_impulses p normal_impulse p.tangent_impulse; ends = e }
+point_solved_by : (friction normal_impulse tangent_impulse : ℤ) (p : PointRow) (d e f : Ends) → normal_solved (overlap_bias (separation_now p d)) p d ≡ record { point = with_impulses p normal_impulse p.tangent_impulse; ends = e }
     → tangent_solved friction (with_impulses p normal_impulse p.tangent_impulse) e ≡ record { point = with_impulses p normal_impulse tangent_impulse; ends = f } → point_solved friction p d ≡ record { point = with_impulses p normal_impulse tangent_impulse; ends = f }
 unfolding point_solved
 point_solved_by friction normal_impulse tangent_impulse p d e f h k = ap (then_tangent friction) h ∙ k
 
 pub point_after : (friction : ℤ) (p : PointRow) (a b : BodyState) (old : MomentaPair64) (after_normal slid : Exerted64) → IsPointRow p
-    → normal_solved (bias_of (separation_now p (ends_with a b old))) p (ends_with a b old) ≡ record { point = with_impulses p after_normal.total p.tangent_impulse; ends = ends_with a b after_normal.now }
+    → normal_solved (overlap_bias (separation_now p (ends_with a b old))) p (ends_with a b old) ≡ record { point = with_impulses p after_normal.total p.tangent_impulse; ends = ends_with a b after_normal.now }
     → IsImpulse a b old after_normal.now → pos 0 ≤ℤ after_normal.total → unsigned_abs after_normal.total ≤ 2 ^ 42
     → tangent_solved friction (with_impulses p after_normal.total p.tangent_impulse) (ends_with a b after_normal.now) ≡ record { point = with_impulses p after_normal.total slid.total; ends = ends_with a b slid.now }
     → IsImpulse a b after_normal.now slid.now → unsigned_abs slid.total ≤ 2 ^ 43

@@ -9,7 +9,7 @@ use Rattle.colour_solver_base.specs.declared.limits.TheConstants.{BOUNCE_SPEED, 
 use Rattle.momenta.specs.declared.state.Ends.{Ends}
 use Rattle.momenta.specs.declared.line.Line.{Line}
 use Rattle.momenta.specs.declared.line.Exerted.{Exerted}
-use Rattle.momenta.specs.Impulses.{line_along, speed_along, solved, warmed, travelled}
+use Rattle.momenta.specs.Impulses.{line_along, speed_along, solved_impulse, warmed, travelled}
 use Rattle.contacts_base.specs.declared.contact.ContactPoint.{ContactPoint}
 use Rattle.contacts_base.specs.declared.contact.Contact.{Contact}
 
@@ -47,12 +47,12 @@ abbrev pub separation_now : ContactPoint → Ends → ℤ
 separation_now p e = p.separation +ℤ rdiv (dot (minus (travelled e.b) (travelled e.a)) p.normal) unit_length
 
 -- the speed at which an overlap beyond the slop is taken away: an eighth of it in a tick, and at most the greatest bias
-unfoldable pub bias_of : ℤ → ℤ
-bias_of separation = cond (int_lt (neg_ℤ SLOP) separation) (pos 0) (cond (int_lt MAX_BIAS (fdiv (neg_ℤ separation -ℤ SLOP) (pos 8))) MAX_BIAS (fdiv (neg_ℤ separation -ℤ SLOP) (pos 8)))
+unfoldable pub overlap_bias : ℤ → ℤ
+overlap_bias separation = cond (int_lt (neg_ℤ SLOP) separation) (pos 0) (cond (int_lt MAX_BIAS (fdiv (neg_ℤ separation -ℤ SLOP) (pos 8))) MAX_BIAS (fdiv (neg_ℤ separation -ℤ SLOP) (pos 8)))
 
 -- an impulse along the normal towards the bias: never pulling
 abbrev pub normal_solved : ℤ → ContactPoint → Ends → SolvedPoint
-normal_solved bias p e = with_normal_impulse p (solved (normal_line p e) bias (pos 0) MAX_NORMAL_IMPULSE p.normal_impulse e)
+normal_solved bias p e = with_normal_impulse p (solved_impulse (normal_line p e) bias (pos 0) MAX_NORMAL_IMPULSE p.normal_impulse e)
 
 -- the most friction that a normal impulse allows, the coefficient being in 256ths
 abbrev pub most_friction : ℤ → ℤ → ℤ
@@ -60,11 +60,11 @@ most_friction friction normal_impulse = fdiv (friction *ℤ normal_impulse) (pos
 
 -- friction: as much as the normal impulse allows
 abbrev pub tangent_solved : ℤ → SolvedPoint → SolvedPoint
-tangent_solved friction s = with_tangent_impulse s.point (solved (tangent_line s.point s.ends) (pos 0) (neg_ℤ (most_friction friction s.point.normal_impulse)) (most_friction friction s.point.normal_impulse) s.point.tangent_impulse s.ends)
+tangent_solved friction s = with_tangent_impulse s.point (solved_impulse (tangent_line s.point s.ends) (pos 0) (neg_ℤ (most_friction friction s.point.normal_impulse)) (most_friction friction s.point.normal_impulse) s.point.tangent_impulse s.ends)
 
 -- the normal impulse, which takes overlaps beyond the slop away, and then friction
 abbrev pub point_solved : ℤ → ContactPoint → Ends → SolvedPoint
-point_solved friction p e = tangent_solved friction (normal_solved (bias_of (separation_now p e)) p e)
+point_solved friction p e = tangent_solved friction (normal_solved (overlap_bias (separation_now p e)) p e)
 
 -- the kept impulses given once more
 abbrev pub point_warmed : ContactPoint → Ends → Ends

@@ -14,7 +14,7 @@ use Rattle.colour_solver_base.specs.declared.row_64.PointImpulses.{PointImpulses
 use Rattle.colour_solver_base.specs.declared.row_64.PointAfter64.{PointAfter64}
 use Rattle.colour_solver_base.specs.declared.row_64.RowAfter64.{RowAfter64}
 use Rattle.colour_solver_base.specs.Rows.{IsPointRow, IsRow, normal_line, normal_solved, point_solved, separation_now, tangent_line}
-use Rattle.colour_solver_base.specs.ContactSolving.{bias_of, most_friction}
+use Rattle.colour_solver_base.specs.ContactSolving.{overlap_bias, most_friction}
 
 -- the point with these accumulated impulses
 abbrev pub with_impulses : PointRow → ℤ → ℤ → PointRow
@@ -47,7 +47,7 @@ pub record IsRowAfter64 (t : RowAfter ContactRow) (r : ContactRow) (a b : BodySt
 
 -- the normal impulse
 abbrev pub HasNormalRoom64 : PointRow → Ends → Type 0
-HasNormalRoom64 p e = HasRoom64 (normal_line p) (bias_of (separation_now p e)) (pos 0) MAX_NORMAL_IMPULSE p.normal_impulse e
+HasNormalRoom64 p e = HasRoom64 (normal_line p) (overlap_bias (separation_now p e)) (pos 0) MAX_NORMAL_IMPULSE p.normal_impulse e
 
 -- friction
 abbrev pub HasTangentRoom64 : ℤ → PointRow → Ends → Type 0
@@ -59,7 +59,7 @@ HasTangentRoomAfter64 friction t = HasTangentRoom64 friction t.point t.ends
 -- the normal impulse, then friction
 pub record HasPointRoom64 (friction : ℤ) (p : PointRow) (e : Ends) : Type 0 where
   pub normal_impulse : HasNormalRoom64 p e
-  pub tangent_impulse : HasTangentRoomAfter64 friction (normal_solved (bias_of (separation_now p e)) p e)
+  pub tangent_impulse : HasTangentRoomAfter64 friction (normal_solved (overlap_bias (separation_now p e)) p e)
 
 -- the bodies' momenta
 pub record AreSmall64 (a b : BodyState) : Type 0 where

@@ -10,7 +10,7 @@ use Rattle.colour_solver_base.specs.declared.limits.TheConstants.{BOUNCE_SPEED}
 use Rattle.momenta.specs.declared.state.Ends.{Ends}
 use Rattle.momenta.specs.declared.line.Line.{Line}
 use Rattle.momenta.specs.declared.line.Exerted.{Exerted}
-use Rattle.momenta.specs.Impulses.{IsLine, inverse_mass, speed_along, solved, warmed, travelled}
+use Rattle.momenta.specs.Impulses.{IsLine, inverse_mass, speed_along, solved_impulse, warmed, travelled}
 use Rattle.contacts_base.specs.declared.key.ContactKey.{ContactKey}
 use Rattle.contacts_base.specs.declared.contact.ContactPoint.{ContactPoint}
 use Rattle.contacts_base.specs.declared.contact.Contact.{Contact}
@@ -19,7 +19,7 @@ use Rattle.colour_solver_base.specs.declared.row.ContactRow.{ContactRow}
 use Rattle.colour_solver_base.specs.declared.row.Bodies.{Bodies}
 use Rattle.colour_solver_base.specs.declared.solve.PointAfter.{PointAfter}
 use Rattle.colour_solver_base.specs.RowsAfter.{RowAfter}
-use Rattle.colour_solver_base.specs.ContactSolving.{tangent, bias_of, most_friction}
+use Rattle.colour_solver_base.specs.ContactSolving.{tangent, overlap_bias, most_friction}
 
 -- ---- lines
 
@@ -85,18 +85,18 @@ with_tangent p x = record { point = record p { tangent_impulse = x.total }; ends
 
 -- along the normal: never pulling, and at most the greatest normal impulse
 abbrev pub normal_solved : ℤ → PointRow → Ends → PointAfter
-normal_solved bias p e = with_normal p (solved (normal_line p) bias (pos 0) MAX_NORMAL_IMPULSE p.normal_impulse e)
+normal_solved bias p e = with_normal p (solved_impulse (normal_line p) bias (pos 0) MAX_NORMAL_IMPULSE p.normal_impulse e)
 
 -- across the normal: within what the normal impulse allows
 abbrev pub tangent_solved : ℤ → PointRow → Ends → PointAfter
-tangent_solved friction p e = with_tangent p (solved (tangent_line p) (pos 0) (neg_ℤ (most_friction friction p.normal_impulse)) (most_friction friction p.normal_impulse) p.tangent_impulse e)
+tangent_solved friction p e = with_tangent p (solved_impulse (tangent_line p) (pos 0) (neg_ℤ (most_friction friction p.normal_impulse)) (most_friction friction p.normal_impulse) p.tangent_impulse e)
 
 abbrev pub then_tangent : ℤ → PointAfter → PointAfter
 then_tangent friction t = tangent_solved friction t.point t.ends
 
 -- the normal impulse, then friction
 unfoldable pub point_solved : ℤ → PointRow → Ends → PointAfter
-point_solved friction p e = then_tangent friction (normal_solved (bias_of (separation_now p e)) p e)
+point_solved friction p e = then_tangent friction (normal_solved (overlap_bias (separation_now p e)) p e)
 
 -- the kept impulses given once more: the normal one, then friction
 unfoldable pub point_warmed : PointRow → Ends → Ends

@@ -5,7 +5,7 @@ ghost use Rattle.std.specs.Option.{ForSome};
 ghost use Rattle.momenta.specs.Impulses.{AreStates, IsState, parting};
 ghost use Rattle.momenta.specs.Line64.{LeaveRoom64, IsImpulse, ends_with, both_ends};
 ghost use Rattle.colour_solver_base.specs.Rows.{IsPointRow, IsRow, point_solved, point_warmed, normal_solved, row_solved, row_warmed, separation_now, tangent_solved};
-ghost use Rattle.colour_solver_base.specs.ContactSolving.{bias_of};
+ghost use Rattle.colour_solver_base.specs.ContactSolving.{overlap_bias};
 ghost use Rattle.colour_solver_base.specs.Row64.{HasPointRoom64, HasNormalRoom64, HasTangentRoom64, HasSolveRoom64, HasWarmPointRoom64, HasWarmRoom64, IsPointAfter64, IsRowAfter64, with_impulses};
 
 use crate::solve::{bias_of, most_friction, separation_between};
@@ -140,7 +140,7 @@ fn solve_normal_64(
     requires states { AreStates (ends_with a.now b.now now) }
     requires leaves_room { LeaveRoom64 4 now }
     requires apart { apart ≡ parting point.now.ra point.now.rb (ends_with a.now b.now now) }
-    ensures value { IfSome result (λ r. normal_solved (bias_of (separation_now point.now (ends_with a.now b.now now))) point.now (ends_with a.now b.now now) ≡ record { point = with_impulses point.now r.total point.now.tangent_impulse; ends = ends_with a.now b.now r.now }) }
+    ensures value { IfSome result (λ r. normal_solved (overlap_bias (separation_now point.now (ends_with a.now b.now now))) point.now (ends_with a.now b.now now) ≡ record { point = with_impulses point.now r.total point.now.tangent_impulse; ends = ends_with a.now b.now r.now }) }
     ensures impulse { IfSome result (λ r. IsImpulse a.now b.now now r.now) }
     ensures low { IfSome result (λ r. pos 0 ≤ℤ r.total) }
     ensures high { IfSome result (λ r. unsigned_abs r.total ≤ unsigned_abs MAX_NORMAL_IMPULSE) }

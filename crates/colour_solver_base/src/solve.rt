@@ -6,7 +6,7 @@ ghost use Rattle.fixed_geom.specs.Vectors.{IsWithin, dot, unit_length};
 ghost use Rattle.momenta.specs.declared.state.Ends.{Ends};
 ghost use Rattle.momenta.specs.Impulses.{AreStates, AreSameBodies, IsMomentumKept, IsState, parting};
 ghost use Rattle.colour_solver_base.specs.Rows.{IsPointRow, IsRow, bounces, normal_solved, tangent_solved, point_bounced, point_solved, point_warmed, row_bounced, row_solved, row_warmed, separation_now};
-ghost use Rattle.colour_solver_base.specs.ContactSolving.{bias_of, most_friction};
+ghost use Rattle.colour_solver_base.specs.ContactSolving.{overlap_bias, most_friction};
 
 use crate::{BOUNCE_SPEED, ContactRow, MAX_BIAS, PointRow, SLOP};
 use fixed_geom::{MAX_LINE_IMPULSE, MAX_NORMAL_IMPULSE, Vec2, minus, product, rdiv};
@@ -70,11 +70,11 @@ fn eighth_of(overlap: i64) -> i64
 
 /// The speed that takes an overlap beyond the slop away, in u/tick: an eighth of it in a tick, and at most
 /// `MAX_BIAS` (as Box2D's bias velocity).
-#[tactic(auto, unfolding(crate::specs::ContactSolving::bias_of))]
+#[tactic(auto, unfolding(crate::specs::ContactSolving::overlap_bias))]
 #[inline(always)]
 pub(crate) fn bias_of(separation: i64) -> i64
     requires { unsigned_abs separation ≤ 2 ^ 40 }
-    ensures value { result ≡ bias_of separation }
+    ensures value { result ≡ overlap_bias separation }
     ensures within { unsigned_abs result ≤ unsigned_abs MAX_BIAS }
 {
     if -SLOP < separation {

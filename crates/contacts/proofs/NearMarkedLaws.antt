@@ -10,7 +10,7 @@ use Rattle.std.proofs.lemmas.List.Kept.{Contains-dedup_nat}
 use Rattle.std.proofs.lemmas.List.Sorted.{Contains-permutation}
 use Rattle.std.proofs.lemmas.Map.Keys.{IsStrictlyIncreasing-dedup}
 use Rattle.fixed_geom.specs.declared.boxes.Box2.{Box2}
-use Rattle.fixed_geom.specs.Boxes.{meets, overlaps}
+use Rattle.fixed_geom.specs.Boxes.{spans_meet, overlaps}
 use Rattle.contacts_base.specs.declared.near.Proxy.{Proxy}
 use Rattle.contacts_base.specs.declared.contact.ContactEntry.{ContactEntry}
 use Rattle.shapes.specs.declared.limits.TheConstants.{MAX_SHAPES}
@@ -41,8 +41,8 @@ swaps true false = refl
 swaps false true = refl
 swaps false false = refl
 
-meets_swaps : (a b c d : _) → meets a b c d ≡ meets c d a b
-unfolding meets
+meets_swaps : (a b c d : _) → spans_meet a b c d ≡ spans_meet c d a b
+unfolding spans_meet
 meets_swaps a b c d = swaps (int_le a d) (int_le c b)
 
 overlaps_swaps : (a b : Box2) → overlaps a b ≡ true → overlaps b a ≡ true

@@ -12,7 +12,7 @@ use Rattle.std.proofs.lemmas.List.Sorted.{sorted_far, ranks_by, Contains-permuta
 use Rattle.std.proofs.lemmas.List.Kept.{Contains-dedup_nat, Contains-from_dedup}
 use Rattle.std.proofs.lemmas.Map.Keys.{IsStrictlyIncreasing-dedup}
 use Rattle.std.proofs.lemmas.Cmp.{nat_cmp_total}
-use Rattle.fixed_geom.specs.Boxes.{Overlaps, meets}
+use Rattle.fixed_geom.specs.Boxes.{Overlaps, spans_meet}
 use Rattle.contacts_base.specs.declared.near.Proxy.{Proxy}
 use Rattle.contacts_base.specs.Near.{is_near, pair_code, near_codes}
 use Rattle.fixed_geom.specs.declared.boxes.Box2.{Box2}
@@ -58,7 +58,7 @@ or_true true = refl
 or_true false = refl
 
 near_overlap : (p q : Proxy) → is_near p q ≡ true → Overlaps p.fat q.fat
-unfolding is_near meets
+unfolding is_near spans_meet
 near_overlap p q h =
     let w = across_of (p.id.slot == q.id.slot) (p.dynamic || q.dynamic) _ (int_le p.fat.lo.x q.fat.hi.x) (int_le q.fat.lo.x p.fat.hi.x) (int_le p.fat.lo.y q.fat.hi.y) (int_le q.fat.lo.y p.fat.hi.y) h in
     record { left = le_from _ _ w.0.0; right = le_from _ _ w.0.1; down = le_from _ _ w.1.0; up = le_from _ _ w.1.1 }

@@ -15,15 +15,15 @@ abbrev pub impulses_at : Option ContactPoint → ℕ → Option Impulses
 impulses_at None candidate = None
 impulses_at (Some p) candidate = cond (p.candidate == candidate) (Some (record { normal_impulse = p.normal_impulse; tangent_impulse = p.tangent_impulse })) None
 
-abbrev pub first_of : Option Impulses → Option Impulses → Impulses
-first_of (Some i) other = i
-first_of None (Some i) = i
-first_of None None = no_impulses
+abbrev pub first_impulses : Option Impulses → Option Impulses → Impulses
+first_impulses (Some i) other = i
+first_impulses None (Some i) = i
+first_impulses None None = no_impulses
 
 -- the impulses that the contact kept at the candidate
 abbrev pub kept : Option ContactEntry → ℕ → Impulses
 kept None candidate = no_impulses
-kept (Some e) candidate = first_of (impulses_at e.contact.first candidate) (impulses_at e.contact.second candidate)
+kept (Some e) candidate = first_impulses (impulses_at e.contact.first candidate) (impulses_at e.contact.second candidate)
 
 -- the point with the impulses kept at its candidate
 abbrev pub kept_point : Option ContactEntry → Point → ContactPoint

@@ -6,7 +6,7 @@ use Rattle.fixed_geom.specs.declared.vectors.Vec2.{Vec2}
 use Rattle.momenta.specs.declared.state.BodyState.{BodyState}
 use Rattle.momenta.specs.declared.state.Ends.{Ends}
 use Rattle.momenta.specs.declared.line.Line.{Line}
-use Rattle.momenta.specs.Impulses.{AreStates, exerted, fits, given, impulse_pair, or_dropped, or_kept, solved, warmed}
+use Rattle.momenta.specs.Impulses.{AreStates, exerted, fits, given, impulse_pair, or_dropped, or_kept, solved_impulse, warmed}
 use Rattle.momenta.proofs.ImpulseLaws.{pair_first, pair_given, pair_second}
 use Rattle.momenta.proofs.NoImpulse.{same_bodies, same_momentum}
 use Rattle.joint_rows.specs.Rows.{joint_solved, joint_warmed}
@@ -63,8 +63,8 @@ pub exerted_fair : (line : Line) (old new : ℤ) (e : Ends) → AreStates e → 
 unfolding exerted
 exerted_fair line old new e h = rw (dropped_is old new e) (impulse_fair _ line.ra line.rb e h)
 
-pub solved_fair : (line : Line) (bias low high total : ℤ) (e : Ends) → AreStates e → IsFair e (solved line bias low high total e).ends
-unfolding solved
+pub solved_fair : (line : Line) (bias low high total : ℤ) (e : Ends) → AreStates e → IsFair e (solved_impulse line bias low high total e).ends
+unfolding solved_impulse
 solved_fair line bias low high total e h = exerted_fair line total _ e h
 
 pub warmed_fair : (line : Line) (total : ℤ) (e : Ends) → AreStates e → IsFair e (warmed line total e)

@@ -14,7 +14,7 @@ use Rattle.dillmonth.specs.declared.forms.CView.{CView}
 use Rattle.dillmonth.specs.declared.statuses.TheConstants.{BAD_KIND, NO_WORLD}
 use Rattle.world_desk.specs.declared.desk.Desk.{Desk}
 use Rattle.world_rules.specs.Apply.{Answers, apply}
-use Rattle.world_rules.specs.World.{World, body_of}
+use Rattle.world_rules.specs.World.{World, body_named}
 use Rattle.world_rules.specs.declared.command.Command.{Command}
 use Rattle.world_rules.specs.declared.command.Command.TheVariants.{CreateBody}
 use Rattle.world_rules.specs.declared.command.Reply.{Reply}
@@ -61,4 +61,4 @@ IsSeen (Some view) h status before after = (status ≡ 0) × (after ≡ view_sho
 
 abbrev pub IsSeenIn : CHandle → Option World → ℕ → CView → CView → Type 0
 IsSeenIn h None status before after = (status ≡ NO_WORLD) × (after ≡ before)
-IsSeenIn h (Some w) status before after = IsSeen (option_map view_of (body_of w.plain (handle_said h))) h status before after
+IsSeenIn h (Some w) status before after = IsSeen (option_map view_of (body_named w.plain (handle_said h))) h status before after

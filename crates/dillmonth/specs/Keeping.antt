@@ -7,7 +7,7 @@ use Rattle.dillmonth.specs.Lists.{written}
 use Rattle.dillmonth.specs.Statuses.{status_of, unread_status}
 use Rattle.dillmonth.specs.declared.statuses.TheConstants.{NO_WORLD}
 use Rattle.impulse_ledger.specs.Sums.{totals_of}
-use Rattle.world_core.specs.Frames.{settled_world}
+use Rattle.world_core.specs.Frames.{with_ledger_settled}
 use Rattle.world_desk.specs.Texts.{IsLoaded, IsText, IsUnread}
 use Rattle.world_desk.specs.declared.desk.Desk.{Desk}
 use Rattle.world_desk.specs.declared.unread.Unread.{Unread}
@@ -42,7 +42,7 @@ Copies (Some desk) old status new = NowHolds (λ w. w ≡ desk.world) status new
 -- the entries of the ledger are added to its sums, and all else is as it was
 abbrev pub Settles : Option Desk → ℕ → Option Desk → Type 0
 Settles None status new = (status ≡ NO_WORLD) × (new ≡ None)
-Settles (Some desk) status new = (status ≡ 0) × (new ≡ Some (record desk { world = settled_world desk.world }))
+Settles (Some desk) status new = (status ≡ 0) × (new ≡ Some (record desk { world = with_ledger_settled desk.world }))
 
 -- ---- saved worlds
 

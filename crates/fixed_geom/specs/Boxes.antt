@@ -16,11 +16,11 @@ pub record Overlaps (a b : Box2) : Type 0 where
   pub up : b.lo.y ≤ℤ a.hi.y
 
 -- from lo to hi and from low to high: on one axis, the two have a number in common
-unfoldable pub meets : ℤ → ℤ → ℤ → ℤ → Bool
-meets lo hi low high = int_le lo high && int_le low hi
+unfoldable pub spans_meet : ℤ → ℤ → ℤ → ℤ → Bool
+spans_meet lo hi low high = int_le lo high && int_le low hi
 
 abbrev pub overlaps : Box2 → Box2 → Bool
-overlaps a b = meets a.lo.x a.hi.x b.lo.x b.hi.x && meets a.lo.y a.hi.y b.lo.y b.hi.y
+overlaps a b = spans_meet a.lo.x a.hi.x b.lo.x b.hi.x && spans_meet a.lo.y a.hi.y b.lo.y b.hi.y
 
 -- each point of the inner box is in the outer: a box contains itself
 pub record Contains (outer inner : Box2) : Type 0 where

@@ -1,7 +1,7 @@
 //! Boxes with sides along the axes.
 
 ghost use Rattle.std.specs.Prelude.{◌≡◌, ℕ, ◌+◌, ◌^◌, ◌≤◌, pos, ◌≤ℤ◌, unsigned_abs, IsTrue, ◌↔◌};
-ghost use Rattle.fixed_geom.specs.Boxes.{IsBoxWithin, Overlaps, meets, overlaps, Contains, covers, contains, grow};
+ghost use Rattle.fixed_geom.specs.Boxes.{IsBoxWithin, Overlaps, spans_meet, overlaps, Contains, covers, contains, grow};
 
 use crate::Vec2;
 
@@ -13,9 +13,9 @@ pub struct Box2 {
 }
 
 /// On one axis, `lo` to `hi` and `low` to `high` have a number in common.
-#[tactic(auto, unfolding(crate::specs::Boxes::meets))]
+#[tactic(auto, unfolding(crate::specs::Boxes::spans_meet))]
 fn meets(lo: i64, hi: i64, low: i64, high: i64) -> bool
-    ensures value { result ≡ meets lo hi low high }
+    ensures value { result ≡ spans_meet lo hi low high }
     ensures meets { IsTrue result ↔ ((lo ≤ℤ high) × (low ≤ℤ hi)) }
 {
     lo <= high && low <= hi

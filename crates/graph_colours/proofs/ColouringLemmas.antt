@@ -11,8 +11,8 @@ use Rattle.std.proofs.lemmas.List.Sorted.{IsPermutation-trans, IsPermutation-app
 use Rattle.graph_colours.specs.declared.limits.TheConstants.{COLOURS}
 use Rattle.graph_colours.specs.declared.member.Movers.{Movers}
 use Rattle.graph_colours.specs.declared.member.Member.{Member}
-use Rattle.graph_colours.specs.Members.{AreRising, AreApart, is_free, has_id, inserted, without}
-use Rattle.graph_colours.specs.Colours.{list_at, all_members, least_colour, placed, released, colour_of, IsColouring}
+use Rattle.graph_colours.specs.Members.{AreRising, AreApart, is_free, has_id, inserted, without_member}
+use Rattle.graph_colours.specs.Colours.{list_at, all_members, least_colour, with_placed, released, colour_of, IsColouring}
 use Rattle.graph_colours.proofs.Cases.{by_test, or_left, or_right}
 use Rattle.graph_colours.proofs.PlaceLemmas.{is_same, not_same}
 use Rattle.graph_colours.proofs.ListLemmas.{moved_behind, same_inserted, rising_inserted, apart_inserted, rising_without, apart_without}
@@ -60,10 +60,10 @@ all_set {C} number m (l ∷ ls) (suc i) lt =
     let more : IsPermutation (m ∷ all_members ls) rest = all_set number m ls i (omega arith) in
     IsPermutation-trans (m ∷ (l ++ all_members ls)) (l ++ (m ∷ all_members ls)) (l ++ rest) (moved_behind m l (all_members ls)) (IsPermutation-append_right l (m ∷ all_members ls) rest more)
 
-pub all_without : {C : Type 0} (number : C → ℕ) (id : C) (lists : List (List (Member C))) → all_members (map (without number id) lists) ≡ without number id (all_members lists)
-unfolding without
+pub all_without : {C : Type 0} (number : C → ℕ) (id : C) (lists : List (List (Member C))) → all_members (map (without_member number id) lists) ≡ without_member number id (all_members lists)
+unfolding without_member
 all_without number id [] = refl
-all_without number id (l ∷ ls) = ap (λ r. without number id l ++ r) (all_without number id ls) ∙ sym (filter-append (λ m. not (number m.id == number id)) l (all_members ls))
+all_without number id (l ∷ ls) = ap (λ r. without_member number id l ++ r) (all_without number id ls) ∙ sym (filter-append (λ m. not (number m.id == number id)) l (all_members ls))
 
 -- how often a number stands
 pub count_fewer : {X : Type 0} (p q : X → Bool) (xs : List X) → count_by p (filter q xs) ≤ count_by p xs
@@ -128,12 +128,12 @@ apart_placed {C} lists c ms n apart h =
     subst P (sym at) (elim (cases_eq k c) [ inl q ↦ here q | inr o ↦ there o ]))
 
 -- a constraint placed
-pub placed_members : {C : Type 0} (number : C → ℕ) (m : Member C) (lists : List (List (Member C))) → IsColouring number lists → IsPermutation (m ∷ all_members lists) (all_members (placed number m lists))
-unfolding placed
+pub placed_members : {C : Type 0} (number : C → ℕ) (m : Member C) (lists : List (List (Member C))) → IsColouring number lists → IsPermutation (m ∷ all_members lists) (all_members (with_placed number m lists))
+unfolding with_placed
 placed_members number m lists keeps = all_set number m lists (least_colour lists m.movers) (let c : least_colour lists m.movers ≤ COLOURS = least_at_most lists m.movers in let n : length lists ≡ COLOURS + 1 = keeps.count in omega arith)
 
-pub placed_keeps : {C : Type 0} (number : C → ℕ) (m : Member C) (lists : List (List (Member C))) → IsColouring number lists → colour_of number m.id lists ≡ None → IsColouring number (placed number m lists)
-unfolding placed
+pub placed_keeps : {C : Type 0} (number : C → ℕ) (m : Member C) (lists : List (List (Member C))) → IsColouring number lists → colour_of number m.id lists ≡ None → IsColouring number (with_placed number m lists)
+unfolding with_placed
 placed_keeps {C} number m lists keeps absent =
     let c : ℕ = least_colour lists m.movers in
     let most : c ≤ COLOURS = least_at_most lists m.movers in
@@ -153,8 +153,8 @@ placed_keeps {C} number m lists keeps absent =
       once = once_placed number m (all_members lists) (all_members (slice_set lists c (inserted number m (list_at lists c)))) (all_set number m lists c lt) (absent_everywhere number m.id lists none) keeps.once;
     }
 
-pub placed_own : {C : Type 0} (number : C → ℕ) (m : Member C) (lists : List (List (Member C))) → IsColouring number lists → colour_of number m.id lists ≡ None → colour_of number m.id (placed number m lists) ≡ Some (least_colour lists m.movers)
-unfolding placed colour_of
+pub placed_own : {C : Type 0} (number : C → ℕ) (m : Member C) (lists : List (List (Member C))) → IsColouring number lists → colour_of number m.id lists ≡ None → colour_of number m.id (with_placed number m lists) ≡ Some (least_colour lists m.movers)
+unfolding with_placed colour_of
 placed_own {C} number m lists keeps absent =
     let p : List (Member C) → Bool = has_id number m.id in
     let c : ℕ = least_colour lists m.movers in
@@ -166,8 +166,8 @@ placed_own {C} number m lists keeps absent =
     let first : position_or_len p new ≡ c = position_or_len_is p new c [] (omega arith) (λ k lt. ap p (get_or-set_other lists c k (inserted number m (list_at lists c)) [] (λ q. omega arith)) ∙ none_passes p lists absent k [] (omega arith)) (λ lt. at) in
     position_some p new (omega arith) ∙ ap (λ j. Some j) first
 
-pub placed_others : {C : Type 0} (number : C → ℕ) (m : Member C) (lists : List (List (Member C))) (other : C) → number other ≢ number m.id → colour_of number other (placed number m lists) ≡ colour_of number other lists
-unfolding placed colour_of
+pub placed_others : {C : Type 0} (number : C → ℕ) (m : Member C) (lists : List (List (Member C))) (other : C) → number other ≢ number m.id → colour_of number other (with_placed number m lists) ≡ colour_of number other lists
+unfolding with_placed colour_of
 placed_others {C} number m lists other far =
     let p : List (Member C) → Bool = has_id number other in
     let c : ℕ = least_colour lists m.movers in
@@ -178,31 +178,31 @@ placed_others {C} number m lists other far =
     rw (first, len) refl
 
 -- a constraint released
-pub released_members : {C : Type 0} (number : C → ℕ) (id : C) (lists : List (List (Member C))) → all_members (released number id lists) ≡ without number id (all_members lists)
+pub released_members : {C : Type 0} (number : C → ℕ) (id : C) (lists : List (List (Member C))) → all_members (released number id lists) ≡ without_member number id (all_members lists)
 unfolding released
 released_members number id lists = all_without number id lists
 
-pub count_released : {C : Type 0} (number : C → ℕ) (id : C) (ms : List (Member C)) (n : ℕ) → count_by (λ m. number m.id == n) (without number id ms) ≤ count_by (λ m. number m.id == n) ms
-unfolding without
+pub count_released : {C : Type 0} (number : C → ℕ) (id : C) (ms : List (Member C)) (n : ℕ) → count_by (λ m. number m.id == n) (without_member number id ms) ≤ count_by (λ m. number m.id == n) ms
+unfolding without_member
 count_released number id ms n = count_fewer (λ m. number m.id == n) (λ m. not (number m.id == number id)) ms
 
 pub released_keeps : {C : Type 0} (number : C → ℕ) (id : C) (lists : List (List (Member C))) → IsColouring number lists → IsColouring number (released number id lists)
 unfolding released
 released_keeps {C} number id lists keeps = record {
-  count = length-map lists (without number id) ∙ keeps.count;
-  rising = All-map (AreRising number) (without number id) lists (All-weaker (AreRising number) (λ ms. AreRising number (without number id ms)) (rising_without number id) lists keeps.rising);
+  count = length-map lists (without_member number id) ∙ keeps.count;
+  rising = All-map (AreRising number) (without_member number id) lists (All-weaker (AreRising number) (λ ms. AreRising number (without_member number id ms)) (rising_without number id) lists keeps.rising);
   apart = let P : List (Member C) → Type 0 = AreApart in
-      rw (take-map (without number id) COLOURS lists) (All-map P (without number id) (take COLOURS lists) (All-weaker P (λ ms. P (without number id ms)) (apart_without number id) (take COLOURS lists) keeps.apart));
-  once = λ n. rw (all_without number id lists) (let a : count_by (λ m. number m.id == n) (without number id (all_members lists)) ≤ count_by (λ m. number m.id == n) (all_members lists) = count_released number id (all_members lists) n in let b : count_by (λ m. number m.id == n) (all_members lists) ≤ 1 = keeps.once n in omega arith);
+      rw (take-map (without_member number id) COLOURS lists) (All-map P (without_member number id) (take COLOURS lists) (All-weaker P (λ ms. P (without_member number id ms)) (apart_without number id) (take COLOURS lists) keeps.apart));
+  once = λ n. rw (all_without number id lists) (let a : count_by (λ m. number m.id == n) (without_member number id (all_members lists)) ≤ count_by (λ m. number m.id == n) (all_members lists) = count_released number id (all_members lists) n in let b : count_by (λ m. number m.id == n) (all_members lists) ≤ 1 = keeps.once n in omega arith);
 }
 
 pub released_own : {C : Type 0} (number : C → ℕ) (id : C) (lists : List (List (Member C))) → colour_of number id (released number id lists) ≡ None
 unfolding released colour_of
-released_own {C} number id lists = none_passing (has_id number id) (map (without number id) lists) (All-map (λ ms. has_id number id ms ≡ false) (without number id) lists (λ k d lt. has_without number id (get_or lists k d)))
+released_own {C} number id lists = none_passing (has_id number id) (map (without_member number id) lists) (All-map (λ ms. has_id number id ms ≡ false) (without_member number id) lists (λ k d lt. has_without number id (get_or lists k d)))
 
 pub released_others : {C : Type 0} (number : C → ℕ) (id : C) (lists : List (List (Member C))) (other : C) → number other ≢ number id → colour_of number other (released number id lists) ≡ colour_of number other lists
 unfolding released colour_of
 released_others {C} number id lists other far =
-    let first : position_or_len (has_id number other) (map (without number id) lists) ≡ position_or_len (has_id number other) lists = found_in_map (without number id) (has_id number other) (has_id number other) lists (λ ms. has_other number id other ms far) in
-    let len : length (map (without number id) lists) ≡ length lists = length-map lists (without number id) in
+    let first : position_or_len (has_id number other) (map (without_member number id) lists) ≡ position_or_len (has_id number other) lists = found_in_map (without_member number id) (has_id number other) (has_id number other) lists (λ ms. has_other number id other ms far) in
+    let len : length (map (without_member number id) lists) ≡ length lists = length-map lists (without_member number id) in
     rw (first, len) refl

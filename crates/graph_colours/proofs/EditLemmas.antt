@@ -5,7 +5,7 @@ use Rattle.std.proofs.lemmas.List.{append_assoc, drop-drop, drop_more, length-dr
 use Rattle.std.proofs.lemmas.List.Elements.{All-nil, All-cons, All-head, All-tail}
 use Rattle.graph_colours.specs.declared.member.Member.{Member}
 use Rattle.graph_colours.specs.declared.edits.Edit.{Edit}
-use Rattle.graph_colours.specs.Members.{AreRising, inserted, without, is_at}
+use Rattle.graph_colours.specs.Members.{AreRising, inserted, without_member, is_at}
 use Rattle.graph_colours.specs.Edits.{edit_number, put, added, edited, all_edited, AreInOrder, IsEdited}
 use Rattle.graph_colours.proofs.Cases.{by_test, true_or_false}
 use Rattle.graph_colours.proofs.PlaceLemmas.{is_lower, not_lower, is_same, not_same, same_from, without_none}
@@ -13,8 +13,8 @@ use Rattle.graph_colours.proofs.ListLemmas.{pairs_head, pairs_tail, rising_inser
 use Rattle.graph_colours.proofs.SearchLemmas.{has_without}
 
 -- by which way an edit goes
-pub by_way : {C : Type 0} (number : C → ℕ) (P : List (Member C) → Type 0) (e : Edit C) (ms : List (Member C)) → (e.adds ≡ true → P (put number e.member ms)) → (e.adds ≡ false → P (without number e.member.id ms)) → P (edited number e ms)
-by_way number P e ms adds takes = by_test P e.adds (put number e.member ms) (without number e.member.id ms) adds takes
+pub by_way : {C : Type 0} (number : C → ℕ) (P : List (Member C) → Type 0) (e : Edit C) (ms : List (Member C)) → (e.adds ≡ true → P (put number e.member ms)) → (e.adds ≡ false → P (without_member number e.member.id ms)) → P (edited number e ms)
+by_way number P e ms adds takes = by_test P e.adds (put number e.member ms) (without_member number e.member.id ms) adds takes
 
 -- ---- a pass
 
@@ -22,12 +22,12 @@ by_way number P e ms adds takes = by_test P e.adds (put number e.member ms) (wit
 inserted_after : {C : Type 0} (number : C → ℕ) (m x : Member C) (ms : List (Member C)) → number x.id < number m.id → inserted number m (x ∷ ms) ≡ x ∷ inserted number m ms
 inserted_after number m x ms lt = rw (is_lower (number x.id) (number m.id) lt) refl
 
-without_after : {C : Type 0} (number : C → ℕ) (id : C) (x : Member C) (ms : List (Member C)) → number x.id < number id → without number id (x ∷ ms) ≡ x ∷ without number id ms
-unfolding without
+without_after : {C : Type 0} (number : C → ℕ) (id : C) (x : Member C) (ms : List (Member C)) → number x.id < number id → without_member number id (x ∷ ms) ≡ x ∷ without_member number id ms
+unfolding without_member
 without_after number id x ms lt = rw (not_same (number x.id) (number id) (λ e. omega (arith, lt, e))) refl
 
-after_by : {C : Type 0} (number : C → ℕ) (t : Bool) (m x : Member C) (ms : List (Member C)) → number x.id < number m.id → cond t (put number m (x ∷ ms)) (without number m.id (x ∷ ms)) ≡ x ∷ cond t (put number m ms) (without number m.id ms)
-after_by {C} number true m x ms lt = ap (λ (l : List (Member C)). inserted number m l) (without_after number m.id x ms lt) ∙ inserted_after number m x (without number m.id ms) lt
+after_by : {C : Type 0} (number : C → ℕ) (t : Bool) (m x : Member C) (ms : List (Member C)) → number x.id < number m.id → cond t (put number m (x ∷ ms)) (without_member number m.id (x ∷ ms)) ≡ x ∷ cond t (put number m ms) (without_member number m.id ms)
+after_by {C} number true m x ms lt = ap (λ (l : List (Member C)). inserted number m l) (without_after number m.id x ms lt) ∙ inserted_after number m x (without_member number m.id ms) lt
 after_by number false m x ms lt = without_after number m.id x ms lt
 
 pub edited_after : {C : Type 0} (number : C → ℕ) (e : Edit C) (x : Member C) (ms : List (Member C)) → number x.id < edit_number number e → edited number e (x ∷ ms) ≡ x ∷ edited number e ms
@@ -86,16 +86,16 @@ added_front : {C : Type 0} (number : C → ℕ) (m : Member C) (ys : List (Membe
 added_front number m [] after = refl
 added_front {C} number m (y ∷ ys) after = rw (not_lower (number y.id) (number m.id) (All-head (λ (z : Member C). number m.id ≤ number z.id) y ys after)) refl
 
-taken_front : {C : Type 0} (number : C → ℕ) (id : C) (ys : List (Member C)) → AreRising number ys → is_at number (number id) ys ≡ true → without number id ys ≡ drop 1 ys
-unfolding without
+taken_front : {C : Type 0} (number : C → ℕ) (id : C) (ys : List (Member C)) → AreRising number ys → is_at number (number id) ys ≡ true → without_member number id ys ≡ drop 1 ys
+unfolding without_member
 taken_front number id [] rising at = absurd (true_or_false false at refl)
 taken_front {C} number id (y ∷ ys) rising at =
     let up : All (λ z. number y.id < number z.id) ys = pairs_head (λ (a b : Member C). number a.id < number b.id) y ys rising in
     let same : number y.id ≡ number id = same_from (number y.id) (number id) at in
     rw at (sym (without_none number id ys (λ k d lt e. let u : number y.id < number (get_or ys k d).id = up k d lt in omega (arith, u, same, e))))
 
-kept_front : {C : Type 0} (number : C → ℕ) (id : C) (ys : List (Member C)) → AreRising number ys → All (λ y. number id ≤ number y.id) ys → is_at number (number id) ys ≡ false → without number id ys ≡ ys
-unfolding without
+kept_front : {C : Type 0} (number : C → ℕ) (id : C) (ys : List (Member C)) → AreRising number ys → All (λ y. number id ≤ number y.id) ys → is_at number (number id) ys ≡ false → without_member number id ys ≡ ys
+unfolding without_member
 kept_front number id [] rising after at = refl
 kept_front {C} number id (y ∷ ys) rising after at =
     let le : number id ≤ number y.id = All-head (λ (z : Member C). number id ≤ number z.id) y ys after in
@@ -108,7 +108,7 @@ kept_front {C} number id (y ∷ ys) rising after at =
     apart y ys le other up (suc k) d lt e = let u : number y.id < number (get_or ys k d).id = up k d (omega arith) in omega (arith, u, le, e)
 
 -- the edit among the members from its place on
-made_by : {C : Type 0} (number : C → ℕ) (t : Bool) (m : Member C) (ms left : List (Member C)) → without number m.id ms ≡ left → All (λ y. number m.id ≤ number y.id) left → cond t (put number m ms) (without number m.id ms) ≡ cond t (m ∷ []) [] ++ left
+made_by : {C : Type 0} (number : C → ℕ) (t : Bool) (m : Member C) (ms left : List (Member C)) → without_member number m.id ms ≡ left → All (λ y. number m.id ≤ number y.id) left → cond t (put number m ms) (without_member number m.id ms) ≡ cond t (m ∷ []) [] ++ left
 made_by {C} number true m ms left gone after = ap (λ (l : List (Member C)). inserted number m l) gone ∙ added_front number m left after
 made_by number false m ms left gone after = gone
 
@@ -116,7 +116,7 @@ added_below : {C : Type 0} (number : C → ℕ) (t : Bool) (m : Member C) (later
 added_below number true m later up = All-cons (AreBelowAll number later) m [] up (All-nil (AreBelowAll number later))
 added_below number false m later up = All-nil (AreBelowAll number later)
 
-takes_by : {C : Type 0} (number : C → ℕ) (e : Edit C) (ms : List (Member C)) → e.adds ≡ false → edited number e ms ≡ without number e.member.id ms
+takes_by : {C : Type 0} (number : C → ℕ) (e : Edit C) (ms : List (Member C)) → e.adds ≡ false → edited number e ms ≡ without_member number e.member.id ms
 takes_by number e ms h = rw h refl
 
 -- members below an edit are below all later ones
@@ -131,7 +131,7 @@ comes_to {C} number e later ms i before up =
     ap (λ (l : List (Member C)). all_edited number (e ∷ later) l) (sym (take_drop ms i))
     ∙ front_stays number (e ∷ later) (take i ms) (drop i ms) (below_later number e later (take i ms) (front_all (λ (m : Member C). number m.id < edit_number number e) ms i before) up)
 
-pub edit_step : {C : Type 0} (number : C → ℕ) (e : Edit C) (later : List (Edit C)) (old now ms : List (Member C)) (i j : ℕ) → without number e.member.id (drop i ms) ≡ drop j ms → All (λ m. edit_number number e ≤ number m.id) (drop j ms) → AllWithin (λ m. number m.id < edit_number number e) ms 0 i → All (λ d. edit_number number e < edit_number number d) later
+pub edit_step : {C : Type 0} (number : C → ℕ) (e : Edit C) (later : List (Edit C)) (old now ms : List (Member C)) (i j : ℕ) → without_member number e.member.id (drop i ms) ≡ drop j ms → All (λ m. edit_number number e ≤ number m.id) (drop j ms) → AllWithin (λ m. number m.id < edit_number number e) ms 0 i → All (λ d. edit_number number e < edit_number number d) later
     → now ≡ (old ++ take i ms) ++ added e → now ++ all_edited number later (drop j ms) ≡ old ++ all_edited number (e ∷ later) ms
 edit_step {C} number e later old now ms i j gone after before up is =
     let rest : List (Member C) = all_edited number later (drop j ms) in
@@ -141,10 +141,10 @@ edit_step {C} number e later old now ms i j gone after before up is =
     ap (λ (l : List (Member C)). l ++ rest) is ∙ append_assoc (old ++ take i ms) (added e) rest ∙ append_assoc old (take i ms) (added e ++ rest) ∙ ap (λ (l : List (Member C)). old ++ l) (sym whole)
 
 -- what is left of the members at a place where one of the number stands, and where none does
-pub left_behind : {C : Type 0} (number : C → ℕ) (id : C) (ms : List (Member C)) (i : ℕ) → AreRising number ms → is_at number (number id) (drop i ms) ≡ true → without number id (drop i ms) ≡ drop (i + 1) ms
+pub left_behind : {C : Type 0} (number : C → ℕ) (id : C) (ms : List (Member C)) (i : ℕ) → AreRising number ms → is_at number (number id) (drop i ms) ≡ true → without_member number id (drop i ms) ≡ drop (i + 1) ms
 left_behind number id ms i rising at = taken_front number id (drop i ms) (rising_drop number i ms rising) at ∙ drop-drop 1 i ms
 
-pub left_there : {C : Type 0} (number : C → ℕ) (id : C) (ms : List (Member C)) (i : ℕ) → AreRising number ms → AllWithin (λ m. number id ≤ number m.id) ms i (length ms) → is_at number (number id) (drop i ms) ≡ false → without number id (drop i ms) ≡ drop i ms
+pub left_there : {C : Type 0} (number : C → ℕ) (id : C) (ms : List (Member C)) (i : ℕ) → AreRising number ms → AllWithin (λ m. number id ≤ number m.id) ms i (length ms) → is_at number (number id) (drop i ms) ≡ false → without_member number id (drop i ms) ≡ drop i ms
 left_there {C} number id ms i rising after at = kept_front number id (drop i ms) (rising_drop number i ms rising) (rest_all (λ (m : Member C). number id ≤ number m.id) ms i after) at
 
 pub rest_beyond : {X : Type 0} (P : X → Type 0) (xs : List X) (n : ℕ) → AllWithin P xs n (length xs) → All P (drop (n + 1) xs)
@@ -174,22 +174,22 @@ inserted_long {C} number m (x ∷ xs) = by_test (λ (l : List (Member C)). lengt
     (λ q. let r : length (inserted number m xs) ≤ length xs + 1 = inserted_long number m xs in omega (arith, r))
     (λ q. omega arith)
 
-pub without_short : {C : Type 0} (number : C → ℕ) (id : C) (ms : List (Member C)) → length (without number id ms) ≤ length ms
-unfolding without
+pub without_short : {C : Type 0} (number : C → ℕ) (id : C) (ms : List (Member C)) → length (without_member number id ms) ≤ length ms
+unfolding without_member
 without_short number id [] = omega arith
 without_short {C} number id (x ∷ xs) =
-    let r : length (without number id xs) ≤ length xs = without_short number id xs in
-    by_test (λ (l : List (Member C)). length l ≤ length (x ∷ xs)) (not (number x.id == number id)) (x ∷ without number id xs) (without number id xs) (λ q. omega (arith, r)) (λ q. omega (arith, r))
+    let r : length (without_member number id xs) ≤ length xs = without_short number id xs in
+    by_test (λ (l : List (Member C)). length l ≤ length (x ∷ xs)) (not (number x.id == number id)) (x ∷ without_member number id xs) (without_member number id xs) (λ q. omega (arith, r)) (λ q. omega (arith, r))
 
 pub edited_long : {C : Type 0} (number : C → ℕ) (e : Edit C) (ms : List (Member C)) → length (edited number e ms) ≤ length ms + 1
 edited_long {C} number e ms = by_way number (λ (l : List (Member C)). length l ≤ length ms + 1) e ms
-    (λ q. let a : length (put number e.member ms) ≤ length (without number e.member.id ms) + 1 = inserted_long number e.member (without number e.member.id ms) in let b : length (without number e.member.id ms) ≤ length ms = without_short number e.member.id ms in omega (arith, a, b))
-    (λ q. let r : length (without number e.member.id ms) ≤ length ms = without_short number e.member.id ms in omega (arith, r))
+    (λ q. let a : length (put number e.member ms) ≤ length (without_member number e.member.id ms) + 1 = inserted_long number e.member (without_member number e.member.id ms) in let b : length (without_member number e.member.id ms) ≤ length ms = without_short number e.member.id ms in omega (arith, a, b))
+    (λ q. let r : length (without_member number e.member.id ms) ≤ length ms = without_short number e.member.id ms in omega (arith, r))
 
 pub edited_rising : {C : Type 0} (number : C → ℕ) (e : Edit C) (ms : List (Member C)) → AreRising number ms → AreRising number (edited number e ms)
 edited_rising {C} number e ms rising =
-    let less : AreRising number (without number e.member.id ms) = rising_without number e.member.id ms rising in
-    by_way number (λ (l : List (Member C)). AreRising number l) e ms (λ q. rising_inserted number e.member (without number e.member.id ms) less (has_without number e.member.id ms)) (λ q. less)
+    let less : AreRising number (without_member number e.member.id ms) = rising_without number e.member.id ms rising in
+    by_way number (λ (l : List (Member C)). AreRising number l) e ms (λ q. rising_inserted number e.member (without_member number e.member.id ms) less (has_without number e.member.id ms)) (λ q. less)
 
 -- one edit made
 pub edit_made : {C : Type 0} (number : C → ℕ) (e : Edit C) (es : List (Edit C)) (ms : List (Member C)) (capacity more : ℕ) → IsEdited number ms (e ∷ es) capacity → capacity ≤ more → IsEdited number (edited number e ms) es more

@@ -13,7 +13,7 @@ use Rattle.graph_colours.specs.Members.{AreRising, AreApart, is_free, has_id, in
 use Rattle.graph_colours.specs.Edits.{Pended}
 use Rattle.graph_colours.specs.Marks.{word_at, AreMarks, taken}
 use Rattle.graph_colours.specs.Graph.{lists_of, HaveRoom, IsGraph}
-use Rattle.graph_colours.specs.Colours.{list_at, all_members, least_colour, placed, released, colour_of, IsColouring}
+use Rattle.graph_colours.specs.Colours.{list_at, all_members, least_colour, with_placed, released, colour_of, IsColouring}
 use Rattle.graph_colours.proofs.MarkLemmas.{is_taken, is_untaken, marks_same}
 use Rattle.graph_colours.proofs.SearchLemmas.{position_none, position_some, found_in_map, none_passes}
 use Rattle.graph_colours.proofs.ColouringLemmas.{enough, placed_keeps, released_keeps}
@@ -101,18 +101,18 @@ apart_at {C} number lists c ms keeps lt is =
     subst P (get_or-take COLOURS lists c [] lt ∙ sym is) (keeps.apart c [] (omega (arith, len, lt)))
 
 -- a member put into its place is the constraint placed
-pub placed_is : {C : Type 0} (number : C → ℕ) (m : Member C) (lists now : List (List (Member C))) (place : ℕ) → place ≡ least_colour lists m.movers → now ≡ slice_set lists place (inserted number m (list_at lists place)) → now ≡ placed number m lists
-unfolding placed
+pub placed_is : {C : Type 0} (number : C → ℕ) (m : Member C) (lists now : List (List (Member C))) (place : ℕ) → place ≡ least_colour lists m.movers → now ≡ slice_set lists place (inserted number m (list_at lists place)) → now ≡ with_placed number m lists
+unfolding with_placed
 placed_is {C} number m lists now place at is =
     let P : ℕ → Type 0 = λ i. now ≡ slice_set lists i (inserted number m (list_at lists i)) in
     subst P at is
 
 -- the graph once a constraint was placed
-pub graph_placed : {C : Type 0} (number : C → ℕ) (m : Member C) (ks cs : List (Pended C)) (words more : List ℕ) (size : Size) → IsGraph number ks words size → colour_of number m.id (lists_of ks) ≡ None → lists_of cs ≡ placed number m (lists_of ks) → AreMarks (lists_of cs) more → size.count < size.total → HaveRoom size.total cs → length more ≡ length words → IsGraph number cs more (record { count = size.count + 1; total = size.total; slots = size.slots })
+pub graph_placed : {C : Type 0} (number : C → ℕ) (m : Member C) (ks cs : List (Pended C)) (words more : List ℕ) (size : Size) → IsGraph number ks words size → colour_of number m.id (lists_of ks) ≡ None → lists_of cs ≡ with_placed number m (lists_of ks) → AreMarks (lists_of cs) more → size.count < size.total → HaveRoom size.total cs → length more ≡ length words → IsGraph number cs more (record { count = size.count + 1; total = size.total; slots = size.slots })
 graph_placed {C} number m ks cs words more size graph absent is marks room rooms long =
     let P : List (List (Member C)) → Type 0 = λ l. IsColouring number l in
-    let one : length (all_members (placed number m (lists_of ks))) ≡ length (all_members (lists_of ks)) + 1 = placed_size number m (lists_of ks) graph.colouring in
-    let now : length (all_members (lists_of cs)) ≡ length (all_members (placed number m (lists_of ks))) = ap (λ (ls : List (List (Member C))). length (all_members ls)) is in
+    let one : length (all_members (with_placed number m (lists_of ks))) ≡ length (all_members (lists_of ks)) + 1 = placed_size number m (lists_of ks) graph.colouring in
+    let now : length (all_members (lists_of cs)) ≡ length (all_members (with_placed number m (lists_of ks))) = ap (λ (ls : List (List (Member C))). length (all_members ls)) is in
     record {
       colouring = subst P (sym is) (placed_keeps number m (lists_of ks) graph.colouring absent);
       marks = marks;

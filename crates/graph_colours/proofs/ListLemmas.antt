@@ -7,7 +7,7 @@ use Rattle.std.proofs.lemmas.List.Kept.{AllPairs-cons, AllPairs-filter}
 use Rattle.std.proofs.lemmas.List.Sorted.{IsPermutation-refl, IsPermutation-cons, IsPermutation-trans}
 use Rattle.graph_colours.specs.declared.member.Member.{Member}
 use Rattle.graph_colours.specs.Movers.{shares}
-use Rattle.graph_colours.specs.Members.{AreRising, AreApart, is_free, has_id, inserted, without}
+use Rattle.graph_colours.specs.Members.{AreRising, AreApart, is_free, has_id, inserted, without_member}
 use Rattle.graph_colours.proofs.Cases.{by_test, or_swaps, or_left, or_right, not_true}
 use Rattle.graph_colours.proofs.MoverLemmas.{shares_back}
 use Rattle.graph_colours.proofs.PlaceLemmas.{is_same}
@@ -81,10 +81,10 @@ apart_inserted number m xs rising apart free =
     pairs_inserted number (λ x y. shares x.movers y.movers ≡ false) m xs rising apart (λ k d lt h. none k d lt)
     (λ k d lt h. shares_back m.movers (get_or xs k d).movers ∙ none k d lt)
 
-pub rising_without : {C : Type 0} (number : C → ℕ) (id : C) (xs : List (Member C)) → AreRising number xs → AreRising number (without number id xs)
-unfolding without
+pub rising_without : {C : Type 0} (number : C → ℕ) (id : C) (xs : List (Member C)) → AreRising number xs → AreRising number (without_member number id xs)
+unfolding without_member
 rising_without number id xs rising = AllPairs-filter (λ x y. number x.id < number y.id) (λ m. not (number m.id == number id)) xs rising
 
-pub apart_without : {C : Type 0} (number : C → ℕ) (id : C) (xs : List (Member C)) → AreApart xs → AreApart (without number id xs)
-unfolding without
+pub apart_without : {C : Type 0} (number : C → ℕ) (id : C) (xs : List (Member C)) → AreApart xs → AreApart (without_member number id xs)
+unfolding without_member
 apart_without number id xs apart = AllPairs-filter (λ x y. shares x.movers y.movers ≡ false) (λ m. not (number m.id == number id)) xs apart

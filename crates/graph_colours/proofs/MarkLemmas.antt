@@ -10,7 +10,7 @@ use Rattle.graph_colours.specs.declared.limits.TheConstants.{COLOURS}
 use Rattle.graph_colours.specs.declared.member.Movers.{Movers}
 use Rattle.graph_colours.specs.declared.member.Member.{Member}
 use Rattle.graph_colours.specs.Movers.{AreBelow, has_mover, shares}
-use Rattle.graph_colours.specs.Members.{AreRising, AreApart, is_free, has_id, inserted, without, movers_of}
+use Rattle.graph_colours.specs.Members.{AreRising, AreApart, is_free, has_id, inserted, without_member, movers_of}
 use Rattle.graph_colours.specs.Colours.{list_at, all_members}
 use Rattle.graph_colours.specs.Marks.{bit_of, word_at, mark_at, any_has_mover, AreMarks, taken, common, candidates, AreSet}
 use Rattle.graph_colours.specs.Own.{AreOwn}
@@ -135,29 +135,29 @@ later_gone t true u h = ap (λ b. b || false) (h refl)
 later_gone t false u h = refl
 
 -- the marks without the member's are those of the members without it
-pub marks_without : {C : Type 0} (number : C → ℕ) (id : C) (ms : List (Member C)) (v : Movers) (k : ℕ) → AreRising number ms → AreApart ms → movers_of number id ms ≡ Some v → any_has_mover (without number id ms) k ≡ (not (has_mover v k) && any_has_mover ms k)
-unfolding without
+pub marks_without : {C : Type 0} (number : C → ℕ) (id : C) (ms : List (Member C)) (v : Movers) (k : ℕ) → AreRising number ms → AreApart ms → movers_of number id ms ≡ Some v → any_has_mover (without_member number id ms) k ≡ (not (has_mover v k) && any_has_mover ms k)
+unfolding without_member
 marks_without number id [] v k rising apart is = absurd (let wrong : None ≡ Some v = is in cc)
 marks_without {C} number id (x ∷ xs) v k rising apart is =
     let marked : List (Member C) → Bool = λ l. any_has_mover l k in
     let clear : All (λ o. shares x.movers o.movers ≡ false) xs = pairs_head (λ m o. shares m.movers o.movers ≡ false) x xs apart in
-    let here : number x.id ≡ number id → marked (without number id (x ∷ xs)) ≡ (not (has_mover v k) && (has_mover x.movers k || marked xs)) = λ q.
+    let here : number x.id ≡ number id → marked (without_member number id (x ∷ xs)) ≡ (not (has_mover v k) && (has_mover x.movers k || marked xs)) = λ q.
     let at : Some x.movers ≡ Some v = rw (is_same (number x.id) (number id) q) at is in
     let same : x.movers ≡ v = cc in
-    let none : xs ≡ without number id xs = without_none number id xs (λ j d lt r. let up : number x.id < number (get_or xs j d).id = rising 0 (suc j) d (omega arith) (omega arith) in omega arith) in
+    let none : xs ≡ without_member number id xs = without_none number id xs (λ j d lt r. let up : number x.id < number (get_or xs j d).id = rising 0 (suc j) d (omega arith) (omega arith) in omega arith) in
     rw (is_same (number x.id) (number id) q, sym none, sym same) (head_gone (has_mover x.movers k) (marked xs) (λ h. list_any_none (λ m. has_mover m.movers k) xs (λ j d lt. unshared x.movers (get_or xs j d).movers k (clear j d lt) h))) in
-    let there : (number x.id ≡ number id → ⊥) → marked (without number id (x ∷ xs)) ≡ (not (has_mover v k) && (has_mover x.movers k || marked xs)) = λ h.
+    let there : (number x.id ≡ number id → ⊥) → marked (without_member number id (x ∷ xs)) ≡ (not (has_mover v k) && (has_mover x.movers k || marked xs)) = λ h.
     let rest : movers_of number id xs ≡ Some v = rw (not_same (number x.id) (number id) h) at is in
     let far : shares x.movers v ≡ false = found number id (λ o. shares x.movers o ≡ false) xs v rest clear in
-    let less : marked (without number id xs) ≡ (not (has_mover v k) && marked xs) = marks_without number id xs v k (pairs_tail (λ y z. number y.id < number z.id) x xs rising) (pairs_tail (λ m o. shares m.movers o.movers ≡ false) x xs apart) rest in
+    let less : marked (without_member number id xs) ≡ (not (has_mover v k) && marked xs) = marks_without number id xs v k (pairs_tail (λ y z. number y.id < number z.id) x xs rising) (pairs_tail (λ m o. shares m.movers o.movers ≡ false) x xs apart) rest in
     let off : has_mover v k ≡ true → has_mover x.movers k ≡ false = λ g. not_true_then (has_mover x.movers k) (λ f. true_or_false (has_mover v k) g (unshared x.movers v k far f)) in
     rw (not_same (number x.id) (number id) h) (ap (λ t. has_mover x.movers k || t) less ∙ later_gone (has_mover x.movers k) (has_mover v k) (marked xs) off) in
     elim (cases_eq (number x.id) (number id)) [ inl q ↦ here q | inr h ↦ there h ]
 
 -- the list loses the member that has the id
-pub marks_removed : {C : Type 0} (number : C → ℕ) (id : C) (lists : List (List (Member C))) (old new : List ℕ) (place : ℕ) (v : Movers) → place < length lists → AreMarks lists old → (place < COLOURS → AreSet old new (has_mover v) place false) → (COLOURS ≤ place → new ≡ old) → AreRising number (list_at lists place) → (place < COLOURS → AreApart (list_at lists place)) → Some v ≡ movers_of number id (list_at lists place) → AreMarks (slice_set lists place (without number id (list_at lists place))) new
+pub marks_removed : {C : Type 0} (number : C → ℕ) (id : C) (lists : List (List (Member C))) (old new : List ℕ) (place : ℕ) (v : Movers) → place < length lists → AreMarks lists old → (place < COLOURS → AreSet old new (has_mover v) place false) → (COLOURS ≤ place → new ≡ old) → AreRising number (list_at lists place) → (place < COLOURS → AreApart (list_at lists place)) → Some v ≡ movers_of number id (list_at lists place) → AreMarks (slice_set lists place (without_member number id (list_at lists place))) new
 marks_removed number id lists old new place v within marks set same rising apart is =
-    marks_changed lists old new place v false (without number id (list_at lists place)) within marks set same (λ lt slot.
+    marks_changed lists old new place v false (without_member number id (list_at lists place)) within marks set same (λ lt slot.
     clear_bit (has_mover v slot) (any_has_mover (list_at lists place) slot) ∙ ap bit_of (sym (marks_without number id (list_at lists place) v slot rising (apart lt) (sym is))))
 
 -- ---- what the marks tell of an id

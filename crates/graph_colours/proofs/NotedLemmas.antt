@@ -10,7 +10,7 @@ use Rattle.std.proofs.lemmas.List.{get_or_default}
 use Rattle.graph_colours.specs.declared.member.Movers.{Movers}
 use Rattle.graph_colours.specs.declared.member.Member.{Member}
 use Rattle.graph_colours.specs.declared.edits.Edit.{Edit}
-use Rattle.graph_colours.specs.Members.{AreRising, has_id, inserted, without, movers_of, with_number}
+use Rattle.graph_colours.specs.Members.{AreRising, has_id, inserted, without_member, movers_of, with_number}
 use Rattle.graph_colours.specs.Edits.{edit_number, put, edited, all_edited, edit_with, is_edit_at, noted, AreInOrder, IsEdited}
 use Rattle.graph_colours.proofs.Cases.{by_test, true_or_false, not_true, not_false}
 use Rattle.graph_colours.proofs.PlaceLemmas.{is_lower, not_lower, is_same, not_same, same_from, without_none, without_same}
@@ -51,22 +51,22 @@ with_inserted {C} number n m (x ∷ xs) = by_test (λ (l : List (Member C)). wit
       | inr off ↦ rw (not_same (number x.id) n off) r
     ]
 
-with_without : {C : Type 0} (number : C → ℕ) (n : ℕ) (id : C) (ms : List (Member C)) → with_number number n (without number id ms) ≡ cond (number id == n) None (with_number number n ms)
-unfolding without
+with_without : {C : Type 0} (number : C → ℕ) (n : ℕ) (id : C) (ms : List (Member C)) → with_number number n (without_member number id ms) ≡ cond (number id == n) None (with_number number n ms)
+unfolding without_member
 with_without number n id [] = elim (cases_eq (number id) n) [ inl s ↦ rw (is_same (number id) n s) refl | inr off ↦ rw (not_same (number id) n off) refl ]
-with_without {C} number n id (x ∷ xs) = by_test (λ (l : List (Member C)). with_number number n l ≡ cond (number id == n) None (with_number number n (x ∷ xs))) (not (number x.id == number id)) (x ∷ without number id xs) (without number id xs)
+with_without {C} number n id (x ∷ xs) = by_test (λ (l : List (Member C)). with_number number n l ≡ cond (number id == n) None (with_number number n (x ∷ xs))) (not (number x.id == number id)) (x ∷ without_member number id xs) (without_member number id xs)
     (λ q. stays number n id x xs (not_true (number x.id == number id) q) (with_without number n id xs))
     (λ q. goes number n id x xs (not_false (number x.id == number id) (λ f. true_or_false (not (number x.id == number id)) (ap not f) q)) (with_without number n id xs))
   where
-    stays : {C : Type 0} (number : C → ℕ) (n : ℕ) (id : C) (x : Member C) (xs : List (Member C)) → (number x.id == number id) ≡ false → with_number number n (without number id xs) ≡ cond (number id == n) None (with_number number n xs)
-        → cond (number x.id == n) (Some x) (with_number number n (without number id xs)) ≡ cond (number id == n) None (cond (number x.id == n) (Some x) (with_number number n xs))
+    stays : {C : Type 0} (number : C → ℕ) (n : ℕ) (id : C) (x : Member C) (xs : List (Member C)) → (number x.id == number id) ≡ false → with_number number n (without_member number id xs) ≡ cond (number id == n) None (with_number number n xs)
+        → cond (number x.id == n) (Some x) (with_number number n (without_member number id xs)) ≡ cond (number id == n) None (cond (number x.id == n) (Some x) (with_number number n xs))
     stays number n id x xs far r = elim (cases_eq (number x.id) n) [
       | inl s ↦ rw (is_same (number x.id) n s, not_same (number id) n (λ t. true_or_false (number x.id == number id) (is_same (number x.id) (number id) (s ∙ sym t)) far)) refl
       | inr off ↦ rw (not_same (number x.id) n off) r
     ]
 
-    goes : {C : Type 0} (number : C → ℕ) (n : ℕ) (id : C) (x : Member C) (xs : List (Member C)) → (number x.id == number id) ≡ true → with_number number n (without number id xs) ≡ cond (number id == n) None (with_number number n xs)
-        → with_number number n (without number id xs) ≡ cond (number id == n) None (cond (number x.id == n) (Some x) (with_number number n xs))
+    goes : {C : Type 0} (number : C → ℕ) (n : ℕ) (id : C) (x : Member C) (xs : List (Member C)) → (number x.id == number id) ≡ true → with_number number n (without_member number id xs) ≡ cond (number id == n) None (with_number number n xs)
+        → with_number number n (without_member number id xs) ≡ cond (number id == n) None (cond (number x.id == n) (Some x) (with_number number n xs))
     goes number n id x xs is r = elim (cases_eq (number id) n) [
       | inl s ↦ r ∙ rw (is_same (number id) n s) refl
       | inr off ↦ r ∙ rw (not_same (number id) n off, not_same (number x.id) n (λ t. off (sym (same_from (number x.id) (number id) is) ∙ t))) refl
@@ -79,8 +79,8 @@ member_of e = cond e.adds (Some e.member) None
 pub with_edited : {C : Type 0} (number : C → ℕ) (n : ℕ) (e : Edit C) (ms : List (Member C)) → with_number number n (edited number e ms) ≡ cond (edit_number number e == n) (member_of e) (with_number number n ms)
 with_edited number n e ms = by_adds number n e.adds e.member ms
   where
-    by_adds : {C : Type 0} (number : C → ℕ) (n : ℕ) (t : Bool) (m : Member C) (ms : List (Member C)) → with_number number n (cond t (put number m ms) (without number m.id ms)) ≡ cond (number m.id == n) (cond t (Some m) None) (with_number number n ms)
-    by_adds {C} number n true m ms = with_inserted number n m (without number m.id ms) ∙ elim (cases_eq (number m.id) n) [
+    by_adds : {C : Type 0} (number : C → ℕ) (n : ℕ) (t : Bool) (m : Member C) (ms : List (Member C)) → with_number number n (cond t (put number m ms) (without_member number m.id ms)) ≡ cond (number m.id == n) (cond t (Some m) None) (with_number number n ms)
+    by_adds {C} number n true m ms = with_inserted number n m (without_member number m.id ms) ∙ elim (cases_eq (number m.id) n) [
       | inl s ↦ rw (is_same (number m.id) n s) refl
       | inr off ↦ rw (not_same (number m.id) n off) (with_without number n m.id ms ∙ rw (not_same (number m.id) n off) refl)
     ]
@@ -345,17 +345,17 @@ inserted_count {C} number m (x ∷ xs) = by_test (λ (l : List (Member C)). leng
     (λ q. let r : length (inserted number m xs) ≡ length xs + 1 = inserted_count number m xs in omega (arith, r))
     (λ q. omega arith)
 
-pub without_count : {C : Type 0} (number : C → ℕ) (id : C) (ms : List (Member C)) (m : Member C) → AreRising number ms → with_number number (number id) ms ≡ Some m → length (without number id ms) + 1 ≡ length ms
-unfolding without
+pub without_count : {C : Type 0} (number : C → ℕ) (id : C) (ms : List (Member C)) (m : Member C) → AreRising number ms → with_number number (number id) ms ≡ Some m → length (without_member number id ms) + 1 ≡ length ms
+unfolding without_member
 without_count number id [] m rising found = absurd (let wrong : None ≡ Some m = found in cc)
 without_count {C} number id (x ∷ xs) m rising found =
     let R : Member C → Member C → Type 0 = λ a b. number a.id < number b.id in
     elim (cases_eq (number x.id) (number id)) [
       | inl s ↦ let up : All (λ z. number x.id < number z.id) xs = pairs_head R x xs rising in
-          let rest : xs ≡ without number id xs = without_none number id xs (λ k d lt e. let u : number x.id < number (get_or xs k d).id = up k d lt in omega (arith, u, s, e)) in
-          rw (is_same (number x.id) (number id) s) (let long : length xs ≡ length (without number id xs) = ap (λ (l : List (Member C)). length l) rest in omega (arith, long))
+          let rest : xs ≡ without_member number id xs = without_none number id xs (λ k d lt e. let u : number x.id < number (get_or xs k d).id = up k d lt in omega (arith, u, s, e)) in
+          rw (is_same (number x.id) (number id) s) (let long : length xs ≡ length (without_member number id xs) = ap (λ (l : List (Member C)). length l) rest in omega (arith, long))
       | inr off ↦ let later : with_number number (number id) xs ≡ Some m = sym (rw (not_same (number x.id) (number id) off) refl) ∙ found in
-          rw (not_same (number x.id) (number id) off) (let r : length (without number id xs) + 1 ≡ length xs = without_count number id xs m (pairs_tail R x xs rising) later in omega (arith, r))
+          rw (not_same (number x.id) (number id) off) (let r : length (without_member number id xs) + 1 ≡ length xs = without_count number id xs m (pairs_tail R x xs rising) later in omega (arith, r))
     ]
 
 pub not_before : {C : Type 0} (number : C → ℕ) (es : List (Edit C)) → AreInOrder number es → IsNonDecreasingBy (λ e. number e.member.id) es

@@ -3,7 +3,7 @@ use Rattle.std.proofs.Common.{◌≡◌, ℕ, zero, suc, ◌+◌, ◌<◌, ◌�
 use Rattle.std.specs.List.{list_any, count_by, sum_by}
 use Rattle.std.proofs.lemmas.List.Sums.{sum_by-append, sum_by-cons}
 use Rattle.graph_colours.specs.declared.member.Member.{Member}
-use Rattle.graph_colours.specs.Members.{has_id, without}
+use Rattle.graph_colours.specs.Members.{has_id, without_member}
 use Rattle.graph_colours.specs.Colours.{list_at, all_members, released}
 use Rattle.graph_colours.proofs.Cases.{true_or_false, not_true_then}
 use Rattle.graph_colours.proofs.PlaceLemmas.{without_same}
@@ -41,7 +41,7 @@ none_counts {C} number id (x ∷ xs) has =
 pub times_in : {C : Type 0} (number : C → ℕ) (id : C) (l : List (Member C)) (ls : List (List (Member C))) → times number id (all_members (l ∷ ls)) ≡ times number id l + times number id (all_members ls)
 times_in {C} number id l ls = sum_by-append (λ (m : Member C). cond (number m.id == number id) 1 0) l (all_members ls)
 
-all_same : {C : Type 0} (number : C → ℕ) (id : C) (ls : List (List (Member C))) → times number id (all_members ls) < 1 → map (without number id) ls ≡ ls
+all_same : {C : Type 0} (number : C → ℕ) (id : C) (ls : List (List (Member C))) → times number id (all_members ls) < 1 → map (without_member number id) ls ≡ ls
 all_same number id [] few = refl
 all_same {C} number id (l ∷ ls) few =
     let both : times number id (all_members (l ∷ ls)) ≡ times number id l + times number id (all_members ls) = times_in number id l ls in
@@ -49,18 +49,18 @@ all_same {C} number id (l ∷ ls) few =
     rw (without_same number id l none) (ap (λ rest. l ∷ rest) (all_same number id ls (omega (arith, both, few))))
 
 -- the first list that has the id loses it
-pub first_loses : {C : Type 0} (number : C → ℕ) (id : C) (ls : List (List (Member C))) (i : ℕ) → i < length ls → ((k : ℕ) → k < i → has_id number id (list_at ls k) ≡ false) → has_id number id (list_at ls i) ≡ true → times number id (all_members ls) ≤ 1 → slice_set ls i (without number id (list_at ls i)) ≡ released number id ls
+pub first_loses : {C : Type 0} (number : C → ℕ) (id : C) (ls : List (List (Member C))) (i : ℕ) → i < length ls → ((k : ℕ) → k < i → has_id number id (list_at ls k) ≡ false) → has_id number id (list_at ls i) ≡ true → times number id (all_members ls) ≤ 1 → slice_set ls i (without_member number id (list_at ls i)) ≡ released number id ls
 unfolding released
 first_loses number id [] i lt before has once = absurd (omega arith)
 first_loses {C} number id (l ∷ ls) zero lt before has once =
     let n : 1 ≤ times number id l = has_counts number id l has in
     let both : times number id (all_members (l ∷ ls)) ≡ times number id l + times number id (all_members ls) = times_in number id l ls in
-    ap (λ rest. without number id l ∷ rest) (sym (all_same number id ls (omega (arith, n, both, once))))
+    ap (λ rest. without_member number id l ∷ rest) (sym (all_same number id ls (omega (arith, n, both, once))))
 first_loses {C} number id (l ∷ ls) (suc i) lt before has once =
     let none : has_id number id l ≡ false = before 0 (omega arith) in
     let both : times number id (all_members (l ∷ ls)) ≡ times number id l + times number id (all_members ls) = times_in number id l ls in
-    let later : slice_set ls i (without number id (list_at ls i)) ≡ map (without number id) ls = first_loses number id ls i (omega arith) (λ k low. before (suc k) (omega arith)) has (omega (arith, both, once)) in
-    ap (λ rest. l ∷ rest) later ∙ ap (λ m. m ∷ map (without number id) ls) (sym (without_same number id l none))
+    let later : slice_set ls i (without_member number id (list_at ls i)) ≡ map (without_member number id) ls = first_loses number id ls i (omega arith) (λ k low. before (suc k) (omega arith)) has (omega (arith, both, once)) in
+    ap (λ rest. l ∷ rest) later ∙ ap (λ m. m ∷ map (without_member number id) ls) (sym (without_same number id l none))
 
 counted_at : {C : Type 0} (number : C → ℕ) (id : C) (ls : List (List (Member C))) (i : ℕ) → i < length ls → has_id number id (list_at ls i) ≡ true → 1 ≤ times number id (all_members ls)
 counted_at number id [] i lt has = absurd (omega arith)
@@ -81,8 +81,8 @@ pub none_loses : {C : Type 0} (number : C → ℕ) (id : C) (ls : List (List (Me
 unfolding released
 none_loses number id [] none = refl
 none_loses {C} number id (l ∷ ls) none =
-    let rest : ls ≡ map (without number id) ls = none_loses number id ls (λ k lt. none (suc k) (omega arith)) in
-    ap (λ r. l ∷ r) rest ∙ ap (λ m. m ∷ map (without number id) ls) (sym (without_same number id l (none 0 (omega arith))))
+    let rest : ls ≡ map (without_member number id) ls = none_loses number id ls (λ k lt. none (suc k) (omega arith)) in
+    ap (λ r. l ∷ r) rest ∙ ap (λ m. m ∷ map (without_member number id) ls) (sym (without_same number id l (none 0 (omega arith))))
 
 pub none_times : {C : Type 0} (number : C → ℕ) (id : C) (ls : List (List (Member C))) → ((k : ℕ) → k < length ls → has_id number id (list_at ls k) ≡ false) → 0 ≡ times number id (all_members ls)
 none_times number id [] none = refl

@@ -8,7 +8,7 @@ use Rattle.std.proofs.lemmas.Bool.Decides.{nat_tests}
 use Rattle.std.proofs.lemmas.List.Folds.{list_any_none}
 use Rattle.graph_colours.specs.declared.member.Movers.{Movers}
 use Rattle.graph_colours.specs.declared.member.Member.{Member}
-use Rattle.graph_colours.specs.Members.{AreRising, has_id, inserted, without, movers_of}
+use Rattle.graph_colours.specs.Members.{AreRising, has_id, inserted, without_member, movers_of}
 use Rattle.graph_colours.proofs.Cases.{by_test, or_left, or_right}
 
 pub not_before : {C : Type 0} (number : C → ℕ) (ms : List (Member C)) → AreRising number ms → IsNonDecreasingBy (λ m. number m.id) ms
@@ -72,23 +72,23 @@ insert_is number m (x ∷ xs) (suc i) before after le =
     rw (is_lower (number x.id) (number m.id) h) (ap (λ ys. x ∷ ys) rest)
 
 -- where no member has the id
-pub without_none : {C : Type 0} (number : C → ℕ) (id : C) (ms : List (Member C)) → ((k : ℕ) (d : Member C) → k < length ms → number (get_or ms k d).id ≡ number id → ⊥) → ms ≡ without number id ms
-unfolding without
+pub without_none : {C : Type 0} (number : C → ℕ) (id : C) (ms : List (Member C)) → ((k : ℕ) (d : Member C) → k < length ms → number (get_or ms k d).id ≡ number id → ⊥) → ms ≡ without_member number id ms
+unfolding without_member
 without_none number id [] h = refl
 without_none number id (x ∷ xs) h =
     let n : (number x.id == number id) ≡ false = not_same (number x.id) (number id) (h 0 x (omega arith)) in
     rw n (ap (λ ys. x ∷ ys) (without_none number id xs (λ k d lt. h (suc k) d (omega arith))))
 
-pub without_same : {C : Type 0} (number : C → ℕ) (id : C) (ms : List (Member C)) → has_id number id ms ≡ false → without number id ms ≡ ms
-unfolding has_id without
+pub without_same : {C : Type 0} (number : C → ℕ) (id : C) (ms : List (Member C)) → has_id number id ms ≡ false → without_member number id ms ≡ ms
+unfolding has_id without_member
 without_same number id [] none = refl
 without_same number id (x ∷ xs) none =
     let here : (number x.id == number id) ≡ false = or_left (number x.id == number id) (list_any (λ m. number m.id == number id) xs) none in
     let rest : list_any (λ m. number m.id == number id) xs ≡ false = or_right (number x.id == number id) (list_any (λ m. number m.id == number id) xs) none in
     rw here (ap (λ ys. x ∷ ys) (without_same number id xs rest))
 
-pub remove_is : {C : Type 0} (number : C → ℕ) (id : C) (ms : List (Member C)) (i : ℕ) (d : Member C) → i < length ms → number (get_or ms i d).id ≡ number id → ((k : ℕ) (d : Member C) → k < length ms → (k ≡ i → ⊥) → number (get_or ms k d).id ≡ number id → ⊥) → remove ms i ≡ without number id ms
-unfolding without
+pub remove_is : {C : Type 0} (number : C → ℕ) (id : C) (ms : List (Member C)) (i : ℕ) (d : Member C) → i < length ms → number (get_or ms i d).id ≡ number id → ((k : ℕ) (d : Member C) → k < length ms → (k ≡ i → ⊥) → number (get_or ms k d).id ≡ number id → ⊥) → remove ms i ≡ without_member number id ms
+unfolding without_member
 remove_is number id [] i d lt here apart = absurd (omega arith)
 remove_is number id (x ∷ xs) zero d lt here apart =
     let s : (number x.id == number id) ≡ true = is_same (number x.id) (number id) here in
@@ -126,7 +126,7 @@ movers_is {C} number ms id i e rising before after lt is same =
     let f : Member C → Option Movers = λ m. Some m.movers in
     ap f is ∙ movers_at number id ms i e lt (omega arith) (nowhere_else number ms (number id) i rising before after)
 
-pub without_is : {C : Type 0} (number : C → ℕ) (ms : List (Member C)) (id : C) (i : ℕ) (e : Member C) → AreRising number ms → AllWithin (λ m. number m.id < number id) ms 0 i → AllWithin (λ m. number id ≤ number m.id) ms i (length ms) → i < length ms → e ≡ get_or ms i e → number e.id ≡ number id → remove ms i ≡ without number id ms
+pub without_is : {C : Type 0} (number : C → ℕ) (ms : List (Member C)) (id : C) (i : ℕ) (e : Member C) → AreRising number ms → AllWithin (λ m. number m.id < number id) ms 0 i → AllWithin (λ m. number id ≤ number m.id) ms i (length ms) → i < length ms → e ≡ get_or ms i e → number e.id ≡ number id → remove ms i ≡ without_member number id ms
 without_is {C} number ms id i e rising before after lt is same =
     let at : number (get_or ms i e).id ≡ number e.id = ap (λ (m : Member C). number m.id) (sym is) in
     remove_is number id ms i e lt (omega arith) (nowhere_else number ms (number id) i rising before after)

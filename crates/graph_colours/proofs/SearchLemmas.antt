@@ -3,7 +3,7 @@ use Rattle.std.proofs.Common.{◌≡◌, ◌≢◌, ℕ, ◌+◌, ◌<◌, ◌�
 use Rattle.std.specs.List.{All, list_any, position, position_or_len}
 use Rattle.std.proofs.lemmas.List.Sums.{fails_before_first, passes_at_first}
 use Rattle.graph_colours.specs.declared.member.Member.{Member}
-use Rattle.graph_colours.specs.Members.{has_id, inserted, without}
+use Rattle.graph_colours.specs.Members.{has_id, inserted, without_member}
 use Rattle.graph_colours.proofs.Cases.{by_test, not_true, true_or_false, not_false, not_true_then}
 use Rattle.graph_colours.proofs.PlaceLemmas.{is_lower, not_lower, same_from}
 use Rattle.graph_colours.proofs.ListLemmas.{any_inserted}
@@ -44,17 +44,17 @@ pub has_inserted : {C : Type 0} (number : C → ℕ) (id : C) (m : Member C) (ms
 unfolding has_id
 has_inserted number id m ms = any_inserted number (λ x. number x.id == number id) m ms
 
-pub has_without : {C : Type 0} (number : C → ℕ) (id : C) (ms : List (Member C)) → has_id number id (without number id ms) ≡ false
-unfolding has_id without
+pub has_without : {C : Type 0} (number : C → ℕ) (id : C) (ms : List (Member C)) → has_id number id (without_member number id ms) ≡ false
+unfolding has_id without_member
 has_without number id [] = refl
-has_without number id (x ∷ xs) = by_test (λ l. list_any (λ m. number m.id == number id) l ≡ false) (not (number x.id == number id)) (x ∷ without number id xs) (without number id xs)
+has_without number id (x ∷ xs) = by_test (λ l. list_any (λ m. number m.id == number id) l ≡ false) (not (number x.id == number id)) (x ∷ without_member number id xs) (without_member number id xs)
     (λ q. rw (not_true (number x.id == number id) q) (has_without number id xs))
     (λ q. has_without number id xs)
 
-pub has_other : {C : Type 0} (number : C → ℕ) (id other : C) (ms : List (Member C)) → number other ≢ number id → has_id number other (without number id ms) ≡ has_id number other ms
-unfolding has_id without
+pub has_other : {C : Type 0} (number : C → ℕ) (id other : C) (ms : List (Member C)) → number other ≢ number id → has_id number other (without_member number id ms) ≡ has_id number other ms
+unfolding has_id without_member
 has_other number id other [] far = refl
-has_other number id other (x ∷ xs) far = by_test (λ l. list_any (λ m. number m.id == number other) l ≡ ((number x.id == number other) || list_any (λ m. number m.id == number other) xs)) (not (number x.id == number id)) (x ∷ without number id xs) (without number id xs)
+has_other number id other (x ∷ xs) far = by_test (λ l. list_any (λ m. number m.id == number other) l ≡ ((number x.id == number other) || list_any (λ m. number m.id == number other) xs)) (not (number x.id == number id)) (x ∷ without_member number id xs) (without_member number id xs)
     (λ q. ap (λ t. (number x.id == number other) || t) (has_other number id other xs far))
     (λ q. let is : (number x.id == number id) ≡ true = not_false (number x.id == number id) (λ f. true_or_false (not (number x.id == number id)) (ap not f) q) in
     let off : (number x.id == number other) ≡ false = not_true_then (number x.id == number other) (λ s. far (sym (same_from (number x.id) (number other) s) ∙ same_from (number x.id) (number id) is)) in

@@ -4,7 +4,7 @@ use Rattle.std.specs.List.{flat_map, count_by, position, position_or_len}
 use Rattle.graph_colours.specs.declared.limits.TheConstants.{COLOURS}
 use Rattle.graph_colours.specs.declared.member.Movers.{Movers}
 use Rattle.graph_colours.specs.declared.member.Member.{Member}
-use Rattle.graph_colours.specs.Members.{AreRising, AreApart, is_free, has_id, inserted, without}
+use Rattle.graph_colours.specs.Members.{AreRising, AreApart, is_free, has_id, inserted, without_member}
 
 -- what contracts see: the members of each colour once all edits are made, how many more constraints may be placed with no memory, the bound
 -- below which their movers' slots must be, and whether edits are put off: if it is 0, none
@@ -30,12 +30,12 @@ unfoldable pub least_colour : {C : Type 0} → List (List (Member C)) → Movers
 least_colour lists movers = position_or_len (λ ms. is_free ms movers) (take COLOURS lists)
 
 -- the constraint is put into its colour
-unfoldable pub placed : {C : Type 0} → (C → ℕ) → Member C → List (List (Member C)) → List (List (Member C))
-placed number m lists = let colour = least_colour lists m.movers in slice_set lists colour (inserted number m (list_at lists colour))
+unfoldable pub with_placed : {C : Type 0} → (C → ℕ) → Member C → List (List (Member C)) → List (List (Member C))
+with_placed number m lists = let colour = least_colour lists m.movers in slice_set lists colour (inserted number m (list_at lists colour))
 
 -- the constraint is taken out of its colour
 unfoldable pub released : {C : Type 0} → (C → ℕ) → C → List (List (Member C)) → List (List (Member C))
-released number id lists = map (without number id) lists
+released number id lists = map (without_member number id) lists
 
 -- the colour of the constraint
 unfoldable pub colour_of : {C : Type 0} → (C → ℕ) → C → List (List (Member C)) → Option ℕ

@@ -3,18 +3,18 @@ use Rattle.std.specs.Prelude.{◌≡◌, ℕ, ◌<◌, ◌≤◌, ◌+◌, ◌==
 use Rattle.std.specs.List.{AllPairs}
 use Rattle.graph_colours.specs.declared.member.Member.{Member}
 use Rattle.graph_colours.specs.declared.edits.Edit.{Edit}
-use Rattle.graph_colours.specs.Members.{AreRising, inserted, without}
+use Rattle.graph_colours.specs.Members.{AreRising, inserted, without_member}
 
 abbrev pub edit_number : {C : Type 0} → (C → ℕ) → Edit C → ℕ
 edit_number number e = number e.member.id
 
 -- the list gets the member, in place of one of the same number
 abbrev pub put : {C : Type 0} → (C → ℕ) → Member C → List (Member C) → List (Member C)
-put number m ms = inserted number m (without number m.id ms)
+put number m ms = inserted number m (without_member number m.id ms)
 
 -- one member more, or one less
 abbrev pub edited : {C : Type 0} → (C → ℕ) → Edit C → List (Member C) → List (Member C)
-edited number e ms = cond e.adds (put number e.member ms) (without number e.member.id ms)
+edited number e ms = cond e.adds (put number e.member ms) (without_member number e.member.id ms)
 
 -- the member that it brings, if it does
 abbrev pub added : {C : Type 0} → Edit C → List (Member C)

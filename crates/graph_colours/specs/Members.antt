@@ -27,8 +27,8 @@ inserted number m [] = m ∷ []
 inserted number m (x ∷ xs) = cond (nat_lt (number x.id) (number m.id)) (x ∷ inserted number m xs) (m ∷ x ∷ xs)
 
 -- without the member that has the id
-unfoldable pub without : {C : Type 0} → (C → ℕ) → C → List (Member C) → List (Member C)
-without number id ms = filter (λ m. not (number m.id == number id)) ms
+unfoldable pub without_member : {C : Type 0} → (C → ℕ) → C → List (Member C) → List (Member C)
+without_member number id ms = filter (λ m. not (number m.id == number id)) ms
 
 -- the movers of the member that has the id
 abbrev pub movers_of : {C : Type 0} → (C → ℕ) → C → List (Member C) → Option Movers

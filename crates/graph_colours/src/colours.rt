@@ -7,10 +7,10 @@ ghost use Rattle.std.specs.Result.{IsOkUnless};
 ghost use Rattle.std.specs.List.Sorted.{IsPermutation};
 ghost use Rattle.graph_colours.specs.declared.limits.TheConstants.{COLOURS};
 ghost use Rattle.graph_colours.specs.Movers.{AreBelow};
-ghost use Rattle.graph_colours.specs.Members.{AreRising, AreApart, without};
+ghost use Rattle.graph_colours.specs.Members.{AreRising, AreApart, without_member};
 ghost use Rattle.graph_colours.specs.Graph.{lists_of, IsGraph};
 ghost use Rattle.graph_colours.specs.Own.{AreOwn};
-ghost use Rattle.graph_colours.specs.Colours.{list_at, all_members, least_colour, placed, released, colour_of, IsColouring};
+ghost use Rattle.graph_colours.specs.Colours.{list_at, all_members, least_colour, with_placed, released, colour_of, IsColouring};
 
 use crate::edited::EditedList;
 use crate::limits::OVERFLOW;
@@ -72,7 +72,7 @@ fn place_in<C: Id>(
     requires room { size.count < size.total }
     ensures colour { result ≡ least_colour (lists_of lists.old.items) member.movers }
     ensures most { result ≤ COLOURS }
-    ensures lists { lists_of lists.new.items ≡ placed C.number member (lists_of lists.old.items) }
+    ensures lists { lists_of lists.new.items ≡ with_placed C.number member (lists_of lists.old.items) }
     ensures graph { IsGraph C.number lists.new.items words.new.items (record { count = size.count + 1; total = size.total; slots = size.slots }) }
 {
     let colour = first_free(words, member.movers);
@@ -189,7 +189,7 @@ impl<C: Id> Colours<C> {
         requires below { AreBelow self.old.slots movers }
         requires room { 1 ≤ self.old.room }
         ensures colour { result ≡ least_colour self.old.lists movers }
-        ensures lists { self.new.lists ≡ placed C.number (record { id = id; movers = movers }) self.old.lists }
+        ensures lists { self.new.lists ≡ with_placed C.number (record { id = id; movers = movers }) self.old.lists }
         ensures room { self.old.room ≡ self.new.room + 1 }
         ensures total { self.new.room + length (all_members self.new.lists) ≡ self.old.room + length (all_members self.old.lists) }
         ensures slots { self.new.slots ≡ self.old.slots }
@@ -220,7 +220,7 @@ impl<C: Id> Colours<C> {
         ensures keeps { IsColouring C.number self.new.lists }
         ensures own { colour_of C.number id self.new.lists ≡ None }
         ensures others { (other : C) → C.number other ≢ C.number id → colour_of C.number other self.new.lists ≡ colour_of C.number other self.old.lists }
-        ensures members { all_members self.new.lists ≡ without C.number id (all_members self.old.lists) }
+        ensures members { all_members self.new.lists ≡ without_member C.number id (all_members self.old.lists) }
     {
         self.settled = false;
         self.size = release_in(

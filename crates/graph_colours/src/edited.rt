@@ -3,7 +3,7 @@
 ghost use Rattle.std.specs.Prelude.{◌≡◌, ◌<◌, ◌≤◌, ◌+◌, [], true, false, drop, length, vec_len, vec_capacity, IfOk, OnOk};
 ghost use Rattle.std.specs.List.{AllWithin};
 ghost use Rattle.std.specs.Result.{IsOkUnless};
-ghost use Rattle.graph_colours.specs.Members.{AreRising, has_id, inserted, without, movers_of, with_number};
+ghost use Rattle.graph_colours.specs.Members.{AreRising, has_id, inserted, without_member, movers_of, with_number};
 ghost use Rattle.graph_colours.specs.Edits.{edit_number, edited, all_edited, noted, AreInOrder, IsEdited, edit_with, is_edit_at};
 
 use crate::edits::{Edit, edit_all, edit_one, pass};
@@ -257,7 +257,7 @@ impl<C: Id> EditedList<C> {
     /// Takes out the member that has the id, and answers its movers.
     pub fn remove(&mut self, id: C, spare: &mut Vec<Member<C>>) -> Option<Movers>
         ensures value { result ≡ movers_of C.number id self.old.items }
-        ensures items { self.new.items ≡ without C.number id self.old.items }
+        ensures items { self.new.items ≡ without_member C.number id self.old.items }
         ensures capacity { self.old.capacity ≤ self.new.capacity }
     {
         let movers = self.with_number(id.number())?.movers;

@@ -5,7 +5,7 @@ ghost use Rattle.std.specs.Result.{IsOkUnless};
 ghost use Rattle.std.specs.Int.{bit_at};
 ghost use Rattle.std.specs.List.{position_or_len, count_by};
 ghost use Rattle.graph_colours.specs.declared.limits.TheConstants.{COLOURS};
-ghost use Rattle.graph_colours.specs.Members.{has_id, without};
+ghost use Rattle.graph_colours.specs.Members.{has_id, without_member};
 ghost use Rattle.graph_colours.specs.Marks.{AreMarks};
 ghost use Rattle.graph_colours.specs.Graph.{lists_of, HaveRoom, AreAtRest};
 ghost use Rattle.graph_colours.specs.Own.{AreOwn};
@@ -101,7 +101,7 @@ fn remove_at<C: Id>(
     requires marks { AreMarks (lists_of lists.old.items) words.old.items }
     requires candidate { bit_at candidates place ≡ 0 → has_id C.number id (list_at (lists_of lists.old.items) place) ≡ false }
     ensures value { result ≡ has_id C.number id (list_at (lists_of lists.old.items) place) }
-    ensures lists { lists_of lists.new.items ≡ slice_set (lists_of lists.old.items) place (without C.number id (list_at (lists_of lists.old.items) place)) }
+    ensures lists { lists_of lists.new.items ≡ slice_set (lists_of lists.old.items) place (without_member C.number id (list_at (lists_of lists.old.items) place)) }
     ensures marks { AreMarks (lists_of lists.new.items) words.new.items }
     ensures long { length words.new.items ≡ length words.old.items }
     ensures kept { (room : ℕ) → HaveRoom room lists.old.items → HaveRoom room lists.new.items }

@@ -2,7 +2,7 @@
 
 ghost use Rattle.std.specs.Prelude.{◌≡◌, ℕ, ◌<◌, ◌≤◌, ◌+◌, length, vec_len, vec_capacity};
 ghost use Rattle.std.specs.List.{AllWithin};
-ghost use Rattle.graph_colours.specs.Members.{AreRising, inserted, without, movers_of, with_number};
+ghost use Rattle.graph_colours.specs.Members.{AreRising, inserted, without_member, movers_of, with_number};
 
 /// The name of a constraint. Constraints are solved in the order of these numbers, and two names
 /// with one number are one constraint.
@@ -66,7 +66,7 @@ pub fn insert<C: Id>(members: &mut Vec<Member<C>>, member: Member<C>)
 pub fn remove<C: Id>(members: &mut Vec<Member<C>>, id: C) -> Option<Movers>
     requires { AreRising C.number members.old.items }
     ensures value { result ≡ movers_of C.number id members.old.items }
-    ensures items { members.new.items ≡ without C.number id members.old.items }
+    ensures items { members.new.items ≡ without_member C.number id members.old.items }
     ensures len { vec_len members.new ≤ vec_len members.old }
     ensures capacity { vec_capacity members.new ≡ vec_capacity members.old }
 {

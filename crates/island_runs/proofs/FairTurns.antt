@@ -6,7 +6,7 @@ use Rattle.fixed_geom.specs.declared.vectors.Vec2.{Vec2}
 use Rattle.momenta.specs.declared.state.BodyState.{BodyState}
 use Rattle.momenta.specs.declared.state.Ends.{Ends}
 use Rattle.momenta.specs.declared.line.Line.{Line}
-use Rattle.momenta.specs.Impulses.{AreSameBodies, IsMomentumKept, both, exerted, fits, given, impulse_pair, or_dropped, or_kept, solved, taken, warmed}
+use Rattle.momenta.specs.Impulses.{AreSameBodies, IsMomentumKept, both, exerted, fits, given, impulse_pair, or_dropped, or_kept, solved_impulse, taken, warmed}
 use Rattle.momenta.proofs.ImpulseLaws.{given_same}
 use Rattle.momenta.proofs.NoImpulse.{same_bodies, same_momentum}
 use Rattle.joint_rows.specs.Rows.{joint_solved, joint_warmed}
@@ -72,8 +72,8 @@ exerted_fair : (line : Line) (old new : ℤ) (e : Ends) → AreFair e (exerted l
 unfolding exerted
 exerted_fair line old new e = rw (dropped_is old new e) (impulse_fair _ line.ra line.rb e)
 
-solved_fair : (line : Line) (bias low high total : ℤ) (e : Ends) → AreFair e (solved line bias low high total e).ends
-unfolding solved
+solved_fair : (line : Line) (bias low high total : ℤ) (e : Ends) → AreFair e (solved_impulse line bias low high total e).ends
+unfolding solved_impulse
 solved_fair line bias low high total e = exerted_fair line total _ e
 
 warmed_fair : (line : Line) (total : ℤ) (e : Ends) → AreFair e (warmed line total e)

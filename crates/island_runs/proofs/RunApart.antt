@@ -4,7 +4,7 @@ use Rattle.std.specs.Prelude.{All}
 use Rattle.std.proofs.lemmas.List.Elements.{All-cons, All-head, All-map, All-tail}
 use Rattle.fixed_geom.specs.Vectors.{plus}
 use Rattle.fixed_geom.specs.declared.vectors.Vec2.{Vec2}
-use Rattle.momenta.specs.Motions.{advanced, clamped, pulled}
+use Rattle.momenta.specs.Motions.{advanced, speed_clamped, pulled}
 use Rattle.momenta.specs.declared.mass.MassData.{MassData}
 use Rattle.momenta.specs.declared.motion.Motion.{Motion}
 use Rattle.momenta.specs.declared.state.BodyState.{BodyState}
@@ -193,11 +193,11 @@ turn_act f fair = record {
 tick_act : (v : Vec2) → IsAct (tick v)
 unfolding tick
 tick_act v =
-    then_act (pull_all v) (λ r. carry_all (clamp_all advanced (clamp_all clamped (turn_all constraint_solved (turn_all constraint_warmed (clamp_all clamped r)))))) (pull_act v)
-    (then_act (clamp_all clamped) (λ r. carry_all (clamp_all advanced (clamp_all clamped (turn_all constraint_solved (turn_all constraint_warmed r))))) (clamp_act clamped)
-    (then_act (turn_all constraint_warmed) (λ r. carry_all (clamp_all advanced (clamp_all clamped (turn_all constraint_solved r)))) (turn_act constraint_warmed all_warmed_fair)
-    (then_act (turn_all constraint_solved) (λ r. carry_all (clamp_all advanced (clamp_all clamped r))) (turn_act constraint_solved all_solved_fair)
-    (then_act (clamp_all clamped) (λ r. carry_all (clamp_all advanced r)) (clamp_act clamped)
+    then_act (pull_all v) (λ r. carry_all (clamp_all advanced (clamp_all speed_clamped (turn_all constraint_solved (turn_all constraint_warmed (clamp_all speed_clamped r)))))) (pull_act v)
+    (then_act (clamp_all speed_clamped) (λ r. carry_all (clamp_all advanced (clamp_all speed_clamped (turn_all constraint_solved (turn_all constraint_warmed r))))) (clamp_act speed_clamped)
+    (then_act (turn_all constraint_warmed) (λ r. carry_all (clamp_all advanced (clamp_all speed_clamped (turn_all constraint_solved r)))) (turn_act constraint_warmed all_warmed_fair)
+    (then_act (turn_all constraint_solved) (λ r. carry_all (clamp_all advanced (clamp_all speed_clamped r))) (turn_act constraint_solved all_solved_fair)
+    (then_act (clamp_all speed_clamped) (λ r. carry_all (clamp_all advanced r)) (clamp_act speed_clamped)
     (then_act (clamp_all advanced) carry_all (clamp_act advanced) carry_act)))))
 
 no_act : IsAct (λ r. r)

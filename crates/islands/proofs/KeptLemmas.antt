@@ -5,7 +5,7 @@ use Rattle.islands.specs.declared.label.IslandState.{IslandState}
 use Rattle.islands.specs.declared.label.IslandState.TheVariants.{Loose}
 use Rattle.islands.specs.declared.label.Label.{Label}
 use Rattle.islands.specs.Links.{Linked, Joined, IsPairOf}
-use Rattle.islands.specs.Labels.{Labels, label_at, IsIn, relabelled, added, merged, loosened, loosened_by, taken_out, with_state, lowest, union_label, left_behind, without, is_loose}
+use Rattle.islands.specs.Labels.{Labels, label_at, IsIn, relabelled, added, merged, loosened, loosened_by, taken_out, with_state, lowest_member, union_label, left_behind, left_alone, is_loose}
 use Rattle.islands.specs.Partition.{AreTogether, AreIslands}
 use Rattle.islands.specs.Laws.{AddingKeeps, MergingKeeps, LooseningKeeps, TakingOutKeeps, StateChangeKeeps}
 use Rattle.islands.proofs.JoinLemmas.{linked_back, joined_both, joined_one, joined_more, joined_within}
@@ -194,12 +194,12 @@ connected_rest R S labels slot l w d e s t m h k apart n =
     s t p.1 (w.connected s t m p.1 q.1 n)
 
 taking_out_at : (R S : ℕ → ℕ → Type 0) (labels : Labels) (slot : ℕ) (l : Label) → label_at labels slot ≡ Some l → AreIslands R labels → Drops R S labels slot → ((s t : ℕ) → S s t → ((s ≡ slot) ⊎ (t ≡ slot)) → ⊥)
-    → AreIslands S (left_behind (lowest l.name (rest_of labels slot)) l.name (rest_of labels slot))
+    → AreIslands S (left_behind (lowest_member l.name (rest_of labels slot)) l.name (rest_of labels slot))
 taking_out_at R S labels slot l e w d none =
     let rest : Labels = rest_of labels slot in
-    let to : Label = record { name = lowest l.name rest; state = Loose } in
-    elim (cases_lt (lowest l.name rest) (length rest)) [
-      | inl found ↦ rw (lt-ltb (lowest l.name rest) (length rest) found) (record {
+    let to : Label = record { name = lowest_member l.name rest; state = Loose } in
+    elim (cases_lt (lowest_member l.name rest) (length rest)) [
+      | inl found ↦ rw (lt-ltb (lowest_member l.name rest) (length rest) found) (record {
         partition = left_partition labels slot l w.partition e found;
         together = λ s t h. relabelled_together l.name l.name to rest s t (together_rest R S labels slot s t w d none h);
         connected = λ s t m h k n.
@@ -212,14 +212,14 @@ taking_out_at R S labels slot l e w d none =
               ]
             ];
       })
-      | inr gone ↦ rw (le-ltb (lowest l.name rest) (length rest) gone) (record {
+      | inr gone ↦ rw (le-ltb (lowest_member l.name rest) (length rest) gone) (record {
         partition = gone_partition labels slot l w.partition e gone;
         together = λ s t h. together_rest R S labels slot s t w d none h;
         connected = λ s t m h k n. connected_rest R S labels slot l w d e s t m h k (none_left labels slot l gone s m h) n;
       })
     ]
 
-taking_out_by : (R S : ℕ → ℕ → Type 0) (labels : Labels) (slot : ℕ) (o : Option Label) → label_at labels slot ≡ o → AreIslands R labels → Drops R S labels slot → ((s t : ℕ) → S s t → ((s ≡ slot) ⊎ (t ≡ slot)) → ⊥) → AreIslands S (without o slot labels)
+taking_out_by : (R S : ℕ → ℕ → Type 0) (labels : Labels) (slot : ℕ) (o : Option Label) → label_at labels slot ≡ o → AreIslands R labels → Drops R S labels slot → ((s t : ℕ) → S s t → ((s ≡ slot) ⊎ (t ≡ slot)) → ⊥) → AreIslands S (left_alone o slot labels)
 taking_out_by R S labels slot None e w d none = nothing_lost R S labels slot w d e
 taking_out_by R S labels slot (Some l) e w d none = taking_out_at R S labels slot l e w d none
 

@@ -7,7 +7,7 @@ use Rattle.std.proofs.lemmas.List.Sums.{passes_at_first, fails_before_first}
 use Rattle.islands.specs.declared.label.IslandState.{IslandState}
 use Rattle.islands.specs.declared.label.IslandState.TheVariants.{Whole, Loose, Asleep}
 use Rattle.islands.specs.declared.label.Label.{Label}
-use Rattle.islands.specs.Labels.{Labels, label_at, is_in, IsIn, relabel, relabelled, own_label, padded, added, lowest, union_label, is_loose}
+use Rattle.islands.specs.Labels.{Labels, label_at, is_in, IsIn, relabel, relabelled, own_label, padded, added, lowest_member, union_label, is_loose}
 use Rattle.islands.specs.Partition.{IsPartition, AreTogether}
 
 pub past : (labels : Labels) (s : ℕ) → length labels ≤ s → label_at labels s ≡ None
@@ -234,13 +234,13 @@ rest_others labels slot l p e s m h apart =
     let off : m.name ≢ slot = λ k. let here : label_at labels slot ≡ Some m = ap (λ n. label_at labels n) (sym k) ∙ home in apart (ap (λ (x : Label). x.name) (one_label labels slot m l here e)) in
     (p.low s m was.1, rest_stays labels slot m.name off ∙ home)
 
-none_here : (name : ℕ) (labels : Labels) (s : ℕ) (d : Option Label) → s < lowest name labels → is_in (get_or labels s d) name ≡ false
+none_here : (name : ℕ) (labels : Labels) (s : ℕ) (d : Option Label) → s < lowest_member name labels → is_in (get_or labels s d) name ≡ false
 none_here name labels s d h = fails_before_first (λ o. is_in o name) labels s d h
 
-pub left_partition : (labels : Labels) (slot : ℕ) (l : Label) → IsPartition labels → label_at labels slot ≡ Some l → lowest l.name (rest_of labels slot) < length (rest_of labels slot) → IsPartition (relabelled l.name l.name (record { name = lowest l.name (rest_of labels slot); state = Loose }) (rest_of labels slot))
+pub left_partition : (labels : Labels) (slot : ℕ) (l : Label) → IsPartition labels → label_at labels slot ≡ Some l → lowest_member l.name (rest_of labels slot) < length (rest_of labels slot) → IsPartition (relabelled l.name l.name (record { name = lowest_member l.name (rest_of labels slot); state = Loose }) (rest_of labels slot))
 left_partition labels slot l p e found =
     let rest : Labels = rest_of labels slot in
-    let low : ℕ = lowest l.name rest in
+    let low : ℕ = lowest_member l.name rest in
     let at : is_in (label_at rest low) l.name ≡ true = passes_at_first (λ o. is_in o l.name) rest None found in
     relabelled_partition l.name l.name (record { name = low; state = Loose }) rest
     (λ s m k h. rest_others labels slot l p e s m k (missed l.name l.name (label_at rest s) m h k).0)
@@ -251,12 +251,12 @@ left_partition labels slot l p e found =
     (one_either l.name (label_at rest low) at)
 
 -- nobody is left behind
-pub none_left : (labels : Labels) (slot : ℕ) (l : Label) → length (rest_of labels slot) ≤ lowest l.name (rest_of labels slot) → (s : ℕ) (m : Label) → label_at (rest_of labels slot) s ≡ Some m → m.name ≡ l.name → ⊥
+pub none_left : (labels : Labels) (slot : ℕ) (l : Label) → length (rest_of labels slot) ≤ lowest_member l.name (rest_of labels slot) → (s : ℕ) (m : Label) → label_at (rest_of labels slot) s ≡ Some m → m.name ≡ l.name → ⊥
 none_left labels slot l none s m h k =
     let short : s < length (rest_of labels slot) = some_short (rest_of labels slot) s m h in
     false≢true (sym (none_here l.name (rest_of labels slot) s None (omega (arith, short, none))) ∙ in_of (label_at (rest_of labels slot) s) m l.name h k)
 
-pub gone_partition : (labels : Labels) (slot : ℕ) (l : Label) → IsPartition labels → label_at labels slot ≡ Some l → length (rest_of labels slot) ≤ lowest l.name (rest_of labels slot) → IsPartition (rest_of labels slot)
+pub gone_partition : (labels : Labels) (slot : ℕ) (l : Label) → IsPartition labels → label_at labels slot ≡ Some l → length (rest_of labels slot) ≤ lowest_member l.name (rest_of labels slot) → IsPartition (rest_of labels slot)
 gone_partition labels slot l p e none = record {
   low = λ s m k. (rest_others labels slot l p e s m k (none_left labels slot l none s m k)).0;
   named = λ s m k. (rest_others labels slot l p e s m k (none_left labels slot l none s m k)).1;

@@ -8,7 +8,7 @@ use Rattle.islands.specs.declared.parts.Note.{Note}
 use Rattle.islands.specs.declared.parts.Head.{Head}
 use Rattle.islands.specs.declared.label.Label.{Label}
 use Rattle.islands.specs.declared.label.IslandState.TheVariants.{Loose}
-use Rattle.islands.specs.Labels.{Labels, label_at, is_in, relabel, relabelled, lowest, left_behind, without, taken_out}
+use Rattle.islands.specs.Labels.{Labels, label_at, is_in, relabel, relabelled, lowest_member, left_behind, left_alone, taken_out}
 use Rattle.islands.specs.Standing.{AreExchanged, AreInverse, Places, node_at, slot_at}
 use Rattle.islands.specs.Packed.{Notes, note_at, Heads, head_at, in_part, InPart, part_in, name_of, label_in, labels_of, by_slot, labels_by, AreNamed, IsLowestIn, IsPart, IsPacked, IsPlaced, IsDropped, dropped_head, labelled_head, HasNoneBelow, IsLeftBy}
 use Rattle.islands.proofs.LabelLemmas.{relabel_at}
@@ -76,15 +76,15 @@ rest_test old heads k slot new s p there g = elim (cases_eq s slot) [
 rest_in : (old : Notes) (heads : Heads) (k slot : ℕ) (new : Notes) (s : ℕ) → AreNamed old heads → InPart old k slot → IsGone old slot new → is_in (label_at (labels_of new heads) s) (name_of heads k) ≡ in_part k (note_at new s)
 rest_in old heads k slot new s p there g = ap (λ l. is_in l (name_of heads k)) (labels_at heads new s) ∙ rest_test old heads k slot new s p there g
 
-without_is : (old : Notes) (heads : Heads) (k slot : ℕ) (new : Notes) → InPart old k slot → IsGone old slot new → taken_out (labels_of old heads) slot ≡ left_behind (lowest (name_of heads k) (labels_of new heads)) (name_of heads k) (labels_of new heads)
+without_is : (old : Notes) (heads : Heads) (k slot : ℕ) (new : Notes) → InPart old k slot → IsGone old slot new → taken_out (labels_of old heads) slot ≡ left_behind (lowest_member (name_of heads k) (labels_of new heads)) (name_of heads k) (labels_of new heads)
 unfolding taken_out
 without_is old heads k slot new there g =
-    ap (λ o. without o slot (labels_of old heads)) (label_here old heads k slot there)
-    ∙ ap (λ (ls : Labels). left_behind (lowest (name_of heads k) ls) (name_of heads k) ls) (rest_labels old heads k slot new there g)
+    ap (λ o. left_alone o slot (labels_of old heads)) (label_here old heads k slot there)
+    ∙ ap (λ (ls : Labels). left_behind (lowest_member (name_of heads k) ls) (name_of heads k) ls) (rest_labels old heads k slot new there g)
 
 -- ---- some are left behind
 
-lowest_left : (old : Notes) (heads : Heads) (k slot : ℕ) (new : Notes) (low : ℕ) → AreNamed old heads → InPart old k slot → IsGone old slot new → IsLowestIn new k low → lowest (name_of heads k) (labels_of new heads) ≡ low
+lowest_left : (old : Notes) (heads : Heads) (k slot : ℕ) (new : Notes) (low : ℕ) → AreNamed old heads → InPart old k slot → IsGone old slot new → IsLowestIn new k low → lowest_member (name_of heads k) (labels_of new heads) ≡ low
 lowest_left old heads k slot new low p there g is =
     let z = length-map new (label_in heads) in
     let lt = short new k low is.0 in
@@ -156,7 +156,7 @@ gone_labels old heads k slot new also p there g none r =
     let name : ℕ = name_of heads k in
     let rest : Labels = labels_of new heads in
     let off : (s : ℕ) → in_part k (note_at new s) ≡ false = λ s. elim (part_case k (note_at new s)) [ inl on ↦ absurd (none s on) | inr away ↦ away ] in
-    let nowhere : lowest name rest ≡ length rest = position_or_len_is (λ o. is_in o name) rest (length rest) None (omega arith) (λ s below. rest_in old heads k slot new s p there g ∙ off s) (λ q. absurd (omega (arith, q))) in
+    let nowhere : lowest_member name rest ≡ length rest = position_or_len_is (λ o. is_in o name) rest (length rest) None (omega arith) (λ s below. rest_in old heads k slot new s p there g ∙ off s) (λ q. absurd (omega (arith, q))) in
     same_labels (labels_of new also) rest (length-map new (label_in also) ∙ sym (length-map new (label_in heads)))
     (λ s. labels_at also new s ∙ off_label heads also k (head_at heads k).label (note_at new s) r (off s) ∙ sym (labels_at heads new s))
     ∙ sym (without_is old heads k slot new there g ∙ ap (λ n. left_behind n name rest) nowhere ∙ rw (le-ltb (length rest) (length rest) (omega arith)) refl)

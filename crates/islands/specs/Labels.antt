@@ -88,18 +88,18 @@ loosened labels slot = loosened_by (label_at labels slot) labels
 -- ---- a mover goes: those that it leaves behind are loose, under their lowest slot
 
 -- the lowest slot of an island, or the number of slots where it has no mover
-abbrev pub lowest : ℕ → Labels → ℕ
-lowest name labels = position_or_len (λ o. is_in o name) labels
+abbrev pub lowest_member : ℕ → Labels → ℕ
+lowest_member name labels = position_or_len (λ o. is_in o name) labels
 
 abbrev pub left_behind : ℕ → ℕ → Labels → Labels
 left_behind low name labels = cond (nat_lt low (length labels)) (relabelled name name (record { name = low; state = Loose }) labels) labels
 
-abbrev pub without : Option Label → ℕ → Labels → Labels
-without None slot labels = labels
-without (Some l) slot labels = left_behind (lowest l.name (slice_set labels slot None)) l.name (slice_set labels slot None)
+abbrev pub left_alone : Option Label → ℕ → Labels → Labels
+left_alone None slot labels = labels
+left_alone (Some l) slot labels = left_behind (lowest_member l.name (slice_set labels slot None)) l.name (slice_set labels slot None)
 
 unfoldable pub taken_out : Labels → ℕ → Labels
-taken_out labels slot = without (label_at labels slot) slot labels
+taken_out labels slot = left_alone (label_at labels slot) slot labels
 
 -- ---- an island falls asleep, or wakes
 

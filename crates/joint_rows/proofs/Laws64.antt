@@ -4,11 +4,11 @@ use Rattle.std.proofs.lemmas.Int.{ints}
 use Rattle.momenta.specs.declared.state.BodyState.{BodyState}
 use Rattle.momenta.specs.declared.line_64.MomentaPair64.{MomentaPair64}
 use Rattle.momenta.specs.declared.line_64.Exerted64.{Exerted64}
-use Rattle.momenta.specs.Impulses.{solved}
+use Rattle.momenta.specs.Impulses.{solved_impulse}
 use Rattle.momenta.specs.Line64.{IsImpulse, both_ends, ends_with}
 use Rattle.joint_rows.specs.declared.row.JointRow.{JointRow}
 use Rattle.joint_rows.specs.declared.solve.JointAfter.{JointAfter}
-use Rattle.joint_rows.specs.Joints.{bias_of}
+use Rattle.joint_rows.specs.Joints.{joint_bias}
 use Rattle.joint_rows.specs.Rows.{IsJointRow, joint_solved, stretch_now, with_exerted}
 use Rattle.joint_rows.specs.Row64.{IsJointAfter64, IsRowAfter64, with_impulse}
 
@@ -28,7 +28,7 @@ pub within_by : (x : ℤ) → neg_ℤ (pos (2 ^ 42)) ≤ℤ x → x ≤ℤ pos (
 within_by x low high = omega (arith, ints)
 
 pub solved_after : (r : JointRow) (a b : BodyState) (old : MomentaPair64) (n : Exerted64) → IsJointRow r
-    → solved r.line (bias_of (stretch_now r (ends_with a b old))) (neg_ℤ (pos (2 ^ 42))) (pos (2 ^ 42)) r.impulse (ends_with a b old) ≡ record { ends = ends_with a b n.now; total = n.total }
+    → solved_impulse r.line (joint_bias (stretch_now r (ends_with a b old))) (neg_ℤ (pos (2 ^ 42))) (pos (2 ^ 42)) r.impulse (ends_with a b old) ≡ record { ends = ends_with a b n.now; total = n.total }
     → IsImpulse a b old n.now → neg_ℤ (pos (2 ^ 42)) ≤ℤ n.total → n.total ≤ℤ pos (2 ^ 42) → IsJointAfter64 (joint_solved r (ends_with a b old)) r a b old n
 unfolding joint_solved
 solved_after r a b old n row value impulse low high = after_of (joint_solved r (ends_with a b old)) r a b old n row (ap (with_exerted r) value) impulse (within_by n.total low high)

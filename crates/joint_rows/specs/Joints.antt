@@ -10,7 +10,7 @@ use Rattle.momenta.specs.declared.state.BodyState.{BodyState}
 use Rattle.momenta.specs.declared.state.Ends.{Ends}
 use Rattle.momenta.specs.declared.line.Line.{Line}
 use Rattle.momenta.specs.declared.line.Exerted.{Exerted}
-use Rattle.momenta.specs.Impulses.{between, line_along, solved, travelled, warmed}
+use Rattle.momenta.specs.Impulses.{between, line_along, solved_impulse, travelled, warmed}
 use Rattle.joint_rows.specs.declared.limits.TheConstants.{MAX_ANCHOR, MAX_JOINT_BIAS, MAX_JOINT_IMPULSE, MAX_JOINT_LENGTH}
 use Rattle.joint_rows.specs.declared.joint.Joint.{Joint}
 
@@ -62,8 +62,8 @@ abbrev pub parted_along : Vec2 → Ends → ℤ
 parted_along n e = rdiv (dot (minus (travelled e.b) (travelled e.a)) n) unit_length
 
 -- the speed of parting that takes an error away: an eighth of it in a tick, and at most the greatest bias either way
-unfoldable pub bias_of : ℤ → ℤ
-bias_of stretch = between (neg_ℤ MAX_JOINT_BIAS) MAX_JOINT_BIAS (neg_ℤ (rdiv stretch (pos 8)))
+unfoldable pub joint_bias : ℤ → ℤ
+joint_bias stretch = between (neg_ℤ MAX_JOINT_BIAS) MAX_JOINT_BIAS (neg_ℤ (rdiv stretch (pos 8)))
 
 -- a joint with its two bodies
 pub record SolvedJoint : Type 0 where
@@ -80,4 +80,4 @@ with_total j x = record { joint = record j { impulse = x.total }; ends = x.ends 
 -- one impulse towards the bias: pulling or pushing
 abbrev pub joint_solved : Ends → Joint → Ends → SolvedJoint
 joint_solved start j e =
-    with_total j (solved (joint_line j start) (bias_of (joint_stretch j start +ℤ parted_along (direction_along (joint_gap j start)) e)) (neg_ℤ MAX_JOINT_IMPULSE) MAX_JOINT_IMPULSE j.impulse e)
+    with_total j (solved_impulse (joint_line j start) (joint_bias (joint_stretch j start +ℤ parted_along (direction_along (joint_gap j start)) e)) (neg_ℤ MAX_JOINT_IMPULSE) MAX_JOINT_IMPULSE j.impulse e)

@@ -9,7 +9,7 @@ use Rattle.momenta.specs.Line64.{FitsIn64, HasRoom64, both_ends, ends_with}
 use Rattle.joint_rows.specs.declared.limits.TheConstants.{MAX_JOINT_IMPULSE}
 use Rattle.joint_rows.specs.declared.row.JointRow.{JointRow}
 use Rattle.joint_rows.specs.declared.solve.JointAfter.{JointAfter}
-use Rattle.joint_rows.specs.Joints.{bias_of}
+use Rattle.joint_rows.specs.Joints.{joint_bias}
 use Rattle.joint_rows.specs.Rows.{IsJointRow, stretch_now}
 
 -- the row with this accumulated impulse
@@ -36,7 +36,7 @@ pub record IsRowAfter64 (t : JointAfter) (r : JointRow) (a b : BodyState) (n : E
 
 -- the impulse of a pass
 abbrev pub HasLineRoom64 : JointRow → Ends → Type 0
-HasLineRoom64 r e = HasRoom64 r.line (bias_of (stretch_now r e)) (neg_ℤ MAX_JOINT_IMPULSE) MAX_JOINT_IMPULSE r.impulse e
+HasLineRoom64 r e = HasRoom64 r.line (joint_bias (stretch_now r e)) (neg_ℤ MAX_JOINT_IMPULSE) MAX_JOINT_IMPULSE r.impulse e
 
 -- a solver pass
 pub record HasSolveRoom64 (r : JointRow) (a b : BodyState) : Type 0 where

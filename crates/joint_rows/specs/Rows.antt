@@ -2,13 +2,13 @@
 use Rattle.std.specs.Prelude.{◌≤◌, ℤ, neg_ℤ, ◌+ℤ◌, unsigned_abs}
 use Rattle.momenta.specs.declared.state.Ends.{Ends}
 use Rattle.momenta.specs.declared.line.Exerted.{Exerted}
-use Rattle.momenta.specs.Impulses.{IsLine, solved, warmed}
+use Rattle.momenta.specs.Impulses.{IsLine, solved_impulse, warmed}
 use Rattle.joint_rows.specs.declared.limits.TheConstants.{MAX_JOINT_IMPULSE, MAX_STRETCH}
 use Rattle.joint_rows.specs.declared.joint.Joint.{Joint}
 use Rattle.joint_rows.specs.declared.row.JointBodies.{JointBodies}
 use Rattle.joint_rows.specs.declared.row.JointRow.{JointRow}
 use Rattle.joint_rows.specs.declared.solve.JointAfter.{JointAfter}
-use Rattle.joint_rows.specs.Joints.{bias_of, joint_line, joint_stretch, parted_along}
+use Rattle.joint_rows.specs.Joints.{joint_bias, joint_line, joint_stretch, parted_along}
 
 -- the row of a joint whose bodies stand as they do when the step begins
 unfoldable pub joint_row : JointBodies → Ends → Joint → JointRow
@@ -27,7 +27,7 @@ with_exerted r x = record { row = record r { impulse = x.total }; ends = x.ends 
 
 -- one impulse towards the bias: pulling or pushing
 unfoldable pub joint_solved : JointRow → Ends → JointAfter
-joint_solved r e = with_exerted r (solved r.line (bias_of (stretch_now r e)) (neg_ℤ MAX_JOINT_IMPULSE) MAX_JOINT_IMPULSE r.impulse e)
+joint_solved r e = with_exerted r (solved_impulse r.line (joint_bias (stretch_now r e)) (neg_ℤ MAX_JOINT_IMPULSE) MAX_JOINT_IMPULSE r.impulse e)
 
 -- what must hold of a row
 pub record IsJointRow (r : JointRow) : Type 0 where

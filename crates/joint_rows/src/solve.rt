@@ -5,7 +5,7 @@ ghost use Rattle.fixed_geom.specs.Numbers.{rdiv};
 ghost use Rattle.fixed_geom.specs.Vectors.{IsWithin, dot, minus, unit_length};
 ghost use Rattle.momenta.specs.declared.state.Ends.{Ends};
 ghost use Rattle.momenta.specs.Impulses.{AreStates, AreSameBodies, IsMomentumKept, IsState, between, parting, travelled};
-ghost use Rattle.joint_rows.specs.Joints.{bias_of};
+ghost use Rattle.joint_rows.specs.Joints.{joint_bias};
 ghost use Rattle.joint_rows.specs.Rows.{IsJointRow, joint_solved, joint_warmed, stretch_now};
 
 use crate::{JointRow, MAX_JOINT_BIAS, MAX_JOINT_IMPULSE};
@@ -45,11 +45,11 @@ fn opposite_eighth(stretch: i64) -> i64
 
 /// The speed of parting that takes the error of a joint away, in u/tick: an eighth of it in a tick, and at most
 /// `MAX_JOINT_BIAS` either way (as Box2D's bias velocity).
-#[tactic(auto, unfolding(crate::specs::Joints::bias_of))]
+#[tactic(auto, unfolding(crate::specs::Joints::joint_bias))]
 #[inline(always)]
 pub(crate) fn bias_of(stretch: i64) -> i64
     requires { unsigned_abs stretch ≤ 2 ^ 40 }
-    ensures value { result ≡ bias_of stretch }
+    ensures value { result ≡ joint_bias stretch }
     ensures within { unsigned_abs result ≤ unsigned_abs MAX_JOINT_BIAS }
 {
     let bias = opposite_eighth(stretch);

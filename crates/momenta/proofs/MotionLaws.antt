@@ -7,7 +7,7 @@ use Rattle.fixed_geom.specs.Vectors.{IsWithin}
 use Rattle.fixed_geom.specs.declared.vectors.Vec2.{Vec2}
 use Rattle.momenta.specs.declared.mass.MassData.{MassData}
 use Rattle.momenta.specs.declared.motion.Motion.{Motion}
-use Rattle.momenta.specs.Motions.{advanced, clamped, clamped_component, pulled, signed_as, velocity}
+use Rattle.momenta.specs.Motions.{advanced, speed_clamped, clamped_component, pulled, signed_as, velocity}
 use Rattle.momenta.proofs.Rounding.{rdiv_at}
 
 -- ---- the speed limit
@@ -27,17 +27,17 @@ part_slow mass p h =
     ]
 
 -- the velocity that the limit leaves is within it
-pub clamped_is_slow : (m : MassData) (s : Motion) → pos 1 ≤ℤ m.mass → IsWithin (2 ^ 20) (velocity m.mass (clamped m s).p)
-unfolding clamped velocity
+pub clamped_is_slow : (m : MassData) (s : Motion) → pos 1 ≤ℤ m.mass → IsWithin (2 ^ 20) (velocity m.mass (speed_clamped m s).p)
+unfolding speed_clamped velocity
 clamped_is_slow m s h = record { x = part_slow m.mass s.p.x h; y = part_slow m.mass s.p.y h }
 
 -- a velocity within the limit is left as it is
-pub clamped_slow : (m : MassData) (s : Motion) → IsWithin (2 ^ 20) (velocity m.mass s.p) → clamped m s ≡ s
-unfolding clamped velocity
+pub clamped_slow : (m : MassData) (s : Motion) → IsWithin (2 ^ 20) (velocity m.mass s.p) → speed_clamped m s ≡ s
+unfolding speed_clamped velocity
 clamped_slow m s h = rw (le-leb (unsigned_abs (rdiv s.p.x m.mass)) (2 ^ 20) h.x, le-leb (unsigned_abs (rdiv s.p.y m.mass)) (2 ^ 20) h.y) refl
 
-pub clamped_twice : (m : MassData) (s : Motion) → pos 1 ≤ℤ m.mass → clamped m (clamped m s) ≡ clamped m s
-clamped_twice m s h = clamped_slow m (clamped m s) (clamped_is_slow m s h)
+pub clamped_twice : (m : MassData) (s : Motion) → pos 1 ≤ℤ m.mass → speed_clamped m (speed_clamped m s) ≡ speed_clamped m s
+clamped_twice m s h = clamped_slow m (speed_clamped m s) (clamped_is_slow m s h)
 
 -- ---- what is kept: gravity and the limit change the momentum alone, the move leaves the angular momentum
 
@@ -45,8 +45,8 @@ pub pulled_keeps : (g : Vec2) (m : MassData) (s : Motion) → pulled g m s ≡ r
 unfolding pulled
 pulled_keeps g m s = refl
 
-pub clamped_keeps : (m : MassData) (s : Motion) → clamped m s ≡ record s { p = (clamped m s).p }
-unfolding clamped
+pub clamped_keeps : (m : MassData) (s : Motion) → speed_clamped m s ≡ record s { p = (speed_clamped m s).p }
+unfolding speed_clamped
 clamped_keeps m s = refl
 
 pub advanced_keeps : (m : MassData) (s : Motion) → (advanced m s).l ≡ s.l

@@ -135,8 +135,8 @@ unfoldable pub exerted : Line → ℤ → ℤ → Ends → Exerted
 exerted line old new e = or_dropped old e new (impulse_pair (along line.direction (new -ℤ old)) line.ra line.rb e)
 
 -- one impulse of the solver: towards the bias, its total kept within its range
-unfoldable pub solved : Line → ℤ → ℤ → ℤ → ℤ → Ends → Exerted
-solved line bias low high total e = exerted line total (between low high (total +ℤ wanted (speed_along line e) bias line.inverse_mass)) e
+unfoldable pub solved_impulse : Line → ℤ → ℤ → ℤ → ℤ → Ends → Exerted
+solved_impulse line bias low high total e = exerted line total (between low high (total +ℤ wanted (speed_along line e) bias line.inverse_mass)) e
 
 abbrev pub or_kept : Ends → Option Ends → Ends
 or_kept e (Some after) = after

@@ -65,8 +65,8 @@ pulled g m s = record s { p = record { x = s.p.x +ℤ m.mass *ℤ g.x; y = s.p.y
 abbrev pub clamped_component : ℤ → ℤ → ℤ
 clamped_component mass p = cond (nat_le (unsigned_abs (rdiv p mass)) (unsigned_abs MAX_SPEED)) p (mass *ℤ signed_as p (unsigned_abs MAX_SPEED))
 
-unfoldable pub clamped : MassData → Motion → Motion
-clamped m s = record s { p = record { x = clamped_component m.mass s.p.x; y = clamped_component m.mass s.p.y } }
+unfoldable pub speed_clamped : MassData → Motion → Motion
+speed_clamped m s = record s { p = record { x = clamped_component m.mass s.p.x; y = clamped_component m.mass s.p.y } }
 
 -- ---- the move
 

@@ -5,7 +5,7 @@ ghost use Rattle.std.specs.Prelude.{◌≡◌, ℕ, ◌^◌, ◌<◌, ◌≤◌,
 ghost use Rattle.fixed_geom.specs.Numbers.{rdiv};
 ghost use Rattle.fixed_geom.specs.Reciprocals.{share_reciprocal};
 ghost use Rattle.fixed_geom.specs.Vectors.{IsWithin, dot, unit_length};
-ghost use Rattle.momenta.specs.Impulses.{AreStates, AreSameBodies, IsMomentumKept, IsLine, parting, speed_along, wanted, between, along, exerted, solved, warmed};
+ghost use Rattle.momenta.specs.Impulses.{AreStates, AreSameBodies, IsMomentumKept, IsLine, parting, speed_along, wanted, between, along, exerted, solved_impulse, warmed};
 
 use crate::ranges::are_in;
 use crate::{Ends, Goal, MIN_INVERSE_MASS, impulse_pair};
@@ -358,7 +358,7 @@ fn next_total(speed: i64, inverse: i128, reciprocal: i64, goal: Goal) -> i64
 /// accumulated impulse after it: where that is as before, so are the bodies.
 ///
 /// `apart` is the velocity at which the line's point on the second body leaves that on the first, as `parting` has it.
-#[tactic(auto, unfolding(crate::specs::Impulses::solved, crate::specs::Impulses::speed_along))]
+#[tactic(auto, unfolding(crate::specs::Impulses::solved_impulse, crate::specs::Impulses::speed_along))]
 #[inline(always)]
 pub fn solve_line(line: &Line, apart: Vec2, goal: Goal, ends: &mut Ends) -> i64
     requires line { IsLine line.now }
@@ -370,7 +370,7 @@ pub fn solve_line(line: &Line, apart: Vec2, goal: Goal, ends: &mut Ends) -> i64
     requires low { unsigned_abs goal.low ≤ unsigned_abs MAX_LINE_IMPULSE }
     requires high { unsigned_abs goal.high ≤ unsigned_abs MAX_LINE_IMPULSE }
     requires total { unsigned_abs goal.total ≤ unsigned_abs MAX_LINE_IMPULSE }
-    ensures value { record { ends = ends.new; total = result } ≡ solved line.now goal.bias goal.low goal.high goal.total ends.old }
+    ensures value { record { ends = ends.new; total = result } ≡ solved_impulse line.now goal.bias goal.low goal.high goal.total ends.old }
     ensures states { AreStates ends.new }
     ensures small { unsigned_abs result ≤ unsigned_abs MAX_LINE_IMPULSE }
     ensures low { goal.low ≤ℤ goal.total → goal.low ≤ℤ result }

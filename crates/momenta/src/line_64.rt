@@ -5,7 +5,7 @@ ghost use Rattle.std.specs.Prelude.{◌≡◌, ℕ, ◌^◌, ◌<◌, ◌≤◌,
 ghost use Rattle.fixed_geom.specs.Reciprocals.{rdiv_reciprocal, share_reciprocal};
 ghost use Rattle.fixed_geom.specs.Vectors.{IsWithin};
 ghost use Rattle.momenta.specs.Motions.{spin, velocity};
-ghost use Rattle.momenta.specs.Impulses.{AreStates, IsLine, IsState, along, between, exerted, given, impulse_pair, parting, solved, turned_by, velocity_at, wanted, warmed};
+ghost use Rattle.momenta.specs.Impulses.{AreStates, IsLine, IsState, along, between, exerted, given, impulse_pair, parting, solved_impulse, turned_by, velocity_at, wanted, warmed};
 ghost use Rattle.momenta.specs.Line64.{LeaveRoom64, HasRoom64, IsImpulse, LeavesRoom64, FitsIn64, ends_with, with_momenta};
 
 use crate::line::{VELOCITY_LIMIT_64, along_64, has_room_64, next_total_64, part_along_64};
@@ -352,7 +352,7 @@ fn checked_total_64(speed: i64, inverse: i128, reciprocal: i64, goal: Goal) -> O
 
 /// One impulse of the solver, as `solve_line` gives it to the two bodies with the momenta `now`: `None` where something is too
 /// large for 64 bits.
-#[tactic(auto, unfolding(crate::specs::Impulses::solved, crate::specs::Impulses::speed_along))]
+#[tactic(auto, unfolding(crate::specs::Impulses::solved_impulse, crate::specs::Impulses::speed_along))]
 #[inline(always)]
 pub fn solve_line_64(
     line: &Line,
@@ -370,7 +370,7 @@ pub fn solve_line_64(
     requires low { unsigned_abs goal.low ≤ unsigned_abs MAX_LINE_IMPULSE }
     requires high { unsigned_abs goal.high ≤ unsigned_abs MAX_LINE_IMPULSE }
     requires total { unsigned_abs goal.total ≤ unsigned_abs MAX_LINE_IMPULSE }
-    ensures value { IfSome result (λ r. solved line.now goal.bias goal.low goal.high goal.total (ends_with a.now b.now now) ≡ record { ends = ends_with a.now b.now r.now; total = r.total }) }
+    ensures value { IfSome result (λ r. solved_impulse line.now goal.bias goal.low goal.high goal.total (ends_with a.now b.now now) ≡ record { ends = ends_with a.now b.now r.now; total = r.total }) }
     ensures impulse { IfSome result (λ r. IsImpulse a.now b.now now r.now) }
     ensures low { IfSome result (λ r. goal.low ≤ℤ r.total) }
     ensures high { IfSome result (λ r. r.total ≤ℤ goal.high) }

@@ -1,7 +1,7 @@
 ghost use Rattle.std.specs.Prelude.{◌≡◌, ℕ, ◌*◌, ◌^◌, ◌≤◌, pos, ◌≤ℤ◌, ◌*ℤ◌, unsigned_abs};
 ghost use Rattle.fixed_geom.specs.Numbers.{rdiv};
 ghost use Rattle.fixed_geom.specs.Vectors.{IsWithin, minus};
-ghost use Rattle.momenta.specs.Motions.{IsMass, IsMotion, IsPulled, clamped, clamped_component, signed_as, velocity};
+ghost use Rattle.momenta.specs.Motions.{IsMass, IsMotion, IsPulled, speed_clamped, clamped_component, signed_as, velocity};
 
 use crate::{MAX_MASS, MAX_SPEED, MassData, Motion};
 use fixed_geom::{Vec2, minus};
@@ -12,9 +12,9 @@ use fixed_geom::{Vec2, minus};
 pub fn clamp_speed(motion: Motion, mass: MassData) -> (Motion, Vec2)
     requires mass { IsMass mass }
     requires motion { IsPulled mass motion }
-    ensures value { result.0 ≡ clamped mass motion }
+    ensures value { result.0 ≡ speed_clamped mass motion }
     ensures change { result.1 ≡ minus result.0.p motion.p }
-    ensures settled { clamped mass result.0 ≡ result.0 }
+    ensures settled { speed_clamped mass result.0 ≡ result.0 }
     ensures kept { result.0 ≡ record motion { p = result.0.p } }
     ensures motion { IsMotion mass result.0 }
     ensures slow { IsWithin (unsigned_abs MAX_SPEED) (velocity mass.mass result.0.p) }

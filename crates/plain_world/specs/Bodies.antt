@@ -79,13 +79,13 @@ is_mass_allowed Dynamic m = is_between (pos 1) (pos (2 ^ 20)) m.mass && is_betwe
 abbrev pub numbers_refusal : BodyDef → Option Refusal
 numbers_refusal d = cond (is_mass_allowed d.kind d.mass) (cond (is_course_allowed d.kind) (cond (is_within (2 ^ 36) d.x) (cond (is_facing d.rot) None (Some OutOfRange)) (Some OutOfRange)) (Some OutOfRange)) (Some OutOfRange)
 
-abbrev pub first_of : Option Refusal → Option Refusal → Option Refusal
-first_of (Some e) later = Some e
-first_of None later = later
+abbrev pub first_refusal : Option Refusal → Option Refusal → Option Refusal
+first_refusal (Some e) later = Some e
+first_refusal None later = later
 
 -- why a body can't be made: first its shapes, of which segments are for static bodies alone, then its numbers
 unfoldable pub def_refusal : BodyDef → Option Refusal
-def_refusal d = first_of (shapes_refusal (is_static d.kind) d.shapes) (numbers_refusal d)
+def_refusal d = first_refusal (shapes_refusal (is_static d.kind) d.shapes) (numbers_refusal d)
 
 abbrev pub at_rest : Vec2 → Rot → Motion
 at_rest x rot = record { p = record { x = pos 0; y = pos 0 }; l = pos 0; x = x; rot = rot }

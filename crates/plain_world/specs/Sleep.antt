@@ -13,8 +13,8 @@ use Rattle.plain_world.specs.Bodies.{is_awake, is_mover}
 -- ---- what the islands tell
 
 -- a mover that is put to rest in the island of this name: it loses its momenta, and its timer stays
-abbrev pub put_to_rest : ℕ → Body → Body
-put_to_rest name b = record b { motion = record b.motion { p = zero_vector; l = pos 0 }; asleep = Some name }
+abbrev pub body_at_rest : ℕ → Body → Body
+body_at_rest name b = record b { motion = record b.motion { p = zero_vector; l = pos 0 }; asleep = Some name }
 
 -- a mover that is woken: its timer begins anew
 abbrev pub roused : Body → Body
@@ -23,7 +23,7 @@ roused b = record b { asleep = None; timer = 0 }
 -- a mover that sleeps with the island of this name, or is awake; one that is awake already stays as it is
 abbrev pub told_by : Option ℕ → Body → Body
 told_by None b = cond (is_some b.asleep) (roused b) b
-told_by (Some name) b = put_to_rest name b
+told_by (Some name) b = body_at_rest name b
 
 -- a body as its label tells: what isn't a mover stays as it is
 abbrev pub told_body : Option Label → Body → Body

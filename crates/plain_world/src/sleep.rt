@@ -4,7 +4,7 @@ ghost use Rattle.std.specs.Prelude.{◌≡◌, ◌+◌, ◌<◌, ◌≤◌, ◌^
 ghost use Rattle.std.specs.Option.{IfSome, ForSome};
 ghost use Rattle.momenta.specs.Motions.{IsMass, IsMotion};
 ghost use Rattle.plain_world.specs.Bodies.{IsBody, is_awake};
-ghost use Rattle.plain_world.specs.Sleep.{is_slow, put_to_rest, roused, timed, told_body, told_by};
+ghost use Rattle.plain_world.specs.Sleep.{is_slow, body_at_rest, roused, timed, told_body, told_by};
 
 use crate::body::Body;
 use fixed_geom::{Vec2, is_within};
@@ -31,7 +31,7 @@ fn is_slow(mass: MassData, motion: Motion) -> bool
 impl Body {
     /// Puts a mover to rest with the island of this name: it loses its momenta, and its timer stays.
     fn put_to_rest(&mut self, name: u32)
-        ensures { self.new ≡ put_to_rest name self.old }
+        ensures { self.new ≡ body_at_rest name self.old }
     {
         self.motion.p = Vec2 { x: 0, y: 0 };
         self.motion.l = 0;

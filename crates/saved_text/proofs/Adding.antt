@@ -7,7 +7,7 @@ use Rattle.json.specs.Written.{Writes, Written}
 use Rattle.serde_json.specs.Data.{Data}
 use Rattle.serde_json.specs.View.{items_of}
 use Rattle.serde_json.specs.Written.{items_outline, members_outline}
-use Rattle.world_file_base.specs.Written.{Member, list_of}
+use Rattle.world_file_base.specs.Written.{Member, list_data}
 use Rattle.saved_text.specs.Tokens.{Adds, AddsItems, AddsMembers, AddsValue, IsObject, ItemsLeft, MembersLeft, are_whole, each_tokens, have_whole, in_order, members_tokens, tokens_of}
 use Rattle.saved_text.specs.Whole.{are_items_whole, is_whole}
 
@@ -87,7 +87,7 @@ items_whole : (ds : List Data) → are_items_whole (items_of ds) ≡ are_whole d
 items_whole [] = refl
 items_whole (d ∷ ds) = ap (λ t. is_whole d && t) (items_whole ds)
 
-pub list_added : (rest all : List Data) (a b c : Written) → rest ≡ [] → ItemsLeft rest all a b → Adds (end_array ∷ []) b c → AddsValue (list_of all) a c
+pub list_added : (rest all : List Data) (a b c : Written) → rest ≡ [] → ItemsLeft rest all a b → Adds (end_array ∷ []) b c → AddsValue (list_data all) a c
 list_added rest all a b c none left ended = record {
   tokens_are =
       after (begin_array ∷ each_tokens all) (end_array ∷ []) a.tokens b.tokens c.tokens (sym (append-nil b.tokens) ∙ ap (λ ds. b.tokens ++ each_tokens ds) (sym none) ∙ left.tokens_are) ended.tokens_are
@@ -146,7 +146,7 @@ one_item d old new value = record {
 pub no_item : (old : Written) → AddsItems [] old old
 no_item old = record { tokens_are = sym (append-nil old.tokens); whole = refl; before = refl }
 
-pub points_added : (ds es : List Data) (a b c d e : Written) → Adds (begin_array ∷ []) a b → AddsItems ds b c → AddsItems es c d → Adds (end_array ∷ []) d e → AddsValue (list_of (ds ++ es)) a e
+pub points_added : (ds es : List Data) (a b c d e : Written) → Adds (begin_array ∷ []) a b → AddsItems ds b c → AddsItems es c d → Adds (end_array ∷ []) d e → AddsValue (list_data (ds ++ es)) a e
 points_added ds es a b c d e begun first second ended =
     let all = ds ++ es in
     let one = items_gone ds es all a b c (list_begun all a b begun) first in

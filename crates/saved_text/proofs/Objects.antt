@@ -14,13 +14,13 @@ use Rattle.plain_world.specs.declared.body.Body.{Body}
 use Rattle.plain_world.specs.declared.joint.BodyJoint.{BodyJoint}
 use Rattle.plain_world.specs.declared.kind.Kind.{Kind}
 use Rattle.plain_world.specs.declared.kind.Kind.TheVariants.{Static, Kinematic, Dynamic}
-use Rattle.world_file_base.specs.SavedBodies.{body_of, put_numbers}
-use Rattle.world_file_base.specs.SavedContacts.{contact_of, contacts_of, point_of, points_of, shape_id_of}
-use Rattle.world_file_base.specs.SavedJoints.{id_at, joint_of}
+use Rattle.world_file_base.specs.SavedBodies.{body_data, put_numbers}
+use Rattle.world_file_base.specs.SavedContacts.{contact_data, contacts_data, point_data, points_of, shape_id_of}
+use Rattle.world_file_base.specs.SavedJoints.{id_at, joint_data}
 use Rattle.world_file_base.specs.SavedShapes.{shape_of, shapes_of}
-use Rattle.world_file_base.specs.SavedSlots.{bodies_of, body_slot_of, joint_slot_of, joints_of, slot_of}
-use Rattle.world_file_base.specs.SavedTotals.{total_of, totals_of}
-use Rattle.world_file_base.specs.Written.{corners_of, ends_of, integer, list_of, natural, natural_or_null, vector_of}
+use Rattle.world_file_base.specs.SavedSlots.{bodies_data, body_slot_of, joint_slot_of, joints_data, slot_of}
+use Rattle.world_file_base.specs.SavedTotals.{total_data, totals_data}
+use Rattle.world_file_base.specs.Written.{corners_of, ends_of, integer, list_data, natural, natural_or_null, vector_of}
 use Rattle.shapes.specs.declared.shape.Shape.TheVariants.{Circle, Capsule, Segment}
 use Rattle.shapes.specs.declared.shape.ShapeDef.{ShapeDef}
 use Rattle.world_file.specs.Files.{contact_colours, joint_colours, value_of, written_version}
@@ -70,8 +70,8 @@ segment_object def fat first second is = record { is = rw is refl; ascends = ref
 
 -- ---- bodies
 
-body_by : (b : Body) (label : Option Label) (kind : Kind) → b.kind ≡ kind → IsObject (first_of_body b (told_by label) ++ ((codes "shapes", list_of (shapes_of b.shapes b.fats)) ∷ []) ++ last_of_body kind b.timer) (body_of b label)
-unfolding body_of put_numbers
+body_by : (b : Body) (label : Option Label) (kind : Kind) → b.kind ≡ kind → IsObject (first_of_body b (told_by label) ++ ((codes "shapes", list_data (shapes_of b.shapes b.fats)) ∷ []) ++ last_of_body kind b.timer) (body_data b label)
+unfolding body_data put_numbers
 body_by b None Static is = record { is = rw is refl; ascends = refl }
 body_by b None (Kinematic course) is = record { is = rw is refl; ascends = refl }
 body_by b None Dynamic is = record { is = rw is refl; ascends = refl }
@@ -79,13 +79,13 @@ body_by b (Some l) Static is = record { is = rw is refl; ascends = refl }
 body_by b (Some l) (Kinematic course) is = record { is = rw is refl; ascends = refl }
 body_by b (Some l) Dynamic is = record { is = rw is refl; ascends = refl }
 
-pub body_object : (b : Body) (label : Option Label) (told : Told) → told ≡ told_by label → IsObject (first_of_body b told ++ ((codes "shapes", list_of (shapes_of b.shapes b.fats)) ∷ []) ++ last_of_body b.kind b.timer) (body_of b label)
+pub body_object : (b : Body) (label : Option Label) (told : Told) → told ≡ told_by label → IsObject (first_of_body b told ++ ((codes "shapes", list_data (shapes_of b.shapes b.fats)) ∷ []) ++ last_of_body b.kind b.timer) (body_data b label)
 body_object b label told is = rw is (body_by b label b.kind refl)
 
 pub free_object : (place : Place) → IsObject ((codes "generation", natural place.generation) ∷ []) (slot_of place [] None)
 free_object place = record { is = refl; ascends = refl }
 
-pub body_slot_object : (place : Place) (b : Body) (label : Option Label) → IsObject ((codes "body", body_of b label) ∷ (codes "generation", natural place.generation) ∷ []) (body_slot_of place (Some b) label)
+pub body_slot_object : (place : Place) (b : Body) (label : Option Label) → IsObject ((codes "body", body_data b label) ∷ (codes "generation", natural place.generation) ∷ []) (body_slot_of place (Some b) label)
 body_slot_object place b label = record { is = refl; ascends = refl }
 
 -- ---- contacts
@@ -98,8 +98,8 @@ pub point_object : (p : ContactPoint) → IsObject (
     ∷ (codes "rb", vector_of p.rb)
     ∷ (codes "sep", integer p.separation)
     ∷ (codes "slip", integer p.tangent_impulse)
-    ∷ []) (point_of p)
-unfolding point_of
+    ∷ []) (point_data p)
+unfolding point_data
 point_object p = record { is = refl; ascends = refl }
 
 pub contact_object : (e : ContactEntry) (colour : Option ℕ) (touching : Bool) → touching ≡ touches e.contact → IsObject (
@@ -108,8 +108,8 @@ pub contact_object : (e : ContactEntry) (colour : Option ℕ) (touching : Bool) 
     ∷ (codes "colour", natural_or_null colour)
     ∷ (codes "points", points_of e.contact)
     ∷ (codes "touching", boolean touching)
-    ∷ []) (contact_of e colour)
-unfolding contact_of
+    ∷ []) (contact_data e colour)
+unfolding contact_data
 contact_object e colour touching is = rw is (record { is = refl; ascends = refl })
 
 -- ---- joints
@@ -123,32 +123,32 @@ pub joint_object : (places : List Place) (j : BodyJoint) (colour : Option ℕ) (
     ∷ (codes "impulse", integer j.joint.impulse)
     ∷ (codes "length", integer j.joint.length)
     ∷ (codes "to", vector_of j.joint.to)
-    ∷ []) (joint_of places j colour)
-unfolding joint_of
+    ∷ []) (joint_data places j colour)
+unfolding joint_data
 joint_object places j colour a b first second = record { is = rw (first, second) refl; ascends = refl }
 
-pub joint_slot_object : (places : List Place) (place : Place) (j : BodyJoint) (colour : Option ℕ) → IsObject ((codes "generation", natural place.generation) ∷ (codes "joint", joint_of places j colour) ∷ []) (joint_slot_of places place (Some j) colour)
+pub joint_slot_object : (places : List Place) (place : Place) (j : BodyJoint) (colour : Option ℕ) → IsObject ((codes "generation", natural place.generation) ∷ (codes "joint", joint_data places j colour) ∷ []) (joint_slot_of places place (Some j) colour)
 joint_slot_object places place j colour = record { is = refl; ascends = refl }
 
 -- ---- the world
 
 pub totals_object : (t : Totals) → IsObject (
-    (codes "clamp", total_of t.clamp)
-    ∷ (codes "command", total_of t.command)
-    ∷ (codes "departed", total_of t.departed)
-    ∷ (codes "gravity", total_of t.gravity)
-    ∷ (codes "immovable", total_of t.immovable)
-    ∷ (codes "rest", total_of t.rest)
-    ∷ []) (totals_of t)
+    (codes "clamp", total_data t.clamp)
+    ∷ (codes "command", total_data t.command)
+    ∷ (codes "departed", total_data t.departed)
+    ∷ (codes "gravity", total_data t.gravity)
+    ∷ (codes "immovable", total_data t.immovable)
+    ∷ (codes "rest", total_data t.rest)
+    ∷ []) (totals_data t)
 totals_object t = record { is = refl; ascends = refl }
 
 pub world_object : (p : Plain) (t : Totals) → IsObject (
-    (codes "bodies", bodies_of p.places p.bodies p.islands)
+    (codes "bodies", bodies_data p.places p.bodies p.islands)
     ∷ (codes "call", natural p.calls)
-    ∷ (codes "contacts", contacts_of p.contacts (contact_colours p.colours p.contacts))
+    ∷ (codes "contacts", contacts_data p.contacts (contact_colours p.colours p.contacts))
     ∷ (codes "gravity", vector_of p.gravity)
-    ∷ (codes "joints", joints_of p.places p.joint_places p.joints (joint_colours p.colours 0 p.joint_places))
-    ∷ (codes "ledger", totals_of t)
+    ∷ (codes "joints", joints_data p.places p.joint_places p.joints (joint_colours p.colours 0 p.joint_places))
+    ∷ (codes "ledger", totals_data t)
     ∷ (codes "step", natural p.steps)
     ∷ (codes "version", natural written_version)
     ∷ []) (value_of p t)

@@ -5,7 +5,7 @@ use Rattle.serde_json.specs.Data.{Data, boolean, string}
 use Rattle.fixed_geom.specs.declared.facings.Rot.{Rot}
 use Rattle.world_file_base.specs.SavedBodies.{kind_name}
 use Rattle.world_file_base.specs.SavedContacts.{shape_id_of}
-use Rattle.world_file_base.specs.SavedTotals.{total_of}
+use Rattle.world_file_base.specs.SavedTotals.{total_data}
 use Rattle.world_file_base.specs.Written.{Member, decimal_of, ends_of, integer, natural, natural_or_null, vector_of}
 use Rattle.saved_text.specs.declared.leaves.Leaf.{Leaf}
 use Rattle.saved_text.specs.declared.leaves.Leaf.TheVariants.{Truth, Natural, Count, Integer, Group, Text, Decimal, Kind, Colour, Island, Vector, Facing, Ends, Shape, Total}
@@ -28,7 +28,7 @@ data_of (Vector v) = vector_of v
 data_of (Facing rot) = facing_of rot
 data_of (Ends first second) = ends_of first second
 data_of (Shape id) = shape_id_of id
-data_of (Total total) = total_of total
+data_of (Total total) = total_data total
 
 abbrev pub member_of : Bor (List ℕ) × Leaf → Member
 member_of m = (m.0.now, data_of m.1)

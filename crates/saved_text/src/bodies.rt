@@ -2,10 +2,10 @@
 
 ghost use Rattle.std.specs.Prelude.{◌≡◌, ◌∷◌, [], None, Some, OnOk, codes};
 ghost use Rattle.islands.specs.Labels.{label_at};
-ghost use Rattle.world_file_base.specs.SavedBodies.{body_of};
+ghost use Rattle.world_file_base.specs.SavedBodies.{body_data};
 ghost use Rattle.world_file_base.specs.SavedShapes.{shapes_of};
-ghost use Rattle.world_file_base.specs.SavedSlots.{bodies_of, body_slot_of, slot_of};
-ghost use Rattle.world_file_base.specs.Written.{list_of};
+ghost use Rattle.world_file_base.specs.SavedSlots.{bodies_data, body_slot_of, slot_of};
+ghost use Rattle.world_file_base.specs.Written.{list_data};
 ghost use Rattle.saved_text.specs.Bodies.{first_of_body, last_of_body, numbers_of_body, place_of_body, told_by};
 ghost use Rattle.saved_text.specs.Tokens.{AddsMembers, AddsValue};
 
@@ -103,14 +103,14 @@ fn put_last(out: &mut Writer, kind: Kind, timer: u64) -> Result<(), AllocError>
 }
 
 fn put_body_shapes(out: &mut Writer, body: &Body) -> Result<(), AllocError>
-    ensures text { OnOk result (AddsValue (list_of (shapes_of body.now.shapes body.now.fats)) out.old out.new) }
+    ensures text { OnOk result (AddsValue (list_data (shapes_of body.now.shapes body.now.fats)) out.old out.new) }
 {
     put_shapes(out, body.shapes.as_slice(), body.fats.as_slice())
 }
 
 /// Writes a body, with the label of its island if it is a mover.
 fn put_body(out: &mut Writer, body: &Body, label: Option<Label>) -> Result<(), AllocError>
-    ensures text { OnOk result (AddsValue (body_of body.now label) out.old out.new) }
+    ensures text { OnOk result (AddsValue (body_data body.now label) out.old out.new) }
 {
     out.begin_object()?;
     put_first(out, body, told_by(label))?;
@@ -176,7 +176,7 @@ pub(crate) fn put_bodies(
     bodies: &[Option<Body>],
     labels: &[Option<Label>],
 ) -> Result<(), AllocError>
-    ensures text { OnOk result (AddsValue (bodies_of places.now bodies.now labels.now) out.old out.new) }
+    ensures text { OnOk result (AddsValue (bodies_data places.now bodies.now labels.now) out.old out.new) }
 {
     out.begin_array()?;
     for slot in 0..lesser(places.len(), bodies.len()) {

@@ -4,8 +4,8 @@ ghost use Rattle.std.specs.Prelude.{◌≡◌, ◌∷◌, [], List, Some, IfOk, 
 ghost use Rattle.std.specs.HashMap.{get};
 ghost use Rattle.body_handles.specs.declared.places.Place.{Place};
 ghost use Rattle.serde_json.specs.Data.{string};
-ghost use Rattle.world_file_base.specs.SavedJoints.{id_at, joint_of};
-ghost use Rattle.world_file_base.specs.SavedSlots.{joint_slot_of, joints_of};
+ghost use Rattle.world_file_base.specs.SavedJoints.{id_at, joint_data};
+ghost use Rattle.world_file_base.specs.SavedSlots.{joint_slot_of, joints_data};
 ghost use Rattle.world_file.specs.Marked.{joint_colours_by};
 ghost use Rattle.saved_text.specs.Tokens.{AddsValue};
 
@@ -41,7 +41,7 @@ fn put_named<'a>(
     b: &'a str,
     colour: Option<u8>,
 ) -> Result<(), AllocError>
-    ensures text { (places : List Place) → string a.now ≡ id_at places joint.now.a → string b.now ≡ id_at places joint.now.b → OnOk result (AddsValue (joint_of places joint.now colour) out.old out.new) }
+    ensures text { (places : List Place) → string a.now ≡ id_at places joint.now.a → string b.now ≡ id_at places joint.now.b → OnOk result (AddsValue (joint_data places joint.now colour) out.old out.new) }
 {
     put_object(
         out,
@@ -66,7 +66,7 @@ fn put_joint(
     joint: &BodyJoint,
     colour: Option<u8>,
 ) -> Result<(), AllocError>
-    ensures text { OnOk result (AddsValue (joint_of places.now joint.now colour) out.old out.new) }
+    ensures text { OnOk result (AddsValue (joint_data places.now joint.now colour) out.old out.new) }
 {
     let a = name_at(alloc, places, joint.a)?;
     let b = name_at(alloc, places, joint.b)?;
@@ -117,7 +117,7 @@ pub(crate) fn put_joints(
     joints: &[Option<BodyJoint>],
     by_number: &HashMap<u128, u8>,
 ) -> Result<(), AllocError>
-    ensures text { OnOk result (AddsValue (joints_of places.now joint_places.now joints.now (joint_colours_by (get nat_eq by_number.now) 0 joint_places.now)) out.old out.new) }
+    ensures text { OnOk result (AddsValue (joints_data places.now joint_places.now joints.now (joint_colours_by (get nat_eq by_number.now) 0 joint_places.now)) out.old out.new) }
 {
     out.begin_array()?;
     for slot in 0..lesser(joint_places.len(), joints.len()) {

@@ -4,7 +4,7 @@ ghost use Rattle.std.specs.Prelude.{OnOk};
 ghost use Rattle.serde_json.specs.Data.{boolean, string};
 ghost use Rattle.world_file_base.specs.SavedBodies.{kind_name};
 ghost use Rattle.world_file_base.specs.SavedContacts.{shape_id_of};
-ghost use Rattle.world_file_base.specs.SavedTotals.{total_of};
+ghost use Rattle.world_file_base.specs.SavedTotals.{total_data};
 ghost use Rattle.world_file_base.specs.Written.{ends_of, vector_of};
 ghost use Rattle.saved_text.specs.Leaves.{data_of, facing_of};
 ghost use Rattle.saved_text.specs.Tokens.{AddsValue};
@@ -99,7 +99,7 @@ fn put_shape_id(out: &mut Writer, id: ShapeId) -> Result<(), AllocError>
 }
 
 fn put_total(out: &mut Writer, total: Total) -> Result<(), AllocError>
-    ensures text { OnOk result (AddsValue (total_of total) out.old out.new) }
+    ensures text { OnOk result (AddsValue (total_data total) out.old out.new) }
 {
     out.begin_array()?;
     put_decimal(out, total.x)?;

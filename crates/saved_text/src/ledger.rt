@@ -1,7 +1,7 @@
 //! The totals of a ledger.
 
 ghost use Rattle.std.specs.Prelude.{OnOk};
-ghost use Rattle.world_file_base.specs.SavedTotals.{totals_of};
+ghost use Rattle.world_file_base.specs.SavedTotals.{totals_data};
 ghost use Rattle.saved_text.specs.Tokens.{AddsValue};
 
 use crate::leaves::Leaf;
@@ -11,7 +11,7 @@ use json::Writer;
 use std::alloc::AllocError;
 
 pub(crate) fn put_totals(out: &mut Writer, totals: &Totals) -> Result<(), AllocError>
-    ensures text { OnOk result (AddsValue (totals_of totals.now) out.old out.new) }
+    ensures text { OnOk result (AddsValue (totals_data totals.now) out.old out.new) }
 {
     put_object(
         out,

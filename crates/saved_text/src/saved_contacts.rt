@@ -2,7 +2,7 @@
 
 ghost use Rattle.std.specs.Prelude.{◌∷◌, [], OnOk, codes, nat_eq};
 ghost use Rattle.std.specs.HashMap.{get};
-ghost use Rattle.world_file_base.specs.SavedContacts.{contact_of, contacts_of, point_of, point_or_none, points_of};
+ghost use Rattle.world_file_base.specs.SavedContacts.{contact_data, contacts_data, point_data, point_or_none, points_of};
 ghost use Rattle.world_file.specs.Marked.{contact_colours_by};
 ghost use Rattle.saved_text.specs.Tokens.{AddsItems, AddsMembers, AddsValue};
 
@@ -17,7 +17,7 @@ use std::collections::HashMap;
 use world_file::colour_at;
 
 fn put_point(out: &mut Writer, point: &ContactPoint) -> Result<(), AllocError>
-    ensures text { OnOk result (AddsValue (point_of point.now) out.old out.new) }
+    ensures text { OnOk result (AddsValue (point_data point.now) out.old out.new) }
 {
     put_object(
         out,
@@ -54,7 +54,7 @@ fn put_points(out: &mut Writer, contact: &PackedContact) -> Result<(), AllocErro
 
 /// Writes a contact, with its colour if it acts.
 fn put_contact(out: &mut Writer, entry: &ContactEntry, colour: Option<u8>) -> Result<(), AllocError>
-    ensures text { OnOk result (AddsValue (contact_of entry.now colour) out.old out.new) }
+    ensures text { OnOk result (AddsValue (contact_data entry.now colour) out.old out.new) }
 {
     out.begin_object()?;
     put_members(
@@ -81,7 +81,7 @@ pub(crate) fn put_contacts(
     contacts: &[ContactEntry],
     by_number: &HashMap<u128, u8>,
 ) -> Result<(), AllocError>
-    ensures text { OnOk result (AddsValue (contacts_of contacts.now (contact_colours_by (get nat_eq by_number.now) contacts.now)) out.old out.new) }
+    ensures text { OnOk result (AddsValue (contacts_data contacts.now (contact_colours_by (get nat_eq by_number.now) contacts.now)) out.old out.new) }
 {
     out.begin_array()?;
     for entry in contacts {

@@ -3,7 +3,7 @@
 ghost use Rattle.std.specs.Prelude.{◌≡◌, OnOk};
 ghost use Rattle.shapes.specs.declared.shape.Shape.TheVariants.{Capsule, Circle, Segment};
 ghost use Rattle.world_file_base.specs.SavedShapes.{shape_of, shapes_of};
-ghost use Rattle.world_file_base.specs.Written.{list_of};
+ghost use Rattle.world_file_base.specs.Written.{list_data};
 ghost use Rattle.saved_text.specs.Tokens.{AddsValue};
 
 use crate::counts::lesser;
@@ -106,7 +106,7 @@ pub(crate) fn put_shapes(
     defs: &[ShapeDef],
     fats: &[Box2],
 ) -> Result<(), AllocError>
-    ensures text { OnOk result (AddsValue (list_of (shapes_of defs.now fats.now)) out.old out.new) }
+    ensures text { OnOk result (AddsValue (list_data (shapes_of defs.now fats.now)) out.old out.new) }
 {
     out.begin_array()?;
     for place in 0..lesser(defs.len(), fats.len()) {

@@ -6,9 +6,9 @@ ghost use Rattle.std.specs.Result.{IsOkUnless};
 ghost use Rattle.json.specs.Lex.{tokens};
 ghost use Rattle.json.specs.Print.{print};
 ghost use Rattle.graph_colours.specs.declared.limits.TheConstants.{COLOURS as most_colours};
-ghost use Rattle.world_file_base.specs.SavedContacts.{contacts_of};
-ghost use Rattle.world_file_base.specs.SavedSlots.{bodies_of, joints_of};
-ghost use Rattle.world_file_base.specs.SavedTotals.{totals_of};
+ghost use Rattle.world_file_base.specs.SavedContacts.{contacts_data};
+ghost use Rattle.world_file_base.specs.SavedSlots.{bodies_data, joints_data};
+ghost use Rattle.world_file_base.specs.SavedTotals.{totals_data};
 ghost use Rattle.world_file.specs.Files.{contact_colours, joint_colours, value_of};
 ghost use Rattle.world_file.specs.Marked.{colour_numbered};
 ghost use Rattle.saved_text.specs.Texts.{IsTextOf};
@@ -32,7 +32,7 @@ use world_file::colours_by_number;
 const WRITTEN: u64 = 2;
 
 fn put_all_bodies(out: &mut Writer, plain: &Plain) -> Result<(), AllocError>
-    ensures text { OnOk result (AddsMembers ((codes "bodies", bodies_of plain.now.places plain.now.bodies plain.now.islands) ∷ []) out.old out.new) }
+    ensures text { OnOk result (AddsMembers ((codes "bodies", bodies_data plain.now.places plain.now.bodies plain.now.islands) ∷ []) out.old out.new) }
 {
     out.key("bodies")?;
     put_bodies(out, plain.places(), plain.bodies(), plain.islands())?;
@@ -45,7 +45,7 @@ fn put_all_contacts(
     by_number: &HashMap<u128, u8>,
 ) -> Result<(), AllocError>
     requires colours { (number : ℕ) → get nat_eq by_number.now number ≡ colour_numbered number plain.now.colours }
-    ensures text { OnOk result (AddsMembers ((codes "contacts", contacts_of plain.now.contacts (contact_colours plain.now.colours plain.now.contacts)) ∷ []) out.old out.new) }
+    ensures text { OnOk result (AddsMembers ((codes "contacts", contacts_data plain.now.contacts (contact_colours plain.now.colours plain.now.contacts)) ∷ []) out.old out.new) }
 {
     out.key("contacts")?;
     put_contacts(out, plain.contacts(), by_number)?;
@@ -59,7 +59,7 @@ fn put_all_joints(
     by_number: &HashMap<u128, u8>,
 ) -> Result<(), AllocError>
     requires colours { (number : ℕ) → get nat_eq by_number.now number ≡ colour_numbered number plain.now.colours }
-    ensures text { OnOk result (AddsMembers ((codes "joints", joints_of plain.now.places plain.now.joint_places plain.now.joints (joint_colours plain.now.colours 0 plain.now.joint_places)) ∷ []) out.old out.new) }
+    ensures text { OnOk result (AddsMembers ((codes "joints", joints_data plain.now.places plain.now.joint_places plain.now.joints (joint_colours plain.now.colours 0 plain.now.joint_places)) ∷ []) out.old out.new) }
 {
     out.key("joints")?;
     put_joints(
@@ -74,7 +74,7 @@ fn put_all_joints(
 }
 
 fn put_ledger(out: &mut Writer, totals: &Totals) -> Result<(), AllocError>
-    ensures text { OnOk result (AddsMembers ((codes "ledger", totals_of totals.now) ∷ []) out.old out.new) }
+    ensures text { OnOk result (AddsMembers ((codes "ledger", totals_data totals.now) ∷ []) out.old out.new) }
 {
     out.key("ledger")?;
     put_totals(out, totals)?;

@@ -4,7 +4,7 @@ use Rattle.std.specs.Int.{int_min, int_max}
 use Rattle.std.proofs.lemmas.Int.{ints}
 use Rattle.std.proofs.lemmas.Bool.{false≢true}
 use Rattle.std.proofs.lemmas.Bool.Decides.{nat_tests}
-use Rattle.fixed_geom.specs.Boxes.{Contains, Overlaps, meets, overlaps}
+use Rattle.fixed_geom.specs.Boxes.{Contains, Overlaps, spans_meet, overlaps}
 use Rattle.fixed_geom.specs.Vectors.{dot, cross, minus}
 use Rattle.fixed_geom.specs.declared.boxes.Box2.{Box2}
 use Rattle.fixed_geom.specs.declared.vectors.Vec2.{Vec2}
@@ -31,7 +31,7 @@ both_true true t h k = k
 both_true false t h k = cc
 
 pub overlaps_from : (a b : Box2) → overlaps a b ≡ true → Overlaps a b
-unfolding meets
+unfolding spans_meet
 overlaps_from a b h =
     let p = both_parts (int_le a.lo.x b.hi.x && int_le b.lo.x a.hi.x) (int_le a.lo.y b.hi.y && int_le b.lo.y a.hi.y) h in
     let x = both_parts (int_le a.lo.x b.hi.x) (int_le b.lo.x a.hi.x) p.0 in
@@ -39,7 +39,7 @@ overlaps_from a b h =
     record { left = le_from _ _ x.0; right = le_from _ _ x.1; down = le_from _ _ y.0; up = le_from _ _ y.1 }
 
 pub overlaps_to : (a b : Box2) → Overlaps a b → overlaps a b ≡ true
-unfolding meets
+unfolding spans_meet
 overlaps_to a b h =
     both_true (int_le a.lo.x b.hi.x && int_le b.lo.x a.hi.x) (int_le a.lo.y b.hi.y && int_le b.lo.y a.hi.y)
     (both_true (int_le a.lo.x b.hi.x) (int_le b.lo.x a.hi.x) (le_to _ _ h.left) (le_to _ _ h.right))

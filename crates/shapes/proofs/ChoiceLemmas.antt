@@ -6,7 +6,7 @@ use Rattle.shapes.specs.declared.spots.Pair.{Pair}
 use Rattle.shapes.specs.declared.spots.Candidate.{Candidate}
 use Rattle.shapes.specs.declared.spots.Spot.{Spot}
 use Rattle.shapes.specs.Spots.{of_a, others, spot_of}
-use Rattle.shapes.specs.Manifolds.{is_before, is_sooner, sooner, soonest, least_of, is_allowed, nearest_spot, chosen_spots, spots}
+use Rattle.shapes.specs.Manifolds.{is_before, is_sooner, sooner, soonest, least_of, is_second, nearest_spot, chosen_spots, spots}
 use Rattle.shapes.specs.Choice.{nearer, nearest, tried, second_from, chosen_from}
 
 pushed : (s : Pair) (b : Bool) (c d : Candidate) → cond b (spot_of s c) (spot_of s d) ≡ spot_of s (cond b c d)
@@ -33,11 +33,11 @@ some_step : (b : Bool) (best t : Spot) (ts : List Spot) (s : Pair) (first : Spot
 some_step true best t ts s first cs h l = h
 some_step false best t ts s first cs h l = l
 
-second_some : (s : Pair) (first best : Spot) (cs : List Candidate) → second_from s first (Some best) cs ≡ Some (soonest best (filter (is_allowed first) (map (spot_of s) cs)))
+second_some : (s : Pair) (first best : Spot) (cs : List Candidate) → second_from s first (Some best) cs ≡ Some (soonest best (filter (is_second first) (map (spot_of s) cs)))
 unfolding tried
 second_some s first best [] = refl
 second_some s first best (c ∷ cs) =
-    some_step (is_allowed first (spot_of s c)) best (spot_of s c) (filter (is_allowed first) (map (spot_of s) cs)) s first cs
+    some_step (is_second first (spot_of s c)) best (spot_of s c) (filter (is_second first) (map (spot_of s) cs)) s first cs
     (second_some s first (sooner best (spot_of s c)) cs) (second_some s first best cs)
 
 none_step : (b : Bool) (t : Spot) (ts : List Spot) (s : Pair) (first : Spot) (cs : List Candidate) →
@@ -47,11 +47,11 @@ none_step : (b : Bool) (t : Spot) (ts : List Spot) (s : Pair) (first : Spot) (cs
 none_step true t ts s first cs h l = h
 none_step false t ts s first cs h l = l
 
-second_none : (s : Pair) (first : Spot) (cs : List Candidate) → second_from s first None cs ≡ least_of (filter (is_allowed first) (map (spot_of s) cs))
+second_none : (s : Pair) (first : Spot) (cs : List Candidate) → second_from s first None cs ≡ least_of (filter (is_second first) (map (spot_of s) cs))
 unfolding tried
 second_none s first [] = refl
 second_none s first (c ∷ cs) =
-    none_step (is_allowed first (spot_of s c)) (spot_of s c) (filter (is_allowed first) (map (spot_of s) cs)) s first cs
+    none_step (is_second first (spot_of s c)) (spot_of s c) (filter (is_second first) (map (spot_of s) cs)) s first cs
     (second_some s first (spot_of s c) cs) (second_none s first cs)
 
 abbrev both : Spot → Option Spot → Chosen
@@ -63,7 +63,7 @@ chosen_are s =
     let head = of_a s 0 s.a.p in
     let first = spot_of s (nearest head (others s)) in
     ap (λ (second : Option Spot). both first second) (second_none s first (head ∷ others s))
-    ∙ ap (λ (f : Spot). both f (least_of (filter (is_allowed f) (spots s)))) (sym (soonest_is s head (others s)))
+    ∙ ap (λ (f : Spot). both f (least_of (filter (is_second f) (spots s)))) (sym (soonest_is s head (others s)))
 
 pub chosen_is : (s : Pair) (c : Candidate) (cs : List Candidate) (first : Spot) (second : Option Spot) → first ≡ spot_of s (nearest c cs) → second ≡ second_from s first None (c ∷ cs) → both first second ≡ chosen_from s c cs
 unfolding chosen_from

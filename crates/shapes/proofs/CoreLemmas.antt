@@ -6,18 +6,18 @@ use Rattle.std.proofs.lemmas.Bool.Decides.{nat_tests}
 use Rattle.fixed_geom.specs.Numbers.{rdiv, nearest}
 use Rattle.fixed_geom.specs.Vectors.{unit_length}
 use Rattle.fixed_geom.proofs.QuotientLemmas.{nearest_le}
-use Rattle.shapes.specs.Cores.{clamped}
+use Rattle.shapes.specs.Cores.{part_clamped}
 
-clamped_low : (q : ℤ) → q ≤ℤ pos 0 → clamped q ≡ pos 0
-unfolding clamped
+clamped_low : (q : ℤ) → q ≤ℤ pos 0 → part_clamped q ≡ pos 0
+unfolding part_clamped
 clamped_low q h = grind (arith, ints, nat_tests)
 
-clamped_high : (q : ℤ) → unit_length ≤ℤ q → clamped q ≡ unit_length
-unfolding clamped
+clamped_high : (q : ℤ) → unit_length ≤ℤ q → part_clamped q ≡ unit_length
+unfolding part_clamped
 clamped_high q h = grind (arith, ints, nat_tests)
 
-pub clamped_inside : (q : ℤ) → pos 0 ≤ℤ q → unsigned_abs q ≤ 2 ^ 30 → clamped q ≡ q
-unfolding clamped
+pub clamped_inside : (q : ℤ) → pos 0 ≤ℤ q → unsigned_abs q ≤ 2 ^ 30 → part_clamped q ≡ q
+unfolding part_clamped
 clamped_inside q h l = grind (arith, ints, nat_tests)
 
 pub rdiv_low : (a b : ℤ) → a ≤ℤ pos 0 → pos 0 <ℤ b → rdiv a b ≤ℤ pos 0
@@ -39,8 +39,8 @@ unfolding rdiv
 rdiv_high (pos n) b k h p l = let some : k ≤ nearest n (unsigned_abs b) = le_nearest n (unsigned_abs b) k (omega (arith, ints)) l in omega (arith, ints, some)
 rdiv_high (negsuc n) b k h p l = absurd (omega (arith, ints))
 
-pub share_low : (part whole : ℤ) → part ≤ℤ pos 0 → pos 0 <ℤ whole → clamped (rdiv (part *ℤ unit_length) whole) ≡ pos 0
+pub share_low : (part whole : ℤ) → part ≤ℤ pos 0 → pos 0 <ℤ whole → part_clamped (rdiv (part *ℤ unit_length) whole) ≡ pos 0
 share_low part whole h p = clamped_low _ (rdiv_low _ whole (omega (arith, ints)) p)
 
-pub share_high : (part whole : ℤ) → whole ≤ℤ part → pos 0 <ℤ whole → clamped (rdiv (part *ℤ unit_length) whole) ≡ unit_length
+pub share_high : (part whole : ℤ) → whole ≤ℤ part → pos 0 <ℤ whole → part_clamped (rdiv (part *ℤ unit_length) whole) ≡ unit_length
 share_high part whole h p = clamped_high _ (rdiv_high (part *ℤ unit_length) whole (2 ^ 30) (omega (arith, ints)) p (omega (arith, ints)))

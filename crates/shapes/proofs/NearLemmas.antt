@@ -21,10 +21,10 @@ use Rattle.shapes.specs.declared.spots.Candidate.{Candidate}
 use Rattle.shapes.specs.declared.spots.Spot.{Spot}
 use Rattle.shapes.specs.Shapes.{IsShape, first_end, second_end}
 use Rattle.shapes.specs.Poses.{IsPose, placed}
-use Rattle.shapes.specs.Cores.{is_point, way_of, clamped, share_of, closest}
+use Rattle.shapes.specs.Cores.{is_point, way_of, part_clamped, share_of, closest}
 use Rattle.shapes.specs.Spots.{of_a, of_b, others, square_to, across, up, flat_normal, normal_of, flipped, separation_of, position_of, spot_of}
 use Rattle.shapes.specs.declared.points.Manifold.{Manifold}
-use Rattle.shapes.specs.Manifolds.{soonest, least_of, is_allowed, nearest_spot, chosen_spots, spots, first_spot, other_spots, allowed_spots, point_of, placed_pair, manifold_of, IsPointWithin}
+use Rattle.shapes.specs.Manifolds.{soonest, least_of, is_second, nearest_spot, chosen_spots, spots, first_spot, other_spots, allowed_spots, point_of, placed_pair, manifold_of, IsPointWithin}
 use Rattle.shapes.proofs.SpotLists.{soonest_all, filter_all}
 use Rattle.shapes.proofs.CoreLemmas.{rdiv_low, rdiv_nonnegative}
 
@@ -65,8 +65,8 @@ pub record IsShare (t : ℤ) : Type 0 where
   pub nonnegative : pos 0 ≤ℤ t
   pub small : unsigned_abs t ≤ 2 ^ 30
 
-clamped_share : (t : ℤ) → IsShare (clamped t)
-unfolding clamped
+clamped_share : (t : ℤ) → IsShare (part_clamped t)
+unfolding part_clamped
 clamped_share t = record { nonnegative = grind (arith, ints, nat_tests); small = grind (arith, ints, nat_tests) }
 
 cond_share : (b : Bool) (t : ℤ) → IsShare t → IsShare (cond b (pos 0) t)
@@ -326,7 +326,7 @@ has_near a o b p k ha ho hb hp w =
     let rest = map_near s k o.x p.x (others s) ha.radius hb.radius w (others_near s k o.x p.x h) in
     record {
       first = soonest_all P (first_spot s) (other_spots s) head rest;
-      second = second_near k o.x p.x (allowed_spots s) (filter_all P (is_allowed (soonest (first_spot s) (other_spots s))) (spots s) (All-cons P (first_spot s) (other_spots s) head rest));
+      second = second_near k o.x p.x (allowed_spots s) (filter_all P (is_second (soonest (first_spot s) (other_spots s))) (spots s) (All-cons P (first_spot s) (other_spots s) head rest));
     }
 
 pub manifold_has_near : (a : Shape) (o : Pose) (b : Shape) (p : Pose) (m : Manifold) → m ≡ manifold_of a o b p → IsShape a → IsPose o → IsShape b → IsPose p → (k : ℕ) → IsWithin k (minus p.x o.x) → HasNear k m

@@ -18,7 +18,7 @@ use Rattle.shapes.specs.declared.spots.Candidate.{Candidate}
 use Rattle.shapes.specs.declared.spots.Spot.{Spot}
 use Rattle.shapes.specs.Cores.{is_point, way_of, share_of, closest}
 use Rattle.shapes.specs.Spots.{measured, of_a, of_b, normal_of, separation_of, position_of, spot_of}
-use Rattle.shapes.specs.Manifolds.{is_before, is_far, is_rival, is_allowed}
+use Rattle.shapes.specs.Manifolds.{is_before, is_far, is_rival, is_second}
 use Rattle.shapes.specs.Choice.{nearer, nearest, tried, second_from, chosen_from}
 
 times_zero : (x : ℤ) → x *ℤ pos 0 ≡ pos 0
@@ -65,7 +65,7 @@ never_there r v w t e = rw (e, not_far w) (never r t)
 
 -- no second point where the first is
 pub no_second : (first t : Spot) → t.at ≡ first.at → tried first None t ≡ None
-unfolding tried is_allowed
+unfolding tried is_second
 no_second first t e = never_there (is_rival first t) t.at first.at (Some t) e
 
 same_place : (s : Pair) (a b : Vec2) → (spot_of s (measured 2 a b)).at ≡ (spot_of s (measured 0 a b)).at
@@ -130,7 +130,7 @@ no_rival true false e x y t h = refl
 no_rival false c e x y t h = absurd (false≢true h)
 
 not_beyond : (s : Pair) (c d : Candidate) → IsBeyond c d → tried (spot_of s c) None (spot_of s d) ≡ None
-unfolding tried is_allowed is_rival spot_of
+unfolding tried is_second is_rival spot_of
 not_beyond s c d h = no_rival (int_lt (c.dist +ℤ pos 20972) d.dist) _ true _ _ _ h
 
 not_itself : (s : Pair) (c : Candidate) → tried (spot_of s c) None (spot_of s c) ≡ None

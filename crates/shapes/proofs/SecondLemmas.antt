@@ -10,11 +10,11 @@ use Rattle.shapes.specs.declared.pose.Pose.{Pose}
 use Rattle.shapes.specs.declared.shape.Shape.{Shape}
 use Rattle.shapes.specs.declared.spots.Spot.{Spot}
 use Rattle.shapes.specs.declared.points.Manifold.{Manifold}
-use Rattle.shapes.specs.Manifolds.{soonest, least_of, is_allowed, nearest_spot, chosen_spots, spots, first_spot, other_spots, allowed_spots, point_of, placed_pair, manifold_of, IsSecond, is_rival, is_far}
+use Rattle.shapes.specs.Manifolds.{soonest, least_of, is_second, nearest_spot, chosen_spots, spots, first_spot, other_spots, allowed_spots, point_of, placed_pair, manifold_of, IsSecond, is_rival, is_far}
 use Rattle.shapes.proofs.SpotLists.{soonest_all}
 
-allowed_other : (first t : Spot) → is_allowed first t ≡ true → (t.candidate == first.candidate) ≡ false
-unfolding is_allowed is_rival
+allowed_other : (first t : Spot) → is_second first t ≡ true → (t.candidate == first.candidate) ≡ false
+unfolding is_second is_rival
 allowed_other first t h = elim (cases_Bool (t.candidate == first.candidate)) [
   | inl e ↦ absurd (false≢true (rw e at h))
   | inr e ↦ e
@@ -29,8 +29,8 @@ passed false false false d h = absurd (false≢true h)
 not_above : (x : ℤ) → int_le x (pos 0) ≡ true → x ≤ℤ pos 0
 not_above x h = grind (arith, ints, nat_tests)
 
-allowed_overlap : (first t : Spot) → is_allowed first t ≡ true → t.separation ≤ℤ pos 0
-unfolding is_allowed is_rival
+allowed_overlap : (first t : Spot) → is_second first t ≡ true → t.separation ≤ℤ pos 0
+unfolding is_second is_rival
 allowed_overlap first t h =
     not_above t.separation (passed (t.candidate == first.candidate) (int_lt (first.dist +ℤ pos 20972) t.dist) (int_le t.separation (pos 0)) (is_far t.at first.at) h)
 
@@ -42,10 +42,10 @@ filter_passes : (ok : Spot → Bool) (ts : List Spot) → All (λ u. ok u ≡ tr
 filter_passes ok [] = All-nil (λ u. ok u ≡ true)
 filter_passes ok (t ∷ ts) = kept_passes ok (ok t) t (filter ok ts) refl (filter_passes ok ts)
 
-second_is : (x y : Vec2) (first : Spot) (ts : List Spot) → All (λ u. is_allowed first u ≡ true) ts → IfSome (option_map (point_of x y) (least_of ts)) (λ p. IsSecond (point_of x y first) p)
+second_is : (x y : Vec2) (first : Spot) (ts : List Spot) → All (λ u. is_second first u ≡ true) ts → IfSome (option_map (point_of x y) (least_of ts)) (λ p. IsSecond (point_of x y first) p)
 second_is x y first [] h = tt
 second_is x y first (t ∷ ts) h =
-    let P : Spot → Type 0 = λ u. is_allowed first u ≡ true in
+    let P : Spot → Type 0 = λ u. is_second first u ≡ true in
     let allowed = soonest_all P t ts (All-head P t ts h) (All-tail P t ts h) in
     record { other = allowed_other first (soonest t ts) allowed; overlap = allowed_overlap first (soonest t ts) allowed }
 
@@ -54,7 +54,7 @@ unfolding chosen_spots nearest_spot
 has_second a o b p =
     let s = placed_pair a o b p in
     let first = soonest (first_spot s) (other_spots s) in
-    second_is o.x p.x first (allowed_spots s) (filter_passes (is_allowed first) (spots s))
+    second_is o.x p.x first (allowed_spots s) (filter_passes (is_second first) (spots s))
 
 pub manifold_has_second : (a : Shape) (o : Pose) (b : Shape) (p : Pose) (m : Manifold) → m ≡ manifold_of a o b p → IfSome m.second (λ q. IsSecond m.first q)
 manifold_has_second a o b p m e = rw e (has_second a o b p)

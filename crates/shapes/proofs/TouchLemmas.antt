@@ -23,7 +23,7 @@ use Rattle.shapes.specs.Shapes.{IsShape, first_end, second_end}
 use Rattle.shapes.specs.Poses.{IsPose}
 use Rattle.shapes.specs.Cores.{is_point, share_of, closest, cores_cross}
 use Rattle.shapes.specs.Spots.{of_a, of_b, others, normal_of, separation_of, position_of, spot_of}
-use Rattle.shapes.specs.Manifolds.{soonest, least_of, is_allowed, nearest_spot, chosen_spots, spots, first_spot, other_spots, allowed_spots, point_of, placed_pair, manifold_of, IsPointWithin, IsSecond}
+use Rattle.shapes.specs.Manifolds.{soonest, least_of, is_second, nearest_spot, chosen_spots, spots, first_spot, other_spots, allowed_spots, point_of, placed_pair, manifold_of, IsPointWithin, IsSecond}
 use Rattle.shapes.proofs.CrossLemmas.{IsMet, AreMet, are_met}
 use Rattle.shapes.proofs.DiscLemmas.{disc, IsInDisc, disc_across, disc_along, placed_in_disc}
 use Rattle.shapes.proofs.NearLemmas.{IsPart, part_is, share_is, normal_within, scaled_le}
@@ -329,7 +329,7 @@ has_touching a o b p ha ho hb hp =
     let P : Spot → Type 0 = λ t. IsTouchingSpot o.x p.x t in
     let head = a_touching s 0 o.x p.x s.a.p (omega arith) h (first_on s.a) in
     let rest = others_touching s o.x p.x h in
-    let second = least_touching o.x p.x (allowed_spots s) (filter_all P (is_allowed (soonest (first_spot s) (other_spots s))) (spots s) (All-cons P (first_spot s) (other_spots s) head rest)) in
+    let second = least_touching o.x p.x (allowed_spots s) (filter_all P (is_second (soonest (first_spot s) (other_spots s))) (spots s) (All-cons P (first_spot s) (other_spots s) head rest)) in
     record {
       first = soonest_all P (first_spot s) (other_spots s) head rest;
       second = overlapping (manifold_of a o b p).first (manifold_of a o b p).second second (manifold_has_second a o b p (manifold_of a o b p) refl);

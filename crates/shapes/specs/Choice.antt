@@ -5,7 +5,7 @@ use Rattle.shapes.specs.declared.spots.Pair.{Pair}
 use Rattle.shapes.specs.declared.spots.Candidate.{Candidate}
 use Rattle.shapes.specs.declared.spots.Spot.{Spot}
 use Rattle.shapes.specs.Spots.{spot_of}
-use Rattle.shapes.specs.Manifolds.{is_before, sooner, is_allowed}
+use Rattle.shapes.specs.Manifolds.{is_before, sooner, is_second}
 
 unfoldable pub nearer : Candidate → Candidate → Candidate
 nearer best c = cond (is_before c.dist c.number best.dist best.number) c best
@@ -20,7 +20,7 @@ sooner_of None t = Some t
 sooner_of (Some best) t = Some (sooner best t)
 
 unfoldable pub tried : Spot → Option Spot → Spot → Option Spot
-tried first best t = cond (is_allowed first t) (sooner_of best t) best
+tried first best t = cond (is_second first t) (sooner_of best t) best
 
 -- the least of `best` and the allowed spots of a list of candidates
 abbrev pub second_from : Pair → Spot → Option Spot → List Candidate → Option Spot

@@ -14,12 +14,12 @@ abbrev pub way_of : Core → Vec2
 way_of c = minus c.q c.p
 
 -- t within 0 to 2^30
-unfoldable pub clamped : ℤ → ℤ
-clamped t = cond (int_lt t (pos 0)) (pos 0) (cond (int_lt unit_length t) unit_length t)
+unfoldable pub part_clamped : ℤ → ℤ
+part_clamped t = cond (int_lt t (pos 0)) (pos 0) (cond (int_lt unit_length t) unit_length t)
 
 -- how far along the core its point nearest to e lies, times 2^30
 unfoldable pub share_of : Core → Vec2 → ℤ
-share_of c e = cond (is_point c) (pos 0) (clamped (rdiv (dot (minus e c.p) (way_of c) *ℤ unit_length) (dot (way_of c) (way_of c))))
+share_of c e = cond (is_point c) (pos 0) (part_clamped (rdiv (dot (minus e c.p) (way_of c) *ℤ unit_length) (dot (way_of c) (way_of c))))
 
 -- the core's point nearest to e
 unfoldable pub closest : Core → Vec2 → Vec2

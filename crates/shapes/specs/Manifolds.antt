@@ -68,8 +68,8 @@ unfoldable pub is_rival : Spot → Spot → Bool
 is_rival first t = cond (t.candidate == first.candidate) false (cond (int_lt (first.dist +ℤ TOLERANCE) t.dist) false (int_le t.separation (pos 0)))
 
 -- t may be the second point beside the first
-unfoldable pub is_allowed : Spot → Spot → Bool
-is_allowed first t = cond (is_rival first t) (is_far t.at first.at) false
+unfoldable pub is_second : Spot → Spot → Bool
+is_second first t = cond (is_rival first t) (is_far t.at first.at) false
 
 -- ---- the manifold
 
@@ -102,7 +102,7 @@ nearest_spot s = soonest (first_spot s) (other_spots s)
 
 -- the spots that may be the second point
 abbrev pub allowed_spots : Pair → List Spot
-allowed_spots s = filter (is_allowed (nearest_spot s)) (spots s)
+allowed_spots s = filter (is_second (nearest_spot s)) (spots s)
 
 -- the spots of the first and the second point
 unfoldable pub chosen_spots : Pair → Chosen

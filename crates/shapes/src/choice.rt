@@ -127,7 +127,7 @@ fn is_rival(pair: &Pair, first: &Spot, c: &Candidate) -> bool
 }
 
 /// The lesser of the best so far and a candidate's spot, if that may be the second point.
-#[tactic(auto, unfolding(crate::specs::Choice::tried, crate::specs::Manifolds::is_allowed))]
+#[tactic(auto, unfolding(crate::specs::Choice::tried, crate::specs::Manifolds::is_second))]
 fn tried(pair: &Pair, first: &Spot, best: Option<Spot>, c: &Candidate) -> Option<Spot>
     requires pair { IsPair pair.now }
     requires first { IsSpot first.now }

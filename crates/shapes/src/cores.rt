@@ -4,7 +4,7 @@ ghost use Rattle.std.specs.Prelude.{◌≡◌, ℕ, ◌+◌, ◌*◌, ◌^◌, �
 ghost use Rattle.fixed_geom.specs.Numbers.{rdiv};
 ghost use Rattle.fixed_geom.specs.Vectors.{IsWithin, unit_length, dot, cross};
 ghost use Rattle.shapes.specs.Poses.{IsPlaced};
-ghost use Rattle.shapes.specs.Cores.{is_point, way_of, clamped, closest, side, are_opposite, is_parted, cores_cross};
+ghost use Rattle.shapes.specs.Cores.{is_point, way_of, part_clamped, closest, side, are_opposite, is_parted, cores_cross};
 
 use crate::Core;
 use fixed_geom::{
@@ -48,7 +48,7 @@ fn inner_fraction(part: i128, whole: i128) -> i64
     requires inside { part ≤ℤ whole }
     requires small { unsigned_abs part ≤ 2 ^ 90 }
     requires positive { pos 0 <ℤ whole }
-    ensures value { result ≡ clamped (rdiv (part *ℤ unit_length) whole) }
+    ensures value { result ≡ part_clamped (rdiv (part *ℤ unit_length) whole) }
     ensures within { unsigned_abs result ≤ 2 ^ 30 }
 {
     rdiv(times_unit(part), whole) as i64
@@ -59,7 +59,7 @@ fn inner_fraction(part: i128, whole: i128) -> i64
 fn fraction(part: i128, whole: i128) -> i64
     requires part { unsigned_abs part ≤ 2 ^ 90 }
     requires positive { pos 0 <ℤ whole }
-    ensures value { result ≡ clamped (rdiv (part *ℤ unit_length) whole) }
+    ensures value { result ≡ part_clamped (rdiv (part *ℤ unit_length) whole) }
     ensures within { unsigned_abs result ≤ 2 ^ 30 }
 {
     if part <= 0 {
@@ -76,7 +76,7 @@ fn inner_share(part: i64, whole: i64) -> i64
     requires nonnegative { pos 0 ≤ℤ part }
     requires inside { part ≤ℤ whole }
     requires positive { pos 0 <ℤ whole }
-    ensures value { result ≡ clamped (rdiv (part *ℤ unit_length) whole) }
+    ensures value { result ≡ part_clamped (rdiv (part *ℤ unit_length) whole) }
     ensures within { unsigned_abs result ≤ 2 ^ 30 }
 {
     share(part, whole)
@@ -85,7 +85,7 @@ fn inner_share(part: i64, whole: i64) -> i64
 /// `fraction` in 64 bits.
 fn fraction_64(part: i64, whole: i64) -> i64
     requires positive { pos 0 <ℤ whole }
-    ensures value { result ≡ clamped (rdiv (part *ℤ unit_length) whole) }
+    ensures value { result ≡ part_clamped (rdiv (part *ℤ unit_length) whole) }
     ensures within { unsigned_abs result ≤ 2 ^ 30 }
 {
     if part <= 0 {
@@ -116,7 +116,7 @@ fn share_along_64(way: Vec2, from: Vec2) -> i64
     requires way { IsWithin (2 ^ 30) way }
     requires position { IsWithin (2 ^ 30) from }
     requires wide { 0 < unsigned_abs way.x + unsigned_abs way.y }
-    ensures value { result ≡ clamped (rdiv (dot from way *ℤ unit_length) (dot way way)) }
+    ensures value { result ≡ part_clamped (rdiv (dot from way *ℤ unit_length) (dot way way)) }
     ensures within { unsigned_abs result ≤ 2 ^ 30 }
 {
     fraction_64(dot_64(from, way), dot_64(way, way))
@@ -127,7 +127,7 @@ fn share_along(way: Vec2, from: Vec2) -> i64
     requires way { IsWithin (2 ^ 38) way }
     requires position { IsWithin (2 ^ 38) from }
     requires wide { 0 < unsigned_abs way.x + unsigned_abs way.y }
-    ensures value { result ≡ clamped (rdiv (dot from way *ℤ unit_length) (dot way way)) }
+    ensures value { result ≡ part_clamped (rdiv (dot from way *ℤ unit_length) (dot way way)) }
     ensures within { unsigned_abs result ≤ 2 ^ 30 }
 {
     fraction(dot(from, way), dot(way, way))

@@ -10,7 +10,7 @@ use Rattle.islands.specs.Labels.{Labels, label_at, is_in, IsIn, is_asleep, is_lo
 use Rattle.islands.specs.Partition.{IsPartition, AreTogether}
 use Rattle.islands.proofs.LabelLemmas.{in_is, same_by_name, of_either, either_case, either_is, either_to, others_stay, one_either}
 use Rattle.islands.proofs.SplitLemmas.{IsLabelled, still_labelled}
-use Rattle.sleep_wake.specs.Acting.{Acting, IsSettled, awake_label, is_awake, second_awake}
+use Rattle.sleep_wake.specs.Acting.{Acting, IsSettled, awake_label, is_mover_awake, second_awake}
 use Rattle.sleep_wake.specs.Waking.{second_in, has_mover_of}
 use Rattle.sleep_wake.specs.Changes.{parted, united}
 use Rattle.sleep_wake.proofs.ListLemmas.{in_links}
@@ -21,14 +21,14 @@ and_is false y h = absurd (false≢true h)
 
 -- ---- the movers of a constraint
 
-pub all_awake : (labels : Labels) (first : ℕ) (o : Option ℕ) → is_awake labels first ≡ true → ((b : ℕ) → o ≡ Some b → is_awake labels b ≡ true) → (is_awake labels first && second_awake labels o) ≡ true
+pub all_awake : (labels : Labels) (first : ℕ) (o : Option ℕ) → is_mover_awake labels first ≡ true → ((b : ℕ) → o ≡ Some b → is_mover_awake labels b ≡ true) → (is_mover_awake labels first && second_awake labels o) ≡ true
 all_awake labels first None h k = rw h refl
 all_awake labels first (Some b) h k = rw (h, k b refl) refl
 
-pub awake_first : (labels : Labels) (first : ℕ) (o : Option ℕ) → (is_awake labels first && second_awake labels o) ≡ true → is_awake labels first ≡ true
-awake_first labels first o h = (and_is (is_awake labels first) (second_awake labels o) h).0
+pub awake_first : (labels : Labels) (first : ℕ) (o : Option ℕ) → (is_mover_awake labels first && second_awake labels o) ≡ true → is_mover_awake labels first ≡ true
+awake_first labels first o h = (and_is (is_mover_awake labels first) (second_awake labels o) h).0
 
-pub same_awake : (labels new : Labels) (first : ℕ) (o : Option ℕ) → is_awake new first ≡ is_awake labels first → ((b : ℕ) → o ≡ Some b → is_awake new b ≡ is_awake labels b) → (is_awake new first && second_awake new o) ≡ (is_awake labels first && second_awake labels o)
+pub same_awake : (labels new : Labels) (first : ℕ) (o : Option ℕ) → is_mover_awake new first ≡ is_mover_awake labels first → ((b : ℕ) → o ≡ Some b → is_mover_awake new b ≡ is_mover_awake labels b) → (is_mover_awake new first && second_awake new o) ≡ (is_mover_awake labels first && second_awake labels o)
 same_awake labels new first None h k = rw h refl
 same_awake labels new first (Some b) h k = rw (h, k b refl) refl
 
@@ -63,10 +63,10 @@ of_island number s name m w h = in_or_none s.labels name m.movers.first m.movers
 miss_one : (n : ℕ) (o : Option Label) → is_in o n ≡ false → of_either n n o ≡ false
 miss_one n o h = rw h refl
 
-pub awake_in : (labels : Labels) (name : ℕ) (state : IslandState) (s : ℕ) → IsIn labels name s → is_awake (with_state name state labels) s ≡ not (is_asleep state)
+pub awake_in : (labels : Labels) (name : ℕ) (state : IslandState) (s : ℕ) → IsIn labels name s → is_mover_awake (with_state name state labels) s ≡ not (is_asleep state)
 awake_in labels name state s h = ap awake_label (either_to name name (record { name = name; state = state }) labels s (one_either name (label_at labels s) h))
 
-pub awake_out : (labels : Labels) (name : ℕ) (state : IslandState) (s : ℕ) → is_in (label_at labels s) name ≡ false → is_awake (with_state name state labels) s ≡ is_awake labels s
+pub awake_out : (labels : Labels) (name : ℕ) (state : IslandState) (s : ℕ) → is_in (label_at labels s) name ≡ false → is_mover_awake (with_state name state labels) s ≡ is_mover_awake labels s
 awake_out labels name state s h = ap awake_label (others_stay name name (record { name = name; state = state }) labels s (miss_one name (label_at labels s) h))
 
 pub stated_labelled : (labels : Labels) (name : ℕ) (state : IslandState) (s : ℕ) → IsLabelled labels s → IsLabelled (with_state name state labels) s
@@ -76,7 +76,7 @@ stated_labelled labels name state s h = elim (either_case name name (label_at la
 ]
 
 -- those of the island are as its label says
-pub awake_as : (labels : Labels) (name s : ℕ) (l : Label) → IsPartition labels → label_at labels name ≡ Some l → l.name ≡ name → IsIn labels name s → is_awake labels s ≡ not (is_asleep l.state)
+pub awake_as : (labels : Labels) (name s : ℕ) (l : Label) → IsPartition labels → label_at labels name ≡ Some l → l.name ≡ name → IsIn labels name s → is_mover_awake labels s ≡ not (is_asleep l.state)
 awake_as labels name s l p e k h =
     let i = in_is (label_at labels s) name h in
     let same : i.0 ≡ l = same_by_name labels s name i.0 l p i.1 e (i.2 ∙ sym k) in
@@ -86,7 +86,7 @@ pub in_or_out : (labels : Labels) (name s : ℕ) → (is_in (label_at labels s) 
 in_or_out labels name s = elim (is_in (label_at labels s) name) as (λ t. (t ≡ true) ⊎ (t ≡ false)) [ true ↦ inl refl | false ↦ inr refl ]
 
 -- an awake island that gets loose leaves all as they are
-loosened_awake_by : (labels : Labels) (first t : ℕ) (o : Option Label) → label_at labels first ≡ o → IsPartition labels → is_awake labels first ≡ true → is_awake (loosened_by o labels) t ≡ is_awake labels t
+loosened_awake_by : (labels : Labels) (first t : ℕ) (o : Option Label) → label_at labels first ≡ o → IsPartition labels → is_mover_awake labels first ≡ true → is_mover_awake (loosened_by o labels) t ≡ is_mover_awake labels t
 loosened_awake_by labels first t None e p h = refl
 loosened_awake_by labels first t (Some l) e p h =
     let up : not (is_asleep l.state) ≡ true = sym (ap awake_label e) ∙ h in
@@ -95,7 +95,7 @@ loosened_awake_by labels first t (Some l) e p h =
       | inr k ↦ awake_out labels l.name Loose t k
     ]
 
-pub parted_awake : (labels : Labels) (first t : ℕ) (o : Option ℕ) → IsPartition labels → is_awake labels first ≡ true → is_awake (parted o first labels) t ≡ is_awake labels t
+pub parted_awake : (labels : Labels) (first t : ℕ) (o : Option ℕ) → IsPartition labels → is_mover_awake labels first ≡ true → is_mover_awake (parted o first labels) t ≡ is_mover_awake labels t
 unfolding loosened
 parted_awake labels first t None p h = refl
 parted_awake labels first t (Some b) p h = loosened_awake_by labels first t (label_at labels first) refl p h
@@ -114,14 +114,14 @@ union_awake : (t : Bool) → not (is_asleep (cond t Loose Whole)) ≡ true
 union_awake true = refl
 union_awake false = refl
 
-merged_awake : (labels : Labels) (a b t : ℕ) (x y : Label) → IsPartition labels → label_at labels a ≡ Some x → label_at labels b ≡ Some y → is_awake labels a ≡ true → is_awake labels b ≡ true → is_awake (merged labels a b) t ≡ is_awake labels t
+merged_awake : (labels : Labels) (a b t : ℕ) (x y : Label) → IsPartition labels → label_at labels a ≡ Some x → label_at labels b ≡ Some y → is_mover_awake labels a ≡ true → is_mover_awake labels b ≡ true → is_mover_awake (merged labels a b) t ≡ is_mover_awake labels t
 unfolding merged
 merged_awake labels a b t x y p e f h k =
     let up_x : not (is_asleep x.state) ≡ true = sym (ap awake_label e) ∙ h in
     let up_y : not (is_asleep y.state) ≡ true = sym (ap awake_label f) ∙ k in
     rw (e, f) (elim (either_case x.name y.name (label_at labels t)) [
       | inl q ↦ let m = either_is x.name y.name (label_at labels t) q in
-          let was : is_awake labels t ≡ true = ap awake_label m.1 ∙ elim m.2 [
+          let was : is_mover_awake labels t ≡ true = ap awake_label m.1 ∙ elim m.2 [
             | inl n ↦ ap (λ (v : Label). not (is_asleep v.state)) (same_by_name labels t a m.0 x p m.1 e n) ∙ up_x
             | inr n ↦ ap (λ (v : Label). not (is_asleep v.state)) (same_by_name labels t b m.0 y p m.1 f n) ∙ up_y
           ] in
@@ -129,7 +129,7 @@ merged_awake labels a b t x y p e f h k =
       | inr q ↦ ap awake_label (others_stay x.name y.name (union_label x y) labels t q)
     ])
 
-pub united_awake : (labels : Labels) (first t : ℕ) (o : Option ℕ) → IsPartition labels → IsLabelled labels first → ((b : ℕ) → o ≡ Some b → IsLabelled labels b) → is_awake labels first ≡ true → ((b : ℕ) → o ≡ Some b → is_awake labels b ≡ true) → is_awake (united o first labels) t ≡ is_awake labels t
+pub united_awake : (labels : Labels) (first t : ℕ) (o : Option ℕ) → IsPartition labels → IsLabelled labels first → ((b : ℕ) → o ≡ Some b → IsLabelled labels b) → is_mover_awake labels first ≡ true → ((b : ℕ) → o ≡ Some b → is_mover_awake labels b ≡ true) → is_mover_awake (united o first labels) t ≡ is_mover_awake labels t
 united_awake labels first t None p i j h k = refl
 united_awake labels first t (Some b) p i j h k = let y = j b refl in merged_awake labels first b t i.0 y.0 p i.1 y.1 h (k b refl)
 

@@ -14,7 +14,7 @@ use Rattle.islands.specs.Labels.{Labels, label_at, is_in, is_loose, is_asleep, r
 use Rattle.islands.specs.Partition.{IsPartition}
 use Rattle.islands.proofs.JoinLemmas.{contains_cases, contains_head, contains_tail}
 use Rattle.islands.proofs.LabelLemmas.{relabel_at, some_short}
-use Rattle.sleep_wake.specs.Acting.{awake_label, is_awake}
+use Rattle.sleep_wake.specs.Acting.{awake_label, is_mover_awake}
 use Rattle.sleep_wake.specs.SleepPhase.{lesser, least_timer, is_due, is_island, longer_at_rest, longest_at_rest}
 use Rattle.sleep_wake.specs.AwakeSlots.{AreAwakeSlots}
 use Rattle.sleep_wake.specs.Resting.{least_at, noted, forgotten, AreLeast, is_due_island, due_from, due_names, weighed_by, longest_due, all_rested}
@@ -112,7 +112,7 @@ same_rising (x ∷ xs) (y ∷ ys) a b f g =
 pub awake_are : (labels : Labels) (slots : List ℕ) → AreAwakeSlots labels slots → slots ≡ awake_from 0 labels
 awake_are labels slots w = same_rising slots (awake_from 0 labels) w.rising (scanned_rise 0 labels)
     (λ k h. let P : ℕ → Type 0 = λ v. Contains (awake_from 0 labels) v in let at : 0 + k ≡ k = omega arith in subst P at (is_scanned 0 labels k ((w.each k).0 h)))
-    (λ k h. let q = scanned_is 0 labels k h in let at : q.0 ≡ k = let e : k ≡ 0 + q.0 = q.1 in omega (arith, e) in (w.each k).1 (ap (is_awake labels) (sym at) ∙ q.2))
+    (λ k h. let q = scanned_is 0 labels k h in let at : q.0 ≡ k = let e : k ≡ 0 + q.0 = q.1 in omega (arith, e) in (w.each k).1 (ap (is_mover_awake labels) (sym at) ∙ q.2))
 
 -- ---- the labels from a slot on
 
@@ -303,7 +303,7 @@ pub over_all : (labels : Labels) (timers awake slots : List ℕ) (leasts : List 
 over_all labels timers awake slots leasts same p w o = record {
   each = λ slot l e up.
       let home : label_at labels l.name ≡ Some l = p.named slot l e in
-      let here : is_awake labels l.name ≡ true = ap awake_label home ∙ ap not up in
+      let here : is_mover_awake labels l.name ≡ true = ap awake_label home ∙ ap not up in
       o.each l.name ((w.each l.name).1 here)
       ∙ ap (least_among l.name labels timers) same
       ∙ least_is l.name labels timers awake w (λ k h. awake_as labels l.name k l p home refl h ∙ ap not up);
@@ -328,7 +328,7 @@ all_awake_listed labels slot found end h =
     subst P (sym is) (record {
       rising = scanned_rise 0 labels;
       each = λ k. (
-        (λ i. let q = scanned_is 0 labels k i in let at : k ≡ q.0 = let e : k ≡ 0 + q.0 = q.1 in omega (arith, e) in ap (is_awake labels) at ∙ q.2),
+        (λ i. let q = scanned_is 0 labels k i in let at : k ≡ q.0 = let e : k ≡ 0 + q.0 = q.1 in omega (arith, e) in ap (is_mover_awake labels) at ∙ q.2),
         (λ i. let Q : ℕ → Type 0 = λ v. Contains (awake_from 0 labels) v in let at : 0 + k ≡ k = omega arith in subst Q at (is_scanned 0 labels k i)),
       );
     })

@@ -4,7 +4,7 @@ use Rattle.std.proofs.lemmas.Bool.{false≢true}
 use Rattle.std.proofs.lemmas.List.{drop_more}
 use Rattle.graph_colours.specs.declared.member.Movers.{Movers}
 use Rattle.graph_colours.specs.declared.member.Member.{Member}
-use Rattle.graph_colours.specs.Members.{inserted, without}
+use Rattle.graph_colours.specs.Members.{inserted, without_member}
 use Rattle.graph_colours.proofs.ListLemmas.{pairs_tail}
 use Rattle.graph_colours.proofs.PlaceLemmas.{not_same}
 use Rattle.graph_colours.proofs.SearchLemmas.{has_inserted}
@@ -15,8 +15,8 @@ use Rattle.islands.proofs.JoinLemmas.{contains_head, contains_tail}
 use Rattle.islands.proofs.SplitLemmas.{IsLabelled}
 use Rattle.sleep_wake.specs.declared.change.Change.{Change}
 use Rattle.sleep_wake.specs.declared.change.Change.TheVariants.{Begin, End}
-use Rattle.sleep_wake.specs.Acting.{Acting, AreMovers, IsSettled, awake_label, is_awake, second_awake, are_awake}
-use Rattle.sleep_wake.specs.Changes.{begun, ended, each_begun, each_ended, united, parted, changed}
+use Rattle.sleep_wake.specs.Acting.{Acting, AreMovers, IsSettled, awake_label, is_mover_awake, second_awake, are_awake}
+use Rattle.sleep_wake.specs.Changes.{begun, ended, each_begun, each_ended, united, parted, after_change}
 use Rattle.sleep_wake.specs.ChangeLists.{CanBegin, CanEnd, AreChanges, IsChange, begin_count}
 use Rattle.sleep_wake.specs.Waking.{set_woken, woken_by, woken_at, second_woken, movers_woken}
 use Rattle.sleep_wake.proofs.ListLemmas.{above_head, in_without}
@@ -34,19 +34,19 @@ labelled_if : (o : Option Label) → awake_label o ≡ true → (l : Label) × (
 labelled_if None h = absurd (false≢true h)
 labelled_if (Some l) h = (l, refl)
 
-second_of : (labels : Labels) (o : Option ℕ) (b : ℕ) → second_awake labels o ≡ true → o ≡ Some b → is_awake labels b ≡ true
+second_of : (labels : Labels) (o : Option ℕ) (b : ℕ) → second_awake labels o ≡ true → o ≡ Some b → is_mover_awake labels b ≡ true
 second_of labels None b h e = absurd (let none : None ≡ Some b = e in cc)
-second_of labels (Some c) b h e = let same : c ≡ b = cc in let P : ℕ → Type 0 = λ v. is_awake labels v ≡ true in subst P same h
+second_of labels (Some c) b h e = let same : c ≡ b = cc in let P : ℕ → Type 0 = λ v. is_mover_awake labels v ≡ true in subst P same h
 
 pub record AreUp (labels : Labels) (m : Movers) : Type 0 where
-  pub first : is_awake labels m.first ≡ true
-  pub second : (b : ℕ) → m.second ≡ Some b → is_awake labels b ≡ true
+  pub first : is_mover_awake labels m.first ≡ true
+  pub second : (b : ℕ) → m.second ≡ Some b → is_mover_awake labels b ≡ true
   pub movers : AreMovers labels m
 
 pub are_up : (labels : Labels) (m : Movers) → are_awake labels m ≡ true → AreUp labels m
 are_up labels m a =
-    let both = and_is (is_awake labels m.first) (second_awake labels m.second) a in
-    let two : (b : ℕ) → m.second ≡ Some b → is_awake labels b ≡ true = λ b e. second_of labels m.second b both.1 e in
+    let both = and_is (is_mover_awake labels m.first) (second_awake labels m.second) a in
+    let two : (b : ℕ) → m.second ≡ Some b → is_mover_awake labels b ≡ true = λ b e. second_of labels m.second b both.1 e in
     record { first = both.0; second = two; movers = record { first = labelled_if (label_at labels m.first) both.0; second = λ b e. labelled_if (label_at labels b) (two b e) } }
 
 -- ---- several begin
@@ -55,7 +55,7 @@ pub begin_next : {C : Type 0} (number : C → ℕ) (m : Member C) (ms : List (Me
 unfolding begun
 begin_next {C} number m ms s w can =
     let up = are_up s.labels m.movers (can.awake m (contains_head m ms)) in
-    let same : (t : ℕ) → is_awake (united m.movers.second m.movers.first s.labels) t ≡ is_awake s.labels t = λ t. united_awake s.labels m.movers.first t m.movers.second w.islands.partition up.movers.first up.movers.second up.first up.second in
+    let same : (t : ℕ) → is_mover_awake (united m.movers.second m.movers.first s.labels) t ≡ is_mover_awake s.labels t = λ t. united_awake s.labels m.movers.first t m.movers.second w.islands.partition up.movers.first up.movers.second up.first up.second in
     record {
       rising = pairs_tail (λ a b. number a.id < number b.id) m ms can.rising;
       fresh = λ x h.
@@ -79,7 +79,7 @@ pub end_next : {C : Type 0} (number : C → ℕ) (m : Member C) (ms : List (Memb
 unfolding ended
 end_next {C} number m ms s w can =
     let up = are_up s.labels m.movers (can.awake m (contains_head m ms)) in
-    let same : (t : ℕ) → is_awake (parted m.movers.second m.movers.first s.labels) t ≡ is_awake s.labels t = λ t. parted_awake s.labels m.movers.first t m.movers.second w.islands.partition up.first in
+    let same : (t : ℕ) → is_mover_awake (parted m.movers.second m.movers.first s.labels) t ≡ is_mover_awake s.labels t = λ t. parted_awake s.labels m.movers.first t m.movers.second w.islands.partition up.first in
     record {
       rising = pairs_tail (λ a b. number a.id < number b.id) m ms can.rising;
       there = λ x h.
@@ -126,7 +126,7 @@ second_labelled number (Some slot) s = woken_labelled number slot s
 pub both_labelled : {C : Type 0} (number : C → ℕ) (m : Movers) (s : Acting C) → Labelled s.labels (movers_woken number m s).labels
 both_labelled number m s = λ t h. second_labelled number m.second (woken_at number m.first s) t (woken_labelled number m.first s t h)
 
-pub changed_labelled : {C : Type 0} (number : C → ℕ) (c : Change C) (s : Acting C) → Labelled s.labels (changed number c s).labels
+pub changed_labelled : {C : Type 0} (number : C → ℕ) (c : Change C) (s : Acting C) → Labelled s.labels (after_change number c s).labels
 unfolding begun ended
 changed_labelled number (Begin m) s = λ t h. united_labelled (movers_woken number m.movers s).labels m.movers.first t m.movers.second (both_labelled number m.movers s t h)
 changed_labelled number (End m) s = λ t h. parted_labelled (movers_woken number m.movers s).labels m.movers.first t m.movers.second (both_labelled number m.movers s t h)
@@ -135,16 +135,16 @@ pub change_now : {C : Type 0} (number : C → ℕ) (old now : Labels) (ties : Li
 change_now number old now ties (Begin m) cs on h = (h.0, movers_on old now m.movers on h.1)
 change_now number old now ties (End m) cs on h = h.0
 
-pub change_next : {C : Type 0} (number : C → ℕ) (old : Labels) (s : Acting C) (c : Change C) (cs : List (Change C)) → AreChanges number old s.ties (c ∷ cs) → AreChanges number old (changed number c s).ties cs
+pub change_next : {C : Type 0} (number : C → ℕ) (old : Labels) (s : Acting C) (c : Change C) (cs : List (Change C)) → AreChanges number old s.ties (c ∷ cs) → AreChanges number old (after_change number c s).ties cs
 unfolding begun ended
 change_next {C} number old s (Begin m) cs h = let P : List (Member C) → Type 0 = λ v. AreChanges number old (inserted number m v) cs in subst P (sym (both_ties number m.movers s)) h.2
-change_next {C} number old s (End m) cs h = let P : List (Member C) → Type 0 = λ v. AreChanges number old (without number m.id v) cs in subst P (sym (both_ties number m.movers s)) h.1
+change_next {C} number old s (End m) cs h = let P : List (Member C) → Type 0 = λ v. AreChanges number old (without_member number m.id v) cs in subst P (sym (both_ties number m.movers s)) h.1
 
 pub one_count : {C : Type 0} (n room : ℕ) (c : Change C) (cs : List (Change C)) → n + begin_count (c ∷ cs) ≤ room → n + begin_count (c ∷ []) ≤ room
 one_count n room (Begin m) cs h = let k : n + suc (begin_count cs) ≤ room = h in omega (arith, k)
 one_count n room (End m) cs h = omega (arith, h)
 
-pub count_next : {C : Type 0} (number : C → ℕ) (s : Acting C) (room : ℕ) (c : Change C) (cs : List (Change C)) → length s.ties + begin_count (c ∷ cs) ≤ room → length (changed number c s).ties + begin_count cs ≤ room
+pub count_next : {C : Type 0} (number : C → ℕ) (s : Acting C) (room : ℕ) (c : Change C) (cs : List (Change C)) → length s.ties + begin_count (c ∷ cs) ≤ room → length (after_change number c s).ties + begin_count cs ≤ room
 unfolding begun ended
 count_next {C} number s room (Begin m) cs h =
     let k : length s.ties + suc (begin_count cs) ≤ room = h in
@@ -153,5 +153,5 @@ count_next {C} number s room (Begin m) cs h =
     omega (arith, k, same, more)
 count_next {C} number s room (End m) cs h =
     let same : length (movers_woken number m.movers s).ties ≡ length s.ties = ap (λ (l : List (Member C)). length l) (both_ties number m.movers s) in
-    let less : length (without number m.id (movers_woken number m.movers s).ties) ≤ length (movers_woken number m.movers s).ties = without_fewer number m.id (movers_woken number m.movers s).ties in
+    let less : length (without_member number m.id (movers_woken number m.movers s).ties) ≤ length (movers_woken number m.movers s).ties = without_fewer number m.id (movers_woken number m.movers s).ties in
     omega (arith, h, same, less)

@@ -20,7 +20,7 @@ use Rattle.islands.specs.Labels.{Labels, label_at, is_in, IsIn, rested, woken}
 use Rattle.islands.specs.Partition.{AreIslands}
 use Rattle.islands.proofs.JoinLemmas.{contains_cases, contains_head, contains_tail}
 use Rattle.sleep_wake.specs.Acting.{Acting, acting, link_of, links_of}
-use Rattle.sleep_wake.specs.Waking.{second_in, has_mover_of, ties_of, placed_all, released_all, set_woken, put_to_rest}
+use Rattle.sleep_wake.specs.Waking.{second_in, has_mover_of, ties_of_mover, placed_all, released_all, set_woken, put_to_rest}
 use Rattle.sleep_wake.specs.SleepPhase.{edges_in}
 use Rattle.sleep_wake.specs.Indexed.{AreByMover}
 use Rattle.sleep_wake.specs.Gathered.{is_first, is_first_of, firsts_at, firsts_of}
@@ -207,16 +207,16 @@ gathered_are {C} number ties lists labels name slots sorted rising w by_mover al
     ∙ or_first (is_in (label_at labels m.movers.first) name) (second_in labels name m.movers.second) (second_with_first ties labels name m m.movers.second w h refl))
 
 -- what becomes of the sets, by the list that was gathered
-pub woken_by_list : {C : Type 0} (number : C → ℕ) (name : ℕ) (s : Acting C) (list : List (Member C)) (labels : Labels) (lists : List (List (Member C))) → list ≡ ties_of s name → labels ≡ woken s.labels name → lists ≡ placed_all number s.lists list → acting s.ties labels lists ≡ set_woken number name s
+pub woken_by_list : {C : Type 0} (number : C → ℕ) (name : ℕ) (s : Acting C) (list : List (Member C)) (labels : Labels) (lists : List (List (Member C))) → list ≡ ties_of_mover s name → labels ≡ woken s.labels name → lists ≡ placed_all number s.lists list → acting s.ties labels lists ≡ set_woken number name s
 unfolding set_woken
 woken_by_list {C} number name s list labels lists own named placed =
-    let all : lists ≡ placed_all number s.lists (ties_of s name) = placed ∙ ap (λ (l : List (Member C)). placed_all number s.lists l) own in
+    let all : lists ≡ placed_all number s.lists (ties_of_mover s name) = placed ∙ ap (λ (l : List (Member C)). placed_all number s.lists l) own in
     λ i. record { ties = s.ties; labels = named i; lists = all i }
 
-pub rested_by_list : {C : Type 0} (number : C → ℕ) (name : ℕ) (s : Acting C) (list : List (Member C)) (labels : Labels) (lists : List (List (Member C))) → list ≡ ties_of s name → labels ≡ rested s.labels name → lists ≡ released_all number s.lists list → acting s.ties labels lists ≡ put_to_rest number name s
+pub rested_by_list : {C : Type 0} (number : C → ℕ) (name : ℕ) (s : Acting C) (list : List (Member C)) (labels : Labels) (lists : List (List (Member C))) → list ≡ ties_of_mover s name → labels ≡ rested s.labels name → lists ≡ released_all number s.lists list → acting s.ties labels lists ≡ put_to_rest number name s
 unfolding put_to_rest
 rested_by_list {C} number name s list labels lists own named released =
-    let all : lists ≡ released_all number s.lists (ties_of s name) = released ∙ ap (λ (l : List (Member C)). released_all number s.lists l) own in
+    let all : lists ≡ released_all number s.lists (ties_of_mover s name) = released ∙ ap (λ (l : List (Member C)). released_all number s.lists l) own in
     λ i. record { ties = s.ties; labels = named i; lists = all i }
 
 -- ---- links

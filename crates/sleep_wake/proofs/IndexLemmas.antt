@@ -10,7 +10,7 @@ use Rattle.std.proofs.lemmas.List.Kept.{AllPairs-filter, AllPairs-cons}
 use Rattle.graph_colours.specs.declared.member.Movers.{Movers}
 use Rattle.graph_colours.specs.declared.member.Member.{Member}
 use Rattle.graph_colours.specs.Movers.{is_slot, has_mover}
-use Rattle.graph_colours.specs.Members.{AreRising, has_id, inserted, without, movers_of}
+use Rattle.graph_colours.specs.Members.{AreRising, has_id, inserted, without_member, movers_of}
 use Rattle.graph_colours.specs.Colours.{list_at}
 use Rattle.graph_colours.specs.Given.{members_of}
 use Rattle.graph_colours.proofs.Cases.{by_test}
@@ -54,8 +54,8 @@ past_end [] (suc i) le = refl
 past_end (x ∷ xs) zero le = absurd (omega arith)
 past_end (x ∷ xs) (suc i) le = past_end xs i (omega arith)
 
-pub taken_beyond : {C : Type 0} (number : C → ℕ) (id : C) (lists : List (Vec (Member C) Global)) (place : ℕ) → length lists ≤ place → AreChangedWhere (λ s. place == s) (without number id) (members_of lists) (members_of lists)
-unfolding without
+pub taken_beyond : {C : Type 0} (number : C → ℕ) (id : C) (lists : List (Vec (Member C) Global)) (place : ℕ) → length lists ≤ place → AreChangedWhere (λ s. place == s) (without_member number id) (members_of lists) (members_of lists)
+unfolding without_member
 taken_beyond {C} number id lists place le slot =
     let ls : List (List (Member C)) = members_of lists in
     let f : Vec (Member C) Global → List (Member C) = vec_items in
@@ -63,8 +63,8 @@ taken_beyond {C} number id lists place le slot =
     let none : get_or ls place [] ≡ [] = past_end ls place (omega (arith, long, le)) in
     elim (cases_eq place slot) [
       | inl e ↦
-          let P : ℕ → Type 0 = λ s. list_at ls s ≡ cond (place == s) (without number id (list_at ls s)) (list_at ls s) in
-          subst P e (rw (is_same place place refl) (none ∙ ap (λ (l : List (Member C)). without number id l) (sym none)))
+          let P : ℕ → Type 0 = λ s. list_at ls s ≡ cond (place == s) (without_member number id (list_at ls s)) (list_at ls s) in
+          subst P e (rw (is_same place place refl) (none ∙ ap (λ (l : List (Member C)). without_member number id l) (sym none)))
       | inr e ↦ rw (not_same place slot e) refl
     ]
 
@@ -98,10 +98,10 @@ twice_by f x y z true false e a b = b ∙ a
 twice_by f x y z false true e a b = b ∙ ap f a
 twice_by f x y z false false e a b = b ∙ a
 
-pub taken_both : {C : Type 0} (number : C → ℕ) (id : C) (movers : Movers) (second : ℕ) (old then now : List (List (Member C))) → movers.second ≡ Some second → AreChangedWhere (λ s. movers.first == s) (without number id) old then → AreChangedWhere (λ s. second == s) (without number id) then now → IsTakenOut number id movers old now
+pub taken_both : {C : Type 0} (number : C → ℕ) (id : C) (movers : Movers) (second : ℕ) (old then now : List (List (Member C))) → movers.second ≡ Some second → AreChangedWhere (λ s. movers.first == s) (without_member number id) old then → AreChangedWhere (λ s. second == s) (without_member number id) then now → IsTakenOut number id movers old now
 taken_both number id movers second old then now is a b slot =
     let u : is_slot movers.second slot ≡ (second == slot) = ap (λ (o : Option ℕ). is_slot o slot) is in
-    rw u (twice_by (without number id) (list_at old slot) (list_at then slot) (list_at now slot) (movers.first == slot) (second == slot) (without_same number id (without number id (list_at old slot)) (has_without number id (list_at old slot))) (a slot) (b slot))
+    rw u (twice_by (without_member number id) (list_at old slot) (list_at then slot) (list_at now slot) (movers.first == slot) (second == slot) (without_same number id (without_member number id (list_at old slot)) (has_without number id (list_at old slot))) (a slot) (b slot))
 
 or_none : (t : Bool) → (t || false) ≡ t
 or_none true = refl
@@ -129,11 +129,11 @@ not_first : (t u : Bool) → (not t && u) ≡ true → t ≡ false
 not_first true u h = absurd (false≢true h)
 not_first false u h = refl
 
-rises_by : {C : Type 0} (number : C → ℕ) (id : C) (ms : List (Member C)) (t : Bool) → AreRising number ms → AreRising number (cond t (without number id ms) ms)
+rises_by : {C : Type 0} (number : C → ℕ) (id : C) (ms : List (Member C)) (t : Bool) → AreRising number ms → AreRising number (cond t (without_member number id ms) ms)
 rises_by number id ms true rising = rising_without number id ms rising
 rises_by number id ms false rising = rising
 
-pub still_rising : {C : Type 0} (number : C → ℕ) (id : C) (test : ℕ → Bool) (old now : List (List (Member C))) → AreAllRising number old → AreChangedWhere test (without number id) old now → AreAllRising number now
+pub still_rising : {C : Type 0} (number : C → ℕ) (id : C) (test : ℕ → Bool) (old now : List (List (Member C))) → AreAllRising number old → AreChangedWhere test (without_member number id) old now → AreAllRising number now
 still_rising {C} number id test old now rising changed slot =
     let P : List (Member C) → Type 0 = λ l. AreRising number l in
     subst P (sym (changed slot)) (rises_by number id (list_at old slot) (test slot) (rising slot))
@@ -182,23 +182,23 @@ filters_swap : {X : Type 0} (p q : X → Bool) (xs : List X) → filter p (filte
 filters_swap p q [] = refl
 filters_swap p q (x ∷ xs) = swap_by p q x (filter p xs) (filter q xs) (p x) (q x) refl refl (filters_swap p q xs)
 
-pub filter_without : {C : Type 0} (number : C → ℕ) (p : Member C → Bool) (id : C) (ms : List (Member C)) → filter p (without number id ms) ≡ without number id (filter p ms)
-unfolding without
+pub filter_without : {C : Type 0} (number : C → ℕ) (p : Member C → Bool) (id : C) (ms : List (Member C)) → filter p (without_member number id ms) ≡ without_member number id (filter p ms)
+unfolding without_member
 filter_without number p id ms = filters_swap p (λ m. not (number m.id == number id)) ms
 
-later_left : {C : Type 0} (number : C → ℕ) (id : C) (p : Member C → Bool) (x : Member C) (xs : List (Member C)) → AreRising number (x ∷ xs) → number x.id ≡ number id → without number id (filter p xs) ≡ filter p xs
+later_left : {C : Type 0} (number : C → ℕ) (id : C) (p : Member C → Bool) (x : Member C) (xs : List (Member C)) → AreRising number (x ∷ xs) → number x.id ≡ number id → without_member number id (filter p xs) ≡ filter p xs
 later_left {C} number id p x xs rising same =
     let Above : Member C → Type 0 = λ y. number x.id < number y.id in
     let all : All Above (filter p xs) = All-filter p Above xs (pairs_head (λ a b. number a.id < number b.id) x xs rising) in
     sym (without_none number id (filter p xs) (λ k d lt e. let up : number x.id < number (get_or (filter p xs) k d).id = all k d lt in omega (arith, up, e, same)))
 
-left_by : {C : Type 0} (number : C → ℕ) (id : C) (x : Member C) (fs : List (Member C)) (t u : Bool) → (number x.id == number id) ≡ t → (t ≡ true → u ≡ false) → without number id fs ≡ fs → without number id (cond u (x ∷ fs) fs) ≡ cond u (x ∷ fs) fs
-unfolding without
+left_by : {C : Type 0} (number : C → ℕ) (id : C) (x : Member C) (fs : List (Member C)) (t u : Bool) → (number x.id == number id) ≡ t → (t ≡ true → u ≡ false) → without_member number id fs ≡ fs → without_member number id (cond u (x ∷ fs) fs) ≡ cond u (x ∷ fs) fs
+unfolding without_member
 left_by number id x fs true true a off e = absurd (false≢true (sym (off refl)))
 left_by number id x fs false true a off e = rw a (ap (λ l. x ∷ l) e)
 left_by number id x fs t false a off e = e
 
-rest_left : {C : Type 0} (number : C → ℕ) (id : C) (movers : Movers) (p : Member C → Bool) (x : Member C) (xs : List (Member C)) (t : Bool) → (number x.id == number id) ≡ t → AreRising number (x ∷ xs) → cond t (Some x.movers) (movers_of number id xs) ≡ Some movers → (movers_of number id xs ≡ Some movers → without number id (filter p xs) ≡ filter p xs) → without number id (filter p xs) ≡ filter p xs
+rest_left : {C : Type 0} (number : C → ℕ) (id : C) (movers : Movers) (p : Member C → Bool) (x : Member C) (xs : List (Member C)) (t : Bool) → (number x.id == number id) ≡ t → AreRising number (x ∷ xs) → cond t (Some x.movers) (movers_of number id xs) ≡ Some movers → (movers_of number id xs ≡ Some movers → without_member number id (filter p xs) ≡ filter p xs) → without_member number id (filter p xs) ≡ filter p xs
 rest_left number id movers p x xs true a rising is rec = later_left number id p x xs rising (same_from (number x.id) (number id) a)
 rest_left number id movers p x xs false a rising is rec = rec is
 
@@ -210,8 +210,8 @@ head_off number id movers x xs slot true is off q = ap (λ (v : Movers). has_mov
 head_off number id movers x xs slot false is off q = absurd (false≢true q)
 
 -- the one with the id isn't among those of another mover
-none_left : {C : Type 0} (number : C → ℕ) (id : C) (movers : Movers) (slot : ℕ) (ms : List (Member C)) → AreRising number ms → movers_of number id ms ≡ Some movers → has_mover movers slot ≡ false → without number id (ties_of ms slot) ≡ ties_of ms slot
-unfolding without
+none_left : {C : Type 0} (number : C → ℕ) (id : C) (movers : Movers) (slot : ℕ) (ms : List (Member C)) → AreRising number ms → movers_of number id ms ≡ Some movers → has_mover movers slot ≡ false → without_member number id (ties_of ms slot) ≡ ties_of ms slot
+unfolding without_member
 none_left number id movers slot [] rising is off = refl
 none_left {C} number id movers slot (x ∷ xs) rising is off =
     let p : Member C → Bool = λ m. has_mover m.movers slot in
@@ -229,10 +229,10 @@ ties_added {C} number m ties old now rising by added slot =
     let f : List (Member C) → List (Member C) = λ l. cond (has_mover m.movers slot) (inserted number m l) l in
     added slot ∙ ap f (by slot) ∙ sym (filter_inserted number (λ x. has_mover x.movers slot) m ties rising)
 
-pub ties_taken : {C : Type 0} (number : C → ℕ) (id : C) (movers : Movers) (ties : List (Member C)) (old now : List (List (Member C))) → AreRising number ties → movers_of number id ties ≡ Some movers → AreByMover ties old → IsTakenOut number id movers old now → AreByMover (without number id ties) now
+pub ties_taken : {C : Type 0} (number : C → ℕ) (id : C) (movers : Movers) (ties : List (Member C)) (old now : List (List (Member C))) → AreRising number ties → movers_of number id ties ≡ Some movers → AreByMover ties old → IsTakenOut number id movers old now → AreByMover (without_member number id ties) now
 ties_taken {C} number id movers ties old now rising is by taken slot =
-    let f : List (Member C) → List (Member C) = λ l. cond (has_mover movers slot) (without number id l) l in
-    taken slot ∙ ap f (by slot) ∙ sym (filter_without number (λ x. has_mover x.movers slot) id ties ∙ where_by (without number id (ties_of ties slot)) (ties_of ties slot) (has_mover movers slot) (none_left number id movers slot ties rising is))
+    let f : List (Member C) → List (Member C) = λ l. cond (has_mover movers slot) (without_member number id l) l in
+    taken slot ∙ ap f (by slot) ∙ sym (filter_without number (λ x. has_mover x.movers slot) id ties ∙ where_by (without_member number id (ties_of ties slot)) (ties_of ties slot) (has_mover movers slot) (none_left number id movers slot ties rising is))
 
 pub all_rising : {C : Type 0} (number : C → ℕ) (ties : List (Member C)) (lists : List (List (Member C))) → AreRising number ties → AreByMover ties lists → AreAllRising number lists
 all_rising {C} number ties lists rising by slot =
@@ -259,14 +259,14 @@ indexed_more {C} number m ties then before pending settled was holds old now kep
 absent_by : {C : Type 0} (number : C → ℕ) (id : C) (ms : List (Member C)) → None ≡ movers_of number id ms → has_id number id ms ≡ false
 absent_by number id ms none = sym (has_movers number id ms) ∙ sym (ap is_some none)
 
-less_by : {C : Type 0} (number : C → ℕ) (id : C) (ties : List (Member C)) (holds : Bool) (old now : List (List (Member C))) (movers : Option Movers) → movers ≡ movers_of number id ties → AreRising number ties → (holds ≡ true → AreByMover ties old) → (movers ≡ None → now ≡ old) → (holds ≡ true → (m : Movers) → movers ≡ Some m → IsTakenOut number id m old now) → holds ≡ true → AreByMover (without number id ties) now
+less_by : {C : Type 0} (number : C → ℕ) (id : C) (ties : List (Member C)) (holds : Bool) (old now : List (List (Member C))) (movers : Option Movers) → movers ≡ movers_of number id ties → AreRising number ties → (holds ≡ true → AreByMover ties old) → (movers ≡ None → now ≡ old) → (holds ≡ true → (m : Movers) → movers ≡ Some m → IsTakenOut number id m old now) → holds ≡ true → AreByMover (without_member number id ties) now
 less_by {C} number id ties holds old now None is rising by none taken q =
-    let P : List (List (Member C)) → Type 0 = λ l. AreByMover (without number id ties) l in
+    let P : List (List (Member C)) → Type 0 = λ l. AreByMover (without_member number id ties) l in
     let Q : List (Member C) → Type 0 = λ l. AreByMover l old in
     subst P (sym (none refl)) (subst Q (sym (without_same number id ties (absent_by number id ties is))) (by q))
 less_by number id ties holds old now (Some m) is rising by none taken q = ties_taken number id m ties old now rising (sym is) (by q) (taken q m refl)
 
-pub indexed_less : {C : Type 0} (number : C → ℕ) (id : C) (ties then : List (Member C)) (before pending : ℕ) (settled holds : Bool) (old now : List (List (Member C))) (movers : Option Movers) → IsIndexed number ties before settled holds old → movers ≡ movers_of number id ties → then ≡ without number id ties → (movers ≡ None → now ≡ old) → (holds ≡ true → (m : Movers) → movers ≡ Some m → IsTakenOut number id m old now) → (holds ≡ false → pending ≡ 0) → IsIndexed number then pending false holds now
+pub indexed_less : {C : Type 0} (number : C → ℕ) (id : C) (ties then : List (Member C)) (before pending : ℕ) (settled holds : Bool) (old now : List (List (Member C))) (movers : Option Movers) → IsIndexed number ties before settled holds old → movers ≡ movers_of number id ties → then ≡ without_member number id ties → (movers ≡ None → now ≡ old) → (holds ≡ true → (m : Movers) → movers ≡ Some m → IsTakenOut number id m old now) → (holds ≡ false → pending ≡ 0) → IsIndexed number then pending false holds now
 indexed_less {C} number id ties then before pending settled holds old now movers kept found is none taken lapsed =
     let P : List (Member C) → Type 0 = λ l. AreRising number l in
     let Q : List (Member C) → Type 0 = λ l. AreByMover l now in

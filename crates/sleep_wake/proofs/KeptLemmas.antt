@@ -4,7 +4,7 @@ use Rattle.std.specs.Prelude.{Contains}
 use Rattle.std.proofs.lemmas.Bool.{false≢true, cases_eq}
 use Rattle.graph_colours.specs.declared.member.Movers.{Movers}
 use Rattle.graph_colours.specs.declared.member.Member.{Member}
-use Rattle.graph_colours.specs.Members.{has_id, inserted, without}
+use Rattle.graph_colours.specs.Members.{has_id, inserted, without_member}
 use Rattle.graph_colours.proofs.ListLemmas.{rising_inserted, rising_without}
 use Rattle.graph_colours.proofs.ColouringLemmas.{released_keeps}
 use Rattle.islands.specs.declared.label.IslandState.{IslandState}
@@ -17,12 +17,12 @@ use Rattle.islands.proofs.JoinLemmas.{joined_within, linked_back}
 use Rattle.islands.proofs.LabelLemmas.{in_of, one_label}
 use Rattle.islands.proofs.KeptLemmas.{same_links, changing_state, loosening, merging}
 use Rattle.islands.proofs.SplitLemmas.{IsLabelled}
-use Rattle.sleep_wake.specs.Acting.{Acting, AreMovers, IsSettled, links_of, awake_label, is_awake, second_awake, are_awake}
+use Rattle.sleep_wake.specs.Acting.{Acting, AreMovers, IsSettled, links_of, awake_label, is_mover_awake, second_awake, are_awake}
 use Rattle.sleep_wake.specs.declared.change.Change.{Change}
 use Rattle.sleep_wake.specs.declared.change.Change.TheVariants.{Begin, End}
 use Rattle.sleep_wake.specs.Changes.{parted, united, ended, begun, turned}
 use Rattle.sleep_wake.specs.ChangeLists.{AreChanges}
-use Rattle.sleep_wake.specs.Waking.{ties_of, has_mover_of, set_woken, woken_by, woken_at, second_woken, movers_woken, put_to_rest}
+use Rattle.sleep_wake.specs.Waking.{ties_of_mover, has_mover_of, set_woken, woken_by, woken_at, second_woken, movers_woken, put_to_rest}
 use Rattle.sleep_wake.specs.Laws.{WakingKeeps, TurningKeeps, RestingKeeps, SleepersAreOneComponent, LinkedStandTogether, EndingKeeps, BeginningKeeps}
 use Rattle.sleep_wake.proofs.ListLemmas.{filter_in, in_filter, without_in, in_without, inserted_in, in_inserted, one_of, has_from, absent_from, places_one, places, Places, releases, Releases, released_in, in_released, rising_filter, link_in, in_links, links_more}
 use Rattle.sleep_wake.proofs.AwakeLemmas.{and_is, all_awake, awake_first, same_awake, NoneIn, of_island, tie_together, awake_in, awake_out, awake_as, stated_labelled, in_or_out, parted_awake, parted_labelled, united_awake, united_labelled}
@@ -40,7 +40,7 @@ movers_on : (old new : Labels) (m : Movers) → Labelled old new → AreMovers o
 movers_on old new m f h = record { first = f m.first h.first; second = λ b e. f b (h.second b e) }
 
 -- one whose first mover is asleep doesn't act
-not_acting : {C : Type 0} (number : C → ℕ) (s : Acting C) (m : Member C) → is_awake s.labels m.movers.first ≡ false → are_awake s.labels m.movers ≡ true → ⊥
+not_acting : {C : Type 0} (number : C → ℕ) (s : Acting C) (m : Member C) → is_mover_awake s.labels m.movers.first ≡ false → are_awake s.labels m.movers ≡ true → ⊥
 not_acting number s m h k = false≢true (sym h ∙ awake_first s.labels m.movers.first m.movers.second k)
 
 -- ---- a set wakes
@@ -49,12 +49,12 @@ waking : {C : Type 0} (number : C → ℕ) (s : Acting C) (name : ℕ) (l : Labe
 unfolding set_woken woken
 waking {C} number s name l w e k a =
     let new : Labels = with_state name Whole s.labels in
-    let down : (t : ℕ) → IsIn s.labels name t → is_awake s.labels t ≡ false = λ t h. awake_as s.labels name t l w.islands.partition e k h ∙ ap not a in
+    let down : (t : ℕ) → IsIn s.labels name t → is_mover_awake s.labels t ≡ false = λ t h. awake_as s.labels name t l w.islands.partition e k h ∙ ap not a in
     let rest : (x : Member C) → Contains s.ties x → has_mover_of s.labels name x ≡ true → are_awake s.labels x.movers ≡ true → ⊥ = λ x h q r. elim (of_island number s name x w h) [
       | inl p ↦ not_acting number s x (down x.movers.first p.1.one) r
       | inr p ↦ false≢true (sym p.0 ∙ q)
     ] in
-    let many : Places number s.lists (ties_of s name) = places number (ties_of s name) s.lists w.colouring (rising_filter number (has_mover_of s.labels name) s.ties w.rising)
+    let many : Places number s.lists (ties_of_mover s name) = places number (ties_of_mover s name) s.lists w.colouring (rising_filter number (has_mover_of s.labels name) s.ties w.rising)
     (λ x h. let o = filter_in (has_mover_of s.labels name) s.ties x h in absent_from number x.id s.lists (λ y q r.
     let p = (w.acting y).0 q in
     let same : y ≡ x = one_of number s.ties y x w.rising p.0 o.0 r in
@@ -94,8 +94,8 @@ pub record Wakes {C : Type 0} (number : C → ℕ) (slot : ℕ) (s new : Acting 
   pub settled : IsSettled number new
   pub ties : new.ties ≡ s.ties
   pub labelled : (t : ℕ) → IsLabelled s.labels t → IsLabelled new.labels t
-  pub more : (t : ℕ) → is_awake s.labels t ≡ true → is_awake new.labels t ≡ true
-  pub awake : IsLabelled s.labels slot → is_awake new.labels slot ≡ true
+  pub more : (t : ℕ) → is_mover_awake s.labels t ≡ true → is_mover_awake new.labels t ≡ true
+  pub awake : IsLabelled s.labels slot → is_mover_awake new.labels slot ≡ true
 
 woken_set : {C : Type 0} (number : C → ℕ) (slot : ℕ) (s : Acting C) (l : Label) → IsSettled number s → label_at s.labels slot ≡ Some l → is_asleep l.state ≡ true → Wakes number slot s (set_woken number l.name s)
 unfolding set_woken woken
@@ -126,8 +126,8 @@ pub record WakesBoth {C : Type 0} (number : C → ℕ) (first : ℕ) (second : O
   pub settled : IsSettled number new
   pub ties : new.ties ≡ s.ties
   pub labelled : (t : ℕ) → IsLabelled s.labels t → IsLabelled new.labels t
-  pub one : IsLabelled s.labels first → is_awake new.labels first ≡ true
-  pub two : (b : ℕ) → second ≡ Some b → IsLabelled s.labels b → is_awake new.labels b ≡ true
+  pub one : IsLabelled s.labels first → is_mover_awake new.labels first ≡ true
+  pub two : (b : ℕ) → second ≡ Some b → IsLabelled s.labels b → is_mover_awake new.labels b ≡ true
 
 pub wakes_both : {C : Type 0} (number : C → ℕ) (first : ℕ) (o : Option ℕ) (s : Acting C) → IsSettled number s → WakesBoth number first o s (second_woken number o (woken_at number first s))
 wakes_both number first None s w = let a = wakes number first s w in record { settled = a.settled; ties = a.ties; labelled = a.labelled; one = a.awake; two = λ b e h. absurd (let no : None ≡ Some b = e in cc) }
@@ -139,16 +139,16 @@ wakes_both number first (Some c) s w =
       ties = d.ties ∙ a.ties;
       labelled = λ t h. d.labelled t (a.labelled t h);
       one = λ h. d.more first (a.awake h);
-      two = λ b e h. let same : c ≡ b = cc in let P : ℕ → Type 0 = λ v. is_awake (woken_at number c (woken_at number first s)).labels v ≡ true in
+      two = λ b e h. let same : c ≡ b = cc in let P : ℕ → Type 0 = λ v. is_mover_awake (woken_at number c (woken_at number first s)).labels v ≡ true in
           let Q : ℕ → Type 0 = λ v. IsLabelled s.labels v in
           subst P same (d.awake (a.labelled c (subst Q (sym same) h)));
     }
 
 -- ---- one ends
 
-ended_islands : {C : Type 0} (number : C → ℕ) (s : Acting C) (m : Member C) (o : Option ℕ) → m.movers.second ≡ o → IsSettled number s → Contains s.ties m → AreIslands (Linked (links_of (without number m.id s.ties))) (parted o m.movers.first s.labels)
+ended_islands : {C : Type 0} (number : C → ℕ) (s : Acting C) (m : Member C) (o : Option ℕ) → m.movers.second ≡ o → IsSettled number s → Contains s.ties m → AreIslands (Linked (links_of (without_member number m.id s.ties))) (parted o m.movers.first s.labels)
 ended_islands {C} number s m None e w h =
-    let ns : List (Member C) = without number m.id s.ties in
+    let ns : List (Member C) = without_member number m.id s.ties in
     let off : (x : Member C) (b : ℕ) → Contains s.ties x → x.movers.second ≡ Some b → number x.id ≢ number m.id = λ x b k q r.
     let same : x ≡ m = one_of number s.ties x m w.rising k h r in
     let no : None ≡ Some b = sym e ∙ ap (λ (v : Member C). v.movers.second) (sym same) ∙ q in cc in
@@ -160,7 +160,7 @@ ended_islands {C} number s m None e w h =
     (λ a b k. links_more ns s.ties (λ x q. (without_in number m.id s.ties x q).0) a b k)
     w.islands
 ended_islands {C} number s m (Some c) e w h =
-    let ns : List (Member C) = without number m.id s.ties in
+    let ns : List (Member C) = without_member number m.id s.ties in
     let pair : AreTogether s.labels m.movers.first c = tie_together number s m c w h e in
     loosening (Linked (links_of s.ties)) (Linked (links_of ns)) s.labels m.movers.first w.islands (record {
       kept = λ a b k. links_more ns s.ties (λ x q. (without_in number m.id s.ties x q).0) a b k;
@@ -180,12 +180,12 @@ ended_islands {C} number s m (Some c) e w h =
       ];
     })
 
-pub ending : {C : Type 0} (number : C → ℕ) (s : Acting C) (m : Member C) → IsSettled number s → Contains s.ties m → is_awake s.labels m.movers.first ≡ true → IsSettled number (ended number m s)
+pub ending : {C : Type 0} (number : C → ℕ) (s : Acting C) (m : Member C) → IsSettled number s → Contains s.ties m → is_mover_awake s.labels m.movers.first ≡ true → IsSettled number (ended number m s)
 unfolding ended
 ending {C} number s m w h a =
     let new : Labels = parted m.movers.second m.movers.first s.labels in
-    let ns : List (Member C) = without number m.id s.ties in
-    let same : (t : ℕ) → is_awake new t ≡ is_awake s.labels t = λ t. parted_awake s.labels m.movers.first t m.movers.second w.islands.partition a in
+    let ns : List (Member C) = without_member number m.id s.ties in
+    let same : (t : ℕ) → is_mover_awake new t ≡ is_mover_awake s.labels t = λ t. parted_awake s.labels m.movers.first t m.movers.second w.islands.partition a in
     let acts : (x : Member C) → are_awake new x.movers ≡ are_awake s.labels x.movers = λ x. same_awake s.labels new x.movers.first x.movers.second (same x.movers.first) (λ b e. same b) in
     record {
       rising = rising_without number m.id s.ties w.rising;
@@ -243,11 +243,11 @@ begun_islands {C} number s m (Some c) e w h =
       back = linked_back (links_of ns) m.movers.first c here;
     })
 
-pub beginning : {C : Type 0} (number : C → ℕ) (s : Acting C) (m : Member C) → IsSettled number s → has_id number m.id s.ties ≡ false → AreMovers s.labels m.movers → is_awake s.labels m.movers.first ≡ true → ((b : ℕ) → m.movers.second ≡ Some b → is_awake s.labels b ≡ true) → IsSettled number (begun number m s)
+pub beginning : {C : Type 0} (number : C → ℕ) (s : Acting C) (m : Member C) → IsSettled number s → has_id number m.id s.ties ≡ false → AreMovers s.labels m.movers → is_mover_awake s.labels m.movers.first ≡ true → ((b : ℕ) → m.movers.second ≡ Some b → is_mover_awake s.labels b ≡ true) → IsSettled number (begun number m s)
 unfolding begun
 beginning {C} number s m w fresh h a d =
     let new : Labels = united m.movers.second m.movers.first s.labels in
-    let same : (t : ℕ) → is_awake new t ≡ is_awake s.labels t = λ t. united_awake s.labels m.movers.first t m.movers.second w.islands.partition h.first h.second a d in
+    let same : (t : ℕ) → is_mover_awake new t ≡ is_mover_awake s.labels t = λ t. united_awake s.labels m.movers.first t m.movers.second w.islands.partition h.first h.second a d in
     let acts : (x : Member C) → are_awake new x.movers ≡ are_awake s.labels x.movers = λ x. same_awake s.labels new x.movers.first x.movers.second (same x.movers.first) (λ b e. same b) in
     let on : (t : ℕ) → IsLabelled s.labels t → IsLabelled new t = λ t q. united_labelled s.labels m.movers.first t m.movers.second q in
     let one = places_one number s.lists m w.colouring (absent_from number m.id s.lists (λ x q. has_from number m.id s.ties x fresh ((w.acting x).0 q).0)) in
@@ -291,7 +291,7 @@ turning {C} number old (End m ∷ changes) s w on h =
     let a = wakes_both number m.movers.first m.movers.second s w in
     let now : Acting C = movers_woken number m.movers s in
     let P : List (Member C) → Type 0 = λ v. Contains v m in
-    let Q : List (Member C) → Type 0 = λ v. AreChanges number old (without number m.id v) changes in
+    let Q : List (Member C) → Type 0 = λ v. AreChanges number old (without_member number m.id v) changes in
     let next : IsSettled number (ended number m now) = ending number now m a.settled (subst P (sym a.ties) h.0) (a.one (w.movers m h.0).first) in
     turning number old changes (ended number m now) next
     (λ t q. parted_labelled now.labels m.movers.first t m.movers.second (a.labelled t (on t q)))
@@ -303,7 +303,7 @@ pub resting : {C : Type 0} (number : C → ℕ) (s : Acting C) (name : ℕ) (l :
 unfolding put_to_rest rested
 resting {C} number s name l w e k n =
     let new : Labels = with_state name Asleep s.labels in
-    let many : Releases number s.lists (ties_of s name) = releases number (ties_of s name) s.lists w.colouring in
+    let many : Releases number s.lists (ties_of_mover s name) = releases number (ties_of_mover s name) s.lists w.colouring in
     let acts : (x : Member C) → NoneIn s.labels name x.movers.first x.movers.second → are_awake new x.movers ≡ are_awake s.labels x.movers = λ x p.
     same_awake s.labels new x.movers.first x.movers.second (awake_out s.labels name Asleep x.movers.first p.one) (λ b r. awake_out s.labels name Asleep b (p.two b r)) in
     record {
@@ -368,12 +368,12 @@ labelled_if : (o : Option Label) → awake_label o ≡ true → (l : Label) × (
 labelled_if None h = absurd (false≢true h)
 labelled_if (Some l) h = (l, refl)
 
-second_of : (labels : Labels) (o : Option ℕ) (b : ℕ) → second_awake labels o ≡ true → o ≡ Some b → is_awake labels b ≡ true
+second_of : (labels : Labels) (o : Option ℕ) (b : ℕ) → second_awake labels o ≡ true → o ≡ Some b → is_mover_awake labels b ≡ true
 second_of labels None b h e = absurd (let no : None ≡ Some b = e in cc)
-second_of labels (Some c) b h e = let same : c ≡ b = cc in let P : ℕ → Type 0 = λ v. is_awake labels v ≡ true in subst P same h
+second_of labels (Some c) b h e = let same : c ≡ b = cc in let P : ℕ → Type 0 = λ v. is_mover_awake labels v ≡ true in subst P same h
 
 pub beginning_keeps : {C : Type 0} (number : C → ℕ) → BeginningKeeps number
 beginning_keeps number s m w fresh a =
-    let both = and_is (is_awake s.labels m.movers.first) (second_awake s.labels m.movers.second) a in
-    let two : (b : ℕ) → m.movers.second ≡ Some b → is_awake s.labels b ≡ true = λ b e. second_of s.labels m.movers.second b both.1 e in
+    let both = and_is (is_mover_awake s.labels m.movers.first) (second_awake s.labels m.movers.second) a in
+    let two : (b : ℕ) → m.movers.second ≡ Some b → is_mover_awake s.labels b ≡ true = λ b e. second_of s.labels m.movers.second b both.1 e in
     beginning number s m w fresh (record { first = labelled_if (label_at s.labels m.movers.first) both.0; second = λ b e. labelled_if (label_at s.labels b) (two b e) }) both.0 two

@@ -7,20 +7,20 @@ use Rattle.graph_colours.specs.Members.{has_id}
 use Rattle.graph_colours.proofs.PlaceLemmas.{is_same, not_same, same_from}
 use Rattle.islands.specs.declared.label.IslandState.TheVariants.{Whole, Loose, Asleep}
 use Rattle.islands.specs.declared.label.Label.{Label}
-use Rattle.islands.specs.Labels.{Labels, label_at, is_in, is_loose, is_asleep, sleeping_name, relabel, relabelled, merged, merged_by, loosened, loosened_by, rested, woken, added, without, taken_out, lowest}
+use Rattle.islands.specs.Labels.{Labels, label_at, is_in, is_loose, is_asleep, sleeping_name, relabel, relabelled, merged, merged_by, loosened, loosened_by, rested, woken, added, left_alone, taken_out, lowest_member}
 use Rattle.islands.specs.Partition.{IsPartition}
 use Rattle.islands.proofs.JoinLemmas.{contains_cases, contains_head, contains_tail}
 use Rattle.islands.proofs.LabelLemmas.{relabel_at, others_stay, added_here, added_other, in_case, in_is}
 use Rattle.islands.proofs.SplitLemmas.{split_is}
 use Rattle.sleep_wake.specs.declared.change.Change.{Change}
 use Rattle.sleep_wake.specs.declared.change.Change.TheVariants.{Begin, End}
-use Rattle.sleep_wake.specs.Acting.{Acting, AreMovers, IsSettled, awake_label, is_awake}
+use Rattle.sleep_wake.specs.Acting.{Acting, AreMovers, IsSettled, awake_label, is_mover_awake}
 use Rattle.sleep_wake.specs.Bodies.{mover_made, mover_gone}
-use Rattle.sleep_wake.specs.Changes.{begun, ended, united, parted, each_begun, each_ended, changed, turned}
+use Rattle.sleep_wake.specs.Changes.{begun, ended, united, parted, each_begun, each_ended, after_change, turned}
 use Rattle.sleep_wake.specs.ChangeLists.{CanBegin, CanEnd, AreChanges}
 use Rattle.sleep_wake.specs.Waking.{set_woken, woken_by, woken_at, second_woken, movers_woken, put_to_rest}
 use Rattle.sleep_wake.specs.SleepPhase.{split_at, edges_of, split_picked, picked_to_split, all_put_to_rest, ready, sleep_phase}
-use Rattle.sleep_wake.specs.Sleeping.{name_at, with_one_name, with_name, names_from, names_of, islands_woken, split_if_loose, rested_by, rested_at, slept_by, slept_at}
+use Rattle.sleep_wake.specs.Sleeping.{name_at, with_one_name, with_name, names_from, sleeping_names, islands_woken, split_if_loose, rested_by, rested_at, slept_by, slept_at}
 use Rattle.sleep_wake.specs.Resting.{is_whole}
 use Rattle.sleep_wake.specs.Laws.{WakingNamedKeeps, BeginningEachKeeps, EndingEachKeeps, SleepKeeps, MoversStay, MoversComeAndGo, NobodyFallsAsleep, AwakeStayAwake, WakingLeavesTheAwake, TheNamedAreAwake, TheAwakeAct}
 use Rattle.sleep_wake.proofs.AwakeLemmas.{awake_as, united_awake, parted_awake}
@@ -145,13 +145,13 @@ each_ended_slots number (m ∷ ms) s = λ t. each_ended_slots number ms (ended n
 both_slots : {C : Type 0} (number : C → ℕ) (first : ℕ) (o : Option ℕ) (s : Acting C) → SameSlots s.labels (second_woken number o (woken_at number first s)).labels
 both_slots number first o s = λ t. second_slots number o (woken_at number first s) t ∙ woken_slots number first s t
 
-changed_slots : {C : Type 0} (number : C → ℕ) (c : Change C) (s : Acting C) → SameSlots s.labels (changed number c s).labels
+changed_slots : {C : Type 0} (number : C → ℕ) (c : Change C) (s : Acting C) → SameSlots s.labels (after_change number c s).labels
 changed_slots number (Begin m) s = λ t. begun_slots number m (movers_woken number m.movers s) t ∙ both_slots number m.movers.first m.movers.second s t
 changed_slots number (End m) s = λ t. ended_slots number m (movers_woken number m.movers s) t ∙ both_slots number m.movers.first m.movers.second s t
 
 turned_slots : {C : Type 0} (number : C → ℕ) (changes : List (Change C)) (s : Acting C) → SameSlots s.labels (turned number changes s).labels
 turned_slots number [] s = λ t. refl
-turned_slots number (c ∷ changes) s = λ t. turned_slots number changes (changed number c s) t ∙ changed_slots number c s t
+turned_slots number (c ∷ changes) s = λ t. turned_slots number changes (after_change number c s) t ∙ changed_slots number c s t
 
 rest_slots : {C : Type 0} (number : C → ℕ) (name : ℕ) (s : Acting C) → SameSlots s.labels (put_to_rest number name s).labels
 unfolding put_to_rest rested
@@ -233,14 +233,14 @@ emptied labels slot other = elim (cases_eq other slot) [
   | inr e ↦ rw (not_same other slot e) (ap is_some (get_or-set_other labels slot other None None e))
 ]
 
-gone_by : (labels : Labels) (slot other : ℕ) (o : Option Label) → label_at labels slot ≡ o → is_some (label_at (without o slot labels) other) ≡ (not (other == slot) && is_some (label_at labels other))
+gone_by : (labels : Labels) (slot other : ℕ) (o : Option Label) → label_at labels slot ≡ o → is_some (label_at (left_alone o slot labels) other) ≡ (not (other == slot) && is_some (label_at labels other))
 gone_by labels slot other None e = elim (cases_eq other slot) [
   | inl h ↦ rw (is_same other slot h) (ap (λ n. is_some (label_at labels n)) h ∙ ap is_some e)
   | inr h ↦ rw (not_same other slot h) refl
 ]
 gone_by labels slot other (Some l) e =
     let rest : Labels = slice_set labels slot None in
-    left_slots (nat_lt (lowest l.name rest) (length rest)) (lowest l.name rest) l.name rest other ∙ emptied labels slot other
+    left_slots (nat_lt (lowest_member l.name rest) (length rest)) (lowest_member l.name rest) l.name rest other ∙ emptied labels slot other
 
 pub movers_come_and_go : {C : Type 0} (number : C → ℕ) → MoversComeAndGo number
 unfolding mover_made mover_gone taken_out
@@ -251,11 +251,11 @@ movers_come_and_go number = record {
 
 -- ---- who is awake
 
-begun_awake : {C : Type 0} (number : C → ℕ) (m : Member C) (s : Acting C) (t : ℕ) → IsSettled number s → AreMovers s.labels m.movers → is_awake s.labels m.movers.first ≡ true → ((b : ℕ) → m.movers.second ≡ Some b → is_awake s.labels b ≡ true) → is_awake (begun number m s).labels t ≡ is_awake s.labels t
+begun_awake : {C : Type 0} (number : C → ℕ) (m : Member C) (s : Acting C) (t : ℕ) → IsSettled number s → AreMovers s.labels m.movers → is_mover_awake s.labels m.movers.first ≡ true → ((b : ℕ) → m.movers.second ≡ Some b → is_mover_awake s.labels b ≡ true) → is_mover_awake (begun number m s).labels t ≡ is_mover_awake s.labels t
 unfolding begun
 begun_awake number m s t w h a b = united_awake s.labels m.movers.first t m.movers.second w.islands.partition h.first h.second a b
 
-ended_awake : {C : Type 0} (number : C → ℕ) (m : Member C) (s : Acting C) (t : ℕ) → IsSettled number s → is_awake s.labels m.movers.first ≡ true → is_awake (ended number m s).labels t ≡ is_awake s.labels t
+ended_awake : {C : Type 0} (number : C → ℕ) (m : Member C) (s : Acting C) (t : ℕ) → IsSettled number s → is_mover_awake s.labels m.movers.first ≡ true → is_mover_awake (ended number m s).labels t ≡ is_mover_awake s.labels t
 unfolding ended
 ended_awake number m s t w a = parted_awake s.labels m.movers.first t m.movers.second w.islands.partition a
 
@@ -285,7 +285,7 @@ both_awake : {C : Type 0} (number : C → ℕ) (first : ℕ) (o : Option ℕ) (s
 both_awake number first None s w = (wakes number first s w).more
 both_awake number first (Some b) s w = let a = wakes number first s w in λ t h. (wakes number b (woken_at number first s) a.settled).more t (a.more t h)
 
-changed_steps : {C : Type 0} (number : C → ℕ) (old : Labels) (c : Change C) (cs : List (Change C)) (s : Acting C) → IsSettled number s → Labelled old s.labels → AreChanges number old s.ties (c ∷ cs) → Steps number s (changed number c s)
+changed_steps : {C : Type 0} (number : C → ℕ) (old : Labels) (c : Change C) (cs : List (Change C)) (s : Acting C) → IsSettled number s → Labelled old s.labels → AreChanges number old s.ties (c ∷ cs) → Steps number s (after_change number c s)
 changed_steps {C} number old (Begin m) cs s w on h =
     let now : Acting C = movers_woken number m.movers s in
     let a = wakes_both number m.movers.first m.movers.second s w in
@@ -293,7 +293,7 @@ changed_steps {C} number old (Begin m) cs s w on h =
     let P : List (Member C) → Type 0 = λ v. has_id number m.id v ≡ false in
     let fresh : has_id number m.id now.ties ≡ false = subst P (sym a.ties) h.0 in
     let one = a.one there.first in
-    let two : (b : ℕ) → m.movers.second ≡ Some b → is_awake now.labels b ≡ true = λ b e. a.two b e (there.second b e) in
+    let two : (b : ℕ) → m.movers.second ≡ Some b → is_mover_awake now.labels b ≡ true = λ b e. a.two b e (there.second b e) in
     let movers : AreMovers now.labels m.movers = movers_on s.labels now.labels m.movers a.labelled there in
     record {
       settled = beginning number now m a.settled fresh movers one two;
@@ -314,7 +314,7 @@ turned_awake : {C : Type 0} (number : C → ℕ) (old : Labels) (changes : List 
 turned_awake number old [] s w on h = λ t k. k
 turned_awake number old (c ∷ changes) s w on h =
     let a = changed_steps number old c changes s w on h in
-    λ t k. turned_awake number old changes (changed number c s) a.settled (λ u q. changed_labelled number c s u (on u q)) (change_next number old s c changes h) t (a.awake t k)
+    λ t k. turned_awake number old changes (after_change number c s) a.settled (λ u q. changed_labelled number c s u (on u q)) (change_next number old s c changes h) t (a.awake t k)
 
 pub awake_stay_awake : {C : Type 0} (number : C → ℕ) → AwakeStayAwake number
 awake_stay_awake number = record {
@@ -327,24 +327,24 @@ awake_stay_awake number = record {
 -- ---- the labels of the awake
 
 -- another island wakes
-apart_by : (labels : Labels) (name t : ℕ) (l : Label) → IsPartition labels → label_at labels name ≡ Some l → l.name ≡ name → is_asleep l.state ≡ true → is_awake labels t ≡ true → is_in (label_at labels t) name ≡ false
+apart_by : (labels : Labels) (name t : ℕ) (l : Label) → IsPartition labels → label_at labels name ≡ Some l → l.name ≡ name → is_asleep l.state ≡ true → is_mover_awake labels t ≡ true → is_in (label_at labels t) name ≡ false
 apart_by labels name t l p e k a h = elim (in_case (label_at labels t) name) [
   | inl i ↦ absurd (false≢true (sym (awake_as labels name t l p e k i ∙ ap not a) ∙ h))
   | inr i ↦ i
 ]
 
-set_leaves : {C : Type 0} (number : C → ℕ) (s : Acting C) (slot t : ℕ) (l : Label) (b : Bool) → is_asleep l.state ≡ b → IsSettled number s → label_at s.labels slot ≡ Some l → is_awake s.labels t ≡ true → label_at (cond b (set_woken number l.name s) s).labels t ≡ label_at s.labels t
+set_leaves : {C : Type 0} (number : C → ℕ) (s : Acting C) (slot t : ℕ) (l : Label) (b : Bool) → is_asleep l.state ≡ b → IsSettled number s → label_at s.labels slot ≡ Some l → is_mover_awake s.labels t ≡ true → label_at (cond b (set_woken number l.name s) s).labels t ≡ label_at s.labels t
 unfolding set_woken woken
 set_leaves number s slot t l true a w e h =
     let off : is_in (label_at s.labels t) l.name ≡ false = apart_by s.labels l.name t l w.islands.partition (w.islands.partition.named slot l e) refl a h in
     others_stay l.name l.name (record { name = l.name; state = Whole }) s.labels t (rw off refl)
 set_leaves number s slot t l false a w e h = refl
 
-leaves_by : {C : Type 0} (number : C → ℕ) (s : Acting C) (slot t : ℕ) (o : Option Label) → label_at s.labels slot ≡ o → IsSettled number s → is_awake s.labels t ≡ true → label_at (woken_by number o s).labels t ≡ label_at s.labels t
+leaves_by : {C : Type 0} (number : C → ℕ) (s : Acting C) (slot t : ℕ) (o : Option Label) → label_at s.labels slot ≡ o → IsSettled number s → is_mover_awake s.labels t ≡ true → label_at (woken_by number o s).labels t ≡ label_at s.labels t
 leaves_by number s slot t None e w h = refl
 leaves_by number s slot t (Some l) e w h = set_leaves number s slot t l (is_asleep l.state) refl w e h
 
-woken_leaves : {C : Type 0} (number : C → ℕ) (s : Acting C) (slot t : ℕ) → IsSettled number s → is_awake s.labels t ≡ true → label_at (woken_at number slot s).labels t ≡ label_at s.labels t
+woken_leaves : {C : Type 0} (number : C → ℕ) (s : Acting C) (slot t : ℕ) → IsSettled number s → is_mover_awake s.labels t ≡ true → label_at (woken_at number slot s).labels t ≡ label_at s.labels t
 unfolding woken_at
 woken_leaves number s slot t w h = leaves_by number s slot t (label_at s.labels slot) refl w h
 
@@ -382,14 +382,14 @@ same_label number [] s t u e = e
 same_label number (name ∷ names) s t u e = same_label number names (woken_at number name s) t u (same_woken number name s t u e)
 
 -- once its name was among those woken, an island is awake
-named_wakes : {C : Type 0} (number : C → ℕ) (names : List ℕ) (s : Acting C) (name : ℕ) → IsSettled number s → Contains names name → is_some (label_at s.labels name) ≡ true → is_awake (islands_woken number names s).labels name ≡ true
+named_wakes : {C : Type 0} (number : C → ℕ) (names : List ℕ) (s : Acting C) (name : ℕ) → IsSettled number s → Contains names name → is_some (label_at s.labels name) ≡ true → is_mover_awake (islands_woken number names s).labels name ≡ true
 named_wakes number [] s name w h k = absurd (none_in name h)
 named_wakes {C} number (n ∷ names) s name w h k =
     let a = wakes number n s w in
     elim (contains_cases n names name h) [
       | inl e ↦ let P : ℕ → Type 0 = λ v. is_some (label_at s.labels v) ≡ true in
-          let up : is_awake (woken_at number n s).labels n ≡ true = a.awake (labelled_from (label_at s.labels n) (subst P (sym e) k)) in
-          let Q : ℕ → Type 0 = λ v. is_awake (islands_woken number names (woken_at number n s)).labels v ≡ true in
+          let up : is_mover_awake (woken_at number n s).labels n ≡ true = a.awake (labelled_from (label_at s.labels n) (subst P (sym e) k)) in
+          let Q : ℕ → Type 0 = λ v. is_mover_awake (islands_woken number names (woken_at number n s)).labels v ≡ true in
           subst Q e (islands_awake number names (woken_at number n s) a.settled n up)
       | inr i ↦ named_wakes number names (woken_at number n s) name a.settled i (woken_slots number n s name ∙ k)
     ]
@@ -436,14 +436,14 @@ names_have labels names (first ∷ slots) slot x h e = elim (contains_cases firs
 sleeper_is : (l : Label) → is_asleep l.state ≡ true → sleeping_name (Some l) ≡ Some l.name
 sleeper_is l a = rw a refl
 
-woken_all : {C : Type 0} (number : C → ℕ) (s : Acting C) (slots : List ℕ) (slot : ℕ) (l : Label) (t : Bool) → is_asleep l.state ≡ t → IsSettled number s → Contains slots slot → label_at s.labels slot ≡ Some l → is_awake (islands_woken number (names_of s.labels slots) s).labels slot ≡ true
-woken_all number s slots slot l false a w h e = islands_awake number (names_of s.labels slots) s w slot (ap awake_label e ∙ ap not a)
+woken_all : {C : Type 0} (number : C → ℕ) (s : Acting C) (slots : List ℕ) (slot : ℕ) (l : Label) (t : Bool) → is_asleep l.state ≡ t → IsSettled number s → Contains slots slot → label_at s.labels slot ≡ Some l → is_mover_awake (islands_woken number (sleeping_names s.labels slots) s).labels slot ≡ true
+woken_all number s slots slot l false a w h e = islands_awake number (sleeping_names s.labels slots) s w slot (ap awake_label e ∙ ap not a)
 woken_all {C} number s slots slot l true a w h e =
-    let new : Acting C = islands_woken number (names_of s.labels slots) s in
+    let new : Acting C = islands_woken number (sleeping_names s.labels slots) s in
     let home : label_at s.labels l.name ≡ Some l = w.islands.partition.named slot l e in
-    let named : Contains (names_of s.labels slots) l.name = names_have s.labels [] slots slot l.name h (ap sleeping_name e ∙ sleeper_is l a) in
-    let up : is_awake new.labels l.name ≡ true = named_wakes number (names_of s.labels slots) s l.name w named (ap is_some home) in
-    ap awake_label (same_label number (names_of s.labels slots) s slot l.name (e ∙ sym home)) ∙ up
+    let named : Contains (sleeping_names s.labels slots) l.name = names_have s.labels [] slots slot l.name h (ap sleeping_name e ∙ sleeper_is l a) in
+    let up : is_mover_awake new.labels l.name ≡ true = named_wakes number (sleeping_names s.labels slots) s l.name w named (ap is_some home) in
+    ap awake_label (same_label number (sleeping_names s.labels slots) s slot l.name (e ∙ sym home)) ∙ up
 
 pub the_named_are_awake : {C : Type 0} (number : C → ℕ) → TheNamedAreAwake number
 the_named_are_awake number s slots slot w h k = let o = labelled_from (label_at s.labels slot) k in woken_all number s slots slot o.0 (is_asleep o.0.state) refl w h o.1

@@ -7,16 +7,16 @@ use Rattle.graph_colours.specs.declared.member.Member.{Member}
 use Rattle.graph_colours.specs.declared.member.Movers.{Movers}
 use Rattle.islands.specs.declared.label.IslandState.TheVariants.{Whole, Loose, Asleep}
 use Rattle.islands.specs.declared.label.Label.{Label}
-use Rattle.islands.specs.Labels.{Labels, added, is_asleep, is_loose, label_at, loosened, loosened_by, lowest, merged, merged_by, padded, relabel, relabelled, rested, taken_out, without, woken}
+use Rattle.islands.specs.Labels.{Labels, added, is_asleep, is_loose, label_at, loosened, loosened_by, lowest_member, merged, merged_by, padded, relabel, relabelled, rested, taken_out, left_alone, woken}
 use Rattle.islands.specs.Links.{Linked}
 use Rattle.islands.specs.Partition.{AreIslands}
 use Rattle.islands.proofs.SplitLemmas.{split_size}
 use Rattle.islands.proofs.WideLemmas.{wide_at}
 use Rattle.sleep_wake.specs.declared.change.Change.{Change}
 use Rattle.sleep_wake.specs.declared.change.Change.TheVariants.{Begin, End}
-use Rattle.sleep_wake.specs.Acting.{Acting, AreMovers, IsSettled, acting, are_awake, awake_label, is_awake, links_of, second_awake}
+use Rattle.sleep_wake.specs.Acting.{Acting, AreMovers, IsSettled, acting, are_awake, awake_label, is_mover_awake, links_of, second_awake}
 use Rattle.sleep_wake.specs.Bodies.{mover_gone, mover_made}
-use Rattle.sleep_wake.specs.Changes.{begun, changed, each_begun, each_ended, ended, parted, turned, united}
+use Rattle.sleep_wake.specs.Changes.{begun, after_change, each_begun, each_ended, ended, parted, turned, united}
 use Rattle.sleep_wake.specs.SleepPhase.{all_put_to_rest, edges_of, picked_to_split, ready, sleep_phase, split_at, split_picked}
 use Rattle.sleep_wake.specs.Sleeping.{islands_woken, rested_at, rested_by, slept_at, slept_by, split_if_loose}
 use Rattle.sleep_wake.specs.Widened.{widened}
@@ -53,11 +53,11 @@ left_long : (t : Bool) (low name : ℕ) (labels : Labels) → length (cond t (re
 left_long true low name labels = relabelled_long name name (record { name = low; state = Loose }) labels
 left_long false low name labels = refl
 
-without_long : (o : Option Label) (slot : ℕ) (labels : Labels) → length (without o slot labels) ≡ length labels
+without_long : (o : Option Label) (slot : ℕ) (labels : Labels) → length (left_alone o slot labels) ≡ length labels
 without_long None slot labels = refl
 without_long (Some l) slot labels =
     let rest : Labels = slice_set labels slot None in
-    left_long (nat_lt (lowest l.name rest) (length rest)) (lowest l.name rest) l.name rest ∙ length-set labels slot None
+    left_long (nat_lt (lowest_member l.name rest) (length rest)) (lowest_member l.name rest) l.name rest ∙ length-set labels slot None
 
 -- ---- what acts
 
@@ -105,13 +105,13 @@ each_ended_long number (m ∷ ms) s = each_ended_long number ms (ended number m 
 both_long : {C : Type 0} (number : C → ℕ) (first : ℕ) (o : Option ℕ) (s : Acting C) → IsAsLong s (second_woken number o (woken_at number first s))
 both_long number first o s = second_long number o (woken_at number first s) ∙ woken_long number first s
 
-changed_long : {C : Type 0} (number : C → ℕ) (c : Change C) (s : Acting C) → IsAsLong s (changed number c s)
+changed_long : {C : Type 0} (number : C → ℕ) (c : Change C) (s : Acting C) → IsAsLong s (after_change number c s)
 changed_long number (Begin m) s = begun_long number m (movers_woken number m.movers s) ∙ both_long number m.movers.first m.movers.second s
 changed_long number (End m) s = ended_long number m (movers_woken number m.movers s) ∙ both_long number m.movers.first m.movers.second s
 
 pub turned_long : {C : Type 0} (number : C → ℕ) (changes : List (Change C)) (s : Acting C) → IsAsLong s (turned number changes s)
 turned_long number [] s = refl
-turned_long number (c ∷ changes) s = turned_long number changes (changed number c s) ∙ changed_long number c s
+turned_long number (c ∷ changes) s = turned_long number changes (after_change number c s) ∙ changed_long number c s
 
 rest_long : {C : Type 0} (number : C → ℕ) (name : ℕ) (s : Acting C) → IsAsLong s (put_to_rest number name s)
 unfolding put_to_rest rested
@@ -185,7 +185,7 @@ islands_same R a b same w = record {
   connected = λ s t l e f n. w.connected s t l (sym (same s) ∙ e) (sym (same t) ∙ f) n;
 }
 
-awake_same : (a b : Labels) → AreSame a b → (s : ℕ) → is_awake a s ≡ is_awake b s
+awake_same : (a b : Labels) → AreSame a b → (s : ℕ) → is_mover_awake a s ≡ is_mover_awake b s
 awake_same a b same s = ap (λ (o : Option Label). awake_label o) (same s)
 
 second_same : (a b : Labels) → AreSame a b → (o : Option ℕ) → second_awake a o ≡ second_awake b o

@@ -6,8 +6,8 @@ use Rattle.std.proofs.lemmas.Bool.{false≢true, eq-eqb}
 use Rattle.std.proofs.lemmas.List.Elements.{All-contains, Contains-get_or, Contains-append_left, Contains-append_right}
 use Rattle.std.proofs.lemmas.List.Sorted.{Contains-permutation, IsPermutation-sym}
 use Rattle.graph_colours.specs.declared.member.Member.{Member}
-use Rattle.graph_colours.specs.Members.{AreRising, has_id, inserted, without}
-use Rattle.graph_colours.specs.Colours.{all_members, colour_of, placed, released, IsColouring}
+use Rattle.graph_colours.specs.Members.{AreRising, has_id, inserted, without_member}
+use Rattle.graph_colours.specs.Colours.{all_members, colour_of, with_placed, released, IsColouring}
 use Rattle.std.proofs.lemmas.List.Kept.{AllPairs-filter}
 use Rattle.std.proofs.lemmas.List.Folds.{list_any_none}
 use Rattle.graph_colours.proofs.SearchLemmas.{none_passing}
@@ -57,12 +57,12 @@ apart_not a b h e = let same : (a == b) ≡ true = eq-eqb a b e in false≢true 
 not_apart : (a b : ℕ) → a ≢ b → not (a == b) ≡ true
 not_apart a b h = ap not (not_same a b h)
 
-pub without_in : {C : Type 0} (number : C → ℕ) (id : C) (ms : List (Member C)) (x : Member C) → Contains (without number id ms) x → Contains ms x × (number x.id ≢ number id)
-unfolding without
+pub without_in : {C : Type 0} (number : C → ℕ) (id : C) (ms : List (Member C)) (x : Member C) → Contains (without_member number id ms) x → Contains ms x × (number x.id ≢ number id)
+unfolding without_member
 without_in number id ms x h = let o = filter_in (λ m. not (number m.id == number id)) ms x h in (o.0, apart_not (number x.id) (number id) o.1)
 
-pub in_without : {C : Type 0} (number : C → ℕ) (id : C) (ms : List (Member C)) (x : Member C) → Contains ms x → number x.id ≢ number id → Contains (without number id ms) x
-unfolding without
+pub in_without : {C : Type 0} (number : C → ℕ) (id : C) (ms : List (Member C)) (x : Member C) → Contains ms x → number x.id ≢ number id → Contains (without_member number id ms) x
+unfolding without_member
 in_without number id ms x h k = in_filter (λ m. not (number m.id == number id)) ms x h (not_apart (number x.id) (number id) k)
 
 pub inserted_in : {C : Type 0} (number : C → ℕ) (m : Member C) (ms : List (Member C)) (x : Member C) → Contains (inserted number m ms) x → (m ≡ x) ⊎ Contains ms x
@@ -113,18 +113,18 @@ absent_from number id lists none = none_passing (has_id number id) lists (λ k d
     list_any_none (λ m. number m.id == number id) (get_or lists k d) (λ j e short.
     not_same (number (get_or (get_or lists k d) j e).id) (number id) (none (get_or (get_or lists k d) j e) (flat_in lists (get_or lists k d) (get_or (get_or lists k d) j e) (Contains-get_or lists k d lt) (Contains-get_or (get_or lists k d) j e short)))))
 
-placed_in : {C : Type 0} (number : C → ℕ) (m : Member C) (lists : List (List (Member C))) (x : Member C) → IsColouring number lists → Contains (all_members (placed number m lists)) x → (m ≡ x) ⊎ Contains (all_members lists) x
-placed_in number m lists x w h = contains_cases m (all_members lists) x (Contains-permutation (all_members (placed number m lists)) (m ∷ all_members lists) x (IsPermutation-sym (m ∷ all_members lists) (all_members (placed number m lists)) (placed_members number m lists w)) h)
+placed_in : {C : Type 0} (number : C → ℕ) (m : Member C) (lists : List (List (Member C))) (x : Member C) → IsColouring number lists → Contains (all_members (with_placed number m lists)) x → (m ≡ x) ⊎ Contains (all_members lists) x
+placed_in number m lists x w h = contains_cases m (all_members lists) x (Contains-permutation (all_members (with_placed number m lists)) (m ∷ all_members lists) x (IsPermutation-sym (m ∷ all_members lists) (all_members (with_placed number m lists)) (placed_members number m lists w)) h)
 
-in_placed : {C : Type 0} (number : C → ℕ) (m : Member C) (lists : List (List (Member C))) (x : Member C) → IsColouring number lists → (m ≡ x) ⊎ Contains (all_members lists) x → Contains (all_members (placed number m lists)) x
-in_placed {C} number m lists x w h = Contains-permutation (m ∷ all_members lists) (all_members (placed number m lists)) x (placed_members number m lists w) (elim h [
+in_placed : {C : Type 0} (number : C → ℕ) (m : Member C) (lists : List (List (Member C))) (x : Member C) → IsColouring number lists → (m ≡ x) ⊎ Contains (all_members lists) x → Contains (all_members (with_placed number m lists)) x
+in_placed {C} number m lists x w h = Contains-permutation (m ∷ all_members lists) (all_members (with_placed number m lists)) x (placed_members number m lists w) (elim h [
   | inl k ↦ let P : Member C → Type 0 = λ v. Contains (m ∷ all_members lists) v in subst P k (contains_head m (all_members lists))
   | inr k ↦ contains_tail m (all_members lists) x k
 ])
 
 pub record PlacesOne {C : Type 0} (number : C → ℕ) (lists : List (List (Member C))) (m : Member C) : Type 0 where
-  pub colouring : IsColouring number (placed number m lists)
-  pub members : (x : Member C) → Contains (all_members (placed number m lists)) x ↔ ((m ≡ x) ⊎ Contains (all_members lists) x)
+  pub colouring : IsColouring number (with_placed number m lists)
+  pub members : (x : Member C) → Contains (all_members (with_placed number m lists)) x ↔ ((m ≡ x) ⊎ Contains (all_members lists) x)
 
 pub places_one : {C : Type 0} (number : C → ℕ) (lists : List (List (Member C))) (m : Member C) → IsColouring number lists → colour_of number m.id lists ≡ None → PlacesOne number lists m
 places_one number lists m w e = record {
@@ -140,7 +140,7 @@ pub places : {C : Type 0} (number : C → ℕ) (ms : List (Member C)) (lists : L
 places {C} number [] lists w r none = record { colouring = w; members = λ x. ((λ h. inr h), (λ h. elim h [ inl k ↦ absurd (none_in x k) | inr k ↦ k ])) }
 places {C} number (m ∷ ms) lists w r none =
     let one = places_one number lists m w (none m (contains_head m ms)) in
-    let rest = places number ms (placed number m lists) one.colouring (pairs_tail (λ a b. number a.id < number b.id) m ms r)
+    let rest = places number ms (with_placed number m lists) one.colouring (pairs_tail (λ a b. number a.id < number b.id) m ms r)
     (λ x h. let lt : number m.id < number x.id = above_head number m ms x r h in
     placed_others number m lists x.id (λ e. omega (arith, lt, e)) ∙ none x (contains_tail m ms x h)) in
     record {

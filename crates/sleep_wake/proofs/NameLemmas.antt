@@ -14,7 +14,7 @@ use Rattle.std.proofs.lemmas.Map.Keys.{IsStrictlyIncreasing-dedup}
 use Rattle.graph_colours.proofs.ListLemmas.{pairs_head, pairs_tail, pairs_none}
 use Rattle.islands.specs.Labels.{Labels}
 use Rattle.islands.proofs.JoinLemmas.{contains_cases, contains_head, contains_tail}
-use Rattle.sleep_wake.specs.Sleeping.{name_at, with_one_name, with_name, names_from, names_of}
+use Rattle.sleep_wake.specs.Sleeping.{name_at, with_one_name, with_name, names_from, sleeping_names}
 use Rattle.sleep_wake.proofs.ListLemmas.{none_in}
 use Rattle.sleep_wake.proofs.AwakeSlotsLaws.{same_rising}
 use Rattle.sleep_wake.proofs.LawLemmas.{name_in, names_kept}
@@ -142,8 +142,8 @@ are_gathered labels names [] x h = inl h
 are_gathered labels names (slot ∷ slots) x h = with_from (name_at labels slot) names (filter_map (name_at labels) slots) x (are_gathered labels (with_name (name_at labels slot) names) slots x h)
 
 -- sorted, and each taken once, they are the names
-pub names_sorted : (labels : Labels) (slots gathered kept : List ℕ) → gathered ≡ filter_map (name_at labels) slots → IsStrictlyIncreasing kept → ((n : ℕ) → Contains gathered n → Contains kept n) → ((n : ℕ) → Contains kept n → Contains gathered n) → kept ≡ names_of labels slots
+pub names_sorted : (labels : Labels) (slots gathered kept : List ℕ) → gathered ≡ filter_map (name_at labels) slots → IsStrictlyIncreasing kept → ((n : ℕ) → Contains gathered n → Contains kept n) → ((n : ℕ) → Contains kept n → Contains gathered n) → kept ≡ sleeping_names labels slots
 names_sorted labels slots gathered kept is line all none_new =
-    same_rising kept (names_of labels slots) (AllPairs-from_increasing kept line) (names_rise labels [] slots (pairs_none Below))
+    same_rising kept (sleeping_names labels slots) (AllPairs-from_increasing kept line) (names_rise labels [] slots (pairs_none Below))
     (λ n h. gathered_are labels [] slots n (subst (λ (l : List ℕ). Contains l n) is (none_new n h)))
     (λ n h. all n (subst (λ (l : List ℕ). Contains l n) (sym is) (elim (are_gathered labels [] slots n h) [ inl i ↦ absurd (none_in n i) | inr i ↦ i ])))

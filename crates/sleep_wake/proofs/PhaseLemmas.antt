@@ -10,13 +10,13 @@ use Rattle.islands.specs.declared.label.IslandState.{IslandState}
 use Rattle.islands.specs.declared.label.IslandState.TheVariants.{Whole, Loose, Asleep}
 use Rattle.islands.specs.declared.label.Label.{Label}
 use Rattle.islands.specs.Links.{Linked}
-use Rattle.islands.specs.Labels.{Labels, label_at, is_in, IsIn, is_asleep, is_loose, own_label, added, taken_out, left_behind, relabelled, lowest, split_by, rested, with_state}
+use Rattle.islands.specs.Labels.{Labels, label_at, is_in, IsIn, is_asleep, is_loose, own_label, added, taken_out, left_behind, relabelled, lowest_member, split_by, rested, with_state}
 use Rattle.islands.specs.Partition.{IsPartition, AreIslands, IsSplit}
 use Rattle.islands.specs.Laws.{AreLinksOf}
 use Rattle.islands.proofs.LabelLemmas.{in_is, in_case, one_label, either_case, either_to, either_one, others_stay, rest_of, rest_stays, added_other}
 use Rattle.islands.proofs.KeptLemmas.{same_links, adding, taking_out}
 use Rattle.islands.proofs.SplitLemmas.{IsLabelled, splitting_keeps as splits_keep}
-use Rattle.sleep_wake.specs.Acting.{Acting, AreMovers, IsSettled, links_of, awake_label, is_awake, are_awake}
+use Rattle.sleep_wake.specs.Acting.{Acting, AreMovers, IsSettled, links_of, awake_label, is_mover_awake, are_awake}
 use Rattle.sleep_wake.specs.Waking.{released_all, put_to_rest}
 use Rattle.sleep_wake.specs.Bodies.{dropped, mover_gone, mover_made}
 use Rattle.sleep_wake.specs.SleepPhase.{split_at, edges_of, is_island, is_due, least_timer, ready_from, ready, longest_at_rest, longer_at_rest, is_less, picked_to_split, split_picked, all_put_to_rest, ready_put_to_rest}
@@ -111,23 +111,23 @@ with_mover m slot h = with_mover_by m.first slot m.second (m.first == slot) refl
 
 -- the others of an awake island stay awake, and all keep labels
 left_awake : (labels : Labels) (slot t : ℕ) (l : Label) → IsPartition labels → label_at labels slot ≡ Some l → is_asleep l.state ≡ false → t ≢ slot
-    → (is_awake (left_behind (lowest l.name (rest_of labels slot)) l.name (rest_of labels slot)) t ≡ is_awake labels t)
-    × (IsLabelled labels t → IsLabelled (left_behind (lowest l.name (rest_of labels slot)) l.name (rest_of labels slot)) t)
+    → (is_mover_awake (left_behind (lowest_member l.name (rest_of labels slot)) l.name (rest_of labels slot)) t ≡ is_mover_awake labels t)
+    × (IsLabelled labels t → IsLabelled (left_behind (lowest_member l.name (rest_of labels slot)) l.name (rest_of labels slot)) t)
 left_awake labels slot t l p e a off =
     let rest : Labels = rest_of labels slot in
     let stays : label_at rest t ≡ label_at labels t = rest_stays labels slot t off in
-    let to : Label = record { name = lowest l.name rest; state = Loose } in
-    elim (cases_lt (lowest l.name rest) (length rest)) [
-      | inl found ↦ rw (lt-ltb (lowest l.name rest) (length rest) found) (elim (either_case l.name l.name (label_at rest t)) [
+    let to : Label = record { name = lowest_member l.name rest; state = Loose } in
+    elim (cases_lt (lowest_member l.name rest) (length rest)) [
+      | inl found ↦ rw (lt-ltb (lowest_member l.name rest) (length rest) found) (elim (either_case l.name l.name (label_at rest t)) [
         | inl h ↦
             let here : IsIn labels l.name t = ap (λ o. is_in o l.name) (sym stays) ∙ either_one l.name (label_at rest t) h in
-            let was : is_awake labels t ≡ true = awake_as labels l.name t l p (p.named slot l e) refl here ∙ ap not a in
+            let was : is_mover_awake labels t ≡ true = awake_as labels l.name t l p (p.named slot l e) refl here ∙ ap not a in
             let now : label_at (relabelled l.name l.name to rest) t ≡ Some to = either_to l.name l.name to rest t h in
             (ap awake_label now ∙ sym was, λ k. (to, now))
         | inr h ↦ let now : label_at (relabelled l.name l.name to rest) t ≡ label_at labels t = others_stay l.name l.name to rest t h ∙ stays in
             (ap awake_label now, λ k. (k.0, now ∙ k.1))
       ])
-      | inr gone ↦ rw (le-ltb (lowest l.name rest) (length rest) gone) (ap awake_label stays, λ k. (k.0, stays ∙ k.1))
+      | inr gone ↦ rw (le-ltb (lowest_member l.name rest) (length rest) gone) (ap awake_label stays, λ k. (k.0, stays ∙ k.1))
     ]
 
 going_by : {C : Type 0} (number : C → ℕ) (s : Acting C) (slot : ℕ) (o : Option Label) → label_at s.labels slot ≡ o → IsSettled number s → awake_label o ≡ true → IsSettled number (mover_gone number slot s)
@@ -164,7 +164,7 @@ going_by {C} number s slot (Some l) e w a =
       | inr q ↦ let m = link_in ns y x q in let o = without_mover m.0.movers slot (stays_in p s.ties m.0 m.1).1 in
           elim ends [ inl f ↦ o.1 x m.3 f | inr f ↦ o.0 (m.2 ∙ f) ]
     ]) in
-    let new : Labels = left_behind (lowest l.name (rest_of s.labels slot)) l.name (rest_of s.labels slot) in
+    let new : Labels = left_behind (lowest_member l.name (rest_of s.labels slot)) l.name (rest_of s.labels slot) in
     let opened : taken_out s.labels slot ≡ new = rw e refl in
     let P : Labels → Type 0 = λ v. AreIslands (Linked (links_of ns)) v in
     let Q : Labels → Type 0 = λ v. IsSettled number (record { ties = ns; labels = v; lists = released_all number s.lists (filter p s.ties) }) in
@@ -215,7 +215,7 @@ splitting_keeps {C} number s name l w e k a =
     let new : Labels = split_by s.labels name (edges_of s name) in
     let both = splits_keep (links_of s.ties) s.labels name (edges_of s name) w.islands (edges_are number s name w) in
     let parts : IsSplit s.labels name (edges_of s name) new = both.1 in
-    let same : (t : ℕ) → is_awake new t ≡ is_awake s.labels t = λ t. elim (in_case (label_at s.labels t) name) [
+    let same : (t : ℕ) → is_mover_awake new t ≡ is_mover_awake s.labels t = λ t. elim (in_case (label_at s.labels t) name) [
       | inl h ↦ ap awake_label (parts.members t h).label ∙ sym (awake_as s.labels name t l w.islands.partition e k h ∙ ap not a)
       | inr h ↦ ap awake_label (parts.others t h)
     ] in

@@ -5,7 +5,7 @@ use Rattle.std.specs.List.{list_any}
 use Rattle.std.proofs.lemmas.Bool.{false≢true, eqb-true, eq-eqb}
 use Rattle.graph_colours.proofs.PlaceLemmas.{not_same}
 use Rattle.graph_colours.specs.declared.member.Member.{Member}
-use Rattle.graph_colours.specs.Members.{has_id, without}
+use Rattle.graph_colours.specs.Members.{has_id, without_member}
 use Rattle.graph_colours.specs.Colours.{released}
 use Rattle.islands.specs.declared.label.Label.{Label}
 use Rattle.islands.specs.Labels.{Labels, label_at, is_in, is_loose, is_asleep, rested}
@@ -13,7 +13,7 @@ use Rattle.islands.specs.Partition.{IsPartition}
 use Rattle.islands.proofs.LabelLemmas.{relabel_at, some_short}
 use Rattle.islands.specs.declared.label.IslandState.TheVariants.{Asleep}
 use Rattle.sleep_wake.specs.Acting.{Acting, acting}
-use Rattle.sleep_wake.specs.Waking.{second_in, has_mover_of, ties_of, released_all, put_to_rest}
+use Rattle.sleep_wake.specs.Waking.{second_in, has_mover_of, ties_of_mover, released_all, put_to_rest}
 use Rattle.sleep_wake.specs.SleepPhase.{is_due, all_put_to_rest, ready_put_to_rest}
 use Rattle.sleep_wake.specs.Resting.{least_at, AreLeast, is_due_island, due_from, due_names, rests_by, second_rests, is_to_rest, all_rested}
 use Rattle.sleep_wake.proofs.LeastLemmas.{timer_in, due_are}
@@ -42,8 +42,8 @@ one_more_by : {C : Type 0} (number : C → ℕ) (m x : Member C) (ms l : List (M
 one_more_by number m x ms l true = refl
 one_more_by number m x ms l false = refl
 
-one_more : {C : Type 0} (number : C → ℕ) (m : Member C) (ms l : List (Member C)) → Others number ms (without number m.id l) ≡ Others number (m ∷ ms) l
-unfolding has_id without
+one_more : {C : Type 0} (number : C → ℕ) (m : Member C) (ms l : List (Member C)) → Others number ms (without_member number m.id l) ≡ Others number (m ∷ ms) l
+unfolding has_id without_member
 one_more number m ms [] = refl
 one_more {C} number m ms (x ∷ l) =
     let rest : List (Member C) = filter (λ y. not (number y.id == number m.id)) l in
@@ -64,8 +64,8 @@ pub cleared_is : {C : Type 0} (number : C → ℕ) (ms : List (Member C)) (lists
 unfolding released
 cleared_is number [] lists = sym (map_stays (Others number []) (all_stay number) lists)
 cleared_is number (m ∷ ms) lists =
-    cleared_is number ms (map (without number m.id) lists)
-    ∙ map_twice (Others number ms) (without number m.id) (Others number (m ∷ ms)) (one_more number m ms) lists
+    cleared_is number ms (map (without_member number m.id) lists)
+    ∙ map_twice (Others number ms) (without_member number m.id) (Others number (m ∷ ms)) (one_more number m ms) lists
 
 -- ---- those of two tests are those of either
 
@@ -141,8 +141,8 @@ all_lists {C} number (n ∷ names) s =
     let new : Labels = map (asleep_in n) s.labels in
     let same : of_any {C = C} new names ≡ of_any s.labels names = λ i m. any_after s.labels n names m i in
     all_lists number names (put_to_rest number n s)
-    ∙ ap (λ (p : Member C → Bool). cleared number (filter p s.ties) (released_all number s.lists (ties_of s n))) same
-    ∙ ap (λ (v : List (List (Member C))). cleared number (filter (of_any s.labels names) s.ties) v) (cleared_is number (ties_of s n) s.lists)
+    ∙ ap (λ (p : Member C → Bool). cleared number (filter p s.ties) (released_all number s.lists (ties_of_mover s n))) same
+    ∙ ap (λ (v : List (List (Member C))). cleared number (filter (of_any s.labels names) s.ties) v) (cleared_is number (ties_of_mover s n) s.lists)
     ∙ both_cleared number (has_mover_of s.labels n) (of_any s.labels names) s.ties s.lists
 
 pub all_labels : {C : Type 0} (number : C → ℕ) (names : List ℕ) (s : Acting C) → (all_put_to_rest number names s).labels ≡ all_rested names s.labels

@@ -6,13 +6,13 @@ use Rattle.std.proofs.lemmas.List.{drop_more}
 use Rattle.std.specs.List.Sorted.{IsPermutation}
 use Rattle.std.proofs.lemmas.List.Sorted.{length_permutation}
 use Rattle.graph_colours.specs.declared.member.Member.{Member}
-use Rattle.graph_colours.specs.Colours.{all_members, colour_of, placed}
+use Rattle.graph_colours.specs.Colours.{all_members, colour_of, with_placed}
 use Rattle.graph_colours.proofs.ListLemmas.{pairs_tail}
 use Rattle.graph_colours.proofs.ColouringLemmas.{placed_others}
 use Rattle.islands.specs.declared.label.Label.{Label}
 use Rattle.islands.specs.Labels.{label_at, IsIn, is_asleep}
 use Rattle.islands.proofs.JoinLemmas.{contains_tail}
-use Rattle.sleep_wake.specs.Acting.{Acting, IsSettled, is_awake, are_awake}
+use Rattle.sleep_wake.specs.Acting.{Acting, IsSettled, is_mover_awake, are_awake}
 use Rattle.sleep_wake.specs.Waking.{has_mover_of}
 use Rattle.sleep_wake.specs.Rooms.{CanPlace}
 use Rattle.sleep_wake.proofs.ListLemmas.{above_head, one_of, absent_from}
@@ -24,7 +24,7 @@ pub front_is : {C : Type 0} (ms : List (Member C)) (i : ℕ) (m : Member C) → 
 front_is {C} ms i m lt e = drop_more ms i m lt ∙ ap (λ (x : Member C). x ∷ drop (i + 1) ms) (sym e)
 
 -- one gets a colour, and the others are without as before
-pub placed_one : {C : Type 0} (number : C → ℕ) (m : Member C) (ms : List (Member C)) (lists : List (List (Member C))) (room left slots : ℕ) → CanPlace number (m ∷ ms) lists room slots → room ≡ left + 1 → CanPlace number ms (placed number m lists) left slots
+pub placed_one : {C : Type 0} (number : C → ℕ) (m : Member C) (ms : List (Member C)) (lists : List (List (Member C))) (room left slots : ℕ) → CanPlace number (m ∷ ms) lists room slots → room ≡ left + 1 → CanPlace number ms (with_placed number m lists) left slots
 placed_one number m ms lists room left slots w r = record {
   rising = pairs_tail (λ a b. number a.id < number b.id) m ms w.rising;
   absent = λ x h. let lt : number m.id < number x.id = above_head number m ms x w.rising h in
@@ -40,7 +40,7 @@ room_for_one number m ms lists room slots w = let e : suc (length ms) ≤ room =
 pub sleepers_absent : {C : Type 0} (number : C → ℕ) (s : Acting C) (name : ℕ) (l : Label) → IsSettled number s → label_at s.labels name ≡ Some l → l.name ≡ name → is_asleep l.state ≡ true
     → (x : Member C) → Contains s.ties x → has_mover_of s.labels name x ≡ true → colour_of number x.id s.lists ≡ None
 sleepers_absent {C} number s name l w e k a x h q =
-    let down : (t : ℕ) → IsIn s.labels name t → is_awake s.labels t ≡ false = λ t i. awake_as s.labels name t l w.islands.partition e k i ∙ ap not a in
+    let down : (t : ℕ) → IsIn s.labels name t → is_mover_awake s.labels t ≡ false = λ t i. awake_as s.labels name t l w.islands.partition e k i ∙ ap not a in
     let rest : are_awake s.labels x.movers ≡ true → ⊥ = λ r. elim (of_island number s name x w h) [
       | inl p ↦ false≢true (sym (down x.movers.first p.1.one) ∙ awake_first s.labels x.movers.first x.movers.second r)
       | inr p ↦ false≢true (sym p.0 ∙ q)

@@ -8,11 +8,11 @@ use Rattle.std.proofs.lemmas.List.Sorted.{length_permutation}
 use Rattle.graph_colours.specs.declared.member.Movers.{Movers}
 use Rattle.graph_colours.specs.declared.member.Member.{Member}
 use Rattle.graph_colours.specs.Movers.{has_mover}
-use Rattle.graph_colours.specs.Members.{inserted, without}
+use Rattle.graph_colours.specs.Members.{inserted, without_member}
 use Rattle.graph_colours.proofs.ListLemmas.{same_inserted}
 use Rattle.islands.specs.declared.label.IslandState.TheVariants.{Whole, Loose, Asleep}
 use Rattle.islands.specs.declared.label.Label.{Label}
-use Rattle.islands.specs.Labels.{Labels, label_at, relabel, relabelled, added, is_asleep, merged, merged_by, loosened, loosened_by, taken_out, split_by, lowest, rested, woken}
+use Rattle.islands.specs.Labels.{Labels, label_at, relabel, relabelled, added, is_asleep, merged, merged_by, loosened, loosened_by, taken_out, split_by, lowest_member, rested, woken}
 use Rattle.islands.specs.Labels as labelled
 use Rattle.sleep_wake.specs.Acting.{Acting, acting}
 use Rattle.sleep_wake.specs.Changes.{parted, united, begun, ended}
@@ -49,11 +49,11 @@ left_size : (t : Bool) (low name : ℕ) (labels : Labels) → length (cond t (re
 left_size true low name labels = relabelled_size name name (record { name = low; state = Loose }) labels
 left_size false low name labels = refl
 
-gone_size : (o : Option Label) (slot : ℕ) (labels : Labels) → length (labelled.without o slot labels) ≡ length labels
+gone_size : (o : Option Label) (slot : ℕ) (labels : Labels) → length (labelled.left_alone o slot labels) ≡ length labels
 gone_size None slot labels = refl
 gone_size (Some l) slot labels =
     let rest : Labels = slice_set labels slot None in
-    left_size (nat_lt (lowest l.name rest) (length rest)) (lowest l.name rest) l.name rest ∙ length-set labels slot None
+    left_size (nat_lt (lowest_member l.name rest) (length rest)) (lowest_member l.name rest) l.name rest ∙ length-set labels slot None
 
 pub taken_out_size : (labels : Labels) (slot : ℕ) → length (taken_out labels slot) ≡ length labels
 unfolding taken_out
@@ -118,8 +118,8 @@ inserted_size number m ties =
     let e : length (inserted number m ties) ≡ suc (length ties) = length_permutation (m ∷ ties) (inserted number m ties) (same_inserted number m ties) in
     omega (arith, e)
 
-pub without_fewer : {C : Type 0} (number : C → ℕ) (id : C) (ties : List (Member C)) → length (without number id ties) ≤ length ties
-unfolding without
+pub without_fewer : {C : Type 0} (number : C → ℕ) (id : C) (ties : List (Member C)) → length (without_member number id ties) ≤ length ties
+unfolding without_member
 without_fewer {C} number id ties =
     let p : Member C → Bool = λ m. number m.id == number id in
     let q : Member C → Bool = λ m. not (number m.id == number id) in

@@ -3,7 +3,7 @@ use Rattle.std.proofs.Common.{◌≡◌, ◌≢◌, ◌↔◌, ◌⊎◌, ℕ, �
 use Rattle.std.specs.Prelude.{Contains, AllPairs}
 use Rattle.std.proofs.lemmas.List.Elements.{All-contains}
 use Rattle.graph_colours.specs.declared.member.Member.{Member}
-use Rattle.graph_colours.specs.Members.{AreRising, has_id, inserted, without}
+use Rattle.graph_colours.specs.Members.{AreRising, has_id, inserted, without_member}
 use Rattle.graph_colours.proofs.SearchLemmas.{has_inserted}
 use Rattle.graph_colours.proofs.PlaceLemmas.{not_same}
 use Rattle.graph_colours.proofs.ListLemmas.{pairs_head, pairs_tail, rising_inserted, rising_without}
@@ -35,14 +35,14 @@ unfolding has_id
 fresh_from number id [] h = refl
 fresh_from number id (m ∷ ms) h = rw (not_same (number m.id) (number id) (h m (contains_head m ms))) (fresh_from number id ms (λ x k. h x (contains_tail m ms x k)))
 
-fresh_without : {C : Type 0} (number : C → ℕ) (m x : Member C) (ties : List (Member C)) → has_id number x.id ties ≡ false → has_id number x.id (without number m.id ties) ≡ false
-fresh_without number m x ties h = fresh_from number x.id (without number m.id ties) (λ y k. has_from number x.id ties y h (without_in number m.id ties y k).0)
+fresh_without : {C : Type 0} (number : C → ℕ) (m x : Member C) (ties : List (Member C)) → has_id number x.id ties ≡ false → has_id number x.id (without_member number m.id ties) ≡ false
+fresh_without number m x ties h = fresh_from number x.id (without_member number m.id ties) (λ y k. has_from number x.id ties y h (without_in number m.id ties y k).0)
 
 after_begin : {C : Type 0} (number : C → ℕ) (labels : Labels) (m : Member C) (ties : List (Member C)) (d : Change C) → number m.id ≢ change_number number d → IsChange number labels ties d → IsChange number labels (inserted number m ties) d
 after_begin number labels m ties (Begin x) far h = (fresh_inserted number m x ties far h.0, h.1)
 after_begin number labels m ties (End x) far h = in_inserted number m ties x (inr h)
 
-after_end : {C : Type 0} (number : C → ℕ) (labels : Labels) (m : Member C) (ties : List (Member C)) (d : Change C) → number m.id ≢ change_number number d → IsChange number labels ties d → IsChange number labels (without number m.id ties) d
+after_end : {C : Type 0} (number : C → ℕ) (labels : Labels) (m : Member C) (ties : List (Member C)) (d : Change C) → number m.id ≢ change_number number d → IsChange number labels ties d → IsChange number labels (without_member number m.id ties) d
 after_end number labels m ties (Begin x) far h = (fresh_without number m x ties h.0, h.1)
 after_end number labels m ties (End x) far h = in_without number m.id ties x h (λ e. far (sym e))
 
@@ -52,7 +52,7 @@ rest_begin number labels m ties cs h = record {
   each = λ d k. after_begin number labels m ties d (apart_head number (Begin m) cs d h.apart k) (h.each d (contains_tail (Begin m) cs d k));
 }
 
-rest_end : {C : Type 0} (number : C → ℕ) (labels : Labels) (m : Member C) (ties : List (Member C)) (cs : List (Change C)) → AreChangesOf number labels ties (End m ∷ cs) → AreChangesOf number labels (without number m.id ties) cs
+rest_end : {C : Type 0} (number : C → ℕ) (labels : Labels) (m : Member C) (ties : List (Member C)) (cs : List (Change C)) → AreChangesOf number labels ties (End m ∷ cs) → AreChangesOf number labels (without_member number m.id ties) cs
 rest_end number labels m ties cs h = record {
   apart = pairs_tail (λ a b. change_number number a ≢ change_number number b) (End m) cs h.apart;
   each = λ d k. after_end number labels m ties d (apart_head number (End m) cs d h.apart k) (h.each d (contains_tail (End m) cs d k));
@@ -61,7 +61,7 @@ rest_end number labels m ties cs h = record {
 pub changes_fold : {C : Type 0} (number : C → ℕ) → ChangesFold number
 changes_fold number labels ties [] h = tt
 changes_fold number labels ties (Begin m ∷ cs) h = let one = h.each (Begin m) (contains_head (Begin m) cs) in (one.0, one.1, changes_fold number labels (inserted number m ties) cs (rest_begin number labels m ties cs h))
-changes_fold number labels ties (End m ∷ cs) h = (h.each (End m) (contains_head (End m) cs), changes_fold number labels (without number m.id ties) cs (rest_end number labels m ties cs h))
+changes_fold number labels ties (End m ∷ cs) h = (h.each (End m) (contains_head (End m) cs), changes_fold number labels (without_member number m.id ties) cs (rest_end number labels m ties cs h))
 
 -- ---- waking changes no constraints
 
@@ -115,7 +115,7 @@ after_begins {C} number labels m ties cs x h = (
   ],
 )
 
-after_ends : {C : Type 0} (number : C → ℕ) (labels : Labels) (m : Member C) (ties : List (Member C)) (cs : List (Change C)) (x : Member C) → AreRising number ties → AreChangesOf number labels ties (End m ∷ cs) → After (without number m.id ties) cs x ↔ After ties (End m ∷ cs) x
+after_ends : {C : Type 0} (number : C → ℕ) (labels : Labels) (m : Member C) (ties : List (Member C)) (cs : List (Change C)) (x : Member C) → AreRising number ties → AreChangesOf number labels ties (End m ∷ cs) → After (without_member number m.id ties) cs x ↔ After ties (End m ∷ cs) x
 after_ends {C} number labels m ties cs x rising h = (
   λ k. elim k [
     | inl p ↦ let o = without_in number m.id ties x p.0 in inl (
@@ -157,9 +157,9 @@ ties_after_all {C} number labels (Begin m ∷ cs) s x r h =
 ties_after_all {C} number labels (End m ∷ cs) s x r h =
     let now : Acting C = movers_woken number m.movers s in
     let same : now.ties ≡ s.ties = ties_both number m.movers.first m.movers.second s in
-    let P : List (Member C) → Type 0 = λ v. AreRising number (without number m.id v) in
-    let Q : List (Member C) → Type 0 = λ v. AreChangesOf number labels (without number m.id v) cs in
-    let R : List (Member C) → Type 0 = λ v. Contains (turned number cs (ended number m now)).ties x ↔ After (without number m.id v) cs x in
+    let P : List (Member C) → Type 0 = λ v. AreRising number (without_member number m.id v) in
+    let Q : List (Member C) → Type 0 = λ v. AreChangesOf number labels (without_member number m.id v) cs in
+    let R : List (Member C) → Type 0 = λ v. Contains (turned number cs (ended number m now)).ties x ↔ After (without_member number m.id v) cs x in
     through (subst R same (ties_after_all number labels cs (ended number m now) x (subst P (sym same) (rising_without number m.id s.ties r)) (subst Q (sym same) (rest_end number labels m s.ties cs h))))
     (after_ends number labels m s.ties cs x r h)
 

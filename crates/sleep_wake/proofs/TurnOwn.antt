@@ -9,7 +9,7 @@ use Rattle.sleep_wake.specs.declared.change.Change.{Change}
 use Rattle.sleep_wake.specs.declared.change.Change.TheVariants.{Begin, End}
 use Rattle.sleep_wake.specs.Acting.{Acting, AreMovers, IsSettled}
 use Rattle.sleep_wake.specs.Waking.{movers_woken, released_all}
-use Rattle.sleep_wake.specs.Changes.{changed, turned}
+use Rattle.sleep_wake.specs.Changes.{after_change, turned}
 use Rattle.sleep_wake.specs.ChangeLists.{begin_count, IsChange, AreChanges}
 use Rattle.sleep_wake.specs.Rooms.{OwnMovers}
 use Rattle.sleep_wake.proofs.ListLemmas.{one_of}
@@ -17,7 +17,7 @@ use Rattle.sleep_wake.proofs.FoldLemmas.{count_next, movers_on, both_labelled}
 use Rattle.sleep_wake.proofs.KeptLemmas.{wakes_both, turning_keeps}
 use Rattle.sleep_wake.proofs.SizeLemmas.{both_ties, both_size}
 use Rattle.graph_colours.proofs.ColouringLemmas.{released_members}
-use Rattle.graph_colours.specs.Members.{without}
+use Rattle.graph_colours.specs.Members.{without_member}
 use Rattle.std.specs.List.{All}
 use Rattle.std.proofs.lemmas.List.Elements.{All-filter}
 
@@ -49,13 +49,13 @@ one_alone : {C : Type 0} (number : C → ℕ) (c : Change C) (s : Acting C) → 
 one_alone number (Begin m) s h = (h.0, h.1, tt)
 one_alone number (End m) s h = (h, tt)
 
-pub change_keeps : {C : Type 0} (number : C → ℕ) (c : Change C) (s : Acting C) → IsSettled number s → IsChange number s.labels s.ties c → IsSettled number (changed number c s)
+pub change_keeps : {C : Type 0} (number : C → ℕ) (c : Change C) (s : Acting C) → IsSettled number s → IsChange number s.labels s.ties c → IsSettled number (after_change number c s)
 change_keeps number c s w h = turning_keeps number s (c ∷ []) w (one_alone number c s h)
 
 -- ---- those that give up their colours leave the others theirs
 
-all_without : {C : Type 0} (number : C → ℕ) (P : Member C → Type 0) (id : C) (ms : List (Member C)) → All P ms → All P (without number id ms)
-unfolding without
+all_without : {C : Type 0} (number : C → ℕ) (P : Member C → Type 0) (id : C) (ms : List (Member C)) → All P ms → All P (without_member number id ms)
+unfolding without_member
 all_without {C} number P id ms each = All-filter (λ (m : Member C). not (number m.id == number id)) P ms each
 
 pub own_released : {C : Type 0} (number : C → ℕ) (id : C) (ties : List (Member C)) (lists : List (List (Member C))) → OwnMovers number ties lists → OwnMovers number ties (released number id lists)
@@ -68,7 +68,7 @@ own_released {C} number id ties lists own m there =
 
 pub turned_few : {C : Type 0} (number : C → ℕ) (changes : List (Change C)) (s : Acting C) (room : ℕ) → length s.ties + begin_count changes ≤ room → length (turned number changes s).ties ≤ room
 turned_few number [] s room h = omega (arith, h)
-turned_few number (c ∷ changes) s room h = turned_few number changes (changed number c s) room (count_next number s room c changes h)
+turned_few number (c ∷ changes) s room h = turned_few number changes (after_change number c s) room (count_next number s room c changes h)
 
 -- what is left to release, by the test of the first
 pub released_wanted : {C : Type 0} (number : C → ℕ) (wanted : Member C → Bool) (m : Member C) (ms : List (Member C)) (lists : List (List (Member C))) → wanted m ≡ true → released_all number lists (filter wanted (m ∷ ms)) ≡ released_all number (released number m.id lists) (filter wanted ms)

@@ -39,16 +39,16 @@ awake_label None = false
 awake_label (Some l) = not (is_asleep l.state)
 
 -- a mover is awake while its island is
-abbrev pub is_awake : Labels → ℕ → Bool
-is_awake labels slot = awake_label (label_at labels slot)
+abbrev pub is_mover_awake : Labels → ℕ → Bool
+is_mover_awake labels slot = awake_label (label_at labels slot)
 
 abbrev pub second_awake : Labels → Option ℕ → Bool
 second_awake labels None = true
-second_awake labels (Some slot) = is_awake labels slot
+second_awake labels (Some slot) = is_mover_awake labels slot
 
 -- a constraint acts while all its movers are awake
 abbrev pub are_awake : Labels → Movers → Bool
-are_awake labels m = is_awake labels m.first && second_awake labels m.second
+are_awake labels m = is_mover_awake labels m.first && second_awake labels m.second
 
 -- ---- what holds
 

@@ -1,7 +1,7 @@
 -- Inner: lists of constraints that begin and end: what they leave, which may come, and which do between two lists.
 use Rattle.std.specs.Prelude.{◌≡◌, ◌≢◌, ℕ, suc, true, false, not, List, [], ◌∷◌, filter, map, Contains, AllPairs}
 use Rattle.graph_colours.specs.declared.member.Member.{Member}
-use Rattle.graph_colours.specs.Members.{AreRising, has_id, inserted, without}
+use Rattle.graph_colours.specs.Members.{AreRising, has_id, inserted, without_member}
 use Rattle.islands.specs.Labels.{Labels}
 use Rattle.sleep_wake.specs.declared.change.Change.{Change}
 use Rattle.sleep_wake.specs.declared.change.Change.TheVariants.{Begin, End}
@@ -15,7 +15,7 @@ each_inserted number (m ∷ ms) ties = each_inserted number ms (inserted number 
 
 abbrev pub each_without : {C : Type 0} → (C → ℕ) → List (Member C) → List (Member C) → List (Member C)
 each_without number [] ties = ties
-each_without number (m ∷ ms) ties = each_without number ms (without number m.id ties)
+each_without number (m ∷ ms) ties = each_without number ms (without_member number m.id ties)
 
 -- ---- which changes may come
 
@@ -41,7 +41,7 @@ begin_count (End m ∷ changes) = begin_count changes
 abbrev pub AreChanges : {C : Type 0} → (C → ℕ) → Labels → List (Member C) → List (Change C) → Type 0
 AreChanges number labels ties [] = Unit {0}
 AreChanges number labels ties (Begin m ∷ changes) = (has_id number m.id ties ≡ false) × AreMovers labels m.movers × AreChanges number labels (inserted number m ties) changes
-AreChanges number labels ties (End m ∷ changes) = Contains ties m × AreChanges number labels (without number m.id ties) changes
+AreChanges number labels ties (End m ∷ changes) = Contains ties m × AreChanges number labels (without_member number m.id ties) changes
 
 -- one that ends is there; one that begins isn't, and has movers
 abbrev pub IsChange : {C : Type 0} → (C → ℕ) → Labels → List (Member C) → Change C → Type 0

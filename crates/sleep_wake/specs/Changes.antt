@@ -1,8 +1,8 @@
 -- Constraints that begin and end, one after the other, and lists of these changes.
 use Rattle.std.specs.Prelude.{ℕ, cond, nat_lt, List, [], ◌∷◌, Option, Some, None}
 use Rattle.graph_colours.specs.declared.member.Member.{Member}
-use Rattle.graph_colours.specs.Members.{inserted, without}
-use Rattle.graph_colours.specs.Colours.{placed, released}
+use Rattle.graph_colours.specs.Members.{inserted, without_member}
+use Rattle.graph_colours.specs.Colours.{with_placed, released}
 use Rattle.islands.specs.Labels.{Labels, merged, loosened}
 use Rattle.sleep_wake.specs.declared.change.Change.{Change}
 use Rattle.sleep_wake.specs.declared.change.Change.TheVariants.{Begin, End}
@@ -23,11 +23,11 @@ united (Some second) first labels = merged labels first second
 
 -- the constraint goes, and gives up its colour
 unfoldable pub ended : {C : Type 0} → (C → ℕ) → Member C → Acting C → Acting C
-ended number m s = record { ties = without number m.id s.ties; labels = parted m.movers.second m.movers.first s.labels; lists = released number m.id s.lists }
+ended number m s = record { ties = without_member number m.id s.ties; labels = parted m.movers.second m.movers.first s.labels; lists = released number m.id s.lists }
 
 -- the constraint comes, and takes a colour
 unfoldable pub begun : {C : Type 0} → (C → ℕ) → Member C → Acting C → Acting C
-begun number m s = record { ties = inserted number m s.ties; labels = united m.movers.second m.movers.first s.labels; lists = placed number m s.lists }
+begun number m s = record { ties = inserted number m s.ties; labels = united m.movers.second m.movers.first s.labels; lists = with_placed number m s.lists }
 
 -- ---- several begin or end, one after the other, while their movers are awake
 
@@ -42,14 +42,14 @@ each_ended number (m ∷ ms) s = each_ended number ms (ended number m s)
 -- ---- changes, each at its turn
 
 -- sleeping movers of the constraint wake first
-abbrev pub changed : {C : Type 0} → (C → ℕ) → Change C → Acting C → Acting C
-changed number (Begin m) s = begun number m (movers_woken number m.movers s)
-changed number (End m) s = ended number m (movers_woken number m.movers s)
+abbrev pub after_change : {C : Type 0} → (C → ℕ) → Change C → Acting C → Acting C
+after_change number (Begin m) s = begun number m (movers_woken number m.movers s)
+after_change number (End m) s = ended number m (movers_woken number m.movers s)
 
 -- the changes one after the other
 abbrev pub turned : {C : Type 0} → (C → ℕ) → List (Change C) → Acting C → Acting C
 turned number [] s = s
-turned number (c ∷ changes) s = turned number changes (changed number c s)
+turned number (c ∷ changes) s = turned number changes (after_change number c s)
 
 -- ---- changes in a list that ascends by number
 

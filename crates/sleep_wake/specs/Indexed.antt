@@ -3,7 +3,7 @@ use Rattle.std.specs.Prelude.{◌≡◌, ℕ, ◌==◌, ◌&&◌, Bool, true, fa
 use Rattle.graph_colours.specs.declared.member.Movers.{Movers}
 use Rattle.graph_colours.specs.declared.member.Member.{Member}
 use Rattle.graph_colours.specs.Movers.{is_slot, has_mover}
-use Rattle.graph_colours.specs.Members.{AreRising, inserted, without}
+use Rattle.graph_colours.specs.Members.{AreRising, inserted, without_member}
 use Rattle.graph_colours.specs.Colours.{list_at}
 
 -- the constraints of the mover in the slot, ascending
@@ -32,7 +32,7 @@ IsAdded number m old new = AreChangedWhere (has_mover m.movers) (inserted number
 
 -- the lists of these movers lose the constraint
 abbrev pub IsTakenOut : {C : Type 0} → (C → ℕ) → C → Movers → List (List (Member C)) → List (List (Member C)) → Type 0
-IsTakenOut number id movers old new = AreChangedWhere (has_mover movers) (without number id) old new
+IsTakenOut number id movers old new = AreChangedWhere (has_mover movers) (without_member number id) old new
 
 -- the slot is that of the second mover, which is another than the first
 abbrev pub is_other : Movers → ℕ → Bool

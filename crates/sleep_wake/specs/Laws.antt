@@ -6,14 +6,14 @@ use Rattle.graph_colours.specs.Colours.{all_members, IsColouring}
 use Rattle.islands.specs.declared.label.Label.{Label}
 use Rattle.islands.specs.Links.{Linked, Joined}
 use Rattle.islands.specs.Labels.{Labels, label_at, is_asleep, is_loose}
-use Rattle.sleep_wake.specs.Acting.{Acting, AreMovers, IsSettled, links_of, is_awake, are_awake}
+use Rattle.sleep_wake.specs.Acting.{Acting, AreMovers, IsSettled, links_of, is_mover_awake, are_awake}
 use Rattle.sleep_wake.specs.Waking.{woken_at, put_to_rest}
 use Rattle.sleep_wake.specs.declared.change.Change.{Change}
 use Rattle.sleep_wake.specs.declared.change.Change.TheVariants.{Begin, End}
 use Rattle.sleep_wake.specs.Changes.{each_begun, each_ended, ended, begun, turned}
 use Rattle.sleep_wake.specs.ChangeLists.{CanBegin, CanEnd, AreChanges, AreChangesOf, changes_between}
 use Rattle.sleep_wake.specs.Bodies.{dropped, mover_gone, mover_made}
-use Rattle.sleep_wake.specs.Sleeping.{names_of, islands_woken, slept_at}
+use Rattle.sleep_wake.specs.Sleeping.{sleeping_names, islands_woken, slept_at}
 use Rattle.sleep_wake.specs.SleepPhase.{split_at, sleep_phase}
 
 -- ---- what being settled means
@@ -26,7 +26,7 @@ SleepersAreOneComponent {C} number = (s : Acting C) (slot : ℕ) (l : Label) →
 -- Linked movers are in one island, both awake or both asleep.
 abbrev pub LinkedStandTogether : {C : Type 0} → (C → ℕ) → Type 0
 LinkedStandTogether {C} number = (s : Acting C) (a b : ℕ) → IsSettled number s → Linked (links_of s.ties) a b
-    → (label_at s.labels a ≡ label_at s.labels b) × (is_awake s.labels a ≡ is_awake s.labels b)
+    → (label_at s.labels a ≡ label_at s.labels b) × (is_mover_awake s.labels a ≡ is_mover_awake s.labels b)
 
 -- ---- what keeps it
 
@@ -39,7 +39,7 @@ RestingKeeps {C} number = (s : Acting C) (name : ℕ) (l : Label) → IsSettled 
 
 -- a constraint may end while its movers are awake
 abbrev pub EndingKeeps : {C : Type 0} → (C → ℕ) → Type 0
-EndingKeeps {C} number = (s : Acting C) (m : Member C) → IsSettled number s → Contains s.ties m → is_awake s.labels m.movers.first ≡ true → IsSettled number (ended number m s)
+EndingKeeps {C} number = (s : Acting C) (m : Member C) → IsSettled number s → Contains s.ties m → is_mover_awake s.labels m.movers.first ≡ true → IsSettled number (ended number m s)
 
 -- a constraint may begin while its movers are awake
 abbrev pub BeginningKeeps : {C : Type 0} → (C → ℕ) → Type 0
@@ -78,7 +78,7 @@ DroppingKeeps {C} number = (s : Acting C) (goes : Member C → Bool) → IsSettl
 
 -- an awake mover may go
 abbrev pub GoingKeeps : {C : Type 0} → (C → ℕ) → Type 0
-GoingKeeps {C} number = (s : Acting C) (slot : ℕ) → IsSettled number s → is_awake s.labels slot ≡ true → IsSettled number (mover_gone number slot s)
+GoingKeeps {C} number = (s : Acting C) (slot : ℕ) → IsSettled number s → is_mover_awake s.labels slot ≡ true → IsSettled number (mover_gone number slot s)
 
 -- a mover may come where there is none
 abbrev pub MakingKeeps : {C : Type 0} → (C → ℕ) → Type 0
@@ -137,7 +137,7 @@ pub record MoversComeAndGo {C : Type 0} (number : C → ℕ) : Type 0 where
 
 -- whoever is awake stays so
 abbrev pub NobodyFallsAsleep : {C : Type 0} → Acting C → Acting C → Type 0
-NobodyFallsAsleep old new = (slot : ℕ) → is_awake old.labels slot ≡ true → is_awake new.labels slot ≡ true
+NobodyFallsAsleep old new = (slot : ℕ) → is_mover_awake old.labels slot ≡ true → is_mover_awake new.labels slot ≡ true
 
 -- nobody falls asleep where islands wake, or constraints begin and end
 pub record AwakeStayAwake {C : Type 0} (number : C → ℕ) : Type 0 where
@@ -148,11 +148,11 @@ pub record AwakeStayAwake {C : Type 0} (number : C → ℕ) : Type 0 where
 
 -- The label of an awake mover stays as it is where others wake.
 abbrev pub WakingLeavesTheAwake : {C : Type 0} → (C → ℕ) → Type 0
-WakingLeavesTheAwake {C} number = (s : Acting C) (names : List ℕ) (slot : ℕ) → IsSettled number s → is_awake s.labels slot ≡ true → label_at (islands_woken number names s).labels slot ≡ label_at s.labels slot
+WakingLeavesTheAwake {C} number = (s : Acting C) (names : List ℕ) (slot : ℕ) → IsSettled number s → is_mover_awake s.labels slot ≡ true → label_at (islands_woken number names s).labels slot ≡ label_at s.labels slot
 
 -- Once the islands of some movers were woken by their names, all of these are awake.
 abbrev pub TheNamedAreAwake : {C : Type 0} → (C → ℕ) → Type 0
-TheNamedAreAwake {C} number = (s : Acting C) (slots : List ℕ) (slot : ℕ) → IsSettled number s → Contains slots slot → is_some (label_at s.labels slot) ≡ true → is_awake (islands_woken number (names_of s.labels slots) s).labels slot ≡ true
+TheNamedAreAwake {C} number = (s : Acting C) (slots : List ℕ) (slot : ℕ) → IsSettled number s → Contains slots slot → is_some (label_at s.labels slot) ≡ true → is_mover_awake (islands_woken number (sleeping_names s.labels slots) s).labels slot ≡ true
 
 -- A constraint has a colour just while all its movers are awake.
 abbrev pub TheAwakeAct : {C : Type 0} → (C → ℕ) → Type 0

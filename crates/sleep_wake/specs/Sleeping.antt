@@ -27,8 +27,8 @@ names_from labels names [] = names
 names_from labels names (slot ∷ slots) = names_from labels (with_name (name_at labels slot) names) slots
 
 -- the names of the sleeping islands in which the movers of these slots are, ascending and each once
-abbrev pub names_of : Labels → List ℕ → List ℕ
-names_of labels slots = names_from labels [] slots
+abbrev pub sleeping_names : Labels → List ℕ → List ℕ
+sleeping_names labels slots = names_from labels [] slots
 
 -- ---- islands wake by their names, one after the other
 

@@ -2,7 +2,7 @@
 use Rattle.std.specs.Prelude.{ℕ, ◌||◌, Bool, false, cond, List, [], ◌∷◌, Option, Some, None, filter}
 use Rattle.graph_colours.specs.declared.member.Movers.{Movers}
 use Rattle.graph_colours.specs.declared.member.Member.{Member}
-use Rattle.graph_colours.specs.Colours.{placed, released}
+use Rattle.graph_colours.specs.Colours.{with_placed, released}
 use Rattle.islands.specs.declared.label.Label.{Label}
 use Rattle.islands.specs.Labels.{Labels, label_at, is_in, is_asleep, rested, woken}
 use Rattle.sleep_wake.specs.Acting.{Acting}
@@ -21,17 +21,17 @@ are_in labels name m = is_in (label_at labels m.first) name || second_in labels 
 abbrev pub has_mover_of : {C : Type 0} → Labels → ℕ → Member C → Bool
 has_mover_of labels name m = are_in labels name m.movers
 
-abbrev pub ties_of : {C : Type 0} → Acting C → ℕ → List (Member C)
-ties_of s name = filter (has_mover_of s.labels name) s.ties
+abbrev pub ties_of_mover : {C : Type 0} → Acting C → ℕ → List (Member C)
+ties_of_mover s name = filter (has_mover_of s.labels name) s.ties
 
 -- ---- a sleeping island wakes: its constraints take colours, in their order
 
 abbrev pub placed_all : {C : Type 0} → (C → ℕ) → List (List (Member C)) → List (Member C) → List (List (Member C))
 placed_all number lists [] = lists
-placed_all number lists (m ∷ ms) = placed_all number (placed number m lists) ms
+placed_all number lists (m ∷ ms) = placed_all number (with_placed number m lists) ms
 
 unfoldable pub set_woken : {C : Type 0} → (C → ℕ) → ℕ → Acting C → Acting C
-set_woken number name s = record { ties = s.ties; labels = woken s.labels name; lists = placed_all number s.lists (ties_of s name) }
+set_woken number name s = record { ties = s.ties; labels = woken s.labels name; lists = placed_all number s.lists (ties_of_mover s name) }
 
 abbrev pub woken_by : {C : Type 0} → (C → ℕ) → Option Label → Acting C → Acting C
 woken_by number None s = s
@@ -56,4 +56,4 @@ released_all number lists [] = lists
 released_all number lists (m ∷ ms) = released_all number (released number m.id lists) ms
 
 unfoldable pub put_to_rest : {C : Type 0} → (C → ℕ) → ℕ → Acting C → Acting C
-put_to_rest number name s = record { ties = s.ties; labels = rested s.labels name; lists = released_all number s.lists (ties_of s name) }
+put_to_rest number name s = record { ties = s.ties; labels = rested s.labels name; lists = released_all number s.lists (ties_of_mover s name) }

@@ -6,7 +6,7 @@ ghost use Rattle.graph_colours.specs.declared.member.Movers.{Movers as TheMovers
 ghost use Rattle.graph_colours.specs.Given.{members_of};
 ghost use Rattle.graph_colours.specs.Movers.{is_slot, has_mover};
 ghost use Rattle.graph_colours.specs.Colours.{list_at};
-ghost use Rattle.graph_colours.specs.Members.{AreRising, inserted, without, movers_of};
+ghost use Rattle.graph_colours.specs.Members.{AreRising, inserted, without_member, movers_of};
 ghost use Rattle.sleep_wake.specs.Indexed.{ties_of, AreByMover, AreAllRising, AreChangedWhere, AreAlike, IsAdded, IsTakenOut, is_other};
 
 use fixed_geom::Refusal;
@@ -73,7 +73,7 @@ pub(crate) fn add<C: Id>(lists: &mut Vec<Vec<Member<C>>>, holds: bool, member: M
 /// Takes the constraint of this id out of the list of a slot.
 fn take_at<C: Id>(lists: &mut Vec<Vec<Member<C>>>, slot: u32, id: C)
     requires { AreRising C.number (list_at (members_of lists.old.items) slot) }
-    ensures { AreChangedWhere (λ s. slot == s) (without C.number id) (members_of lists.old.items) (members_of lists.new.items) }
+    ensures { AreChangedWhere (λ s. slot == s) (without_member C.number id) (members_of lists.old.items) (members_of lists.new.items) }
 {
     let place = slot as usize;
     if place < lists.len() {

@@ -6,7 +6,7 @@ ghost use Rattle.graph_colours.specs.Colours.{all_members};
 ghost use Rattle.graph_colours.specs.Movers.{AreBelow};
 ghost use Rattle.graph_colours.specs.Members.{has_id};
 ghost use Rattle.sleep_wake.specs.Acting.{acting, AreMovers, IsSettled};
-ghost use Rattle.sleep_wake.specs.Changes.{united, parted, begun, ended, each_begun, each_ended, changed, turned};
+ghost use Rattle.sleep_wake.specs.Changes.{united, parted, begun, ended, each_begun, each_ended, after_change, turned};
 ghost use Rattle.sleep_wake.specs.ChangeLists.{CanBegin, CanEnd, begin_count, IsChange, AreChanges};
 
 use crate::change::Change;
@@ -147,7 +147,7 @@ fn begin_awake<C: Id>(
     requires gathering_slots { length islands.old.labels ≤ gathering.old.slots }
     requires ties_room { length ties.old.items < ties.old.capacity }
     requires room { length ties.old.items < colours.old.room + length (all_members colours.old.lists) }
-    ensures changed { acting ties.new.items islands.new.labels colours.new.lists ≡ changed C.number (Begin member) (acting ties.old.items islands.old.labels colours.old.lists) }
+    ensures changed { acting ties.new.items islands.new.labels colours.new.lists ≡ after_change C.number (Begin member) (acting ties.old.items islands.old.labels colours.old.lists) }
     ensures capacity { ties.old.capacity ≤ ties.new.capacity }
     ensures gathering_ties { gathering.old.ties ≤ gathering.new.ties }
     ensures gathering_slots { gathering.old.slots ≤ gathering.new.slots }
@@ -174,7 +174,7 @@ fn end_awake<C: Id>(
     requires gathering_ties { length ties.old.items ≤ gathering.old.ties }
     requires gathering_slots { length islands.old.labels ≤ gathering.old.slots }
     requires room { length ties.old.items ≤ colours.old.room + length (all_members colours.old.lists) }
-    ensures changed { acting ties.new.items islands.new.labels colours.new.lists ≡ changed C.number (End member) (acting ties.old.items islands.old.labels colours.old.lists) }
+    ensures changed { acting ties.new.items islands.new.labels colours.new.lists ≡ after_change C.number (End member) (acting ties.old.items islands.old.labels colours.old.lists) }
     ensures capacity { ties.old.capacity ≤ ties.new.capacity }
     ensures gathering_ties { gathering.old.ties ≤ gathering.new.ties }
     ensures gathering_slots { gathering.old.slots ≤ gathering.new.slots }
@@ -202,7 +202,7 @@ fn change<C: Id>(
     requires gathering_slots { length islands.old.labels ≤ gathering.old.slots }
     requires ties_room { length ties.old.items + begin_count (change ∷ []) ≤ ties.old.capacity }
     requires room { length ties.old.items + begin_count (change ∷ []) ≤ colours.old.room + length (all_members colours.old.lists) }
-    ensures changed { acting ties.new.items islands.new.labels colours.new.lists ≡ changed C.number change (acting ties.old.items islands.old.labels colours.old.lists) }
+    ensures changed { acting ties.new.items islands.new.labels colours.new.lists ≡ after_change C.number change (acting ties.old.items islands.old.labels colours.old.lists) }
     ensures capacity { ties.old.capacity ≤ ties.new.capacity }
     ensures gathering_ties { gathering.old.ties ≤ gathering.new.ties }
     ensures gathering_slots { gathering.old.slots ≤ gathering.new.slots }

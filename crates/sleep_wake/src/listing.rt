@@ -2,7 +2,7 @@
 
 ghost use Rattle.std.specs.Prelude.{◌≡◌, ◌++◌, ◌∷◌, [], cond, IfOk, OnOk};
 ghost use Rattle.std.specs.Result.{IsOkUnless};
-ghost use Rattle.sleep_wake.specs.Acting.{is_awake};
+ghost use Rattle.sleep_wake.specs.Acting.{is_mover_awake};
 ghost use Rattle.sleep_wake.specs.AwakeSlots.{AreAwakeSlots};
 
 use crate::waking::is_awake;
@@ -12,7 +12,7 @@ use std::alloc::Global;
 
 /// Adds the slot, if the mover there is awake. Refused 1 where memory is wanting.
 fn add_awake(slots: &mut Vec<u32>, islands: &Islands, slot: u32) -> Result<(), Refusal>
-    ensures items { OnOk result (slots.new.items ≡ slots.old.items ++ cond (is_awake islands.now.labels slot) (slot ∷ []) []) }
+    ensures items { OnOk result (slots.new.items ≡ slots.old.items ++ cond (is_mover_awake islands.now.labels slot) (slot ∷ []) []) }
     ensures memory_only { IsOkUnless result Refusal.NoMemory }
 {
     if is_awake(islands, slot) {

@@ -4,7 +4,7 @@ ghost use Rattle.std.specs.Prelude.{◌≡◌, ◌++◌, ℕ, Contains, IfOk, On
 ghost use Rattle.std.specs.List.Sorted.{IsStrictlyIncreasing};
 ghost use Rattle.std.specs.Option.{option_to_list};
 ghost use Rattle.std.specs.Result.{IsOkUnless};
-ghost use Rattle.sleep_wake.specs.Sleeping.{name_at, names_of};
+ghost use Rattle.sleep_wake.specs.Sleeping.{name_at, sleeping_names};
 
 use fixed_geom::Refusal;
 use islands::{Islands, sleeping_name};
@@ -45,7 +45,7 @@ pub(crate) fn list_names(
     islands: &Islands,
     slots: &[u32],
 ) -> Result<Vec<u32>, Refusal>
-    ensures value { IfOk result (λ names. names.items ≡ names_of islands.now.labels slots.now) }
+    ensures value { IfOk result (λ names. names.items ≡ sleeping_names islands.now.labels slots.now) }
     ensures memory_only { IsOkUnless result Refusal.NoMemory }
 {
     let mut names = Vec::new(alloc);

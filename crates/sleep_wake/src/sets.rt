@@ -9,7 +9,7 @@ ghost use Rattle.graph_colours.specs.declared.member.Member.{Member as TheMember
 ghost use Rattle.graph_colours.specs.Members.{AreRising, has_id, with_number};
 ghost use Rattle.graph_colours.specs.Movers.{has_mover};
 ghost use Rattle.islands.specs.Labels.{label_at};
-ghost use Rattle.sleep_wake.specs.Acting.{acting, is_awake, are_awake, AreMovers, IsSettled};
+ghost use Rattle.sleep_wake.specs.Acting.{acting, is_mover_awake, are_awake, AreMovers, IsSettled};
 ghost use Rattle.sleep_wake.specs.Waking.{woken_at, movers_woken, put_to_rest};
 ghost use Rattle.sleep_wake.specs.Changes.{begun, ended, each_begun, each_ended, turned};
 ghost use Rattle.sleep_wake.specs.ChangeLists.{CanBegin, CanEnd, begin_count, AreChanges};
@@ -17,7 +17,7 @@ ghost use Rattle.sleep_wake.specs.Bodies.{mover_made, mover_gone};
 ghost use Rattle.sleep_wake.specs.Widened.{widened};
 ghost use Rattle.sleep_wake.specs.SleepPhase.{is_island, split_at, picked_to_split, split_picked, sleep_phase, ready_put_to_rest};
 ghost use Rattle.sleep_wake.specs.AwakeSlots.{AreAwakeSlots, AgreeAwake};
-ghost use Rattle.sleep_wake.specs.Sleeping.{names_of, islands_woken, split_if_loose, rested_at, slept_at};
+ghost use Rattle.sleep_wake.specs.Sleeping.{sleeping_names, islands_woken, split_if_loose, rested_at, slept_at};
 ghost use Rattle.sleep_wake.specs.Resting.{is_whole};
 
 use crate::change::Change;
@@ -253,7 +253,7 @@ impl<C: Id> Sets<C> {
 
     /// Whether a mover is in the slot, and awake.
     pub fn is_awake(&self, slot: u32) -> bool
-        ensures { result ≡ is_awake self.now.acting.labels slot }
+        ensures { result ≡ is_mover_awake self.now.acting.labels slot }
     {
         is_awake(&self.islands, slot)
     }
@@ -275,7 +275,7 @@ impl<C: Id> Sets<C> {
     /// The names of the sleeping islands of the movers in these slots, ascending and each once. Refused 1 where memory is
     /// wanting.
     pub fn names_of(&self, slots: &[u32]) -> Result<Vec<u32>, Refusal>
-        ensures value { IfOk result (λ names. names.items ≡ names_of self.now.acting.labels slots.now) }
+        ensures value { IfOk result (λ names. names.items ≡ sleeping_names self.now.acting.labels slots.now) }
         ensures memory_only { IsOkUnless result Refusal.NoMemory }
     {
         list_names(*self.spare.allocator(), &self.islands, slots)
@@ -315,7 +315,7 @@ impl<C: Id> Sets<C> {
 
     /// Takes an awake mover that is in no constraint out of its island. Those that it leaves behind are loose.
     pub fn remove_mover(&mut self, slot: u32)
-        requires awake { is_awake self.old.acting.labels slot ≡ true }
+        requires awake { is_mover_awake self.old.acting.labels slot ≡ true }
         requires alone { filter (λ m. has_mover m.movers slot) self.old.acting.ties ≡ [] }
         ensures acting { self.new.acting ≡ mover_gone C.number slot self.old.acting }
         ensures room { self.new.room ≡ self.old.room }

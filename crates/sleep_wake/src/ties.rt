@@ -3,7 +3,7 @@
 ghost use Rattle.std.specs.Prelude.{◌≡◌, ◌<◌, ◌≤◌, [], true, false, length, IfOk, IfSome, OnOk, is_some};
 ghost use Rattle.std.specs.Result.{IsOkUnless};
 ghost use Rattle.graph_colours.specs.Given.{members_of};
-ghost use Rattle.graph_colours.specs.Members.{AreRising, has_id, inserted, without, movers_of, with_number};
+ghost use Rattle.graph_colours.specs.Members.{AreRising, has_id, inserted, without_member, movers_of, with_number};
 ghost use Rattle.sleep_wake.specs.Indexed.{ties_of, AreByMover};
 
 use crate::by_mover::{add, copy_at, pick, rebuild, take_out, widen};
@@ -132,7 +132,7 @@ impl<C: Id> Ties<C> {
     /// Takes out the constraint that has the id, and answers its movers.
     pub(crate) fn remove(&mut self, id: C, spare: &mut Vec<Member<C>>) -> Option<Movers>
         ensures value { result ≡ movers_of C.number id self.old.items }
-        ensures items { self.new.items ≡ without C.number id self.old.items }
+        ensures items { self.new.items ≡ without_member C.number id self.old.items }
         ensures capacity { self.old.capacity ≤ self.new.capacity }
     {
         let movers = self.list.remove(id, spare);

@@ -8,7 +8,7 @@ ghost use Rattle.graph_colours.specs.Colours.{all_members};
 ghost use Rattle.islands.specs.Labels.{label_at, is_in, IsIn};
 ghost use Rattle.islands.specs.Links.{Linked};
 ghost use Rattle.islands.specs.Partition.{IsPartition, AreIslands};
-ghost use Rattle.sleep_wake.specs.Acting.{acting, links_of, is_awake, second_awake, are_awake, IsSettled};
+ghost use Rattle.sleep_wake.specs.Acting.{acting, links_of, is_mover_awake, second_awake, are_awake, IsSettled};
 ghost use Rattle.sleep_wake.specs.Waking.{second_in, are_in, has_mover_of, placed_all, released_all, set_woken, woken_at, movers_woken, put_to_rest};
 ghost use Rattle.sleep_wake.specs.Rooms.{CanPlace, OwnMovers};
 
@@ -38,7 +38,7 @@ fn is_second_in(islands: &Islands, name: u32, slot: Option<u32>) -> bool
 
 /// Whether a mover is in the slot, and awake.
 pub(crate) fn is_awake(islands: &Islands, slot: u32) -> bool
-    ensures { result ≡ is_awake islands.now.labels slot }
+    ensures { result ≡ is_mover_awake islands.now.labels slot }
 {
     match islands.label_of(slot) {
         None => false,

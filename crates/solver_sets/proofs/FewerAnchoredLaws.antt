@@ -10,7 +10,7 @@ use Rattle.graph_colours.specs.Movers.{has_mover}
 use Rattle.islands.proofs.JoinLemmas.{contains_head, contains_tail}
 use Rattle.sleep_wake.specs.Acting.{Acting}
 use Rattle.sleep_wake.specs.Bodies.{mover_gone}
-use Rattle.sleep_wake.specs.Changes.{begun, changed, each_begun, each_ended, ended, turned}
+use Rattle.sleep_wake.specs.Changes.{begun, after_change, each_begun, each_ended, ended, turned}
 use Rattle.sleep_wake.specs.Waking.{movers_woken}
 use Rattle.sleep_wake.specs.declared.change.Change.{Change}
 use Rattle.sleep_wake.specs.declared.change.Change.TheVariants.{Begin, End}
@@ -103,7 +103,7 @@ turned_in : (changes : List (Change Constraint)) (s : Acting Constraint) (x : Me
 turned_in [] s x h = inl h
 turned_in (Begin m ∷ changes) s x h =
     let now : Acting Constraint = movers_woken constraint_number m.movers s in
-    elim (turned_in changes (changed constraint_number (Begin m) s) x h) [
+    elim (turned_in changes (after_change constraint_number (Begin m) s) x h) [
       | inl k ↦ elim (begun_in m now x k) [
         | inl e ↦ inr (subst (λ (v : Member Constraint). Contains (m ∷ begins_of changes) v) e (contains_head m (begins_of changes)))
         | inr q ↦ inl (subst (λ (l : Ties). Contains l x) (both_ties constraint_number m.movers s) q)
@@ -112,7 +112,7 @@ turned_in (Begin m ∷ changes) s x h =
     ]
 turned_in (End m ∷ changes) s x h =
     let now : Acting Constraint = movers_woken constraint_number m.movers s in
-    elim (turned_in changes (changed constraint_number (End m) s) x h) [
+    elim (turned_in changes (after_change constraint_number (End m) s) x h) [
       | inl k ↦ inl (subst (λ (l : Ties). Contains l x) (both_ties constraint_number m.movers s) (ended_in m now x k))
       | inr k ↦ inr k
     ]

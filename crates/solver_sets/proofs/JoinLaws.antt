@@ -10,7 +10,7 @@ use Rattle.body_handles.proofs.LowestLemmas.{lowest-le-length}
 use Rattle.body_handles.proofs.TableLemmas.{IsPlace-given, IsTable-given, IsTable-taken}
 use Rattle.graph_colours.specs.declared.member.Member.{Member}
 use Rattle.graph_colours.specs.declared.member.Movers.{Movers}
-use Rattle.graph_colours.specs.Members.{AreRising, has_id, inserted, without}
+use Rattle.graph_colours.specs.Members.{AreRising, has_id, inserted, without_member}
 use Rattle.graph_colours.proofs.Cases.{true_or_false}
 use Rattle.graph_colours.proofs.ListLemmas.{rising_inserted, rising_without}
 use Rattle.graph_colours.proofs.PlaceLemmas.{is_same, same_from}
@@ -255,7 +255,7 @@ without_tie_is : (h : Handle) (o : Option Movers) (old new : List (Member Constr
     → (o ≡ None → (m : Member Constraint) → IsIn m old → constraint_number m.id ≢ joint_number h) → new ≡ laws.without_tie (Joint h) o old
 without_tie_is h None old new r q f g none = same_members constraint_number new old q r (λ m k. (f m k).0) (λ m k. g m k (none refl m k))
 without_tie_is h (Some v) old new r q f g none =
-    same_members constraint_number new (without constraint_number (Joint h) old) q (rising_without constraint_number (Joint h) old r)
+    same_members constraint_number new (without_member constraint_number (Joint h) old) q (rising_without constraint_number (Joint h) old r)
     (λ m k. let o = f m k in is_without constraint_number (Joint h) old m o.0 o.1)
     (λ m k. let o = without_is constraint_number (Joint h) old m k in g m o.0 o.1)
 

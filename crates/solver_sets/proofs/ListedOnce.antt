@@ -9,7 +9,7 @@ use Rattle.graph_colours.proofs.PlaceLemmas.{is_same, same_from}
 use Rattle.plain_world.specs.declared.body.SetName.{SetName}
 use Rattle.plain_world.specs.declared.body.SetName.TheVariants as sets
 use Rattle.solver_sets.specs.declared.census.Item.{Item}
-use Rattle.solver_sets.specs.Census.{Sleepers, Standing, census_in, in_set, in_sleepers, is_same_set, listed, names_of, names_with, sleepers_of, with_name_of}
+use Rattle.solver_sets.specs.Census.{Sleepers, Standing, census_in, in_set, in_sleepers, is_same_set, listed, set_names, names_with, sleepers_of, with_name_of}
 use Rattle.solver_sets.specs.EachOnce.{items_named, list_of, sleeping_names}
 use Rattle.solver_sets.proofs.CensusLaws.{in_with, names_kept, names_rise, own_name, unnamed}
 use Rattle.solver_sets.proofs.ListLaws.{Rises, filter_in, in_filter, in_mapped, mapped_in}
@@ -191,10 +191,10 @@ names_are xs [] = refl
 names_are xs (n ∷ names) = ap (λ (l : List ℕ). n ∷ l) (names_are xs names)
 
 pub in_names : (xs : List Standing) (n : ℕ) → IsIn n (sleeping_names (census_in xs)) → IsNameOf xs n
-in_names xs n h = elim (name_from [] xs n (subst (λ (l : List ℕ). IsIn n l) (names_are xs (names_of xs)) h)) [ inl p ↦ absurd p | inr o ↦ o ]
+in_names xs n h = elim (name_from [] xs n (subst (λ (l : List ℕ). IsIn n l) (names_are xs (set_names xs)) h)) [ inl p ↦ absurd p | inr o ↦ o ]
 
 pub names_in : (xs : List Standing) (z : Standing) (n : ℕ) → IsIn z xs → z.set ≡ sets.Sleeping n → IsIn n (sleeping_names (census_in xs))
-names_in xs z n h e = subst (λ (l : List ℕ). IsIn n l) (sym (names_are xs (names_of xs))) (name_there [] xs z n h e)
+names_in xs z n h e = subst (λ (l : List ℕ). IsIn n l) (sym (names_are xs (set_names xs))) (name_there [] xs z n h e)
 
 -- ---- the list of each set is what stands in it
 
@@ -211,7 +211,7 @@ pub list_is : (xs : List Standing) (set : SetName) → list_of (census_in xs) se
 list_is xs sets.Static = refl
 list_is xs sets.Disabled = refl
 list_is xs sets.Awake = refl
-list_is xs (sets.Sleeping n) = items_are xs (names_of xs) n (unnamed [] xs n)
+list_is xs (sets.Sleeping n) = items_are xs (set_names xs) n (unnamed [] xs n)
 
 -- ---- all lists, one after another
 
@@ -225,7 +225,7 @@ somewhere : (set : SetName) (xs : List Standing) (i : Item) → IsIn i (in_set s
 somewhere set xs i h = let o = in_list set xs i h in record { of = o.of; there = o.there; item = o.item }
 
 abbrev asleep_in : List Standing → List Item
-asleep_in xs = in_sleepers (map (sleepers_of xs) (names_of xs))
+asleep_in xs = in_sleepers (map (sleepers_of xs) (set_names xs))
 
 pub in_all : (xs : List Standing) (i : Item) → IsIn i (listed (census_in xs)) → IsSomewhere xs i
 in_all xs i h = elim (in_append i (in_set sets.Static xs) (in_set sets.Disabled xs ++ (in_set sets.Awake xs ++ asleep_in xs)) h) [
@@ -234,7 +234,7 @@ in_all xs i h = elim (in_append i (in_set sets.Static xs) (in_set sets.Disabled 
     | inl p ↦ somewhere sets.Disabled xs i p
     | inr r ↦ elim (in_append i (in_set sets.Awake xs) (asleep_in xs) r) [
       | inl p ↦ somewhere sets.Awake xs i p
-      | inr s ↦ let o = in_sleeping xs (names_of xs) i s in somewhere (sets.Sleeping o.name) xs i o.listed
+      | inr s ↦ let o = in_sleeping xs (set_names xs) i s in somewhere (sets.Sleeping o.name) xs i o.listed
     ]
   ]
 ]
@@ -251,19 +251,19 @@ all_by xs z sets.Awake h e =
 all_by xs z (sets.Sleeping n) h e =
     in_right z.item (in_set sets.Static xs) (in_set sets.Disabled xs ++ (in_set sets.Awake xs ++ asleep_in xs))
     (in_right z.item (in_set sets.Disabled xs) (in_set sets.Awake xs ++ asleep_in xs)
-    (in_right z.item (in_set sets.Awake xs) (asleep_in xs) (sleeping_in xs (names_of xs) n z.item (name_there [] xs z n h e) (list_in (sets.Sleeping n) xs z h e))))
+    (in_right z.item (in_set sets.Awake xs) (asleep_in xs) (sleeping_in xs (set_names xs) n z.item (name_there [] xs z n h e) (list_in (sets.Sleeping n) xs z h e))))
 
 pub all_in : (xs : List Standing) (z : Standing) → IsIn z xs → IsIn z.item (listed (census_in xs))
 all_in xs z h = all_by xs z z.set h refl
 
 no_sleeper : (xs : List Standing) (set : SetName) (i : Item) → Apart xs → ((n : ℕ) → set ≡ sets.Sleeping n → ⊥) → IsIn i (in_set set xs) → IsIn i (asleep_in xs) → ⊥
-no_sleeper xs set i a other h k = let o = in_sleeping xs (names_of xs) i k in other o.name (one_list xs set (sets.Sleeping o.name) i a h o.listed)
+no_sleeper xs set i a other h k = let o = in_sleeping xs (set_names xs) i k in other o.name (one_list xs set (sets.Sleeping o.name) i a h o.listed)
 
 pub all_distinct : (xs : List Standing) → Apart xs → Distinct (listed (census_in xs))
 all_distinct xs a =
     distinct_append (in_set sets.Static xs) (in_set sets.Disabled xs ++ (in_set sets.Awake xs ++ asleep_in xs)) (list_distinct sets.Static xs a)
     (distinct_append (in_set sets.Disabled xs) (in_set sets.Awake xs ++ asleep_in xs) (list_distinct sets.Disabled xs a)
-    (distinct_append (in_set sets.Awake xs) (asleep_in xs) (list_distinct sets.Awake xs a) (sleeping_distinct xs (names_of xs) a (names_rise [] xs tt))
+    (distinct_append (in_set sets.Awake xs) (asleep_in xs) (list_distinct sets.Awake xs a) (sleeping_distinct xs (set_names xs) a (names_rise [] xs tt))
     (λ i h k. no_sleeper xs sets.Awake i a (λ n e. cc) h k))
     (λ i h k. elim (in_append i (in_set sets.Awake xs) (asleep_in xs) k) [
       | inl p ↦ let e : sets.Disabled ≡ sets.Awake = one_list xs sets.Disabled sets.Awake i a h p in cc

@@ -2,7 +2,7 @@
 use Rattle.std.proofs.Common.{◌≡◌, ◌≢◌, ◌⊎◌, ℕ, ◌<◌, false, List, [], ◌∷◌, get_or, inl, inr, refl, sym, ap, arith}
 use Rattle.std.proofs.lemmas.List.Elements.{Contains-get_or}
 use Rattle.graph_colours.specs.declared.member.Member.{Member}
-use Rattle.graph_colours.specs.Members.{AreRising, has_id, inserted, without}
+use Rattle.graph_colours.specs.Members.{AreRising, has_id, inserted, without_member}
 use Rattle.graph_colours.proofs.ListLemmas.{rising_inserted, rising_without}
 use Rattle.graph_colours.proofs.PlaceLemmas.{has_no_id}
 use Rattle.contacts.proofs.Members.{IsIn, in_from_contains, contains_from_in}
@@ -16,11 +16,11 @@ inserted_is number m ms x h = elim (inserted_in number m ms x (contains_from_in 
 pub is_inserted : {C : Type 0} (number : C → ℕ) (m : Member C) (ms : List (Member C)) (x : Member C) → (x ≡ m) ⊎ IsIn x ms → IsIn x (inserted number m ms)
 is_inserted number m ms x h = in_from_contains (inserted number m ms) x (in_inserted number m ms x (elim h [ inl p ↦ inl (sym p) | inr q ↦ inr (contains_from_in ms x q) ]))
 
-pub without_is : {C : Type 0} (number : C → ℕ) (id : C) (ms : List (Member C)) (x : Member C) → IsIn x (without number id ms) → IsIn x ms × (number x.id ≢ number id)
-without_is number id ms x h = let o = without_in number id ms x (contains_from_in (without number id ms) x h) in (in_from_contains ms x o.0, o.1)
+pub without_is : {C : Type 0} (number : C → ℕ) (id : C) (ms : List (Member C)) (x : Member C) → IsIn x (without_member number id ms) → IsIn x ms × (number x.id ≢ number id)
+without_is number id ms x h = let o = without_in number id ms x (contains_from_in (without_member number id ms) x h) in (in_from_contains ms x o.0, o.1)
 
-pub is_without : {C : Type 0} (number : C → ℕ) (id : C) (ms : List (Member C)) (x : Member C) → IsIn x ms → number x.id ≢ number id → IsIn x (without number id ms)
-is_without number id ms x h far = in_from_contains (without number id ms) x (in_without number id ms x (contains_from_in ms x h) far)
+pub is_without : {C : Type 0} (number : C → ℕ) (id : C) (ms : List (Member C)) (x : Member C) → IsIn x ms → number x.id ≢ number id → IsIn x (without_member number id ms)
+is_without number id ms x h far = in_from_contains (without_member number id ms) x (in_without number id ms x (contains_from_in ms x h) far)
 
 pub no_id : {C : Type 0} (number : C → ℕ) (ms : List (Member C)) (id : C) → ((x : Member C) → IsIn x ms → number x.id ≢ number id) → has_id number id ms ≡ false
 no_id number ms id far = has_no_id number ms id (λ k d lt e. far (get_or ms k d) (in_from_contains ms (get_or ms k d) (Contains-get_or ms k d lt)) e)
@@ -55,14 +55,14 @@ rising_each number (m ∷ ms) ties r s far = rising_each number ms (inserted num
 pub each_left : {C : Type 0} (number : C → ℕ) (ms ties : List (Member C)) (x : Member C) → IsIn x (each_without number ms ties) → IsIn x ties × ((m : Member C) → IsIn m ms → number x.id ≢ number m.id)
 each_left number [] ties x h = (h, (λ m k. absurd k))
 each_left number (n ∷ ms) ties x h =
-    let o = each_left number ms (without number n.id ties) x h in
+    let o = each_left number ms (without_member number n.id ties) x h in
     let p = without_is number n.id ties x o.0 in
     (p.0, (λ m k. elim k [ inl e ↦ rw e p.1 | inr q ↦ o.1 m q ]))
 
 pub left_each : {C : Type 0} (number : C → ℕ) (ms ties : List (Member C)) (x : Member C) → IsIn x ties → ((m : Member C) → IsIn m ms → number x.id ≢ number m.id) → IsIn x (each_without number ms ties)
 left_each number [] ties x h far = h
-left_each number (n ∷ ms) ties x h far = left_each number ms (without number n.id ties) x (is_without number n.id ties x h (far n (inl refl))) (λ m k. far m (inr k))
+left_each number (n ∷ ms) ties x h far = left_each number ms (without_member number n.id ties) x (is_without number n.id ties x h (far n (inl refl))) (λ m k. far m (inr k))
 
 pub rising_left : {C : Type 0} (number : C → ℕ) (ms ties : List (Member C)) → AreRising number ties → AreRising number (each_without number ms ties)
 rising_left number [] ties r = r
-rising_left number (m ∷ ms) ties r = rising_left number ms (without number m.id ties) (rising_without number m.id ties r)
+rising_left number (m ∷ ms) ties r = rising_left number ms (without_member number m.id ties) (rising_without number m.id ties r)

@@ -14,7 +14,7 @@ use Rattle.solver_sets.specs.Ties.{joint_movers, tie_with}
 use Rattle.solver_sets.specs.Beside.{stirred_if, is_moving_at, is_stirred_between, is_joined_to_moving, is_beside_moving, timer_if}
 use Rattle.contacts_base.specs.declared.contact.ContactEntry.{ContactEntry}
 use Rattle.islands.specs.Labels.{Labels}
-use Rattle.sleep_wake.specs.Acting.{is_awake}
+use Rattle.sleep_wake.specs.Acting.{is_mover_awake}
 
 -- ---- the ties of a body
 
@@ -89,4 +89,4 @@ ties_to_moving bodies joints slot m = cond (is_none m.movers.second) (is_to_movi
 
 -- the constraints with a colour tell of each awake mover whether it is beside a body that moves
 abbrev pub TellMoving : List (Option Body) → List (Option BodyJoint) → List ContactEntry → Labels → List (List (Member Constraint)) → Type 0
-TellMoving bodies joints contacts labels lists = (slot : ℕ) → is_awake labels slot ≡ true → list_any (ties_to_moving bodies joints slot) (all_members lists) ≡ is_beside_moving bodies joints contacts slot
+TellMoving bodies joints contacts labels lists = (slot : ℕ) → is_mover_awake labels slot ≡ true → list_any (ties_to_moving bodies joints slot) (all_members lists) ≡ is_beside_moving bodies joints contacts slot

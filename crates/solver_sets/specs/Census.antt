@@ -98,12 +98,12 @@ pub record Sleepers : Type 0 where
   pub items : List Item
 
 -- a name among others, which ascend, each once
-abbrev pub with_name : ℕ → List ℕ → List ℕ
-with_name name [] = name ∷ []
-with_name name (n ∷ names) = cond (nat_lt n name) (n ∷ with_name name names) (cond (n == name) (n ∷ names) (name ∷ n ∷ names))
+abbrev pub with_set_name : ℕ → List ℕ → List ℕ
+with_set_name name [] = name ∷ []
+with_set_name name (n ∷ names) = cond (nat_lt n name) (n ∷ with_set_name name names) (cond (n == name) (n ∷ names) (name ∷ n ∷ names))
 
 abbrev pub with_name_of : SetName → List ℕ → List ℕ
-with_name_of (sets.Sleeping name) names = with_name name names
+with_name_of (sets.Sleeping name) names = with_set_name name names
 with_name_of set names = names
 
 abbrev pub names_with : List ℕ → List Standing → List ℕ
@@ -111,8 +111,8 @@ names_with names [] = names
 names_with names (s ∷ standings) = names_with (with_name_of s.set names) standings
 
 -- the names of the sleeping sets in which something stands, ascending, each once
-abbrev pub names_of : List Standing → List ℕ
-names_of standings = names_with [] standings
+abbrev pub set_names : List Standing → List ℕ
+set_names standings = names_with [] standings
 
 abbrev pub sleepers_of : List Standing → ℕ → Sleepers
 sleepers_of standings name = record { name = name; items = in_set (sets.Sleeping name) standings }
@@ -129,7 +129,7 @@ census_in standings = record {
   static_set = in_set sets.Static standings;
   disabled = in_set sets.Disabled standings;
   awake = in_set sets.Awake standings;
-  sleeping = map (sleepers_of standings) (names_of standings);
+  sleeping = map (sleepers_of standings) (set_names standings);
 }
 
 -- the census of a world
@@ -160,5 +160,5 @@ pub record IsCensus (standings : List Standing) (c : Census) : Type 0 where
   pub static_set : c.static_set ≡ in_set sets.Static standings
   pub disabled : c.disabled ≡ in_set sets.Disabled standings
   pub awake : c.awake ≡ in_set sets.Awake standings
-  pub sleeping : c.sleeping ≡ map (sleepers_of standings) (names_of standings)
+  pub sleeping : c.sleeping ≡ map (sleepers_of standings) (set_names standings)
   pub named : AreNamed c.sleeping

@@ -6,7 +6,7 @@ use Rattle.body_handles.specs.declared.places.TheConstants.{MAX_SLOTS}
 use Rattle.body_handles.specs.Places.{IsLive, lowest}
 use Rattle.graph_colours.specs.declared.member.Movers.{Movers}
 use Rattle.graph_colours.specs.declared.member.Member.{Member}
-use Rattle.graph_colours.specs.Members.{AreRising, has_id, inserted, without}
+use Rattle.graph_colours.specs.Members.{AreRising, has_id, inserted, without_member}
 use Rattle.graph_colours.specs.Movers.{has_mover}
 use Rattle.graph_colours.specs.Colours.{all_members, ids_of}
 use Rattle.contacts_base.specs.declared.key.ContactKey.{ContactKey}
@@ -111,7 +111,7 @@ with_tie id (Some m) ties = inserted constraint_number (record { id = id; movers
 
 abbrev pub without_tie : Constraint → Option Movers → List (Member Constraint) → List (Member Constraint)
 without_tie id None ties = ties
-without_tie id (Some m) ties = without constraint_number id ties
+without_tie id (Some m) ties = without_member constraint_number id ties
 
 -- what a joint that is made does
 pub record IsJoined (bodies : List (Option Body)) (s : JointSlots) (contacts : List ContactEntry) (h : Handle) (j : BodyJoint) (new : JointSlots) : Type 0 where

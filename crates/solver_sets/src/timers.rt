@@ -5,7 +5,7 @@ ghost use Rattle.std.specs.Option.{option_copied};
 ghost use Rattle.contacts_base.specs.declared.contact.ContactEntry.{ContactEntry};
 ghost use Rattle.islands.specs.Labels.{Labels};
 ghost use Rattle.plain_world.specs.Slots.{body_at};
-ghost use Rattle.sleep_wake.specs.Acting.{is_awake};
+ghost use Rattle.sleep_wake.specs.Acting.{is_mover_awake};
 ghost use Rattle.solver_sets.specs.Beside.{is_moving_at, timer_if, timers_of};
 ghost use Rattle.solver_sets.specs.BesideByTies.{TellMoving, own_set, stilled, stilled_alone, stilled_by, stilled_lists, stilled_pair, stilled_tie, stilled_ties};
 
@@ -156,7 +156,7 @@ pub fn fill_awake_timers(
     requires room { length bodies.now ≤ vec_capacity timers.old }
     requires settled { colours.now.pending ≡ 0 }
     ensures size { length timers.new.items ≡ length bodies.now }
-    ensures same { (labels : Labels) (contacts : List ContactEntry) → TellMoving bodies.now joints.now contacts labels colours.now.lists → (slot : ℕ) → is_awake labels slot ≡ true → Contains awake.now slot → slice_index_or timers.new.items slot 0 ≡ slice_index_or (timers_of bodies.now joints.now contacts) slot 0 }
+    ensures same { (labels : Labels) (contacts : List ContactEntry) → TellMoving bodies.now joints.now contacts labels colours.now.lists → (slot : ℕ) → is_mover_awake labels slot ≡ true → Contains awake.now slot → slice_index_or timers.new.items slot 0 ≡ slice_index_or (timers_of bodies.now joints.now contacts) slot 0 }
 {
     fit(timers, bodies.len());
     set_all_own(timers, bodies, awake);

@@ -26,7 +26,7 @@ use Rattle.solver_sets.specs.Ties.{Bond, JointSlots, bonds_of, contact_bond, is_
 use Rattle.solver_sets.proofs.AmongLaws.{stirred_picked, ties_picked}
 use Rattle.solver_sets.proofs.ListingLaws.{filter_append}
 use Rattle.world_rules.specs.Sets.{acting_of}
-use Rattle.world_rules.specs.World.{World, joints_of}
+use Rattle.world_rules.specs.World.{World, joints_in_slots}
 use Rattle.world_core.specs.Inside.{IsWhole}
 use Rattle.world_core.proofs.Whole.{whole_kept}
 
@@ -163,11 +163,11 @@ unfolding stirred_among
 stirred_at slot bodies s contacts matched = ap (λ (l : Ties). stirred_if (body_at bodies slot) slot (first_movers l)) (sym (ties_picked slot bodies s contacts)) ∙ stirred_picked slot bodies s contacts matched
 
 -- a body that is no mover wakes the movers of its constraints
-pub still_stirs : (w : World) (s : Acting Constraint) (slot : ℕ) → IsWhole w s → moves w.plain.bodies slot ≡ false → first_movers (ties_at slot w.plain.bodies (joints_of w.plain) w.plain.contacts) ≡ stirred_by w.plain.bodies w.plain.joints w.plain.contacts slot
+pub still_stirs : (w : World) (s : Acting Constraint) (slot : ℕ) → IsWhole w s → moves w.plain.bodies slot ≡ false → first_movers (ties_at slot w.plain.bodies (joints_in_slots w.plain) w.plain.contacts) ≡ stirred_by w.plain.bodies w.plain.joints w.plain.contacts slot
 still_stirs w s slot is still =
-    let ties : Ties = ties_at slot w.plain.bodies (joints_of w.plain) w.plain.contacts in
-    still_if (body_at w.plain.bodies slot) slot (first_movers ties) still (λ dark. ap first_movers (dark_ties slot w.plain.bodies (joints_of w.plain) w.plain.contacts dark))
-    ∙ stirred_at slot w.plain.bodies (joints_of w.plain) w.plain.contacts (whole_kept w s is).joint_slots
+    let ties : Ties = ties_at slot w.plain.bodies (joints_in_slots w.plain) w.plain.contacts in
+    still_if (body_at w.plain.bodies slot) slot (first_movers ties) still (λ dark. ap first_movers (dark_ties slot w.plain.bodies (joints_in_slots w.plain) w.plain.contacts dark))
+    ∙ stirred_at slot w.plain.bodies (joints_in_slots w.plain) w.plain.contacts (whole_kept w s is).joint_slots
 
 mover_if : (o : Option Body) (slot : ℕ) (xs : List ℕ) → is_mover_in o ≡ true → slot ∷ [] ≡ stirred_if o slot xs
 mover_if None slot xs on = absurd (false≢true on)
@@ -179,7 +179,7 @@ unfolding stirred_by
 mover_stirs bodies joints contacts slot on = mover_if (body_at bodies slot) slot _ on
 
 -- the constraints of the body, out of those that the world keeps
-pub own_beside : (w : World) (s : Acting Constraint) (slot : ℕ) → IsWhole w s → moves w.plain.bodies slot ≡ false → joint_ties_at slot w.plain.bodies (joints_of w.plain) ++ anchored_at slot s.ties ≡ ties_at slot w.plain.bodies (joints_of w.plain) w.plain.contacts
+pub own_beside : (w : World) (s : Acting Constraint) (slot : ℕ) → IsWhole w s → moves w.plain.bodies slot ≡ false → joint_ties_at slot w.plain.bodies (joints_in_slots w.plain) ++ anchored_at slot s.ties ≡ ties_at slot w.plain.bodies (joints_in_slots w.plain) w.plain.contacts
 unfolding acting_of
 own_beside w s slot is still =
-    ap (λ (a : Acting Constraint). joint_ties_at slot w.plain.bodies (joints_of w.plain) ++ anchored_at slot a.ties) is.same ∙ beside_ties slot w.plain.bodies (joints_of w.plain) w.plain.contacts still
+    ap (λ (a : Acting Constraint). joint_ties_at slot w.plain.bodies (joints_in_slots w.plain) ++ anchored_at slot a.ties) is.same ∙ beside_ties slot w.plain.bodies (joints_in_slots w.plain) w.plain.contacts still

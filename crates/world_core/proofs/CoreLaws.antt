@@ -19,7 +19,7 @@ use Rattle.world_core.specs.Inside.{AreKnown, IsWhole, IsWorldCore}
 use Rattle.world_core.proofs.ForbiddenLaws.{HaveSamePairs, idle_pairs, joint_comes, joint_goes, joints_go, pairs_stay}
 use Rattle.world_core.proofs.KnownLaws.{HaveSameKeys, IsMarkedChange, dropped_keys, gone_marked, halted_marked, known_after, known_all, known_changed, numbers_stay, pair_keys_are}
 use Rattle.world_core.proofs.PartLaws.{kept_of}
-use Rattle.world_rules.specs.World.{World, joints_of}
+use Rattle.world_rules.specs.World.{World, joints_in_slots}
 use Rattle.world_rules.proofs.KeptStep.{collided_in}
 
 -- a world that is whole again after a change of which all is marked
@@ -55,10 +55,10 @@ left_changed w x s old new slot core marked on pairs contacts = record {
 }
 
 pub core_destroyed : {a : Anchored} (w x : World) (s t : Acting Constraint) (old new : Bodies) (slot : ℕ) (b : Body) → IsWorldCore w s old.marks a → IsWhole x t → old.bodies ≡ w.plain.bodies → new.bodies ≡ x.plain.bodies → body_at w.plain.bodies slot ≡ Some b → body_at new.bodies slot ≡ None → AreMarked old new
-    → x.plain.joints ≡ (unjoined_all slot (joints_of w.plain)).joints → x.plain.contacts ≡ contacts_without slot w.plain.contacts → (l : Anchored) → Tell l.holds l.lists t.ties → IsWorldCore x t new.marks l
+    → x.plain.joints ≡ (unjoined_all slot (joints_in_slots w.plain)).joints → x.plain.contacts ≡ contacts_without slot w.plain.contacts → (l : Anchored) → Tell l.holds l.lists t.ties → IsWorldCore x t new.marks l
 core_destroyed w x s t old new slot b core is was now at none marked joints contacts l tell =
     let on : slice_index_or new.marks slot true ≡ true = gone_marked old new slot b marked (ap (λ (bs : List (Option Body)). body_at bs slot) was ∙ at) none in
-    let pairs : HaveSamePairs new.marks w.plain.joints x.plain.joints = subst (λ (js : List (Option BodyJoint)). HaveSamePairs new.marks w.plain.joints js) (sym joints) (joints_go new.marks slot (joints_of w.plain) on) in
+    let pairs : HaveSamePairs new.marks w.plain.joints x.plain.joints = subst (λ (js : List (Option BodyJoint)). HaveSamePairs new.marks w.plain.joints js) (sym joints) (joints_go new.marks slot (joints_in_slots w.plain) on) in
     core_changed w x s t old new core is was now (left_changed w x s old new slot core marked on pairs contacts) l tell
 
 pub core_disabled : {a : Anchored} (w x : World) (s t : Acting Constraint) (old new : Bodies) (slot : ℕ) (b : Body) (bodies : List (Option Body)) → IsWorldCore w s old.marks a → IsWhole x t → old.bodies ≡ w.plain.bodies → new.bodies ≡ x.plain.bodies → body_at w.plain.bodies slot ≡ Some b → b.enabled ≡ true

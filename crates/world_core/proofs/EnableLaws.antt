@@ -14,8 +14,8 @@ use Rattle.sleep_wake.specs.Acting.{Acting}
 use Rattle.sleep_wake.specs.ChangeLists.{CanBegin}
 use Rattle.solver_sets.specs.Ties.{joint_ties_at}
 use Rattle.world_core.specs.Inside.{IsWhole}
-use Rattle.world_rules.specs.Sets.{acting_of, woken}
-use Rattle.world_rules.specs.World.{World, body_of, joints_of}
+use Rattle.world_rules.specs.Sets.{acting_of, with_woken}
+use Rattle.world_rules.specs.World.{World, body_named, joints_in_slots}
 use Rattle.world_rules.proofs.ActingLaws.{IsWoken, waking_kept}
 use Rattle.world_rules.proofs.CallLaws.{can_enable}
 use Rattle.world_rules.proofs.KeptChanges.{named_at}
@@ -25,25 +25,25 @@ use Rattle.solver_sets.proofs.SlotLemmas.{below_length}
 use Rattle.world_rules.proofs.SoundLaws.{IsKept}
 use Rattle.world_core.proofs.PartLaws.{kept_of}
 
-pub body_below : (w : World) (h : Handle) (b : Body) → body_of w.plain h ≡ Some b → h.slot < length w.plain.bodies
+pub body_below : (w : World) (h : Handle) (b : Body) → body_named w.plain h ≡ Some b → h.slot < length w.plain.bodies
 body_below w h b named = below_length w.plain.bodies h.slot b (named_at w.plain h b named)
 
 pub record CanEnableFrom (w : World) (s : Acting Constraint) (slot : ℕ) (b : Body) : Type 0 where
   pub fresh : label_at (woken_from w.plain s (joined_slots w.plain slot)).labels slot ≡ None
   pub off : (x : Body) → body_at (woken_bodies w.plain s (joined_slots w.plain slot)) slot ≡ Some x → x.enabled ≡ false
-  pub can : CanBegin constraint_number (joint_ties_at slot (slice_set (woken_bodies w.plain s (joined_slots w.plain slot)) slot (woken_enabled w.plain s slot)) (joints_of w.plain)) (come_from slot (is_mover (enabled_body b)) (woken_from w.plain s (joined_slots w.plain slot)))
+  pub can : CanBegin constraint_number (joint_ties_at slot (slice_set (woken_bodies w.plain s (joined_slots w.plain slot)) slot (woken_enabled w.plain s slot)) (joints_in_slots w.plain)) (come_from slot (is_mover (enabled_body b)) (woken_from w.plain s (joined_slots w.plain slot)))
 
 can_enable_at : (w : World) (slot : ℕ) (b : Body) → IsKept w → body_at w.plain.bodies slot ≡ Some b → b.enabled ≡ false → CanEnableFrom w (acting_of w.plain) slot b
 can_enable_at w slot b k at off =
     let can = can_enable w slot b k at off in
     let wk : IsWoken w (joined_slots w.plain slot) = waking_kept w (joined_slots w.plain slot) k in
-    let there : body_at (woken w.plain (joined_slots w.plain slot)).bodies slot ≡ Some b = seen_disabled w (joined_slots w.plain slot) slot b k at off in
+    let there : body_at (with_woken w.plain (joined_slots w.plain slot)).bodies slot ≡ Some b = seen_disabled w (joined_slots w.plain slot) slot b k at off in
     record {
       fresh = subst (λ (a : Acting Constraint). label_at a.labels slot ≡ None) wk.acting can.fresh;
       off = λ x e. subst (λ (y : Body). y.enabled ≡ false) (same_Some b x (sym there ∙ e)) off;
-      can = subst (λ (a : Acting Constraint). CanBegin constraint_number (joint_ties_at slot (slice_set (woken w.plain (joined_slots w.plain slot)).bodies slot (woken_enabled w.plain (acting_of w.plain) slot)) (joints_of w.plain)) (come_from slot (is_mover (enabled_body b)) a)) wk.acting
-          (subst (λ (o : Option Body). CanBegin constraint_number (joint_ties_at slot (slice_set (woken w.plain (joined_slots w.plain slot)).bodies slot o) (joints_of w.plain)) (come_from slot (is_mover (enabled_body b)) (acting_of (woken w.plain (joined_slots w.plain slot))))) (sym (ap (option_map enabled_body) there)) can.can);
+      can = subst (λ (a : Acting Constraint). CanBegin constraint_number (joint_ties_at slot (slice_set (with_woken w.plain (joined_slots w.plain slot)).bodies slot (woken_enabled w.plain (acting_of w.plain) slot)) (joints_in_slots w.plain)) (come_from slot (is_mover (enabled_body b)) a)) wk.acting
+          (subst (λ (o : Option Body). CanBegin constraint_number (joint_ties_at slot (slice_set (with_woken w.plain (joined_slots w.plain slot)).bodies slot o) (joints_in_slots w.plain)) (come_from slot (is_mover (enabled_body b)) (acting_of (with_woken w.plain (joined_slots w.plain slot))))) (sym (ap (option_map enabled_body) there)) can.can);
     }
 
-pub can_enable_from : (w : World) (s : Acting Constraint) (h : Handle) (b : Body) → IsWhole w s → body_of w.plain h ≡ Some b → b.enabled ≡ false → CanEnableFrom w s h.slot b
+pub can_enable_from : (w : World) (s : Acting Constraint) (h : Handle) (b : Body) → IsWhole w s → body_named w.plain h ≡ Some b → b.enabled ≡ false → CanEnableFrom w s h.slot b
 can_enable_from w s h b is named off = subst (λ (a : Acting Constraint). CanEnableFrom w a h.slot b) (sym is.same) (can_enable_at w h.slot b (kept_of w s is) (named_at w.plain h b named) off)

@@ -9,14 +9,14 @@ use Rattle.islands.specs.Labels.{Labels}
 use Rattle.plain_world.specs.declared.body.Body.{Body}
 use Rattle.plain_world.specs.Bodies.{is_mover}
 use Rattle.plain_world.specs.Sleep.{told}
-use Rattle.sleep_wake.specs.Acting.{Acting, is_awake}
+use Rattle.sleep_wake.specs.Acting.{Acting, is_mover_awake}
 use Rattle.sleep_wake.specs.Bodies.{mover_gone}
 use Rattle.sleep_wake.specs.Changes.{each_ended}
 use Rattle.sleep_wake.specs.ChangeLists.{CanEnd}
-use Rattle.sleep_wake.specs.Sleeping.{islands_woken, names_of}
+use Rattle.sleep_wake.specs.Sleeping.{islands_woken, sleeping_names}
 use Rattle.solver_sets.specs.Beside.{stirred_by}
 use Rattle.solver_sets.specs.Ties.{is_mover_in, ties_at}
-use Rattle.world_rules.specs.World.{World, body_of, joints_of}
+use Rattle.world_rules.specs.World.{World, body_named, joints_in_slots}
 use Rattle.world_rules.proofs.KeptChanges.{named_at}
 use Rattle.world_rules.proofs.PartsLeft.{stirred_slots, woken_bodies}
 use Rattle.world_rules.proofs.ToldLaws.{length_told}
@@ -28,13 +28,13 @@ use Rattle.world_core.proofs.PartLaws.{can_leave_from}
 -- of what acts once those are woken, with the body's ties as they were listed: what is asked for before it leaves, and what it leaves
 pub record IsGoing (w : World) (s now : Acting Constraint) (h : Handle) (b : Body) (mover : Bool) (ties : List (Member Constraint)) : Type 0 where
   pub can : CanEnd constraint_number ties now
-  pub awake : mover ≡ true → is_awake (each_ended constraint_number ties now).labels h.slot ≡ true
+  pub awake : mover ≡ true → is_mover_awake (each_ended constraint_number ties now).labels h.slot ≡ true
   pub alone : mover ≡ true → filter (λ m. has_mover m.movers h.slot) (each_ended constraint_number ties now).ties ≡ []
   pub gone : cond mover (mover_gone constraint_number h.slot (each_ended constraint_number ties now)) (each_ended constraint_number ties now) ≡ gone_now w s h b
   pub bodies : told now.labels w.plain.bodies ≡ woken_bodies w.plain s (stirred_slots w.plain h.slot)
 
-pub is_going : (w : World) (s now : Acting Constraint) (h : Handle) (b : Body) (mover : Bool) (ties : List (Member Constraint)) (names : List _) → IsWhole w s → body_of w.plain h ≡ Some b → mover ≡ is_mover b
-    → ties ≡ ties_at h.slot w.plain.bodies (joints_of w.plain) w.plain.contacts → names ≡ names_of w.plain.islands (stirred_by w.plain.bodies w.plain.joints w.plain.contacts h.slot) → now ≡ islands_woken constraint_number names s
+pub is_going : (w : World) (s now : Acting Constraint) (h : Handle) (b : Body) (mover : Bool) (ties : List (Member Constraint)) (names : List _) → IsWhole w s → body_named w.plain h ≡ Some b → mover ≡ is_mover b
+    → ties ≡ ties_at h.slot w.plain.bodies (joints_in_slots w.plain) w.plain.contacts → names ≡ sleeping_names w.plain.islands (stirred_by w.plain.bodies w.plain.joints w.plain.contacts h.slot) → now ≡ islands_woken constraint_number names s
     → IsGoing w s now h b mover ties
 is_going w s now h b mover ties names is named mover_is ties_are names_are woke =
     let from = can_leave_from w s h b is named in
@@ -47,5 +47,5 @@ is_going w s now h b mover ties names is named mover_is ties_are names_are woke 
     })
 
 -- the body stays in its slot while others are woken
-pub there_still : (w : World) (h : Handle) (b : Body) (labels : Labels) (bodies : List (Option Body)) → body_of w.plain h ≡ Some b → bodies ≡ told labels w.plain.bodies → h.slot < length bodies
+pub there_still : (w : World) (h : Handle) (b : Body) (labels : Labels) (bodies : List (Option Body)) → body_named w.plain h ≡ Some b → bodies ≡ told labels w.plain.bodies → h.slot < length bodies
 there_still w h b labels bodies named are = rw (are, length_told labels w.plain.bodies) (body_below w h b named)

@@ -37,18 +37,18 @@ use Rattle.shapes.specs.Shapes.{is_between}
 use Rattle.shapes.specs.declared.pose.Pose.{Pose}
 use Rattle.sleep_wake.specs.Acting.{Acting}
 use Rattle.sleep_wake.specs.Sleeping.{slept_at}
-use Rattle.world_core.specs.Frames.{settled_world}
+use Rattle.world_core.specs.Frames.{with_ledger_settled}
 use Rattle.world_core.specs.Grown.{EachCallBooksLittle, GrownWorldsHaveSmallTotals, GrowsByCalls, SettlingBooksNothing}
 use Rattle.world_core.proofs.SolvingBounds.{IsBounded, left_momentum, pass_most, solved_bound}
 use Rattle.world_core.proofs.Whole.{named}
 use Rattle.world_core_base.specs.Solving.{Solving, solve_order}
 use Rattle.world_rules.specs.Apply.{Answers, Applied, apply, apply_accepted, bodies_ticked, bodies_woken, booked, course_due, create_due, departed, destroy_due, disable_due, empty_world, enable_due, gained, join_due, join_refusal, mover_refusal, pose_due, posed, push_due, pushed, rest_entries, rested_acting, sleep_due, solved_after, steered, step_done, step_solved, turned_acting, unjoin_due, wake_due, world_with}
 use Rattle.world_rules.specs.Collide.{Collided, collided}
-use Rattle.world_rules.specs.Laws.{impulse_of}
+use Rattle.world_rules.specs.Laws.{push_of}
 use Rattle.world_rules.specs.Replay.{after_one}
 use Rattle.world_rules.specs.Sets.{acting_of}
 use Rattle.world_rules.specs.Sound.{AreSmall, IsSound}
-use Rattle.world_rules.specs.World.{World, body_of, book_of}
+use Rattle.world_rules.specs.World.{World, body_named, book_of}
 use Rattle.world_rules.specs.declared.command.Command.{Command}
 use Rattle.world_rules.specs.declared.command.Command.TheVariants.{CreateBody, DestroyBody, CreateJoint, DestroyJoint, Push, PushAt, SetPose, SetVelocity, SetGravity, Disable, Enable, Wake, Sleep, Step}
 use Rattle.world_rules.specs.declared.command.Reply.{Reply}
@@ -225,20 +225,20 @@ step_if w n a false f e before now = cc
 
 -- ---- any command
 
-accepted_grows : (w : World) (c : Command) (a : Applied) → IsWithin (2 ^ 40) (impulse_of c) → IsSound w → IsSound (world_with w a) → apply_accepted w.plain c ≡ Ok a → Grows w a
+accepted_grows : (w : World) (c : Command) (a : Applied) → IsWithin (2 ^ 40) (push_of c) → IsSound w → IsSound (world_with w a) → apply_accepted w.plain c ≡ Ok a → Grows w a
 accepted_grows w (CreateBody d) a small before now e = none_grows w a (created_none w.plain d (def_refusal d) a e)
-accepted_grows w (DestroyBody h) a small before now e = destroyed_grows w h (body_of w.plain h) a (λ b f. named (is_live w.plain.places h) w.plain.bodies h.slot b before.formed.bodies f) e
-accepted_grows w (CreateJoint d) a small before now e = none_grows w a (joined_none w.plain d (join_refusal (body_of w.plain d.a) (body_of w.plain d.b) d) a e)
+accepted_grows w (DestroyBody h) a small before now e = destroyed_grows w h (body_named w.plain h) a (λ b f. named (is_live w.plain.places h) w.plain.bodies h.slot b before.formed.bodies f) e
+accepted_grows w (CreateJoint d) a small before now e = none_grows w a (joined_none w.plain d (join_refusal (body_named w.plain d.a) (body_named w.plain d.b) d) a e)
 accepted_grows w (DestroyJoint h) a small before now e = none_grows w a (unjoined_none w.plain h (joint_of w.plain.joint_places w.plain.joints h) a e)
-accepted_grows w (Push h j) a small before now e = pushed_grows w h j (pushed (body_of w.plain h) j zero_vector) a small e
-accepted_grows w (PushAt h j r) a small before now e = pushed_grows w h j (pushed (body_of w.plain h) j r) a small e
-accepted_grows w (SetPose h o) a small before now e = none_grows w a (posed_none w.plain h (posed (body_of w.plain h) o) a e)
-accepted_grows w (SetVelocity h course) a small before now e = none_grows w a (steered_none w.plain h (steered (body_of w.plain h) course) a e)
+accepted_grows w (Push h j) a small before now e = pushed_grows w h j (pushed (body_named w.plain h) j zero_vector) a small e
+accepted_grows w (PushAt h j r) a small before now e = pushed_grows w h j (pushed (body_named w.plain h) j r) a small e
+accepted_grows w (SetPose h o) a small before now e = none_grows w a (posed_none w.plain h (posed (body_named w.plain h) o) a e)
+accepted_grows w (SetVelocity h course) a small before now e = none_grows w a (steered_none w.plain h (steered (body_named w.plain h) course) a e)
 accepted_grows w (SetGravity g) a small before now e = none_grows w a (tested (is_within (2 ^ 16) g) _ a OutOfRange [] refl e)
-accepted_grows w (Disable h) a small before now e = disabled_grows w h (body_of w.plain h) a (λ b f. named (is_live w.plain.places h) w.plain.bodies h.slot b before.formed.bodies f) e
-accepted_grows w (Enable h) a small before now e = none_grows w a (enabled_none w.plain h (body_of w.plain h) a e)
-accepted_grows w (Wake h) a small before now e = none_grows w a (woken_none w.plain h (mover_refusal (body_of w.plain h)) a e)
-accepted_grows w (Sleep h) a small before now e = slept_grows w h (mover_refusal (body_of w.plain h)) a before.formed.bodies before.formed.matched.few e
+accepted_grows w (Disable h) a small before now e = disabled_grows w h (body_named w.plain h) a (λ b f. named (is_live w.plain.places h) w.plain.bodies h.slot b before.formed.bodies f) e
+accepted_grows w (Enable h) a small before now e = none_grows w a (enabled_none w.plain h (body_named w.plain h) a e)
+accepted_grows w (Wake h) a small before now e = none_grows w a (woken_none w.plain h (mover_refusal (body_named w.plain h)) a e)
+accepted_grows w (Sleep h) a small before now e = slept_grows w h (mover_refusal (body_named w.plain h)) a before.formed.bodies before.formed.matched.few e
 accepted_grows w (Step n) a small before now e = step_if w n a (is_between (pos 1) (pos 8) n) refl e before now
 
 accepted : (t : Bool) (w : Plain) (c : Command) (a : Applied) → cond t (apply_accepted w c) (Err WornOut) ≡ Ok a → apply_accepted w c ≡ Ok a
@@ -276,7 +276,7 @@ same_totals_small n v w same small = record {
 }
 
 pub settling_books_nothing : SettlingBooksNothing
-settling_books_nothing w n small = same_totals_small (n + w.plain.calls * 2 ^ 83) w (settled_world w) (same_totals (book_of w) 0) small
+settling_books_nothing w n small = same_totals_small (n + w.plain.calls * 2 ^ 83) w (with_ledger_settled w) (same_totals (book_of w) 0) small
 
 -- ---- a world that grew from a new one
 

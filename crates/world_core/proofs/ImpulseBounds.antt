@@ -16,7 +16,7 @@ use Rattle.contacts_base.specs.declared.contact.Contact.{Contact}
 use Rattle.contacts_base.specs.declared.contact.ContactEntry.{ContactEntry}
 use Rattle.contacts_base.specs.declared.contact.ContactPoint.{ContactPoint}
 use Rattle.joint_rows.specs.declared.joint.Joint.{Joint}
-use Rattle.colour_solver_base.specs.ContactSolving.{SolvedPoint, bounces, contact_bounced, contact_solved, contact_warmed, from_first, normal_solved, point_bounced, point_solved, point_warmed, separation_now, tangent_solved, then_second, bias_of}
+use Rattle.colour_solver_base.specs.ContactSolving.{SolvedPoint, bounces, contact_bounced, contact_solved, contact_warmed, from_first, normal_solved, point_bounced, point_solved, point_warmed, separation_now, tangent_solved, then_second, overlap_bias}
 use Rattle.world_core_base.specs.Solving.{Turns, bounce, solve, warm}
 
 -- ---- two bodies
@@ -75,8 +75,8 @@ exerted_within k line old new e le h =
     let j : Vec2 = along line.direction (new -ℤ old) in
     dropped_within k old new e (impulse_pair j line.ra line.rb e) le h (λ now f. pair_within j line.ra line.rb e now f)
 
-solved_within : (k : ℕ) (line : Line) (bias low high total : ℤ) (e : Ends) → 2 ^ 60 ≤ k → AreEndsWithin k e → AreEndsWithin k (impulses.solved line bias low high total e).ends
-unfolding impulses.solved
+solved_within : (k : ℕ) (line : Line) (bias low high total : ℤ) (e : Ends) → 2 ^ 60 ≤ k → AreEndsWithin k e → AreEndsWithin k (impulses.solved_impulse line bias low high total e).ends
+unfolding impulses.solved_impulse
 solved_within k line bias low high total e le h = exerted_within k line total _ e le h
 
 warmed_within : (k : ℕ) (line : Line) (total : ℤ) (e : Ends) → 2 ^ 60 ≤ k → AreEndsWithin k e → AreEndsWithin k (warmed line total e)
@@ -97,7 +97,7 @@ tangent_within : (k : ℕ) (friction : ℤ) (s : SolvedPoint) → 2 ^ 60 ≤ k �
 tangent_within k friction s le h = solved_within k _ _ _ _ _ s.ends le h
 
 point_solved_within : (k : ℕ) (friction : ℤ) (p : ContactPoint) (e : Ends) → 2 ^ 60 ≤ k → AreEndsWithin k e → AreEndsWithin k (point_solved friction p e).ends
-point_solved_within k friction p e le h = tangent_within k friction (normal_solved (bias_of (separation_now p e)) p e) le (normal_within k (bias_of (separation_now p e)) p e le h)
+point_solved_within k friction p e le h = tangent_within k friction (normal_solved (overlap_bias (separation_now p e)) p e) le (normal_within k (overlap_bias (separation_now p e)) p e le h)
 
 bounced_if : (k : ℕ) (t : Bool) (s u : SolvedPoint) → AreEndsWithin k s.ends → AreEndsWithin k u.ends → AreEndsWithin k (cond t s u).ends
 bounced_if k true s u f g = f

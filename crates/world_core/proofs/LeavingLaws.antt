@@ -13,7 +13,7 @@ use Rattle.graph_colours.specs.declared.member.Member.{Member}
 use Rattle.graph_colours.proofs.PlaceLemmas.{is_same}
 use Rattle.islands.specs.declared.label.IslandState.TheVariants.{Loose}
 use Rattle.islands.specs.declared.label.Label.{Label}
-use Rattle.islands.specs.Labels.{Labels, is_in, label_at, lowest, relabelled, sleeping_name, taken_out, without}
+use Rattle.islands.specs.Labels.{Labels, is_in, label_at, lowest_member, relabelled, sleeping_name, taken_out, left_alone}
 use Rattle.islands.specs.Partition.{IsPartition}
 use Rattle.islands.proofs.JoinLemmas.{contains_head}
 use Rattle.islands.proofs.LabelLemmas.{either_case, either_one, either_to, others_stay, rest_of, rest_stays}
@@ -23,7 +23,7 @@ use Rattle.plain_world.specs.Changes.{changed_at, disabled_body}
 use Rattle.plain_world.specs.Joints.{idle_joints}
 use Rattle.plain_world.specs.Sleep.{told}
 use Rattle.plain_world.specs.Slots.{body_at}
-use Rattle.sleep_wake.specs.Acting.{Acting, IsSettled, are_awake, awake_label, is_awake}
+use Rattle.sleep_wake.specs.Acting.{Acting, IsSettled, are_awake, awake_label, is_mover_awake}
 use Rattle.sleep_wake.specs.Bodies.{mover_gone}
 use Rattle.sleep_wake.specs.Changes.{each_ended, ended}
 use Rattle.sleep_wake.specs.ChangeLists.{CanEnd}
@@ -34,7 +34,7 @@ use Rattle.solver_sets.specs.Ties.{is_mover_in, moves, ties_at}
 use Rattle.world_rules.specs.Apply.{departed, destroyed, disabled}
 use Rattle.world_rules.specs.Sets.{acting_of, body_gone, stirred, ties_ended}
 use Rattle.world_rules.specs.Sound.{AreTold}
-use Rattle.world_rules.specs.World.{World, body_of, joints_of}
+use Rattle.world_rules.specs.World.{World, body_named, joints_in_slots}
 use Rattle.world_rules.proofs.ActingLaws.{IsWoken, awake_name, waking_kept}
 use Rattle.world_rules.proofs.BesideLaws.{own_item}
 use Rattle.world_rules.proofs.GoneLaws.{CanGo, is_ended}
@@ -59,12 +59,12 @@ each_ended_alike (m ∷ ms) s w can k =
 
 -- ---- a mover leaves its island
 
-without_alike : (labels : Labels) (slot n : ℕ) (o : Option Label) → label_at labels slot ≡ o → IsPartition labels → is_awake labels slot ≡ true → n ≢ slot → sleeping_name (label_at (without o slot labels) n) ≡ sleeping_name (label_at labels n)
+without_alike : (labels : Labels) (slot n : ℕ) (o : Option Label) → label_at labels slot ≡ o → IsPartition labels → is_mover_awake labels slot ≡ true → n ≢ slot → sleeping_name (label_at (left_alone o slot labels) n) ≡ sleeping_name (label_at labels n)
 without_alike labels slot n None e p up off = refl
-without_alike labels slot n (Some l) e p up off = by (nat_lt (lowest l.name (rest_of labels slot)) (length (rest_of labels slot)))
+without_alike labels slot n (Some l) e p up off = by (nat_lt (lowest_member l.name (rest_of labels slot)) (length (rest_of labels slot)))
   where
     to : Label
-    to = record { name = lowest l.name (rest_of labels slot); state = Loose }
+    to = record { name = lowest_member l.name (rest_of labels slot); state = Loose }
 
     stays : label_at (rest_of labels slot) n ≡ label_at labels n
     stays = rest_stays labels slot n off
@@ -80,7 +80,7 @@ without_alike labels slot n (Some l) e p up off = by (nat_lt (lowest l.name (res
       | inr h ↦ ap sleeping_name (others_stay l.name l.name to (rest_of labels slot) n h ∙ stays)
     ]
 
-gone_alike : (slot n : ℕ) (s : Acting Constraint) → IsSettled constraint_number s → is_awake s.labels slot ≡ true → n ≢ slot → sleeping_name (label_at (mover_gone constraint_number slot s).labels n) ≡ sleeping_name (label_at s.labels n)
+gone_alike : (slot n : ℕ) (s : Acting Constraint) → IsSettled constraint_number s → is_mover_awake s.labels slot ≡ true → n ≢ slot → sleeping_name (label_at (mover_gone constraint_number slot s).labels n) ≡ sleeping_name (label_at s.labels n)
 unfolding mover_gone taken_out
 gone_alike slot n s w up off = without_alike s.labels slot n (label_at s.labels slot) refl w.islands.partition up off
 
@@ -91,10 +91,10 @@ gone_here slot s = none_if (label_at (mover_gone constraint_number slot s).label
 
 others_alike : (w : World) (slot : ℕ) (t : Bool) → IsKept w → CanGo w slot → moves w.plain.bodies slot ≡ t → (n : ℕ) → n ≢ slot → sleeping_name (label_at (body_gone slot t w.plain).labels n) ≡ sleeping_name (label_at w.plain.islands n)
 unfolding acting_of
-others_alike w slot false k go e n off = each_ended_alike (ties_at slot w.plain.bodies (joints_of w.plain) w.plain.contacts) (acting_of w.plain) k.settled go.can n
+others_alike w slot false k go e n off = each_ended_alike (ties_at slot w.plain.bodies (joints_in_slots w.plain) w.plain.contacts) (acting_of w.plain) k.settled go.can n
 others_alike w slot true k go e n off =
     let is = is_ended w slot k go in
-    gone_alike slot n (ties_ended slot w.plain) is.settled (is.awake slot (go.up e)) off ∙ each_ended_alike (ties_at slot w.plain.bodies (joints_of w.plain) w.plain.contacts) (acting_of w.plain) k.settled go.can n
+    gone_alike slot n (ties_ended slot w.plain) is.settled (is.awake slot (go.up e)) off ∙ each_ended_alike (ties_at slot w.plain.bodies (joints_in_slots w.plain) w.plain.contacts) (acting_of w.plain) k.settled go.can n
 
 own_name : (w : World) (slot : ℕ) (t : Bool) → IsKept w → CanGo w slot → moves w.plain.bodies slot ≡ t → sleeping_name (label_at (body_gone slot t w.plain).labels slot) ≡ None
 own_name w slot false k go e = ap sleeping_name (none_if (label_at (ties_ended slot w.plain).labels slot) ((is_ended w slot k go).tied slot ∙ e))
@@ -111,7 +111,7 @@ left_told w slot o t k go lt e none n d at = elim (cases_eq n slot) [
 ]
 
 -- a named body leaves, once those were woken whom that wakes
-leaves_quietly : (w : World) (h : Handle) (b : Body) (o : Option Body) → IsKept w → body_of w.plain h ≡ Some b → AreBodies (slice_set (stirred w.plain h.slot).bodies h.slot o) → ((c : Body) → o ≡ Some c → c.asleep ≡ None)
+leaves_quietly : (w : World) (h : Handle) (b : Body) (o : Option Body) → IsKept w → body_named w.plain h ≡ Some b → AreBodies (slice_set (stirred w.plain h.slot).bodies h.slot o) → ((c : Body) → o ≡ Some c → c.asleep ≡ None)
     → told (body_gone h.slot (is_mover b) (stirred w.plain h.slot)).labels (slice_set (stirred w.plain h.slot).bodies h.slot o) ≡ slice_set (stirred w.plain h.slot).bodies h.slot o
 leaves_quietly w h b o k named all none =
     let slot : ℕ = h.slot in
@@ -136,8 +136,8 @@ destroyed_with w s h b bodies = record w {
   plain = record w.plain {
     places = places_without w.plain.places h;
     bodies = bodies;
-    joint_places = (unjoined_all h.slot (joints_of w.plain)).places;
-    joints = (unjoined_all h.slot (joints_of w.plain)).joints;
+    joint_places = (unjoined_all h.slot (joints_in_slots w.plain)).places;
+    joints = (unjoined_all h.slot (joints_in_slots w.plain)).joints;
     contacts = contacts_without h.slot w.plain.contacts;
     islands = s.labels;
     colours = ids_of s.lists;
@@ -150,7 +150,7 @@ destroyed_with w s h b bodies = record w {
 abbrev pub gone_now : World → Acting Constraint → Handle → Body → Acting Constraint
 gone_now w s h b = gone_from h.slot (is_mover b) (ended_from w.plain s h.slot)
 
-destroyed_quietly_at : (w : World) (h : Handle) (b : Body) → IsKept w → w.plain.calls < 2 ^ 40 → body_of w.plain h ≡ Some b
+destroyed_quietly_at : (w : World) (h : Handle) (b : Body) → IsKept w → w.plain.calls < 2 ^ 40 → body_named w.plain h ≡ Some b
     → IsLeft w (destroyed w.plain h b) (destroyed_with w (gone_now w (acting_of w.plain) h b) h b (bodies_left w (acting_of w.plain) h)) (gone_now w (acting_of w.plain) h b)
 destroyed_quietly_at w h b k few named =
     let s : Acting Constraint = gone_now w (acting_of w.plain) h b in
@@ -159,7 +159,7 @@ destroyed_quietly_at w h b k few named =
     ∙ leaves_quietly w h b None k named (bodies_without (stirred w.plain h.slot).bodies h.slot (stirred_bodies w h.slot k)) (λ c e. absurd (none-some c e)) in
     subst (λ (bs : List (Option Body)). IsLeft w (destroyed w.plain h b) (destroyed_with w s h b bs) s) told_same (destroy_left w (acting_of w.plain) h b k refl few named)
 
-pub destroyed_quietly : (w : World) (s : Acting Constraint) (h : Handle) (b : Body) → IsKept w → s ≡ acting_of w.plain → w.plain.calls < 2 ^ 40 → body_of w.plain h ≡ Some b
+pub destroyed_quietly : (w : World) (s : Acting Constraint) (h : Handle) (b : Body) → IsKept w → s ≡ acting_of w.plain → w.plain.calls < 2 ^ 40 → body_named w.plain h ≡ Some b
     → IsLeft w (destroyed w.plain h b) (destroyed_with w (gone_now w s h b) h b (bodies_left w s h)) (gone_now w s h b)
 destroyed_quietly w s h b k e few named =
     subst (λ (a : Acting Constraint). IsLeft w (destroyed w.plain h b) (destroyed_with w (gone_now w a h b) h b (bodies_left w a h)) (gone_now w a h b)) (sym e) (destroyed_quietly_at w h b k few named)
@@ -188,7 +188,7 @@ halted_up : (o : Option Body) (c : Body) → option_map disabled_body o ≡ Some
 halted_up None c e = absurd (none-some c e)
 halted_up (Some b) c e = sym (ap (λ (x : Body). x.asleep) (same_Some (disabled_body b) c e))
 
-disabled_quietly_at : (w : World) (h : Handle) (b : Body) → IsKept w → w.plain.calls < 2 ^ 40 → body_of w.plain h ≡ Some b
+disabled_quietly_at : (w : World) (h : Handle) (b : Body) → IsKept w → w.plain.calls < 2 ^ 40 → body_named w.plain h ≡ Some b
     → IsLeft w (disabled w.plain h b) (disabled_with w (gone_now w (acting_of w.plain) h b) h b (bodies_halted w (acting_of w.plain) h)) (gone_now w (acting_of w.plain) h b)
 disabled_quietly_at w h b k few named =
     let s : Acting Constraint = gone_now w (acting_of w.plain) h b in
@@ -197,7 +197,7 @@ disabled_quietly_at w h b k few named =
     ∙ leaves_quietly w h b (option_map disabled_body (body_at (stirred w.plain h.slot).bodies h.slot)) k named (bodies_disabled (stirred w.plain h.slot).bodies h.slot (stirred_bodies w h.slot k)) (halted_up (body_at (stirred w.plain h.slot).bodies h.slot)) in
     subst (λ (bs : List (Option Body)). IsLeft w (disabled w.plain h b) (disabled_with w s h b bs) s) told_same (disable_left w (acting_of w.plain) h b k refl few named)
 
-pub disabled_quietly : (w : World) (s : Acting Constraint) (h : Handle) (b : Body) → IsKept w → s ≡ acting_of w.plain → w.plain.calls < 2 ^ 40 → body_of w.plain h ≡ Some b
+pub disabled_quietly : (w : World) (s : Acting Constraint) (h : Handle) (b : Body) → IsKept w → s ≡ acting_of w.plain → w.plain.calls < 2 ^ 40 → body_named w.plain h ≡ Some b
     → IsLeft w (disabled w.plain h b) (disabled_with w (gone_now w s h b) h b (bodies_halted w s h)) (gone_now w s h b)
 disabled_quietly w s h b k e few named =
     subst (λ (a : Acting Constraint). IsLeft w (disabled w.plain h b) (disabled_with w (gone_now w a h b) h b (bodies_halted w a h)) (gone_now w a h b)) (sym e) (disabled_quietly_at w h b k few named)

@@ -37,7 +37,7 @@ use Rattle.world_rules.proofs.SoundLaws.{kept_sound}
 use Rattle.world_rules.specs.Settled.{settled_world}
 use Rattle.world_rules.specs.Sets.{acting_of}
 use Rattle.world_rules.specs.Sound.{HasBodies, IsSound}
-use Rattle.world_rules.specs.World.{World, joints_of}
+use Rattle.world_rules.specs.World.{World, joints_in_slots}
 use Rattle.solver_sets.specs.Anchors.{Anchored, Tell}
 use Rattle.world_core.specs.Inside.{IsWhole, IsWorldCore}
 use Rattle.world_core.proofs.CoreLaws.{core_all}
@@ -66,12 +66,12 @@ unfolding acting_of members_of
 colours_there p settled = sym (length-map p.colours _) ∙ settled.colouring.count
 
 -- what acts, of its three parts
-pub acting_by : (p : Plain) (ties : List (Member Constraint)) (labels : Labels) (lists : Lists) → ties ≡ ties_of p.bodies (joints_of p) p.contacts → labels ≡ p.islands → lists ≡ members_of p.bodies (joints_of p) p.colours → acting ties labels lists ≡ acting_of p
+pub acting_by : (p : Plain) (ties : List (Member Constraint)) (labels : Labels) (lists : Lists) → ties ≡ ties_of p.bodies (joints_in_slots p) p.contacts → labels ≡ p.islands → lists ≡ members_of p.bodies (joints_in_slots p) p.colours → acting ties labels lists ≡ acting_of p
 unfolding acting_of
 acting_by p ties labels lists e f g = λ j. acting (e j) (f j) (g j)
 
 -- no more constraints have a colour than there are
-pub few_members : (p : Plain) (ties : List (Member Constraint)) (lists : Lists) → IsSettled constraint_number (acting_of p) → ties ≡ ties_of p.bodies (joints_of p) p.contacts → lists ≡ members_of p.bodies (joints_of p) p.colours → length ties < 2 ^ 64
+pub few_members : (p : Plain) (ties : List (Member Constraint)) (lists : Lists) → IsSettled constraint_number (acting_of p) → ties ≡ ties_of p.bodies (joints_in_slots p) p.contacts → lists ≡ members_of p.bodies (joints_in_slots p) p.colours → length ties < 2 ^ 64
     → length (all_members lists) < 2 ^ 64
 few_members p ties lists settled e g few =
     let same = acting_by p ties p.islands lists e refl g in

@@ -12,7 +12,7 @@ use Rattle.plain_world.specs.declared.body.Body.{Body}
 use Rattle.sleep_wake.specs.Acting.{Acting}
 use Rattle.solver_sets.specs.Ties.{Bond, JointSlots, bonds_of, is_bond_of, is_enabled, movers_if, movers_with, moves, tie_of, tie_with, ties_at, ties_in, ties_of}
 use Rattle.world_rules.specs.Sets.{acting_of}
-use Rattle.world_rules.specs.World.{World, joints_of}
+use Rattle.world_rules.specs.World.{World, joints_in_slots}
 use Rattle.world_core.specs.Inside.{IsWhole}
 
 abbrev has_in : ℕ → Member Constraint → Bool
@@ -78,6 +78,6 @@ unfolding ties_at ties_of
 mover_ties slot bodies s contacts on = ties_have slot bodies (bonds_of s contacts) on
 
 -- the constraints of a mover of the world, out of those that it keeps
-pub own_mover_ties : (w : World) (s : Acting Constraint) (slot : ℕ) → IsWhole w s → moves w.plain.bodies slot ≡ true → filter (has_in slot) s.ties ≡ ties_at slot w.plain.bodies (joints_of w.plain) w.plain.contacts
+pub own_mover_ties : (w : World) (s : Acting Constraint) (slot : ℕ) → IsWhole w s → moves w.plain.bodies slot ≡ true → filter (has_in slot) s.ties ≡ ties_at slot w.plain.bodies (joints_in_slots w.plain) w.plain.contacts
 unfolding acting_of
-own_mover_ties w s slot is on = ap (λ (a : Acting Constraint). filter (has_in slot) a.ties) is.same ∙ sym (mover_ties slot w.plain.bodies (joints_of w.plain) w.plain.contacts on)
+own_mover_ties w s slot is on = ap (λ (a : Acting Constraint). filter (has_in slot) a.ties) is.same ∙ sym (mover_ties slot w.plain.bodies (joints_in_slots w.plain) w.plain.contacts on)

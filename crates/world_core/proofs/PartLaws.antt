@@ -24,7 +24,7 @@ use Rattle.plain_world.specs.Changes.{changed_at, disabled_body}
 use Rattle.plain_world.specs.Sleep.{told}
 use Rattle.plain_world.specs.Slots.{body_at}
 use Rattle.plain_world.specs.Joints.{joint_at, joint_of}
-use Rattle.sleep_wake.specs.Acting.{Acting, are_awake, is_awake}
+use Rattle.sleep_wake.specs.Acting.{Acting, are_awake, is_mover_awake}
 use Rattle.sleep_wake.specs.ChangeLists.{CanEnd}
 use Rattle.sleep_wake.specs.Sleeping.{islands_woken}
 use Rattle.solver_sets.specs.Joining.{handle_at}
@@ -32,9 +32,9 @@ use Rattle.solver_sets.specs.Ties.{is_mover_in, joint_movers, moves, ties_at}
 use Rattle.world_core.specs.Inside.{IsWhole}
 use Rattle.world_rules.specs.Apply.{Answers, Applied, apply_create, apply_destroy, apply_disable, apply_enable, apply_join, apply_unjoin, created, destroyed, disabled, enabled, join_refusal, joined, quietly, world_with}
 use Rattle.world_rules.specs.declared.command.Reply.TheVariants as replies
-use Rattle.world_rules.specs.Sets.{acting_of, stirred, woken}
+use Rattle.world_rules.specs.Sets.{acting_of, stirred, with_woken}
 use Rattle.world_rules.specs.Sound.{IsSound}
-use Rattle.world_rules.specs.World.{World, body_of, joints_of}
+use Rattle.world_rules.specs.World.{World, body_named, joints_in_slots}
 use Rattle.world_rules.proofs.ActingLaws.{IsWoken, islands_woken_ties, waking_kept}
 use Rattle.world_rules.proofs.CallLaws.{CanLeave, can_join, can_leave, can_unjoin}
 use Rattle.world_rules.proofs.KeptChanges.{named_at}
@@ -66,20 +66,20 @@ create_answers w d h now s due free e l =
     let room : nat_lt (lowest w.plain.places) MAX_SLOTS ≡ true = grind (arith, common_steps) in
     rw (sym due, room) (ap replies.Body e, l.same)
 
-pub destroy_answers : (w : World) (h : Handle) (b : Body) (now : World) (s : Acting Constraint) → body_of w.plain h ≡ Some b → IsLeft w (destroyed w.plain h b) now s → Answers (apply_destroy w.plain h) w (Ok replies.Done) now
+pub destroy_answers : (w : World) (h : Handle) (b : Body) (now : World) (s : Acting Constraint) → body_named w.plain h ≡ Some b → IsLeft w (destroyed w.plain h b) now s → Answers (apply_destroy w.plain h) w (Ok replies.Done) now
 destroy_answers w h b now s named l = rw named (refl, l.same)
 
 disable_on : (t : Bool) (w : World) (a : Applied) (now : World) → t ≡ true → a.reply ≡ replies.Done → now ≡ world_with w a → Answers (cond t (Ok a) (Err BodyDisabled)) w (Ok replies.Done) now
 disable_on true w a now e r s = (sym r, s)
 disable_on false w a now e r s = cc
 
-pub disable_answers : (w : World) (h : Handle) (b : Body) (now : World) (s : Acting Constraint) → body_of w.plain h ≡ Some b → b.enabled ≡ true → IsLeft w (disabled w.plain h b) now s → Answers (apply_disable w.plain h) w (Ok replies.Done) now
+pub disable_answers : (w : World) (h : Handle) (b : Body) (now : World) (s : Acting Constraint) → body_named w.plain h ≡ Some b → b.enabled ≡ true → IsLeft w (disabled w.plain h b) now s → Answers (apply_disable w.plain h) w (Ok replies.Done) now
 disable_answers w h b now s named on l = rw named (disable_on b.enabled w (disabled w.plain h b) now on refl l.same)
 
-pub enable_answers : (w : World) (h : Handle) (b : Body) (now : World) (s : Acting Constraint) → body_of w.plain h ≡ Some b → IsLeft w (quietly (enabled w.plain h b)) now s → Answers (apply_enable w.plain h) w (Ok replies.Done) now
+pub enable_answers : (w : World) (h : Handle) (b : Body) (now : World) (s : Acting Constraint) → body_named w.plain h ≡ Some b → IsLeft w (quietly (enabled w.plain h b)) now s → Answers (apply_enable w.plain h) w (Ok replies.Done) now
 enable_answers w h b now s named l = rw named (refl, l.same)
 
-pub join_answers : (w : World) (d : JointDef) (h : Handle) (now : World) (s : Acting Constraint) → None ≡ join_refusal (body_of w.plain d.a) (body_of w.plain d.b) d → lowest w.plain.joint_places < MAX_SLOTS → h ≡ next_joint w.plain → IsLeft w (joined w.plain d (next_joint w.plain)) now s
+pub join_answers : (w : World) (d : JointDef) (h : Handle) (now : World) (s : Acting Constraint) → None ≡ join_refusal (body_named w.plain d.a) (body_named w.plain d.b) d → lowest w.plain.joint_places < MAX_SLOTS → h ≡ next_joint w.plain → IsLeft w (joined w.plain d (next_joint w.plain)) now s
     → Answers (apply_join w.plain d) w (Ok (replies.Joint h)) now
 join_answers w d h now s due free e l =
     let room : nat_lt (lowest w.plain.joint_places) MAX_SLOTS ≡ true = grind (arith, common_steps) in
@@ -117,7 +117,7 @@ can_join_at : (w : World) (j : BodyJoint) → IsKept w → lowest w.plain.joint_
 can_join_at w j k free =
     let can = can_join w j k free in
     let wk : IsWoken w (ends_of j) = waking_kept w (ends_of j) k in
-    subst (λ (a : Acting Constraint). CanBeginJoint (woken w.plain (ends_of j)).bodies a (next_joint w.plain) j) wk.acting (record { fresh = can.fresh; awake = can.awake })
+    subst (λ (a : Acting Constraint). CanBeginJoint (with_woken w.plain (ends_of j)).bodies a (next_joint w.plain) j) wk.acting (record { fresh = can.fresh; awake = can.awake })
 
 pub can_join_from : (w : World) (s : Acting Constraint) (j : BodyJoint) → IsWhole w s → lowest w.plain.joint_places < MAX_SLOTS → CanBeginJoint (woken_bodies w.plain s (ends_of j)) (woken_from w.plain s (ends_of j)) (next_joint w.plain) j
 can_join_from w s j is free = subst (λ (a : Acting Constraint). CanBeginJoint (woken_bodies w.plain a (ends_of j)) (woken_from w.plain a (ends_of j)) (next_joint w.plain) j) (sym is.same) (can_join_at w j (kept_of w s is) free)
@@ -131,30 +131,30 @@ can_unjoin_at : (w : World) (h : Handle) (j : BodyJoint) → IsKept w → joint_
 can_unjoin_at w h j k named =
     let can = can_unjoin w h j k named in
     let wk : IsWoken w (ends_of j) = waking_kept w (ends_of j) k in
-    subst (λ (a : Acting Constraint). CanEndJoint (woken w.plain (ends_of j)).bodies a h j) wk.acting (record { there = can.there; awake = can.awake })
+    subst (λ (a : Acting Constraint). CanEndJoint (with_woken w.plain (ends_of j)).bodies a h j) wk.acting (record { there = can.there; awake = can.awake })
 
 pub can_unjoin_from : (w : World) (s : Acting Constraint) (h : Handle) (j : BodyJoint) → IsWhole w s → joint_of w.plain.joint_places w.plain.joints h ≡ Some j → CanEndJoint (woken_bodies w.plain s (ends_of j)) (woken_from w.plain s (ends_of j)) h j
 can_unjoin_from w s h j is named = subst (λ (a : Acting Constraint). CanEndJoint (woken_bodies w.plain a (ends_of j)) (woken_from w.plain a (ends_of j)) h j) (sym is.same) (can_unjoin_at w h j (kept_of w s is) named)
 
 -- the ties of a body can end; then it can be taken out of its island, if it is a mover
 pub record CanLeaveFrom (w : World) (s : Acting Constraint) (slot : ℕ) : Type 0 where
-  pub can : CanEnd constraint_number (ties_at slot w.plain.bodies (joints_of w.plain) w.plain.contacts) (woken_from w.plain s (stirred_slots w.plain slot))
-  pub awake : moves w.plain.bodies slot ≡ true → is_awake (ended_from w.plain s slot).labels slot ≡ true
+  pub can : CanEnd constraint_number (ties_at slot w.plain.bodies (joints_in_slots w.plain) w.plain.contacts) (woken_from w.plain s (stirred_slots w.plain slot))
+  pub awake : moves w.plain.bodies slot ≡ true → is_mover_awake (ended_from w.plain s slot).labels slot ≡ true
   pub alone : filter (λ m. has_mover m.movers slot) (ended_from w.plain s slot).ties ≡ []
 
 can_leave_at : (w : World) (slot : ℕ) (b : Body) → IsKept w → body_at w.plain.bodies slot ≡ Some b → CanLeaveFrom w (acting_of w.plain) slot
 can_leave_at w slot b k at =
     let can : CanLeave w slot = can_leave w slot b k at in
     let wk : IsWoken w (stirred_slots w.plain slot) = waking_kept w (stirred_slots w.plain slot) k in
-    let ties = ties_at_alike slot w.plain.bodies (stirred w.plain slot).bodies (joints_of w.plain) w.plain.contacts wk.alike in
+    let ties = ties_at_alike slot w.plain.bodies (stirred w.plain slot).bodies (joints_in_slots w.plain) w.plain.contacts wk.alike in
     record {
-      can = subst (λ (a : Acting Constraint). CanEnd constraint_number (ties_at slot w.plain.bodies (joints_of w.plain) w.plain.contacts) a) wk.acting
+      can = subst (λ (a : Acting Constraint). CanEnd constraint_number (ties_at slot w.plain.bodies (joints_in_slots w.plain) w.plain.contacts) a) wk.acting
           (subst (λ (ms : List (Member Constraint)). CanEnd constraint_number ms (acting_of (stirred w.plain slot))) ties can.can);
-      awake = λ e. subst (λ (a : Acting Constraint). is_awake a.labels slot ≡ true) (sym (ended_is w slot k)) (can.awake e);
+      awake = λ e. subst (λ (a : Acting Constraint). is_mover_awake a.labels slot ≡ true) (sym (ended_is w slot k)) (can.awake e);
       alone = subst (λ (a : Acting Constraint). filter (λ m. has_mover m.movers slot) a.ties ≡ []) (sym (ended_is w slot k)) can.alone;
     }
 
-pub can_leave_from : (w : World) (s : Acting Constraint) (h : Handle) (b : Body) → IsWhole w s → body_of w.plain h ≡ Some b → CanLeaveFrom w s h.slot
+pub can_leave_from : (w : World) (s : Acting Constraint) (h : Handle) (b : Body) → IsWhole w s → body_named w.plain h ≡ Some b → CanLeaveFrom w s h.slot
 can_leave_from w s h b is named = subst (λ (a : Acting Constraint). CanLeaveFrom w a h.slot) (sym is.same) (can_leave_at w h.slot b (kept_of w s is) (named_at w.plain h b named))
 
 below_joints : (joints : List (Option BodyJoint)) (slot : ℕ) (j : BodyJoint) → joint_at joints slot ≡ Some j → slot < length joints

@@ -311,6 +311,6 @@ slept_label slot None s h = refl
 slept_label slot (Some l) s h = ap (λ (t : Bool). cond t s (rested_at constraint_number slot (split_if_loose l s))) (is_not (is_asleep l.state) h)
 
 -- it stays as it is
-pub slept_stays : (slot : ℕ) (s : Acting Constraint) → acting.is_awake s.labels slot ≡ false → slept_at constraint_number slot s ≡ s
+pub slept_stays : (slot : ℕ) (s : Acting Constraint) → acting.is_mover_awake s.labels slot ≡ false → slept_at constraint_number slot s ≡ s
 unfolding slept_at
 slept_stays slot s h = slept_label slot (label_at s.labels slot) s h

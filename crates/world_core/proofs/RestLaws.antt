@@ -94,7 +94,7 @@ both_true true None e = (refl, refl)
 both_true true (Some name) e = cc
 both_true false a e = cc
 
-awake_label_at : (labels : Labels) (bodies : List (Option Body)) (slot : ℕ) (o : Option Body) → AreTied bodies labels → AreTold bodies labels → slice_get bodies slot ≡ Some o → is_awake_in o ≡ true → acting.is_awake labels slot ≡ true
+awake_label_at : (labels : Labels) (bodies : List (Option Body)) (slot : ℕ) (o : Option Body) → AreTied bodies labels → AreTold bodies labels → slice_get bodies slot ≡ Some o → is_awake_in o ≡ true → acting.is_mover_awake labels slot ≡ true
 awake_label_at labels bodies slot None tied are at on = cc
 awake_label_at labels bodies slot (Some b) tied are at on =
     let there : body_at bodies slot ≡ Some b = at_body (slice_get bodies slot) at in
@@ -117,7 +117,7 @@ awake_slots labels bodies awake e tied are = record {
   );
 }
   where
-    listed_up : (labels : Labels) (bodies : List (Option Body)) (slot : ℕ) → AreTied bodies labels → AreTold bodies labels → acting.is_awake labels slot ≡ true → Contains (places_from is_awake_in 0 bodies) slot
+    listed_up : (labels : Labels) (bodies : List (Option Body)) (slot : ℕ) → AreTied bodies labels → AreTold bodies labels → acting.is_mover_awake labels slot ≡ true → Contains (places_from is_awake_in 0 bodies) slot
     listed_up labels bodies slot tied are up =
         let it : IsUpAt bodies slot = up_at labels bodies slot tied are up in
         place_there is_awake_in bodies 0 slot slot (Some it.body) (omega arith) (body_at-in bodies slot it.body it.there) it.up
@@ -156,14 +156,14 @@ timers_long beside n [] = refl
 timers_long beside n (o ∷ bodies) = ap suc (timers_long beside (suc n) bodies)
 
 pub timers_agree : (bodies : List (Option Body)) (joints : List (Option BodyJoint)) (contacts : List ContactEntry) (labels : Labels) (timers : List ℕ) → length timers ≡ length bodies
-    → ((slot : ℕ) → acting.is_awake labels slot ≡ true → slice_index_or timers slot 0 ≡ slice_index_or (timers_of bodies joints contacts) slot 0) → AgreeAwake labels timers (timers_of bodies joints contacts)
+    → ((slot : ℕ) → acting.is_mover_awake labels slot ≡ true → slice_index_or timers slot 0 ≡ slice_index_or (timers_of bodies joints contacts) slot 0) → AgreeAwake labels timers (timers_of bodies joints contacts)
 unfolding timers_of
 timers_agree bodies joints contacts labels timers len same = record { size = len ∙ sym (timers_long (is_beside_moving bodies joints contacts) 0 bodies); same = same }
 
 -- the phase by the awake movers' timers is the phase by all
 pub phase_by_awake : (bodies : List (Option Body)) (joints : List (Option BodyJoint)) (contacts : List ContactEntry) (s new : Acting Constraint) (awake timers : List ℕ) → awake ≡ places_from is_awake_in 0 bodies → AreTied bodies s.labels → AreTold bodies s.labels → length timers ≡ length bodies
     → TellMoving bodies joints contacts s.labels s.lists
-    → ((labels : Labels) (es : List ContactEntry) → TellMoving bodies joints es labels s.lists → (slot : ℕ) → acting.is_awake labels slot ≡ true → Contains awake slot → slice_index_or timers slot 0 ≡ slice_index_or (timers_of bodies joints es) slot 0)
+    → ((labels : Labels) (es : List ContactEntry) → TellMoving bodies joints es labels s.lists → (slot : ℕ) → acting.is_mover_awake labels slot ≡ true → Contains awake slot → slice_index_or timers slot 0 ≡ slice_index_or (timers_of bodies joints es) slot 0)
     → ((all : List ℕ) → AgreeAwake s.labels timers all → new ≡ sleep_phase constraint_number all s) → new ≡ sleep_phase constraint_number (timers_of bodies joints contacts) s
 phase_by_awake bodies joints contacts s new awake timers e tied are len tells same phase =
     let slots : AreAwakeSlots s.labels awake = awake_slots s.labels bodies awake e tied are in

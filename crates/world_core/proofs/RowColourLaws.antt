@@ -24,7 +24,7 @@ use Rattle.world_core_base.proofs.RowColourLaws.{colour_rows_apart}
 use Rattle.world_core.specs.RowColours.{ColouredRowsAreColours}
 use Rattle.world_rules.proofs.GatherLaws.{in_each}
 use Rattle.world_rules.specs.Sets.{acting_of}
-use Rattle.world_rules.specs.World.{joints_of}
+use Rattle.world_rules.specs.World.{joints_in_slots}
 
 -- what is awake is a mover
 awake_moves : (t u : Bool) → cond t u false ≡ true → t ≡ true
@@ -93,7 +93,7 @@ lists_have bodies s (ids ∷ colours) = All-cons (All (HasItsMovers (states_of b
 -- each constraint that acts stands in its colour with the movers of its bodies
 pub acting_have_movers : (w : Plain) → All (All (HasItsMovers (states_of w.bodies) w.joints)) (acting_of w).lists
 unfolding acting_of
-acting_have_movers w = lists_have w.bodies (joints_of w) w.colours
+acting_have_movers w = lists_have w.bodies (joints_in_slots w) w.colours
 
 pub coloured_rows : ColouredRowsAreColours
 coloured_rows bodies s contacts lists colour coloured lt =

@@ -7,7 +7,7 @@ use Rattle.world_file_base.specs.declared.clause.Broken.{Broken}
 use Rattle.world_file_base.specs.declared.clause.Broken.TheVariants as broken
 use Rattle.world_file_base.specs.declared.clause.Clause.{Clause}
 use Rattle.world_file.proofs.BackWhole.{what_is_written_is_read_again}
-use Rattle.world_file.specs.Laws.{HasSmallTotals, totals_in}
+use Rattle.world_file.specs.Laws.{HasSmallTotals, totals_of_world}
 use Rattle.world_core.specs.SavedAgain.{ComesBack, IsReadAs}
 use Rattle.world_file.specs.Answers.{IsRefusedBy}
 use Rattle.world_file.specs.Clauses.{first_broken}
@@ -27,12 +27,12 @@ unbroken : (d : Data) (r : Plain × Totals) → read_of d ≡ Ok r → first_bro
 unfolding read_of
 unbroken d r e = none_broken (first_broken d) (saved_in d) r e
 
-read_as : (w : World) (d : Data) → IsSound w → HasSmallTotals w → d ≡ value_of w.plain (totals_in w) → IsReadAs w d
+read_as : (w : World) (d : Data) → IsSound w → HasSmallTotals w → d ≡ value_of w.plain (totals_of_world w) → IsReadAs w d
 read_as w d sound small saved =
-    let read : read_of d ≡ Ok (w.plain, totals_in w) = ap read_of saved ∙ what_is_written_is_read_again w sound small in
-    record { unbroken = unbroken d (w.plain, totals_in w) read; read = read }
+    let read : read_of d ≡ Ok (w.plain, totals_of_world w) = ap read_of saved ∙ what_is_written_is_read_again w sound small in
+    record { unbroken = unbroken d (w.plain, totals_of_world w) read; read = read }
 
-pub saved_again : {E V : Type 0} (view : V → Data) (w : World) (r : Result V E) → IsSound w → IfOk r (λ (v : V). view v ≡ value_of w.plain (totals_in w)) → IfOk r (λ (v : V). HasSmallTotals w → IsReadAs w (view v))
+pub saved_again : {E V : Type 0} (view : V → Data) (w : World) (r : Result V E) → IsSound w → IfOk r (λ (v : V). view v ≡ value_of w.plain (totals_of_world w)) → IfOk r (λ (v : V). HasSmallTotals w → IsReadAs w (view v))
 saved_again view w (Ok v) sound saved = λ small. read_as w (view v) sound small saved
 saved_again view w (Err e) sound saved = tt
 
@@ -54,4 +54,4 @@ refused_for due r broken.NoMemory ok h = refl
 refused_for due r (broken.Clause clause) ok h = cc
 
 pub refused_again : (d : Data) (e : Broken) → IsRefusedBy (read_of d) e → ComesBack d (Err e)
-refused_again d e h = λ w sound small saved. refused_for (read_of d) (w.plain, totals_in w) e (read_as w d sound small saved).read h
+refused_again d e h = λ w sound small saved. refused_for (read_of d) (w.plain, totals_of_world w) e (read_as w d sound small saved).read h

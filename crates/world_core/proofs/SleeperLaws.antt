@@ -16,7 +16,7 @@ use Rattle.islands.proofs.LabelLemmas.{in_case, in_of}
 use Rattle.plain_world.specs.declared.body.Body.{Body}
 use Rattle.plain_world.specs.Slots.{body_at}
 use Rattle.sleep_wake.specs.Acting.{Acting, IsSettled}
-use Rattle.sleep_wake.specs.Changes.{begun, changed, ended, turned}
+use Rattle.sleep_wake.specs.Changes.{begun, after_change, ended, turned}
 use Rattle.sleep_wake.specs.ChangeLists.{AreChanges, IsChange}
 use Rattle.sleep_wake.specs.Waking.{movers_woken, second_woken, set_woken, woken_at, woken_by}
 use Rattle.sleep_wake.specs.declared.change.Change.{Change}
@@ -78,7 +78,7 @@ alike_kept : (slots : List ℕ) (old now new : Labels) → SleepOrListed slots o
 alike_kept slots old now new kept same t n q = elim (kept t n q) [ inl here ↦ inl (same t ∙ here) | inr c ↦ inr c ]
 
 changed_kept : (slots : List ℕ) (old : Labels) (c : Change Constraint) (s : Acting Constraint) → IsSettled constraint_number s → IsChange constraint_number s.labels s.ties c → OfBoth (HasSleepers old slots) (movers_in c) → HaveSlept old s.labels → SleepOrListed slots old s.labels
-    → SleepOrListed slots old (changed constraint_number c s).labels
+    → SleepOrListed slots old (after_change constraint_number c s).labels
 changed_kept slots old (Begin m) s w can has slept kept =
     let now : Acting Constraint = movers_woken constraint_number m.movers s in
     let ready : IsReady constraint_number m.movers s now = ready_for constraint_number m.movers s now w can.1 refl in
@@ -93,7 +93,7 @@ turned_kept : (slots : List ℕ) (old : Labels) (changes : List (Change Constrai
 turned_kept slots old [] s w on can has slept kept = kept
 turned_kept slots old (c ∷ cs) s w on can has slept kept =
     let P : Change Constraint → Type 0 = λ d. OfBoth (HasSleepers old slots) (movers_in d) in
-    let now : Acting Constraint = changed constraint_number c s in
+    let now : Acting Constraint = after_change constraint_number c s in
     let here : IsChange constraint_number s.labels s.ties c = change_now constraint_number old s.labels s.ties c cs on can in
     turned_kept slots old cs now (change_keeps constraint_number c s w here) (λ t h. changed_labelled constraint_number c s t (on t h)) (change_next constraint_number old s c cs can) (All-tail P c cs has) (slept_then old s.labels now.labels slept (changed_slept c s))
     (changed_kept slots old c s w here (All-head P c cs has) slept kept)

@@ -10,7 +10,7 @@ use Rattle.fixed_geom.specs.declared.limits.TheConstants.{MAX_POSITION}
 use Rattle.fixed_geom.specs.declared.vectors.Vec2.{Vec2}
 use Rattle.fixed_geom.proofs.Sizes.{product_le}
 use Rattle.momenta.specs.Gains.{IsGain}
-use Rattle.momenta.specs.Motions.{advanced, aim, clamped, pulled, signed_as}
+use Rattle.momenta.specs.Motions.{advanced, aim, speed_clamped, pulled, signed_as}
 use Rattle.momenta.specs.declared.gain.Gain.{Gain}
 use Rattle.momenta.specs.declared.limits.TheConstants.{MAX_SPEED}
 use Rattle.momenta.specs.declared.mass.MassData.{MassData}
@@ -35,7 +35,7 @@ use Rattle.plain_world.specs.declared.kind.Kind.TheVariants.{Static, Kinematic, 
 use Rattle.world_core_base.specs.Carried.{carried_motion, carried_to}
 use Rattle.world_core_base.specs.Renewal.{renewed_bodies, with_renewed}
 use Rattle.world_core_base.specs.Solving as steps
-use Rattle.world_core_base.specs.Solving.{Moving, Solving, Turns, all_changed, along, begin, bodies_of, bounce, carry, changed, clamp, ends_now, gain, gain_of, gained, left, left_by, moving, moving_at, pass, pull, solve, solved, tick, ticks, turn, turn_between, turn_joined, turn_joint, warm}
+use Rattle.world_core_base.specs.Solving.{Moving, Solving, Turns, all_changed, carried_on, begin, bodies_of, bounce, carry, motion_changed, clamp, ends_now, gain, gain_of, gain_between, left, after_impulse, moving, moving_at, pass, pull, solve, solved, tick, ticks, row_turn, turn_between, turn_joined, turn_joint, warm}
 use Rattle.world_core.proofs.ImpulseBounds.{AreEndsWithin, KeepsWithin, bounce_keeps, solve_keeps, warm_keeps, wider}
 
 -- ---- bodies in a step
@@ -84,7 +84,7 @@ pub record IsBounded (k g c : ℕ) (s : Solving) : Type 0 where
 
 -- ---- the turn of a constraint
 
-left_bound : (k : ℕ) (s : BodyState) (m : Moving) → IsBound k m → IsWithin k s.motion.p → IsBound k (left_by s m)
+left_bound : (k : ℕ) (s : BodyState) (m : Moving) → IsBound k m → IsWithin k s.motion.p → IsBound k (after_impulse s m)
 left_bound k s m is h = record { mass = is.mass; p = h; own = is.own }
 
 -- two bodies put back
@@ -103,8 +103,8 @@ joined_bound k g c f s slot j (Some a) (Some b) keeps h at_a at_b =
     let after = f.joint j.joint (steps.ends_then a b) (ends_now a b) in
     let within : AreEndsWithin k after.ends = keeps.joint j.joint (steps.ends_then a b) (ends_now a b) (record { a = is_a.p; b = is_b.p }) in
     record {
-      bodies = back_bound k s.bodies j.a j.b (left_by after.ends.a a) (left_by after.ends.b b) h.bodies (left_bound k after.ends.a a is_a within.a) (left_bound k after.ends.b b is_b within.b);
-      few = back_few s.bodies j.a j.b (Some (left_by after.ends.a a)) (Some (left_by after.ends.b b)) h.few;
+      bodies = back_bound k s.bodies j.a j.b (after_impulse after.ends.a a) (after_impulse after.ends.b b) h.bodies (left_bound k after.ends.a a is_a within.a) (left_bound k after.ends.b b is_b within.b);
+      few = back_few s.bodies j.a j.b (Some (after_impulse after.ends.a a)) (Some (after_impulse after.ends.b b)) h.few;
       gravity = h.gravity;
       clamp = h.clamp;
     }
@@ -123,19 +123,19 @@ between_bound k g c f s key (Some e) (Some a) (Some b) keeps h at_a at_b =
     let after = f.contact e (steps.ends_then a b) (ends_now a b) in
     let within : AreEndsWithin k after.ends = keeps.contact e (steps.ends_then a b) (ends_now a b) (record { a = is_a.p; b = is_b.p }) in
     record {
-      bodies = back_bound k s.bodies key.first.slot key.second.slot (left_by after.ends.a a) (left_by after.ends.b b) h.bodies (left_bound k after.ends.a a is_a within.a) (left_bound k after.ends.b b is_b within.b);
-      few = back_few s.bodies key.first.slot key.second.slot (Some (left_by after.ends.a a)) (Some (left_by after.ends.b b)) h.few;
+      bodies = back_bound k s.bodies key.first.slot key.second.slot (after_impulse after.ends.a a) (after_impulse after.ends.b b) h.bodies (left_bound k after.ends.a a is_a within.a) (left_bound k after.ends.b b is_b within.b);
+      few = back_few s.bodies key.first.slot key.second.slot (Some (after_impulse after.ends.a a)) (Some (after_impulse after.ends.b b)) h.few;
       gravity = h.gravity;
       clamp = h.clamp;
     }
 
-turn_bound : (k g c : ℕ) (f : Turns) (s : Solving) (id : Constraint) → KeepsWithin k f → IsBounded k g c s → IsBounded k g c (turn f s id)
+turn_bound : (k g c : ℕ) (f : Turns) (s : Solving) (id : Constraint) → KeepsWithin k f → IsBounded k g c s → IsBounded k g c (row_turn f s id)
 turn_bound k g c f s (constraints.Joint h) keeps is = joint_bound k g c f s h.slot (joint_at s.joints h.slot) keeps is
 turn_bound k g c f s (constraints.Contact key) keeps is = between_bound k g c f s key (lookup s.contacts key) (moving_at s.bodies key.first.slot) (moving_at s.bodies key.second.slot) keeps is refl refl
 
 pass_bound : (k g c : ℕ) (f : Turns) (order : List Constraint) (s : Solving) → KeepsWithin k f → IsBounded k g c s → IsBounded k g c (pass f order s)
 pass_bound k g c f [] s keeps h = h
-pass_bound k g c f (id ∷ order) s keeps h = pass_bound k g c f order (turn f s id) keeps (turn_bound k g c f s id keeps h)
+pass_bound k g c f (id ∷ order) s keeps h = pass_bound k g c f order (row_turn f s id) keeps (turn_bound k g c f s id keeps h)
 
 -- ---- a pass over the bodies
 
@@ -157,17 +157,17 @@ length_changed f [] = refl
 length_changed f (o ∷ ms) = let rest = length_changed f ms in omega (arith, rest)
 
 -- what one body gains
-one_gain : (k n : ℕ) (a b : Motion) → k ≤ 2 ^ 60 + 2 ^ 40 → n ≤ 2 ^ 60 + 2 ^ 40 → IsWithin k a.p → IsWithin n b.p → IsGain (2 ^ 61 + 2 ^ 41) (gained a b)
+one_gain : (k n : ℕ) (a b : Motion) → k ≤ 2 ^ 60 + 2 ^ 40 → n ≤ 2 ^ 60 + 2 ^ 40 → IsWithin k a.p → IsWithin n b.p → IsGain (2 ^ 61 + 2 ^ 41) (gain_between a b)
 one_gain k n a b few most h i =
     let h_x = h.x in let h_y = h.y in let i_x = i.x in let i_y = i.y in
     record { x = omega (arith, ints, few, most, h_x, i_x); y = omega (arith, ints, few, most, h_y, i_y) }
 
-one_more : (size : ℕ) (g rest : Gain) → IsGain (2 ^ 61 + 2 ^ 41) g → IsGain (size * (2 ^ 61 + 2 ^ 41)) rest → IsGain (suc size * (2 ^ 61 + 2 ^ 41)) (steps.plus g rest)
+one_more : (size : ℕ) (g rest : Gain) → IsGain (2 ^ 61 + 2 ^ 41) g → IsGain (size * (2 ^ 61 + 2 ^ 41)) rest → IsGain (suc size * (2 ^ 61 + 2 ^ 41)) (steps.gain_sum g rest)
 one_more size g rest h i =
     let h_x = h.x in let h_y = h.y in let i_x = i.x in let i_y = i.y in
     record { x = omega (arith, ints, h_x, i_x); y = omega (arith, ints, h_y, i_y) }
 
-none_more : (size : ℕ) (rest : Gain) → IsGain (size * (2 ^ 61 + 2 ^ 41)) rest → IsGain (suc size * (2 ^ 61 + 2 ^ 41)) (steps.plus steps.nothing rest)
+none_more : (size : ℕ) (rest : Gain) → IsGain (size * (2 ^ 61 + 2 ^ 41)) rest → IsGain (suc size * (2 ^ 61 + 2 ^ 41)) (steps.gain_sum steps.nothing rest)
 none_more size rest i = let i_x = i.x in let i_y = i.y in record { x = omega (arith, ints, i_x); y = omega (arith, ints, i_y) }
 
 gain_bound : (k n : ℕ) (f : MassData → Motion → Motion) (ms : List (Option Moving)) → k ≤ n → n ≤ 2 ^ 60 + 2 ^ 40 → Leads k n f → AreBound k ms → IsGain (length ms * (2 ^ 61 + 2 ^ 41)) (gain f ms)
@@ -175,13 +175,13 @@ gain_bound k n f [] le most leads h = record { x = omega arith; y = omega arith 
 gain_bound k n f (None ∷ ms) le most leads h = none_more (length ms) (gain f ms) (gain_bound k n f ms le most leads h)
 gain_bound k n f (Some m ∷ ms) le most leads h =
     let now = changed_if k n (is_awake m.body) m (f m.body.mass m.motion) le h.0 (leads m.body.mass m.motion h.0.mass h.0.p) in
-    one_more (length ms) (gain_of f (Some m)) (gain f ms) (one_gain k n m.motion (changed f m).motion (omega (arith, le, most)) most h.0.p now.p) (gain_bound k n f ms le most leads h.1)
+    one_more (length ms) (gain_of f (Some m)) (gain f ms) (one_gain k n m.motion (motion_changed f m).motion (omega (arith, le, most)) most h.0.p now.p) (gain_bound k n f ms le most leads h.1)
 
 -- all that a pass can add
 abbrev pub pass_most : ℕ
 pass_most = 2 ^ 77 + 2 ^ 57
 
-sum_bound : (size g : ℕ) (a b : Gain) → size ≤ 2 ^ 16 → IsGain g a → IsGain (size * (2 ^ 61 + 2 ^ 41)) b → IsGain (g + pass_most) (steps.plus a b)
+sum_bound : (size g : ℕ) (a b : Gain) → size ≤ 2 ^ 16 → IsGain g a → IsGain (size * (2 ^ 61 + 2 ^ 41)) b → IsGain (g + pass_most) (steps.gain_sum a b)
 sum_bound size g a b few h i =
     let h_x = h.x in let h_y = h.y in let i_x = i.x in let i_y = i.y in
     record { x = omega (arith, ints, few, h_x, i_x); y = omega (arith, ints, few, h_y, i_y) }
@@ -212,8 +212,8 @@ limit_within mass p k small le =
     let by = product_le mass (signed_as p (unsigned_abs MAX_SPEED)) (2 ^ 20) (unsigned_abs MAX_SPEED) small (signed_within p (unsigned_abs MAX_SPEED)) in
     omega (arith, by, le)
 
-clamped_leads : (k : ℕ) → 2 ^ 40 ≤ k → Leads k k clamped
-unfolding clamped
+clamped_leads : (k : ℕ) → 2 ^ 40 ≤ k → Leads k k speed_clamped
+unfolding speed_clamped
 clamped_leads k le m s mass h = record {
   x = either_within k (nat_le (unsigned_abs (rdiv s.p.x m.mass)) (unsigned_abs MAX_SPEED)) s.p.x _ h.x (limit_within m.mass s.p.x k mass le);
   y = either_within k (nat_le (unsigned_abs (rdiv s.p.y m.mass)) (unsigned_abs MAX_SPEED)) s.p.y _ h.y (limit_within m.mass s.p.y k mass le);
@@ -230,12 +230,12 @@ along_if : (k : ℕ) (t : Bool) (m : Moving) → IsBound k m → IsBound k (cond
 along_if k true m h = record { mass = h.mass; p = advanced_leads k carrier m.motion (omega arith) h.p; own = h.own }
 along_if k false m h = h
 
-carried_bound : (k : ℕ) (ms : List (Option Moving)) → AreBound k ms → AreBound k (map (option_map along) ms)
+carried_bound : (k : ℕ) (ms : List (Option Moving)) → AreBound k ms → AreBound k (map (option_map carried_on) ms)
 carried_bound k [] h = tt
 carried_bound k (None ∷ ms) h = carried_bound k ms h
 carried_bound k (Some m ∷ ms) h = (along_if k (is_carried m.body) m h.0, carried_bound k ms h.1)
 
-length_along : (ms : List (Option Moving)) → length (map (option_map along) ms) ≡ length ms
+length_along : (ms : List (Option Moving)) → length (map (option_map carried_on) ms) ≡ length ms
 length_along [] = refl
 length_along (o ∷ ms) = let rest = length_along ms in omega (arith, rest)
 
@@ -278,16 +278,16 @@ tick_bound k g c gravity order s least most small h =
     let wide : 2 ^ 60 ≤ k + 2 ^ 36 = omega (arith, least) in
     let room : 2 ^ 40 ≤ k + 2 ^ 36 = omega (arith, least) in
     let s_1 : Solving = pull gravity s in
-    let s_2 : Solving = clamp clamped s_1 in
+    let s_2 : Solving = clamp speed_clamped s_1 in
     let s_3 : Solving = pass warm order s_2 in
     let s_4 : Solving = pass solve order s_3 in
-    let s_5 : Solving = clamp clamped s_4 in
+    let s_5 : Solving = clamp speed_clamped s_4 in
     let s_6 : Solving = clamp advanced s_5 in
     let h_1 = pull_bound k g c gravity s most small h in
-    let h_2 = clamp_bound (k + 2 ^ 36) (g + pass_most) c clamped s_1 most (clamped_leads (k + 2 ^ 36) room) h_1 in
+    let h_2 = clamp_bound (k + 2 ^ 36) (g + pass_most) c speed_clamped s_1 most (clamped_leads (k + 2 ^ 36) room) h_1 in
     let h_3 = pass_bound (k + 2 ^ 36) (g + pass_most) (c + pass_most) warm order s_2 (warm_keeps (k + 2 ^ 36) wide) h_2 in
     let h_4 = pass_bound (k + 2 ^ 36) (g + pass_most) (c + pass_most) solve order s_3 (solve_keeps (k + 2 ^ 36) wide) h_3 in
-    let h_5 = clamp_bound (k + 2 ^ 36) (g + pass_most) (c + pass_most) clamped s_4 most (clamped_leads (k + 2 ^ 36) room) h_4 in
+    let h_5 = clamp_bound (k + 2 ^ 36) (g + pass_most) (c + pass_most) speed_clamped s_4 most (clamped_leads (k + 2 ^ 36) room) h_4 in
     let h_6 = clamp_bound (k + 2 ^ 36) (g + pass_most) (c + pass_most + pass_most) advanced s_5 most (advanced_leads (k + 2 ^ 36)) h_5 in
     carry_bound (k + 2 ^ 36) (g + pass_most) (c + pass_most + pass_most + pass_most) s_6 h_6
 

@@ -60,7 +60,7 @@ use Rattle.world_rules.specs.declared.command.Reply.TheVariants as replies
 use Rattle.world_rules.specs.Gathering.{CanGather}
 use Rattle.world_rules.specs.Sets.{acting_of}
 use Rattle.world_rules.specs.Sound.{AreTold}
-use Rattle.world_rules.specs.World.{World, joints_of}
+use Rattle.world_rules.specs.World.{World, joints_in_slots}
 use Rattle.world_rules.proofs.AcceptedAll.{solved_in}
 use Rattle.world_rules.proofs.ChangeLemmas.{tied_alike}
 use Rattle.world_rules.proofs.GatherLaws.{can_gather_collided}
@@ -251,8 +251,8 @@ ticked_tell w n left js es sums tied matched settled t =
     let alike : AreAlike w.bodies (timed_bodies n left) = alike_then w.bodies left (timed_bodies n left) t.alike (timed_alike n left) in
     let now : JointSlots = slots_of w.joint_places js in
     let long : length w.joint_places ≡ length js = matched.slots ∙ sym (length-ends w.joints) ∙ sym (ap (λ (l : List (Option (ℕ × ℕ))). length l) t.ends) ∙ length-ends js in
-    let ties : ties_of (timed_bodies n left) now es ≡ ties_of w.bodies (joints_of w) w.contacts =
-    alike_bodies_keep_ties w.bodies (timed_bodies n left) now es alike ∙ impulses_keep_ties w.bodies (joints_of w) now es refl t.ends ∙ same_touching_keep_ties w.bodies (joints_of w) w.contacts es t.touching in
+    let ties : ties_of (timed_bodies n left) now es ≡ ties_of w.bodies (joints_in_slots w) w.contacts =
+    alike_bodies_keep_ties w.bodies (timed_bodies n left) now es alike ∙ impulses_keep_ties w.bodies (joints_in_slots w) now es refl t.ends ∙ same_touching_keep_ties w.bodies (joints_in_slots w) w.contacts es t.touching in
     tell_moving (timed_bodies n left) now es (acting_of w) (tied_alike w.bodies (timed_bodies n left) w.islands alike tied) long settled (sym ties)
 
 solved_tell : (w : World) (n : ℕ) → (k : IsKept w) → (rises : AreKeysRising (collided_in w).now) → IsTicked (collided_world w).plain (renewed_bodies (bodies_of (solved_in w n))) (solved_in w n).joints (solved_in w n).contacts (solved_in w n).sums

@@ -26,7 +26,7 @@ use Rattle.plain_world.specs.Bodies.{AreBodies, is_mover}
 use Rattle.plain_world.specs.Sleep.{roused, told, told_body, told_by}
 use Rattle.plain_world.specs.Slots.{body_at}
 use Rattle.sleep_wake.specs.Acting.{Acting, IsSettled}
-use Rattle.sleep_wake.specs.Changes.{begun, changed, ended, parted, turned, united}
+use Rattle.sleep_wake.specs.Changes.{begun, after_change, ended, parted, turned, united}
 use Rattle.sleep_wake.specs.SleepPhase.{all_put_to_rest, edges_of, is_island, picked_to_split, ready, sleep_phase, split_at, split_picked}
 use Rattle.sleep_wake.specs.Sleeping.{islands_woken, rested_at, rested_by, slept_at, slept_by, split_if_loose}
 use Rattle.sleep_wake.specs.Waking.{movers_woken, put_to_rest, second_woken, set_woken, woken_at, woken_by}
@@ -352,7 +352,7 @@ unfolding loosened
 parted_slept labels first None = λ t n e. refl
 parted_slept labels first (Some second) = loosened_slept labels (label_at labels first)
 
-pub changed_slept : (c : Change Constraint) (s : Acting Constraint) → HaveSlept s.labels (changed constraint_number c s).labels
+pub changed_slept : (c : Change Constraint) (s : Acting Constraint) → HaveSlept s.labels (after_change constraint_number c s).labels
 unfolding begun ended
 changed_slept (Begin m) s =
     let now : Acting Constraint = movers_woken constraint_number m.movers s in
@@ -364,7 +364,7 @@ changed_slept (End m) s =
 pub turned_slept : (changes : List (Change Constraint)) (s : Acting Constraint) → HaveSlept s.labels (turned constraint_number changes s).labels
 turned_slept [] s = λ t n e. refl
 turned_slept (c ∷ changes) s =
-    let now : Acting Constraint = changed constraint_number c s in
+    let now : Acting Constraint = after_change constraint_number c s in
     slept_then s.labels now.labels (turned constraint_number changes now).labels (changed_slept c s) (turned_slept changes now)
 
 is_below : (bodies : List (Option Body)) (slot : ℕ) (b : Body) → body_at bodies slot ≡ Some b → slot < length bodies

@@ -32,12 +32,12 @@ use Rattle.sleep_wake.specs.Acting.{Acting, acting}
 use Rattle.graph_colours.specs.declared.limits.TheConstants.{COLOURS}
 use Rattle.solver_sets.specs.Ties as ties
 use Rattle.world_rules.proofs.KeptEmpty.{empty_kept}
-use Rattle.sleep_wake.specs.Sleeping.{islands_woken, names_of, slept_at}
+use Rattle.sleep_wake.specs.Sleeping.{islands_woken, sleeping_names, slept_at}
 use Rattle.solver_sets.specs.Beside.{stirred_by}
 use Rattle.world_rules.specs.declared.command.Reply.TheVariants as replies
 use Rattle.world_rules.specs.Apply.{Answers, apply_sleep, mover_refusal, body_changed, booked, counted, empty_world, gained, posed, pushed, rest_entries, steered}
-use Rattle.world_rules.specs.Sets.{acting_of, stirred, with_acting, woken}
-use Rattle.world_rules.specs.World.{World, body_of}
+use Rattle.world_rules.specs.Sets.{acting_of, stirred, with_acting, with_woken}
+use Rattle.world_rules.specs.World.{World, body_named}
 use Rattle.world_rules.proofs.ActingLaws.{IsActed, acted, waking_kept}
 use Rattle.world_rules.proofs.KeptChanges.{can_pose, counted_acting, gravity_acting, gravity_kept, pose_acting, pose_kept, push_acting, push_kept, velocity_acting, velocity_kept, wake_kept}
 use Rattle.world_rules.proofs.KeptSleep.{sleep_kept, slept_acting}
@@ -75,16 +75,16 @@ named live bodies slot b all e = all slot b (body_at-in bodies slot b (found_at 
 
 -- what acts, and the bodies, once some islands were woken
 pub record HasWoken (w : World) (slots : List ℕ) (now : Acting Constraint) (there : List (Option Body)) : Type 0 where
-  pub is : now ≡ islands_woken constraint_number (names_of w.plain.islands slots) (acting_of w.plain)
-  pub acting : now ≡ acting_of (woken w.plain slots)
-  pub bodies : there ≡ (woken w.plain slots).bodies
+  pub is : now ≡ islands_woken constraint_number (sleeping_names w.plain.islands slots) (acting_of w.plain)
+  pub acting : now ≡ acting_of (with_woken w.plain slots)
+  pub bodies : there ≡ (with_woken w.plain slots).bodies
 
-pub has_woken : (w : World) (slots names : List ℕ) (acting now : Acting Constraint) (bodies : List (Option Body)) → IsWhole w acting → names ≡ names_of acting.labels slots
+pub has_woken : (w : World) (slots names : List ℕ) (acting now : Acting Constraint) (bodies : List (Option Body)) → IsWhole w acting → names ≡ sleeping_names acting.labels slots
     → now ≡ islands_woken constraint_number names acting → bodies ≡ told now.labels w.plain.bodies → HasWoken w slots now bodies
 has_woken w slots names acting now bodies is named woke tell =
-    let same : names ≡ names_of w.plain.islands slots = named ∙ ap (λ (ls : Labels). names_of ls slots) (ap (λ (s : Acting Constraint). s.labels) is.same ∙ labels_of w.plain) in
-    let all : now ≡ islands_woken constraint_number (names_of w.plain.islands slots) (acting_of w.plain) =
-    woke ∙ ap (λ (ns : List ℕ). islands_woken constraint_number ns acting) same ∙ ap (λ (s : Acting Constraint). islands_woken constraint_number (names_of w.plain.islands slots) s) is.same in
+    let same : names ≡ sleeping_names w.plain.islands slots = named ∙ ap (λ (ls : Labels). sleeping_names ls slots) (ap (λ (s : Acting Constraint). s.labels) is.same ∙ labels_of w.plain) in
+    let all : now ≡ islands_woken constraint_number (sleeping_names w.plain.islands slots) (acting_of w.plain) =
+    woke ∙ ap (λ (ns : List ℕ). islands_woken constraint_number ns acting) same ∙ ap (λ (s : Acting Constraint). islands_woken constraint_number (sleeping_names w.plain.islands slots) s) is.same in
     record {
       is = all;
       acting = all ∙ sym (waking_kept w slots (whole_kept w acting is)).acting;
@@ -104,16 +104,16 @@ kinematic_told label (Some b) h x e =
 
 pub course_fits : (w : World) (slot : ℕ) (acting : Acting Constraint) → IsWhole w acting → ForSome (body_at w.plain.bodies slot) (λ (b : Body). is_kinematic b.kind ≡ true) → ForSome (body_at (stirred w.plain slot).bodies slot) (λ (b : Body). is_kinematic b.kind ≡ true)
 course_fits w slot acting is h =
-    let labels : Labels = (islands_woken constraint_number (names_of w.plain.islands (stirred_by w.plain.bodies w.plain.joints w.plain.contacts slot)) (acting_of w.plain)).labels in
+    let labels : Labels = (islands_woken constraint_number (sleeping_names w.plain.islands (stirred_by w.plain.bodies w.plain.joints w.plain.contacts slot)) (acting_of w.plain)).labels in
     subst (λ (o : Option Body). ForSome o (λ (b : Body). is_kinematic b.kind ≡ true)) (sym (body_told labels w.plain.bodies slot)) (kinematic_told (label_at labels slot) (body_at w.plain.bodies slot) h)
 
 -- the world's lists with these
 abbrev pub lists_with : Plain → Acting Constraint → List (Option Body) → Plain
 lists_with w now bodies = record w { bodies = bodies; islands = now.labels; colours = ids_of now.lists }
 
-pub woken_lists : (w : World) (slots : List ℕ) (now : Acting Constraint) (bodies : List (Option Body)) → HasWoken w slots now bodies → lists_with w.plain now bodies ≡ woken w.plain slots
+pub woken_lists : (w : World) (slots : List ℕ) (now : Acting Constraint) (bodies : List (Option Body)) → HasWoken w slots now bodies → lists_with w.plain now bodies ≡ with_woken w.plain slots
 woken_lists w slots now bodies h =
-    ap (λ (bs : List (Option Body)). lists_with w.plain now bs) h.bodies ∙ ap (λ (s : Acting Constraint). lists_with w.plain s (woken w.plain slots).bodies) h.is
+    ap (λ (bs : List (Option Body)). lists_with w.plain now bs) h.bodies ∙ ap (λ (s : Acting Constraint). lists_with w.plain s (with_woken w.plain slots).bodies) h.is
 
 -- ---- commands
 
@@ -121,13 +121,13 @@ pub wake_whole : (w : World) (slot : ℕ) (acting now : Acting Constraint) (bodi
     → IsWhole (record w { plain = counted (lists_with w.plain now bodies) }) now
 wake_whole w slot acting now bodies is few h =
     subst (λ (p : Plain). IsWhole (record w { plain = counted p }) now) (sym (woken_lists w (slot ∷ []) now bodies h))
-    (whole (record w { plain = counted (woken w.plain (slot ∷ [])) }) now (wake_kept w slot (whole_kept w acting is) few) (h.acting ∙ sym (counted_acting (woken w.plain (slot ∷ [])))))
+    (whole (record w { plain = counted (with_woken w.plain (slot ∷ [])) }) now (wake_kept w slot (whole_kept w acting is) few) (h.acting ∙ sym (counted_acting (with_woken w.plain (slot ∷ [])))))
 
 pub gravity_whole : (w : World) (g : Vec2) (acting : Acting Constraint) → IsWhole w acting → w.plain.calls < 2 ^ 40 → IsWithin (2 ^ 16) g → IsWhole (record w { plain = counted (record w.plain { gravity = g }) }) acting
 gravity_whole w g acting is few small = whole (record w { plain = counted (record w.plain { gravity = g }) }) acting (gravity_kept w g (whole_kept w acting is) few small) (is.same ∙ sym (gravity_acting w.plain g))
 
 pub push_whole : (w : World) (h : Handle) (j r : Vec2) (m : Momenta) (acting now : Acting Constraint) (bodies : List (Option Body)) → IsWhole w acting → w.plain.calls < 2 ^ 40 → HasWoken w (h.slot ∷ []) now bodies
-    → pushed (body_of w.plain h) j r ≡ Ok m → IsWhole (record w { plain = counted (body_changed (put_momenta m) h.slot (lists_with w.plain now bodies)); entries = w.entries ++ booked (w.plain.calls + 1) causes.Command j.x j.y }) now
+    → pushed (body_named w.plain h) j r ≡ Ok m → IsWhole (record w { plain = counted (body_changed (put_momenta m) h.slot (lists_with w.plain now bodies)); entries = w.entries ++ booked (w.plain.calls + 1) causes.Command j.x j.y }) now
 push_whole w h j r m acting now bodies is few woke due =
     let k = whole_kept w acting is in
     subst (λ (p : Plain). IsWhole (record w { plain = counted (body_changed (put_momenta m) h.slot p); entries = w.entries ++ booked (w.plain.calls + 1) causes.Command j.x j.y }) now) (sym (woken_lists w (h.slot ∷ []) now bodies woke))
@@ -139,12 +139,12 @@ changed_whole w h f acting now bodies is woke may =
     subst (λ (p : Plain). IsWhole (record w { plain = counted (body_changed f h.slot p) }) now) (sym (woken_lists w (stirred_by w.plain.bodies w.plain.joints w.plain.contacts h.slot) now bodies woke))
     (record { sound = may.sound; same = woke.acting ∙ sym may.acting })
 
-pub may_pose : (w : World) (h : Handle) (asked given : Pose) (acting : Acting Constraint) → IsWhole w acting → w.plain.calls < 2 ^ 40 → posed (body_of w.plain h) asked ≡ Ok given → IsPose given → MayChange w h (put_pose given)
+pub may_pose : (w : World) (h : Handle) (asked given : Pose) (acting : Acting Constraint) → IsWhole w acting → w.plain.calls < 2 ^ 40 → posed (body_named w.plain h) asked ≡ Ok given → IsPose given → MayChange w h (put_pose given)
 may_pose w h asked given acting is few due pose =
     let k = whole_kept w acting is in
     record { sound = sound_kept _ (pose_kept w h asked given k few due pose); acting = pose_acting w h asked given k due pose }
 
-pub may_steer : (w : World) (h : Handle) (asked given : Course) (acting : Acting Constraint) → IsWhole w acting → w.plain.calls < 2 ^ 40 → steered (body_of w.plain h) asked ≡ Ok given → MayChange w h (put_course given)
+pub may_steer : (w : World) (h : Handle) (asked given : Course) (acting : Acting Constraint) → IsWhole w acting → w.plain.calls < 2 ^ 40 → steered (body_named w.plain h) asked ≡ Ok given → MayChange w h (put_course given)
 may_steer w h asked given acting is few due =
     let k = whole_kept w acting is in
     record { sound = sound_kept _ (velocity_kept w h asked given k few due); acting = velocity_acting w h asked given k due }
@@ -186,7 +186,7 @@ rest_booked call labels bodies new gain tell by =
 -- ---- what is answered
 
 -- an island put to rest is what was due
-pub sleep_answers : (w : World) (h : Handle) (acting now : Acting Constraint) (bodies : List (Option Body)) → IsWhole w acting → None ≡ mover_refusal (body_of w.plain h) → now ≡ slept_at constraint_number h.slot acting → bodies ≡ told now.labels w.plain.bodies
+pub sleep_answers : (w : World) (h : Handle) (acting now : Acting Constraint) (bodies : List (Option Body)) → IsWhole w acting → None ≡ mover_refusal (body_named w.plain h) → now ≡ slept_at constraint_number h.slot acting → bodies ≡ told now.labels w.plain.bodies
     → Answers (apply_sleep w.plain h) w (Ok replies.Done) (record w { plain = counted (lists_with w.plain now bodies); entries = w.entries ++ rest_entries (w.plain.calls + 1) now.labels w.plain.bodies })
 sleep_answers w h acting now bodies is due slept tell =
     let s : Acting Constraint = slept_at constraint_number h.slot (acting_of w.plain) in

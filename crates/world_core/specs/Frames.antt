@@ -87,5 +87,5 @@ pub record AreFrameBodies (bodies : List (Option FrameBody)) : Type 0 where
 -- ---- settling
 
 -- the ledger's entries are added to the settled sums, and nothing else changes
-abbrev pub settled_world : World → World
-settled_world w = record w { entries = []; settled = totals_of (book_of w) }
+abbrev pub with_ledger_settled : World → World
+with_ledger_settled w = record w { entries = []; settled = totals_of (book_of w) }

@@ -2,7 +2,7 @@
 use Rattle.std.specs.Prelude.{ℕ, ◌+◌, ◌*◌, ◌^◌}
 use Rattle.fixed_geom.specs.declared.vectors.Vec2.{Vec2}
 use Rattle.world_file.specs.Laws.{HasSmallTotals}
-use Rattle.world_core.specs.Frames.{settled_world}
+use Rattle.world_core.specs.Frames.{with_ledger_settled}
 use Rattle.world_rules.specs.Apply.{empty_world}
 use Rattle.world_rules.specs.Replay.{after}
 use Rattle.world_rules.specs.Sound.{AreSmall, IsSound}
@@ -20,7 +20,7 @@ EachCallBooksLittle = (w : World) (c : Command) → IsSound w → IsSound (after
 
 -- And where the ledger is settled.
 abbrev pub SettlingBooksNothing : Type 0
-SettlingBooksNothing = (w : World) → GrowsByCalls w (settled_world w)
+SettlingBooksNothing = (w : World) → GrowsByCalls w (with_ledger_settled w)
 
 -- A sound world that has grown so from a new one has totals within 2^126, so that it can be saved and read again.
 abbrev pub GrownWorldsHaveSmallTotals : Type 0

@@ -4,7 +4,7 @@ ghost use Rattle.std.specs.Prelude.{◌≡◌, ◌<◌, ◌^◌, cond, filter, f
 ghost use Rattle.contacts.specs.Constraints.{constraint_number};
 ghost use Rattle.graph_colours.specs.Movers.{has_mover};
 ghost use Rattle.islands.specs.Labels.{label_at};
-ghost use Rattle.sleep_wake.specs.Acting.{is_awake};
+ghost use Rattle.sleep_wake.specs.Acting.{is_mover_awake};
 ghost use Rattle.sleep_wake.specs.Bodies.{mover_gone, mover_made};
 ghost use Rattle.sleep_wake.specs.Changes.{each_ended};
 ghost use Rattle.sleep_wake.specs.ChangeLists.{CanEnd};
@@ -34,7 +34,7 @@ pub(crate) fn leave(
     ties: &[Member<Constraint>],
 )
     requires can { CanEnd constraint_number ties.now sets.old.acting }
-    requires awake { mover ≡ true → is_awake (each_ended constraint_number ties.now sets.old.acting).labels slot ≡ true }
+    requires awake { mover ≡ true → is_mover_awake (each_ended constraint_number ties.now sets.old.acting).labels slot ≡ true }
     requires alone { mover ≡ true → filter (λ m. has_mover m.movers slot) (each_ended constraint_number ties.now sets.old.acting).ties ≡ [] }
     ensures acting { sets.new.acting ≡ cond mover (mover_gone constraint_number slot (each_ended constraint_number ties.now sets.old.acting)) (each_ended constraint_number ties.now sets.old.acting) }
     ensures room { sets.new.room ≡ sets.old.room }

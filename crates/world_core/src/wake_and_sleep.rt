@@ -9,8 +9,8 @@ ghost use Rattle.colour_solver.specs.States.{as_vector};
 ghost use Rattle.plain_world.specs.Bodies.{AreBodies};
 ghost use Rattle.plain_world.specs.Momentum.{momentum};
 ghost use Rattle.plain_world.specs.Sleep.{told};
-ghost use Rattle.sleep_wake.specs.Acting.{IsSettled, is_awake};
-ghost use Rattle.sleep_wake.specs.Sleeping.{islands_woken, names_of, slept_at};
+ghost use Rattle.sleep_wake.specs.Acting.{IsSettled, is_mover_awake};
+ghost use Rattle.sleep_wake.specs.Sleeping.{islands_woken, sleeping_names, slept_at};
 ghost use Rattle.world_core.specs.Waking.{HasIsland, HasIslands, IsExtended};
 ghost use Rattle.world_core_base.specs.Marked.{AreMarked};
 
@@ -67,7 +67,7 @@ pub(crate) fn plan_rest(
     sets: &Sets<Constraint>,
     slot: u32,
 ) -> Result<Vec<u32>, Refusal>
-    ensures island { IfOk result (λ movers. is_awake sets.now.acting.labels slot ≡ true → HasIsland sets.now.acting.labels movers.items slot) }
+    ensures island { IfOk result (λ movers. is_mover_awake sets.now.acting.labels slot ≡ true → HasIsland sets.now.acting.labels movers.items slot) }
     ensures memory_only { IsOkUnless result Refusal.NoMemory }
 {
     let mut movers = Vec::new(alloc);
@@ -83,7 +83,7 @@ pub(crate) fn plan_waking(
     sets: &Sets<Constraint>,
     slots: &[u32],
 ) -> Result<Waking, Refusal>
-    ensures names { IfOk result (λ waking. waking.names.items ≡ names_of sets.now.acting.labels slots.now) }
+    ensures names { IfOk result (λ waking. waking.names.items ≡ sleeping_names sets.now.acting.labels slots.now) }
     ensures movers { IfOk result (λ waking. HasIslands sets.now.acting.labels waking.names.items waking.movers.items) }
     ensures memory_only { IsOkUnless result Refusal.NoMemory }
 {
@@ -121,7 +121,7 @@ pub(crate) fn put_to_sleep(
     slot: u32,
     movers: &[u32],
 ) -> Gain
-    requires movers { is_awake sets.old.acting.labels slot ≡ true → HasIsland sets.old.acting.labels movers.now slot }
+    requires movers { is_mover_awake sets.old.acting.labels slot ≡ true → HasIsland sets.old.acting.labels movers.now slot }
     requires settled { IsSettled constraint_number sets.old.acting }
     requires few { length bodies.old.bodies ≤ MAX_SLOTS }
     requires bodies { AreBodies bodies.old.bodies }

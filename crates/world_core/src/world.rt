@@ -15,8 +15,8 @@ ghost use Rattle.plain_world.specs.Plain.{colour_of};
 ghost use Rattle.impulse_ledger.specs.Sums.{HaveSameTotals};
 ghost use Rattle.world_core_base.specs.Covers.{AreCovered};
 ghost use Rattle.world_core_base.specs.Solving.{solve_order};
-ghost use Rattle.world_rules.specs.World.{body_of, book_of, joints_of};
-ghost use Rattle.world_core.specs.Frames.{frame_of, settled_world};
+ghost use Rattle.world_rules.specs.World.{body_named, book_of, joints_in_slots};
+ghost use Rattle.world_core.specs.Frames.{frame_of, with_ledger_settled};
 ghost use Rattle.world_core.specs.Trees.{HoldsEnabled};
 ghost use Rattle.world_rules.specs.Sound.{IsSound};
 ghost use Rattle.world_rules.specs.Apply.{Answers, IsMade, empty_world, gravity_refusal, apply};
@@ -196,7 +196,7 @@ impl WorldCore {
 
     /// What can be seen of a body; `None` where the handle names none that lives.
     pub fn body(&self, handle: Handle) -> Option<BodyView>
-        ensures { result ≡ option_map view_of (body_of self.now.plain handle) }
+        ensures { result ≡ option_map view_of (body_named self.now.plain handle) }
     {
         match body_of(&self.handles, self.bodies.bodies(), handle) {
             Some(body) => Some(body.view()),
@@ -316,9 +316,9 @@ impl WorldCore {
     /// stands, and nothing else is. There is a sleeping set for each name under which a body sleeps. Refused 1 where memory is
     /// wanting.
     pub fn census(&self) -> Result<Census, Refusal>
-        ensures value { IfOk result (λ census. census ≡ census_of self.now.plain.places self.now.plain.bodies (joints_of self.now.plain) self.now.plain.contacts) }
-        ensures census { IfOk result (λ census. IsCensus (standings_of self.now.plain.places self.now.plain.bodies (joints_of self.now.plain) self.now.plain.contacts) census) }
-        ensures each_once { IfOk result (λ census. ListsEachOnce self.now.plain.places self.now.plain.bodies (joints_of self.now.plain) self.now.plain.contacts census) }
+        ensures value { IfOk result (λ census. census ≡ census_of self.now.plain.places self.now.plain.bodies (joints_in_slots self.now.plain) self.now.plain.contacts) }
+        ensures census { IfOk result (λ census. IsCensus (standings_of self.now.plain.places self.now.plain.bodies (joints_in_slots self.now.plain) self.now.plain.contacts) census) }
+        ensures each_once { IfOk result (λ census. ListsEachOnce self.now.plain.places self.now.plain.bodies (joints_in_slots self.now.plain) self.now.plain.contacts census) }
         ensures memory_only { IsOkUnless result Refusal.NoMemory }
     {
         if let Some(contacts) = self.contacts.as_one() {
@@ -331,9 +331,9 @@ impl WorldCore {
     /// The census, with the contacts as a list. Refused 1 where memory is wanting.
     fn census_with(&self, contacts: &[ContactEntry]) -> Result<Census, Refusal>
         requires { contacts.now ≡ self.now.plain.contacts }
-        ensures value { IfOk result (λ census. census ≡ census_of self.now.plain.places self.now.plain.bodies (joints_of self.now.plain) self.now.plain.contacts) }
-        ensures census { IfOk result (λ census. IsCensus (standings_of self.now.plain.places self.now.plain.bodies (joints_of self.now.plain) self.now.plain.contacts) census) }
-        ensures each_once { IfOk result (λ census. ListsEachOnce self.now.plain.places self.now.plain.bodies (joints_of self.now.plain) self.now.plain.contacts census) }
+        ensures value { IfOk result (λ census. census ≡ census_of self.now.plain.places self.now.plain.bodies (joints_in_slots self.now.plain) self.now.plain.contacts) }
+        ensures census { IfOk result (λ census. IsCensus (standings_of self.now.plain.places self.now.plain.bodies (joints_in_slots self.now.plain) self.now.plain.contacts) census) }
+        ensures each_once { IfOk result (λ census. ListsEachOnce self.now.plain.places self.now.plain.bodies (joints_in_slots self.now.plain) self.now.plain.contacts census) }
         ensures memory_only { IsOkUnless result Refusal.NoMemory }
     {
         take_census(
@@ -361,7 +361,7 @@ impl WorldCore {
     /// Drops the entries of the ledger, which are added to the settled sums. The plain world, the events and each total stay,
     /// and no memory is taken.
     pub fn settle_ledger(&mut self)
-        ensures settled { self.new ≡ settled_world self.old }
+        ensures settled { self.new ≡ with_ledger_settled self.old }
         ensures totals { HaveSameTotals (book_of self.new) (book_of self.old) }
     {
         self.ledger.settle();

@@ -185,7 +185,7 @@ at_rest : (b : Body) → is_awake b ≡ false → IsBody b → b.motion.p ≡ ze
 at_rest b e is = same_vector b.motion.p zero_vector (is.rest e).x (is.rest e).y
 
 shown : (a : Bool) (b : Body) → is_awake b ≡ a → IsBody b → cond a (cond a b.motion (carried_motion b)).p zero_vector ≡ momentum_in (Some b)
-shown true b e is = sym (let moves : is_mover b ≡ true = awake_moves (is_mover b) (is_none b.asleep) e in λ j. cond (moves j) b.motion.p zero_vector)
+shown true b e is = sym (let moving : is_mover b ≡ true = awake_moves (is_mover b) (is_none b.asleep) e in λ j. cond (moving j) b.motion.p zero_vector)
 shown false b e is = sym (no_part (is_mover b) b.motion.p (at_rest b e is))
 
 momentum-shown : (o : Option Body) → ((b : Body) → o ≡ Some b → IsBody b) → step.momentum_of (state_of o) ≡ momentum_in o
@@ -386,7 +386,7 @@ slots-moved bodies states = record { slots = length-moved bodies states; taken =
 -- ---- the momentum is that of the states
 
 momentum_if : (m c : Bool) (b : Body) (s : BodyState) → is_awake b ≡ m → IsBody b → s.movable ≡ m → momentum_in (Some (cond m (record b { motion = s.motion }) (cond c (carried_to s.motion b) b))) ≡ step.momentum_of s
-momentum_if true c b s e is f = let moves : is_mover b ≡ true = awake_moves (is_mover b) (is_none b.asleep) e in rw (moves, f) refl
+momentum_if true c b s e is f = let moving : is_mover b ≡ true = awake_moves (is_mover b) (is_none b.asleep) e in rw (moving, f) refl
 momentum_if false true b s e is f = rw (none_either b.enabled, f) refl
 momentum_if false false b s e is f = rw f (no_part (is_mover b) b.motion.p (at_rest b e is))
 

@@ -6,7 +6,7 @@ use Rattle.std.proofs.lemmas.List.Elements.{All-head, All-tail, All-weaker}
 use Rattle.std.specs.List.Sorted.{IsStrictlyIncreasing}
 use Rattle.std.proofs.lemmas.Option.{none-some, same_Some, slice_get-map}
 use Rattle.fixed_geom.specs.declared.vectors.Vec2.{Vec2}
-use Rattle.momenta.specs.Motions.{clamped}
+use Rattle.momenta.specs.Motions.{speed_clamped}
 use Rattle.momenta.specs.declared.state.BodyState.{BodyState}
 use Rattle.momenta.specs.declared.state.Ends.{Ends}
 use Rattle.body_handles.specs.declared.handle.Handle.{Handle}
@@ -30,7 +30,7 @@ use Rattle.plain_world.specs.Joints.{joint_at}
 use Rattle.colour_solver.specs.ConstraintTurns.{contacts_among, joints_among}
 use Rattle.world_core_base.specs.ConstraintRows.{constraint_row, joint_row_in, joint_row_of, with_joint_rows}
 use Rattle.world_core_base.specs.Gather.{row_of, states_of, with_motions, with_rows}
-use Rattle.world_core_base.specs.Solving.{Moving, Solving, Turns, begin, bounce, clamp, ends_now, ends_then, left, moving_at, pass, pull, solve, solve_order, solved, tick, ticks, turn, turn_between, turn_joined, turn_joint, warm, with_contact}
+use Rattle.world_core_base.specs.Solving.{Moving, Solving, Turns, begin, bounce, clamp, ends_now, ends_then, left, moving_at, pass, pull, solve, solve_order, solved, tick, ticks, row_turn, turn_between, turn_joined, turn_joint, warm, with_contact}
 use Rattle.world_core_base.specs.SolvingArrays.{ArraysAreSolving, IsRunOf}
 use Rattle.world_core_base.proofs.SolvingBack.{IsOther, IsSameBeside, bare, bare_contact, bare_point, rows_back}
 use Rattle.world_core_base.proofs.SolvingContacts.{put_else}
@@ -95,7 +95,7 @@ impulsed_more : (id : Constraint) (order : List Constraint) (es fs : List Contac
 impulsed_more id order es fs h = record { barely = h.barely; others = λ j e at all. h.others j e at (All-tail (IsOther e) id order all) }
 
 -- what a turn leaves of the contacts, of these constraints and one more
-turn_impulsed : (f : Turns) (s : Solving) (id : Constraint) (order : List Constraint) → IsTurnBare f → IsImpulsed (id ∷ order) s.contacts (turn f s id).contacts
+turn_impulsed : (f : Turns) (s : Solving) (id : Constraint) (order : List Constraint) → IsTurnBare f → IsImpulsed (id ∷ order) s.contacts (row_turn f s id).contacts
 turn_impulsed f s (constraints.Joint h) order law = by (joint_at s.joints h.slot)
   where
     between : (j : BodyJoint) (a b : Option Moving) → IsImpulsed (constraints.Joint h ∷ order) s.contacts (turn_joined f s h.slot j a b).contacts
@@ -122,11 +122,11 @@ turn_impulsed f s (constraints.Contact key) order law = by (lookup s.contacts ke
 pass_impulsed : (f : Turns) (order : List Constraint) (s : Solving) → IsTurnBare f → IsImpulsed order s.contacts (pass f order s).contacts
 pass_impulsed f [] s law = unimpulsed [] s.contacts
 pass_impulsed f (id ∷ order) s law =
-    impulsed_then (id ∷ order) s.contacts (turn f s id).contacts (pass f order (turn f s id)).contacts (turn_impulsed f s id order law) (impulsed_more id order (turn f s id).contacts (pass f order (turn f s id)).contacts (pass_impulsed f order (turn f s id) law))
+    impulsed_then (id ∷ order) s.contacts (row_turn f s id).contacts (pass f order (row_turn f s id)).contacts (turn_impulsed f s id order law) (impulsed_more id order (row_turn f s id).contacts (pass f order (row_turn f s id)).contacts (pass_impulsed f order (row_turn f s id) law))
 
 tick_impulsed : (g : Vec2) (order : List Constraint) (s : Solving) → IsImpulsed order s.contacts (tick g order s).contacts
 tick_impulsed g order s =
-    let before : Solving = clamp clamped (pull g s) in
+    let before : Solving = clamp speed_clamped (pull g s) in
     impulsed_then order s.contacts (pass warm order before).contacts (pass solve order (pass warm order before)).contacts (pass_impulsed warm order before warm_bare) (pass_impulsed solve order (pass warm order before) solve_bare)
 
 ticks_impulsed : (n : ℕ) (g : Vec2) (order : List Constraint) (s : Solving) → IsImpulsed order s.contacts (ticks n g order s).contacts
@@ -142,7 +142,7 @@ solved_impulsed n g order bodies joints contacts =
 -- ---- joints that have other impulses, of these constraints alone
 
 -- what a turn leaves of the joints, of these constraints and one more
-turn_joints : (f : Turns) (s : Solving) (id : Constraint) (order : List Constraint) → IsJointTurnBare f → AreImpulsed (id ∷ order) s.joints (turn f s id).joints
+turn_joints : (f : Turns) (s : Solving) (id : Constraint) (order : List Constraint) → IsJointTurnBare f → AreImpulsed (id ∷ order) s.joints (row_turn f s id).joints
 turn_joints f s (constraints.Contact key) order law = by (lookup s.contacts key) (moving_at s.bodies key.first.slot) (moving_at s.bodies key.second.slot)
   where
     by : (o : Option ContactEntry) (a b : Option Moving) → AreImpulsed (constraints.Contact key ∷ order) s.joints (turn_between f s key o a b).joints
@@ -165,11 +165,11 @@ turn_joints f s (constraints.Joint h) order law = by (joint_at s.joints h.slot) 
 pass_joints : (f : Turns) (order : List Constraint) (s : Solving) → IsJointTurnBare f → AreImpulsed order s.joints (pass f order s).joints
 pass_joints f [] s law = none_impulsed [] s.joints
 pass_joints f (id ∷ order) s law =
-    joints_then (id ∷ order) s.joints (turn f s id).joints (pass f order (turn f s id)).joints (turn_joints f s id order law) (joints_more id order (turn f s id).joints (pass f order (turn f s id)).joints (pass_joints f order (turn f s id) law))
+    joints_then (id ∷ order) s.joints (row_turn f s id).joints (pass f order (row_turn f s id)).joints (turn_joints f s id order law) (joints_more id order (row_turn f s id).joints (pass f order (row_turn f s id)).joints (pass_joints f order (row_turn f s id) law))
 
 tick_joints : (g : Vec2) (order : List Constraint) (s : Solving) → AreImpulsed order s.joints (tick g order s).joints
 tick_joints g order s =
-    let before : Solving = clamp clamped (pull g s) in
+    let before : Solving = clamp speed_clamped (pull g s) in
     joints_then order s.joints (pass warm order before).joints (pass solve order (pass warm order before)).joints (pass_joints warm order before (λ j begun now. refl)) (pass_joints solve order (pass warm order before) (λ j begun now. refl))
 
 ticks_joints : (n : ℕ) (g : Vec2) (order : List Constraint) (s : Solving) → AreImpulsed order s.joints (ticks n g order s).joints

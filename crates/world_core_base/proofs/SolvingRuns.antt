@@ -5,7 +5,7 @@ use Rattle.std.specs.List.{filter_map, flat_map, cons_option}
 use Rattle.std.proofs.lemmas.List.Elements.{filter_map-append}
 use Rattle.fixed_geom.specs.Vectors.{plus}
 use Rattle.fixed_geom.specs.declared.vectors.Vec2.{Vec2}
-use Rattle.momenta.specs.Motions.{pulled, clamped, advanced}
+use Rattle.momenta.specs.Motions.{pulled, speed_clamped, advanced}
 use Rattle.momenta.specs.Reciprocals.{reciprocals_of}
 use Rattle.momenta.specs.declared.mass.MassData.{MassData}
 use Rattle.momenta.specs.declared.motion.Motion.{Motion}
@@ -29,7 +29,7 @@ use Rattle.joint_rows.specs.declared.joint.Joint.{Joint}
 use Rattle.joint_rows.specs.declared.limits.TheConstants.{MAX_JOINT_IMPULSE}
 use Rattle.joint_rows.specs.declared.row.JointRow.{JointRow}
 use Rattle.joint_rows.specs.declared.solve.JointAfter.{JointAfter}
-use Rattle.joint_rows.specs.Joints.{bias_of, direction_along, joint_gap, joint_line, joint_stretch, parted_along}
+use Rattle.joint_rows.specs.Joints.{joint_bias, direction_along, joint_gap, joint_line, joint_stretch, parted_along}
 use Rattle.joint_rows.specs.Rows.{joint_solved, joint_warmed}
 use Rattle.joint_rows.proofs.JointRows.{rows_are_joints}
 use Rattle.colour_solver.specs.declared.constraint_row.ConstraintRow.{ConstraintRow}
@@ -48,7 +48,7 @@ use Rattle.plain_world.specs.Bodies.{is_awake, is_carried}
 use Rattle.world_core_base.specs.Carried.{solver_mass}
 use Rattle.world_core_base.specs.ConstraintRows.{constraint_row, rows_in, rows_of}
 use Rattle.world_core_base.specs.Gather.{bodies_of, state_of, states_of}
-use Rattle.world_core_base.specs.Solving.{Moving, Solving, Turns, all_changed, along, begin, bounce, carry, changed, clamp, gain, gain_of, gained, moving, moving_at, pass, pull, solve, solve_order, solved, state_with, tick, ticks, turn, turn_between, turn_joined, turn_joint, warm}
+use Rattle.world_core_base.specs.Solving.{Moving, Solving, Turns, all_changed, carried_on, begin, bounce, carry, motion_changed, clamp, gain, gain_of, gain_between, moving, moving_at, pass, pull, solve, solve_order, solved, state_with, tick, ticks, row_turn, turn_between, turn_joined, turn_joint, warm}
 use Rattle.world_core_base.specs.SolvingArrays.{CanSolve, HasEnds}
 use Rattle.world_core_base.proofs.GatherLaws.{carried_state, mass_carried}
 use Rattle.world_core_base.proofs.SolvingJoints.{all_ends_as, bare_joints}
@@ -82,7 +82,7 @@ record AreBookedAlike (s t : Solving) : Type 0 where
   gravity : t.sums.gravity ≡ s.sums.gravity
   clamp : t.sums.clamp ≡ s.sums.clamp
 
-booked_turn : (f : Turns) (s : Solving) (id : Constraint) → AreBookedAlike s (turn f s id)
+booked_turn : (f : Turns) (s : Solving) (id : Constraint) → AreBookedAlike s (row_turn f s id)
 booked_turn f s (constraints.Joint h) = by (joint_at s.joints h.slot)
   where
     between : (j : BodyJoint) (a b : Option Moving) → AreBookedAlike s (turn_joined f s h.slot j a b)
@@ -104,13 +104,13 @@ booked_turn f s (constraints.Contact key) = by (lookup s.contacts key) (moving_a
 booked_pass : (f : Turns) (order : List Constraint) (s : Solving) → AreBookedAlike s (pass f order s)
 booked_pass f [] s = record { gravity = refl; clamp = refl }
 booked_pass f (id ∷ order) s =
-    let first : AreBookedAlike s (turn f s id) = booked_turn f s id in
-    let rest : AreBookedAlike (turn f s id) (pass f order (turn f s id)) = booked_pass f order (turn f s id) in
+    let first : AreBookedAlike s (row_turn f s id) = booked_turn f s id in
+    let rest : AreBookedAlike (row_turn f s id) (pass f order (row_turn f s id)) = booked_pass f order (row_turn f s id) in
     record { gravity = rest.gravity ∙ first.gravity; clamp = rest.clamp ∙ first.clamp }
 
 stays_pass : (f : Turns) (bodies : List (Option Body)) (joints : List (Option BodyJoint)) (order : List Constraint) (s : Solving) → IsJointTurnBare f → IsOf bodies joints s → IsOf bodies joints (pass f order s)
 stays_pass f bodies joints [] s law of = of
-stays_pass f bodies joints (id ∷ order) s law of = stays_pass f bodies joints order (turn f s id) law (record { stands = stood_turn f s id ∙ of.stands; barely = bare_turn f s id law ∙ of.barely })
+stays_pass f bodies joints (id ∷ order) s law of = stays_pass f bodies joints order (row_turn f s id) law (record { stands = stood_turn f s id ∙ of.stands; barely = bare_turn f s id law ∙ of.barely })
 
 ends_of_all : (bodies : List (Option Body)) (joints : List (Option BodyJoint)) (order : List Constraint) (s : Solving) → IsOf bodies joints s → All (HasEnds bodies joints) order → All (HasEnds (stood s.bodies) s.joints) order
 ends_of_all bodies joints order s of there =
@@ -152,9 +152,9 @@ body_changed_by : (t : Bool) (m n : Moving) → n.body ≡ m.body → (cond t n 
 body_changed_by true m n e = e
 body_changed_by false m n e = refl
 
-held_changed : (f : MassData → Motion → Motion) (o : Option Moving) → arrays.changed f (held o) ≡ held (option_map (changed f) o)
+held_changed : (f : MassData → Motion → Motion) (o : Option Moving) → arrays.changed f (held o) ≡ held (option_map (motion_changed f) o)
 held_changed f None = refl
-held_changed f (Some m) = changed_by (is_awake m.body) f m ∙ ap (λ (b : Body). state_with b (changed f m).motion) (sym (body_changed_by (is_awake m.body) m (record m { motion = f m.body.mass m.motion }) refl))
+held_changed f (Some m) = changed_by (is_awake m.body) f m ∙ ap (λ (b : Body). state_with b (motion_changed f m).motion) (sym (body_changed_by (is_awake m.body) m (record m { motion = f m.body.mass m.motion }) refl))
 
 all_held : (f : MassData → Motion → Motion) (ms : List (Option Moving)) → arrays.pass f (map held ms) ≡ map held (all_changed f ms)
 all_held f [] = refl
@@ -165,7 +165,7 @@ stood_changed f [] = refl
 stood_changed f (None ∷ ms) = ap (λ (l : List (Option Body)). None ∷ l) (stood_changed f ms)
 stood_changed f (Some m ∷ ms) = λ j. Some (body_changed_by (is_awake m.body) m (record m { motion = f m.body.mass m.motion }) refl j) ∷ stood_changed f ms j
 
-gain_by : (t : Bool) (f : MassData → Motion → Motion) (m : Moving) → arrays.one_gain f (state_if t m) ≡ as_vector (gained m.motion (cond t (record m { motion = f m.body.mass m.motion }) m).motion)
+gain_by : (t : Bool) (f : MassData → Motion → Motion) (m : Moving) → arrays.one_gain f (state_if t m) ≡ as_vector (gain_between m.motion (cond t (record m { motion = f m.body.mass m.motion }) m).motion)
 gain_by true f m = refl
 gain_by false f m = sym (minus_same m.motion.p)
 
@@ -209,18 +209,18 @@ along_by true m e f =
     (λ j. cond (e j) (record (state_with m.body m.motion) { motion = advanced (solver_mass m.body) m.motion }) (state_with m.body m.motion)) ∙ (λ j. record (state_with m.body m.motion) { motion = advanced (mass j) m.motion })
 along_by false m e f = (λ j. cond (e j) (record (state_with m.body m.motion) { motion = advanced (solver_mass m.body) m.motion }) (state_with m.body m.motion))
 
-held_along : (o : Option Moving) → arrays.carried_along (held o) ≡ held (option_map along o)
+held_along : (o : Option Moving) → arrays.carried_along (held o) ≡ held (option_map carried_on o)
 held_along None = refl
 held_along (Some m) = along_by (is_carried m.body) m (carried_state m.body) refl ∙ (λ j. along_there (is_carried m.body) m j)
   where
     along_there : (t : Bool) (m : Moving) → state_with (cond t (record m { motion = advanced carrier m.motion }) m).body (cond t (record m { motion = advanced carrier m.motion }) m).motion ≡ held (Some (cond t (record m { motion = advanced carrier m.motion }) m))
     along_there t m = refl
 
-all_along : (ms : List (Option Moving)) → arrays.carry (map held ms) ≡ map held (map (option_map along) ms)
+all_along : (ms : List (Option Moving)) → arrays.carry (map held ms) ≡ map held (map (option_map carried_on) ms)
 all_along [] = refl
 all_along (o ∷ ms) = λ j. held_along o j ∷ all_along ms j
 
-stood_along : (ms : List (Option Moving)) → stood (map (option_map along) ms) ≡ stood ms
+stood_along : (ms : List (Option Moving)) → stood (map (option_map carried_on) ms) ≡ stood ms
 stood_along [] = refl
 stood_along (None ∷ ms) = ap (λ (l : List (Option Body)). None ∷ l) (stood_along ms)
 stood_along (Some m ∷ ms) = λ j. Some (body_changed_by (is_carried m.body) m (record m { motion = advanced carrier m.motion }) refl j) ∷ stood_along ms j
@@ -262,7 +262,7 @@ joint_warm_moved begun now j h = masses_then begun now (warm.joint j begun now).
 joint_solve_moved : (begun now : Ends) (j : Joint) → AreMovedFrom begun now → AreMovedFrom begun (solve.joint j begun now).ends
 joint_solve_moved begun now j h =
     masses_then begun now (solve.joint j begun now).ends h
-    (solved_masses (joint_line j begun) (bias_of (joint_stretch j begun +ℤ parted_along (direction_along (joint_gap j begun)) now)) (neg_ℤ MAX_JOINT_IMPULSE) MAX_JOINT_IMPULSE j.impulse now)
+    (solved_masses (joint_line j begun) (joint_bias (joint_stretch j begun +ℤ parted_along (direction_along (joint_gap j begun)) now)) (neg_ℤ MAX_JOINT_IMPULSE) MAX_JOINT_IMPULSE j.impulse now)
 
 warm_alike : IsTurnAlike warm joint_warmed row_warmed
 warm_alike = record {
@@ -297,10 +297,10 @@ same_tick : (g : Vec2) (bodies : List (Option Body)) (joints : List (Option Body
 unfolding runs.tick
 same_tick g bodies joints order once there =
     then_pass bodies joints order _ _ _ _ (same_pull g bodies joints order)
-    (then_pass bodies joints order _ _ _ _ (same_clamp clamped bodies joints order)
+    (then_pass bodies joints order _ _ _ _ (same_clamp speed_clamped bodies joints order)
     (then_pass bodies joints order _ _ _ _ (same_turns warm joint_warmed row_warmed bodies joints order warm_alike once there)
     (then_pass bodies joints order _ _ _ _ (same_turns solve joint_solved row_solved bodies joints order solve_alike once there)
-    (then_pass bodies joints order _ _ _ _ (same_clamp clamped bodies joints order)
+    (then_pass bodies joints order _ _ _ _ (same_clamp speed_clamped bodies joints order)
     (then_pass bodies joints order _ _ _ _ (same_clamp advanced bodies joints order) (same_carry bodies joints order))))))
 
 same_none : (bodies : List (Option Body)) (joints : List (Option BodyJoint)) (order : List Constraint) → IsSamePass bodies joints order (λ r. r) (λ s. s)

@@ -47,7 +47,7 @@ use Rattle.plain_world.specs.Slots.{body_at}
 use Rattle.world_core_base.specs.Carried.{solver_motion}
 use Rattle.world_core_base.specs.Gather.{bodies_of, ends_at, row_in, row_of, state_of, states_of}
 use Rattle.world_core_base.specs.ConstraintRows.{constraint_row, joint_bodies, joint_ends, joint_row_in}
-use Rattle.world_core_base.specs.Solving.{Moving, Solving, Turns, ends_now, ends_then, gained, given_by_immovable, left_by, moving_at, nothing, pass, plus, put_back, put_joint_back, state_with, turn, turn_between, turn_joined, turn_joint, with_contact, with_sum}
+use Rattle.world_core_base.specs.Solving.{Moving, Solving, Turns, ends_now, ends_then, gain_between, given_by_immovable, after_impulse, moving_at, nothing, pass, gain_sum, put_back, put_joint_back, state_with, row_turn, turn_between, turn_joined, turn_joint, with_contact, with_sum}
 use Rattle.world_core_base.specs.SolvingArrays.{AreOther, HasEnds, JointHasEnds}
 use Rattle.world_core_base.proofs.ContactLaws.{row_bodies, row_is}
 use Rattle.world_core_base.proofs.SolvingJoints.{all_ends_as, bare_joint, bare_joints, bare_put, joint_put_other, joint_put_same}
@@ -85,7 +85,7 @@ state_made : (s : BodyState) (movable : Bool) (mass : MassData) (start : Vec2) (
     → record { movable = movable; mass = mass; motion = s.motion; start = start; reciprocals = reciprocals } ≡ s
 state_made s movable mass start reciprocals e f g h = sym (λ i. record { movable = e i; mass = f i; motion = s.motion; start = g i; reciprocals = h i })
 
-left_is : (m : Moving) (s : BodyState) → IsMovedFrom (state_with m.body (solver_motion m.body)) s → held (Some (left_by s m)) ≡ s
+left_is : (m : Moving) (s : BodyState) → IsMovedFrom (state_with m.body (solver_motion m.body)) s → held (Some (after_impulse s m)) ≡ s
 left_is m s h = state_made s _ _ _ _ h.movable h.mass h.start h.reciprocals
 
 set_map : {A B : Type 0} (f : A → B) (xs : List A) (i : ℕ) (x : A) → slice_set (map f xs) i (f x) ≡ map f (slice_set xs i x)
@@ -93,8 +93,8 @@ set_map f [] i x = refl
 set_map f (y ∷ xs) zero x = refl
 set_map {A} {B} f (y ∷ xs) (suc i) x = ap (λ (l : List B). f y ∷ l) (set_map f xs i x)
 
-held_put : (ms : List (Option Moving)) (slot : ℕ) (s : BodyState) (m : Moving) → IsMovedFrom (state_with m.body (solver_motion m.body)) s → slice_set (map held ms) slot s ≡ map held (slice_set ms slot (Some (left_by s m)))
-held_put ms slot s m h = ap (λ (t : BodyState). slice_set (map held ms) slot t) (sym (left_is m s h)) ∙ set_map held ms slot (Some (left_by s m))
+held_put : (ms : List (Option Moving)) (slot : ℕ) (s : BodyState) (m : Moving) → IsMovedFrom (state_with m.body (solver_motion m.body)) s → slice_set (map held ms) slot s ≡ map held (slice_set ms slot (Some (after_impulse s m)))
+held_put ms slot s m h = ap (λ (t : BodyState). slice_set (map held ms) slot t) (sym (left_is m s h)) ∙ set_map held ms slot (Some (after_impulse s m))
 
 -- ---- what stays
 
@@ -113,7 +113,7 @@ stood_put ms i j a b x y at_a at_b e f =
     let first : stood (slice_set ms i (Some x)) ≡ stood ms = stood_set ms i x (body_there ms i ∙ ap body_of at_a ∙ ap Some (sym e)) in
     stood_set (slice_set ms i (Some x)) j y (ap (λ (l : List (Option Body)). body_at l j) first ∙ body_there ms j ∙ ap body_of at_b ∙ ap Some (sym f)) ∙ first
 
-pub stood_turn : (f : Turns) (s : Solving) (id : Constraint) → stood (turn f s id).bodies ≡ stood s.bodies
+pub stood_turn : (f : Turns) (s : Solving) (id : Constraint) → stood (row_turn f s id).bodies ≡ stood s.bodies
 stood_turn f s (constraints.Joint h) = by (joint_at s.joints h.slot)
   where
     between : (j : BodyJoint) (a b : Option Moving) → moving_at s.bodies j.a ≡ a → moving_at s.bodies j.b ≡ b → stood (turn_joined f s h.slot j a b).bodies ≡ stood s.bodies
@@ -121,7 +121,7 @@ stood_turn f s (constraints.Joint h) = by (joint_at s.joints h.slot)
     between j (Some a) None at_a at_b = refl
     between j (Some a) (Some b) at_a at_b =
         let t : SolvedJoint = f.joint j.joint (ends_then a b) (ends_now a b) in
-        stood_put s.bodies j.a j.b a b (left_by t.ends.a a) (left_by t.ends.b b) at_a at_b refl refl
+        stood_put s.bodies j.a j.b a b (after_impulse t.ends.a a) (after_impulse t.ends.b b) at_a at_b refl refl
 
     by : (o : Option BodyJoint) → stood (turn_joint f s h.slot o).bodies ≡ stood s.bodies
     by None = refl
@@ -134,13 +134,13 @@ stood_turn f s (constraints.Contact key) = by (lookup s.contacts key) (moving_at
     by (Some e) (Some a) None at_a at_b = refl
     by (Some e) (Some a) (Some b) at_a at_b =
         let t : SolvedContact = f.contact e (ends_then a b) (ends_now a b) in
-        stood_put s.bodies key.first.slot key.second.slot a b (left_by t.ends.a a) (left_by t.ends.b b) at_a at_b refl refl
+        stood_put s.bodies key.first.slot key.second.slot a b (after_impulse t.ends.a a) (after_impulse t.ends.b b) at_a at_b refl refl
 
 -- a turn that changes a joint in its impulse alone
 abbrev pub IsJointTurnBare : Turns → Type 0
 IsJointTurnBare f = (j : BodyJoint) (begun now : Ends) → bare_joint (record j { joint = (f.joint j.joint begun now).joint }) ≡ bare_joint j
 
-pub bare_turn : (f : Turns) (s : Solving) (id : Constraint) → IsJointTurnBare f → bare_joints (turn f s id).joints ≡ bare_joints s.joints
+pub bare_turn : (f : Turns) (s : Solving) (id : Constraint) → IsJointTurnBare f → bare_joints (row_turn f s id).joints ≡ bare_joints s.joints
 bare_turn f s (constraints.Contact key) law = by (lookup s.contacts key) (moving_at s.bodies key.first.slot) (moving_at s.bodies key.second.slot)
   where
     by : (o : Option ContactEntry) (a b : Option Moving) → bare_joints (turn_between f s key o a b).joints ≡ bare_joints s.joints
@@ -161,7 +161,7 @@ bare_turn f s (constraints.Joint h) law = by (joint_at s.joints h.slot) refl
 
 -- ---- other constraints' rows stay
 
-row_joint_other : (f : Turns) (states : List BodyState) (s : Solving) (h : Handle) (other : Constraint) → AreOther (constraints.Joint h) other → constraint_row states (turn f s (constraints.Joint h)).joints (turn f s (constraints.Joint h)).contacts other ≡ constraint_row states s.joints s.contacts other
+row_joint_other : (f : Turns) (states : List BodyState) (s : Solving) (h : Handle) (other : Constraint) → AreOther (constraints.Joint h) other → constraint_row states (row_turn f s (constraints.Joint h)).joints (row_turn f s (constraints.Joint h)).contacts other ≡ constraint_row states s.joints s.contacts other
 row_joint_other f states s h (constraints.Joint k) ne = by (joint_at s.joints h.slot)
   where
     between : (j : BodyJoint) (a b : Option Moving) → constraint_row states (turn_joined f s h.slot j a b).joints s.contacts (constraints.Joint k) ≡ constraint_row states s.joints s.contacts (constraints.Joint k)
@@ -184,7 +184,7 @@ row_joint_other f states s h (constraints.Contact key) ne = by (joint_at s.joint
     by None = refl
     by (Some j) = between j (moving_at s.bodies j.a) (moving_at s.bodies j.b)
 
-row_contact_other : (f : Turns) (states : List BodyState) (s : Solving) (key : ContactKey) (other : Constraint) → AreOther (constraints.Contact key) other → constraint_row states (turn f s (constraints.Contact key)).joints (turn f s (constraints.Contact key)).contacts other ≡ constraint_row states s.joints s.contacts other
+row_contact_other : (f : Turns) (states : List BodyState) (s : Solving) (key : ContactKey) (other : Constraint) → AreOther (constraints.Contact key) other → constraint_row states (row_turn f s (constraints.Contact key)).joints (row_turn f s (constraints.Contact key)).contacts other ≡ constraint_row states s.joints s.contacts other
 row_contact_other f states s key other ne = by other (lookup s.contacts key) (moving_at s.bodies key.first.slot) (moving_at s.bodies key.second.slot) ne
   where
     by : (other : Constraint) (o : Option ContactEntry) (a b : Option Moving) → AreOther (constraints.Contact key) other → constraint_row states (turn_between f s key o a b).joints (turn_between f s key o a b).contacts other ≡ constraint_row states s.joints s.contacts other
@@ -194,7 +194,7 @@ row_contact_other f states s key other ne = by other (lookup s.contacts key) (mo
     by (constraints.Joint k) (Some e) (Some a) (Some b) ne = refl
     by (constraints.Contact l) (Some e) (Some a) (Some b) ne = ap (option_map rows.Contact) (row_put_other states key (f.contact e (ends_then a b) (ends_now a b)).contact s.contacts l ne)
 
-row_turn_other : (f : Turns) (states : List BodyState) (s : Solving) (id other : Constraint) → AreOther id other → constraint_row states (turn f s id).joints (turn f s id).contacts other ≡ constraint_row states s.joints s.contacts other
+row_turn_other : (f : Turns) (states : List BodyState) (s : Solving) (id other : Constraint) → AreOther id other → constraint_row states (row_turn f s id).joints (row_turn f s id).contacts other ≡ constraint_row states s.joints s.contacts other
 row_turn_other f states s (constraints.Joint h) other ne = row_joint_other f states s h other ne
 row_turn_other f states s (constraints.Contact key) other ne = row_contact_other f states s key other ne
 
@@ -208,13 +208,13 @@ row_pass_other : (f : Turns) (states : List BodyState) (todo : List Constraint) 
 row_pass_other f states [] s id others = refl
 row_pass_other f states (o ∷ todo) s id others =
     let first : AreOther id o = All-head (AreOther id) o todo others in
-    row_pass_other f states todo (turn f s o) id (All-tail (AreOther id) o todo others) ∙ row_turn_other f states s o id (other_way id o first)
+    row_pass_other f states todo (row_turn f s o) id (All-tail (AreOther id) o todo others) ∙ row_turn_other f states s o id (other_way id o first)
 
 rows_turn_others : (f : Turns) (states : List BodyState) (todo : List Constraint) (s : Solving) (id : Constraint) → All (AreOther id) todo
-    → filter_map (constraint_row states (turn f s id).joints (turn f s id).contacts) todo ≡ filter_map (constraint_row states s.joints s.contacts) todo
+    → filter_map (constraint_row states (row_turn f s id).joints (row_turn f s id).contacts) todo ≡ filter_map (constraint_row states s.joints s.contacts) todo
 rows_turn_others f states [] s id others = refl
 rows_turn_others f states (o ∷ todo) s id others =
-    ap (λ (p : Option ConstraintRow). cons_option p (filter_map (constraint_row states (turn f s id).joints (turn f s id).contacts) todo)) (row_turn_other f states s id o (All-head (AreOther id) o todo others))
+    ap (λ (p : Option ConstraintRow). cons_option p (filter_map (constraint_row states (row_turn f s id).joints (row_turn f s id).contacts) todo)) (row_turn_other f states s id o (All-head (AreOther id) o todo others))
     ∙ ap (λ (l : List ConstraintRow). cons_option (constraint_row states s.joints s.contacts o) l) (rows_turn_others f states todo s id (All-tail (AreOther id) o todo others))
 
 -- ---- what an immovable body gives
@@ -226,7 +226,7 @@ given_by false true a b = refl
 given_by false false a b = refl
 
 given : (e t : Ends) → as_vector (given_by_immovable e t) ≡ got e t
-given e t = given_by e.a.movable e.b.movable (gained e.a.motion t.a.motion) (gained e.b.motion t.b.motion)
+given e t = given_by e.a.movable e.b.movable (gain_between e.a.motion t.a.motion) (gain_between e.b.motion t.b.motion)
 
 pub less_itself : (z : ℤ) → z -ℤ z ≡ pos 0
 less_itself z = omega (arith, ints)
@@ -234,7 +234,7 @@ less_itself z = omega (arith, ints)
 more_by_none : (z : ℤ) → z +ℤ pos 0 ≡ z
 more_by_none z = omega (arith, ints)
 
-nothing_gained : (m : Motion) → gained m m ≡ nothing
+nothing_gained : (m : Motion) → gain_between m m ≡ nothing
 nothing_gained m = λ i. record { x = less_itself m.p.x i; y = less_itself m.p.y i }
 
 none_given_by : (t u : Bool) (a b : Gain) → a ≡ nothing → b ≡ nothing → cond t (cond u nothing a) (cond u b nothing) ≡ nothing
@@ -244,9 +244,9 @@ none_given_by false true a b e f = f
 none_given_by false false a b e f = refl
 
 none_given : (e : Ends) → given_by_immovable e e ≡ nothing
-none_given e = none_given_by e.a.movable e.b.movable (gained e.a.motion e.a.motion) (gained e.b.motion e.b.motion) (nothing_gained e.a.motion) (nothing_gained e.b.motion)
+none_given e = none_given_by e.a.movable e.b.movable (gain_between e.a.motion e.a.motion) (gain_between e.b.motion e.b.motion) (nothing_gained e.a.motion) (nothing_gained e.b.motion)
 
-plus_nothing : (g : Gain) → plus g nothing ≡ g
+plus_nothing : (g : Gain) → gain_sum g nothing ≡ g
 plus_nothing g = λ i. record { x = more_by_none g.x i; y = more_by_none g.y i }
 
 sums_idle : (e : Ends) (sums : StepSums) → with_sum (given_by_immovable e e) sums ≡ sums
@@ -304,13 +304,13 @@ turned_by f k g s key e a b r law look at_a at_b is =
           ap (λ (p : pairs.Bodies). slice_set (slice_set states p.a (turn_of contact_slots g states r).ends.a) p.b (turn_of contact_slots g states r).ends.b) named
           ∙ ap (λ (n : Ends). slice_set (slice_set states key.first.slot n.a) key.second.slot n.b) ends_are
           ∙ ap (λ (l : List BodyState). slice_set l key.second.slot t.ends.b) (held_put s.bodies key.first.slot t.ends.a a same.moved.a)
-          ∙ held_put (slice_set s.bodies key.first.slot (Some (left_by t.ends.a a))) key.second.slot t.ends.b b same.moved.b;
+          ∙ held_put (slice_set s.bodies key.first.slot (Some (after_impulse t.ends.a a))) key.second.slot t.ends.b b same.moved.b;
       row = ap (option_map rows.Contact) row;
       sum = ap (vectors.plus (as_vector s.sums.immovable)) (given (ends_now a b) t.ends ∙ (λ j. got (sym now_is j) (sym ends_are j)));
     }
 
 turned_contact : (f : Turns) (k : JointRow → Ends → JointAfter) (g : ContactRow → Ends → RowAfter ContactRow) (s : Solving) (key : ContactKey) (r : ContactRow) → IsTurnAlike f k g → HasEnds (stood s.bodies) s.joints (constraints.Contact key)
-    → row_of (states_of (stood s.bodies)) s.contacts (constraints.Contact key) ≡ Some r → IsTurned (either_turn k g) (states_of (stood s.bodies)) (map held s.bodies) s.sums.immovable (turn f s (constraints.Contact key)) (constraints.Contact key) (rows.Contact r)
+    → row_of (states_of (stood s.bodies)) s.contacts (constraints.Contact key) ≡ Some r → IsTurned (either_turn k g) (states_of (stood s.bodies)) (map held s.bodies) s.sums.immovable (row_turn f s (constraints.Contact key)) (constraints.Contact key) (rows.Contact r)
 turned_contact f k g s key r law there is =
     let begun : List BodyState = states_of (stood s.bodies) in
     by (lookup s.contacts key) (moving_at s.bodies key.first.slot) (moving_at s.bodies key.second.slot) refl refl refl
@@ -346,7 +346,7 @@ joined_by f k g s h j a b law is at_a at_b =
       bodies =
           ap (λ (n : Ends). slice_set (slice_set states j.a n.a) j.b n.b) ends_are
           ∙ ap (λ (l : List BodyState). slice_set l j.b t.ends.b) (held_put s.bodies j.a t.ends.a a moved.a)
-          ∙ held_put (slice_set s.bodies j.a (Some (left_by t.ends.a a))) j.b t.ends.b b moved.b;
+          ∙ held_put (slice_set s.bodies j.a (Some (after_impulse t.ends.a a))) j.b t.ends.b b moved.b;
       row =
           ap (λ (o : Option BodyJoint). option_map rows.Joint (joint_row_in begun h.slot o)) (joint_put_same s.joints h.slot j (record j { joint = t.joint }) is)
           ∙ ap (λ (n : Ends). Some (rows.Joint (joint_row (joint_bodies h.slot j) n t.joint))) then_is
@@ -367,7 +367,7 @@ turned_joint f k g s h j law is there =
 
 -- the turn of a constraint that has a row
 turned : (f : Turns) (k : JointRow → Ends → JointAfter) (g : ContactRow → Ends → RowAfter ContactRow) (s : Solving) (id : Constraint) (r : ConstraintRow) → IsTurnAlike f k g → HasEnds (stood s.bodies) s.joints id
-    → constraint_row (states_of (stood s.bodies)) s.joints s.contacts id ≡ Some r → IsTurned (either_turn k g) (states_of (stood s.bodies)) (map held s.bodies) s.sums.immovable (turn f s id) id r
+    → constraint_row (states_of (stood s.bodies)) s.joints s.contacts id ≡ Some r → IsTurned (either_turn k g) (states_of (stood s.bodies)) (map held s.bodies) s.sums.immovable (row_turn f s id) id r
 turned f k g s (constraints.Joint h) r law there is = by (joint_at s.joints h.slot) refl there is
   where
     by : (o : Option BodyJoint) → joint_at s.joints h.slot ≡ o → JointHasEnds (stood s.bodies) o → option_map rows.Joint (joint_row_in (states_of (stood s.bodies)) h.slot o) ≡ Some r
@@ -379,10 +379,10 @@ turned f k g s (constraints.Joint h) r law there is = by (joint_at s.joints h.sl
 turned f k g s (constraints.Contact key) r law there is = by (row_of (states_of (stood s.bodies)) s.contacts (constraints.Contact key)) refl is
   where
     by : (o : Option ContactRow) → row_of (states_of (stood s.bodies)) s.contacts (constraints.Contact key) ≡ o → option_map rows.Contact o ≡ Some r
-        → IsTurned (either_turn k g) (states_of (stood s.bodies)) (map held s.bodies) s.sums.immovable (turn f s (constraints.Contact key)) (constraints.Contact key) r
+        → IsTurned (either_turn k g) (states_of (stood s.bodies)) (map held s.bodies) s.sums.immovable (row_turn f s (constraints.Contact key)) (constraints.Contact key) r
     by None at is = absurd (none-some r is)
     by (Some q) at is =
-        subst (λ (p : ConstraintRow). IsTurned (either_turn k g) (states_of (stood s.bodies)) (map held s.bodies) s.sums.immovable (turn f s (constraints.Contact key)) (constraints.Contact key) p)
+        subst (λ (p : ConstraintRow). IsTurned (either_turn k g) (states_of (stood s.bodies)) (map held s.bodies) s.sums.immovable (row_turn f s (constraints.Contact key)) (constraints.Contact key) p)
         (same_Some (rows.Contact q) r is) (turned_contact f k g s key q law there at)
 
 -- ---- a constraint that has no row
@@ -398,7 +398,7 @@ put_back_idle s key e a b look at_a at_b =
     ap (λ (l : List (Option Moving)). slice_set l key.second.slot (Some b)) (set_there s.bodies key.first.slot a at_a) ∙ set_there s.bodies key.second.slot b at_b in
     λ j. record { bodies = bodies j; joints = s.joints; contacts = put_idle key s.contacts e look j; sums = sums_idle (ends_now a b) s.sums j }
 
-idle_contact : (f : Turns) (k : JointRow → Ends → JointAfter) (g : ContactRow → Ends → RowAfter ContactRow) (states : List BodyState) (s : Solving) (key : ContactKey) → IsTurnAlike f k g → row_of states s.contacts (constraints.Contact key) ≡ None → turn f s (constraints.Contact key) ≡ s
+idle_contact : (f : Turns) (k : JointRow → Ends → JointAfter) (g : ContactRow → Ends → RowAfter ContactRow) (states : List BodyState) (s : Solving) (key : ContactKey) → IsTurnAlike f k g → row_of states s.contacts (constraints.Contact key) ≡ None → row_turn f s (constraints.Contact key) ≡ s
 idle_contact f k g states s key law is =
     by (lookup s.contacts key) (moving_at s.bodies key.first.slot) (moving_at s.bodies key.second.slot) refl refl refl (sym (row_is states s.contacts key) ∙ is)
   where
@@ -409,7 +409,7 @@ idle_contact f k g states s key law is =
     by (Some e) (Some a) (Some b) look at_a at_b is =
         ap (λ (t : SolvedContact). put_back key a b t s) (law.idle e (ends_then a b) (ends_now a b) (no_point (bodies_of key e.surface) (ends_at states key) e.contact.first e.contact.second is)) ∙ put_back_idle s key e a b look at_a at_b
 
-idle_turn : (f : Turns) (k : JointRow → Ends → JointAfter) (g : ContactRow → Ends → RowAfter ContactRow) (states : List BodyState) (s : Solving) (id : Constraint) → IsTurnAlike f k g → constraint_row states s.joints s.contacts id ≡ None → turn f s id ≡ s
+idle_turn : (f : Turns) (k : JointRow → Ends → JointAfter) (g : ContactRow → Ends → RowAfter ContactRow) (states : List BodyState) (s : Solving) (id : Constraint) → IsTurnAlike f k g → constraint_row states s.joints s.contacts id ≡ None → row_turn f s id ≡ s
 idle_turn f k g states s (constraints.Joint h) law is = by (joint_at s.joints h.slot) is
   where
     by : (o : Option BodyJoint) → option_map rows.Joint (joint_row_in states h.slot o) ≡ None → turn_joint f s h.slot o ≡ s
@@ -417,7 +417,7 @@ idle_turn f k g states s (constraints.Joint h) law is = by (joint_at s.joints h.
     by (Some j) is = absurd (none-some (rows.Joint (joint_row (joint_bodies h.slot j) (joint_ends states j) j.joint)) (sym is))
 idle_turn f k g states s (constraints.Contact key) law is = by (row_of states s.contacts (constraints.Contact key)) refl is
   where
-    by : (o : Option ContactRow) → row_of states s.contacts (constraints.Contact key) ≡ o → option_map rows.Contact o ≡ None → turn f s (constraints.Contact key) ≡ s
+    by : (o : Option ContactRow) → row_of states s.contacts (constraints.Contact key) ≡ o → option_map rows.Contact o ≡ None → row_turn f s (constraints.Contact key) ≡ s
     by None at is = idle_contact f k g states s key law at
     by (Some q) at is = absurd (none-some (rows.Contact q) (sym is))
 
@@ -438,9 +438,9 @@ others_of id todo once k d lt = once 0 (suc k) d (omega arith) (omega arith)
 rest_of : (id : Constraint) (todo : List Constraint) → AreOnce (id ∷ todo) → AreOnce todo
 rest_of id todo once i j d lt long = once (suc i) (suc j) d (omega arith) (omega arith)
 
-ends_stay : (f : Turns) (s : Solving) (id : Constraint) (todo : List Constraint) → IsJointTurnBare f → All (HasEnds (stood s.bodies) s.joints) todo → All (HasEnds (stood (turn f s id).bodies) (turn f s id).joints) todo
+ends_stay : (f : Turns) (s : Solving) (id : Constraint) (todo : List Constraint) → IsJointTurnBare f → All (HasEnds (stood s.bodies) s.joints) todo → All (HasEnds (stood (row_turn f s id).bodies) (row_turn f s id).joints) todo
 ends_stay f s id todo law there =
-    all_ends_as (stood (turn f s id).bodies) s.joints (turn f s id).joints todo (sym (bare_turn f s id law)) (subst (λ (l : List (Option Body)). All (HasEnds l s.joints) todo) (sym (stood_turn f s id)) there)
+    all_ends_as (stood (row_turn f s id).bodies) s.joints (row_turn f s id).joints todo (sym (bare_turn f s id law)) (subst (λ (l : List (Option Body)). All (HasEnds l s.joints) todo) (sym (stood_turn f s id)) there)
 
 -- the rows of a solving's constraints
 abbrev pub rows_now : List BodyState → Solving → List Constraint → List ConstraintRow
@@ -476,20 +476,20 @@ pass_alike f k g (id ∷ todo) s begun states law once there is_begun is_states 
   where
     by : (o : Option ConstraintRow) → constraint_row begun s.joints s.contacts id ≡ o
         → ((t : Solving) (now : List BodyState) → All (HasEnds (stood t.bodies) t.joints) todo → begun ≡ states_of (stood t.bodies) → now ≡ map held t.bodies → IsPassed (either_turn k g) begun now (rows_now begun t todo) t.sums.immovable todo (pass f todo t))
-        → IsPassed (either_turn k g) begun states (cons_option o (rows_now begun s todo)) s.sums.immovable (id ∷ todo) (pass f todo (turn f s id))
+        → IsPassed (either_turn k g) begun states (cons_option o (rows_now begun s todo)) s.sums.immovable (id ∷ todo) (pass f todo (row_turn f s id))
     by None is rest =
-        let same : turn f s id ≡ s = idle_turn f k g begun s id law is in
+        let same : row_turn f s id ≡ s = idle_turn f k g begun s id law is in
         let still : constraint_row begun (pass f todo s).joints (pass f todo s).contacts id ≡ None = row_pass_other f begun todo s id (others_of id todo once) ∙ is in
         subst (λ (t : Solving). IsPassed (either_turn k g) begun states (rows_now begun s todo) s.sums.immovable (id ∷ todo) (pass f todo t)) (sym same)
         (idle_first (either_turn k g) todo s (pass f todo s) id begun states still
         (rest s states (All-tail (HasEnds (stood s.bodies) s.joints) id todo there) is_begun is_states))
     by (Some r) is rest =
         let others : All (AreOther id) todo = others_of id todo once in
-        let now : IsTurned (either_turn k g) begun states s.sums.immovable (turn f s id) id r =
+        let now : IsTurned (either_turn k g) begun states s.sums.immovable (row_turn f s id) id r =
         rw (is_begun, is_states) (turned f k g s id r law (All-head (HasEnds (stood s.bodies) s.joints) id todo there) (rw is_begun at is)) in
-        let rows_stay : rows_now begun (turn f s id) todo ≡ rows_now begun s todo = rows_turn_others f begun todo s id others in
-        turned_first (either_turn k g) todo (rows_now begun s todo) s.sums.immovable (turn f s id) (pass f todo (turn f s id)) id begun states r now
-        (row_pass_other f begun todo (turn f s id) id others)
-        (subst (λ (l : List ConstraintRow). IsPassed (either_turn k g) begun (after constraint_slots (either_turn k g) states r) l (turn f s id).sums.immovable todo (pass f todo (turn f s id))) rows_stay
-        (rest (turn f s id) (after constraint_slots (either_turn k g) states r) (ends_stay f s id todo law.joint_bare (All-tail (HasEnds (stood s.bodies) s.joints) id todo there))
+        let rows_stay : rows_now begun (row_turn f s id) todo ≡ rows_now begun s todo = rows_turn_others f begun todo s id others in
+        turned_first (either_turn k g) todo (rows_now begun s todo) s.sums.immovable (row_turn f s id) (pass f todo (row_turn f s id)) id begun states r now
+        (row_pass_other f begun todo (row_turn f s id) id others)
+        (subst (λ (l : List ConstraintRow). IsPassed (either_turn k g) begun (after constraint_slots (either_turn k g) states r) l (row_turn f s id).sums.immovable todo (pass f todo (row_turn f s id))) rows_stay
+        (rest (row_turn f s id) (after constraint_slots (either_turn k g) states r) (ends_stay f s id todo law.joint_bare (All-tail (HasEnds (stood s.bodies) s.joints) id todo there))
         (is_begun ∙ ap states_of (sym (stood_turn f s id))) now.bodies))

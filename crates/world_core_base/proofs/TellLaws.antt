@@ -17,7 +17,7 @@ use Rattle.colour_solver.specs.States.{as_vector, carried_of, places_from}
 use Rattle.plain_world.specs.declared.body.Body.{Body}
 use Rattle.plain_world.specs.Bodies.{AreBodies, IsBody, is_awake, is_carried, is_mover}
 use Rattle.plain_world.specs.Momentum.{momentum, momentum_in}
-use Rattle.plain_world.specs.Sleep.{put_to_rest, roused, told, told_body, told_by, told_from}
+use Rattle.plain_world.specs.Sleep.{body_at_rest, roused, told, told_body, told_by, told_from}
 use Rattle.world_core_base.specs.Gather.{state_of, states_of}
 use Rattle.colour_solver.proofs.VectorLaws.{plus_assoc, plus_zero, same_vector}
 use Rattle.world_core_base.proofs.GatherLaws.{carried_state, length-states}
@@ -28,7 +28,7 @@ use Rattle.world_core_base.proofs.TableLaws.{states-set}
 true_false : (t : Bool) → t ≡ true → t ≡ false → ⊥
 true_false t e f = let both : true ≡ false = sym e ∙ f in cc both
 
-rested_body : (name : ℕ) (b : Body) → is_mover b ≡ true → IsBody b → IsBody (put_to_rest name b)
+rested_body : (name : ℕ) (b : Body) → is_mover b ≡ true → IsBody b → IsBody (body_at_rest name b)
 rested_body name b moves is = record {
   mass = is.mass;
   motion = record { p = record { x = omega arith; y = omega arith }; l = omega arith; still = λ e. refl; x = is.motion.x; facing = is.motion.facing };

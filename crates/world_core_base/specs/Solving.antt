@@ -3,7 +3,7 @@
 use Rattle.std.specs.Prelude.{ℕ, zero, suc, ◌==◌, cond, List, [], ◌∷◌, Option, Some, None, option_map, map, fold, pos, ◌+ℤ◌, ◌-ℤ◌, slice_set}
 use Rattle.std.specs.List.{flat_map, slice_get}
 use Rattle.fixed_geom.specs.declared.vectors.Vec2.{Vec2}
-use Rattle.momenta.specs.Motions.{pulled, clamped, advanced}
+use Rattle.momenta.specs.Motions.{pulled, speed_clamped, advanced}
 use Rattle.momenta.specs.Reciprocals.{reciprocals_of}
 use Rattle.momenta.specs.declared.gain.Gain.{Gain}
 use Rattle.momenta.specs.declared.mass.MassData.{MassData}
@@ -47,12 +47,12 @@ pub record Solving : Type 0 where
 abbrev pub nothing : Gain
 nothing = record { x = pos 0; y = pos 0 }
 
-abbrev pub plus : Gain → Gain → Gain
-plus a b = record { x = a.x +ℤ b.x; y = a.y +ℤ b.y }
+abbrev pub gain_sum : Gain → Gain → Gain
+gain_sum a b = record { x = a.x +ℤ b.x; y = a.y +ℤ b.y }
 
 -- what the momentum has gained from one motion to the other
-abbrev pub gained : Motion → Motion → Gain
-gained before after = record { x = after.p.x -ℤ before.p.x; y = after.p.y -ℤ before.p.y }
+abbrev pub gain_between : Motion → Motion → Gain
+gain_between before after = record { x = after.p.x -ℤ before.p.x; y = after.p.y -ℤ before.p.y }
 
 -- ---- the bodies of a constraint
 
@@ -78,12 +78,12 @@ abbrev pub ends_then : Moving → Moving → Ends
 ends_then a b = record { a = state_with a.body (solver_motion a.body); b = state_with b.body (solver_motion b.body) }
 
 -- the body with the motion that an impulse has left it
-abbrev pub left_by : BodyState → Moving → Moving
-left_by s m = record m { motion = s.motion }
+abbrev pub after_impulse : BodyState → Moving → Moving
+after_impulse s m = record m { motion = s.motion }
 
 -- what a mover has gained where the other body is immovable: the impulse of that body, which nobody else has lost
 abbrev pub given_by_immovable : Ends → Ends → Gain
-given_by_immovable before after = cond before.a.movable (cond before.b.movable nothing (gained before.a.motion after.a.motion)) (cond before.b.movable (gained before.b.motion after.b.motion) nothing)
+given_by_immovable before after = cond before.a.movable (cond before.b.movable nothing (gain_between before.a.motion after.a.motion)) (cond before.b.movable (gain_between before.b.motion after.b.motion) nothing)
 
 -- ---- the turn of one constraint
 
@@ -119,12 +119,12 @@ with_contact key c [] = []
 with_contact key c (e ∷ es) = cond (number_of e == key_number key) (record e { contact = c } ∷ es) (e ∷ with_contact key c es)
 
 abbrev pub with_sum : Gain → StepSums → StepSums
-with_sum g sums = record sums { immovable = plus sums.immovable g }
+with_sum g sums = record sums { immovable = gain_sum sums.immovable g }
 
 -- the joint in a slot and its two bodies put back, and what an immovable one gave booked
 abbrev pub put_joint_back : ℕ → BodyJoint → Moving → Moving → SolvedJoint → Solving → Solving
 put_joint_back slot j a b solved s = record {
-  bodies = slice_set (slice_set s.bodies j.a (Some (left_by solved.ends.a a))) j.b (Some (left_by solved.ends.b b));
+  bodies = slice_set (slice_set s.bodies j.a (Some (after_impulse solved.ends.a a))) j.b (Some (after_impulse solved.ends.b b));
   joints = slice_set s.joints slot (Some (record j { joint = solved.joint }));
   contacts = s.contacts;
   sums = with_sum (given_by_immovable (ends_now a b) solved.ends) s.sums;
@@ -143,7 +143,7 @@ turn_joint f s slot (Some j) = turn_joined f s slot j (moving_at s.bodies j.a) (
 -- the contact and its two bodies put back, and what an immovable one gave booked
 abbrev pub put_back : ContactKey → Moving → Moving → SolvedContact → Solving → Solving
 put_back key a b solved s = record {
-  bodies = slice_set (slice_set s.bodies key.first.slot (Some (left_by solved.ends.a a))) key.second.slot (Some (left_by solved.ends.b b));
+  bodies = slice_set (slice_set s.bodies key.first.slot (Some (after_impulse solved.ends.a a))) key.second.slot (Some (after_impulse solved.ends.b b));
   joints = s.joints;
   contacts = with_contact key solved.contact s.contacts;
   sums = with_sum (given_by_immovable (ends_now a b) solved.ends) s.sums;
@@ -157,9 +157,9 @@ turn_between f s key (Some e) (Some a) None = s
 turn_between f s key (Some e) (Some a) (Some b) = put_back key a b (f.contact e (ends_then a b) (ends_now a b)) s
 
 -- the turn of a constraint
-abbrev pub turn : Turns → Solving → Constraint → Solving
-turn f s (constraints.Joint h) = turn_joint f s h.slot (joint_at s.joints h.slot)
-turn f s (constraints.Contact key) = turn_between f s key (lookup s.contacts key) (moving_at s.bodies key.first.slot) (moving_at s.bodies key.second.slot)
+abbrev pub row_turn : Turns → Solving → Constraint → Solving
+row_turn f s (constraints.Joint h) = turn_joint f s h.slot (joint_at s.joints h.slot)
+row_turn f s (constraints.Contact key) = turn_between f s key (lookup s.contacts key) (moving_at s.bodies key.first.slot) (moving_at s.bodies key.second.slot)
 
 -- ---- passes
 
@@ -169,46 +169,46 @@ solve_order colours = flat_map (λ ids. ids) colours
 
 -- a pass over the active constraints: one turn after another
 abbrev pub pass : Turns → List Constraint → Solving → Solving
-pass f order s = fold (turn f) s order
+pass f order s = fold (row_turn f) s order
 
 -- an awake mover with its motion changed; any other body as it was
-abbrev pub changed : (MassData → Motion → Motion) → Moving → Moving
-changed f m = cond (is_awake m.body) (record m { motion = f m.body.mass m.motion }) m
+abbrev pub motion_changed : (MassData → Motion → Motion) → Moving → Moving
+motion_changed f m = cond (is_awake m.body) (record m { motion = f m.body.mass m.motion }) m
 
 -- a pass over the bodies
 abbrev pub all_changed : (MassData → Motion → Motion) → List (Option Moving) → List (Option Moving)
-all_changed f bodies = map (option_map (changed f)) bodies
+all_changed f bodies = map (option_map (motion_changed f)) bodies
 
 abbrev pub gain_of : (MassData → Motion → Motion) → Option Moving → Gain
 gain_of f None = nothing
-gain_of f (Some m) = gained m.motion (changed f m).motion
+gain_of f (Some m) = gain_between m.motion (motion_changed f m).motion
 
 -- what such a pass adds to the momentum
 abbrev pub gain : (MassData → Motion → Motion) → List (Option Moving) → Gain
 gain f [] = nothing
-gain f (o ∷ bodies) = plus (gain_of f o) (gain f bodies)
+gain f (o ∷ bodies) = gain_sum (gain_of f o) (gain f bodies)
 
 -- gravity
 abbrev pub pull : Vec2 → Solving → Solving
-pull gravity s = record s { bodies = all_changed (pulled gravity) s.bodies; sums = record s.sums { gravity = plus s.sums.gravity (gain (pulled gravity) s.bodies) } }
+pull gravity s = record s { bodies = all_changed (pulled gravity) s.bodies; sums = record s.sums { gravity = gain_sum s.sums.gravity (gain (pulled gravity) s.bodies) } }
 
 -- a change that takes momentum away: the speed limit, and the move with its stop at the edge of the world
 abbrev pub clamp : (MassData → Motion → Motion) → Solving → Solving
-clamp f s = record s { bodies = all_changed f s.bodies; sums = record s.sums { clamp = plus s.sums.clamp (gain f s.bodies) } }
+clamp f s = record s { bodies = all_changed f s.bodies; sums = record s.sums { clamp = gain_sum s.sums.clamp (gain f s.bodies) } }
 
 -- a body that is carried along moves on with its course; any other body as it was
-abbrev pub along : Moving → Moving
-along m = cond (is_carried m.body) (record m { motion = advanced carrier m.motion }) m
+abbrev pub carried_on : Moving → Moving
+carried_on m = cond (is_carried m.body) (record m { motion = advanced carrier m.motion }) m
 
 -- the bodies that are carried along, to whose momentum nothing is added, since they have none
 abbrev pub carry : Solving → Solving
-carry s = record s { bodies = map (option_map along) s.bodies }
+carry s = record s { bodies = map (option_map carried_on) s.bodies }
 
 -- ---- a tick, and a step
 
 -- the passes of a tick, in their order
 abbrev pub passes : Vec2 → List Constraint → List (Solving → Solving)
-passes gravity order = pull gravity ∷ clamp clamped ∷ pass warm order ∷ pass solve order ∷ clamp clamped ∷ clamp advanced ∷ carry ∷ []
+passes gravity order = pull gravity ∷ clamp speed_clamped ∷ pass warm order ∷ pass solve order ∷ clamp speed_clamped ∷ clamp advanced ∷ carry ∷ []
 
 abbrev pub tick : Vec2 → List Constraint → Solving → Solving
 tick gravity order s = fold (λ s pass. pass s) s (passes gravity order)

@@ -35,7 +35,7 @@ use Rattle.plain_world.specs.Plain.{has_constraint}
 use Rattle.plain_world.specs.declared.body.Body.{Body}
 use Rattle.plain_world.specs.declared.joint.BodyJoint.{BodyJoint}
 use Rattle.world_file_base.specs.declared.saved.Membership.{Membership}
-use Rattle.sleep_wake.specs.Acting.{AreMovers, are_awake, awake_label, is_awake}
+use Rattle.sleep_wake.specs.Acting.{AreMovers, are_awake, awake_label, is_mover_awake}
 use Rattle.sleep_wake.proofs.AwakeLemmas.{all_awake, awake_first}
 use Rattle.sleep_wake.proofs.ListLemmas.{absent_from}
 use Rattle.solver_sets.specs.Alike.{AreJointSlots}
@@ -44,7 +44,7 @@ use Rattle.solver_sets.specs.Ties.{Bond, JointSlots, bonds_of, contact_bond, con
 use Rattle.solver_sets.proofs.BondLaws.{bond_number, bonds_rise, in_bonds, joint_below, rises_from_keys}
 use Rattle.solver_sets.proofs.ListLaws.{Rises, in_mapped, mapped_in, only_one, pairs_from_rises, same_members}
 use Rattle.solver_sets.proofs.TieLaws.{in_ties, tie_is, tie_number}
-use Rattle.world_file.specs.Fitting.{are_apart, are_joints_colourless, coloured, colours_below, contact_listed, ids_below, is_coloured_well, is_colourless, is_contact_colourless, is_same_truth, joint_ties, listed, members_of, membership_at, tie_of}
+use Rattle.world_file.specs.Fitting.{share_no_mover, are_joints_colourless, coloured, colours_below, contact_listed, ids_below, is_coloured_well, is_colourless, is_contact_colourless, is_same_truth, joint_ties, tie_if_any, members_among, membership_at, tie_read}
 use Rattle.world_file.specs.declared.ties.Tie.{Tie}
 use Rattle.world_file.specs.Again.{membership_of, saved_contact, saved_joints}
 use Rattle.world_file.proofs.AgainIslands.{said_at, truth_same}
@@ -146,8 +146,8 @@ pub record AreGiven (ties : List Tie) (lists : List (List (Member Constraint))) 
   pub named : (t : Tie) → IsIn t ties → t.colour ≡ plain.colour_of t.member.id colours
   pub ids : ids_of lists ≡ colours
   pub colouring : IsColouring constraint_number lists
-  pub rises : Rises tie_number (members_of ties)
-  pub there : (m : Member Constraint) → IsIn m (all_members lists) → IsIn m (members_of ties)
+  pub rises : Rises tie_number (members_among ties)
+  pub there : (m : Member Constraint) → IsIn m (all_members lists) → IsIn m (members_among ties)
 
 colour_in : (ties : List Tie) (lists : List (List (Member Constraint))) (colours : List (List Constraint)) → AreGiven ties lists colours → (t : Tie) → IsIn t ties → t.colour ≡ graph.colour_of constraint_number t.member.id lists
 colour_in ties lists colours g t i = g.named t i ∙ ap (λ (ids : List (List Constraint)). plain.colour_of t.member.id ids) (sym g.ids) ∙ sym (colour_by_ids t.member.id lists)
@@ -168,7 +168,7 @@ missed_at : (id : Constraint) (lists : List (List (Member Constraint))) (k : ℕ
 unfolding graph.colour_of
 missed_at id lists k e lt = none_passes (has_id constraint_number id) lists e k [] lt
 
-member_there : (ties : List Tie) (t : Tie) → IsIn t ties → IsIn t.member (members_of ties)
+member_there : (ties : List Tie) (t : Tie) → IsIn t ties → IsIn t.member (members_among ties)
 member_there ties t i = mapped_in (λ (x : Tie). x.member) ties t i
 
 -- a tie with a colour is a member of it
@@ -176,7 +176,7 @@ pub in_its_colour : (ties : List Tie) (lists : List (List (Member Constraint))) 
 in_its_colour ties lists colours g t i k e =
     let o = found_at t.member.id lists k (sym (colour_in ties lists colours g t i) ∙ e) in
     let p = has_there t.member.id (list_at lists k) o.1 in
-    let same : p.0 ≡ t.member = only_one tie_number (members_of ties) p.0 t.member g.rises (g.there p.0 (in_all_at lists k p.0 p.1)) (member_there ties t i) p.2 in
+    let same : p.0 ≡ t.member = only_one tie_number (members_among ties) p.0 t.member g.rises (g.there p.0 (in_all_at lists k p.0 p.1)) (member_there ties t i) p.2 in
     (o.0, subst (λ (m : Member Constraint). IsIn m (list_at lists k)) same p.1)
 
 by_colour : (ties : List Tie) (lists : List (List (Member Constraint))) (colours : List (List Constraint)) → AreGiven ties lists colours → (t : Tie) → IsIn t ties → (k : ℕ) → IsIn t.member (list_at lists k) → (o : Option ℕ) → t.colour ≡ o → t.colour ≡ Some k
@@ -232,34 +232,34 @@ free_of : (ms : List (Member Constraint)) (movers : Movers) → All (λ (x : Mem
 unfolding is_free
 free_of ms movers h = ap (λ (b : Bool). not b) (list_any_none (λ (x : Member Constraint). shares x.movers movers) ms (λ k d lt. shares_back (get_or ms k d).movers movers ∙ h k d lt))
 
-apart_of : (ms : List (Member Constraint)) → AreApart ms → are_apart ms ≡ true
+apart_of : (ms : List (Member Constraint)) → AreApart ms → share_no_mover ms ≡ true
 apart_of [] h = refl
 apart_of (m ∷ ms) h =
-    both_hold (is_free ms m.movers) (are_apart ms) (free_of ms m.movers (pairs_head (λ (x later : Member Constraint). shares x.movers later.movers ≡ false) m ms h))
+    both_hold (is_free ms m.movers) (share_no_mover ms) (free_of ms m.movers (pairs_head (λ (x later : Member Constraint). shares x.movers later.movers ≡ false) m ms h))
     (apart_of ms (pairs_tail (λ (x later : Member Constraint). shares x.movers later.movers ≡ false) m ms h))
 
-all_apart : (lists : List (List (Member Constraint))) → All AreApart lists → list_all are_apart lists ≡ true
+all_apart : (lists : List (List (Member Constraint))) → All AreApart lists → list_all share_no_mover lists ≡ true
 all_apart [] h = refl
-all_apart (ms ∷ lists) h = both_hold (are_apart ms) (list_all are_apart lists) (apart_of ms (All-head AreApart ms lists h)) (all_apart lists (All-tail AreApart ms lists h))
+all_apart (ms ∷ lists) h = both_hold (share_no_mover ms) (list_all share_no_mover lists) (apart_of ms (All-head AreApart ms lists h)) (all_apart lists (All-tail AreApart ms lists h))
 
-pub apart_again : (ties : List Tie) (lists : List (List (Member Constraint))) (colours : List (List Constraint)) → AreGiven ties lists colours → list_all are_apart (colours_below ties COLOURS) ≡ true
+pub apart_again : (ties : List Tie) (lists : List (List (Member Constraint))) (colours : List (List Constraint)) → AreGiven ties lists colours → list_all share_no_mover (colours_below ties COLOURS) ≡ true
 apart_again ties lists colours g =
     let count = g.colouring.count in
-    ap (λ (ls : List (List (Member Constraint))). list_all are_apart ls) (colours_same ties lists colours g COLOURS (omega (arith, count))) ∙ all_apart (take COLOURS lists) g.colouring.apart
+    ap (λ (ls : List (List (Member Constraint))). list_all share_no_mover ls) (colours_same ties lists colours g COLOURS (omega (arith, count))) ∙ all_apart (take COLOURS lists) g.colouring.apart
 
 -- ---- just those that act have one
 
 -- a world's labels, and who of its ties acts
 pub record AreActing (ties : List Tie) (lists : List (List (Member Constraint))) (labels : Labels) : Type 0 where
-  pub movers : (m : Member Constraint) → IsIn m (members_of ties) → AreMovers labels m.movers
-  pub together : (m : Member Constraint) (b : ℕ) → IsIn m (members_of ties) → m.movers.second ≡ Some b → AreTogether labels m.movers.first b
+  pub movers : (m : Member Constraint) → IsIn m (members_among ties) → AreMovers labels m.movers
+  pub together : (m : Member Constraint) (b : ℕ) → IsIn m (members_among ties) → m.movers.second ≡ Some b → AreTogether labels m.movers.first b
   pub awake : (m : Member Constraint) → IsIn m (all_members lists) → are_awake labels m.movers ≡ true
-  pub acting : (m : Member Constraint) → IsIn m (members_of ties) → are_awake labels m.movers ≡ true → IsIn m (all_members lists)
+  pub acting : (m : Member Constraint) → IsIn m (members_among ties) → are_awake labels m.movers ≡ true → IsIn m (all_members lists)
 
-said_awake : (labels : Labels) (slot : ℕ) (l : Label) → label_at labels slot ≡ Some l → is_awake labels slot ≡ not (membership_at (map membership_of labels) slot).asleep
+said_awake : (labels : Labels) (slot : ℕ) (l : Label) → label_at labels slot ≡ Some l → is_mover_awake labels slot ≡ not (membership_at (map membership_of labels) slot).asleep
 said_awake labels slot l e = awake_by (label_at labels slot) l e ∙ sym (ap (λ (m : Membership). not m.asleep) (said_at labels slot ∙ ap (λ (o : Option Label). membership_of o) e))
 
-acts_by : (ties : List Tie) (lists : List (List (Member Constraint))) (colours : List (List Constraint)) (labels : Labels) → AreGiven ties lists colours → AreActing ties lists labels → (t : Tie) → IsIn t ties → (o : Option ℕ) → t.colour ≡ o → (b : Bool) → is_awake labels t.member.movers.first ≡ b → is_some o ≡ b
+acts_by : (ties : List Tie) (lists : List (List (Member Constraint))) (colours : List (List Constraint)) (labels : Labels) → AreGiven ties lists colours → AreActing ties lists labels → (t : Tie) → IsIn t ties → (o : Option ℕ) → t.colour ≡ o → (b : Bool) → is_mover_awake labels t.member.movers.first ≡ b → is_some o ≡ b
 acts_by ties lists colours labels g a t i (Some k) e true f = refl
 acts_by ties lists colours labels g a t i (Some k) e false f =
     let o = in_its_colour ties lists colours g t i k e in
@@ -273,17 +273,17 @@ acts_by ties lists colours labels g a t i None e true f =
 pub well_again : (ties : List Tie) (lists : List (List (Member Constraint))) (colours : List (List Constraint)) (labels : Labels) → AreGiven ties lists colours → AreActing ties lists labels → (t : Tie) → IsIn t ties → is_coloured_well (map membership_of labels) t ≡ true
 well_again ties lists colours labels g a t i =
     let first = (a.movers t.member (member_there ties t i)).first in
-    let same : is_some t.colour ≡ not (membership_at (map membership_of labels) t.member.movers.first).asleep = acts_by ties lists colours labels g a t i t.colour refl (is_awake labels t.member.movers.first) refl ∙ said_awake labels t.member.movers.first first.0 first.1 in
+    let same : is_some t.colour ≡ not (membership_at (map membership_of labels) t.member.movers.first).asleep = acts_by ties lists colours labels g a t i t.colour refl (is_mover_awake labels t.member.movers.first) refl ∙ said_awake labels t.member.movers.first first.0 first.1 in
     ap (λ (b : Bool). is_same_truth b (not (membership_at (map membership_of labels) t.member.movers.first).asleep)) same ∙ truth_same (not (membership_at (map membership_of labels) t.member.movers.first).asleep)
 
 -- ---- what isn't a tie has none
 
-pub lone : (ties : List Tie) (lists : List (List (Member Constraint))) (colours : List (List Constraint)) → AreGiven ties lists colours → (id : Constraint) → ((x : Member Constraint) → IsIn x (members_of ties) → constraint_number x.id ≢ constraint_number id) → plain.colour_of id colours ≡ None
+pub lone : (ties : List Tie) (lists : List (List (Member Constraint))) (colours : List (List Constraint)) → AreGiven ties lists colours → (id : Constraint) → ((x : Member Constraint) → IsIn x (members_among ties) → constraint_number x.id ≢ constraint_number id) → plain.colour_of id colours ≡ None
 lone ties lists colours g id none =
     ap (λ (ids : List (List Constraint)). plain.colour_of id ids) (sym g.ids) ∙ sym (colour_by_ids id lists)
     ∙ absent_from constraint_number id lists (λ x h. none x (g.there x (in_from_contains (all_members lists) x h)))
 
-colourless_by : (o : Option (Member Constraint)) (colour : Option ℕ) → (o ≡ None → colour ≡ None) → is_colourless (tie_of o colour) colour ≡ true
+colourless_by : (o : Option (Member Constraint)) (colour : Option ℕ) → (o ≡ None → colour ≡ None) → is_colourless (tie_read o colour) colour ≡ true
 colourless_by None colour h = ap (λ (c : Option ℕ). is_none c) (h refl)
 colourless_by (Some m) colour h = refl
 
@@ -294,7 +294,7 @@ joints_colourless bodies places colours slot (p ∷ ps) [] h = refl
 joints_colourless bodies places colours slot (p ∷ ps) (None ∷ js) h = joints_colourless bodies places colours (suc slot) ps js h
 joints_colourless bodies places colours slot (p ∷ ps) (Some j ∷ js) h =
     let id : Constraint = Joint (record { slot = slot; generation = p.generation }) in
-    both_hold (is_colourless (tie_of (tie_with id (joint_movers bodies j)) (plain.colour_of id colours)) (plain.colour_of id colours)) (are_joints_colourless bodies (suc slot) ps (saved_joints places colours (suc slot) ps js))
+    both_hold (is_colourless (tie_read (tie_with id (joint_movers bodies j)) (plain.colour_of id colours)) (plain.colour_of id colours)) (are_joints_colourless bodies (suc slot) ps (saved_joints places colours (suc slot) ps js))
     (colourless_by (tie_with id (joint_movers bodies j)) (plain.colour_of id colours) (λ e. h (joint_bond (record { slot = slot; generation = p.generation }) j) (inl refl) e))
     (joints_colourless bodies places colours (suc slot) ps js (λ b i e. h b (inr i) e))
 
@@ -302,7 +302,7 @@ joints_colourless bodies places colours slot (p ∷ ps) (Some j ∷ js) h =
 abbrev pub touching_tie : List (Option Body) → ContactEntry → Option (Member Constraint)
 touching_tie bodies e = cond (touches e.contact) (tie_with (Contact e.key) (contact_movers bodies e.key)) None
 
-contact_by : (t : Bool) (o : Option (Member Constraint)) (colour : Option ℕ) → (cond t o None ≡ None → colour ≡ None) → is_colourless (cond t (tie_of o colour) None) colour ≡ true
+contact_by : (t : Bool) (o : Option (Member Constraint)) (colour : Option ℕ) → (cond t o None ≡ None → colour ≡ None) → is_colourless (cond t (tie_read o colour) None) colour ≡ true
 contact_by true o colour h = colourless_by o colour h
 contact_by false o colour h = ap (λ (c : Option ℕ). is_none c) (h refl)
 
@@ -341,20 +341,20 @@ contact_lone bodies s contacts are rising c i none x h e =
 abbrev IsNamed : List (List Constraint) → Tie → Type 0
 IsNamed colours t = t.colour ≡ plain.colour_of t.member.id colours
 
-one_named : (colours : List (List Constraint)) (id : Constraint) (o : Option Movers) → Each (IsNamed colours) (listed (tie_of (tie_with id o) (plain.colour_of id colours)))
+one_named : (colours : List (List Constraint)) (id : Constraint) (o : Option Movers) → Each (IsNamed colours) (tie_if_any (tie_read (tie_with id o) (plain.colour_of id colours)))
 one_named colours id None = tt
 one_named colours id (Some m) = (refl, tt)
 
-joints_named : (bodies : List (Option Body)) (places : List Place) (colours : List (List Constraint)) (slot : ℕ) (ps : List Place) (js : List (Option BodyJoint)) → Each (IsNamed colours) (flat_map listed (joint_ties bodies slot ps (saved_joints places colours slot ps js)))
+joints_named : (bodies : List (Option Body)) (places : List Place) (colours : List (List Constraint)) (slot : ℕ) (ps : List Place) (js : List (Option BodyJoint)) → Each (IsNamed colours) (flat_map tie_if_any (joint_ties bodies slot ps (saved_joints places colours slot ps js)))
 joints_named bodies places colours slot [] js = tt
 joints_named bodies places colours slot (p ∷ ps) [] = tt
 joints_named bodies places colours slot (p ∷ ps) (None ∷ js) = joints_named bodies places colours (suc slot) ps js
 joints_named bodies places colours slot (p ∷ ps) (Some j ∷ js) =
     let id : Constraint = Joint (record { slot = slot; generation = p.generation }) in
-    each_append (IsNamed colours) (listed (tie_of (tie_with id (joint_movers bodies j)) (plain.colour_of id colours))) (flat_map listed (joint_ties bodies (suc slot) ps (saved_joints places colours (suc slot) ps js)))
+    each_append (IsNamed colours) (tie_if_any (tie_read (tie_with id (joint_movers bodies j)) (plain.colour_of id colours))) (flat_map tie_if_any (joint_ties bodies (suc slot) ps (saved_joints places colours (suc slot) ps js)))
     (one_named colours id (joint_movers bodies j)) (joints_named bodies places colours (suc slot) ps js)
 
-contact_named : (colours : List (List Constraint)) (t : Bool) (id : Constraint) (o : Option Movers) → Each (IsNamed colours) (listed (cond t (tie_of (tie_with id o) (plain.colour_of id colours)) None))
+contact_named : (colours : List (List Constraint)) (t : Bool) (id : Constraint) (o : Option Movers) → Each (IsNamed colours) (tie_if_any (cond t (tie_read (tie_with id o) (plain.colour_of id colours)) None))
 contact_named colours true id o = one_named colours id o
 contact_named colours false id o = tt
 
@@ -365,7 +365,7 @@ contacts_named bodies colours (e ∷ es) =
     (contact_named colours (touches e.contact) (Contact e.key) (contact_movers bodies e.key)) (contacts_named bodies colours es)
 
 pub ties_named : (bodies : List (Option Body)) (places : List Place) (colours : List (List Constraint)) (ps : List Place) (js : List (Option BodyJoint)) (es : List ContactEntry) (t : Tie)
-    → IsIn t (flat_map listed (joint_ties bodies 0 ps (saved_joints places colours 0 ps js)) ++ flat_map (contact_listed bodies) (map (saved_contact colours) es)) → t.colour ≡ plain.colour_of t.member.id colours
+    → IsIn t (flat_map tie_if_any (joint_ties bodies 0 ps (saved_joints places colours 0 ps js)) ++ flat_map (contact_listed bodies) (map (saved_contact colours) es)) → t.colour ≡ plain.colour_of t.member.id colours
 ties_named bodies places colours ps js es t i =
-    each_in (IsNamed colours) t (flat_map listed (joint_ties bodies 0 ps (saved_joints places colours 0 ps js)) ++ flat_map (contact_listed bodies) (map (saved_contact colours) es))
-    (each_append (IsNamed colours) (flat_map listed (joint_ties bodies 0 ps (saved_joints places colours 0 ps js))) (flat_map (contact_listed bodies) (map (saved_contact colours) es)) (joints_named bodies places colours 0 ps js) (contacts_named bodies colours es)) i
+    each_in (IsNamed colours) t (flat_map tie_if_any (joint_ties bodies 0 ps (saved_joints places colours 0 ps js)) ++ flat_map (contact_listed bodies) (map (saved_contact colours) es))
+    (each_append (IsNamed colours) (flat_map tie_if_any (joint_ties bodies 0 ps (saved_joints places colours 0 ps js))) (flat_map (contact_listed bodies) (map (saved_contact colours) es)) (joints_named bodies places colours 0 ps js) (contacts_named bodies colours es)) i

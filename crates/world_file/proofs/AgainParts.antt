@@ -27,10 +27,10 @@ use Rattle.plain_world.specs.Plain.{colour_of}
 use Rattle.plain_world.specs.Slots.{AreMatched, body_at, is_taken_place, shapes_in}
 use Rattle.plain_world.specs.declared.body.Body.{Body}
 use Rattle.plain_world.specs.declared.joint.BodyJoint.{BodyJoint}
-use Rattle.world_file_base.specs.SavedJoints.{generation_of}
+use Rattle.world_file_base.specs.SavedJoints.{generation_there}
 use Rattle.shapes.specs.declared.shape.ShapeDef.{ShapeDef}
 use Rattle.world_core_base.specs.ContactBodies.{IsContactOf, moves_in}
-use Rattle.world_file.specs.Fitting.{are_points, are_rising_after, entry_of, is_above, is_contact_fitting, is_dynamic_body, is_joint_fitting, joint_kept, label_of}
+use Rattle.world_file.specs.Fitting.{are_points, are_rising_after, entry_read, is_above, is_contact_fitting, is_dynamic_body, is_joint_fitting, joint_kept, label_of}
 use Rattle.world_rules.specs.Sound.{HasBodies}
 use Rattle.world_file.specs.Again.{count_of, id_in, membership_of, saved_contact, saved_joint, saved_joints}
 
@@ -72,14 +72,14 @@ pub labels_again : (labels : Labels) → map label_of (map membership_of labels)
 labels_again [] = refl
 labels_again (o ∷ labels) = ap₂ (λ (x : Option Label) (xs : Labels). x ∷ xs) (label_again o) (labels_again labels)
 
-pub contacts_again : (bodies : List (Option Body)) (colours : List (List Constraint)) (es : List ContactEntry) → Each (HasBodies bodies) es → map (entry_of bodies) (map (saved_contact colours) es) ≡ es
+pub contacts_again : (bodies : List (Option Body)) (colours : List (List Constraint)) (es : List ContactEntry) → Each (HasBodies bodies) es → map (entry_read bodies) (map (saved_contact colours) es) ≡ es
 contacts_again bodies colours [] all = refl
 contacts_again bodies colours (e ∷ es) all =
     ap₂ (λ (x : ContactEntry) (xs : List ContactEntry). x ∷ xs) (λ i. record { key = e.key; surface = sym all.0.surface i; contact = e.contact }) (contacts_again bodies colours es all.1)
 
 -- ---- joints fit
 
-live_again : (o : Option Place) → is_taken_place o ≡ true → is_live_at o (generation_of o) ≡ true
+live_again : (o : Option Place) → is_taken_place o ≡ true → is_live_at o (generation_there o) ≡ true
 live_again None h = h
 live_again (Some p) h = both_hold p.live (p.generation == p.generation) h (eq-eqb p.generation p.generation refl)
 

@@ -30,15 +30,15 @@ use Rattle.solver_sets.specs.Ties.{Bond, joint_bonds}
 use Rattle.solver_sets.proofs.ListLaws.{mapped_in, rises_from_pairs}
 use Rattle.solver_sets.proofs.TieLaws.{tie_number}
 use Rattle.world_file.specs.Files.{plain_of}
-use Rattle.world_file.specs.Fitting.{are_apart, are_joints_colourless, are_named_well, are_rising_after, are_whole, colours_below, colours_keep, components_of, entry_of, fitting_asks, is_coloured_well, is_contact_colourless, is_contact_fitting, is_joint_fitting, is_tie_kept, joint_kept, members_of, momentum_keeps, references_keep, ties_of}
+use Rattle.world_file.specs.Fitting.{share_no_mover, are_joints_colourless, are_named_well, are_rising_after, are_whole, colours_below, colours_keep, components_of, entry_read, fitting_asks, is_coloured_well, is_contact_colourless, is_contact_fitting, is_joint_fitting, is_tie_kept, joint_kept, members_among, momentum_keeps, references_keep, ties_read}
 use Rattle.world_file.specs.Saved.{Saved}
 use Rattle.world_file.specs.declared.ties.Tie.{Tie}
 use Rattle.world_rules.specs.Sets.{acting_of}
 use Rattle.world_core_base.specs.ContactBodies.{IsContactOf}
 use Rattle.world_rules.specs.Sound.{HasBodies, IsSound}
-use Rattle.world_rules.specs.World.{World, book_of, joints_of}
+use Rattle.world_rules.specs.World.{World, book_of, joints_in_slots}
 use Rattle.world_file.specs.Again.{saved_contact, saved_of}
-use Rattle.world_file.specs.Laws.{WhatIsWrittenFits, totals_in}
+use Rattle.world_file.specs.Laws.{WhatIsWrittenFits, totals_of_world}
 use Rattle.world_file.proofs.AgainColours.{AreActing, AreGiven, apart_again, colours_again, contact_lone, contacts_colourless, joint_lone, joints_colourless, lone, ties_named, touching_tie, well_again}
 use Rattle.world_file.proofs.AgainIslands.{component_labelled, named_again, tie_kept, whole_again}
 use Rattle.world_file.proofs.AgainParts.{both_hold, contacts_again, contacts_fit, each_from_all, each_pass, joints_again, joints_fit, keys_rise, labels_again}
@@ -56,39 +56,39 @@ pub fitting_holds : (s : Saved) → AreFitting s → (r : Reader) → fitting_as
 fitting_holds s f r =
     asked_holds (momentum_keeps s) Momentum _ f.momentum
     ∙ asked_holds (colours_keep s) Colours _ f.colours
-    ∙ asked_holds (are_whole (components_of s.memberships (links_of (members_of (ties_of s)))) 0 s.memberships) Islands _ f.whole
-    ∙ asked_holds (list_all (is_tie_kept s.memberships) (ties_of s)) Links _ f.links
+    ∙ asked_holds (are_whole (components_of s.memberships (links_of (members_among (ties_read s)))) 0 s.memberships) Islands _ f.whole
+    ∙ asked_holds (list_all (is_tie_kept s.memberships) (ties_read s)) Links _ f.links
     ∙ asked_holds (are_named_well s.memberships 0 s.memberships) Memberships _ f.named
     ∙ asked_holds (references_keep s) References r f.references
 
 -- ---- what is written of a world
 
 abbrev saved : World → Saved
-saved w = saved_of w.plain (totals_in w)
+saved w = saved_of w.plain (totals_of_world w)
 
 abbrev ties : World → List Tie
-ties w = ties_of (saved w)
+ties w = ties_read (saved w)
 
 abbrev pub world_ties : World → List (Member Constraint)
-world_ties w = sets.ties_of w.plain.bodies (joints_of w.plain) w.plain.contacts
+world_ties w = sets.ties_of w.plain.bodies (joints_in_slots w.plain) w.plain.contacts
 
 abbrev pub lists : World → List (List (Member Constraint))
-lists w = sets.members_of w.plain.bodies (joints_of w.plain) w.plain.colours
+lists w = sets.members_of w.plain.bodies (joints_in_slots w.plain) w.plain.colours
 
-joint_slots : (w : World) → IsSound w → AreJointSlots (joints_of w.plain)
+joint_slots : (w : World) → IsSound w → AreJointSlots (joints_in_slots w.plain)
 joint_slots w h = record { matched = h.formed.joint_slots; places = h.formed.joint_places }
 
 all_joints : (w : World) → IsSound w → map joint_kept (saved w).joints ≡ w.plain.joints
 all_joints w h = joints_again w.plain.places w.plain.colours 0 w.plain.joint_places w.plain.joints h.formed.joint_slots.slots
 
-all_contacts : (w : World) → IsSound w → map (entry_of w.plain.bodies) (saved w).contacts ≡ w.plain.contacts
+all_contacts : (w : World) → IsSound w → map (entry_read w.plain.bodies) (saved w).contacts ≡ w.plain.contacts
 all_contacts w h = contacts_again w.plain.bodies w.plain.colours w.plain.contacts (each_from_all (HasBodies w.plain.bodies) w.plain.contacts h.formed.there)
 
 does_touch : (colours : List (List Constraint)) (es : List ContactEntry) → Each DoesTouch (map (saved_contact colours) es)
 does_touch colours [] = tt
 does_touch colours (e ∷ es) = (refl, does_touch colours es)
 
-ties_same : (w : World) → IsSound w → members_of (ties w) ≡ world_ties w
+ties_same : (w : World) → IsSound w → members_among (ties w) ≡ world_ties w
 ties_same w h =
     ties_are (saved w) (does_touch w.plain.colours w.plain.contacts)
     ∙ ap₂ (λ (js : List (Option BodyJoint)) (es : List ContactEntry). sets.ties_of w.plain.bodies (sets.slots_of w.plain.joint_places js) es) (all_joints w h) (all_contacts w h)
@@ -97,10 +97,10 @@ pub settled : (w : World) → IsSound w → IsSettled constraint_number (acting 
 unfolding acting_of
 settled w h = h.promises.settled
 
-to_world : (w : World) → IsSound w → (m : Member Constraint) → IsIn m (members_of (ties w)) → Contains (world_ties w) m
+to_world : (w : World) → IsSound w → (m : Member Constraint) → IsIn m (members_among (ties w)) → Contains (world_ties w) m
 to_world w h m i = contains_from_in (world_ties w) m (subst (λ (ms : List (Member Constraint)). IsIn m ms) (ties_same w h) i)
 
-from_world : (w : World) → IsSound w → (m : Member Constraint) → Contains (world_ties w) m → IsIn m (members_of (ties w))
+from_world : (w : World) → IsSound w → (m : Member Constraint) → Contains (world_ties w) m → IsIn m (members_among (ties w))
 from_world w h m i = subst (λ (ms : List (Member Constraint)). IsIn m ms) (sym (ties_same w h)) (in_from_contains (world_ties w) m i)
 
 given : (w : World) → IsSound w → AreGiven (ties w) (lists w) w.plain.colours
@@ -108,7 +108,7 @@ given w h = record {
   named = ties_named w.plain.bodies w.plain.places w.plain.colours w.plain.joint_places w.plain.joints w.plain.contacts;
   ids = h.formed.moved;
   colouring = (settled w h).colouring;
-  rises = rises_from_pairs tie_number (members_of (ties w)) (subst (λ (ms : List (Member Constraint)). AreRising constraint_number ms) (sym (ties_same w h)) (settled w h).rising);
+  rises = rises_from_pairs tie_number (members_among (ties w)) (subst (λ (ms : List (Member Constraint)). AreRising constraint_number ms) (sym (ties_same w h)) (settled w h).rising);
   there = λ m i. from_world w h m (((settled w h).acting m).0 (contains_from_in (all_members (lists w)) m i)).0;
 }
 
@@ -120,7 +120,7 @@ acts w h = record {
   acting = λ m i awake. in_from_contains (all_members (lists w)) m (((settled w h).acting m).1 (to_world w h m i, awake));
 }
 
-tie_there : (w : World) (t : Tie) → IsIn t (ties w) → IsIn t.member (members_of (ties w))
+tie_there : (w : World) (t : Tie) → IsIn t (ties w) → IsIn t.member (members_among (ties w))
 tie_there w t i = mapped_in (λ (x : Tie). x.member) (ties w) t i
 
 -- ---- each clause
@@ -135,23 +135,23 @@ references w h =
 links : (w : World) → IsSound w → list_all (is_tie_kept (saved w).memberships) (ties w) ≡ true
 links w h = each_pass (is_tie_kept (saved w).memberships) (ties w) (λ t i. tie_kept w.plain.islands t (λ b e. (acts w h).together t.member b (tie_there w t i) e))
 
-islands_linked : (w : World) → IsSound w → AreIslands (Linked (links_of (members_of (ties w)))) w.plain.islands
+islands_linked : (w : World) → IsSound w → AreIslands (Linked (links_of (members_among (ties w)))) w.plain.islands
 islands_linked w h = subst (λ (ms : List (Member Constraint)). AreIslands (Linked (links_of ms)) w.plain.islands) (sym (ties_same w h)) (settled w h).islands
 
-wholes : (w : World) → IsSound w → are_whole (components_of (saved w).memberships (links_of (members_of (ties w)))) 0 (saved w).memberships ≡ true
-wholes w h = whole_again w.plain.islands (links_of (members_of (ties w))) (islands_linked w h) (component_labelled w.plain.islands (links_of (members_of (ties w))))
+wholes : (w : World) → IsSound w → are_whole (components_of (saved w).memberships (links_of (members_among (ties w)))) 0 (saved w).memberships ≡ true
+wholes w h = whole_again w.plain.islands (links_of (members_among (ties w))) (islands_linked w h) (component_labelled w.plain.islands (links_of (members_among (ties w))))
 
-joint_none : (w : World) → IsSound w → (b : Bond) → IsIn b (joint_bonds (joints_of w.plain)) → sets.tie_of w.plain.bodies b ≡ None → colour_of b.id w.plain.colours ≡ None
-joint_none w h b i e = lone (ties w) (lists w) w.plain.colours (given w h) b.id (λ x k. joint_lone w.plain.bodies (joints_of w.plain) w.plain.contacts (joint_slots w h) h.formed.contacts b i e x (in_from_contains (world_ties w) x (to_world w h x k)))
+joint_none : (w : World) → IsSound w → (b : Bond) → IsIn b (joint_bonds (joints_in_slots w.plain)) → sets.tie_of w.plain.bodies b ≡ None → colour_of b.id w.plain.colours ≡ None
+joint_none w h b i e = lone (ties w) (lists w) w.plain.colours (given w h) b.id (λ x k. joint_lone w.plain.bodies (joints_in_slots w.plain) w.plain.contacts (joint_slots w h) h.formed.contacts b i e x (in_from_contains (world_ties w) x (to_world w h x k)))
 
 contact_none : (w : World) → IsSound w → (c : ContactEntry) → IsIn c w.plain.contacts → touching_tie w.plain.bodies c ≡ None → colour_of (Contact c.key) w.plain.colours ≡ None
-contact_none w h c i e = lone (ties w) (lists w) w.plain.colours (given w h) (Contact c.key) (λ x k. contact_lone w.plain.bodies (joints_of w.plain) w.plain.contacts (joint_slots w h) h.formed.contacts c i e x (in_from_contains (world_ties w) x (to_world w h x k)))
+contact_none w h c i e = lone (ties w) (lists w) w.plain.colours (given w h) (Contact c.key) (λ x k. contact_lone w.plain.bodies (joints_in_slots w.plain) w.plain.contacts (joint_slots w h) h.formed.contacts c i e x (in_from_contains (world_ties w) x (to_world w h x k)))
 
 colours : (w : World) → IsSound w → colours_keep (saved w) ≡ true
 colours w h =
     both_hold (are_joints_colourless w.plain.bodies 0 w.plain.joint_places (saved w).joints) _ (joints_colourless w.plain.bodies w.plain.places w.plain.colours 0 w.plain.joint_places w.plain.joints (joint_none w h))
     (both_hold (list_all (is_contact_colourless w.plain.bodies) (saved w).contacts) _ (contacts_colourless w.plain.bodies w.plain.colours w.plain.contacts (contact_none w h))
-    (both_hold (list_all (is_coloured_well (saved w).memberships) (ties w)) (list_all are_apart (colours_below (ties w) COLOURS))
+    (both_hold (list_all (is_coloured_well (saved w).memberships) (ties w)) (list_all share_no_mover (colours_below (ties w) COLOURS))
     (each_pass (is_coloured_well (saved w).memberships) (ties w) (well_again (ties w) (lists w) w.plain.colours w.plain.islands (given w h) (acts w h)))
     (apart_again (ties w) (lists w) w.plain.colours (given w h))))
 
@@ -160,9 +160,9 @@ equal_is a b e = (Decides-int_eq a b).1 e
 
 momentum_again : (w : World) → IsSound w → momentum_keeps (saved w) ≡ true
 momentum_again w h =
-    both_hold (int_eq (momentum w.plain.bodies).x (total_over (totals_in w)).x) (int_eq (momentum w.plain.bodies).y (total_over (totals_in w)).y)
-    (equal_is (momentum w.plain.bodies).x (total_over (totals_in w)).x (h.promises.total_x ∙ sym (same_x (over_causes-total_of (book_of w)))))
-    (equal_is (momentum w.plain.bodies).y (total_over (totals_in w)).y (h.promises.total_y ∙ sym (same_y (over_causes-total_of (book_of w)))))
+    both_hold (int_eq (momentum w.plain.bodies).x (total_over (totals_of_world w)).x) (int_eq (momentum w.plain.bodies).y (total_over (totals_of_world w)).y)
+    (equal_is (momentum w.plain.bodies).x (total_over (totals_of_world w)).x (h.promises.total_x ∙ sym (same_x (over_causes-total_of (book_of w)))))
+    (equal_is (momentum w.plain.bodies).y (total_over (totals_of_world w)).y (h.promises.total_y ∙ sym (same_y (over_causes-total_of (book_of w)))))
 
 pub fits : (w : World) → IsSound w → AreFitting (saved w)
 fits w h = record {

@@ -11,7 +11,7 @@ use Rattle.islands.proofs.LabelLemmas.{added_here, added_other, relabel_at}
 use Rattle.sleep_wake.specs.Acting.{link_of, links_of}
 use Rattle.world_file_base.specs.SavedSlots.{no_membership}
 use Rattle.world_file_base.specs.declared.saved.Membership.{Membership}
-use Rattle.world_file.specs.Fitting.{alone_at, apart_from, are_whole, is_whole_at, members_of, membership_at}
+use Rattle.world_file.specs.Fitting.{alone_at, apart_from, are_whole, is_whole_at, members_among, membership_at}
 use Rattle.world_file.specs.Lone.{AreSameLabels, added_if, joined_by}
 use Rattle.world_file.specs.declared.ties.Tie.{Tie}
 
@@ -77,7 +77,7 @@ same_all [] labels others same = same
 same_all (e ∷ edges) labels others same = same_all edges (merged labels e.0 e.1) (merged others e.0 e.1) (same_merged labels others e.0 e.1 same)
 
 pub same_joined : (ties : List Tie) (labels others : Labels) → AreSameLabels labels others → AreSameLabels (joined_by ties labels) (joined_by ties others)
-same_joined ties labels others same = same_all (links_of (members_of ties)) labels others same
+same_joined ties labels others same = same_all (links_of (members_among ties)) labels others same
 
 pub unjoined_first : (labels : Labels) (a b : ℕ) → label_at labels a ≡ None → labels ≡ merged labels a b
 unfolding merged
@@ -96,7 +96,7 @@ more_by None edges labels = refl
 more_by (Some e) edges labels = refl
 
 pub joined_more : (t : Tie) (ties : List Tie) (labels : Labels) → joined_by (t ∷ ties) labels ≡ joined_by ties (joined_by (t ∷ []) labels)
-joined_more t ties labels = more_by (link_of t.member) (links_of (members_of ties)) labels
+joined_more t ties labels = more_by (link_of t.member) (links_of (members_among ties)) labels
 
 -- ---- whole islands
 

@@ -10,7 +10,7 @@ use Rattle.graph_colours.specs.declared.member.Movers.{Movers}
 use Rattle.graph_colours.specs.declared.member.Member.{Member}
 use Rattle.graph_colours.proofs.Cases.{or_pairs}
 use Rattle.contacts.specs.declared.constraint.Constraint.{Constraint}
-use Rattle.world_file.specs.Fitting.{are_apart, coloured, has_colour}
+use Rattle.world_file.specs.Fitting.{share_no_mover, coloured, has_colour}
 use Rattle.world_file.specs.Marked.{AreMarks, IsTieMarked, is_marked, is_marked_second, is_unshared}
 use Rattle.world_file.specs.declared.ties.Tie.{Tie}
 
@@ -29,8 +29,8 @@ free_is_unmarked ms used movers marks =
     let all : list_any (λ m. has_mover m.movers movers.first || has_second m.movers movers.second) ms ≡ (list_any (λ m. has_mover m.movers movers.first) ms || list_any (λ m. has_second m.movers movers.second) ms) = any_or (λ m. has_mover m.movers movers.first) (λ m. has_second m.movers movers.second) ms in
     ap not (sym (all ∙ rw (second_marked ms used movers.second marks, marks movers.first) refl))
 
-apart_by : (b : Bool) (t : Tie) (ms : List (Member Constraint)) (used : List Bool) → AreMarks ms used → (cond b (not (is_marked used t.member.movers)) true && are_apart ms) ≡ are_apart (cond b (t.member ∷ ms) ms)
-apart_by true t ms used marks = ap (λ x. x && are_apart ms) (free_is_unmarked ms used t.member.movers marks)
+apart_by : (b : Bool) (t : Tie) (ms : List (Member Constraint)) (used : List Bool) → AreMarks ms used → (cond b (not (is_marked used t.member.movers)) true && share_no_mover ms) ≡ share_no_mover (cond b (t.member ∷ ms) ms)
+apart_by true t ms used marks = ap (λ x. x && share_no_mover ms) (free_is_unmarked ms used t.member.movers marks)
 apart_by false t ms used marks = refl
 
 marks_by : (b : Bool) (t : Tie) (ms : List (Member Constraint)) (u : Bool) (s : ℕ) → u ≡ list_any (λ m. has_mover m.movers s) ms → cond b (has_mover t.member.movers s || u) u ≡ list_any (λ m. has_mover m.movers s) (cond b (t.member ∷ ms) ms)
@@ -43,13 +43,13 @@ cut ties k left d short next =
     let here : suc k ≡ left = omega arith in
     at ∙ ap (λ n. get_or ties k d ∷ drop n ties) here
 
-apart_step : (ties : List Tie) (colour k left : ℕ) (d : Tie) (used : List Bool) (apart : Bool) → k < length ties → k + 1 ≡ left → AreMarks (coloured (drop left ties) colour) used → apart ≡ are_apart (coloured (drop left ties) colour)
-    → (is_unshared used colour (get_or ties k d) && apart) ≡ are_apart (coloured (drop k ties) colour)
+apart_step : (ties : List Tie) (colour k left : ℕ) (d : Tie) (used : List Bool) (apart : Bool) → k < length ties → k + 1 ≡ left → AreMarks (coloured (drop left ties) colour) used → apart ≡ share_no_mover (coloured (drop left ties) colour)
+    → (is_unshared used colour (get_or ties k d) && apart) ≡ share_no_mover (coloured (drop k ties) colour)
 apart_step ties colour k left d used apart short next marks e =
     let t : Tie = get_or ties k d in
     ap (λ x. is_unshared used colour t && x) e
     ∙ apart_by (has_colour colour t.colour) t (coloured (drop left ties) colour) used marks
-    ∙ ap (λ ts. are_apart (coloured ts colour)) (sym (cut ties k left d short next))
+    ∙ ap (λ ts. share_no_mover (coloured ts colour)) (sym (cut ties k left d short next))
 
 by_true : (u apart whole : Bool) → u ≡ true → (u && apart) ≡ whole → apart ≡ whole
 by_true true apart whole h e = e
@@ -59,13 +59,13 @@ by_false : (u apart whole : Bool) → u ≡ false → (u && apart) ≡ whole →
 by_false true apart whole h e = absurd (false≢true (sym h))
 by_false false apart whole h e = e
 
-pub apart_then : (ties : List Tie) (colour k left : ℕ) (d : Tie) (used : List Bool) (u apart : Bool) → k < length ties → k + 1 ≡ left → AreMarks (coloured (drop left ties) colour) used → apart ≡ are_apart (coloured (drop left ties) colour)
-    → u ≡ is_unshared used colour (get_or ties k d) → u ≡ true → apart ≡ are_apart (coloured (drop k ties) colour)
-apart_then ties colour k left d used u apart short next marks e is h = by_true u apart (are_apart (coloured (drop k ties) colour)) h (ap (λ x. x && apart) is ∙ apart_step ties colour k left d used apart short next marks e)
+pub apart_then : (ties : List Tie) (colour k left : ℕ) (d : Tie) (used : List Bool) (u apart : Bool) → k < length ties → k + 1 ≡ left → AreMarks (coloured (drop left ties) colour) used → apart ≡ share_no_mover (coloured (drop left ties) colour)
+    → u ≡ is_unshared used colour (get_or ties k d) → u ≡ true → apart ≡ share_no_mover (coloured (drop k ties) colour)
+apart_then ties colour k left d used u apart short next marks e is h = by_true u apart (share_no_mover (coloured (drop k ties) colour)) h (ap (λ x. x && apart) is ∙ apart_step ties colour k left d used apart short next marks e)
 
-pub apart_else : (ties : List Tie) (colour k left : ℕ) (d : Tie) (used : List Bool) (u apart : Bool) → k < length ties → k + 1 ≡ left → AreMarks (coloured (drop left ties) colour) used → apart ≡ are_apart (coloured (drop left ties) colour)
-    → u ≡ is_unshared used colour (get_or ties k d) → u ≡ false → u ≡ are_apart (coloured (drop k ties) colour)
-apart_else ties colour k left d used u apart short next marks e is h = by_false u apart (are_apart (coloured (drop k ties) colour)) h (ap (λ x. x && apart) is ∙ apart_step ties colour k left d used apart short next marks e)
+pub apart_else : (ties : List Tie) (colour k left : ℕ) (d : Tie) (used : List Bool) (u apart : Bool) → k < length ties → k + 1 ≡ left → AreMarks (coloured (drop left ties) colour) used → apart ≡ share_no_mover (coloured (drop left ties) colour)
+    → u ≡ is_unshared used colour (get_or ties k d) → u ≡ false → u ≡ share_no_mover (coloured (drop k ties) colour)
+apart_else ties colour k left d used u apart short next marks e is h = by_false u apart (share_no_mover (coloured (drop k ties) colour)) h (ap (λ x. x && apart) is ∙ apart_step ties colour k left d used apart short next marks e)
 
 pub marks_step : (ties : List Tie) (colour k left : ℕ) (d : Tie) (used new : List Bool) → k < length ties → k + 1 ≡ left → AreMarks (coloured (drop left ties) colour) used → IsTieMarked colour (get_or ties k d) used new
     → AreMarks (coloured (drop k ties) colour) new

@@ -4,8 +4,8 @@ use Rattle.serde_json.specs.Data.{Data}
 use Rattle.serde_json.specs.Events.{items_len}
 use Rattle.serde_json.specs.Find.{as_array, as_bool, as_str}
 use Rattle.fixed_geom.specs.Vectors.{is_within}
-use Rattle.world_file_base.specs.Asks.{Ask, asked, clause_number, first_of}
-use Rattle.world_file_base.specs.Reading.{ends_asks, first_in, greatest, greatest_group, group_asks, is_null, island_asks, items_in, least, least_group, list_asks, natural_of, number_asks, pair_asks, second_in, signed_asks, text_asks, text_in, truth_asks, unsigned_asks, vector_asks, vector_in, vector_within_asks, whole_asks, whole_in, whole_of}
+use Rattle.world_file_base.specs.Asks.{Ask, asked, clause_number, lesser_clause}
+use Rattle.world_file_base.specs.Reading.{ends_asks, first_in, greatest, greatest_group, group_asks, is_null, island_asks, items_in, least, least_group, list_asks, natural_of, number_asks, pair_asks, second_item, signed_asks, text_asks, text_in, truth_asks, unsigned_asks, vector_asks, vector_in, vector_within_asks, whole_asks, whole_in, whole_of}
 use Rattle.shapes.specs.Shapes.{is_between}
 use Rattle.world_file_base.specs.Texts.{decimal_asks, handle_asks, handle_of_text, number_of_text, sized}
 use Rattle.world_file_base.specs.declared.clause.Clause.{Clause}
@@ -28,7 +28,7 @@ one_of_two : (t : Bool) (c d : Clause) → cond t (Some c) (Some d) ≡ None →
 one_of_two true c d e = cc
 one_of_two false c d e = cc
 
-pub still_broken : (c : Clause) (o : Option Clause) → first_of c o ≡ None → ⊥
+pub still_broken : (c : Clause) (o : Option Clause) → lesser_clause c o ≡ None → ⊥
 still_broken c None e = cc
 still_broken c (Some d) e = one_of_two (nat_lt (clause_number c) (clause_number d)) c d e
 
@@ -76,13 +76,13 @@ pub passes_group : (v : Option Data) → Passes (group_asks v)
 passes_group v = passes_signed least_group greatest_group v
 
 pub passes_vector : (v : Option Data) → Passes (vector_asks v)
-passes_vector v r h = passes_pair v r (passes_number (first_in v) (pair_asks v r) (passes_number (second_in v) (number_asks (first_in v) (pair_asks v r)) h))
+passes_vector v r h = passes_pair v r (passes_number (first_in v) (pair_asks v r) (passes_number (second_item v) (number_asks (first_in v) (pair_asks v r)) h))
 
 pub passes_within : (most : ℕ) (v : Option Data) → Passes (vector_within_asks most v)
 passes_within most v r h = passes_vector v r (passes (is_within most (vector_in v)) Limits (vector_asks v r) h)
 
 pub passes_ends : (most : ℕ) (v : Option Data) → Passes (ends_asks most v)
-passes_ends most v r h = passes_pair v r (passes_within most (first_in v) (pair_asks v r) (passes_within most (second_in v) (vector_within_asks most (first_in v) (pair_asks v r)) h))
+passes_ends most v r h = passes_pair v r (passes_within most (first_in v) (pair_asks v r) (passes_within most (second_item v) (vector_within_asks most (first_in v) (pair_asks v r)) h))
 
 pub passes_handle : (v : Option Data) → Passes (handle_asks v)
 passes_handle v r h = passes_text v r (passes (is_some (handle_of_text (text_in v))) Form (text_asks v r) h)

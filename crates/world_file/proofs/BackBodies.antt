@@ -31,10 +31,10 @@ use Rattle.shapes.specs.declared.shape.ShapeDef.{ShapeDef}
 use Rattle.world_file_base.specs.Asks.{Ask, asked, noted}
 use Rattle.world_file_base.specs.Reading.{has_keys, island_asks, island_in, items_in, list_asks, signed_asks, signed_in, text_asks, text_in, truth_asks, truth_in, unsigned_asks, unsigned_in, vector_asks, vector_in, vector_within, vector_within_asks}
 use Rattle.world_file_base.specs.Texts.{decimal_asks, decimal_in}
-use Rattle.world_file_base.specs.Written.{decimal_of, integer, list_of, natural, vector_of}
+use Rattle.world_file_base.specs.Written.{decimal_of, integer, list_data, natural, vector_of}
 use Rattle.world_file_base.specs.declared.clause.Clause.TheVariants.{FatBoxes, Form, Islands, Limits, Memberships}
 use Rattle.world_file_base.specs.declared.reader.Reader.{Reader}
-use Rattle.world_file_base.specs.SavedBodies.{are_in_boxes, bare_kind, body_asks, body_in, body_of, course_asks, facing_in, fit_asks, island_fits, island_told, is_at_rest, is_pose, keys_asks, kind_asks, kind_in, kind_name, least_mass, mass_asks, mass_in, membership_asks, membership_in, momenta_asks, momenta_in, most_angular, most_inertia, most_mass, motion_asks, motion_in, named_kind, numbers_asks, pose_asks, pose_in, put_course, put_label, put_numbers, rest_asks, sleeping_under, told_asks, whole_body_asks, with_course}
+use Rattle.world_file_base.specs.SavedBodies.{are_in_boxes, bare_kind, body_asks, body_in, body_data, course_asks, facing_in, fit_asks, island_fits, island_told, is_at_rest, is_pose, keys_asks, kind_asks, kind_in, kind_name, least_mass, mass_asks, mass_in, membership_asks, membership_in, momenta_asks, momenta_in, most_angular, most_inertia, most_mass, motion_asks, motion_in, named_kind, numbers_asks, pose_asks, pose_in, put_course_data, put_label, put_numbers, rest_asks, sleeping_under, told_asks, whole_body_asks, with_course}
 use Rattle.world_file_base.specs.SavedShapes.{defs_in, fats_in, shapes_asks, shapes_of}
 use Rattle.world_file_base.specs.declared.saved.Membership.{Membership}
 use Rattle.world_file.specs.Again.{membership_of}
@@ -55,8 +55,8 @@ truth_back b = record { value = refl; asks = λ r. refl }
 
 -- ---- its keys
 
-abbrev body_data : Kind → Body → Option Label → Data
-body_data k b label = object (put_label label (put_course k (put_numbers b no_members)))
+abbrev data_by_kind : Kind → Body → Option Label → Data
+data_by_kind k b label = object (put_label label (put_course_data k (put_numbers b no_members)))
 
 abbrev island_of : Option Label → Data
 island_of None = null
@@ -71,13 +71,13 @@ record HasBodyKeys (d : Data) (b : Body) (label : Option Label) : Type 0 where
   l : get (codes "l") d ≡ Some (decimal_of b.motion.l)
   mass : get (codes "mass") d ≡ Some (integer b.mass.mass)
   p : get (codes "p") d ≡ Some (vector_of b.motion.p)
-  shapes : get (codes "shapes") d ≡ Some (list_of (shapes_of b.shapes b.fats))
+  shapes : get (codes "shapes") d ≡ Some (list_data (shapes_of b.shapes b.fats))
   timer : get (codes "timer") d ≡ Some (natural b.timer)
   asleep : get (codes "asleep") d ≡ Some (boolean (membership_of label).asleep)
   island : get (codes "island") d ≡ Some (island_of label)
   loose : get (codes "loose") d ≡ Some (boolean (membership_of label).loose)
 
-body_keys : (k : Kind) (label : Option Label) (b : Body) → HasBodyKeys (body_data k b label) b label
+body_keys : (k : Kind) (label : Option Label) (b : Body) → HasBodyKeys (data_by_kind k b label) b label
 unfolding put_numbers
 body_keys Static None b = record { at = refl; enabled = refl; facing = refl; inertia = refl; kind = refl; l = refl; mass = refl; p = refl; shapes = refl; timer = refl; asleep = refl; island = refl; loose = refl }
 body_keys Static (Some label) b = record { at = refl; enabled = refl; facing = refl; inertia = refl; kind = refl; l = refl; mass = refl; p = refl; shapes = refl; timer = refl; asleep = refl; island = refl; loose = refl }
@@ -91,7 +91,7 @@ HasCourseKeys Static d = has_keys 13 d ≡ true
 HasCourseKeys (Kinematic course) d = (get (codes "velocity") d ≡ Some (vector_of course.velocity)) × (get (codes "spin") d ≡ Some (integer course.spin)) × (has_keys 15 d ≡ true)
 HasCourseKeys Dynamic d = has_keys 13 d ≡ true
 
-course_keys : (k : Kind) (label : Option Label) (b : Body) → HasCourseKeys k (body_data k b label)
+course_keys : (k : Kind) (label : Option Label) (b : Body) → HasCourseKeys k (data_by_kind k b label)
 unfolding put_numbers
 course_keys Static None b = refl
 course_keys Static (Some l) b = refl
@@ -308,14 +308,14 @@ pub record IsBodyWritten (most : ℕ) (b : Body) (label : Option Label) : Type 0
   pub asleep : b.asleep ≡ sleeping_under (membership_of label)
 
 pub record IsBodyBack (most : ℕ) (b : Body) (label : Option Label) : Type 0 where
-  pub value : body_in most (body_of b label) ≡ b
-  pub membership : membership_in (body_of b label) ≡ membership_of label
-  pub asks : (r : Reader) → body_asks most (body_of b label) r ≡ r
+  pub value : body_in most (body_data b label) ≡ b
+  pub membership : membership_in (body_data b label) ≡ membership_of label
+  pub asks : (r : Reader) → body_asks most (body_data b label) r ≡ r
 
 shapes_at : (b : Body) (d : Data) (label : Option Label) → HasBodyKeys d b label → items_in (get (codes "shapes") d) ≡ items_of (shapes_of b.shapes b.fats)
 shapes_at b d label keys = ap (λ (o : Option Data). items_in o) keys.shapes
 
-body_by : (most : ℕ) (b : Body) (label : Option Label) (d : Data) → d ≡ body_of b label → HasBodyKeys d b label → HasCourseKeys b.kind d → IsBodyWritten most b label → (body_in most d ≡ b) × (membership_in d ≡ membership_of label) × ((r : Reader) → body_asks most d r ≡ r)
+body_by : (most : ℕ) (b : Body) (label : Option Label) (d : Data) → d ≡ body_data b label → HasBodyKeys d b label → HasCourseKeys b.kind d → IsBodyWritten most b label → (body_in most d ≡ b) × (membership_in d ≡ membership_of label) × ((r : Reader) → body_asks most d r ≡ r)
 unfolding body_in body_asks keys_asks numbers_asks
 body_by most b label d same keys course h =
     let kind = kind_back b.kind d keys.kind h.body.course course in
@@ -346,7 +346,7 @@ body_by most b label d same keys course h =
     )
 
 pub body_back : (most : ℕ) (b : Body) (label : Option Label) → IsBodyWritten most b label → IsBodyBack most b label
-unfolding body_of
+unfolding body_data
 body_back most b label h =
-    let o = body_by most b label (body_data b.kind b label) refl (body_keys b.kind label b) (course_keys b.kind label b) h in
+    let o = body_by most b label (data_by_kind b.kind b label) refl (body_keys b.kind label b) (course_keys b.kind label b) h in
     record { value = o.0; membership = o.1; asks = o.2 }

@@ -26,10 +26,10 @@ use Rattle.world_file_base.specs.Reading.{number_asks, number_in, unsigned_asks,
 use Rattle.world_file_base.specs.Written.{integer, natural, natural_or_null}
 use Rattle.world_file_base.specs.declared.clause.Clause.TheVariants.{Colours, Limits}
 use Rattle.world_file_base.specs.declared.reader.Reader.{Reader}
-use Rattle.world_file_base.specs.SavedContacts.{contact_asks, contact_in, contact_of, contacts_asks, contacts_in, each_contact, last_candidate, no_points, point_asks, point_in, point_of, point_or_none, points_asks, push_asks, shape_id_asks, shape_id_in, shape_id_of, size_asks, size_in, with_points}
-use Rattle.world_file_base.specs.SavedJoints.{generation_of, joint_asks, joint_in, joint_of}
+use Rattle.world_file_base.specs.SavedContacts.{contact_asks, contact_in, contact_data, contacts_asks, contacts_in, each_contact, last_candidate, no_points, point_asks, point_in, point_data, point_or_none, points_asks, push_asks, shape_id_asks, shape_id_in, shape_id_of, size_asks, size_in, with_points}
+use Rattle.world_file_base.specs.SavedJoints.{generation_there, joint_asks, joint_in, joint_data}
 use Rattle.world_file_base.specs.SavedTotals as saved_totals
-use Rattle.world_file_base.specs.SavedTotals.{total_asks, total_of, totals_asks}
+use Rattle.world_file_base.specs.SavedTotals.{total_asks, total_data, totals_asks}
 use Rattle.world_file_base.specs.Versions.{colour_asks, colour_in, colour_of_number}
 use Rattle.world_file_base.specs.declared.saved.SavedContact.{SavedContact}
 use Rattle.world_file_base.specs.declared.version.Version.TheVariants.{Second}
@@ -83,11 +83,11 @@ push_asked z low high r =
     asked_true (int_le (pos 0) (number_in (Some (integer z)))) Limits (size_asks MAX_NORMAL_IMPULSE (Some (integer z)) r) (ap (λ (v : ℤ). int_le (pos 0) v) o.value ∙ low_true z low) ∙ size_asked MAX_NORMAL_IMPULSE z (omega arith) high r
 
 record IsPointBack (p : ContactPoint) : Type 0 where
-  value : point_in (point_of p) ≡ p
-  asks : (r : Reader) → point_asks (point_of p) r ≡ r
+  value : point_in (point_data p) ≡ p
+  asks : (r : Reader) → point_asks (point_data p) r ≡ r
 
 point_back : (p : ContactPoint) → IsPoint p → IsPointBack p
-unfolding point_in point_of point_asks
+unfolding point_in point_data point_asks
 point_back p h =
     let point = h.point in
     let separation = point.separation in
@@ -146,11 +146,11 @@ pub record IsContactWritten (colours : List (List Constraint)) (e : ContactEntry
   pub colour : IsColour (colour_of (Contact e.key) colours)
 
 record IsContactBack (colours : List (List Constraint)) (e : ContactEntry) : Type 0 where
-  value : contact_in Second (contact_of e (colour_of (Contact e.key) colours)) ≡ saved_contact colours e
-  asks : (r : Reader) → contact_asks Second (contact_of e (colour_of (Contact e.key) colours)) r ≡ r
+  value : contact_in Second (contact_data e (colour_of (Contact e.key) colours)) ≡ saved_contact colours e
+  asks : (r : Reader) → contact_asks Second (contact_data e (colour_of (Contact e.key) colours)) r ≡ r
 
 contact_back : (colours : List (List Constraint)) (e : ContactEntry) → IsContactWritten colours e → IsContactBack colours e
-unfolding contact_in contact_of contact_asks
+unfolding contact_in contact_data contact_asks
 contact_back colours e h =
     let a = shape_id_back e.key.first h.first_slot h.first_index in
     let b = shape_id_back e.key.second h.second_slot h.second_index in
@@ -173,7 +173,7 @@ contacts_back colours (e ∷ es) all =
     let rest = contacts_back colours es all.1 in
     record {
       value = ap₂ (λ (x : SavedContact) (xs : List SavedContact). x ∷ xs) one.value rest.value;
-      asks = λ r. rest.asks (contact_asks Second (contact_of e (colour_of (Contact e.key) colours)) r) ∙ one.asks r;
+      asks = λ r. rest.asks (contact_asks Second (contact_data e (colour_of (Contact e.key) colours)) r) ∙ one.asks r;
     }
 
 -- ---- joints
@@ -181,15 +181,15 @@ contacts_back colours (e ∷ es) all =
 -- what is known of a joint that is written
 pub record IsJointWritten (places : List Place) (own : Option ℕ) (j : BodyJoint) : Type 0 where
   pub a : j.a < 2 ^ 32
-  pub a_generation : generation_of (slice_get places j.a) < 2 ^ 32
+  pub a_generation : generation_there (slice_get places j.a) < 2 ^ 32
   pub b : j.b < 2 ^ 32
-  pub b_generation : generation_of (slice_get places j.b) < 2 ^ 32
+  pub b_generation : generation_there (slice_get places j.b) < 2 ^ 32
   pub joint : IsJoint j.joint
   pub colour : IsColour own
 
 pub record IsJointBack (places : List Place) (colour : Option ℕ) (j : BodyJoint) : Type 0 where
-  pub value : joint_in Second (joint_of places j colour) ≡ saved_joint places colour j
-  pub asks : (r : Reader) → joint_asks Second (joint_of places j colour) r ≡ r
+  pub value : joint_in Second (joint_data places j colour) ≡ saved_joint places colour j
+  pub asks : (r : Reader) → joint_asks Second (joint_data places j colour) r ≡ r
 
 impulse_between : (z : ℤ) → unsigned_abs z ≤ 2 ^ 42 → (neg_ℤ (pos (2 ^ 42)) ≤ℤ z) × (z ≤ℤ pos (2 ^ 42))
 impulse_between z h = (omega (arith, ints, h), omega (arith, ints, h))
@@ -198,7 +198,7 @@ length_most : (z : ℤ) → unsigned_abs z ≤ 2 ^ 25 → z ≤ℤ pos (2 ^ 25)
 length_most z h = omega (arith, ints, h)
 
 pub joint_back : (places : List Place) (colour : Option ℕ) (j : BodyJoint) → IsJointWritten places colour j → IsJointBack places colour j
-unfolding joint_in joint_of joint_asks
+unfolding joint_in joint_data joint_asks
 joint_back places colour j h =
     let first = handle_back (id_in places j.a) h.a h.a_generation in
     let second = handle_back (id_in places j.b) h.b h.b_generation in
@@ -225,7 +225,7 @@ joint_back places colour j h =
 
 -- ---- totals
 
-total_back : (t : Total) → IsSmallTotal t → IsBack saved_totals.total_in total_asks (total_of t) t
+total_back : (t : Total) → IsSmallTotal t → IsBack saved_totals.total_read total_asks (total_data t) t
 total_back t h =
     let x = decimal_back MAX_TOTAL t.x (omega arith) h.x in
     let y = decimal_back MAX_TOTAL t.y (omega arith) h.y in
@@ -239,7 +239,7 @@ pub record AreSmallTotals (t : Totals) : Type 0 where
   pub rest : IsSmallTotal t.rest
   pub departed : IsSmallTotal t.departed
 
-pub totals_back : (t : Totals) → AreSmallTotals t → IsBack saved_totals.totals_in totals_asks (saved_totals.totals_of t) t
+pub totals_back : (t : Totals) → AreSmallTotals t → IsBack saved_totals.totals_read totals_asks (saved_totals.totals_data t) t
 totals_back t h =
     let command = total_back t.command h.command in
     let gravity = total_back t.gravity h.gravity in

@@ -18,8 +18,8 @@ use Rattle.world_file_base.specs.Reading.{has_keys, whole_asks}
 use Rattle.world_file_base.specs.Written.{natural}
 use Rattle.world_file_base.specs.declared.clause.Clause.TheVariants.{Form, Generations}
 use Rattle.world_file_base.specs.declared.reader.Reader.{Reader}
-use Rattle.world_file_base.specs.SavedBodies.{body_asks, body_in, body_of}
-use Rattle.world_file_base.specs.SavedJoints.{joint_asks, joint_in, joint_of}
+use Rattle.world_file_base.specs.SavedBodies.{body_asks, body_in, body_data}
+use Rattle.world_file_base.specs.SavedJoints.{joint_asks, joint_in, joint_data}
 use Rattle.world_file_base.specs.SavedSlots.{bodies_asks, bodies_in, body_key, body_slot_asks, body_slot_of, body_slots, generation_in, generation_of_value, is_in_time, item_asks, joint_key, joint_slot_asks, joint_slot_of, joint_slots, joints_asks, joints_in, membership_or_none, memberships_in, place_asks, place_in, places_in, positive, slot_keys, slot_of}
 use Rattle.world_file_base.specs.declared.saved.Membership.{Membership}
 use Rattle.world_file_base.specs.declared.saved.SavedJoint.{SavedJoint}
@@ -96,9 +96,9 @@ AreBodiesWritten most (p ∷ ps) (o ∷ os) [] = ⊥
 AreBodiesWritten most (p ∷ ps) (o ∷ os) (l ∷ ls) = IsSlotWritten most p o l × AreBodiesWritten most ps os ls
 
 record IsItemBack (most : ℕ) (o : Option Body) (l : Option Label) : Type 0 where
-  body : option_map (body_in most) (option_map (λ (b : Body). body_of b l) o) ≡ o
-  membership : membership_or_none (option_map (λ (b : Body). body_of b l) o) ≡ membership_of l
-  asks : (r : Reader) → item_asks (body_asks most) (option_map (λ (b : Body). body_of b l) o) r ≡ r
+  body : option_map (body_in most) (option_map (λ (b : Body). body_data b l) o) ≡ o
+  membership : membership_or_none (option_map (λ (b : Body). body_data b l) o) ≡ membership_of l
+  asks : (r : Reader) → item_asks (body_asks most) (option_map (λ (b : Body). body_data b l) o) r ≡ r
 
 item_back : (most : ℕ) (o : Option Body) (l : Option Label) → OnWritten most o l → IsItemBack most o l
 item_back most None l h = record { body = refl; membership = sym (ap (λ (v : Option Label). membership_of v) h); asks = λ r. refl }
@@ -114,9 +114,9 @@ record IsSlotBack (most : ℕ) (p : Place) (o : Option Body) (l : Option Label) 
 
 slot_back : (most : ℕ) (p : Place) (o : Option Body) (l : Option Label) → IsSlotWritten most p o l → IsSlotBack most p o l
 slot_back most p o l h =
-    let content : Option Data = option_map (λ (b : Body). body_of b l) o in
+    let content : Option Data = option_map (λ (b : Body). body_data b l) o in
     let keys = body_slot_keys p content in
-    let place = place_back body_key (body_slot_of p o l) p content keys h.place (h.live ∙ some_map (λ (b : Body). body_of b l) o) in
+    let place = place_back body_key (body_slot_of p o l) p content keys h.place (h.live ∙ some_map (λ (b : Body). body_data b l) o) in
     let it = item_back most o l h.body in
     record {
       place = place.value;
@@ -172,8 +172,8 @@ AreJointsWritten places colours slot (p ∷ ps) [] = ⊥
 AreJointsWritten places colours slot (p ∷ ps) (o ∷ os) = IsJointSlotWritten places (colour_of (Joint (record { slot = slot; generation = p.generation })) colours) p o × AreJointsWritten places colours (suc slot) ps os
 
 record IsJointItemBack (places : List Place) (own : Option ℕ) (o : Option BodyJoint) : Type 0 where
-  joint : option_map (joint_in Second) (option_map (λ (j : BodyJoint). joint_of places j own) o) ≡ option_map (saved_joint places own) o
-  asks : (r : Reader) → item_asks (joint_asks Second) (option_map (λ (j : BodyJoint). joint_of places j own) o) r ≡ r
+  joint : option_map (joint_in Second) (option_map (λ (j : BodyJoint). joint_data places j own) o) ≡ option_map (saved_joint places own) o
+  asks : (r : Reader) → item_asks (joint_asks Second) (option_map (λ (j : BodyJoint). joint_data places j own) o) r ≡ r
 
 joint_item_back : (places : List Place) (own : Option ℕ) (o : Option BodyJoint) → OnJointWritten places own o → IsJointItemBack places own o
 joint_item_back places own None h = record { joint = refl; asks = λ r. refl }
@@ -186,9 +186,9 @@ record IsJointSlotBack (places : List Place) (own : Option ℕ) (p : Place) (o :
 
 joint_slot_back : (places : List Place) (own : Option ℕ) (p : Place) (o : Option BodyJoint) → IsJointSlotWritten places own p o → IsJointSlotBack places own p o
 joint_slot_back places own p o h =
-    let content : Option Data = option_map (λ (j : BodyJoint). joint_of places j own) o in
+    let content : Option Data = option_map (λ (j : BodyJoint). joint_data places j own) o in
     let keys = joint_slot_keys p content in
-    let place = place_back joint_key (joint_slot_of places p o own) p content keys h.place (h.live ∙ some_map (λ (j : BodyJoint). joint_of places j own) o) in
+    let place = place_back joint_key (joint_slot_of places p o own) p content keys h.place (h.live ∙ some_map (λ (j : BodyJoint). joint_data places j own) o) in
     let it = joint_item_back places own o h.joint in
     record {
       place = place.value;

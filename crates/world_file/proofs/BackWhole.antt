@@ -40,7 +40,7 @@ use Rattle.world_file_base.specs.declared.clause.Clause.{Clause}
 use Rattle.world_file_base.specs.declared.clause.Clause.TheVariants.{Limits}
 use Rattle.world_file_base.specs.declared.reader.Reader.{Reader}
 use Rattle.world_file_base.specs.SavedBodies.{sleeping_under}
-use Rattle.world_file_base.specs.SavedJoints.{generation_of}
+use Rattle.world_file_base.specs.SavedJoints.{generation_there}
 use Rattle.world_file_base.specs.SavedSlots.{bodies_asks, bodies_in, body_slots, slots_asks}
 use Rattle.world_file_base.specs.declared.version.Version.TheVariants.{Second}
 use Rattle.solver_sets.specs.Ties.{is_mover_in}
@@ -52,10 +52,10 @@ use Rattle.world_file.specs.Files.{plain_of, read_of, read_unless, value_of}
 use Rattle.world_file.specs.Fitting.{fitting_asks}
 use Rattle.world_file.specs.Saved.{Saved, calls_in, heads_asks, most_calls, parts_asks, saved_in, slow_ticks, steps_in}
 use Rattle.world_rules.specs.Sound.{HasBodies, IsSound}
-use Rattle.world_rules.specs.World.{World, book_of, joints_of}
+use Rattle.world_rules.specs.World.{World, book_of, joints_in_slots}
 use Rattle.world_rules.proofs.SlotLemmas.{body_at-in}
 use Rattle.world_file.specs.Again.{membership_of, saved_of}
-use Rattle.world_file.specs.Laws.{HasSmallTotals, WhatIsWrittenIsReadAgain, totals_in}
+use Rattle.world_file.specs.Laws.{HasSmallTotals, WhatIsWrittenIsReadAgain, totals_of_world}
 use Rattle.world_file.proofs.AgainParts.{each_from_all}
 use Rattle.world_file.proofs.AgainWhole.{settled, what_is_written_fits}
 use Rattle.world_file.proofs.BackNumbers.{asked_true, unsigned_back, within_back}
@@ -112,7 +112,7 @@ whole_back p t bodies joints contacts small gravity steps calls few_bodies few_j
 -- ---- what a sound world has that is written
 
 abbrev lists : World → Lists
-lists w = members_of w.plain.bodies (joints_of w.plain) w.plain.colours
+lists w = members_of w.plain.bodies (joints_in_slots w.plain) w.plain.colours
 
 colour_small : (w : World) → IsSound w → (id : Constraint) → IsColour (colour_of id w.plain.colours)
 unfolding colour_of
@@ -192,7 +192,7 @@ bodies_written w h =
 
 -- ---- joints
 
-generation_small : (ps : List Place) (k : ℕ) → All IsPlace ps → generation_of (slice_get ps k) < 2 ^ 32
+generation_small : (ps : List Place) (k : ℕ) → All IsPlace ps → generation_there (slice_get ps k) < 2 ^ 32
 generation_small [] k all = omega arith
 generation_small (p ∷ ps) zero all = let bounded = (All-head IsPlace p ps all).bounded in omega (arith, bounded)
 generation_small (p ∷ ps) (suc k) all = generation_small ps k (All-tail IsPlace p ps all)
@@ -236,7 +236,7 @@ joints_by w h slot (p ∷ ps) (o ∷ os) e all taken are = (
 small_total : (w : World) → HasSmallTotals w → (cause : Cause) → IsSmallTotal (total_of cause (book_of w))
 small_total w small cause = record { x = small.x cause; y = small.y cause }
 
-small_totals : (w : World) → HasSmallTotals w → AreSmallTotals (totals_in w)
+small_totals : (w : World) → HasSmallTotals w → AreSmallTotals (totals_of_world w)
 small_totals w small = record {
   command = small_total w small causes.Command;
   gravity = small_total w small causes.Gravity;
@@ -246,10 +246,10 @@ small_totals w small = record {
   departed = small_total w small causes.Departed;
 }
 
-written_back : (w : World) → IsSound w → HasSmallTotals w → IsWholeBack w.plain (totals_in w)
+written_back : (w : World) → IsSound w → HasSmallTotals w → IsWholeBack w.plain (totals_of_world w)
 written_back w h small =
     let same : (k : ℕ) → label_at w.plain.islands (0 + k) ≡ label_at w.plain.islands k = λ k. let e : 0 + k ≡ k = omega arith in ap (λ (n : ℕ). label_at w.plain.islands n) e in
-    whole_back w.plain (totals_in w)
+    whole_back w.plain (totals_of_world w)
     (bodies_back (w.plain.steps * 8) 0 w.plain.places w.plain.bodies w.plain.islands w.plain.islands (bodies_written w h) same)
     (joints_back w.plain.places w.plain.colours 0 w.plain.joint_places w.plain.joints (joints_by w h 0 w.plain.joint_places w.plain.joints h.formed.joint_slots.slots h.formed.joint_places h.formed.joint_slots.taken h.formed.joints))
     (contacts_back w.plain.colours w.plain.contacts (contacts_written w h w.plain.contacts (each_from_all (IsContactOf w.plain.bodies) w.plain.contacts h.formed.pairs) (each_from_all (HasBodies w.plain.bodies) w.plain.contacts h.formed.there)))
@@ -269,7 +269,7 @@ read_back (Some clause) s p t e f g = cc
 pub what_is_written_is_read_again : WhatIsWrittenIsReadAgain
 unfolding read_of
 what_is_written_is_read_again w h small =
-    let d : Data = value_of w.plain (totals_in w) in
+    let d : Data = value_of w.plain (totals_of_world w) in
     let back = written_back w h small in
     let made = what_is_written_fits w h in
-    read_back (first_broken d) (saved_in d) w.plain (totals_in w) (unbroken w.plain (totals_in w) back made.fit) (ap (λ (s : Saved). plain_of s) back.saved ∙ made.plain) (ap (λ (s : Saved). s.totals) back.saved)
+    read_back (first_broken d) (saved_in d) w.plain (totals_of_world w) (unbroken w.plain (totals_of_world w) back made.fit) (ap (λ (s : Saved). plain_of s) back.saved ∙ made.plain) (ap (λ (s : Saved). s.totals) back.saved)

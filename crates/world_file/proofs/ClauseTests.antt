@@ -19,7 +19,7 @@ use Rattle.plain_world.specs.declared.body.Body.{Body}
 use Rattle.plain_world.specs.declared.kind.Kind.{Kind}
 use Rattle.plain_world.specs.declared.kind.Kind.TheVariants.{Static, Kinematic, Dynamic}
 use Rattle.world_file_base.specs.Asks.{asked, noted}
-use Rattle.world_file_base.specs.Reading.{ends_asks, first_in, greatest, greatest_group, has_keys, has_keys_in, island_asks, is_null, items_in, least, least_group, list_asks, number_asks, number_in, pair_asks, second_in, signed_asks, text_asks, text_in, truth_asks, unsigned_asks, unsigned_in, vector_asks, vector_in, vector_within, vector_within_asks, whole_asks, whole_in}
+use Rattle.world_file_base.specs.Reading.{ends_asks, first_in, greatest, greatest_group, has_keys, has_keys_in, island_asks, is_null, items_in, least, least_group, list_asks, number_asks, number_in, pair_asks, second_item, signed_asks, text_asks, text_in, truth_asks, unsigned_asks, unsigned_in, vector_asks, vector_in, vector_within, vector_within_asks, whole_asks, whole_in}
 use Rattle.world_file_base.specs.SavedBodies.{are_in_boxes, bare_kind, body_asks, body_in, course_asks, facing_asks, facing_in, fit_asks, is_at_rest, is_pose, island_fits, island_told, keys_asks, kind_asks, kind_in, least_mass, mass_asks, mass_in, membership_asks, membership_in, momenta_asks, most_angular, most_inertia, most_mass, motion_asks, motion_in, named_kind, numbers_asks, pose_asks, pose_in, rest_asks, told_asks, whole_body_asks}
 use Rattle.world_file_base.specs.SavedContacts.{contact_asks, contacts_asks, last_candidate, point_asks, points_asks, push_asks, shape_id_asks, size_asks}
 use Rattle.world_file_base.specs.SavedJoints.{joint_asks}
@@ -96,16 +96,16 @@ says_number : (v : Option Data) → Says (plain (is_whole v) (is_number v)) (num
 says_number v = says_from least greatest v
 
 says_vector : (v : Option Data) → Says (plain (are_two_wholes v) (are_two_numbers v)) (vector_asks v)
-says_vector v = after (after (says_pair v) (says_number (first_in v))) (says_number (second_in v))
+says_vector v = after (after (says_pair v) (says_number (first_in v))) (says_number (second_item v))
 
 says_within : (most : ℕ) (v : Option Data) → Says (plain (are_two_wholes v) (is_vector_within most v)) (vector_within_asks most v)
 says_within most v = after (says_vector v) (asks (is_within most (vector_in v)) Limits)
 
 says_box : (most : ℕ) (v : Option Data) → Says (plain (are_two_vectors v) (is_box_within most v)) (ends_asks most v)
-says_box most v = after (after (says_pair v) (says_within most (first_in v))) (says_within most (second_in v))
+says_box most v = after (after (says_pair v) (says_within most (first_in v))) (says_within most (second_item v))
 
 says_ends : (v : Option Data) → Says (plain (are_two_vectors v) (are_ends_numbers v)) (core_asks v)
-says_ends v = after (after (says_pair v) (says_vector (first_in v))) (says_vector (second_in v))
+says_ends v = after (after (says_pair v) (says_vector (first_in v))) (says_vector (second_item v))
 
 says_decimal : (most : ℕ) (v : Option Data) → Says (plain (is_number_text v) (is_text_within most v)) (decimal_asks most v)
 says_decimal most v = after (after (says_text v) (asks (is_some (number_of_text (text_in v))) Form)) (asks (is_text_within most v) Limits)
@@ -116,7 +116,7 @@ says_colour version v = asks_unless (is_null v) (after (says_up_to 255 v) (asks 
 -- ---- the ledger
 
 says_total : (v : Option Data) → Says (plain (is_total v) (is_total_within v)) (total_asks v)
-says_total v = after (after (says_pair v) (says_decimal MAX_TOTAL (first_in v))) (says_decimal MAX_TOTAL (second_in v))
+says_total v = after (after (says_pair v) (says_decimal MAX_TOTAL (first_in v))) (says_decimal MAX_TOTAL (second_item v))
 
 says_totals : (v : Option Data) → Says (plain (are_totals v) (are_totals_within v)) (totals_asks v)
 says_totals v = after (after (after (after (after (after (asks (has_keys_in 6 v) Form) (says_total (cause_in (codes "command") v))) (says_total (cause_in (codes "gravity") v))) (says_total (cause_in (codes "immovable") v))) (says_total (cause_in (codes "clamp") v))) (says_total (cause_in (codes "rest") v))) (says_total (cause_in (codes "departed") v))
@@ -317,7 +317,7 @@ says_points no_items = idle (plain true true) (refl, (refl, tt))
 says_points (item d ds) = after (says_point d) (says_points ds)
 
 says_shape_id : (v : Option Data) → Says (plain (are_two_wholes v) (is_shape_id_within v)) (shape_id_asks v)
-says_shape_id v = after (after (says_pair v) (says_up_to (2 ^ 32 - 1) (first_in v))) (says_up_to 255 (second_in v))
+says_shape_id v = after (after (says_pair v) (says_up_to (2 ^ 32 - 1) (first_in v))) (says_up_to 255 (second_item v))
 
 says_contact : (version : Version) (d : Data) → Says (coloured (is_contact d) (is_contact_within d) (has_colour_of version d)) (contact_asks version d)
 unfolding contact_asks is_contact is_contact_within

@@ -9,7 +9,7 @@ use Rattle.graph_colours.specs.declared.limits.TheConstants.{COLOURS, OVERFLOW}
 use Rattle.joint_rows.specs.Joints.{IsJoint}
 use Rattle.joint_rows.specs.declared.limits.TheConstants.{MAX_ANCHOR, MAX_JOINT_IMPULSE, MAX_JOINT_LENGTH}
 use Rattle.world_file_base.specs.Asks.{asked}
-use Rattle.world_file_base.specs.Reading.{first_in, has_keys, is_null, items_in, pair_asks, second_in, unsigned_asks, unsigned_in}
+use Rattle.world_file_base.specs.Reading.{first_in, has_keys, is_null, items_in, pair_asks, second_item, unsigned_asks, unsigned_in}
 use Rattle.world_file_base.specs.declared.clause.Clause.TheVariants.{Colours, Form}
 use Rattle.world_file_base.specs.declared.reader.Reader.{Reader}
 use Rattle.world_file_base.specs.SavedContacts.{contact_asks, contact_in, contacts_asks, contacts_in, no_points, shape_id_asks}
@@ -67,12 +67,12 @@ pub record IsSavedContact (c : SavedContact) : Type 0 where
   pub colour : IsColour c.colour
 
 passes_shape : (v : Option Data) → Passes (shape_id_asks v)
-passes_shape v r h = passes_pair v r (passes_unsigned (2 ^ 32 - 1) (first_in v) (pair_asks v r) (passes_unsigned 255 (second_in v) (unsigned_asks (2 ^ 32 - 1) (first_in v) (pair_asks v r)) h))
+passes_shape v r h = passes_pair v r (passes_unsigned (2 ^ 32 - 1) (first_in v) (pair_asks v r) (passes_unsigned 255 (second_item v) (unsigned_asks (2 ^ 32 - 1) (first_in v) (pair_asks v r)) h))
 
-named_in : (a b : Option Data) → IsNamed (record { first = record { slot = unsigned_in (2 ^ 32 - 1) (first_in a); index = unsigned_in 255 (second_in a) }; second = record { slot = unsigned_in (2 ^ 32 - 1) (first_in b); index = unsigned_in 255 (second_in b) } })
+named_in : (a b : Option Data) → IsNamed (record { first = record { slot = unsigned_in (2 ^ 32 - 1) (first_in a); index = unsigned_in 255 (second_item a) }; second = record { slot = unsigned_in (2 ^ 32 - 1) (first_in b); index = unsigned_in 255 (second_item b) } })
 named_in a b = record {
-  first = let k = unsigned_small 255 (second_in a) in omega (arith, k);
-  second = let k = unsigned_small 255 (second_in b) in omega (arith, k);
+  first = let k = unsigned_small 255 (second_item a) in omega (arith, k);
+  second = let k = unsigned_small 255 (second_item b) in omega (arith, k);
   slot = let k = unsigned_small (2 ^ 32 - 1) (first_in b) in omega (arith, k);
 }
 

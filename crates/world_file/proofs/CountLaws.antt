@@ -4,7 +4,7 @@ use Rattle.std.proofs.lemmas.List.{length-append}
 use Rattle.graph_colours.specs.declared.limits.TheConstants.{COLOURS}
 use Rattle.world_file.specs.Files.{plain_of}
 use Rattle.world_file.specs.declared.ties.Tie.{Tie}
-use Rattle.world_file.specs.Fitting.{ids_below, ids_coloured, ties_of}
+use Rattle.world_file.specs.Fitting.{ids_below, ids_coloured, ties_read}
 use Rattle.world_file.specs.Saved.{Saved}
 
 below_length : (ties : List Tie) (n : ℕ) → length (ids_below ties n) ≡ n
@@ -13,4 +13,4 @@ below_length ties (suc n) = length-append (ids_below ties n) (ids_coloured ties 
 
 -- one for each colour, and the overflow
 pub read_colours : (s : Saved) → length (plain_of s).colours ≡ COLOURS + 1
-read_colours s = below_length (ties_of s) (COLOURS + 1)
+read_colours s = below_length (ties_read s) (COLOURS + 1)

@@ -6,7 +6,7 @@ use Rattle.std.proofs.lemmas.List.{append-nil, drop_all}
 use Rattle.body_handles.specs.declared.places.Place.{Place}
 use Rattle.plain_world.specs.declared.body.Body.{Body}
 use Rattle.world_file_base.specs.declared.saved.SavedJoint.{SavedJoint}
-use Rattle.world_file.specs.Fitting.{are_joints_colourless, is_colourless, joint_colour, joint_tie, joint_ties, listed}
+use Rattle.world_file.specs.Fitting.{are_joints_colourless, is_colourless, joint_colour, joint_tie, joint_ties, tie_if_any}
 use Rattle.world_file.specs.declared.ties.Tie.{Tie}
 
 no_joint : (bodies : List (Option Body)) (slot : ℕ) (places : List Place) → joint_ties bodies slot places [] ≡ []
@@ -18,9 +18,9 @@ ties_end bodies places joints n k (inl past) end = rw (drop_all k places (omega 
 ties_end bodies places joints n k (inr past) end = rw (drop_all k joints (omega arith)) (no_joint bodies k (drop k places))
 
 pub ties_listed : (done whole : List Tie) (bodies : List (Option Body)) (places : List Place) (joints : List (Option SavedJoint)) (n k : ℕ) → (length places ≤ n) ⊎ (length joints ≤ n) → n ≤ k
-    → done ++ flat_map listed (joint_ties bodies k (drop k places) (drop k joints)) ≡ whole → done ≡ whole
+    → done ++ flat_map tie_if_any (joint_ties bodies k (drop k places) (drop k joints)) ≡ whole → done ≡ whole
 ties_listed done whole bodies places joints n k one end all =
-    sym (append-nil done) ∙ ap (λ ties. done ++ flat_map listed ties) (sym (ties_end bodies places joints n k one end)) ∙ all
+    sym (append-nil done) ∙ ap (λ ties. done ++ flat_map tie_if_any ties) (sym (ties_end bodies places joints n k one end)) ∙ all
 
 none_coloured : (bodies : List (Option Body)) (slot : ℕ) (places : List Place) → are_joints_colourless bodies slot places [] ≡ true
 none_coloured bodies slot [] = refl
@@ -32,15 +32,15 @@ colourless_end bodies places joints n k (inl past) end = rw (drop_all k places (
 colourless_end bodies places joints n k (inr past) end = rw (drop_all k joints (omega arith)) (none_coloured bodies k (drop k places))
 
 pub push_step : (done new whole : List Tie) (bodies : List (Option Body)) (places : List Place) (joints : List (Option SavedJoint)) (k : ℕ) (d : Place) (e : Option SavedJoint) (o : Option Tie) → k < length places → k < length joints
-    → new ≡ done ++ listed o → o ≡ joint_tie bodies k (get_or places k d) (get_or joints k e)
-    → done ++ flat_map listed (joint_ties bodies k (drop k places) (drop k joints)) ≡ whole → new ++ flat_map listed (joint_ties bodies (k + 1) (drop (k + 1) places) (drop (k + 1) joints)) ≡ whole
+    → new ≡ done ++ tie_if_any o → o ≡ joint_tie bodies k (get_or places k d) (get_or joints k e)
+    → done ++ flat_map tie_if_any (joint_ties bodies k (drop k places) (drop k joints)) ≡ whole → new ++ flat_map tie_if_any (joint_ties bodies (k + 1) (drop (k + 1) places) (drop (k + 1) joints)) ≡ whole
 push_step done new whole bodies places joints k d e o short less added is all =
     let first : drop k places ≡ get_or places k d ∷ drop (suc k) places = drop-cons places k d short in
     let second : drop k joints ≡ get_or joints k e ∷ drop (suc k) joints = drop-cons joints k e less in
-    let rest : List Tie = flat_map listed (joint_ties bodies (suc k) (drop (suc k) places) (drop (suc k) joints)) in
-    let cut : flat_map listed (joint_ties bodies k (drop k places) (drop k joints)) ≡ listed o ++ rest =
-    ap (λ ps. flat_map listed (joint_ties bodies k ps (drop k joints))) first ∙ ap (λ js. flat_map listed (joint_ties bodies k (get_or places k d ∷ drop (suc k) places) js)) second ∙ ap (λ x. listed x ++ rest) (sym is) in
-    rw add-one (ap (λ xs. xs ++ rest) added ∙ append_assoc done (listed o) rest ∙ ap (λ xs. done ++ xs) (sym cut) ∙ all)
+    let rest : List Tie = flat_map tie_if_any (joint_ties bodies (suc k) (drop (suc k) places) (drop (suc k) joints)) in
+    let cut : flat_map tie_if_any (joint_ties bodies k (drop k places) (drop k joints)) ≡ tie_if_any o ++ rest =
+    ap (λ ps. flat_map tie_if_any (joint_ties bodies k ps (drop k joints))) first ∙ ap (λ js. flat_map tie_if_any (joint_ties bodies k (get_or places k d ∷ drop (suc k) places) js)) second ∙ ap (λ x. tie_if_any x ++ rest) (sym is) in
+    rw add-one (ap (λ xs. xs ++ rest) added ∙ append_assoc done (tie_if_any o) rest ∙ ap (λ xs. done ++ xs) (sym cut) ∙ all)
 
 colourless_step : (bodies : List (Option Body)) (places : List Place) (joints : List (Option SavedJoint)) (k : ℕ) (d : Place) (e : Option SavedJoint) → k < length places → k < length joints
     → are_joints_colourless bodies k (drop k places) (drop k joints) ≡ (is_colourless (joint_tie bodies k (get_or places k d) (get_or joints k e)) (joint_colour (get_or joints k e)) && are_joints_colourless bodies (suc k) (drop (suc k) places) (drop (suc k) joints))

@@ -12,13 +12,13 @@ use Rattle.impulse_ledger.specs.declared.entry.Cause.TheVariants as causes
 use Rattle.impulse_ledger.specs.declared.limits.TheConstants.{MAX_TOTAL}
 use Rattle.impulse_ledger.specs.declared.totals.Total.{Total}
 use Rattle.momenta.specs.declared.limits.TheConstants.{MAX_GRAVITY}
-use Rattle.world_file_base.specs.Reading.{first_in, has_keys, has_keys_in, items_in, pair_asks, second_in, whole_in}
+use Rattle.world_file_base.specs.Reading.{first_in, has_keys, has_keys_in, items_in, pair_asks, second_item, whole_in}
 use Rattle.world_file_base.specs.Texts.{decimal_asks}
 use Rattle.world_file_base.specs.declared.clause.Clause.TheVariants.{Colours, Form, Islands, Links, Memberships, Momentum, References}
 use Rattle.world_file_base.specs.SavedTotals as saved_totals
-use Rattle.world_file_base.specs.SavedTotals.{cause_in, total_asks, totals_asks, totals_in}
+use Rattle.world_file_base.specs.SavedTotals.{cause_in, total_asks, totals_asks, totals_read}
 use Rattle.sleep_wake.specs.Acting.{links_of}
-use Rattle.world_file.specs.Fitting.{are_named_well, are_whole, colours_keep, components_of, fitting_asks, is_tie_kept, members_of, momentum_keeps, references_keep, ties_of}
+use Rattle.world_file.specs.Fitting.{are_named_well, are_whole, colours_keep, components_of, fitting_asks, is_tie_kept, members_among, momentum_keeps, references_keep, ties_read}
 use Rattle.world_file.specs.Saved.{Saved, calls_in, heads_asks, most_calls, parts_asks, saved_in, slow_ticks, steps_in, version_in, version_of}
 use Rattle.world_file.proofs.AskLaws.{Passes, Tells, passes, passes_decimal, passes_list, passes_pair, passes_unsigned, passes_whole, passes_within, tells}
 use Rattle.world_file.proofs.ContactAsks.{IsSavedContact, tells_contacts}
@@ -31,10 +31,10 @@ pub record IsSmallTotal (t : Total) : Type 0 where
   pub x : unsigned_abs t.x ≤ 2 ^ 126
   pub y : unsigned_abs t.y ≤ 2 ^ 126
 
-small_total : (v : Option Data) → IsSmallTotal (saved_totals.total_in v)
-small_total v = record { x = decimal_small MAX_TOTAL (first_in v); y = decimal_small MAX_TOTAL (second_in v) }
+small_total : (v : Option Data) → IsSmallTotal (saved_totals.total_read v)
+small_total v = record { x = decimal_small MAX_TOTAL (first_in v); y = decimal_small MAX_TOTAL (second_item v) }
 
-small_totals : (v : Option Data) (cause : Cause) → IsSmallTotal (total_in cause (totals_in v))
+small_totals : (v : Option Data) (cause : Cause) → IsSmallTotal (total_in cause (totals_read v))
 small_totals v causes.Command = small_total (cause_in (codes "command") v)
 small_totals v causes.Gravity = small_total (cause_in (codes "gravity") v)
 small_totals v causes.Immovable = small_total (cause_in (codes "immovable") v)
@@ -43,7 +43,7 @@ small_totals v causes.Rest = small_total (cause_in (codes "rest") v)
 small_totals v causes.Departed = small_total (cause_in (codes "departed") v)
 
 passes_total : (v : Option Data) → Passes (total_asks v)
-passes_total v r h = passes_pair v r (passes_decimal MAX_TOTAL (first_in v) (pair_asks v r) (passes_decimal MAX_TOTAL (second_in v) (decimal_asks MAX_TOTAL (first_in v) (pair_asks v r)) h))
+passes_total v r h = passes_pair v r (passes_decimal MAX_TOTAL (first_in v) (pair_asks v r) (passes_decimal MAX_TOTAL (second_item v) (decimal_asks MAX_TOTAL (first_in v) (pair_asks v r)) h))
 
 passes_totals : (v : Option Data) → Passes (totals_asks v)
 passes_totals v r h =
@@ -114,8 +114,8 @@ tells_parts d r h =
 pub record AreFitting (s : Saved) : Type 0 where
   pub references : references_keep s ≡ true
   pub named : are_named_well s.memberships 0 s.memberships ≡ true
-  pub links : list_all (is_tie_kept s.memberships) (ties_of s) ≡ true
-  pub whole : are_whole (components_of s.memberships (links_of (members_of (ties_of s)))) 0 s.memberships ≡ true
+  pub links : list_all (is_tie_kept s.memberships) (ties_read s) ≡ true
+  pub whole : are_whole (components_of s.memberships (links_of (members_among (ties_read s)))) 0 s.memberships ≡ true
   pub colours : colours_keep s ≡ true
   pub momentum : momentum_keeps s ≡ true
 
@@ -123,8 +123,8 @@ pub tells_fitting : (s : Saved) → Tells (AreFitting s) (fitting_asks s)
 tells_fitting s r h =
     let momentum = tells (momentum_keeps s) Momentum _ h in
     let colours = tells (colours_keep s) Colours _ momentum.1 in
-    let whole = tells (are_whole (components_of s.memberships (links_of (members_of (ties_of s)))) 0 s.memberships) Islands _ colours.1 in
-    let links = tells (list_all (is_tie_kept s.memberships) (ties_of s)) Links _ whole.1 in
+    let whole = tells (are_whole (components_of s.memberships (links_of (members_among (ties_read s)))) 0 s.memberships) Islands _ colours.1 in
+    let links = tells (list_all (is_tie_kept s.memberships) (ties_read s)) Links _ whole.1 in
     let named = tells (are_named_well s.memberships 0 s.memberships) Memberships _ links.1 in
     let references = tells (references_keep s) References r named.1 in
     (record { references = references.0; named = named.0; links = links.0; whole = whole.0; colours = colours.0; momentum = momentum.0 }, references.1)

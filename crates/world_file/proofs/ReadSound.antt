@@ -40,7 +40,7 @@ use Rattle.solver_sets.proofs.ListLaws.{Rises, in_mapped, mapped_in, pairs_from_
 use Rattle.solver_sets.proofs.TieLaws.{tie_number}
 use Rattle.world_file.specs.Clauses.{first_broken}
 use Rattle.world_file.specs.Files.{plain_of, read_of, read_unless}
-use Rattle.world_file.specs.Fitting.{are_apart, are_joints_colourless, are_rising_after, colours_below, entry_of, ids_below, is_coloured_well, is_contact_colourless, is_contact_fitting, is_joint_fitting, is_tie_kept, joint_kept, label_of, members_of, membership_at, ties_of}
+use Rattle.world_file.specs.Fitting.{share_no_mover, are_joints_colourless, are_rising_after, colours_below, entry_read, ids_below, is_coloured_well, is_contact_colourless, is_contact_fitting, is_joint_fitting, is_tie_kept, joint_kept, label_of, members_among, membership_at, ties_read}
 use Rattle.world_file.specs.Saved.{Saved, parts_asks, saved_in}
 use Rattle.world_file.specs.declared.ties.Tie.{Tie}
 use Rattle.world_rules.specs.Sets.{acting_of}
@@ -76,14 +76,14 @@ referred s f =
     record { joints = a.0; contacts = b.0; rising = b.1 }
 
 record IsColoured (s : Saved) : Type 0 where
-  well : list_all (is_coloured_well s.memberships) (ties_of s) ≡ true
-  apart : list_all are_apart (colours_below (ties_of s) COLOURS) ≡ true
+  well : list_all (is_coloured_well s.memberships) (ties_read s) ≡ true
+  apart : list_all share_no_mover (colours_below (ties_read s) COLOURS) ≡ true
 
 coloured_is : (s : Saved) → AreFitting s → IsColoured s
 coloured_is s f =
     let a = both_true (are_joints_colourless s.bodies 0 s.joint_places s.joints) _ f.colours in
     let b = both_true (list_all (is_contact_colourless s.bodies) s.contacts) _ a.1 in
-    let c = both_true (list_all (is_coloured_well s.memberships) (ties_of s)) (list_all are_apart (colours_below (ties_of s) COLOURS)) b.1 in
+    let c = both_true (list_all (is_coloured_well s.memberships) (ties_read s)) (list_all share_no_mover (colours_below (ties_read s) COLOURS)) b.1 in
     record { well = c.0; apart = c.1 }
 
 -- ---- the bodies
@@ -149,7 +149,7 @@ abbrev slots : Saved → sets.JointSlots
 slots s = slots_of s.joint_places (map joint_kept s.joints)
 
 abbrev entries : Saved → List ContactEntry
-entries s = map (entry_of s.bodies) s.contacts
+entries s = map (entry_read s.bodies) s.contacts
 
 abbrev labels : Saved → Labels
 labels s = map label_of s.memberships
@@ -165,58 +165,58 @@ rising_is s f = contacts_rise s.bodies s.contacts (referred s f).rising
 
 -- ---- ties
 
-ties_same : (s : Saved) → HasParts s → AreFitting s → members_of (ties_of s) ≡ sets.ties_of s.bodies (slots s) (entries s)
+ties_same : (s : Saved) → HasParts s → AreFitting s → members_among (ties_read s) ≡ sets.ties_of s.bodies (slots s) (entries s)
 ties_same s h f = ties_are s (touching_each s.bodies s.contacts (each_contact s h f))
 
 tied : (s : Saved) → HasParts s → AreTied s.bodies (labels s)
 tied s h = tied_is (8 * s.steps) s.bodies s.memberships (each_slot s h)
 
-movers_are : (s : Saved) → HasParts s → AreFitting s → (m : Member Constraint) → Contains (members_of (ties_of s)) m → AreMovers (labels s) m.movers
+movers_are : (s : Saved) → HasParts s → AreFitting s → (m : Member Constraint) → Contains (members_among (ties_read s)) m → AreMovers (labels s) m.movers
 movers_are s h f m i = ties_have_labels s.bodies (slots s) (entries s) (labels s) m (tied s h) (subst (λ (ms : List (Member Constraint)). Contains ms m) (ties_same s h f) i)
 
-each_tie : (s : Saved) → HasParts s → AreFitting s → (t : Tie) → IsIn t (ties_of s) → IsTie s.memberships t
+each_tie : (s : Saved) → HasParts s → AreFitting s → (t : Tie) → IsIn t (ties_read s) → IsTie s.memberships t
 each_tie s h f t i = record {
-  movers = movers_are s h f t.member (contains_from_in (members_of (ties_of s)) t.member (mapped_in (λ (x : Tie). x.member) (ties_of s) t i));
-  kept = all_pass (is_tie_kept s.memberships) (ties_of s) f.links t i;
-  well = all_pass (is_coloured_well s.memberships) (ties_of s) (coloured_is s f).well t i;
+  movers = movers_are s h f t.member (contains_from_in (members_among (ties_read s)) t.member (mapped_in (λ (x : Tie). x.member) (ties_read s) t i));
+  kept = all_pass (is_tie_kept s.memberships) (ties_read s) f.links t i;
+  well = all_pass (is_coloured_well s.memberships) (ties_read s) (coloured_is s f).well t i;
   colour = ties_coloured s h t i;
 }
 
-links_inside : (s : Saved) → HasParts s → AreFitting s → (a b : ℕ) → Contains (links_of (members_of (ties_of s))) (a, b) → AreTogether (labels s) a b
+links_inside : (s : Saved) → HasParts s → AreFitting s → (a b : ℕ) → Contains (links_of (members_among (ties_read s))) (a, b) → AreTogether (labels s) a b
 links_inside s h f a b i =
-    let o = link_in (members_of (ties_of s)) a b i in
-    let made = in_mapped (λ (x : Tie). x.member) (ties_of s) o.0 (in_from_contains (members_of (ties_of s)) o.0 o.1) in
+    let o = link_in (members_among (ties_read s)) a b i in
+    let made = in_mapped (λ (x : Tie). x.member) (ties_read s) o.0 (in_from_contains (members_among (ties_read s)) o.0 o.1) in
     let t : Tie = made.of in
     let is = each_tie s h f t made.there in
     let first : t.member.movers.first ≡ a = ap (λ (m : Member Constraint). m.movers.first) (sym made.is) ∙ o.2 in
     let second : t.member.movers.second ≡ Some b = ap (λ (m : Member Constraint). m.movers.second) (sym made.is) ∙ o.3 in
     subst (λ (k : ℕ). AreTogether (labels s) k b) first (tie_together s.memberships t b f.named is.kept is.movers second)
 
-rises_are : (s : Saved) → HasParts s → AreFitting s → Rises tie_number (members_of (ties_of s))
-rises_are s h f = rises_from_pairs tie_number (members_of (ties_of s)) (subst (λ (ms : List (Member Constraint)). AreRising constraint_number ms) (sym (ties_same s h f)) (ties_rise s.bodies (slots s) (entries s) (joint_slots_are s h) (rising_is s f)))
+rises_are : (s : Saved) → HasParts s → AreFitting s → Rises tie_number (members_among (ties_read s))
+rises_are s h f = rises_from_pairs tie_number (members_among (ties_read s)) (subst (λ (ms : List (Member Constraint)). AreRising constraint_number ms) (sym (ties_same s h f)) (ties_rise s.bodies (slots s) (entries s) (joint_slots_are s h) (rising_is s f)))
 
-settled_ties : (s : Saved) → HasParts s → AreFitting s → IsSettled constraint_number (acting (members_of (ties_of s)) (labels s) (saved_lists (ties_of s)))
+settled_ties : (s : Saved) → HasParts s → AreFitting s → IsSettled constraint_number (acting (members_among (ties_read s)) (labels s) (saved_lists (ties_read s)))
 settled_ties s h f = record {
-  rising = pairs_from_rises tie_number (members_of (ties_of s)) (rises_are s h f);
+  rising = pairs_from_rises tie_number (members_among (ties_read s)) (rises_are s h f);
   movers = movers_are s h f;
-  islands = islands_are s.memberships (links_of (members_of (ties_of s))) f.named (links_inside s h f) f.whole;
-  colouring = colouring_is (ties_of s) (rises_are s h f) (coloured_is s f).apart;
-  acting = acting_is s.memberships (ties_of s) f.named (each_tie s h f);
+  islands = islands_are s.memberships (links_of (members_among (ties_read s))) f.named (links_inside s h f) f.whole;
+  colouring = colouring_is (ties_read s) (rises_are s h f) (coloured_is s f).apart;
+  acting = acting_is s.memberships (ties_read s) f.named (each_tie s h f);
 }
 
-lists_same : (s : Saved) → HasParts s → AreFitting s → sets.members_of s.bodies (slots s) (ids_below (ties_of s) (COLOURS + 1)) ≡ saved_lists (ties_of s)
+lists_same : (s : Saved) → HasParts s → AreFitting s → sets.members_of s.bodies (slots s) (ids_below (ties_read s) (COLOURS + 1)) ≡ saved_lists (ties_read s)
 lists_same s h f =
-    ap (λ (ids : List (List Constraint)). sets.members_of s.bodies (slots s) ids) (sym (ids_are (ties_of s) (COLOURS + 1)))
-    ∙ lists_are_members s.bodies (slots s) (entries s) (saved_lists (ties_of s)) (λ m i. subst (λ (ms : List (Member Constraint)). Contains ms m) (ties_same s h f) (lists_are_ties (ties_of s) m i))
+    ap (λ (ids : List (List Constraint)). sets.members_of s.bodies (slots s) ids) (sym (ids_are (ties_read s) (COLOURS + 1)))
+    ∙ lists_are_members s.bodies (slots s) (entries s) (saved_lists (ties_read s)) (λ m i. subst (λ (ms : List (Member Constraint)). Contains ms m) (ties_same s h f) (lists_are_ties (ties_read s) m i))
 
-moved_is : (s : Saved) → HasParts s → AreFitting s → ids_of (sets.members_of s.bodies (slots s) (ids_below (ties_of s) (COLOURS + 1))) ≡ ids_below (ties_of s) (COLOURS + 1)
-moved_is s h f = ap (λ (lists : List (List (Member Constraint))). ids_of lists) (lists_same s h f) ∙ ids_are (ties_of s) (COLOURS + 1)
+moved_is : (s : Saved) → HasParts s → AreFitting s → ids_of (sets.members_of s.bodies (slots s) (ids_below (ties_read s) (COLOURS + 1))) ≡ ids_below (ties_read s) (COLOURS + 1)
+moved_is s h f = ap (λ (lists : List (List (Member Constraint))). ids_of lists) (lists_same s h f) ∙ ids_are (ties_read s) (COLOURS + 1)
 
 settled_is : (s : Saved) → HasParts s → AreFitting s → IsSettled constraint_number (acting_of (plain_of s))
 unfolding acting_of
 settled_is s h f =
     subst (λ (lists : List (List (Member Constraint))). IsSettled constraint_number (acting (sets.ties_of s.bodies (slots s) (entries s)) (labels s) lists)) (sym (lists_same s h f))
-    (subst (λ (ms : List (Member Constraint)). IsSettled constraint_number (acting ms (labels s) (saved_lists (ties_of s)))) (ties_same s h f) (settled_ties s h f))
+    (subst (λ (ms : List (Member Constraint)). IsSettled constraint_number (acting ms (labels s) (saved_lists (ties_read s)))) (ties_same s h f) (settled_ties s h f))
 
 -- ---- all of it
 

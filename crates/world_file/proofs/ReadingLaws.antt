@@ -5,7 +5,7 @@ use Rattle.std.specs.Result.{IfErr, IsErr, IsErrAnd}
 use Rattle.std.proofs.lemmas.Bool.{cases_lt}
 use Rattle.serde_json.specs.Data.{Data}
 use Rattle.graph_colours.proofs.PlaceLemmas.{is_lower, not_lower}
-use Rattle.world_file_base.specs.Asks.{all_asked, asked, clause_number, due_of, first_of, no_asks}
+use Rattle.world_file_base.specs.Asks.{all_asked, asked, clause_number, due_of, lesser_clause, no_asks}
 use Rattle.world_file_base.specs.declared.clause.Broken.{Broken}
 use Rattle.world_file_base.specs.declared.clause.Broken.TheVariants as broken
 use Rattle.world_file_base.specs.declared.clause.Clause.{Clause}
@@ -32,7 +32,7 @@ pub due_is : (last clause : Clause) (o : Option Clause) → due_of last o ≡ So
 due_is last clause None due = absurd (let wrong : None ≡ Some clause = due in cc)
 due_is last clause (Some other) due = due_by last clause other due
 
-first_is : (clause next : Clause) (o : Option Clause) → o ≡ Some clause → clause_number clause ≤ clause_number next → first_of next o ≡ Some clause
+first_is : (clause next : Clause) (o : Option Clause) → o ≡ Some clause → clause_number clause ≤ clause_number next → lesser_clause next o ≡ Some clause
 first_is clause next o is le = rw is (rw (not_lower (clause_number next) (clause_number clause) le) refl)
 
 -- what is asked later doesn't change it

@@ -24,11 +24,11 @@ use Rattle.islands.specs.declared.label.IslandState.{IslandState}
 use Rattle.islands.specs.declared.label.IslandState.TheVariants.{Asleep, Loose, Whole}
 use Rattle.islands.specs.declared.label.Label.{Label}
 use Rattle.world_file_base.specs.declared.saved.Membership.{Membership}
-use Rattle.sleep_wake.specs.Acting.{AreMovers, are_awake, awake_label, is_awake}
+use Rattle.sleep_wake.specs.Acting.{AreMovers, are_awake, awake_label, is_mover_awake}
 use Rattle.sleep_wake.proofs.AwakeLemmas.{all_awake, awake_first}
 use Rattle.solver_sets.proofs.ListLaws.{Rises, in_mapped, mapped_in, pairs_from_rises}
 use Rattle.solver_sets.proofs.TieLaws.{tie_number}
-use Rattle.world_file.specs.Fitting.{are_apart, are_named_well, coloured, colours_below, has_colour, ids_below, ids_coloured, is_coloured_well, is_tie_kept, label_of, members_of, membership_at}
+use Rattle.world_file.specs.Fitting.{share_no_mover, are_named_well, coloured, colours_below, has_colour, ids_below, ids_coloured, is_coloured_well, is_tie_kept, label_of, members_among, membership_at}
 use Rattle.world_file.specs.declared.ties.Tie.{Tie}
 use Rattle.world_file.proofs.ContactAsks.{IsColour}
 use Rattle.world_file.proofs.SavedIslands.{label_there, same_truth, tie_together}
@@ -116,20 +116,20 @@ below_in ties (suc n) k t lt h e = subst (λ (ms : List (Member Constraint)). Is
 
 -- ---- each colour ascends
 
-coloured_later : (ties : List Tie) (k n : ℕ) → ((y : Member Constraint) → IsIn y (members_of ties) → n < tie_number y) → (y : Member Constraint) → IsIn y (coloured ties k) → n < tie_number y
+coloured_later : (ties : List Tie) (k n : ℕ) → ((y : Member Constraint) → IsIn y (members_among ties) → n < tie_number y) → (y : Member Constraint) → IsIn y (coloured ties k) → n < tie_number y
 coloured_later ties k n h y i =
     let o = in_coloured ties k y i in
-    h y (subst (λ (m : Member Constraint). IsIn m (members_of ties)) o.2 (mapped_in (λ (t : Tie). t.member) ties o.0 o.1))
+    h y (subst (λ (m : Member Constraint). IsIn m (members_among ties)) o.2 (mapped_in (λ (t : Tie). t.member) ties o.0 o.1))
 
 rises_by : (m : Member Constraint) (b : Bool) (ms : List (Member Constraint)) → ((y : Member Constraint) → IsIn y ms → tie_number m < tie_number y) → Rises tie_number ms → Rises tie_number (cond b (m ∷ ms) ms)
 rises_by m true ms h r = (h, r)
 rises_by m false ms h r = r
 
-pub coloured_rise : (ties : List Tie) (k : ℕ) → Rises tie_number (members_of ties) → Rises tie_number (coloured ties k)
+pub coloured_rise : (ties : List Tie) (k : ℕ) → Rises tie_number (members_among ties) → Rises tie_number (coloured ties k)
 coloured_rise [] k r = tt
 coloured_rise (t ∷ ts) k r = rises_by t.member (has_colour k t.colour) (coloured ts k) (coloured_later ts k (tie_number t.member) r.0) (coloured_rise ts k r.1)
 
-all_rise : (ties : List Tie) (n : ℕ) → Rises tie_number (members_of ties) → Each (AreRising constraint_number) (colours_below ties n)
+all_rise : (ties : List Tie) (n : ℕ) → Rises tie_number (members_among ties) → Each (AreRising constraint_number) (colours_below ties n)
 all_rise ties zero r = tt
 all_rise ties (suc n) r = each_append (AreRising constraint_number) (colours_below ties n) (coloured ties n ∷ []) (all_rise ties n r) (pairs_from_rises tie_number (coloured ties n) (coloured_rise ties n r), tt)
 
@@ -141,15 +141,15 @@ free_all ms movers h k d lt =
     shares_back movers (get_or ms k d).movers
     ∙ any_false (λ (x : Member Constraint). shares x.movers movers) ms (not_true (list_any (λ (x : Member Constraint). shares x.movers movers) ms) h) k d lt
 
-apart_is : (ms : List (Member Constraint)) → are_apart ms ≡ true → AreApart ms
+apart_is : (ms : List (Member Constraint)) → share_no_mover ms ≡ true → AreApart ms
 apart_is [] h = pairs_none (λ (m later : Member Constraint). shares m.movers later.movers ≡ false)
 apart_is (m ∷ ms) h =
-    let o = both_true (is_free ms m.movers) (are_apart ms) h in
+    let o = both_true (is_free ms m.movers) (share_no_mover ms) h in
     AllPairs-cons (λ (m later : Member Constraint). shares m.movers later.movers ≡ false) m ms (free_all ms m.movers o.0) (apart_is ms o.1)
 
-each_apart : (lists : List (List (Member Constraint))) → list_all are_apart lists ≡ true → Each AreApart lists
+each_apart : (lists : List (List (Member Constraint))) → list_all share_no_mover lists ≡ true → Each AreApart lists
 each_apart [] h = tt
-each_apart (ms ∷ lists) h = let o = both_true (are_apart ms) (list_all are_apart lists) h in (apart_is ms o.0, each_apart lists o.1)
+each_apart (ms ∷ lists) h = let o = both_true (share_no_mover ms) (list_all share_no_mover lists) h in (apart_is ms o.0, each_apart lists o.1)
 
 -- ---- none stands twice
 
@@ -216,12 +216,12 @@ bit_most true true = omega arith
 bit_most true false = omega arith
 bit_most false b = omega arith
 
-tally_most : (p : Test) (n : ℕ) (ts : List Tie) → tally p n ts ≤ count_by p (members_of ts)
+tally_most : (p : Test) (n : ℕ) (ts : List Tie) → tally p n ts ≤ count_by p (members_among ts)
 tally_most p n [] = omega arith
 tally_most p n (t ∷ ts) =
     let here = bit_most (p t.member) (is_below n t.colour) in
     let rest = tally_most p n ts in
-    let put = sum_by-cons (λ (x : Member Constraint). cond (p x) 1 0) t.member (members_of ts) in
+    let put = sum_by-cons (λ (x : Member Constraint). cond (p x) 1 0) t.member (members_among ts) in
     omega (arith, here, rest, put)
 
 none_counts : (n : ℕ) (ms : List (Member Constraint)) → ((y : Member Constraint) → IsIn y ms → n < tie_number y) → count_by (λ (m : Member Constraint). tie_number m == n) ms ≡ 0
@@ -248,12 +248,12 @@ one_counts n (m ∷ ms) r =
     let one = one_by n m ms (tie_number m == n) refl r.0 (one_counts n ms r.1) in
     omega (arith, put, one)
 
-once_below : (ties : List Tie) (k n : ℕ) → Rises tie_number (members_of ties) → count_by (λ (m : Member Constraint). tie_number m == n) (all_below ties k) ≤ 1
+once_below : (ties : List Tie) (k n : ℕ) → Rises tie_number (members_among ties) → count_by (λ (m : Member Constraint). tie_number m == n) (all_below ties k) ≤ 1
 once_below ties k n r =
     let p : Test = λ m. tie_number m == n in
     let is = count_is p ties k in
     let most = tally_most p k ties in
-    let one = one_counts n (members_of ties) r in
+    let one = one_counts n (members_among ties) r in
     omega (arith, is, most, one)
 
 -- ---- a colouring
@@ -262,7 +262,7 @@ once_below ties k n r =
 abbrev pub saved_lists : List Tie → List (List (Member Constraint))
 saved_lists ties = colours_below ties (COLOURS + 1)
 
-pub colouring_is : (ties : List Tie) → Rises tie_number (members_of ties) → list_all are_apart (colours_below ties COLOURS) ≡ true → IsColouring constraint_number (saved_lists ties)
+pub colouring_is : (ties : List Tie) → Rises tie_number (members_among ties) → list_all share_no_mover (colours_below ties COLOURS) ≡ true → IsColouring constraint_number (saved_lists ties)
 colouring_is ties r apart = record {
   count = colours_long ties (COLOURS + 1);
   rising = all_from_each (AreRising constraint_number) (saved_lists ties) (all_rise ties (COLOURS + 1) r);
@@ -281,7 +281,7 @@ pub awake_by : (o : Option Label) (l : Label) → o ≡ Some l → awake_label o
 awake_by None l e = absurd (none-some l e)
 awake_by (Some v) l e = ap (λ (x : Label). not (is_asleep x.state)) (same_Some v l e)
 
-awake_is : (ms : List Membership) (slot : ℕ) (l : Label) → label_at (map label_of ms) slot ≡ Some l → is_awake (map label_of ms) slot ≡ not (membership_at ms slot).asleep
+awake_is : (ms : List Membership) (slot : ℕ) (l : Label) → label_at (map label_of ms) slot ≡ Some l → is_mover_awake (map label_of ms) slot ≡ not (membership_at ms slot).asleep
 awake_is ms slot l e =
     let at = label_there ms slot l e in
     let m : Membership = membership_at ms slot in
@@ -294,37 +294,37 @@ pub record IsTie (ms : List Membership) (t : Tie) : Type 0 where
   pub well : is_coloured_well ms t ≡ true
   pub colour : IsColour t.colour
 
-coloured_as : (ms : List Membership) (t : Tie) → IsTie ms t → is_some t.colour ≡ is_awake (map label_of ms) t.member.movers.first
+coloured_as : (ms : List Membership) (t : Tie) → IsTie ms t → is_some t.colour ≡ is_mover_awake (map label_of ms) t.member.movers.first
 coloured_as ms t h = same_truth (is_some t.colour) (not (membership_at ms t.member.movers.first).asleep) h.well ∙ sym (awake_is ms t.member.movers.first h.movers.first.0 h.movers.first.1)
 
-second_too : (ms : List Membership) (t : Tie) → are_named_well ms 0 ms ≡ true → IsTie ms t → is_awake (map label_of ms) t.member.movers.first ≡ true → (b : ℕ) → t.member.movers.second ≡ Some b → is_awake (map label_of ms) b ≡ true
+second_too : (ms : List Membership) (t : Tie) → are_named_well ms 0 ms ≡ true → IsTie ms t → is_mover_awake (map label_of ms) t.member.movers.first ≡ true → (b : ℕ) → t.member.movers.second ≡ Some b → is_mover_awake (map label_of ms) b ≡ true
 second_too ms t named h awake b e =
     let o = tie_together ms t b named h.kept h.movers e in
     ap (λ (v : Option Label). awake_label v) (o.2 ∙ sym o.1) ∙ awake
 
 acts_if : (ms : List Membership) (t : Tie) → are_named_well ms 0 ms ≡ true → IsTie ms t → is_some t.colour ≡ true → are_awake (map label_of ms) t.member.movers ≡ true
 acts_if ms t named h some =
-    let first : is_awake (map label_of ms) t.member.movers.first ≡ true = sym (coloured_as ms t h) ∙ some in
+    let first : is_mover_awake (map label_of ms) t.member.movers.first ≡ true = sym (coloured_as ms t h) ∙ some in
     all_awake (map label_of ms) t.member.movers.first t.member.movers.second first (second_too ms t named h first)
 
-pub acting_is : (ms : List Membership) (ties : List Tie) → are_named_well ms 0 ms ≡ true → ((t : Tie) → IsIn t ties → IsTie ms t) → (m : Member Constraint) → Contains (all_members (saved_lists ties)) m ↔ (Contains (members_of ties) m × (are_awake (map label_of ms) m.movers ≡ true))
+pub acting_is : (ms : List Membership) (ties : List Tie) → are_named_well ms 0 ms ≡ true → ((t : Tie) → IsIn t ties → IsTie ms t) → (m : Member Constraint) → Contains (all_members (saved_lists ties)) m ↔ (Contains (members_among ties) m × (are_awake (map label_of ms) m.movers ≡ true))
 acting_is ms ties named each m = (
   λ h. let o = in_below ties (COLOURS + 1) m (in_from_contains (all_members (saved_lists ties)) m h) in (
-    contains_from_in (members_of ties) m (subst (λ (v : Member Constraint). IsIn v (members_of ties)) o.2 (mapped_in (λ (t : Tie). t.member) ties o.0 o.1)),
+    contains_from_in (members_among ties) m (subst (λ (v : Member Constraint). IsIn v (members_among ties)) o.2 (mapped_in (λ (t : Tie). t.member) ties o.0 o.1)),
     subst (λ (v : Member Constraint). are_awake (map label_of ms) v.movers ≡ true) o.2 (acts_if ms o.0 named (each o.0 o.1) o.3),
   ),
   λ h.
-      let o = in_mapped (λ (t : Tie). t.member) ties m (in_from_contains (members_of ties) m h.0) in
+      let o = in_mapped (λ (t : Tie). t.member) ties m (in_from_contains (members_among ties) m h.0) in
       let t : Tie = o.of in
       let same : m ≡ t.member = o.is in
-      let awake : is_awake (map label_of ms) t.member.movers.first ≡ true = awake_first (map label_of ms) t.member.movers.first t.member.movers.second (subst (λ (v : Member Constraint). are_awake (map label_of ms) v.movers ≡ true) same h.1) in
+      let awake : is_mover_awake (map label_of ms) t.member.movers.first ≡ true = awake_first (map label_of ms) t.member.movers.first t.member.movers.second (subst (λ (v : Member Constraint). are_awake (map label_of ms) v.movers ≡ true) same h.1) in
       let colour = some_item t.colour (coloured_as ms t (each t o.there) ∙ awake) in
       let few : colour.0 ≤ COLOURS = (each t o.there).colour colour.0 colour.1 in
       contains_from_in (all_members (saved_lists ties)) m (subst (λ (v : Member Constraint). IsIn v (all_members (saved_lists ties))) (sym same) (below_in ties (COLOURS + 1) colour.0 t (omega (arith, few)) o.there colour.1)),
 )
 
 -- the colours are of ties
-pub lists_are_ties : (ties : List Tie) (m : Member Constraint) → Contains (all_members (saved_lists ties)) m → Contains (members_of ties) m
+pub lists_are_ties : (ties : List Tie) (m : Member Constraint) → Contains (all_members (saved_lists ties)) m → Contains (members_among ties) m
 lists_are_ties ties m h =
     let o = in_below ties (COLOURS + 1) m (in_from_contains (all_members (saved_lists ties)) m h) in
-    contains_from_in (members_of ties) m (subst (λ (v : Member Constraint). IsIn v (members_of ties)) o.2 (mapped_in (λ (t : Tie). t.member) ties o.0 o.1))
+    contains_from_in (members_among ties) m (subst (λ (v : Member Constraint). IsIn v (members_among ties)) o.2 (mapped_in (λ (t : Tie). t.member) ties o.0 o.1))

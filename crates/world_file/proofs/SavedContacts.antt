@@ -22,7 +22,7 @@ use Rattle.shapes.specs.declared.shape.ShapeDef.{ShapeDef}
 use Rattle.solver_sets.specs.Ties.{is_enabled_in}
 use Rattle.solver_sets.proofs.SlotLemmas.{below_length}
 use Rattle.world_core_base.specs.ContactBodies.{AreContactsOf, IsContactOf, moves_in}
-use Rattle.world_file.specs.Fitting.{are_points, are_rising_after, entry_of, has_points, is_above, is_contact_fitting, is_dynamic_body}
+use Rattle.world_file.specs.Fitting.{are_points, are_rising_after, entry_read, has_points, is_above, is_contact_fitting, is_dynamic_body}
 use Rattle.world_rules.specs.Sound.{HasBodies}
 use Rattle.world_file.proofs.ContactAsks.{IsSavedContact}
 use Rattle.world_file.proofs.PointAsks.{IsPoint, OnPoint}
@@ -119,7 +119,7 @@ moves_by (Some b) e h = mover_by b.enabled (is_dynamic b.kind) e h
 in_reach : (bodies : List (Option Body)) (slot : ℕ) → is_some (body_at bodies slot) ≡ true → slot < length bodies
 in_reach bodies slot h = let o = some_item (body_at bodies slot) h in below_length bodies slot o.0 o.1
 
-contact_of : (bodies : List (Option Body)) (c : SavedContact) → IsFittingContact bodies c → IsContactOf bodies (entry_of bodies c)
+contact_of : (bodies : List (Option Body)) (c : SavedContact) → IsFittingContact bodies c → IsContactOf bodies (entry_read bodies c)
 contact_of bodies c h =
     let first = is_there (body_at bodies c.key.first.slot) c.key.first.index h.first in
     let second = is_there (body_at bodies c.key.second.slot) c.key.second.index h.second in
@@ -135,7 +135,7 @@ contact_of bodies c h =
       contact = contact_is c h.saved;
     }
 
-has_bodies : (bodies : List (Option Body)) (c : SavedContact) → IsFittingContact bodies c → HasBodies bodies (entry_of bodies c)
+has_bodies : (bodies : List (Option Body)) (c : SavedContact) → IsFittingContact bodies c → HasBodies bodies (entry_read bodies c)
 has_bodies bodies c h =
     let first = is_there (body_at bodies c.key.first.slot) c.key.first.index h.first in
     let second = is_there (body_at bodies c.key.second.slot) c.key.second.index h.second in
@@ -145,16 +145,16 @@ pub each_mapped : {X Y : Type 0} (P : Y → Type 0) (Q : X → Type 0) (f : X �
 each_mapped P Q f [] h all = tt
 each_mapped P Q f (x ∷ xs) h all = (h x all.0, each_mapped P Q f xs h all.1)
 
-pub contacts_of : (bodies : List (Option Body)) (cs : List SavedContact) → Each (IsFittingContact bodies) cs → AreContactsOf bodies (map (entry_of bodies) cs)
-contacts_of bodies cs all = all_from_each (IsContactOf bodies) (map (entry_of bodies) cs) (each_mapped (IsContactOf bodies) (IsFittingContact bodies) (entry_of bodies) cs (contact_of bodies) all)
+pub contacts_of : (bodies : List (Option Body)) (cs : List SavedContact) → Each (IsFittingContact bodies) cs → AreContactsOf bodies (map (entry_read bodies) cs)
+contacts_of bodies cs all = all_from_each (IsContactOf bodies) (map (entry_read bodies) cs) (each_mapped (IsContactOf bodies) (IsFittingContact bodies) (entry_read bodies) cs (contact_of bodies) all)
 
-pub contacts_there : (bodies : List (Option Body)) (cs : List SavedContact) → Each (IsFittingContact bodies) cs → All (HasBodies bodies) (map (entry_of bodies) cs)
-contacts_there bodies cs all = all_from_each (HasBodies bodies) (map (entry_of bodies) cs) (each_mapped (HasBodies bodies) (IsFittingContact bodies) (entry_of bodies) cs (has_bodies bodies) all)
+pub contacts_there : (bodies : List (Option Body)) (cs : List SavedContact) → Each (IsFittingContact bodies) cs → All (HasBodies bodies) (map (entry_read bodies) cs)
+contacts_there bodies cs all = all_from_each (HasBodies bodies) (map (entry_read bodies) cs) (each_mapped (HasBodies bodies) (IsFittingContact bodies) (entry_read bodies) cs (has_bodies bodies) all)
 
 -- ---- the keys ascend
 
 abbrev numbers : List (Option Body) → List SavedContact → List ℕ
-numbers bodies cs = map number_of (map (entry_of bodies) cs)
+numbers bodies cs = map number_of (map (entry_read bodies) cs)
 
 above_by : (t : Bool) (u : Bool) → cond t u false ≡ true → (t ≡ true) × (u ≡ true)
 above_by true u h = (refl, h)
@@ -176,5 +176,5 @@ keys_rise bodies last (c ∷ cs) h =
     let o = rising_head c cs last h in
     (all_above bodies (key_number c.key) cs (key_number c.key) (omega arith) o.1, keys_rise bodies (Some (key_number c.key)) cs o.1)
 
-pub contacts_rise : (bodies : List (Option Body)) (cs : List SavedContact) → are_rising_after None cs ≡ true → AreKeysRising (map (entry_of bodies) cs)
+pub contacts_rise : (bodies : List (Option Body)) (cs : List SavedContact) → are_rising_after None cs ≡ true → AreKeysRising (map (entry_read bodies) cs)
 contacts_rise bodies cs h = increasing_from_rising (numbers bodies cs) (keys_rise bodies None cs h)

@@ -21,7 +21,7 @@ use Rattle.shapes.specs.declared.pose.Pose.{Pose}
 use Rattle.shapes.specs.declared.shape.ShapeDef.{ShapeDef}
 use Rattle.shapes.proofs.ShapeLemmas.{all_shape_defs}
 use Rattle.world_file_base.specs.Asks.{asked, noted}
-use Rattle.world_file_base.specs.Reading.{first_in, greatest_group, has_keys, least_group, pair_asks, second_in, vector_asks}
+use Rattle.world_file_base.specs.Reading.{first_in, greatest_group, has_keys, least_group, pair_asks, second_item, vector_asks}
 use Rattle.world_file_base.specs.declared.clause.Clause.TheVariants.{FatBoxes, Form, Limits}
 use Rattle.world_file_base.specs.declared.reader.Reader.{Reader}
 use Rattle.world_file_base.specs.SavedBodies.{are_in_boxes, fit_asks, is_pose}
@@ -32,7 +32,7 @@ use Rattle.world_file.proofs.Tests.{contains_is, signed_from, unsigned_small, ve
 -- ---- what is asked of each
 
 passes_core : (v : Option Data) → Passes (core_asks v)
-passes_core v r h = passes_pair v r (passes_vector (first_in v) (pair_asks v r) (passes_vector (second_in v) (vector_asks (first_in v) (pair_asks v r)) h))
+passes_core v r h = passes_pair v r (passes_vector (first_in v) (pair_asks v r) (passes_vector (second_item v) (vector_asks (first_in v) (pair_asks v r)) h))
 
 passes_segment : (d : Data) → Passes (segment_asks d)
 passes_segment d r h = passes_core (get (codes "segment") d) r (passes (has_keys 7 d) Form (core_asks (get (codes "segment") d) r) h)
@@ -78,7 +78,7 @@ passes_shapes (item d ds) r h = passes_one d r (passes_shapes ds (shape_asks d r
 
 box_small : (d : Data) → IsBoxWithin (2 ^ 37) (shape_in d).fat
 unfolding shape_in
-box_small d = record { lo = vector_small most_corner (first_in (get (codes "fat") d)); hi = vector_small most_corner (second_in (get (codes "fat") d)) }
+box_small d = record { lo = vector_small most_corner (first_in (get (codes "fat") d)); hi = vector_small most_corner (second_item (get (codes "fat") d)) }
 
 pub boxes_small : (ds : Items) → Each (IsBoxWithin (2 ^ 37)) (fats_in ds)
 boxes_small no_items = tt

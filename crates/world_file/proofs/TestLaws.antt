@@ -3,7 +3,7 @@ use Rattle.std.proofs.Common.{◌≡◌, ℕ, zero, suc, ◌<◌, ◌≤◌, ◌
 use Rattle.std.proofs.lemmas.Bool.{false≢true}
 use Rattle.std.proofs.lemmas.Bool.Decides.{nat_tests}
 use Rattle.graph_colours.proofs.Cases.{by_test}
-use Rattle.world_file_base.specs.Asks.{Ask, asked, clause_number, first_of}
+use Rattle.world_file_base.specs.Asks.{Ask, asked, clause_number, lesser_clause}
 use Rattle.world_file_base.specs.declared.clause.Clause.{Clause}
 use Rattle.world_file_base.specs.declared.clause.Clause.TheVariants.{Form, Limits, Generations, References, FatBoxes, Memberships, Links, Islands, Colours, Momentum}
 use Rattle.world_file_base.specs.declared.reader.Reader.{Reader}
@@ -169,11 +169,11 @@ clear_by : (n : ℕ) (clause other : Clause) (t : Bool) → nat_lt (clause_numbe
 clear_by n clause other true e h = (h, below_other (clause_number clause) (clause_number other) n e h)
 clear_by n clause other false e h = (below_this (clause_number clause) (clause_number other) n e h, h)
 
-clear_of : (n : ℕ) (clause : Clause) (o : Option Clause) → IsClear n (first_of clause o) → (n < clause_number clause) × IsClear n o
+clear_of : (n : ℕ) (clause : Clause) (o : Option Clause) → IsClear n (lesser_clause clause o) → (n < clause_number clause) × IsClear n o
 clear_of n clause None h = (h, tt)
 clear_of n clause (Some other) h = clear_by n clause other (nat_lt (clause_number clause) (clause_number other)) refl h
 
-clear_to : (n : ℕ) (clause : Clause) (o : Option Clause) → n < clause_number clause → IsClear n o → IsClear n (first_of clause o)
+clear_to : (n : ℕ) (clause : Clause) (o : Option Clause) → n < clause_number clause → IsClear n o → IsClear n (lesser_clause clause o)
 clear_to n clause None h k = h
 clear_to n clause (Some other) h k = by_test (λ o. IsClear n o) (nat_lt (clause_number clause) (clause_number other)) (Some clause) (Some other) (λ _. h) (λ _. k)
 
@@ -200,14 +200,14 @@ after {ss} {ts} {f} {g} first second = record {
 pub idle : (ts : Tests) → AllHold ts → Says ts (λ r. r)
 idle ts all = record { tells = λ n r clear. (all_hold n ts all, clear); stays = λ n r hold clear. clear }
 
-noted_tells : (n : ℕ) (clause : Clause) (o : Option Clause) → IsClear n (first_of clause o) → Hold n (behind (before clause) false) × IsClear n o
+noted_tells : (n : ℕ) (clause : Clause) (o : Option Clause) → IsClear n (lesser_clause clause o) → Hold n (behind (before clause) false) × IsClear n o
 noted_tells n clause o clear =
     let parts = clear_of n clause o clear in
     let less = parts.0 in
     let number = number_is clause in
     (behind_early n (before clause) false (omega (arith, less, number)), parts.1)
 
-noted_stays : (n : ℕ) (clause : Clause) (o : Option Clause) → Hold n (behind (before clause) false) → IsClear n o → IsClear n (first_of clause o)
+noted_stays : (n : ℕ) (clause : Clause) (o : Option Clause) → Hold n (behind (before clause) false) → IsClear n o → IsClear n (lesser_clause clause o)
 noted_stays n clause o hold clear =
     let less = behind_false n (before clause) hold in
     let number = number_is clause in

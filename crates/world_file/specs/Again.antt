@@ -12,7 +12,7 @@ use Rattle.islands.specs.Labels.{is_asleep, is_loose}
 use Rattle.islands.specs.declared.label.Label.{Label}
 use Rattle.plain_world.specs.Plain.{Plain, colour_of}
 use Rattle.plain_world.specs.declared.joint.BodyJoint.{BodyJoint}
-use Rattle.world_file_base.specs.SavedJoints.{generation_of}
+use Rattle.world_file_base.specs.SavedJoints.{generation_there}
 use Rattle.world_file_base.specs.SavedSlots.{no_membership}
 use Rattle.world_file_base.specs.declared.saved.Membership.{Membership}
 use Rattle.world_file_base.specs.declared.saved.SavedContact.{SavedContact}
@@ -25,7 +25,7 @@ membership_of None = no_membership
 membership_of (Some l) = record { island = Some l.name; loose = is_loose l.state; asleep = is_asleep l.state }
 
 abbrev pub id_in : List Place → ℕ → Handle
-id_in places slot = record { slot = slot; generation = generation_of (slice_get places slot) }
+id_in places slot = record { slot = slot; generation = generation_there (slice_get places slot) }
 
 abbrev pub saved_joint : List Place → Option ℕ → BodyJoint → SavedJoint
 saved_joint places colour j = record { a = id_in places j.a; b = id_in places j.b; joint = j; colour = colour }

@@ -9,7 +9,7 @@ use Rattle.world_file_base.specs.declared.clause.Broken.{Broken}
 use Rattle.world_file_base.specs.declared.clause.Broken.TheVariants as broken
 use Rattle.world_file_base.specs.declared.clause.Clause.{Clause}
 use Rattle.world_file_base.specs.declared.clause.Clause.TheVariants.{Colours, Islands, Links, Memberships, Momentum}
-use Rattle.world_file.specs.Fitting.{are_named_well, are_whole, colours_keep, fitting_asks, is_tie_kept, momentum_keeps, ties_of}
+use Rattle.world_file.specs.Fitting.{are_named_well, are_whole, colours_keep, fitting_asks, is_tie_kept, momentum_keeps, ties_read}
 use Rattle.world_file.specs.Lone.{components_by}
 use Rattle.world_file.specs.Saved.{Saved, parts_asks, saved_in}
 
@@ -31,8 +31,8 @@ found_broken d = (fitting_asks (saved_in d) (parts_asks d no_asks)).broken
 abbrev pub others_asks : Saved → Ask
 others_asks s = all_asked (
     asked (are_named_well s.memberships 0 s.memberships) Memberships
-    ∷ asked (list_all (is_tie_kept s.memberships) (ties_of s)) Links
-    ∷ asked (are_whole (components_by s.memberships (ties_of s)) 0 s.memberships) Islands
+    ∷ asked (list_all (is_tie_kept s.memberships) (ties_read s)) Links
+    ∷ asked (are_whole (components_by s.memberships (ties_read s)) 0 s.memberships) Islands
     ∷ asked (colours_keep s) Colours
     ∷ asked (momentum_keeps s) Momentum
     ∷ [])

@@ -16,7 +16,7 @@ use Rattle.world_file_base.specs.declared.clause.Clause.{Clause}
 use Rattle.world_file_base.specs.declared.clause.Clause.TheVariants.{Form, Limits, Generations, References, FatBoxes, Memberships, Links, Islands, Colours, Momentum}
 use Rattle.world_file_base.specs.declared.saved.Membership.{Membership}
 use Rattle.world_file_base.specs.declared.version.Version.{Version}
-use Rattle.world_file.specs.Fitting.{are_named_well, are_whole, colours_keep, components_of, is_tie_kept, members_of, momentum_keeps, references_keep, ties_of}
+use Rattle.world_file.specs.Fitting.{are_named_well, are_whole, colours_keep, components_of, is_tie_kept, members_among, momentum_keeps, references_keep, ties_read}
 use Rattle.world_file.specs.Saved.{Saved, saved_in, version_in}
 use Rattle.world_file.specs.SavedForms.{all_items, has_form, if_there}
 use Rattle.world_file.specs.SavedLimits.{is_in_limits}
@@ -84,8 +84,8 @@ fits Generations s = true
 fits References s = references_keep s
 fits FatBoxes s = true
 fits Memberships s = are_named_well s.memberships 0 s.memberships
-fits Links s = list_all (is_tie_kept s.memberships) (ties_of s)
-fits Islands s = are_whole (components_of s.memberships (links_of (members_of (ties_of s)))) 0 s.memberships
+fits Links s = list_all (is_tie_kept s.memberships) (ties_read s)
+fits Islands s = are_whole (components_of s.memberships (links_of (members_among (ties_read s)))) 0 s.memberships
 fits Colours s = colours_keep s
 fits Momentum s = momentum_keeps s
 

@@ -10,11 +10,11 @@ use Rattle.impulse_ledger.specs.declared.totals.Totals.{Totals}
 use Rattle.plain_world.specs.Plain.{Plain, colour_of}
 use Rattle.world_file_base.specs.Written.{natural, object_of, vector_of}
 use Rattle.world_file_base.specs.declared.clause.Clause.{Clause}
-use Rattle.world_file_base.specs.SavedContacts.{contacts_of}
-use Rattle.world_file_base.specs.SavedSlots.{bodies_of, joints_of}
-use Rattle.world_file_base.specs.SavedTotals.{totals_of}
+use Rattle.world_file_base.specs.SavedContacts.{contacts_data}
+use Rattle.world_file_base.specs.SavedSlots.{bodies_data, joints_data}
+use Rattle.world_file_base.specs.SavedTotals.{totals_data}
 use Rattle.world_file.specs.Clauses.{first_broken}
-use Rattle.world_file.specs.Fitting.{entry_of, ids_below, joint_kept, label_of, ties_of}
+use Rattle.world_file.specs.Fitting.{entry_read, ids_below, joint_kept, label_of, ties_read}
 use Rattle.world_file.specs.Saved.{Saved, saved_in}
 
 -- ---- the value of a world
@@ -35,12 +35,12 @@ written_version = 2
 -- a world with the totals of its ledger
 unfoldable pub value_of : Plain → Totals → Data
 value_of p t = object_of (
-    (codes "bodies", bodies_of p.places p.bodies p.islands)
+    (codes "bodies", bodies_data p.places p.bodies p.islands)
     ∷ (codes "call", natural p.calls)
-    ∷ (codes "contacts", contacts_of p.contacts (contact_colours p.colours p.contacts))
+    ∷ (codes "contacts", contacts_data p.contacts (contact_colours p.colours p.contacts))
     ∷ (codes "gravity", vector_of p.gravity)
-    ∷ (codes "joints", joints_of p.places p.joint_places p.joints (joint_colours p.colours 0 p.joint_places))
-    ∷ (codes "ledger", totals_of t)
+    ∷ (codes "joints", joints_data p.places p.joint_places p.joints (joint_colours p.colours 0 p.joint_places))
+    ∷ (codes "ledger", totals_data t)
     ∷ (codes "step", natural p.steps)
     ∷ (codes "version", natural written_version)
     ∷ [])
@@ -54,9 +54,9 @@ plain_of s = record {
   bodies = s.bodies;
   joint_places = s.joint_places;
   joints = map joint_kept s.joints;
-  contacts = map (entry_of s.bodies) s.contacts;
+  contacts = map (entry_read s.bodies) s.contacts;
   islands = map label_of s.memberships;
-  colours = ids_below (ties_of s) (COLOURS + 1);
+  colours = ids_below (ties_read s) (COLOURS + 1);
   gravity = s.gravity;
   steps = s.steps;
   calls = s.calls;

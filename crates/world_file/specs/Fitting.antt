@@ -82,12 +82,12 @@ references_keep s = list_all (is_joint_fitting s.places) s.joints && (list_all (
 
 -- ---- the constraints that act if their movers are awake
 
-abbrev pub tie_of : Option (Member Constraint) → Option ℕ → Option Tie
-tie_of member colour = option_map (λ m. record { member = m; colour = colour }) member
+abbrev pub tie_read : Option (Member Constraint) → Option ℕ → Option Tie
+tie_read member colour = option_map (λ m. record { member = m; colour = colour }) member
 
 abbrev pub joint_tie : List (Option Body) → ℕ → Place → Option SavedJoint → Option Tie
 joint_tie bodies slot place None = None
-joint_tie bodies slot place (Some j) = tie_of (tie_with (Joint (record { slot = slot; generation = place.generation })) (joint_movers bodies j.joint)) j.colour
+joint_tie bodies slot place (Some j) = tie_read (tie_with (Joint (record { slot = slot; generation = place.generation })) (joint_movers bodies j.joint)) j.colour
 
 -- those of the joints from this slot on
 abbrev pub joint_ties : List (Option Body) → ℕ → List Place → List (Option SavedJoint) → List (Option Tie)
@@ -96,24 +96,24 @@ joint_ties bodies slot (place ∷ places) [] = []
 joint_ties bodies slot (place ∷ places) (o ∷ joints) = joint_tie bodies slot place o ∷ joint_ties bodies (suc slot) places joints
 
 abbrev pub contact_tie : List (Option Body) → SavedContact → Option Tie
-contact_tie bodies c = cond c.touching (tie_of (tie_with (Contact c.key) (contact_movers bodies c.key)) c.colour) None
+contact_tie bodies c = cond c.touching (tie_read (tie_with (Contact c.key) (contact_movers bodies c.key)) c.colour) None
 
-abbrev pub listed : Option Tie → List Tie
-listed None = []
-listed (Some t) = t ∷ []
+abbrev pub tie_if_any : Option Tie → List Tie
+tie_if_any None = []
+tie_if_any (Some t) = t ∷ []
 
 abbrev pub contact_listed : List (Option Body) → SavedContact → List Tie
-contact_listed bodies c = listed (contact_tie bodies c)
+contact_listed bodies c = tie_if_any (contact_tie bodies c)
 
 -- joints by slot, and then contacts by key
-abbrev pub ties_in : List (Option Body) → List Place → List (Option SavedJoint) → List SavedContact → List Tie
-ties_in bodies places joints contacts = flat_map listed (joint_ties bodies 0 places joints) ++ flat_map (contact_listed bodies) contacts
+abbrev pub ties_read_in : List (Option Body) → List Place → List (Option SavedJoint) → List SavedContact → List Tie
+ties_read_in bodies places joints contacts = flat_map tie_if_any (joint_ties bodies 0 places joints) ++ flat_map (contact_listed bodies) contacts
 
-abbrev pub ties_of : Saved → List Tie
-ties_of s = ties_in s.bodies s.joint_places s.joints s.contacts
+abbrev pub ties_read : Saved → List Tie
+ties_read s = ties_read_in s.bodies s.joint_places s.joints s.contacts
 
-abbrev pub members_of : List Tie → List (Member Constraint)
-members_of ties = map (λ (t : Tie). t.member) ties
+abbrev pub members_among : List Tie → List (Member Constraint)
+members_among ties = map (λ (t : Tie). t.member) ties
 
 -- ---- islands
 
@@ -209,9 +209,9 @@ coloured [] colour = []
 coloured (t ∷ ties) colour = cond (has_colour colour t.colour) (t.member ∷ coloured ties colour) (coloured ties colour)
 
 -- no two of a list share a mover
-abbrev pub are_apart : List (Member Constraint) → Bool
-are_apart [] = true
-are_apart (m ∷ ms) = is_free ms m.movers && are_apart ms
+abbrev pub share_no_mover : List (Member Constraint) → Bool
+share_no_mover [] = true
+share_no_mover (m ∷ ms) = is_free ms m.movers && share_no_mover ms
 
 -- for each colour below this one the constraints that have it
 abbrev pub colours_below : List Tie → ℕ → List (List (Member Constraint))
@@ -222,8 +222,8 @@ abbrev pub colours_keep : Saved → Bool
 colours_keep s =
     are_joints_colourless s.bodies 0 s.joint_places s.joints
     && (list_all (is_contact_colourless s.bodies) s.contacts
-    && (list_all (is_coloured_well s.memberships) (ties_of s)
-    && list_all are_apart (colours_below (ties_of s) COLOURS)))
+    && (list_all (is_coloured_well s.memberships) (ties_read s)
+    && list_all share_no_mover (colours_below (ties_read s) COLOURS)))
 
 -- ---- momentum
 
@@ -240,16 +240,16 @@ abbrev pub fitting_asks : Saved → Ask
 fitting_asks s = all_asked (
     asked (references_keep s) References
     ∷ asked (are_named_well s.memberships 0 s.memberships) Memberships
-    ∷ asked (list_all (is_tie_kept s.memberships) (ties_of s)) Links
-    ∷ asked (are_whole (components_of s.memberships (links_of (members_of (ties_of s)))) 0 s.memberships) Islands
+    ∷ asked (list_all (is_tie_kept s.memberships) (ties_read s)) Links
+    ∷ asked (are_whole (components_of s.memberships (links_of (members_among (ties_read s)))) 0 s.memberships) Islands
     ∷ asked (colours_keep s) Colours
     ∷ asked (momentum_keeps s) Momentum
     ∷ [])
 
 -- ---- what it makes
 
-abbrev pub entry_of : List (Option Body) → SavedContact → ContactEntry
-entry_of bodies c = record { key = c.key; surface = mixed_of (shape_named bodies c.key.first) (shape_named bodies c.key.second); contact = c.contact }
+abbrev pub entry_read : List (Option Body) → SavedContact → ContactEntry
+entry_read bodies c = record { key = c.key; surface = mixed_of (shape_named bodies c.key.first) (shape_named bodies c.key.second); contact = c.contact }
 
 abbrev pub joint_kept : Option SavedJoint → Option BodyJoint
 joint_kept o = option_map (λ (j : SavedJoint). j.joint) o

@@ -22,13 +22,13 @@ abbrev pub WhatIsReadIsSound : Type 0
 WhatIsReadIsSound = (d : Data) (p : Plain) (t : Totals) → read_of d ≡ Ok (p, t) → IsSound (settled_world p t)
 
 -- the totals of a world's ledger, by cause
-abbrev pub totals_in : World → Totals
-totals_in w = totals_of (book_of w)
+abbrev pub totals_of_world : World → Totals
+totals_of_world w = totals_of (book_of w)
 
 -- the parts that are written of a world make the world again, and break no clause together
 pub record IsMadeAgain (w : World) : Type 0 where
-  pub plain : plain_of (saved_of w.plain (totals_in w)) ≡ w.plain
-  pub fit : first_unfit (saved_of w.plain (totals_in w)) ≡ None
+  pub plain : plain_of (saved_of w.plain (totals_of_world w)) ≡ w.plain
+  pub fit : first_unfit (saved_of w.plain (totals_of_world w)) ≡ None
 
 -- The parts that are written of a sound world make it again.
 abbrev pub WhatIsWrittenFits : Type 0
@@ -40,7 +40,7 @@ HasSmallTotals w = AreSmall (2 ^ 126) (book_of w)
 
 -- A sound world with small totals is read again as it is written.
 abbrev pub WhatIsWrittenIsReadAgain : Type 0
-WhatIsWrittenIsReadAgain = (w : World) → IsSound w → HasSmallTotals w → read_of (value_of w.plain (totals_in w)) ≡ Ok (w.plain, totals_in w)
+WhatIsWrittenIsReadAgain = (w : World) → IsSound w → HasSmallTotals w → read_of (value_of w.plain (totals_of_world w)) ≡ Ok (w.plain, totals_of_world w)
 
 -- The totals of a world that is read are small, so that it can be written again, and so is read once more as the same world.
 abbrev pub WhatIsReadHasSmallTotals : Type 0
@@ -48,4 +48,4 @@ WhatIsReadHasSmallTotals = (d : Data) (p : Plain) (t : Totals) → read_of d ≡
 
 -- It is the world that was written, but for its entries and events, and so goes on as that does: all commands have the same answers, and its plain lists are the same after them.
 abbrev pub WhatIsReadAgainGoesOnTheSame : Type 0
-WhatIsReadAgainGoesOnTheSame = (w : World) (p : Plain) (t : Totals) → IsSound w → HasSmallTotals w → read_of (value_of w.plain (totals_in w)) ≡ Ok (p, t) → GoOnTheSame (settled_world p t) w
+WhatIsReadAgainGoesOnTheSame = (w : World) (p : Plain) (t : Totals) → IsSound w → HasSmallTotals w → read_of (value_of w.plain (totals_of_world w)) ≡ Ok (p, t) → GoOnTheSame (settled_world p t) w

@@ -4,7 +4,7 @@ use Rattle.islands.specs.Labels.{Labels, added, label_at}
 use Rattle.islands.specs.Merging.{merged_all}
 use Rattle.world_file_base.specs.declared.saved.Membership.{Membership}
 use Rattle.sleep_wake.specs.Acting.{links_of}
-use Rattle.world_file.specs.Fitting.{apart_from, members_of}
+use Rattle.world_file.specs.Fitting.{apart_from, members_among}
 use Rattle.world_file.specs.declared.ties.Tie.{Tie}
 
 -- in each slot is the same label
@@ -18,7 +18,7 @@ added_if (Some name) slot labels = added labels slot
 
 -- the movers of each tie are joined
 abbrev pub joined_by : List Tie → Labels → Labels
-joined_by ties labels = merged_all labels (links_of (members_of ties))
+joined_by ties labels = merged_all labels (links_of (members_among ties))
 
 -- the components of the movers over the links of the ties
 abbrev pub components_by : List Membership → List Tie → Labels

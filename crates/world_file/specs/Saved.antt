@@ -12,7 +12,7 @@ use Rattle.world_file_base.specs.Reading.{has_keys, items_in, list_asks, unsigne
 use Rattle.world_file_base.specs.declared.clause.Clause.TheVariants.{Form}
 use Rattle.world_file_base.specs.SavedContacts.{contacts_asks, contacts_in}
 use Rattle.world_file_base.specs.SavedSlots.{bodies_asks, bodies_in, body_key, joint_key, joints_asks, joints_in, memberships_in, places_in, slots_asks}
-use Rattle.world_file_base.specs.SavedTotals.{totals_asks, totals_in}
+use Rattle.world_file_base.specs.SavedTotals.{totals_asks, totals_read}
 use Rattle.world_file_base.specs.declared.saved.Membership.{Membership}
 use Rattle.world_file_base.specs.declared.saved.SavedContact.{SavedContact}
 use Rattle.world_file_base.specs.declared.saved.SavedJoint.{SavedJoint}
@@ -67,7 +67,7 @@ saved_in d = record {
   joint_places = places_in joint_key (items_in (get (codes "joints") d));
   joints = joints_in (version_in d) (items_in (get (codes "joints") d));
   contacts = contacts_in (version_in d) (items_in (get (codes "contacts") d));
-  totals = totals_in (get (codes "ledger") d);
+  totals = totals_read (get (codes "ledger") d);
   gravity = vector_within (unsigned_abs MAX_GRAVITY) (get (codes "gravity") d);
   steps = steps_in d;
   calls = calls_in d;

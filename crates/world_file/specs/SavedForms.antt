@@ -5,7 +5,7 @@ use Rattle.serde_json.specs.Events.{items_len}
 use Rattle.serde_json.specs.Find.{as_array, as_bool, as_str, get}
 use Rattle.plain_world.specs.declared.kind.Kind.{Kind}
 use Rattle.plain_world.specs.declared.kind.Kind.TheVariants.{Static, Kinematic, Dynamic}
-use Rattle.world_file_base.specs.Reading.{first_in, has_keys, has_keys_in, is_null, items_in, second_in, text_in, whole_in, whole_of}
+use Rattle.world_file_base.specs.Reading.{first_in, has_keys, has_keys_in, is_null, items_in, second_item, text_in, whole_in, whole_of}
 use Rattle.world_file_base.specs.SavedBodies.{bare_kind, named_kind}
 use Rattle.world_file_base.specs.SavedSlots.{body_key, joint_key, slot_keys}
 use Rattle.world_file_base.specs.SavedTotals.{cause_in}
@@ -47,11 +47,11 @@ is_whole_or_null value = is_null value || is_whole value
 
 -- two whole numbers: a vector, or the name of a shape
 abbrev pub are_two_wholes : Option Data → Bool
-are_two_wholes value = is_pair value && is_whole (first_in value) && is_whole (second_in value)
+are_two_wholes value = is_pair value && is_whole (first_in value) && is_whole (second_item value)
 
 -- two vectors: the ends of a core, or the corners of a box
 abbrev pub are_two_vectors : Option Data → Bool
-are_two_vectors value = is_pair value && are_two_wholes (first_in value) && are_two_wholes (second_in value)
+are_two_vectors value = is_pair value && are_two_wholes (first_in value) && are_two_wholes (second_item value)
 
 abbrev pub is_id : Option Data → Bool
 is_id value = is_text value && is_some (handle_of_text (text_in value))
@@ -63,7 +63,7 @@ is_number_text value = is_text value && is_some (number_of_text (text_in value))
 -- ---- the ledger
 
 abbrev pub is_total : Option Data → Bool
-is_total value = is_pair value && is_number_text (first_in value) && is_number_text (second_in value)
+is_total value = is_pair value && is_number_text (first_in value) && is_number_text (second_item value)
 
 abbrev pub are_totals : Option Data → Bool
 are_totals value =

@@ -16,7 +16,7 @@ use Rattle.plain_world.specs.declared.body.Body.{Body}
 use Rattle.plain_world.specs.declared.kind.Kind.{Kind}
 use Rattle.plain_world.specs.declared.kind.Kind.TheVariants.{Static, Kinematic, Dynamic}
 use Rattle.shapes.specs.Shapes.{is_between, shapes_refusal}
-use Rattle.world_file_base.specs.Reading.{first_in, greatest, greatest_group, is_null, items_in, least, least_group, natural_of, number_in, second_in, text_in, vector_in, whole_in}
+use Rattle.world_file_base.specs.Reading.{first_in, greatest, greatest_group, is_null, items_in, least, least_group, natural_of, number_in, second_item, text_in, vector_in, whole_in}
 use Rattle.world_file_base.specs.SavedBodies.{bare_kind, body_in, facing_in, kind_in, least_mass, mass_in, most_angular, most_inertia, most_mass}
 use Rattle.world_file_base.specs.SavedContacts.{last_candidate}
 use Rattle.world_file_base.specs.SavedShapes.{most_bits, most_corner}
@@ -46,7 +46,7 @@ abbrev pub is_number : Option Data → Bool
 is_number value = is_from least greatest value
 
 abbrev pub are_two_numbers : Option Data → Bool
-are_two_numbers value = is_number (first_in value) && is_number (second_in value)
+are_two_numbers value = is_number (first_in value) && is_number (second_item value)
 
 -- a vector whose components are up to most in size
 abbrev pub is_vector_within : ℕ → Option Data → Bool
@@ -63,7 +63,7 @@ is_text_within most value = is_some (option_and_then (sized most) (number_of_tex
 -- ---- the ledger
 
 abbrev pub is_total_within : Option Data → Bool
-is_total_within value = is_text_within MAX_TOTAL (first_in value) && is_text_within MAX_TOTAL (second_in value)
+is_total_within value = is_text_within MAX_TOTAL (first_in value) && is_text_within MAX_TOTAL (second_item value)
 
 abbrev pub are_totals_within : Option Data → Bool
 are_totals_within value =
@@ -77,7 +77,7 @@ are_totals_within value =
 -- ---- shapes
 
 abbrev pub are_ends_numbers : Option Data → Bool
-are_ends_numbers value = are_two_numbers (first_in value) && are_two_numbers (second_in value)
+are_ends_numbers value = are_two_numbers (first_in value) && are_two_numbers (second_item value)
 
 abbrev pub is_round_within : Option Data → Data → Bool
 is_round_within (Some core) d = are_two_numbers (Some core) && is_number (get (codes "radius") d)
@@ -88,7 +88,7 @@ is_long_within (Some core) d = are_ends_numbers (Some core) && is_number (get (c
 is_long_within None d = is_round_within (get (codes "circle") d) d
 
 abbrev pub is_box_within : ℕ → Option Data → Bool
-is_box_within most value = is_vector_within most (first_in value) && is_vector_within most (second_in value)
+is_box_within most value = is_vector_within most (first_in value) && is_vector_within most (second_item value)
 
 unfoldable pub is_shape_within : Data → Bool
 is_shape_within d =
@@ -160,7 +160,7 @@ is_point_within d =
 
 -- the slot of a body, and the place of a shape among the body's
 abbrev pub is_shape_id_within : Option Data → Bool
-is_shape_id_within value = is_up_to (2 ^ 32 - 1) (first_in value) && is_up_to 255 (second_in value)
+is_shape_id_within value = is_up_to (2 ^ 32 - 1) (first_in value) && is_up_to 255 (second_item value)
 
 unfoldable pub is_contact_within : Data → Bool
 is_contact_within d =

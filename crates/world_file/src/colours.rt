@@ -7,7 +7,7 @@ ghost use Rattle.graph_colours.specs.declared.limits.TheConstants.{COLOURS as mo
 ghost use Rattle.plain_world.specs.KeptColours.{constraints_of};
 ghost use Rattle.world_file_base.specs.declared.clause.Broken.TheVariants.{NoMemory};
 ghost use Rattle.world_file.specs.Files.{contact_colours, joint_colours};
-ghost use Rattle.world_file.specs.Fitting.{are_apart, coloured, colours_below, has_colour, ids_below, ids_coloured};
+ghost use Rattle.world_file.specs.Fitting.{share_no_mover, coloured, colours_below, has_colour, ids_below, ids_coloured};
 ghost use Rattle.world_file.specs.Marked.{
   AreMarkedToo,
   IsMarkedToo,
@@ -109,7 +109,7 @@ fn mark_tie(used: &mut Vec<bool>, tie: Tie, colour: u8) -> Result<bool, Broken>
 
 /// Whether no two ties of the colour share a mover.
 fn is_colour_apart(alloc: Global, ties: &[Tie], colour: u8) -> Result<bool, Broken>
-    ensures apart { IfOk result (λ apart. apart ≡ are_apart (coloured ties.now colour)) }
+    ensures apart { IfOk result (λ apart. apart ≡ share_no_mover (coloured ties.now colour)) }
     ensures memory { IfErr result (λ e. e ≡ NoMemory) }
 {
     let mut used = Vec::new(alloc);
@@ -125,7 +125,7 @@ fn is_colour_apart(alloc: Global, ties: &[Tie], colour: u8) -> Result<bool, Brok
 
 /// Whether no two ties of one colour share a mover. Those in the overflow may share theirs.
 pub(crate) fn are_apart(alloc: Global, ties: &[Tie]) -> Result<bool, Broken>
-    ensures apart { IfOk result (λ apart. apart ≡ list_all are_apart (colours_below ties.now most_colours)) }
+    ensures apart { IfOk result (λ apart. apart ≡ list_all share_no_mover (colours_below ties.now most_colours)) }
     ensures memory { IfErr result (λ e. e ≡ NoMemory) }
 {
     let mut apart = true;

@@ -10,7 +10,7 @@ ghost use Rattle.world_file_base.specs.declared.clause.Broken.TheVariants.{NoMem
 ghost use Rattle.world_file.specs.Fitting.{
   are_points,
   are_rising_after,
-  entry_of,
+  entry_read,
   has_points,
   is_above,
   is_contact_fitting,
@@ -220,7 +220,7 @@ fn mixed_of(first: Option<ShapeDef>, second: Option<ShapeDef>) -> Surface
 
 /// The contact as a world keeps it.
 fn entry_of(bodies: &[Option<Body>], saved: &SavedContact) -> ContactEntry
-    ensures { result ≡ entry_of bodies.now saved.now }
+    ensures { result ≡ entry_read bodies.now saved.now }
 {
     let first = shape_named(bodies, saved.key.first);
     let second = shape_named(bodies, saved.key.second);
@@ -237,7 +237,7 @@ pub(crate) fn list_contacts(
     bodies: &[Option<Body>],
     saved: &[SavedContact],
 ) -> Result<Vec<ContactEntry>, Broken>
-    ensures value { IfOk result (λ entries. entries.items ≡ map (entry_of bodies.now) saved.now) }
+    ensures value { IfOk result (λ entries. entries.items ≡ map (entry_read bodies.now) saved.now) }
     ensures memory { IfErr result (λ e. e ≡ NoMemory) }
 {
     let mut entries = Vec::new(alloc);

@@ -18,7 +18,7 @@ ghost use Rattle.world_file.specs.Saved.{
 ghost use Rattle.world_file.specs.Parts.{parts_of, version_asks};
 ghost use Rattle.momenta.specs.declared.limits.TheConstants.{MAX_GRAVITY};
 ghost use Rattle.world_file_base.specs.Reading.{vector_within};
-ghost use Rattle.world_file_base.specs.SavedTotals.{totals_in};
+ghost use Rattle.world_file_base.specs.SavedTotals.{totals_read};
 ghost use Rattle.serde_json.specs.Find.{get};
 
 use fixed_geom::Vec2;

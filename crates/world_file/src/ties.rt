@@ -12,9 +12,9 @@ ghost use Rattle.world_file.specs.Fitting.{
   joint_colour,
   joint_tie,
   joint_ties,
-  listed,
-  ties_in,
-  tie_of,
+  tie_if_any,
+  ties_read_in,
+  tie_read,
 };
 
 use body_handles::{Handle, Place};
@@ -33,7 +33,7 @@ pub struct Tie {
 }
 
 fn tie_of(member: Option<Member<Constraint>>, colour: Option<u8>) -> Option<Tie>
-    ensures { result ≡ tie_of member colour }
+    ensures { result ≡ tie_read member colour }
 {
     match member {
         Some(member) => Some(Tie { member, colour }),
@@ -114,7 +114,7 @@ pub(crate) fn are_contacts_colourless(bodies: &[Option<Body>], contacts: &[Saved
 
 /// Adds a tie, if it is one.
 fn push_tie(ties: &mut Vec<Tie>, tie: Option<Tie>) -> Result<(), Broken>
-    ensures ok { OnOk result (ties.new.items ≡ ties.old.items ++ listed tie) }
+    ensures ok { OnOk result (ties.new.items ≡ ties.old.items ++ tie_if_any tie) }
     ensures memory { IfErr result (λ e. e ≡ NoMemory) }
 {
     if let Some(tie) = tie {
@@ -131,7 +131,7 @@ fn push_joint_ties(
     joints: &[Option<SavedJoint>],
 ) -> Result<(), Broken>
     requires { length places.now ≤ 2 ^ 32 }
-    ensures ok { OnOk result (ties.new.items ≡ ties.old.items ++ flat_map listed (joint_ties bodies.now 0 places.now joints.now)) }
+    ensures ok { OnOk result (ties.new.items ≡ ties.old.items ++ flat_map tie_if_any (joint_ties bodies.now 0 places.now joints.now)) }
     ensures memory { IfErr result (λ e. e ≡ NoMemory) }
 {
     for slot in 0..lesser(places.len(), joints.len()) {
@@ -167,7 +167,7 @@ pub(crate) fn list_ties(
     contacts: &[SavedContact],
 ) -> Result<Vec<Tie>, Broken>
     requires { length places.now ≤ 2 ^ 32 }
-    ensures ok { IfOk result (λ ties. ties.items ≡ ties_in bodies.now places.now joints.now contacts.now) }
+    ensures ok { IfOk result (λ ties. ties.items ≡ ties_read_in bodies.now places.now joints.now contacts.now) }
     ensures memory { IfErr result (λ e. e ≡ NoMemory) }
 {
     let mut ties = Vec::new(alloc);

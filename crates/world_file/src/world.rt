@@ -14,7 +14,7 @@ ghost use Rattle.world_file.specs.Fitting.{
   are_joints_colourless,
   are_rising_after,
   colours_keep,
-  entry_of,
+  entry_read,
   fitting_asks,
   ids_below,
   is_contact_colourless,
@@ -22,7 +22,7 @@ ghost use Rattle.world_file.specs.Fitting.{
   joint_kept,
   label_of,
   references_keep,
-  ties_of,
+  ties_read,
 };
 ghost use Rattle.world_file.specs.Parts.{parts_of};
 
@@ -80,7 +80,7 @@ fn do_references_keep(saved: &Saved) -> bool
 /// The ties of a saved world.
 fn ties_of(alloc: Global, saved: &Saved) -> Result<Vec<Tie>, Broken>
     requires few_joints { length saved.now.joints.places.items ≤ 2 ^ 32 }
-    ensures ties { IfOk result (λ ties. ties.items ≡ ties_of (parts_of saved.now)) }
+    ensures ties { IfOk result (λ ties. ties.items ≡ ties_read (parts_of saved.now)) }
     ensures memory { IfErr result (λ e. e ≡ NoMemory) }
 {
     list_ties(
@@ -114,7 +114,7 @@ fn are_contacts_settled(saved: &Saved) -> bool
 /// Whether just the constraints of awake movers have colours, and no two of one colour share a mover.
 fn do_colours_keep(alloc: Global, saved: &Saved, ties: &[Tie]) -> Result<bool, Broken>
     requires few_joints { length saved.now.joints.places.items ≤ 2 ^ 32 }
-    requires ties { ties.now ≡ ties_of (parts_of saved.now) }
+    requires ties { ties.now ≡ ties_read (parts_of saved.now) }
     ensures keep { IfOk result (λ keep. keep ≡ colours_keep (parts_of saved.now)) }
     ensures memory { IfErr result (λ e. e ≡ NoMemory) }
 {
@@ -127,7 +127,7 @@ fn do_colours_keep(alloc: Global, saved: &Saved, ties: &[Tie]) -> Result<bool, B
 fn ask_others(alloc: Global, reader: &mut Reader, saved: &Saved, ties: &[Tie]) -> Result<(), Broken>
     requires few { length saved.now.bodies.memberships.items ≤ 2 ^ 32 }
     requires few_joints { length saved.now.joints.places.items ≤ 2 ^ 32 }
-    requires ties { ties.now ≡ ties_of (parts_of saved.now) }
+    requires ties { ties.now ≡ ties_read (parts_of saved.now) }
     ensures asked { OnOk result (reader.new ≡ others_asks (parts_of saved.now) reader.old) }
     ensures memory { IfErr result (λ e. e ≡ NoMemory) }
 {
@@ -145,11 +145,11 @@ fn ask_others(alloc: Global, reader: &mut Reader, saved: &Saved, ties: &[Tie]) -
 
 /// Lists what the parts of a saved world make.
 fn list_parts(alloc: Global, saved: &Saved, ties: &[Tie]) -> Result<Parts, Broken>
-    requires ties { ties.now ≡ ties_of (parts_of saved.now) }
+    requires ties { ties.now ≡ ties_read (parts_of saved.now) }
     ensures joints { IfOk result (λ parts. parts.joints.items ≡ map joint_kept (parts_of saved.now).joints) }
-    ensures contacts { IfOk result (λ parts. parts.contacts.items ≡ map (entry_of (parts_of saved.now).bodies) (parts_of saved.now).contacts) }
+    ensures contacts { IfOk result (λ parts. parts.contacts.items ≡ map (entry_read (parts_of saved.now).bodies) (parts_of saved.now).contacts) }
     ensures labels { IfOk result (λ parts. parts.labels.items ≡ map label_of (parts_of saved.now).memberships) }
-    ensures colours { IfOk result (λ parts. constraints_of parts.colours.items ≡ ids_below (ties_of (parts_of saved.now)) (most_colours + 1)) }
+    ensures colours { IfOk result (λ parts. constraints_of parts.colours.items ≡ ids_below (ties_read (parts_of saved.now)) (most_colours + 1)) }
     ensures memory { IfErr result (λ e. e ≡ NoMemory) }
 {
     let joints = list_joints(alloc, saved.joints.joints.as_slice())?;
@@ -168,9 +168,9 @@ fn list_parts(alloc: Global, saved: &Saved, ties: &[Tie]) -> Result<Parts, Broke
 /// The world of what was read.
 fn plain_of(saved: Saved, parts: Parts) -> Plain
     requires joints { parts.joints.items ≡ map joint_kept (parts_of saved).joints }
-    requires contacts { parts.contacts.items ≡ map (entry_of (parts_of saved).bodies) (parts_of saved).contacts }
+    requires contacts { parts.contacts.items ≡ map (entry_read (parts_of saved).bodies) (parts_of saved).contacts }
     requires labels { parts.labels.items ≡ map label_of (parts_of saved).memberships }
-    requires colours { constraints_of parts.colours.items ≡ ids_below (ties_of (parts_of saved)) (most_colours + 1) }
+    requires colours { constraints_of parts.colours.items ≡ ids_below (ties_read (parts_of saved)) (most_colours + 1) }
     ensures { result ≡ world_of (parts_of saved) }
 {
     let Saved {
@@ -202,9 +202,9 @@ fn fitted(alloc: Global, reader: Reader, saved: &Saved) -> Result<Parts, Broken>
     requires few_joints { length saved.now.joints.places.items ≤ 2 ^ 32 }
     ensures keeps { OnOk result ((fitting_asks (parts_of saved.now) reader).broken ≡ None) }
     ensures joints { IfOk result (λ parts. parts.joints.items ≡ map joint_kept (parts_of saved.now).joints) }
-    ensures contacts { IfOk result (λ parts. parts.contacts.items ≡ map (entry_of (parts_of saved.now).bodies) (parts_of saved.now).contacts) }
+    ensures contacts { IfOk result (λ parts. parts.contacts.items ≡ map (entry_read (parts_of saved.now).bodies) (parts_of saved.now).contacts) }
     ensures labels { IfOk result (λ parts. parts.labels.items ≡ map label_of (parts_of saved.now).memberships) }
-    ensures colours { IfOk result (λ parts. constraints_of parts.colours.items ≡ ids_below (ties_of (parts_of saved.now)) (most_colours + 1)) }
+    ensures colours { IfOk result (λ parts. constraints_of parts.colours.items ≡ ids_below (ties_read (parts_of saved.now)) (most_colours + 1)) }
     ensures refused { IfErr result (λ e. IsBrokenBy (fitting_asks (parts_of saved.now) reader).broken e) }
 {
     let mut reader = reader;

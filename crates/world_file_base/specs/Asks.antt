@@ -22,12 +22,12 @@ clause_number Colours = 9
 clause_number Momentum = 10
 
 -- the first of a clause that is broken and of what was found broken so far
-abbrev pub first_of : Clause → Option Clause → Option Clause
-first_of clause None = Some clause
-first_of clause (Some other) = cond (nat_lt (clause_number clause) (clause_number other)) (Some clause) (Some other)
+abbrev pub lesser_clause : Clause → Option Clause → Option Clause
+lesser_clause clause None = Some clause
+lesser_clause clause (Some other) = cond (nat_lt (clause_number clause) (clause_number other)) (Some clause) (Some other)
 
 abbrev pub noted : Clause → Reader → Reader
-noted clause reader = record { broken = first_of clause reader.broken }
+noted clause reader = record { broken = lesser_clause clause reader.broken }
 
 -- after it was asked whether something holds that a clause wants
 abbrev pub asked : Bool → Clause → Reader → Reader

@@ -43,8 +43,8 @@ pair_asks value reader = asked (items_len (items_in value) == 2) Form (list_asks
 abbrev pub first_in : Option Data → Option Data
 first_in value = get_item 0 (items_in value)
 
-abbrev pub second_in : Option Data → Option Data
-second_in value = get_item 1 (items_in value)
+abbrev pub second_item : Option Data → Option Data
+second_item value = get_item 1 (items_in value)
 
 -- ---- truths and texts
 
@@ -128,10 +128,10 @@ number_asks value = signed_asks least greatest value
 
 -- two numbers of 64 bits
 abbrev pub vector_in : Option Data → Vec2
-vector_in value = record { x = number_in (first_in value); y = number_in (second_in value) }
+vector_in value = record { x = number_in (first_in value); y = number_in (second_item value) }
 
 abbrev pub vector_asks : Option Data → Ask
-vector_asks value reader = number_asks (second_in value) (number_asks (first_in value) (pair_asks value reader))
+vector_asks value reader = number_asks (second_item value) (number_asks (first_in value) (pair_asks value reader))
 
 -- two numbers of sizes up to most
 abbrev pub vector_within : ℕ → Option Data → Vec2
@@ -142,8 +142,8 @@ vector_within_asks most value reader = asked (is_within most (vector_in value)) 
 
 -- two places
 abbrev pub ends_asks : ℕ → Option Data → Ask
-ends_asks most value reader = vector_within_asks most (second_in value) (vector_within_asks most (first_in value) (pair_asks value reader))
+ends_asks most value reader = vector_within_asks most (second_item value) (vector_within_asks most (first_in value) (pair_asks value reader))
 
 -- a box by its two corners
 abbrev pub corners_in : ℕ → Option Data → Box2
-corners_in most value = record { lo = vector_within most (first_in value); hi = vector_within most (second_in value) }
+corners_in most value = record { lo = vector_within most (first_in value); hi = vector_within most (second_item value) }

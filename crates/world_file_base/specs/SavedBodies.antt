@@ -29,7 +29,7 @@ use Rattle.shapes.specs.declared.shape.ShapeDef.{ShapeDef}
 use Rattle.world_file_base.specs.Asks.{Ask, all_asked, asked, noted}
 use Rattle.world_file_base.specs.Reading.{has_keys, island_asks, island_in, items_in, list_asks, signed_asks, signed_in, text_asks, text_in, truth_asks, truth_in, unsigned_asks, unsigned_in, vector_asks, vector_in, vector_within, vector_within_asks}
 use Rattle.world_file_base.specs.Texts.{decimal_asks, decimal_in}
-use Rattle.world_file_base.specs.Written.{decimal_of, integer, list_of, natural, vector_of, with_members}
+use Rattle.world_file_base.specs.Written.{decimal_of, integer, list_data, natural, vector_of, with_members}
 use Rattle.world_file_base.specs.declared.clause.Clause.TheVariants.{FatBoxes, Form, Islands, Limits, Memberships}
 use Rattle.world_file_base.specs.SavedShapes.{defs_in, fats_in, shapes_asks, shapes_of}
 use Rattle.world_file_base.specs.declared.saved.Membership.{Membership}
@@ -256,10 +256,10 @@ kind_name Static = codes "static"
 kind_name (Kinematic course) = codes "kinematic"
 kind_name Dynamic = codes "dynamic"
 
-abbrev pub put_course : Kind → Members → Members
-put_course Static ms = ms
-put_course (Kinematic course) ms = with_members ((codes "spin", integer course.spin) ∷ (codes "velocity", vector_of course.velocity) ∷ []) ms
-put_course Dynamic ms = ms
+abbrev pub put_course_data : Kind → Members → Members
+put_course_data Static ms = ms
+put_course_data (Kinematic course) ms = with_members ((codes "spin", integer course.spin) ∷ (codes "velocity", vector_of course.velocity) ∷ []) ms
+put_course_data Dynamic ms = ms
 
 abbrev pub put_label : Option Label → Members → Members
 put_label None ms = with_members ((codes "asleep", boolean false) ∷ (codes "island", null) ∷ (codes "loose", boolean false) ∷ []) ms
@@ -275,10 +275,10 @@ put_numbers b = with_members (
     ∷ (codes "l", decimal_of b.motion.l)
     ∷ (codes "mass", integer b.mass.mass)
     ∷ (codes "p", vector_of b.motion.p)
-    ∷ (codes "shapes", list_of (shapes_of b.shapes b.fats))
+    ∷ (codes "shapes", list_data (shapes_of b.shapes b.fats))
     ∷ (codes "timer", natural b.timer)
     ∷ [])
 
 -- a body, with the label of its island if it is a mover
-unfoldable pub body_of : Body → Option Label → Data
-body_of b label = object (put_label label (put_course b.kind (put_numbers b no_members)))
+unfoldable pub body_data : Body → Option Label → Data
+body_data b label = object (put_label label (put_course_data b.kind (put_numbers b no_members)))

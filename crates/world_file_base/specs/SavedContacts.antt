@@ -11,8 +11,8 @@ use Rattle.contacts_base.specs.declared.contact.ContactPoint.{ContactPoint}
 use Rattle.contacts_base.specs.declared.key.ShapeId.{ShapeId}
 use Rattle.contacts_base.specs.declared.limits.TheConstants.{MAX_NORMAL, MAX_NORMAL_IMPULSE, MAX_OFFSET, MAX_SEPARATION, MAX_TANGENT_IMPULSE}
 use Rattle.world_file_base.specs.Asks.{Ask, all_asked, asked}
-use Rattle.world_file_base.specs.Reading.{first_in, has_keys, items_in, list_asks, number_asks, number_in, pair_asks, second_in, truth_asks, truth_in, unsigned_asks, unsigned_in, vector_within, vector_within_asks}
-use Rattle.world_file_base.specs.Written.{integer, list_of, natural, natural_or_null, object_of, pair_of, vector_of}
+use Rattle.world_file_base.specs.Reading.{first_in, has_keys, items_in, list_asks, number_asks, number_in, pair_asks, second_item, truth_asks, truth_in, unsigned_asks, unsigned_in, vector_within, vector_within_asks}
+use Rattle.world_file_base.specs.Written.{integer, list_data, natural, natural_or_null, object_of, pair_data, vector_of}
 use Rattle.world_file_base.specs.declared.clause.Clause.TheVariants.{Form, Limits}
 use Rattle.world_file_base.specs.Versions.{colour_asks, colour_in}
 use Rattle.world_file_base.specs.declared.saved.SavedContact.{SavedContact}
@@ -75,10 +75,10 @@ points_asks (item d ds) reader = points_asks ds (point_asks d reader)
 
 -- the slot of a body, and the place of a shape among the body's
 abbrev pub shape_id_in : Option Data → ShapeId
-shape_id_in value = record { slot = unsigned_in (2 ^ 32 - 1) (first_in value); index = unsigned_in 255 (second_in value) }
+shape_id_in value = record { slot = unsigned_in (2 ^ 32 - 1) (first_in value); index = unsigned_in 255 (second_item value) }
 
 abbrev pub shape_id_asks : Option Data → Ask
-shape_id_asks value reader = unsigned_asks 255 (second_in value) (unsigned_asks (2 ^ 32 - 1) (first_in value) (pair_asks value reader))
+shape_id_asks value reader = unsigned_asks 255 (second_item value) (unsigned_asks (2 ^ 32 - 1) (first_in value) (pair_asks value reader))
 
 unfoldable pub contact_in : Version → Data → SavedContact
 contact_in version d = record {
@@ -110,8 +110,8 @@ contacts_asks version (item d ds) reader = contacts_asks version ds (contact_ask
 
 -- ---- how it is written
 
-unfoldable pub point_of : ContactPoint → Data
-point_of p = object_of (
+unfoldable pub point_data : ContactPoint → Data
+point_data p = object_of (
     (codes "candidate", natural p.candidate)
     ∷ (codes "normal", vector_of p.normal)
     ∷ (codes "push", integer p.normal_impulse)
@@ -123,17 +123,17 @@ point_of p = object_of (
 
 abbrev pub point_or_none : Option ContactPoint → List Data
 point_or_none None = []
-point_or_none (Some p) = point_of p ∷ []
+point_or_none (Some p) = point_data p ∷ []
 
 abbrev pub points_of : Contact → Data
-points_of c = list_of (point_or_none c.first ++ point_or_none c.second)
+points_of c = list_data (point_or_none c.first ++ point_or_none c.second)
 
 abbrev pub shape_id_of : ShapeId → Data
-shape_id_of id = pair_of (natural id.slot) (natural id.index)
+shape_id_of id = pair_data (natural id.slot) (natural id.index)
 
 -- a contact, with its colour if it acts
-unfoldable pub contact_of : ContactEntry → Option ℕ → Data
-contact_of e colour = object_of (
+unfoldable pub contact_data : ContactEntry → Option ℕ → Data
+contact_data e colour = object_of (
     (codes "a", shape_id_of e.key.first)
     ∷ (codes "b", shape_id_of e.key.second)
     ∷ (codes "colour", natural_or_null colour)
@@ -145,7 +145,7 @@ contact_of e colour = object_of (
 abbrev pub each_contact : List ContactEntry → List (Option ℕ) → List Data
 each_contact [] colours = []
 each_contact (e ∷ contacts) [] = []
-each_contact (e ∷ contacts) (colour ∷ colours) = contact_of e colour ∷ each_contact contacts colours
+each_contact (e ∷ contacts) (colour ∷ colours) = contact_data e colour ∷ each_contact contacts colours
 
-abbrev pub contacts_of : List ContactEntry → List (Option ℕ) → Data
-contacts_of contacts colours = list_of (each_contact contacts colours)
+abbrev pub contacts_data : List ContactEntry → List (Option ℕ) → Data
+contacts_data contacts colours = list_data (each_contact contacts colours)

@@ -50,17 +50,17 @@ joint_asks version d = all_asked (
 -- ---- how it is written
 
 -- the generation of what is in a slot
-abbrev pub generation_of : Option Place → ℕ
-generation_of None = 0
-generation_of (Some place) = place.generation
+abbrev pub generation_there : Option Place → ℕ
+generation_there None = 0
+generation_there (Some place) = place.generation
 
 -- the id of the body in a slot
 abbrev pub id_at : List Place → ℕ → Data
-id_at places slot = id_of (record { slot = slot; generation = generation_of (slice_get places slot) })
+id_at places slot = id_of (record { slot = slot; generation = generation_there (slice_get places slot) })
 
 -- a joint of bodies in these slots, with its colour if it acts
-unfoldable pub joint_of : List Place → BodyJoint → Option ℕ → Data
-joint_of places j colour = object_of (
+unfoldable pub joint_data : List Place → BodyJoint → Option ℕ → Data
+joint_data places j colour = object_of (
     (codes "a", id_at places j.a)
     ∷ (codes "b", id_at places j.b)
     ∷ (codes "collide", boolean j.collide)

@@ -7,7 +7,7 @@ use Rattle.shapes.specs.declared.shape.Shape.{Shape}
 use Rattle.shapes.specs.declared.shape.Shape.TheVariants.{Circle, Capsule, Segment}
 use Rattle.shapes.specs.declared.shape.ShapeDef.{ShapeDef}
 use Rattle.world_file_base.specs.Asks.{Ask, all_asked, asked}
-use Rattle.world_file_base.specs.Reading.{corners_in, ends_asks, first_in, group_asks, group_in, has_keys, number_asks, number_in, pair_asks, second_in, unsigned_asks, unsigned_in, vector_asks, vector_in}
+use Rattle.world_file_base.specs.Reading.{corners_in, ends_asks, first_in, group_asks, group_in, has_keys, number_asks, number_in, pair_asks, second_item, unsigned_asks, unsigned_in, vector_asks, vector_in}
 use Rattle.world_file_base.specs.Written.{corners_of, ends_of, integer, natural, vector_of, with_members}
 use Rattle.world_file_base.specs.declared.clause.Clause.TheVariants.{Form}
 use Rattle.world_file_base.specs.declared.saved_shapes.SavedShape.{SavedShape}
@@ -15,13 +15,13 @@ use Rattle.world_file_base.specs.declared.saved_shapes.SavedShape.{SavedShape}
 -- ---- how it is read
 
 abbrev pub capsule_in : Data → Data → Shape
-capsule_in core d = Capsule (vector_in (first_in (Some core))) (vector_in (second_in (Some core))) (number_in (get (codes "radius") d))
+capsule_in core d = Capsule (vector_in (first_in (Some core))) (vector_in (second_item (Some core))) (number_in (get (codes "radius") d))
 
 abbrev pub circle_in : Data → Data → Shape
 circle_in core d = Circle (vector_in (Some core)) (number_in (get (codes "radius") d))
 
 abbrev pub segment_in : Option Data → Shape
-segment_in core = Segment (vector_in (first_in core)) (vector_in (second_in core))
+segment_in core = Segment (vector_in (first_in core)) (vector_in (second_item core))
 
 abbrev pub round_form : Option Data → Data → Shape
 round_form (Some core) d = circle_in core d
@@ -37,7 +37,7 @@ form_in d = long_form (get (codes "capsule") d) d
 
 -- two places of any coordinates
 abbrev pub core_asks : Option Data → Ask
-core_asks value reader = vector_asks (second_in value) (vector_asks (first_in value) (pair_asks value reader))
+core_asks value reader = vector_asks (second_item value) (vector_asks (first_in value) (pair_asks value reader))
 
 -- how many keys a shape has hangs on its form
 abbrev pub capsule_asks : Data → Data → Ask

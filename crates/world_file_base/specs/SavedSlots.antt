@@ -11,10 +11,10 @@ use Rattle.plain_world.specs.declared.body.Body.{Body}
 use Rattle.plain_world.specs.declared.joint.BodyJoint.{BodyJoint}
 use Rattle.world_file_base.specs.Asks.{Ask, all_asked, asked}
 use Rattle.world_file_base.specs.Reading.{has_keys, items_in, list_asks, natural_of, whole_asks, whole_in}
-use Rattle.world_file_base.specs.Written.{list_of, natural, with_members}
+use Rattle.world_file_base.specs.Written.{list_data, natural, with_members}
 use Rattle.world_file_base.specs.declared.clause.Clause.TheVariants.{Form, Generations, Limits}
-use Rattle.world_file_base.specs.SavedBodies.{body_asks, body_in, body_of, membership_in}
-use Rattle.world_file_base.specs.SavedJoints.{joint_asks, joint_in, joint_of}
+use Rattle.world_file_base.specs.SavedBodies.{body_asks, body_in, body_data, membership_in}
+use Rattle.world_file_base.specs.SavedJoints.{joint_asks, joint_in, joint_data}
 use Rattle.world_file_base.specs.Versions.{most_slots}
 use Rattle.world_file_base.specs.declared.saved.Membership.{Membership}
 use Rattle.world_file_base.specs.declared.saved.SavedJoint.{SavedJoint}
@@ -129,7 +129,7 @@ abbrev pub slot_of : Place → List ℕ → Option Data → Data
 slot_of place key content = object (with_members ((codes "generation", natural place.generation) ∷ []) (put_item key content no_members))
 
 abbrev pub body_slot_of : Place → Option Body → Option Label → Data
-body_slot_of place entry label = slot_of place body_key (option_map (λ b. body_of b label) entry)
+body_slot_of place entry label = slot_of place body_key (option_map (λ b. body_data b label) entry)
 
 -- the slots from this one on
 abbrev pub body_slots : ℕ → List Place → List (Option Body) → Labels → List Data
@@ -137,11 +137,11 @@ body_slots slot [] bodies labels = []
 body_slots slot (place ∷ places) [] labels = []
 body_slots slot (place ∷ places) (entry ∷ bodies) labels = body_slot_of place entry (label_at labels slot) ∷ body_slots (suc slot) places bodies labels
 
-abbrev pub bodies_of : List Place → List (Option Body) → Labels → Data
-bodies_of places bodies labels = list_of (body_slots 0 places bodies labels)
+abbrev pub bodies_data : List Place → List (Option Body) → Labels → Data
+bodies_data places bodies labels = list_data (body_slots 0 places bodies labels)
 
 abbrev pub joint_slot_of : List Place → Place → Option BodyJoint → Option ℕ → Data
-joint_slot_of places place entry colour = slot_of place joint_key (option_map (λ j. joint_of places j colour) entry)
+joint_slot_of places place entry colour = slot_of place joint_key (option_map (λ j. joint_data places j colour) entry)
 
 -- joints between bodies of these places, each with its colour
 abbrev pub joint_slots : List Place → List Place → List (Option BodyJoint) → List (Option ℕ) → List Data
@@ -150,5 +150,5 @@ joint_slots places (place ∷ rest) [] colours = []
 joint_slots places (place ∷ rest) (entry ∷ joints) [] = []
 joint_slots places (place ∷ rest) (entry ∷ joints) (colour ∷ colours) = joint_slot_of places place entry colour ∷ joint_slots places rest joints colours
 
-abbrev pub joints_of : List Place → List Place → List (Option BodyJoint) → List (Option ℕ) → Data
-joints_of places joint_places joints colours = list_of (joint_slots places joint_places joints colours)
+abbrev pub joints_data : List Place → List Place → List (Option BodyJoint) → List (Option ℕ) → Data
+joints_data places joint_places joints colours = list_data (joint_slots places joint_places joints colours)

@@ -6,29 +6,29 @@ use Rattle.impulse_ledger.specs.declared.limits.TheConstants.{MAX_TOTAL}
 use Rattle.impulse_ledger.specs.declared.totals.Total.{Total}
 use Rattle.impulse_ledger.specs.declared.totals.Totals.{Totals}
 use Rattle.world_file_base.specs.Asks.{Ask, all_asked, asked}
-use Rattle.world_file_base.specs.Reading.{first_in, has_keys_in, pair_asks, second_in}
+use Rattle.world_file_base.specs.Reading.{first_in, has_keys_in, pair_asks, second_item}
 use Rattle.world_file_base.specs.Texts.{decimal_asks, decimal_in}
-use Rattle.world_file_base.specs.Written.{decimal_of, object_of, pair_of}
+use Rattle.world_file_base.specs.Written.{decimal_of, object_of, pair_data}
 use Rattle.world_file_base.specs.declared.clause.Clause.TheVariants.{Form}
 
-abbrev pub total_in : Option Data → Total
-total_in value = record { x = decimal_in MAX_TOTAL (first_in value); y = decimal_in MAX_TOTAL (second_in value) }
+abbrev pub total_read : Option Data → Total
+total_read value = record { x = decimal_in MAX_TOTAL (first_in value); y = decimal_in MAX_TOTAL (second_item value) }
 
 abbrev pub total_asks : Option Data → Ask
-total_asks value reader = decimal_asks MAX_TOTAL (second_in value) (decimal_asks MAX_TOTAL (first_in value) (pair_asks value reader))
+total_asks value reader = decimal_asks MAX_TOTAL (second_item value) (decimal_asks MAX_TOTAL (first_in value) (pair_asks value reader))
 
 -- the total of the cause of a key
 abbrev pub cause_in : List ℕ → Option Data → Option Data
 cause_in key value = option_and_then (get key) value
 
-abbrev pub totals_in : Option Data → Totals
-totals_in value = record {
-  command = total_in (cause_in (codes "command") value);
-  gravity = total_in (cause_in (codes "gravity") value);
-  immovable = total_in (cause_in (codes "immovable") value);
-  clamp = total_in (cause_in (codes "clamp") value);
-  rest = total_in (cause_in (codes "rest") value);
-  departed = total_in (cause_in (codes "departed") value);
+abbrev pub totals_read : Option Data → Totals
+totals_read value = record {
+  command = total_read (cause_in (codes "command") value);
+  gravity = total_read (cause_in (codes "gravity") value);
+  immovable = total_read (cause_in (codes "immovable") value);
+  clamp = total_read (cause_in (codes "clamp") value);
+  rest = total_read (cause_in (codes "rest") value);
+  departed = total_read (cause_in (codes "departed") value);
 }
 
 abbrev pub totals_asks : Option Data → Ask
@@ -42,15 +42,15 @@ totals_asks value = all_asked (
     ∷ total_asks (cause_in (codes "departed") value)
     ∷ [])
 
-abbrev pub total_of : Total → Data
-total_of t = pair_of (decimal_of t.x) (decimal_of t.y)
+abbrev pub total_data : Total → Data
+total_data t = pair_data (decimal_of t.x) (decimal_of t.y)
 
-abbrev pub totals_of : Totals → Data
-totals_of t = object_of (
-    (codes "clamp", total_of t.clamp)
-    ∷ (codes "command", total_of t.command)
-    ∷ (codes "departed", total_of t.departed)
-    ∷ (codes "gravity", total_of t.gravity)
-    ∷ (codes "immovable", total_of t.immovable)
-    ∷ (codes "rest", total_of t.rest)
+abbrev pub totals_data : Totals → Data
+totals_data t = object_of (
+    (codes "clamp", total_data t.clamp)
+    ∷ (codes "command", total_data t.command)
+    ∷ (codes "departed", total_data t.departed)
+    ∷ (codes "gravity", total_data t.gravity)
+    ∷ (codes "immovable", total_data t.immovable)
+    ∷ (codes "rest", total_data t.rest)
     ∷ [])

@@ -27,11 +27,11 @@ with_members (m ∷ more) ms = with_members more (put m.0 m.1 ms)
 abbrev pub object_of : List Member → Data
 object_of members = object (with_members members no_members)
 
-abbrev pub list_of : List Data → Data
-list_of items = array (items_of items)
+abbrev pub list_data : List Data → Data
+list_data items = array (items_of items)
 
-abbrev pub pair_of : Data → Data → Data
-pair_of first second = list_of (first ∷ second ∷ [])
+abbrev pub pair_data : Data → Data → Data
+pair_data first second = list_data (first ∷ second ∷ [])
 
 -- a number without a sign
 abbrev pub natural : ℕ → Data
@@ -42,10 +42,10 @@ abbrev pub integer : ℤ → Data
 integer z = number (of_integer z)
 
 abbrev pub vector_of : Vec2 → Data
-vector_of v = pair_of (integer v.x) (integer v.y)
+vector_of v = pair_data (integer v.x) (integer v.y)
 
 abbrev pub ends_of : Vec2 → Vec2 → Data
-ends_of first second = pair_of (vector_of first) (vector_of second)
+ends_of first second = pair_data (vector_of first) (vector_of second)
 
 abbrev pub corners_of : Box2 → Data
 corners_of b = ends_of b.lo b.hi

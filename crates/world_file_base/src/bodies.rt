@@ -4,13 +4,13 @@ ghost use Rattle.std.specs.Prelude.{◌≡◌, ◌<◌, ◌^◌, ◌∷◌, ◌+
 ghost use Rattle.world_file_base.specs.Asks.{asked};
 ghost use Rattle.world_file_base.specs.Reading.{items_in, list_asks, seen, truth_in, unsigned_in};
 ghost use Rattle.serde_json.specs.Find.{get};
-ghost use Rattle.world_file_base.specs.Written.{list_of, written};
+ghost use Rattle.world_file_base.specs.Written.{list_data, written};
 ghost use Rattle.world_file_base.specs.declared.clause.Broken.TheVariants.{NoMemory};
 ghost use Rattle.world_file_base.specs.SavedBodies.{
   are_in_boxes,
   body_asks,
   body_in,
-  body_of,
+  body_data,
   course_asks,
   facing_asks,
   facing_in,
@@ -39,7 +39,7 @@ ghost use Rattle.world_file_base.specs.SavedBodies.{
   numbers_asks,
   pose_asks,
   pose_in,
-  put_course,
+  put_course_data,
   put_label,
   put_numbers,
   rest_asks,
@@ -491,7 +491,7 @@ fn kind_name(kind: Kind) -> &'static str
 
 /// The course of a kinematic body.
 fn put_course(members: &mut Members, kind: Kind) -> Result<(), Refusal>
-    ensures { OnOk result (written members.new ≡ put_course kind (written members.old)) }
+    ensures { OnOk result (written members.new ≡ put_course_data kind (written members.old)) }
 {
     match kind {
         Kind::Kinematic(course) => {
@@ -522,7 +522,7 @@ fn put_label(members: &mut Members, label: Option<Label>) -> Result<(), Refusal>
 }
 
 fn shapes_value(alloc: Global, defs: &[ShapeDef], fats: &[Box2]) -> Result<Value, Refusal>
-    ensures { IfOk result (λ value. view value ≡ list_of (shapes_of defs.now fats.now)) }
+    ensures { IfOk result (λ value. view value ≡ list_data (shapes_of defs.now fats.now)) }
 {
     let mut items = Vec::new(alloc);
     for place in 0..lesser(defs.len(), fats.len()) {
@@ -554,9 +554,9 @@ fn put_numbers(members: &mut Members, alloc: Global, body: &Body) -> Result<(), 
 }
 
 /// A body as it is written, with the label of its island if it is a mover.
-#[tactic(auto, unfolding(crate::specs::SavedBodies::body_of))]
+#[tactic(auto, unfolding(crate::specs::SavedBodies::body_data))]
 pub(crate) fn body_value(alloc: Global, body: &Body, label: Option<Label>) -> Result<Value, Refusal>
-    ensures { IfOk result (λ value. view value ≡ body_of body.now label) }
+    ensures { IfOk result (λ value. view value ≡ body_data body.now label) }
 {
     let mut members = Members::new(alloc);
     put_numbers(&mut members, alloc, body)?;

@@ -1,7 +1,7 @@
 //! A saved joint.
 
 ghost use Rattle.std.specs.Prelude.{◌≡◌, IfOk};
-ghost use Rattle.world_file_base.specs.SavedJoints.{id_at, joint_asks, joint_in, joint_of};
+ghost use Rattle.world_file_base.specs.SavedJoints.{id_at, joint_asks, joint_in, joint_data};
 ghost use Rattle.serde_json.specs.View.{view};
 
 use crate::clause::Clause;
@@ -65,14 +65,14 @@ fn id_at(alloc: Global, places: &[Place], slot: u32) -> Result<Value, Refusal>
 }
 
 /// A joint as it is written.
-#[tactic(auto, unfolding(crate::specs::SavedJoints::joint_of))]
+#[tactic(auto, unfolding(crate::specs::SavedJoints::joint_data))]
 pub(crate) fn joint_value(
     alloc: Global,
     places: &[Place],
     joint: &BodyJoint,
     colour: Option<u8>,
 ) -> Result<Value, Refusal>
-    ensures { IfOk result (λ value. view value ≡ joint_of places.now joint.now colour) }
+    ensures { IfOk result (λ value. view value ≡ joint_data places.now joint.now colour) }
 {
     let mut members = Members::new(alloc);
     members.put("a", id_at(alloc, places, joint.a)?)?;

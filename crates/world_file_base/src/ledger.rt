@@ -5,11 +5,11 @@ ghost use Rattle.world_file_base.specs.Reading.{seen};
 ghost use Rattle.world_file_base.specs.SavedTotals.{
   cause_in,
   total_asks,
-  total_in,
-  total_of,
+  total_read,
+  total_data,
   totals_asks,
-  totals_in,
-  totals_of,
+  totals_read,
+  totals_data,
 };
 ghost use Rattle.serde_json.specs.View.{view};
 
@@ -23,7 +23,7 @@ use std::alloc::Global;
 
 /// Reads the total of one cause.
 fn read_total(reader: &mut Reader, value: Option<&Value>) -> Total
-    ensures value { result ≡ total_in (seen value.entry) }
+    ensures value { result ≡ total_read (seen value.entry) }
     ensures asked { reader.new ≡ total_asks (seen value.entry) reader.old }
 {
     let items = reader.pair(value);
@@ -42,7 +42,7 @@ fn cause_in<'a>(value: Option<&'a Value>, key: &str) -> Option<&'a Value>
 
 /// Reads the totals of all causes.
 pub fn read_totals(reader: &mut Reader, value: Option<&Value>) -> Totals
-    ensures value { result ≡ totals_in (seen value.entry) }
+    ensures value { result ≡ totals_read (seen value.entry) }
     ensures asked { reader.new ≡ totals_asks (seen value.entry) reader.old }
 {
     reader.ask(has_keys_in(value, 6), Clause::Form);
@@ -63,7 +63,7 @@ pub fn read_totals(reader: &mut Reader, value: Option<&Value>) -> Totals
 }
 
 fn total_value(alloc: Global, total: Total) -> Result<Value, Refusal>
-    ensures { IfOk result (λ value. view value ≡ total_of total) }
+    ensures { IfOk result (λ value. view value ≡ total_data total) }
 {
     let x = decimal_value(alloc, total.x)?;
     let y = decimal_value(alloc, total.y)?;
@@ -72,7 +72,7 @@ fn total_value(alloc: Global, total: Total) -> Result<Value, Refusal>
 
 /// The totals as they are written.
 pub fn totals_value(alloc: Global, totals: &Totals) -> Result<Value, Refusal>
-    ensures { IfOk result (λ value. view value ≡ totals_of totals.now) }
+    ensures { IfOk result (λ value. view value ≡ totals_data totals.now) }
 {
     let mut members = Members::new(alloc);
     members.put("clamp", total_value(alloc, totals.clamp)?)?;

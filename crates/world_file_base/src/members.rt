@@ -9,7 +9,7 @@ ghost use Rattle.world_file_base.specs.Written.{
   ends_of,
   id_of,
   natural_or_null,
-  pair_of,
+  pair_data,
   vector_of,
   written,
 };
@@ -66,7 +66,7 @@ impl Members {
 
 /// A list of two values.
 pub fn pair_value(alloc: Global, first: Value, second: Value) -> Result<Value, Refusal>
-    ensures { IfOk result (λ value. view value ≡ pair_of (view first) (view second)) }
+    ensures { IfOk result (λ value. view value ≡ pair_data (view first) (view second)) }
 {
     let mut items = Vec::with_capacity(alloc, 2)?;
     items.push(first)?;

@@ -22,7 +22,7 @@ ghost use Rattle.world_file_base.specs.Reading.{
   number_asks,
   number_in,
   pair_asks,
-  second_in,
+  second_item,
   seen,
   signed_asks,
   signed_in,

@@ -5,14 +5,14 @@ ghost use Rattle.world_file_base.specs.Reading.{items_in, seen};
 ghost use Rattle.world_file_base.specs.SavedContacts.{
   contact_asks,
   contact_in,
-  contact_of,
+  contact_data,
   contacts_asks,
   contacts_in,
-  contacts_of,
+  contacts_data,
   no_points,
   point_asks,
   point_in,
-  point_of,
+  point_data,
   points_asks,
   points_of,
   push_asks,
@@ -199,9 +199,9 @@ pub fn read_contacts(
     read_each_contact(alloc, reader, items, version)
 }
 
-#[tactic(auto, unfolding(crate::specs::SavedContacts::point_of))]
+#[tactic(auto, unfolding(crate::specs::SavedContacts::point_data))]
 fn point_value(alloc: Global, point: &ContactPoint) -> Result<Value, Refusal>
-    ensures { IfOk result (λ value. view value ≡ point_of point.now) }
+    ensures { IfOk result (λ value. view value ≡ point_data point.now) }
 {
     let mut members = Members::new(alloc);
     members.put("candidate", Value::from(point.candidate))?;
@@ -233,9 +233,9 @@ fn shape_id_value(alloc: Global, id: ShapeId) -> Result<Value, Refusal>
     pair_value(alloc, Value::from(id.slot), Value::from(id.index))
 }
 
-#[tactic(auto, unfolding(crate::specs::SavedContacts::contact_of))]
+#[tactic(auto, unfolding(crate::specs::SavedContacts::contact_data))]
 fn contact_value(alloc: Global, entry: &ContactEntry, colour: Option<u8>) -> Result<Value, Refusal>
-    ensures { IfOk result (λ value. view value ≡ contact_of entry.now colour) }
+    ensures { IfOk result (λ value. view value ≡ contact_data entry.now colour) }
 {
     let mut members = Members::new(alloc);
     members.put("a", shape_id_value(alloc, entry.key.first)?)?;
@@ -252,7 +252,7 @@ pub fn contacts_value(
     contacts: &[ContactEntry],
     colours: &[Option<u8>],
 ) -> Result<Value, Refusal>
-    ensures { IfOk result (λ value. view value ≡ contacts_of contacts.now colours.now) }
+    ensures { IfOk result (λ value. view value ≡ contacts_data contacts.now colours.now) }
 {
     let mut items = Vec::new(alloc);
     for place in 0..lesser(contacts.len(), colours.len()) {

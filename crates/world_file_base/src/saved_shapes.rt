@@ -2,7 +2,7 @@
 
 ghost use Rattle.std.specs.Prelude.{◌≡◌, IfOk, OnOk, codes};
 ghost use Rattle.serde_json.specs.Find.{get};
-ghost use Rattle.world_file_base.specs.Reading.{first_in, seen, second_in, vector_in};
+ghost use Rattle.world_file_base.specs.Reading.{first_in, seen, second_item, vector_in};
 ghost use Rattle.world_file_base.specs.SavedShapes.{
   capsule_asks,
   capsule_in,
@@ -46,7 +46,7 @@ struct Ends {
 /// Two places of any coordinates.
 fn read_ends(reader: &mut Reader, value: Option<&Value>) -> Ends
     ensures first { result.first ≡ vector_in (first_in (seen value.entry)) }
-    ensures second { result.second ≡ vector_in (second_in (seen value.entry)) }
+    ensures second { result.second ≡ vector_in (second_item (seen value.entry)) }
     ensures asked { reader.new ≡ core_asks (seen value.entry) reader.old }
 {
     let items = reader.pair(value);

@@ -8,7 +8,7 @@ ghost use Rattle.world_file_base.specs.declared.clause.Broken.TheVariants.{NoMem
 ghost use Rattle.world_file_base.specs.SavedSlots.{
   bodies_asks,
   bodies_in,
-  bodies_of,
+  bodies_data,
   body_key,
   body_slot_asks,
   body_slot_of,
@@ -22,7 +22,7 @@ ghost use Rattle.world_file_base.specs.SavedSlots.{
   joint_slot_of,
   joints_asks,
   joints_in,
-  joints_of,
+  joints_data,
   membership_or_none,
   memberships_in,
   place_asks,
@@ -36,8 +36,8 @@ ghost use Rattle.world_file_base.specs.SavedSlots.{
   slots_asks,
   slot_of,
 };
-ghost use Rattle.world_file_base.specs.SavedBodies.{body_asks, body_in, body_of};
-ghost use Rattle.world_file_base.specs.SavedJoints.{joint_asks, joint_in, joint_of};
+ghost use Rattle.world_file_base.specs.SavedBodies.{body_asks, body_in, body_data};
+ghost use Rattle.world_file_base.specs.SavedJoints.{joint_asks, joint_in, joint_data};
 ghost use Rattle.serde_json.specs.View.{items_view, view};
 
 use crate::bodies::{body_value, read_body};
@@ -283,7 +283,7 @@ fn put_body(
     entry: &Option<Body>,
     label: Option<Label>,
 ) -> Result<(), Refusal>
-    ensures { OnOk result (written members.new ≡ put_item body_key (option_map (λ b. body_of b label) entry.now) (written members.old)) }
+    ensures { OnOk result (written members.new ≡ put_item body_key (option_map (λ b. body_data b label) entry.now) (written members.old)) }
 {
     match entry {
         Some(body) => members.put("body", body_value(alloc, body, label)?),
@@ -323,7 +323,7 @@ pub fn bodies_value(
     bodies: &[Option<Body>],
     labels: &[Option<Label>],
 ) -> Result<Value, Refusal>
-    ensures { IfOk result (λ value. view value ≡ bodies_of places.now bodies.now labels.now) }
+    ensures { IfOk result (λ value. view value ≡ bodies_data places.now bodies.now labels.now) }
 {
     let mut items = Vec::new(alloc);
     for slot in 0..lesser(places.len(), bodies.len()) {
@@ -340,7 +340,7 @@ fn put_joint(
     entry: &Option<BodyJoint>,
     colour: Option<u8>,
 ) -> Result<(), Refusal>
-    ensures { OnOk result (written members.new ≡ put_item joint_key (option_map (λ j. joint_of places.now j colour) entry.now) (written members.old)) }
+    ensures { OnOk result (written members.new ≡ put_item joint_key (option_map (λ j. joint_data places.now j colour) entry.now) (written members.old)) }
 {
     match entry {
         Some(joint) => members.put("joint", joint_value(alloc, places, joint, colour)?),
@@ -371,7 +371,7 @@ pub fn joints_value(
     joints: &[Option<BodyJoint>],
     colours: &[Option<u8>],
 ) -> Result<Value, Refusal>
-    ensures { IfOk result (λ value. view value ≡ joints_of places.now joint_places.now joints.now colours.now) }
+    ensures { IfOk result (λ value. view value ≡ joints_data places.now joint_places.now joints.now colours.now) }
 {
     let mut items = Vec::new(alloc);
     for slot in 0..lesser(lesser(joint_places.len(), joints.len()), colours.len()) {

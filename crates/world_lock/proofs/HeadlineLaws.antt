@@ -27,14 +27,14 @@ use Rattle.world_rules.specs.Laws as rules
 use Rattle.world_rules.specs.Laws.{ColoursAreApart, LinkedMoversStandTogether, SleepingSetsAreComponents, SleepsIn, WhatActsHasAColour}
 use Rattle.world_rules.specs.Sets.{acting_of}
 use Rattle.world_rules.specs.Sound.{AreTold, HasBodies, IsSound}
-use Rattle.world_rules.specs.World.{World, joints_of}
-use Rattle.world_lock.specs.Headline.{EachHasOneColour, EachSleepingSetIsOneComponent, EachSleepingSetIsOneIsland, EachStandsInOneSet, LinkedShareAnIsland, LinkedStandTogether, NoColourSharesAMover, OnlyAwakeMoversHaveMomentum, WhatActsIsColoured, census_in}
+use Rattle.world_rules.specs.World.{World, joints_in_slots}
+use Rattle.world_lock.specs.Headline.{EachHasOneColour, EachSleepingSetIsOneComponent, EachSleepingSetIsOneIsland, EachStandsInOneSet, LinkedShareAnIsland, LinkedStandTogether, NoColourSharesAMover, OnlyAwakeMoversHaveMomentum, WhatActsIsColoured, census_of_world}
 
 -- ---- solver sets
 
-census_is : ListsAreCensus → (w : World) → IsCensus (standings_of w.plain.places w.plain.bodies (joints_of w.plain) w.plain.contacts) (census_in w)
+census_is : ListsAreCensus → (w : World) → IsCensus (standings_of w.plain.places w.plain.bodies (joints_in_slots w.plain) w.plain.contacts) (census_of_world w)
 unfolding census_of
-census_is law w = law (standings_of w.plain.places w.plain.bodies (joints_of w.plain) w.plain.contacts)
+census_is law w = law (standings_of w.plain.places w.plain.bodies (joints_in_slots w.plain) w.plain.contacts)
 
 pub in_one_set : ListsAreCensus → rules.EachStandsInOneSet → (w : World) → IsSound w → EachStandsInOneSet w
 in_one_set are law w s = record { once = law w s; census = census_is are w }
@@ -71,12 +71,12 @@ pub has_one_colour : TiesAreNamed → (w : World) → IsSound w → EachHasOneCo
 unfolding acting_of
 has_one_colour law w s =
     let settled = s.promises.settled in
-    let slots : AreJointSlots (joints_of w.plain) = record { matched = s.formed.joint_slots; places = s.formed.joint_places } in
+    let slots : AreJointSlots (joints_in_slots w.plain) = record { matched = s.formed.joint_slots; places = s.formed.joint_places } in
     let named : All (λ (e : ContactEntry). IsNamed e.key) w.plain.contacts = All-weaker (HasBodies w.plain.bodies) (λ (e : ContactEntry). IsNamed e.key) (λ e h. h.named) w.plain.contacts s.formed.there in
     record {
       colouring = settled.colouring;
-      named = λ m h. law w.plain.bodies (joints_of w.plain) w.plain.contacts m slots named ((settled.acting m).0 h).0;
-      movers = λ m h. has_movers w.plain.bodies (joints_of w.plain) w.plain.colours m h;
+      named = λ m h. law w.plain.bodies (joints_in_slots w.plain) w.plain.contacts m slots named ((settled.acting m).0 h).0;
+      movers = λ m h. has_movers w.plain.bodies (joints_in_slots w.plain) w.plain.colours m h;
     }
 
 -- ---- islands

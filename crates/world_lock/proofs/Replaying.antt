@@ -20,10 +20,10 @@ use Rattle.world_rules.specs.World.{World, book_of}
 use Rattle.plain_world.specs.Plain.{Plain}
 use Rattle.world_rules.specs.Apply.{Answers, Applied, apply, world_with}
 use Rattle.world_rules.specs.Replay.{after, after_one, answer_of, answers_to, replay}
-use Rattle.world_rules.specs.Laws.{EachCallCounts, PushesAreSmall, impulse_of}
+use Rattle.world_rules.specs.Laws.{EachCallCounts, PushesAreSmall, push_of}
 use Rattle.world_rules.specs.Sound.{IsSound}
-use Rattle.world_core.specs.Frames.{settled_world}
-use Rattle.world_lock.specs.Journals.{AreTotalsSince, Beginning, IsJournalled, IsLegal, IsLike, Journalled, KeepsHeadline, Line, beginning_at, booked_by, command_of, commands_of, entries_of, left_by, opening_of, replies_of, reply_of}
+use Rattle.world_core.specs.Frames.{with_ledger_settled}
+use Rattle.world_lock.specs.Journals.{AreTotalsSince, Beginning, IsJournalled, IsLegal, IsLike, Journalled, KeepsHeadline, Line, beginning_at, booked_by, command_of, commands_of, entries_of, replayed, opening_of, replies_of, reply_of}
 
 -- ---- one answer
 
@@ -41,26 +41,26 @@ counts_by law w c reply (Err e) is ok = cc
 pub counts : (law : EachCallCounts) (w : World) (c : Command) (reply : Reply) → answer_of (apply w.plain c) ≡ Ok reply → (after w c).plain.calls ≡ w.plain.calls + 1
 counts law w c reply ok = counts_by law w c reply (apply w.plain c) refl ok
 
-small_by : (law : PushesAreSmall) (w : World) (c : Command) (reply : Reply) (due : Result Applied Refusal) → apply w.plain c ≡ due → answer_of due ≡ Ok reply → IsWithin (2 ^ 40) (impulse_of c)
+small_by : (law : PushesAreSmall) (w : World) (c : Command) (reply : Reply) (due : Result Applied Refusal) → apply w.plain c ≡ due → answer_of due ≡ Ok reply → IsWithin (2 ^ 40) (push_of c)
 small_by law w c reply (Ok a) is ok = law w.plain c a is
 small_by law w c reply (Err e) is ok = cc
 
-pub small_push : (law : PushesAreSmall) (w : World) (c : Command) (reply : Reply) → answer_of (apply w.plain c) ≡ Ok reply → IsWithin (2 ^ 40) (impulse_of c)
+pub small_push : (law : PushesAreSmall) (w : World) (c : Command) (reply : Reply) → answer_of (apply w.plain c) ≡ Ok reply → IsWithin (2 ^ 40) (push_of c)
 small_push law w c reply ok = small_by law w c reply (apply w.plain c) refl ok
 
 -- ---- lists of calls
 
-pub left_push : (first : World) (es : List Line) (e : Line) → left_by first (es ++ e ∷ []) ≡ after (left_by first es) (command_of e)
+pub left_push : (first : World) (es : List Line) (e : Line) → replayed first (es ++ e ∷ []) ≡ after (replayed first es) (command_of e)
 left_push first [] e = refl
 left_push first (x ∷ xs) e = left_push (after first (command_of x)) xs e
 
-answers_push : (first : World) (es : List Line) (e : Line) → answers_to first (commands_of (es ++ e ∷ [])) ≡ answers_to first (commands_of es) ++ answer_of (apply (left_by first es).plain (command_of e)) ∷ []
+answers_push : (first : World) (es : List Line) (e : Line) → answers_to first (commands_of (es ++ e ∷ [])) ≡ answers_to first (commands_of es) ++ answer_of (apply (replayed first es).plain (command_of e)) ∷ []
 answers_push first [] e = refl
 answers_push first (x ∷ xs) e = ap (λ l. answer_of (apply first.plain (command_of x)) ∷ l) (answers_push (after first (command_of x)) xs e)
 
-pub legal_push : (first : World) (es : List Line) (e : Line) → IsLegal first es → answer_of (apply (left_by first es).plain (command_of e)) ≡ reply_of e → IsLegal first (es ++ e ∷ [])
+pub legal_push : (first : World) (es : List Line) (e : Line) → IsLegal first es → answer_of (apply (replayed first es).plain (command_of e)) ≡ reply_of e → IsLegal first (es ++ e ∷ [])
 legal_push first es e legal one =
-    let both : answers_to first (commands_of es) ++ answer_of (apply (left_by first es).plain (command_of e)) ∷ [] ≡ replies_of es ++ reply_of e ∷ [] = λ i. legal i ++ one i ∷ [] in
+    let both : answers_to first (commands_of es) ++ answer_of (apply (replayed first es).plain (command_of e)) ∷ [] ≡ replies_of es ++ reply_of e ∷ [] = λ i. legal i ++ one i ∷ [] in
     answers_push first es e ∙ both ∙ sym (map-append reply_of es (e ∷ []))
 
 -- ---- worlds that differ by settled entries alone
@@ -123,11 +123,11 @@ kept_total : (cause : Cause) (w : World) → total_in cause (totals_of (book_of 
 kept_total cause w = zero-sum_of (total_in cause (totals_of (book_of w))) ∙ (same_totals (book_of w) 0).of_cause cause
 
 -- the totals since the opening, whose own were kept
-totals_since : (opening w : World) (kept : Totals) (journal : List Line) → kept ≡ totals_of (book_of opening) → w ≡ left_by opening journal → AreTotalsSince kept (booked_by opening (commands_of journal)) w
-totals_since opening w kept journal is replayed cause =
+totals_since : (opening w : World) (kept : Totals) (journal : List Line) → kept ≡ totals_of (book_of opening) → w ≡ replayed opening journal → AreTotalsSince kept (booked_by opening (commands_of journal)) w
+totals_since opening w kept journal is same cause =
     let cs = commands_of journal in
     let first : total_of cause (book_of opening) ≡ total_in cause kept = sym (kept_total cause opening) ∙ ap (total_in cause) (sym is) in
-    ap (λ (v : World). total_of cause (book_of v)) replayed ∙ total_more cause opening cs ∙ ap (λ (t : Total). sum_of t (summed_of cause (booked_by opening cs))) first
+    ap (λ (v : World). total_of cause (book_of v)) same ∙ total_more cause opening cs ∙ ap (λ (t : Total). sum_of t (summed_of cause (booked_by opening cs))) first
 
 -- ---- a world with its journal
 
@@ -147,9 +147,9 @@ journalled_call b w journal e j ok sound =
     let now = after w (command_of e) in
     let old = opening_of b w in
     let same : opening_of b now ≡ old = opening_stays b w (command_of e) j.booked in
-    let replay : now ≡ left_by old (journal ++ e ∷ []) = ap (λ (v : World). after v (command_of e)) j.headline.replay ∙ sym (left_push old journal e) in
-    let taken : answer_of (apply (left_by old journal).plain (command_of e)) ≡ reply_of e = ap (λ (v : World). answer_of (apply v.plain (command_of e))) (sym j.headline.replay) ∙ ok in
-    let again : now ≡ left_by (opening_of b now) (journal ++ e ∷ []) = replay ∙ ap (λ (o : World). left_by o (journal ++ e ∷ [])) (sym same) in
+    let replay : now ≡ replayed old (journal ++ e ∷ []) = ap (λ (v : World). after v (command_of e)) j.headline.replay ∙ sym (left_push old journal e) in
+    let taken : answer_of (apply (replayed old journal).plain (command_of e)) ≡ reply_of e = ap (λ (v : World). answer_of (apply v.plain (command_of e))) (sym j.headline.replay) ∙ ok in
+    let again : now ≡ replayed (opening_of b now) (journal ++ e ∷ []) = replay ∙ ap (λ (o : World). replayed o (journal ++ e ∷ [])) (sym same) in
     let totals : b.totals ≡ totals_of (book_of (opening_of b now)) = j.totals ∙ ap (λ (o : World). totals_of (book_of o)) (sym same) in
     let g = grown w (apply w.plain (command_of e)) in
     record {
@@ -178,10 +178,10 @@ begun w sound =
     }
 
 -- the same where the ledger's entries were settled
-pub begun_settled : (w : World) → IsSound (settled_world w) → IsJournalled (record (beginning_at w) { booked = 0 }) (settled_world w) []
+pub begun_settled : (w : World) → IsSound (with_ledger_settled w) → IsJournalled (record (beginning_at w) { booked = 0 }) (with_ledger_settled w) []
 begun_settled w sound =
     let kept = totals_of (book_of w) in
-    let totals : kept ≡ totals_of (book_of (settled_world w)) =
+    let totals : kept ≡ totals_of (book_of (with_ledger_settled w)) =
     λ i. record {
       command = zero-sum_of kept.command i;
       gravity = zero-sum_of kept.gravity i;
@@ -191,7 +191,7 @@ begun_settled w sound =
       departed = zero-sum_of kept.departed i;
     } in
     record {
-      headline = record { sound = sound; replay = refl; replies = refl; totals = totals_since (settled_world w) (settled_world w) kept [] totals refl };
+      headline = record { sound = sound; replay = refl; replies = refl; totals = totals_since (with_ledger_settled w) (with_ledger_settled w) kept [] totals refl };
       booked = omega arith;
       totals = totals;
     }

@@ -7,10 +7,10 @@ use Rattle.fixed_geom.specs.Vectors.{IsWithin, plus}
 use Rattle.fixed_geom.specs.declared.vectors.Vec2.{Vec2}
 use Rattle.colour_solver.proofs.VectorLaws.{plus_assoc, plus_zero, zero_plus}
 use Rattle.seat_book.specs.History.{IsOther, IsPast}
-use Rattle.world_rules.specs.Laws.{impulse_of}
+use Rattle.world_rules.specs.Laws.{push_of}
 use Rattle.world_lock.specs.declared.tally.Tally.{Tally}
 use Rattle.world_lock.specs.Journals.{Line, command_of}
-use Rattle.world_lock.specs.Tallies.{IsTally, calls_of, no_calls, pushed, tallies_from, tally_of, with_call}
+use Rattle.world_lock.specs.Tallies.{IsTally, calls_of, no_calls, pushed_sum, tallies_from, tally_of, with_call}
 
 -- ---- a seat's own calls
 
@@ -38,33 +38,33 @@ past_calls seat seen history p = ap (calls_of seat) p.1 ∙ calls_append seat se
 
 -- ---- one call more
 
-pub pushed-append : (es fs : List Line) → pushed (es ++ fs) ≡ plus (pushed es) (pushed fs)
-pushed-append [] fs = sym (zero_plus (pushed fs))
-pushed-append (x ∷ xs) fs = ap (plus (impulse_of (command_of x))) (pushed-append xs fs) ∙ plus_assoc (impulse_of (command_of x)) (pushed xs) (pushed fs)
+pub pushed-append : (es fs : List Line) → pushed_sum (es ++ fs) ≡ plus (pushed_sum es) (pushed_sum fs)
+pushed-append [] fs = sym (zero_plus (pushed_sum fs))
+pushed-append (x ∷ xs) fs = ap (plus (push_of (command_of x))) (pushed-append xs fs) ∙ plus_assoc (push_of (command_of x)) (pushed_sum xs) (pushed_sum fs)
 
-pushed-push : (es : List Line) (e : Line) → pushed (es ++ e ∷ []) ≡ plus (pushed es) (impulse_of (command_of e))
-pushed-push es e = pushed-append es (e ∷ []) ∙ ap (plus (pushed es)) (plus_zero (impulse_of (command_of e)))
+pushed-push : (es : List Line) (e : Line) → pushed_sum (es ++ e ∷ []) ≡ plus (pushed_sum es) (push_of (command_of e))
+pushed-push es e = pushed-append es (e ∷ []) ∙ ap (plus (pushed_sum es)) (plus_zero (push_of (command_of e)))
 
 length-push : (es : List Line) (e : Line) → length (es ++ e ∷ []) ≡ length es + 1
 length-push es e = omega (arith, length-append es (e ∷ []))
 
-tally_one : (seat : ℕ) (es : List Line) (e : Line) → e.seat ≡ seat → with_call (tally_of seat es) (impulse_of (command_of e)) ≡ tally_of seat (es ++ e ∷ [])
+tally_one : (seat : ℕ) (es : List Line) (e : Line) → e.seat ≡ seat → with_call (tally_of seat es) (push_of (command_of e)) ≡ tally_of seat (es ++ e ∷ [])
 tally_one seat es e is =
     let own : calls_of seat (es ++ e ∷ []) ≡ calls_of seat es ++ e ∷ [] = calls_append seat es (e ∷ []) ∙ ap (λ l. calls_of seat es ++ l) (own_head seat e [] is) in
-    let all : plus (pushed (calls_of seat es)) (impulse_of (command_of e)) ≡ pushed (calls_of seat (es ++ e ∷ [])) = sym (pushed-push (calls_of seat es) e) ∙ ap pushed (sym own) in
+    let all : plus (pushed_sum (calls_of seat es)) (push_of (command_of e)) ≡ pushed_sum (calls_of seat (es ++ e ∷ [])) = sym (pushed-push (calls_of seat es) e) ∙ ap pushed_sum (sym own) in
     λ i. record { calls = (sym (length-push (calls_of seat es) e) ∙ ap length (sym own)) i; pushed = record { x = (all i).x; y = (all i).y } }
 
 tally_other : (seat : ℕ) (es : List Line) (e : Line) → e.seat ≢ seat → tally_of seat es ≡ tally_of seat (es ++ e ∷ [])
 tally_other seat es e other =
     let same : calls_of seat (es ++ e ∷ []) ≡ calls_of seat es = calls_append seat es (e ∷ []) ∙ ap (λ l. calls_of seat es ++ l) (other_head seat e [] other) ∙ append-nil (calls_of seat es) in
-    ap (λ (own : List Line). record { calls = length own; pushed = record { x = (pushed own).x; y = (pushed own).y } }) (sym same)
+    ap (λ (own : List Line). record { calls = length own; pushed = record { x = (pushed_sum own).x; y = (pushed_sum own).y } }) (sym same)
 
 tallies_other : (start n : ℕ) (es : List Line) (e : Line) → e.seat < start → tallies_from start n es ≡ tallies_from start n (es ++ e ∷ [])
 tallies_other start zero es e below = refl
 tallies_other start (suc n) es e below = λ i. tally_other start es e (λ is. omega arith) i ∷ tallies_other (suc start) n es e (omega arith) i
 
 pub tallies_step : (start n i : ℕ) (es : List Line) (e : Line) → i < n → e.seat ≡ start + i
-    → slice_set (tallies_from start n es) i (with_call (slice_index_or (tallies_from start n es) i no_calls) (impulse_of (command_of e))) ≡ tallies_from start n (es ++ e ∷ [])
+    → slice_set (tallies_from start n es) i (with_call (slice_index_or (tallies_from start n es) i no_calls) (push_of (command_of e))) ≡ tallies_from start n (es ++ e ∷ [])
 tallies_step start zero i es e l is = absurd (omega arith)
 tallies_step start (suc n) zero es e l is = λ k. tally_one start es e (omega (arith, is)) k ∷ tallies_other (suc start) n es e (omega (arith, is)) k
 tallies_step start (suc n) (suc i) es e l is = λ k. tally_other start es e (λ same. omega (arith, is, same)) k ∷ tallies_step (suc start) n i es e (omega arith) (omega (arith, is)) k

@@ -11,13 +11,13 @@ use Rattle.world_rules.specs.declared.command.Command.{Command}
 use Rattle.world_rules.specs.declared.command.Reply.{Reply}
 use Rattle.world_rules.specs.World.{World, book_of}
 use Rattle.world_rules.specs.Apply.{apply}
-use Rattle.world_rules.specs.Laws.{impulse_of}
+use Rattle.world_rules.specs.Laws.{push_of}
 use Rattle.world_rules.specs.Replay.{after, answer_of}
-use Rattle.world_core.specs.Frames.{View, frame_of, settled_world}
+use Rattle.world_core.specs.Frames.{View, frame_of, with_ledger_settled}
 use Rattle.world_lock.specs.declared.seat.Receipt.{Receipt}
 use Rattle.world_lock.specs.declared.tally.Tally.{Tally}
-use Rattle.world_lock.specs.Journals.{Beginning, IsLegal, IsLike, Journalled, KeepsHeadline, Line, command_of, journalled, left_by, line}
-use Rattle.world_lock.specs.Tallies.{IsTally, calls_of, no_calls, pushed, tallies_of, with_call}
+use Rattle.world_lock.specs.Journals.{Beginning, IsLegal, IsLike, Journalled, KeepsHeadline, Line, command_of, journalled, replayed, line}
+use Rattle.world_lock.specs.Tallies.{IsTally, calls_of, no_calls, pushed_sum, tallies_of, with_call}
 
 -- a seat, and the calls that it has seen
 abbrev pub Known : Type 0
@@ -27,7 +27,7 @@ Known = book.Known Command Reply
 
 -- a world with its journal and the totals at the opening, how many entries of the history were settled, what each seat did, also as it was when the last
 -- were settled, and the history: all calls since the world was opened
-pub record Standing : Type 0 where
+pub record SeatStanding : Type 0 where
   pub world : World
   pub opening : World
   pub opening_totals : Totals
@@ -37,25 +37,25 @@ pub record Standing : Type 0 where
   pub settled_tallies : List Tally
   pub history : List Line
 
-abbrev pub standing : Journalled → ℕ → List Tally → List Tally → List Line → Standing
+abbrev pub standing : Journalled → ℕ → List Tally → List Tally → List Line → SeatStanding
 standing j settled tallies settled_tallies history =
     record { world = j.world; opening = j.opening; opening_totals = j.opening_totals; journal = j.journal; settled = settled; tallies = tallies; settled_tallies = settled_tallies; history = history }
 
 -- A call leaves the world after it. The journal and the history are longer by just the call, which its seat's tally counts; all else stays.
-abbrev pub with_line : Standing → Line → Standing
+abbrev pub with_line : SeatStanding → Line → SeatStanding
 with_line s e = record s {
   world = after s.world (command_of e);
   journal = s.journal ++ e ∷ [];
-  tallies = slice_set s.tallies e.seat (with_call (slice_index_or s.tallies e.seat no_calls) (impulse_of (command_of e)));
+  tallies = slice_set s.tallies e.seat (with_call (slice_index_or s.tallies e.seat no_calls) (push_of (command_of e)));
   history = s.history ++ e ∷ [];
 }
 
 -- Settling leaves the world with its ledger's entries settled. The journal begins anew there, with the totals of its ledger; the calls of the old one are
 -- settled, with what each seat did; all else stays.
-abbrev pub with_settled : Standing → Standing
+abbrev pub with_settled : SeatStanding → SeatStanding
 with_settled s = record s {
-  world = settled_world s.world;
-  opening = settled_world s.world;
+  world = with_ledger_settled s.world;
+  opening = with_ledger_settled s.world;
   opening_totals = totals_of (book_of s.world);
   journal = [];
   settled = s.settled + length s.journal;
@@ -68,9 +68,9 @@ IsSeated seats e = e.seat < seats
 
 -- The history is legal from the world at `open`, and its replay gives the world, but for entries that were settled; the journal is what of it wasn't settled.
 -- Each accepted call counted, and each is of one of the seats; the tallies are those of the history.
-pub record IsHeld (seats : ℕ) (first : World) (s : Standing) : Type 0 where
+pub record IsHeld (seats : ℕ) (first : World) (s : SeatStanding) : Type 0 where
   pub legal : IsLegal first s.history
-  pub like : IsLike (left_by first s.history) s.world
+  pub like : IsLike (replayed first s.history) s.world
   pub journal : s.journal ≡ drop s.settled s.history
   pub count : length s.history ≡ s.settled + length s.journal
   pub calls : first.plain.calls + length s.history ≡ s.world.plain.calls
@@ -104,15 +104,15 @@ Called first before command reply receipt after =
 abbrev pub Refused : World → Known → Command → Refusal → Known → Type 0
 Refused first before command refusal after =
     (past : List Line) × IsPastOf first before past × (after ≡ known before.seat past)
-    × ((refusal ≡ NoMemory) ⊎ (answer_of (apply (left_by first past).plain command) ≡ Err refusal))
+    × ((refusal ≡ NoMemory) ⊎ (answer_of (apply (replayed first past).plain command) ≡ Err refusal))
 
 -- the seat has then seen one past of it, of whose world this is the frame
 abbrev pub Shown : World → Known → View → Known → Type 0
-Shown first before frame after = (past : List Line) × IsPastOf first before past × (after ≡ known before.seat past) × (frame ≡ frame_of (left_by first past))
+Shown first before frame after = (past : List Line) × IsPastOf first before past × (after ≡ known before.seat past) × (frame ≡ frame_of (replayed first past))
 
 -- the seat has then seen one past of it, of whose last step these are the events; where it has none, they are those at `open`
 abbrev pub Told : World → Known → EventLists → Known → Type 0
-Told first before events after = (past : List Line) × IsPastOf first before past × (after ≡ known before.seat past) × (events ≡ (left_by first past).events)
+Told first before events after = (past : List Line) × IsPastOf first before past × (after ≡ known before.seat past) × (events ≡ (replayed first past).events)
 
 -- ---- closing
 
@@ -138,8 +138,8 @@ pub record IsAllOf (history journal : List Line) (settled : ℕ) (tallies : List
   pub past : IsPast k.seat k.seen history
   pub own : calls_of k.seat k.seen ≡ calls_of k.seat (take settled history) ++ calls_of k.seat journal
   pub calls : (slice_index_or tallies k.seat no_calls).calls + length (calls_of k.seat journal) ≡ length (calls_of k.seat k.seen)
-  pub pushed_x_is : (slice_index_or tallies k.seat no_calls).pushed.x +ℤ (pushed (calls_of k.seat journal)).x ≡ (pushed (calls_of k.seat k.seen)).x
-  pub pushed_y_is : (slice_index_or tallies k.seat no_calls).pushed.y +ℤ (pushed (calls_of k.seat journal)).y ≡ (pushed (calls_of k.seat k.seen)).y
+  pub pushed_x_is : (slice_index_or tallies k.seat no_calls).pushed.x +ℤ (pushed_sum (calls_of k.seat journal)).x ≡ (pushed_sum (calls_of k.seat k.seen)).x
+  pub pushed_y_is : (slice_index_or tallies k.seat no_calls).pushed.y +ℤ (pushed_sum (calls_of k.seat journal)).y ≡ (pushed_sum (calls_of k.seat k.seen)).y
 
 -- The headline holds of the closed world, with the totals that were kept of the opening. The history is legal from the world at `open`, and its replay gives the closed world, but for entries that were
 -- settled; the journal is what of it wasn't settled, each call of it is of one of the seats, the settled tallies are those of its settled calls, and of each
@@ -147,7 +147,7 @@ pub record IsAllOf (history journal : List Line) (settled : ℕ) (tallies : List
 pub record IsClosing (count : ℕ) (first : World) (seats : List Known) (b : Beginning) (w : World) (journal : List Line) (tallies : List Tally) (settled : ℕ) (history : List Line) : Type 0 where
   pub headline : KeepsHeadline (journalled b w journal)
   pub legal : IsLegal first history
-  pub like : IsLike (left_by first history) w
+  pub like : IsLike (replayed first history) w
   pub unsettled : journal ≡ drop settled history
   pub count_is : length history ≡ settled + length journal
   pub seated : All (IsSeated count) history

@@ -43,8 +43,8 @@ abbrev pub IsLegal : World → List Line → Type 0
 IsLegal first es = answers_to first (commands_of es) ≡ replies_of es
 
 -- the world that this replay leaves
-abbrev pub left_by : World → List Line → World
-left_by first es = replay first (commands_of es)
+abbrev pub replayed : World → List Line → World
+replayed first es = replay first (commands_of es)
 
 -- the ledger's entries that a command adds, and a list of commands
 abbrev pub entries_of : Result Applied Refusal → List ledger.Entry
@@ -73,7 +73,7 @@ pub record Journalled : Type 0 where
 -- entries of the cause that this replay adds.
 pub record KeepsHeadline (j : Journalled) : Type 0 where
   pub sound : IsSound j.world
-  pub replay : j.world ≡ left_by j.opening j.journal
+  pub replay : j.world ≡ replayed j.opening j.journal
   pub replies : IsLegal j.opening j.journal
   pub totals : AreTotalsSince j.opening_totals (booked_by j.opening (commands_of j.journal)) j.world
 

@@ -3,7 +3,7 @@ use Rattle.std.specs.Prelude.{ℕ, zero, suc, ◌+◌, ◌*◌, ◌^◌, ◌≤�
 use Rattle.fixed_geom.specs.Vectors.{plus, zero_vector}
 use Rattle.fixed_geom.specs.declared.vectors.Vec2.{Vec2}
 use Rattle.impulse_ledger.specs.Totals.{zero_total}
-use Rattle.world_rules.specs.Laws.{impulse_of}
+use Rattle.world_rules.specs.Laws.{push_of}
 use Rattle.world_lock.specs.declared.tally.Tally.{Tally}
 use Rattle.world_lock.specs.Journals.{Line, command_of}
 
@@ -13,13 +13,13 @@ calls_of seat [] = []
 calls_of seat (e ∷ es) = cond (e.seat == seat) (e ∷ calls_of seat es) (calls_of seat es)
 
 -- the sum of what these calls pushed
-abbrev pub pushed : List Line → Vec2
-pushed [] = zero_vector
-pushed (e ∷ es) = plus (impulse_of (command_of e)) (pushed es)
+abbrev pub pushed_sum : List Line → Vec2
+pushed_sum [] = zero_vector
+pushed_sum (e ∷ es) = plus (push_of (command_of e)) (pushed_sum es)
 
 -- of all calls, those of a seat are counted, and their pushes summed
 abbrev pub tally_of : ℕ → List Line → Tally
-tally_of seat es = let own = calls_of seat es in record { calls = length own; pushed = record { x = (pushed own).x; y = (pushed own).y } }
+tally_of seat es = let own = calls_of seat es in record { calls = length own; pushed = record { x = (pushed_sum own).x; y = (pushed_sum own).y } }
 
 -- the tallies of so many seats, from this one on
 abbrev pub tallies_from : ℕ → ℕ → List Line → List Tally

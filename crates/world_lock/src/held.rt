@@ -9,7 +9,7 @@ ghost use Rattle.impulse_ledger.specs.Sums.{HaveSameTotals, total, totals_of};
 ghost use Rattle.plain_world.specs.Momentum.{momentum};
 ghost use Rattle.world_rules.specs.World.{book_of};
 ghost use Rattle.world_lock.specs.Headline.{EachHasOneColour, EachSleepingSetIsOneComponent, EachSleepingSetIsOneIsland, EachStandsInOneSet, LinkedShareAnIsland, LinkedStandTogether, NoColourSharesAMover, OnlyAwakeMoversHaveMomentum, WhatActsIsColoured};
-ghost use Rattle.world_lock.specs.Journals.{AreTotalsSince, IsLegal, booked_by, commands_of, left_by, line};
+ghost use Rattle.world_lock.specs.Journals.{AreTotalsSince, IsLegal, booked_by, commands_of, replayed, line};
 ghost use Rattle.world_lock.specs.Tallies.{no_calls};
 ghost use Rattle.world_lock.specs.Histories.{Called, IsClosed, IsPastFor, Met, Refused, Shown, Told, next_number, with_line, with_settled};
 
@@ -43,9 +43,9 @@ pub struct Held<N: Opened> {
 }
 
 impl<N: Opened> Model for Held<N> {
-    ghost use Rattle.world_lock.specs.Histories.{IsHeld, Standing, standing};
+    ghost use Rattle.world_lock.specs.Histories.{IsHeld, SeatStanding, standing};
 
-    ghost Value = { Standing };
+    ghost Value = { SeatStanding };
 
     ghost view = { λ h. standing h.journalled h.settled h.tallies.items h.settled_tallies.items h.keeper };
 
@@ -94,7 +94,7 @@ impl<N: Opened> Held<N> {
         ensures only_awake_movers_have_momentum { OnlyAwakeMoversHaveMomentum self.now.world }
         ensures momentum_x_is_booked { (momentum self.now.world.plain.bodies).x ≡ (total (book_of self.now.world)).x }
         ensures momentum_y_is_booked { (momentum self.now.world.plain.bodies).y ≡ (total (book_of self.now.world)).y }
-        ensures is_the_replay { self.now.world ≡ left_by self.now.opening self.now.journal }
+        ensures is_the_replay { self.now.world ≡ replayed self.now.opening self.now.journal }
         ensures replies { IsLegal self.now.opening self.now.journal }
         ensures entries { drop (length self.now.opening.entries) self.now.world.entries ≡ booked_by self.now.opening (commands_of self.now.journal) }
         ensures totals { AreTotalsSince self.now.opening_totals (booked_by self.now.opening (commands_of self.now.journal)) self.now.world }

@@ -5,7 +5,7 @@ ghost use Rattle.std.specs.Result.{IsOkUnless};
 ghost use Rattle.impulse_ledger.specs.Sums.{HaveSameTotals, totals_of};
 ghost use Rattle.world_rules.specs.World.{book_of};
 ghost use Rattle.world_rules.specs.Apply.{apply};
-ghost use Rattle.world_core.specs.Frames.{settled_world};
+ghost use Rattle.world_core.specs.Frames.{with_ledger_settled};
 ghost use Rattle.world_rules.specs.Replay.{after, answer_of};
 ghost use Rattle.world_rules.specs.Sound.{IsSound};
 ghost use Rattle.world_lock.specs.Journals.{KeepsHeadline, beginning_at, journalled, line};
@@ -121,7 +121,7 @@ impl JournalledWorld {
     /// nothing changed where memory is wanting.
     #[tactic(auto, using(crate::proofs::Replaying::begun_settled))]
     pub fn settle(&mut self) -> Result<Vec<JournalEntry>, Refusal>
-        ensures settled { OnOk result (self.new ≡ record { world = settled_world self.old.world; opening = settled_world self.old.world; opening_totals = totals_of (book_of self.old.world); journal = [] }) }
+        ensures settled { OnOk result (self.new ≡ record { world = with_ledger_settled self.old.world; opening = with_ledger_settled self.old.world; opening_totals = totals_of (book_of self.old.world); journal = [] }) }
         ensures totals { OnOk result (HaveSameTotals (book_of self.new.world) (book_of self.old.world)) }
         ensures journal { IfOk result (λ journal. journal.items ≡ self.old.journal) }
         ensures err { OnErr result (self.new ≡ self.old) }

@@ -9,7 +9,7 @@ use Rattle.plain_world.specs.Slots.{body_at}
 use Rattle.plain_world.specs.declared.body.Body.{Body}
 use Rattle.shape_rays.specs.declared.hits.PlacedShape.{PlacedShape}
 use Rattle.shapes.specs.declared.shape.ShapeDef.{ShapeDef}
-use Rattle.world_rules.specs.World.{body_of}
+use Rattle.world_rules.specs.World.{body_named}
 use Rattle.world_queries.specs.Placed.{placed_shapes}
 use Rattle.world_queries.specs.declared.filters.QueryFilter.{QueryFilter}
 
@@ -59,7 +59,7 @@ stale_refusal (Some b) = None
 
 abbrev pub without_refusal : Plain → Option Handle → Option Refusal
 without_refusal w None = None
-without_refusal w (Some h) = stale_refusal (body_of w h)
+without_refusal w (Some h) = stale_refusal (body_named w h)
 
 -- a filter is refused that leaves out a body which doesn't live
 abbrev pub filter_refusal : Plain → QueryFilter → Option Refusal

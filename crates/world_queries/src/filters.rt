@@ -3,7 +3,7 @@
 ghost use Rattle.std.specs.Prelude.{◌≡◌, Some};
 ghost use Rattle.std.specs.Result.{result_err};
 ghost use Rattle.world_queries.specs.Filters.{category_of, filter_refusal, is_in_mask, is_slot_of, lets_through, stale_refusal};
-ghost use Rattle.world_rules.specs.World.{body_of};
+ghost use Rattle.world_rules.specs.World.{body_named};
 
 use contacts_base::ShapeId;
 use plain_world::{Body, item_at};
@@ -47,7 +47,7 @@ impl QueryFilter {
 
 /// Refused 2 where a body doesn't live.
 fn check_life(world: &WorldCore, handle: Handle) -> Result<(), Refusal>
-    ensures { result_err result ≡ stale_refusal (body_of world.now.plain handle) }
+    ensures { result_err result ≡ stale_refusal (body_named world.now.plain handle) }
 {
     match world.body(handle) {
         None => Err(Refusal::StaleHandle),

@@ -21,7 +21,7 @@ use Rattle.world_rules.specs.Apply.{Applied, apply, apply_accepted, apply_step, 
 use Rattle.world_rules.specs.Collide.{collided}
 use Rattle.world_rules.specs.Replay.{after, after_one, replay}
 use Rattle.world_rules.specs.Sound.{IsSound}
-use Rattle.world_rules.specs.World.{World, body_of}
+use Rattle.world_rules.specs.World.{World, body_named}
 use Rattle.world_rules.specs.declared.command.Command.{Command}
 use Rattle.world_rules.specs.declared.command.Command.TheVariants.{CreateBody, DestroyBody, CreateJoint, DestroyJoint, Push, PushAt, SetPose, SetVelocity, SetGravity, Disable, Enable, Wake, Sleep, Step}
 use Rattle.world_rules.proofs.AcceptedLaws.{create_accepted, gravity_accepted, pose_accepted, push_accepted, sleep_accepted, velocity_accepted, wake_accepted}
@@ -42,7 +42,7 @@ pub record CanStep (w : World) : Type 0 where
 
 -- poses and bodies that aren't refused are ones, and a step can be made
 pub record AreAllowed (w : World) : Type 0 where
-  pub poses : (h : Handle) (o given : Pose) → posed (body_of w.plain h) o ≡ Ok given → IsPose given
+  pub poses : (h : Handle) (o given : Pose) → posed (body_named w.plain h) o ≡ Ok given → IsPose given
   pub bodies : (d : BodyDef) → def_refusal d ≡ None → IsBody (made d)
   pub step : CanStep w
 

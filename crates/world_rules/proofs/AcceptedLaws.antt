@@ -25,9 +25,9 @@ use Rattle.plain_world.specs.declared.body.BodyDef.{BodyDef}
 use Rattle.plain_world.specs.declared.kind.Course.{Course}
 use Rattle.sleep_wake.specs.Sleeping.{slept_at}
 use Rattle.world_rules.specs.Apply.{Applied, body_changed, booked, counted, apply_create, apply_gravity, apply_pose, apply_push, apply_sleep, apply_velocity, apply_wake, course_due, create_due, created, mover_refusal, pose_due, posed, push_due, pushed, put_to_sleep, quietly, sleep_due, steered, wake_due, world_with}
-use Rattle.world_rules.specs.Sets.{acting_of, stirred, woken}
+use Rattle.world_rules.specs.Sets.{acting_of, stirred, with_woken}
 use Rattle.world_rules.specs.declared.command.Reply.TheVariants as replies
-use Rattle.world_rules.specs.World.{World, body_of}
+use Rattle.world_rules.specs.World.{World, body_named}
 use Rattle.world_rules.proofs.KeptChanges.{gravity_kept, pose_kept, push_kept, velocity_kept, wake_kept}
 use Rattle.world_rules.proofs.KeptMade.{create_kept}
 use Rattle.world_rules.proofs.KeptSleep.{sleep_kept}
@@ -75,27 +75,27 @@ same_ok a b e = cc
 -- ---- commands that are accepted
 
 pub push_accepted : (w : World) (h : Handle) (j r : Vec2) (a : Applied) → IsKept w → w.plain.calls < 2 ^ 40 → apply_push w.plain h j r ≡ Ok a → IsKept (world_with w a)
-push_accepted w h j r a k few e = by (pushed (body_of w.plain h) j r) refl e
+push_accepted w h j r a k few e = by (pushed (body_named w.plain h) j r) refl e
   where
-    by : (m : Result Momenta Refusal) → pushed (body_of w.plain h) j r ≡ m → push_due w.plain h j m ≡ Ok a → IsKept (world_with w a)
+    by : (m : Result Momenta Refusal) → pushed (body_named w.plain h) j r ≡ m → push_due w.plain h j m ≡ Ok a → IsKept (world_with w a)
     by (Err d) f g = cc
     by (Ok m) f g =
-        let left : Applied = record { plain = counted (body_changed (put_momenta m) h.slot (woken w.plain (h.slot ∷ []))); reply = replies.Done; entries = booked (w.plain.calls + 1) causes.Command j.x j.y; events = None } in
+        let left : Applied = record { plain = counted (body_changed (put_momenta m) h.slot (with_woken w.plain (h.slot ∷ []))); reply = replies.Done; entries = booked (w.plain.calls + 1) causes.Command j.x j.y; events = None } in
         subst (λ (b : Applied). IsKept (world_with w b)) (same_ok left a g) (kept_with w left (push_kept w h j r m (w.plain.calls + 1) causes.Command k few f))
 
-pub pose_accepted : (w : World) (h : Handle) (o : Pose) (a : Applied) → IsKept w → w.plain.calls < 2 ^ 40 → ((given : Pose) → posed (body_of w.plain h) o ≡ Ok given → IsPose given) → apply_pose w.plain h o ≡ Ok a → IsKept (world_with w a)
-pose_accepted w h o a k few pose e = by (posed (body_of w.plain h) o) refl e
+pub pose_accepted : (w : World) (h : Handle) (o : Pose) (a : Applied) → IsKept w → w.plain.calls < 2 ^ 40 → ((given : Pose) → posed (body_named w.plain h) o ≡ Ok given → IsPose given) → apply_pose w.plain h o ≡ Ok a → IsKept (world_with w a)
+pose_accepted w h o a k few pose e = by (posed (body_named w.plain h) o) refl e
   where
-    by : (p : Result Pose Refusal) → posed (body_of w.plain h) o ≡ p → pose_due w.plain h p ≡ Ok a → IsKept (world_with w a)
+    by : (p : Result Pose Refusal) → posed (body_named w.plain h) o ≡ p → pose_due w.plain h p ≡ Ok a → IsKept (world_with w a)
     by (Err d) f g = cc
     by (Ok given) f g =
         let left : Plain = body_changed (put_pose given) h.slot (stirred w.plain h.slot) in
         subst (λ (b : Applied). IsKept (world_with w b)) (same_ok (quietly left) a g) (kept_quietly w left (pose_kept w h o given k few f (pose given f)))
 
 pub velocity_accepted : (w : World) (h : Handle) (course : Course) (a : Applied) → IsKept w → w.plain.calls < 2 ^ 40 → apply_velocity w.plain h course ≡ Ok a → IsKept (world_with w a)
-velocity_accepted w h course a k few e = by (steered (body_of w.plain h) course) refl e
+velocity_accepted w h course a k few e = by (steered (body_named w.plain h) course) refl e
   where
-    by : (c : Result Course Refusal) → steered (body_of w.plain h) course ≡ c → course_due w.plain h c ≡ Ok a → IsKept (world_with w a)
+    by : (c : Result Course Refusal) → steered (body_named w.plain h) course ≡ c → course_due w.plain h c ≡ Ok a → IsKept (world_with w a)
     by (Err d) f g = cc
     by (Ok given) f g =
         let left : Plain = body_changed (put_course given) h.slot (stirred w.plain h.slot) in
@@ -112,16 +112,16 @@ gravity_accepted w g a k few e = by (is_within (2 ^ 16) g) refl e
     by false f q = cc
 
 pub wake_accepted : (w : World) (h : Handle) (a : Applied) → IsKept w → w.plain.calls < 2 ^ 40 → apply_wake w.plain h ≡ Ok a → IsKept (world_with w a)
-wake_accepted w h a k few e = by (mover_refusal (body_of w.plain h)) e
+wake_accepted w h a k few e = by (mover_refusal (body_named w.plain h)) e
   where
     by : (o : Option Refusal) → wake_due w.plain h o ≡ Ok a → IsKept (world_with w a)
     by (Some d) g = cc
     by None g =
-        let left : Plain = woken w.plain (h.slot ∷ []) in
+        let left : Plain = with_woken w.plain (h.slot ∷ []) in
         subst (λ (b : Applied). IsKept (world_with w b)) (same_ok (quietly left) a g) (kept_quietly w left (wake_kept w h.slot k few))
 
 pub sleep_accepted : (w : World) (h : Handle) (a : Applied) → IsKept w → w.plain.calls < 2 ^ 40 → apply_sleep w.plain h ≡ Ok a → IsKept (world_with w a)
-sleep_accepted w h a k few e = by (mover_refusal (body_of w.plain h)) e
+sleep_accepted w h a k few e = by (mover_refusal (body_named w.plain h)) e
   where
     by : (o : Option Refusal) → sleep_due w.plain h o ≡ Ok a → IsKept (world_with w a)
     by (Some d) g = cc

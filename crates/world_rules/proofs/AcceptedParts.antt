@@ -14,7 +14,7 @@ use Rattle.plain_world.specs.Joints.{joint_made, joint_of}
 use Rattle.plain_world.specs.Plain.{Plain}
 use Rattle.solver_sets.specs.Joining.{handle_at}
 use Rattle.world_rules.specs.Apply.{Applied, apply_destroy, apply_disable, apply_enable, apply_join, apply_unjoin, destroy_due, disable_due, disabled, enable_due, join_due, join_refusal, joined, unjoin_due, world_with}
-use Rattle.world_rules.specs.World.{World, body_of}
+use Rattle.world_rules.specs.World.{World, body_named}
 use Rattle.world_rules.proofs.KeptBodies.{destroy_kept, disable_kept}
 use Rattle.world_rules.proofs.KeptEnabled.{enable_kept}
 use Rattle.world_rules.proofs.KeptJoints.{join_allowed, join_kept, unjoin_kept}
@@ -32,41 +32,41 @@ nothing_booked w p k = subst (λ (es : List Entry). IsKept (record w { plain = p
 -- ---- bodies
 
 pub destroy_accepted : (w : World) (h : Handle) (a : Applied) → IsKept w → w.plain.calls < 2 ^ 40 → apply_destroy w.plain h ≡ Ok a → IsKept (world_with w a)
-destroy_accepted w h a k few e = by (body_of w.plain h) refl e
+destroy_accepted w h a k few e = by (body_named w.plain h) refl e
   where
-    by : (o : Option Body) → body_of w.plain h ≡ o → destroy_due w.plain h o ≡ Ok a → IsKept (world_with w a)
+    by : (o : Option Body) → body_named w.plain h ≡ o → destroy_due w.plain h o ≡ Ok a → IsKept (world_with w a)
     by None f g = cc
     by (Some b) f g = left_by w _ a g (destroy_kept w h b k few f)
 
 pub disable_accepted : (w : World) (h : Handle) (a : Applied) → IsKept w → w.plain.calls < 2 ^ 40 → apply_disable w.plain h ≡ Ok a → IsKept (world_with w a)
-disable_accepted w h a k few e = by (body_of w.plain h) refl e
+disable_accepted w h a k few e = by (body_named w.plain h) refl e
   where
-    on : (t : Bool) (b : Body) → body_of w.plain h ≡ Some b → ◌≡◌ {A = Result Applied Refusal} (cond t (Ok (disabled w.plain h b)) (Err BodyDisabled)) (Ok a) → IsKept (world_with w a)
+    on : (t : Bool) (b : Body) → body_named w.plain h ≡ Some b → ◌≡◌ {A = Result Applied Refusal} (cond t (Ok (disabled w.plain h b)) (Err BodyDisabled)) (Ok a) → IsKept (world_with w a)
     on true b f g = left_by w _ a g (disable_kept w h b k few f)
     on false b f g = cc
 
-    by : (o : Option Body) → body_of w.plain h ≡ o → disable_due w.plain h o ≡ Ok a → IsKept (world_with w a)
+    by : (o : Option Body) → body_named w.plain h ≡ o → disable_due w.plain h o ≡ Ok a → IsKept (world_with w a)
     by None f g = cc
     by (Some b) f g = on b.enabled b f g
 
 pub enable_accepted : (w : World) (h : Handle) (a : Applied) → IsKept w → w.plain.calls < 2 ^ 40 → apply_enable w.plain h ≡ Ok a → IsKept (world_with w a)
-enable_accepted w h a k few e = by (body_of w.plain h) refl e
+enable_accepted w h a k few e = by (body_named w.plain h) refl e
   where
-    by : (o : Option Body) → body_of w.plain h ≡ o → enable_due w.plain h o ≡ Ok a → IsKept (world_with w a)
+    by : (o : Option Body) → body_named w.plain h ≡ o → enable_due w.plain h o ≡ Ok a → IsKept (world_with w a)
     by None f g = cc
     by (Some b) f g = left_by w _ a g (nothing_booked w _ (enable_kept w h b k few f))
 
 -- ---- joints
 
 pub join_accepted : (w : World) (d : JointDef) (a : Applied) → IsKept w → w.plain.calls < 2 ^ 40 → apply_join w.plain d ≡ Ok a → IsKept (world_with w a)
-join_accepted w d a k few e = by (join_refusal (body_of w.plain d.a) (body_of w.plain d.b) d) refl e
+join_accepted w d a k few e = by (join_refusal (body_named w.plain d.a) (body_named w.plain d.b) d) refl e
   where
-    room : (t : Bool) → nat_lt (lowest w.plain.joint_places) MAX_SLOTS ≡ t → join_refusal (body_of w.plain d.a) (body_of w.plain d.b) d ≡ None
+    room : (t : Bool) → nat_lt (lowest w.plain.joint_places) MAX_SLOTS ≡ t → join_refusal (body_named w.plain d.a) (body_named w.plain d.b) d ≡ None
         → ◌≡◌ {A = Result Applied Refusal} (cond t (Ok (joined w.plain d (handle_at w.plain.joint_places (lowest w.plain.joint_places)))) (Err TooMany)) (Ok a) → IsKept (world_with w a)
     room true free f g = left_by w _ a g (nothing_booked w _ (join_kept w (joint_made d) k few (ltb-true (lowest w.plain.joint_places) MAX_SLOTS free) (join_allowed w d f)))
     room false free f g = cc
 
-    by : (o : Option Refusal) → join_refusal (body_of w.plain d.a) (body_of w.plain d.b) d ≡ o → join_due w.plain d o ≡ Ok a → IsKept (world_with w a)
+    by : (o : Option Refusal) → join_refusal (body_named w.plain d.a) (body_named w.plain d.b) d ≡ o → join_due w.plain d o ≡ Ok a → IsKept (world_with w a)
     by (Some r) f g = cc
     by None f g = room (nat_lt (lowest w.plain.joint_places) MAX_SLOTS) refl f g
 

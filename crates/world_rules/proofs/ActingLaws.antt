@@ -24,16 +24,16 @@ use Rattle.plain_world.specs.Slots.{AreMatched, body_at}
 use Rattle.plain_world.specs.InSlots.{HaveSameSlots}
 use Rattle.sleep_wake.specs.Acting.{Acting, IsSettled}
 use Rattle.sleep_wake.specs.Acting as acting
-use Rattle.sleep_wake.specs.Sleeping.{islands_woken, names_of}
+use Rattle.sleep_wake.specs.Sleeping.{islands_woken, sleeping_names}
 use Rattle.sleep_wake.specs.Sleeping as naming
 use Rattle.sleep_wake.specs.Waking.{set_woken, woken_at, woken_by}
 use Rattle.solver_sets.specs.Tied.{AreTied}
 use Rattle.solver_sets.specs.Alike.{AreAlike}
 use Rattle.solver_sets.specs.Ties.{is_mover_in, members_of, ties_of}
 use Rattle.world_core_base.specs.ContactBodies.{AreContactsOf}
-use Rattle.world_rules.specs.Sets.{acting_of, with_acting, woken}
+use Rattle.world_rules.specs.Sets.{acting_of, with_acting, with_woken}
 use Rattle.world_rules.specs.Sound.{AreSmall, AreTimers, AreTold, HasBodies}
-use Rattle.world_rules.specs.World.{World, book_of, joints_of}
+use Rattle.world_rules.specs.World.{World, book_of, joints_in_slots}
 use Rattle.world_rules.proofs.LowerLaws.{alike_bodies_keep_ties, awake_stay_awake, lists_are_members, movers_stay, waking_named_keeps}
 use Rattle.sleep_wake.proofs.LengthLemmas.{waking_long}
 use Rattle.world_rules.proofs.KeptContacts.{contacts_of_same, has_bodies_same, joints_same, moves_alike}
@@ -45,7 +45,7 @@ use Rattle.world_rules.proofs.ToldLaws.{NobodyFallsAsleep, length_told, told_ali
 -- the constraints, islands and colours s are those of the lists of w, but for who sleeps
 pub record IsActing (w : Plain) (s : Acting Constraint) : Type 0 where
   pub settled : IsSettled constraint_number s
-  pub ties : s.ties ≡ ties_of w.bodies (joints_of w) w.contacts
+  pub ties : s.ties ≡ ties_of w.bodies (joints_in_slots w) w.contacts
   pub tied : AreTied w.bodies s.labels
   pub long : length s.labels ≡ length w.bodies
 
@@ -56,16 +56,16 @@ pub record IsActed (w : Plain) (s : Acting Constraint) : Type 0 where
   pub tied : AreTied (sleep.told s.labels w.bodies) s.labels
   pub told : AreTold (sleep.told s.labels w.bodies) s.labels
   pub labels : length s.labels ≡ length (sleep.told s.labels w.bodies)
-  pub moved : ids_of (members_of (sleep.told s.labels w.bodies) (joints_of w) (ids_of s.lists)) ≡ ids_of s.lists
+  pub moved : ids_of (members_of (sleep.told s.labels w.bodies) (joints_in_slots w) (ids_of s.lists)) ≡ ids_of s.lists
 
 -- bodies told keep the ties
-told_ties : (w : Plain) (s : Acting Constraint) → IsActing w s → ties_of (sleep.told s.labels w.bodies) (joints_of w) w.contacts ≡ s.ties
-told_ties w s is = alike_bodies_keep_ties w.bodies (sleep.told s.labels w.bodies) (joints_of w) w.contacts (told_alike s.labels w.bodies) ∙ sym is.ties
+told_ties : (w : Plain) (s : Acting Constraint) → IsActing w s → ties_of (sleep.told s.labels w.bodies) (joints_in_slots w) w.contacts ≡ s.ties
+told_ties w s is = alike_bodies_keep_ties w.bodies (sleep.told s.labels w.bodies) (joints_in_slots w) w.contacts (told_alike s.labels w.bodies) ∙ sym is.ties
 
 -- and the colours are those of the lists' names
-told_lists : (w : Plain) (s : Acting Constraint) → IsActing w s → members_of (sleep.told s.labels w.bodies) (joints_of w) (ids_of s.lists) ≡ s.lists
+told_lists : (w : Plain) (s : Acting Constraint) → IsActing w s → members_of (sleep.told s.labels w.bodies) (joints_in_slots w) (ids_of s.lists) ≡ s.lists
 told_lists w s is =
-    lists_are_members (sleep.told s.labels w.bodies) (joints_of w) w.contacts s.lists
+    lists_are_members (sleep.told s.labels w.bodies) (joints_in_slots w) w.contacts s.lists
     (λ m h. subst (λ (ts : List (Member Constraint)). Contains ts m) (sym (told_ties w s is)) (((is.settled.acting m).0 h).0))
 
 same_acting : (w : Plain) (s : Acting Constraint) → IsActing w s → acting_of (with_acting s w) ≡ s
@@ -127,7 +127,7 @@ lists_kept w k = record {
 
 -- a world is kept if its lists are, and its islands and colours go with them
 pub kept_of : (w : World) → AreLists w → IsSettled constraint_number (acting_of w.plain) → AreTied w.plain.bodies w.plain.islands → AreTold w.plain.bodies w.plain.islands
-    → length w.plain.islands ≡ length w.plain.bodies → ids_of (members_of w.plain.bodies (joints_of w.plain) w.plain.colours) ≡ w.plain.colours → IsKept w
+    → length w.plain.islands ≡ length w.plain.bodies → ids_of (members_of w.plain.bodies (joints_in_slots w.plain) w.plain.colours) ≡ w.plain.colours → IsKept w
 kept_of w l settled tied told labels moved = record {
   total_x = l.total_x;
   total_y = l.total_y;
@@ -218,23 +218,23 @@ awake_mover true (Some name) h = cc
 awake_mover false a h = cc
 
 -- the island of an awake body is awake
-pub awake_label : (bodies : List (Option Body)) (labels : Labels) (slot : ℕ) (b : Body) → AreTied bodies labels → AreTold bodies labels → body_at bodies slot ≡ Some b → is_awake b ≡ true → acting.is_awake labels slot ≡ true
+pub awake_label : (bodies : List (Option Body)) (labels : Labels) (slot : ℕ) (b : Body) → AreTied bodies labels → AreTold bodies labels → body_at bodies slot ≡ Some b → is_awake b ≡ true → acting.is_mover_awake labels slot ≡ true
 awake_label bodies labels slot b tied told at up =
     let m = awake_mover (is_mover b) b.asleep up in
     name_awake (label_at labels slot) (tied slot ∙ ap is_mover_in at ∙ m.0) (sym (told slot b at) ∙ m.1)
 
 -- nobody falls asleep whose island stays awake
-pub stay_awake : (bodies : List (Option Body)) (old new : Labels) → AreTied bodies old → AreTold bodies old → ((slot : ℕ) → acting.is_awake old slot ≡ true → acting.is_awake new slot ≡ true) → NobodyFallsAsleep bodies new
+pub stay_awake : (bodies : List (Option Body)) (old new : Labels) → AreTied bodies old → AreTold bodies old → ((slot : ℕ) → acting.is_mover_awake old slot ≡ true → acting.is_mover_awake new slot ≡ true) → NobodyFallsAsleep bodies new
 stay_awake bodies old new tied told h slot b at up = awake_name (label_at new slot) (h slot (awake_label bodies old slot b tied told at up))
 
 -- ---- waking first
 
 -- what is known of a world in which some islands were woken first
 pub record IsWoken (w : World) (movers : List ℕ) : Type 0 where
-  pub kept : IsKept (record w { plain = woken w.plain movers })
-  pub acting : acting_of (woken w.plain movers) ≡ islands_woken constraint_number (names_of w.plain.islands movers) (acting_of w.plain)
-  pub alike : AreAlike w.plain.bodies (woken w.plain movers).bodies
-  pub slots : HaveSameSlots w.plain.bodies (woken w.plain movers).bodies
+  pub kept : IsKept (record w { plain = with_woken w.plain movers })
+  pub acting : acting_of (with_woken w.plain movers) ≡ islands_woken constraint_number (sleeping_names w.plain.islands movers) (acting_of w.plain)
+  pub alike : AreAlike w.plain.bodies (with_woken w.plain movers).bodies
+  pub slots : HaveSameSlots w.plain.bodies (with_woken w.plain movers).bodies
 
 woken_ties : (slot : ℕ) (s : Acting Constraint) → (woken_at constraint_number slot s).ties ≡ s.ties
 unfolding woken_at set_woken
@@ -271,7 +271,7 @@ woken_awake w names k = let s = acting_of w.plain in stay_awake w.plain.bodies w
 
 pub waking_kept : (w : World) (slots : List ℕ) → IsKept w → IsWoken w slots
 waking_kept w slots k =
-    let names = names_of w.plain.islands slots in
+    let names = sleeping_names w.plain.islands slots in
     let s = islands_woken constraint_number names (acting_of w.plain) in
     record {
       kept = awake_put w s (lists_kept w k) (woken_acting w names k) (woken_awake w names k);

@@ -14,7 +14,7 @@ use Rattle.solver_sets.specs.Alike.{AreAlike}
 use Rattle.solver_sets.specs.Ties.{is_enabled_in, is_mover_in, members_of}
 use Rattle.world_rules.specs.Sets.{acting_of}
 use Rattle.world_rules.specs.Sound.{AreTimers, AreTold}
-use Rattle.world_rules.specs.World.{World, joints_of}
+use Rattle.world_rules.specs.World.{World, joints_in_slots}
 use Rattle.world_rules.proofs.LowerLaws.{alike_bodies_keep_ties, lists_are_members}
 use Rattle.world_rules.proofs.SoundLaws.{IsKept}
 
@@ -59,20 +59,20 @@ timers_set bodies slot steps c small all k d e = elim (set_case bodies slot c k 
 
 -- ---- the constraints of bodies that are alike
 
-alike_members : (w : World) (new : List (Option Body)) → IsKept w → AreAlike w.plain.bodies new → members_of new (joints_of w.plain) w.plain.colours ≡ members_of w.plain.bodies (joints_of w.plain) w.plain.colours
+alike_members : (w : World) (new : List (Option Body)) → IsKept w → AreAlike w.plain.bodies new → members_of new (joints_in_slots w.plain) w.plain.colours ≡ members_of w.plain.bodies (joints_in_slots w.plain) w.plain.colours
 unfolding acting_of
 alike_members w new k alike =
-    let same = alike_bodies_keep_ties w.plain.bodies new (joints_of w.plain) w.plain.contacts alike in
-    ap (members_of new (joints_of w.plain)) (sym k.moved)
-    ∙ lists_are_members new (joints_of w.plain) w.plain.contacts (members_of w.plain.bodies (joints_of w.plain) w.plain.colours)
+    let same = alike_bodies_keep_ties w.plain.bodies new (joints_in_slots w.plain) w.plain.contacts alike in
+    ap (members_of new (joints_in_slots w.plain)) (sym k.moved)
+    ∙ lists_are_members new (joints_in_slots w.plain) w.plain.contacts (members_of w.plain.bodies (joints_in_slots w.plain) w.plain.colours)
     (λ m h. subst (λ (ts : List (Member Constraint)). Contains ts m) (sym same) (((k.settled.acting m).0 h).0))
 
 pub alike_acting : (w : World) (new : List (Option Body)) → IsKept w → AreAlike w.plain.bodies new → acting_of (record w.plain { bodies = new }) ≡ acting_of w.plain
 unfolding acting_of
 alike_acting w new k alike =
-    let ties = alike_bodies_keep_ties w.plain.bodies new (joints_of w.plain) w.plain.contacts alike in
+    let ties = alike_bodies_keep_ties w.plain.bodies new (joints_in_slots w.plain) w.plain.contacts alike in
     let lists = alike_members w new k alike in
     λ j. record { ties = ties j; labels = w.plain.islands; lists = lists j }
 
-pub alike_moved : (w : World) (new : List (Option Body)) → IsKept w → AreAlike w.plain.bodies new → ids_of (members_of new (joints_of w.plain) w.plain.colours) ≡ w.plain.colours
+pub alike_moved : (w : World) (new : List (Option Body)) → IsKept w → AreAlike w.plain.bodies new → ids_of (members_of new (joints_in_slots w.plain) w.plain.colours) ≡ w.plain.colours
 alike_moved w new k alike = ap ids_of (alike_members w new k alike) ∙ k.moved

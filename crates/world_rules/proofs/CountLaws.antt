@@ -24,9 +24,9 @@ use Rattle.plain_world.specs.declared.joint.JointDef.{JointDef}
 use Rattle.plain_world.specs.declared.kind.Course.{Course}
 use Rattle.solver_sets.specs.Beside.{joined_to}
 use Rattle.world_rules.specs.Apply.{Applied, apply_accepted, are_momenta, body_enabled, course_due, create_due, destroy_due, disable_due, enable_due, enabled, join_due, join_refusal, mover_refusal, pose_due, posed, push_due, pushed, sleep_due, steered, unjoin_due, wake_due, with_impulse}
-use Rattle.world_rules.specs.Laws.{EachCallCounts, PushesAreSmall, impulse_of}
-use Rattle.world_rules.specs.Sets.{woken}
-use Rattle.world_rules.specs.World.{body_of}
+use Rattle.world_rules.specs.Laws.{EachCallCounts, PushesAreSmall, push_of}
+use Rattle.world_rules.specs.Sets.{with_woken}
+use Rattle.world_rules.specs.World.{body_named}
 use Rattle.world_rules.specs.declared.command.Command.{Command}
 use Rattle.world_rules.specs.declared.command.Command.TheVariants.{CreateBody, DestroyBody, CreateJoint, DestroyJoint, Push, PushAt, SetPose, SetVelocity, SetGravity, Disable, Enable, Wake, Sleep, Step}
 
@@ -77,7 +77,7 @@ disable_counts w b (Some body) a h = tested body.enabled _ a BodyDisabled (w.cal
 enabled_calls : (w : Plain) (b : Handle) (body : Body) → (enabled w b body).calls ≡ w.calls
 enabled_calls w b body = by body.enabled
   where
-    by : (t : Bool) → (cond t w (body_enabled b (enabled_body body) (woken w (joined_to w.bodies w.joints b.slot)))).calls ≡ w.calls
+    by : (t : Bool) → (cond t w (body_enabled b (enabled_body body) (with_woken w (joined_to w.bodies w.joints b.slot)))).calls ≡ w.calls
     by true = refl
     by false = refl
 
@@ -95,18 +95,18 @@ sleep_counts w b None a h = sym (ap calls_of h)
 
 accepted_counts : (w : Plain) (c : Command) (a : Applied) → apply_accepted w c ≡ Ok a → a.plain.calls ≡ w.calls + 1
 accepted_counts w (CreateBody d) a h = create_counts w d (def_refusal d) a h
-accepted_counts w (DestroyBody b) a h = destroy_counts w b (body_of w b) a h
-accepted_counts w (CreateJoint d) a h = join_counts w d (join_refusal (body_of w d.a) (body_of w d.b) d) a h
+accepted_counts w (DestroyBody b) a h = destroy_counts w b (body_named w b) a h
+accepted_counts w (CreateJoint d) a h = join_counts w d (join_refusal (body_named w d.a) (body_named w d.b) d) a h
 accepted_counts w (DestroyJoint j) a h = unjoin_counts w j (joint_of w.joint_places w.joints j) a h
-accepted_counts w (Push b j) a h = push_counts w b j (pushed (body_of w b) j zero_vector) a h
-accepted_counts w (PushAt b j r) a h = push_counts w b j (pushed (body_of w b) j r) a h
-accepted_counts w (SetPose b o) a h = pose_counts w b (posed (body_of w b) o) a h
-accepted_counts w (SetVelocity b course) a h = course_counts w b (steered (body_of w b) course) a h
+accepted_counts w (Push b j) a h = push_counts w b j (pushed (body_named w b) j zero_vector) a h
+accepted_counts w (PushAt b j r) a h = push_counts w b j (pushed (body_named w b) j r) a h
+accepted_counts w (SetPose b o) a h = pose_counts w b (posed (body_named w b) o) a h
+accepted_counts w (SetVelocity b course) a h = course_counts w b (steered (body_named w b) course) a h
 accepted_counts w (SetGravity g) a h = tested (is_within (2 ^ 16) g) _ a OutOfRange (w.calls + 1) refl h
-accepted_counts w (Disable b) a h = disable_counts w b (body_of w b) a h
-accepted_counts w (Enable b) a h = enable_counts w b (body_of w b) a h
-accepted_counts w (Wake b) a h = wake_counts w b (mover_refusal (body_of w b)) a h
-accepted_counts w (Sleep b) a h = sleep_counts w b (mover_refusal (body_of w b)) a h
+accepted_counts w (Disable b) a h = disable_counts w b (body_named w b) a h
+accepted_counts w (Enable b) a h = enable_counts w b (body_named w b) a h
+accepted_counts w (Wake b) a h = wake_counts w b (mover_refusal (body_named w b)) a h
+accepted_counts w (Sleep b) a h = sleep_counts w b (mover_refusal (body_named w b)) a h
 accepted_counts w (Step n) a h = tested (is_between (pos 1) (pos 8) n) _ a OutOfRange (w.calls + 1) refl h
 
 -- what is accepted isn't worn out
@@ -132,20 +132,20 @@ pushed_within : (o : Option Body) (j r : Vec2) (m : Momenta) → pushed o j r �
 pushed_within None j r m h = cc
 pushed_within (Some b) j r m h = within_of (2 ^ 40) j (push_tests (is_dynamic b.kind) b.enabled (is_within (2 ^ 26) r) (are_momenta (with_impulse j r b)) (is_within (2 ^ 40) j) (with_impulse j r b) m h)
 
-push_within : (w : Plain) (b : Handle) (j r : Vec2) (m : Result Momenta Refusal) (a : Applied) → pushed (body_of w b) j r ≡ m → push_due w b j m ≡ Ok a → IsWithin (2 ^ 40) j
-push_within w b j r (Ok m) a e h = pushed_within (body_of w b) j r m e
+push_within : (w : Plain) (b : Handle) (j r : Vec2) (m : Result Momenta Refusal) (a : Applied) → pushed (body_named w b) j r ≡ m → push_due w b j m ≡ Ok a → IsWithin (2 ^ 40) j
+push_within w b j r (Ok m) a e h = pushed_within (body_named w b) j r m e
 push_within w b j r (Err due) a e h = cc
 
 nothing : IsWithin (2 ^ 40) (record { x = pos 0; y = pos 0 })
 nothing = record { x = omega arith; y = omega arith }
 
-accepted_within : (w : Plain) (c : Command) (a : Applied) → apply_accepted w c ≡ Ok a → IsWithin (2 ^ 40) (impulse_of c)
+accepted_within : (w : Plain) (c : Command) (a : Applied) → apply_accepted w c ≡ Ok a → IsWithin (2 ^ 40) (push_of c)
 accepted_within w (CreateBody d) a h = nothing
 accepted_within w (DestroyBody b) a h = nothing
 accepted_within w (CreateJoint d) a h = nothing
 accepted_within w (DestroyJoint j) a h = nothing
-accepted_within w (Push b j) a h = push_within w b j zero_vector (pushed (body_of w b) j zero_vector) a refl h
-accepted_within w (PushAt b j r) a h = push_within w b j r (pushed (body_of w b) j r) a refl h
+accepted_within w (Push b j) a h = push_within w b j zero_vector (pushed (body_named w b) j zero_vector) a refl h
+accepted_within w (PushAt b j r) a h = push_within w b j r (pushed (body_named w b) j r) a refl h
 accepted_within w (SetPose b o) a h = nothing
 accepted_within w (SetVelocity b course) a h = nothing
 accepted_within w (SetGravity g) a h = nothing

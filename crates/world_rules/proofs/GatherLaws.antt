@@ -19,7 +19,7 @@ use Rattle.plain_world.specs.Joints.{joint_at}
 use Rattle.plain_world.specs.Sleep.{told}
 use Rattle.plain_world.specs.Slots.{body_at}
 use Rattle.colour_solver.specs.States.{nobody}
-use Rattle.sleep_wake.specs.Acting.{Acting, are_awake, awake_label, is_awake, second_awake}
+use Rattle.sleep_wake.specs.Acting.{Acting, are_awake, awake_label, is_mover_awake, second_awake}
 use Rattle.solver_sets.specs.Ties.{JointSlots, is_mover_in, member_of, members_of, movers_if, movers_in, movers_of, movers_with, moves, is_enabled, tie_with}
 use Rattle.world_core_base.specs.ConstraintRows.{HasJointOn, IsJointThere, IsMovable}
 use Rattle.world_core_base.specs.Gather.{HasMovable, states_of}
@@ -30,7 +30,7 @@ use Rattle.world_core_base.proofs.GatherLaws.{movable_at}
 use Rattle.world_core_base.proofs.JointLaws.{joint_on}
 use Rattle.world_rules.specs.Gathering.{CanGather}
 use Rattle.world_rules.specs.Sets.{acting_of}
-use Rattle.world_rules.specs.World.{World, joints_of}
+use Rattle.world_rules.specs.World.{World, joints_in_slots}
 use Rattle.world_rules.proofs.ActingLaws.{awake_name}
 use Rattle.world_rules.proofs.KeptStep.{collide_kept, collided_in, collided_world, turned_in}
 use Rattle.world_rules.proofs.SolveLaws.{can_solve, coloured}
@@ -91,7 +91,7 @@ moves_alike : (o : Option Body) → is_mover_in o ≡ contact_bodies.moves_in o
 moves_alike None = refl
 moves_alike (Some b) = refl
 
-awake_movable : (w : World) (slot : ℕ) → IsKept w → is_awake w.plain.islands slot ≡ true → (slice_index_or (states_of w.plain.bodies) slot nobody).movable ≡ true
+awake_movable : (w : World) (slot : ℕ) → IsKept w → is_mover_awake w.plain.islands slot ≡ true → (slice_index_or (states_of w.plain.bodies) slot nobody).movable ≡ true
 awake_movable w slot k up =
     let moving : contact_bodies.moves w.plain.bodies slot ≡ true = sym (moves_alike (body_at w.plain.bodies slot)) ∙ sym (k.tied slot) ∙ awake_some (label_at w.plain.islands slot) up in
     movable_at w.plain.bodies slot moving (λ b at. k.told slot b at ∙ awake_name (label_at w.plain.islands slot) up)
@@ -104,10 +104,10 @@ first_of true false true a b m e = inr (sym (ap (λ (v : Movers). v.first) (same
 first_of true false false a b m e = absurd (none-some m e)
 first_of false first second a b m e = absurd (none-some m e)
 
-one_movable : (w : World) (a b : ℕ) (m : Movers) → IsKept w → movers_with w.plain.bodies a b ≡ Some m → is_awake w.plain.islands m.first ≡ true → HasMovable (states_of w.plain.bodies) a b
+one_movable : (w : World) (a b : ℕ) (m : Movers) → IsKept w → movers_with w.plain.bodies a b ≡ Some m → is_mover_awake w.plain.islands m.first ≡ true → HasMovable (states_of w.plain.bodies) a b
 one_movable w a b m k e up = elim (first_of (is_enabled w.plain.bodies a && is_enabled w.plain.bodies b) (moves w.plain.bodies a) (moves w.plain.bodies b) a b m e) [
-  | inl same ↦ inl (awake_movable w a k (ap (is_awake w.plain.islands) (sym same) ∙ up))
-  | inr same ↦ inr (awake_movable w b k (ap (is_awake w.plain.islands) (sym same) ∙ up))
+  | inl same ↦ inl (awake_movable w a k (ap (is_mover_awake w.plain.islands) (sym same) ∙ up))
+  | inr same ↦ inr (awake_movable w b k (ap (is_mover_awake w.plain.islands) (sym same) ∙ up))
 ]
 
 -- ---- what is gathered of a constraint that acts
@@ -116,13 +116,13 @@ record IsGathered (w : World) (id : Constraint) : Type 0 where
   joined : HasJointOn (states_of w.plain.bodies) w.plain.joints id
   movable : IsMovable (states_of w.plain.bodies) id
 
-joint_gathered : (w : World) (slot : ℕ) (o : Option BodyJoint) (m : Movers) → IsKept w → joint_at w.plain.joints slot ≡ o → movers_in w.plain.bodies o ≡ Some m → is_awake w.plain.islands m.first ≡ true → IsJointThere (states_of w.plain.bodies) o
+joint_gathered : (w : World) (slot : ℕ) (o : Option BodyJoint) (m : Movers) → IsKept w → joint_at w.plain.joints slot ≡ o → movers_in w.plain.bodies o ≡ Some m → is_mover_awake w.plain.islands m.first ≡ true → IsJointThere (states_of w.plain.bodies) o
 joint_gathered w slot None m k at e up = λ j is. absurd (none-some j is)
 joint_gathered w slot (Some i) m k at e up = λ j is.
     let same : i ≡ j = same_Some i j is in
     joint_on w.plain.bodies j (k.joints slot j (at ∙ is)) (one_movable w j.a j.b m k (ap (λ (x : BodyJoint). movers_with w.plain.bodies x.a x.b) (sym same) ∙ e) up)
 
-one_gathered : (w : World) (id : Constraint) (m : Movers) → IsKept w → movers_of w.plain.bodies (joints_of w.plain) id ≡ Some m → is_awake w.plain.islands m.first ≡ true → IsGathered w id
+one_gathered : (w : World) (id : Constraint) (m : Movers) → IsKept w → movers_of w.plain.bodies (joints_in_slots w.plain) id ≡ Some m → is_mover_awake w.plain.islands m.first ≡ true → IsGathered w id
 one_gathered w (constraints.Joint h) m k e up = record { joined = joint_gathered w h.slot (joint_at w.plain.joints h.slot) m k refl e up; movable = tt }
 one_gathered w (constraints.Contact key) m k e up = record { joined = tt; movable = one_movable w key.first.slot key.second.slot m k e up }
 
@@ -134,7 +134,7 @@ unfolding acting_of
 all_gathered w k i d lt =
     let m : Member Constraint = get_or (all_members (coloured w)) i d in
     let up : are_awake w.plain.islands m.movers ≡ true = ((k.settled.acting m).0 (Contains-get_or (all_members (coloured w)) i d lt)).1 in
-    one_gathered w m.id m.movers k (all_have w.plain.bodies (joints_of w.plain) w.plain.colours i d lt) (first_awake (is_awake w.plain.islands m.movers.first) (second_awake w.plain.islands m.movers.second) up)
+    one_gathered w m.id m.movers k (all_have w.plain.bodies (joints_in_slots w.plain) w.plain.colours i d lt) (first_awake (is_mover_awake w.plain.islands m.movers.first) (second_awake w.plain.islands m.movers.second) up)
 
 -- a kept world can be gathered
 pub can_gather : (w : World) → IsKept w → CanGather w.plain.bodies w.plain.joints w.plain.contacts (coloured w)

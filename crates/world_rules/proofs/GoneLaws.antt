@@ -18,14 +18,14 @@ use Rattle.plain_world.specs.declared.body.Body.{Body}
 use Rattle.plain_world.specs.Bodies as bodies
 use Rattle.plain_world.specs.Plain.{Plain}
 use Rattle.sleep_wake.proofs.LengthLemmas.{each_ended_long, gone_long}
-use Rattle.sleep_wake.specs.Acting.{Acting, AreMovers, IsSettled, is_awake}
+use Rattle.sleep_wake.specs.Acting.{Acting, AreMovers, IsSettled, is_mover_awake}
 use Rattle.sleep_wake.specs.Bodies.{mover_gone}
 use Rattle.sleep_wake.specs.ChangeLists.{CanEnd, each_without}
 use Rattle.solver_sets.specs.Joining.{unjoined_all}
 use Rattle.solver_sets.specs.Tied.{AreTied}
 use Rattle.solver_sets.specs.Ties.{JointSlots, is_mover_in, moves, ties_at, ties_of}
 use Rattle.world_rules.specs.Sets.{acting_of, body_gone, ties_ended}
-use Rattle.world_rules.specs.World.{World, joints_of}
+use Rattle.world_rules.specs.World.{World, joints_in_slots}
 use Rattle.world_rules.proofs.ActingLaws.{IsActing}
 use Rattle.world_rules.proofs.LowerLaws.{awake_stay_awake, ending_each_keeps, going_keeps, going_takes_ties, movers_come_and_go, movers_stay, ties_have_labels}
 use Rattle.world_rules.proofs.AwakeLaws.{gone_awake, others_stay}
@@ -38,20 +38,20 @@ use Rattle.world_rules.proofs.ToldLaws.{NobodyFallsAsleep}
 
 -- they can, and the body is awake if it is a mover
 pub record CanGo (w : World) (slot : ℕ) : Type 0 where
-  pub can : CanEnd constraint_number (ties_at slot w.plain.bodies (joints_of w.plain) w.plain.contacts) (acting_of w.plain)
-  pub up : moves w.plain.bodies slot ≡ true → is_awake w.plain.islands slot ≡ true
+  pub can : CanEnd constraint_number (ties_at slot w.plain.bodies (joints_in_slots w.plain) w.plain.contacts) (acting_of w.plain)
+  pub up : moves w.plain.bodies slot ≡ true → is_mover_awake w.plain.islands slot ≡ true
 
 -- what is left once they ended
 pub record IsEnded (w : World) (slot : ℕ) (s : Acting Constraint) : Type 0 where
   pub settled : IsSettled constraint_number s
-  pub ties : s.ties ≡ each_without constraint_number (ties_at slot w.plain.bodies (joints_of w.plain) w.plain.contacts) (ties_of w.plain.bodies (joints_of w.plain) w.plain.contacts)
+  pub ties : s.ties ≡ each_without constraint_number (ties_at slot w.plain.bodies (joints_in_slots w.plain) w.plain.contacts) (ties_of w.plain.bodies (joints_in_slots w.plain) w.plain.contacts)
   pub tied : AreTied w.plain.bodies s.labels
-  pub awake : (k : ℕ) → is_awake w.plain.islands k ≡ true → is_awake s.labels k ≡ true
+  pub awake : (k : ℕ) → is_mover_awake w.plain.islands k ≡ true → is_mover_awake s.labels k ≡ true
 
 pub is_ended : (w : World) (slot : ℕ) → IsKept w → CanGo w slot → IsEnded w slot (ties_ended slot w.plain)
 unfolding acting_of
 is_ended w slot k go =
-    let ms : List (Member Constraint) = ties_at slot w.plain.bodies (joints_of w.plain) w.plain.contacts in
+    let ms : List (Member Constraint) = ties_at slot w.plain.bodies (joints_in_slots w.plain) w.plain.contacts in
     record {
       settled = ending_each_keeps (acting_of w.plain) ms k.settled go.can;
       ties = each_ended_ties ms (acting_of w.plain);
@@ -100,11 +100,11 @@ ended_alone w slot k go lt =
     let before : Acting Constraint = ties_ended slot w.plain in
     let is = is_ended w slot k go in
     let now : List (Option Body) = slice_set w.plain.bodies slot None in
-    let joints : JointSlots = unjoined_all slot (joints_of w.plain) in
+    let joints : JointSlots = unjoined_all slot (joints_in_slots w.plain) in
     let contacts : List ContactEntry = contacts_without slot w.plain.contacts in
     let labels : Labels = (mover_gone constraint_number slot before).labels in
     let tied : AreTied now labels = tied_beside w.plain.bodies slot None w.plain.islands labels lt k.tied (gone_here slot before) (λ j far. gone_there slot j before far ∙ is.tied j ∙ sym (k.tied j)) in
-    let same : before.ties ≡ ties_of now joints contacts = is.ties ∙ sym (going_takes_ties slot w.plain.bodies (joints_of w.plain) w.plain.contacts (record { matched = k.joint_slots; places = k.joint_places }) k.contacts).1 in
+    let same : before.ties ≡ ties_of now joints contacts = is.ties ∙ sym (going_takes_ties slot w.plain.bodies (joints_in_slots w.plain) w.plain.contacts (record { matched = k.joint_slots; places = k.joint_places }) k.contacts).1 in
     none_left (λ (m : Member Constraint). has_mover m.movers slot) before.ties (λ m h. no_mover now joints contacts labels slot m tied (ap is_mover_in (own_item w.plain.bodies slot None lt)) (subst (λ (ms : List (Member Constraint)). Contains ms m) same h))
 
 -- ---- what acts once the body is no mover any more
@@ -120,11 +120,11 @@ pub record IsGone (w : World) (u : Plain) (s : Acting Constraint) : Type 0 where
 
 ended_slots : (w : World) (slot : ℕ) → length (ties_ended slot w.plain).labels ≡ length w.plain.islands
 unfolding acting_of
-ended_slots w slot = each_ended_long constraint_number (ties_at slot w.plain.bodies (joints_of w.plain) w.plain.contacts) (acting_of w.plain)
+ended_slots w slot = each_ended_long constraint_number (ties_at slot w.plain.bodies (joints_in_slots w.plain) w.plain.contacts) (acting_of w.plain)
 
 pub gone_by : (w : World) (slot : ℕ) (o : Option Body) (places : List Place) (joints : JointSlots) (t : Bool) → IsKept w → CanGo w slot → slot < length w.plain.bodies → moves w.plain.bodies slot ≡ t → is_mover_in o ≡ false
     → moves (slice_set w.plain.bodies slot o) slot ≡ false
-    → ties_of (slice_set w.plain.bodies slot o) joints (contacts_without slot w.plain.contacts) ≡ each_without constraint_number (ties_at slot w.plain.bodies (joints_of w.plain) w.plain.contacts) (ties_of w.plain.bodies (joints_of w.plain) w.plain.contacts)
+    → ties_of (slice_set w.plain.bodies slot o) joints (contacts_without slot w.plain.contacts) ≡ each_without constraint_number (ties_at slot w.plain.bodies (joints_in_slots w.plain) w.plain.contacts) (ties_of w.plain.bodies (joints_in_slots w.plain) w.plain.contacts)
     → ((b : Body) → o ≡ Some b → bodies.is_awake b ≡ true → ⊥)
     → IsGone w (beside slot o places joints w.plain) (body_gone slot t w.plain)
 gone_by w slot o places joints false k go lt e still off ties rests =

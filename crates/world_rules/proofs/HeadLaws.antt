@@ -16,7 +16,7 @@ use Rattle.plain_world.specs.Bodies.{is_mover, set_of, sleeping_set, standing_of
 use Rattle.plain_world.specs.Changes.{is_awake_in}
 use Rattle.plain_world.specs.Kinds.{is_dynamic}
 use Rattle.plain_world.specs.Slots.{body_at}
-use Rattle.sleep_wake.specs.Acting.{are_awake, awake_label, is_awake, second_awake}
+use Rattle.sleep_wake.specs.Acting.{are_awake, awake_label, is_mover_awake, second_awake}
 use Rattle.solver_sets.specs.Tied.{AreTied}
 use Rattle.solver_sets.specs.Ties.{is_mover_in}
 use Rattle.world_rules.specs.Laws.{ColoursAreApart, LinkedMoversStandTogether, SleepingSetsAreComponents, SleepsIn, WhatActsHasAColour, movers_awake, second_awake_in}
@@ -118,7 +118,7 @@ awake_by (Some b) (Some l) tied told =
     name ∙ (λ j. cond (tied j) (is_none b.asleep) false)
 
 -- a mover is awake just if its island is
-pub awake_same : (bodies : List (Option Body)) (labels : Labels) (slot : ℕ) → AreTied bodies labels → AreTold bodies labels → is_awake labels slot ≡ is_awake_in (body_at bodies slot)
+pub awake_same : (bodies : List (Option Body)) (labels : Labels) (slot : ℕ) → AreTied bodies labels → AreTold bodies labels → is_mover_awake labels slot ≡ is_awake_in (body_at bodies slot)
 awake_same bodies labels slot tied told = awake_by (body_at bodies slot) (label_at labels slot) (tied slot) (told slot)
 
 second_same : (bodies : List (Option Body)) (labels : Labels) (o : Option ℕ) → AreTied bodies labels → AreTold bodies labels → second_awake labels o ≡ second_awake_in bodies o

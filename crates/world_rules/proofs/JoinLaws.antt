@@ -4,7 +4,7 @@ use Rattle.std.specs.Prelude.{Contains, slice_set}
 use Rattle.std.proofs.lemmas.Option.{none-some, same_Some}
 use Rattle.graph_colours.specs.declared.member.Movers.{Movers}
 use Rattle.graph_colours.specs.declared.member.Member.{Member}
-use Rattle.graph_colours.specs.Members.{AreRising, has_id, inserted, without}
+use Rattle.graph_colours.specs.Members.{AreRising, has_id, inserted, without_member}
 use Rattle.contacts.specs.Constraints.{constraint_number}
 use Rattle.contacts.specs.declared.constraint.Constraint.{Constraint}
 use Rattle.islands.specs.Labels.{Labels}
@@ -15,7 +15,7 @@ use Rattle.plain_world.specs.Joints.{AreJoints, IsBodyJoint, joint_at}
 use Rattle.plain_world.specs.Plain.{Plain}
 use Rattle.plain_world.specs.Slots.{with_item}
 use Rattle.sleep_wake.proofs.LengthLemmas.{each_begun_long, each_ended_long}
-use Rattle.sleep_wake.specs.Acting.{Acting, IsSettled, are_awake, is_awake}
+use Rattle.sleep_wake.specs.Acting.{Acting, IsSettled, are_awake, is_mover_awake}
 use Rattle.sleep_wake.specs.Changes.{begun, each_begun, each_ended, ended}
 use Rattle.sleep_wake.specs.ChangeLists.{CanBegin, CanEnd, each_inserted, each_without}
 use Rattle.solver_sets.specs.Laws.{with_tie, without_tie}
@@ -23,8 +23,8 @@ use Rattle.solver_sets.specs.Tied.{AreTied}
 use Rattle.solver_sets.specs.Alike.{AreJointSlots}
 use Rattle.solver_sets.specs.Ties.{JointSlots, begun_with, ended_with, is_enabled, movers_if, movers_with, moves, ties_of}
 use Rattle.world_rules.specs.Apply.{with_joints}
-use Rattle.world_rules.specs.Sets.{acting_of, woken}
-use Rattle.world_rules.specs.World.{World, joints_of}
+use Rattle.world_rules.specs.Sets.{acting_of, with_woken}
+use Rattle.world_rules.specs.World.{World, joints_in_slots}
 use Rattle.world_rules.proofs.ActingLaws.{AreLists, IsActing, IsWoken, lists_kept, waking_kept}
 use Rattle.world_rules.proofs.LowerLaws.{awake_stay_awake, beginning_each_keeps, ending_each_keeps, movers_stay}
 use Rattle.world_rules.proofs.AwakeLaws.{all_stay, named_awake}
@@ -44,9 +44,9 @@ each_begun_ties (m ∷ ms) s = each_begun_ties ms (begun constraint_number m s) 
 -- what acts in the lists of u after a change of what acted as s, and nobody who was awake then fell asleep
 pub record IsNext (u : Plain) (s new : Acting Constraint) : Type 0 where
   pub acting : IsActing u new
-  pub awake : (k : ℕ) → is_awake s.labels k ≡ true → is_awake new.labels k ≡ true
+  pub awake : (k : ℕ) → is_mover_awake s.labels k ≡ true → is_mover_awake new.labels k ≡ true
 
-pub next_begun : (u : Plain) (s : Acting Constraint) (ms : List (Member Constraint)) → IsSettled constraint_number s → AreTied u.bodies s.labels → length s.labels ≡ length u.bodies → CanBegin constraint_number ms s → ties_of u.bodies (joints_of u) u.contacts ≡ each_inserted constraint_number ms s.ties
+pub next_begun : (u : Plain) (s : Acting Constraint) (ms : List (Member Constraint)) → IsSettled constraint_number s → AreTied u.bodies s.labels → length s.labels ≡ length u.bodies → CanBegin constraint_number ms s → ties_of u.bodies (joints_in_slots u) u.contacts ≡ each_inserted constraint_number ms s.ties
     → IsNext u s (each_begun constraint_number ms s)
 next_begun u s ms settled tied long can ties = record {
   acting = record {
@@ -60,7 +60,7 @@ next_begun u s ms settled tied long can ties = record {
 
 -- ---- several end
 
-ended_ties : (m : Member Constraint) (s : Acting Constraint) → (ended constraint_number m s).ties ≡ without constraint_number m.id s.ties
+ended_ties : (m : Member Constraint) (s : Acting Constraint) → (ended constraint_number m s).ties ≡ without_member constraint_number m.id s.ties
 unfolding ended
 ended_ties m s = refl
 
@@ -68,7 +68,7 @@ pub each_ended_ties : (ms : List (Member Constraint)) (s : Acting Constraint) �
 each_ended_ties [] s = refl
 each_ended_ties (m ∷ ms) s = each_ended_ties ms (ended constraint_number m s) ∙ ap (each_without constraint_number ms) (ended_ties m s)
 
-pub next_ended : (u : Plain) (s : Acting Constraint) (ms : List (Member Constraint)) → IsSettled constraint_number s → AreTied u.bodies s.labels → length s.labels ≡ length u.bodies → CanEnd constraint_number ms s → ties_of u.bodies (joints_of u) u.contacts ≡ each_without constraint_number ms s.ties
+pub next_ended : (u : Plain) (s : Acting Constraint) (ms : List (Member Constraint)) → IsSettled constraint_number s → AreTied u.bodies s.labels → length s.labels ≡ length u.bodies → CanEnd constraint_number ms s → ties_of u.bodies (joints_in_slots u) u.contacts ≡ each_without constraint_number ms s.ties
     → IsNext u s (each_ended constraint_number ms s)
 next_ended u s ms settled tied long can ties = record {
   acting = record {
@@ -111,16 +111,16 @@ one_can_end m s there up = record {
 abbrev pub AreUp : Labels → Option Movers → Type 0
 AreUp labels o = (m : Movers) → o ≡ Some m → are_awake labels m ≡ true
 
-pub next_begun_with : (w : World) (joints : JointSlots) (id : Constraint) (o : Option Movers) → IsKept w → has_id constraint_number id (ties_of w.plain.bodies (joints_of w.plain) w.plain.contacts) ≡ false → AreUp w.plain.islands o
-    → ties_of w.plain.bodies joints w.plain.contacts ≡ with_tie id o (ties_of w.plain.bodies (joints_of w.plain) w.plain.contacts) → IsNext (with_joints joints w.plain) (acting_of w.plain) (begun_with id o (acting_of w.plain))
+pub next_begun_with : (w : World) (joints : JointSlots) (id : Constraint) (o : Option Movers) → IsKept w → has_id constraint_number id (ties_of w.plain.bodies (joints_in_slots w.plain) w.plain.contacts) ≡ false → AreUp w.plain.islands o
+    → ties_of w.plain.bodies joints w.plain.contacts ≡ with_tie id o (ties_of w.plain.bodies (joints_in_slots w.plain) w.plain.contacts) → IsNext (with_joints joints w.plain) (acting_of w.plain) (begun_with id o (acting_of w.plain))
 unfolding acting_of
 next_begun_with w joints id None k fresh up ties = record { acting = record { settled = k.settled; ties = sym ties; tied = k.tied; long = k.labels }; awake = λ j h. h }
 next_begun_with w joints id (Some m) k fresh up ties =
     let member : Member Constraint = record { id = id; movers = m } in
     next_begun (with_joints joints w.plain) (acting_of w.plain) (member ∷ []) k.settled k.tied k.labels (one_can_begin member (acting_of w.plain) fresh (up m refl)) ties
 
-pub next_ended_with : (w : World) (joints : JointSlots) (id : Constraint) (o : Option Movers) → IsKept w → ((m : Movers) → o ≡ Some m → Contains (ties_of w.plain.bodies (joints_of w.plain) w.plain.contacts) (record { id = id; movers = m })) → AreUp w.plain.islands o
-    → ties_of w.plain.bodies joints w.plain.contacts ≡ without_tie id o (ties_of w.plain.bodies (joints_of w.plain) w.plain.contacts) → IsNext (with_joints joints w.plain) (acting_of w.plain) (ended_with id o (acting_of w.plain))
+pub next_ended_with : (w : World) (joints : JointSlots) (id : Constraint) (o : Option Movers) → IsKept w → ((m : Movers) → o ≡ Some m → Contains (ties_of w.plain.bodies (joints_in_slots w.plain) w.plain.contacts) (record { id = id; movers = m })) → AreUp w.plain.islands o
+    → ties_of w.plain.bodies joints w.plain.contacts ≡ without_tie id o (ties_of w.plain.bodies (joints_in_slots w.plain) w.plain.contacts) → IsNext (with_joints joints w.plain) (acting_of w.plain) (ended_with id o (acting_of w.plain))
 unfolding acting_of
 next_ended_with w joints id None k there up ties = record { acting = record { settled = k.settled; ties = sym ties; tied = k.tied; long = k.labels }; awake = λ j h. h }
 next_ended_with w joints id (Some m) k there up ties =
@@ -129,13 +129,13 @@ next_ended_with w joints id (Some m) k there up ties =
 
 -- ---- the movers of two bodies that were woken
 
-both_up : (labels : Labels) (a b : ℕ) → is_awake labels a ≡ true → is_awake labels b ≡ true → are_awake labels (record { first = a; second = Some b }) ≡ true
+both_up : (labels : Labels) (a b : ℕ) → is_mover_awake labels a ≡ true → is_mover_awake labels b ≡ true → are_awake labels (record { first = a; second = Some b }) ≡ true
 both_up labels a b e f = rw (e, f) refl
 
-one_up : (labels : Labels) (a : ℕ) → is_awake labels a ≡ true → are_awake labels (record { first = a; second = None }) ≡ true
+one_up : (labels : Labels) (a : ℕ) → is_mover_awake labels a ≡ true → are_awake labels (record { first = a; second = None }) ≡ true
 one_up labels a e = rw e refl
 
-pair_up : (labels : Labels) (t x y : Bool) (a b : ℕ) (m : Movers) → cond t (movers_if x y a b) None ≡ Some m → (x ≡ true → is_awake labels a ≡ true) → (y ≡ true → is_awake labels b ≡ true) → are_awake labels m ≡ true
+pair_up : (labels : Labels) (t x y : Bool) (a b : ℕ) (m : Movers) → cond t (movers_if x y a b) None ≡ Some m → (x ≡ true → is_mover_awake labels a ≡ true) → (y ≡ true → is_mover_awake labels b ≡ true) → are_awake labels m ≡ true
 pair_up labels true true true a b m e f g = subst (λ (v : Movers). are_awake labels v ≡ true) (same_Some (record { first = a; second = Some b }) m e) (both_up labels a b (f refl) (g refl))
 pair_up labels true true false a b m e f g = subst (λ (v : Movers). are_awake labels v ≡ true) (same_Some (record { first = a; second = None }) m e) (one_up labels a (f refl))
 pair_up labels true false true a b m e f g = subst (λ (v : Movers). are_awake labels v ≡ true) (same_Some (record { first = b; second = None }) m e) (one_up labels b (g refl))
@@ -143,11 +143,11 @@ pair_up labels true false false a b m e f g = absurd (none-some m e)
 pair_up labels false x y a b m e f g = absurd (none-some m e)
 
 -- those of two bodies are awake if each of the two is, where it is a mover
-pub ends_up : (bodies : List (Option Body)) (labels : Labels) (a b : ℕ) → (moves bodies a ≡ true → is_awake labels a ≡ true) → (moves bodies b ≡ true → is_awake labels b ≡ true) → AreUp labels (movers_with bodies a b)
+pub ends_up : (bodies : List (Option Body)) (labels : Labels) (a b : ℕ) → (moves bodies a ≡ true → is_mover_awake labels a ≡ true) → (moves bodies b ≡ true → is_mover_awake labels b ≡ true) → AreUp labels (movers_with bodies a b)
 ends_up bodies labels a b f g m e = pair_up labels (is_enabled bodies a && is_enabled bodies b) (moves bodies a) (moves bodies b) a b m e f g
 
 -- one that was woken is awake if it is a mover
-pub woken_up : (w : World) (slots : List ℕ) (slot : ℕ) → IsKept w → Contains slots slot → moves (woken w.plain slots).bodies slot ≡ true → is_awake (woken w.plain slots).islands slot ≡ true
+pub woken_up : (w : World) (slots : List ℕ) (slot : ℕ) → IsKept w → Contains slots slot → moves (with_woken w.plain slots).bodies slot ≡ true → is_mover_awake (with_woken w.plain slots).islands slot ≡ true
 woken_up w slots slot k h moving = let wk : IsWoken w slots = waking_kept w slots k in named_awake w slots slot k h (sym (wk.alike.movers slot) ∙ moving)
 
 -- ---- a kept world with other joints

@@ -27,14 +27,14 @@ use Rattle.plain_world.specs.Kinds.{IsCourseOf, carried_by, halted, is_moving, i
 use Rattle.plain_world.specs.Sleep.{told_body}
 use Rattle.plain_world.specs.Slots.{AreMatched, body_at}
 use Rattle.sleep_wake.specs.Acting as acting
-use Rattle.sleep_wake.specs.Sleeping.{names_of}
+use Rattle.sleep_wake.specs.Sleeping.{sleeping_names}
 use Rattle.solver_sets.specs.Beside.{stirred_by}
 use Rattle.solver_sets.specs.Joining.{unjoined_all}
 use Rattle.solver_sets.specs.Alike.{AreJointSlots}
 use Rattle.solver_sets.specs.Ties.{JointSlots, is_enabled_in, is_mover_in, slots_of}
 use Rattle.world_rules.specs.Apply.{departed, destroyed, disabled, world_with}
-use Rattle.world_rules.specs.Sets.{acting_of, body_gone, stirred, woken}
-use Rattle.world_rules.specs.World.{World, body_of, joints_of}
+use Rattle.world_rules.specs.Sets.{acting_of, body_gone, stirred, with_woken}
+use Rattle.world_rules.specs.World.{World, body_named, joints_in_slots}
 use Rattle.world_rules.proofs.ActingLaws.{AreLists, IsWoken, stay_awake, waking_kept}
 use Rattle.world_rules.proofs.LowerLaws.{awake_stay_awake, disabling_takes_ties, going_takes_ties}
 use Rattle.world_rules.proofs.BesideLaws.{alike_beside, contacts_beside, have_bodies_beside, idle_ends, idle_matched, joints_beside, joints_idle, joints_taken, keys_beside, matched_beside, own_item, taken_beside, timers_beside}
@@ -53,27 +53,27 @@ use Rattle.world_rules.proofs.ToldLaws.{NobodyFallsAsleep, body_told, told_is, t
 -- ---- a body once islands were woken
 
 -- nobody falls asleep where islands wake
-pub none_sleep_more : (w : World) (slots : List ℕ) → IsKept w → (slot : ℕ) → acting.is_awake w.plain.islands slot ≡ true → acting.is_awake (woken w.plain slots).islands slot ≡ true
+pub none_sleep_more : (w : World) (slots : List ℕ) → IsKept w → (slot : ℕ) → acting.is_mover_awake w.plain.islands slot ≡ true → acting.is_mover_awake (with_woken w.plain slots).islands slot ≡ true
 unfolding acting_of
-none_sleep_more w slots k = awake_stay_awake.waking (acting_of w.plain) (names_of w.plain.islands slots) k.settled
+none_sleep_more w slots k = awake_stay_awake.waking (acting_of w.plain) (sleeping_names w.plain.islands slots) k.settled
 
 -- the body once islands were woken
 pub record IsSeen (w : World) (slots : List ℕ) (slot : ℕ) (b : Body) : Type 0 where
   pub body : Body
-  pub at : body_at (woken w.plain slots).bodies slot ≡ Some body
+  pub at : body_at (with_woken w.plain slots).bodies slot ≡ Some body
   pub mover : is_mover body ≡ is_mover b
   pub enabled : body.enabled ≡ b.enabled
   pub momentum : momentum_in (Some body) ≡ momentum_in (Some b)
 
 pub seen : (w : World) (slots : List ℕ) (slot : ℕ) (b : Body) → IsKept w → body_at w.plain.bodies slot ≡ Some b → IsSeen w slots slot b
 seen w slots slot b k at =
-    let l : Option Label = label_at (woken w.plain slots).islands slot in
-    let stay : NobodyFallsAsleep w.plain.bodies (woken w.plain slots).islands = stay_awake w.plain.bodies w.plain.islands (woken w.plain slots).islands k.tied k.told (none_sleep_more w slots k) in
+    let l : Option Label = label_at (with_woken w.plain slots).islands slot in
+    let stay : NobodyFallsAsleep w.plain.bodies (with_woken w.plain slots).islands = stay_awake w.plain.bodies w.plain.islands (with_woken w.plain slots).islands k.tied k.told (none_sleep_more w slots k) in
     let is : (a : Body) → Some b ≡ Some a → IsBody a = λ a e. subst IsBody (same_Some b a e) (k.bodies slot b (body_at-in w.plain.bodies slot b at)) in
     let up = λ (a : Body) (e : Some b ≡ Some a). stay slot a (at ∙ e) in
     record {
       body = told_body l b;
-      at = body_told (woken w.plain slots).islands w.plain.bodies slot ∙ ap (option_map (told_body l)) at;
+      at = body_told (with_woken w.plain slots).islands w.plain.bodies slot ∙ ap (option_map (told_body l)) at;
       mover = (told_is l b).mover;
       enabled = (told_is l b).enabled;
       momentum = told_part l (Some b) is up;
@@ -148,9 +148,9 @@ none_out steps = record { body = λ b e. absurd (none-some b e); filters = λ b 
 
 -- the world in which the body isn't there any more, before what acts is put into it
 abbrev pub destroyed_lists : World → Handle → Body → World
-destroyed_lists w h b = record w { plain = beside h.slot None (places_without w.plain.places h) (unjoined_all h.slot (joints_of w.plain)) (stirred w.plain h.slot); entries = w.entries ++ departed (w.plain.calls + 1) b }
+destroyed_lists w h b = record w { plain = beside h.slot None (places_without w.plain.places h) (unjoined_all h.slot (joints_in_slots w.plain)) (stirred w.plain h.slot); entries = w.entries ++ departed (w.plain.calls + 1) b }
 
-pub destroy_put : (w : World) (h : Handle) (b : Body) → IsKept w → w.plain.calls < 2 ^ 40 → body_of w.plain h ≡ Some b → IsPut (destroyed_lists w h b) (body_gone h.slot (is_mover b) (stirred w.plain h.slot))
+pub destroy_put : (w : World) (h : Handle) (b : Body) → IsKept w → w.plain.calls < 2 ^ 40 → body_named w.plain h ≡ Some b → IsPut (destroyed_lists w h b) (body_gone h.slot (is_mover b) (stirred w.plain h.slot))
 destroy_put w h b k few named =
     let slot : ℕ = h.slot in
     let slots : List ℕ = stirred_by w.plain.bodies w.plain.joints w.plain.contacts slot in
@@ -159,17 +159,17 @@ destroy_put w h b k few named =
     let v : World = record w { plain = stirred w.plain slot } in
     let now = seen w slots slot b k at in
     let lt : slot < length v.plain.bodies = below_length v.plain.bodies slot now.body now.at in
-    let joints : JointSlots = unjoined_all slot (joints_of v.plain) in
+    let joints : JointSlots = unjoined_all slot (joints_in_slots v.plain) in
     let places : List Place = places_without w.plain.places h in
-    let went = going_takes_ties slot v.plain.bodies (joints_of v.plain) v.plain.contacts (joint_slots_of v wk.kept) wk.kept.contacts in
+    let went = going_takes_ties slot v.plain.bodies (joints_in_slots v.plain) v.plain.contacts (joint_slots_of v wk.kept) wk.kept.contacts in
     let out : IsOut v.plain.steps None = none_out v.plain.steps in
     let gone = gone_by v slot None places joints (is_mover b) wk.kept (stirred_can_go w slot k) lt (wk.alike.movers slot ∙ ap is_mover_in at) refl
     (ap is_mover_in (own_item v.plain.bodies slot None lt)) went.1 (out_rests v.plain.steps None out) in
     let lists = out_lists v slot b now.body None places joints wk.kept few now.at now.momentum (k.bodies slot b (body_at-in w.plain.bodies slot b at)) out
-    (AreMatched-set w.plain.places v.plain.bodies slot _ None refl wk.kept.matched) (places_freed w.plain.places h k.places (live_body w.plain h b named)) went.0 (joints_beside v.plain.bodies slot None (joints_of v.plain) wk.kept.joints) in
+    (AreMatched-set w.plain.places v.plain.bodies slot _ None refl wk.kept.matched) (places_freed w.plain.places h k.places (live_body w.plain h b named)) went.0 (joints_beside v.plain.bodies slot None (joints_in_slots v.plain) wk.kept.joints) in
     both_put (record v { plain = beside slot None places joints v.plain; entries = w.entries ++ departed (w.plain.calls + 1) b }) (body_gone slot (is_mover b) v.plain) lists gone.acting gone.awake
 
-pub destroy_kept : (w : World) (h : Handle) (b : Body) → IsKept w → w.plain.calls < 2 ^ 40 → body_of w.plain h ≡ Some b → IsKept (world_with w (destroyed w.plain h b))
+pub destroy_kept : (w : World) (h : Handle) (b : Body) → IsKept w → w.plain.calls < 2 ^ 40 → body_named w.plain h ≡ Some b → IsKept (world_with w (destroyed w.plain h b))
 destroy_kept w h b k few named = (destroy_put w h b k few named).kept
 
 -- ---- Disable
@@ -231,7 +231,7 @@ out_put w h b k few at now =
     let joints : JointSlots = slots_of w.plain.joint_places (idle_joints slot w.plain.joints) in
     let is : IsBody now.body = wk.kept.bodies slot now.body (body_at-in v.plain.bodies slot now.body now.at) in
     let out : IsOut v.plain.steps o = disabled_out v.plain.steps now.body is (wk.kept.filters slot now.body now.at) (wk.kept.timers slot now.body now.at) in
-    let went = disabling_takes_ties slot v.plain.bodies (slice_set v.plain.bodies slot o) (joints_of v.plain) (idle_joints slot v.plain.joints) v.plain.contacts (joint_slots_of v wk.kept) wk.kept.contacts
+    let went = disabling_takes_ties slot v.plain.bodies (slice_set v.plain.bodies slot o) (joints_in_slots v.plain) (idle_joints slot v.plain.joints) v.plain.contacts (joint_slots_of v wk.kept) wk.kept.contacts
     (alike_beside v.plain.bodies slot o) (ap is_enabled_in (own_item v.plain.bodies slot o lt)) (idle_ends slot v.plain.joints) in
     let gone = gone_by v slot o w.plain.places joints (is_mover b) wk.kept (stirred_can_go w slot k) lt (wk.alike.movers slot ∙ ap is_mover_in at) refl
     (ap is_mover_in (own_item v.plain.bodies slot o lt)) went (out_rests v.plain.steps o out) in
@@ -245,11 +245,11 @@ out_put w h b k few at now =
 abbrev pub woken_disabled : World → Handle → Option Body
 woken_disabled w h = option_map disabled_body (body_at (stirred w.plain h.slot).bodies h.slot)
 
-pub disable_put : (w : World) (h : Handle) (b : Body) → IsKept w → w.plain.calls < 2 ^ 40 → body_of w.plain h ≡ Some b → IsPut (part_lists w h b (woken_disabled w h)) (body_gone h.slot (is_mover b) (stirred w.plain h.slot))
+pub disable_put : (w : World) (h : Handle) (b : Body) → IsKept w → w.plain.calls < 2 ^ 40 → body_named w.plain h ≡ Some b → IsPut (part_lists w h b (woken_disabled w h)) (body_gone h.slot (is_mover b) (stirred w.plain h.slot))
 disable_put w h b k few named =
     let at : body_at w.plain.bodies h.slot ≡ Some b = named_at w.plain h b named in
     let now = seen w (stirred_by w.plain.bodies w.plain.joints w.plain.contacts h.slot) h.slot b k at in
     subst (λ (o : Option Body). IsPut (part_lists w h b o) (body_gone h.slot (is_mover b) (stirred w.plain h.slot))) (sym (ap (option_map disabled_body) now.at)) (out_put w h b k few at now)
 
-pub disable_kept : (w : World) (h : Handle) (b : Body) → IsKept w → w.plain.calls < 2 ^ 40 → body_of w.plain h ≡ Some b → IsKept (world_with w (disabled w.plain h b))
+pub disable_kept : (w : World) (h : Handle) (b : Body) → IsKept w → w.plain.calls < 2 ^ 40 → body_named w.plain h ≡ Some b → IsKept (world_with w (disabled w.plain h b))
 disable_kept w h b k few named = (disable_put w h b k few named).kept

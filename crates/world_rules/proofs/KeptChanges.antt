@@ -39,14 +39,14 @@ use Rattle.plain_world.proofs.BoxLemmas.{renewed_are}
 use Rattle.plain_world.proofs.KindLaws.{mass_as, no_mover, static_as}
 use Rattle.sleep_wake.specs.Acting.{IsSettled}
 use Rattle.sleep_wake.specs.Acting as acting
-use Rattle.sleep_wake.specs.Sleeping.{islands_woken, names_of}
+use Rattle.sleep_wake.specs.Sleeping.{islands_woken, sleeping_names}
 use Rattle.solver_sets.specs.Beside.{stirred_by}
 use Rattle.solver_sets.specs.Alike.{AreAlike}
 use Rattle.solver_sets.specs.Ties.{is_mover_in}
 use Rattle.world_rules.specs.Apply.{are_momenta, body_changed, booked, counted, is_push, posed, pushed, steered, with_impulse}
-use Rattle.world_rules.specs.Sets.{acting_of, stirred, woken}
+use Rattle.world_rules.specs.Sets.{acting_of, stirred, with_woken}
 use Rattle.world_rules.specs.Sound.{IsRoomy}
-use Rattle.world_rules.specs.World.{World, body_of, book_of}
+use Rattle.world_rules.specs.World.{World, body_named, book_of}
 use Rattle.world_rules.proofs.ActingLaws.{AreLists, awake_name, kept_of, lists_kept, waking_kept}
 use Rattle.world_rules.proofs.LowerLaws.{the_named_are_awake}
 use Rattle.world_rules.proofs.BookLemmas.{AreSmall-booked, AreSmall-weaker, summed-booked}
@@ -171,25 +171,25 @@ found_at true o b e = e
 found_at false o b e = cc
 
 -- a body that is named is there
-pub named_at : (w : Plain) (h : Handle) (b : Body) → body_of w h ≡ Some b → body_at w.bodies h.slot ≡ Some b
+pub named_at : (w : Plain) (h : Handle) (b : Body) → body_named w h ≡ Some b → body_at w.bodies h.slot ≡ Some b
 named_at w h b e = found_at (is_live w.places h) (body_at w.bodies h.slot) b e
 
 -- what is known of a body in a world in which some islands were woken first: it is the body that was there, but for its momenta and its sleep
 pub record IsThere (w : World) (movers : List ℕ) (slot : ℕ) (b : Body) : Type 0 where
   pub label : Option Label
-  pub at : body_at (woken w.plain movers).bodies slot ≡ Some (told_body label b)
-  pub labelled : label_at (woken w.plain movers).islands slot ≡ label
+  pub at : body_at (with_woken w.plain movers).bodies slot ≡ Some (told_body label b)
+  pub labelled : label_at (with_woken w.plain movers).islands slot ≡ label
   pub body : IsBody (told_body label b)
 
 pub still_there : (w : World) (movers : List ℕ) (slot : ℕ) (b : Body) → IsKept w → body_at w.plain.bodies slot ≡ Some b → IsThere w movers slot b
 still_there w movers slot b k at =
-    let labels = (islands_woken constraint_number (names_of w.plain.islands movers) (acting_of w.plain)).labels in
-    let there : body_at (woken w.plain movers).bodies slot ≡ Some (told_body (label_at labels slot) b) = body_told labels w.plain.bodies slot ∙ changed_is (told_body (label_at labels slot)) (body_at w.plain.bodies slot) b at in
+    let labels = (islands_woken constraint_number (sleeping_names w.plain.islands movers) (acting_of w.plain)).labels in
+    let there : body_at (with_woken w.plain movers).bodies slot ≡ Some (told_body (label_at labels slot) b) = body_told labels w.plain.bodies slot ∙ changed_is (told_body (label_at labels slot)) (body_at w.plain.bodies slot) b at in
     record {
       label = label_at labels slot;
       at = there;
       labelled = refl;
-      body = (waking_kept w movers k).kept.bodies slot (told_body (label_at labels slot) b) (body_at-in (woken w.plain movers).bodies slot (told_body (label_at labels slot) b) there);
+      body = (waking_kept w movers k).kept.bodies slot (told_body (label_at labels slot) b) (body_at-in (with_woken w.plain movers).bodies slot (told_body (label_at labels slot) b) there);
     }
 
 -- ---- Push and PushAt
@@ -293,7 +293,7 @@ pushed_changed bodies slot b j r m at is mover awake sum push small turns = reco
 }
 
 -- the island of a mover that was woken by name is awake
-named_awake : (w : World) (slot : ℕ) → IsKept w → is_some (label_at w.plain.islands slot) ≡ true → acting.is_awake (woken w.plain (slot ∷ [])).islands slot ≡ true
+named_awake : (w : World) (slot : ℕ) → IsKept w → is_some (label_at w.plain.islands slot) ≡ true → acting.is_mover_awake (with_woken w.plain (slot ∷ [])).islands slot ≡ true
 unfolding acting_of
 named_awake w slot k some = the_named_are_awake (acting_of w.plain) (slot ∷ []) slot k.settled (Contains-push [] slot) some
 
@@ -304,7 +304,7 @@ awake_if false a e f = cc
 
 -- a mover whose island was woken is awake, and moves as it did
 record IsRoused (w : World) (slot : ℕ) (b now : Body) : Type 0 where
-  at : body_at (woken w.plain (slot ∷ [])).bodies slot ≡ Some now
+  at : body_at (with_woken w.plain (slot ∷ [])).bodies slot ≡ Some now
   body : IsBody now
   mover : is_mover now ≡ true
   awake : is_awake now ≡ true
@@ -316,8 +316,8 @@ roused_is w slot b k at mover =
     let there = still_there w (slot ∷ []) slot b k at in
     let now : Body = told_body there.label b in
     let is = told_is there.label b in
-    let up : acting.is_awake (woken w.plain (slot ∷ [])).islands slot ≡ true = named_awake w slot k (k.tied slot ∙ ap is_mover_in at ∙ mover) in
-    let no_name : sleeping_name there.label ≡ None = ap sleeping_name (sym there.labelled) ∙ awake_name (label_at (woken w.plain (slot ∷ [])).islands slot) up in
+    let up : acting.is_mover_awake (with_woken w.plain (slot ∷ [])).islands slot ≡ true = named_awake w slot k (k.tied slot ∙ ap is_mover_in at ∙ mover) in
+    let no_name : sleeping_name there.label ≡ None = ap sleeping_name (sym there.labelled) ∙ awake_name (label_at (with_woken w.plain (slot ∷ [])).islands slot) up in
     let told : now.asleep ≡ None = (waking_kept w (slot ∷ []) k).kept.told slot now there.at ∙ ap sleeping_name there.labelled ∙ no_name in (
       now,
       record {
@@ -334,16 +334,16 @@ same_impulse : (j r : Vec2) (b now : Body) → now.motion ≡ b.motion → now.m
 same_impulse j r b now motion mass = rw (motion, mass) refl
 
 -- the mover's island wakes, and then it gets the momenta
-pub push_kept : (w : World) (h : Handle) (j r : Vec2) (m : Momenta) (call : ℕ) (why : Cause) → IsKept w → w.plain.calls < 2 ^ 40 → pushed (body_of w.plain h) j r ≡ Ok m
-    → IsKept (record w { plain = counted (body_changed (put_momenta m) h.slot (woken w.plain (h.slot ∷ []))); entries = w.entries ++ booked call why j.x j.y })
+pub push_kept : (w : World) (h : Handle) (j r : Vec2) (m : Momenta) (call : ℕ) (why : Cause) → IsKept w → w.plain.calls < 2 ^ 40 → pushed (body_named w.plain h) j r ≡ Ok m
+    → IsKept (record w { plain = counted (body_changed (put_momenta m) h.slot (with_woken w.plain (h.slot ∷ []))); entries = w.entries ++ booked call why j.x j.y })
 push_kept w h j r m call why k few e =
-    let got = pushed_from (body_of w.plain h) j r m e in
+    let got = pushed_from (body_named w.plain h) j r m e in
     let roused = roused_is w h.slot got.body k (named_at w.plain h got.body got.found) got.mover in
     let now : Body = roused.0 in
     let is = roused.1 in
     let woke = (waking_kept w (h.slot ∷ []) k).kept in
-    body_changed_kept (record w { plain = woken w.plain (h.slot ∷ []) }) h.slot (put_momenta m) now j.x j.y call why woke few
-    (pushed_changed (woken w.plain (h.slot ∷ [])).bodies h.slot now j r m is.at is.body is.mover is.awake (got.sum ∙ same_impulse j r got.body now is.motion is.mass) got.push got.small got.turns)
+    body_changed_kept (record w { plain = with_woken w.plain (h.slot ∷ []) }) h.slot (put_momenta m) now j.x j.y call why woke few
+    (pushed_changed (with_woken w.plain (h.slot ∷ [])).bodies h.slot now j r m is.at is.body is.mover is.awake (got.sum ∙ same_impulse j r got.body now is.motion is.mass) got.push got.small got.turns)
 
 -- ---- SetPose
 
@@ -390,14 +390,14 @@ posed_changed bodies slot b o at is pose = record {
 }
 
 -- those whom the change wakes wake, and then the body gets the pose
-pub pose_kept : (w : World) (h : Handle) (asked given : Pose) → IsKept w → w.plain.calls < 2 ^ 40 → posed (body_of w.plain h) asked ≡ Ok given → IsPose given
+pub pose_kept : (w : World) (h : Handle) (asked given : Pose) → IsKept w → w.plain.calls < 2 ^ 40 → posed (body_named w.plain h) asked ≡ Ok given → IsPose given
     → IsKept (record w { plain = counted (body_changed (put_pose given) h.slot (stirred w.plain h.slot)) })
 pose_kept w h asked given k few e pose =
-    let got = posed_from (body_of w.plain h) asked given e in
+    let got = posed_from (body_named w.plain h) asked given e in
     let movers = stirred_by w.plain.bodies w.plain.joints w.plain.contacts h.slot in
     let there = still_there w movers h.slot got.body k (named_at w.plain h got.body got.found) in
-    body_changed_quietly (record w { plain = woken w.plain movers }) h.slot (put_pose given) (told_body there.label got.body) (waking_kept w movers k).kept few
-    (posed_changed (woken w.plain movers).bodies h.slot (told_body there.label got.body) given there.at there.body pose)
+    body_changed_quietly (record w { plain = with_woken w.plain movers }) h.slot (put_pose given) (told_body there.label got.body) (waking_kept w movers k).kept few
+    (posed_changed (with_woken w.plain movers).bodies h.slot (told_body there.label got.body) given there.at there.body pose)
 
 -- what a pose needs of the body that gets it
 pub can_pose : (w : World) (slot : ℕ) (o : Pose) → IsKept w → IsPose o → ForSome (body_at w.plain.bodies slot) (CanPose o)
@@ -470,15 +470,15 @@ steered_changed bodies slot b course at is k enabled allowed =
     }
 
 -- those whom the change wakes wake, and then the body gets the course
-pub velocity_kept : (w : World) (h : Handle) (asked given : Course) → IsKept w → w.plain.calls < 2 ^ 40 → steered (body_of w.plain h) asked ≡ Ok given
+pub velocity_kept : (w : World) (h : Handle) (asked given : Course) → IsKept w → w.plain.calls < 2 ^ 40 → steered (body_named w.plain h) asked ≡ Ok given
     → IsKept (record w { plain = counted (body_changed (put_course given) h.slot (stirred w.plain h.slot)) })
 velocity_kept w h asked given k few e =
-    let got = steered_from (body_of w.plain h) asked given e in
+    let got = steered_from (body_named w.plain h) asked given e in
     let movers = stirred_by w.plain.bodies w.plain.joints w.plain.contacts h.slot in
     let there = still_there w movers h.slot got.body k (named_at w.plain h got.body got.found) in
     let is = told_is there.label got.body in
-    body_changed_quietly (record w { plain = woken w.plain movers }) h.slot (put_course given) (told_body there.label got.body) (waking_kept w movers k).kept few
-    (steered_changed (woken w.plain movers).bodies h.slot (told_body there.label got.body) given there.at there.body (ap is_kinematic is.kind ∙ got.kinematic) (is.enabled ∙ got.enabled) got.course)
+    body_changed_quietly (record w { plain = with_woken w.plain movers }) h.slot (put_course given) (told_body there.label got.body) (waking_kept w movers k).kept few
+    (steered_changed (with_woken w.plain movers).bodies h.slot (told_body there.label got.body) given there.at there.body (ap is_kinematic is.kind ∙ got.kinematic) (is.enabled ∙ got.enabled) got.course)
 
 -- ---- commands that change no body by themselves
 
@@ -513,8 +513,8 @@ pub counted_kept : (w : World) → IsKept w → w.plain.calls < 2 ^ 40 → IsKep
 counted_kept w k few = gravity_kept w w.plain.gravity k few k.gravity
 
 -- a mover's island wakes
-pub wake_kept : (w : World) (slot : ℕ) → IsKept w → w.plain.calls < 2 ^ 40 → IsKept (record w { plain = counted (woken w.plain (slot ∷ [])) })
-wake_kept w slot k few = counted_kept (record w { plain = woken w.plain (slot ∷ []) }) (waking_kept w (slot ∷ []) k).kept few
+pub wake_kept : (w : World) (slot : ℕ) → IsKept w → w.plain.calls < 2 ^ 40 → IsKept (record w { plain = counted (with_woken w.plain (slot ∷ [])) })
+wake_kept w slot k few = counted_kept (record w { plain = with_woken w.plain (slot ∷ []) }) (waking_kept w (slot ∷ []) k).kept few
 
 -- ---- what acts, once one body was changed: the same as before
 
@@ -528,34 +528,34 @@ body_changed_acting w slot f b x y k is =
     let alike : AreAlike w.plain.bodies new = alike_set w.plain.bodies slot b (f b) is.at is.mover is.enabled in
     rw (changed_is f (body_at w.plain.bodies slot) b is.at) (acting_later (record w.plain { bodies = new }) (w.plain.calls + 1) ∙ alike_acting w new k alike)
 
-pub push_acting : (w : World) (h : Handle) (j r : Vec2) (m : Momenta) → IsKept w → pushed (body_of w.plain h) j r ≡ Ok m
-    → acting_of (counted (body_changed (put_momenta m) h.slot (woken w.plain (h.slot ∷ [])))) ≡ acting_of (woken w.plain (h.slot ∷ []))
+pub push_acting : (w : World) (h : Handle) (j r : Vec2) (m : Momenta) → IsKept w → pushed (body_named w.plain h) j r ≡ Ok m
+    → acting_of (counted (body_changed (put_momenta m) h.slot (with_woken w.plain (h.slot ∷ [])))) ≡ acting_of (with_woken w.plain (h.slot ∷ []))
 push_acting w h j r m k e =
-    let got = pushed_from (body_of w.plain h) j r m e in
+    let got = pushed_from (body_named w.plain h) j r m e in
     let roused = roused_is w h.slot got.body k (named_at w.plain h got.body got.found) got.mover in
     let now : Body = roused.0 in
     let is = roused.1 in
-    body_changed_acting (record w { plain = woken w.plain (h.slot ∷ []) }) h.slot (put_momenta m) now j.x j.y (waking_kept w (h.slot ∷ []) k).kept
-    (pushed_changed (woken w.plain (h.slot ∷ [])).bodies h.slot now j r m is.at is.body is.mover is.awake (got.sum ∙ same_impulse j r got.body now is.motion is.mass) got.push got.small got.turns)
+    body_changed_acting (record w { plain = with_woken w.plain (h.slot ∷ []) }) h.slot (put_momenta m) now j.x j.y (waking_kept w (h.slot ∷ []) k).kept
+    (pushed_changed (with_woken w.plain (h.slot ∷ [])).bodies h.slot now j r m is.at is.body is.mover is.awake (got.sum ∙ same_impulse j r got.body now is.motion is.mass) got.push got.small got.turns)
 
-pub pose_acting : (w : World) (h : Handle) (asked given : Pose) → IsKept w → posed (body_of w.plain h) asked ≡ Ok given → IsPose given
+pub pose_acting : (w : World) (h : Handle) (asked given : Pose) → IsKept w → posed (body_named w.plain h) asked ≡ Ok given → IsPose given
     → acting_of (counted (body_changed (put_pose given) h.slot (stirred w.plain h.slot))) ≡ acting_of (stirred w.plain h.slot)
 pose_acting w h asked given k e pose =
-    let got = posed_from (body_of w.plain h) asked given e in
+    let got = posed_from (body_named w.plain h) asked given e in
     let movers = stirred_by w.plain.bodies w.plain.joints w.plain.contacts h.slot in
     let there = still_there w movers h.slot got.body k (named_at w.plain h got.body got.found) in
-    body_changed_acting (record w { plain = woken w.plain movers }) h.slot (put_pose given) (told_body there.label got.body) (pos 0) (pos 0) (waking_kept w movers k).kept
-    (posed_changed (woken w.plain movers).bodies h.slot (told_body there.label got.body) given there.at there.body pose)
+    body_changed_acting (record w { plain = with_woken w.plain movers }) h.slot (put_pose given) (told_body there.label got.body) (pos 0) (pos 0) (waking_kept w movers k).kept
+    (posed_changed (with_woken w.plain movers).bodies h.slot (told_body there.label got.body) given there.at there.body pose)
 
-pub velocity_acting : (w : World) (h : Handle) (asked given : Course) → IsKept w → steered (body_of w.plain h) asked ≡ Ok given
+pub velocity_acting : (w : World) (h : Handle) (asked given : Course) → IsKept w → steered (body_named w.plain h) asked ≡ Ok given
     → acting_of (counted (body_changed (put_course given) h.slot (stirred w.plain h.slot))) ≡ acting_of (stirred w.plain h.slot)
 velocity_acting w h asked given k e =
-    let got = steered_from (body_of w.plain h) asked given e in
+    let got = steered_from (body_named w.plain h) asked given e in
     let movers = stirred_by w.plain.bodies w.plain.joints w.plain.contacts h.slot in
     let there = still_there w movers h.slot got.body k (named_at w.plain h got.body got.found) in
     let is = told_is there.label got.body in
-    body_changed_acting (record w { plain = woken w.plain movers }) h.slot (put_course given) (told_body there.label got.body) (pos 0) (pos 0) (waking_kept w movers k).kept
-    (steered_changed (woken w.plain movers).bodies h.slot (told_body there.label got.body) given there.at there.body (ap is_kinematic is.kind ∙ got.kinematic) (is.enabled ∙ got.enabled) got.course)
+    body_changed_acting (record w { plain = with_woken w.plain movers }) h.slot (put_course given) (told_body there.label got.body) (pos 0) (pos 0) (waking_kept w movers k).kept
+    (steered_changed (with_woken w.plain movers).bodies h.slot (told_body there.label got.body) given there.at there.body (ap is_kinematic is.kind ∙ got.kinematic) (is.enabled ∙ got.enabled) got.course)
 
 pub counted_acting : (w : Plain) → acting_of (counted w) ≡ acting_of w
 counted_acting w = acting_later w (w.calls + 1)

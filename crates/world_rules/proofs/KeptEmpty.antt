@@ -19,7 +19,7 @@ use Rattle.world_core_base.specs.ContactBodies.{IsContactOf}
 use Rattle.world_rules.specs.Apply.{empty_world}
 use Rattle.world_rules.specs.Sets.{acting_of}
 use Rattle.world_rules.specs.Sound.{HasBodies}
-use Rattle.world_rules.specs.World.{book_of, joints_of}
+use Rattle.world_rules.specs.World.{book_of, joints_in_slots}
 use Rattle.world_rules.proofs.LowerLaws.{empty_is_settled}
 use Rattle.world_rules.proofs.BookLemmas.{AreSmall-weaker}
 use Rattle.world_rules.proofs.SoundLaws.{IsKept}
@@ -45,7 +45,7 @@ empty_settled : (g : Vec2) → IsSettled constraint_number (acting_of (empty_wor
 unfolding acting_of ties_of members_of
 empty_settled g = empty_is_settled (replicate (COLOURS + 1) []) no_colours refl
 
-empty_moved : (g : Vec2) → ids_of (members_of (empty_world g).plain.bodies (joints_of (empty_world g).plain) (empty_world g).plain.colours) ≡ (empty_world g).plain.colours
+empty_moved : (g : Vec2) → ids_of (members_of (empty_world g).plain.bodies (joints_in_slots (empty_world g).plain) (empty_world g).plain.colours) ≡ (empty_world g).plain.colours
 unfolding members_of
 empty_moved g = refl
 

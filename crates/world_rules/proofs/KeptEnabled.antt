@@ -29,7 +29,7 @@ use Rattle.plain_world.specs.Kinds.{is_dynamic}
 use Rattle.plain_world.specs.Plain.{Plain}
 use Rattle.plain_world.specs.Sleep.{told_body, told_by}
 use Rattle.plain_world.specs.Slots.{body_at, shapes_in}
-use Rattle.sleep_wake.specs.Acting.{Acting, IsSettled, are_awake, is_awake}
+use Rattle.sleep_wake.specs.Acting.{Acting, IsSettled, are_awake, is_mover_awake}
 use Rattle.sleep_wake.specs.Changes.{each_begun}
 use Rattle.sleep_wake.specs.ChangeLists.{CanBegin, each_inserted}
 use Rattle.solver_sets.specs.Beside.{joined_to}
@@ -38,9 +38,9 @@ use Rattle.solver_sets.specs.Alike.{AreAlike, AreAlikeBeside, IsBetweenEnabled}
 use Rattle.solver_sets.specs.Ties.{is_enabled, is_enabled_in, is_mover_in, joint_ties_at, moves, ties_of}
 use Rattle.world_core_base.specs.ContactBodies.{IsContactOf}
 use Rattle.world_rules.specs.Apply.{counted, enabled}
-use Rattle.world_rules.specs.Sets.{acting_of, body_come, with_acting, woken}
+use Rattle.world_rules.specs.Sets.{acting_of, body_come, with_acting, with_woken}
 use Rattle.world_rules.specs.Sound.{HasBodies}
-use Rattle.world_rules.specs.World.{World, body_of, joints_of}
+use Rattle.world_rules.specs.World.{World, body_named, joints_in_slots}
 use Rattle.world_rules.proofs.ActingLaws.{AreLists, IsWoken, waking_kept}
 use Rattle.world_rules.proofs.LowerLaws.{enabling_adds_ties}
 use Rattle.world_rules.proofs.AwakeLaws.{both_awake, named_awake, others_stay}
@@ -94,7 +94,7 @@ timer_le true n m h = omega arith
 timer_le false n m h = h
 
 -- a disabled body is as it was once islands were woken
-pub seen_disabled : (w : World) (slots : List ℕ) (slot : ℕ) (b : Body) → IsKept w → body_at w.plain.bodies slot ≡ Some b → b.enabled ≡ false → body_at (woken w.plain slots).bodies slot ≡ Some b
+pub seen_disabled : (w : World) (slots : List ℕ) (slot : ℕ) (b : Body) → IsKept w → body_at w.plain.bodies slot ≡ Some b → b.enabled ≡ false → body_at (with_woken w.plain slots).bodies slot ≡ Some b
 seen_disabled w slots slot b k at off = let there : IsThere w slots slot b = still_there w slots slot b k at in there.at ∙ ap Some (told_still there.label b (disabled_rests b off))
 
 -- ---- the lists
@@ -183,7 +183,7 @@ part_lists w slot b k at off =
 alike_through : (slot : ℕ) (old now new : List (Option Body)) → AreAlike old now → AreAlikeBeside slot now new → AreAlikeBeside slot old new
 alike_through slot old now new h f = record { enabled = λ k far. f.enabled k far ∙ h.enabled k; movers = λ k far. f.movers k far ∙ h.movers k }
 
-movers_up : (labels : Labels) (m : Member Constraint) → ((k : ℕ) → IsMoverOf m.movers k → is_awake labels k ≡ true) → are_awake labels m.movers ≡ true
+movers_up : (labels : Labels) (m : Member Constraint) → ((k : ℕ) → IsMoverOf m.movers k → is_mover_awake labels k ≡ true) → are_awake labels m.movers ≡ true
 movers_up labels m f = both_awake labels m.movers.first m.movers.second (f m.movers.first (inl refl)) (λ b e. f b (inr e))
 
 -- a body before its joints begin
@@ -192,8 +192,8 @@ come_label w slot b k at off = none_if (label_at w.plain.islands slot) (k.tied s
 
 -- who was awake is, and the body is if it is a mover
 record IsUp (w : World) (slot : ℕ) (c : Body) (labels : Labels) : Type 0 where
-  own : is_mover c ≡ true → is_awake labels slot ≡ true
-  others : (k : ℕ) → k ≢ slot → is_awake w.plain.islands k ≡ true → is_awake labels k ≡ true
+  own : is_mover c ≡ true → is_mover_awake labels slot ≡ true
+  others : (k : ℕ) → k ≢ slot → is_mover_awake w.plain.islands k ≡ true → is_mover_awake labels k ≡ true
 
 come_up : (w : World) (slot : ℕ) (c : Body) → IsUp w slot c (body_come slot c (acting_of w.plain)).labels
 unfolding acting_of
@@ -201,9 +201,9 @@ come_up w slot c = record { own = λ e. come_own (is_mover c) slot (acting_of w.
 
 -- a mover of one of its joints is awake
 joined_up : (w : World) (slot k : ℕ) (new : List (Option Body)) (labels : Labels) (c : Body) → IsKept w → AreAlikeBeside slot w.plain.bodies new → body_at new slot ≡ Some c
-    → IsUp (record w { plain = woken w.plain (joined_to w.plain.bodies w.plain.joints slot) }) slot c labels → moves new k ≡ true → (k ≡ slot) ⊎ Contains (joined_to w.plain.bodies w.plain.joints slot) k → is_awake labels k ≡ true
+    → IsUp (record w { plain = with_woken w.plain (joined_to w.plain.bodies w.plain.joints slot) }) slot c labels → moves new k ≡ true → (k ≡ slot) ⊎ Contains (joined_to w.plain.bodies w.plain.joints slot) k → is_mover_awake labels k ≡ true
 joined_up w slot k new labels c kept alike at up moving of = elim (cases_eq k slot) [
-  | inl e ↦ ap (is_awake labels) e ∙ up.own (sym (ap is_mover_in at) ∙ sym (ap (moves new) e) ∙ moving)
+  | inl e ↦ ap (is_mover_awake labels) e ∙ up.own (sym (ap is_mover_in at) ∙ sym (ap (moves new) e) ∙ moving)
   | inr far ↦ elim of [
     | inl e ↦ absurd (far e)
     | inr h ↦ up.others k far (named_awake w (joined_to w.plain.bodies w.plain.joints slot) k kept h (sym (alike.movers k (not_same slot k (λ e. far (sym e)))) ∙ moving))
@@ -211,28 +211,28 @@ joined_up w slot k new labels c kept alike at up moving of = elim (cases_eq k sl
 ]
 
 abbrev pub up_acting : World → ℕ → Body → Acting Constraint
-up_acting w slot c = body_come slot c (acting_of (woken w.plain (joined_to w.plain.bodies w.plain.joints slot)))
+up_acting w slot c = body_come slot c (acting_of (with_woken w.plain (joined_to w.plain.bodies w.plain.joints slot)))
 
 abbrev pub up_bodies : World → ℕ → Option Body → List (Option Body)
-up_bodies w slot o = slice_set (woken w.plain (joined_to w.plain.bodies w.plain.joints slot)).bodies slot o
+up_bodies w slot o = slice_set (with_woken w.plain (joined_to w.plain.bodies w.plain.joints slot)).bodies slot o
 
 abbrev pub up_plain : World → ℕ → Option Body → Plain
-up_plain w slot o = record (woken w.plain (joined_to w.plain.bodies w.plain.joints slot)) { bodies = up_bodies w slot o }
+up_plain w slot o = record (with_woken w.plain (joined_to w.plain.bodies w.plain.joints slot)) { bodies = up_bodies w slot o }
 
 -- what is known of the joints of a body that is enabled, before they begin
 pub record CanStart (w : World) (slot : ℕ) (c : Body) : Type 0 where
   pub settled : IsSettled constraint_number (up_acting w slot c)
   pub tied : AreTied (up_bodies w slot (Some c)) (up_acting w slot c).labels
   pub long : length (up_acting w slot c).labels ≡ length (up_bodies w slot (Some c))
-  pub can : CanBegin constraint_number (joint_ties_at slot (up_bodies w slot (Some c)) (joints_of w.plain)) (up_acting w slot c)
-  pub ties : ties_of (up_bodies w slot (Some c)) (joints_of w.plain) w.plain.contacts ≡ each_inserted constraint_number (joint_ties_at slot (up_bodies w slot (Some c)) (joints_of w.plain)) (up_acting w slot c).ties
+  pub can : CanBegin constraint_number (joint_ties_at slot (up_bodies w slot (Some c)) (joints_in_slots w.plain)) (up_acting w slot c)
+  pub ties : ties_of (up_bodies w slot (Some c)) (joints_in_slots w.plain) w.plain.contacts ≡ each_inserted constraint_number (joint_ties_at slot (up_bodies w slot (Some c)) (joints_in_slots w.plain)) (up_acting w slot c).ties
 
-pub can_start : (w : World) (slot : ℕ) (b : Body) → IsKept w → body_at (woken w.plain (joined_to w.plain.bodies w.plain.joints slot)).bodies slot ≡ Some b → b.enabled ≡ false → CanStart w slot (enabled_body b)
+pub can_start : (w : World) (slot : ℕ) (b : Body) → IsKept w → body_at (with_woken w.plain (joined_to w.plain.bodies w.plain.joints slot)).bodies slot ≡ Some b → b.enabled ≡ false → CanStart w slot (enabled_body b)
 unfolding acting_of
 can_start w slot b k at off =
     let slots : List ℕ = joined_to w.plain.bodies w.plain.joints slot in
     let wk : IsWoken w slots = waking_kept w slots k in
-    let v : World = record w { plain = woken w.plain slots } in
+    let v : World = record w { plain = with_woken w.plain slots } in
     let old : List (Option Body) = v.plain.bodies in
     let c : Body = enabled_body b in
     let new : List (Option Body) = slice_set old slot (Some c) in
@@ -240,10 +240,10 @@ can_start w slot b k at off =
     let s : Acting Constraint = body_come slot c (acting_of v.plain) in
     let none : label_at v.plain.islands slot ≡ None = come_label v slot b wk.kept at off in
     let alike : AreAlikeBeside slot w.plain.bodies new = alike_through slot w.plain.bodies old new wk.alike (alike_beside old slot (Some c)) in
-    let taken = enabling_adds_ties slot old new (joints_of v.plain) v.plain.contacts (joint_slots_of v wk.kept) wk.kept.contacts (alike_beside old slot (Some c)) (ap is_enabled_in at ∙ off) (contacts_enabled old v.plain.contacts wk.kept.there) in
+    let taken = enabling_adds_ties slot old new (joints_in_slots v.plain) v.plain.contacts (joint_slots_of v wk.kept) wk.kept.contacts (alike_beside old slot (Some c)) (ap is_enabled_in at ∙ off) (contacts_enabled old v.plain.contacts wk.kept.there) in
     let same : s.ties ≡ (acting_of v.plain).ties = come_ties (is_mover c) slot (acting_of v.plain) in
     let up : IsUp v slot c s.labels = come_up v slot c in
-    let ms : List (Member Constraint) = joint_ties_at slot new (joints_of v.plain) in
+    let ms : List (Member Constraint) = joint_ties_at slot new (joints_in_slots v.plain) in
     record {
       settled = come_settled (is_mover c) slot (acting_of v.plain) wk.kept.settled none;
       tied = tied_beside old slot (Some c) v.plain.islands s.labels lt wk.kept.tied (come_here (is_mover c) slot (acting_of v.plain) none) (λ j far. come_beside (is_mover c) slot j (acting_of v.plain) far);
@@ -251,22 +251,22 @@ can_start w slot b k at off =
       can = record {
         rising = taken.rising;
         fresh = λ m h. subst (λ (ties : List (Member Constraint)). has_id constraint_number m.id ties ≡ false) (sym same) (taken.fresh m h);
-        awake = λ m h. movers_up s.labels m (λ j is. joined_up w slot j new s.labels c k alike (own_item old slot (Some c) lt) up (joints_move slot new (joints_of v.plain) m j h is) (joints_among slot w.plain.bodies new (joints_of v.plain) m alike h j is));
+        awake = λ m h. movers_up s.labels m (λ j is. joined_up w slot j new s.labels c k alike (own_item old slot (Some c) lt) up (joints_move slot new (joints_in_slots v.plain) m j h is) (joints_among slot w.plain.bodies new (joints_in_slots v.plain) m alike h j is));
       };
       ties = taken.ties ∙ ap (each_inserted constraint_number ms) (sym same);
     }
 
-up_next : (w : World) (slot : ℕ) (b : Body) → IsKept w → body_at (woken w.plain (joined_to w.plain.bodies w.plain.joints slot)).bodies slot ≡ Some b → b.enabled ≡ false
-    → IsNext (up_plain w slot (Some (enabled_body b))) (up_acting w slot (enabled_body b)) (each_begun constraint_number (joint_ties_at slot (up_bodies w slot (Some (enabled_body b))) (joints_of w.plain)) (up_acting w slot (enabled_body b)))
+up_next : (w : World) (slot : ℕ) (b : Body) → IsKept w → body_at (with_woken w.plain (joined_to w.plain.bodies w.plain.joints slot)).bodies slot ≡ Some b → b.enabled ≡ false
+    → IsNext (up_plain w slot (Some (enabled_body b))) (up_acting w slot (enabled_body b)) (each_begun constraint_number (joint_ties_at slot (up_bodies w slot (Some (enabled_body b))) (joints_in_slots w.plain)) (up_acting w slot (enabled_body b)))
 up_next w slot b k at off =
     let c : Body = enabled_body b in
     let start : CanStart w slot c = can_start w slot b k at off in
-    next_begun (up_plain w slot (Some c)) (up_acting w slot c) (joint_ties_at slot (up_bodies w slot (Some c)) (joints_of w.plain)) start.settled start.tied start.long start.can start.ties
+    next_begun (up_plain w slot (Some c)) (up_acting w slot c) (joint_ties_at slot (up_bodies w slot (Some c)) (joints_in_slots w.plain)) start.settled start.tied start.long start.can start.ties
 
 -- ---- Enable
 
 abbrev pub enabled_acting : World → ℕ → Body → Option Body → Acting Constraint
-enabled_acting w slot c o = each_begun constraint_number (joint_ties_at slot (up_bodies w slot o) (joints_of w.plain)) (up_acting w slot c)
+enabled_acting w slot c o = each_begun constraint_number (joint_ties_at slot (up_bodies w slot o) (joints_in_slots w.plain)) (up_acting w slot c)
 
 abbrev enabled_with : World → ℕ → Body → Option Body → World
 enabled_with w slot c o = record w { plain = with_acting (enabled_acting w slot c o) (up_plain w slot o) }
@@ -275,25 +275,25 @@ mover_of : (m a : Bool) → cond m a false ≡ true → m ≡ true
 mover_of true a e = refl
 mover_of false a e = absurd (false≢true e)
 
-pub up_put : (w : World) (slot : ℕ) (b : Body) → IsKept w → body_at (woken w.plain (joined_to w.plain.bodies w.plain.joints slot)).bodies slot ≡ Some b → b.enabled ≡ false → IsPut (record w { plain = up_plain w slot (Some (enabled_body b)) }) (enabled_acting w slot (enabled_body b) (Some (enabled_body b)))
+pub up_put : (w : World) (slot : ℕ) (b : Body) → IsKept w → body_at (with_woken w.plain (joined_to w.plain.bodies w.plain.joints slot)).bodies slot ≡ Some b → b.enabled ≡ false → IsPut (record w { plain = up_plain w slot (Some (enabled_body b)) }) (enabled_acting w slot (enabled_body b) (Some (enabled_body b)))
 up_put w slot b k at off =
     let slots : List ℕ = joined_to w.plain.bodies w.plain.joints slot in
     let wk : IsWoken w slots = waking_kept w slots k in
-    let v : World = record w { plain = woken w.plain slots } in
+    let v : World = record w { plain = with_woken w.plain slots } in
     let c : Body = enabled_body b in
-    let s : Acting Constraint = each_begun constraint_number (joint_ties_at slot (up_bodies w slot (Some c)) (joints_of w.plain)) (up_acting w slot c) in
+    let s : Acting Constraint = each_begun constraint_number (joint_ties_at slot (up_bodies w slot (Some c)) (joints_in_slots w.plain)) (up_acting w slot c) in
     let next = up_next w slot b k at off in
     let up : IsUp v slot c (up_acting w slot c).labels = come_up v slot c in
     both_put (record w { plain = up_plain w slot (Some c) }) s (part_lists v slot b wk.kept at off) next.acting
     (others_stay v slot (Some c) s.labels wk.kept (λ j far h. next.awake j (up.others j far h)) (λ d e h. next.awake slot (up.own (mover_of (is_mover c) (is_none c.asleep) (ap bodies.is_awake (same_Some c d e) ∙ h)))))
 
-pub enable_kept : (w : World) (h : Handle) (b : Body) → IsKept w → w.plain.calls < 2 ^ 40 → body_of w.plain h ≡ Some b → IsKept (record w { plain = counted (enabled w.plain h b) })
+pub enable_kept : (w : World) (h : Handle) (b : Body) → IsKept w → w.plain.calls < 2 ^ 40 → body_named w.plain h ≡ Some b → IsKept (record w { plain = counted (enabled w.plain h b) })
 enable_kept w h b k few named =
     let slots : List ℕ = joined_to w.plain.bodies w.plain.joints h.slot in
-    by_test (λ (p : Plain). IsKept (record w { plain = counted p })) b.enabled w.plain (enabled_with w h.slot (enabled_body b) (option_map enabled_body (body_at (woken w.plain slots).bodies h.slot))).plain
+    by_test (λ (p : Plain). IsKept (record w { plain = counted p })) b.enabled w.plain (enabled_with w h.slot (enabled_body b) (option_map enabled_body (body_at (with_woken w.plain slots).bodies h.slot))).plain
     (λ on. counted_kept w k few)
     (λ off.
-    let at : body_at (woken w.plain slots).bodies h.slot ≡ Some b = seen_disabled w slots h.slot b k (named_at w.plain h b named) off in
+    let at : body_at (with_woken w.plain slots).bodies h.slot ≡ Some b = seen_disabled w slots h.slot b k (named_at w.plain h b named) off in
     let kept = (up_put w h.slot b k at off).kept in
-    counted_kept (enabled_with w h.slot (enabled_body b) (option_map enabled_body (body_at (woken w.plain slots).bodies h.slot)))
+    counted_kept (enabled_with w h.slot (enabled_body b) (option_map enabled_body (body_at (with_woken w.plain slots).bodies h.slot)))
     (subst (λ (o : Option Body). IsKept (enabled_with w h.slot (enabled_body b) o)) (sym (ap (option_map enabled_body) at)) kept) few)

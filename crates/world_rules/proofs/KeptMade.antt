@@ -43,7 +43,7 @@ use Rattle.world_core_base.specs.ContactBodies.{AreContactsOf}
 use Rattle.world_rules.specs.Apply.{body_made, counted, with_made}
 use Rattle.world_rules.specs.Sets.{acting_of, body_come}
 use Rattle.world_rules.specs.Sound.{AreTimers, AreTold, HasBodies}
-use Rattle.world_rules.specs.World.{World, joints_of}
+use Rattle.world_rules.specs.World.{World, joints_in_slots}
 use Rattle.world_rules.proofs.ActingLaws.{AreLists, IsActing, awake_label, awake_name}
 use Rattle.world_rules.proofs.LowerLaws.{coming_keeps_ties, making_keeps, movers_come_and_go}
 use Rattle.world_rules.proofs.ChangeLemmas.{set_case}
@@ -242,19 +242,19 @@ come_acting w b k =
     record {
       settled = wide_settled constraint_number slot (body_come slot b s) (come_settled (is_mover b) slot s k.settled (free_label w k));
       ties = come_ties (is_mover b) slot s
-          ∙ sym (coming_keeps_ties w.plain.bodies (joints_of w.plain) w.plain.contacts slot b (free_slot w k) (free_below w k) k.joints (contacts_enabled w.plain.bodies w.plain.contacts k.there));
+          ∙ sym (coming_keeps_ties w.plain.bodies (joints_in_slots w.plain) w.plain.contacts slot b (free_slot w k) (free_below w k) k.joints (contacts_enabled w.plain.bodies w.plain.contacts k.there));
       tied = λ n. ap (λ (o : Option Label). is_some o) (wide_at (body_come slot b s).labels (slot + 1) n) ∙ come_tied w.plain.bodies slot b s (free_below w k) (free_label w k) k.tied n;
       long = come_labels (is_mover b) slot (length w.plain.bodies) s k.labels ∙ sym (with_long (nat_lt slot (length w.plain.bodies)) w.plain.bodies slot (Some b) refl (free_below w k));
     }
 
 -- ---- who is awake
 
-pub come_own : (m : Bool) (slot : ℕ) (s : Acting Constraint) → m ≡ true → acting.is_awake (cond m (mover_made slot s) s).labels slot ≡ true
+pub come_own : (m : Bool) (slot : ℕ) (s : Acting Constraint) → m ≡ true → acting.is_mover_awake (cond m (mover_made slot s) s).labels slot ≡ true
 unfolding mover_made
 come_own true slot s e = ap acting.awake_label (added_here s.labels slot)
 come_own false slot s e = cc
 
-pub come_others : (m : Bool) (slot k : ℕ) (s : Acting Constraint) → k ≢ slot → acting.is_awake s.labels k ≡ true → acting.is_awake (cond m (mover_made slot s) s).labels k ≡ true
+pub come_others : (m : Bool) (slot k : ℕ) (s : Acting Constraint) → k ≢ slot → acting.is_mover_awake s.labels k ≡ true → acting.is_mover_awake (cond m (mover_made slot s) s).labels k ≡ true
 unfolding mover_made
 come_others true slot k s ne h = ap acting.awake_label (added_other s.labels slot k ne) ∙ h
 come_others false slot k s ne h = h
@@ -269,7 +269,7 @@ come_awake w b k n d at up =
     let slot = lowest w.plain.places in
     let s = acting_of w.plain in
     awake_name (label_at (body_come slot b s).labels n) (elim (with_case w.plain.bodies slot b n d (free_below w k) at) [
-      | inl p ↦ subst (λ (j : ℕ). acting.is_awake (body_come slot b s).labels j ≡ true) (sym p.0) (come_own (is_mover b) slot s (mover_of (is_mover b) (is_none b.asleep) (ap is_awake p.1 ∙ up)))
+      | inl p ↦ subst (λ (j : ℕ). acting.is_mover_awake (body_come slot b s).labels j ≡ true) (sym p.0) (come_own (is_mover b) slot s (mover_of (is_mover b) (is_none b.asleep) (ap is_awake p.1 ∙ up)))
       | inr there ↦
           let apart : n ≢ slot = λ e. let none : body_at w.plain.bodies n ≡ None = ap (body_at w.plain.bodies) e ∙ free_slot w k in cc in
           come_others (is_mover b) slot n s apart (awake_label w.plain.bodies w.plain.islands n d k.tied k.told there up)
@@ -330,11 +330,11 @@ come_told w b k up n d at =
           k.told n d there ∙ ap sleeping_name (sym (come_name w b n apart))
     ]
 
-come_lists : (w : World) (b : Body) → IsKept w → (body_come (lowest w.plain.places) b (acting_of w.plain)).lists ≡ members_of w.plain.bodies (joints_of w.plain) w.plain.colours
+come_lists : (w : World) (b : Body) → IsKept w → (body_come (lowest w.plain.places) b (acting_of w.plain)).lists ≡ members_of w.plain.bodies (joints_in_slots w.plain) w.plain.colours
 unfolding acting_of mover_made
 come_lists w b k = by (is_mover b)
   where
-    by : (m : Bool) → (cond m (mover_made (lowest w.plain.places) (acting_of w.plain)) (acting_of w.plain)).lists ≡ members_of w.plain.bodies (joints_of w.plain) w.plain.colours
+    by : (m : Bool) → (cond m (mover_made (lowest w.plain.places) (acting_of w.plain)) (acting_of w.plain)).lists ≡ members_of w.plain.bodies (joints_in_slots w.plain) w.plain.colours
     by true = refl
     by false = refl
 

@@ -38,7 +38,7 @@ use Rattle.world_rules.specs.Apply.{bodies_ticked, events_of, gained, rest_entri
 use Rattle.world_rules.specs.Collide.{Collided, collided}
 use Rattle.world_rules.specs.Sets.{acting_of, with_acting}
 use Rattle.world_rules.specs.Sound.{AreTimers, HasBodies}
-use Rattle.world_rules.specs.World.{World, joints_of}
+use Rattle.world_rules.specs.World.{World, joints_in_slots}
 use Rattle.world_rules.proofs.ActingLaws.{AreLists, IsActing, acted, awake_put, kept_of, stay_awake}
 use Rattle.world_rules.proofs.LowerLaws.{alike_bodies_keep_ties, awake_stay_awake, impulses_keep_ties, keys_can_turn, keys_turn, movers_stay, same_names_same_ties, same_touching_keep_ties, sleep_phase_keeps, ties_have_labels, ties_rise, turns_into}
 use Rattle.world_rules.proofs.BookLemmas.{AreSmall-weaker}
@@ -71,7 +71,7 @@ with_contacts w = record w { plain = record w.plain { contacts = (collided_in w)
 abbrev pub collided_world : World → World
 collided_world w = record w { plain = with_acting (turned_in w) (with_contacts w).plain }
 
-joint_slots : (w : World) → IsKept w → AreJointSlots (joints_of w.plain)
+joint_slots : (w : World) → IsKept w → AreJointSlots (joints_in_slots w.plain)
 joint_slots w k = record { matched = k.joint_slots; places = k.joint_places }
 
 named : (bodies : List (Option Body)) (contacts : List ContactEntry) → All (HasBodies bodies) contacts → All (λ (e : ContactEntry). IsNamed e.key) contacts
@@ -82,13 +82,13 @@ new_contacts w k = has_bodies_after w.plain.bodies w.plain.joints w.plain.contac
 
 -- they are settled, and the constraints are those of the new contacts
 abbrev IsTurned : World → Acting Constraint → Type 0
-IsTurned w s = IsSettled constraint_number s × (s.ties ≡ ties_of w.plain.bodies (joints_of w.plain) (collided_in w).now)
+IsTurned w s = IsSettled constraint_number s × (s.ties ≡ ties_of w.plain.bodies (joints_in_slots w.plain) (collided_in w).now)
 
 turned_into : (w : World) → IsKept w → AreKeysRising (collided_in w).now → IsTurned w (turned_in w)
 unfolding acting_of
 turned_into w k rises =
     let bodies : List (Option Body) = w.plain.bodies in
-    let js : JointSlots = joints_of w.plain in
+    let js : JointSlots = joints_in_slots w.plain in
     let old : List ContactEntry = w.plain.contacts in
     let now : List ContactEntry = (collided_in w).now in
     let s : Acting Constraint = acting_of w.plain in
@@ -114,7 +114,7 @@ turned_awake : (w : World) → IsKept w → AreKeysRising (collided_in w).now �
 unfolding acting_of
 turned_awake w k rises =
     let changes = key_changes w.plain.bodies (collided_in w).begin (collided_in w).end in
-    let can = keys_can_turn w.plain.bodies (joints_of w.plain) w.plain.contacts (collided_in w).now w.plain.islands (joint_slots w k) k.contacts rises (named w.plain.bodies w.plain.contacts k.there) (named w.plain.bodies (collided_in w).now (new_contacts w k)) k.tied in
+    let can = keys_can_turn w.plain.bodies (joints_in_slots w.plain) w.plain.contacts (collided_in w).now w.plain.islands (joint_slots w k) k.contacts rises (named w.plain.bodies w.plain.contacts k.there) (named w.plain.bodies (collided_in w).now (new_contacts w k)) k.tied in
     stay_awake w.plain.bodies w.plain.islands (turned_in w).labels k.tied k.told (awake_stay_awake.turned (acting_of w.plain) changes k.settled can)
 
 lists_collided : (w : World) → IsKept w → AreKeysRising (collided_in w).now → AreLists (with_contacts w)
@@ -194,11 +194,11 @@ matched_ends places old new same m =
 
 -- no tie sees what the ticks have changed
 ticked_ties : (w : Plain) (new bodies : List (Option Body)) (joints : List (Option BodyJoint)) (contacts : List ContactEntry) (sums : StepSums) → AreAlike w.bodies new → IsTicked w bodies joints contacts sums
-    → ties_of new (slots_of w.joint_places joints) contacts ≡ ties_of w.bodies (joints_of w) w.contacts
+    → ties_of new (slots_of w.joint_places joints) contacts ≡ ties_of w.bodies (joints_in_slots w) w.contacts
 ticked_ties w new bodies joints contacts sums alike t =
     alike_bodies_keep_ties w.bodies new (slots_of w.joint_places joints) contacts alike
-    ∙ impulses_keep_ties w.bodies (joints_of w) (slots_of w.joint_places joints) contacts refl t.ends
-    ∙ same_touching_keep_ties w.bodies (joints_of w) w.contacts contacts t.touching
+    ∙ impulses_keep_ties w.bodies (joints_in_slots w) (slots_of w.joint_places joints) contacts refl t.ends
+    ∙ same_touching_keep_ties w.bodies (joints_in_slots w) w.contacts contacts t.touching
 
 -- ---- the sleep phase
 

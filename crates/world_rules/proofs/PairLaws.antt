@@ -32,7 +32,7 @@ use Rattle.contacts_base.specs.Surfaces.{mixed}
 use Rattle.contacts_base.specs.declared.limits.TheConstants.{MAX_FRICTION, MAX_RESTITUTION}
 use Rattle.contacts_base.specs.declared.surface.Surface.{Surface}
 use Rattle.contacts_base.specs.Contacts.{number_of, lookup}
-use Rattle.contacts_base.specs.Evaluate.{apart, impulses_at, first_of, kept, kept_point, evaluated}
+use Rattle.contacts_base.specs.Evaluate.{apart, impulses_at, first_impulses, kept, kept_point, evaluated}
 use Rattle.contacts_base.specs.Limits.{IsContactPoint, IsContact}
 use Rattle.contacts_base.specs.Near.{is_near, one_stirs}
 use Rattle.contacts.specs.ByPairs.{contact_of_pair, contacts_between, may_collide, near_pairs, pairs_with}
@@ -259,7 +259,7 @@ impulses_within (Some p) candidate h =
     let is : IsContactPoint p = h p refl in
     chosen_within (p.candidate == candidate) (record { normal_impulse = p.normal_impulse; tangent_impulse = p.tangent_impulse }) (record { normal_impulse_low = is.normal_impulse_low; normal_impulse_high = is.normal_impulse_high; tangent_impulse = is.tangent_impulse })
 
-first_within : (o other : Option Impulses) → ForSome o AreImpulses → ForSome other AreImpulses → AreImpulses (first_of o other)
+first_within : (o other : Option Impulses) → ForSome o AreImpulses → ForSome other AreImpulses → AreImpulses (first_impulses o other)
 first_within (Some i) other h l = h i refl
 first_within None (Some i) h l = l i refl
 first_within None None h l = record { normal_impulse_low = omega arith; normal_impulse_high = omega arith; tangent_impulse = omega arith }

@@ -28,14 +28,14 @@ use Rattle.sleep_wake.specs.Widened.{widened}
 use Rattle.sleep_wake.specs.Acting.{Acting, are_awake}
 use Rattle.sleep_wake.specs.Bodies.{mover_gone, mover_made}
 use Rattle.sleep_wake.specs.Changes.{each_begun, each_ended}
-use Rattle.sleep_wake.specs.Sleeping.{islands_woken, names_of}
+use Rattle.sleep_wake.specs.Sleeping.{islands_woken, sleeping_names}
 use Rattle.solver_sets.specs.Beside.{joined_to, stirred_by}
 use Rattle.solver_sets.specs.Joining.{handle_at, joined_with, unjoined, unjoined_all}
 use Rattle.solver_sets.specs.Alike.{AreAlike}
 use Rattle.solver_sets.specs.Ties.{Bond, JointSlots, begun_with, bonds_of, ended_with, is_bond_of, joint_movers, joint_ties_at, tie_of, ties_at}
 use Rattle.world_rules.specs.Apply.{Applied, counted, created, departed, destroyed, disabled, enabled, joined, joint_gone, quietly, with_made, world_with}
-use Rattle.world_rules.specs.Sets.{acting_of, body_gone, stirred, with_acting, woken}
-use Rattle.world_rules.specs.World.{World, body_of, joints_of}
+use Rattle.world_rules.specs.Sets.{acting_of, body_gone, stirred, with_acting, with_woken}
+use Rattle.world_rules.specs.World.{World, body_named, joints_in_slots}
 use Rattle.world_rules.proofs.ActingLaws.{IsWoken, waking_kept}
 use Rattle.world_rules.proofs.KeptBodies.{destroy_put, disable_put}
 use Rattle.world_rules.proofs.KeptChanges.{counted_kept, named_at}
@@ -85,7 +85,7 @@ ties_at_alike slot old new s contacts h = same_ties old new (filter (is_bond_of 
 
 -- what acts once islands were woken
 abbrev pub woken_from : Plain → Acting Constraint → List ℕ → Acting Constraint
-woken_from w s slots = islands_woken constraint_number (names_of w.islands slots) s
+woken_from w s slots = islands_woken constraint_number (sleeping_names w.islands slots) s
 
 -- the bodies then
 abbrev pub woken_bodies : Plain → Acting Constraint → List ℕ → List (Option Body)
@@ -98,15 +98,15 @@ stirred_slots w slot = stirred_by w.bodies w.joints w.contacts slot
 
 -- what acts once the ties have ended
 abbrev pub ended_from : Plain → Acting Constraint → ℕ → Acting Constraint
-ended_from w s slot = each_ended constraint_number (ties_at slot w.bodies (joints_of w) w.contacts) (woken_from w s (stirred_slots w slot))
+ended_from w s slot = each_ended constraint_number (ties_at slot w.bodies (joints_in_slots w) w.contacts) (woken_from w s (stirred_slots w slot))
 
 abbrev pub gone_from : ℕ → Bool → Acting Constraint → Acting Constraint
 gone_from slot mover s = cond mover (mover_gone constraint_number slot s) s
 
-pub ended_is : (w : World) (slot : ℕ) → IsKept w → ended_from w.plain (acting_of w.plain) slot ≡ each_ended constraint_number (ties_at slot (stirred w.plain slot).bodies (joints_of w.plain) w.plain.contacts) (acting_of (stirred w.plain slot))
+pub ended_is : (w : World) (slot : ℕ) → IsKept w → ended_from w.plain (acting_of w.plain) slot ≡ each_ended constraint_number (ties_at slot (stirred w.plain slot).bodies (joints_in_slots w.plain) w.plain.contacts) (acting_of (stirred w.plain slot))
 ended_is w slot k =
     let wk : IsWoken w (stirred_slots w.plain slot) = waking_kept w (stirred_slots w.plain slot) k in
-    let ties = sym (ties_at_alike slot w.plain.bodies (stirred w.plain slot).bodies (joints_of w.plain) w.plain.contacts wk.alike) in
+    let ties = sym (ties_at_alike slot w.plain.bodies (stirred w.plain slot).bodies (joints_in_slots w.plain) w.plain.contacts wk.alike) in
     let acts = sym wk.acting in
     λ j. each_ended constraint_number (ties j) (acts j)
 
@@ -120,8 +120,8 @@ destroyed_now w woke s h b = record w {
   plain = record w.plain {
     places = places_without w.plain.places h;
     bodies = told s.labels (slice_set (told woke.labels w.plain.bodies) h.slot None);
-    joint_places = (unjoined_all h.slot (joints_of w.plain)).places;
-    joints = (unjoined_all h.slot (joints_of w.plain)).joints;
+    joint_places = (unjoined_all h.slot (joints_in_slots w.plain)).places;
+    joints = (unjoined_all h.slot (joints_in_slots w.plain)).joints;
     contacts = contacts_without h.slot w.plain.contacts;
     islands = s.labels;
     colours = ids_of s.lists;
@@ -130,7 +130,7 @@ destroyed_now w woke s h b = record w {
   entries = w.entries ++ departed (w.plain.calls + 1) b;
 }
 
-destroyed_at : (w : World) (h : Handle) (b : Body) → IsKept w → w.plain.calls < 2 ^ 40 → body_of w.plain h ≡ Some b
+destroyed_at : (w : World) (h : Handle) (b : Body) → IsKept w → w.plain.calls < 2 ^ 40 → body_named w.plain h ≡ Some b
     → IsLeft w (destroyed w.plain h b) (destroyed_now w (woken_from w.plain (acting_of w.plain) (stirred_slots w.plain h.slot)) (gone_from h.slot (is_mover b) (ended_from w.plain (acting_of w.plain) h.slot)) h b) (gone_from h.slot (is_mover b) (ended_from w.plain (acting_of w.plain) h.slot))
 destroyed_at w h b k few named =
     let woke : Acting Constraint = woken_from w.plain (acting_of w.plain) (stirred_slots w.plain h.slot) in
@@ -138,7 +138,7 @@ destroyed_at w h b k few named =
     let put = destroy_put w h b k few named in
     record { same = ap (λ (s : Acting Constraint). destroyed_now w woke s h b) gone; kept = put.kept; acting = gone ∙ sym put.acting }
 
-pub destroy_left : (w : World) (s : Acting Constraint) (h : Handle) (b : Body) → IsKept w → s ≡ acting_of w.plain → w.plain.calls < 2 ^ 40 → body_of w.plain h ≡ Some b
+pub destroy_left : (w : World) (s : Acting Constraint) (h : Handle) (b : Body) → IsKept w → s ≡ acting_of w.plain → w.plain.calls < 2 ^ 40 → body_named w.plain h ≡ Some b
     → IsLeft w (destroyed w.plain h b) (destroyed_now w (woken_from w.plain s (stirred_slots w.plain h.slot)) (gone_from h.slot (is_mover b) (ended_from w.plain s h.slot)) h b) (gone_from h.slot (is_mover b) (ended_from w.plain s h.slot))
 destroy_left w s h b k e few named =
     subst (λ (a : Acting Constraint). IsLeft w (destroyed w.plain h b) (destroyed_now w (woken_from w.plain a (stirred_slots w.plain h.slot)) (gone_from h.slot (is_mover b) (ended_from w.plain a h.slot)) h b) (gone_from h.slot (is_mover b) (ended_from w.plain a h.slot)))
@@ -159,7 +159,7 @@ disabled_now w woke s h b = record w {
   entries = w.entries ++ departed (w.plain.calls + 1) b;
 }
 
-disabled_left_at : (w : World) (h : Handle) (b : Body) → IsKept w → w.plain.calls < 2 ^ 40 → body_of w.plain h ≡ Some b
+disabled_left_at : (w : World) (h : Handle) (b : Body) → IsKept w → w.plain.calls < 2 ^ 40 → body_named w.plain h ≡ Some b
     → IsLeft w (disabled w.plain h b) (disabled_now w (woken_from w.plain (acting_of w.plain) (stirred_slots w.plain h.slot)) (gone_from h.slot (is_mover b) (ended_from w.plain (acting_of w.plain) h.slot)) h b) (gone_from h.slot (is_mover b) (ended_from w.plain (acting_of w.plain) h.slot))
 disabled_left_at w h b k few named =
     let woke : Acting Constraint = woken_from w.plain (acting_of w.plain) (stirred_slots w.plain h.slot) in
@@ -167,7 +167,7 @@ disabled_left_at w h b k few named =
     let put = disable_put w h b k few named in
     record { same = ap (λ (s : Acting Constraint). disabled_now w woke s h b) gone; kept = put.kept; acting = gone ∙ sym put.acting }
 
-pub disable_left : (w : World) (s : Acting Constraint) (h : Handle) (b : Body) → IsKept w → s ≡ acting_of w.plain → w.plain.calls < 2 ^ 40 → body_of w.plain h ≡ Some b
+pub disable_left : (w : World) (s : Acting Constraint) (h : Handle) (b : Body) → IsKept w → s ≡ acting_of w.plain → w.plain.calls < 2 ^ 40 → body_named w.plain h ≡ Some b
     → IsLeft w (disabled w.plain h b) (disabled_now w (woken_from w.plain s (stirred_slots w.plain h.slot)) (gone_from h.slot (is_mover b) (ended_from w.plain s h.slot)) h b) (gone_from h.slot (is_mover b) (ended_from w.plain s h.slot))
 disable_left w s h b k e few named =
     subst (λ (a : Acting Constraint). IsLeft w (disabled w.plain h b) (disabled_now w (woken_from w.plain a (stirred_slots w.plain h.slot)) (gone_from h.slot (is_mover b) (ended_from w.plain a h.slot)) h b) (gone_from h.slot (is_mover b) (ended_from w.plain a h.slot)))
@@ -223,13 +223,13 @@ abbrev pub unjoined_from : Plain → Acting Constraint → Handle → BodyJoint 
 unjoined_from w s h j = ended_with (Joint h) (joint_movers (woken_bodies w s (ends_of j)) j) (woken_from w s (ends_of j))
 
 joined_at : (w : World) (d : JointDef) → IsKept w → w.plain.calls < 2 ^ 40 → lowest w.plain.joint_places < MAX_SLOTS → IsBodyJoint w.plain.bodies (joint_made d)
-    → IsLeft w (joined w.plain d (next_joint w.plain)) (joints_now w (woken_bodies w.plain (acting_of w.plain) (ends_of (joint_made d))) (begun_from w.plain (acting_of w.plain) (joint_made d)) (joined_with (joint_made d) (joints_of w.plain))) (begun_from w.plain (acting_of w.plain) (joint_made d))
+    → IsLeft w (joined w.plain d (next_joint w.plain)) (joints_now w (woken_bodies w.plain (acting_of w.plain) (ends_of (joint_made d))) (begun_from w.plain (acting_of w.plain) (joint_made d)) (joined_with (joint_made d) (joints_in_slots w.plain))) (begun_from w.plain (acting_of w.plain) (joint_made d))
 unfolding acting_of
 joined_at w d k few free is =
     let j : BodyJoint = joint_made d in
     let wk : IsWoken w (ends_of j) = waking_kept w (ends_of j) k in
-    let v : World = record w { plain = woken w.plain (ends_of j) } in
-    let joints : JointSlots = joined_with j (joints_of w.plain) in
+    let v : World = record w { plain = with_woken w.plain (ends_of j) } in
+    let joints : JointSlots = joined_with j (joints_in_slots w.plain) in
     let id : Constraint = Joint (next_joint w.plain) in
     let s : Acting Constraint = begun_with id (joint_movers v.plain.bodies j) (acting_of v.plain) in
     let begun : begun_from w.plain (acting_of w.plain) j ≡ s = ap (begun_with id (joint_movers v.plain.bodies j)) (sym wk.acting) in
@@ -242,22 +242,22 @@ joined_at w d k few free is =
     }
 
 pub join_left : (w : World) (s : Acting Constraint) (d : JointDef) → IsKept w → s ≡ acting_of w.plain → w.plain.calls < 2 ^ 40 → lowest w.plain.joint_places < MAX_SLOTS → IsBodyJoint w.plain.bodies (joint_made d)
-    → IsLeft w (joined w.plain d (next_joint w.plain)) (joints_now w (woken_bodies w.plain s (ends_of (joint_made d))) (begun_from w.plain s (joint_made d)) (joined_with (joint_made d) (joints_of w.plain))) (begun_from w.plain s (joint_made d))
+    → IsLeft w (joined w.plain d (next_joint w.plain)) (joints_now w (woken_bodies w.plain s (ends_of (joint_made d))) (begun_from w.plain s (joint_made d)) (joined_with (joint_made d) (joints_in_slots w.plain))) (begun_from w.plain s (joint_made d))
 join_left w s d k e few free is =
-    subst (λ (a : Acting Constraint). IsLeft w (joined w.plain d (next_joint w.plain)) (joints_now w (woken_bodies w.plain a (ends_of (joint_made d))) (begun_from w.plain a (joint_made d)) (joined_with (joint_made d) (joints_of w.plain))) (begun_from w.plain a (joint_made d)))
+    subst (λ (a : Acting Constraint). IsLeft w (joined w.plain d (next_joint w.plain)) (joints_now w (woken_bodies w.plain a (ends_of (joint_made d))) (begun_from w.plain a (joint_made d)) (joined_with (joint_made d) (joints_in_slots w.plain))) (begun_from w.plain a (joint_made d)))
     (sym e) (joined_at w d k few free is)
 
 -- the joint of this handle goes
 abbrev pub unjoined_of : Plain → Handle → BodyJoint → Applied
-unjoined_of w h j = quietly (joint_gone h j (woken w (ends_of j)))
+unjoined_of w h j = quietly (joint_gone h j (with_woken w (ends_of j)))
 
 unjoined_at : (w : World) (h : Handle) (j : BodyJoint) → IsKept w → w.plain.calls < 2 ^ 40 → joint_of w.plain.joint_places w.plain.joints h ≡ Some j
-    → IsLeft w (unjoined_of w.plain h j) (joints_now w (woken_bodies w.plain (acting_of w.plain) (ends_of j)) (unjoined_from w.plain (acting_of w.plain) h j) (unjoined h (joints_of w.plain))) (unjoined_from w.plain (acting_of w.plain) h j)
+    → IsLeft w (unjoined_of w.plain h j) (joints_now w (woken_bodies w.plain (acting_of w.plain) (ends_of j)) (unjoined_from w.plain (acting_of w.plain) h j) (unjoined h (joints_in_slots w.plain))) (unjoined_from w.plain (acting_of w.plain) h j)
 unfolding acting_of
 unjoined_at w h j k few named =
     let wk : IsWoken w (ends_of j) = waking_kept w (ends_of j) k in
-    let v : World = record w { plain = woken w.plain (ends_of j) } in
-    let joints : JointSlots = unjoined h (joints_of w.plain) in
+    let v : World = record w { plain = with_woken w.plain (ends_of j) } in
+    let joints : JointSlots = unjoined h (joints_in_slots w.plain) in
     let s : Acting Constraint = ended_with (Joint h) (joint_movers v.plain.bodies j) (acting_of v.plain) in
     let ended : unjoined_from w.plain (acting_of w.plain) h j ≡ s = ap (ended_with (Joint h) (joint_movers v.plain.bodies j)) (sym wk.acting) in
     let quiet : told s.labels v.plain.bodies ≡ v.plain.bodies = ended_told v (Joint h) (joint_movers v.plain.bodies j) wk.kept (joint_up w j k) in
@@ -269,9 +269,9 @@ unjoined_at w h j k few named =
     }
 
 pub unjoin_left : (w : World) (s : Acting Constraint) (h : Handle) (j : BodyJoint) → IsKept w → s ≡ acting_of w.plain → w.plain.calls < 2 ^ 40 → joint_of w.plain.joint_places w.plain.joints h ≡ Some j
-    → IsLeft w (unjoined_of w.plain h j) (joints_now w (woken_bodies w.plain s (ends_of j)) (unjoined_from w.plain s h j) (unjoined h (joints_of w.plain))) (unjoined_from w.plain s h j)
+    → IsLeft w (unjoined_of w.plain h j) (joints_now w (woken_bodies w.plain s (ends_of j)) (unjoined_from w.plain s h j) (unjoined h (joints_in_slots w.plain))) (unjoined_from w.plain s h j)
 unjoin_left w s h j k e few named =
-    subst (λ (a : Acting Constraint). IsLeft w (unjoined_of w.plain h j) (joints_now w (woken_bodies w.plain a (ends_of j)) (unjoined_from w.plain a h j) (unjoined h (joints_of w.plain))) (unjoined_from w.plain a h j))
+    subst (λ (a : Acting Constraint). IsLeft w (unjoined_of w.plain h j) (joints_now w (woken_bodies w.plain a (ends_of j)) (unjoined_from w.plain a h j) (unjoined h (joints_in_slots w.plain))) (unjoined_from w.plain a h j))
     (sym e) (unjoined_at w h j k few named)
 
 -- ---- Enable
@@ -281,7 +281,7 @@ joined_slots w slot = joined_to w.bodies w.joints slot
 
 -- what acts once the body in the slot has come, and its joints have begun
 abbrev pub enabled_from : Plain → Acting Constraint → ℕ → Bool → Option Body → Acting Constraint
-enabled_from w s slot mover o = each_begun constraint_number (joint_ties_at slot (slice_set (woken_bodies w s (joined_slots w slot)) slot o) (joints_of w)) (come_from slot mover (woken_from w s (joined_slots w slot)))
+enabled_from w s slot mover o = each_begun constraint_number (joint_ties_at slot (slice_set (woken_bodies w s (joined_slots w slot)) slot o) (joints_in_slots w)) (come_from slot mover (woken_from w s (joined_slots w slot)))
 
 abbrev bodies_now : World → List (Option Body) → Acting Constraint → World
 bodies_now w bodies s = record w { plain = counted (record w.plain { bodies = bodies; islands = s.labels; colours = ids_of s.lists }) }
@@ -302,10 +302,10 @@ unfolding acting_of
 enabled_one w slot b k few there off =
     let slots : List ℕ = joined_slots w.plain slot in
     let wk : IsWoken w slots = waking_kept w slots k in
-    let v : World = record w { plain = woken w.plain slots } in
+    let v : World = record w { plain = with_woken w.plain slots } in
     let c : Body = enabled_body b in
     let at : body_at v.plain.bodies slot ≡ Some b = seen_disabled w slots slot b k there off in
-    let ms : List (Member Constraint) = joint_ties_at slot (up_bodies w slot (Some c)) (joints_of w.plain) in
+    let ms : List (Member Constraint) = joint_ties_at slot (up_bodies w slot (Some c)) (joints_in_slots w.plain) in
     let s : Acting Constraint = enabled_acting w slot c (Some c) in
     let begun : enabled_from w.plain (acting_of w.plain) slot (is_mover c) (Some c) ≡ s = ap (λ (a : Acting Constraint). each_begun constraint_number ms (come_from slot (is_mover c) a)) (sym wk.acting) in
     let put = up_put w slot b k at off in
@@ -319,7 +319,7 @@ enabled_one w slot b k few there off =
       acting = begun ∙ sym put.acting;
     }
 
-enabled_at : (w : World) (h : Handle) (b : Body) → IsKept w → w.plain.calls < 2 ^ 40 → body_of w.plain h ≡ Some b → b.enabled ≡ false
+enabled_at : (w : World) (h : Handle) (b : Body) → IsKept w → w.plain.calls < 2 ^ 40 → body_named w.plain h ≡ Some b → b.enabled ≡ false
     → IsLeft w (quietly (enabled w.plain h b)) (enabled_now w (acting_of w.plain) h.slot (is_mover (enabled_body b)) (woken_enabled w.plain (acting_of w.plain) h.slot)) (enabled_from w.plain (acting_of w.plain) h.slot (is_mover (enabled_body b)) (woken_enabled w.plain (acting_of w.plain) h.slot))
 enabled_at w h b k few named off =
     let slot : ℕ = h.slot in
@@ -332,7 +332,7 @@ enabled_at w h b k few named off =
     let done : enabled w.plain h b ≡ enabled_plain w slot c o = ap (λ (t : Bool). cond t w.plain (enabled_plain w slot c o)) off in
     subst (λ (p : Plain). IsLeft w (quietly p) (enabled_now w (acting_of w.plain) slot (is_mover c) o) (enabled_from w.plain (acting_of w.plain) slot (is_mover c) o)) (sym done) with_it
 
-pub enable_left : (w : World) (s : Acting Constraint) (h : Handle) (b : Body) → IsKept w → s ≡ acting_of w.plain → w.plain.calls < 2 ^ 40 → body_of w.plain h ≡ Some b → b.enabled ≡ false
+pub enable_left : (w : World) (s : Acting Constraint) (h : Handle) (b : Body) → IsKept w → s ≡ acting_of w.plain → w.plain.calls < 2 ^ 40 → body_named w.plain h ≡ Some b → b.enabled ≡ false
     → IsLeft w (quietly (enabled w.plain h b)) (enabled_now w s h.slot (is_mover (enabled_body b)) (woken_enabled w.plain s h.slot)) (enabled_from w.plain s h.slot (is_mover (enabled_body b)) (woken_enabled w.plain s h.slot))
 enable_left w s h b k e few named off =
     subst (λ (a : Acting Constraint). IsLeft w (quietly (enabled w.plain h b)) (enabled_now w a h.slot (is_mover (enabled_body b)) (woken_enabled w.plain a h.slot)) (enabled_from w.plain a h.slot (is_mover (enabled_body b)) (woken_enabled w.plain a h.slot)))
@@ -342,7 +342,7 @@ enable_left w s h b k e few named off =
 pub enabled_left : (w : World) (s : Acting Constraint) (h : Handle) (b : Body) → IsKept w → s ≡ acting_of w.plain → w.plain.calls < 2 ^ 40 → b.enabled ≡ true
     → IsLeft w (quietly (enabled w.plain h b)) (record w { plain = counted w.plain }) s
 enabled_left w s h b k e few on =
-    let done : enabled w.plain h b ≡ w.plain = ap (λ (t : Bool). cond t w.plain (enabled_plain w h.slot (enabled_body b) (option_map enabled_body (body_at (woken w.plain (joined_slots w.plain h.slot)).bodies h.slot)))) on in
+    let done : enabled w.plain h b ≡ w.plain = ap (λ (t : Bool). cond t w.plain (enabled_plain w h.slot (enabled_body b) (option_map enabled_body (body_at (with_woken w.plain (joined_slots w.plain h.slot)).bodies h.slot)))) on in
     subst (λ (p : Plain). IsLeft w (quietly p) (record w { plain = counted w.plain }) s) (sym done) (record {
       same = no_entries w (counted w.plain);
       kept = nothing_more w (counted w.plain) (counted_kept w k few);

@@ -12,7 +12,7 @@ use Rattle.graph_colours.proofs.PlaceLemmas.{same_from}
 use Rattle.plain_world.specs.declared.body.Body.{Body}
 use Rattle.plain_world.specs.Plain.{Plain}
 use Rattle.solver_sets.proofs.BondLaws.{place_is}
-use Rattle.world_rules.specs.World.{body_of}
+use Rattle.world_rules.specs.World.{body_named}
 
 live_place : (n g : ℕ) (live : Bool) → (live && (n == g)) ≡ true → ◌≡◌ {A = Option Place} (Some (record { generation = n; live = live })) (Some (record { generation = g; live = true }))
 live_place n g true e = ap (λ (k : ℕ). Some (record { generation = k; live = true })) (same_from n g e)
@@ -27,7 +27,7 @@ named_live true o b e = refl
 named_live false o b e = absurd (none-some b e)
 
 -- the place of a body that is named is live
-pub live_body : (w : Plain) (h : Handle) (b : Body) → body_of w h ≡ Some b → is_live w.places h ≡ true
+pub live_body : (w : Plain) (h : Handle) (b : Body) → body_named w h ≡ Some b → is_live w.places h ≡ true
 live_body w h b e = named_live (is_live w.places h) _ b e
 
 freed : (g : ℕ) → IsPlace (record { generation = g; live = true }) → IsPlace (record { generation = g + 1; live = false })

@@ -14,7 +14,7 @@ use Rattle.islands.proofs.LabelLemmas.{either_case, either_to, merged_partition,
 use Rattle.plain_world.specs.declared.body.Body.{Body}
 use Rattle.plain_world.specs.Bodies.{is_mover}
 use Rattle.plain_world.specs.Sleep.{told, told_body, told_by, told_from}
-use Rattle.sleep_wake.specs.Acting.{Acting, are_awake, awake_label, is_awake}
+use Rattle.sleep_wake.specs.Acting.{Acting, are_awake, awake_label, is_mover_awake}
 use Rattle.sleep_wake.specs.Changes.{begun, each_begun, ended, parted, united}
 use Rattle.sleep_wake.proofs.AwakeLemmas.{and_is, parted_awake, same_awake, united_awake}
 use Rattle.solver_sets.specs.Ties.{begun_with, ended_with}
@@ -68,7 +68,7 @@ union_up false name = refl
 
 -- ---- two islands that are awake become one
 
-merged_alike : (labels : Labels) (a b : ℕ) (x y : Label) → label_at labels a ≡ Some x → label_at labels b ≡ Some y → ((k : ℕ) → is_awake (merged labels a b) k ≡ is_awake labels k) → SleepAlike labels (merged labels a b)
+merged_alike : (labels : Labels) (a b : ℕ) (x y : Label) → label_at labels a ≡ Some x → label_at labels b ≡ Some y → ((k : ℕ) → is_mover_awake (merged labels a b) k ≡ is_mover_awake labels k) → SleepAlike labels (merged labels a b)
 unfolding merged
 merged_alike labels a b x y e f same k =
     let here : label_at (merged labels a b) k ≡ label_at (relabelled x.name y.name (union_label x y) labels) k = λ j. label_at (merged_by (e j) (f j) labels) k in
@@ -83,15 +83,15 @@ merged_alike labels a b x y e f same k =
 abbrev AreUp : Labels → ℕ → Option ℕ → Type 0
 AreUp labels first second = are_awake labels (record { first = first; second = second }) ≡ true
 
-up_first : (labels : Labels) (first : ℕ) (second : Option ℕ) → AreUp labels first second → is_awake labels first ≡ true
-up_first labels first None h = (and_is (is_awake labels first) true h).0
-up_first labels first (Some b) h = (and_is (is_awake labels first) (is_awake labels b) h).0
+up_first : (labels : Labels) (first : ℕ) (second : Option ℕ) → AreUp labels first second → is_mover_awake labels first ≡ true
+up_first labels first None h = (and_is (is_mover_awake labels first) true h).0
+up_first labels first (Some b) h = (and_is (is_mover_awake labels first) (is_mover_awake labels b) h).0
 
-up_second : (labels : Labels) (first : ℕ) (second : Option ℕ) → AreUp labels first second → (b : ℕ) → second ≡ Some b → is_awake labels b ≡ true
+up_second : (labels : Labels) (first : ℕ) (second : Option ℕ) → AreUp labels first second → (b : ℕ) → second ≡ Some b → is_mover_awake labels b ≡ true
 up_second labels first None h b e = cc
-up_second labels first (Some c) h b e = let same : c ≡ b = cc in subst (λ (n : ℕ). is_awake labels n ≡ true) same (and_is (is_awake labels first) (is_awake labels c) h).1
+up_second labels first (Some c) h b e = let same : c ≡ b = cc in subst (λ (n : ℕ). is_mover_awake labels n ≡ true) same (and_is (is_mover_awake labels first) (is_mover_awake labels c) h).1
 
-united_up : (labels : Labels) (first : ℕ) (second : Option ℕ) → IsPartition labels → AreUp labels first second → (k : ℕ) → is_awake (united second first labels) k ≡ is_awake labels k
+united_up : (labels : Labels) (first : ℕ) (second : Option ℕ) → IsPartition labels → AreUp labels first second → (k : ℕ) → is_mover_awake (united second first labels) k ≡ is_mover_awake labels k
 united_up labels first second p h k =
     united_awake labels first k second p (labelled_up (label_at labels first) (up_first labels first second h)) (λ b e. labelled_up (label_at labels b) (up_second labels first second h b e)) (up_first labels first second h) (up_second labels first second h)
 
@@ -112,7 +112,7 @@ united_partition labels first (Some b) p h =
 
 -- ---- an island that is awake gets loose
 
-loosened_alike_by : (labels : Labels) (first : ℕ) (o : Option Label) → label_at labels first ≡ o → ((k : ℕ) → is_awake (loosened_by o labels) k ≡ is_awake labels k) → SleepAlike labels (loosened_by o labels)
+loosened_alike_by : (labels : Labels) (first : ℕ) (o : Option Label) → label_at labels first ≡ o → ((k : ℕ) → is_mover_awake (loosened_by o labels) k ≡ is_mover_awake labels k) → SleepAlike labels (loosened_by o labels)
 loosened_alike_by labels first None e same k = refl
 loosened_alike_by labels first (Some l) e same k =
     elim (either_case l.name l.name (label_at labels k)) [
@@ -122,7 +122,7 @@ loosened_alike_by labels first (Some l) e same k =
       | inr q ↦ ap sleeping_name (others_stay l.name l.name (record { name = l.name; state = Loose }) labels k q)
     ]
 
-pub parted_alike : (labels : Labels) (first : ℕ) (second : Option ℕ) → IsPartition labels → is_awake labels first ≡ true → SleepAlike labels (parted second first labels)
+pub parted_alike : (labels : Labels) (first : ℕ) (second : Option ℕ) → IsPartition labels → is_mover_awake labels first ≡ true → SleepAlike labels (parted second first labels)
 unfolding loosened
 parted_alike labels first None p h = λ k. refl
 parted_alike labels first (Some b) p h = loosened_alike_by labels first (label_at labels first) refl (λ k. parted_awake labels first k (Some b) p h)

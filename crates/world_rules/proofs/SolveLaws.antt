@@ -28,7 +28,7 @@ use Rattle.world_core_base.specs.Solving.{solve_order}
 use Rattle.world_core_base.specs.SolvingArrays.{AreOther, AreThere, CanSolve, HasEnds, JointHasEnds}
 use Rattle.world_rules.specs.Sets.{acting_of}
 use Rattle.world_rules.specs.Sound.{HasBodies}
-use Rattle.world_rules.specs.World.{World, joints_of}
+use Rattle.world_rules.specs.World.{World, joints_in_slots}
 use Rattle.world_rules.proofs.SoundLaws.{IsKept}
 
 -- ---- none stands twice
@@ -135,14 +135,14 @@ ties_good bodies js contacts there = in_good bodies js.places (bonds_of js conta
 -- ---- the constraints that have a colour
 
 abbrev pub coloured : World → List (List (Member Constraint))
-coloured w = members_of w.plain.bodies (joints_of w.plain) w.plain.colours
+coloured w = members_of w.plain.bodies (joints_in_slots w.plain) w.plain.colours
 
 coloured_good : (w : World) → IsKept w → All (TieIsGood w.plain.bodies w.plain.joint_places) (all_members (coloured w))
 unfolding acting_of
 coloured_good w k i d lt =
     let m : Member Constraint = get_or (all_members (coloured w)) i d in
-    let tie : Contains (ties_of w.plain.bodies (joints_of w.plain) w.plain.contacts) m = ((k.settled.acting m).0 (Contains-get_or (all_members (coloured w)) i d lt)).0 in
-    All-contains (TieIsGood w.plain.bodies w.plain.joint_places) (ties_of w.plain.bodies (joints_of w.plain) w.plain.contacts) m (ties_good w.plain.bodies (joints_of w.plain) w.plain.contacts k.there) tie
+    let tie : Contains (ties_of w.plain.bodies (joints_in_slots w.plain) w.plain.contacts) m = ((k.settled.acting m).0 (Contains-get_or (all_members (coloured w)) i d lt)).0 in
+    All-contains (TieIsGood w.plain.bodies w.plain.joint_places) (ties_of w.plain.bodies (joints_in_slots w.plain) w.plain.contacts) m (ties_good w.plain.bodies (joints_in_slots w.plain) w.plain.contacts k.there) tie
 
 -- joints of different numbers are in different slots
 joints_apart : (places : List Place) (g h : Handle) → generation_in (slice_get places g.slot) ≡ Some g.generation → generation_in (slice_get places h.slot) ≡ Some h.generation → constraint_number (Joint g) ≢ constraint_number (Joint h) → g.slot ≢ h.slot

@@ -17,7 +17,7 @@ use Rattle.solver_sets.specs.Ties.{members_of}
 use Rattle.world_core_base.specs.ContactBodies.{AreContactsOf}
 use Rattle.world_rules.specs.Sets.{acting_of}
 use Rattle.world_rules.specs.Sound.{AreSmall, AreTimers, AreTold, HasBodies, IsSound}
-use Rattle.world_rules.specs.World.{World, book_of, joints_of}
+use Rattle.world_rules.specs.World.{World, book_of, joints_in_slots}
 use Rattle.world_rules.proofs.SlotLemmas.{body_at-in}
 
 -- the parts from which the others follow
@@ -40,7 +40,7 @@ pub record IsKept (w : World) : Type 0 where
   pub tied : AreTied w.plain.bodies w.plain.islands
   pub told : AreTold w.plain.bodies w.plain.islands
   pub labels : length w.plain.islands ≡ length w.plain.bodies
-  pub moved : ids_of (members_of w.plain.bodies (joints_of w.plain) w.plain.colours) ≡ w.plain.colours
+  pub moved : ids_of (members_of w.plain.bodies (joints_in_slots w.plain) w.plain.colours) ≡ w.plain.colours
   pub gravity : IsWithin (2 ^ 16) w.plain.gravity
   pub steps : w.plain.steps ≤ w.plain.calls
   pub calls : w.plain.calls ≤ 2 ^ 40

@@ -4,7 +4,7 @@ use Rattle.solver_sets.specs.Alike.{OnlyMoversSleep}
 use Rattle.solver_sets.proofs.EachOnceLaws as set_census_laws
 use Rattle.world_rules.specs.Laws.{EachStandsInOneSet}
 use Rattle.world_rules.specs.Sound.{IsSound}
-use Rattle.world_rules.specs.World.{World, joints_of}
+use Rattle.world_rules.specs.World.{World, joints_in_slots}
 use Rattle.world_rules.proofs.SlotLemmas.{body_at-in}
 
 census_lists_each_once : sets.CensusListsEachOnce
@@ -14,4 +14,4 @@ only_movers_sleep : (w : World) → IsSound w → OnlyMoversSleep w.plain.bodies
 only_movers_sleep w s slot b there still = (s.formed.bodies slot b (body_at-in w.plain.bodies slot b there)).asleep still
 
 pub each_stands_in_one_set : EachStandsInOneSet
-each_stands_in_one_set w s = census_lists_each_once w.plain.places w.plain.bodies (joints_of w.plain) w.plain.contacts s.formed.matched s.formed.joint_slots s.formed.contacts (only_movers_sleep w s)
+each_stands_in_one_set w s = census_lists_each_once w.plain.places w.plain.bodies (joints_in_slots w.plain) w.plain.contacts s.formed.matched s.formed.joint_slots s.formed.contacts (only_movers_sleep w s)

@@ -20,7 +20,7 @@ use Rattle.world_core_base.specs.Solving.{Solving, bodies_of}
 use Rattle.world_rules.specs.Apply.{bodies_ticked, rested_acting, step_solved, world_with}
 use Rattle.world_rules.specs.Sets.{acting_of}
 use Rattle.world_rules.specs.Sound.{AreTimers, HasBodies, IsSound}
-use Rattle.world_rules.specs.World.{World, joints_of}
+use Rattle.world_rules.specs.World.{World, joints_in_slots}
 use Rattle.world_rules.proofs.KeptStep.{IsTicked, collide_kept, collided_in, collided_world, step_solved_kept, turned_in}
 use Rattle.world_rules.proofs.LowerLaws.{few_begin, keys_can_turn}
 use Rattle.world_rules.proofs.PairLaws.{has_bodies_after}
@@ -41,7 +41,7 @@ can_turn w k rises =
     let count : begin_count (key_changes w.plain.bodies (collided_in w).begin (collided_in w).end) ≤ length (collided_in w).begin = few_begin w.plain.bodies (collided_in w).begin (collided_in w).end in
     let is = collide_kept w k rises in
     record {
-      changes = keys_can_turn w.plain.bodies (joints_of w.plain) w.plain.contacts (collided_in w).now w.plain.islands (record { matched = k.joint_slots; places = k.joint_places }) k.contacts rises
+      changes = keys_can_turn w.plain.bodies (joints_in_slots w.plain) w.plain.contacts (collided_in w).now w.plain.islands (record { matched = k.joint_slots; places = k.joint_places }) k.contacts rises
           (All-weaker (HasBodies w.plain.bodies) (λ (e : ContactEntry). IsNamed e.key) (λ e h. h.named) w.plain.contacts k.there)
           (All-weaker (HasBodies w.plain.bodies) (λ (e : ContactEntry). IsNamed e.key) (λ e h. h.named) (collided_in w).now now) k.tied;
       count = count;

@@ -32,7 +32,7 @@ use Rattle.plain_world.specs.Plain.{Plain}
 use Rattle.plain_world.specs.Sleep.{timed_bodies, told}
 use Rattle.plain_world.specs.InSlots.{HaveSameSlots}
 use Rattle.sleep_wake.specs.Acting.{Acting, IsSettled}
-use Rattle.sleep_wake.specs.Changes.{changed, turned}
+use Rattle.sleep_wake.specs.Changes.{after_change, turned}
 use Rattle.sleep_wake.specs.ChangeLists.{begin_count}
 use Rattle.sleep_wake.specs.declared.change.Change.{Change}
 use Rattle.sleep_wake.proofs.FoldLemmas.{count_next}
@@ -67,7 +67,7 @@ use Rattle.world_rules.proofs.TickedLaws.{timed_are_bodies}
 -- no more constraints than there were, and those that began
 turned_few : (changes : List (Change Constraint)) (s : Acting Constraint) (room : ℕ) → length s.ties + begin_count changes ≤ room → length (turned constraint_number changes s).ties ≤ room
 turned_few [] s room h = omega (arith, h)
-turned_few (c ∷ changes) s room h = turned_few changes (changed constraint_number c s) room (count_next constraint_number s room c changes h)
+turned_few (c ∷ changes) s room h = turned_few changes (after_change constraint_number c s) room (count_next constraint_number s room c changes h)
 
 pub few_act : (changes : List (Change Constraint)) (s : Acting Constraint) (room : ℕ) → IsSettled constraint_number (turned constraint_number changes s) → length s.ties + begin_count changes ≤ room → length (all_members (turned constraint_number changes s).lists) ≤ room
 few_act changes s room settled h =

@@ -11,19 +11,19 @@ use Rattle.islands.proofs.JoinLemmas.{contains_head}
 use Rattle.plain_world.specs.declared.body.Body.{Body}
 use Rattle.plain_world.specs.Plain.{Plain}
 use Rattle.plain_world.specs.Slots.{body_at}
-use Rattle.sleep_wake.specs.Acting.{are_awake, is_awake}
+use Rattle.sleep_wake.specs.Acting.{are_awake, is_mover_awake}
 use Rattle.sleep_wake.specs.ChangeLists.{CanEnd}
 use Rattle.solver_sets.specs.Beside.{neighbours, stirred_by, stirred_if}
 use Rattle.solver_sets.specs.Alike.{AreAlike, AreJointSlots}
 use Rattle.solver_sets.specs.Ties.{Bond, JointSlots, bonds_of, is_bond_of, is_enabled, is_enabled_in, is_mover_in, moves, tie_of, ties_at, ties_of}
 use Rattle.world_rules.specs.Sets.{acting_of, stirred}
-use Rattle.world_rules.specs.World.{World, joints_of}
+use Rattle.world_rules.specs.World.{World, joints_in_slots}
 use Rattle.world_rules.proofs.ActingLaws.{IsWoken, waking_kept}
 use Rattle.world_rules.proofs.LowerLaws.{no_ties_of_disabled, ties_at_are_ties, ties_have_labels, ties_of_a_mover, ties_of_no_mover}
 use Rattle.world_rules.proofs.AwakeLaws.{first_wakes, named_awake, one_wakes}
 use Rattle.world_rules.proofs.SoundLaws.{IsKept}
 
-pub joint_slots_of : (w : World) → IsKept w → AreJointSlots (joints_of w.plain)
+pub joint_slots_of : (w : World) → IsKept w → AreJointSlots (joints_in_slots w.plain)
 joint_slots_of w k = record { matched = k.joint_slots; places = k.joint_places }
 
 -- ---- bodies that are alike have the same ties
@@ -58,49 +58,49 @@ unfolding stirred_by
 stirred_others w slot h on = stirs_others (body_at w.bodies slot) slot (neighbours w.bodies w.joints w.contacts slot) h on
 
 -- a mover that is stirred is awake
-pub mover_up : (w : World) (slot : ℕ) → IsKept w → moves w.plain.bodies slot ≡ true → is_awake (stirred w.plain slot).islands slot ≡ true
+pub mover_up : (w : World) (slot : ℕ) → IsKept w → moves w.plain.bodies slot ≡ true → is_mover_awake (stirred w.plain slot).islands slot ≡ true
 mover_up w slot k h = named_awake w (stirred_by w.plain.bodies w.plain.joints w.plain.contacts slot) slot k
     (subst (λ (slots : List ℕ). Contains slots slot) (sym (stirred_itself w.plain slot h)) (contains_head slot [])) h
 
 -- the first mover of a tie is one
-first_moves : (w : World) (m : Member Constraint) → IsKept w → Contains (ties_of w.plain.bodies (joints_of w.plain) w.plain.contacts) m → moves w.plain.bodies m.movers.first ≡ true
-first_moves w m k h = let o = (ties_have_labels w.plain.bodies (joints_of w.plain) w.plain.contacts w.plain.islands m k.tied h).first in sym (k.tied m.movers.first) ∙ ap is_some o.1
+first_moves : (w : World) (m : Member Constraint) → IsKept w → Contains (ties_of w.plain.bodies (joints_in_slots w.plain) w.plain.contacts) m → moves w.plain.bodies m.movers.first ≡ true
+first_moves w m k h = let o = (ties_have_labels w.plain.bodies (joints_in_slots w.plain) w.plain.contacts w.plain.islands m k.tied h).first in sym (k.tied m.movers.first) ∙ ap is_some o.1
 
 -- ---- its ties can end
 
 -- the movers of each of its ties are awake
 tie_up : (w : World) (slot : ℕ) (m : Member Constraint) (t u : Bool) → IsKept w → moves w.plain.bodies slot ≡ t → is_enabled w.plain.bodies slot ≡ u
-    → Contains (ties_at slot (stirred w.plain slot).bodies (joints_of w.plain) w.plain.contacts) m → are_awake (stirred w.plain slot).islands m.movers ≡ true
+    → Contains (ties_at slot (stirred w.plain slot).bodies (joints_in_slots w.plain) w.plain.contacts) m → are_awake (stirred w.plain slot).islands m.movers ≡ true
 tie_up w slot m true u k e f h =
     let wk : IsWoken w (stirred_by w.plain.bodies w.plain.joints w.plain.contacts slot) = waking_kept w (stirred_by w.plain.bodies w.plain.joints w.plain.contacts slot) k in
     let v : World = record w { plain = stirred w.plain slot } in
-    one_wakes v m slot wk.kept ((ties_at_are_ties slot v.plain.bodies (joints_of v.plain) v.plain.contacts (joint_slots_of v wk.kept) wk.kept.contacts).there m h)
-    (ties_of_a_mover slot v.plain.bodies (joints_of v.plain) v.plain.contacts m (wk.alike.movers slot ∙ e) h) (mover_up w slot k e)
+    one_wakes v m slot wk.kept ((ties_at_are_ties slot v.plain.bodies (joints_in_slots v.plain) v.plain.contacts (joint_slots_of v wk.kept) wk.kept.contacts).there m h)
+    (ties_of_a_mover slot v.plain.bodies (joints_in_slots v.plain) v.plain.contacts m (wk.alike.movers slot ∙ e) h) (mover_up w slot k e)
 tie_up w slot m false true k e f h =
     let slots : List ℕ = stirred_by w.plain.bodies w.plain.joints w.plain.contacts slot in
     let wk : IsWoken w slots = waking_kept w slots k in
     let v : World = record w { plain = stirred w.plain slot } in
-    let before : Contains (ties_at slot w.plain.bodies (joints_of w.plain) w.plain.contacts) m =
-    subst (λ (ms : List (Member Constraint)). Contains ms m) (alike_at slot w.plain.bodies v.plain.bodies (joints_of w.plain) w.plain.contacts wk.alike) h in
-    let beside = (ties_of_no_mover slot w.plain.bodies (joints_of w.plain) w.plain.contacts m e before).1 in
-    let moving = first_moves w m k ((ties_at_are_ties slot w.plain.bodies (joints_of w.plain) w.plain.contacts (joint_slots_of w k) k.contacts).there m before) in
-    first_wakes v m wk.kept ((ties_at_are_ties slot v.plain.bodies (joints_of v.plain) v.plain.contacts (joint_slots_of v wk.kept) wk.kept.contacts).there m h)
+    let before : Contains (ties_at slot w.plain.bodies (joints_in_slots w.plain) w.plain.contacts) m =
+    subst (λ (ms : List (Member Constraint)). Contains ms m) (alike_at slot w.plain.bodies v.plain.bodies (joints_in_slots w.plain) w.plain.contacts wk.alike) h in
+    let beside = (ties_of_no_mover slot w.plain.bodies (joints_in_slots w.plain) w.plain.contacts m e before).1 in
+    let moving = first_moves w m k ((ties_at_are_ties slot w.plain.bodies (joints_in_slots w.plain) w.plain.contacts (joint_slots_of w k) k.contacts).there m before) in
+    first_wakes v m wk.kept ((ties_at_are_ties slot v.plain.bodies (joints_in_slots v.plain) v.plain.contacts (joint_slots_of v wk.kept) wk.kept.contacts).there m h)
     (named_awake w slots m.movers.first k (subst (λ (others : List ℕ). Contains others m.movers.first) (sym (stirred_others w.plain slot e f)) beside) moving)
 tie_up w slot m false false k e f h =
     let wk : IsWoken w (stirred_by w.plain.bodies w.plain.joints w.plain.contacts slot) = waking_kept w (stirred_by w.plain.bodies w.plain.joints w.plain.contacts slot) k in
-    let none : Contains [] m = subst (λ (ms : List (Member Constraint)). Contains ms m) (no_ties_of_disabled slot (stirred w.plain slot).bodies (joints_of w.plain) w.plain.contacts (wk.alike.enabled slot ∙ f)) h in
+    let none : Contains [] m = subst (λ (ms : List (Member Constraint)). Contains ms m) (no_ties_of_disabled slot (stirred w.plain slot).bodies (joints_in_slots w.plain) w.plain.contacts (wk.alike.enabled slot ∙ f)) h in
     none_in m none
   where
     none_in : (x : Member Constraint) → Contains [] x → are_awake (stirred w.plain slot).islands x.movers ≡ true
     none_in x q = absurd (omega (arith, q.1))
 
 -- the ties of a body can end, once it was stirred
-pub stirred_can_end : (w : World) (slot : ℕ) → IsKept w → CanEnd constraint_number (ties_at slot (stirred w.plain slot).bodies (joints_of w.plain) w.plain.contacts) (acting_of (stirred w.plain slot))
+pub stirred_can_end : (w : World) (slot : ℕ) → IsKept w → CanEnd constraint_number (ties_at slot (stirred w.plain slot).bodies (joints_in_slots w.plain) w.plain.contacts) (acting_of (stirred w.plain slot))
 unfolding acting_of
 stirred_can_end w slot k =
     let wk : IsWoken w (stirred_by w.plain.bodies w.plain.joints w.plain.contacts slot) = waking_kept w (stirred_by w.plain.bodies w.plain.joints w.plain.contacts slot) k in
     let v : World = record w { plain = stirred w.plain slot } in
-    let are = ties_at_are_ties slot v.plain.bodies (joints_of v.plain) v.plain.contacts (joint_slots_of v wk.kept) wk.kept.contacts in
+    let are = ties_at_are_ties slot v.plain.bodies (joints_in_slots v.plain) v.plain.contacts (joint_slots_of v wk.kept) wk.kept.contacts in
     record {
       rising = are.rising;
       there = are.there;

@@ -11,7 +11,7 @@ use Rattle.colour_solver.proofs.VectorLaws.{same_vector}
 use Rattle.plain_world.specs.declared.body.Body.{Body}
 use Rattle.plain_world.specs.Bodies.{AreBodies, IsAtRest, IsBody, is_awake, is_mover}
 use Rattle.plain_world.specs.Momentum.{momentum, momentum_in}
-use Rattle.plain_world.specs.Sleep.{put_to_rest, roused, told, told_body, told_by, told_from}
+use Rattle.plain_world.specs.Sleep.{body_at_rest, roused, told, told_body, told_by, told_from}
 use Rattle.plain_world.specs.Slots.{body_at, shapes_in}
 use Rattle.plain_world.specs.InSlots.{HaveSameSlots}
 use Rattle.solver_sets.specs.Tied.{AreTied}
@@ -184,10 +184,10 @@ NobodyFallsAsleep bodies labels = (slot : ℕ) (b : Body) → body_at bodies slo
 abbrev KeepsMomentum : Body → Body → Type 0
 KeepsMomentum b now = now.motion.p ≡ b.motion.p
 
-asleep_rests : (b : Body) (name : ℕ) → IsBody b → (is_awake b ≡ true → Some name ≡ None) → KeepsMomentum b (put_to_rest name b)
+asleep_rests : (b : Body) (name : ℕ) → IsBody b → (is_awake b ≡ true → Some name ≡ None) → KeepsMomentum b (body_at_rest name b)
 asleep_rests b name is h = by (is_awake b) refl
   where
-    by : (t : Bool) → is_awake b ≡ t → KeepsMomentum b (put_to_rest name b)
+    by : (t : Bool) → is_awake b ≡ t → KeepsMomentum b (body_at_rest name b)
     by true e = let no = h e in cc
     by false e = same_vector zero_vector b.motion.p (sym (is.rest e).x) (sym (is.rest e).y)
 
@@ -234,7 +234,7 @@ waking_momentum labels bodies all h = told_from_momentum 0 labels bodies all (fr
 no_vector : (v : Vec2) → v.x ≡ pos 0 → v.y ≡ pos 0 → ◌≡◌ {A = Vec2} (record { x = pos 0; y = pos 0 }) v
 no_vector v x y = λ j. record { x = sym x j; y = sym y j }
 
-rest_stays : (name : ℕ) (b : Body) → b.asleep ≡ Some name → IsAtRest b.motion → put_to_rest name b ≡ b
+rest_stays : (name : ℕ) (b : Body) → b.asleep ≡ Some name → IsAtRest b.motion → body_at_rest name b ≡ b
 rest_stays name b e rest = λ j. record b { motion = record b.motion { p = no_vector b.motion.p rest.x rest.y j; l = sym rest.l j }; asleep = sym e j }
 
 awake_not : (m : Bool) (a : Option ℕ) (name : ℕ) → a ≡ Some name → cond m (is_none a) false ≡ false
@@ -302,10 +302,10 @@ twice_up b = by (is_some b.asleep) refl
     by false e = λ j. cond (e j) (roused b) b
 
 -- one that is put to rest again and then woken was at rest
-roused_again : (name : ℕ) (b : Body) → IsBody b → is_mover b ≡ true → (is_awake b ≡ true → Some name ≡ None) → told_by None (put_to_rest name b) ≡ told_by None b
+roused_again : (name : ℕ) (b : Body) → IsBody b → is_mover b ≡ true → (is_awake b ≡ true → Some name ≡ None) → told_by None (body_at_rest name b) ≡ told_by None b
 roused_again name b is m h = by b.asleep refl
   where
-    by : (o : Option ℕ) → b.asleep ≡ o → roused (put_to_rest name b) ≡ cond (is_some o) (roused b) b
+    by : (o : Option ℕ) → b.asleep ≡ o → roused (body_at_rest name b) ≡ cond (is_some o) (roused b) b
     by None e = let no = h (awake_if (is_mover b) b.asleep m e) in cc
     by (Some n) e = let rest = is.rest (awake_not (is_mover b) b.asleep n e) in
         λ j. record b { motion = record b.motion { p = no_vector b.motion.p rest.x rest.y j; l = sym rest.l j }; asleep = None; timer = 0 }

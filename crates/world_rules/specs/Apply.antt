@@ -58,8 +58,8 @@ use Rattle.world_rules.specs.declared.command.Reply.{Reply}
 use Rattle.world_rules.specs.declared.command.Reply.TheVariants as replies
 use Rattle.world_rules.specs.Collide.{Collided, collided}
 use Rattle.world_rules.specs.Needs.{need, refused_unless}
-use Rattle.world_rules.specs.Sets.{acting_of, body_come, body_gone, stirred, with_acting, woken}
-use Rattle.world_rules.specs.World.{World, body_of, joints_of}
+use Rattle.world_rules.specs.Sets.{acting_of, body_come, body_gone, stirred, with_acting, with_woken}
+use Rattle.world_rules.specs.World.{World, body_named, joints_in_slots}
 
 -- what an accepted command leaves: the plain world, the reply, the ledger's new entries, and the events where it is a step
 pub record Applied : Type 0 where
@@ -121,7 +121,7 @@ without_body h joints w = record w {
 
 -- the body goes with its joints and its contacts
 abbrev pub body_destroyed : Handle → Bool → Plain → Plain
-body_destroyed h mover w = with_acting (body_gone h.slot mover w) (without_body h (unjoined_all h.slot (joints_of w)) w)
+body_destroyed h mover w = with_acting (body_gone h.slot mover w) (without_body h (unjoined_all h.slot (joints_in_slots w)) w)
 
 -- minus the momentum that leaves with a body
 abbrev pub departed : ℕ → Body → List Entry
@@ -140,7 +140,7 @@ destroy_due w h None = Err StaleHandle
 destroy_due w h (Some b) = Ok (destroyed w h b)
 
 abbrev pub apply_destroy : Plain → Handle → Result Applied Refusal
-apply_destroy w h = destroy_due w h (body_of w h)
+apply_destroy w h = destroy_due w h (body_named w h)
 
 -- ---- CreateJoint and DestroyJoint
 
@@ -159,12 +159,12 @@ join_refusal (Some a) (Some b) d =
 
 -- the joint comes, and begins
 abbrev pub joint_come : Handle → BodyJoint → Plain → Plain
-joint_come h j w = with_acting (begun_with (Joint h) (joint_movers w.bodies j) (acting_of w)) (with_joints (joined_with j (joints_of w)) w)
+joint_come h j w = with_acting (begun_with (Joint h) (joint_movers w.bodies j) (acting_of w)) (with_joints (joined_with j (joints_in_slots w)) w)
 
 -- the islands of both its ends wake first
 abbrev pub joined : Plain → JointDef → Handle → Applied
 joined w d h = record {
-  plain = counted (joint_come h (joint_made d) (woken w (d.a.slot ∷ d.b.slot ∷ [])));
+  plain = counted (joint_come h (joint_made d) (with_woken w (d.a.slot ∷ d.b.slot ∷ [])));
   reply = replies.Joint h;
   entries = [];
   events = None;
@@ -175,16 +175,16 @@ join_due w d (Some e) = Err e
 join_due w d None = need (nat_lt (lowest w.joint_places) MAX_SLOTS) TooMany (Ok (joined w d (handle_at w.joint_places (lowest w.joint_places))))
 
 abbrev pub apply_join : Plain → JointDef → Result Applied Refusal
-apply_join w d = join_due w d (join_refusal (body_of w d.a) (body_of w d.b) d)
+apply_join w d = join_due w d (join_refusal (body_named w d.a) (body_named w d.b) d)
 
 -- the joint ends, and goes
 abbrev pub joint_gone : Handle → BodyJoint → Plain → Plain
-joint_gone h j w = with_acting (ended_with (Joint h) (joint_movers w.bodies j) (acting_of w)) (with_joints (unjoined h (joints_of w)) w)
+joint_gone h j w = with_acting (ended_with (Joint h) (joint_movers w.bodies j) (acting_of w)) (with_joints (unjoined h (joints_in_slots w)) w)
 
 -- the islands of its movers wake first
 abbrev pub unjoin_due : Plain → Handle → Option BodyJoint → Result Applied Refusal
 unjoin_due w h None = Err StaleHandle
-unjoin_due w h (Some j) = Ok (quietly (joint_gone h j (woken w (j.a ∷ j.b ∷ []))))
+unjoin_due w h (Some j) = Ok (quietly (joint_gone h j (with_woken w (j.a ∷ j.b ∷ []))))
 
 abbrev pub apply_unjoin : Plain → Handle → Result Applied Refusal
 apply_unjoin w h = unjoin_due w h (joint_of w.joint_places w.joints h)
@@ -221,7 +221,7 @@ body_changed f slot w = record w { bodies = changed_at f w.bodies slot }
 abbrev pub push_due : Plain → Handle → Vec2 → Result Momenta Refusal → Result Applied Refusal
 push_due w h j (Err e) = Err e
 push_due w h j (Ok m) = Ok (record {
-  plain = counted (body_changed (put_momenta m) h.slot (woken w (h.slot ∷ [])));
+  plain = counted (body_changed (put_momenta m) h.slot (with_woken w (h.slot ∷ [])));
   reply = replies.Done;
   entries = booked (w.calls + 1) causes.Command j.x j.y;
   events = None;
@@ -229,13 +229,13 @@ push_due w h j (Ok m) = Ok (record {
 
 -- a push at the centre has the offset 0
 abbrev pub apply_push : Plain → Handle → Vec2 → Vec2 → Result Applied Refusal
-apply_push w h j r = push_due w h j (pushed (body_of w h) j r)
+apply_push w h j r = push_due w h j (pushed (body_named w h) j r)
 
 -- ---- SetPose and SetVelocity
 
 -- a command that changes one body and books nothing: those whom the change wakes wake first
-abbrev pub changed : Plain → Handle → (Body → Body) → Applied
-changed w h f = quietly (body_changed f h.slot (stirred w h.slot))
+abbrev pub with_body_changed : Plain → Handle → (Body → Body) → Applied
+with_body_changed w h f = quietly (body_changed f h.slot (stirred w h.slot))
 
 -- the pose that a body gets, or the first reason why it gets none
 abbrev pub posed : Option Body → Pose → Result Pose Refusal
@@ -247,10 +247,10 @@ posed (Some b) o =
 
 abbrev pub pose_due : Plain → Handle → Result Pose Refusal → Result Applied Refusal
 pose_due w h (Err e) = Err e
-pose_due w h (Ok o) = Ok (changed w h (put_pose o))
+pose_due w h (Ok o) = Ok (with_body_changed w h (put_pose o))
 
 abbrev pub apply_pose : Plain → Handle → Pose → Result Applied Refusal
-apply_pose w h o = pose_due w h (posed (body_of w h) o)
+apply_pose w h o = pose_due w h (posed (body_named w h) o)
 
 -- the course that a body gets, or the first reason why it gets none
 abbrev pub steered : Option Body → Course → Result Course Refusal
@@ -263,10 +263,10 @@ steered (Some b) course =
 
 abbrev pub course_due : Plain → Handle → Result Course Refusal → Result Applied Refusal
 course_due w h (Err e) = Err e
-course_due w h (Ok course) = Ok (changed w h (put_course course))
+course_due w h (Ok course) = Ok (with_body_changed w h (put_course course))
 
 abbrev pub apply_velocity : Plain → Handle → Course → Result Applied Refusal
-apply_velocity w h course = course_due w h (steered (body_of w h) course)
+apply_velocity w h course = course_due w h (steered (body_named w h) course)
 
 -- ---- SetGravity
 
@@ -300,7 +300,7 @@ disable_due w h None = Err StaleHandle
 disable_due w h (Some b) = need b.enabled BodyDisabled (Ok (disabled w h b))
 
 abbrev pub apply_disable : Plain → Handle → Result Applied Refusal
-apply_disable w h = disable_due w h (body_of w h)
+apply_disable w h = disable_due w h (body_named w h)
 
 -- the lists in which the body takes part again
 abbrev pub with_part : Handle → Plain → Plain
@@ -308,21 +308,21 @@ with_part h w = record w { bodies = changed_at enabled_body w.bodies h.slot }
 
 -- a mover has an island of its own, and the body's joints begin by slot
 abbrev pub taken_up : Handle → Body → Plain → Acting Constraint
-taken_up h b w = each_begun constraint_number (joint_ties_at h.slot (with_part h w).bodies (joints_of w)) (body_come h.slot b (acting_of w))
+taken_up h b w = each_begun constraint_number (joint_ties_at h.slot (with_part h w).bodies (joints_in_slots w)) (body_come h.slot b (acting_of w))
 
 abbrev pub body_enabled : Handle → Body → Plain → Plain
 body_enabled h b w = with_acting (taken_up h b w) (with_part h w)
 
 -- the movers at its joints wake first
 abbrev pub enabled : Plain → Handle → Body → Plain
-enabled w h b = cond b.enabled w (body_enabled h (enabled_body b) (woken w (joined_to w.bodies w.joints h.slot)))
+enabled w h b = cond b.enabled w (body_enabled h (enabled_body b) (with_woken w (joined_to w.bodies w.joints h.slot)))
 
 abbrev pub enable_due : Plain → Handle → Option Body → Result Applied Refusal
 enable_due w h None = Err StaleHandle
 enable_due w h (Some b) = Ok (quietly (enabled w h b))
 
 abbrev pub apply_enable : Plain → Handle → Result Applied Refusal
-apply_enable w h = enable_due w h (body_of w h)
+apply_enable w h = enable_due w h (body_named w h)
 
 -- ---- Wake and Sleep
 
@@ -336,10 +336,10 @@ mover_refusal (Some b) =
 
 abbrev pub wake_due : Plain → Handle → Option Refusal → Result Applied Refusal
 wake_due w h (Some e) = Err e
-wake_due w h None = Ok (quietly (woken w (h.slot ∷ [])))
+wake_due w h None = Ok (quietly (with_woken w (h.slot ∷ [])))
 
 abbrev pub apply_wake : Plain → Handle → Result Applied Refusal
-apply_wake w h = wake_due w h (mover_refusal (body_of w h))
+apply_wake w h = wake_due w h (mover_refusal (body_named w h))
 
 -- what the movers' momentum has gained between two lists of bodies
 abbrev pub gained : List (Option Body) → List (Option Body) → Vec2
@@ -363,7 +363,7 @@ sleep_due w h None = Ok (put_to_sleep w (slept_at constraint_number h.slot (acti
 
 -- the island is split if it is loose, and that of the body is put to rest; one that sleeps stays as it is
 abbrev pub apply_sleep : Plain → Handle → Result Applied Refusal
-apply_sleep w h = sleep_due w h (mover_refusal (body_of w h))
+apply_sleep w h = sleep_due w h (mover_refusal (body_named w h))
 
 -- ---- Step
 
@@ -396,16 +396,16 @@ step_entries call sums =
 
 -- who fell asleep in the sleep phase, and who woke in the collide
 abbrev pub events_of : Plain → Collided → Labels → Labels → EventLists
-events_of w c woken rested = record {
+events_of w c awake rested = record {
   begin = c.begin;
   end = c.end;
-  slept = asleep_only_in w.places woken rested;
-  woke = asleep_only_in w.places woken w.islands;
+  slept = asleep_only_in w.places awake rested;
+  woke = asleep_only_in w.places awake w.islands;
 }
 
 -- the bodies, joints and contacts that the ticks have left, and then the sleep phase
 abbrev pub stepped : Plain → ℕ → Collided → Acting Constraint → Solving → Acting Constraint → Applied
-stepped w n c woken s rested = record {
+stepped w n c awake s rested = record {
   plain = counted (record w {
     bodies = told rested.labels (bodies_ticked n s);
     joints = s.joints;
@@ -416,11 +416,11 @@ stepped w n c woken s rested = record {
   });
   reply = replies.Stepped (w.steps + 1);
   entries = step_entries (w.calls + 1) s.sums ++ rest_entries (w.calls + 1) rested.labels (bodies_ticked n s);
-  events = Some (events_of w c woken.labels rested.labels);
+  events = Some (events_of w c awake.labels rested.labels);
 }
 
 abbrev pub step_solved : Plain → ℕ → Collided → Acting Constraint → Solving → Applied
-step_solved w n c woken s = stepped w n c woken s (rested_acting (bodies_ticked n s) s.joints s.contacts woken)
+step_solved w n c awake s = stepped w n c awake s (rested_acting (bodies_ticked n s) s.joints s.contacts awake)
 
 -- first the collide, then the ticks, then the sleep phase
 abbrev pub step_done : Plain → ℕ → Collided → Applied

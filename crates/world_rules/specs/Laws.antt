@@ -23,24 +23,24 @@ use Rattle.world_rules.specs.declared.command.Command.TheVariants.{CreateBody, D
 use Rattle.world_rules.specs.Apply.{Applied, apply}
 use Rattle.world_rules.specs.Replay.{answers_to, replay}
 use Rattle.world_rules.specs.Sound.{IsSound}
-use Rattle.world_rules.specs.World.{World, joints_of}
+use Rattle.world_rules.specs.World.{World, joints_in_slots}
 
 -- the impulse that a command gives a body by itself: that of a push
-abbrev pub impulse_of : Command → Vec2
-impulse_of (CreateBody d) = record { x = pos 0; y = pos 0 }
-impulse_of (DestroyBody h) = record { x = pos 0; y = pos 0 }
-impulse_of (CreateJoint d) = record { x = pos 0; y = pos 0 }
-impulse_of (DestroyJoint h) = record { x = pos 0; y = pos 0 }
-impulse_of (Push h j) = j
-impulse_of (PushAt h j r) = j
-impulse_of (SetPose h o) = record { x = pos 0; y = pos 0 }
-impulse_of (SetVelocity h course) = record { x = pos 0; y = pos 0 }
-impulse_of (SetGravity g) = record { x = pos 0; y = pos 0 }
-impulse_of (Disable h) = record { x = pos 0; y = pos 0 }
-impulse_of (Enable h) = record { x = pos 0; y = pos 0 }
-impulse_of (Wake h) = record { x = pos 0; y = pos 0 }
-impulse_of (Sleep h) = record { x = pos 0; y = pos 0 }
-impulse_of (Step n) = record { x = pos 0; y = pos 0 }
+abbrev pub push_of : Command → Vec2
+push_of (CreateBody d) = record { x = pos 0; y = pos 0 }
+push_of (DestroyBody h) = record { x = pos 0; y = pos 0 }
+push_of (CreateJoint d) = record { x = pos 0; y = pos 0 }
+push_of (DestroyJoint h) = record { x = pos 0; y = pos 0 }
+push_of (Push h j) = j
+push_of (PushAt h j r) = j
+push_of (SetPose h o) = record { x = pos 0; y = pos 0 }
+push_of (SetVelocity h course) = record { x = pos 0; y = pos 0 }
+push_of (SetGravity g) = record { x = pos 0; y = pos 0 }
+push_of (Disable h) = record { x = pos 0; y = pos 0 }
+push_of (Enable h) = record { x = pos 0; y = pos 0 }
+push_of (Wake h) = record { x = pos 0; y = pos 0 }
+push_of (Sleep h) = record { x = pos 0; y = pos 0 }
+push_of (Step n) = record { x = pos 0; y = pos 0 }
 
 -- it counts one call more
 abbrev pub EachCallCounts : Type 0
@@ -48,17 +48,17 @@ EachCallCounts = (w : Plain) (c : Command) (a : Applied) → apply w c ≡ Ok a 
 
 -- its impulse is in its range
 abbrev pub PushesAreSmall : Type 0
-PushesAreSmall = (w : Plain) (c : Command) (a : Applied) → apply w c ≡ Ok a → IsWithin (2 ^ 40) (impulse_of c)
+PushesAreSmall = (w : Plain) (c : Command) (a : Applied) → apply w c ≡ Ok a → IsWithin (2 ^ 40) (push_of c)
 
 -- ---- what being sound means for those who touch, or are joined
 
 -- the constraints of a world: joints and touching contacts, whether their movers are awake or not
-abbrev pub ties_in : World → List (Member Constraint)
-ties_in w = ties_of w.plain.bodies (joints_of w.plain) w.plain.contacts
+abbrev pub ties_of_world : World → List (Member Constraint)
+ties_of_world w = ties_of w.plain.bodies (joints_in_slots w.plain) w.plain.contacts
 
 -- two movers between which a constraint is
 abbrev pub AreLinked : World → ℕ → ℕ → Type 0
-AreLinked w a b = Linked (links_of (ties_in w)) a b
+AreLinked w a b = Linked (links_of (ties_of_world w)) a b
 
 -- Linked movers stand together: both are awake, or both sleep in one set.
 abbrev pub LinkedMoversStandTogether : Type 0
@@ -78,7 +78,7 @@ SleepingSetsAreComponents = (w : World) (name slot other : ℕ) → IsSound w �
 
 -- the constraints that have a colour, with their movers, colour by colour, and last those in the overflow
 abbrev pub coloured_in : World → List (List (Member Constraint))
-coloured_in w = members_of w.plain.bodies (joints_of w.plain) w.plain.colours
+coloured_in w = members_of w.plain.bodies (joints_in_slots w.plain) w.plain.colours
 
 -- They are those that the world names, and no two of one colour share a mover.
 abbrev pub ColoursAreApart : Type 0
@@ -94,13 +94,13 @@ movers_awake bodies m = is_awake_in (body_at bodies m.first) && second_awake_in 
 
 -- What acts has a colour, and nothing else has: a constraint whose movers are awake.
 abbrev pub WhatActsHasAColour : Type 0
-WhatActsHasAColour = (w : World) (m : Member Constraint) → IsSound w → Contains (all_members (coloured_in w)) m ↔ (Contains (ties_in w) m × (movers_awake w.plain.bodies m.movers ≡ true))
+WhatActsHasAColour = (w : World) (m : Member Constraint) → IsSound w → Contains (all_members (coloured_in w)) m ↔ (Contains (ties_of_world w) m × (movers_awake w.plain.bodies m.movers ≡ true))
 
 -- ---- and for the census
 
 -- Each body, joint and contact stands in exactly one solver set, and the census of the world lists it there, once.
 abbrev pub EachStandsInOneSet : Type 0
-EachStandsInOneSet = (w : World) → IsSound w → ListsEachOnce w.plain.places w.plain.bodies (joints_of w.plain) w.plain.contacts (census_of w.plain.places w.plain.bodies (joints_of w.plain) w.plain.contacts)
+EachStandsInOneSet = (w : World) → IsSound w → ListsEachOnce w.plain.places w.plain.bodies (joints_in_slots w.plain) w.plain.contacts (census_of w.plain.places w.plain.bodies (joints_in_slots w.plain) w.plain.contacts)
 
 -- ---- and for worlds that were put away and taken up again
 

@@ -20,7 +20,7 @@ use Rattle.solver_sets.specs.Tied.{AreTied}
 use Rattle.islands.specs.Labels.{Labels, label_at, sleeping_name}
 use Rattle.world_core_base.specs.ContactBodies.{AreContactsOf}
 use Rattle.world_rules.specs.Sets.{acting_of}
-use Rattle.world_rules.specs.World.{World, book_of, joints_of}
+use Rattle.world_rules.specs.World.{World, book_of, joints_in_slots}
 
 -- no cause's total is beyond n
 pub record AreSmall (n : ℕ) (b : Book) : Type 0 where
@@ -82,7 +82,7 @@ pub record IsWellFormed (w : World) : Type 0 where
   pub pairs : AreContactsOf w.plain.bodies w.plain.contacts
   pub there : All (HasBodies w.plain.bodies) w.plain.contacts
   pub labels : length w.plain.islands ≡ length w.plain.bodies
-  pub moved : ids_of (members_of w.plain.bodies (joints_of w.plain) w.plain.colours) ≡ w.plain.colours
+  pub moved : ids_of (members_of w.plain.bodies (joints_in_slots w.plain) w.plain.colours) ≡ w.plain.colours
   pub causes : AreSmall (2 ^ 126 + w.plain.calls * 2 ^ 83) (book_of w)
   pub gravity : IsWithin (2 ^ 16) w.plain.gravity
   pub steps : w.plain.steps ≤ w.plain.calls

@@ -18,12 +18,12 @@ pub record World : Type 0 where
   pub events : EventLists
 
 -- the slots of its joints, and the joints in them
-abbrev pub joints_of : Plain → JointSlots
-joints_of w = record { places = w.joint_places; joints = w.joints }
+abbrev pub joints_in_slots : Plain → JointSlots
+joints_in_slots w = record { places = w.joint_places; joints = w.joints }
 
 -- the body that a handle names
-abbrev pub body_of : Plain → Handle → Option Body
-body_of w h = slots.body_of w.places w.bodies h
+abbrev pub body_named : Plain → Handle → Option Body
+body_named w h = slots.body_of w.places w.bodies h
 
 -- its ledger's book, of which no room is known
 abbrev pub book_of : World → Book

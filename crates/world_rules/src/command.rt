@@ -1,5 +1,5 @@
 ghost use Rattle.std.specs.Prelude.{◌≡◌};
-ghost use Rattle.world_rules.specs.Laws.{impulse_of};
+ghost use Rattle.world_rules.specs.Laws.{push_of};
 
 use body_handles::Handle;
 use fixed_geom::Vec2;
@@ -51,7 +51,7 @@ pub enum Command {
 impl Command {
     /// The impulse that it gives a body by itself, in mass·u/tick: that of a push.
     pub fn impulse(&self) -> Vec2
-        ensures { result ≡ impulse_of self.now }
+        ensures { result ≡ push_of self.now }
     {
         match self {
             Command::Push(_, by) => *by,

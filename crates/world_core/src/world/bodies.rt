@@ -4,7 +4,7 @@ ghost use Rattle.std.specs.Prelude.{◌≡◌, ◌<◌, ◌^◌, Ok, length};
 ghost use Rattle.std.specs.Option.{ForSome};
 ghost use Rattle.plain_world.specs.Slots.{body_at};
 ghost use Rattle.world_core.specs.Stirring.{MayChange};
-ghost use Rattle.world_rules.specs.Apply.{Answers, apply_create, apply_destroy, apply_push, apply_pose, apply_velocity, changed};
+ghost use Rattle.world_rules.specs.Apply.{Answers, apply_create, apply_destroy, apply_push, apply_pose, apply_velocity, with_body_changed};
 ghost use Rattle.world_rules.specs.Sets.{stirred};
 
 use super::WorldCore;
@@ -117,7 +117,7 @@ impl WorldCore {
         requires present { handle.slot < length self.old.plain.bodies }
         requires fits { ForSome (body_at (stirred self.old.plain handle.slot).bodies handle.slot) (C.fits change.now) }
         requires may { MayChange self.old handle (C.after change.now) }
-        ensures { Answers (Ok (changed self.old.plain handle (C.after change.now))) self.old result self.new }
+        ensures { Answers (Ok (with_body_changed self.old.plain handle (C.after change.now))) self.old result self.new }
     {
         let waking = self.plan_stir(handle.slot)?;
         wake_planned(&mut self.sets, &mut self.bodies, &waking);

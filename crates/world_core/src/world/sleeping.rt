@@ -2,12 +2,12 @@
 
 ghost use Rattle.std.specs.Prelude.{◌≡◌, ◌<◌, ◌^◌, false, IfOk};
 ghost use Rattle.std.specs.Result.{IsOkUnless};
-ghost use Rattle.sleep_wake.specs.Sleeping.{names_of};
+ghost use Rattle.sleep_wake.specs.Sleeping.{sleeping_names};
 ghost use Rattle.solver_sets.specs.Beside.{stirred_by};
 ghost use Rattle.solver_sets.specs.BesideByTies.{first_movers};
 ghost use Rattle.solver_sets.specs.Ties.{moves, ties_at};
 ghost use Rattle.world_core.specs.Waking.{HasIslands};
-ghost use Rattle.world_rules.specs.World.{joints_of};
+ghost use Rattle.world_rules.specs.World.{joints_in_slots};
 ghost use Rattle.world_rules.specs.Apply.{Answers, apply_wake, apply_sleep};
 
 use super::WorldCore;
@@ -27,7 +27,7 @@ use world_rules::Reply;
 impl WorldCore {
     /// Which islands wake with the movers in these slots. Refused 1 where memory is wanting.
     pub(super) fn plan_waking(&self, slots: &[u32]) -> Result<Waking, Refusal>
-        ensures names { IfOk result (λ waking. waking.names.items ≡ names_of self.now.plain.islands slots.now) }
+        ensures names { IfOk result (λ waking. waking.names.items ≡ sleeping_names self.now.plain.islands slots.now) }
         ensures movers { IfOk result (λ waking. HasIslands self.now.plain.islands waking.names.items waking.movers.items) }
         ensures memory_only { IsOkUnless result Refusal.NoMemory }
     {
@@ -36,7 +36,7 @@ impl WorldCore {
 
     /// Which islands wake when the body in a slot is changed. Refused 1 where memory is wanting.
     pub(super) fn plan_stir(&self, slot: u32) -> Result<Waking, Refusal>
-        ensures names { IfOk result (λ waking. waking.names.items ≡ names_of self.now.plain.islands (stirred_by self.now.plain.bodies self.now.plain.joints self.now.plain.contacts slot)) }
+        ensures names { IfOk result (λ waking. waking.names.items ≡ sleeping_names self.now.plain.islands (stirred_by self.now.plain.bodies self.now.plain.joints self.now.plain.contacts slot)) }
         ensures movers { IfOk result (λ waking. HasIslands self.now.plain.islands waking.names.items waking.movers.items) }
         ensures memory_only { IsOkUnless result Refusal.NoMemory }
     {
@@ -53,8 +53,8 @@ impl WorldCore {
         slot: u32,
         ties: &[Member<Constraint>],
     ) -> Result<Waking, Refusal>
-        requires { ties.now ≡ ties_at slot self.now.plain.bodies (joints_of self.now.plain) self.now.plain.contacts }
-        ensures names { IfOk result (λ waking. waking.names.items ≡ names_of self.now.plain.islands (stirred_by self.now.plain.bodies self.now.plain.joints self.now.plain.contacts slot)) }
+        requires { ties.now ≡ ties_at slot self.now.plain.bodies (joints_in_slots self.now.plain) self.now.plain.contacts }
+        ensures names { IfOk result (λ waking. waking.names.items ≡ sleeping_names self.now.plain.islands (stirred_by self.now.plain.bodies self.now.plain.joints self.now.plain.contacts slot)) }
         ensures movers { IfOk result (λ waking. HasIslands self.now.plain.islands waking.names.items waking.movers.items) }
         ensures memory_only { IsOkUnless result Refusal.NoMemory }
     {
@@ -67,7 +67,7 @@ impl WorldCore {
 
     /// The constraints of the body in a slot, ascending, which are at hand for a mover. Refused 1 where memory is wanting.
     pub(super) fn ties_at(&self, slot: u32) -> Result<Vec<Member<Constraint>>, Refusal>
-        ensures ties { IfOk result (λ ties. ties.items ≡ ties_at slot self.now.plain.bodies (joints_of self.now.plain) self.now.plain.contacts) }
+        ensures ties { IfOk result (λ ties. ties.items ≡ ties_at slot self.now.plain.bodies (joints_in_slots self.now.plain) self.now.plain.contacts) }
         ensures memory_only { IsOkUnless result Refusal.NoMemory }
     {
         if is_mover_at(self.bodies.bodies(), slot) {
@@ -80,7 +80,7 @@ impl WorldCore {
     /// The constraints of a body that is no mover: those of its joints, and the contacts of which it is the anchor. Refused 1 where memory is wanting.
     fn ties_beside(&self, slot: u32) -> Result<Vec<Member<Constraint>>, Refusal>
         requires { moves self.now.plain.bodies slot ≡ false }
-        ensures ties { IfOk result (λ ties. ties.items ≡ ties_at slot self.now.plain.bodies (joints_of self.now.plain) self.now.plain.contacts) }
+        ensures ties { IfOk result (λ ties. ties.items ≡ ties_at slot self.now.plain.bodies (joints_in_slots self.now.plain) self.now.plain.contacts) }
         ensures memory_only { IsOkUnless result Refusal.NoMemory }
     {
         let alloc = self.bodies.allocator();

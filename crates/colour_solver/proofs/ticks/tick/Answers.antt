@@ -1,5 +1,5 @@
 use Rattle.std.proofs.Common.{◌^◌, ◌∙◌, sym, subst, length, arith}
-use Rattle.momenta.specs.Motions.{pulled, clamped, advanced}
+use Rattle.momenta.specs.Motions.{pulled, speed_clamped, advanced}
 use Rattle.colour_solver.specs.States.{as_vector, total}
 use Rattle.colour_solver.specs.ColourRows.{all_rows}
 use Rattle.colour_solver.specs.Ticks.{tick}
@@ -23,11 +23,11 @@ pass_two-fallen-requires-clause-small g c = λ slot s e moves.
 
 pub pass-warm-requires-clause-states : goal.pass-warm-requires-clause-states
 pass-warm-requires-clause-states g c =
-    states_after (pulled c.args.gravity) clamped c.args.states.now.items _ c.pass_two-fallen.ensures.states c.requires.states (λ slot s e moves. (c.pass_two-fallen.ensures.gives slot s e moves).motion)
+    states_after (pulled c.args.gravity) speed_clamped c.args.states.now.items _ c.pass_two-fallen.ensures.states c.requires.states (λ slot s e moves. (c.pass_two-fallen.ensures.gives slot s e moves).motion)
 
 pub pass-warm-requires-clause-rows : goal.pass-warm-requires-clause-rows
 pass-warm-requires-clause-rows g c =
-    rows_as_long (length c.pass_two-fallen.new.states.items) (length c.args.states.now.items) (all_rows (g.P.Passes.rows c.args.rows.now)) (long_after (pulled c.args.gravity) clamped c.args.states.now.items c.pass_two-fallen.new.states.items c.pass_two-fallen.ensures.states) c.requires.rows
+    rows_as_long (length c.pass_two-fallen.new.states.items) (length c.args.states.now.items) (all_rows (g.P.Passes.rows c.args.rows.now)) (long_after (pulled c.args.gravity) speed_clamped c.args.states.now.items c.pass_two-fallen.new.states.items c.pass_two-fallen.ensures.states) c.requires.rows
 
 pub pass_two-moved-requires-clause-fits : goal.pass_two-moved-requires-clause-fits
 pass_two-moved-requires-clause-fits g c = λ slot s e moves.
@@ -67,11 +67,11 @@ returns-clause-tick g c =
 
 pub carry_along-requires-clause-states : goal.carry_along-requires-clause-states
 carry_along-requires-clause-states g c =
-    states_after clamped advanced c.pass-solved.new.states.items _ c.pass_two-moved.ensures.states c.pass-solved.ensures.all_states c.pass_two-moved.ensures.gives
+    states_after speed_clamped advanced c.pass-solved.new.states.items _ c.pass_two-moved.ensures.states c.pass-solved.ensures.all_states c.pass_two-moved.ensures.gives
 
 pub returns-clause-rows : goal.returns-clause-rows
 returns-clause-rows g c =
-    rows_as_long (length c.carry_along.new.states.items) (length c.pass-solved.new.states.items) (all_rows (g.P.Passes.rows c.pass-solved.new.self)) (carried_long c.pass_two-moved.new.states.items c.carry_along.new.states.items c.carry_along.ensures.value ∙ long_after clamped advanced c.pass-solved.new.states.items c.pass_two-moved.new.states.items c.pass_two-moved.ensures.states) c.pass-solved.ensures.all_rows
+    rows_as_long (length c.carry_along.new.states.items) (length c.pass-solved.new.states.items) (all_rows (g.P.Passes.rows c.pass-solved.new.self)) (carried_long c.pass_two-moved.new.states.items c.carry_along.new.states.items c.carry_along.ensures.value ∙ long_after speed_clamped advanced c.pass-solved.new.states.items c.pass_two-moved.new.states.items c.pass_two-moved.ensures.states) c.pass-solved.ensures.all_rows
 
 pub returns-clause-grown : goal.returns-clause-grown
 returns-clause-grown g c = λ n h.
@@ -102,9 +102,9 @@ returns-clause-momentum g c =
     rw (c.carry_along.ensures.value, total-carry moved.new.states.items, c.plus.ensures.x, c.plus.ensures.y, c.plus-3.ensures.x, c.plus-3.ensures.y, c.plus-2.ensures.x, c.plus-2.ensures.y, c.plus-6.ensures.x, c.plus-6.ensures.y, c.plus-5.ensures.x, c.plus-5.ensures.y, c.plus-4.ensures.x, c.plus-4.ensures.y)
     (tick_adds (total c.args.states.now.items) (total fallen.new.states.items) (total warm.new.states.items) (total solved.new.states.items) (total moved.new.states.items)
     (as_vector fallen.result.first) (as_vector fallen.result.second) (as_vector warm.result) (as_vector solved.result) (as_vector moved.result.first) (as_vector moved.result.second) (as_vector sums.gravity) (as_vector sums.immovable) (as_vector sums.clamp)
-    (total-after (pulled c.args.gravity) clamped c.args.states.now.items fallen.new.states.items (as_vector fallen.result.first) (as_vector fallen.result.second) fallen.ensures.states fallen.ensures.first fallen.ensures.second)
+    (total-after (pulled c.args.gravity) speed_clamped c.args.states.now.items fallen.new.states.items (as_vector fallen.result.first) (as_vector fallen.result.second) fallen.ensures.states fallen.ensures.first fallen.ensures.second)
     warm.ensures.momentum solved.ensures.momentum
-    (total-after clamped advanced solved.new.states.items moved.new.states.items (as_vector moved.result.first) (as_vector moved.result.second) moved.ensures.states moved.ensures.first moved.ensures.second))
+    (total-after speed_clamped advanced solved.new.states.items moved.new.states.items (as_vector moved.result.first) (as_vector moved.result.second) moved.ensures.states moved.ensures.first moved.ensures.second))
 
 pub carry_along-requires-clause-carried : goal.carry_along-requires-clause-carried
 carry_along-requires-clause-carried g c =

@@ -4,7 +4,7 @@ use Rattle.std.specs.Int.{w64}
 use mir.Val.{SFits}
 use Rattle.momenta.specs.declared.line_64.Exerted64.{Exerted64}
 use Rattle.momenta.specs.declared.state.Ends.{Ends}
-use Rattle.momenta.specs.Impulses.{solved}
+use Rattle.momenta.specs.Impulses.{solved_impulse}
 use Rattle.colour_solver_base.specs.declared.row.PointRow.{PointRow}
 use Rattle.colour_solver_base.specs.declared.solve.PointAfter.{PointAfter}
 use Rattle.momenta.specs.Line64.{ends_with}
@@ -62,7 +62,7 @@ returns-clause-value c =
     let value = rw (c.tangent_line.ensures, negative c.most_friction-most.result, limit) at (simp to_z-of_z at c.solve_line_64.ensures.value) in
     let p = with_impulses c.args.point.now c.args.after_normal.total c.args.point.now.tangent_impulse in
     let e = ends_with c.args.a.now c.args.b.now c.args.after_normal.now in
-    some_then (λ (r : Exerted64). solved (tangent_line p) (pos 0) (neg_ℤ (most_friction c.args.friction p.normal_impulse)) (most_friction c.args.friction p.normal_impulse) p.tangent_impulse e ≡ record { ends = ends_with c.args.a.now c.args.b.now r.now; total = r.total })
+    some_then (λ (r : Exerted64). solved_impulse (tangent_line p) (pos 0) (neg_ℤ (most_friction c.args.friction p.normal_impulse)) (most_friction c.args.friction p.normal_impulse) p.tangent_impulse e ≡ record { ends = ends_with c.args.a.now c.args.b.now r.now; total = r.total })
     (λ (r : Exerted64). tangent_solved c.args.friction p e ≡ record { point = with_impulses c.args.point.now c.args.after_normal.total r.total; ends = ends_with c.args.a.now c.args.b.now r.now })
     c.solve_line_64.result (λ r h. ap (with_tangent p) h) value
 

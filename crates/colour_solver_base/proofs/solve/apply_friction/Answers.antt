@@ -4,14 +4,14 @@ use Rattle.std.specs.Int.{w64}
 use mir.Val.{SFits}
 use Rattle.momenta.specs.declared.state.Ends.{Ends}
 use Rattle.momenta.specs.declared.line.Exerted.{Exerted}
-use Rattle.momenta.specs.Impulses.{solved}
+use Rattle.momenta.specs.Impulses.{solved_impulse}
 use Rattle.colour_solver_base.specs.declared.row.PointRow.{PointRow}
 use Rattle.colour_solver_base.specs.Rows.{tangent_line, with_tangent}
 use Rattle.colour_solver_base.specs.ContactSolving.{most_friction}
 use Rattle.colour_solver_base.proofs.solve.apply_friction.Goals as goal
 
 abbrev tangent_by : ℤ → PointRow → Ends → Exerted
-tangent_by friction p e = solved (tangent_line p) (pos 0) (neg_ℤ (most_friction friction p.normal_impulse)) (most_friction friction p.normal_impulse) p.tangent_impulse e
+tangent_by friction p e = solved_impulse (tangent_line p) (pos 0) (neg_ℤ (most_friction friction p.normal_impulse)) (most_friction friction p.normal_impulse) p.tangent_impulse e
 
 tangent_after : (p : PointRow) (t u : Exerted) → t ≡ u → record { point = record p { tangent_impulse = t.total }; ends = t.ends } ≡ with_tangent p u
 tangent_after p t u h = rw h refl

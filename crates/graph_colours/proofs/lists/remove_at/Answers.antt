@@ -2,7 +2,7 @@ use Rattle.std.proofs.Common.{◌≡◌, ℕ, ◌+◌, ◌<◌, false, List, len
 use Rattle.std.specs.Option.{is_some}
 use Rattle.graph_colours.specs.declared.limits.TheConstants.{COLOURS}
 use Rattle.graph_colours.specs.declared.member.Member.{Member}
-use Rattle.graph_colours.specs.Members.{has_id, without, movers_of}
+use Rattle.graph_colours.specs.Members.{has_id, without_member, movers_of}
 use Rattle.graph_colours.specs.Graph.{lists_of}
 use Rattle.graph_colours.specs.Marks.{AreMarks}
 use Rattle.graph_colours.specs.Edits.{Pended}
@@ -28,7 +28,7 @@ pub returns-then-not-has_mark-clause-lists : goal.returns-then-not-has_mark-clau
 returns-then-not-has_mark-clause-lists g c =
     let lists : List (List (Member g.row.C.Denot)) = lists_of c.args.lists.now.items in
     let off = not_set c.args.candidates c.args.place (sym c.has_mark.ensures ∙ c.if-not-has_mark.true) in
-    nothing_set lists c.args.place (without g.C.Id.number c.args.id (list_at lists c.args.place)) (without_same g.C.Id.number c.args.id (list_at lists c.args.place) (c.requires.candidate off))
+    nothing_set lists c.args.place (without_member g.C.Id.number c.args.id (list_at lists c.args.place)) (without_same g.C.Id.number c.args.id (list_at lists c.args.place) (c.requires.candidate off))
 
 pub returns-in_default-clause-value : goal.returns-in_default-clause-value
 returns-in_default-clause-value g c =
@@ -39,7 +39,7 @@ returns-in_default-clause-value g c =
     ap is_some c.in_default.ensures.value ∙ has_movers n c.args.id x.items ∙ ap (λ (ms : List (Member g.row.C.Denot)). has_id n c.args.id ms) at
 
 -- nothing was taken out
-same_items : {C : Type 0} (number : C → ℕ) (id : C) (x y : Pended C) → y.items ≡ without number id x.items → None ≡ movers_of number id x.items → y.items ≡ x.items
+same_items : {C : Type 0} (number : C → ℕ) (id : C) (x y : Pended C) → y.items ≡ without_member number id x.items → None ≡ movers_of number id x.items → y.items ≡ x.items
 same_items number id x y is none = is ∙ without_same number id x.items (sym (has_movers number id x.items) ∙ sym (ap is_some none))
 
 pub returns-in_default-clause-lists : goal.returns-in_default-clause-lists
@@ -48,7 +48,7 @@ returns-in_default-clause-lists g c =
     let ks = c.args.lists.now.items in
     let x = c.index_mut.result.now in
     let at : x.items ≡ list_at (lists_of ks) c.args.place = items_at ks c.args.place x c.requires.place c.index_mut.ensures.value in
-    items_set ks c.args.place c.remove.new.self (without n c.args.id (list_at (lists_of ks) c.args.place)) (c.remove.ensures.items ∙ ap (λ (ms : List (Member g.row.C.Denot)). without n c.args.id ms) at)
+    items_set ks c.args.place c.remove.new.self (without_member n c.args.id (list_at (lists_of ks) c.args.place)) (c.remove.ensures.items ∙ ap (λ (ms : List (Member g.row.C.Denot)). without_member n c.args.id ms) at)
 
 pub returns-in_default-clause-marks : goal.returns-in_default-clause-marks
 returns-in_default-clause-marks g c =
@@ -85,7 +85,7 @@ returns-clause-lists g c =
     let ks = c.args.lists.now.items in
     let x = c.index_mut.result.now in
     let at : x.items ≡ list_at (lists_of ks) c.args.place = items_at ks c.args.place x c.requires.place c.index_mut.ensures.value in
-    items_set ks c.args.place c.remove.new.self (without n c.args.id (list_at (lists_of ks) c.args.place)) (c.remove.ensures.items ∙ ap (λ (ms : List (Member g.row.C.Denot)). without n c.args.id ms) at)
+    items_set ks c.args.place c.remove.new.self (without_member n c.args.id (list_at (lists_of ks) c.args.place)) (c.remove.ensures.items ∙ ap (λ (ms : List (Member g.row.C.Denot)). without_member n c.args.id ms) at)
 
 pub returns-clause-marks : goal.returns-clause-marks
 returns-clause-marks g c =

@@ -2,7 +2,7 @@ use Rattle.std.proofs.Common.{◌≡◌, ℕ, ◌+◌, ◌<◌, ◌≤◌, false
 use Rattle.std.proofs.lemmas.Bool.{cases_eq}
 use Rattle.graph_colours.specs.declared.limits.TheConstants.{COLOURS}
 use Rattle.graph_colours.specs.declared.member.Member.{Member}
-use Rattle.graph_colours.specs.Members.{has_id, without}
+use Rattle.graph_colours.specs.Members.{has_id, without_member}
 use Rattle.graph_colours.specs.Graph.{lists_of}
 use Rattle.graph_colours.specs.Colours.{list_at, IsColouring}
 use Rattle.graph_colours.proofs.PlaceLemmas.{without_same}
@@ -51,7 +51,7 @@ loop-place-preserved g c =
     let Q : ℕ → Type 0 = λ k. has_id n c.args.id (list_at old k) ≡ false in
     let gone : Q place = subst P c.loop-place.invariant.lists here in
     record {
-      lists = c.remove_at.ensures.lists ∙ sym (nothing_set now place (without n c.args.id (list_at now place)) (without_same n c.args.id (list_at now place) here)) ∙ c.loop-place.invariant.lists;
+      lists = c.remove_at.ensures.lists ∙ sym (nothing_set now place (without_member n c.args.id (list_at now place)) (without_same n c.args.id (list_at now place) here)) ∙ c.loop-place.invariant.lists;
       marks = c.remove_at.ensures.marks;
       long = c.remove_at.ensures.long ∙ c.loop-place.invariant.long;
       kept = λ room each. c.remove_at.ensures.kept room (c.loop-place.invariant.kept room each);
@@ -77,7 +77,7 @@ returns-then-remove_at-clause-lists g c =
     let many : length c.args.lists.now.items ≡ COLOURS + 1 = lists_count n c.args.lists.now.items c.requires.colouring in
     let lt : place < length old = omega (arith, c.requires.colouring.count, many, c.loop-place-test.true, c.len-place-end.ensures, c.args.lists.now.ok.0) in
     let P : List (List (Member g.row.C.Denot)) → Type 0 = λ ls. has_id n c.args.id (list_at ls place) ≡ true in
-    let Q : List (List (Member g.row.C.Denot)) → Type 0 = λ ls. lists_of c.remove_at.new.lists.items ≡ slice_set ls place (without n c.args.id (list_at ls place)) in
+    let Q : List (List (Member g.row.C.Denot)) → Type 0 = λ ls. lists_of c.remove_at.new.lists.items ≡ slice_set ls place (without_member n c.args.id (list_at ls place)) in
     let has : P old = subst P c.loop-place.invariant.lists (sym c.remove_at.ensures.value ∙ c.if-remove_at.true) in
     subst Q c.loop-place.invariant.lists c.remove_at.ensures.lists ∙ first_loses n c.args.id old place lt c.loop-place.invariant.absent has (c.requires.colouring.once (n c.args.id))
 

@@ -2,7 +2,7 @@ use Rattle.std.proofs.Common.{◌≡◌, ◌∙◌, ap, ◌^◌, ◌≤◌, ◌�
 use Rattle.std.proofs.lemmas.Int.{to_z-of_z, ints}
 use Rattle.std.specs.Int.{w64}
 use mir.Val.{SFits}
-use Rattle.joint_rows.specs.Joints.{bias_of}
+use Rattle.joint_rows.specs.Joints.{joint_bias}
 use Rattle.joint_rows.specs.Rows.{joint_solved, stretch_now, with_exerted}
 use Rattle.joint_rows.proofs.solve.solve_joint.Goals as goal
 
@@ -19,7 +19,7 @@ returns-clause-value c =
     let bias : SFits w64 c.bias_of-bias.result = record { sfits = c.bias_of-bias.type_inv } in
     let impulse : SFits w64 c.args.row.now.impulse = search rules in
     let total : SFits w64 c.solve_line-row.result = record { sfits = c.solve_line-row.type_inv } in
-    let is : c.bias_of-bias.result ≡ bias_of (stretch_now c.args.row.now c.args.ends.now) = (simp to_z-of_z at c.bias_of-bias.ensures.value) ∙ ap bias_of c.stretch_between.ensures.value in
+    let is : c.bias_of-bias.result ≡ joint_bias (stretch_now c.args.row.now c.args.ends.now) = (simp to_z-of_z at c.bias_of-bias.ensures.value) ∙ ap joint_bias c.stretch_between.ensures.value in
     simp to_z-of_z (ap (with_exerted c.args.row.now) (rw is at (simp to_z-of_z at c.solve_line-row.ensures.value)))
 
 pub returns-clause-row : goal.returns-clause-row

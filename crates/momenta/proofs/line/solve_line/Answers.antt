@@ -2,7 +2,7 @@ use Rattle.std.proofs.Common.{◌≡◌, ◌⊎◌, ◌≤◌, ◌^◌, ℤ, ◌
 use Rattle.std.proofs.lemmas.Int.{to_z-of_z, ints}
 use Rattle.std.specs.Int.{w64, w128}
 use mir.Val.{SFits}
-use Rattle.momenta.specs.Impulses.{solved, speed_along}
+use Rattle.momenta.specs.Impulses.{solved_impulse, speed_along}
 use Rattle.momenta.proofs.line.solve_line.Goals as goal
 
 small_by : (low high total new r : ℤ) → (r ≡ new) ⊎ (r ≡ total) → low ≤ℤ new → new ≤ℤ high → unsigned_abs low ≤ 2 ^ 43 → unsigned_abs high ≤ 2 ^ 43 → unsigned_abs total ≤ 2 ^ 43 → unsigned_abs r ≤ 2 ^ 43
@@ -18,7 +18,7 @@ most_by high total new r (inl e) h k = rw e h
 most_by high total new r (inr e) h k = rw e k
 
 pub returns-clause-value : goal.returns-clause-value
-unfolding solved speed_along
+unfolding solved_impulse speed_along
 returns-clause-value c =
     let bias : SFits w64 c.args.goal.bias = search rules in
     let low : SFits w64 c.args.goal.low = search rules in

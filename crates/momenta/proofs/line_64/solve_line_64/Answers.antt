@@ -2,7 +2,7 @@ use Rattle.std.proofs.Common.{◌≡◌, ℕ, ◌≤◌, ◌^◌, ℤ, ◌≤ℤ
 use Rattle.std.proofs.lemmas.Int.{to_z-of_z, ints}
 use Rattle.std.specs.Int.{w64, w128}
 use mir.Val.{SFits}
-use Rattle.momenta.specs.Impulses.{solved, speed_along}
+use Rattle.momenta.specs.Impulses.{solved_impulse, speed_along}
 use Rattle.momenta.specs.declared.line_64.Exerted64.{Exerted64}
 use Rattle.momenta.proofs.Laws64.{some_then}
 use Rattle.momenta.proofs.line_64.solve_line_64.Goals as goal
@@ -24,7 +24,7 @@ exert_64-requires-clause-new c =
     simp to_z-of_z (inside c.args.goal.low c.args.goal.high c.in-Some.next (2 ^ 43) c.requires.low c.requires.high least most)
 
 pub returns-in-Some-clause-value : goal.returns-in-Some-clause-value
-unfolding solved speed_along
+unfolding solved_impulse speed_along
 returns-in-Some-clause-value c =
     let bias : SFits w64 c.args.goal.bias = search rules in
     let low : SFits w64 c.args.goal.low = search rules in

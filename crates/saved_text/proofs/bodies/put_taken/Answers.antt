@@ -1,5 +1,5 @@
 use Rattle.std.proofs.Common.{◌∷◌, [], Some, codes}
-use Rattle.world_file_base.specs.SavedBodies.{body_of}
+use Rattle.world_file_base.specs.SavedBodies.{body_data}
 use Rattle.world_file_base.specs.SavedSlots.{body_slot_of}
 use Rattle.world_file_base.specs.Written.{natural}
 use Rattle.saved_text.proofs.Adding.{member_added, members_then, object_added, wrote}
@@ -10,10 +10,10 @@ pub returns : goal.returns
 returns c =
     let place = c.args.place in
     let b = c.args.body.now in
-    let body = (codes "body", body_of b c.args.label) ∷ [] in
+    let body = (codes "body", body_data b c.args.label) ∷ [] in
     let generation = (codes "generation", natural place.generation) ∷ [] in
-    let named = member_added (codes "body") (body_of b c.args.label) _ _ _ (wrote _ _ _ _ c.in_ok-key.ensures) c.in_ok-put_body.ensures.text in
+    let named = member_added (codes "body") (body_data b c.args.label) _ _ _ (wrote _ _ _ _ c.in_ok-key.ensures) c.in_ok-put_body.ensures.text in
     record {
-      text = object_added ((codes "body", body_of b c.args.label) ∷ generation) (body_slot_of place (Some b) c.args.label) _ _ _ _ (body_slot_object place b c.args.label)
+      text = object_added ((codes "body", body_data b c.args.label) ∷ generation) (body_slot_of place (Some b) c.args.label) _ _ _ _ (body_slot_object place b c.args.label)
           (wrote _ _ _ _ c.in_ok-begin_object.ensures) (members_then body generation _ _ _ named c.in_ok-put_members.ensures.text) (wrote _ _ _ _ c.in_ok-end_object.ensures);
     }

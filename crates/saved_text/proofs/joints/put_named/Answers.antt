@@ -1,6 +1,6 @@
-use Rattle.world_file_base.specs.SavedJoints.{joint_of}
+use Rattle.world_file_base.specs.SavedJoints.{joint_data}
 use Rattle.saved_text.proofs.Objects.{joint_object}
 use Rattle.saved_text.proofs.joints.put_named.Goals as goal
 
 pub returns : goal.returns
-returns c = record { text = λ places first second. c.put_object.ensures.text (joint_of places c.args.joint.now c.args.colour) (joint_object places c.args.joint.now c.args.colour _ _ first second) }
+returns c = record { text = λ places first second. c.put_object.ensures.text (joint_data places c.args.joint.now c.args.colour) (joint_object places c.args.joint.now c.args.colour _ _ first second) }

@@ -1,5 +1,5 @@
 use Rattle.std.proofs.Common.{◌∷◌, [], Some, codes}
-use Rattle.world_file_base.specs.SavedJoints.{joint_of}
+use Rattle.world_file_base.specs.SavedJoints.{joint_data}
 use Rattle.world_file_base.specs.SavedSlots.{joint_slot_of}
 use Rattle.world_file_base.specs.Written.{natural}
 use Rattle.saved_text.proofs.Adding.{member_added, members_then, object_added, wrote}
@@ -11,9 +11,9 @@ returns c =
     let places = c.args.places.now in
     let place = c.args.place in
     let j = c.args.joint.now in
-    let joint = (codes "joint", joint_of places j c.args.colour) ∷ [] in
+    let joint = (codes "joint", joint_data places j c.args.colour) ∷ [] in
     let generation = (codes "generation", natural place.generation) ∷ [] in
-    let named = member_added (codes "joint") (joint_of places j c.args.colour) _ _ _ (wrote _ _ _ _ c.in_ok-key.ensures) c.in_ok-put_joint.ensures.text in
+    let named = member_added (codes "joint") (joint_data places j c.args.colour) _ _ _ (wrote _ _ _ _ c.in_ok-key.ensures) c.in_ok-put_joint.ensures.text in
     record {
       text = object_added ((codes "generation", natural place.generation) ∷ joint) (joint_slot_of places place (Some j) c.args.colour) _ _ _ _ (joint_slot_object places place j c.args.colour)
           (wrote _ _ _ _ c.in_ok-begin_object.ensures) (members_then generation joint _ _ _ c.in_ok-put_members.ensures.text named) (wrote _ _ _ _ c.in_ok-end_object.ensures);

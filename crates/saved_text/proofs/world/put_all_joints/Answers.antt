@@ -1,7 +1,7 @@
 use Rattle.std.proofs.Common.{codes, List, Option, ℕ, ap, nat_eq, subst, sym}
 use Rattle.std.specs.HashMap.{get}
 use Rattle.serde_json.specs.Data.{Data}
-use Rattle.world_file_base.specs.SavedSlots.{joints_of}
+use Rattle.world_file_base.specs.SavedSlots.{joints_data}
 use Rattle.world_file.specs.Files.{joint_colours}
 use Rattle.world_file.specs.Marked.{joint_colours_by}
 use Rattle.world_file.proofs.Numbered.{joints_numbered}
@@ -13,7 +13,7 @@ pub returns : goal.returns
 returns c =
     let p = c.args.plain.now in
     let of = get nat_eq c.args.by_number.now in
-    let coloured = ap (λ (cs : List (Option ℕ)). joints_of p.places p.joint_places p.joints cs) (joints_numbered of p.colours 0 p.joint_places c.requires.colours) in
-    let listed : AddsValue (joints_of p.places p.joint_places p.joints (joint_colours_by of 0 p.joint_places)) c.key.new.self c.put_joints.new.out =
+    let coloured = ap (λ (cs : List (Option ℕ)). joints_data p.places p.joint_places p.joints cs) (joints_numbered of p.colours 0 p.joint_places c.requires.colours) in
+    let listed : AddsValue (joints_data p.places p.joint_places p.joints (joint_colours_by of 0 p.joint_places)) c.key.new.self c.put_joints.new.out =
     rw (sym c.places.ensures, sym c.joint_places.ensures, sym c.joints.ensures) c.in_ok-put_joints.ensures.text in
-    record { text = member_added (codes "joints") (joints_of p.places p.joint_places p.joints (joint_colours p.colours 0 p.joint_places)) _ _ _ (wrote _ _ _ _ c.in_ok-key.ensures) (subst (λ (d : Data). AddsValue d c.key.new.self c.put_joints.new.out) coloured listed) }
+    record { text = member_added (codes "joints") (joints_data p.places p.joint_places p.joints (joint_colours p.colours 0 p.joint_places)) _ _ _ (wrote _ _ _ _ c.in_ok-key.ensures) (subst (λ (d : Data). AddsValue d c.key.new.self c.put_joints.new.out) coloured listed) }

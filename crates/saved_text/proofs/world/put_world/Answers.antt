@@ -1,7 +1,7 @@
 use Rattle.std.proofs.Common.{◌∷◌, [], ◌++◌, codes, sym}
-use Rattle.world_file_base.specs.SavedContacts.{contacts_of}
-use Rattle.world_file_base.specs.SavedSlots.{bodies_of, joints_of}
-use Rattle.world_file_base.specs.SavedTotals.{totals_of}
+use Rattle.world_file_base.specs.SavedContacts.{contacts_data}
+use Rattle.world_file_base.specs.SavedSlots.{bodies_data, joints_data}
+use Rattle.world_file_base.specs.SavedTotals.{totals_data}
 use Rattle.world_file_base.specs.Written.{natural, vector_of}
 use Rattle.world_file.specs.Files.{contact_colours, joint_colours, value_of, written_version}
 use Rattle.saved_text.specs.Tokens.{AddsMembers}
@@ -13,12 +13,12 @@ pub returns : goal.returns
 returns c =
     let p = c.args.plain.now in
     let t = c.args.totals.now in
-    let bodies = (codes "bodies", bodies_of p.places p.bodies p.islands) ∷ [] in
+    let bodies = (codes "bodies", bodies_data p.places p.bodies p.islands) ∷ [] in
     let calls = (codes "call", natural p.calls) ∷ [] in
-    let contacts = (codes "contacts", contacts_of p.contacts (contact_colours p.colours p.contacts)) ∷ [] in
+    let contacts = (codes "contacts", contacts_data p.contacts (contact_colours p.colours p.contacts)) ∷ [] in
     let gravity = (codes "gravity", vector_of p.gravity) ∷ [] in
-    let joints = (codes "joints", joints_of p.places p.joint_places p.joints (joint_colours p.colours 0 p.joint_places)) ∷ [] in
-    let ledger = (codes "ledger", totals_of t) ∷ [] in
+    let joints = (codes "joints", joints_data p.places p.joint_places p.joints (joint_colours p.colours 0 p.joint_places)) ∷ [] in
+    let ledger = (codes "ledger", totals_data t) ∷ [] in
     let last = (codes "step", natural p.steps) ∷ (codes "version", natural written_version) ∷ [] in
     let call : AddsMembers calls c.put_all_bodies.new.out c.put_members.new.out = rw (sym c.calls.ensures) c.in_ok-put_members.ensures.text in
     let pull : AddsMembers gravity c.put_all_contacts.new.out c.put_members-2.new.out = rw (sym c.gravity.ensures) c.in_ok-put_members-2.ensures.text in

@@ -5,7 +5,7 @@ use mir.Val.{SFits}
 use Rattle.fixed_geom.specs.Numbers.{rdiv}
 use Rattle.fixed_geom.specs.Vectors.{unit_length}
 use Rattle.fixed_geom.proofs.Sizes.{narrowed}
-use Rattle.shapes.specs.Cores.{clamped}
+use Rattle.shapes.specs.Cores.{part_clamped}
 use Rattle.shapes.proofs.CoreLemmas.{clamped_inside, rdiv_nonnegative}
 use Rattle.shapes.proofs.cores.inner_fraction.Goals as goal
 
@@ -32,7 +32,7 @@ pub returns-clause-value : goal.returns-clause-value
 returns-clause-value c =
     let q = quotient c in
     let inside = clamped_inside c.rdiv.result q.nonnegative q.small in
-    narrowed c.rdiv.result (omega (arith, q.small)) ∙ sym inside ∙ ap clamped q.value
+    narrowed c.rdiv.result (omega (arith, q.small)) ∙ sym inside ∙ ap part_clamped q.value
 
 pub returns-clause-within : goal.returns-clause-within
 returns-clause-within c = let q = quotient c in rw (narrowed c.rdiv.result (omega (arith, q.small))) q.small

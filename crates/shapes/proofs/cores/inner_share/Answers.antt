@@ -4,7 +4,7 @@ use Rattle.std.specs.Int.{w64}
 use mir.Val.{SFits}
 use Rattle.fixed_geom.specs.Numbers.{rdiv}
 use Rattle.fixed_geom.specs.Vectors.{unit_length}
-use Rattle.shapes.specs.Cores.{clamped}
+use Rattle.shapes.specs.Cores.{part_clamped}
 use Rattle.shapes.proofs.CoreLemmas.{clamped_inside, rdiv_nonnegative}
 use Rattle.shapes.proofs.cores.inner_share.Goals as goal
 
@@ -16,4 +16,4 @@ returns-clause-value c =
     let value : c.share.result ≡ rdiv (c.args.part *ℤ unit_length) c.args.whole = simp to_z-of_z at c.share.ensures.value in
     let small = c.share.ensures.within in
     let inside = clamped_inside c.share.result (rw value (rdiv_nonnegative (c.args.part *ℤ unit_length) c.args.whole (omega (arith, ints, c.requires.nonnegative)))) small in
-    simp to_z-of_z (sym inside ∙ ap clamped value)
+    simp to_z-of_z (sym inside ∙ ap part_clamped value)

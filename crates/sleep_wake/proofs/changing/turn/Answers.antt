@@ -1,7 +1,7 @@
 use Rattle.std.proofs.Common.{◌≡◌, ◌+◌, ◌<◌, ◌≤◌, ◌∷◌, [], drop, length, sym, ap, ◌∙◌, subst, arith}
 use Rattle.graph_colours.specs.Colours.{all_members}
 use Rattle.sleep_wake.specs.Acting.{Acting, acting, IsSettled}
-use Rattle.sleep_wake.specs.Changes.{turned, changed}
+use Rattle.sleep_wake.specs.Changes.{turned, after_change}
 use Rattle.sleep_wake.specs.ChangeLists.{AreChanges, IsChange, begin_count}
 use Rattle.sleep_wake.proofs.FoldLemmas.{Labelled, change_now, change_next, one_count, count_next, changed_labelled, first_is}
 use Rattle.sleep_wake.proofs.LengthLemmas.{turned_long}
@@ -63,7 +63,7 @@ loop-place-preserved g c =
     let lt : c.loop-place.place < length c.args.changes.now = omega (arith, c.loop-place-test.true, c.loop-place.auto.place-end) in
     let front : drop c.loop-place.place c.args.changes.now ≡ m ∷ rest = first_is c.args.changes.now c.loop-place.place m lt c.index-changes-place.is in
     let next : Acting g.row.C.Denot = acting c.change.new.ties.items c.change.new.islands.labels c.change.new.colours.lists in
-    let is : next ≡ changed n m now = c.change.ensures.changed in
+    let is : next ≡ after_change n m now = c.change.ensures.changed in
     let one : IsChange n now.labels now.ties m = change_now n old now.labels now.ties m rest c.loop-place.invariant.labelled (rw front at c.loop-place.invariant.can) in
     let can = change_next n old now m rest (rw front at c.loop-place.invariant.can) in
     let left : turned n (m ∷ rest) now ≡ turned n c.args.changes.now (acting c.args.ties.now.items old c.args.colours.now.lists) = rw front at c.loop-place.invariant.rest in

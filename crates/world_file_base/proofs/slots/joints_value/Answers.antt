@@ -1,11 +1,11 @@
 use Rattle.std.proofs.Common.{map, ap, ◌∙◌, arith}
 use Rattle.serde_json.specs.View.{view}
-use Rattle.world_file_base.specs.Written.{list_of}
+use Rattle.world_file_base.specs.Written.{list_data}
 use Rattle.world_file_base.proofs.Listed.{joints_written}
 use Rattle.world_file_base.proofs.slots.joints_value.Goals as goal
 
 pub returns : goal.returns
 returns c =
     c.array_value.ensures
-    ∙ ap list_of (joints_written (map view c.loop-slot.items.items) c.args.places.now c.args.joint_places.now c.args.joints.now c.args.colours.now c.lesser.result c.lesser-slot-end.result c.loop-slot.slot
+    ∙ ap list_data (joints_written (map view c.loop-slot.items.items) c.args.places.now c.args.joint_places.now c.args.joints.now c.args.colours.now c.lesser.result c.lesser-slot-end.result c.loop-slot.slot
     c.lesser.ensures.one c.lesser-slot-end.ensures.one (omega arith) c.loop-slot.invariant)

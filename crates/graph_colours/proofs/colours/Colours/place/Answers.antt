@@ -3,7 +3,7 @@ use Rattle.std.proofs.lemmas.Bool.{false≢true}
 use Rattle.graph_colours.specs.declared.limits.TheConstants.{COLOURS}
 use Rattle.graph_colours.specs.declared.member.Member.{Member}
 use Rattle.graph_colours.specs.Graph.{lists_of}
-use Rattle.graph_colours.specs.Colours.{all_members, placed, IsColouring}
+use Rattle.graph_colours.specs.Colours.{all_members, with_placed, IsColouring}
 use Rattle.graph_colours.proofs.ColouringLemmas.{placed_own, placed_others, placed_members}
 use Rattle.graph_colours.proofs.SizeLemmas.{placed_size}
 use Rattle.graph_colours.proofs.colours.Colours.place.Goals as goal
@@ -48,6 +48,6 @@ returns-clause-total g c =
     let a = c.self.inside in
     let m : Member g.row.C.Denot = record { id = c.args.id; movers = c.args.movers } in
     let is = c.place_in-colour.ensures.lists in
-    let more : length (all_members (placed g.C.Id.number m (lists_of a.lists.items))) ≡ length (all_members (lists_of a.lists.items)) + 1 = placed_size g.C.Id.number m (lists_of a.lists.items) c.self.invariant.graph.colouring in
+    let more : length (all_members (with_placed g.C.Id.number m (lists_of a.lists.items))) ≡ length (all_members (lists_of a.lists.items)) + 1 = placed_size g.C.Id.number m (lists_of a.lists.items) c.self.invariant.graph.colouring in
     let one = rw (← c.self.view_is) at c.requires.room in
     rw (← c.self.view_is, is) (omega (arith, more, one))

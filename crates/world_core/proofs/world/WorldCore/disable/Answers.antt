@@ -1,6 +1,6 @@
 use Rattle.std.proofs.Common.{◌≡◌, ◌∙◌, ◌<◌, ◌^◌, Some, sym, ap, arith, refl}
 use Rattle.contacts_base.specs.Contacts.{contacts_without}
-use Rattle.world_rules.specs.World.{World, body_of}
+use Rattle.world_rules.specs.World.{World, body_named}
 use Rattle.world_rules.proofs.BookLemmas.{Fits-roomy}
 use Rattle.world_rules.proofs.KeptChanges.{IsRoomy-kept, IsRoomy-same, named_at}
 use Rattle.world_core.specs.contracts.world.WorldCore.{the_view}
@@ -20,7 +20,7 @@ wake_planned-requires-clause-movers c = rw (← c.self.view_is) at c.in_ok-wakin
 pub wake_planned-requires-clause-told : goal.wake_planned-requires-clause-told
 wake_planned-requires-clause-told c = (told_whole (the_view c.self.inside) _ c.self.invariant.whole)
 
-named : (c : goal.After-deref-2) → body_of (the_view c.self.inside).plain c.args.handle ≡ Some c.in-Some.body.now
+named : (c : goal.After-deref-2) → body_named (the_view c.self.inside).plain c.args.handle ≡ Some c.in-Some.body.now
 named c = rw (← c.bodies.ensures) (sym c.in-Some.ensures)
 
 going : (c : goal.After-deref-2) → IsGoing (the_view c.self.inside) c.self.inside.sets.acting c.wake_planned.new.sets.acting c.args.handle c.in-Some.body.now c.is_mover-mover.result c.deref-2.result.now
@@ -48,7 +48,7 @@ book-requires-clause-fits c =
 pub invariant_of-self-2 : goal.invariant_of-self-2
 invariant_of-self-2 c =
     let w : World = the_view c.self.inside in
-    let named : body_of w.plain c.args.handle ≡ Some c.in-Some.body.now = rw (← c.bodies.ensures) (sym c.in-Some.ensures) in
+    let named : body_named w.plain c.args.handle ≡ Some c.in-Some.body.now = rw (← c.bodies.ensures) (sym c.in-Some.ensures) in
     let going : IsGoing w c.self.inside.sets.acting c.wake_planned.new.sets.acting c.args.handle c.in-Some.body.now c.is_mover-mover.result c.deref-2.result.now =
     is_going w c.self.inside.sets.acting _ c.args.handle c.in-Some.body.now _ _ c.in_ok-waking.waking.names.items c.self.invariant.whole named c.is_mover-mover.ensures (c.deref-2.ensures.value ∙ rw (← c.self.view_is) at c.in_ok-ties.ensures.ties) (rw (← c.self.view_is) at c.in_ok-waking.ensures.names) c.wake_planned.ensures.acting in
     let calls : c.self.inside.calls < 2 ^ 40 = rw (← c.self.view_is) at c.requires in
@@ -62,7 +62,7 @@ invariant_of-self-2 c =
 pub returns : goal.returns
 returns c =
     let w : World = the_view c.self.inside in
-    let named : body_of w.plain c.args.handle ≡ Some c.in-Some.body.now = rw (← c.bodies.ensures) (sym c.in-Some.ensures) in
+    let named : body_named w.plain c.args.handle ≡ Some c.in-Some.body.now = rw (← c.bodies.ensures) (sym c.in-Some.ensures) in
     let going : IsGoing w c.self.inside.sets.acting c.wake_planned.new.sets.acting c.args.handle c.in-Some.body.now c.is_mover-mover.result c.deref-2.result.now =
     is_going w c.self.inside.sets.acting _ c.args.handle c.in-Some.body.now _ _ c.in_ok-waking.waking.names.items c.self.invariant.whole named c.is_mover-mover.ensures (c.deref-2.ensures.value ∙ rw (← c.self.view_is) at c.in_ok-ties.ensures.ties) (rw (← c.self.view_is) at c.in_ok-waking.ensures.names) c.wake_planned.ensures.acting in
     let calls : c.self.inside.calls < 2 ^ 40 = rw (← c.self.view_is) at c.requires in

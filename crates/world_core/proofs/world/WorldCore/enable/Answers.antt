@@ -1,5 +1,5 @@
 use Rattle.std.proofs.Common.{◌≡◌, ◌∙◌, ◌<◌, ◌^◌, Some, sym, arith, refl}
-use Rattle.world_rules.specs.World.{World, body_of}
+use Rattle.world_rules.specs.World.{World, body_named}
 use Rattle.world_rules.proofs.KeptMade.{come_ties}
 use Rattle.world_rules.proofs.PartsLeft.{enable_left, enabled_left}
 use Rattle.world_rules.proofs.ToldLaws.{length_told}
@@ -28,27 +28,27 @@ invariant_of-self c =
 pub enable-requires-clause-slot : goal.enable-requires-clause-slot
 enable-requires-clause-slot c =
     let w : World = the_view c.self.inside in
-    let named : body_of w.plain c.args.handle ≡ Some c.in-Some.body.now = rw (← c.bodies.ensures) (sym c.in-Some.ensures) in
+    let named : body_named w.plain c.args.handle ≡ Some c.in-Some.body.now = rw (← c.bodies.ensures) (sym c.in-Some.ensures) in
     rw (c.wake_planned.ensures.told, length_told c.wake_planned.new.sets.acting.labels c.self.inside.bodies.bodies) (body_below w c.args.handle c.in-Some.body.now named)
 
 pub enable-requires-clause-disabled : goal.enable-requires-clause-disabled
 enable-requires-clause-disabled c =
     let w : World = the_view c.self.inside in
-    let named : body_of w.plain c.args.handle ≡ Some c.in-Some.body.now = rw (← c.bodies.ensures) (sym c.in-Some.ensures) in
+    let named : body_named w.plain c.args.handle ≡ Some c.in-Some.body.now = rw (← c.bodies.ensures) (sym c.in-Some.ensures) in
     rw (c.wake_planned.ensures.told, c.wake_planned.ensures.acting, c.in_ok-reserve.ensures.acting, (rw (← c.self.view_is) at c.in_ok-waking.ensures.names), c.deref-2.ensures.value, c.in_ok-joined.ensures.slots, c.bodies-2.ensures, c.joints.ensures)
     (can_enable_from w c.self.inside.sets.acting c.args.handle c.in-Some.body.now c.self.invariant.whole named c.if-body.false).off
 
 pub come-requires-clause-fresh : goal.come-requires-clause-fresh
 come-requires-clause-fresh c =
     let w : World = the_view c.self.inside in
-    let named : body_of w.plain c.args.handle ≡ Some c.in-Some.body.now = rw (← c.bodies.ensures) (sym c.in-Some.ensures) in
+    let named : body_named w.plain c.args.handle ≡ Some c.in-Some.body.now = rw (← c.bodies.ensures) (sym c.in-Some.ensures) in
     rw (c.wake_planned.ensures.acting, c.in_ok-reserve.ensures.acting, (rw (← c.self.view_is) at c.in_ok-waking.ensures.names), c.deref-2.ensures.value, c.in_ok-joined.ensures.slots, c.bodies-2.ensures, c.joints.ensures)
     (can_enable_from w c.self.inside.sets.acting c.args.handle c.in-Some.body.now c.self.invariant.whole named c.if-body.false).fresh
 
 pub come-requires-clause-below : goal.come-requires-clause-below
 come-requires-clause-below c =
     let w : World = the_view c.self.inside in
-    let named : body_of w.plain c.args.handle ≡ Some c.in-Some.body.now = rw (← c.bodies.ensures) (sym c.in-Some.ensures) in
+    let named : body_named w.plain c.args.handle ≡ Some c.in-Some.body.now = rw (← c.bodies.ensures) (sym c.in-Some.ensures) in
     let below = body_below w c.args.handle c.in-Some.body.now named in
     let made = rw c.bodies-3.ensures at c.in_ok-reserve.ensures.slots_made in
     rw c.wake_planned.ensures.slots (omega (arith, below, made))
@@ -56,7 +56,7 @@ come-requires-clause-below c =
 pub begin_each-requires-clause-can : goal.begin_each-requires-clause-can
 begin_each-requires-clause-can c =
     let w : World = the_view c.self.inside in
-    let named : body_of w.plain c.args.handle ≡ Some c.in-Some.body.now = rw (← c.bodies.ensures) (sym c.in-Some.ensures) in
+    let named : body_named w.plain c.args.handle ≡ Some c.in-Some.body.now = rw (← c.bodies.ensures) (sym c.in-Some.ensures) in
     rw (c.deref-4.ensures.value, c.fill_joint_ties.ensures.ties, c.bodies-4.ensures, c.places.ensures, c.joints-2.ensures, c.enable.ensures.bodies, c.come.ensures.acting, c.is_dynamic-mover.ensures, c.wake_planned.ensures.told, c.wake_planned.ensures.acting, c.in_ok-reserve.ensures.acting, (rw (← c.self.view_is) at c.in_ok-waking.ensures.names), c.deref-2.ensures.value, c.in_ok-joined.ensures.slots, c.bodies-2.ensures, c.joints.ensures)
     (can_enable_from w c.self.inside.sets.acting c.args.handle c.in-Some.body.now c.self.invariant.whole named c.if-body.false).can
 
@@ -70,7 +70,7 @@ begin_each-requires-clause-room c =
 pub invariant_of-self-2 : goal.invariant_of-self-2
 invariant_of-self-2 c =
     let w : World = the_view c.self.inside in
-    let named : body_of w.plain c.args.handle ≡ Some c.in-Some.body.now = rw (← c.bodies.ensures) (sym c.in-Some.ensures) in
+    let named : body_named w.plain c.args.handle ≡ Some c.in-Some.body.now = rw (← c.bodies.ensures) (sym c.in-Some.ensures) in
     let calls : c.self.inside.calls < 2 ^ 40 = rw (← c.self.view_is) at c.requires in
     core_bodies (the_view c.self.inside) _ _ _ c.self.inside.bodies c.enable.new.self c.self.invariant
     (rw (c.begin_each.ensures.acting, c.deref-4.ensures.value, c.fill_joint_ties.ensures.ties, c.bodies-4.ensures, c.places.ensures, c.joints-2.ensures, c.enable.ensures.bodies, c.come.ensures.acting, c.is_dynamic-mover.ensures, c.wake_planned.ensures.told, c.wake_planned.ensures.acting, c.in_ok-reserve.ensures.acting, (rw (← c.self.view_is) at c.in_ok-waking.ensures.names), c.deref-2.ensures.value, c.in_ok-joined.ensures.slots, c.bodies-2.ensures, c.joints.ensures)
@@ -84,7 +84,7 @@ invariant_of-self-2 c =
 pub returns : goal.returns
 returns c =
     let w : World = the_view c.self.inside in
-    let named : body_of w.plain c.args.handle ≡ Some c.in-Some.body.now = rw (← c.bodies.ensures) (sym c.in-Some.ensures) in
+    let named : body_named w.plain c.args.handle ≡ Some c.in-Some.body.now = rw (← c.bodies.ensures) (sym c.in-Some.ensures) in
     let calls : c.self.inside.calls < 2 ^ 40 = rw (← c.self.view_is) at c.requires in
     rw (← c.self.view_is)
     (enable_answers w c.args.handle c.in-Some.body.now _ c.begin_each.new.self.acting named

@@ -1,5 +1,5 @@
 use Rattle.std.proofs.Common.{◌≡◌, ◌∙◌, ℕ, true, List, sym, subst, IfOk}
-use Rattle.sleep_wake.specs.Sleeping.{names_of}
+use Rattle.sleep_wake.specs.Sleeping.{sleeping_names}
 use Rattle.solver_sets.specs.Ties.{moves}
 use Rattle.world_core.proofs.AnchoredLaws.{mover_stirs}
 use Rattle.world_core.proofs.world.WorldCore.plan_stir.Goals as goal
@@ -8,4 +8,4 @@ pub returns-then-is_mover_at-clause-names : goal.returns-then-is_mover_at-clause
 returns-then-is_mover_at-clause-names c =
     let on : moves c.self.inside.bodies.bodies c.args.slot ≡ true = rw c.bodies.ensures at (sym c.is_mover_at.ensures ∙ c.if-is_mover_at.true) in
     rw (← c.self.view_is)
-    (subst (λ (slots : List ℕ). IfOk c.plan_waking.result (λ waking. waking.names.items ≡ names_of c.self.inside.sets.acting.labels slots)) (mover_stirs c.self.inside.bodies.bodies c.self.inside.joints.joints c.self.inside.contacts.contacts c.args.slot on) (rw (← c.self.view_is) at c.plan_waking.ensures.names))
+    (subst (λ (slots : List ℕ). IfOk c.plan_waking.result (λ waking. waking.names.items ≡ sleeping_names c.self.inside.sets.acting.labels slots)) (mover_stirs c.self.inside.bodies.bodies c.self.inside.joints.joints c.self.inside.contacts.contacts c.args.slot on) (rw (← c.self.view_is) at c.plan_waking.ensures.names))

@@ -3,7 +3,7 @@ use Rattle.std.specs.Prelude.{slice_index_or, slice_set}
 use Rattle.seat_book.specs.History.{IsPast, entry, known}
 use Rattle.world_rules.specs.World.{World}
 use Rattle.world_rules.specs.Replay.{after}
-use Rattle.world_rules.specs.Laws.{impulse_of}
+use Rattle.world_rules.specs.Laws.{push_of}
 use Rattle.world_lock.specs.Journals.{Line, line}
 use Rattle.world_lock.specs.Tallies.{no_calls, with_call}
 use Rattle.world_lock.specs.Histories.{IsHeld, Known, next_number, standing, with_line}
@@ -50,7 +50,7 @@ made : (g : given.Over) (c : goal.After-enter g)
     → standing c.call.new.self c.self.inside.settled c.count_call.new.tallies.items c.self.inside.settled_tallies.items c.enter.new.keeper
     ≡ with_line (standing c.self.inside.journalled c.self.inside.settled c.self.inside.tallies.items c.self.inside.settled_tallies.items c.self.inside.keeper) (line c.number.result (c.calls_in.result + 1) c.args.command c.in-Ok.reply)
 made g c =
-    let tallies : c.count_call.new.tallies.items ≡ slice_set c.self.inside.tallies.items c.number.result (with_call (slice_index_or c.self.inside.tallies.items c.number.result no_calls) (impulse_of c.args.command)) =
+    let tallies : c.count_call.new.tallies.items ≡ slice_set c.self.inside.tallies.items c.number.result (with_call (slice_index_or c.self.inside.tallies.items c.number.result no_calls) (push_of c.args.command)) =
     c.count_call.ensures ∙ ap (λ j. slice_set c.self.inside.tallies.items c.number.result (with_call (slice_index_or c.self.inside.tallies.items c.number.result no_calls) j)) c.impulse-impulse.ensures in
     λ i. standing (c.in-Ok.ensures.1 i) c.self.inside.settled (tallies i) c.self.inside.settled_tallies.items (grown g c i)
 
