@@ -3,8 +3,8 @@
 ghost use Rattle.std.specs.Prelude.{◌≡◌, IfOk};
 
 use crate::assertions::{same, same_items};
-use crate::handles::give;
-use crate::merging::{add, merge};
+use crate::body_handles_slots::give;
+use crate::islands_split::{add, merge};
 use body_handles::*;
 use box_tree::BoxTree;
 use contacts::ForbiddenPairs;

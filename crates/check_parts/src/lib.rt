@@ -3,60 +3,60 @@
 #![tactic(auto)]
 
 #[cfg(test)]
-mod anchors;
-#[cfg(test)]
 mod assertions;
 #[cfg(test)]
-mod census;
+mod body_handles_slots;
 #[cfg(test)]
-mod colours;
+mod box_tree_boxes;
+#[cfg(test)]
+mod colour_solver_base_points;
+#[cfg(test)]
+mod colour_solver_ticks;
+#[cfg(test)]
+mod constraint;
+#[cfg(test)]
+mod contacts_base_split;
+#[cfg(test)]
+mod contacts_forbidden;
+#[cfg(test)]
+mod contacts_scenes;
+#[cfg(test)]
+mod contacts_table;
 #[cfg(test)]
 mod definitions;
 #[cfg(test)]
-mod events;
+mod event_feed_lists;
 #[cfg(test)]
-mod forbidden;
+mod fixed_geom_numbers;
 #[cfg(test)]
 mod given_lists;
 #[cfg(test)]
-mod handles;
+mod graph_colours_hub;
 #[cfg(test)]
-mod joint_passes;
+mod impulse_ledger_sums;
 #[cfg(test)]
-mod joint_tables;
+mod islands_split;
 #[cfg(test)]
-mod joints;
+mod joint_rows_passes;
 #[cfg(test)]
-mod kept;
+mod momenta_one_body;
 #[cfg(test)]
-mod ledger;
+mod packed_sets_lists;
 #[cfg(test)]
-mod marks;
+mod packed_sets_marks;
 #[cfg(test)]
-mod merging;
+mod seat_book_seats;
 #[cfg(test)]
-mod near;
+mod shape_rays_hits;
 #[cfg(test)]
-mod numbers;
+mod shapes_outlines;
 #[cfg(test)]
-mod one_body;
+mod shapes_placements;
 #[cfg(test)]
-mod outlines;
+mod sleep_wake_sleep;
 #[cfg(test)]
-mod packed;
+mod solver_sets_anchors;
 #[cfg(test)]
-mod placements;
+mod solver_sets_census;
 #[cfg(test)]
-mod points;
-#[cfg(test)]
-mod rays;
-#[cfg(test)]
-mod seats;
-#[cfg(test)]
-mod sleep;
-#[cfg(test)]
-mod split;
-#[cfg(test)]
-mod ticks;
-#[cfg(test)]
-mod tree;
+mod world_core_base_joints;

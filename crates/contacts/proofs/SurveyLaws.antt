@@ -13,8 +13,8 @@ use Rattle.contacts_base.specs.Contacts.{contact_set}
 use Rattle.contacts_base.specs.Split.{Split, counting, counting_at, is_over, over_at, places_from, renewed, unless_over}
 use Rattle.contacts_base.proofs.MergeLaws.{drop_next}
 use Rattle.contacts.specs.declared.forbidden.BodyPair.{BodyPair}
-use Rattle.contacts.specs.declared.turns.Turn.{Turn}
-use Rattle.contacts.specs.declared.turns.Turn.TheVariants.{Stays, Goes, Renewed}
+use Rattle.contacts.specs.declared.fates.Turn.{Turn}
+use Rattle.contacts.specs.declared.fates.Turn.TheVariants.{Stays, Goes, Renewed}
 use Rattle.contacts.specs.Changes.{key_if_new}
 use Rattle.contacts.specs.Known.{IsPairKey, again, stays, staying}
 use Rattle.contacts.specs.Looked.{IsLookedOver, IsTurn, begun_of, ended_of, ending}

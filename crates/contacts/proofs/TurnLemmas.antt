@@ -12,8 +12,8 @@ use Rattle.contacts_base.specs.Contacts.{contact_set}
 use Rattle.contacts_base.specs.Keys.{id_number}
 use Rattle.contacts_base.specs.Near.{IsProxy, IsProxyList}
 use Rattle.contacts.specs.declared.forbidden.BodyPair.{BodyPair}
-use Rattle.contacts.specs.declared.turns.Turn.{Turn}
-use Rattle.contacts.specs.declared.turns.Turn.TheVariants.{Stays, Goes, Renewed}
+use Rattle.contacts.specs.declared.fates.Turn.{Turn}
+use Rattle.contacts.specs.declared.fates.Turn.TheVariants.{Stays, Goes, Renewed}
 use Rattle.contacts_base.specs.declared.split.Renewal.{Renewal}
 use Rattle.contacts.specs.Known.{found, again_of, again}
 use Rattle.contacts.specs.Changes.{key_if_new}

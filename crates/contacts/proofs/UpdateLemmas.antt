@@ -17,7 +17,7 @@ use Rattle.contacts.specs.Pairs.{pair_key}
 use Rattle.contacts.specs.Forbidden.{allowed_codes}
 use Rattle.contacts.specs.Known.{found, near_key, has_key, IsPairKey, either_moved, IsKnown, all_still, stays, staying, is_fresh, fresh, again_of, again}
 use Rattle.contacts_base.specs.Merge.{AreAscending, below_of, merged, put_in}
-use Rattle.contacts.specs.declared.turns.Turn.{Turn}
+use Rattle.contacts.specs.declared.fates.Turn.{Turn}
 use Rattle.contacts.specs.Turns.{IsAdded, begun_keys, ended_keys, key_if_begun, outcome, turned}
 use Rattle.contacts.proofs.Members.{Each, IsIn, each_in}
 use Rattle.contacts.proofs.Rising.{IsRising, increasing_from_rising, rising_from_increasing}

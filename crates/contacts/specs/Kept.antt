@@ -11,7 +11,7 @@ use Rattle.contacts.specs.Known.{IsKnown}
 use Rattle.contacts.specs.Stirring.{AreHeld}
 use Rattle.contacts.specs.Turns.{AreWithin, IsMade, moved_by}
 use Rattle.packed_sets.specs.Marks.{AreListed}
-use Rattle.contacts.specs.declared.kept_contacts.KeptContacts.TheInside.{Inside}
+use Rattle.contacts.specs.declared.contact_table.KeptContacts.TheInside.{Inside}
 
 -- the contacts, and what they become when the last collide is carried out
 pub record Kept : Type 0 where

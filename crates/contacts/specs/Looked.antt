@@ -11,8 +11,8 @@ use Rattle.contacts_base.specs.Merge.{merged}
 use Rattle.contacts_base.specs.Split.{Split, counting, over_at, renewed}
 use Rattle.contacts.specs.declared.forbidden.BodyPair.{BodyPair}
 use Rattle.contacts.specs.declared.rebuild.Rebuilt.{Rebuilt}
-use Rattle.contacts.specs.declared.turns.Turn.{Turn}
-use Rattle.contacts.specs.declared.turns.Turn.TheVariants.{Stays, Goes, Renewed}
+use Rattle.contacts.specs.declared.fates.Turn.{Turn}
+use Rattle.contacts.specs.declared.fates.Turn.TheVariants.{Stays, Goes, Renewed}
 use Rattle.contacts.specs.Changes.{key_if_new}
 use Rattle.contacts.specs.Known.{again, staying}
 use Rattle.contacts.specs.Turns.{begun_keys, ended_keys, key_if_begun, outcome, turned}

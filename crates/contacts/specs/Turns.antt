@@ -7,8 +7,8 @@ use Rattle.contacts_base.specs.declared.contact.ContactEntry.{ContactEntry}
 use Rattle.contacts_base.specs.Contacts.{number_of as entry_number}
 use Rattle.contacts_base.specs.Keys.{id_number}
 use Rattle.contacts.specs.declared.forbidden.BodyPair.{BodyPair}
-use Rattle.contacts.specs.declared.turns.Turn.{Turn}
-use Rattle.contacts.specs.declared.turns.Turn.TheVariants.{Stays, Goes, Renewed}
+use Rattle.contacts.specs.declared.fates.Turn.{Turn}
+use Rattle.contacts.specs.declared.fates.Turn.TheVariants.{Stays, Goes, Renewed}
 use Rattle.contacts_base.specs.declared.split.Renewal.{Renewal}
 use Rattle.contacts.specs.ByPairs.{contacts_between}
 use Rattle.contacts.specs.Changes.{key_if_new, keys_touching_only_in}

@@ -3,7 +3,7 @@
 
 ghost use Rattle.std.specs.Result.{IsOkUnless};
 
-use crate::turns::ShapesByName;
+use crate::fates::ShapesByName;
 use contacts_base::ShapeId;
 use fixed_geom::Refusal;
 use shapes::MAX_SHAPES;

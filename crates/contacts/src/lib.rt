@@ -8,30 +8,30 @@
 //! new fat box, came or went; where much has moved, it goes over all shapes by `BroadPhase`.
 #![tactic(auto)]
 
-mod broad_phase;
 mod changes;
 mod constraint;
+mod contact_table;
 mod crowded;
 mod due;
+mod fates;
 mod forbidden;
-mod kept_contacts;
 mod known;
 mod marks;
-mod near_marked;
+mod moved_pairs;
+mod pair_sweep;
 mod rebuild;
 mod stirring;
 mod survey;
 mod sweep;
-mod turns;
 mod update;
 
-pub use broad_phase::BroadPhase;
+pub use pair_sweep::BroadPhase;
 pub use changes::Changes;
 pub use constraint::Constraint;
 pub use due::{Touches, carry_out};
 pub use forbidden::{BodyPair, ForbiddenPairs};
-pub use kept_contacts::KeptContacts;
+pub use contact_table::KeptContacts;
 pub use known::{
     all_known_after, contacts_by_codes, contacts_in_parts, known_stays, near_are_known,
 };
-pub use turns::{ShapesByName, Turn};
+pub use fates::{ShapesByName, Turn};

@@ -16,7 +16,7 @@ use crate::changes::push_key;
 use crate::due::Touches;
 use crate::forbidden::ForbiddenPairs;
 use crate::stirring::turn_in;
-use crate::turns::{ShapesByName, Turn, begun_key, ended_key};
+use crate::fates::{ShapesByName, Turn, begun_key, ended_key};
 use contacts_base::merge::{merge, push_below};
 use contacts_base::{ContactEntry, ContactKey};
 use fixed_geom::Refusal;

@@ -10,7 +10,7 @@ ghost use Rattle.contacts.specs.Turns.{moved_by, outcome, turned};
 ghost use Rattle.packed_sets.specs.Marks.{AreListed};
 
 use crate::forbidden::ForbiddenPairs;
-use crate::turns::{ShapesByName, Turn, turn_of};
+use crate::fates::{ShapesByName, Turn, turn_of};
 use contacts_base::{ContactEntry, SplitContacts};
 use fixed_geom::Refusal;
 use std::alloc::Global;

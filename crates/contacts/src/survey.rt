@@ -14,7 +14,7 @@ use crate::changes::push_key;
 use crate::due::Touches;
 use crate::forbidden::ForbiddenPairs;
 use crate::stirring::Stirring;
-use crate::turns::{ShapesByName, Turn, begun_key, ended_key, note, note_end, turn_of};
+use crate::fates::{ShapesByName, Turn, begun_key, ended_key, note, note_end, turn_of};
 use contacts_base::{Renewal, SplitContacts};
 use fixed_geom::Refusal;
 use std::alloc::Global;

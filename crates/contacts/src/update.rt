@@ -20,7 +20,7 @@ use crate::forbidden::ForbiddenPairs;
 use crate::rebuild::{Rebuilt, rebuild};
 use crate::stirring::{Stirring, is_one_flagged};
 use crate::survey::look_over;
-use crate::turns::ShapesByName;
+use crate::fates::ShapesByName;
 use contacts_base::merge::merge;
 use contacts_base::{ContactEntry, ContactKey, SplitContacts};
 use fixed_geom::Refusal;

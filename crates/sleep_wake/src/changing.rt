@@ -12,7 +12,7 @@ ghost use Rattle.sleep_wake.specs.ChangeLists.{CanBegin, CanEnd, begin_count, Is
 use crate::change::Change;
 use crate::gathering::Gathering;
 use crate::ties::Ties;
-use crate::waking::wake_movers;
+use crate::wake_and_sleep::wake_movers;
 use graph_colours::{Colours, Id, Member, Movers};
 use islands::Islands;
 

@@ -14,7 +14,7 @@ ghost use Rattle.sleep_wake.specs.Indexed.{AreByMover};
 ghost use Rattle.sleep_wake.specs.Gathered.{is_first, firsts_at, firsts_of};
 
 use crate::ties::Ties;
-use crate::waking::are_in;
+use crate::wake_and_sleep::are_in;
 use fixed_geom::Refusal;
 use graph_colours::{Id, Member};
 use islands::Islands;

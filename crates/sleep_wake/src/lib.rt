@@ -24,7 +24,7 @@ mod resting;
 mod sets;
 mod splits;
 mod ties;
-mod waking;
+mod wake_and_sleep;
 
 pub use change::Change;
 pub use names::{push_some, sort_once};

@@ -30,7 +30,7 @@ use crate::phase::pick_split;
 use crate::resting::rest_ready;
 use crate::splits::split_set;
 use crate::ties::Ties;
-use crate::waking::{are_awake, fall_asleep, is_awake, wake_movers, wake_set};
+use crate::wake_and_sleep::{are_awake, fall_asleep, is_awake, wake_movers, wake_set};
 use fixed_geom::Refusal;
 use graph_colours::{Colours, Id, Member, Movers};
 use islands::{Islands, Label, SplitScratch};

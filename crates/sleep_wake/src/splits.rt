@@ -11,7 +11,7 @@ ghost use Rattle.sleep_wake.specs.Gathered.{edges_of_one};
 
 use crate::gathering::Gathering;
 use crate::ties::Ties;
-use crate::waking::is_in;
+use crate::wake_and_sleep::is_in;
 use graph_colours::{Id, Member, Movers};
 use islands::{Islands, SplitScratch};
 

@@ -1,0 +1,367 @@
+//! Values worked by hand, and values of a model written apart from this code.
+
+ghost use Rattle.std.specs.Prelude.{◌^◌, ◌≤◌, pos, ◌≤ℤ◌, unsigned_abs};
+ghost use Rattle.fixed_geom.specs.Facings.{IsFacing};
+ghost use Rattle.fixed_geom.specs.Vectors.{IsWithin};
+ghost use Rattle.shapes.specs.Shapes.{IsShape};
+ghost use Rattle.shapes.specs.Poses.{IsPose};
+ghost use Rattle.shape_rays.specs.Hits.{IsPlacedShape};
+
+use crate::assertions::{same, same_items};
+use crate::shapes_outlines::{at, capsule, circle, segment};
+use contacts_base::ShapeId;
+use fixed_geom::{Box2, MAX_POSITION, Rot, UNIT, Vec2, is_facing, is_within};
+use shape_rays::*;
+use shapes::{MAX_CORE, MAX_RADIUS, MAX_RAY, Pose, Shape};
+
+/// The ray from `(x, y)` along `(dx, dy)`.
+fn cast(x: i64, y: i64, dx: i64, dy: i64) -> RayCast
+    requires x { unsigned_abs x ≤ 2 ^ 36 }
+    requires y { unsigned_abs y ≤ 2 ^ 36 }
+    requires dx { unsigned_abs dx ≤ 2 ^ 28 }
+    requires dy { unsigned_abs dy ≤ 2 ^ 28 }
+{
+    RayCast::new(Vec2 { x, y }, Vec2 { x: dx, y: dy })
+}
+
+/// Where a ray meets a shape that stands at the origin.
+fn hit(shape: Shape, cast: &RayCast) -> Option<u32>
+    requires { IsShape shape }
+{
+    cast.hit(&shape, at(0, 0))
+}
+
+fn boxed(left: i64, down: i64, right: i64, up: i64) -> Box2 {
+    Box2 {
+        lo: Vec2 { x: left, y: down },
+        hi: Vec2 { x: right, y: up },
+    }
+}
+
+#[test]
+fn rays_meet_circles_and_floors(rt: HostRuntime) {
+    let ball = circle(0, 0, 100);
+    let floor = segment(-1048576, 0, 1048576, 0);
+    let hits = [
+        cast(0, 0, 2000, 0).hit(&ball, at(1000, 0)),
+        hit(floor, &cast(0, 100, 0, -400)),
+        hit(floor, &cast(0, 100, 0, 400)),
+        // A start in the shape, and a ray that has no way.
+        hit(ball, &cast(10, -20, 5, 5)),
+        hit(ball, &cast(60, 80, 0, 0)),
+        hit(ball, &cast(61, 81, 0, 0)),
+        // Circles that are grazed, passed, and of no radius.
+        hit(ball, &cast(-1000, 100, 2000, 0)),
+        hit(ball, &cast(-1000, 101, 2000, 0)),
+        hit(circle(0, 0, 0), &cast(-1000, 0, 2000, 0)),
+    ];
+    let wanted = [
+        Some(7549747),
+        Some(4194304),
+        None,
+        Some(0),
+        Some(0),
+        None,
+        Some(8388608),
+        None,
+        Some(8388608),
+    ];
+    same_items(&rt, &hits, &wanted);
+}
+
+#[test]
+fn rays_meet_the_sides_and_ends_of_a_capsule(rt: HostRuntime) {
+    let bar = capsule(-30000, 0, 30000, 0, 10000);
+    let hits = [
+        hit(bar, &cast(0, 100000, 0, -200000)),
+        hit(bar, &cast(-100000, 10000, 200000, 0)),
+        hit(bar, &cast(-100000, 10001, 200000, 0)),
+        hit(bar, &cast(100000, 0, -200000, 0)),
+        hit(bar, &cast(-100000, 0, 200000, 0)),
+        hit(bar, &cast(37000, 100000, 0, -200000)),
+    ];
+    let wanted = [
+        Some(7549747),
+        Some(5872025),
+        None,
+        Some(5033164),
+        Some(5033164),
+        Some(7789541),
+    ];
+    same_items(&rt, &hits, &wanted);
+}
+
+/// Boxes, and whether the ray from the origin to (100000, 100000) reaches them.
+fn on_the_way() -> [(Box2, bool); 9] {
+    [
+        (boxed(60000, 60000, 70000, 70000), true),
+        // Two corners at the end of the slack, and just beyond it.
+        (boxed(60000, 49872, 70000, 59872), true),
+        (boxed(60000, 49871, 70000, 59871), false),
+        (boxed(100064, 100064, 200000, 200000), true),
+        (boxed(100065, 100065, 200000, 200000), false),
+        (boxed(-200, -200, -64, -64), true),
+        (boxed(-200, -200, -65, -65), false),
+        // A box of all places, and one inside out.
+        (boxed(i64::MIN, i64::MIN, i64::MAX, i64::MAX), true),
+        (boxed(i64::MAX, i64::MAX, i64::MIN, i64::MIN), false),
+    ]
+}
+
+#[test]
+fn boxes_off_the_way_are_passed_over(rt: HostRuntime) {
+    let across = cast(0, 0, 100000, 100000);
+    for case in on_the_way() {
+        same(&rt, &(case.0, across.reaches(&case.0)), &case);
+    }
+    let nowhere = cast(5, 5, 0, 0);
+    let reached = [
+        nowhere.reaches(&boxed(0, 0, 10, 10)),
+        nowhere.reaches(&boxed(70, 0, 80, 10)),
+    ];
+    same_items(&rt, &reached, &[true, false]);
+}
+
+fn named(slot: u32, index: u8, shape: Shape, pose: Pose) -> PlacedShape
+    requires shape { IsShape shape }
+    requires pose { IsPose pose }
+    ensures { IsPlacedShape result }
+{
+    PlacedShape {
+        id: ShapeId { slot, index },
+        shape,
+        pose,
+    }
+}
+
+fn on(fraction: u32, slot: u32, index: u8) -> Option<Hit> {
+    Some(Hit {
+        fraction,
+        shape: ShapeId { slot, index },
+    })
+}
+
+/// The first hit on two shapes.
+fn first_of(cast: &RayCast, one: PlacedShape, other: PlacedShape) -> Option<Hit>
+    requires one { IsPlacedShape one }
+    requires other { IsPlacedShape other }
+{
+    first_hit(cast, [one, other].as_slice())
+}
+
+#[test]
+fn the_first_hit_is_the_nearest_and_then_of_the_lesser_name(rt: HostRuntime) {
+    let ball = circle(0, 0, 100);
+    let ray = cast(0, 0, 2000, 0);
+    let near = named(7, 1, ball, at(1000, 0));
+    let twin = named(7, 0, ball, at(1000, 0));
+    let far = named(2, 0, ball, at(1500, 0));
+    let hits = [
+        first_of(&ray, far, near),
+        first_of(&ray, near, twin),
+        first_of(&ray, twin, near),
+        first_of(&cast(0, 0, -2000, 0), twin, near),
+        nearer(on(5, 3, 0), on(5, 2, 4)),
+    ];
+    let lesser = on(7549747, 7, 0);
+    let wanted = [on(7549747, 7, 1), lesser, lesser, None, on(5, 2, 4)];
+    same_items(&rt, &hits, &wanted);
+    let over = [
+        is_over(&ball, at(1000, 0), &boxed(0, 0, 900, 5)),
+        is_over(&ball, at(1000, 0), &boxed(0, 0, 899, 5)),
+    ];
+    same_items(&rt, &over, &[true, false]);
+}
+
+/// A shape, the position and facing of its body, the start and way of a ray, and where that hits.
+type Case = (Shape, [i64; 4], [i64; 4], Option<u32>);
+
+/// A list of cases: hits on ends and sides of turned shapes, near the origin and far from it, and misses.
+fn cases() -> [Case; 24] {
+    [
+        (
+            capsule(628, 414, 930, 723, 1),
+            [0, 0, 0, 1073741824],
+            [157, 491, -1760, 878],
+            Some(8349214),
+        ),
+        (
+            segment(18, 21, -26, -22),
+            [-10, -10, 0, 1073741824],
+            [-56, -56, 21, 20],
+            None,
+        ),
+        (
+            capsule(27, -6, 27, -29, 1),
+            [-11, 22, 1073741824, 0],
+            [15, 58, 6, -123],
+            None,
+        ),
+        (
+            segment(-27, -14, 30, -29),
+            [4439675624, -9434482778, 1073741826, 0],
+            [4439675725, -9434482890, -50, 42],
+            None,
+        ),
+        (
+            capsule(395866, 439534, 3749, 439534, 1),
+            [68553799147, -42490949538, 1073741826, 0],
+            [68553775389, -42491422988, 102871, 0],
+            None,
+        ),
+        (
+            circle(16, 14, 1),
+            [0, 0, 1073741822, 0],
+            [3, 0, 13, 15],
+            Some(15499763),
+        ),
+        (
+            segment(717, -576, 717, 498),
+            [-46719556414, -19541327296, 539175510, 928553323],
+            [-46719557065, -19541328576, 3132, 5352],
+            Some(5818912),
+        ),
+        (
+            capsule(100812, 172061, 100812, 645039, 2629682),
+            [-293097, -674707, 1073741826, 0],
+            [6633420, 4732599, -268435456, -268435456],
+            Some(265437),
+        ),
+        (
+            circle(-256, 145, 722),
+            [35564405590, 30050089242, -1073741824, 0],
+            [35564408024, 30050087817, -171100, 58100],
+            Some(182406),
+        ),
+        (
+            circle(-99646, -353390, 0),
+            [-287112, 975854, 1073741824, 0],
+            [-287107, 975860, -99651, -353396],
+            Some(16777216),
+        ),
+        (
+            capsule(-1, 0, -1, 3, 1),
+            [-3, -1, -1073741824, 0],
+            [5, -2, -700, -200],
+            Some(143804),
+        ),
+        (
+            segment(762037, -99255, 1020936, 174040),
+            [51439810086, -43253016747, -1073741824, 0],
+            [51439894324, -43252522509, -3315522, -2004834],
+            Some(5592405),
+        ),
+        (
+            segment(-8846358, -15691881, -8319329, 3401732),
+            [-14991058, 14383895, 1073741822, 0],
+            [-35397172, -18913925, 115627290, 260758470],
+            Some(1713435),
+        ),
+        (
+            capsule(0, 3, 3, 0, 8),
+            [23224995650, 33790768512, -1073741824, 0],
+            [23224995671, 33790768482, -69, 57],
+            Some(5709699),
+        ),
+        (
+            capsule(582604, -296452, 582604, -970180, 1),
+            [-16088045130, -4756454447, -1073741824, 0],
+            [-16088941393, -4755575980, 313658, -13583],
+            Some(16777216),
+        ),
+        (
+            segment(17, -23, -25, 28),
+            [9, 2, 0, 1073741824],
+            [-19, -15, 117, 42],
+            Some(2469373),
+        ),
+        (
+            segment(-2, -2, 2, -2),
+            [5015400464, -54676256085, 0, 1073741824],
+            [5015400465, -54676256086, 2, 4],
+            Some(8388608),
+        ),
+        (
+            circle(2, 0, 0),
+            [-1, 0, 1073741822, 0],
+            [-4, -7, 50, 0],
+            None,
+        ),
+        (
+            circle(-2, 0, 1),
+            [0, 2, 1073741826, 0],
+            [-6, 0, 400, 200],
+            Some(130275),
+        ),
+        (
+            circle(4165940, 8914524, 16777216),
+            [42941136193, 12159710469, 1073741822, 0],
+            [42890437238, 12131961074, 66050297, 44233638],
+            Some(10385966),
+        ),
+        (
+            circle(-2, 3, 2),
+            [10, 1, 0, 1073741824],
+            [6, 2, 6, -2],
+            None,
+        ),
+        (
+            capsule(-240411, 984962, -913348, 215671, 1543471),
+            [12049406326, -31328332497, 1073741826, 0],
+            [12048806827, -31326721485, 11014220, -17002760],
+            Some(0),
+        ),
+        (
+            circle(848, -279, 299),
+            [31761117272, -36294255094, 1019056241, 338298511],
+            [31761118103, -36294255088, 90, -91],
+            Some(0),
+        ),
+        (
+            segment(-3, -2, 0, -2),
+            [-3117775188, -19603476642, 1073741826, 0],
+            [-3117775190, -19603476644, 2, 0],
+            Some(0),
+        ),
+    ]
+}
+
+fn is_shape(shape: &Shape) -> bool
+    ensures { Rattle.std.specs.Prelude.IsTrue result → IsShape shape.now }
+{
+    is_within(shape.first_end(), MAX_CORE)
+        && is_within(shape.second_end(), MAX_CORE)
+        && 0 <= shape.radius()
+        && shape.radius() <= MAX_RADIUS
+}
+
+fn is_pose(pose: Pose) -> bool
+    ensures { Rattle.std.specs.Prelude.IsTrue result → IsPose pose }
+{
+    is_within(pose.x, MAX_POSITION as u64) && is_facing(pose.rot)
+}
+
+/// Where the case's ray hits, if all its numbers are within their limits.
+fn answer(case: &Case) -> Option<Option<u32>> {
+    let (shape, [x, y, c, s], [left, down, across, up], _) = case;
+    let pose = Pose {
+        x: Vec2 { x: *x, y: *y },
+        rot: Rot { c: *c, s: *s },
+    };
+    let from = Vec2 { x: *left, y: *down };
+    let along = Vec2 { x: *across, y: *up };
+    if !is_shape(shape) || !is_pose(pose) {
+        return None;
+    }
+    if !is_within(from, MAX_POSITION as u64) || !is_within(along, MAX_RAY as u64) {
+        return None;
+    }
+    Some(RayCast::new(from, along).hit(shape, pose))
+}
+
+#[test]
+fn rays_meet_what_a_model_says(rt: HostRuntime) {
+    for case in &cases() {
+        same(&rt, &answer(case), &Some(case.3));
+    }
+}

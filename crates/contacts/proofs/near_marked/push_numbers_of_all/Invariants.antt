@@ -1,7 +1,0 @@
-use Rattle.std.proofs.Common.{ℕ, take}
-use Rattle.std.specs.Prelude.{All}
-use Rattle.contacts.specs.NearMarked.{HasNumbersIn}
-use Rattle.contacts.proofs.near_marked.push_numbers_of_all.Given as goal
-
-abbrev pub invariant-loop-place : goal.invariant-loop-place
-invariant-loop-place g l = All (λ (slot : ℕ). HasNumbersIn (g.S.ShapesByName.proxies l.shapes) slot l.numbers.items) (take l.place l.marked)

@@ -1,9 +1,0 @@
-use Rattle.std.proofs.Common.{ℕ, ◌+◌, ◌*◌, ◌<◌}
-use Rattle.contacts.specs.NearMarked.{HasNumbers, IsExtended}
-use Rattle.contacts.proofs.near_marked.push_numbers_of_slot.Given as goal
-
-abbrev pub invariant-loop-index : goal.invariant-loop-index
-invariant-loop-index g l = record {
-  kept : IsExtended l.fn.numbers.items l.numbers.items;
-  near : (index : ℕ) → index < l.index → HasNumbers (g.S.ShapesByName.proxies l.shapes) (l.slot * 256 + index) l.numbers.items;
-}

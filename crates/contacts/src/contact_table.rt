@@ -1,0 +1,457 @@
+//! The contacts of near shapes, kept from collide to collide, so that a collide looks for new ones only where a shape has a new
+//! fat box, came or went.
+
+ghost use Rattle.std.specs.Prelude.{◌≡◌, [], IfOk, IfSome, List, OnErr, OnOk, true};
+ghost use Rattle.std.specs.Result.{IsOkUnless};
+ghost use Rattle.contacts_base.specs.declared.contact.ContactEntry.{ContactEntry};
+ghost use Rattle.contacts_base.specs.Contacts.{AreContacts, contacts_without, impulses_given};
+ghost use Rattle.contacts_base.specs.Near.{IsProxyList};
+ghost use Rattle.contacts_base.specs.Split.{contacts_in};
+ghost use Rattle.contacts.specs.ByPairs.{contacts_between};
+ghost use Rattle.contacts.specs.Changes.{AreRising, keys_touching_only_in};
+ghost use Rattle.contacts.specs.Due.{IsDue, IsNothing, due_of};
+ghost use Rattle.contacts.specs.Known.{IsKnown};
+ghost use Rattle.contacts.specs.Stirring.{AreFlagsListed, AreHeld};
+ghost use Rattle.contacts.specs.Turns.{AreWithin, moved_by};
+ghost use Rattle.contacts.specs.Kept.{CanCollide, IsMadeOf};
+ghost use Rattle.packed_sets.specs.Marks.{AreListed};
+
+use crate::pair_sweep::BroadPhase;
+use crate::crowded::are_crowded;
+use crate::due::{Due, Touches, carry_out};
+use crate::forbidden::ForbiddenPairs;
+use crate::moved_pairs::fresh_of_marked;
+use crate::stirring::{Stirring, refresh};
+use crate::fates::ShapesByName;
+use crate::update::update_known;
+use contacts_base::{ContactEntry, ContactKey, Contacts, Impulses, SplitContacts};
+use fixed_geom::Refusal;
+use std::alloc::Global;
+use std::marker::Model;
+
+/// How many slots make a world that isn't small.
+const SMALL_WORLD: usize = 1_024;
+
+/// What is kept beside the contacts from one collide to the next.
+#[derive(Drop)]
+struct Beside {
+    stirring: Stirring,
+    // Room for the numbers of the near pairs of marked slots.
+    numbers: Vec<u128>,
+    // Room for the shapes in a collide that looks for near pairs of all.
+    broad: BroadPhase,
+    // How many contacts the collides have looked at beside the long list since it was made.
+    spent: usize,
+}
+
+/// A contact for each pair of near shapes. Contracts see the list of them (`contacts`), and what it becomes when the last collide is carried
+/// out (`due`).
+///
+/// They are kept as a long list and a short one: where a contact comes or goes the long list stands, and the places in it hold. The two
+/// are made one when the collides since the last time have looked at as many contacts beside the long list as it has, so that this costs no more than was
+/// spent before it.
+#[derive(Drop)]
+pub struct KeptContacts {
+    contacts: SplitContacts,
+    // What the last collide made of the contacts, until it is carried out.
+    due: Due,
+    beside: Beside,
+}
+
+impl Model for KeptContacts {
+    ghost use Rattle.contacts_base.specs.Split.{contacts_in};
+    ghost use Rattle.contacts.specs.Due.{due_of};
+    ghost use Rattle.contacts.specs.Kept.{Kept, IsKeptContacts};
+
+    ghost Value = { Kept };
+
+    ghost view = { λ a. record { contacts = contacts_in a.contacts; due = due_of a.due a.contacts } };
+
+    ghost invariant = { λ a. IsKeptContacts a };
+}
+
+/// Nothing is known.
+fn nothing_beside(alloc: Global) -> Beside
+    ensures { (entries : List ContactEntry) → AreHeld result.stirring entries }
+{
+    Beside {
+        stirring: Stirring::new(alloc),
+        numbers: Vec::new(alloc),
+        broad: BroadPhase::new(alloc),
+        spent: 0,
+    }
+}
+
+/// Whether so many slots are marked that all near pairs are looked for as soon as those of the marked: in a small world, which is swept
+/// quickly, a twelfth of them, and else a seventh.
+fn are_many(marked: &[u32], marks: &[bool]) -> bool {
+    let parts = if marks.len() < SMALL_WORLD { 12 } else { 7 };
+    marked.len() > marks.len() / parts
+}
+
+/// Whether all near pairs are looked for: where many slots are marked, or where the marked bodies that aren't dynamic overlap more slots than there
+/// are, so that a step never costs by the square of what overlaps and can't collide. Refused 1 where memory is wanting.
+fn is_sweep_due<S: ShapesByName>(
+    shapes: &S,
+    marks: &[bool],
+    marked: &[u32],
+) -> Result<bool, Refusal>
+    ensures memory_only { IsOkUnless result Refusal.NoMemory }
+{
+    if are_many(marked, marks) {
+        Ok(true)
+    } else {
+        are_crowded(shapes, marked, marks.len())
+    }
+}
+
+/// The long list is another: the places don't hold for it, and nothing was looked at beside it.
+fn lapse(beside: &mut Beside)
+    requires { AreFlagsListed beside.old.stirring.flags.items beside.old.stirring.flagged.items }
+    ensures { (entries : List ContactEntry) → AreHeld beside.new.stirring entries }
+{
+    beside.stirring.holds = false;
+    beside.spent = 0;
+}
+
+/// Makes the two lists one, if they aren't. Refused 1 where memory is wanting, and then all stays as it is.
+fn settle(alloc: Global, contacts: &mut SplitContacts, beside: &mut Beside) -> Result<(), Refusal>
+    requires { AreHeld beside.old.stirring contacts.old.long }
+    ensures contacts { contacts_in contacts.new ≡ contacts_in contacts.old }
+    ensures one { OnOk result (contacts.new.long ≡ contacts_in contacts.old) }
+    ensures held { AreHeld beside.new.stirring contacts.new.long }
+    ensures memory_only { IsOkUnless result Refusal.NoMemory }
+{
+    if contacts.is_one() {
+        return Ok(());
+    }
+    contacts.settle(alloc)?;
+    lapse(beside);
+    Ok(())
+}
+
+/// The same where the collides have looked at as many contacts beside the long list as it has; and what the next one looks at is counted.
+fn settle_if_due(
+    alloc: Global,
+    contacts: &mut SplitContacts,
+    beside: &mut Beside,
+) -> Result<(), Refusal>
+    requires { AreHeld beside.old.stirring contacts.old.long }
+    ensures contacts { contacts_in contacts.new ≡ contacts_in contacts.old }
+    ensures held { AreHeld beside.new.stirring contacts.new.long }
+    ensures memory_only { IsOkUnless result Refusal.NoMemory }
+{
+    if beside.spent >= contacts.long().len() {
+        settle(alloc, contacts, beside)?;
+    }
+    beside.spent = beside.spent.saturating_add(contacts.beside());
+    Ok(())
+}
+
+/// What becomes of the contacts by all near pairs. Refused 1 where memory is wanting.
+fn make_anew<S: ShapesByName, F: ForbiddenPairs>(
+    beside: &mut Beside,
+    alloc: Global,
+    due: &mut Due,
+    shapes: &S,
+    forbidden: &F,
+    contacts: &mut SplitContacts,
+) -> Result<Touches, Refusal>
+    requires held { AreHeld beside.old.stirring contacts.old.long }
+    requires nothing { IsNothing due.old }
+    requires any { due.old.any ≡ true }
+    ensures contacts { contacts_in contacts.new ≡ contacts_in contacts.old }
+    ensures held { AreHeld beside.new.stirring contacts.new.long }
+    ensures due { OnOk result (IsDue due.new contacts.new) }
+    ensures made { IfOk result (IsMadeOf (S.proxies shapes.now) (F.pairs forbidden.now) (contacts_in contacts.old) (due_of due.new contacts.new)) }
+    ensures any { due.new.any ≡ true }
+    ensures memory_only { IsOkUnless result Refusal.NoMemory }
+{
+    settle(alloc, contacts, beside)?;
+    shapes.gather(&mut beside.broad)?;
+    let changes = beside
+        .broad
+        .update_contacts(alloc, forbidden, contacts.long())?;
+    due.whole = Some(SplitContacts::from_entries(alloc, changes.now.into_entries())?);
+    Ok(Touches {
+        begin: changes.begin,
+        end: changes.end,
+    })
+}
+
+/// What becomes of the contacts by what is known of the near pairs. Refused 1 where memory is wanting.
+fn make_known<S: ShapesByName, F: ForbiddenPairs>(
+    beside: &mut Beside,
+    alloc: Global,
+    due: &mut Due,
+    shapes: &S,
+    marks: &[bool],
+    marked: &[u32],
+    forbidden: &F,
+    contacts: &mut SplitContacts,
+) -> Result<Touches, Refusal>
+    requires can { CanCollide (S.proxies shapes.now) marks.now marked.now (F.pairs forbidden.now) (contacts_in contacts.old) }
+    requires held { AreHeld beside.old.stirring contacts.old.long }
+    requires any { due.old.any ≡ true }
+    ensures contacts { contacts_in contacts.new ≡ contacts_in contacts.old }
+    ensures held { AreHeld beside.new.stirring contacts.new.long }
+    ensures due { OnOk result (IsDue due.new contacts.new) }
+    ensures made { IfOk result (IsMadeOf (S.proxies shapes.now) (F.pairs forbidden.now) (contacts_in contacts.old) (due_of due.new contacts.new)) }
+    ensures any { due.new.any ≡ true }
+    ensures memory_only { IsOkUnless result Refusal.NoMemory }
+{
+    settle_if_due(alloc, contacts, beside)?;
+    refresh(&mut beside.stirring, shapes, marks, marked, contacts)?;
+    let fresh = fresh_of_marked(
+        alloc,
+        &mut beside.numbers,
+        shapes,
+        marks,
+        marked,
+        forbidden,
+        contacts,
+    )?;
+    update_known(
+        alloc,
+        due,
+        shapes,
+        marks,
+        forbidden,
+        contacts,
+        &beside.stirring,
+        &fresh,
+    )
+}
+
+/// What a collide makes of the contacts. Refused 1 where memory is wanting.
+fn make_due<S: ShapesByName, F: ForbiddenPairs>(
+    beside: &mut Beside,
+    alloc: Global,
+    due: &mut Due,
+    shapes: &S,
+    marks: &[bool],
+    marked: &[u32],
+    forbidden: &F,
+    contacts: &mut SplitContacts,
+) -> Result<Touches, Refusal>
+    requires can { CanCollide (S.proxies shapes.now) marks.now marked.now (F.pairs forbidden.now) (contacts_in contacts.old) }
+    requires held { AreHeld beside.old.stirring contacts.old.long }
+    requires nothing { IsNothing due.old }
+    requires any { due.old.any ≡ true }
+    ensures contacts { contacts_in contacts.new ≡ contacts_in contacts.old }
+    ensures held { AreHeld beside.new.stirring contacts.new.long }
+    ensures due { OnOk result (IsDue due.new contacts.new) }
+    ensures made { IfOk result (IsMadeOf (S.proxies shapes.now) (F.pairs forbidden.now) (contacts_in contacts.old) (due_of due.new contacts.new)) }
+    ensures any { due.new.any ≡ true }
+    ensures memory_only { IsOkUnless result Refusal.NoMemory }
+{
+    if is_sweep_due(shapes, marks, marked)? {
+        make_anew(beside, alloc, due, shapes, forbidden, contacts)
+    } else {
+        make_known(
+            beside, alloc, due, shapes, marks, marked, forbidden, contacts,
+        )
+    }
+}
+
+/// The same; where memory is wanting nothing is due.
+fn make_or_clear<S: ShapesByName, F: ForbiddenPairs>(
+    beside: &mut Beside,
+    alloc: Global,
+    due: &mut Due,
+    shapes: &S,
+    marks: &[bool],
+    marked: &[u32],
+    forbidden: &F,
+    contacts: &mut SplitContacts,
+) -> Result<Touches, Refusal>
+    requires can { CanCollide (S.proxies shapes.now) marks.now marked.now (F.pairs forbidden.now) (contacts_in contacts.old) }
+    requires held { AreHeld beside.old.stirring contacts.old.long }
+    requires nothing { IsNothing due.old }
+    ensures contacts { contacts_in contacts.new ≡ contacts_in contacts.old }
+    ensures held { AreHeld beside.new.stirring contacts.new.long }
+    ensures due { IsDue due.new contacts.new }
+    ensures made { IfOk result (IsMadeOf (S.proxies shapes.now) (F.pairs forbidden.now) (contacts_in contacts.old) (due_of due.new contacts.new)) }
+    ensures refused { OnErr result (due_of due.new contacts.new ≡ contacts_in contacts.old) }
+    ensures memory_only { IsOkUnless result Refusal.NoMemory }
+{
+    due.any = true;
+    let made = make_due(
+        beside, alloc, due, shapes, marks, marked, forbidden, contacts,
+    );
+    if made.is_err() {
+        due.clear();
+        contacts.know_ascending();
+    }
+    made
+}
+
+/// Carries out what is due, if something is. Takes no memory.
+fn carry_out_now(contacts: &mut SplitContacts, due: &mut Due, beside: &mut Beside)
+    requires held { AreHeld beside.old.stirring contacts.old.long }
+    requires due { IsDue due.old contacts.old }
+    ensures contacts { contacts_in contacts.new ≡ due_of due.old contacts.old }
+    ensures held { AreHeld beside.new.stirring contacts.new.long }
+    ensures nothing { IsNothing due.new }
+{
+    if !carry_out(contacts, due) {
+        lapse(beside);
+    }
+}
+
+impl KeptContacts {
+    /// No contacts.
+    pub fn new(alloc: Global) -> KeptContacts
+        ensures { result.contacts ≡ [] }
+    {
+        let contacts = SplitContacts::new(alloc);
+        contacts.know_ascending();
+        KeptContacts {
+            contacts,
+            due: Due::new(alloc),
+            beside: nothing_beside(alloc),
+        }
+    }
+
+    /// These contacts; nothing is due. Refused 1 where memory is wanting.
+    pub fn from_contacts(alloc: Global, contacts: Contacts) -> Result<KeptContacts, Refusal>
+        ensures contacts { IfOk result (λ kept. kept.contacts ≡ contacts) }
+        ensures memory_only { IsOkUnless result Refusal.NoMemory }
+    {
+        let contacts = SplitContacts::from_entries(alloc, contacts.into_entries())?;
+        contacts.know_ascending();
+        Ok(KeptContacts {
+            contacts,
+            due: Due::new(alloc),
+            beside: nothing_beside(alloc),
+        })
+    }
+
+    /// A copy, of which nothing is due. Refused 1 where memory is wanting.
+    pub fn try_copy(&self, alloc: Global) -> Result<KeptContacts, Refusal>
+        ensures copy { IfOk result (λ copied. copied.contacts ≡ self.now.contacts) }
+        ensures memory_only { IsOkUnless result Refusal.NoMemory }
+    {
+        let contacts = Contacts::from_entries(self.to_entries(alloc)?);
+        KeptContacts::from_contacts(alloc, contacts)
+    }
+
+    /// The contacts as they are kept.
+    pub fn split(&self) -> &SplitContacts
+        ensures { contacts_in result.now ≡ self.now.contacts }
+    {
+        &self.contacts
+    }
+
+    /// The contacts as one list, ascending by key, if they are kept so.
+    pub fn as_one(&self) -> Option<&[ContactEntry]>
+        ensures value { IfSome result (λ entries. entries.now ≡ self.now.contacts) }
+        ensures contacts { IfSome result (λ entries. AreContacts entries.now) }
+    {
+        if self.contacts.is_one() {
+            Some(self.contacts.long())
+        } else {
+            None
+        }
+    }
+
+    /// A list of the contacts, ascending by key. Refused 1 where memory is wanting.
+    pub fn to_entries(&self, alloc: Global) -> Result<Vec<ContactEntry>, Refusal>
+        ensures value { IfOk result (λ entries. entries.items ≡ self.now.contacts) }
+        ensures contacts { IfOk result (λ entries. AreContacts entries.items) }
+        ensures memory_only { IsOkUnless result Refusal.NoMemory }
+    {
+        self.contacts.to_entries(alloc)
+    }
+
+    /// Makes ready for the drop of the contacts of a body, which then needs no pass over the long list. The first drop since that list was made has one, which
+    /// costs less than the index that all later ones ask. Refused 1 where memory is wanting.
+    pub fn reserve_drop(&mut self) -> Result<(), Refusal>
+        ensures contacts { self.new.contacts ≡ self.old.contacts }
+        ensures due { self.new.due ≡ self.old.due }
+        ensures memory_only { IsOkUnless result Refusal.NoMemory }
+    {
+        if self.contacts.is_one() {
+            return Ok(());
+        }
+        self.contacts.index_bodies()
+    }
+
+    /// Drops the contacts of the body in a slot; nothing is due then. Takes no memory.
+    pub fn drop_of_body(&mut self, slot: u32)
+        ensures { self.new.contacts ≡ contacts_without slot self.old.contacts }
+    {
+        self.due.clear();
+        self.contacts.drop_of_body(slot);
+        self.contacts.know_ascending();
+    }
+
+    /// Gives the points of the contact with this key these impulses, in mass·u/tick. Without any for the second point that stays as it is, and so do
+    /// all contacts where there is none with the key. It is looked for at `place` of the long list first. Nothing is due then.
+    #[inline(always)]
+    pub fn set_impulses(
+        &mut self,
+        place: usize,
+        key: ContactKey,
+        first: Impulses,
+        second: Option<Impulses>,
+    )
+        ensures { self.new.contacts ≡ impulses_given key first second self.old.contacts }
+    {
+        self.due.clear();
+        self.contacts.set_impulses(place, key, first, second);
+        self.contacts.know_ascending();
+    }
+
+    /// A collide of the shapes as they are now, in which the bodies of the forbidden pairs pass through
+    /// one another: what the contacts become by it is due, and they stay as they are until it is carried out. Refused 1 where memory is
+    /// wanting.
+    ///
+    /// `marks` tell by slot which bodies' shapes have moved, and `marked` are the slots that are marked: two shapes that haven't moved are near and
+    /// may touch just where they have a contact, so new ones are looked for only where one has.
+    ///
+    /// A contact is evaluated anew if one of its two bodies stirs, and else stays as it is. A pair that had a contact keeps its surface, and the
+    /// impulses of its points by their candidates; a new pair gets a contact with what its shapes' surfaces mix to. A contact ends that touched
+    /// and doesn't any more, also where its shapes are no longer near or its bodies may no longer collide.
+    pub fn collide<S: ShapesByName, F: ForbiddenPairs>(
+        &mut self,
+        alloc: Global,
+        shapes: &S,
+        marks: &[bool],
+        marked: &[u32],
+        forbidden: &F,
+    ) -> Result<Touches, Refusal>
+        requires shapes { IsProxyList (S.proxies shapes.now) }
+        requires within { AreWithin marks.now (S.proxies shapes.now) }
+        requires listed { AreListed marks.now marked.now }
+        requires known { IsKnown (moved_by marks.now) (F.pairs forbidden.now) (S.proxies shapes.now) self.old.contacts }
+        ensures contacts { self.new.contacts ≡ self.old.contacts }
+        ensures due { OnOk result (self.new.due ≡ contacts_between (F.pairs forbidden.now) (S.proxies shapes.now) self.old.contacts) }
+        ensures refused { OnErr result (self.new.due ≡ self.old.contacts) }
+        ensures begin { IfOk result (λ touches. touches.begin.items ≡ keys_touching_only_in self.old.contacts (contacts_between (F.pairs forbidden.now) (S.proxies shapes.now) self.old.contacts)) }
+        ensures end { IfOk result (λ touches. touches.end.items ≡ keys_touching_only_in (contacts_between (F.pairs forbidden.now) (S.proxies shapes.now) self.old.contacts) self.old.contacts) }
+        ensures begin_rising { IfOk result (λ touches. AreRising touches.begin.items) }
+        ensures end_rising { IfOk result (λ touches. AreRising touches.end.items) }
+        ensures memory_only { IsOkUnless result Refusal.NoMemory }
+    {
+        self.due.clear();
+        make_or_clear(
+            &mut self.beside,
+            alloc,
+            &mut self.due,
+            shapes,
+            marks,
+            marked,
+            forbidden,
+            &mut self.contacts,
+        )
+    }
+
+    /// The contacts become what is due, or stay as they are where nothing is. Takes no memory.
+    pub fn carry_out(&mut self)
+        ensures { self.new.contacts ≡ self.old.due }
+    {
+        carry_out_now(&mut self.contacts, &mut self.due, &mut self.beside);
+        self.contacts.know_ascending();
+    }
+}

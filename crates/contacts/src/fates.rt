@@ -1,0 +1,237 @@
+//! What becomes in a collide of one of the contacts that there are.
+
+ghost use Rattle.std.specs.Prelude.{◌≡◌, ℕ, ◌/◌, ◌++◌, ◌⊎◌, All, IfOk, List, OnOk, Some, cond, true};
+ghost use Rattle.std.specs.List.{Contains};
+ghost use Rattle.std.specs.Result.{IsOkUnless};
+ghost use Rattle.fixed_geom.specs.Boxes.{overlaps};
+ghost use Rattle.contacts_base.specs.declared.near.Proxy.{Proxy};
+ghost use Rattle.contacts_base.specs.Keys.{id_number};
+ghost use Rattle.contacts_base.specs.Near.{IsProxyList};
+ghost use Rattle.contacts_base.specs.Contacts.{is_touching};
+ghost use Rattle.contacts.specs.Changes.{key_if_new};
+ghost use Rattle.contacts.specs.Known.{again, either_moved, found, may_touch, near_key, stays};
+ghost use Rattle.contacts.specs.Looked.{ending};
+ghost use Rattle.contacts.specs.Turns.{key_if_begun, moved_by, noted, one_stirs_of, outcome, stirs_in, turned};
+
+use crate::pair_sweep::BroadPhase;
+use crate::changes::contact_with;
+use crate::forbidden::{ForbiddenPairs, is_forbidden};
+use crate::marks::either_moved;
+use contacts_base::{ContactEntry, ContactKey, PackedContact, Proxy, Renewal, ShapeId, is_near};
+use fixed_geom::{Box2, Refusal};
+
+/// Where the shapes of the enabled bodies are read, one by one.
+pub trait ShapesByName {
+    ghost proxies: { Self → List Proxy };
+
+    ghost awake: { Self → List ℕ };
+
+    ghost carried: { Self → List ℕ };
+
+    /// The shape with this name, if there is one.
+    fn shape(&self, id: ShapeId) -> Option<Proxy>
+        ensures { result ≡ found (proxies self.now) (id_number id) };
+
+    /// Whether there is a shape with this name, and its body stirs.
+    fn stirs(&self, id: ShapeId) -> bool
+        ensures { result ≡ stirs_in (found (proxies self.now) (id_number id)) };
+
+    /// The slots of the awake movers.
+    fn awake(&self) -> &[u32]
+        ensures { result.now ≡ awake self.now };
+
+    /// The slots of the bodies that are carried along. A body that stirs is one of these or an awake mover.
+    fn carried(&self) -> &[u32]
+        ensures value { result.now ≡ carried self.now }
+        ensures stirring { (n : ℕ) → stirs_in (found (proxies self.now) n) ≡ true → Contains (awake self.now) (n / 256) ⊎ Contains (carried self.now) (n / 256) };
+
+    /// The slots of all bodies with a shape whose fat box overlaps the wanted one, and perhaps of others. Refused 1 where memory is wanting.
+    fn overlapping(&self, wanted: &Box2) -> Result<Vec<u32>, Refusal>
+        ensures complete { IfOk result (λ slots. All (λ p. overlaps p.fat wanted.now ≡ true → Contains slots.items p.id.slot) (proxies self.now)) }
+        ensures memory_only { IsOkUnless result Refusal.NoMemory };
+
+    /// Fills a broad phase with the shapes. Refused 1 where memory is wanting.
+    fn gather(&self, broad: &mut BroadPhase) -> Result<(), Refusal>
+        ensures gathered { OnOk result (broad.new ≡ proxies self.now) }
+        ensures memory_only { IsOkUnless result Refusal.NoMemory };
+}
+
+/// What becomes of a contact.
+#[derive(Clone, Copy, Debug, PartialEq, Eq)]
+pub enum Turn {
+    Stays,
+    Goes,
+    Renewed(PackedContact),
+}
+
+/// Whether two shapes are near, and nothing keeps their bodies from colliding.
+pub(crate) fn may_touch<F: ForbiddenPairs>(forbidden: &F, p: &Proxy, q: &Proxy) -> bool
+    ensures { result ≡ may_touch (F.pairs forbidden.now) p.now q.now }
+{
+    if is_near(p, q) {
+        !is_forbidden(forbidden, p, q)
+    } else {
+        false
+    }
+}
+
+/// Whether the shapes of a key are there, are near, and may touch.
+#[inline(always)]
+fn is_near_key<S: ShapesByName, F: ForbiddenPairs>(
+    shapes: &S,
+    forbidden: &F,
+    key: ContactKey,
+) -> bool
+    ensures { result ≡ near_key (F.pairs forbidden.now) (S.proxies shapes.now) key }
+{
+    let Some(p) = shapes.shape(key.first) else {
+        return false;
+    };
+    let Some(q) = shapes.shape(key.second) else {
+        return false;
+    };
+    may_touch(forbidden, &p, &q)
+}
+
+/// Whether a contact stays: its shapes haven't moved, or they are still near.
+pub(crate) fn stays<S: ShapesByName, F: ForbiddenPairs>(
+    shapes: &S,
+    marks: &[bool],
+    forbidden: &F,
+    key: ContactKey,
+) -> bool
+    ensures { result ≡ cond (either_moved (moved_by marks.now) key) (near_key (F.pairs forbidden.now) (S.proxies shapes.now) key) true }
+{
+    if either_moved(marks, key) {
+        is_near_key(shapes, forbidden, key)
+    } else {
+        true
+    }
+}
+
+/// Whether the body of one of a key's shapes stirs.
+fn one_stirs_of<S: ShapesByName>(shapes: &S, key: ContactKey) -> bool
+    ensures { result ≡ one_stirs_of (S.proxies shapes.now) key }
+{
+    shapes.stirs(key.first) || shapes.stirs(key.second)
+}
+
+/// The points of a contact evaluated anew, if one of its bodies stirs.
+#[inline(always)]
+fn points_again<S: ShapesByName>(shapes: &S, entry: &ContactEntry) -> PackedContact
+    requires { IsProxyList (S.proxies shapes.now) }
+    ensures { record entry.now { contact = result } ≡ again (S.proxies shapes.now) entry.now }
+{
+    let Some(p) = shapes.shape(entry.key.first) else {
+        return entry.contact;
+    };
+    let Some(q) = shapes.shape(entry.key.second) else {
+        return entry.contact;
+    };
+    contact_with(Some(entry), &p, &q)
+}
+
+/// What becomes of a contact: it goes where one of its shapes has moved and they are no longer near, and else is evaluated
+/// anew if one of its bodies stirs.
+pub(crate) fn turn_of<S: ShapesByName, F: ForbiddenPairs>(
+    shapes: &S,
+    marks: &[bool],
+    forbidden: &F,
+    entry: &ContactEntry,
+) -> Turn
+    requires shapes { IsProxyList (S.proxies shapes.now) }
+    ensures { turned entry.now result ≡ outcome (moved_by marks.now) (F.pairs forbidden.now) (S.proxies shapes.now) entry.now }
+{
+    if !stays(shapes, marks, forbidden, entry.key) {
+        return Turn::Goes;
+    }
+    if !one_stirs_of(shapes, entry.key) {
+        return Turn::Stays;
+    }
+    Turn::Renewed(points_again(shapes, entry))
+}
+
+/// Whether a contact touches after its turn.
+fn touches_after(entry: &ContactEntry, turn: &Turn) -> bool
+    ensures { result ≡ is_touching (turned entry.now turn.now) }
+{
+    match turn {
+        Turn::Stays => entry.contact.is_touching(),
+        Turn::Goes => false,
+        Turn::Renewed(contact) => contact.is_touching(),
+    }
+}
+
+/// The contact's key, if it touched, and doesn't after its turn.
+#[tactic(auto, unfolding(crate::specs::Changes::key_if_new))]
+pub(crate) fn ended_key(entry: &ContactEntry, turn: &Turn) -> Option<ContactKey>
+    ensures { result ≡ key_if_new (turned entry.now turn.now) entry.now }
+{
+    if !entry.contact.is_touching() {
+        return None;
+    }
+    if touches_after(entry, turn) {
+        None
+    } else {
+        Some(entry.key)
+    }
+}
+
+/// The contact's key, if it touches with these points, and didn't before.
+#[tactic(auto, unfolding(crate::specs::Changes::key_if_new))]
+fn key_if_begins(entry: &ContactEntry, contact: &PackedContact) -> Option<ContactKey>
+    ensures { result ≡ key_if_new (Some entry.now) (record entry.now { contact = contact.now }) }
+{
+    if !contact.is_touching() {
+        return None;
+    }
+    if entry.contact.is_touching() {
+        None
+    } else {
+        Some(entry.key)
+    }
+}
+
+/// The contact's key, if it touches after its turn, and didn't before.
+pub(crate) fn begun_key(entry: &ContactEntry, turn: &Turn) -> Option<ContactKey>
+    ensures { result ≡ key_if_begun entry.now (turned entry.now turn.now) }
+{
+    match turn {
+        Turn::Stays => key_if_begins(entry, &entry.contact),
+        Turn::Goes => None,
+        Turn::Renewed(contact) => key_if_begins(entry, contact),
+    }
+}
+
+/// Notes what the contact at a place becomes, if it is evaluated anew. Refused 1 where memory is wanting.
+pub(crate) fn note(notes: &mut Vec<Renewal>, place: usize, turn: &Turn) -> Result<(), Refusal>
+    ensures noted { OnOk result (notes.new.items ≡ notes.old.items ++ noted place turn.now) }
+    ensures memory_only { IsOkUnless result Refusal.NoMemory }
+{
+    match turn {
+        Turn::Stays => Ok(()),
+        Turn::Goes => Ok(()),
+        Turn::Renewed(contact) => {
+            notes.push(Renewal {
+                place,
+                contact: *contact,
+            })?;
+            Ok(())
+        }
+    }
+}
+
+/// Notes the place of a contact that goes. Refused 1 where memory is wanting.
+pub(crate) fn note_end(ends: &mut Vec<usize>, place: usize, turn: &Turn) -> Result<(), Refusal>
+    ensures noted { OnOk result (ends.new.items ≡ ends.old.items ++ ending place turn.now) }
+    ensures memory_only { IsOkUnless result Refusal.NoMemory }
+{
+    match turn {
+        Turn::Stays => Ok(()),
+        Turn::Goes => {
+            ends.push(place)?;
+            Ok(())
+        }
+        Turn::Renewed(_) => Ok(()),
+    }
+}
