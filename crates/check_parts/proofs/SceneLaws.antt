@@ -15,7 +15,7 @@ use Rattle.contacts_base.specs.Surfaces.{IsSurface}
 use Rattle.contacts.specs.declared.forbidden.BodyPair.{BodyPair}
 use Rattle.contacts.specs.ByPairs.{contacts_between}
 use Rattle.contacts.specs.Known.{IsKnown, found}
-use Rattle.contacts.specs.Turns.{AreWithin, moved_by, stirs_in}
+use Rattle.contacts.specs.Fates.{AreWithin, moved_by, stirs_in}
 use Rattle.contacts.proofs.ByPairsLaws.{contacts_by_codes-holds}
 use Rattle.contacts.proofs.KnownLemmas.{IsPlace, all_known_after-holds, place_of}
 use Rattle.contacts.proofs.Members.{contains_from_in, in_from_contains, in_left, in_right}

@@ -75,7 +75,7 @@ pub(crate) fn proxy_of(
 }
 
 /// Adds a shape, which has to come after all others.
-pub(crate) fn add(broad: &mut BroadPhase, proxy: Proxy) -> Result<(), Refusal>
+pub(crate) fn add(broad: &mut PairSweep, proxy: Proxy) -> Result<(), Refusal>
     requires { IsProxy proxy }
 {
     let number = proxy.id.number();
@@ -89,7 +89,7 @@ pub(crate) fn add(broad: &mut BroadPhase, proxy: Proxy) -> Result<(), Refusal>
     Err(Refusal::OutOfRange)
 }
 
-fn collide(alloc: Global, old: &Contacts, broad: &mut BroadPhase) -> Result<Changes, Refusal> {
+fn collide(alloc: Global, old: &Contacts, broad: &mut PairSweep) -> Result<Changes, Refusal> {
     broad.update_contacts(alloc, &NO_PAIR, old.as_slice())
 }
 
@@ -119,8 +119,8 @@ pub(crate) const KEY: ContactKey = ContactKey {
 };
 
 /// A floor, and a capsule that lies at this height.
-pub(crate) fn lying_at(alloc: Global, y: i64) -> Result<BroadPhase, Refusal> {
-    let mut broad = BroadPhase::new(alloc);
+pub(crate) fn lying_at(alloc: Global, y: i64) -> Result<PairSweep, Refusal> {
+    let mut broad = PairSweep::new(alloc);
     let floor = proxy_of(0, FLOOR, 0, 0, false)?;
     add(
         &mut broad,
@@ -265,8 +265,8 @@ fn a_capsule_is_lifted(rt: HostRuntime) {
 }
 
 /// Five balls, whose fat boxes are 327,680 u wide: the third begins where the second and the fourth end.
-fn balls(alloc: Global) -> Result<BroadPhase, Refusal> {
-    let mut broad = BroadPhase::new(alloc);
+fn balls(alloc: Global) -> Result<PairSweep, Refusal> {
+    let mut broad = PairSweep::new(alloc);
     for (slot, x, y) in [
         (0, 0, 900_000),
         (1, 0, 0),
@@ -292,8 +292,8 @@ fn boxes_that_touch_are_near(rt: HostRuntime) -> Result<(), Fail> {
 }
 
 /// Six balls in one place, with these filters.
-fn filtered(alloc: Global, filters: [Filter; 6]) -> Result<BroadPhase, Refusal> {
-    let mut broad = BroadPhase::new(alloc);
+fn filtered(alloc: Global, filters: [Filter; 6]) -> Result<PairSweep, Refusal> {
+    let mut broad = PairSweep::new(alloc);
     let mut slot = 0;
     for filter in filters {
         let proxy = proxy_of(slot, BALL, 0, 0, true)?;

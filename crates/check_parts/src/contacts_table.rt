@@ -4,7 +4,7 @@ ghost use Rattle.std.specs.Prelude.{◌≡◌, ◌<◌, All, IfOk, []};
 ghost use Rattle.contacts_base.specs.Keys.{id_number};
 ghost use Rattle.contacts_base.specs.Near.{IsProxyList};
 ghost use Rattle.contacts.specs.Known.{found};
-ghost use Rattle.contacts.specs.Turns.{stirs_in};
+ghost use Rattle.contacts.specs.Fates.{stirs_in};
 ghost use Rattle.check_parts.specs.Scenes.{ArePairs, IsListed};
 
 use crate::assertions::{same, same_items};
@@ -21,7 +21,7 @@ use std::test::Fail;
 /// Shapes that are read by their names: all their bodies may stir, and may be near any box.
 #[derive(Drop)]
 struct Scene {
-    shapes: BroadPhase,
+    shapes: PairSweep,
     // The slots of the shapes' bodies.
     slots: Vec<u32>,
 }
@@ -88,7 +88,7 @@ impl ShapesByName for Scene {
         Ok(slots)
     }
 
-    fn gather(&self, broad: &mut BroadPhase) -> Result<(), Refusal> {
+    fn gather(&self, broad: &mut PairSweep) -> Result<(), Refusal> {
         *broad = self.shapes.try_copy()?;
         Ok(())
     }
@@ -112,8 +112,8 @@ fn slots_of(alloc: Global, shapes: &[Proxy]) -> Result<Vec<u32>, Refusal>
 /// A collide of these shapes with all slots marked, carried out; the bodies of the forbidden pair pass through one another.
 fn collide(
     alloc: Global,
-    contacts: &mut KeptContacts,
-    shapes: BroadPhase,
+    contacts: &mut ContactTable,
+    shapes: PairSweep,
     forbidden: &OnePair,
 ) -> Result<Touches, Refusal>
     requires pairs { ArePairs contacts.old.contacts }
@@ -128,7 +128,7 @@ fn collide(
 }
 
 /// How many contacts begin and end where a capsule lies at this height on its floor, and how many there are then.
-fn laid_at(alloc: Global, contacts: &mut KeptContacts, y: i64) -> Result<[usize; 3], Refusal>
+fn laid_at(alloc: Global, contacts: &mut ContactTable, y: i64) -> Result<[usize; 3], Refusal>
     requires { ArePairs contacts.old.contacts }
     ensures pairs { ArePairs contacts.new.contacts }
 {
@@ -143,7 +143,7 @@ fn laid_at(alloc: Global, contacts: &mut KeptContacts, y: i64) -> Result<[usize;
 /// What there is of a capsule that is laid down, lifted by one, lifted far in a copy, and laid down again, and how many contacts are left
 /// without its body.
 fn kept(alloc: Global) -> Result<([[usize; 3]; 4], usize), Refusal> {
-    let mut contacts = KeptContacts::new(alloc);
+    let mut contacts = ContactTable::new(alloc);
     let laid = laid_at(alloc, &mut contacts, 20_000)?;
     let lifted = laid_at(alloc, &mut contacts, 20_001)?;
     let mut copied = contacts.try_copy(alloc)?;
@@ -163,7 +163,7 @@ fn a_contact_is_kept_while_its_shapes_are_near(rt: HostRuntime) {
 
 /// The touches of a capsule on its floor once both pass through one another, and how many contacts are left.
 fn joined(alloc: Global) -> Result<(Touches, usize), Refusal> {
-    let mut contacts = KeptContacts::new(alloc);
+    let mut contacts = ContactTable::new(alloc);
     laid_at(alloc, &mut contacts, 20_000)?;
     let floor_and_capsule = OnePair {
         pair: Some(BodyPair { a: 1, b: 0 }),
@@ -186,8 +186,8 @@ fn a_joint_that_comes_ends_a_contact(rt: HostRuntime) -> Result<(), Fail> {
 }
 
 /// Twenty balls in a row that aren't near one another, but for the one in slot 5, which is so far from its place.
-fn row(alloc: Global, away: i64) -> Result<BroadPhase, Refusal> {
-    let mut broad = BroadPhase::new(alloc);
+fn row(alloc: Global, away: i64) -> Result<PairSweep, Refusal> {
+    let mut broad = PairSweep::new(alloc);
     let mut x: i64 = 0;
     for slot in 0..20 {
         let at = if slot == 5 { x.saturating_add(away) } else { x };
@@ -205,7 +205,7 @@ const NEXT: ContactKey = ContactKey {
 
 /// The touches of the row and how many contacts it has, before its ball in slot 5 moves and after it.
 fn moved(alloc: Global) -> Result<[(Touches, usize); 2], Refusal> {
-    let mut contacts = KeptContacts::new(alloc);
+    let mut contacts = ContactTable::new(alloc);
     let first = collide(alloc, &mut contacts, row(alloc, 0)?, &NO_PAIR)?;
     let before = contacts.to_entries(alloc)?.len();
     let then = collide(alloc, &mut contacts, row(alloc, 950_000)?, &NO_PAIR)?;

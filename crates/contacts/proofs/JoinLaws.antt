@@ -27,7 +27,7 @@ use Rattle.contacts.specs.Forbidden.{allowed_codes}
 use Rattle.contacts.specs.Known.{IsKnown, IsPairKey, again, fresh, stays, staying}
 use Rattle.contacts.specs.Looked.{IsLookedOver, IsRebuilt, IsRebuiltIf}
 use Rattle.contacts.specs.Stirring.{AreQuiet, one_flagged}
-use Rattle.contacts.specs.Turns.{IsMade, begun_keys, ended_keys, key_if_begun, moved_by, outcome}
+use Rattle.contacts.specs.Fates.{IsMade, begun_keys, ended_keys, key_if_begun, moved_by, outcome}
 use Rattle.contacts.proofs.ByPairsLaws.{contacts_by_codes-holds}
 use Rattle.contacts.proofs.ChangeLemmas.{PicksKeys, if_step, picked_rise, picked_rising, unless_step}
 use Rattle.contacts.proofs.KnownLemmas.{IsImage, in_map, map_in}

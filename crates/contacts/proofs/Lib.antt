@@ -13,7 +13,7 @@ pub mod KnownLemmas
 pub mod ByPairsLaws
 pub mod MergedMembers
 pub mod PartLemmas
-pub mod TurnLemmas
+pub mod FateLemmas
 pub mod UpdateLemmas
 pub mod MarkLemmas
 pub mod StirringLaws

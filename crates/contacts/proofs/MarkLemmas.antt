@@ -4,7 +4,7 @@ use Rattle.std.specs.Prelude.{◌/◌}
 use Rattle.std.proofs.lemmas.List.{get_or_default, get_or_past}
 use Rattle.contacts_base.specs.declared.key.ShapeId.{ShapeId}
 use Rattle.contacts_base.specs.Keys.{id_number}
-use Rattle.contacts.specs.Turns.{moved_by}
+use Rattle.contacts.specs.Fates.{moved_by}
 
 pub mark_there : (marks : List Bool) (i : ShapeId) (m d : Bool) → i.index < 256 → i.slot < length marks → m ≡ get_or marks i.slot d → m ≡ moved_by marks (id_number i)
 mark_there marks i m d small lt is =

@@ -23,7 +23,7 @@ use Rattle.contacts.specs.Changes.{entry_of, entry_with, entry_at, contacts_of}
 use Rattle.contacts.specs.Forbidden.{allowed_codes}
 use Rattle.contacts.specs.Known.{either_moved, found, fresh, has_key, IsPairKey, is_fresh, may_touch, near_key}
 use Rattle.contacts.specs.NearMarked.{HasNumbers, HasNumbersIn, IsExtended, fresh_by, fresh_of_both, near_number, number_if, number_of_both, number_with, numbers_up, numbers_with}
-use Rattle.contacts.specs.Turns.{AreWithin, moved_by}
+use Rattle.contacts.specs.Fates.{AreWithin, moved_by}
 use Rattle.contacts.proofs.Members.{Each, IsIn, contains_from_in, in_from_contains, in_left, in_right}
 use Rattle.contacts.proofs.Rising.{IsRising, rising_from_increasing}
 use Rattle.contacts_base.proofs.MergeLaws.{drop_next}

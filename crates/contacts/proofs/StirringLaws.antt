@@ -18,10 +18,10 @@ use Rattle.contacts.specs.Known.{again, either_moved, found, stays}
 use Rattle.contacts.specs.declared.stirring.Stirring.{Stirring}
 use Rattle.contacts.specs.Stirring.{AreHeld, AreQuiet, is_flagged, one_flagged, passed_by}
 use Rattle.contacts_base.specs.Split.{places_from}
-use Rattle.contacts.specs.Turns.{moved_by, one_stirs_of, outcome, stirs_in}
+use Rattle.contacts.specs.Fates.{moved_by, one_stirs_of, outcome, stirs_in}
 use Rattle.contacts_base.specs.Split.{renewed}
 use Rattle.contacts_base.proofs.MergeLaws.{drop_next}
-use Rattle.contacts.proofs.TurnLemmas.{still_again}
+use Rattle.contacts.proofs.FateLemmas.{still_again}
 use Rattle.packed_sets.specs.Marks.{AreListed}
 
 -- ---- one that stays as it is begins and ends nothing

@@ -13,18 +13,18 @@ use Rattle.contacts_base.specs.Contacts.{contact_set}
 use Rattle.contacts_base.specs.Split.{Split, counting, counting_at, is_over, over_at, places_from, renewed, unless_over}
 use Rattle.contacts_base.proofs.MergeLaws.{drop_next}
 use Rattle.contacts.specs.declared.forbidden.BodyPair.{BodyPair}
-use Rattle.contacts.specs.declared.fates.Turn.{Turn}
-use Rattle.contacts.specs.declared.fates.Turn.TheVariants.{Stays, Goes, Renewed}
+use Rattle.contacts.specs.declared.fates.Fate.{Fate}
+use Rattle.contacts.specs.declared.fates.Fate.TheVariants.{Stays, Goes, Renewed}
 use Rattle.contacts.specs.Changes.{key_if_new}
 use Rattle.contacts.specs.Known.{IsPairKey, again, stays, staying}
-use Rattle.contacts.specs.Looked.{IsLookedOver, IsTurn, begun_of, ended_of, ending}
+use Rattle.contacts.specs.Looked.{IsLookedOver, IsFate, begun_of, ended_of, ending}
 use Rattle.contacts.specs.Stirring.{AreQuiet, one_flagged, passed_by}
-use Rattle.contacts.specs.Turns.{begun_keys, ended_keys, key_if_begun, moved_by, noted, outcome, turned}
+use Rattle.contacts.specs.Fates.{begun_keys, ended_keys, key_if_begun, moved_by, noted, outcome, after_fate}
 use Rattle.contacts.proofs.ChangeLemmas.{picked_more}
 use Rattle.contacts.proofs.KnownLemmas.{each_from_all}
 use Rattle.contacts.proofs.Members.{IsIn, each_in}
 use Rattle.contacts.proofs.StirringLaws.{none_new, passed_more, quiet_outcome}
-use Rattle.contacts.proofs.TurnLemmas.{put_turn, renewed-append, set_later}
+use Rattle.contacts.proofs.FateLemmas.{put_fate, renewed-append, set_later}
 
 -- ---- the places of a list that pass a test, one after the other
 
@@ -104,12 +104,12 @@ next_passed old test places index k d I quiet lt is p =
     next_place old test I (drop (passed_by 0 (take index places)) old) (passed_by 0 (take index places)) k (drop (suc index) places) quiet refl (sym p.rest ∙ drop_next places index d lt ∙ ap (λ (n : ℕ). n ∷ drop (suc index) places) (sym is)) p.before
 
 pub passing_step : (old : List ContactEntry) (test : ContactEntry → Bool) (places : List ℕ) (index k d : ℕ) (I J : ℕ → Type 0) → PassesBy old test I → index < length places → k ≡ get_or places index d → IsPassing old test places index I → (k < length old → I k → J (suc k)) → IsPassing old test places (index + 1) J
-passing_step old test places index k d I J quiet lt at p turn =
+passing_step old test places index k d I J quiet lt at p fate =
     let next : IsNext old test I k (drop (suc index) places) = next_passed old test places index k d I quiet lt at p in
     let passed : passed_by 0 (take (suc index) places) ≡ suc k = ap (passed_by 0) (rw add-one at (take_more places index d lt) ∙ ap (λ (m : ℕ). take index places ++ m ∷ []) (sym at)) ∙ passed_more 0 (take index places) k in
     rw add-one (record {
       rest = next.rest ∙ ap (λ (m : ℕ). places_from test m (drop m old)) (sym passed);
-      before = subst (λ (m : ℕ). J m) (sym passed) (turn next.within next.before);
+      before = subst (λ (m : ℕ). J m) (sym passed) (fate next.within next.before);
     })
 
 nothing_left : {X : Type 0} (xs : List X) (index : ℕ) → length xs ≤ index → drop index xs ≡ []
@@ -152,19 +152,19 @@ nothing_found moved pairs ps s notes ends begin end a b c d = record {
   end_are = d;
 }
 
--- ---- what a turn writes
+-- ---- what a fate writes
 
 set_behind : (pre rest : List ContactEntry) (e : ContactEntry) (c : Contact) → contact_set (length pre) c (pre ++ e ∷ rest) (slice_get (pre ++ e ∷ rest) (length pre)) ≡ pre ++ record e { contact = c } ∷ rest
 set_behind [] rest e c = refl
 set_behind (x ∷ pre) rest e c = set_later (length pre) c x (pre ++ e ∷ rest) (slice_get (pre ++ e ∷ rest) (length pre)) ∙ ap (λ (l : List ContactEntry). x ∷ l) (set_behind pre rest e c)
 
-noted_behind : (pre rest : List ContactEntry) (e : ContactEntry) (turn : Turn) → renewed (noted (length pre) turn) (pre ++ e ∷ rest) ≡ pre ++ put_turn e turn ∷ rest
+noted_behind : (pre rest : List ContactEntry) (e : ContactEntry) (fate : Fate) → renewed (noted (length pre) fate) (pre ++ e ∷ rest) ≡ pre ++ put_fate e fate ∷ rest
 noted_behind pre rest e Stays = refl
 noted_behind pre rest e Goes = refl
 noted_behind pre rest e (Renewed c) = set_behind pre rest e c
 
--- the contact is over after its turn
-abbrev is_gone : Turn → Bool
+-- the contact is over after its fate
+abbrev is_gone : Fate → Bool
 is_gone Stays = false
 is_gone Goes = true
 is_gone (Renewed c) = false
@@ -173,7 +173,7 @@ flag_behind : (pre rest : List Bool) (o : Bool) → slice_set (pre ++ o ∷ rest
 flag_behind [] rest o = refl
 flag_behind (x ∷ pre) rest o = ap (λ (l : List Bool). x ∷ l) (flag_behind pre rest o)
 
-ended_behind : (pre rest : List Bool) (turn : Turn) → over_at (ending (length pre) turn) (pre ++ false ∷ rest) ≡ pre ++ is_gone turn ∷ rest
+ended_behind : (pre rest : List Bool) (fate : Fate) → over_at (ending (length pre) fate) (pre ++ false ∷ rest) ≡ pre ++ is_gone fate ∷ rest
 ended_behind pre rest Stays = refl
 ended_behind pre rest Goes = flag_behind pre rest false
 ended_behind pre rest (Renewed c) = refl
@@ -207,7 +207,7 @@ same_some : (e f : ContactEntry) → Some e ≡ Some f → e ≡ f
 same_some e f h = cc
 
 -- what is left of it
-left_by : (t : Bool) (turn : Turn) (a e : ContactEntry) → turned e turn ≡ cond t (Some a) None → cond (is_gone turn) [] (put_turn e turn ∷ []) ≡ cond t (a ∷ []) []
+left_by : (t : Bool) (fate : Fate) (a e : ContactEntry) → after_fate e fate ≡ cond t (Some a) None → cond (is_gone fate) [] (put_fate e fate ∷ []) ≡ cond t (a ∷ []) []
 left_by true Stays a e h = ap (λ (x : ContactEntry). x ∷ []) (same_some e a h)
 left_by false Stays a e h = cc
 left_by true Goes a e h = cc
@@ -233,7 +233,7 @@ staying_more moved pairs ps es e =
     ∙ map-append (again ps) (staying moved pairs ps es) (cond (stays moved pairs ps e) (e ∷ []) [])
     ∙ ap (λ (l : List ContactEntry). map (again ps) (staying moved pairs ps es) ++ l) (choice_map (again ps) (stays moved pairs ps e) e)
 
--- ---- one more has had its turn
+-- ---- one more has had its fate
 
 -- what stands at the place
 record IsAt (s : Split) (p : ℕ) (e : ContactEntry) (o : Bool) : Type 0 where
@@ -246,25 +246,25 @@ is_at s p e d o flags lt is so = record {
   over = drop_next s.over p false (omega (arith, flags, lt)) ∙ ap (λ (b : Bool). b ∷ drop (suc p) s.over) so;
 }
 
-noted_more : (s : Split) (p : ℕ) (e : ContactEntry) (o : Bool) (turn : Turn) (notes later : List Renewal) (done : List ContactEntry) → IsAt s p e o → length done ≡ p → renewed notes s.long ≡ done ++ drop p s.long → later ≡ notes ++ noted p turn
-    → renewed later s.long ≡ (done ++ put_turn e turn ∷ []) ++ drop (suc p) s.long
-noted_more s p e o turn notes later done at len so added =
+noted_more : (s : Split) (p : ℕ) (e : ContactEntry) (o : Bool) (fate : Fate) (notes later : List Renewal) (done : List ContactEntry) → IsAt s p e o → length done ≡ p → renewed notes s.long ≡ done ++ drop p s.long → later ≡ notes ++ noted p fate
+    → renewed later s.long ≡ (done ++ put_fate e fate ∷ []) ++ drop (suc p) s.long
+noted_more s p e o fate notes later done at len so added =
     ap (λ (l : List Renewal). renewed l s.long) added
-    ∙ renewed-append notes (noted p turn) s.long
-    ∙ ap (renewed (noted p turn)) (so ∙ ap (λ (l : List ContactEntry). done ++ l) at.long)
-    ∙ ap (λ (n : ℕ). renewed (noted n turn) (done ++ e ∷ drop (suc p) s.long)) (sym len)
-    ∙ noted_behind done (drop (suc p) s.long) e turn
-    ∙ one_more done (put_turn e turn) (drop (suc p) s.long)
+    ∙ renewed-append notes (noted p fate) s.long
+    ∙ ap (renewed (noted p fate)) (so ∙ ap (λ (l : List ContactEntry). done ++ l) at.long)
+    ∙ ap (λ (n : ℕ). renewed (noted n fate) (done ++ e ∷ drop (suc p) s.long)) (sym len)
+    ∙ noted_behind done (drop (suc p) s.long) e fate
+    ∙ one_more done (put_fate e fate) (drop (suc p) s.long)
 
-ended_more : (s : Split) (p : ℕ) (e : ContactEntry) (turn : Turn) (ends later : List ℕ) (flags : List Bool) → IsAt s p e false → length flags ≡ p → over_at ends s.over ≡ flags ++ drop p s.over → later ≡ ends ++ ending p turn
-    → over_at later s.over ≡ (flags ++ is_gone turn ∷ []) ++ drop (suc p) s.over
-ended_more s p e turn ends later flags at len so added =
+ended_more : (s : Split) (p : ℕ) (e : ContactEntry) (fate : Fate) (ends later : List ℕ) (flags : List Bool) → IsAt s p e false → length flags ≡ p → over_at ends s.over ≡ flags ++ drop p s.over → later ≡ ends ++ ending p fate
+    → over_at later s.over ≡ (flags ++ is_gone fate ∷ []) ++ drop (suc p) s.over
+ended_more s p e fate ends later flags at len so added =
     ap (λ (l : List ℕ). over_at l s.over) added
-    ∙ over_at-append ends (ending p turn) s.over
-    ∙ ap (over_at (ending p turn)) (so ∙ ap (λ (l : List Bool). flags ++ l) at.over)
-    ∙ ap (λ (n : ℕ). over_at (ending n turn) (flags ++ false ∷ drop (suc p) s.over)) (sym len)
-    ∙ ended_behind flags (drop (suc p) s.over) turn
-    ∙ one_more flags (is_gone turn) (drop (suc p) s.over)
+    ∙ over_at-append ends (ending p fate) s.over
+    ∙ ap (over_at (ending p fate)) (so ∙ ap (λ (l : List Bool). flags ++ l) at.over)
+    ∙ ap (λ (n : ℕ). over_at (ending n fate) (flags ++ false ∷ drop (suc p) s.over)) (sym len)
+    ∙ ended_behind flags (drop (suc p) s.over) fate
+    ∙ one_more flags (is_gone fate) (drop (suc p) s.over)
 
 picked_none : (ks more : List ContactKey) → more ≡ ks ++ option_to_list None → more ≡ ks
 picked_none ks more h = h ∙ nothing_after ks
@@ -272,39 +272,39 @@ picked_none ks more h = h ∙ nothing_after ks
 counting_is : (s : Split) (p : ℕ) (e : ContactEntry) (o : Bool) → IsAt s p e o → counting (drop p s.over) (drop p s.long) ≡ cond o (counting (drop (suc p) s.over) (drop (suc p) s.long)) (e ∷ counting (drop (suc p) s.over) (drop (suc p) s.long))
 counting_is s p e o at = ap (λ (l : List Bool). counting l (drop p s.long)) at.over ∙ ap (counting (o ∷ drop (suc p) s.over)) at.long
 
-step_by : (moved : ℕ → Bool) (pairs : List BodyPair) (ps : List Proxy) (s : Split) (p : ℕ) (e : ContactEntry) (o : Bool) (turn : Turn) (notes later : List Renewal) (ends goes : List ℕ) (begin begins end ended : List ContactKey) → IsAt s p e o → IsTurn moved pairs ps (unless_over o (Some e)) turn
-    → later ≡ notes ++ noted p turn → goes ≡ ends ++ ending p turn → begins ≡ begin ++ option_to_list (begun_of (unless_over o (Some e)) turn) → ended ≡ end ++ option_to_list (ended_of (unless_over o (Some e)) turn)
+step_by : (moved : ℕ → Bool) (pairs : List BodyPair) (ps : List Proxy) (s : Split) (p : ℕ) (e : ContactEntry) (o : Bool) (fate : Fate) (notes later : List Renewal) (ends goes : List ℕ) (begin begins end ended : List ContactKey) → IsAt s p e o → IsFate moved pairs ps (unless_over o (Some e)) fate
+    → later ≡ notes ++ noted p fate → goes ≡ ends ++ ending p fate → begins ≡ begin ++ option_to_list (begun_of (unless_over o (Some e)) fate) → ended ≡ end ++ option_to_list (ended_of (unless_over o (Some e)) fate)
     → IsFound moved pairs ps s notes ends begin end p → IsFound moved pairs ps s later goes begins ended (suc p)
-step_by moved pairs ps s p e true turn notes later ends goes begin begins end ended at is n g b x f = record {
-  done = f.done ++ put_turn e turn ∷ [];
+step_by moved pairs ps s p e true fate notes later ends goes begin begins end ended at is n g b x f = record {
+  done = f.done ++ put_fate e fate ∷ [];
   flags = f.flags ++ true ∷ [];
   met = f.met;
-  length_done = length_more f.done (put_turn e turn) p f.length_done;
+  length_done = length_more f.done (put_fate e fate) p f.length_done;
   length_flags = length_more f.flags true p f.length_flags;
-  notes_are = noted_more s p e true turn notes later f.done at f.length_done f.notes_are n;
+  notes_are = noted_more s p e true fate notes later f.done at f.length_done f.notes_are n;
   ends_are =
-      ap (λ (l : List ℕ). over_at l s.over) (g ∙ ap (λ (t : Turn). ends ++ ending p t) is ∙ nothing_after ends) ∙ f.ends_are ∙ ap (λ (l : List Bool). f.flags ++ l) at.over ∙ one_more f.flags true (drop (suc p) s.over);
+      ap (λ (l : List ℕ). over_at l s.over) (g ∙ ap (λ (t : Fate). ends ++ ending p t) is ∙ nothing_after ends) ∙ f.ends_are ∙ ap (λ (l : List Bool). f.flags ++ l) at.over ∙ one_more f.flags true (drop (suc p) s.over);
   met_are = ap (λ (l : List ContactEntry). f.met ++ l) (sym (counting_is s p e true at)) ∙ f.met_are;
-  now_are = counting-append f.flags f.done true (put_turn e turn) (f.length_flags ∙ sym f.length_done) ∙ nothing_after (counting f.flags f.done) ∙ f.now_are;
+  now_are = counting-append f.flags f.done true (put_fate e fate) (f.length_flags ∙ sym f.length_done) ∙ nothing_after (counting f.flags f.done) ∙ f.now_are;
   begin_are = picked_none begin begins b ∙ f.begin_are;
   end_are = picked_none end ended x ∙ f.end_are;
 }
-step_by moved pairs ps s p e false turn notes later ends goes begin begins end ended at is n g b x f = record {
-  done = f.done ++ put_turn e turn ∷ [];
-  flags = f.flags ++ is_gone turn ∷ [];
+step_by moved pairs ps s p e false fate notes later ends goes begin begins end ended at is n g b x f = record {
+  done = f.done ++ put_fate e fate ∷ [];
+  flags = f.flags ++ is_gone fate ∷ [];
   met = f.met ++ e ∷ [];
-  length_done = length_more f.done (put_turn e turn) p f.length_done;
-  length_flags = length_more f.flags (is_gone turn) p f.length_flags;
-  notes_are = noted_more s p e false turn notes later f.done at f.length_done f.notes_are n;
-  ends_are = ended_more s p e turn ends goes f.flags at f.length_flags f.ends_are g;
+  length_done = length_more f.done (put_fate e fate) p f.length_done;
+  length_flags = length_more f.flags (is_gone fate) p f.length_flags;
+  notes_are = noted_more s p e false fate notes later f.done at f.length_done f.notes_are n;
+  ends_are = ended_more s p e fate ends goes f.flags at f.length_flags f.ends_are g;
   met_are = append_assoc f.met (e ∷ []) (counting (drop (suc p) s.over) (drop (suc p) s.long)) ∙ ap (λ (l : List ContactEntry). f.met ++ l) (sym (counting_is s p e false at)) ∙ f.met_are;
   now_are =
-      counting-append f.flags f.done (is_gone turn) (put_turn e turn) (f.length_flags ∙ sym f.length_done)
-      ∙ ap (λ (l : List ContactEntry). l ++ cond (is_gone turn) [] (put_turn e turn ∷ [])) f.now_are
-      ∙ ap (λ (l : List ContactEntry). map (again ps) (staying moved pairs ps f.met) ++ l) (left_by (stays moved pairs ps e) turn (again ps e) e is)
+      counting-append f.flags f.done (is_gone fate) (put_fate e fate) (f.length_flags ∙ sym f.length_done)
+      ∙ ap (λ (l : List ContactEntry). l ++ cond (is_gone fate) [] (put_fate e fate ∷ [])) f.now_are
+      ∙ ap (λ (l : List ContactEntry). map (again ps) (staying moved pairs ps f.met) ++ l) (left_by (stays moved pairs ps e) fate (again ps e) e is)
       ∙ sym (staying_more moved pairs ps f.met e);
-  begin_are = b ∙ ap (λ (l : List ContactKey). l ++ option_to_list (key_if_begun e (turned e turn))) f.begin_are ∙ sym (picked_more (λ (y : ContactEntry). key_if_begun y (outcome moved pairs ps y)) f.met e (key_if_begun e (turned e turn)) (ap (key_if_begun e) (sym is)));
-  end_are = x ∙ ap (λ (l : List ContactKey). l ++ option_to_list (key_if_new (turned e turn) e)) f.end_are ∙ sym (picked_more (λ (y : ContactEntry). key_if_new (outcome moved pairs ps y) y) f.met e (key_if_new (turned e turn) e) (ap (λ (z : Option ContactEntry). key_if_new z e) (sym is)));
+  begin_are = b ∙ ap (λ (l : List ContactKey). l ++ option_to_list (key_if_begun e (after_fate e fate))) f.begin_are ∙ sym (picked_more (λ (y : ContactEntry). key_if_begun y (outcome moved pairs ps y)) f.met e (key_if_begun e (after_fate e fate)) (ap (key_if_begun e) (sym is)));
+  end_are = x ∙ ap (λ (l : List ContactKey). l ++ option_to_list (key_if_new (after_fate e fate) e)) f.end_are ∙ sym (picked_more (λ (y : ContactEntry). key_if_new (outcome moved pairs ps y) y) f.met e (key_if_new (after_fate e fate) e) (ap (λ (z : Option ContactEntry). key_if_new z e) (sym is)));
 }
 
 -- which contact stands at a place
@@ -318,14 +318,14 @@ there_is (e ∷ es) zero lt = record { entry = e; is = refl }
 there_is (e ∷ es) (suc k) lt = let r : IsThere es k = there_is es k (omega (arith, lt)) in record { entry = r.entry; is = r.is }
 
 -- as the code has it
-pub found_step : (moved : ℕ → Bool) (pairs : List BodyPair) (ps : List Proxy) (s : Split) (p : ℕ) (turn : Turn) (notes later : List Renewal) (ends goes : List ℕ) (begin begins end ended : List ContactKey) → length s.over ≡ length s.long → p < length s.long → IsTurn moved pairs ps (counting_at s p) turn
-    → later ≡ notes ++ noted p turn → goes ≡ ends ++ ending p turn → begins ≡ begin ++ option_to_list (begun_of (counting_at s p) turn) → ended ≡ end ++ option_to_list (ended_of (counting_at s p) turn)
+pub found_step : (moved : ℕ → Bool) (pairs : List BodyPair) (ps : List Proxy) (s : Split) (p : ℕ) (fate : Fate) (notes later : List Renewal) (ends goes : List ℕ) (begin begins end ended : List ContactKey) → length s.over ≡ length s.long → p < length s.long → IsFate moved pairs ps (counting_at s p) fate
+    → later ≡ notes ++ noted p fate → goes ≡ ends ++ ending p fate → begins ≡ begin ++ option_to_list (begun_of (counting_at s p) fate) → ended ≡ end ++ option_to_list (ended_of (counting_at s p) fate)
     → IsFound moved pairs ps s notes ends begin end p → IsFound moved pairs ps s later goes begins ended (suc p)
-found_step moved pairs ps s p turn notes later ends goes begin begins end ended flags lt is n g b x f =
+found_step moved pairs ps s p fate notes later ends goes begin begins end ended flags lt is n g b x f =
     let r : IsThere s.long p = there_is s.long p lt in
     let there : counting_at s p ≡ unless_over (is_over s.over p) (Some r.entry) = ap (unless_over (is_over s.over p)) (slice_get-get_or s.long p r.entry lt ∙ ap (λ (y : ContactEntry). Some y) (sym r.is)) in
-    step_by moved pairs ps s p r.entry (is_over s.over p) turn notes later ends goes begin begins end ended (is_at s p r.entry r.entry (is_over s.over p) flags lt r.is refl) (subst (λ (o : Option ContactEntry). IsTurn moved pairs ps o turn) there is) n g
-    (b ∙ ap (λ (o : Option ContactEntry). begin ++ option_to_list (begun_of o turn)) there) (x ∙ ap (λ (o : Option ContactEntry). end ++ option_to_list (ended_of o turn)) there) f
+    step_by moved pairs ps s p r.entry (is_over s.over p) fate notes later ends goes begin begins end ended (is_at s p r.entry r.entry (is_over s.over p) flags lt r.is refl) (subst (λ (o : Option ContactEntry). IsFate moved pairs ps o fate) there is) n g
+    (b ∙ ap (λ (o : Option ContactEntry). begin ++ option_to_list (begun_of o fate)) there) (x ∙ ap (λ (o : Option ContactEntry). end ++ option_to_list (ended_of o fate)) there) f
 
 -- ---- one of which no body may stir
 
@@ -345,9 +345,9 @@ counted_at (o ∷ over) (e ∷ es) zero d lt h = counted_by o e (counting over e
 counted_at (o ∷ over) (e ∷ es) (suc k) d lt h = counted_later o (get_or es k d) e (counting over es) (counted_at over es k d (omega (arith, lt)) h)
 
 -- what a contact that counts becomes where neither of its bodies is flagged
-quiet_turn : (flags marks : List Bool) (pairs : List BodyPair) (ps : List Proxy) (o : Bool) (e : ContactEntry) → AreQuiet flags marks ps → (o ≡ false → IsPairKey e.key) → one_flagged flags e ≡ false → IsTurn (moved_by marks) pairs ps (unless_over o (Some e)) Stays
-quiet_turn flags marks pairs ps true e quiet key t = refl
-quiet_turn flags marks pairs ps false e quiet key t = let both = quiet e (key refl) t in sym (quiet_outcome (moved_by marks) pairs ps e both.0 both.1)
+quiet_fate : (flags marks : List Bool) (pairs : List BodyPair) (ps : List Proxy) (o : Bool) (e : ContactEntry) → AreQuiet flags marks ps → (o ≡ false → IsPairKey e.key) → one_flagged flags e ≡ false → IsFate (moved_by marks) pairs ps (unless_over o (Some e)) Stays
+quiet_fate flags marks pairs ps true e quiet key t = refl
+quiet_fate flags marks pairs ps false e quiet key t = let both = quiet e (key refl) t in sym (quiet_outcome (moved_by marks) pairs ps e both.0 both.1)
 
 quiet_begins : (o : Bool) (e : ContactEntry) (ks : List ContactKey) → ks ≡ ks ++ option_to_list (begun_of (unless_over o (Some e)) Stays)
 quiet_begins true e ks = sym (nothing_after ks)
@@ -361,7 +361,7 @@ pub quiet_passes : (flags marks : List Bool) (pairs : List BodyPair) (ps : List 
     → PassesBy s.long (one_flagged flags) (IsFound (moved_by marks) pairs ps s notes ends begin end)
 quiet_passes flags marks pairs ps s notes ends begin end same quiet keys = λ k e d lt is t f.
     let key : is_over s.over k ≡ false → IsPairKey e.key = λ h. subst (λ (x : ContactEntry). IsPairKey x.key) (sym is) (each_in (λ (x : ContactEntry). IsPairKey x.key) (get_or s.long k d) (counting s.over s.long) (each_from_all (counting s.over s.long) keys) (counted_at s.over s.long k d lt h)) in
-    step_by (moved_by marks) pairs ps s k e (is_over s.over k) Stays notes notes ends ends begin begin end end (is_at s k e d (is_over s.over k) same lt is refl) (quiet_turn flags marks pairs ps (is_over s.over k) e quiet key t) (sym (nothing_after notes)) (sym (nothing_after ends)) (quiet_begins (is_over s.over k) e begin) (quiet_ends (is_over s.over k) e end) f
+    step_by (moved_by marks) pairs ps s k e (is_over s.over k) Stays notes notes ends ends begin begin end end (is_at s k e d (is_over s.over k) same lt is refl) (quiet_fate flags marks pairs ps (is_over s.over k) e quiet key t) (sym (nothing_after notes)) (sym (nothing_after ends)) (quiet_begins (is_over s.over k) e begin) (quiet_ends (is_over s.over k) e end) f
 
 -- ---- all of them
 

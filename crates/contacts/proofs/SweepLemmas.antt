@@ -305,8 +305,8 @@ same_strip n = grind (arith, nat_tests)
 higher : (a b : ℤ) → a ≤ℤ b → int_max a b ≡ b
 higher a b h = rw (not_past b a h) refl
 
-higher_turned : (a b : ℤ) → a ≤ℤ b → int_max b a ≡ b
-higher_turned a b h = grind (arith, ints)
+higher_after_fate : (a b : ℤ) → a ≤ℤ b → int_max b a ≡ b
+higher_after_fate a b h = grind (arith, ints)
 
 meet_at : (bits : ℕ) (b c : Box2) (y : ℤ) → Overlaps b c → int_max b.lo.y c.lo.y ≡ y → may_meet bits (strip_of bits y) b c ≡ true
 unfolding may_meet
@@ -333,8 +333,8 @@ no_further_than ps s t m j strip place h =
 
 -- ---- the sweep's codes are the scan's
 
-turned : (p q : Proxy) → Overlaps p.fat q.fat → Overlaps q.fat p.fat
-turned p q o = record { left = o.right; right = o.left; down = o.up; up = o.down }
+after_fate : (p q : Proxy) → Overlaps p.fat q.fat → Overlaps q.fat p.fat
+after_fate p q o = record { left = o.right; right = o.left; down = o.up; up = o.down }
 
 -- the box at j begins no lower than the one at i, and so in a strip where that one is
 pair_listed : (bits : ℕ) (ps : List Proxy) (i j c : ℕ) → (proxy_at ps i).fat.lo.y ≤ℤ (proxy_at ps j).fat.lo.y → length ps ≤ PLACES → i < length ps → j < length ps → (i ≡ j → ⊥) → Overlaps (proxy_at ps i).fat (proxy_at ps j).fat → near_pair ps i j ≡ Some c → near_pair ps j i ≡ Some c → (ss : List ℕ) → IsPermutation (starts_of bits (boxes_of ps)) ss → IsInOrder ss → IsIn c (swept bits ps ss)
@@ -356,13 +356,13 @@ pair_listed bits ps i j c le few wi wj other o pair back ss perm low =
       first_low = no_further_than ps s t m j strip_t place_t (start_rises m i p.fat.lo.x q.fat.hi.x si o.left);
       second_low = no_further_than ps t s m i strip_s place_s (start_rises m j q.fat.lo.x p.fat.hi.x sj o.right);
       pair = pair_if bits ps s t m i j c strip_s place_s place_t (meet_at bits p.fat q.fat y o (higher p.fat.lo.y y le)) pair;
-      pair_back = pair_if bits ps t s m j i c strip_t place_t place_s (meet_at bits q.fat p.fat y (turned p q o) (higher_turned p.fat.lo.y y le)) back;
+      pair_back = pair_if bits ps t s m j i c strip_t place_t place_s (meet_at bits q.fat p.fat y (after_fate p q o) (higher_after_fate p.fat.lo.y y le)) back;
     } in
     swept_has bits ps ss s t c (listed_from bits ps i ss y wi perm le o.up) (listed_first bits ps j ss wj perm) low met
 
 pair_either : (bits : ℕ) (ps : List Proxy) (i j c : ℕ) (t : Bool) → int_le (proxy_at ps i).fat.lo.y (proxy_at ps j).fat.lo.y ≡ t → length ps ≤ PLACES → i < length ps → j < length ps → (i ≡ j → ⊥) → Overlaps (proxy_at ps i).fat (proxy_at ps j).fat → near_pair ps i j ≡ Some c → near_pair ps j i ≡ Some c → (ss : List ℕ) → IsPermutation (starts_of bits (boxes_of ps)) ss → IsInOrder ss → IsIn c (swept bits ps ss)
 pair_either bits ps i j c true e few wi wj other o pair back ss perm low = pair_listed bits ps i j c (le_from _ _ e) few wi wj other o pair back ss perm low
-pair_either bits ps i j c false e few wi wj other o pair back ss perm low = pair_listed bits ps j i c (le_if_not _ _ e) few wj wi (λ r. other (sym r)) (turned (proxy_at ps i) (proxy_at ps j) o) back pair ss perm low
+pair_either bits ps i j c false e few wi wj other o pair back ss perm low = pair_listed bits ps j i c (le_if_not _ _ e) few wj wi (λ r. other (sym r)) (after_fate (proxy_at ps i) (proxy_at ps j) o) back pair ss perm low
 
 scan_in_sweep : (bits : ℕ) (ps : List Proxy) (ss : List ℕ) (c : ℕ) → length ps ≤ PLACES → IsPermutation (starts_of bits (boxes_of ps)) ss → IsSorted nat_cmp ss → IsNearFrom 0 ps c → IsIn c (swept bits ps ss)
 scan_in_sweep bits ps ss c few perm sorted h =

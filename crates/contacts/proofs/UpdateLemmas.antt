@@ -17,8 +17,8 @@ use Rattle.contacts.specs.Pairs.{pair_key}
 use Rattle.contacts.specs.Forbidden.{allowed_codes}
 use Rattle.contacts.specs.Known.{found, near_key, has_key, IsPairKey, either_moved, IsKnown, all_still, stays, staying, is_fresh, fresh, again_of, again}
 use Rattle.contacts_base.specs.Merge.{AreAscending, below_of, merged, put_in}
-use Rattle.contacts.specs.declared.fates.Turn.{Turn}
-use Rattle.contacts.specs.Turns.{IsAdded, begun_keys, ended_keys, key_if_begun, outcome, turned}
+use Rattle.contacts.specs.declared.fates.Fate.{Fate}
+use Rattle.contacts.specs.Fates.{IsAdded, begun_keys, ended_keys, key_if_begun, outcome, after_fate}
 use Rattle.contacts.proofs.Members.{Each, IsIn, each_in}
 use Rattle.contacts.proofs.Rising.{IsRising, increasing_from_rising, rising_from_increasing}
 use Rattle.contacts.proofs.ForbiddenLemmas.{allowed_are_pairs}
@@ -252,23 +252,23 @@ map_cond : (f : ContactEntry → ContactEntry) (t : Bool) (e : ContactEntry) (es
 map_cond f true e es = refl
 map_cond f false e es = refl
 
-merged_turn : (t : Bool) (a : ContactEntry) (es fresh all more whole : List ContactEntry) (place next : ℕ) → AreAscending entry_number (cond t (a ∷ es) es) → AreAscending entry_number fresh → IsAdded (cond t (Some a) None) fresh place next all more
+merged_fate : (t : Bool) (a : ContactEntry) (es fresh all more whole : List ContactEntry) (place next : ℕ) → AreAscending entry_number (cond t (a ∷ es) es) → AreAscending entry_number fresh → IsAdded (cond t (Some a) None) fresh place next all more
     → (all ++ merged entry_number (cond t (a ∷ es) es) (drop place fresh)) ≡ whole → (more ++ merged entry_number es (drop next fresh)) ≡ whole
-merged_turn true a es fresh all more whole place next first second added so =
+merged_fate true a es fresh all more whole place next first second added so =
     merged_more entry_number (a ∷ es) fresh all (all ++ below_of entry_number a (drop place fresh)) more whole 0 place next a a (omega arith) refl first second so refl added.1 added.0
-merged_turn false a es fresh all more whole place next first second added so = rw (added.0, added.1) so
+merged_fate false a es fresh all more whole place next first second added so = rw (added.0, added.1) so
 
--- one more contact has had its turn
-pub turn_more : (moved : ℕ → Bool) (pairs : List BodyPair) (ps : List Proxy) (old : List ContactEntry) (k : ℕ) (e d : ContactEntry) (turn : Turn) (new all more whole : List ContactEntry) (place next : ℕ) → k < length old → e ≡ get_or old k d → turned e turn ≡ outcome moved pairs ps e → AreKeysRising old → AreAscending entry_number new
-    → IsAdded (turned e turn) new place next all more → (all ++ merged entry_number (map (again ps) (staying moved pairs ps (drop k old))) (drop place new)) ≡ whole → (more ++ merged entry_number (map (again ps) (staying moved pairs ps (drop (k + 1) old))) (drop next new)) ≡ whole
-turn_more moved pairs ps old k e d turn new all more whole place next lt is turns keys rises added so =
+-- one more contact has had its fate
+pub fate_more : (moved : ℕ → Bool) (pairs : List BodyPair) (ps : List Proxy) (old : List ContactEntry) (k : ℕ) (e d : ContactEntry) (fate : Fate) (new all more whole : List ContactEntry) (place next : ℕ) → k < length old → e ≡ get_or old k d → after_fate e fate ≡ outcome moved pairs ps e → AreKeysRising old → AreAscending entry_number new
+    → IsAdded (after_fate e fate) new place next all more → (all ++ merged entry_number (map (again ps) (staying moved pairs ps (drop k old))) (drop place new)) ≡ whole → (more ++ merged entry_number (map (again ps) (staying moved pairs ps (drop (k + 1) old))) (drop next new)) ≡ whole
+fate_more moved pairs ps old k e d fate new all more whole place next lt is fates keys rises added so =
     let rest : List ContactEntry = old_ones moved pairs ps (drop (suc k) old) in
     let head : drop k old ≡ e ∷ drop (suc k) old = drop_next old k d lt ∙ ap (λ (x : ContactEntry). x ∷ drop (suc k) old) (sym is) in
     let split : old_ones moved pairs ps (drop k old) ≡ cond (stays moved pairs ps e) (again ps e ∷ rest) rest = ap (λ (l : List ContactEntry). old_ones moved pairs ps l) head ∙ map_cond (again ps) (stays moved pairs ps e) e (staying moved pairs ps (drop (suc k) old)) in
     let from : AreAscending entry_number (old_ones moved pairs ps (drop k old)) = ascending entry_number (old_ones moved pairs ps (drop k old)) (old_rises moved pairs ps (drop k old) (rising_drop k old (rising_from_increasing (map entry_number old) keys))) in
     let first : AreAscending entry_number (cond (stays moved pairs ps e) (again ps e ∷ rest) rest) = subst (λ (l : List ContactEntry). AreAscending entry_number l) split from in
     rw add-one
-    (merged_turn (stays moved pairs ps e) (again ps e) rest new all more whole place next first rises (subst (λ (o : Option ContactEntry). IsAdded o new place next all more) turns added) (ap (λ (l : List ContactEntry). all ++ merged entry_number l (drop place new)) (sym split) ∙ so))
+    (merged_fate (stays moved pairs ps e) (again ps e) rest new all more whole place next first rises (subst (λ (o : Option ContactEntry). IsAdded o new place next all more) fates added) (ap (λ (l : List ContactEntry). all ++ merged entry_number l (drop place new)) (sym split) ∙ so))
 
 swap : {A B : Type 0} → A ⊎ B → B ⊎ A
 swap (inl a) = inr a

@@ -1,7 +1,7 @@
--- Inner forms of the code; no public contract rests on them. What the fields of a `BroadPhase` hold.
+-- Inner forms of the code; no public contract rests on them. What the fields of a `PairSweep` hold.
 use Rattle.std.specs.Prelude.{◌≡◌}
 use Rattle.contacts_base.specs.Near.{IsProxyList}
-use Rattle.contacts.specs.declared.pair_sweep.BroadPhase.TheInside.{Inside}
+use Rattle.contacts.specs.declared.pair_sweep.PairSweep.TheInside.{Inside}
 use Rattle.contacts.specs.Sweep.{boxes_of}
 
 pub record IsInside (a : Inside) : Type 0 where

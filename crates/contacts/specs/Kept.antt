@@ -9,16 +9,16 @@ use Rattle.contacts.specs.Changes.{AreRising}
 use Rattle.contacts.specs.Due.{IsDue}
 use Rattle.contacts.specs.Known.{IsKnown}
 use Rattle.contacts.specs.Stirring.{AreHeld}
-use Rattle.contacts.specs.Turns.{AreWithin, IsMade, moved_by}
+use Rattle.contacts.specs.Fates.{AreWithin, IsMade, moved_by}
 use Rattle.packed_sets.specs.Marks.{AreListed}
-use Rattle.contacts.specs.declared.contact_table.KeptContacts.TheInside.{Inside}
+use Rattle.contacts.specs.declared.contact_table.ContactTable.TheInside.{Inside}
 
 -- the contacts, and what they become when the last collide is carried out
 pub record Kept : Type 0 where
   pub contacts : List ContactEntry
   pub due : List ContactEntry
 
--- what the fields of a `KeptContacts` hold: the places in the long list of those contacts of which a body may stir, and what can be carried out
+-- what the fields of a `ContactTable` hold: the places in the long list of those contacts of which a body may stir, and what can be carried out
 pub record IsKeptContacts (a : Inside) : Type 0 where
   pub held : AreHeld a.beside.stirring a.contacts.long
   pub due : IsDue a.due a.contacts

@@ -2,7 +2,7 @@ pub mod Pairs
 pub mod Sweep
 pub mod Changes
 pub mod Known
-pub mod Turns
+pub mod Fates
 pub mod Stirring
 pub mod NearMarked
 pub mod Constraints

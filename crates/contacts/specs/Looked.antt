@@ -11,31 +11,31 @@ use Rattle.contacts_base.specs.Merge.{merged}
 use Rattle.contacts_base.specs.Split.{Split, counting, over_at, renewed}
 use Rattle.contacts.specs.declared.forbidden.BodyPair.{BodyPair}
 use Rattle.contacts.specs.declared.rebuild.Rebuilt.{Rebuilt}
-use Rattle.contacts.specs.declared.fates.Turn.{Turn}
-use Rattle.contacts.specs.declared.fates.Turn.TheVariants.{Stays, Goes, Renewed}
+use Rattle.contacts.specs.declared.fates.Fate.{Fate}
+use Rattle.contacts.specs.declared.fates.Fate.TheVariants.{Stays, Goes, Renewed}
 use Rattle.contacts.specs.Changes.{key_if_new}
 use Rattle.contacts.specs.Known.{again, staying}
-use Rattle.contacts.specs.Turns.{begun_keys, ended_keys, key_if_begun, outcome, turned}
+use Rattle.contacts.specs.Fates.{begun_keys, ended_keys, key_if_begun, outcome, after_fate}
 
 -- ---- one contact of the long list
 
--- its turn; where there is none that counts, nothing happens
-abbrev pub IsTurn : (ℕ → Bool) → List BodyPair → List Proxy → Option ContactEntry → Turn → Type 0
-IsTurn moved pairs ps None turn = turn ≡ Stays
-IsTurn moved pairs ps (Some e) turn = turned e turn ≡ outcome moved pairs ps e
+-- its fate; where there is none that counts, nothing happens
+abbrev pub IsFate : (ℕ → Bool) → List BodyPair → List Proxy → Option ContactEntry → Fate → Type 0
+IsFate moved pairs ps None fate = fate ≡ Stays
+IsFate moved pairs ps (Some e) fate = after_fate e fate ≡ outcome moved pairs ps e
 
--- its key, if it touches after its turn and didn't before
-abbrev pub begun_of : Option ContactEntry → Turn → Option ContactKey
-begun_of None turn = None
-begun_of (Some e) turn = key_if_begun e (turned e turn)
+-- its key, if it touches after its fate and didn't before
+abbrev pub begun_of : Option ContactEntry → Fate → Option ContactKey
+begun_of None fate = None
+begun_of (Some e) fate = key_if_begun e (after_fate e fate)
 
 -- its key, if it touched and doesn't any more
-abbrev pub ended_of : Option ContactEntry → Turn → Option ContactKey
-ended_of None turn = None
-ended_of (Some e) turn = key_if_new (turned e turn) e
+abbrev pub ended_of : Option ContactEntry → Fate → Option ContactKey
+ended_of None fate = None
+ended_of (Some e) fate = key_if_new (after_fate e fate) e
 
 -- its place, if it goes
-abbrev pub ending : ℕ → Turn → List ℕ
+abbrev pub ending : ℕ → Fate → List ℕ
 ending place Stays = []
 ending place Goes = place ∷ []
 ending place (Renewed c) = []

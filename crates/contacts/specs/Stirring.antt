@@ -5,7 +5,7 @@ use Rattle.contacts_base.specs.declared.contact.ContactEntry.{ContactEntry}
 use Rattle.contacts_base.specs.Split.{places_from, places_of}
 use Rattle.contacts.specs.declared.stirring.Stirring.{Stirring}
 use Rattle.contacts.specs.Known.{IsPairKey, either_moved}
-use Rattle.contacts.specs.Turns.{moved_by, one_stirs_of}
+use Rattle.contacts.specs.Fates.{moved_by, one_stirs_of}
 use Rattle.packed_sets.specs.Marks.{IsMarks}
 
 -- the body in the slot may stir, as those in slots beyond the flags may

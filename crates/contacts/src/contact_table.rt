@@ -12,11 +12,11 @@ ghost use Rattle.contacts.specs.Changes.{AreRising, keys_touching_only_in};
 ghost use Rattle.contacts.specs.Due.{IsDue, IsNothing, due_of};
 ghost use Rattle.contacts.specs.Known.{IsKnown};
 ghost use Rattle.contacts.specs.Stirring.{AreFlagsListed, AreHeld};
-ghost use Rattle.contacts.specs.Turns.{AreWithin, moved_by};
+ghost use Rattle.contacts.specs.Fates.{AreWithin, moved_by};
 ghost use Rattle.contacts.specs.Kept.{CanCollide, IsMadeOf};
 ghost use Rattle.packed_sets.specs.Marks.{AreListed};
 
-use crate::pair_sweep::BroadPhase;
+use crate::pair_sweep::PairSweep;
 use crate::crowded::are_crowded;
 use crate::due::{Due, Touches, carry_out};
 use crate::forbidden::ForbiddenPairs;
@@ -39,7 +39,7 @@ struct Beside {
     // Room for the numbers of the near pairs of marked slots.
     numbers: Vec<u128>,
     // Room for the shapes in a collide that looks for near pairs of all.
-    broad: BroadPhase,
+    broad: PairSweep,
     // How many contacts the collides have looked at beside the long list since it was made.
     spent: usize,
 }
@@ -51,14 +51,14 @@ struct Beside {
 /// are made one when the collides since the last time have looked at as many contacts beside the long list as it has, so that this costs no more than was
 /// spent before it.
 #[derive(Drop)]
-pub struct KeptContacts {
+pub struct ContactTable {
     contacts: SplitContacts,
     // What the last collide made of the contacts, until it is carried out.
     due: Due,
     beside: Beside,
 }
 
-impl Model for KeptContacts {
+impl Model for ContactTable {
     ghost use Rattle.contacts_base.specs.Split.{contacts_in};
     ghost use Rattle.contacts.specs.Due.{due_of};
     ghost use Rattle.contacts.specs.Kept.{Kept, IsKeptContacts};
@@ -77,7 +77,7 @@ fn nothing_beside(alloc: Global) -> Beside
     Beside {
         stirring: Stirring::new(alloc),
         numbers: Vec::new(alloc),
-        broad: BroadPhase::new(alloc),
+        broad: PairSweep::new(alloc),
         spent: 0,
     }
 }
@@ -299,14 +299,14 @@ fn carry_out_now(contacts: &mut SplitContacts, due: &mut Due, beside: &mut Besid
     }
 }
 
-impl KeptContacts {
+impl ContactTable {
     /// No contacts.
-    pub fn new(alloc: Global) -> KeptContacts
+    pub fn new(alloc: Global) -> ContactTable
         ensures { result.contacts ≡ [] }
     {
         let contacts = SplitContacts::new(alloc);
         contacts.know_ascending();
-        KeptContacts {
+        ContactTable {
             contacts,
             due: Due::new(alloc),
             beside: nothing_beside(alloc),
@@ -314,13 +314,13 @@ impl KeptContacts {
     }
 
     /// These contacts; nothing is due. Refused 1 where memory is wanting.
-    pub fn from_contacts(alloc: Global, contacts: Contacts) -> Result<KeptContacts, Refusal>
+    pub fn from_contacts(alloc: Global, contacts: Contacts) -> Result<ContactTable, Refusal>
         ensures contacts { IfOk result (λ kept. kept.contacts ≡ contacts) }
         ensures memory_only { IsOkUnless result Refusal.NoMemory }
     {
         let contacts = SplitContacts::from_entries(alloc, contacts.into_entries())?;
         contacts.know_ascending();
-        Ok(KeptContacts {
+        Ok(ContactTable {
             contacts,
             due: Due::new(alloc),
             beside: nothing_beside(alloc),
@@ -328,12 +328,12 @@ impl KeptContacts {
     }
 
     /// A copy, of which nothing is due. Refused 1 where memory is wanting.
-    pub fn try_copy(&self, alloc: Global) -> Result<KeptContacts, Refusal>
+    pub fn try_copy(&self, alloc: Global) -> Result<ContactTable, Refusal>
         ensures copy { IfOk result (λ copied. copied.contacts ≡ self.now.contacts) }
         ensures memory_only { IsOkUnless result Refusal.NoMemory }
     {
         let contacts = Contacts::from_entries(self.to_entries(alloc)?);
-        KeptContacts::from_contacts(alloc, contacts)
+        ContactTable::from_contacts(alloc, contacts)
     }
 
     /// The contacts as they are kept.

@@ -11,9 +11,9 @@ ghost use Rattle.contacts_base.specs.Contacts.{is_touching};
 ghost use Rattle.contacts.specs.Changes.{key_if_new};
 ghost use Rattle.contacts.specs.Known.{again, either_moved, found, may_touch, near_key, stays};
 ghost use Rattle.contacts.specs.Looked.{ending};
-ghost use Rattle.contacts.specs.Turns.{key_if_begun, moved_by, noted, one_stirs_of, outcome, stirs_in, turned};
+ghost use Rattle.contacts.specs.Fates.{key_if_begun, moved_by, noted, one_stirs_of, outcome, stirs_in, after_fate};
 
-use crate::pair_sweep::BroadPhase;
+use crate::pair_sweep::PairSweep;
 use crate::changes::contact_with;
 use crate::forbidden::{ForbiddenPairs, is_forbidden};
 use crate::marks::either_moved;
@@ -51,14 +51,14 @@ pub trait ShapesByName {
         ensures memory_only { IsOkUnless result Refusal.NoMemory };
 
     /// Fills a broad phase with the shapes. Refused 1 where memory is wanting.
-    fn gather(&self, broad: &mut BroadPhase) -> Result<(), Refusal>
+    fn gather(&self, broad: &mut PairSweep) -> Result<(), Refusal>
         ensures gathered { OnOk result (broad.new ≡ proxies self.now) }
         ensures memory_only { IsOkUnless result Refusal.NoMemory };
 }
 
 /// What becomes of a contact.
 #[derive(Clone, Copy, Debug, PartialEq, Eq)]
-pub enum Turn {
+pub enum Fate {
     Stays,
     Goes,
     Renewed(PackedContact),
@@ -133,44 +133,44 @@ fn points_again<S: ShapesByName>(shapes: &S, entry: &ContactEntry) -> PackedCont
 
 /// What becomes of a contact: it goes where one of its shapes has moved and they are no longer near, and else is evaluated
 /// anew if one of its bodies stirs.
-pub(crate) fn turn_of<S: ShapesByName, F: ForbiddenPairs>(
+pub(crate) fn fate_of<S: ShapesByName, F: ForbiddenPairs>(
     shapes: &S,
     marks: &[bool],
     forbidden: &F,
     entry: &ContactEntry,
-) -> Turn
+) -> Fate
     requires shapes { IsProxyList (S.proxies shapes.now) }
-    ensures { turned entry.now result ≡ outcome (moved_by marks.now) (F.pairs forbidden.now) (S.proxies shapes.now) entry.now }
+    ensures { after_fate entry.now result ≡ outcome (moved_by marks.now) (F.pairs forbidden.now) (S.proxies shapes.now) entry.now }
 {
     if !stays(shapes, marks, forbidden, entry.key) {
-        return Turn::Goes;
+        return Fate::Goes;
     }
     if !one_stirs_of(shapes, entry.key) {
-        return Turn::Stays;
+        return Fate::Stays;
     }
-    Turn::Renewed(points_again(shapes, entry))
+    Fate::Renewed(points_again(shapes, entry))
 }
 
-/// Whether a contact touches after its turn.
-fn touches_after(entry: &ContactEntry, turn: &Turn) -> bool
-    ensures { result ≡ is_touching (turned entry.now turn.now) }
+/// Whether a contact touches after its fate.
+fn touches_after(entry: &ContactEntry, fate: &Fate) -> bool
+    ensures { result ≡ is_touching (after_fate entry.now fate.now) }
 {
-    match turn {
-        Turn::Stays => entry.contact.is_touching(),
-        Turn::Goes => false,
-        Turn::Renewed(contact) => contact.is_touching(),
+    match fate {
+        Fate::Stays => entry.contact.is_touching(),
+        Fate::Goes => false,
+        Fate::Renewed(contact) => contact.is_touching(),
     }
 }
 
-/// The contact's key, if it touched, and doesn't after its turn.
+/// The contact's key, if it touched, and doesn't after its fate.
 #[tactic(auto, unfolding(crate::specs::Changes::key_if_new))]
-pub(crate) fn ended_key(entry: &ContactEntry, turn: &Turn) -> Option<ContactKey>
-    ensures { result ≡ key_if_new (turned entry.now turn.now) entry.now }
+pub(crate) fn ended_key(entry: &ContactEntry, fate: &Fate) -> Option<ContactKey>
+    ensures { result ≡ key_if_new (after_fate entry.now fate.now) entry.now }
 {
     if !entry.contact.is_touching() {
         return None;
     }
-    if touches_after(entry, turn) {
+    if touches_after(entry, fate) {
         None
     } else {
         Some(entry.key)
@@ -192,26 +192,26 @@ fn key_if_begins(entry: &ContactEntry, contact: &PackedContact) -> Option<Contac
     }
 }
 
-/// The contact's key, if it touches after its turn, and didn't before.
-pub(crate) fn begun_key(entry: &ContactEntry, turn: &Turn) -> Option<ContactKey>
-    ensures { result ≡ key_if_begun entry.now (turned entry.now turn.now) }
+/// The contact's key, if it touches after its fate, and didn't before.
+pub(crate) fn begun_key(entry: &ContactEntry, fate: &Fate) -> Option<ContactKey>
+    ensures { result ≡ key_if_begun entry.now (after_fate entry.now fate.now) }
 {
-    match turn {
-        Turn::Stays => key_if_begins(entry, &entry.contact),
-        Turn::Goes => None,
-        Turn::Renewed(contact) => key_if_begins(entry, contact),
+    match fate {
+        Fate::Stays => key_if_begins(entry, &entry.contact),
+        Fate::Goes => None,
+        Fate::Renewed(contact) => key_if_begins(entry, contact),
     }
 }
 
 /// Notes what the contact at a place becomes, if it is evaluated anew. Refused 1 where memory is wanting.
-pub(crate) fn note(notes: &mut Vec<Renewal>, place: usize, turn: &Turn) -> Result<(), Refusal>
-    ensures noted { OnOk result (notes.new.items ≡ notes.old.items ++ noted place turn.now) }
+pub(crate) fn note(notes: &mut Vec<Renewal>, place: usize, fate: &Fate) -> Result<(), Refusal>
+    ensures noted { OnOk result (notes.new.items ≡ notes.old.items ++ noted place fate.now) }
     ensures memory_only { IsOkUnless result Refusal.NoMemory }
 {
-    match turn {
-        Turn::Stays => Ok(()),
-        Turn::Goes => Ok(()),
-        Turn::Renewed(contact) => {
+    match fate {
+        Fate::Stays => Ok(()),
+        Fate::Goes => Ok(()),
+        Fate::Renewed(contact) => {
             notes.push(Renewal {
                 place,
                 contact: *contact,
@@ -222,16 +222,16 @@ pub(crate) fn note(notes: &mut Vec<Renewal>, place: usize, turn: &Turn) -> Resul
 }
 
 /// Notes the place of a contact that goes. Refused 1 where memory is wanting.
-pub(crate) fn note_end(ends: &mut Vec<usize>, place: usize, turn: &Turn) -> Result<(), Refusal>
-    ensures noted { OnOk result (ends.new.items ≡ ends.old.items ++ ending place turn.now) }
+pub(crate) fn note_end(ends: &mut Vec<usize>, place: usize, fate: &Fate) -> Result<(), Refusal>
+    ensures noted { OnOk result (ends.new.items ≡ ends.old.items ++ ending place fate.now) }
     ensures memory_only { IsOkUnless result Refusal.NoMemory }
 {
-    match turn {
-        Turn::Stays => Ok(()),
-        Turn::Goes => {
+    match fate {
+        Fate::Stays => Ok(()),
+        Fate::Goes => {
             ends.push(place)?;
             Ok(())
         }
-        Turn::Renewed(_) => Ok(()),
+        Fate::Renewed(_) => Ok(()),
     }
 }

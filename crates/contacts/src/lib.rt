@@ -1,11 +1,11 @@
 //! The collide of a step: which shapes are near one another, and what becomes of the contacts.
 //!
-//! `BroadPhase` has the shapes of the enabled bodies with their fat boxes and finds the near pairs;
+//! `PairSweep` has the shapes of the enabled bodies with their fat boxes and finds the near pairs;
 //! its `update_contacts` makes the new list of contacts and says which were made, which are gone,
 //! and which began or ended to touch.
 //!
-//! `KeptContacts` has the contacts of a world from one collide to the next. A collide looks for new ones only where a shape has a
-//! new fat box, came or went; where much has moved, it goes over all shapes by `BroadPhase`.
+//! `ContactTable` has the contacts of a world from one collide to the next. A collide looks for new ones only where a shape has a
+//! new fat box, came or went; where much has moved, it goes over all shapes by `PairSweep`.
 #![tactic(auto)]
 
 mod changes;
@@ -25,13 +25,13 @@ mod survey;
 mod sweep;
 mod update;
 
-pub use pair_sweep::BroadPhase;
+pub use pair_sweep::PairSweep;
 pub use changes::Changes;
 pub use constraint::Constraint;
 pub use due::{Touches, carry_out};
 pub use forbidden::{BodyPair, ForbiddenPairs};
-pub use contact_table::KeptContacts;
+pub use contact_table::ContactTable;
 pub use known::{
     all_known_after, contacts_by_codes, contacts_in_parts, known_stays, near_are_known,
 };
-pub use fates::{ShapesByName, Turn};
+pub use fates::{ShapesByName, Fate};

@@ -3,7 +3,7 @@
 ghost use Rattle.std.specs.Prelude.{◌≡◌};
 ghost use Rattle.contacts_base.specs.Keys.{id_number};
 ghost use Rattle.contacts.specs.Known.{either_moved};
-ghost use Rattle.contacts.specs.Turns.{moved_by};
+ghost use Rattle.contacts.specs.Fates.{moved_by};
 
 use contacts_base::{ContactKey, ShapeId};
 

@@ -11,7 +11,7 @@ ghost use Rattle.contacts_base.specs.Split.{contacts_in};
 ghost use Rattle.contacts.specs.Changes.{contacts_of};
 ghost use Rattle.contacts.specs.Known.{found, fresh as fresh_codes, has_key};
 ghost use Rattle.contacts.specs.NearMarked.{HasNumbers, HasNumbersIn, IsExtended, fresh_by, fresh_of, near_number, number_if, number_with, numbers_up, numbers_with};
-ghost use Rattle.contacts.specs.Turns.{AreWithin, moved_by};
+ghost use Rattle.contacts.specs.Fates.{AreWithin, moved_by};
 ghost use Rattle.packed_sets.specs.Marks.{AreListed};
 
 use crate::changes::entry_with;

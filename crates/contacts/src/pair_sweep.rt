@@ -18,7 +18,7 @@ use std::marker::Model;
 
 /// The shapes of the enabled bodies with their fat boxes, ascending by id.
 #[derive(Drop)]
-pub struct BroadPhase {
+pub struct PairSweep {
     proxies: Vec<Proxy>,
     // Their fat boxes again, side by side, which is all that the sweep reads of most shapes.
     boxes: Vec<Box2>,
@@ -32,7 +32,7 @@ pub struct BroadPhase {
     allowed: Vec<u64>,
 }
 
-impl Model for BroadPhase {
+impl Model for PairSweep {
     ghost use Rattle.std.specs.Prelude.{List};
     ghost use Rattle.contacts_base.specs.declared.near.Proxy.{Proxy};
 
@@ -53,12 +53,12 @@ fn push_within(boxes: &mut Vec<Box2>, fat: Box2)
     let _ = boxes.push(fat);
 }
 
-impl BroadPhase {
+impl PairSweep {
     /// No shapes.
-    pub fn new(alloc: Global) -> BroadPhase
+    pub fn new(alloc: Global) -> PairSweep
         ensures { result ≡ [] }
     {
-        BroadPhase {
+        PairSweep {
             proxies: Vec::new(alloc),
             boxes: Vec::new(alloc),
             heights: 0,
@@ -97,7 +97,7 @@ impl BroadPhase {
     }
 
     /// A copy. Refused 1 where memory is wanting.
-    pub fn try_copy(&self) -> Result<BroadPhase, Refusal>
+    pub fn try_copy(&self) -> Result<PairSweep, Refusal>
         ensures copy { IfOk result (λ copied. copied ≡ self.now) }
         ensures memory_only { IsOkUnless result Refusal.NoMemory }
     {
@@ -106,7 +106,7 @@ impl BroadPhase {
         proxies.extend_from_slice(&self.proxies)?;
         let mut boxes = Vec::new(alloc);
         boxes.extend_from_slice(&self.boxes)?;
-        Ok(BroadPhase {
+        Ok(PairSweep {
             proxies,
             boxes,
             heights: self.heights,

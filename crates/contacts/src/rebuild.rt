@@ -10,13 +10,13 @@ ghost use Rattle.contacts.specs.Known.{IsPairKey, again, staying};
 ghost use Rattle.contacts.specs.Looked.{IsRebuilt};
 ghost use Rattle.contacts_base.specs.Merge.{AreAscending, merged};
 ghost use Rattle.contacts.specs.Stirring.{AreQuiet};
-ghost use Rattle.contacts.specs.Turns.{IsAdded, begun_keys, ended_keys, moved_by, turned};
+ghost use Rattle.contacts.specs.Fates.{IsAdded, begun_keys, ended_keys, moved_by, after_fate};
 
 use crate::changes::push_key;
 use crate::due::Touches;
 use crate::forbidden::ForbiddenPairs;
-use crate::stirring::turn_in;
-use crate::fates::{ShapesByName, Turn, begun_key, ended_key};
+use crate::stirring::fate_in;
+use crate::fates::{ShapesByName, Fate, begun_key, ended_key};
 use contacts_base::merge::{merge, push_below};
 use contacts_base::{ContactEntry, ContactKey};
 use fixed_geom::Refusal;
@@ -57,22 +57,22 @@ fn push_with(
 
 /// Adds what a contact becomes, if it stays, and before it the fresh ones from a place on that come first. Answers the place of the next
 /// fresh one. Refused 1 where memory is wanting.
-fn push_turned(
+fn push_after_fate(
     all: &mut Vec<ContactEntry>,
     fresh: &[ContactEntry],
     place: usize,
     entry: &ContactEntry,
-    turn: &Turn,
+    fate: &Fate,
 ) -> Result<usize, Refusal>
     requires { place ≤ length fresh.now }
     ensures within { IfOk result (λ next. next ≤ length fresh.now) }
-    ensures added { IfOk result (λ next. IsAdded (turned entry.now turn.now) fresh.now place next all.old.items all.new.items) }
+    ensures added { IfOk result (λ next. IsAdded (after_fate entry.now fate.now) fresh.now place next all.old.items all.new.items) }
     ensures memory_only { IsOkUnless result Refusal.NoMemory }
 {
-    match turn {
-        Turn::Stays => push_with(all, fresh, place, entry),
-        Turn::Goes => Ok(place),
-        Turn::Renewed(contact) => {
+    match fate {
+        Fate::Stays => push_with(all, fresh, place, entry),
+        Fate::Goes => Ok(place),
+        Fate::Renewed(contact) => {
             let renewed = ContactEntry {
                 key: entry.key,
                 surface: entry.surface,
@@ -84,7 +84,7 @@ fn push_turned(
 }
 
 /// Goes over the old contacts once, and adds the fresh ones in their places. Refused 1 where memory is wanting.
-fn turn_each<S: ShapesByName, F: ForbiddenPairs>(
+fn fate_each<S: ShapesByName, F: ForbiddenPairs>(
     alloc: Global,
     shapes: &S,
     marks: &[bool],
@@ -109,10 +109,10 @@ fn turn_each<S: ShapesByName, F: ForbiddenPairs>(
     let mut next = 0;
     for place in 0..old.len() {
         let entry = &old[place];
-        let turn = turn_in(shapes, marks, forbidden, flags, entry);
-        next = push_turned(&mut all, fresh, next, entry, &turn)?;
-        push_key(&mut begin, begun_key(entry, &turn))?;
-        push_key(&mut end, ended_key(entry, &turn))?;
+        let fate = fate_in(shapes, marks, forbidden, flags, entry);
+        next = push_after_fate(&mut all, fresh, next, entry, &fate)?;
+        push_key(&mut begin, begun_key(entry, &fate))?;
+        push_key(&mut end, ended_key(entry, &fate))?;
     }
     all.extend_from_slice(&fresh[next..])?;
     Ok(Survivors { all, begin, end })
@@ -160,7 +160,7 @@ pub(crate) fn rebuild<S: ShapesByName, F: ForbiddenPairs>(
     ensures rebuilt { IfOk result (λ rebuilt. IsRebuilt (moved_by marks.now) (F.pairs forbidden.now) (S.proxies shapes.now) old.now fresh.now rebuilt.all.items rebuilt.touches.begin.items rebuilt.touches.end.items) }
     ensures memory_only { IsOkUnless result Refusal.NoMemory }
 {
-    let survivors = turn_each(alloc, shapes, marks, forbidden, old, flags, fresh)?;
+    let survivors = fate_each(alloc, shapes, marks, forbidden, old, flags, fresh)?;
     let new_keys = keys_of_touching(alloc, fresh)?;
     let begin = merge(alloc, &new_keys, &survivors.begin)?;
     Ok(Rebuilt {

@@ -6,11 +6,11 @@ ghost use Rattle.contacts_base.specs.Near.{IsProxyList};
 ghost use Rattle.contacts_base.specs.Split.{AreSlotsBelow};
 ghost use Rattle.contacts.specs.Known.{IsPairKey};
 ghost use Rattle.contacts.specs.Stirring.{AreFlagsListed, AreHeld, AreQuiet, is_flagged, one_flagged, places_of_all, stirring_places};
-ghost use Rattle.contacts.specs.Turns.{moved_by, outcome, turned};
+ghost use Rattle.contacts.specs.Fates.{moved_by, outcome, after_fate};
 ghost use Rattle.packed_sets.specs.Marks.{AreListed};
 
 use crate::forbidden::ForbiddenPairs;
-use crate::fates::{ShapesByName, Turn, turn_of};
+use crate::fates::{ShapesByName, Fate, fate_of};
 use contacts_base::{ContactEntry, SplitContacts};
 use fixed_geom::Refusal;
 use std::alloc::Global;
@@ -351,20 +351,20 @@ pub fn refresh<S: ShapesByName>(
 }
 
 /// What becomes of a contact: one of which no body may stir stays as it is.
-pub(crate) fn turn_in<S: ShapesByName, F: ForbiddenPairs>(
+pub(crate) fn fate_in<S: ShapesByName, F: ForbiddenPairs>(
     shapes: &S,
     marks: &[bool],
     forbidden: &F,
     flags: &[bool],
     entry: &ContactEntry,
-) -> Turn
+) -> Fate
     requires shapes { IsProxyList (S.proxies shapes.now) }
     requires quiet { AreQuiet flags.now marks.now (S.proxies shapes.now) }
     requires key { IsPairKey entry.now.key }
-    ensures { turned entry.now result ≡ outcome (moved_by marks.now) (F.pairs forbidden.now) (S.proxies shapes.now) entry.now }
+    ensures { after_fate entry.now result ≡ outcome (moved_by marks.now) (F.pairs forbidden.now) (S.proxies shapes.now) entry.now }
 {
     if !is_one_flagged(flags, entry) {
-        return Turn::Stays;
+        return Fate::Stays;
     }
-    turn_of(shapes, marks, forbidden, entry)
+    fate_of(shapes, marks, forbidden, entry)
 }

@@ -6,15 +6,15 @@ ghost use Rattle.std.specs.Result.{IsOkUnless};
 ghost use Rattle.contacts_base.specs.Near.{IsProxyList};
 ghost use Rattle.contacts_base.specs.Split.{counting, counting_at};
 ghost use Rattle.contacts.specs.Known.{IsPairKey};
-ghost use Rattle.contacts.specs.Looked.{IsLookedOver, IsTurn, begun_of, ended_of, ending};
+ghost use Rattle.contacts.specs.Looked.{IsLookedOver, IsFate, begun_of, ended_of, ending};
 ghost use Rattle.contacts.specs.Stirring.{AreQuiet, stirring_places};
-ghost use Rattle.contacts.specs.Turns.{moved_by, noted};
+ghost use Rattle.contacts.specs.Fates.{moved_by, noted};
 
 use crate::changes::push_key;
 use crate::due::Touches;
 use crate::forbidden::ForbiddenPairs;
 use crate::stirring::Stirring;
-use crate::fates::{ShapesByName, Turn, begun_key, ended_key, note, note_end, turn_of};
+use crate::fates::{ShapesByName, Fate, begun_key, ended_key, note, note_end, fate_of};
 use contacts_base::{Renewal, SplitContacts};
 use fixed_geom::Refusal;
 use std::alloc::Global;
@@ -30,24 +30,24 @@ fn look_at<S: ShapesByName, F: ForbiddenPairs>(
     forbidden: &F,
     old: &SplitContacts,
     place: usize,
-) -> Result<Turn, Refusal>
+) -> Result<Fate, Refusal>
     requires { IsProxyList (S.proxies shapes.now) }
-    ensures turn { IfOk result (λ turn. IsTurn (moved_by marks.now) (F.pairs forbidden.now) (S.proxies shapes.now) (counting_at old.now place) turn) }
-    ensures notes { IfOk result (λ turn. notes.new.items ≡ notes.old.items ++ noted place turn) }
-    ensures ends { IfOk result (λ turn. ends.new.items ≡ ends.old.items ++ ending place turn) }
-    ensures begin { IfOk result (λ turn. touches.new.begin.items ≡ touches.old.begin.items ++ option_to_list (begun_of (counting_at old.now place) turn)) }
-    ensures end { IfOk result (λ turn. touches.new.end.items ≡ touches.old.end.items ++ option_to_list (ended_of (counting_at old.now place) turn)) }
+    ensures fate { IfOk result (λ fate. IsFate (moved_by marks.now) (F.pairs forbidden.now) (S.proxies shapes.now) (counting_at old.now place) fate) }
+    ensures notes { IfOk result (λ fate. notes.new.items ≡ notes.old.items ++ noted place fate) }
+    ensures ends { IfOk result (λ fate. ends.new.items ≡ ends.old.items ++ ending place fate) }
+    ensures begin { IfOk result (λ fate. touches.new.begin.items ≡ touches.old.begin.items ++ option_to_list (begun_of (counting_at old.now place) fate)) }
+    ensures end { IfOk result (λ fate. touches.new.end.items ≡ touches.old.end.items ++ option_to_list (ended_of (counting_at old.now place) fate)) }
     ensures memory_only { IsOkUnless result Refusal.NoMemory }
 {
     let Some(entry) = old.counting(place) else {
-        return Ok(Turn::Stays);
+        return Ok(Fate::Stays);
     };
-    let turn = turn_of(shapes, marks, forbidden, entry);
-    note(notes, place, &turn)?;
-    note_end(ends, place, &turn)?;
-    push_key(&mut touches.begin, begun_key(entry, &turn))?;
-    push_key(&mut touches.end, ended_key(entry, &turn))?;
-    Ok(turn)
+    let fate = fate_of(shapes, marks, forbidden, entry);
+    note(notes, place, &fate)?;
+    note_end(ends, place, &fate)?;
+    push_key(&mut touches.begin, begun_key(entry, &fate))?;
+    push_key(&mut touches.end, ended_key(entry, &fate))?;
+    Ok(fate)
 }
 
 /// Goes once over the contacts of the long list of which a body may stir, notes the points of those that are evaluated anew, and the places of those that go.

@@ -13,7 +13,7 @@ ghost use Rattle.contacts.specs.Due.{IsDue, due_of};
 ghost use Rattle.contacts.specs.Known.{IsKnown, IsPairKey, fresh as fresh_codes};
 ghost use Rattle.contacts.specs.Looked.{IsRebuiltIf};
 ghost use Rattle.contacts.specs.Stirring.{AreQuiet, one_flagged, stirring_places};
-ghost use Rattle.contacts.specs.Turns.{IsMade, moved_by};
+ghost use Rattle.contacts.specs.Fates.{IsMade, moved_by};
 
 use crate::due::{Due, Touches};
 use crate::forbidden::ForbiddenPairs;

@@ -8,7 +8,7 @@ use Rattle.world_core_base.specs.contracts.joint_table.JointTable as JointTable
 use Rattle.solver_sets.specs.contracts.anchors.Anchors as Anchors
 use Rattle.contacts_base.specs.contracts.split.SplitContacts as SplitContacts
 use Rattle.contacts.specs.contracts.due.Due as Due
-use Rattle.contacts.specs.contracts.contact_table.KeptContacts as KeptContacts
+use Rattle.contacts.specs.contracts.contact_table.ContactTable as ContactTable
 use Rattle.colour_solver.specs.contracts.colour_rows.Rows as Rows
 use Rattle.impulse_ledger.specs.contracts.ledger.Ledger as Ledger
 use Rattle.event_feed.specs.contracts.events.Events as Events
@@ -41,7 +41,7 @@ split_send = search (crosses, sendable) depth 60 fits 60000
 due_send : IsSend Due.the_row
 due_send = search (split_send, crosses, sendable) depth 60 fits 60000
 
-contacts_send : IsSend KeptContacts.the_row
+contacts_send : IsSend ContactTable.the_row
 contacts_send = search (split_send, due_send, crosses, sendable) depth 60 fits 60000
 
 anchors_send : IsSend Anchors.the_row

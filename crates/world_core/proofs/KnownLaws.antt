@@ -5,7 +5,7 @@ use Rattle.std.proofs.lemmas.Bool.Decides.{nat_tests}
 use Rattle.std.proofs.lemmas.List.Elements.{All-weaker}
 use Rattle.body_handles.specs.declared.places.TheConstants.{MAX_SLOTS}
 use Rattle.contacts.specs.Known.{IsKnown, IsPairKey, all_still, has_key}
-use Rattle.contacts.specs.Turns.{moved_by}
+use Rattle.contacts.specs.Fates.{moved_by}
 use Rattle.contacts.proofs.KnownLemmas.{all_known_after-holds, each_from_all, ids_same, known_stays-holds}
 use Rattle.contacts.proofs.Members.{Each}
 use Rattle.contacts_base.specs.Contacts.{contacts_without, has_slot, lookup, number_of}

@@ -3,7 +3,7 @@ ghost use Rattle.colour_solver.specs.States.{places_from};
 ghost use Rattle.std.specs.Result.{IsOkUnless};
 ghost use Rattle.contacts_base.specs.Near.{number_of};
 ghost use Rattle.contacts.specs.Changes.{keys_touching_only_in, AreRising};
-ghost use Rattle.contacts.specs.Turns.{stirs_in};
+ghost use Rattle.contacts.specs.Fates.{stirs_in};
 ghost use Rattle.plain_world.specs.Bodies.{AreBodies, IsBody};
 ghost use Rattle.plain_world.specs.Changes.{is_awake_in};
 ghost use Rattle.plain_world.specs.InSlots.{is_carried_in};
@@ -14,7 +14,7 @@ ghost use Rattle.world_core.specs.Named.{shape_of};
 ghost use Rattle.world_rules.specs.Collide.{body_proxies, proxies_of, contacts_after};
 
 use body_handles::MAX_SLOTS;
-use contacts::{BroadPhase, KeptContacts, ShapesByName, Touches};
+use contacts::{PairSweep, ContactTable, ShapesByName, Touches};
 use contacts_base::{Proxy, ShapeId};
 use fixed_geom::{Box2, Refusal};
 use plain_world::{Body, surface_of};
@@ -23,7 +23,7 @@ use std::marker::Model;
 use world_core_base::{BodyTable, JointTable};
 
 /// Adds the shapes of an enabled body, in their order.
-fn gather_body(broad: &mut BroadPhase, slot: usize, body: &Body) -> Result<(), Refusal>
+fn gather_body(broad: &mut PairSweep, slot: usize, body: &Body) -> Result<(), Refusal>
     requires slot { slot < MAX_SLOTS }
     requires body { IsBody body.now }
     requires before { All (λ other. number_of other < slot * 256) broad.old }
@@ -58,7 +58,7 @@ fn gather_body(broad: &mut BroadPhase, slot: usize, body: &Body) -> Result<(), R
 }
 
 /// Fills the broad phase with the shapes of all enabled bodies.
-fn gather(broad: &mut BroadPhase, bodies: &[Option<Body>]) -> Result<(), Refusal>
+fn gather(broad: &mut PairSweep, bodies: &[Option<Body>]) -> Result<(), Refusal>
     requires few { length bodies.now ≤ MAX_SLOTS }
     requires bodies { AreBodies bodies.now }
     ensures gathered { OnOk result (broad.new ≡ proxies_of bodies.now) }
@@ -186,7 +186,7 @@ impl ShapesByName for BodyShapes<'_> {
         self.table.boxes().overlapping(wanted)
     }
 
-    fn gather(&self, broad: &mut BroadPhase) -> Result<(), Refusal> {
+    fn gather(&self, broad: &mut PairSweep) -> Result<(), Refusal> {
         gather(broad, self.table.bodies())
     }
 }
@@ -195,7 +195,7 @@ impl ShapesByName for BodyShapes<'_> {
 /// contacts become is due then. Those of bodies that aren't marked are known from the contacts that there are. Refused 1 where memory is wanting.
 pub(crate) fn collide(
     alloc: Global,
-    contacts: &mut KeptContacts,
+    contacts: &mut ContactTable,
     bodies: &BodyTable,
     joints: &JointTable,
 ) -> Result<Touches, Refusal>

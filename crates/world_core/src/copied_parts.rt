@@ -4,7 +4,7 @@ ghost use Rattle.std.specs.Prelude.{◌≡◌, IfOk};
 ghost use Rattle.std.specs.Result.{IsOkUnless};
 
 use body_handles::Handles;
-use contacts::{Constraint, KeptContacts};
+use contacts::{Constraint, ContactTable};
 use event_feed::Events;
 use fixed_geom::Refusal;
 use impulse_ledger::Ledger;
@@ -29,7 +29,7 @@ pub(crate) struct CopiedJoints {
 /// The contacts, and the sets of the constraints.
 #[derive(Drop)]
 pub(crate) struct CopiedConstraints {
-    pub contacts: KeptContacts,
+    pub contacts: ContactTable,
     pub sets: Sets<Constraint>,
 }
 
@@ -73,7 +73,7 @@ pub(crate) fn copy_joint_parts(
 
 /// A copy of the contacts and of the sets of the constraints. Refused 1 where memory is wanting.
 pub(crate) fn copy_constraint_parts(
-    contacts: &KeptContacts,
+    contacts: &ContactTable,
     sets: &Sets<Constraint>,
     alloc: Global,
 ) -> Result<CopiedConstraints, Refusal>

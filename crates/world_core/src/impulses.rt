@@ -11,7 +11,7 @@ ghost use Rattle.world_core_base.specs.ContactBodies.{AreContactsOf};
 
 use colour_solver::Rows;
 use colour_solver_base::{ContactRow, PointRow};
-use contacts::KeptContacts;
+use contacts::ContactTable;
 use contacts_base::Impulses;
 use joint_rows::JointRow;
 use world_core_base::JointTable;
@@ -57,7 +57,7 @@ fn place_at(places: &[usize], index: usize) -> usize {
 }
 
 /// Gives each contact the impulses that the step has left it. It is looked for at the place that is noted for its row first.
-fn put_contact_impulses(contacts: &mut KeptContacts, rows: &[ContactRow], places: &[usize])
+fn put_contact_impulses(contacts: &mut ContactTable, rows: &[ContactRow], places: &[usize])
     ensures { contacts.new.contacts ≡ with_rows contacts.old.contacts rows.now }
 {
     for index in 0..rows.len() {
@@ -75,7 +75,7 @@ fn put_contact_impulses(contacts: &mut KeptContacts, rows: &[ContactRow], places
 #[inline(never)]
 pub(crate) fn put_impulses(
     joints: &mut JointTable,
-    contacts: &mut KeptContacts,
+    contacts: &mut ContactTable,
     rows: &Rows,
     places: &[usize],
 )

@@ -18,7 +18,7 @@ use crate::scratch::Scratch;
 use crate::solving::reserve_rows;
 use body_handles::MAX_SLOTS;
 use colour_solver::Rows;
-use contacts::{Constraint, KeptContacts, Touches};
+use contacts::{Constraint, ContactTable, Touches};
 use fixed_geom::Refusal;
 use graph_colours::COLOURS;
 use impulse_ledger::Ledger;
@@ -44,7 +44,7 @@ pub(crate) fn prepare(
     ledger: &mut Ledger,
     bodies: &mut BodyTable,
     joints: &JointTable,
-    contacts: &mut KeptContacts,
+    contacts: &mut ContactTable,
     sets: &mut Sets<Constraint>,
     rows: &mut Rows,
     scratch: &mut Scratch,

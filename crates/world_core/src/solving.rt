@@ -22,7 +22,7 @@ ghost use Rattle.world_rules.specs.Gathering.{CanGather};
 use crate::impulses::put_impulses;
 use body_handles::MAX_SLOTS;
 use colour_solver::{Rows, StepSolver, StepSums};
-use contacts::{Constraint, KeptContacts};
+use contacts::{Constraint, ContactTable};
 use fixed_geom::{Refusal, Vec2};
 use graph_colours::{COLOURS, Colours};
 use world_core_base::{BodyTable, JointTable, gather_rows};
@@ -55,7 +55,7 @@ pub(crate) fn solve<S: StepSolver>(
     places: &mut Vec<usize>,
     bodies: &mut BodyTable,
     joints: &mut JointTable,
-    contacts: &mut KeptContacts,
+    contacts: &mut ContactTable,
     colours: &Colours<Constraint>,
     gravity: Vec2,
     ticks: u64,

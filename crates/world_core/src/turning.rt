@@ -17,7 +17,7 @@ ghost use Rattle.world_rules.specs.Sound.{AreTold};
 
 use crate::preparing::Prepared;
 use body_handles::{Handle, MAX_SLOTS, Place};
-use contacts::{Constraint, KeptContacts};
+use contacts::{Constraint, ContactTable};
 use sleep_wake::{Change, Sets};
 use solver_sets::{Anchors, fill_newly_awake};
 use world_core_base::BodyTable;
@@ -66,7 +66,7 @@ fn renew_anchors(anchors: &mut Anchors, sets: &Sets<Constraint>, changes: &[Chan
 /// Carries out what the collide found: the contacts become what is due, the constraints begin and end, and who wakes by that is told so. Nothing stays marked but what
 /// that changes, since the contacts tell all from now on. Takes no memory.
 pub(crate) fn carry_out(
-    contacts: &mut KeptContacts,
+    contacts: &mut ContactTable,
     bodies: &mut BodyTable,
     sets: &mut Sets<Constraint>,
     anchors: &mut Anchors,

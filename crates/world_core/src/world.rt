@@ -28,7 +28,7 @@ use crate::scratch::Scratch;
 use body_handles::{Handle, Handles, Place};
 use box_tree::BoxTree;
 use colour_solver::{OneThread, Rows, StepSolver};
-use contacts::{Constraint, KeptContacts};
+use contacts::{Constraint, ContactTable};
 use contacts_base::ContactEntry;
 use event_feed::Events;
 use fixed_geom::{Refusal, Vec2, ZERO_VECTOR, is_within};
@@ -53,7 +53,7 @@ pub struct WorldCore {
     joint_handles: Handles,
     joints: JointTable,
     // The contacts. They tell which shapes are near, but for those of the bodies that the table marks.
-    contacts: KeptContacts,
+    contacts: ContactTable,
     // The constraints, the islands of their movers, and the colours of those that act.
     sets: Sets<Constraint>,
     // Of the constraints the contacts of each body that is no mover.
@@ -96,7 +96,7 @@ impl WorldCore {
             bodies: BodyTable::new(alloc),
             joint_handles: Handles::new(alloc),
             joints: JointTable::new(alloc),
-            contacts: KeptContacts::new(alloc),
+            contacts: ContactTable::new(alloc),
             sets: Sets::new(alloc)?,
             anchors: Anchors::new(alloc),
             rows: Rows::new(alloc),

@@ -18,7 +18,7 @@ use super::WorldCore;
 use crate::scratch::Scratch;
 use body_handles::Handles;
 use colour_solver::Rows;
-use contacts::{Constraint, KeptContacts};
+use contacts::{Constraint, ContactTable};
 use contacts_base::Contacts;
 use event_feed::Events;
 use fixed_geom::Refusal;
@@ -73,7 +73,7 @@ impl WorldCore {
             bodies: BodyTable::from_bodies(alloc, plain.bodies())?,
             joint_handles: Handles::from_places(alloc, plain.joint_places())?,
             joints: JointTable::from_joints(alloc, plain.joints())?,
-            contacts: KeptContacts::from_contacts(alloc, contacts_of(alloc, plain)?)?,
+            contacts: ContactTable::from_contacts(alloc, contacts_of(alloc, plain)?)?,
             sets: sets_of(alloc, plain)?,
             anchors: Anchors::new(alloc),
             rows: Rows::new(alloc),

@@ -1,5 +1,5 @@
 use Rattle.std.proofs.Common.{sym, ◌∙◌}
-use Rattle.contacts.proofs.TurnLemmas.{found_is_proxy}
+use Rattle.contacts.proofs.FateLemmas.{found_is_proxy}
 use Rattle.contacts.proofs.fates.points_again.Goals as goal
 
 pub contact_with-requires-clause-first : goal.contact_with-requires-clause-first

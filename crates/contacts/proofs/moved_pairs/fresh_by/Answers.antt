@@ -1,5 +1,5 @@
 use Rattle.std.proofs.Common.{sym, ◌∙◌}
-use Rattle.contacts.proofs.TurnLemmas.{found_is_proxy}
+use Rattle.contacts.proofs.FateLemmas.{found_is_proxy}
 use Rattle.contacts.proofs.moved_pairs.fresh_by.Goals as goal
 
 pub fresh_of-requires-clause-first : goal.fresh_of-requires-clause-first

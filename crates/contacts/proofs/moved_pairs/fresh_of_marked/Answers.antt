@@ -3,7 +3,7 @@ use Rattle.std.specs.Prelude.{All}
 use Rattle.std.specs.List.Sorted.{IsStrictlyIncreasing}
 use Rattle.contacts_base.specs.Split.{contacts_in}
 use Rattle.contacts.specs.NearMarked.{HasNumbersIn, fresh_by}
-use Rattle.contacts.specs.Turns.{moved_by}
+use Rattle.contacts.specs.Fates.{moved_by}
 use Rattle.contacts.proofs.NearMarkedLaws.{all_picked, marked_have_all, picked_are_fresh, picked_step}
 use Rattle.contacts.proofs.moved_pairs.fresh_of_marked.Goals as goal
 

@@ -2,7 +2,7 @@ use Rattle.std.proofs.Common.{◌≡◌, ◌++◌, drop}
 use Rattle.std.specs.List.{filter_map}
 use Rattle.contacts_base.specs.Split.{contacts_in}
 use Rattle.contacts.specs.NearMarked.{fresh_by}
-use Rattle.contacts.specs.Turns.{moved_by}
+use Rattle.contacts.specs.Fates.{moved_by}
 use Rattle.contacts.proofs.moved_pairs.fresh_of_marked.Given as goal
 
 abbrev pub invariant-loop-place : goal.invariant-loop-place

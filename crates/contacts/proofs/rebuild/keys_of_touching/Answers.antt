@@ -1,6 +1,6 @@
 use Rattle.std.proofs.Common.{None}
 use Rattle.contacts.specs.Changes.{key_if_new}
-use Rattle.contacts.proofs.TurnLemmas.{keys_step}
+use Rattle.contacts.proofs.FateLemmas.{keys_step}
 use Rattle.contacts.proofs.rebuild.keys_of_touching.Goals as goal
 
 pub loop-place-preserved : goal.loop-place-preserved

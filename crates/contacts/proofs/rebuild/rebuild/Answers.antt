@@ -5,13 +5,13 @@ use Rattle.contacts_base.specs.Contacts.{number_of}
 use Rattle.contacts_base.specs.Keys.{key_number}
 use Rattle.contacts_base.specs.Merge.{AreAscending, merged}
 use Rattle.contacts.specs.Changes.{key_if_new}
-use Rattle.contacts.specs.Turns.{moved_by}
+use Rattle.contacts.specs.Fates.{moved_by}
 use Rattle.contacts.proofs.JoinLaws.{new_keys_ascend}
 use Rattle.contacts.proofs.UpdateLemmas.{begun_ascend, increasing_ascends}
 use Rattle.contacts.proofs.rebuild.rebuild.Goals as goal
 
-pub turn_each-requires-clause-fresh : goal.turn_each-requires-clause-fresh
-turn_each-requires-clause-fresh g c = increasing_ascends number_of c.args.fresh.now c.requires.fresh
+pub fate_each-requires-clause-fresh : goal.fate_each-requires-clause-fresh
+fate_each-requires-clause-fresh g c = increasing_ascends number_of c.args.fresh.now c.requires.fresh
 
 pub merge-requires-clause-first : goal.merge-requires-clause-first
 merge-requires-clause-first g c = new_keys_ascend c.args.fresh.now _ c.requires.fresh (c.deref.ensures.value ∙ c.in_ok-new_keys.ensures.value)

@@ -1,6 +1,6 @@
 use Rattle.std.proofs.Common.{refl, ◌∙◌}
 use Rattle.contacts.specs.Stirring.{one_flagged}
-use Rattle.contacts.specs.Turns.{moved_by}
+use Rattle.contacts.specs.Fates.{moved_by}
 use Rattle.contacts.proofs.SurveyLaws.{IsFound, all_found, all_passed, found_step, none_passed, nothing_found, passing_step, quiet_passes}
 use Rattle.contacts.proofs.survey.look_over.Goals as goal
 
@@ -20,7 +20,7 @@ loop-index-preserved g c =
     let flags = c.args.stirring.now.flags.items in
     passing_step old.long (one_flagged flags) c.as_slice-places.result.now c.loop-index.index _ 0 (IsFound moved pairs ps old c.loop-index.notes.items c.loop-index.ends.items c.loop-index.touches.begin.items c.loop-index.touches.end.items) (IsFound moved pairs ps old c.look_at.new.notes.items c.look_at.new.ends.items c.look_at.new.touches.begin.items c.look_at.new.touches.end.items)
     (quiet_passes flags c.args.marks.now pairs ps old _ _ _ _ c.requires.flags c.requires.quiet c.requires.keys) c.loop-index-test.true refl c.loop-index.invariant
-    (λ lt f. found_step moved pairs ps old _ c.in_ok-look_at.field-0 _ _ _ _ _ _ _ _ c.requires.flags lt c.in_ok-look_at.ensures.turn c.in_ok-look_at.ensures.notes c.in_ok-look_at.ensures.ends c.in_ok-look_at.ensures.begin c.in_ok-look_at.ensures.end f)
+    (λ lt f. found_step moved pairs ps old _ c.in_ok-look_at.field-0 _ _ _ _ _ _ _ _ c.requires.flags lt c.in_ok-look_at.ensures.fate c.in_ok-look_at.ensures.notes c.in_ok-look_at.ensures.ends c.in_ok-look_at.ensures.begin c.in_ok-look_at.ensures.end f)
 
 pub returns-clause-looked : goal.returns-clause-looked
 returns-clause-looked g c =

@@ -1,5 +1,5 @@
 use Rattle.contacts.specs.Stirring.{one_flagged}
-use Rattle.contacts.specs.Turns.{moved_by}
+use Rattle.contacts.specs.Fates.{moved_by}
 use Rattle.contacts.proofs.SurveyLaws.{IsFound, IsPassing}
 use Rattle.contacts.proofs.survey.look_over.Given as goal
 

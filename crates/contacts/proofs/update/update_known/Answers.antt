@@ -4,7 +4,7 @@ use Rattle.contacts_base.specs.declared.contact.ContactEntry.{ContactEntry}
 use Rattle.contacts.specs.declared.due.Touches.{Touches}
 use Rattle.contacts.specs.Known.{IsPairKey}
 use Rattle.contacts.specs.Looked.{IsRebuilt}
-use Rattle.contacts.specs.Turns.{moved_by}
+use Rattle.contacts.specs.Fates.{moved_by}
 use Rattle.contacts.proofs.JoinLaws.{AreBothAscending, IsDone, done_both, done_long, due_from, fresh_rises, if_ok_both, long_pairs, on_ok_by, rebuilt_none, rebuilt_some, short_pairs, touches_ascend}
 use Rattle.contacts.proofs.UpdateLemmas.{if_ok_map}
 use Rattle.contacts.proofs.update.update_known.Given

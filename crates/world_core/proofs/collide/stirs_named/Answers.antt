@@ -1,6 +1,6 @@
 use Rattle.std.proofs.Common.{Option, ◌∙◌, ap, sym, ltb-true, ltb-false, arith}
 use Rattle.contacts_base.specs.declared.near.Proxy.{Proxy}
-use Rattle.contacts.specs.Turns.{stirs_in}
+use Rattle.contacts.specs.Fates.{stirs_in}
 use Rattle.world_core.proofs.NamedLaws.{body_there, named_beyond, named_there}
 use Rattle.world_core.proofs.collide.stirs_named.Goals as goal
 

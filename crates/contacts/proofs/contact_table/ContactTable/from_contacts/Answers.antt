@@ -1,5 +1,5 @@
 use Rattle.contacts.proofs.HeldLaws.{nothing_is_due}
-use Rattle.contacts.proofs.contact_table.KeptContacts.from_contacts.Goals as goal
+use Rattle.contacts.proofs.contact_table.ContactTable.from_contacts.Goals as goal
 
 pub invariant_of-result : goal.invariant_of-result
 invariant_of-result c = record {

@@ -7,8 +7,8 @@ use Rattle.contacts_base.specs.declared.contact.ContactEntry.{ContactEntry}
 use Rattle.contacts_base.specs.Contacts.{number_of as entry_number}
 use Rattle.contacts_base.specs.Keys.{id_number}
 use Rattle.contacts.specs.declared.forbidden.BodyPair.{BodyPair}
-use Rattle.contacts.specs.declared.fates.Turn.{Turn}
-use Rattle.contacts.specs.declared.fates.Turn.TheVariants.{Stays, Goes, Renewed}
+use Rattle.contacts.specs.declared.fates.Fate.{Fate}
+use Rattle.contacts.specs.declared.fates.Fate.TheVariants.{Stays, Goes, Renewed}
 use Rattle.contacts_base.specs.declared.split.Renewal.{Renewal}
 use Rattle.contacts.specs.ByPairs.{contacts_between}
 use Rattle.contacts.specs.Changes.{key_if_new, keys_touching_only_in}
@@ -34,17 +34,17 @@ one_stirs_of ps k = stirs_in (found ps (id_number k.first)) || stirs_in (found p
 
 -- ---- one contact
 
--- what the contact is after its turn, if it is still there
-abbrev pub turned : ContactEntry → Turn → Option ContactEntry
-turned e Stays = Some e
-turned e Goes = None
-turned e (Renewed c) = Some (record e { contact = c })
+-- what the contact is after its fate, if it is still there
+abbrev pub after_fate : ContactEntry → Fate → Option ContactEntry
+after_fate e Stays = Some e
+after_fate e Goes = None
+after_fate e (Renewed c) = Some (record e { contact = c })
 
 -- what becomes of the contact: evaluated anew in its place, or gone
 abbrev pub outcome : (ℕ → Bool) → List BodyPair → List Proxy → ContactEntry → Option ContactEntry
 outcome moved pairs ps e = cond (stays moved pairs ps e) (Some (again ps e)) None
 
--- its key, if it touches after its turn and didn't before
+-- its key, if it touches after its fate and didn't before
 abbrev pub key_if_begun : ContactEntry → Option ContactEntry → Option ContactKey
 key_if_begun e None = None
 key_if_begun e (Some f) = key_if_new (Some e) f
@@ -59,8 +59,8 @@ begun_keys moved pairs ps old = filter_map (λ e. key_if_begun e (outcome moved 
 abbrev pub ended_keys : (ℕ → Bool) → List BodyPair → List Proxy → List ContactEntry → List ContactKey
 ended_keys moved pairs ps old = filter_map (λ e. key_if_new (outcome moved pairs ps e) e) old
 
--- what a turn notes of the contact at a place
-abbrev pub noted : ℕ → Turn → List Renewal
+-- what a fate notes of the contact at a place
+abbrev pub noted : ℕ → Fate → List Renewal
 noted place Stays = []
 noted place Goes = []
 noted place (Renewed c) = record { place = place; contact = c } ∷ []

@@ -1,7 +1,7 @@
 use Rattle.std.proofs.Common.{sym, ◌∙◌}
-use Rattle.contacts.specs.Turns.{moved_by}
+use Rattle.contacts.specs.Fates.{moved_by}
 use Rattle.contacts.proofs.StirringLaws.{quiet_outcome}
-use Rattle.contacts.proofs.stirring.turn_in.Goals as goal
+use Rattle.contacts.proofs.stirring.fate_in.Goals as goal
 
 pub returns-then-not-is_one_flagged : goal.returns-then-not-is_one_flagged
 returns-then-not-is_one_flagged g c =

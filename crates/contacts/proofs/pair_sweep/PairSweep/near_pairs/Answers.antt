@@ -3,7 +3,7 @@ use Rattle.std.proofs.lemmas.Grind.{common_steps}
 use Rattle.contacts_base.specs.Near.{IsProxyList}
 use Rattle.contacts.specs.Pairs.{ArePairs}
 use Rattle.contacts.proofs.PairLemmas.{near_are_pairs}
-use Rattle.contacts.proofs.pair_sweep.BroadPhase.near_pairs.Goals as goal
+use Rattle.contacts.proofs.pair_sweep.PairSweep.near_pairs.Goals as goal
 
 pub returns-clause-value : goal.returns-clause-value
 returns-clause-value c = grind (arith, common_steps)

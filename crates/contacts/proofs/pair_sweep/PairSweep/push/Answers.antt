@@ -1,7 +1,7 @@
 use Rattle.std.proofs.Common.{sym}
 use Rattle.std.proofs.lemmas.List.{map-append}
 use Rattle.contacts.proofs.ProxyLemmas.{push_kept}
-use Rattle.contacts.proofs.pair_sweep.BroadPhase.push.Goals as goal
+use Rattle.contacts.proofs.pair_sweep.PairSweep.push.Goals as goal
 
 pub invariant_of-self-2 : goal.invariant_of-self-2
 invariant_of-self-2 c =

@@ -12,12 +12,12 @@ use Rattle.contacts_base.specs.Contacts.{contact_set}
 use Rattle.contacts_base.specs.Keys.{id_number}
 use Rattle.contacts_base.specs.Near.{IsProxy, IsProxyList}
 use Rattle.contacts.specs.declared.forbidden.BodyPair.{BodyPair}
-use Rattle.contacts.specs.declared.fates.Turn.{Turn}
-use Rattle.contacts.specs.declared.fates.Turn.TheVariants.{Stays, Goes, Renewed}
+use Rattle.contacts.specs.declared.fates.Fate.{Fate}
+use Rattle.contacts.specs.declared.fates.Fate.TheVariants.{Stays, Goes, Renewed}
 use Rattle.contacts_base.specs.declared.split.Renewal.{Renewal}
 use Rattle.contacts.specs.Known.{found, again_of, again}
 use Rattle.contacts.specs.Changes.{key_if_new}
-use Rattle.contacts.specs.Turns.{stirs_in, one_stirs_of, turned, outcome, key_if_begun, begun_keys, ended_keys}
+use Rattle.contacts.specs.Fates.{stirs_in, one_stirs_of, after_fate, outcome, key_if_begun, begun_keys, ended_keys}
 use Rattle.contacts_base.specs.Split.{renewed}
 use Rattle.contacts.proofs.ChangeLemmas.{picked_more}
 use Rattle.contacts.proofs.KnownLemmas.{IsPlace, place_of}
@@ -39,10 +39,10 @@ still_again ps e h = still_of e (found ps (id_number e.key.first)) (found ps (id
 -- ---- what is noted of it
 
 -- what a note makes of the contact
-abbrev pub put_turn : ContactEntry → Turn → ContactEntry
-put_turn e Stays = e
-put_turn e Goes = e
-put_turn e (Renewed c) = record e { contact = c }
+abbrev pub put_fate : ContactEntry → Fate → ContactEntry
+put_fate e Stays = e
+put_fate e Goes = e
+put_fate e (Renewed c) = record e { contact = c }
 
 pub renewed-append : (rs qs : List Renewal) (es : List ContactEntry) → renewed (rs ++ qs) es ≡ renewed qs (renewed rs es)
 renewed-append [] qs es = refl
@@ -57,10 +57,10 @@ pub keys_step : (pick : ContactEntry → Option ContactKey) (old : List ContactE
 keys_step pick old k e d o keys more lt is so was added =
     added ∙ ap (λ (l : List ContactKey). l ++ option_to_list o) was ∙ sym (picked_more pick (take k old) e o (sym so)) ∙ ap (λ (x : ContactEntry). filter_map pick (take k old ++ x ∷ [])) is ∙ ap (filter_map pick) (sym (take_more old k d lt))
 
-pub begun_step : (moved : ℕ → Bool) (pairs : List BodyPair) (ps : List Proxy) (old : List ContactEntry) (k : ℕ) (e d : ContactEntry) (turn : Turn) (o : Option ContactKey) (keys more : List ContactKey) → k < length old → e ≡ get_or old k d → turned e turn ≡ outcome moved pairs ps e → o ≡ key_if_begun e (turned e turn) → keys ≡ begun_keys moved pairs ps (take k old) → more ≡ keys ++ option_to_list o → more ≡ begun_keys moved pairs ps (take (k + 1) old)
-begun_step moved pairs ps old k e d turn o keys more lt is turns so was added =
-    keys_step (λ (f : ContactEntry). key_if_begun f (outcome moved pairs ps f)) old k e d o keys more lt is (so ∙ ap (λ (x : Option ContactEntry). key_if_begun e x) turns) was added
+pub begun_step : (moved : ℕ → Bool) (pairs : List BodyPair) (ps : List Proxy) (old : List ContactEntry) (k : ℕ) (e d : ContactEntry) (fate : Fate) (o : Option ContactKey) (keys more : List ContactKey) → k < length old → e ≡ get_or old k d → after_fate e fate ≡ outcome moved pairs ps e → o ≡ key_if_begun e (after_fate e fate) → keys ≡ begun_keys moved pairs ps (take k old) → more ≡ keys ++ option_to_list o → more ≡ begun_keys moved pairs ps (take (k + 1) old)
+begun_step moved pairs ps old k e d fate o keys more lt is fates so was added =
+    keys_step (λ (f : ContactEntry). key_if_begun f (outcome moved pairs ps f)) old k e d o keys more lt is (so ∙ ap (λ (x : Option ContactEntry). key_if_begun e x) fates) was added
 
-pub ended_step : (moved : ℕ → Bool) (pairs : List BodyPair) (ps : List Proxy) (old : List ContactEntry) (k : ℕ) (e d : ContactEntry) (turn : Turn) (o : Option ContactKey) (keys more : List ContactKey) → k < length old → e ≡ get_or old k d → turned e turn ≡ outcome moved pairs ps e → o ≡ key_if_new (turned e turn) e → keys ≡ ended_keys moved pairs ps (take k old) → more ≡ keys ++ option_to_list o → more ≡ ended_keys moved pairs ps (take (k + 1) old)
-ended_step moved pairs ps old k e d turn o keys more lt is turns so was added =
-    keys_step (λ (f : ContactEntry). key_if_new (outcome moved pairs ps f) f) old k e d o keys more lt is (so ∙ ap (λ (x : Option ContactEntry). key_if_new x e) turns) was added
+pub ended_step : (moved : ℕ → Bool) (pairs : List BodyPair) (ps : List Proxy) (old : List ContactEntry) (k : ℕ) (e d : ContactEntry) (fate : Fate) (o : Option ContactKey) (keys more : List ContactKey) → k < length old → e ≡ get_or old k d → after_fate e fate ≡ outcome moved pairs ps e → o ≡ key_if_new (after_fate e fate) e → keys ≡ ended_keys moved pairs ps (take k old) → more ≡ keys ++ option_to_list o → more ≡ ended_keys moved pairs ps (take (k + 1) old)
+ended_step moved pairs ps old k e d fate o keys more lt is fates so was added =
+    keys_step (λ (f : ContactEntry). key_if_new (outcome moved pairs ps f) f) old k e d o keys more lt is (so ∙ ap (λ (x : Option ContactEntry). key_if_new x e) fates) was added

@@ -7,7 +7,7 @@ use Rattle.contacts.specs.Forbidden.{allowed_codes}
 use Rattle.contacts.proofs.ByPairsLaws.{contacts_by_codes-holds}
 use Rattle.contacts.proofs.ForbiddenLemmas.{allowed_are_pairs}
 use Rattle.contacts.proofs.PairLemmas.{near_are_pairs}
-use Rattle.contacts.proofs.pair_sweep.BroadPhase.update_contacts.Goals as goal
+use Rattle.contacts.proofs.pair_sweep.PairSweep.update_contacts.Goals as goal
 
 pub list_allowed-requires : goal.list_allowed-requires
 list_allowed-requires g c = record { pairs = rw (c.deref-3.ensures.value, c.deref-4.ensures.value, c.in_ok-near_pairs.ensures.value, c.deref.ensures.value) (near_are_pairs c.self.inside.proxies.items c.self.invariant.list) }

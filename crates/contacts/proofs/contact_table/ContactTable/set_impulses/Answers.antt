@@ -1,6 +1,6 @@
 use Rattle.contacts.proofs.StirringLaws.{held_over}
 use Rattle.contacts.proofs.HeldLaws.{nothing_is_due}
-use Rattle.contacts.proofs.contact_table.KeptContacts.set_impulses.Goals as goal
+use Rattle.contacts.proofs.contact_table.ContactTable.set_impulses.Goals as goal
 
 pub invariant_of-self : goal.invariant_of-self
 invariant_of-self c = record {

@@ -1,5 +1,5 @@
 use Rattle.contacts.proofs.HeldLaws.{nothing_is_due}
-use Rattle.contacts.proofs.contact_table.KeptContacts.new.Goals as goal
+use Rattle.contacts.proofs.contact_table.ContactTable.new.Goals as goal
 
 pub invariant_of-result : goal.invariant_of-result
 invariant_of-result c = record {

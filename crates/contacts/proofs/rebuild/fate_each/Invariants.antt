@@ -2,8 +2,8 @@ use Rattle.std.proofs.Common.{◌≡◌, ◌≤◌, ◌++◌, length, map, take,
 use Rattle.contacts_base.specs.Contacts.{number_of}
 use Rattle.contacts.specs.Known.{again, staying}
 use Rattle.contacts_base.specs.Merge.{merged}
-use Rattle.contacts.specs.Turns.{begun_keys, ended_keys, moved_by}
-use Rattle.contacts.proofs.rebuild.turn_each.Given as goal
+use Rattle.contacts.specs.Fates.{begun_keys, ended_keys, moved_by}
+use Rattle.contacts.proofs.rebuild.fate_each.Given as goal
 
 abbrev pub invariant-loop-place : goal.invariant-loop-place
 invariant-loop-place g l = record {
