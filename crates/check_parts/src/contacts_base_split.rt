@@ -71,7 +71,7 @@ fn a_dropped_contact_stays_in_the_long_list_and_counts_no_more(
     );
     same(&rt, &[contacts.long().len(), contacts.beside()], &[1, 1]);
     same(&rt, &contacts.to_entries(rt.alloc())?.len(), &0);
-    contacts.settle(rt.alloc())?;
+    contacts.flush(rt.alloc())?;
     same(&rt, &[contacts.long().len(), contacts.beside()], &[0, 0]);
     Ok(())
 }

@@ -33,7 +33,7 @@ fn hub(alloc: Global) -> Result<Colours<Joint>, Refusal>
     for spoke in 1..28 {
         place(&mut colours, spoke, between(0, spoke))?;
     }
-    colours.settle();
+    colours.flush();
     Ok(colours)
 }
 

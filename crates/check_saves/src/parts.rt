@@ -78,7 +78,7 @@ fn written_again(
         Part::Totals => totals(alloc, &mut reader, value)?,
         Part::World | Part::Text => world(alloc, value)?,
     };
-    reader.settle(Clause::Momentum)?;
+    reader.verdict(Clause::Momentum)?;
     Ok(written)
 }
 

@@ -115,7 +115,7 @@ fn lapse(beside: &mut Beside)
 }
 
 /// Makes the two lists one, if they aren't. Refused 1 where memory is wanting, and then all stays as it is.
-fn settle(alloc: Global, contacts: &mut SplitContacts, beside: &mut Beside) -> Result<(), Refusal>
+fn flush(alloc: Global, contacts: &mut SplitContacts, beside: &mut Beside) -> Result<(), Refusal>
     requires { AreHeld beside.old.stirring contacts.old.long }
     ensures contacts { contacts_in contacts.new ≡ contacts_in contacts.old }
     ensures one { OnOk result (contacts.new.long ≡ contacts_in contacts.old) }
@@ -125,13 +125,13 @@ fn settle(alloc: Global, contacts: &mut SplitContacts, beside: &mut Beside) -> R
     if contacts.is_one() {
         return Ok(());
     }
-    contacts.settle(alloc)?;
+    contacts.flush(alloc)?;
     lapse(beside);
     Ok(())
 }
 
 /// The same where the collides have looked at as many contacts beside the long list as it has; and what the next one looks at is counted.
-fn settle_if_due(
+fn flush_if_due(
     alloc: Global,
     contacts: &mut SplitContacts,
     beside: &mut Beside,
@@ -142,7 +142,7 @@ fn settle_if_due(
     ensures memory_only { IsOkUnless result Refusal.NoMemory }
 {
     if beside.spent >= contacts.long().len() {
-        settle(alloc, contacts, beside)?;
+        flush(alloc, contacts, beside)?;
     }
     beside.spent = beside.spent.saturating_add(contacts.beside());
     Ok(())
@@ -167,7 +167,7 @@ fn make_anew<S: ShapesByName, F: ForbiddenPairs>(
     ensures any { due.new.any ≡ true }
     ensures memory_only { IsOkUnless result Refusal.NoMemory }
 {
-    settle(alloc, contacts, beside)?;
+    flush(alloc, contacts, beside)?;
     shapes.gather(&mut beside.broad)?;
     let changes = beside
         .broad
@@ -200,7 +200,7 @@ fn make_known<S: ShapesByName, F: ForbiddenPairs>(
     ensures any { due.new.any ≡ true }
     ensures memory_only { IsOkUnless result Refusal.NoMemory }
 {
-    settle_if_due(alloc, contacts, beside)?;
+    flush_if_due(alloc, contacts, beside)?;
     refresh(&mut beside.stirring, shapes, marks, marked, contacts)?;
     let fresh = fresh_of_marked(
         alloc,

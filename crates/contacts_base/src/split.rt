@@ -309,7 +309,7 @@ impl SplitContacts {
     }
 
     /// Makes the two lists one, in one pass. Refused 1 where memory is wanting. Changes no contact.
-    pub fn settle(&mut self, alloc: Global) -> Result<(), Refusal>
+    pub fn flush(&mut self, alloc: Global) -> Result<(), Refusal>
         ensures contacts { contacts_in self.new ≡ contacts_in self.old }
         ensures settled { OnOk result (self.new.long ≡ contacts_in self.old) }
         ensures refused { OnErr result (self.new ≡ self.old) }

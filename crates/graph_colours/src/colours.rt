@@ -14,7 +14,7 @@ ghost use Rattle.graph_colours.specs.Colours.{list_at, all_members, least_colour
 
 use crate::edited::EditedList;
 use crate::limits::OVERFLOW;
-use crate::lists::{copies, first_with, no_lists, remove_from_first, reserve_all, settle_all};
+use crate::lists::{copies, first_with, no_lists, remove_from_first, reserve_all, flush_all};
 use crate::marks::{first_free, grow, set_marks};
 use crate::{Id, Member, Movers};
 use fixed_geom::Refusal;
@@ -22,7 +22,7 @@ use std::alloc::Global;
 use std::marker::Model;
 
 /// The active constraints by colour. A constraint that takes its colour, or gives it up, may be put off in the list of its colour until
-/// [`Colours::settle`], so that it doesn't cost by how many others there are. Contracts see the members of each colour, ascending by id
+/// [`Colours::flush`], so that it doesn't cost by how many others there are. Contracts see the members of each colour, ascending by id
 /// (`lists`), how many more constraints may be placed with no memory (`room`), the bound below which their movers' slots must be (`slots`),
 /// and whether edits may be put off (`pending`): if it is 0, none is.
 #[derive(Drop)]
@@ -252,7 +252,7 @@ impl<C: Id> Colours<C> {
     }
 
     /// Makes the edits of all lists that were put off. It costs nothing where none is.
-    pub fn settle(&mut self)
+    pub fn flush(&mut self)
         ensures lists { self.new.lists ≡ self.old.lists }
         ensures room { self.new.room ≡ self.old.room }
         ensures slots { self.new.slots ≡ self.old.slots }
@@ -261,7 +261,7 @@ impl<C: Id> Colours<C> {
         if self.settled {
             return;
         }
-        settle_all(&mut self.lists, &mut self.spare);
+        flush_all(&mut self.lists, &mut self.spare);
         self.settled = true;
     }
 

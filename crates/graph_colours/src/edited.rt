@@ -271,7 +271,7 @@ impl<C: Id> EditedList<C> {
     }
 
     /// Makes the edits that were put off.
-    pub fn settle(&mut self, spare: &mut Vec<Member<C>>)
+    pub fn flush(&mut self, spare: &mut Vec<Member<C>>)
         ensures items { self.new.items ≡ self.old.items }
         ensures pending { self.new.pending ≡ 0 }
         ensures capacity { self.old.capacity ≤ self.new.capacity }

@@ -65,13 +65,13 @@ pub(crate) fn reserve_all<C: Id>(
 }
 
 /// Makes the edits of all lists that were put off.
-pub(crate) fn settle_all<C: Id>(lists: &mut Vec<EditedList<C>>, spare: &mut Vec<Member<C>>)
+pub(crate) fn flush_all<C: Id>(lists: &mut Vec<EditedList<C>>, spare: &mut Vec<Member<C>>)
     ensures lists { lists_of lists.new.items ≡ lists_of lists.old.items }
     ensures kept { (room : ℕ) → HaveRoom room lists.old.items → HaveRoom room lists.new.items }
     ensures rest { AreAtRest lists.new.items }
 {
     for place in 0..lists.len() {
-        lists[place].settle(spare);
+        lists[place].flush(spare);
     }
 }
 

@@ -5,7 +5,7 @@ use Rattle.islands.specs.Labels.{Labels, label_at, is_in, is_loose, is_asleep}
 use Rattle.islands.specs.Partition.{IsPartition}
 use Rattle.islands.proofs.LabelLemmas.{in_case}
 use Rattle.islands.proofs.SplitLemmas.{split_is}
-use Rattle.sleep_wake.specs.Acting.{Acting, IsSettled, awake_label, is_mover_awake}
+use Rattle.sleep_wake.specs.Acting.{Acting, IsConsistent, awake_label, is_mover_awake}
 use Rattle.sleep_wake.specs.SleepPhase.{lesser, least_timer, is_due, is_island, longer_at_rest, longest_at_rest, ready, picked_to_split, split_at, edges_of, split_picked, all_put_to_rest, ready_put_to_rest, sleep_phase}
 use Rattle.sleep_wake.specs.AwakeSlots.{AreAwakeSlots, AgreeAwake}
 use Rattle.sleep_wake.specs.Resting.{least_at, AreLeast, is_due_island, due_from, due_names, longest_due, rests_by, second_rests, is_to_rest}
@@ -128,7 +128,7 @@ same_picked labels a b p w = sym (longest_picked labels a) ∙ same_longest labe
 
 -- ---- a split leaves who is awake
 
-split_awake : {C : Type 0} (number : C → ℕ) (s : Acting C) (name : ℕ) (slot : ℕ) → IsSettled number s → IsNamedIsland true s.labels name → is_mover_awake (split_at name s).labels slot ≡ is_mover_awake s.labels slot
+split_awake : {C : Type 0} (number : C → ℕ) (s : Acting C) (name : ℕ) (slot : ℕ) → IsConsistent number s → IsNamedIsland true s.labels name → is_mover_awake (split_at name s).labels slot ≡ is_mover_awake s.labels slot
 unfolding split_at
 split_awake number s name slot w h =
     let o = names s.labels name true h in
@@ -138,14 +138,14 @@ split_awake number s name slot w h =
       | inr k ↦ ap awake_label (parts.others slot k)
     ]
 
-picked_awake : {C : Type 0} (number : C → ℕ) (s : Acting C) (picked : Option ℕ) (slot : ℕ) → IsSettled number s → ((name : ℕ) → picked ≡ Some name → IsNamedIsland true s.labels name) → is_mover_awake (split_picked picked s).labels slot ≡ is_mover_awake s.labels slot
+picked_awake : {C : Type 0} (number : C → ℕ) (s : Acting C) (picked : Option ℕ) (slot : ℕ) → IsConsistent number s → ((name : ℕ) → picked ≡ Some name → IsNamedIsland true s.labels name) → is_mover_awake (split_picked picked s).labels slot ≡ is_mover_awake s.labels slot
 picked_awake number s None slot w h = refl
 picked_awake number s (Some name) slot w h = split_awake number s name slot w (h name refl)
 
-after_split : {C : Type 0} (number : C → ℕ) (s : Acting C) (timers : List ℕ) (slot : ℕ) → IsSettled number s → is_mover_awake (split_picked (picked_to_split s.labels timers) s).labels slot ≡ is_mover_awake s.labels slot
+after_split : {C : Type 0} (number : C → ℕ) (s : Acting C) (timers : List ℕ) (slot : ℕ) → IsConsistent number s → is_mover_awake (split_picked (picked_to_split s.labels timers) s).labels slot ≡ is_mover_awake s.labels slot
 after_split number s timers slot w = picked_awake number s (picked_to_split s.labels timers) slot w (λ name e. picked_is s.labels timers name e)
 
-pub awake_after : {C : Type 0} (number : C → ℕ) (s now : Acting C) (timers awake : List ℕ) → IsSettled number s → now ≡ split_picked (picked_to_split s.labels timers) s → AreAwakeSlots s.labels awake → AreAwakeSlots now.labels awake
+pub awake_after : {C : Type 0} (number : C → ℕ) (s now : Acting C) (timers awake : List ℕ) → IsConsistent number s → now ≡ split_picked (picked_to_split s.labels timers) s → AreAwakeSlots s.labels awake → AreAwakeSlots now.labels awake
 awake_after {C} number s now timers awake w is a =
     let P : Acting C → Type 0 = λ v. AreAwakeSlots v.labels awake in
     subst P (sym is) (record {
@@ -155,10 +155,10 @@ awake_after {C} number s now timers awake w is a =
 
 -- ---- the phase
 
-pub phase_agrees : {C : Type 0} (number : C → ℕ) (s : Acting C) (a b : List ℕ) → IsSettled number s → AgreeAwake s.labels a b → sleep_phase number a s ≡ sleep_phase number b s
+pub phase_agrees : {C : Type 0} (number : C → ℕ) (s : Acting C) (a b : List ℕ) → IsConsistent number s → AgreeAwake s.labels a b → sleep_phase number a s ≡ sleep_phase number b s
 phase_agrees {C} number s a b w same =
     let now : Acting C = split_picked (picked_to_split s.labels a) s in
-    let settled : IsSettled number now = split_keeps number s (picked_to_split s.labels a) w (λ name e. picked_is s.labels a name e) in
+    let settled : IsConsistent number now = split_keeps number s (picked_to_split s.labels a) w (λ name e. picked_is s.labels a name e) in
     let still : AgreeAwake now.labels a b = record { size = same.size; same = λ slot h. same.same slot (sym (after_split number s a slot w) ∙ h) } in
     ap (λ (ns : List ℕ). all_put_to_rest number ns now) (same_ready false now.labels a b settled.islands.partition still)
     ∙ ap (λ (picked : Option ℕ). ready_put_to_rest number b (split_picked picked s)) (same_picked s.labels a b w.islands.partition same)

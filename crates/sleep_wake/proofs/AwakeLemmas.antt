@@ -10,7 +10,7 @@ use Rattle.islands.specs.Labels.{Labels, label_at, is_in, IsIn, is_asleep, is_lo
 use Rattle.islands.specs.Partition.{IsPartition, AreTogether}
 use Rattle.islands.proofs.LabelLemmas.{in_is, same_by_name, of_either, either_case, either_is, either_to, others_stay, one_either}
 use Rattle.islands.proofs.SplitLemmas.{IsLabelled, still_labelled}
-use Rattle.sleep_wake.specs.Acting.{Acting, IsSettled, awake_label, is_mover_awake, second_awake}
+use Rattle.sleep_wake.specs.Acting.{Acting, IsConsistent, awake_label, is_mover_awake, second_awake}
 use Rattle.sleep_wake.specs.Waking.{second_in, has_mover_of}
 use Rattle.sleep_wake.specs.Changes.{parted, united}
 use Rattle.sleep_wake.proofs.ListLemmas.{in_links}
@@ -51,10 +51,10 @@ in_or_none labels name first None false h w = inr (rw h refl, record { one = h; 
 in_or_none labels name first (Some c) true h w = inl (rw h refl, record { one = h; two = λ b e. both_in labels name first b (w b e) ∙ h })
 in_or_none labels name first (Some c) false h w = let off = both_in labels name first c (w c refl) ∙ h in inr (rw (h, off) refl, record { one = h; two = λ b e. both_in labels name first b (w b e) ∙ h })
 
-pub tie_together : {C : Type 0} (number : C → ℕ) (s : Acting C) (m : Member C) (b : ℕ) → IsSettled number s → Contains s.ties m → m.movers.second ≡ Some b → AreTogether s.labels m.movers.first b
+pub tie_together : {C : Type 0} (number : C → ℕ) (s : Acting C) (m : Member C) (b : ℕ) → IsConsistent number s → Contains s.ties m → m.movers.second ≡ Some b → AreTogether s.labels m.movers.first b
 tie_together number s m b w h e = w.islands.together m.movers.first b (inl (in_links s.ties m m.movers.first b h refl e))
 
-pub of_island : {C : Type 0} (number : C → ℕ) (s : Acting C) (name : ℕ) (m : Member C) → IsSettled number s → Contains s.ties m
+pub of_island : {C : Type 0} (number : C → ℕ) (s : Acting C) (name : ℕ) (m : Member C) → IsConsistent number s → Contains s.ties m
     → ((has_mover_of s.labels name m ≡ true) × AllIn s.labels name m.movers.first m.movers.second) ⊎ ((has_mover_of s.labels name m ≡ false) × NoneIn s.labels name m.movers.first m.movers.second)
 of_island number s name m w h = in_or_none s.labels name m.movers.first m.movers.second (is_in (label_at s.labels m.movers.first) name) refl (λ b e. tie_together number s m b w h e)
 

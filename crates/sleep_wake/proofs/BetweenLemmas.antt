@@ -10,7 +10,7 @@ use Rattle.std.proofs.lemmas.List.Kept.{AllPairs-cons}
 use Rattle.graph_colours.proofs.ListLemmas.{pairs_none, pairs_head, pairs_tail}
 use Rattle.graph_colours.proofs.PlaceLemmas.{not_same}
 use Rattle.islands.specs.Labels.{Labels}
-use Rattle.sleep_wake.specs.Acting.{AreMovers, IsSettled}
+use Rattle.sleep_wake.specs.Acting.{AreMovers, IsConsistent}
 use Rattle.sleep_wake.specs.declared.change.Change.{Change}
 use Rattle.sleep_wake.specs.declared.change.Change.TheVariants.{Begin, End}
 use Rattle.sleep_wake.specs.Changes.{turned, change_number, change_inserted, begins_inserted}
@@ -169,7 +169,7 @@ turns_into {C} number s new w r one movers =
     let changes : List (Change C) = changes_between number s.ties new in
     let ends : List (Change C) = map (λ m. End m) (only_in number new s.ties) in
     let are : AreChangesOf number s.labels s.ties changes = changes_are number s.labels s.ties new w.rising r movers in
-    let settled : IsSettled number (turned number changes s) = turning_keeps number s changes w (changes_fold number s.labels s.ties changes are) in (
+    let settled : IsConsistent number (turned number changes s) = turning_keeps number s changes w (changes_fold number s.labels s.ties changes are) in (
       settled,
       one_order number (turned number changes s).ties new settled.rising r (λ x. (
         (λ h. elim ((ties_after_all number s.labels changes s x w.rising are).0 h) [

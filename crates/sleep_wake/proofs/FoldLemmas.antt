@@ -15,7 +15,7 @@ use Rattle.islands.proofs.JoinLemmas.{contains_head, contains_tail}
 use Rattle.islands.proofs.SplitLemmas.{IsLabelled}
 use Rattle.sleep_wake.specs.declared.change.Change.{Change}
 use Rattle.sleep_wake.specs.declared.change.Change.TheVariants.{Begin, End}
-use Rattle.sleep_wake.specs.Acting.{Acting, AreMovers, IsSettled, awake_label, is_mover_awake, second_awake, are_awake}
+use Rattle.sleep_wake.specs.Acting.{Acting, AreMovers, IsConsistent, awake_label, is_mover_awake, second_awake, are_awake}
 use Rattle.sleep_wake.specs.Changes.{begun, ended, each_begun, each_ended, united, parted, after_change}
 use Rattle.sleep_wake.specs.ChangeLists.{CanBegin, CanEnd, AreChanges, IsChange, begin_count}
 use Rattle.sleep_wake.specs.Waking.{set_woken, woken_by, woken_at, second_woken, movers_woken}
@@ -51,7 +51,7 @@ are_up labels m a =
 
 -- ---- several begin
 
-pub begin_next : {C : Type 0} (number : C → ℕ) (m : Member C) (ms : List (Member C)) (s : Acting C) → IsSettled number s → CanBegin number (m ∷ ms) s → CanBegin number ms (begun number m s)
+pub begin_next : {C : Type 0} (number : C → ℕ) (m : Member C) (ms : List (Member C)) (s : Acting C) → IsConsistent number s → CanBegin number (m ∷ ms) s → CanBegin number ms (begun number m s)
 unfolding begun
 begin_next {C} number m ms s w can =
     let up = are_up s.labels m.movers (can.awake m (contains_head m ms)) in
@@ -75,7 +75,7 @@ each_begun_few number (m ∷ ms) s room h = let k : length s.ties + suc (length 
 
 -- ---- several end
 
-pub end_next : {C : Type 0} (number : C → ℕ) (m : Member C) (ms : List (Member C)) (s : Acting C) → IsSettled number s → CanEnd number (m ∷ ms) s → CanEnd number ms (ended number m s)
+pub end_next : {C : Type 0} (number : C → ℕ) (m : Member C) (ms : List (Member C)) (s : Acting C) → IsConsistent number s → CanEnd number (m ∷ ms) s → CanEnd number ms (ended number m s)
 unfolding ended
 end_next {C} number m ms s w can =
     let up = are_up s.labels m.movers (can.awake m (contains_head m ms)) in
@@ -95,7 +95,7 @@ each_ended_few number (m ∷ ms) s = omega (arith, each_ended_few number ms (end
 -- ---- changes
 
 -- the movers of a constraint are awake once they were woken
-pub woken_ready : {C : Type 0} (number : C → ℕ) (m : Movers) (s : Acting C) → IsSettled number s → AreMovers s.labels m → are_awake (movers_woken number m s).labels m ≡ true
+pub woken_ready : {C : Type 0} (number : C → ℕ) (m : Movers) (s : Acting C) → IsConsistent number s → AreMovers s.labels m → are_awake (movers_woken number m s).labels m ≡ true
 woken_ready number m s w h =
     let a = wakes_both number m.first m.second s w in
     all_awake (movers_woken number m s).labels m.first m.second (a.one h.first) (λ b e. a.two b e (h.second b e))

@@ -17,7 +17,7 @@ use Rattle.islands.proofs.JoinLemmas.{joined_within, linked_back}
 use Rattle.islands.proofs.LabelLemmas.{in_of, one_label}
 use Rattle.islands.proofs.KeptLemmas.{same_links, changing_state, loosening, merging}
 use Rattle.islands.proofs.SplitLemmas.{IsLabelled}
-use Rattle.sleep_wake.specs.Acting.{Acting, AreMovers, IsSettled, links_of, awake_label, is_mover_awake, second_awake, are_awake}
+use Rattle.sleep_wake.specs.Acting.{Acting, AreMovers, IsConsistent, links_of, awake_label, is_mover_awake, second_awake, are_awake}
 use Rattle.sleep_wake.specs.declared.change.Change.{Change}
 use Rattle.sleep_wake.specs.declared.change.Change.TheVariants.{Begin, End}
 use Rattle.sleep_wake.specs.Changes.{parted, united, ended, begun, turned}
@@ -45,7 +45,7 @@ not_acting number s m h k = false≢true (sym h ∙ awake_first s.labels m.mover
 
 -- ---- a set wakes
 
-waking : {C : Type 0} (number : C → ℕ) (s : Acting C) (name : ℕ) (l : Label) → IsSettled number s → label_at s.labels name ≡ Some l → l.name ≡ name → is_asleep l.state ≡ true → IsSettled number (set_woken number name s)
+waking : {C : Type 0} (number : C → ℕ) (s : Acting C) (name : ℕ) (l : Label) → IsConsistent number s → label_at s.labels name ≡ Some l → l.name ≡ name → is_asleep l.state ≡ true → IsConsistent number (set_woken number name s)
 unfolding set_woken woken
 waking {C} number s name l w e k a =
     let new : Labels = with_state name Whole s.labels in
@@ -91,13 +91,13 @@ waking {C} number s name l w e k a =
 
 -- what a waking leaves
 pub record Wakes {C : Type 0} (number : C → ℕ) (slot : ℕ) (s new : Acting C) : Type 0 where
-  pub settled : IsSettled number new
+  pub settled : IsConsistent number new
   pub ties : new.ties ≡ s.ties
   pub labelled : (t : ℕ) → IsLabelled s.labels t → IsLabelled new.labels t
   pub more : (t : ℕ) → is_mover_awake s.labels t ≡ true → is_mover_awake new.labels t ≡ true
   pub awake : IsLabelled s.labels slot → is_mover_awake new.labels slot ≡ true
 
-woken_set : {C : Type 0} (number : C → ℕ) (slot : ℕ) (s : Acting C) (l : Label) → IsSettled number s → label_at s.labels slot ≡ Some l → is_asleep l.state ≡ true → Wakes number slot s (set_woken number l.name s)
+woken_set : {C : Type 0} (number : C → ℕ) (slot : ℕ) (s : Acting C) (l : Label) → IsConsistent number s → label_at s.labels slot ≡ Some l → is_asleep l.state ≡ true → Wakes number slot s (set_woken number l.name s)
 unfolding set_woken woken
 woken_set number slot s l w e a =
     let home : label_at s.labels l.name ≡ Some l = w.islands.partition.named slot l e in
@@ -109,27 +109,27 @@ woken_set number slot s l w e a =
       awake = λ h. awake_in s.labels l.name Whole slot (in_of (label_at s.labels slot) l l.name e refl);
     }
 
-wakes_if : {C : Type 0} (number : C → ℕ) (slot : ℕ) (s : Acting C) (l : Label) (t : Bool) → is_asleep l.state ≡ t → IsSettled number s → label_at s.labels slot ≡ Some l → Wakes number slot s (cond t (set_woken number l.name s) s)
+wakes_if : {C : Type 0} (number : C → ℕ) (slot : ℕ) (s : Acting C) (l : Label) (t : Bool) → is_asleep l.state ≡ t → IsConsistent number s → label_at s.labels slot ≡ Some l → Wakes number slot s (cond t (set_woken number l.name s) s)
 wakes_if number slot s l true a w e = woken_set number slot s l w e a
 wakes_if number slot s l false a w e = record { settled = w; ties = refl; labelled = λ t h. h; more = λ t h. h; awake = λ h. ap awake_label e ∙ ap not a }
 
-wakes_by : {C : Type 0} (number : C → ℕ) (slot : ℕ) (s : Acting C) (o : Option Label) → label_at s.labels slot ≡ o → IsSettled number s → Wakes number slot s (woken_by number o s)
+wakes_by : {C : Type 0} (number : C → ℕ) (slot : ℕ) (s : Acting C) (o : Option Label) → label_at s.labels slot ≡ o → IsConsistent number s → Wakes number slot s (woken_by number o s)
 wakes_by number slot s None e w = record { settled = w; ties = refl; labelled = λ t h. h; more = λ t h. h; awake = λ h. absurd (let no : None ≡ Some h.0 = sym e ∙ h.1 in cc) }
 wakes_by number slot s (Some l) e w = wakes_if number slot s l (is_asleep l.state) refl w e
 
-pub wakes : {C : Type 0} (number : C → ℕ) (slot : ℕ) (s : Acting C) → IsSettled number s → Wakes number slot s (woken_at number slot s)
+pub wakes : {C : Type 0} (number : C → ℕ) (slot : ℕ) (s : Acting C) → IsConsistent number s → Wakes number slot s (woken_at number slot s)
 unfolding woken_at
 wakes number slot s w = wakes_by number slot s (label_at s.labels slot) refl w
 
 -- the sleepers of a constraint wake
 pub record WakesBoth {C : Type 0} (number : C → ℕ) (first : ℕ) (second : Option ℕ) (s new : Acting C) : Type 0 where
-  pub settled : IsSettled number new
+  pub settled : IsConsistent number new
   pub ties : new.ties ≡ s.ties
   pub labelled : (t : ℕ) → IsLabelled s.labels t → IsLabelled new.labels t
   pub one : IsLabelled s.labels first → is_mover_awake new.labels first ≡ true
   pub two : (b : ℕ) → second ≡ Some b → IsLabelled s.labels b → is_mover_awake new.labels b ≡ true
 
-pub wakes_both : {C : Type 0} (number : C → ℕ) (first : ℕ) (o : Option ℕ) (s : Acting C) → IsSettled number s → WakesBoth number first o s (second_woken number o (woken_at number first s))
+pub wakes_both : {C : Type 0} (number : C → ℕ) (first : ℕ) (o : Option ℕ) (s : Acting C) → IsConsistent number s → WakesBoth number first o s (second_woken number o (woken_at number first s))
 wakes_both number first None s w = let a = wakes number first s w in record { settled = a.settled; ties = a.ties; labelled = a.labelled; one = a.awake; two = λ b e h. absurd (let no : None ≡ Some b = e in cc) }
 wakes_both number first (Some c) s w =
     let a = wakes number first s w in
@@ -146,7 +146,7 @@ wakes_both number first (Some c) s w =
 
 -- ---- one ends
 
-ended_islands : {C : Type 0} (number : C → ℕ) (s : Acting C) (m : Member C) (o : Option ℕ) → m.movers.second ≡ o → IsSettled number s → Contains s.ties m → AreIslands (Linked (links_of (without_member number m.id s.ties))) (parted o m.movers.first s.labels)
+ended_islands : {C : Type 0} (number : C → ℕ) (s : Acting C) (m : Member C) (o : Option ℕ) → m.movers.second ≡ o → IsConsistent number s → Contains s.ties m → AreIslands (Linked (links_of (without_member number m.id s.ties))) (parted o m.movers.first s.labels)
 ended_islands {C} number s m None e w h =
     let ns : List (Member C) = without_member number m.id s.ties in
     let off : (x : Member C) (b : ℕ) → Contains s.ties x → x.movers.second ≡ Some b → number x.id ≢ number m.id = λ x b k q r.
@@ -180,7 +180,7 @@ ended_islands {C} number s m (Some c) e w h =
       ];
     })
 
-pub ending : {C : Type 0} (number : C → ℕ) (s : Acting C) (m : Member C) → IsSettled number s → Contains s.ties m → is_mover_awake s.labels m.movers.first ≡ true → IsSettled number (ended number m s)
+pub ending : {C : Type 0} (number : C → ℕ) (s : Acting C) (m : Member C) → IsConsistent number s → Contains s.ties m → is_mover_awake s.labels m.movers.first ≡ true → IsConsistent number (ended number m s)
 unfolding ended
 ending {C} number s m w h a =
     let new : Labels = parted m.movers.second m.movers.first s.labels in
@@ -200,7 +200,7 @@ ending {C} number s m w h a =
 
 -- ---- one begins
 
-begun_islands : {C : Type 0} (number : C → ℕ) (s : Acting C) (m : Member C) (o : Option ℕ) → m.movers.second ≡ o → IsSettled number s → AreMovers s.labels m.movers → AreIslands (Linked (links_of (inserted number m s.ties))) (united o m.movers.first s.labels)
+begun_islands : {C : Type 0} (number : C → ℕ) (s : Acting C) (m : Member C) (o : Option ℕ) → m.movers.second ≡ o → IsConsistent number s → AreMovers s.labels m.movers → AreIslands (Linked (links_of (inserted number m s.ties))) (united o m.movers.first s.labels)
 begun_islands {C} number s m None e w h =
     let ns : List (Member C) = inserted number m s.ties in
     let P : Member C → Type 0 = λ v. v.movers.second ≡ None in
@@ -243,7 +243,7 @@ begun_islands {C} number s m (Some c) e w h =
       back = linked_back (links_of ns) m.movers.first c here;
     })
 
-pub beginning : {C : Type 0} (number : C → ℕ) (s : Acting C) (m : Member C) → IsSettled number s → has_id number m.id s.ties ≡ false → AreMovers s.labels m.movers → is_mover_awake s.labels m.movers.first ≡ true → ((b : ℕ) → m.movers.second ≡ Some b → is_mover_awake s.labels b ≡ true) → IsSettled number (begun number m s)
+pub beginning : {C : Type 0} (number : C → ℕ) (s : Acting C) (m : Member C) → IsConsistent number s → has_id number m.id s.ties ≡ false → AreMovers s.labels m.movers → is_mover_awake s.labels m.movers.first ≡ true → ((b : ℕ) → m.movers.second ≡ Some b → is_mover_awake s.labels b ≡ true) → IsConsistent number (begun number m s)
 unfolding begun
 beginning {C} number s m w fresh h a d =
     let new : Labels = united m.movers.second m.movers.first s.labels in
@@ -274,7 +274,7 @@ beginning {C} number s m w fresh h a d =
 
 -- ---- the fold
 
-turning : {C : Type 0} (number : C → ℕ) (old : Labels) (changes : List (Change C)) (s : Acting C) → IsSettled number s → Labelled old s.labels → AreChanges number old s.ties changes → IsSettled number (turned number changes s)
+turning : {C : Type 0} (number : C → ℕ) (old : Labels) (changes : List (Change C)) (s : Acting C) → IsConsistent number s → Labelled old s.labels → AreChanges number old s.ties changes → IsConsistent number (turned number changes s)
 unfolding ended begun
 turning number old [] s w on h = w
 turning {C} number old (Begin m ∷ changes) s w on h =
@@ -283,7 +283,7 @@ turning {C} number old (Begin m ∷ changes) s w on h =
     let P : List (Member C) → Type 0 = λ v. has_id number m.id v ≡ false in
     let Q : List (Member C) → Type 0 = λ v. AreChanges number old (inserted number m v) changes in
     let there : AreMovers s.labels m.movers = movers_on old s.labels m.movers on h.1 in
-    let next : IsSettled number (begun number m now) = beginning number now m a.settled (subst P (sym a.ties) h.0) (movers_on s.labels now.labels m.movers a.labelled there) (a.one there.first) (λ b e. a.two b e (there.second b e)) in
+    let next : IsConsistent number (begun number m now) = beginning number now m a.settled (subst P (sym a.ties) h.0) (movers_on s.labels now.labels m.movers a.labelled there) (a.one there.first) (λ b e. a.two b e (there.second b e)) in
     turning number old changes (begun number m now) next
     (λ t q. united_labelled now.labels m.movers.first t m.movers.second (a.labelled t (on t q)))
     (subst Q (sym a.ties) h.2)
@@ -292,14 +292,14 @@ turning {C} number old (End m ∷ changes) s w on h =
     let now : Acting C = movers_woken number m.movers s in
     let P : List (Member C) → Type 0 = λ v. Contains v m in
     let Q : List (Member C) → Type 0 = λ v. AreChanges number old (without_member number m.id v) changes in
-    let next : IsSettled number (ended number m now) = ending number now m a.settled (subst P (sym a.ties) h.0) (a.one (w.movers m h.0).first) in
+    let next : IsConsistent number (ended number m now) = ending number now m a.settled (subst P (sym a.ties) h.0) (a.one (w.movers m h.0).first) in
     turning number old changes (ended number m now) next
     (λ t q. parted_labelled now.labels m.movers.first t m.movers.second (a.labelled t (on t q)))
     (subst Q (sym a.ties) h.1)
 
 -- ---- an island is put to rest
 
-pub resting : {C : Type 0} (number : C → ℕ) (s : Acting C) (name : ℕ) (l : Label) → IsSettled number s → label_at s.labels name ≡ Some l → l.name ≡ name → is_loose l.state ≡ false → IsSettled number (put_to_rest number name s)
+pub resting : {C : Type 0} (number : C → ℕ) (s : Acting C) (name : ℕ) (l : Label) → IsConsistent number s → label_at s.labels name ≡ Some l → l.name ≡ name → is_loose l.state ≡ false → IsConsistent number (put_to_rest number name s)
 unfolding put_to_rest rested
 resting {C} number s name l w e k n =
     let new : Labels = with_state name Asleep s.labels in
@@ -331,7 +331,7 @@ resting {C} number s name l w e k n =
 
 -- ---- what it means
 
-sleepers : {C : Type 0} (number : C → ℕ) (s : Acting C) (slot : ℕ) (l : Label) → IsSettled number s → label_at s.labels slot ≡ Some l → is_asleep l.state ≡ true
+sleepers : {C : Type 0} (number : C → ℕ) (s : Acting C) (slot : ℕ) (l : Label) → IsConsistent number s → label_at s.labels slot ≡ Some l → is_asleep l.state ≡ true
     → (is_loose l.state ≡ false) × ((other : ℕ) → (label_at s.labels other ≡ Some l) ↔ Joined (Linked (links_of s.ties)) slot other)
 sleepers number s slot l w e a =
     let R : ℕ → ℕ → Type 0 = Linked (links_of s.ties) in

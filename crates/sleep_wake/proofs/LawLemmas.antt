@@ -14,7 +14,7 @@ use Rattle.islands.proofs.LabelLemmas.{relabel_at, others_stay, added_here, adde
 use Rattle.islands.proofs.SplitLemmas.{split_is}
 use Rattle.sleep_wake.specs.declared.change.Change.{Change}
 use Rattle.sleep_wake.specs.declared.change.Change.TheVariants.{Begin, End}
-use Rattle.sleep_wake.specs.Acting.{Acting, AreMovers, IsSettled, awake_label, is_mover_awake}
+use Rattle.sleep_wake.specs.Acting.{Acting, AreMovers, IsConsistent, awake_label, is_mover_awake}
 use Rattle.sleep_wake.specs.Bodies.{mover_made, mover_gone}
 use Rattle.sleep_wake.specs.Changes.{begun, ended, united, parted, each_begun, each_ended, after_change, turned}
 use Rattle.sleep_wake.specs.ChangeLists.{CanBegin, CanEnd, AreChanges}
@@ -44,7 +44,7 @@ pub ending_each_keeps : {C : Type 0} (number : C → ℕ) → EndingEachKeeps nu
 ending_each_keeps number s [] w can = w
 ending_each_keeps number s (m ∷ ms) w can = ending_each_keeps number (ended number m s) ms (ending_keeps number s m w (can.there m (contains_head m ms)) (are_up s.labels m.movers (can.awake m (contains_head m ms))).first) (end_next number m ms s w can)
 
-split_if_keeps : {C : Type 0} (number : C → ℕ) (s : Acting C) (l : Label) (t : Bool) → IsSettled number s → label_at s.labels l.name ≡ Some l → is_asleep l.state ≡ false → IsSettled number (cond t (split_at l.name s) s)
+split_if_keeps : {C : Type 0} (number : C → ℕ) (s : Acting C) (l : Label) (t : Bool) → IsConsistent number s → label_at s.labels l.name ≡ Some l → is_asleep l.state ≡ false → IsConsistent number (cond t (split_at l.name s) s)
 split_if_keeps number s l true w e a = splitting_keeps number s l.name l w e refl a
 split_if_keeps number s l false w e a = w
 
@@ -52,17 +52,17 @@ not_and : (x y : Bool) → (not x && not y) ≡ true → x ≡ false
 not_and true y h = absurd (false≢true h)
 not_and false y h = refl
 
-rested_keeps : {C : Type 0} (number : C → ℕ) (s : Acting C) (slot : ℕ) (o : Option Label) → label_at s.labels slot ≡ o → IsSettled number s → is_whole o ≡ true → IsSettled number (rested_by number o s)
+rested_keeps : {C : Type 0} (number : C → ℕ) (s : Acting C) (slot : ℕ) (o : Option Label) → label_at s.labels slot ≡ o → IsConsistent number s → is_whole o ≡ true → IsConsistent number (rested_by number o s)
 rested_keeps number s slot None e w h = w
 rested_keeps number s slot (Some l) e w h = resting number s l.name l w (w.islands.partition.named slot l e) refl (not_and (is_loose l.state) (is_asleep l.state) h)
 
-slept_if_keeps : {C : Type 0} (number : C → ℕ) (s : Acting C) (slot : ℕ) (l : Label) (t : Bool) → is_asleep l.state ≡ t → IsSettled number s → label_at s.labels slot ≡ Some l → IsSettled number (cond t s (rested_at number slot (split_if_loose l s)))
+slept_if_keeps : {C : Type 0} (number : C → ℕ) (s : Acting C) (slot : ℕ) (l : Label) (t : Bool) → is_asleep l.state ≡ t → IsConsistent number s → label_at s.labels slot ≡ Some l → IsConsistent number (cond t s (rested_at number slot (split_if_loose l s)))
 slept_if_keeps number s slot l true a w e = w
 slept_if_keeps {C} number s slot l false a w e =
     let now : Acting C = split_if_loose l s in
     rested_keeps number now slot (label_at now.labels slot) refl (split_if_keeps number s l (is_loose l.state) w (w.islands.partition.named slot l e) a) (whole_after number s slot l w e a)
 
-slept_by_keeps : {C : Type 0} (number : C → ℕ) (s : Acting C) (slot : ℕ) (o : Option Label) → label_at s.labels slot ≡ o → IsSettled number s → IsSettled number (slept_by number slot o s)
+slept_by_keeps : {C : Type 0} (number : C → ℕ) (s : Acting C) (slot : ℕ) (o : Option Label) → label_at s.labels slot ≡ o → IsConsistent number s → IsConsistent number (slept_by number slot o s)
 slept_by_keeps number s slot None e w = w
 slept_by_keeps number s slot (Some l) e w = slept_if_keeps number s slot l (is_asleep l.state) refl w e
 
@@ -161,7 +161,7 @@ all_rest_slots : {C : Type 0} (number : C → ℕ) (names : List ℕ) (s : Actin
 all_rest_slots number [] s = λ t. refl
 all_rest_slots number (name ∷ names) s = λ t. all_rest_slots number names (put_to_rest number name s) t ∙ rest_slots number name s t
 
-split_slots : {C : Type 0} (number : C → ℕ) (name : ℕ) (s : Acting C) → IsSettled number s → SameSlots s.labels (split_at name s).labels
+split_slots : {C : Type 0} (number : C → ℕ) (name : ℕ) (s : Acting C) → IsConsistent number s → SameSlots s.labels (split_at name s).labels
 unfolding split_at
 split_slots number name s w =
     let parts = split_is s.labels name (edges_of s name) w.islands.partition (edges_inside s.labels name s.ties w.islands) in
@@ -170,7 +170,7 @@ split_slots number name s w =
       | inr h ↦ ap is_some (parts.others t h)
     ]
 
-split_if_slots : {C : Type 0} (number : C → ℕ) (name : ℕ) (t : Bool) (s : Acting C) → IsSettled number s → SameSlots s.labels (cond t (split_at name s) s).labels
+split_if_slots : {C : Type 0} (number : C → ℕ) (name : ℕ) (t : Bool) (s : Acting C) → IsConsistent number s → SameSlots s.labels (cond t (split_at name s) s).labels
 split_if_slots number name true s w = split_slots number name s w
 split_if_slots number name false s w = λ t. refl
 
@@ -178,25 +178,25 @@ rested_by_slots : {C : Type 0} (number : C → ℕ) (o : Option Label) (s : Acti
 rested_by_slots number None s = λ t. refl
 rested_by_slots number (Some l) s = rest_slots number l.name s
 
-slept_if_slots : {C : Type 0} (number : C → ℕ) (slot : ℕ) (l : Label) (t : Bool) (s : Acting C) → IsSettled number s → SameSlots s.labels (cond t s (rested_at number slot (split_if_loose l s))).labels
+slept_if_slots : {C : Type 0} (number : C → ℕ) (slot : ℕ) (l : Label) (t : Bool) (s : Acting C) → IsConsistent number s → SameSlots s.labels (cond t s (rested_at number slot (split_if_loose l s))).labels
 slept_if_slots number slot l true s w = λ t. refl
 slept_if_slots {C} number slot l false s w =
     let now : Acting C = split_if_loose l s in
     λ t. rested_by_slots number (label_at now.labels slot) now t ∙ split_if_slots number l.name (is_loose l.state) s w t
 
-slept_by_slots : {C : Type 0} (number : C → ℕ) (slot : ℕ) (o : Option Label) (s : Acting C) → IsSettled number s → SameSlots s.labels (slept_by number slot o s).labels
+slept_by_slots : {C : Type 0} (number : C → ℕ) (slot : ℕ) (o : Option Label) (s : Acting C) → IsConsistent number s → SameSlots s.labels (slept_by number slot o s).labels
 slept_by_slots number slot None s w = λ t. refl
 slept_by_slots number slot (Some l) s w = slept_if_slots number slot l (is_asleep l.state) s w
 
-slept_slots : {C : Type 0} (number : C → ℕ) (slot : ℕ) (s : Acting C) → IsSettled number s → SameSlots s.labels (slept_at number slot s).labels
+slept_slots : {C : Type 0} (number : C → ℕ) (slot : ℕ) (s : Acting C) → IsConsistent number s → SameSlots s.labels (slept_at number slot s).labels
 unfolding slept_at
 slept_slots number slot s w = slept_by_slots number slot (label_at s.labels slot) s w
 
-picked_slots : {C : Type 0} (number : C → ℕ) (o : Option ℕ) (s : Acting C) → IsSettled number s → SameSlots s.labels (split_picked o s).labels
+picked_slots : {C : Type 0} (number : C → ℕ) (o : Option ℕ) (s : Acting C) → IsConsistent number s → SameSlots s.labels (split_picked o s).labels
 picked_slots number None s w = λ t. refl
 picked_slots number (Some name) s w = split_slots number name s w
 
-phase_slots : {C : Type 0} (number : C → ℕ) (timers : List ℕ) (s : Acting C) → IsSettled number s → SameSlots s.labels (sleep_phase number timers s).labels
+phase_slots : {C : Type 0} (number : C → ℕ) (timers : List ℕ) (s : Acting C) → IsConsistent number s → SameSlots s.labels (sleep_phase number timers s).labels
 phase_slots {C} number timers s w =
     let now : Acting C = split_picked (picked_to_split s.labels timers) s in
     λ t. all_rest_slots number (ready false now.labels timers) now t ∙ picked_slots number (picked_to_split s.labels timers) s w t
@@ -251,26 +251,26 @@ movers_come_and_go number = record {
 
 -- ---- who is awake
 
-begun_awake : {C : Type 0} (number : C → ℕ) (m : Member C) (s : Acting C) (t : ℕ) → IsSettled number s → AreMovers s.labels m.movers → is_mover_awake s.labels m.movers.first ≡ true → ((b : ℕ) → m.movers.second ≡ Some b → is_mover_awake s.labels b ≡ true) → is_mover_awake (begun number m s).labels t ≡ is_mover_awake s.labels t
+begun_awake : {C : Type 0} (number : C → ℕ) (m : Member C) (s : Acting C) (t : ℕ) → IsConsistent number s → AreMovers s.labels m.movers → is_mover_awake s.labels m.movers.first ≡ true → ((b : ℕ) → m.movers.second ≡ Some b → is_mover_awake s.labels b ≡ true) → is_mover_awake (begun number m s).labels t ≡ is_mover_awake s.labels t
 unfolding begun
 begun_awake number m s t w h a b = united_awake s.labels m.movers.first t m.movers.second w.islands.partition h.first h.second a b
 
-ended_awake : {C : Type 0} (number : C → ℕ) (m : Member C) (s : Acting C) (t : ℕ) → IsSettled number s → is_mover_awake s.labels m.movers.first ≡ true → is_mover_awake (ended number m s).labels t ≡ is_mover_awake s.labels t
+ended_awake : {C : Type 0} (number : C → ℕ) (m : Member C) (s : Acting C) (t : ℕ) → IsConsistent number s → is_mover_awake s.labels m.movers.first ≡ true → is_mover_awake (ended number m s).labels t ≡ is_mover_awake s.labels t
 unfolding ended
 ended_awake number m s t w a = parted_awake s.labels m.movers.first t m.movers.second w.islands.partition a
 
-islands_awake : {C : Type 0} (number : C → ℕ) (names : List ℕ) (s : Acting C) → IsSettled number s → NobodyFallsAsleep s (islands_woken number names s)
+islands_awake : {C : Type 0} (number : C → ℕ) (names : List ℕ) (s : Acting C) → IsConsistent number s → NobodyFallsAsleep s (islands_woken number names s)
 islands_awake number [] s w = λ t h. h
 islands_awake number (name ∷ names) s w = let a = wakes number name s w in λ t h. islands_awake number names (woken_at number name s) a.settled t (a.more t h)
 
-each_begun_awake : {C : Type 0} (number : C → ℕ) (ms : List (Member C)) (s : Acting C) → IsSettled number s → CanBegin number ms s → NobodyFallsAsleep s (each_begun number ms s)
+each_begun_awake : {C : Type 0} (number : C → ℕ) (ms : List (Member C)) (s : Acting C) → IsConsistent number s → CanBegin number ms s → NobodyFallsAsleep s (each_begun number ms s)
 each_begun_awake number [] s w can = λ t h. h
 each_begun_awake number (m ∷ ms) s w can =
     let a = can.awake m (contains_head m ms) in
     let up = are_up s.labels m.movers a in
     λ t h. each_begun_awake number ms (begun number m s) (beginning_keeps number s m w (can.fresh m (contains_head m ms)) a) (begin_next number m ms s w can) t (begun_awake number m s t w up.movers up.first up.second ∙ h)
 
-each_ended_awake : {C : Type 0} (number : C → ℕ) (ms : List (Member C)) (s : Acting C) → IsSettled number s → CanEnd number ms s → NobodyFallsAsleep s (each_ended number ms s)
+each_ended_awake : {C : Type 0} (number : C → ℕ) (ms : List (Member C)) (s : Acting C) → IsConsistent number s → CanEnd number ms s → NobodyFallsAsleep s (each_ended number ms s)
 each_ended_awake number [] s w can = λ t h. h
 each_ended_awake number (m ∷ ms) s w can =
     let up = are_up s.labels m.movers (can.awake m (contains_head m ms)) in
@@ -278,14 +278,14 @@ each_ended_awake number (m ∷ ms) s w can =
 
 -- one change leaves the awake awake, and all settled
 pub record Steps {C : Type 0} (number : C → ℕ) (s new : Acting C) : Type 0 where
-  pub settled : IsSettled number new
+  pub settled : IsConsistent number new
   pub awake : NobodyFallsAsleep s new
 
-both_awake : {C : Type 0} (number : C → ℕ) (first : ℕ) (o : Option ℕ) (s : Acting C) → IsSettled number s → NobodyFallsAsleep s (second_woken number o (woken_at number first s))
+both_awake : {C : Type 0} (number : C → ℕ) (first : ℕ) (o : Option ℕ) (s : Acting C) → IsConsistent number s → NobodyFallsAsleep s (second_woken number o (woken_at number first s))
 both_awake number first None s w = (wakes number first s w).more
 both_awake number first (Some b) s w = let a = wakes number first s w in λ t h. (wakes number b (woken_at number first s) a.settled).more t (a.more t h)
 
-changed_steps : {C : Type 0} (number : C → ℕ) (old : Labels) (c : Change C) (cs : List (Change C)) (s : Acting C) → IsSettled number s → Labelled old s.labels → AreChanges number old s.ties (c ∷ cs) → Steps number s (after_change number c s)
+changed_steps : {C : Type 0} (number : C → ℕ) (old : Labels) (c : Change C) (cs : List (Change C)) (s : Acting C) → IsConsistent number s → Labelled old s.labels → AreChanges number old s.ties (c ∷ cs) → Steps number s (after_change number c s)
 changed_steps {C} number old (Begin m) cs s w on h =
     let now : Acting C = movers_woken number m.movers s in
     let a = wakes_both number m.movers.first m.movers.second s w in
@@ -310,7 +310,7 @@ changed_steps {C} number old (End m) cs s w on h =
       awake = λ t k. ended_awake number m now t a.settled one ∙ both_awake number m.movers.first m.movers.second s w t k;
     }
 
-turned_awake : {C : Type 0} (number : C → ℕ) (old : Labels) (changes : List (Change C)) (s : Acting C) → IsSettled number s → Labelled old s.labels → AreChanges number old s.ties changes → NobodyFallsAsleep s (turned number changes s)
+turned_awake : {C : Type 0} (number : C → ℕ) (old : Labels) (changes : List (Change C)) (s : Acting C) → IsConsistent number s → Labelled old s.labels → AreChanges number old s.ties changes → NobodyFallsAsleep s (turned number changes s)
 turned_awake number old [] s w on h = λ t k. k
 turned_awake number old (c ∷ changes) s w on h =
     let a = changed_steps number old c changes s w on h in
@@ -333,18 +333,18 @@ apart_by labels name t l p e k a h = elim (in_case (label_at labels t) name) [
   | inr i ↦ i
 ]
 
-set_leaves : {C : Type 0} (number : C → ℕ) (s : Acting C) (slot t : ℕ) (l : Label) (b : Bool) → is_asleep l.state ≡ b → IsSettled number s → label_at s.labels slot ≡ Some l → is_mover_awake s.labels t ≡ true → label_at (cond b (set_woken number l.name s) s).labels t ≡ label_at s.labels t
+set_leaves : {C : Type 0} (number : C → ℕ) (s : Acting C) (slot t : ℕ) (l : Label) (b : Bool) → is_asleep l.state ≡ b → IsConsistent number s → label_at s.labels slot ≡ Some l → is_mover_awake s.labels t ≡ true → label_at (cond b (set_woken number l.name s) s).labels t ≡ label_at s.labels t
 unfolding set_woken woken
 set_leaves number s slot t l true a w e h =
     let off : is_in (label_at s.labels t) l.name ≡ false = apart_by s.labels l.name t l w.islands.partition (w.islands.partition.named slot l e) refl a h in
     others_stay l.name l.name (record { name = l.name; state = Whole }) s.labels t (rw off refl)
 set_leaves number s slot t l false a w e h = refl
 
-leaves_by : {C : Type 0} (number : C → ℕ) (s : Acting C) (slot t : ℕ) (o : Option Label) → label_at s.labels slot ≡ o → IsSettled number s → is_mover_awake s.labels t ≡ true → label_at (woken_by number o s).labels t ≡ label_at s.labels t
+leaves_by : {C : Type 0} (number : C → ℕ) (s : Acting C) (slot t : ℕ) (o : Option Label) → label_at s.labels slot ≡ o → IsConsistent number s → is_mover_awake s.labels t ≡ true → label_at (woken_by number o s).labels t ≡ label_at s.labels t
 leaves_by number s slot t None e w h = refl
 leaves_by number s slot t (Some l) e w h = set_leaves number s slot t l (is_asleep l.state) refl w e h
 
-woken_leaves : {C : Type 0} (number : C → ℕ) (s : Acting C) (slot t : ℕ) → IsSettled number s → is_mover_awake s.labels t ≡ true → label_at (woken_at number slot s).labels t ≡ label_at s.labels t
+woken_leaves : {C : Type 0} (number : C → ℕ) (s : Acting C) (slot t : ℕ) → IsConsistent number s → is_mover_awake s.labels t ≡ true → label_at (woken_at number slot s).labels t ≡ label_at s.labels t
 unfolding woken_at
 woken_leaves number s slot t w h = leaves_by number s slot t (label_at s.labels slot) refl w h
 
@@ -382,7 +382,7 @@ same_label number [] s t u e = e
 same_label number (name ∷ names) s t u e = same_label number names (woken_at number name s) t u (same_woken number name s t u e)
 
 -- once its name was among those woken, an island is awake
-named_wakes : {C : Type 0} (number : C → ℕ) (names : List ℕ) (s : Acting C) (name : ℕ) → IsSettled number s → Contains names name → is_some (label_at s.labels name) ≡ true → is_mover_awake (islands_woken number names s).labels name ≡ true
+named_wakes : {C : Type 0} (number : C → ℕ) (names : List ℕ) (s : Acting C) (name : ℕ) → IsConsistent number s → Contains names name → is_some (label_at s.labels name) ≡ true → is_mover_awake (islands_woken number names s).labels name ≡ true
 named_wakes number [] s name w h k = absurd (none_in name h)
 named_wakes {C} number (n ∷ names) s name w h k =
     let a = wakes number n s w in
@@ -436,7 +436,7 @@ names_have labels names (first ∷ slots) slot x h e = elim (contains_cases firs
 sleeper_is : (l : Label) → is_asleep l.state ≡ true → sleeping_name (Some l) ≡ Some l.name
 sleeper_is l a = rw a refl
 
-woken_all : {C : Type 0} (number : C → ℕ) (s : Acting C) (slots : List ℕ) (slot : ℕ) (l : Label) (t : Bool) → is_asleep l.state ≡ t → IsSettled number s → Contains slots slot → label_at s.labels slot ≡ Some l → is_mover_awake (islands_woken number (sleeping_names s.labels slots) s).labels slot ≡ true
+woken_all : {C : Type 0} (number : C → ℕ) (s : Acting C) (slots : List ℕ) (slot : ℕ) (l : Label) (t : Bool) → is_asleep l.state ≡ t → IsConsistent number s → Contains slots slot → label_at s.labels slot ≡ Some l → is_mover_awake (islands_woken number (sleeping_names s.labels slots) s).labels slot ≡ true
 woken_all number s slots slot l false a w h e = islands_awake number (sleeping_names s.labels slots) s w slot (ap awake_label e ∙ ap not a)
 woken_all {C} number s slots slot l true a w h e =
     let new : Acting C = islands_woken number (sleeping_names s.labels slots) s in

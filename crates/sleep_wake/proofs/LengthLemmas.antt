@@ -14,7 +14,7 @@ use Rattle.islands.proofs.SplitLemmas.{split_size}
 use Rattle.islands.proofs.WideLemmas.{wide_at}
 use Rattle.sleep_wake.specs.declared.change.Change.{Change}
 use Rattle.sleep_wake.specs.declared.change.Change.TheVariants.{Begin, End}
-use Rattle.sleep_wake.specs.Acting.{Acting, AreMovers, IsSettled, acting, are_awake, awake_label, is_mover_awake, links_of, second_awake}
+use Rattle.sleep_wake.specs.Acting.{Acting, AreMovers, IsConsistent, acting, are_awake, awake_label, is_mover_awake, links_of, second_awake}
 use Rattle.sleep_wake.specs.Bodies.{mover_gone, mover_made}
 use Rattle.sleep_wake.specs.Changes.{begun, after_change, each_begun, each_ended, ended, parted, turned, united}
 use Rattle.sleep_wake.specs.SleepPhase.{all_put_to_rest, edges_of, picked_to_split, ready, sleep_phase, split_at, split_picked}
@@ -201,7 +201,7 @@ movers_same a b same m h = record {
   second = λ s e. let o = h.second s e in (o.0, same s ∙ o.1);
 }
 
-pub wide_settled : {C : Type 0} (number : C → ℕ) (slot : ℕ) (s : Acting C) → IsSettled number s → IsSettled number (widened slot s)
+pub wide_settled : {C : Type 0} (number : C → ℕ) (slot : ℕ) (s : Acting C) → IsConsistent number s → IsConsistent number (widened slot s)
 wide_settled number slot s h =
     let same : AreSame (padded s.labels (slot + 1)) s.labels = λ k. wide_at s.labels (slot + 1) k in
     record {

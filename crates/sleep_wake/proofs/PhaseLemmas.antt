@@ -16,11 +16,11 @@ use Rattle.islands.specs.Laws.{AreLinksOf}
 use Rattle.islands.proofs.LabelLemmas.{in_is, in_case, one_label, either_case, either_to, either_one, others_stay, rest_of, rest_stays, added_other}
 use Rattle.islands.proofs.KeptLemmas.{same_links, adding, taking_out}
 use Rattle.islands.proofs.SplitLemmas.{IsLabelled, splitting_keeps as splits_keep}
-use Rattle.sleep_wake.specs.Acting.{Acting, AreMovers, IsSettled, links_of, awake_label, is_mover_awake, are_awake}
+use Rattle.sleep_wake.specs.Acting.{Acting, AreMovers, IsConsistent, links_of, awake_label, is_mover_awake, are_awake}
 use Rattle.sleep_wake.specs.Waking.{released_all, put_to_rest}
 use Rattle.sleep_wake.specs.Bodies.{dropped, mover_gone, mover_made}
 use Rattle.sleep_wake.specs.SleepPhase.{split_at, edges_of, is_island, is_due, least_timer, ready_from, ready, longest_at_rest, longer_at_rest, is_less, picked_to_split, split_picked, all_put_to_rest, ready_put_to_rest}
-use Rattle.sleep_wake.specs.Laws.{DroppingKeeps, GoingKeeps, MakingKeeps, SplittingKeeps, SleepPhaseKeeps, EmptyIsSettled}
+use Rattle.sleep_wake.specs.Laws.{DroppingKeeps, GoingKeeps, MakingKeeps, SplittingKeeps, SleepPhaseKeeps, EmptyIsConsistent}
 use Rattle.sleep_wake.proofs.ListLemmas.{none_in, filter_in, in_filter, one_of, releases, Releases, rising_filter, link_in, in_links, links_more}
 use Rattle.sleep_wake.proofs.AwakeLemmas.{same_awake, awake_as}
 use Rattle.sleep_wake.proofs.KeptLemmas.{resting}
@@ -45,9 +45,9 @@ in_stays : {C : Type 0} (p : Member C → Bool) (ms : List (Member C)) (x : Memb
 in_stays p ms x h k = in_filter (λ m. not (p m)) ms x h (ap not k)
 
 -- whatever the labels become, as long as those of the constraints that stay keep who is awake
-drops : {C : Type 0} (number : C → ℕ) (s : Acting C) (p : Member C → Bool) (new : Labels) → IsSettled number s → AreIslands (Linked (links_of (Stays p s.ties))) new
+drops : {C : Type 0} (number : C → ℕ) (s : Acting C) (p : Member C → Bool) (new : Labels) → IsConsistent number s → AreIslands (Linked (links_of (Stays p s.ties))) new
     → ((m : Member C) → Contains s.ties m → p m ≡ false → AreMovers new m.movers × (are_awake new m.movers ≡ are_awake s.labels m.movers))
-    → IsSettled number (record { ties = Stays p s.ties; labels = new; lists = released_all number s.lists (filter p s.ties) })
+    → IsConsistent number (record { ties = Stays p s.ties; labels = new; lists = released_all number s.lists (filter p s.ties) })
 drops {C} number s p new w islands kept =
     let many : Releases number s.lists (filter p s.ties) = releases number (filter p s.ties) s.lists w.colouring in
     record {
@@ -130,7 +130,7 @@ left_awake labels slot t l p e a off =
       | inr gone ↦ rw (le-ltb (lowest_member l.name rest) (length rest) gone) (ap awake_label stays, λ k. (k.0, stays ∙ k.1))
     ]
 
-going_by : {C : Type 0} (number : C → ℕ) (s : Acting C) (slot : ℕ) (o : Option Label) → label_at s.labels slot ≡ o → IsSettled number s → awake_label o ≡ true → IsSettled number (mover_gone number slot s)
+going_by : {C : Type 0} (number : C → ℕ) (s : Acting C) (slot : ℕ) (o : Option Label) → label_at s.labels slot ≡ o → IsConsistent number s → awake_label o ≡ true → IsConsistent number (mover_gone number slot s)
 unfolding mover_gone taken_out
 going_by number s slot None e w a = absurd (false≢true a)
 going_by {C} number s slot (Some l) e w a =
@@ -167,7 +167,7 @@ going_by {C} number s slot (Some l) e w a =
     let new : Labels = left_behind (lowest_member l.name (rest_of s.labels slot)) l.name (rest_of s.labels slot) in
     let opened : taken_out s.labels slot ≡ new = rw e refl in
     let P : Labels → Type 0 = λ v. AreIslands (Linked (links_of ns)) v in
-    let Q : Labels → Type 0 = λ v. IsSettled number (record { ties = ns; labels = v; lists = released_all number s.lists (filter p s.ties) }) in
+    let Q : Labels → Type 0 = λ v. IsConsistent number (record { ties = ns; labels = v; lists = released_all number s.lists (filter p s.ties) }) in
     subst Q (sym opened) (drops number s p new w (subst P opened islands) (λ m h r.
     let o = without_mover m.movers slot r in
     let v = w.movers m h in
@@ -199,7 +199,7 @@ making_keeps {C} number s slot w fresh =
 
 -- ---- a split
 
-pub edges_are : {C : Type 0} (number : C → ℕ) (s : Acting C) (name : ℕ) → IsSettled number s → AreLinksOf (links_of s.ties) s.labels name (edges_of s name)
+pub edges_are : {C : Type 0} (number : C → ℕ) (s : Acting C) (name : ℕ) → IsConsistent number s → AreLinksOf (links_of s.ties) s.labels name (edges_of s name)
 edges_are number s name w =
     let p : ℕ × ℕ → Bool = λ e. is_in (label_at s.labels e.0) name in
     let on : (a b : ℕ) → Linked (links_of s.ties) a b → IsIn s.labels name a → IsIn s.labels name b = λ a b h k. let o = w.islands.together a b h in ap (λ v. is_in v name) (o.2 ∙ sym o.1) ∙ k in
@@ -301,7 +301,7 @@ longest_of P timer best (m ∷ ns) f h n e = longest_of P timer (longer_at_rest 
 pub picked_is : (labels : Labels) (timers : List ℕ) (n : ℕ) → picked_to_split labels timers ≡ Some n → is_island true n (label_at labels n) ≡ true
 picked_is labels timers n e = longest_of (IsNamedIsland true labels) (λ name. least_timer name labels timers) None (ready true labels timers) (λ k q. absurd (let no : None ≡ Some k = q in cc)) (ready_all true labels timers) n e
 
-pub split_keeps : {C : Type 0} (number : C → ℕ) (s : Acting C) (o : Option ℕ) → IsSettled number s → ((n : ℕ) → o ≡ Some n → IsNamedIsland true s.labels n) → IsSettled number (split_picked o s)
+pub split_keeps : {C : Type 0} (number : C → ℕ) (s : Acting C) (o : Option ℕ) → IsConsistent number s → ((n : ℕ) → o ≡ Some n → IsNamedIsland true s.labels n) → IsConsistent number (split_picked o s)
 split_keeps number s None w f = w
 split_keeps number s (Some name) w f = let o = names s.labels name true (f name refl) in splitting_keeps number s name o.l w o.at o.named o.awake
 
@@ -321,14 +321,14 @@ pub all_on : (P Q : ℕ → Type 0) (ns : List ℕ) → ((n : ℕ) → P n → Q
 all_on P Q [] f h = tt
 all_on P Q (n ∷ ns) f h = (f n h.0, all_on P Q ns f h.1)
 
-rest_keeps : {C : Type 0} (number : C → ℕ) (ns : List ℕ) (s : Acting C) → IsSettled number s → AreAll (MayRest s.labels) ns → IsSettled number (all_put_to_rest number ns s)
+rest_keeps : {C : Type 0} (number : C → ℕ) (ns : List ℕ) (s : Acting C) → IsConsistent number s → AreAll (MayRest s.labels) ns → IsConsistent number (all_put_to_rest number ns s)
 unfolding put_to_rest rested
 rest_keeps number [] s w h = w
 rest_keeps number (n ∷ ns) s w h =
     rest_keeps number ns (put_to_rest number n s) (resting number s n h.0.0 w h.0.1 h.0.2 h.0.3)
     (all_on (MayRest s.labels) (MayRest (with_state n Asleep s.labels)) ns (λ m o. may_after s.labels n m o) h.1)
 
-pub ready_settled : {C : Type 0} (number : C → ℕ) (timers : List ℕ) (s : Acting C) → IsSettled number s → IsSettled number (ready_put_to_rest number timers s)
+pub ready_settled : {C : Type 0} (number : C → ℕ) (timers : List ℕ) (s : Acting C) → IsConsistent number s → IsConsistent number (ready_put_to_rest number timers s)
 ready_settled number timers s w =
     rest_keeps number (ready false s.labels timers) s w
     (all_on (IsNamedIsland false s.labels) (MayRest s.labels) (ready false s.labels timers) (λ n h. let o = names s.labels n false h in (o.l, o.at, o.named, o.loosely)) (ready_all false s.labels timers))
@@ -340,7 +340,7 @@ sleeping_keeps {C} number s timers w =
 
 -- ---- nothing at all
 
-pub empty_settled : {C : Type 0} (number : C → ℕ) → EmptyIsSettled number
+pub empty_settled : {C : Type 0} (number : C → ℕ) → EmptyIsConsistent number
 empty_settled {C} number lists w none = record {
   rising = pairs_none (λ a b. number a.id < number b.id);
   movers = λ m h. absurd (none_in m h);

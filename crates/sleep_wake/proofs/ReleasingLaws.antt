@@ -8,7 +8,7 @@ use Rattle.graph_colours.specs.declared.member.Member.{Member}
 use Rattle.graph_colours.specs.Members.{has_id}
 use Rattle.graph_colours.specs.Colours.{all_members}
 use Rattle.islands.proofs.JoinLemmas.{contains_cases, contains_head, contains_tail}
-use Rattle.sleep_wake.specs.Acting.{Acting, IsSettled}
+use Rattle.sleep_wake.specs.Acting.{Acting, IsConsistent}
 use Rattle.sleep_wake.specs.Waking.{released_all}
 use Rattle.sleep_wake.specs.Rooms.{OwnMovers}
 use Rattle.sleep_wake.proofs.ListLemmas.{none_in, filter_in, in_filter, one_of, flat_in}
@@ -73,7 +73,7 @@ unfolding has_id
 one_has number id ms m h e = found_any (λ m. number m.id == number id) ms m h (eq-eqb (number m.id) (number id) e)
 
 -- a constraint with a colour is one of those that have one and are wanted just if it is one of the ties that are
-pub coloured_same : {C : Type 0} (number : C → ℕ) (s : Acting C) (wanted : Member C → Bool) → IsSettled number s → released_all number s.lists (filter wanted (all_members s.lists)) ≡ released_all number s.lists (filter wanted s.ties)
+pub coloured_same : {C : Type 0} (number : C → ℕ) (s : Acting C) (wanted : Member C → Bool) → IsConsistent number s → released_all number s.lists (filter wanted (all_members s.lists)) ≡ released_all number s.lists (filter wanted s.ties)
 coloured_same {C} number s wanted w =
     let few : List (Member C) = filter wanted (all_members s.lists) in
     let all : List (Member C) = filter wanted s.ties in
@@ -89,7 +89,7 @@ coloured_same {C} number s wanted w =
     one_has number x.id few x (in_filter wanted (all_members s.lists) x h (ap wanted (sym same) ∙ in_all.1)) refl))
 
 -- each has the movers that it has among the ties
-pub coloured_own : {C : Type 0} (number : C → ℕ) (s : Acting C) (wanted : Member C → Bool) → IsSettled number s → OwnMovers number (filter wanted (all_members s.lists)) s.lists
+pub coloured_own : {C : Type 0} (number : C → ℕ) (s : Acting C) (wanted : Member C → Bool) → IsConsistent number s → OwnMovers number (filter wanted (all_members s.lists)) s.lists
 coloured_own number s wanted w m h = own_of number s w m ((w.acting m).0 (filter_in wanted (all_members s.lists) m h).0).0
 
 -- ---- they are listed colour by colour

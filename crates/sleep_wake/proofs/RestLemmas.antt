@@ -8,7 +8,7 @@ use Rattle.islands.specs.declared.label.Label.{Label}
 use Rattle.islands.specs.Labels.{label_at, is_in, is_loose, is_asleep, relabel}
 use Rattle.islands.proofs.LabelLemmas.{in_of}
 use Rattle.islands.proofs.SplitLemmas.{split_is}
-use Rattle.sleep_wake.specs.Acting.{Acting, IsSettled}
+use Rattle.sleep_wake.specs.Acting.{Acting, IsConsistent}
 use Rattle.sleep_wake.specs.SleepPhase.{is_island, split_at, edges_of}
 use Rattle.sleep_wake.specs.Sleeping.{split_if_loose}
 use Rattle.sleep_wake.specs.Resting.{is_whole}
@@ -50,16 +50,16 @@ named_by slot (Some l) h = both_are (l.name == slot) (not (is_loose l.state) && 
 whole_by : (state : IslandState) → is_loose state ≡ false → is_asleep state ≡ false → (not (is_loose state) && not (is_asleep state)) ≡ true
 whole_by state a b = rw (a, b) refl
 
-split_whole : {C : Type 0} (number : C → ℕ) (s : Acting C) (slot : ℕ) (l : Label) → IsSettled number s → label_at s.labels slot ≡ Some l → is_whole (label_at (split_at l.name s).labels slot) ≡ true
+split_whole : {C : Type 0} (number : C → ℕ) (s : Acting C) (slot : ℕ) (l : Label) → IsConsistent number s → label_at s.labels slot ≡ Some l → is_whole (label_at (split_at l.name s).labels slot) ≡ true
 unfolding split_at
 split_whole number s slot l w e =
     let parts = split_is s.labels l.name (edges_of s l.name) w.islands.partition (edges_inside s.labels l.name s.ties w.islands) in
     ap is_whole (parts.members slot (in_of (label_at s.labels slot) l l.name e refl)).label
 
-whole_if : {C : Type 0} (number : C → ℕ) (s : Acting C) (slot : ℕ) (l : Label) (t : Bool) → is_loose l.state ≡ t → IsSettled number s → label_at s.labels slot ≡ Some l → is_asleep l.state ≡ false → is_whole (label_at (cond t (split_at l.name s) s).labels slot) ≡ true
+whole_if : {C : Type 0} (number : C → ℕ) (s : Acting C) (slot : ℕ) (l : Label) (t : Bool) → is_loose l.state ≡ t → IsConsistent number s → label_at s.labels slot ≡ Some l → is_asleep l.state ≡ false → is_whole (label_at (cond t (split_at l.name s) s).labels slot) ≡ true
 whole_if number s slot l true h w e a = split_whole number s slot l w e
 whole_if number s slot l false h w e a = ap is_whole e ∙ whole_by l.state h a
 
 -- the island of an awake mover is whole, once it was split if it was loose
-pub whole_after : {C : Type 0} (number : C → ℕ) (s : Acting C) (slot : ℕ) (l : Label) → IsSettled number s → label_at s.labels slot ≡ Some l → is_asleep l.state ≡ false → is_whole (label_at (split_if_loose l s).labels slot) ≡ true
+pub whole_after : {C : Type 0} (number : C → ℕ) (s : Acting C) (slot : ℕ) (l : Label) → IsConsistent number s → label_at s.labels slot ≡ Some l → is_asleep l.state ≡ false → is_whole (label_at (split_if_loose l s).labels slot) ≡ true
 whole_after number s slot l w e a = whole_if number s slot l (is_loose l.state) refl w e a

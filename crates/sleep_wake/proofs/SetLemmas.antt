@@ -12,7 +12,7 @@ use Rattle.graph_colours.proofs.ColouringLemmas.{placed_others}
 use Rattle.islands.specs.declared.label.Label.{Label}
 use Rattle.islands.specs.Labels.{label_at, IsIn, is_asleep}
 use Rattle.islands.proofs.JoinLemmas.{contains_tail}
-use Rattle.sleep_wake.specs.Acting.{Acting, IsSettled, is_mover_awake, are_awake}
+use Rattle.sleep_wake.specs.Acting.{Acting, IsConsistent, is_mover_awake, are_awake}
 use Rattle.sleep_wake.specs.Waking.{has_mover_of}
 use Rattle.sleep_wake.specs.Rooms.{CanPlace}
 use Rattle.sleep_wake.proofs.ListLemmas.{above_head, one_of, absent_from}
@@ -37,7 +37,7 @@ pub room_for_one : {C : Type 0} (number : C → ℕ) (m : Member C) (ms : List (
 room_for_one number m ms lists room slots w = let e : suc (length ms) ≤ room = w.enough in omega (arith, e)
 
 -- no constraint of an island that sleeps has a colour
-pub sleepers_absent : {C : Type 0} (number : C → ℕ) (s : Acting C) (name : ℕ) (l : Label) → IsSettled number s → label_at s.labels name ≡ Some l → l.name ≡ name → is_asleep l.state ≡ true
+pub sleepers_absent : {C : Type 0} (number : C → ℕ) (s : Acting C) (name : ℕ) (l : Label) → IsConsistent number s → label_at s.labels name ≡ Some l → l.name ≡ name → is_asleep l.state ≡ true
     → (x : Member C) → Contains s.ties x → has_mover_of s.labels name x ≡ true → colour_of number x.id s.lists ≡ None
 sleepers_absent {C} number s name l w e k a x h q =
     let down : (t : ℕ) → IsIn s.labels name t → is_mover_awake s.labels t ≡ false = λ t i. awake_as s.labels name t l w.islands.partition e k i ∙ ap not a in
@@ -52,7 +52,7 @@ sleepers_absent {C} number s name l w e k a x h q =
     rest (subst P same p.1))
 
 -- one that has a colour is none of an island that sleeps
-coloured_not : {C : Type 0} (number : C → ℕ) (s : Acting C) (name : ℕ) (l : Label) → IsSettled number s → label_at s.labels name ≡ Some l → l.name ≡ name → is_asleep l.state ≡ true
+coloured_not : {C : Type 0} (number : C → ℕ) (s : Acting C) (name : ℕ) (l : Label) → IsConsistent number s → label_at s.labels name ≡ Some l → l.name ≡ name → is_asleep l.state ≡ true
     → (x : Member C) → Contains (all_members s.lists) x → Contains s.ties x × (has_mover_of s.labels name x ≡ false)
 coloured_not number s name l w e k a x h =
     let o = (w.acting x).0 h in (
@@ -64,7 +64,7 @@ coloured_not number s name l w e k a x h =
     )
 
 -- where each constraint without a colour has room, those of an island that sleeps do
-pub room_for_sleepers : {C : Type 0} (number : C → ℕ) (s : Acting C) (name room : ℕ) (l : Label) → IsSettled number s → label_at s.labels name ≡ Some l → l.name ≡ name → is_asleep l.state ≡ true
+pub room_for_sleepers : {C : Type 0} (number : C → ℕ) (s : Acting C) (name room : ℕ) (l : Label) → IsConsistent number s → label_at s.labels name ≡ Some l → l.name ≡ name → is_asleep l.state ≡ true
     → length s.ties ≤ room + length (all_members s.lists) → length (filter (has_mover_of s.labels name) s.ties) ≤ room
 room_for_sleepers number s name room l w e k a enough =
     let few : length (all_members s.lists) + length (filter (has_mover_of s.labels name) s.ties) ≤ length s.ties = counted number (has_mover_of s.labels name) s.ties (all_members s.lists) w.rising w.colouring.once (coloured_not number s name l w e k a) in

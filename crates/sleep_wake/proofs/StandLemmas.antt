@@ -7,7 +7,7 @@ use Rattle.graph_colours.specs.Movers.{AreBelow}
 use Rattle.graph_colours.specs.Colours.{all_members}
 use Rattle.islands.specs.Labels.{Labels}
 use Rattle.islands.proofs.LabelLemmas.{some_short}
-use Rattle.sleep_wake.specs.Acting.{Acting, AreMovers, IsSettled}
+use Rattle.sleep_wake.specs.Acting.{Acting, AreMovers, IsConsistent}
 use Rattle.sleep_wake.specs.Standing.{Capacity, IsStanding}
 use Rattle.sleep_wake.proofs.CountLemmas.{counted}
 
@@ -24,7 +24,7 @@ pub record SameRoom (coloured after : ℕ) (c d : Capacity) : Type 0 where
   pub gathering_slots : c.gathering_slots ≤ d.gathering_slots
   pub leasts : c.leasts ≤ d.leasts
 
-pub stands : {C : Type 0} (number : C → ℕ) (s new : Acting C) (room slots : ℕ) (c d : Capacity) → IsStanding number s room slots c → IsSettled number new → length new.ties ≤ room → length new.labels ≤ slots → SameRoom (length (all_members s.lists)) (length (all_members new.lists)) c d → IsStanding number new room slots d
+pub stands : {C : Type 0} (number : C → ℕ) (s new : Acting C) (room slots : ℕ) (c d : Capacity) → IsStanding number s room slots c → IsConsistent number new → length new.ties ≤ room → length new.labels ≤ slots → SameRoom (length (all_members s.lists)) (length (all_members new.lists)) c d → IsStanding number new room slots d
 stands number s new room slots c d w settled enough few r = record {
   settled = settled;
   enough = enough;
@@ -44,7 +44,7 @@ stands number s new room slots c d w settled enough few r = record {
 }
 
 -- the same where the constraints and the number of labels stay
-pub stands_on : {C : Type 0} (number : C → ℕ) (s new : Acting C) (room slots : ℕ) (c d : Capacity) → IsStanding number s room slots c → IsSettled number new → new.ties ≡ s.ties → length new.labels ≡ length s.labels → SameRoom (length (all_members s.lists)) (length (all_members new.lists)) c d → IsStanding number new room slots d
+pub stands_on : {C : Type 0} (number : C → ℕ) (s new : Acting C) (room slots : ℕ) (c d : Capacity) → IsStanding number s room slots c → IsConsistent number new → new.ties ≡ s.ties → length new.labels ≡ length s.labels → SameRoom (length (all_members s.lists)) (length (all_members new.lists)) c d → IsStanding number new room slots d
 stands_on {C} number s new room slots c d w settled ties few r =
     let n : length new.ties ≡ length s.ties = ap (λ (l : List (Member C)). length l) ties in
     stands number s new room slots c d w settled (omega (arith, n, w.enough)) (omega (arith, few, w.few)) r
@@ -61,7 +61,7 @@ are_below labels slots m few h = record {
 }
 
 -- no more constraints have a colour than there are
-pub fewer_coloured : {C : Type 0} (number : C → ℕ) (s : Acting C) → IsSettled number s → length (all_members s.lists) ≤ length s.ties
+pub fewer_coloured : {C : Type 0} (number : C → ℕ) (s : Acting C) → IsConsistent number s → length (all_members s.lists) ≤ length s.ties
 fewer_coloured {C} number s w =
     let no_one : Member C → Bool = λ m. false in
     let n : length (all_members s.lists) + length (filter no_one s.ties) ≤ length s.ties = counted number no_one s.ties (all_members s.lists) w.rising w.colouring.once (λ x h. (((w.acting x).0 h).0, refl)) in

@@ -7,7 +7,7 @@ use Rattle.graph_colours.specs.Colours.{all_members, released}
 use Rattle.std.specs.Prelude.{Contains, filter}
 use Rattle.sleep_wake.specs.declared.change.Change.{Change}
 use Rattle.sleep_wake.specs.declared.change.Change.TheVariants.{Begin, End}
-use Rattle.sleep_wake.specs.Acting.{Acting, AreMovers, IsSettled}
+use Rattle.sleep_wake.specs.Acting.{Acting, AreMovers, IsConsistent}
 use Rattle.sleep_wake.specs.Waking.{movers_woken, released_all}
 use Rattle.sleep_wake.specs.Changes.{after_change, turned}
 use Rattle.sleep_wake.specs.ChangeLists.{begin_count, IsChange, AreChanges}
@@ -21,7 +21,7 @@ use Rattle.graph_colours.specs.Members.{without_member}
 use Rattle.std.specs.List.{All}
 use Rattle.std.proofs.lemmas.List.Elements.{All-filter}
 
-pub own_of : {C : Type 0} (number : C → ℕ) (s : Acting C) → IsSettled number s → OwnMovers number s.ties s.lists
+pub own_of : {C : Type 0} (number : C → ℕ) (s : Acting C) → IsConsistent number s → OwnMovers number s.ties s.lists
 own_of {C} number s w m there = λ k d lt e.
     let x : Member C = get_or (all_members s.lists) k d in
     let has : Contains s.ties x = ((w.acting x).0 (Contains-get_or (all_members s.lists) k d lt)).0 in
@@ -30,12 +30,12 @@ own_of {C} number s w m there = λ k d lt e.
 -- ---- once the movers of a constraint were woken
 
 pub record IsReady {C : Type 0} (number : C → ℕ) (m : Movers) (s now : Acting C) : Type 0 where
-  pub settled : IsSettled number now
+  pub settled : IsConsistent number now
   pub ties : now.ties ≡ s.ties
   pub movers : AreMovers now.labels m
   pub long : length now.labels ≡ length s.labels
 
-pub ready_for : {C : Type 0} (number : C → ℕ) (m : Movers) (s now : Acting C) → IsSettled number s → AreMovers s.labels m → now ≡ movers_woken number m s → IsReady number m s now
+pub ready_for : {C : Type 0} (number : C → ℕ) (m : Movers) (s now : Acting C) → IsConsistent number s → AreMovers s.labels m → now ≡ movers_woken number m s → IsReady number m s now
 ready_for {C} number m s now w h is =
     let P : Acting C → Type 0 = λ v. IsReady number m s v in
     subst P (sym is) (record {
@@ -49,7 +49,7 @@ one_alone : {C : Type 0} (number : C → ℕ) (c : Change C) (s : Acting C) → 
 one_alone number (Begin m) s h = (h.0, h.1, tt)
 one_alone number (End m) s h = (h, tt)
 
-pub change_keeps : {C : Type 0} (number : C → ℕ) (c : Change C) (s : Acting C) → IsSettled number s → IsChange number s.labels s.ties c → IsSettled number (after_change number c s)
+pub change_keeps : {C : Type 0} (number : C → ℕ) (c : Change C) (s : Acting C) → IsConsistent number s → IsChange number s.labels s.ties c → IsConsistent number (after_change number c s)
 change_keeps number c s w h = turning_keeps number s (c ∷ []) w (one_alone number c s h)
 
 -- ---- those that give up their colours leave the others theirs

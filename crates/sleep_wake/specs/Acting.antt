@@ -59,7 +59,7 @@ pub record AreMovers (labels : Labels) (m : Movers) : Type 0 where
 
 -- The constraints ascend. Their movers are in the islands that their links make. Those that have a colour are just those
 -- that act, and it is a colouring.
-pub record IsSettled {C : Type 0} (number : C → ℕ) (s : Acting C) : Type 0 where
+pub record IsConsistent {C : Type 0} (number : C → ℕ) (s : Acting C) : Type 0 where
   pub rising : AreRising number s.ties
   pub movers : (m : Member C) → Contains s.ties m → AreMovers s.labels m.movers
   pub islands : AreIslands (Linked (links_of s.ties)) s.labels

@@ -1,7 +1,7 @@
 -- What contracts see of the sets, and what the sets keep.
 use Rattle.std.specs.Prelude.{ℕ, ◌≤◌, ◌+◌, length}
 use Rattle.graph_colours.specs.Colours.{all_members}
-use Rattle.sleep_wake.specs.Acting.{Acting, IsSettled}
+use Rattle.sleep_wake.specs.Acting.{Acting, IsConsistent}
 
 -- the constraints, islands and colours; how many constraints may stand with no memory, those that do counted; the bound below which a mover's
 -- slot must be; and whether edits of the colours are put off: if it is 0, none is
@@ -39,7 +39,7 @@ pub record HasRoomFor (coloured room slots : ℕ) (c : Capacity) : Type 0 where
 
 -- the sets are settled, no more constraints and slots are there than there is room for, and the parts have that room
 pub record IsStanding {C : Type 0} (number : C → ℕ) (s : Acting C) (room slots : ℕ) (c : Capacity) : Type 0 where
-  pub settled : IsSettled number s
+  pub settled : IsConsistent number s
   pub enough : length s.ties ≤ room
   pub few : length s.labels ≤ slots
   pub rooms : HasRoomFor (length (all_members s.lists)) room slots c

@@ -5,7 +5,7 @@ ghost use Rattle.sleep_wake.specs.declared.change.Change.TheVariants.{Begin, End
 ghost use Rattle.graph_colours.specs.Colours.{all_members};
 ghost use Rattle.graph_colours.specs.Movers.{AreBelow};
 ghost use Rattle.graph_colours.specs.Members.{has_id};
-ghost use Rattle.sleep_wake.specs.Acting.{acting, AreMovers, IsSettled};
+ghost use Rattle.sleep_wake.specs.Acting.{acting, AreMovers, IsConsistent};
 ghost use Rattle.sleep_wake.specs.Changes.{united, parted, begun, ended, each_begun, each_ended, after_change, turned};
 ghost use Rattle.sleep_wake.specs.ChangeLists.{CanBegin, CanEnd, begin_count, IsChange, AreChanges};
 
@@ -47,7 +47,7 @@ pub(crate) fn begin<C: Id>(
     spare: &mut Vec<Member<C>>,
     member: Member<C>,
 )
-    requires settled { IsSettled C.number (acting ties.old.items islands.old.labels colours.old.lists) }
+    requires settled { IsConsistent C.number (acting ties.old.items islands.old.labels colours.old.lists) }
     requires fresh { has_id C.number member.id ties.old.items ≡ false }
     requires movers { AreMovers islands.old.labels member.movers }
     requires ties_room { length ties.old.items < ties.old.capacity }
@@ -73,7 +73,7 @@ pub(crate) fn end<C: Id>(
     spare: &mut Vec<Member<C>>,
     member: Member<C>,
 )
-    requires settled { IsSettled C.number (acting ties.old.items islands.old.labels colours.old.lists) }
+    requires settled { IsConsistent C.number (acting ties.old.items islands.old.labels colours.old.lists) }
     requires there { Contains ties.old.items member }
     ensures ended { acting ties.new.items islands.new.labels colours.new.lists ≡ ended C.number member (acting ties.old.items islands.old.labels colours.old.lists) }
     ensures capacity { ties.old.capacity ≤ ties.new.capacity }
@@ -94,7 +94,7 @@ pub(crate) fn begin_each<C: Id>(
     spare: &mut Vec<Member<C>>,
     members: &[Member<C>],
 )
-    requires settled { IsSettled C.number (acting ties.old.items islands.old.labels colours.old.lists) }
+    requires settled { IsConsistent C.number (acting ties.old.items islands.old.labels colours.old.lists) }
     requires can { CanBegin C.number members.now (acting ties.old.items islands.old.labels colours.old.lists) }
     requires below { length islands.old.labels ≤ colours.old.slots }
     requires ties_room { length ties.old.items + length members.now ≤ ties.old.capacity }
@@ -118,7 +118,7 @@ pub(crate) fn end_each<C: Id>(
     spare: &mut Vec<Member<C>>,
     members: &[Member<C>],
 )
-    requires settled { IsSettled C.number (acting ties.old.items islands.old.labels colours.old.lists) }
+    requires settled { IsConsistent C.number (acting ties.old.items islands.old.labels colours.old.lists) }
     requires can { CanEnd C.number members.now (acting ties.old.items islands.old.labels colours.old.lists) }
     ensures ended { acting ties.new.items islands.new.labels colours.new.lists ≡ each_ended C.number members.now (acting ties.old.items islands.old.labels colours.old.lists) }
     ensures capacity { ties.old.capacity ≤ ties.new.capacity }
@@ -140,7 +140,7 @@ fn begin_awake<C: Id>(
     gathering: &mut Gathering<C>,
     member: Member<C>,
 )
-    requires settled { IsSettled C.number (acting ties.old.items islands.old.labels colours.old.lists) }
+    requires settled { IsConsistent C.number (acting ties.old.items islands.old.labels colours.old.lists) }
     requires can { IsChange C.number islands.old.labels ties.old.items (Begin member) }
     requires below { length islands.old.labels ≤ colours.old.slots }
     requires gathering_ties { length ties.old.items ≤ gathering.old.ties }
@@ -168,7 +168,7 @@ fn end_awake<C: Id>(
     gathering: &mut Gathering<C>,
     member: Member<C>,
 )
-    requires settled { IsSettled C.number (acting ties.old.items islands.old.labels colours.old.lists) }
+    requires settled { IsConsistent C.number (acting ties.old.items islands.old.labels colours.old.lists) }
     requires can { IsChange C.number islands.old.labels ties.old.items (End member) }
     requires below { length islands.old.labels ≤ colours.old.slots }
     requires gathering_ties { length ties.old.items ≤ gathering.old.ties }
@@ -195,7 +195,7 @@ fn change<C: Id>(
     gathering: &mut Gathering<C>,
     change: Change<C>,
 )
-    requires settled { IsSettled C.number (acting ties.old.items islands.old.labels colours.old.lists) }
+    requires settled { IsConsistent C.number (acting ties.old.items islands.old.labels colours.old.lists) }
     requires can { IsChange C.number islands.old.labels ties.old.items change }
     requires below { length islands.old.labels ≤ colours.old.slots }
     requires gathering_ties { length ties.old.items ≤ gathering.old.ties }
@@ -225,7 +225,7 @@ pub(crate) fn turn<C: Id>(
     gathering: &mut Gathering<C>,
     changes: &[Change<C>],
 )
-    requires settled { IsSettled C.number (acting ties.old.items islands.old.labels colours.old.lists) }
+    requires settled { IsConsistent C.number (acting ties.old.items islands.old.labels colours.old.lists) }
     requires can { AreChanges C.number islands.old.labels ties.old.items changes.now }
     requires below { length islands.old.labels ≤ colours.old.slots }
     requires gathering_ties { length ties.old.items + begin_count changes.now ≤ gathering.old.ties }

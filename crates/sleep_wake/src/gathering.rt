@@ -133,7 +133,7 @@ fn list_from_movers<C: Id>(
     ensures members_capacity { vec_capacity members.old ≤ vec_capacity members.new }
 {
     islands.fill_members(name, members);
-    if members.len() < ties.len() / TIES_A_MOVER || !ties.is_settled() {
+    if members.len() < ties.len() / TIES_A_MOVER || !ties.is_flushed() {
         list_firsts_in_order(list, lists, members);
     } else {
         list_from_all(list, islands, ties.as_slice(), name);

@@ -1,6 +1,6 @@
 //! What keeps a world settled, and what being settled means. Each function does nothing; its contract is a law.
 
-ghost use Rattle.sleep_wake.specs.Laws.{SleepersAreOneComponent, LinkedStandTogether, WakingKeeps, RestingKeeps, EndingKeeps, BeginningKeeps, TurningKeeps, ChangesFold, TiesAfter, OneOrder, TurnsInto, DroppingKeeps, GoingKeeps, MakingKeeps, EmptyIsSettled, SplittingKeeps, SleepPhaseKeeps, WakingNamedKeeps, BeginningEachKeeps, EndingEachKeeps, SleepKeeps, MoversStay, MoversComeAndGo, AwakeStayAwake, WakingLeavesTheAwake, TheNamedAreAwake, TheAwakeAct};
+ghost use Rattle.sleep_wake.specs.Laws.{SleepersAreOneComponent, LinkedStandTogether, WakingKeeps, RestingKeeps, EndingKeeps, BeginningKeeps, TurningKeeps, ChangesFold, TiesAfter, OneOrder, TurnsInto, DroppingKeeps, GoingKeeps, MakingKeeps, EmptyIsConsistent, SplittingKeeps, SleepPhaseKeeps, WakingNamedKeeps, BeginningEachKeeps, EndingEachKeeps, SleepKeeps, MoversStay, MoversComeAndGo, AwakeStayAwake, WakingLeavesTheAwake, TheNamedAreAwake, TheAwakeAct};
 
 use graph_colours::Id;
 
@@ -81,8 +81,8 @@ pub fn making_keeps<C: Id>()
 {}
 
 /// A world with no movers and no constraints is settled.
-pub fn empty_is_settled<C: Id>()
-    ensures { EmptyIsSettled C.number }
+pub fn empty_is_consistent<C: Id>()
+    ensures { EmptyIsConsistent C.number }
 {}
 
 /// An awake island may be replaced by its components.

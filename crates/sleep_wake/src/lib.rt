@@ -5,7 +5,7 @@
 //! them up. Where a constraint begins or ends, its sleeping movers wake first. In the sleep phase of a step one
 //! loose island that is ready to sleep is split, and each whole one that is ready falls asleep.
 //!
-//! What holds throughout is `IsSettled` of the definitions: the constraints ascend, the islands are those that their
+//! What holds throughout is `IsConsistent` of the definitions: the constraints ascend, the islands are those that their
 //! links make, and the constraints with a colour are just those that act. The functions of [`laws`] say what keeps
 //! it and what follows from it.
 #![tactic(auto)]

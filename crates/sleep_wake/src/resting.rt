@@ -2,7 +2,7 @@
 
 ghost use Rattle.std.specs.Prelude.{◌≡◌, ◌≤◌, ◌+◌, ◌++◌, ◌∷◌, [], true, length, filter, vec_capacity};
 ghost use Rattle.graph_colours.specs.Colours.{all_members};
-ghost use Rattle.sleep_wake.specs.Acting.{acting, IsSettled};
+ghost use Rattle.sleep_wake.specs.Acting.{acting, IsConsistent};
 ghost use Rattle.sleep_wake.specs.Waking.{released_all};
 ghost use Rattle.sleep_wake.specs.SleepPhase.{ready_put_to_rest};
 ghost use Rattle.sleep_wake.specs.AwakeSlots.{AreAwakeSlots};
@@ -107,7 +107,7 @@ fn release_resting<C: Id>(
     leasts: &[Option<u64>],
     listed: &mut Vec<Member<C>>,
 )
-    requires settled { IsSettled C.number (acting ties.old.items islands.now.labels colours.old.lists) }
+    requires settled { IsConsistent C.number (acting ties.old.items islands.now.labels colours.old.lists) }
     requires pending { colours.old.pending ≡ 0 }
     ensures ties { ties.new.items ≡ ties.old.items }
     ensures ties_capacity { ties.old.capacity ≤ ties.new.capacity }
@@ -118,7 +118,7 @@ fn release_resting<C: Id>(
     if list_resting(listed, islands, leasts, colours) {
         release_each(colours, listed);
     } else {
-        ties.settle(listed);
+        ties.flush(listed);
         release_among(islands, colours, ties.as_slice(), leasts);
     }
 }
@@ -136,7 +136,7 @@ pub(crate) fn rest_ready<C: Id>(
     leasts: &mut Vec<Option<u64>>,
     listed: &mut Vec<Member<C>>,
 )
-    requires settled { IsSettled C.number (acting ties.old.items islands.old.labels colours.old.lists) }
+    requires settled { IsConsistent C.number (acting ties.old.items islands.old.labels colours.old.lists) }
     requires pending { colours.old.pending ≡ 0 }
     requires leasts { length islands.old.labels ≤ vec_capacity leasts.old }
     requires awake { AreAwakeSlots islands.old.labels awake.now }

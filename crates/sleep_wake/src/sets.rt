@@ -9,7 +9,7 @@ ghost use Rattle.graph_colours.specs.declared.member.Member.{Member as TheMember
 ghost use Rattle.graph_colours.specs.Members.{AreRising, has_id, with_number};
 ghost use Rattle.graph_colours.specs.Movers.{has_mover};
 ghost use Rattle.islands.specs.Labels.{label_at};
-ghost use Rattle.sleep_wake.specs.Acting.{acting, is_mover_awake, are_awake, AreMovers, IsSettled};
+ghost use Rattle.sleep_wake.specs.Acting.{acting, is_mover_awake, are_awake, AreMovers, IsConsistent};
 ghost use Rattle.sleep_wake.specs.Waking.{woken_at, movers_woken, put_to_rest};
 ghost use Rattle.sleep_wake.specs.Changes.{begun, ended, each_begun, each_ended, turned};
 ghost use Rattle.sleep_wake.specs.ChangeLists.{CanBegin, CanEnd, begin_count, AreChanges};
@@ -41,7 +41,7 @@ use std::marker::Model;
 /// that act. What changes in lists of constraints may be put off, so that it doesn't cost by how many there are. Contracts see
 /// these three once all is done (`acting`), how many constraints may stand with no memory, those that do counted (`room`), the
 /// bound below which a mover's slot must be (`slots`), and whether edits of the colours may be put off until
-/// [`Sets::settle`] (`pending`): if it is 0, none is. Only `new`, `try_copy`, `reserve`, `names_of`, `ties_of`, `list_ties` and
+/// [`Sets::flush`] (`pending`): if it is 0, none is. Only `new`, `try_copy`, `reserve`, `names_of`, `ties_of`, `list_ties` and
 /// `awake_slots` can be refused memory.
 #[derive(Drop)]
 pub struct Sets<C: Id> {
@@ -174,7 +174,7 @@ impl<C: Id> Sets<C> {
     /// How many constraints there are, whether their movers are awake or asleep.
     pub fn tie_count(&self) -> usize
         ensures value { result ≡ length self.now.acting.ties }
-        ensures settled { IsSettled C.number self.now.acting }
+        ensures settled { IsConsistent C.number self.now.acting }
         ensures enough { length self.now.acting.ties ≤ self.now.room }
     {
         self.ties.len()
@@ -206,7 +206,7 @@ impl<C: Id> Sets<C> {
 
     /// What holds of all sets: a law.
     pub fn know_settled(&self)
-        ensures { IsSettled C.number self.now.acting }
+        ensures { IsConsistent C.number self.now.acting }
     {
         let _ = self.tie_count();
     }
@@ -220,13 +220,13 @@ impl<C: Id> Sets<C> {
     }
 
     /// Makes the edits of the colours that were put off. It costs nothing where none is.
-    pub fn settle(&mut self)
+    pub fn flush(&mut self)
         ensures acting { self.new.acting ≡ self.old.acting }
         ensures room { self.new.room ≡ self.old.room }
         ensures slots { self.new.slots ≡ self.old.slots }
         ensures pending { self.new.pending ≡ 0 }
     {
-        self.colours.settle();
+        self.colours.flush();
     }
 
     /// The islands of the movers.
@@ -546,7 +546,7 @@ impl<C: Id> Sets<C> {
     {
         self.know_settled();
         self.split_ready(timers, awake);
-        self.settle();
+        self.flush();
         self.rest_ready(timers, awake);
     }
 

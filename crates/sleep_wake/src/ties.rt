@@ -39,13 +39,13 @@ impl<C: Id> Model for Ties<C> {
 }
 
 /// Makes the edits of the constraints that were put off, where the lists of the movers don't hold.
-fn settle_lapsed<C: Id>(list: &mut EditedList<C>, holds: bool, spare: &mut Vec<Member<C>>)
+fn flush_lapsed<C: Id>(list: &mut EditedList<C>, holds: bool, spare: &mut Vec<Member<C>>)
     ensures items { list.new.items ≡ list.old.items }
     ensures capacity { list.old.capacity ≤ list.new.capacity }
     ensures rest { holds ≡ false → list.new.pending ≡ 0 }
 {
     if !holds {
-        list.settle(spare);
+        list.flush(spare);
     }
 }
 
@@ -126,7 +126,7 @@ impl<C: Id> Ties<C> {
         self.list.insert(member, spare);
         self.settled = false;
         self.holds = add(&mut self.by_mover, self.holds, member);
-        settle_lapsed(&mut self.list, self.holds, spare);
+        flush_lapsed(&mut self.list, self.holds, spare);
     }
 
     /// Takes out the constraint that has the id, and answers its movers.
@@ -138,22 +138,22 @@ impl<C: Id> Ties<C> {
         let movers = self.list.remove(id, spare);
         self.settled = false;
         take_out(&mut self.by_mover, self.holds, id, movers);
-        settle_lapsed(&mut self.list, self.holds, spare);
+        flush_lapsed(&mut self.list, self.holds, spare);
         movers
     }
 
     /// Makes the edits that were put off.
-    pub(crate) fn settle(&mut self, spare: &mut Vec<Member<C>>)
+    pub(crate) fn flush(&mut self, spare: &mut Vec<Member<C>>)
         ensures items { self.new.items ≡ self.old.items }
         ensures pending { self.new.pending ≡ 0 }
         ensures capacity { self.old.capacity ≤ self.new.capacity }
     {
-        self.list.settle(spare);
+        self.list.flush(spare);
         self.settled = true;
     }
 
     /// Whether it is known that no edit is put off.
-    pub(crate) fn is_settled(&self) -> bool
+    pub(crate) fn is_flushed(&self) -> bool
         ensures { result ≡ true → self.now.pending ≡ 0 }
     {
         self.settled

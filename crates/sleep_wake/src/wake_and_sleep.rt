@@ -8,7 +8,7 @@ ghost use Rattle.graph_colours.specs.Colours.{all_members};
 ghost use Rattle.islands.specs.Labels.{label_at, is_in, IsIn};
 ghost use Rattle.islands.specs.Links.{Linked};
 ghost use Rattle.islands.specs.Partition.{IsPartition, AreIslands};
-ghost use Rattle.sleep_wake.specs.Acting.{acting, links_of, is_mover_awake, second_awake, are_awake, IsSettled};
+ghost use Rattle.sleep_wake.specs.Acting.{acting, links_of, is_mover_awake, second_awake, are_awake, IsConsistent};
 ghost use Rattle.sleep_wake.specs.Waking.{second_in, are_in, has_mover_of, placed_all, released_all, set_woken, woken_at, movers_woken, put_to_rest};
 ghost use Rattle.sleep_wake.specs.Rooms.{CanPlace, OwnMovers};
 
@@ -129,7 +129,7 @@ pub(crate) fn wake_set<C: Id>(
     gathering: &mut Gathering<C>,
     slot: u32,
 )
-    requires settled { IsSettled C.number (acting ties.now.items islands.old.labels colours.old.lists) }
+    requires settled { IsConsistent C.number (acting ties.now.items islands.old.labels colours.old.lists) }
     requires below { (m : TheMember C) → Contains ties.now.items m → AreBelow colours.old.slots m.movers }
     requires room { length ties.now.items ≤ colours.old.room + length (all_members colours.old.lists) }
     requires gathering_ties { length ties.now.items ≤ gathering.old.ties }
@@ -157,7 +157,7 @@ pub(crate) fn wake_movers<C: Id>(
     gathering: &mut Gathering<C>,
     movers: Movers,
 )
-    requires settled { IsSettled C.number (acting ties.now.items islands.old.labels colours.old.lists) }
+    requires settled { IsConsistent C.number (acting ties.now.items islands.old.labels colours.old.lists) }
     requires below { (m : TheMember C) → Contains ties.now.items m → AreBelow colours.old.slots m.movers }
     requires room { length ties.now.items ≤ colours.old.room + length (all_members colours.old.lists) }
     requires gathering_ties { length ties.now.items ≤ gathering.old.ties }
@@ -184,7 +184,7 @@ pub(crate) fn fall_asleep<C: Id>(
     name: u32,
 )
     requires island { IsIn islands.old.labels name name }
-    requires settled { IsSettled C.number (acting ties.now.items islands.old.labels colours.old.lists) }
+    requires settled { IsConsistent C.number (acting ties.now.items islands.old.labels colours.old.lists) }
     requires gathering_ties { length ties.now.items ≤ gathering.old.ties }
     requires gathering_slots { length islands.old.labels ≤ gathering.old.slots }
     ensures at_rest { acting ties.now.items islands.new.labels colours.new.lists ≡ put_to_rest C.number name (acting ties.now.items islands.old.labels colours.old.lists) }

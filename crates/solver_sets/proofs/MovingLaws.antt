@@ -22,7 +22,7 @@ use Rattle.plain_world.specs.declared.kind.Kind.TheVariants.{Static, Kinematic, 
 use Rattle.plain_world.specs.Joints.{joint_at}
 use Rattle.plain_world.specs.Kinds.{carried_by, is_dynamic, is_moving}
 use Rattle.plain_world.specs.Slots.{body_at}
-use Rattle.sleep_wake.specs.Acting.{Acting, IsSettled, are_awake, awake_label, is_mover_awake, second_awake}
+use Rattle.sleep_wake.specs.Acting.{Acting, IsConsistent, are_awake, awake_label, is_mover_awake, second_awake}
 use Rattle.solver_sets.specs.Beside.{is_beside_moving, is_joined_to_moving, is_moving_at, is_moving_in, is_stirred_between, is_touched_by_moving}
 use Rattle.solver_sets.specs.BesideByTies.{is_to_moving, ties_to_moving}
 use Rattle.solver_sets.specs.Laws as laws
@@ -151,7 +151,7 @@ place_there (p ∷ places) (o ∷ joints) (suc slot) j len at = place_there plac
 -- ---- a constraint that acts for each mover beside a body that moves
 
 -- a bond of a mover and a body that moves acts, if the mover is awake
-acts : (bodies : List (Option Body)) (s : JointSlots) (contacts : List ContactEntry) (a : Acting Constraint) (slot : ℕ) (bond : Bond) → IsSettled constraint_number a → a.ties ≡ ties_of bodies s contacts → is_mover_awake a.labels slot ≡ true
+acts : (bodies : List (Option Body)) (s : JointSlots) (contacts : List ContactEntry) (a : Acting Constraint) (slot : ℕ) (bond : Bond) → IsConsistent constraint_number a → a.ties ≡ ties_of bodies s contacts → is_mover_awake a.labels slot ≡ true
     → IsIn bond (bonds_of s contacts) → movers_with bodies bond.a bond.b ≡ Some (alone slot) → IsIn (record { id = bond.id; movers = alone slot }) (all_members a.lists)
 unfolding ties_of
 acts bodies s contacts a slot bond settled ties up there movers =
@@ -161,7 +161,7 @@ acts bodies s contacts a slot bond settled ties up there movers =
     let awake : are_awake a.labels m.movers ≡ true = ap (λ (t : Bool). t && second_awake a.labels None) up in
     in_from_contains (all_members a.lists) m ((settled.acting m).1 (listed, awake))
 
-tells : (bodies : List (Option Body)) (s : JointSlots) (contacts : List ContactEntry) (a : Acting Constraint) (slot : ℕ) (bond : Bond) → IsSettled constraint_number a → a.ties ≡ ties_of bodies s contacts → moves bodies slot ≡ true → is_mover_awake a.labels slot ≡ true
+tells : (bodies : List (Option Body)) (s : JointSlots) (contacts : List ContactEntry) (a : Acting Constraint) (slot : ℕ) (bond : Bond) → IsConsistent constraint_number a → a.ties ≡ ties_of bodies s contacts → moves bodies slot ≡ true → is_mover_awake a.labels slot ≡ true
     → IsIn bond (bonds_of s contacts) → is_stirred_between bodies slot bond.a bond.b ≡ true → is_to_moving bodies s.joints slot bond.id ≡ true → list_any (ties_to_moving bodies s.joints slot) (all_members a.lists) ≡ true
 tells bodies s contacts a slot bond settled ties moving up there stirred to =
     any_in (ties_to_moving bodies s.joints slot) (all_members a.lists) (record { id = bond.id; movers = alone slot })
@@ -171,7 +171,7 @@ either : (t u : Bool) → (t || u) ≡ true → (t ≡ true) ⊎ (u ≡ true)
 either true u e = inl refl
 either false u e = inr e
 
-complete : (bodies : List (Option Body)) (s : JointSlots) (contacts : List ContactEntry) (a : Acting Constraint) (slot : ℕ) → length s.places ≡ length s.joints → IsSettled constraint_number a → a.ties ≡ ties_of bodies s contacts → moves bodies slot ≡ true
+complete : (bodies : List (Option Body)) (s : JointSlots) (contacts : List ContactEntry) (a : Acting Constraint) (slot : ℕ) → length s.places ≡ length s.joints → IsConsistent constraint_number a → a.ties ≡ ties_of bodies s contacts → moves bodies slot ≡ true
     → is_mover_awake a.labels slot ≡ true → is_beside_moving bodies s.joints contacts slot ≡ true → list_any (ties_to_moving bodies s.joints slot) (all_members a.lists) ≡ true
 unfolding is_beside_moving
 complete bodies s contacts a slot matched settled ties moving up beside =
@@ -210,7 +210,7 @@ beside_by bodies s contacts slot bond there to = elim (in_bonds s contacts bond 
       ap (λ (t : Bool). list_any (is_joined_to_moving bodies slot) s.joints || t) (any_in (is_touched_by_moving bodies slot) contacts q.entry q.there on) ∙ or_true (list_any (is_joined_to_moving bodies slot) s.joints)
 ]
 
-sound : (bodies : List (Option Body)) (s : JointSlots) (contacts : List ContactEntry) (a : Acting Constraint) (slot : ℕ) → IsSettled constraint_number a → a.ties ≡ ties_of bodies s contacts
+sound : (bodies : List (Option Body)) (s : JointSlots) (contacts : List ContactEntry) (a : Acting Constraint) (slot : ℕ) → IsConsistent constraint_number a → a.ties ≡ ties_of bodies s contacts
     → list_any (ties_to_moving bodies s.joints slot) (all_members a.lists) ≡ true → is_beside_moving bodies s.joints contacts slot ≡ true
 unfolding ties_of
 sound bodies s contacts a slot settled ties h =

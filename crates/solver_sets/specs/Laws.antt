@@ -18,7 +18,7 @@ use Rattle.contacts.specs.declared.constraint.Constraint.TheVariants.{Joint}
 use Rattle.contacts.specs.Constraints.{constraint_number}
 use Rattle.contacts.specs.Changes.{keys_touching_only_in}
 use Rattle.islands.specs.Labels.{Labels}
-use Rattle.sleep_wake.specs.Acting.{Acting, AreMovers, IsSettled}
+use Rattle.sleep_wake.specs.Acting.{Acting, AreMovers, IsConsistent}
 use Rattle.sleep_wake.specs.ChangeLists.{AreChanges, begin_count, changes_between, each_inserted, each_without}
 use Rattle.plain_world.specs.declared.body.Body.{Body}
 use Rattle.plain_world.specs.declared.joint.BodyJoint.{BodyJoint}
@@ -99,7 +99,7 @@ ToldBodiesTell = (places : List Place) (bodies : List (Option Body)) (old labels
 
 -- just the movers that a constraint which acts holds to it
 abbrev pub ActingTellMoving : Type 0
-ActingTellMoving = (bodies : List (Option Body)) (s : JointSlots) (contacts : List ContactEntry) (a : Acting Constraint) → AreTied bodies a.labels → length s.places ≡ length s.joints → IsSettled constraint_number a → a.ties ≡ ties_of bodies s contacts
+ActingTellMoving = (bodies : List (Option Body)) (s : JointSlots) (contacts : List ContactEntry) (a : Acting Constraint) → AreTied bodies a.labels → length s.places ≡ length s.joints → IsConsistent constraint_number a → a.ties ≡ ties_of bodies s contacts
     → TellMoving bodies s.joints contacts a.labels a.lists
 
 -- ---- joints

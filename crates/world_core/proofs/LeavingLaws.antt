@@ -23,7 +23,7 @@ use Rattle.plain_world.specs.Changes.{changed_at, disabled_body}
 use Rattle.plain_world.specs.Joints.{idle_joints}
 use Rattle.plain_world.specs.Sleep.{told}
 use Rattle.plain_world.specs.Slots.{body_at}
-use Rattle.sleep_wake.specs.Acting.{Acting, IsSettled, are_awake, awake_label, is_mover_awake}
+use Rattle.sleep_wake.specs.Acting.{Acting, IsConsistent, are_awake, awake_label, is_mover_awake}
 use Rattle.sleep_wake.specs.Bodies.{mover_gone}
 use Rattle.sleep_wake.specs.Changes.{each_ended, ended}
 use Rattle.sleep_wake.specs.ChangeLists.{CanEnd}
@@ -50,11 +50,11 @@ use Rattle.world_core.proofs.PartLaws.{bodies_disabled, bodies_without}
 
 -- ---- its ties end
 
-each_ended_alike : (ms : List (Member Constraint)) (s : Acting Constraint) → IsSettled constraint_number s → CanEnd constraint_number ms s → SleepAlike s.labels (each_ended constraint_number ms s).labels
+each_ended_alike : (ms : List (Member Constraint)) (s : Acting Constraint) → IsConsistent constraint_number s → CanEnd constraint_number ms s → SleepAlike s.labels (each_ended constraint_number ms s).labels
 each_ended_alike [] s w can k = refl
 each_ended_alike (m ∷ ms) s w can k =
     let one : are_awake s.labels m.movers ≡ true = can.awake m (contains_head m ms) in
-    let now : IsSettled constraint_number (ended constraint_number m s) = ending_keeps s m w (can.there m (contains_head m ms)) (are_up s.labels m.movers one).first in
+    let now : IsConsistent constraint_number (ended constraint_number m s) = ending_keeps s m w (can.there m (contains_head m ms)) (are_up s.labels m.movers one).first in
     each_ended_alike ms (ended constraint_number m s) now (end_next constraint_number m ms s w can) k ∙ ended_alike m s w.islands.partition one k
 
 -- ---- a mover leaves its island
@@ -80,7 +80,7 @@ without_alike labels slot n (Some l) e p up off = by (nat_lt (lowest_member l.na
       | inr h ↦ ap sleeping_name (others_stay l.name l.name to (rest_of labels slot) n h ∙ stays)
     ]
 
-gone_alike : (slot n : ℕ) (s : Acting Constraint) → IsSettled constraint_number s → is_mover_awake s.labels slot ≡ true → n ≢ slot → sleeping_name (label_at (mover_gone constraint_number slot s).labels n) ≡ sleeping_name (label_at s.labels n)
+gone_alike : (slot n : ℕ) (s : Acting Constraint) → IsConsistent constraint_number s → is_mover_awake s.labels slot ≡ true → n ≢ slot → sleeping_name (label_at (mover_gone constraint_number slot s).labels n) ≡ sleeping_name (label_at s.labels n)
 unfolding mover_gone taken_out
 gone_alike slot n s w up off = without_alike s.labels slot n (label_at s.labels slot) refl w.islands.partition up off
 

@@ -29,7 +29,7 @@ use Rattle.plain_world.specs.declared.body.Body.{Body}
 use Rattle.plain_world.specs.declared.joint.BodyJoint.{BodyJoint}
 use Rattle.world_file.proofs.Tests.{at_most, at_most_z, both_true}
 use Rattle.shapes.specs.declared.shape.ShapeDef.{ShapeDef}
-use Rattle.sleep_wake.specs.Acting.{Acting, IsSettled, acting}
+use Rattle.sleep_wake.specs.Acting.{Acting, IsConsistent, acting}
 use Rattle.sleep_wake.proofs.StandLemmas.{fewer_coloured}
 use Rattle.solver_sets.specs.Ties.{Lists, members_of, ties_of}
 use Rattle.world_rules.proofs.KeptChanges.{IsRoomy-kept}
@@ -61,7 +61,7 @@ totals_within p t sound =
 -- ---- the constraints
 
 -- there is a list for each colour, and one for the overflow
-pub colours_there : (p : Plain) → IsSettled constraint_number (acting_of p) → length p.colours ≡ COLOURS + 1
+pub colours_there : (p : Plain) → IsConsistent constraint_number (acting_of p) → length p.colours ≡ COLOURS + 1
 unfolding acting_of members_of
 colours_there p settled = sym (length-map p.colours _) ∙ settled.colouring.count
 
@@ -71,11 +71,11 @@ unfolding acting_of
 acting_by p ties labels lists e f g = λ j. acting (e j) (f j) (g j)
 
 -- no more constraints have a colour than there are
-pub few_members : (p : Plain) (ties : List (Member Constraint)) (lists : Lists) → IsSettled constraint_number (acting_of p) → ties ≡ ties_of p.bodies (joints_in_slots p) p.contacts → lists ≡ members_of p.bodies (joints_in_slots p) p.colours → length ties < 2 ^ 64
+pub few_members : (p : Plain) (ties : List (Member Constraint)) (lists : Lists) → IsConsistent constraint_number (acting_of p) → ties ≡ ties_of p.bodies (joints_in_slots p) p.contacts → lists ≡ members_of p.bodies (joints_in_slots p) p.colours → length ties < 2 ^ 64
     → length (all_members lists) < 2 ^ 64
 few_members p ties lists settled e g few =
     let same = acting_by p ties p.islands lists e refl g in
-    let fewer : length (all_members lists) ≤ length ties = fewer_coloured constraint_number (acting ties p.islands lists) (subst (IsSettled constraint_number) (sym same) settled) in
+    let fewer : length (all_members lists) ≤ length ties = fewer_coloured constraint_number (acting ties p.islands lists) (subst (IsConsistent constraint_number) (sym same) settled) in
     omega (arith, fewer, few)
 
 -- ---- the contacts

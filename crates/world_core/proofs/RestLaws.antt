@@ -16,7 +16,7 @@ use Rattle.plain_world.specs.declared.joint.BodyJoint.{BodyJoint}
 use Rattle.plain_world.specs.Bodies.{is_mover}
 use Rattle.plain_world.specs.Changes.{is_awake_in}
 use Rattle.plain_world.specs.Slots.{body_at, item_in}
-use Rattle.sleep_wake.specs.Acting.{Acting, IsSettled}
+use Rattle.sleep_wake.specs.Acting.{Acting, IsConsistent}
 use Rattle.sleep_wake.specs.Acting as acting
 use Rattle.sleep_wake.specs.AwakeSlots.{AgreeAwake, AreAwakeSlots}
 use Rattle.sleep_wake.specs.SleepPhase.{sleep_phase}
@@ -125,7 +125,7 @@ awake_slots labels bodies awake e tied are = record {
 -- ---- who falls asleep
 
 -- the phase leaves the movers that there are
-pub tied_rested : (timers : List ℕ) (bodies : List (Option Body)) (s new : Acting Constraint) → IsSettled constraint_number s → AreTied bodies s.labels → new ≡ sleep_phase constraint_number timers s → AreTied bodies new.labels
+pub tied_rested : (timers : List ℕ) (bodies : List (Option Body)) (s new : Acting Constraint) → IsConsistent constraint_number s → AreTied bodies s.labels → new ≡ sleep_phase constraint_number timers s → AreTied bodies new.labels
 tied_rested timers bodies s new settled tied e = subst (λ (a : Acting Constraint). AreTied bodies a.labels) (sym e) (λ slot. movers_stay.phase s timers settled slot ∙ tied slot)
 
 asleep_there : (o : Option Label) → is_asleep_label o ≡ true → is_some o ≡ true

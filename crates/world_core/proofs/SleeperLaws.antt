@@ -15,7 +15,7 @@ use Rattle.islands.proofs.JoinLemmas.{contains_head}
 use Rattle.islands.proofs.LabelLemmas.{in_case, in_of}
 use Rattle.plain_world.specs.declared.body.Body.{Body}
 use Rattle.plain_world.specs.Slots.{body_at}
-use Rattle.sleep_wake.specs.Acting.{Acting, IsSettled}
+use Rattle.sleep_wake.specs.Acting.{Acting, IsConsistent}
 use Rattle.sleep_wake.specs.Changes.{begun, after_change, ended, turned}
 use Rattle.sleep_wake.specs.ChangeLists.{AreChanges, IsChange}
 use Rattle.sleep_wake.specs.Waking.{movers_woken, second_woken, set_woken, woken_at, woken_by}
@@ -77,7 +77,7 @@ movers_kept slots old s m has slept kept =
 alike_kept : (slots : List ℕ) (old now new : Labels) → SleepOrListed slots old now → SleepAlike now new → SleepOrListed slots old new
 alike_kept slots old now new kept same t n q = elim (kept t n q) [ inl here ↦ inl (same t ∙ here) | inr c ↦ inr c ]
 
-changed_kept : (slots : List ℕ) (old : Labels) (c : Change Constraint) (s : Acting Constraint) → IsSettled constraint_number s → IsChange constraint_number s.labels s.ties c → OfBoth (HasSleepers old slots) (movers_in c) → HaveSlept old s.labels → SleepOrListed slots old s.labels
+changed_kept : (slots : List ℕ) (old : Labels) (c : Change Constraint) (s : Acting Constraint) → IsConsistent constraint_number s → IsChange constraint_number s.labels s.ties c → OfBoth (HasSleepers old slots) (movers_in c) → HaveSlept old s.labels → SleepOrListed slots old s.labels
     → SleepOrListed slots old (after_change constraint_number c s).labels
 changed_kept slots old (Begin m) s w can has slept kept =
     let now : Acting Constraint = movers_woken constraint_number m.movers s in
@@ -88,7 +88,7 @@ changed_kept slots old (End m) s w can has slept kept =
     let ready : IsReady constraint_number m.movers s now = ready_for constraint_number m.movers s now w (w.movers m can) refl in
     alike_kept slots old now.labels (ended constraint_number m now).labels (movers_kept slots old s m.movers has slept kept) (ended_alike m now ready.settled.islands.partition (woken_ready constraint_number m.movers s w (w.movers m can)))
 
-turned_kept : (slots : List ℕ) (old : Labels) (changes : List (Change Constraint)) (s : Acting Constraint) → IsSettled constraint_number s → Labelled old s.labels → AreChanges constraint_number old s.ties changes → OfAll (HasSleepers old slots) changes → HaveSlept old s.labels
+turned_kept : (slots : List ℕ) (old : Labels) (changes : List (Change Constraint)) (s : Acting Constraint) → IsConsistent constraint_number s → Labelled old s.labels → AreChanges constraint_number old s.ties changes → OfAll (HasSleepers old slots) changes → HaveSlept old s.labels
     → SleepOrListed slots old s.labels → SleepOrListed slots old (turned constraint_number changes s).labels
 turned_kept slots old [] s w on can has slept kept = kept
 turned_kept slots old (c ∷ cs) s w on can has slept kept =
@@ -107,7 +107,7 @@ asleep_there None e = cc
 asleep_there (Some b) e = let it = some_there b.asleep e in (b, it.0, refl, it.1)
 
 -- who was told that they sleep and are awake by then is listed
-pub woken_listed : (slots : List ℕ) (bodies : List (Option Body)) (changes : List (Change Constraint)) (s : Acting Constraint) → IsSettled constraint_number s → AreTold bodies s.labels → AreChanges constraint_number s.labels s.ties changes → OfAll (HasSleepers s.labels slots) changes
+pub woken_listed : (slots : List ℕ) (bodies : List (Option Body)) (changes : List (Change Constraint)) (s : Acting Constraint) → IsConsistent constraint_number s → AreTold bodies s.labels → AreChanges constraint_number s.labels s.ties changes → OfAll (HasSleepers s.labels slots) changes
     → (slot : ℕ) → (was_asleep bodies slot && not (sleeps (turned constraint_number changes s).labels slot)) ≡ true → Contains slots slot
 woken_listed slots bodies changes s w are can has slot h =
     let new : Labels = (turned constraint_number changes s).labels in

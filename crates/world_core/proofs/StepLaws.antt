@@ -31,7 +31,7 @@ use Rattle.plain_world.specs.InSlots.{AreTimersWithin, HaveSameSlots}
 use Rattle.plain_world.specs.Plain.{Plain}
 use Rattle.plain_world.specs.Slots.{AreMatched}
 use Rattle.shapes.specs.Shapes.{is_between}
-use Rattle.sleep_wake.specs.Acting.{Acting, IsSettled}
+use Rattle.sleep_wake.specs.Acting.{Acting, IsConsistent}
 use Rattle.sleep_wake.specs.Changes.{turned}
 use Rattle.sleep_wake.specs.ChangeLists.{AreChanges, begin_count}
 use Rattle.sleep_wake.specs.declared.change.Change.{Change}
@@ -97,8 +97,8 @@ room_found w s t changes n room is same found count h =
     let long : length t.ties ≡ length s.ties = ap (λ (a : Acting Constraint). length a.ties) same in
     omega (arith, few, long, count, h)
 
-pub settled_found : (w : World) (s t : Acting Constraint) → IsWhole w s → t ≡ s → IsSettled constraint_number t
-settled_found w s t is same = subst (IsSettled constraint_number) (sym (same ∙ is.same)) (kept_of w s is).settled
+pub settled_found : (w : World) (s t : Acting Constraint) → IsWhole w s → t ≡ s → IsConsistent constraint_number t
+settled_found w s t is same = subst (IsConsistent constraint_number) (sym (same ∙ is.same)) (kept_of w s is).settled
 
 -- what acts, the bodies and the contacts, once all that begins and ends had its turn
 pub record HasTurned (w : World) (now : Acting Constraint) (there : List (Option Body)) (found : List ContactEntry) : Type 0 where
@@ -234,17 +234,17 @@ tied_solved w n s now before bodies joints found contacts sums is t h =
     (subst (λ (bs : List (Option Body)). AreTied bs (turned_in w).labels) (sym h.bodies) (tied_alike (collided_world w).plain.bodies left (turned_in w).labels h.ticked.alike (collide_kept w (kept_of w s is) (rises_in w s is)).kept.tied))
 
 -- what acts is settled
-pub settled_turned : (w : World) (s now : Acting Constraint) (bodies : List (Option Body)) (contacts : List ContactEntry) → IsWhole w s → HasTurned w now bodies contacts → IsSettled constraint_number now
+pub settled_turned : (w : World) (s now : Acting Constraint) (bodies : List (Option Body)) (contacts : List ContactEntry) → IsWhole w s → HasTurned w now bodies contacts → IsConsistent constraint_number now
 settled_turned w s now bodies contacts is t =
     let k = collide_kept w (kept_of w s is) (rises_in w s is) in
-    subst (IsSettled constraint_number) (k.acting ∙ sym t.acting) k.kept.settled
+    subst (IsConsistent constraint_number) (k.acting ∙ sym t.acting) k.kept.settled
 
 length-ends : (joints : List (Option BodyJoint)) → length (map ends_in joints) ≡ length joints
 length-ends [] = refl
 length-ends (o ∷ os) = ap suc (length-ends os)
 
 -- it is what the joints and contacts make that the ticks leave
-ticked_tell : (w : Plain) (n : ℕ) (left : List (Option Body)) (js : List (Option BodyJoint)) (es : List ContactEntry) (sums : StepSums) → AreTied w.bodies w.islands → AreMatched w.joint_places w.joints → IsSettled constraint_number (acting_of w) → IsTicked w left js es sums
+ticked_tell : (w : Plain) (n : ℕ) (left : List (Option Body)) (js : List (Option BodyJoint)) (es : List ContactEntry) (sums : StepSums) → AreTied w.bodies w.islands → AreMatched w.joint_places w.joints → IsConsistent constraint_number (acting_of w) → IsTicked w left js es sums
     → TellMoving (timed_bodies n left) js es (acting_of w).labels (acting_of w).lists
 unfolding acting_of
 ticked_tell w n left js es sums tied matched settled t =

@@ -25,7 +25,7 @@ use Rattle.plain_world.specs.declared.body.Body.{Body}
 use Rattle.plain_world.specs.Bodies.{AreBodies, is_mover}
 use Rattle.plain_world.specs.Sleep.{roused, told, told_body, told_by}
 use Rattle.plain_world.specs.Slots.{body_at}
-use Rattle.sleep_wake.specs.Acting.{Acting, IsSettled}
+use Rattle.sleep_wake.specs.Acting.{Acting, IsConsistent}
 use Rattle.sleep_wake.specs.Changes.{begun, after_change, ended, parted, turned, united}
 use Rattle.sleep_wake.specs.SleepPhase.{all_put_to_rest, edges_of, is_island, picked_to_split, ready, sleep_phase, split_at, split_picked}
 use Rattle.sleep_wake.specs.Sleeping.{islands_woken, rested_at, rested_by, slept_at, slept_by, split_if_loose}
@@ -179,7 +179,7 @@ component_in labels now name slot t n edges p inside parts in_name a same b =
     let here : IsIn labels name n = subst (λ (k : ℕ). IsIn labels name k) named home in
     ap (λ (o : Option Label). is_in o name) (there.1 ∙ sym leads) ∙ here
 
-split_in : (s : Acting Constraint) (slot : ℕ) (l : Label) → IsSettled constraint_number s → label_at s.labels slot ≡ Some l → IsSplitIn s.labels (split_at l.name s).labels slot
+split_in : (s : Acting Constraint) (slot : ℕ) (l : Label) → IsConsistent constraint_number s → label_at s.labels slot ≡ Some l → IsSplitIn s.labels (split_at l.name s).labels slot
 unfolding split_at
 split_in s slot l w e =
     let edges : Edges = edges_of s l.name in
@@ -192,7 +192,7 @@ split_in s slot l w e =
       apart = λ t off n a b. off l.name own (component_in s.labels (split_at l.name s).labels l.name slot t n edges w.islands.partition inside parts own a (others t off) b);
     }
 
-split_if : (s : Acting Constraint) (slot : ℕ) (l : Label) (t : Bool) → IsSettled constraint_number s → label_at s.labels slot ≡ Some l → IsSplitIn s.labels (cond t (split_at l.name s) s).labels slot
+split_if : (s : Acting Constraint) (slot : ℕ) (l : Label) (t : Bool) → IsConsistent constraint_number s → label_at s.labels slot ≡ Some l → IsSplitIn s.labels (cond t (split_at l.name s) s).labels slot
 split_if s slot l true w e = split_in s slot l w e
 split_if s slot l false w e = record { others = λ t off. refl; apart = λ t off. off }
 
@@ -201,22 +201,22 @@ unfolding put_to_rest rested
 rested_others s slot t None e off = refl
 rested_others s slot t (Some l) e off = label_with l.name Asleep s.labels t (not_in (label_at s.labels t) l.name (off l.name (in_of (label_at s.labels slot) l l.name e refl)))
 
-slept_if : (s : Acting Constraint) (slot t : ℕ) (l : Label) (a : Bool) → IsSettled constraint_number s → label_at s.labels slot ≡ Some l → AreApart s.labels slot t → label_at (cond a s (rested_at constraint_number slot (split_if_loose l s))).labels t ≡ label_at s.labels t
+slept_if : (s : Acting Constraint) (slot t : ℕ) (l : Label) (a : Bool) → IsConsistent constraint_number s → label_at s.labels slot ≡ Some l → AreApart s.labels slot t → label_at (cond a s (rested_at constraint_number slot (split_if_loose l s))).labels t ≡ label_at s.labels t
 slept_if s slot t l true w e off = refl
 slept_if s slot t l false w e off =
     let now : Acting Constraint = split_if_loose l s in
     let parts : IsSplitIn s.labels now.labels slot = split_if s slot l (is_loose l.state) w e in
     rested_others now slot t (label_at now.labels slot) refl (parts.apart t off) ∙ parts.others t off
 
-slept_label : (s : Acting Constraint) (slot t : ℕ) (o : Option Label) → IsSettled constraint_number s → label_at s.labels slot ≡ o → AreApart s.labels slot t → label_at (slept_by constraint_number slot o s).labels t ≡ label_at s.labels t
+slept_label : (s : Acting Constraint) (slot t : ℕ) (o : Option Label) → IsConsistent constraint_number s → label_at s.labels slot ≡ o → AreApart s.labels slot t → label_at (slept_by constraint_number slot o s).labels t ≡ label_at s.labels t
 slept_label s slot t None w e off = refl
 slept_label s slot t (Some l) w e off = slept_if s slot t l (is_asleep l.state) w e off
 
-slept_others : (s : Acting Constraint) (slot t : ℕ) → IsSettled constraint_number s → AreApart s.labels slot t → label_at (slept_at constraint_number slot s).labels t ≡ label_at s.labels t
+slept_others : (s : Acting Constraint) (slot t : ℕ) → IsConsistent constraint_number s → AreApart s.labels slot t → label_at (slept_at constraint_number slot s).labels t ≡ label_at s.labels t
 unfolding slept_at
 slept_others s slot t w off = slept_label s slot t (label_at s.labels slot) w refl off
 
-pub slept_beside : (slot : ℕ) (movers : List ℕ) (s : Acting Constraint) (bodies : List (Option Body)) → IsSettled constraint_number s → HasIsland s.labels movers slot → told s.labels bodies ≡ bodies → AreToldBeside movers (slept_at constraint_number slot s).labels bodies
+pub slept_beside : (slot : ℕ) (movers : List ℕ) (s : Acting Constraint) (bodies : List (Option Body)) → IsConsistent constraint_number s → HasIsland s.labels movers slot → told s.labels bodies ≡ bodies → AreToldBeside movers (slept_at constraint_number slot s).labels bodies
 slept_beside slot movers s bodies w listed e other off = stays_by s.labels (slept_at constraint_number slot s).labels bodies other e (slept_others s slot other w (λ n a b. off (listed n other a b)))
 
 -- ---- handles that are listed
@@ -434,7 +434,7 @@ loose_named : (name : ℕ) (o : Option Label) → is_island true name o ≡ true
 loose_named name None h = cc
 loose_named name (Some l) h = (l, refl, (and_is (l.name == name) (is_loose l.state) h).1)
 
-split_on : (name : ℕ) (s : Acting Constraint) → IsSettled constraint_number s → is_island true name (label_at s.labels name) ≡ true → SleepOn s.labels (split_at name s).labels
+split_on : (name : ℕ) (s : Acting Constraint) → IsConsistent constraint_number s → is_island true name (label_at s.labels name) ≡ true → SleepOn s.labels (split_at name s).labels
 unfolding split_at
 split_on name s w island t n e =
     let inside : Inside s.labels name (edges_of s name) = edges_inside s.labels name s.ties w.islands in
@@ -449,11 +449,11 @@ split_on name s w island t n e =
     let is : loose.0 ≡ own.0 = let both : Some loose.0 ≡ Some own.0 = sym loose.1 ∙ named in cc in
     clash own.0 own.2 (subst (λ (l : Label). is_loose l.state ≡ true) is loose.2)))
 
-picked_on : (o : Option ℕ) (s : Acting Constraint) → IsSettled constraint_number s → ((name : ℕ) → o ≡ Some name → is_island true name (label_at s.labels name) ≡ true) → SleepOn s.labels (split_picked o s).labels
+picked_on : (o : Option ℕ) (s : Acting Constraint) → IsConsistent constraint_number s → ((name : ℕ) → o ≡ Some name → is_island true name (label_at s.labels name) ≡ true) → SleepOn s.labels (split_picked o s).labels
 picked_on None s w island = λ t n e. refl
 picked_on (Some name) s w island = split_on name s w (island name refl)
 
-pub phase_on : (timers : List ℕ) (s : Acting Constraint) → IsSettled constraint_number s → SleepOn s.labels (sleep_phase constraint_number timers s).labels
+pub phase_on : (timers : List ℕ) (s : Acting Constraint) → IsConsistent constraint_number s → SleepOn s.labels (sleep_phase constraint_number timers s).labels
 phase_on timers s w =
     let now : Acting Constraint = split_picked (picked_to_split s.labels timers) s in
     on_then s.labels now.labels (sleep_phase constraint_number timers s).labels (picked_on (picked_to_split s.labels timers) s w (λ name e. picked_is s.labels timers name e)) (all_rested_on (ready false now.labels timers) now)
@@ -486,7 +486,7 @@ asleep_beside places bodies old new long e are on slot off = by_body (body_at bo
     by_body (Some b) at = by_asleep b b.asleep refl at
 
 -- the sleep phase tells those alone
-pub rested_beside : (places : List Place) (bodies : List (Option Body)) (s new : Acting Constraint) (timers : List ℕ) → length bodies ≤ length places → AreBodies bodies → AreTold bodies s.labels → IsSettled constraint_number s → new ≡ sleep_phase constraint_number timers s
+pub rested_beside : (places : List Place) (bodies : List (Option Body)) (s new : Acting Constraint) (timers : List ℕ) → length bodies ≤ length places → AreBodies bodies → AreTold bodies s.labels → IsConsistent constraint_number s → new ≡ sleep_phase constraint_number timers s
     → AreToldBeside (slots_of (newly_asleep places bodies new.labels)) new.labels bodies
 rested_beside places bodies s new timers long are told settled e =
     asleep_beside places bodies s.labels new.labels long (told_stays s.labels bodies are told) told (subst (λ (a : Acting Constraint). SleepOn s.labels a.labels) (sym e) (phase_on timers s settled))

@@ -4,7 +4,7 @@ ghost use Rattle.std.specs.Prelude.{◌≡◌, IfOk, OnOk};
 ghost use Rattle.std.specs.List.Sorted.{IsStrictlyIncreasing};
 ghost use Rattle.std.specs.Result.{IsOkUnless};
 ghost use Rattle.contacts.specs.Constraints.{constraint_number};
-ghost use Rattle.sleep_wake.specs.Acting.{IsSettled};
+ghost use Rattle.sleep_wake.specs.Acting.{IsConsistent};
 ghost use Rattle.world_core.specs.Waking.{HasName, HasSleepers, IsExtended, OfAll, OfBoth, movers_in};
 
 use crate::wake_and_sleep::list_movers;
@@ -85,7 +85,7 @@ pub(crate) fn list_sleepers(
     sets: &Sets<Constraint>,
     changes: &[Change<Constraint>],
 ) -> Result<Vec<u32>, Refusal>
-    requires { IsSettled constraint_number sets.now.acting }
+    requires { IsConsistent constraint_number sets.now.acting }
     ensures sleepers { IfOk result (λ slots. OfAll (HasSleepers sets.now.acting.labels slots.items) changes.now) }
     ensures rising { IfOk result (λ slots. IsStrictlyIncreasing slots.items) }
     ensures memory_only { IsOkUnless result Refusal.NoMemory }

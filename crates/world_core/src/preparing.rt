@@ -6,7 +6,7 @@ ghost use Rattle.std.specs.Result.{IsOkUnless};
 ghost use Rattle.contacts.specs.Changes.{keys_touching_only_in, AreRising};
 ghost use Rattle.contacts.specs.Constraints.{constraint_number};
 ghost use Rattle.plain_world.specs.Bodies.{AreBodies};
-ghost use Rattle.sleep_wake.specs.Acting.{IsSettled};
+ghost use Rattle.sleep_wake.specs.Acting.{IsConsistent};
 ghost use Rattle.solver_sets.specs.Ties.{key_changes};
 ghost use Rattle.world_core.specs.Inside.{AreKnown};
 ghost use Rattle.world_core.specs.Waking.{HasSleepers, OfAll};
@@ -52,7 +52,7 @@ pub(crate) fn prepare(
     requires few { length bodies.old.bodies ≤ MAX_SLOTS }
     requires bodies { AreBodies bodies.old.bodies }
     requires known { AreKnown bodies.old.marks bodies.old.bodies joints.now.joints contacts.old.contacts }
-    requires settled { IsSettled constraint_number sets.old.acting }
+    requires settled { IsConsistent constraint_number sets.old.acting }
     ensures entries { ledger.new.entries ≡ ledger.old.entries }
     ensures settled { ledger.new.settled ≡ ledger.old.settled }
     ensures bodies { bodies.new.bodies ≡ bodies.old.bodies }
@@ -80,7 +80,7 @@ pub(crate) fn prepare(
 {
     let alloc = bodies.allocator();
     ledger.reserve(MAX_STEP_ENTRIES)?;
-    bodies.settle();
+    bodies.flush();
     let touches = collide(alloc, contacts, bodies, joints)?;
     let changes = list_changes(alloc, bodies.bodies(), &touches.begin, &touches.end)?;
     let begun = touches.begin.len();

@@ -8,7 +8,7 @@ ghost use Rattle.colour_solver.specs.States.{as_vector};
 ghost use Rattle.plain_world.specs.Bodies.{AreBodies};
 ghost use Rattle.plain_world.specs.Sleep.{timed_bodies, told};
 ghost use Rattle.plain_world.specs.InSlots.{AreTimersWithin};
-ghost use Rattle.sleep_wake.specs.Acting.{IsSettled};
+ghost use Rattle.sleep_wake.specs.Acting.{IsConsistent};
 ghost use Rattle.solver_sets.specs.BesideByTies.{TellMoving};
 ghost use Rattle.solver_sets.specs.SinceTold.{newly_asleep};
 ghost use Rattle.solver_sets.specs.Tied.{AreTied};
@@ -44,7 +44,7 @@ pub(crate) fn rest_ready(
     requires within { AreTimersWithin (2 ^ 44) bodies.old.bodies }
     requires tied { AreTied bodies.old.bodies sets.old.acting.labels }
     requires told { AreTold bodies.old.bodies sets.old.acting.labels }
-    requires settled { IsSettled constraint_number sets.old.acting }
+    requires settled { IsConsistent constraint_number sets.old.acting }
     requires colours_settled { sets.old.pending ≡ 0 }
     requires bodies_settled { bodies.old.pending ≡ 0 }
     requires tells { TellMoving (timed_bodies ticks bodies.old.bodies) joints.now (contacts_in contacts.now) sets.old.acting.labels sets.old.acting.lists }

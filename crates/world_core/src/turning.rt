@@ -7,7 +7,7 @@ ghost use Rattle.contacts.specs.Constraints.{constraint_number};
 ghost use Rattle.contacts.specs.declared.constraint.Constraint.{Constraint as TheConstraint};
 ghost use Rattle.plain_world.specs.Bodies.{AreBodies};
 ghost use Rattle.plain_world.specs.Sleep.{told};
-ghost use Rattle.sleep_wake.specs.Acting.{Acting, IsSettled};
+ghost use Rattle.sleep_wake.specs.Acting.{Acting, IsConsistent};
 ghost use Rattle.sleep_wake.specs.Changes.{turned};
 ghost use Rattle.sleep_wake.specs.ChangeLists.{AreChanges, begin_count};
 ghost use Rattle.solver_sets.specs.SinceTold.{newly_awake};
@@ -33,7 +33,7 @@ fn turn_all(
     asleep: &[u32],
 )
     requires can { AreChanges constraint_number sets.old.acting.labels sets.old.acting.ties changes.now }
-    requires settled { IsSettled constraint_number sets.old.acting }
+    requires settled { IsConsistent constraint_number sets.old.acting }
     requires room { length sets.old.acting.ties + begin_count changes.now ≤ sets.old.room }
     requires few_bodies { length bodies.old.bodies ≤ MAX_SLOTS }
     requires bodies { AreBodies bodies.old.bodies }
@@ -49,10 +49,10 @@ fn turn_all(
     ensures marked { AreMarked bodies.old bodies.new }
 {
     sets.turn(changes);
-    sets.settle();
+    sets.flush();
     fill_newly_awake(woke, places, bodies.bodies(), sets.islands(), asleep);
     let _ = bodies.tell_some(asleep, sets.islands());
-    bodies.settle();
+    bodies.flush();
 }
 
 /// Lists what began at its anchor, now that the changes had their turn. It is refused no memory.
@@ -75,7 +75,7 @@ pub(crate) fn carry_out(
     prepared: &Prepared,
 )
     requires can { AreChanges constraint_number sets.old.acting.labels sets.old.acting.ties prepared.now.changes.items }
-    requires settled { IsSettled constraint_number sets.old.acting }
+    requires settled { IsConsistent constraint_number sets.old.acting }
     requires room { length sets.old.acting.ties + begin_count prepared.now.changes.items ≤ sets.old.room }
     requires few_bodies { length bodies.old.bodies ≤ MAX_SLOTS }
     requires bodies { AreBodies bodies.old.bodies }

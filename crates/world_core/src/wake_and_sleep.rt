@@ -9,7 +9,7 @@ ghost use Rattle.colour_solver.specs.States.{as_vector};
 ghost use Rattle.plain_world.specs.Bodies.{AreBodies};
 ghost use Rattle.plain_world.specs.Momentum.{momentum};
 ghost use Rattle.plain_world.specs.Sleep.{told};
-ghost use Rattle.sleep_wake.specs.Acting.{IsSettled, is_mover_awake};
+ghost use Rattle.sleep_wake.specs.Acting.{IsConsistent, is_mover_awake};
 ghost use Rattle.sleep_wake.specs.Sleeping.{islands_woken, sleeping_names, slept_at};
 ghost use Rattle.world_core.specs.Waking.{HasIsland, HasIslands, IsExtended};
 ghost use Rattle.world_core_base.specs.Marked.{AreMarked};
@@ -122,7 +122,7 @@ pub(crate) fn put_to_sleep(
     movers: &[u32],
 ) -> Gain
     requires movers { is_mover_awake sets.old.acting.labels slot ≡ true → HasIsland sets.old.acting.labels movers.now slot }
-    requires settled { IsSettled constraint_number sets.old.acting }
+    requires settled { IsConsistent constraint_number sets.old.acting }
     requires few { length bodies.old.bodies ≤ MAX_SLOTS }
     requires bodies { AreBodies bodies.old.bodies }
     requires told { told sets.old.acting.labels bodies.old.bodies ≡ bodies.old.bodies }

@@ -227,14 +227,14 @@ impl BodyTable {
 
     /// Brings the lists of the awake movers and of the bodies that are carried along up to date, after what came and went. It costs nothing where nothing
     /// did, and takes no memory.
-    pub fn settle(&mut self)
+    pub fn flush(&mut self)
         ensures bodies { self.new.bodies ≡ self.old.bodies }
         ensures room { self.new.room ≡ self.old.room }
         ensures marks { self.new.marks ≡ self.old.marks }
         ensures pending { self.new.pending ≡ 0 }
     {
-        self.awake.settle(Group::Awake, &self.states);
-        self.carried.settle(Group::Carried, &self.states);
+        self.awake.flush(Group::Awake, &self.states);
+        self.carried.flush(Group::Carried, &self.states);
     }
 
     /// Makes room for a body that is to come into this slot. Refused 1 where memory is wanting.

@@ -43,7 +43,7 @@ pub fn is_of_at(group: Group, states: &[BodyState], slot: u32) -> bool
 }
 
 /// The slots of a group of bodies, ascending. A slot that comes or goes doesn't cost by how many others there are: the list is brought up to date by
-/// [`SlotList::settle`], and may have slots of no body of the group until then, while slots that have come stand beside it.
+/// [`SlotList::flush`], and may have slots of no body of the group until then, while slots that have come stand beside it.
 #[derive(Drop)]
 pub struct SlotList {
     slots: Vec<u32>,
@@ -225,7 +225,7 @@ impl SlotList {
     }
 
     /// Brings the list up to date. It costs nothing where nothing is put off, and takes no memory.
-    pub fn settle(&mut self, group: Group, states: &[BodyState])
+    pub fn flush(&mut self, group: Group, states: &[BodyState])
         requires room { length states.now ≤ self.old.capacity }
         requires listed { AreListed (is_of group) states.now self.old }
         ensures slots { self.new.slots ≡ places_from (is_of group) 0 states.now }

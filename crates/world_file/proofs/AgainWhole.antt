@@ -22,7 +22,7 @@ use Rattle.world_file_base.specs.Asks.{asked, no_asks}
 use Rattle.world_file_base.specs.declared.clause.Clause.{Clause}
 use Rattle.world_file_base.specs.declared.clause.Clause.TheVariants.{Colours, Islands, Links, Memberships, Momentum, References}
 use Rattle.world_file_base.specs.declared.reader.Reader.{Reader}
-use Rattle.sleep_wake.specs.Acting.{IsSettled, acting, links_of}
+use Rattle.sleep_wake.specs.Acting.{IsConsistent, acting, links_of}
 use Rattle.sleep_wake.proofs.AwakeLemmas.{tie_together}
 use Rattle.solver_sets.specs.Alike.{AreJointSlots}
 use Rattle.solver_sets.specs.Ties as sets
@@ -93,7 +93,7 @@ ties_same w h =
     ties_are (saved w) (does_touch w.plain.colours w.plain.contacts)
     ∙ ap₂ (λ (js : List (Option BodyJoint)) (es : List ContactEntry). sets.ties_of w.plain.bodies (sets.slots_of w.plain.joint_places js) es) (all_joints w h) (all_contacts w h)
 
-pub settled : (w : World) → IsSound w → IsSettled constraint_number (acting (world_ties w) w.plain.islands (lists w))
+pub settled : (w : World) → IsSound w → IsConsistent constraint_number (acting (world_ties w) w.plain.islands (lists w))
 unfolding acting_of
 settled w h = h.promises.settled
 

@@ -30,7 +30,7 @@ use Rattle.world_file_base.specs.Asks.{no_asks}
 use Rattle.world_file_base.specs.declared.clause.Clause.{Clause}
 use Rattle.world_file_base.specs.declared.saved.Membership.{Membership}
 use Rattle.shapes.specs.declared.shape.ShapeDef.{ShapeDef}
-use Rattle.sleep_wake.specs.Acting.{AreMovers, IsSettled, acting, links_of}
+use Rattle.sleep_wake.specs.Acting.{AreMovers, IsConsistent, acting, links_of}
 use Rattle.sleep_wake.proofs.ListLemmas.{link_in}
 use Rattle.solver_sets.specs.Tied.{AreTied}
 use Rattle.solver_sets.specs.Alike.{AreJointSlots}
@@ -195,7 +195,7 @@ links_inside s h f a b i =
 rises_are : (s : Saved) → HasParts s → AreFitting s → Rises tie_number (members_among (ties_read s))
 rises_are s h f = rises_from_pairs tie_number (members_among (ties_read s)) (subst (λ (ms : List (Member Constraint)). AreRising constraint_number ms) (sym (ties_same s h f)) (ties_rise s.bodies (slots s) (entries s) (joint_slots_are s h) (rising_is s f)))
 
-settled_ties : (s : Saved) → HasParts s → AreFitting s → IsSettled constraint_number (acting (members_among (ties_read s)) (labels s) (saved_lists (ties_read s)))
+settled_ties : (s : Saved) → HasParts s → AreFitting s → IsConsistent constraint_number (acting (members_among (ties_read s)) (labels s) (saved_lists (ties_read s)))
 settled_ties s h f = record {
   rising = pairs_from_rises tie_number (members_among (ties_read s)) (rises_are s h f);
   movers = movers_are s h f;
@@ -212,11 +212,11 @@ lists_same s h f =
 moved_is : (s : Saved) → HasParts s → AreFitting s → ids_of (sets.members_of s.bodies (slots s) (ids_below (ties_read s) (COLOURS + 1))) ≡ ids_below (ties_read s) (COLOURS + 1)
 moved_is s h f = ap (λ (lists : List (List (Member Constraint))). ids_of lists) (lists_same s h f) ∙ ids_are (ties_read s) (COLOURS + 1)
 
-settled_is : (s : Saved) → HasParts s → AreFitting s → IsSettled constraint_number (acting_of (plain_of s))
+settled_is : (s : Saved) → HasParts s → AreFitting s → IsConsistent constraint_number (acting_of (plain_of s))
 unfolding acting_of
 settled_is s h f =
-    subst (λ (lists : List (List (Member Constraint))). IsSettled constraint_number (acting (sets.ties_of s.bodies (slots s) (entries s)) (labels s) lists)) (sym (lists_same s h f))
-    (subst (λ (ms : List (Member Constraint)). IsSettled constraint_number (acting ms (labels s) (saved_lists (ties_read s)))) (ties_same s h f) (settled_ties s h f))
+    subst (λ (lists : List (List (Member Constraint))). IsConsistent constraint_number (acting (sets.ties_of s.bodies (slots s) (entries s)) (labels s) lists)) (sym (lists_same s h f))
+    (subst (λ (ms : List (Member Constraint)). IsConsistent constraint_number (acting ms (labels s) (saved_lists (ties_read s)))) (ties_same s h f) (settled_ties s h f))
 
 -- ---- all of it
 

@@ -209,10 +209,10 @@ fn fitted(alloc: Global, reader: Reader, saved: &Saved) -> Result<Parts, Broken>
 {
     let mut reader = reader;
     reader.ask(do_references_keep(saved), Clause::References);
-    reader.settle(Clause::References)?;
+    reader.verdict(Clause::References)?;
     let ties = ties_of(alloc, saved)?;
     ask_others(alloc, &mut reader, saved, &ties)?;
-    reader.settle(Clause::Momentum)?;
+    reader.verdict(Clause::Momentum)?;
     list_parts(alloc, saved, &ties)
 }
 
@@ -225,7 +225,7 @@ pub fn read(alloc: Global, value: &Value) -> Result<(Plain, Totals), Broken>
 {
     let mut reader = Reader::new();
     let saved = read_parts(alloc, &mut reader, value)?;
-    reader.settle(Clause::Generations)?;
+    reader.verdict(Clause::Generations)?;
     let totals = saved.totals;
     let parts = fitted(alloc, reader, &saved)?;
     Ok((plain_of(saved, parts), totals))

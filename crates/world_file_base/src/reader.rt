@@ -149,7 +149,7 @@ impl Reader {
     }
 
     /// Ends the reading if one of the clauses up to this one is broken.
-    pub fn settle(&self, last: Clause) -> Result<(), Broken>
+    pub fn verdict(&self, last: Clause) -> Result<(), Broken>
         ensures going { IfOk result (λ _. due_of last self.now.broken ≡ None) }
         ensures broken { IfErr result (λ e. (clause : Clause) × (e ≡ BrokenClause clause) × (due_of last self.now.broken ≡ Some clause)) }
     {

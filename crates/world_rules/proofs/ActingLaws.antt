@@ -22,7 +22,7 @@ use Rattle.plain_world.specs.Sleep as sleep
 use Rattle.plain_world.specs.Formed.{AreFiltered}
 use Rattle.plain_world.specs.Slots.{AreMatched, body_at}
 use Rattle.plain_world.specs.InSlots.{HaveSameSlots}
-use Rattle.sleep_wake.specs.Acting.{Acting, IsSettled}
+use Rattle.sleep_wake.specs.Acting.{Acting, IsConsistent}
 use Rattle.sleep_wake.specs.Acting as acting
 use Rattle.sleep_wake.specs.Sleeping.{islands_woken, sleeping_names}
 use Rattle.sleep_wake.specs.Sleeping as naming
@@ -44,7 +44,7 @@ use Rattle.world_rules.proofs.ToldLaws.{NobodyFallsAsleep, length_told, told_ali
 
 -- the constraints, islands and colours s are those of the lists of w, but for who sleeps
 pub record IsActing (w : Plain) (s : Acting Constraint) : Type 0 where
-  pub settled : IsSettled constraint_number s
+  pub settled : IsConsistent constraint_number s
   pub ties : s.ties ≡ ties_of w.bodies (joints_in_slots w) w.contacts
   pub tied : AreTied w.bodies s.labels
   pub long : length s.labels ≡ length w.bodies
@@ -52,7 +52,7 @@ pub record IsActing (w : Plain) (s : Acting Constraint) : Type 0 where
 -- what follows of the world with them
 pub record IsActed (w : Plain) (s : Acting Constraint) : Type 0 where
   pub acting : acting_of (with_acting s w) ≡ s
-  pub settled : IsSettled constraint_number (acting_of (with_acting s w))
+  pub settled : IsConsistent constraint_number (acting_of (with_acting s w))
   pub tied : AreTied (sleep.told s.labels w.bodies) s.labels
   pub told : AreTold (sleep.told s.labels w.bodies) s.labels
   pub labels : length s.labels ≡ length (sleep.told s.labels w.bodies)
@@ -75,7 +75,7 @@ same_acting w s is = λ j. record { ties = told_ties w s is j; labels = s.labels
 pub acted : (w : Plain) (s : Acting Constraint) → AreBodies w.bodies → IsActing w s → IsActed w s
 acted w s bodies is = record {
   acting = same_acting w s is;
-  settled = subst (IsSettled constraint_number) (sym (same_acting w s is)) is.settled;
+  settled = subst (IsConsistent constraint_number) (sym (same_acting w s is)) is.settled;
   tied = told_tied s.labels w.bodies is.tied;
   told = told_are_told s.labels w.bodies bodies is.tied;
   labels = is.long ∙ sym (length_told s.labels w.bodies);
@@ -126,7 +126,7 @@ lists_kept w k = record {
 }
 
 -- a world is kept if its lists are, and its islands and colours go with them
-pub kept_of : (w : World) → AreLists w → IsSettled constraint_number (acting_of w.plain) → AreTied w.plain.bodies w.plain.islands → AreTold w.plain.bodies w.plain.islands
+pub kept_of : (w : World) → AreLists w → IsConsistent constraint_number (acting_of w.plain) → AreTied w.plain.bodies w.plain.islands → AreTold w.plain.bodies w.plain.islands
     → length w.plain.islands ≡ length w.plain.bodies → ids_of (members_of w.plain.bodies (joints_in_slots w.plain) w.plain.colours) ≡ w.plain.colours → IsKept w
 kept_of w l settled tied told labels moved = record {
   total_x = l.total_x;

@@ -18,7 +18,7 @@ use Rattle.plain_world.specs.declared.body.Body.{Body}
 use Rattle.plain_world.specs.Bodies as bodies
 use Rattle.plain_world.specs.Plain.{Plain}
 use Rattle.sleep_wake.proofs.LengthLemmas.{each_ended_long, gone_long}
-use Rattle.sleep_wake.specs.Acting.{Acting, AreMovers, IsSettled, is_mover_awake}
+use Rattle.sleep_wake.specs.Acting.{Acting, AreMovers, IsConsistent, is_mover_awake}
 use Rattle.sleep_wake.specs.Bodies.{mover_gone}
 use Rattle.sleep_wake.specs.ChangeLists.{CanEnd, each_without}
 use Rattle.solver_sets.specs.Joining.{unjoined_all}
@@ -43,7 +43,7 @@ pub record CanGo (w : World) (slot : ℕ) : Type 0 where
 
 -- what is left once they ended
 pub record IsEnded (w : World) (slot : ℕ) (s : Acting Constraint) : Type 0 where
-  pub settled : IsSettled constraint_number s
+  pub settled : IsConsistent constraint_number s
   pub ties : s.ties ≡ each_without constraint_number (ties_at slot w.plain.bodies (joints_in_slots w.plain) w.plain.contacts) (ties_of w.plain.bodies (joints_in_slots w.plain) w.plain.contacts)
   pub tied : AreTied w.plain.bodies s.labels
   pub awake : (k : ℕ) → is_mover_awake w.plain.islands k ≡ true → is_mover_awake s.labels k ≡ true

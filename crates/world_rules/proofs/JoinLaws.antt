@@ -15,7 +15,7 @@ use Rattle.plain_world.specs.Joints.{AreJoints, IsBodyJoint, joint_at}
 use Rattle.plain_world.specs.Plain.{Plain}
 use Rattle.plain_world.specs.Slots.{with_item}
 use Rattle.sleep_wake.proofs.LengthLemmas.{each_begun_long, each_ended_long}
-use Rattle.sleep_wake.specs.Acting.{Acting, IsSettled, are_awake, is_mover_awake}
+use Rattle.sleep_wake.specs.Acting.{Acting, IsConsistent, are_awake, is_mover_awake}
 use Rattle.sleep_wake.specs.Changes.{begun, each_begun, each_ended, ended}
 use Rattle.sleep_wake.specs.ChangeLists.{CanBegin, CanEnd, each_inserted, each_without}
 use Rattle.solver_sets.specs.Laws.{with_tie, without_tie}
@@ -46,7 +46,7 @@ pub record IsNext (u : Plain) (s new : Acting Constraint) : Type 0 where
   pub acting : IsActing u new
   pub awake : (k : ℕ) → is_mover_awake s.labels k ≡ true → is_mover_awake new.labels k ≡ true
 
-pub next_begun : (u : Plain) (s : Acting Constraint) (ms : List (Member Constraint)) → IsSettled constraint_number s → AreTied u.bodies s.labels → length s.labels ≡ length u.bodies → CanBegin constraint_number ms s → ties_of u.bodies (joints_in_slots u) u.contacts ≡ each_inserted constraint_number ms s.ties
+pub next_begun : (u : Plain) (s : Acting Constraint) (ms : List (Member Constraint)) → IsConsistent constraint_number s → AreTied u.bodies s.labels → length s.labels ≡ length u.bodies → CanBegin constraint_number ms s → ties_of u.bodies (joints_in_slots u) u.contacts ≡ each_inserted constraint_number ms s.ties
     → IsNext u s (each_begun constraint_number ms s)
 next_begun u s ms settled tied long can ties = record {
   acting = record {
@@ -68,7 +68,7 @@ pub each_ended_ties : (ms : List (Member Constraint)) (s : Acting Constraint) �
 each_ended_ties [] s = refl
 each_ended_ties (m ∷ ms) s = each_ended_ties ms (ended constraint_number m s) ∙ ap (each_without constraint_number ms) (ended_ties m s)
 
-pub next_ended : (u : Plain) (s : Acting Constraint) (ms : List (Member Constraint)) → IsSettled constraint_number s → AreTied u.bodies s.labels → length s.labels ≡ length u.bodies → CanEnd constraint_number ms s → ties_of u.bodies (joints_in_slots u) u.contacts ≡ each_without constraint_number ms s.ties
+pub next_ended : (u : Plain) (s : Acting Constraint) (ms : List (Member Constraint)) → IsConsistent constraint_number s → AreTied u.bodies s.labels → length s.labels ≡ length u.bodies → CanEnd constraint_number ms s → ties_of u.bodies (joints_in_slots u) u.contacts ≡ each_without constraint_number ms s.ties
     → IsNext u s (each_ended constraint_number ms s)
 next_ended u s ms settled tied long can ties = record {
   acting = record {

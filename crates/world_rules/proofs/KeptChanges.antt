@@ -37,7 +37,7 @@ use Rattle.plain_world.specs.Sleep.{roused, told_body}
 use Rattle.plain_world.specs.Slots.{body_at, shapes_in}
 use Rattle.plain_world.proofs.BoxLemmas.{renewed_are}
 use Rattle.plain_world.proofs.KindLaws.{mass_as, no_mover, static_as}
-use Rattle.sleep_wake.specs.Acting.{IsSettled}
+use Rattle.sleep_wake.specs.Acting.{IsConsistent}
 use Rattle.sleep_wake.specs.Acting as acting
 use Rattle.sleep_wake.specs.Sleeping.{islands_woken, sleeping_names}
 use Rattle.solver_sets.specs.Beside.{stirred_by}
@@ -129,7 +129,7 @@ changed_lists w slot b c x y call why s few is =
     }
 
 -- what acts of a world doesn't depend on its gravity, and on its numbers of steps and calls
-pub settled_later : (w : Plain) (g : Vec2) (steps calls : ℕ) → IsSettled constraint_number (acting_of w) → IsSettled constraint_number (acting_of (record w { gravity = g; steps = steps; calls = calls }))
+pub settled_later : (w : Plain) (g : Vec2) (steps calls : ℕ) → IsConsistent constraint_number (acting_of w) → IsConsistent constraint_number (acting_of (record w { gravity = g; steps = steps; calls = calls }))
 unfolding acting_of
 settled_later w g steps calls s = s
 
@@ -141,7 +141,7 @@ changed_kept w slot b c x y call why s few is =
     let same = alike_acting w new s alike in
     kept_of (record w { plain = record w.plain { bodies = new; calls = w.plain.calls + 1 }; entries = w.entries ++ booked call why x y })
     (changed_lists w slot b c x y call why s few is)
-    (settled_later (record w.plain { bodies = new }) w.plain.gravity w.plain.steps (w.plain.calls + 1) (subst (IsSettled constraint_number) (sym same) s.settled))
+    (settled_later (record w.plain { bodies = new }) w.plain.gravity w.plain.steps (w.plain.calls + 1) (subst (IsConsistent constraint_number) (sym same) s.settled))
     (tied_alike w.plain.bodies new w.plain.islands alike s.tied)
     (told_set w.plain.bodies slot b c w.plain.islands is.at is.asleep s.told)
     (s.labels ∙ sym (length-set w.plain.bodies slot (Some c)))

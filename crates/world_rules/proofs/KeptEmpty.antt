@@ -13,14 +13,14 @@ use Rattle.contacts.specs.declared.constraint.Constraint.{Constraint}
 use Rattle.graph_colours.specs.Colours.{IsColouring, ids_of}
 use Rattle.graph_colours.specs.Members.{AreApart, AreRising}
 use Rattle.graph_colours.specs.declared.limits.TheConstants.{COLOURS}
-use Rattle.sleep_wake.specs.Acting.{IsSettled}
+use Rattle.sleep_wake.specs.Acting.{IsConsistent}
 use Rattle.solver_sets.specs.Ties.{members_of, ties_of}
 use Rattle.world_core_base.specs.ContactBodies.{IsContactOf}
 use Rattle.world_rules.specs.Apply.{empty_world}
 use Rattle.world_rules.specs.Sets.{acting_of}
 use Rattle.world_rules.specs.Sound.{HasBodies}
 use Rattle.world_rules.specs.World.{book_of, joints_in_slots}
-use Rattle.world_rules.proofs.LowerLaws.{empty_is_settled}
+use Rattle.world_rules.proofs.LowerLaws.{empty_is_consistent}
 use Rattle.world_rules.proofs.BookLemmas.{AreSmall-weaker}
 use Rattle.world_rules.proofs.SoundLaws.{IsKept}
 
@@ -41,9 +41,9 @@ no_colours = record {
   once = λ n. omega arith;
 }
 
-empty_settled : (g : Vec2) → IsSettled constraint_number (acting_of (empty_world g).plain)
+empty_settled : (g : Vec2) → IsConsistent constraint_number (acting_of (empty_world g).plain)
 unfolding acting_of ties_of members_of
-empty_settled g = empty_is_settled (replicate (COLOURS + 1) []) no_colours refl
+empty_settled g = empty_is_consistent (replicate (COLOURS + 1) []) no_colours refl
 
 empty_moved : (g : Vec2) → ids_of (members_of (empty_world g).plain.bodies (joints_in_slots (empty_world g).plain) (empty_world g).plain.colours) ≡ (empty_world g).plain.colours
 unfolding members_of

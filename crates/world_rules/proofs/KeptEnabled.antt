@@ -29,7 +29,7 @@ use Rattle.plain_world.specs.Kinds.{is_dynamic}
 use Rattle.plain_world.specs.Plain.{Plain}
 use Rattle.plain_world.specs.Sleep.{told_body, told_by}
 use Rattle.plain_world.specs.Slots.{body_at, shapes_in}
-use Rattle.sleep_wake.specs.Acting.{Acting, IsSettled, are_awake, is_mover_awake}
+use Rattle.sleep_wake.specs.Acting.{Acting, IsConsistent, are_awake, is_mover_awake}
 use Rattle.sleep_wake.specs.Changes.{each_begun}
 use Rattle.sleep_wake.specs.ChangeLists.{CanBegin, each_inserted}
 use Rattle.solver_sets.specs.Beside.{joined_to}
@@ -221,7 +221,7 @@ up_plain w slot o = record (with_woken w.plain (joined_to w.plain.bodies w.plain
 
 -- what is known of the joints of a body that is enabled, before they begin
 pub record CanStart (w : World) (slot : ℕ) (c : Body) : Type 0 where
-  pub settled : IsSettled constraint_number (up_acting w slot c)
+  pub settled : IsConsistent constraint_number (up_acting w slot c)
   pub tied : AreTied (up_bodies w slot (Some c)) (up_acting w slot c).labels
   pub long : length (up_acting w slot c).labels ≡ length (up_bodies w slot (Some c))
   pub can : CanBegin constraint_number (joint_ties_at slot (up_bodies w slot (Some c)) (joints_in_slots w.plain)) (up_acting w slot c)

@@ -30,7 +30,7 @@ use Rattle.plain_world.specs.Formed.{HaveFilters}
 use Rattle.plain_world.specs.Joints.{AreJoints}
 use Rattle.plain_world.specs.Sleep.{told}
 use Rattle.plain_world.specs.Slots.{body_at, item_in, shapes_in, with_body}
-use Rattle.sleep_wake.specs.Acting.{Acting, IsSettled}
+use Rattle.sleep_wake.specs.Acting.{Acting, IsConsistent}
 use Rattle.sleep_wake.specs.Acting as acting
 use Rattle.sleep_wake.specs.Bodies.{mover_made}
 use Rattle.sleep_wake.specs.Widened.{widened}
@@ -194,7 +194,7 @@ unfolding mover_made
 come_ties true slot s = refl
 come_ties false slot s = refl
 
-pub come_settled : (m : Bool) (slot : ℕ) (s : Acting Constraint) → IsSettled constraint_number s → label_at s.labels slot ≡ None → IsSettled constraint_number (cond m (mover_made slot s) s)
+pub come_settled : (m : Bool) (slot : ℕ) (s : Acting Constraint) → IsConsistent constraint_number s → label_at s.labels slot ≡ None → IsConsistent constraint_number (cond m (mover_made slot s) s)
 come_settled true slot s settled none = making_keeps s slot settled none
 come_settled false slot s settled none = settled
 

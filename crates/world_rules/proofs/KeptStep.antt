@@ -23,7 +23,7 @@ use Rattle.plain_world.specs.Sleep.{timed_bodies, told}
 use Rattle.plain_world.specs.Slots.{AreMatched, item_at}
 use Rattle.plain_world.specs.InSlots.{HaveSameSlots}
 use Rattle.sleep_wake.proofs.LengthLemmas.{phase_long, turned_long}
-use Rattle.sleep_wake.specs.Acting.{Acting, IsSettled}
+use Rattle.sleep_wake.specs.Acting.{Acting, IsConsistent}
 use Rattle.sleep_wake.specs.Changes.{turned}
 use Rattle.sleep_wake.specs.SleepPhase.{all_put_to_rest, picked_to_split, ready, sleep_phase, split_at, split_picked}
 use Rattle.sleep_wake.specs.Waking.{put_to_rest}
@@ -82,7 +82,7 @@ new_contacts w k = has_bodies_after w.plain.bodies w.plain.joints w.plain.contac
 
 -- they are settled, and the constraints are those of the new contacts
 abbrev IsTurned : World → Acting Constraint → Type 0
-IsTurned w s = IsSettled constraint_number s × (s.ties ≡ ties_of w.plain.bodies (joints_in_slots w.plain) (collided_in w).now)
+IsTurned w s = IsConsistent constraint_number s × (s.ties ≡ ties_of w.plain.bodies (joints_in_slots w.plain) (collided_in w).now)
 
 turned_into : (w : World) → IsKept w → AreKeysRising (collided_in w).now → IsTurned w (turned_in w)
 unfolding acting_of

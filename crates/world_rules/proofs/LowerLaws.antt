@@ -125,8 +125,8 @@ the_named_are_awake = wake_law_lemmas.the_named_are_awake constraint_number
 pub waking_leaves_the_awake : sleeping.WakingLeavesTheAwake constraint_number
 waking_leaves_the_awake = wake_law_lemmas.waking_leaves_the_awake constraint_number
 
-pub empty_is_settled : sleeping.EmptyIsSettled constraint_number
-empty_is_settled = wake_phase_lemmas.empty_settled constraint_number
+pub empty_is_consistent : sleeping.EmptyIsConsistent constraint_number
+empty_is_consistent = wake_phase_lemmas.empty_settled constraint_number
 
 pub linked_stand_together : sleeping.LinkedStandTogether constraint_number
 linked_stand_together = wake_kept_lemmas.linked_stand constraint_number

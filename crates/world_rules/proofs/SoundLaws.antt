@@ -11,7 +11,7 @@ use Rattle.plain_world.specs.Momentum.{momentum}
 use Rattle.plain_world.specs.Formed.{AreFiltered}
 use Rattle.plain_world.specs.Joints.{AreJoints}
 use Rattle.plain_world.specs.Slots.{AreMatched}
-use Rattle.sleep_wake.specs.Acting.{IsSettled}
+use Rattle.sleep_wake.specs.Acting.{IsConsistent}
 use Rattle.solver_sets.specs.Tied.{AreTied}
 use Rattle.solver_sets.specs.Ties.{members_of}
 use Rattle.world_core_base.specs.ContactBodies.{AreContactsOf}
@@ -36,7 +36,7 @@ pub record IsKept (w : World) : Type 0 where
   pub contacts : AreKeysRising w.plain.contacts
   pub pairs : AreContactsOf w.plain.bodies w.plain.contacts
   pub there : All (HasBodies w.plain.bodies) w.plain.contacts
-  pub settled : IsSettled constraint_number (acting_of w.plain)
+  pub settled : IsConsistent constraint_number (acting_of w.plain)
   pub tied : AreTied w.plain.bodies w.plain.islands
   pub told : AreTold w.plain.bodies w.plain.islands
   pub labels : length w.plain.islands ≡ length w.plain.bodies

@@ -9,7 +9,7 @@ use Rattle.graph_colours.specs.Colours.{all_members}
 use Rattle.plain_world.specs.declared.body.Body.{Body}
 use Rattle.plain_world.specs.Sleep.{told}
 use Rattle.plain_world.specs.InSlots.{AreTimersWithin}
-use Rattle.sleep_wake.specs.Acting.{Acting, IsSettled}
+use Rattle.sleep_wake.specs.Acting.{Acting, IsConsistent}
 use Rattle.sleep_wake.specs.ChangeLists.{AreChanges, begin_count}
 use Rattle.solver_sets.specs.Slept.{asleep_only_in}
 use Rattle.solver_sets.specs.SinceTold.{newly_awake}
@@ -46,7 +46,7 @@ can_turn w k rises =
           (All-weaker (HasBodies w.plain.bodies) (λ (e : ContactEntry). IsNamed e.key) (λ e h. h.named) (collided_in w).now now) k.tied;
       count = count;
       coloured = few_act (key_changes w.plain.bodies (collided_in w).begin (collided_in w).end) (acting_of w.plain) (length (acting_of w.plain).ties + length (collided_in w).begin)
-          (subst (λ (s : Acting Constraint). IsSettled constraint_number s) is.acting is.kept.settled) (omega (arith, count));
+          (subst (λ (s : Acting Constraint). IsConsistent constraint_number s) is.acting is.kept.settled) (omega (arith, count));
     }
 
 -- the timers of a kept world have room for a step's ticks

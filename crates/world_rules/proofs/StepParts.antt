@@ -31,7 +31,7 @@ use Rattle.plain_world.specs.Joints.{AreJoints}
 use Rattle.plain_world.specs.Plain.{Plain}
 use Rattle.plain_world.specs.Sleep.{timed_bodies, told}
 use Rattle.plain_world.specs.InSlots.{HaveSameSlots}
-use Rattle.sleep_wake.specs.Acting.{Acting, IsSettled}
+use Rattle.sleep_wake.specs.Acting.{Acting, IsConsistent}
 use Rattle.sleep_wake.specs.Changes.{after_change, turned}
 use Rattle.sleep_wake.specs.ChangeLists.{begin_count}
 use Rattle.sleep_wake.specs.declared.change.Change.{Change}
@@ -69,7 +69,7 @@ turned_few : (changes : List (Change Constraint)) (s : Acting Constraint) (room 
 turned_few [] s room h = omega (arith, h)
 turned_few (c ∷ changes) s room h = turned_few changes (after_change constraint_number c s) room (count_next constraint_number s room c changes h)
 
-pub few_act : (changes : List (Change Constraint)) (s : Acting Constraint) (room : ℕ) → IsSettled constraint_number (turned constraint_number changes s) → length s.ties + begin_count changes ≤ room → length (all_members (turned constraint_number changes s).lists) ≤ room
+pub few_act : (changes : List (Change Constraint)) (s : Acting Constraint) (room : ℕ) → IsConsistent constraint_number (turned constraint_number changes s) → length s.ties + begin_count changes ≤ room → length (all_members (turned constraint_number changes s).lists) ≤ room
 few_act changes s room settled h =
     let ties = turned_few changes s room h in
     let fewer = fewer_coloured constraint_number (turned constraint_number changes s) settled in

@@ -14,7 +14,7 @@ use Rattle.plain_world.specs.Momentum.{momentum}
 use Rattle.plain_world.specs.Formed.{AreFiltered, HasPoints, IsShapeOf, mixed_of, shape_named}
 use Rattle.plain_world.specs.Joints.{AreJoints}
 use Rattle.plain_world.specs.Slots.{AreMatched, body_at}
-use Rattle.sleep_wake.specs.Acting.{IsSettled}
+use Rattle.sleep_wake.specs.Acting.{IsConsistent}
 use Rattle.solver_sets.specs.Ties.{IsNamed, members_of}
 use Rattle.solver_sets.specs.Tied.{AreTied}
 use Rattle.islands.specs.Labels.{Labels, label_at, sleeping_name}
@@ -52,7 +52,7 @@ AreTold bodies labels = (slot : ℕ) (b : Body) → body_at bodies slot ≡ Some
 -- The islands of the movers are those that its constraints' links make, and the constraints that have a colour are just those whose movers are awake,
 -- no two of one colour with a mover in common. A mover sleeps just if its island does. The movers' momentum is the ledger's total. What isn't an awake mover is at rest.
 pub record KeepsPromises (w : World) : Type 0 where
-  pub settled : IsSettled constraint_number (acting_of w.plain)
+  pub settled : IsConsistent constraint_number (acting_of w.plain)
   pub tied : AreTied w.plain.bodies w.plain.islands
   pub told : AreTold w.plain.bodies w.plain.islands
   pub total_x : (momentum w.plain.bodies).x ≡ (total (book_of w)).x

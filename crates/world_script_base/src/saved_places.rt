@@ -113,7 +113,7 @@ impl Question {
         let alone = array_value(items);
         let mut reader = Reader::new();
         self.read_items(list, &alone, &mut reader)?;
-        match reader.settle(self.clause) {
+        match reader.verdict(self.clause) {
             Err(Broken::Clause(broken)) => Ok(Some(broken)),
             _ => Ok(None),
         }

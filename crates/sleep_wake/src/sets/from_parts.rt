@@ -4,7 +4,7 @@ ghost use Rattle.std.specs.Prelude.{◌≡◌, ◌≤◌, ◌^◌, IfOk, length}
 ghost use Rattle.std.specs.Result.{IsOkUnless};
 ghost use Rattle.graph_colours.specs.Colours.{all_members};
 ghost use Rattle.graph_colours.specs.Given.{members_of};
-ghost use Rattle.sleep_wake.specs.Acting.{acting, IsSettled};
+ghost use Rattle.sleep_wake.specs.Acting.{acting, IsConsistent};
 
 use crate::gathering::Gathering;
 use crate::growing::grow;
@@ -25,7 +25,7 @@ impl<C: Id> Sets<C> {
         lists: &[Vec<Member<C>>],
         count: usize,
     ) -> Result<Sets<C>, Refusal>
-        requires settled { IsSettled C.number (acting ties.now labels.now (members_of lists.now)) }
+        requires settled { IsConsistent C.number (acting ties.now labels.now (members_of lists.now)) }
         requires few { length labels.now ≤ 2 ^ 32 }
         requires count { count ≡ length (all_members (members_of lists.now)) }
         ensures acting { IfOk result (λ made. made.acting ≡ acting ties.now labels.now (members_of lists.now)) }

@@ -6,7 +6,7 @@ ghost use Rattle.serde_json.specs.View.{view};
 ghost use Rattle.contacts.specs.Constraints.{constraint_number};
 ghost use Rattle.contacts_base.specs.Contacts.{AreContacts};
 ghost use Rattle.plain_world.specs.Slots.{AreMatched};
-ghost use Rattle.sleep_wake.specs.Acting.{IsSettled};
+ghost use Rattle.sleep_wake.specs.Acting.{IsConsistent};
 ghost use Rattle.world_core.specs.SavedAgain.{ComesBack};
 ghost use Rattle.world_file.specs.Answers.{IsRefusedBy};
 ghost use Rattle.world_file.specs.Files.{read_of};
@@ -42,7 +42,7 @@ fn contacts_of(alloc: Global, plain: &Plain) -> Result<Contacts, Refusal>
 
 /// The constraints of a plain world, the islands of their movers, and the colours of those that act. Refused 1 where memory is wanting.
 fn sets_of(alloc: Global, plain: &Plain) -> Result<Sets<Constraint>, Refusal>
-    requires settled { IsSettled constraint_number (acting_of plain.now) }
+    requires settled { IsConsistent constraint_number (acting_of plain.now) }
     requires joints { AreMatched plain.now.joint_places plain.now.joints }
     requires few { length plain.now.islands ≤ 2 ^ 32 }
     ensures acting { IfOk result (λ made. made.acting ≡ acting_of plain.now) }

@@ -1,7 +1,7 @@
 use Rattle.std.proofs.Common.{◌≡◌, ◌+◌, ◌<◌, ◌≤◌, ◌∷◌, drop, length, sym, ap, ◌∙◌, subst, arith}
 use Rattle.graph_colours.specs.Colours.{all_members}
 use Rattle.islands.proofs.JoinLemmas.{contains_head}
-use Rattle.sleep_wake.specs.Acting.{Acting, acting, IsSettled}
+use Rattle.sleep_wake.specs.Acting.{Acting, acting, IsConsistent}
 use Rattle.sleep_wake.specs.Changes.{each_begun, begun}
 use Rattle.sleep_wake.specs.ChangeLists.{CanBegin}
 use Rattle.sleep_wake.proofs.SetLemmas.{front_is}
@@ -84,7 +84,7 @@ loop-place-preserved g c =
     let more : length next.ties ≡ length now.ties + 1 = ap (λ (v : Acting g.row.C.Denot). length v.ties) is ∙ begun_more n m now in
     let long : length next.labels ≡ length now.labels = ap (λ (v : Acting g.row.C.Denot). length v.labels) is ∙ begun_size n m now in
     let P : Acting g.row.C.Denot → Type 0 = λ v. CanBegin n rest v in
-    let S : Acting g.row.C.Denot → Type 0 = λ v. IsSettled n v in
+    let S : Acting g.row.C.Denot → Type 0 = λ v. IsConsistent n v in
     record {
       settled = subst S (sym is) (beginning_keeps n now m c.loop-place.invariant.settled (can.fresh m (contains_head m rest)) (can.awake m (contains_head m rest)));
       can = subst P (sym is) (begin_next n m rest now c.loop-place.invariant.settled can);

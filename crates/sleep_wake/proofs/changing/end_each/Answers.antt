@@ -1,6 +1,6 @@
 use Rattle.std.proofs.Common.{◌≡◌, ◌+◌, ◌<◌, ◌∷◌, drop, length, sym, ap, ◌∙◌, subst, arith}
 use Rattle.islands.proofs.JoinLemmas.{contains_head}
-use Rattle.sleep_wake.specs.Acting.{Acting, acting, IsSettled}
+use Rattle.sleep_wake.specs.Acting.{Acting, acting, IsConsistent}
 use Rattle.sleep_wake.specs.Changes.{each_ended, ended}
 use Rattle.sleep_wake.specs.ChangeLists.{CanEnd}
 use Rattle.sleep_wake.proofs.SetLemmas.{front_is}
@@ -31,7 +31,7 @@ loop-place-preserved g c =
     let can : CanEnd n (m ∷ rest) now = rw front at c.loop-place.invariant.can in
     let left : each_ended n (m ∷ rest) now ≡ each_ended n c.args.members.now (acting c.args.ties.now.items c.args.islands.now.labels c.args.colours.now.lists) = rw front at c.loop-place.invariant.rest in
     let P : Acting g.row.C.Denot → Type 0 = λ v. CanEnd n rest v in
-    let S : Acting g.row.C.Denot → Type 0 = λ v. IsSettled n v in
+    let S : Acting g.row.C.Denot → Type 0 = λ v. IsConsistent n v in
     record {
       settled = subst S (sym is) (ending_keeps n now m c.loop-place.invariant.settled (can.there m (contains_head m rest)) (are_up now.labels m.movers (can.awake m (contains_head m rest))).first);
       can = subst P (sym is) (end_next n m rest now c.loop-place.invariant.settled can);

@@ -1,6 +1,6 @@
 use Rattle.std.proofs.Common.{◌≡◌, ◌+◌, ◌<◌, ◌≤◌, ◌∷◌, [], drop, length, sym, ap, ◌∙◌, subst, arith}
 use Rattle.graph_colours.specs.Colours.{all_members}
-use Rattle.sleep_wake.specs.Acting.{Acting, acting, IsSettled}
+use Rattle.sleep_wake.specs.Acting.{Acting, acting, IsConsistent}
 use Rattle.sleep_wake.specs.Changes.{turned, after_change}
 use Rattle.sleep_wake.specs.ChangeLists.{AreChanges, IsChange, begin_count}
 use Rattle.sleep_wake.proofs.FoldLemmas.{Labelled, change_now, change_next, one_count, count_next, changed_labelled, first_is}
@@ -73,7 +73,7 @@ loop-place-preserved g c =
     let gathered : length next.ties + begin_count rest ≤ c.loop-place.gathering.ties = subst (λ (v : Acting g.row.C.Denot). length v.ties + begin_count rest ≤ c.loop-place.gathering.ties) (sym is) (count_next n now c.loop-place.gathering.ties m rest (rw front at c.loop-place.invariant.gathering_room)) in
     let P : Acting g.row.C.Denot → Type 0 = λ v. AreChanges n old v.ties rest in
     let Q : Acting g.row.C.Denot → Type 0 = λ v. Labelled old v.labels in
-    let S : Acting g.row.C.Denot → Type 0 = λ v. IsSettled n v in
+    let S : Acting g.row.C.Denot → Type 0 = λ v. IsConsistent n v in
     record {
       settled = subst S (sym is) (change_keeps n m now c.loop-place.invariant.settled one);
       can = subst P (sym is) can;

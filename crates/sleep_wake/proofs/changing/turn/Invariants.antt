@@ -1,6 +1,6 @@
 use Rattle.std.proofs.Common.{◌≡◌, ◌≤◌, ◌+◌, length, drop}
 use Rattle.graph_colours.specs.Colours.{all_members}
-use Rattle.sleep_wake.specs.Acting.{acting, IsSettled}
+use Rattle.sleep_wake.specs.Acting.{acting, IsConsistent}
 use Rattle.sleep_wake.specs.Changes.{turned}
 use Rattle.sleep_wake.specs.ChangeLists.{AreChanges, begin_count}
 use Rattle.sleep_wake.proofs.FoldLemmas.{Labelled}
@@ -8,7 +8,7 @@ use Rattle.sleep_wake.proofs.changing.turn.Given as goal
 
 abbrev pub invariant-loop-place : goal.invariant-loop-place
 invariant-loop-place g l = record {
-  settled : IsSettled g.C.Id.number (acting l.ties.items l.islands.labels l.colours.lists);
+  settled : IsConsistent g.C.Id.number (acting l.ties.items l.islands.labels l.colours.lists);
   can : AreChanges g.C.Id.number l.fn.islands.labels l.ties.items (drop l.place l.changes);
   labelled : Labelled l.fn.islands.labels l.islands.labels;
   rest : turned g.C.Id.number (drop l.place l.changes) (acting l.ties.items l.islands.labels l.colours.lists) ≡ turned g.C.Id.number l.changes (acting l.fn.ties.items l.fn.islands.labels l.fn.colours.lists);

@@ -22,7 +22,7 @@ release_each-requires g c =
 pub release_among-requires : goal.release_among-requires
 release_among-requires g c =
     let s : Acting g.row.C.Denot = acting c.args.ties.now.items c.args.islands.now.labels c.args.colours.now.lists in
-    let same : c.as_slice.result.now ≡ s.ties = c.as_slice.ensures.value ∙ c.settle.ensures.items in
+    let same : c.as_slice.result.now ≡ s.ties = c.as_slice.ensures.value ∙ c.flush.ensures.items in
     let P : List (Member g.row.C.Denot) → Type 0 = λ v. OwnMovers g.C.Id.number v s.lists in
     record { own = subst P (sym same) (own_of g.C.Id.number s c.requires.settled) }
 

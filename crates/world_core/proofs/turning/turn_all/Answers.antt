@@ -7,14 +7,14 @@ use Rattle.world_core.proofs.turning.turn_all.Goals as goal
 
 pub fill_newly_awake-requires-clause-all : goal.fill_newly_awake-requires-clause-all
 fill_newly_awake-requires-clause-all c =
-    rw (c.bodies.ensures, c.islands.ensures, c.settle.ensures.acting, c.turn.ensures.acting) (woken_listed c.args.asleep.now c.args.bodies.now.bodies c.args.changes.now c.args.sets.now.acting c.requires.settled c.requires.told c.requires.can c.requires.sleepers)
+    rw (c.bodies.ensures, c.islands.ensures, c.flush.ensures.acting, c.turn.ensures.acting) (woken_listed c.args.asleep.now c.args.bodies.now.bodies c.args.changes.now c.args.sets.now.acting c.requires.settled c.requires.told c.requires.can c.requires.sleepers)
 
 pub tell_some-requires-clause-others : goal.tell_some-requires-clause-others
 tell_some-requires-clause-others c =
     let old = c.args.sets.now.acting in
     let bodies = c.args.bodies.now.bodies in
     let all = woken_listed c.args.asleep.now bodies c.args.changes.now old c.requires.settled c.requires.told c.requires.can c.requires.sleepers in
-    rw (c.islands-2.ensures, c.settle.ensures.acting, c.turn.ensures.acting) (awake_beside c.args.asleep.now bodies old.labels (turned constraint_number c.args.changes.now old).labels (told_stays old.labels bodies c.requires.bodies c.requires.told) (turned_slept c.args.changes.now old) all)
+    rw (c.islands-2.ensures, c.flush.ensures.acting, c.turn.ensures.acting) (awake_beside c.args.asleep.now bodies old.labels (turned constraint_number c.args.changes.now old).labels (told_stays old.labels bodies c.requires.bodies c.requires.told) (turned_slept c.args.changes.now old) all)
 
 pub returns-clause-marked : goal.returns-clause-marked
-returns-clause-marked c = rw (c.settle-2.ensures.bodies, c.settle-2.ensures.marks) c.tell_some.ensures.marked
+returns-clause-marked c = rw (c.flush-2.ensures.bodies, c.flush-2.ensures.marks) c.tell_some.ensures.marked

@@ -12,16 +12,16 @@ use Rattle.world_file.proofs.FewLemmas.{few_joints, few_memberships}
 use Rattle.world_file.proofs.ReadingLaws.{carried, read_is, refused_late, refused_soon}
 use Rattle.world_file.proofs.world.read.Goals as goal
 
-pub returns-in_err-settle-clause-refused : goal.returns-in_err-settle-clause-refused
-returns-in_err-settle-clause-refused c =
-    carried c.from_residual-in_err-settle.result c.in_err-settle.field-0.0 (λ e. IsRefusedBy (read_of (view c.args.value.now)) e) c.from_residual-in_err-settle.ensures.0 c.from_residual-in_err-settle.ensures.1
-    (refused_soon (view c.args.value.now) c.read_parts.new.reader c.new-reader.result c.in_err-settle.field-0.0 c.in_ok-saved.ensures.asked c.new-reader.ensures c.in_err-settle.ensures.broken)
+pub returns-in_err-verdict-clause-refused : goal.returns-in_err-verdict-clause-refused
+returns-in_err-verdict-clause-refused c =
+    carried c.from_residual-in_err-verdict.result c.in_err-verdict.field-0.0 (λ e. IsRefusedBy (read_of (view c.args.value.now)) e) c.from_residual-in_err-verdict.ensures.0 c.from_residual-in_err-verdict.ensures.1
+    (refused_soon (view c.args.value.now) c.read_parts.new.reader c.new-reader.result c.in_err-verdict.field-0.0 c.in_ok-saved.ensures.asked c.new-reader.ensures c.in_err-verdict.ensures.broken)
 
 pub fitted-requires-clause-few : goal.fitted-requires-clause-few
-fitted-requires-clause-few c = few_memberships (view c.args.value.now) (parts_of c.in_ok-saved.saved) c.read_parts.new.reader c.new-reader.result c.in_ok-saved.ensures.value c.in_ok-saved.ensures.asked c.new-reader.ensures c.in_ok-settle.ensures.going
+fitted-requires-clause-few c = few_memberships (view c.args.value.now) (parts_of c.in_ok-saved.saved) c.read_parts.new.reader c.new-reader.result c.in_ok-saved.ensures.value c.in_ok-saved.ensures.asked c.new-reader.ensures c.in_ok-verdict.ensures.going
 
 pub fitted-requires-clause-few_joints : goal.fitted-requires-clause-few_joints
-fitted-requires-clause-few_joints c = few_joints (view c.args.value.now) (parts_of c.in_ok-saved.saved) c.read_parts.new.reader c.new-reader.result c.in_ok-saved.ensures.value c.in_ok-saved.ensures.asked c.new-reader.ensures c.in_ok-settle.ensures.going
+fitted-requires-clause-few_joints c = few_joints (view c.args.value.now) (parts_of c.in_ok-saved.saved) c.read_parts.new.reader c.new-reader.result c.in_ok-saved.ensures.value c.in_ok-saved.ensures.asked c.new-reader.ensures c.in_ok-verdict.ensures.going
 
 pub returns-in_err-parts-clause-refused : goal.returns-in_err-parts-clause-refused
 returns-in_err-parts-clause-refused c =

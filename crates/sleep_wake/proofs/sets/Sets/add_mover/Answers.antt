@@ -1,6 +1,6 @@
 use Rattle.std.proofs.Common.{◌≡◌, refl, sym, subst, arith}
 use Rattle.std.specs.Vec.{vec_capacity}
-use Rattle.sleep_wake.specs.Acting.{Acting, acting, IsSettled}
+use Rattle.sleep_wake.specs.Acting.{Acting, acting, IsConsistent}
 use Rattle.sleep_wake.proofs.StandLemmas.{stands}
 use Rattle.sleep_wake.specs.Bodies.{mover_made}
 use Rattle.sleep_wake.proofs.PhaseLemmas.{making_keeps}
@@ -16,7 +16,7 @@ invariant_of-self g c =
     let is : new ≡ mover_made c.args.slot s = made_is c.args.slot s c.add.new.self.labels c.add.ensures.labels in
     let fresh = rw (← c.self.view_is) at c.requires.fresh in
     let below = rw (← c.self.view_is) at c.requires.below in
-    let P : Acting g.row.C.Denot → Type 0 = λ v. IsSettled n v in
+    let P : Acting g.row.C.Denot → Type 0 = λ v. IsConsistent n v in
     stands n s new a.room a.slots (record { ties = a.ties.capacity; colours = a.colours.room; colour_slots = a.colours.slots; islands = a.islands.room; edges = vec_capacity a.edges; scratch_slots = a.scratch.slots; links = a.scratch.links; gathering_ties = a.gathering.ties; gathering_slots = a.gathering.slots; leasts = vec_capacity a.leasts }) (record { ties = a.ties.capacity; colours = a.colours.room; colour_slots = a.colours.slots; islands = c.add.new.self.room; edges = vec_capacity a.edges; scratch_slots = a.scratch.slots; links = a.scratch.links; gathering_ties = a.gathering.ties; gathering_slots = a.gathering.slots; leasts = vec_capacity a.leasts }) c.self.invariant
     (subst P (sym is) (making_keeps n s c.args.slot c.self.invariant.settled fresh))
     c.self.invariant.enough

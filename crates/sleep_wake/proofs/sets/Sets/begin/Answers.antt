@@ -1,6 +1,6 @@
 use Rattle.std.proofs.Common.{◌≡◌, ◌+◌, length, refl, sym, ap, ◌∙◌, subst, arith}
 use Rattle.std.specs.Vec.{vec_capacity}
-use Rattle.sleep_wake.specs.Acting.{Acting, acting, IsSettled}
+use Rattle.sleep_wake.specs.Acting.{Acting, acting, IsConsistent}
 use Rattle.sleep_wake.proofs.StandLemmas.{stands, fewer_coloured}
 use Rattle.sleep_wake.specs.Changes.{begun}
 use Rattle.sleep_wake.proofs.KeptLemmas.{beginning_keeps}
@@ -20,7 +20,7 @@ invariant_of-self g c =
     let room = rw (← c.self.view_is) at c.requires.room in
     let more : length new.ties ≡ length s.ties + 1 = ap (λ (v : Acting g.row.C.Denot). length v.ties) is ∙ begun_more n c.args.member s in
     let few : length new.labels ≡ length s.labels = ap (λ (v : Acting g.row.C.Denot). length v.labels) is ∙ begun_size n c.args.member s in
-    let P : Acting g.row.C.Denot → Type 0 = λ v. IsSettled n v in
+    let P : Acting g.row.C.Denot → Type 0 = λ v. IsConsistent n v in
     stands n s new a.room a.slots (record { ties = a.ties.capacity; colours = a.colours.room; colour_slots = a.colours.slots; islands = a.islands.room; edges = vec_capacity a.edges; scratch_slots = a.scratch.slots; links = a.scratch.links; gathering_ties = a.gathering.ties; gathering_slots = a.gathering.slots; leasts = vec_capacity a.leasts }) (record { ties = c.begin.new.ties.capacity; colours = c.begin.new.colours.room; colour_slots = c.begin.new.colours.slots; islands = c.begin.new.islands.room; edges = vec_capacity a.edges; scratch_slots = a.scratch.slots; links = a.scratch.links; gathering_ties = a.gathering.ties; gathering_slots = a.gathering.slots; leasts = vec_capacity a.leasts }) c.self.invariant
     (subst P (sym is) (beginning_keeps n s c.args.member c.self.invariant.settled fresh awake))
     (omega (arith, more, room))

@@ -1,6 +1,6 @@
 use Rattle.std.proofs.Common.{◌≡◌, ◌≤◌, length, refl, sym, ap, ◌∙◌, subst, arith}
 use Rattle.std.specs.Vec.{vec_capacity}
-use Rattle.sleep_wake.specs.Acting.{Acting, acting, IsSettled}
+use Rattle.sleep_wake.specs.Acting.{Acting, acting, IsConsistent}
 use Rattle.sleep_wake.specs.Changes.{each_begun}
 use Rattle.sleep_wake.proofs.StandLemmas.{stands}
 use Rattle.sleep_wake.proofs.FoldLemmas.{each_begun_few}
@@ -27,7 +27,7 @@ invariant_of-self g c =
     let can = rw (← c.self.view_is) at c.requires.can in
     let room = rw (← c.self.view_is) at c.requires.room in
     let Q : Acting g.row.C.Denot → Type 0 = λ v. length v.ties ≤ a.room in
-    let P : Acting g.row.C.Denot → Type 0 = λ v. IsSettled n v in
+    let P : Acting g.row.C.Denot → Type 0 = λ v. IsConsistent n v in
     let few : length new.labels ≡ length s.labels = ap (λ (v : Acting g.row.C.Denot). length v.labels) is ∙ each_begun_long n c.args.members.now s in
     stands n s new a.room a.slots (record { ties = a.ties.capacity; colours = a.colours.room; colour_slots = a.colours.slots; islands = a.islands.room; edges = vec_capacity a.edges; scratch_slots = a.scratch.slots; links = a.scratch.links; gathering_ties = a.gathering.ties; gathering_slots = a.gathering.slots; leasts = vec_capacity a.leasts }) (record { ties = c.begin_each.new.ties.capacity; colours = c.begin_each.new.colours.room; colour_slots = c.begin_each.new.colours.slots; islands = c.begin_each.new.islands.room; edges = vec_capacity a.edges; scratch_slots = a.scratch.slots; links = a.scratch.links; gathering_ties = a.gathering.ties; gathering_slots = a.gathering.slots; leasts = vec_capacity a.leasts }) c.self.invariant
     (subst P (sym is) (beginning_each_keeps n s c.args.members.now c.self.invariant.settled can))

@@ -3,7 +3,7 @@ use Rattle.graph_colours.specs.declared.limits.TheConstants.{COLOURS}
 use Rattle.graph_colours.specs.declared.member.Member.{Member}
 use Rattle.graph_colours.proofs.EmptyLemmas.{colouring_of_none}
 use Rattle.islands.specs.Labels.{Labels}
-use Rattle.sleep_wake.specs.Acting.{Acting, acting, IsSettled}
+use Rattle.sleep_wake.specs.Acting.{Acting, acting, IsConsistent}
 use Rattle.sleep_wake.proofs.PhaseLemmas.{empty_settled}
 use Rattle.sleep_wake.proofs.sets.Sets.new.Goals as goal
 
@@ -18,7 +18,7 @@ invariant_of-result g c =
     let is : acting c.new.result.items c.new-3.result.labels c.in_ok-new.field-0.lists ≡ acting nobody [] none = ap (λ (v : List (Member g.row.C.Denot)). acting v c.new-3.result.labels c.in_ok-new.field-0.lists) ties ∙ ap (λ (v : Labels). acting nobody v c.in_ok-new.field-0.lists) labels ∙ ap (λ (v : List (List (Member g.row.C.Denot))). acting nobody [] v) lists in
     let few : length c.new.result.items ≡ 0 = ap (λ (v : List (Member g.row.C.Denot)). length v) ties in
     let short : length c.new-3.result.labels ≡ 0 = ap (λ (v : Labels). length v) labels in
-    let P : Acting g.row.C.Denot → Type 0 = λ v. IsSettled n v in
+    let P : Acting g.row.C.Denot → Type 0 = λ v. IsConsistent n v in
     record {
       settled = subst P (sym is) (empty_settled n none (colouring_of_none n) refl);
       enough = omega (arith, few);

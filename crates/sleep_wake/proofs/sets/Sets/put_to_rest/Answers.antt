@@ -1,6 +1,6 @@
 use Rattle.std.proofs.Common.{◌≡◌, length, refl, sym, ap, ◌∙◌, subst, arith}
 use Rattle.std.specs.Vec.{vec_capacity}
-use Rattle.sleep_wake.specs.Acting.{Acting, acting, IsSettled}
+use Rattle.sleep_wake.specs.Acting.{Acting, acting, IsConsistent}
 use Rattle.sleep_wake.proofs.StandLemmas.{stands_on}
 use Rattle.std.proofs.Common.{false}
 use Rattle.sleep_wake.specs.Waking.{put_to_rest}
@@ -17,7 +17,7 @@ invariant_of-self g c =
     let new : Acting g.row.C.Denot = acting a.ties.items c.fall_asleep.new.islands.labels c.fall_asleep.new.colours.lists in
     let is : new ≡ put_to_rest n c.args.name s = c.fall_asleep.ensures.at_rest in
     let o = names a.islands.labels c.args.name false (rw (← c.self.view_is) at c.requires) in
-    let P : Acting g.row.C.Denot → Type 0 = λ v. IsSettled n v in
+    let P : Acting g.row.C.Denot → Type 0 = λ v. IsConsistent n v in
     stands_on n s new a.room a.slots (record { ties = a.ties.capacity; colours = a.colours.room; colour_slots = a.colours.slots; islands = a.islands.room; edges = vec_capacity a.edges; scratch_slots = a.scratch.slots; links = a.scratch.links; gathering_ties = a.gathering.ties; gathering_slots = a.gathering.slots; leasts = vec_capacity a.leasts }) (record { ties = a.ties.capacity; colours = c.fall_asleep.new.colours.room; colour_slots = c.fall_asleep.new.colours.slots; islands = c.fall_asleep.new.islands.room; edges = vec_capacity a.edges; scratch_slots = a.scratch.slots; links = a.scratch.links; gathering_ties = c.fall_asleep.new.gathering.ties; gathering_slots = c.fall_asleep.new.gathering.slots; leasts = vec_capacity a.leasts }) c.self.invariant
     (subst P (sym is) (resting n s c.args.name o.l c.self.invariant.settled o.at o.named o.loosely))
     (ap (λ (v : Acting g.row.C.Denot). v.ties) is ∙ rested_ties n c.args.name s)

@@ -1,7 +1,7 @@
 use Rattle.std.proofs.Common.{◌≡◌, length, refl, sym, ap, ◌∙◌, subst, arith}
 use Rattle.std.specs.Vec.{vec_capacity}
 use Rattle.islands.specs.Labels.{Labels}
-use Rattle.sleep_wake.specs.Acting.{Acting, acting, IsSettled}
+use Rattle.sleep_wake.specs.Acting.{Acting, acting, IsConsistent}
 use Rattle.sleep_wake.proofs.StandLemmas.{stands}
 use Rattle.sleep_wake.specs.Bodies.{mover_gone}
 use Rattle.sleep_wake.proofs.PhaseLemmas.{going_keeps}
@@ -17,7 +17,7 @@ invariant_of-self g c =
     let alone = rw (← c.self.view_is) at c.requires.alone in
     let awake = rw (← c.self.view_is) at c.requires.awake in
     let is : new ≡ mover_gone n c.args.slot s = gone_is n c.args.slot s c.take_out.new.self.labels alone c.take_out.ensures.labels in
-    let P : Acting g.row.C.Denot → Type 0 = λ v. IsSettled n v in
+    let P : Acting g.row.C.Denot → Type 0 = λ v. IsConsistent n v in
     stands n s new a.room a.slots (record { ties = a.ties.capacity; colours = a.colours.room; colour_slots = a.colours.slots; islands = a.islands.room; edges = vec_capacity a.edges; scratch_slots = a.scratch.slots; links = a.scratch.links; gathering_ties = a.gathering.ties; gathering_slots = a.gathering.slots; leasts = vec_capacity a.leasts }) (record { ties = a.ties.capacity; colours = a.colours.room; colour_slots = a.colours.slots; islands = c.take_out.new.self.room; edges = vec_capacity a.edges; scratch_slots = a.scratch.slots; links = a.scratch.links; gathering_ties = a.gathering.ties; gathering_slots = a.gathering.slots; leasts = vec_capacity a.leasts }) c.self.invariant
     (subst P (sym is) (going_keeps n s c.args.slot c.self.invariant.settled awake))
     c.self.invariant.enough

@@ -1,6 +1,6 @@
 use Rattle.std.proofs.Common.{◌≡◌, length, refl, sym, ap, ◌∙◌, subst, arith, false}
 use Rattle.std.specs.Vec.{vec_capacity}
-use Rattle.sleep_wake.specs.Acting.{Acting, acting, IsSettled}
+use Rattle.sleep_wake.specs.Acting.{Acting, acting, IsConsistent}
 use Rattle.sleep_wake.specs.SleepPhase.{ready, ready_put_to_rest}
 use Rattle.sleep_wake.proofs.StandLemmas.{stands_on}
 use Rattle.sleep_wake.proofs.PhaseLemmas.{ready_settled}
@@ -16,7 +16,7 @@ invariant_of-self g c =
     let s : Acting g.row.C.Denot = acting a.ties.items a.islands.labels a.colours.lists in
     let new : Acting g.row.C.Denot = acting c.rest_ready.new.ties.items c.rest_ready.new.islands.labels c.rest_ready.new.colours.lists in
     let is : new ≡ ready_put_to_rest n timers s = c.rest_ready.ensures.at_rest in
-    let P : Acting g.row.C.Denot → Type 0 = λ v. IsSettled n v in
+    let P : Acting g.row.C.Denot → Type 0 = λ v. IsConsistent n v in
     stands_on n s new a.room a.slots (record { ties = a.ties.capacity; colours = a.colours.room; colour_slots = a.colours.slots; islands = a.islands.room; edges = vec_capacity a.edges; scratch_slots = a.scratch.slots; links = a.scratch.links; gathering_ties = a.gathering.ties; gathering_slots = a.gathering.slots; leasts = vec_capacity a.leasts }) (record { ties = c.rest_ready.new.ties.capacity; colours = c.rest_ready.new.colours.room; colour_slots = c.rest_ready.new.colours.slots; islands = c.rest_ready.new.islands.room; edges = vec_capacity a.edges; scratch_slots = a.scratch.slots; links = a.scratch.links; gathering_ties = a.gathering.ties; gathering_slots = a.gathering.slots; leasts = vec_capacity c.rest_ready.new.leasts }) c.self.invariant
     (subst P (sym is) (ready_settled n timers s c.self.invariant.settled))
     (ap (λ (v : Acting g.row.C.Denot). v.ties) is ∙ all_ties n (ready false s.labels timers) s)

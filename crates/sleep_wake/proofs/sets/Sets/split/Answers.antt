@@ -1,7 +1,7 @@
 use Rattle.std.proofs.Common.{◌≡◌, length, refl, sym, ap, ◌∙◌, subst, arith}
 use Rattle.std.specs.Vec.{vec_capacity}
 use Rattle.islands.specs.Labels.{Labels}
-use Rattle.sleep_wake.specs.Acting.{Acting, acting, IsSettled}
+use Rattle.sleep_wake.specs.Acting.{Acting, acting, IsConsistent}
 use Rattle.sleep_wake.proofs.StandLemmas.{stands_on}
 use Rattle.std.proofs.Common.{true}
 use Rattle.islands.proofs.SplitLemmas.{split_is}
@@ -20,7 +20,7 @@ invariant_of-self g c =
     let o = names a.islands.labels c.args.name true (rw (← c.self.view_is) at c.requires) in
     let labels = c.split_set.ensures.labels in
     let is : new ≡ split_at c.args.name s = splits_is c.args.name s c.split_set.new.islands.labels labels in
-    let P : Acting g.row.C.Denot → Type 0 = λ v. IsSettled n v in
+    let P : Acting g.row.C.Denot → Type 0 = λ v. IsConsistent n v in
     stands_on n s new a.room a.slots (record { ties = a.ties.capacity; colours = a.colours.room; colour_slots = a.colours.slots; islands = a.islands.room; edges = vec_capacity a.edges; scratch_slots = a.scratch.slots; links = a.scratch.links; gathering_ties = a.gathering.ties; gathering_slots = a.gathering.slots; leasts = vec_capacity a.leasts }) (record { ties = a.ties.capacity; colours = a.colours.room; colour_slots = a.colours.slots; islands = c.split_set.new.islands.room; edges = vec_capacity c.split_set.new.edges; scratch_slots = c.split_set.new.scratch.slots; links = c.split_set.new.scratch.links; gathering_ties = c.split_set.new.gathering.ties; gathering_slots = c.split_set.new.gathering.slots; leasts = vec_capacity a.leasts }) c.self.invariant
     (subst P (sym is) (splitting_keeps n s c.args.name o.l c.self.invariant.settled o.at o.named o.awake))
     refl

@@ -1,6 +1,6 @@
 use Rattle.std.proofs.Common.{◌≡◌, ◌≤◌, length, refl, sym, ap, ◌∙◌, subst, arith}
 use Rattle.std.specs.Vec.{vec_capacity}
-use Rattle.sleep_wake.specs.Acting.{Acting, acting, IsSettled}
+use Rattle.sleep_wake.specs.Acting.{Acting, acting, IsConsistent}
 use Rattle.sleep_wake.specs.Changes.{turned}
 use Rattle.sleep_wake.proofs.StandLemmas.{stands}
 use Rattle.sleep_wake.proofs.KeptLemmas.{turning_keeps}
@@ -26,7 +26,7 @@ invariant_of-self g c =
     let is : new ≡ turned n c.args.changes.now s = c.turn.ensures.turned in
     let can = rw (← c.self.view_is) at c.requires.can in
     let room = rw (← c.self.view_is) at c.requires.room in
-    let P : Acting g.row.C.Denot → Type 0 = λ v. IsSettled n v in
+    let P : Acting g.row.C.Denot → Type 0 = λ v. IsConsistent n v in
     let Q : Acting g.row.C.Denot → Type 0 = λ v. length v.ties ≤ a.room in
     let few : length new.labels ≡ length s.labels = ap (λ (v : Acting g.row.C.Denot). length v.labels) is ∙ turned_long n c.args.changes.now s in
     stands n s new a.room a.slots (record { ties = a.ties.capacity; colours = a.colours.room; colour_slots = a.colours.slots; islands = a.islands.room; edges = vec_capacity a.edges; scratch_slots = a.scratch.slots; links = a.scratch.links; gathering_ties = a.gathering.ties; gathering_slots = a.gathering.slots; leasts = vec_capacity a.leasts }) (record { ties = c.turn.new.ties.capacity; colours = c.turn.new.colours.room; colour_slots = c.turn.new.colours.slots; islands = c.turn.new.islands.room; edges = vec_capacity a.edges; scratch_slots = a.scratch.slots; links = a.scratch.links; gathering_ties = c.turn.new.gathering.ties; gathering_slots = c.turn.new.gathering.slots; leasts = vec_capacity a.leasts }) c.self.invariant

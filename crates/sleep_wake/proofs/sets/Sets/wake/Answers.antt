@@ -1,6 +1,6 @@
 use Rattle.std.proofs.Common.{◌≡◌, ◌≤◌, length, refl, sym, ap, ◌∙◌, subst, arith}
 use Rattle.std.specs.Vec.{vec_capacity}
-use Rattle.sleep_wake.specs.Acting.{Acting, acting, IsSettled}
+use Rattle.sleep_wake.specs.Acting.{Acting, acting, IsConsistent}
 use Rattle.sleep_wake.proofs.StandLemmas.{stands_on, are_below}
 use Rattle.sleep_wake.specs.Waking.{woken_at}
 use Rattle.sleep_wake.proofs.KeptLemmas.{wakes}
@@ -14,7 +14,7 @@ invariant_of-self g c =
     let s : Acting g.row.C.Denot = acting a.ties.items a.islands.labels a.colours.lists in
     let new : Acting g.row.C.Denot = acting a.ties.items c.wake_set.new.islands.labels c.wake_set.new.colours.lists in
     let is : new ≡ woken_at n c.args.slot s = c.wake_set.ensures.woken in
-    let P : Acting g.row.C.Denot → Type 0 = λ v. IsSettled n v in
+    let P : Acting g.row.C.Denot → Type 0 = λ v. IsConsistent n v in
     stands_on n s new a.room a.slots (record { ties = a.ties.capacity; colours = a.colours.room; colour_slots = a.colours.slots; islands = a.islands.room; edges = vec_capacity a.edges; scratch_slots = a.scratch.slots; links = a.scratch.links; gathering_ties = a.gathering.ties; gathering_slots = a.gathering.slots; leasts = vec_capacity a.leasts }) (record { ties = a.ties.capacity; colours = c.wake_set.new.colours.room; colour_slots = c.wake_set.new.colours.slots; islands = c.wake_set.new.islands.room; edges = vec_capacity a.edges; scratch_slots = a.scratch.slots; links = a.scratch.links; gathering_ties = c.wake_set.new.gathering.ties; gathering_slots = c.wake_set.new.gathering.slots; leasts = vec_capacity a.leasts }) c.self.invariant
     (subst P (sym is) (wakes n c.args.slot s c.self.invariant.settled).settled)
     (ap (λ (v : Acting g.row.C.Denot). v.ties) is ∙ woken_ties n c.args.slot s)

@@ -1,6 +1,6 @@
 use Rattle.std.proofs.Common.{◌≡◌, refl, sym, subst, arith}
 use Rattle.std.specs.Vec.{vec_capacity}
-use Rattle.sleep_wake.specs.Acting.{Acting, acting, IsSettled}
+use Rattle.sleep_wake.specs.Acting.{Acting, acting, IsConsistent}
 use Rattle.sleep_wake.specs.Widened.{widened}
 use Rattle.sleep_wake.proofs.LengthLemmas.{wide_fits, wide_is, wide_settled}
 use Rattle.sleep_wake.proofs.StandLemmas.{stands}
@@ -14,7 +14,7 @@ invariant_of-self g c =
     let new : Acting g.row.C.Denot = acting a.ties.items c.widen.new.self.labels a.colours.lists in
     let is : new ≡ widened c.args.slot s = wide_is c.args.slot s c.widen.new.self.labels c.widen.ensures.labels in
     let below = rw (← c.self.view_is) at c.requires.below in
-    let P : Acting g.row.C.Denot → Type 0 = λ v. IsSettled n v in
+    let P : Acting g.row.C.Denot → Type 0 = λ v. IsConsistent n v in
     stands n s new a.room a.slots (record { ties = a.ties.capacity; colours = a.colours.room; colour_slots = a.colours.slots; islands = a.islands.room; edges = vec_capacity a.edges; scratch_slots = a.scratch.slots; links = a.scratch.links; gathering_ties = a.gathering.ties; gathering_slots = a.gathering.slots; leasts = vec_capacity a.leasts }) (record { ties = a.ties.capacity; colours = a.colours.room; colour_slots = a.colours.slots; islands = c.widen.new.self.room; edges = vec_capacity a.edges; scratch_slots = a.scratch.slots; links = a.scratch.links; gathering_ties = a.gathering.ties; gathering_slots = a.gathering.slots; leasts = vec_capacity a.leasts }) c.self.invariant
     (subst P (sym is) (wide_settled n c.args.slot s c.self.invariant.settled))
     c.self.invariant.enough

@@ -10,4 +10,4 @@ pub invariant_of-self : goal.invariant_of-self
 invariant_of-self g c =
     let a = c.self.inside in
     let absent = rw (← c.self.view_is) at c.requires.absent in
-    indexed_more g.C.Id.number c.args.member a.list.items c.settle_lapsed.new.list.items a.list.pending c.settle_lapsed.new.list.pending a.settled a.holds c.add-self-inside.result (members_of a.by_mover.items) (members_of c.add-self-inside.new.lists.items) c.self.invariant absent (c.settle_lapsed.ensures.items ∙ c.insert.ensures.items) c.add-self-inside.ensures.held c.add-self-inside.ensures.added c.settle_lapsed.ensures.rest
+    indexed_more g.C.Id.number c.args.member a.list.items c.flush_lapsed.new.list.items a.list.pending c.flush_lapsed.new.list.pending a.settled a.holds c.add-self-inside.result (members_of a.by_mover.items) (members_of c.add-self-inside.new.lists.items) c.self.invariant absent (c.flush_lapsed.ensures.items ∙ c.insert.ensures.items) c.add-self-inside.ensures.held c.add-self-inside.ensures.added c.flush_lapsed.ensures.rest

@@ -2,7 +2,7 @@ use Rattle.std.proofs.Common.{◌≡◌, ◌<◌, ◌^◌, ◌∙◌, IfOk, leng
 use Rattle.contacts.specs.Constraints.{constraint_number}
 use Rattle.contacts.specs.declared.constraint.Constraint.{Constraint}
 use Rattle.graph_colours.specs.Given.{members_of}
-use Rattle.sleep_wake.specs.Acting.{Acting, IsSettled}
+use Rattle.sleep_wake.specs.Acting.{Acting, IsConsistent}
 use Rattle.solver_sets.specs.Ties.{ties_of}
 use Rattle.world_rules.specs.World.{joints_in_slots}
 use Rattle.world_core.proofs.LoadingLaws.{acting_by, colours_there, few_members}
@@ -23,7 +23,7 @@ from_parts-requires-clause-settled c =
     let p = c.args.plain.now in
     let ties : c.in_ok-ties.ties.items ≡ ties_of p.bodies (joints_in_slots p) p.contacts = rw (c.bodies.ensures, c.joint_places.ensures, c.joints.ensures, c.contacts.ensures) at c.in_ok-ties.ensures.ties in
     let same = acting_by p c.deref-2.result.now c.islands.result.now (members_of c.deref-3.result.now) (c.deref-2.ensures.value ∙ ties) c.islands.ensures (ap members_of c.deref-3.ensures.value ∙ c.in_ok-lists.ensures.members) in
-    subst (λ (s : Acting Constraint). IsSettled constraint_number s) (sym same) c.requires.settled
+    subst (λ (s : Acting Constraint). IsConsistent constraint_number s) (sym same) c.requires.settled
 
 pub returns-clause-acting : goal.returns-clause-acting
 returns-clause-acting c =

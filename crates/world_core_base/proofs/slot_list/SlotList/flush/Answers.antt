@@ -1,7 +1,7 @@
 use Rattle.std.proofs.Common.{arith, subst, sym}
 use Rattle.world_core_base.specs.Listing.{AreSlotsRising, is_of}
 use Rattle.world_core_base.proofs.SlotsRising.{rising_places}
-use Rattle.world_core_base.proofs.slot_list.SlotList.settle.Goals as goal
+use Rattle.world_core_base.proofs.slot_list.SlotList.flush.Goals as goal
 
 pub invariant_of-self : goal.invariant_of-self
 invariant_of-self c = record {

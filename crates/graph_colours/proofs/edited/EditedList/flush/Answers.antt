@@ -4,7 +4,7 @@ use Rattle.graph_colours.specs.declared.member.Member.{Member}
 use Rattle.graph_colours.specs.declared.edits.Edit.{Edit}
 use Rattle.graph_colours.specs.Edits.{all_edited}
 use Rattle.graph_colours.proofs.EditLemmas.{settled_is}
-use Rattle.graph_colours.proofs.edited.EditedList.settle.Goals as goal
+use Rattle.graph_colours.proofs.edited.EditedList.flush.Goals as goal
 
 pub invariant_of-self : goal.invariant_of-self
 invariant_of-self g c =
