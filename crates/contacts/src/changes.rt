@@ -218,7 +218,7 @@ fn lost_keys(alloc: Global, now: &[ContactEntry], old: &[ContactEntry]) -> Resul
 
 /// The contacts of these pairs, those of bodies that stir evaluated anew, and what changed. `old` are the contacts until
 /// now. Refused 1 where memory is wanting.
-pub fn update(
+pub(crate) fn update(
     alloc: Global,
     old: &[ContactEntry],
     proxies: &[Proxy],

@@ -43,7 +43,7 @@ fn is_immovable<S: ShapesByName>(shapes: &S, slot: u32) -> bool {
 
 /// Whether the shapes of those of these slots whose bodies aren't dynamic overlap more than `most` slots, with those of each shape counted.
 /// It decides the time alone. Refused 1 where memory is wanting.
-pub fn are_crowded<S: ShapesByName>(
+pub(crate) fn are_crowded<S: ShapesByName>(
     shapes: &S,
     marked: &[u32],
     most: usize,

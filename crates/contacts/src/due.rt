@@ -70,7 +70,7 @@ impl Due {
 }
 
 /// Carries out what is due. Answers whether the long list has the keys that it had. Takes no memory.
-pub fn carry_out(contacts: &mut SplitContacts, due: &mut Due) -> bool
+pub(crate) fn carry_out(contacts: &mut SplitContacts, due: &mut Due) -> bool
     requires { IsDue due.old contacts.old }
     ensures contacts { contacts_in contacts.new ≡ due_of due.old contacts.old }
     ensures keys { IsTrue result → map (λ e. e.key) contacts.new.long ≡ map (λ e. e.key) contacts.old.long }

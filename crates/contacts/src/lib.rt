@@ -28,7 +28,7 @@ mod update;
 pub use pair_sweep::PairSweep;
 pub use changes::Changes;
 pub use constraint::Constraint;
-pub use due::{Touches, carry_out};
+pub use due::Touches;
 pub use forbidden::{BodyPair, ForbiddenPairs};
 pub use contact_table::ContactTable;
 pub use known::{

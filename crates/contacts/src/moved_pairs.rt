@@ -280,7 +280,7 @@ fn push_entry(entries: &mut Vec<ContactEntry>, entry: Option<ContactEntry>) -> R
 
 /// The contacts of those near pairs of which a shape has moved, whose bodies aren't among the forbidden pairs, and that have none among `old`: all
 /// are of shapes of the marked slots. `numbers` is room to work in. Refused 1 where memory is wanting.
-pub fn fresh_of_marked<S: ShapesByName, F: ForbiddenPairs>(
+pub(crate) fn fresh_of_marked<S: ShapesByName, F: ForbiddenPairs>(
     alloc: Global,
     numbers: &mut Vec<u128>,
     shapes: &S,

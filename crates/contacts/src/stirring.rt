@@ -20,7 +20,7 @@ const FEW_FLAGGED: usize = 8;
 
 /// Which bodies may stir, and the places of their contacts in the long list.
 #[derive(Drop)]
-pub struct Stirring {
+pub(crate) struct Stirring {
     // By slot, whether the body may stir; a slot beyond them counts as one of a body that may.
     pub flags: Vec<bool>,
     // The slots whose flag is set, each once.
@@ -331,7 +331,7 @@ fn refresh_places(stirring: &mut Stirring, contacts: &mut SplitContacts) -> Resu
 /// Puts flags and places right for a collide: they have all contacts of the long list of which a body stirs or has a marked slot. What they were
 /// made of before serves as long as it has all that, so that a step in which no body wakes costs by what stirs. Changes no contact. Refused 1 where
 /// memory is wanting.
-pub fn refresh<S: ShapesByName>(
+pub(crate) fn refresh<S: ShapesByName>(
     stirring: &mut Stirring,
     shapes: &S,
     marks: &[bool],

@@ -348,7 +348,7 @@ fn strip_bits(heights: u64, count: usize) -> u32
 /// Fills `near` with the numbers of all near pairs, ascending, and uses `starts` and `dynamics` as room to work in.
 /// `boxes` are the shapes' fat boxes by themselves, so that the sweep reads little. `heights` is the
 /// sum of their heights, in u, and decides the time alone. Refused 1 where memory is wanting.
-pub fn near_pairs(
+pub(crate) fn near_pairs(
     starts: &mut Vec<u64>,
     dynamics: &mut Vec<u64>,
     near: &mut Vec<u64>,

@@ -103,7 +103,7 @@ fn join_touches(alloc: Global, long: Touches, short: Touches) -> Result<Touches,
 /// Answers which begin to touch and which end. Refused 1 where memory is wanting: what is due then has to be cleared.
 ///
 /// A contact goes if one of its shapes has moved and they are no longer near. Of those that stay the ones are evaluated anew of which a body stirs.
-pub fn update_known<S: ShapesByName, F: ForbiddenPairs>(
+pub(crate) fn update_known<S: ShapesByName, F: ForbiddenPairs>(
     alloc: Global,
     due: &mut Due,
     shapes: &S,

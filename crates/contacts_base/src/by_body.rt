@@ -16,14 +16,14 @@ use std::alloc::Global;
 
 /// Which of the two bodies of a contact.
 #[derive(Clone, Copy)]
-pub enum Side {
+pub(crate) enum Side {
     First,
     Second,
 }
 
 /// For each contact of a list 2^32 times the slot of its second body, and its place, ascending; only where it is made.
 #[derive(Drop)]
-pub struct BodyIndex {
+pub(crate) struct BodyIndex {
     pub codes: Vec<u64>,
     pub is_made: bool,
 }

@@ -10,7 +10,7 @@ use std::marker::Model;
 
 /// Flags by place. Contracts see the list of them.
 #[derive(Drop)]
-pub struct CountedFlags {
+pub(crate) struct CountedFlags {
     flags: Vec<bool>,
     // How many are set.
     count: usize,

@@ -17,7 +17,7 @@ use std::marker::Model;
 
 /// A share that is to be solved. Contracts see its number, and for how many bodies, rows and colours it has room.
 #[derive(Drop)]
-pub struct Seat {
+pub(crate) struct Seat {
     pub(crate) number: u32,
     pub(crate) bodies: usize,
     pub(crate) states: Vec<BodyState>,
@@ -39,7 +39,7 @@ impl Model for Seat {
 
 /// A share that is solved. Contracts see its number and its run.
 #[derive(Drop)]
-pub struct Part {
+pub(crate) struct Part {
     pub(crate) number: u32,
     pub(crate) states: Vec<BodyState>,
     pub(crate) awake: Vec<u32>,

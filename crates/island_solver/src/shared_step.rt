@@ -19,7 +19,7 @@ use std::marker::Model;
 
 /// The bodies and rows of a step with the share of each slot, which the workers share for reading.
 #[derive(Drop)]
-pub struct SharedStep {
+pub(crate) struct SharedStep {
     states: Vec<BodyState>,
     rows: Rows,
     shares: Vec<u32>,

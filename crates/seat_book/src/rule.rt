@@ -25,7 +25,7 @@ pub struct View<Command, Reply> {
 
 // There is one keeper, and each seat has one pass, which has seen a past of the seat; the word is 0, or names the seat of the
 // call in flight.
-pub struct Law;
+pub(crate) struct Law;
 
 impl<Command, Reply> TableRule<Call<Command, Reply>, View<Command, Reply>, ()> for Law {
     ghost use Rattle.std.specs.Prelude.{[]};
@@ -37,7 +37,7 @@ impl<Command, Reply> TableRule<Call<Command, Reply>, View<Command, Reply>, ()> f
 }
 
 // The keeper makes the pass of the next seat, while the history is empty.
-pub struct Deals;
+pub(crate) struct Deals;
 
 impl<Command, Reply> Split<View<Command, Reply>> for Deals {
     ghost use Rattle.seat_book.specs.Rules.{dealing, newcomer};
@@ -48,7 +48,7 @@ impl<Command, Reply> Split<View<Command, Reply>> for Deals {
 }
 
 // The keeper takes a pass in.
-pub struct TakesIn;
+pub(crate) struct TakesIn;
 
 impl<Command, Reply> Join<View<Command, Reply>> for TakesIn {
     ghost use Rattle.seat_book.specs.Rules.{both, spent};
@@ -59,7 +59,7 @@ impl<Command, Reply> Join<View<Command, Reply>> for TakesIn {
 }
 
 // The call that is said goes into the history, is in flight, and is seen by the pass that the keeper holds.
-pub struct Enters;
+pub(crate) struct Enters;
 
 impl<Command, Reply> Play<Call<Command, Reply>, View<Command, Reply>> for Enters {
     ghost use Rattle.seat_book.specs.Rules.{Entered};
@@ -68,7 +68,7 @@ impl<Command, Reply> Play<Call<Command, Reply>, View<Command, Reply>> for Enters
 }
 
 // The call in flight is no more.
-pub struct Clears;
+pub(crate) struct Clears;
 
 impl<Command, Reply> Play<Call<Command, Reply>, View<Command, Reply>> for Clears {
     ghost use Rattle.seat_book.specs.Rules.{Cleared};
@@ -77,7 +77,7 @@ impl<Command, Reply> Play<Call<Command, Reply>, View<Command, Reply>> for Clears
 }
 
 // The pass that the keeper holds sees the history.
-pub struct Meets;
+pub(crate) struct Meets;
 
 impl<Command, Reply> Play<Call<Command, Reply>, View<Command, Reply>> for Meets {
     ghost use Rattle.seat_book.specs.Rules.{Met};
@@ -86,7 +86,7 @@ impl<Command, Reply> Play<Call<Command, Reply>, View<Command, Reply>> for Meets 
 }
 
 // The keeper gives the pass out again.
-pub struct GivesOut;
+pub(crate) struct GivesOut;
 
 impl<Command, Reply> Split<View<Command, Reply>> for GivesOut {
     ghost use Rattle.seat_book.specs.Rules.{keeper_of, pass_of};

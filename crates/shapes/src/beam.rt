@@ -16,7 +16,7 @@ pub struct Beam {
 }
 
 /// The whole way of a ray, in the units of its hits.
-pub const WHOLE: i128 = 1 << 24;
+pub(crate) const WHOLE: i128 = 1 << 24;
 
 /// A line that passes a centre further off than this, times the length of the ray's way, misses
 /// each circle of a radius up to 2^24 u.
@@ -111,7 +111,7 @@ fn circle_hit(ahead: i128, off: i128, radius: i64, square: i128) -> Option<u32>
 }
 
 /// The hit on the circle round an end of a core, ahead of the start.
-pub fn end_hit(beam: &Beam, radius: i64, end: Vec2) -> Option<u32>
+pub(crate) fn end_hit(beam: &Beam, radius: i64, end: Vec2) -> Option<u32>
     requires beam { IsBeam beam.now }
     requires radius { unsigned_abs radius ≤ unsigned_abs MAX_RADIUS }
     requires end { IsWithin (2 ^ 37) end }
@@ -184,7 +184,7 @@ fn inner_fraction(part: i128, whole: i128) -> u32
 }
 
 /// The hit on a side, from one end of `side` to the other.
-pub fn side_hit(beam: &Beam, side: &Core) -> Option<u32>
+pub(crate) fn side_hit(beam: &Beam, side: &Core) -> Option<u32>
     requires beam { IsBeam beam.now }
     requires first { IsWithin (2 ^ 38) side.now.p }
     requires second { IsWithin (2 ^ 38) side.now.q }
@@ -200,7 +200,7 @@ pub fn side_hit(beam: &Beam, side: &Core) -> Option<u32>
 }
 
 /// The lesser of two hits.
-pub fn earlier(first: Option<u32>, second: Option<u32>) -> Option<u32>
+pub(crate) fn earlier(first: Option<u32>, second: Option<u32>) -> Option<u32>
     ensures { result ≡ earlier first second }
 {
     match first {

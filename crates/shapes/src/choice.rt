@@ -18,7 +18,7 @@ const TOLERANCE_SIZE: u64 = 20_972;
 
 /// The spots of the first and the second point of a contact.
 #[derive(Clone, Copy, Debug, PartialEq, Eq)]
-pub struct Chosen {
+pub(crate) struct Chosen {
     pub first: Spot,
     pub second: Option<Spot>,
 }
@@ -327,7 +327,7 @@ fn chosen_of_all(pair: &Pair) -> Chosen
 }
 
 /// The spots of the first and the second point of two shapes.
-pub fn chosen_spots(pair: &Pair) -> Chosen
+pub(crate) fn chosen_spots(pair: &Pair) -> Chosen
     requires { IsPair pair.now }
     ensures value { result ≡ chosen_spots pair.now }
     ensures first { IsSpot result.first }

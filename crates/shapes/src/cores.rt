@@ -16,7 +16,7 @@ const MAX_WAY_64: u64 = 1 << 30;
 
 /// Both ends are at one place.
 #[tactic(auto, unfolding(crate::specs::Cores::is_point))]
-pub fn is_point(core: &Core) -> bool
+pub(crate) fn is_point(core: &Core) -> bool
     ensures { result ≡ is_point core.now }
 {
     core.p.x == core.q.x && core.p.y == core.q.y
@@ -24,7 +24,7 @@ pub fn is_point(core: &Core) -> bool
 
 /// From the first end to the second.
 #[tactic(auto, unfolding(crate::specs::Cores::is_point))]
-pub fn way_of(core: &Core) -> Vec2
+pub(crate) fn way_of(core: &Core) -> Vec2
     requires { IsPlaced core.now }
     ensures value { result ≡ way_of core.now }
     ensures within { IsWithin (2 ^ 38) result }
@@ -151,7 +151,7 @@ fn closest_along(core: &Core, e: Vec2) -> Vec2
 }
 
 /// The core's point nearest to `e`, but for rounding.
-pub fn closest(core: &Core, e: Vec2) -> Vec2
+pub(crate) fn closest(core: &Core, e: Vec2) -> Vec2
     requires core { IsPlaced core.now }
     requires position { IsWithin (2 ^ 37) e }
     ensures value { result ≡ closest core.now e }
@@ -222,7 +222,7 @@ fn is_parted(line: &Core, other: &Core) -> bool
 /// Two cores cross where neither is a point and the ends of each lie strictly on different sides
 /// of the other's line.
 #[tactic(auto, unfolding(crate::specs::Cores::cores_cross))]
-pub fn cores_cross(a: &Core, b: &Core) -> bool
+pub(crate) fn cores_cross(a: &Core, b: &Core) -> bool
     requires first { IsPlaced a.now }
     requires second { IsPlaced b.now }
     ensures { result ≡ cores_cross a.now b.now }

@@ -17,7 +17,7 @@ const MAX_DISTANCE_64: u64 = 1 << 32;
 
 /// Two shapes in the world: their cores and radii, in u, and whether the cores cross.
 #[derive(Clone, Copy, Debug, PartialEq, Eq)]
-pub struct Pair {
+pub(crate) struct Pair {
     pub a: Core,
     pub b: Core,
     pub radius_a: i64,
@@ -28,7 +28,7 @@ pub struct Pair {
 /// An end of one core and the nearest point of the other: `a` on the first core, `b` on the
 /// second, and the distance between them, in u.
 #[derive(Clone, Copy, Debug, PartialEq, Eq)]
-pub struct Candidate {
+pub(crate) struct Candidate {
     pub number: u64,
     pub a: Vec2,
     pub b: Vec2,
@@ -38,7 +38,7 @@ pub struct Candidate {
 /// What a candidate makes of the contact: the normal from the first shape to the second, times
 /// 2^30, the separation (below zero where the shapes overlap) and the contact point, in u.
 #[derive(Clone, Copy, Debug, PartialEq, Eq)]
-pub struct Spot {
+pub(crate) struct Spot {
     pub candidate: u64,
     pub dist: i64,
     pub normal: Vec2,
@@ -47,7 +47,7 @@ pub struct Spot {
 }
 
 /// The candidate of these two points.
-pub fn measured(number: u64, a: Vec2, b: Vec2) -> Candidate
+pub(crate) fn measured(number: u64, a: Vec2, b: Vec2) -> Candidate
     requires first { IsWithin (2 ^ 39) a }
     requires second { IsWithin (2 ^ 39) b }
     ensures value { result ≡ measured number a b }
@@ -62,7 +62,7 @@ pub fn measured(number: u64, a: Vec2, b: Vec2) -> Candidate
 }
 
 /// `v` turned to the left by a quarter.
-pub fn square_to(v: Vec2) -> Vec2
+pub(crate) fn square_to(v: Vec2) -> Vec2
     requires { IsWithin (2 ^ 40) v }
     ensures value { result ≡ square_to v }
     ensures within { (k : ℕ) → IsWithin k v → IsWithin k result }
@@ -72,7 +72,7 @@ pub fn square_to(v: Vec2) -> Vec2
 }
 
 /// The unit vector square to a core that is no point.
-pub fn across(core: &Core) -> Vec2
+pub(crate) fn across(core: &Core) -> Vec2
     requires core { IsPlaced core.now }
     requires wide { is_point core.now ≡ false }
     ensures value { result ≡ across core.now }
@@ -141,7 +141,7 @@ fn gap(dist: i64, radius_a: i64, radius_b: i64) -> i64
 
 /// How far the two shapes are apart at a candidate; how deep they overlap, below zero.
 #[tactic(auto, unfolding(crate::specs::Spots::separation_of))]
-pub fn separation_of(pair: &Pair, candidate: &Candidate) -> i64
+pub(crate) fn separation_of(pair: &Pair, candidate: &Candidate) -> i64
     requires pair { IsPair pair.now }
     requires candidate { IsCandidate candidate.now }
     ensures value { result ≡ separation_of pair.now candidate.now }
@@ -189,7 +189,7 @@ fn position_along(from: Vec2, normal: Vec2, distance: i64) -> Vec2
 
 /// `spot_of`, written out where it is called: of cores that are known to be points little is left of it.
 #[inline(always)]
-pub fn spot_in_place(pair: &Pair, candidate: &Candidate) -> Spot
+pub(crate) fn spot_in_place(pair: &Pair, candidate: &Candidate) -> Spot
     requires pair { IsPair pair.now }
     requires candidate { IsCandidate candidate.now }
     ensures value { result ≡ spot_of pair.now candidate.now }
@@ -209,7 +209,7 @@ pub fn spot_in_place(pair: &Pair, candidate: &Candidate) -> Spot
 
 /// The contact point of a candidate.
 #[inline(never)]
-pub fn spot_of(pair: &Pair, candidate: &Candidate) -> Spot
+pub(crate) fn spot_of(pair: &Pair, candidate: &Candidate) -> Spot
     requires pair { IsPair pair.now }
     requires candidate { IsCandidate candidate.now }
     ensures value { result ≡ spot_of pair.now candidate.now }

@@ -102,7 +102,7 @@ fn allow(boxes: &mut BoxTree, slot: u32) -> Result<(), Refusal>
 }
 
 /// Gives a slot a box that holds these; it may be the first slot that none is allowed for yet. Refused 1 where memory is wanting.
-pub fn cover(boxes: &mut BoxTree, slot: u32, fats: &[Box2]) -> Result<(), Refusal>
+pub(crate) fn cover(boxes: &mut BoxTree, slot: u32, fats: &[Box2]) -> Result<(), Refusal>
     requires { slot ≤ length boxes.old }
     ensures covered { OnOk result (IsCover (box_at boxes.new slot) fats.now) }
     ensures others { AreOtherBoxes slot boxes.old boxes.new }
@@ -114,7 +114,7 @@ pub fn cover(boxes: &mut BoxTree, slot: u32, fats: &[Box2]) -> Result<(), Refusa
 }
 
 /// Takes the box of a slot out, if it has one.
-pub fn uncover(boxes: &mut BoxTree, slot: u32)
+pub(crate) fn uncover(boxes: &mut BoxTree, slot: u32)
     ensures others { AreOtherBoxes slot boxes.old boxes.new }
     ensures len { length boxes.new ≡ length boxes.old }
 {
@@ -134,7 +134,7 @@ fn replace_cover(boxes: &mut BoxTree, slot: u32, fats: &[Box2])
 }
 
 /// Makes the box of a slot anew where the fat boxes of its body were made anew. Takes no memory.
-pub fn cover_again(boxes: &mut BoxTree, slot: u32, entry: &Option<Body>, made: bool)
+pub(crate) fn cover_again(boxes: &mut BoxTree, slot: u32, entry: &Option<Body>, made: bool)
     requires { is_some entry.now ≡ true → is_some (box_at boxes.old slot) ≡ true }
     ensures covered { made ≡ true → IsCovered (box_at boxes.new slot) entry.now }
     ensures same { made ≡ false → boxes.new ≡ boxes.old }
@@ -166,7 +166,7 @@ fn cover_next(boxes: &mut BoxTree, slot: u32, entry: &Option<Body>) -> Result<()
 }
 
 /// Boxes by slot that hold the fat boxes of these bodies. Refused 1 where memory is wanting.
-pub fn cover_all(alloc: Global, bodies: &[Option<Body>]) -> Result<BoxTree, Refusal>
+pub(crate) fn cover_all(alloc: Global, bodies: &[Option<Body>]) -> Result<BoxTree, Refusal>
     requires { length bodies.now ≤ MAX_SLOTS }
     ensures covered { IfOk result (λ boxes. AreCovered bodies.now boxes) }
     ensures len { IfOk result (λ boxes. length bodies.now ≤ length boxes) }

@@ -42,7 +42,7 @@ const STANDING: MassData = MassData {
 };
 
 /// What stands for the body in an empty slot: nothing moves it.
-pub const NOBODY: BodyState = BodyState {
+pub(crate) const NOBODY: BodyState = BodyState {
     movable: false,
     mass: STANDING,
     motion: Motion {
@@ -60,7 +60,7 @@ pub const NOBODY: BodyState = BodyState {
 
 /// The body of a slot as the solver works on it; in an empty one, what nothing moves.
 #[inline(always)]
-pub fn state_of(entry: &Option<Body>) -> BodyState
+pub(crate) fn state_of(entry: &Option<Body>) -> BodyState
     ensures { result ≡ state_of entry.now }
 {
     match entry {
@@ -99,7 +99,7 @@ fn solver_motion(body: &Body) -> Motion
 
 /// A body as the solver works on it.
 #[inline(always)]
-pub fn body_state(body: &Body) -> BodyState
+pub(crate) fn body_state(body: &Body) -> BodyState
     ensures { result ≡ state_of (Some body.now) }
 {
     let mass = solver_mass(body);

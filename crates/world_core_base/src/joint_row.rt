@@ -41,7 +41,7 @@ fn bodies_of(slot: usize, joint: &BodyJoint) -> JointBodies
 
 /// The row of the joint in a slot, if there is one.
 #[inline(always)]
-pub fn joint_row_at(
+pub(crate) fn joint_row_at(
     states: &[BodyState],
     joints: &[Option<BodyJoint>],
     slot: usize,

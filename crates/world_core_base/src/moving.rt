@@ -103,7 +103,7 @@ fn move_slot(
 /// left it, and makes its fat boxes anew that its shapes' tight boxes have left, whose slots are then marked and have other
 /// boxes. The states are then those of
 /// the bodies again.
-pub fn move_bodies(
+pub(crate) fn move_bodies(
     bodies: &mut Vec<Option<Body>>,
     states: &mut Vec<BodyState>,
     marks: &mut Marks,

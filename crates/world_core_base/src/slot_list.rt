@@ -16,13 +16,13 @@ use std::mem;
 
 /// A group of bodies that a step goes over: the awake movers, or the bodies that are carried along.
 #[derive(Clone, Copy)]
-pub enum Group {
+pub(crate) enum Group {
     Awake,
     Carried,
 }
 
 /// Whether a body is in the group.
-pub fn is_of(group: Group, state: &BodyState) -> bool
+pub(crate) fn is_of(group: Group, state: &BodyState) -> bool
     ensures { result ≡ is_of group state.now }
 {
     match group {
@@ -32,7 +32,7 @@ pub fn is_of(group: Group, state: &BodyState) -> bool
 }
 
 /// Whether a body of the group is in a slot.
-pub fn is_of_at(group: Group, states: &[BodyState], slot: u32) -> bool
+pub(crate) fn is_of_at(group: Group, states: &[BodyState], slot: u32) -> bool
     ensures value { result ≡ is_of group (slice_index_or states.now slot nobody) }
     ensures there { result ≡ true → slot < length states.now }
 {
@@ -45,7 +45,7 @@ pub fn is_of_at(group: Group, states: &[BodyState], slot: u32) -> bool
 /// The slots of a group of bodies, ascending. A slot that comes or goes doesn't cost by how many others there are: the list is brought up to date by
 /// [`SlotList::flush`], and may have slots of no body of the group until then, while slots that have come stand beside it.
 #[derive(Drop)]
-pub struct SlotList {
+pub(crate) struct SlotList {
     slots: Vec<u32>,
     // Slots that have come, in no order. One may stand here more than once.
     added: Vec<u32>,

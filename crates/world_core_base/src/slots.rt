@@ -11,7 +11,7 @@ use momenta::BodyState;
 use std::alloc::Global;
 
 /// Sorts slots, and leaves each of them once.
-pub fn sort_once(slots: &mut Vec<u32>)
+pub(crate) fn sort_once(slots: &mut Vec<u32>)
     ensures rising { AreSlotsRising slots.new.items }
     ensures all { (slot : ℕ) → IsIn slots.old.items 0 slot → IsIn slots.new.items 0 slot }
 {
@@ -20,7 +20,7 @@ pub fn sort_once(slots: &mut Vec<u32>)
 }
 
 /// Makes room for n slots in all. Refused 1 where memory is wanting.
-pub fn reserve_in_all(slots: &mut Vec<u32>, n: usize) -> Result<(), Refusal>
+pub(crate) fn reserve_in_all(slots: &mut Vec<u32>, n: usize) -> Result<(), Refusal>
     ensures made { OnOk result (n ≤ vec_capacity slots.new) }
     ensures items { slots.new.items ≡ slots.old.items }
     ensures capacity { vec_capacity slots.old ≤ vec_capacity slots.new }
@@ -31,7 +31,7 @@ pub fn reserve_in_all(slots: &mut Vec<u32>, n: usize) -> Result<(), Refusal>
 }
 
 /// A copy with room for n slots in all. Refused 1 where memory is wanting.
-pub fn copy_in_room(alloc: Global, slots: &[u32], n: usize) -> Result<Vec<u32>, Refusal>
+pub(crate) fn copy_in_room(alloc: Global, slots: &[u32], n: usize) -> Result<Vec<u32>, Refusal>
     ensures copy { IfOk result (λ copied. copied.items ≡ slots.now) }
     ensures room { IfOk result (λ copied. n ≤ vec_capacity copied) }
     ensures memory_only { IsOkUnless result Refusal.NoMemory }
@@ -54,7 +54,7 @@ fn push_if(slots: &mut Vec<u32>, slot: u32, listed: bool)
 }
 
 /// Lists the slots of a group's bodies anew, for which there is room.
-pub fn list_group(slots: &mut Vec<u32>, group: Group, states: &[BodyState])
+pub(crate) fn list_group(slots: &mut Vec<u32>, group: Group, states: &[BodyState])
     requires few { length states.now ≤ 2 ^ 32 }
     requires room { length states.now ≤ vec_capacity slots.old }
     ensures items { slots.new.items ≡ places_from (is_of group) 0 states.now }

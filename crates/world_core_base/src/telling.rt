@@ -68,7 +68,7 @@ fn tell_slot(
 
 /// Puts the movers of sleeping islands to rest, wakes those of the others, and takes all states anew. Answers what the movers' momentum
 /// gains: that of those that fall asleep is lost.
-pub fn tell_bodies(
+pub(crate) fn tell_bodies(
     bodies: &mut Vec<Option<Body>>,
     states: &mut Vec<BodyState>,
     islands: &Islands,
@@ -124,7 +124,7 @@ fn tell_one(
 
 /// Tells the bodies in these slots the labels of their islands, where those in all other slots stay as they are when they are told. Keeps
 /// the states and the slots of the awake movers. Answers what the movers' momentum gains.
-pub fn tell_listed(
+pub(crate) fn tell_listed(
     bodies: &mut Vec<Option<Body>>,
     states: &mut Vec<BodyState>,
     awake: &mut SlotList,

@@ -31,7 +31,7 @@ fn time_slot(bodies: &mut Vec<Option<Body>>, slot: usize, ticks: u64)
 }
 
 /// Lets so many ticks pass for the awake movers, whose slots are `awake`.
-pub fn time_bodies(bodies: &mut Vec<Option<Body>>, awake: &[u32], ticks: u64)
+pub(crate) fn time_bodies(bodies: &mut Vec<Option<Body>>, awake: &[u32], ticks: u64)
     requires bodies { AreBodies bodies.old.items }
     requires timers { AreTimersWithin (2 ^ 44) bodies.old.items }
     requires ticks { ticks ≤ 2 ^ 44 }

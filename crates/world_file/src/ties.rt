@@ -27,7 +27,7 @@ use world_file_base::{Broken, SavedContact, SavedJoint};
 
 /// A joint or a touching contact of enabled bodies, one of them a mover, with its colour.
 #[derive(Clone, Copy)]
-pub struct Tie {
+pub(crate) struct Tie {
     pub member: Member<Constraint>,
     pub colour: Option<u8>,
 }

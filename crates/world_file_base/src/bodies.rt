@@ -73,7 +73,7 @@ use std::alloc::Global;
 
 /// A body and what it says of its island.
 #[derive(Drop)]
-pub struct SavedBody {
+pub(crate) struct SavedBody {
     pub body: Body,
     pub membership: Membership,
 }

@@ -65,7 +65,7 @@ impl Members {
 }
 
 /// A list of two values.
-pub fn pair_value(alloc: Global, first: Value, second: Value) -> Result<Value, Refusal>
+pub(crate) fn pair_value(alloc: Global, first: Value, second: Value) -> Result<Value, Refusal>
     ensures { IfOk result (λ value. view value ≡ pair_data (view first) (view second)) }
 {
     let mut items = Vec::with_capacity(alloc, 2)?;
@@ -88,7 +88,7 @@ pub fn vector_value(alloc: Global, vector: Vec2) -> Result<Value, Refusal>
 }
 
 /// A list of two places.
-pub fn ends_value(alloc: Global, first: Vec2, second: Vec2) -> Result<Value, Refusal>
+pub(crate) fn ends_value(alloc: Global, first: Vec2, second: Vec2) -> Result<Value, Refusal>
     ensures { IfOk result (λ value. view value ≡ ends_of first second) }
 {
     let first = vector_value(alloc, first)?;
@@ -97,14 +97,14 @@ pub fn ends_value(alloc: Global, first: Vec2, second: Vec2) -> Result<Value, Ref
 }
 
 /// A box as the list of its two corners.
-pub fn corners_value(alloc: Global, corners: Box2) -> Result<Value, Refusal>
+pub(crate) fn corners_value(alloc: Global, corners: Box2) -> Result<Value, Refusal>
     ensures { IfOk result (λ value. view value ≡ corners_of corners) }
 {
     ends_value(alloc, corners.lo, corners.hi)
 }
 
 /// A number as a text.
-pub fn decimal_value(alloc: Global, number: i128) -> Result<Value, Refusal>
+pub(crate) fn decimal_value(alloc: Global, number: i128) -> Result<Value, Refusal>
     ensures { IfOk result (λ value. view value ≡ decimal_of number) }
 {
     let text = format!(in alloc; "{number}")?;
@@ -112,7 +112,7 @@ pub fn decimal_value(alloc: Global, number: i128) -> Result<Value, Refusal>
 }
 
 /// An id as a text.
-pub fn id_value(alloc: Global, handle: Handle) -> Result<Value, Refusal>
+pub(crate) fn id_value(alloc: Global, handle: Handle) -> Result<Value, Refusal>
     ensures { IfOk result (λ value. view value ≡ id_of handle) }
 {
     let id = Id(handle);

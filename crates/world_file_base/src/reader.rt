@@ -82,7 +82,7 @@ pub fn has_keys(value: &Value, count: usize) -> bool
 }
 
 /// Whether there is a value, and it is an object of so many keys.
-pub fn has_keys_in(value: Option<&Value>, count: usize) -> bool
+pub(crate) fn has_keys_in(value: Option<&Value>, count: usize) -> bool
     ensures { result ≡ has_keys_in count (seen value.entry) }
 {
     match value {
@@ -92,7 +92,7 @@ pub fn has_keys_in(value: Option<&Value>, count: usize) -> bool
 }
 
 /// Whether there is a value, and it is null.
-pub fn is_null(value: Option<&Value>) -> bool
+pub(crate) fn is_null(value: Option<&Value>) -> bool
     ensures { result ≡ is_null (seen value.entry) }
 {
     match value {
@@ -102,7 +102,7 @@ pub fn is_null(value: Option<&Value>) -> bool
 }
 
 /// An item of a list.
-pub fn item_at(items: &[Value], place: usize) -> Option<&Value>
+pub(crate) fn item_at(items: &[Value], place: usize) -> Option<&Value>
     ensures { seen result ≡ get_item place (items_view items.now) }
 {
     if place < items.len() {
