@@ -1,3 +1,5 @@
+//! The law of contact rows.
+
 ghost use Rattle.colour_solver_base.specs.Laws.{RowsAreContacts};
 
 /// The turns of a row are what the definition makes of its contact: what the solver computes once a step, and keeps in the row, is

@@ -1,3 +1,5 @@
+//! Tests on threads: each item is worked once, in order of the answers, and pieces do meet.
+
 use crate::{Gate, OpenGate, Work, map_pieces, start};
 use std::alloc::Global;
 use std::process::Abort;

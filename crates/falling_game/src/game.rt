@@ -1,3 +1,5 @@
+//! The game: its frames, and what the player does in them.
+
 use crate::calls::{apply, body_in, meetings_of, slots_of, view_of};
 use crate::scene::{Cast, METRE};
 use crate::stop::Stop;

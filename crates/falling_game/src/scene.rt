@@ -1,3 +1,5 @@
+//! What the game begins with: a floor, a ramp, a lift, balls, a stick and a coin.
+
 use crate::calls::apply;
 use crate::stop::Stop;
 use std::alloc::Global;

@@ -1,3 +1,5 @@
+//! Why the game ends early.
+
 use std::{fmt, io};
 use world_core::Refusal;
 

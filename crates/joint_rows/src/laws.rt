@@ -1,3 +1,5 @@
+//! The law of joint rows.
+
 ghost use Rattle.joint_rows.specs.Laws.{RowsAreJoints};
 
 /// The turns of a row are what the definition makes of its joint: what the solver computes once a step, and keeps in the row, is

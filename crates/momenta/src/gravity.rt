@@ -1,3 +1,5 @@
+//! Gravity, as a tick adds it to a momentum.
+
 ghost use Rattle.std.specs.Prelude.{◌≡◌, ◌^◌, ◌≤◌, ◌+ℤ◌, ◌*ℤ◌, unsigned_abs};
 ghost use Rattle.fixed_geom.specs.Vectors.{IsWithin};
 ghost use Rattle.momenta.specs.Motions.{IsMass, IsMotion, IsPulled, pulled};

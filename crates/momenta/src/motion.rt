@@ -1,3 +1,5 @@
+//! How a body stands and moves.
+
 ghost use Rattle.std.specs.Prelude.{◌≡◌, ℕ, ◌*◌, ◌^◌, ◌<◌, ◌≤◌, pos, ◌≤ℤ◌, ◌*ℤ◌, unsigned_abs};
 ghost use Rattle.fixed_geom.specs.Facings.{IsFacing};
 ghost use Rattle.fixed_geom.specs.Numbers.{rdiv};

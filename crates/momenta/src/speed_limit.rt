@@ -1,3 +1,5 @@
+//! The speed limit.
+
 ghost use Rattle.std.specs.Prelude.{◌≡◌, ℕ, ◌*◌, ◌^◌, ◌≤◌, pos, ◌≤ℤ◌, ◌*ℤ◌, unsigned_abs};
 ghost use Rattle.fixed_geom.specs.Numbers.{rdiv};
 ghost use Rattle.fixed_geom.specs.Vectors.{IsWithin, minus};

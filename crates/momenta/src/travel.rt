@@ -1,3 +1,5 @@
+//! The way of a tick, and the edge of the world.
+
 ghost use Rattle.std.specs.Prelude.{◌≡◌, ◌^◌, ◌≤◌, unsigned_abs};
 ghost use Rattle.fixed_geom.specs.Reciprocals.{rdiv_reciprocal};
 ghost use Rattle.fixed_geom.specs.Vectors.{IsWithin, minus};

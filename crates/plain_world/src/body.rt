@@ -1,3 +1,5 @@
+//! A body (Box2D: `body.c`): its definition, what is stored of it, and what is shown.
+
 ghost use Rattle.std.specs.Prelude.{◌≡◌, IfOk, OnOk, IsTrue};
 ghost use Rattle.std.specs.Result.{IsOkUnless, result_err};
 ghost use Rattle.plain_world.specs.Bodies.{can_move, is_awake, is_carried, is_mover, is_no_mass, pose_of, sleeping_set, standing_of, stirs, view_of, is_mass_allowed, def_refusal, made, IsMassOf, IsAllowed, IsBody};

@@ -1,3 +1,5 @@
+//! Where a shape lies in the world.
+
 ghost use Rattle.std.specs.Prelude.{◌≡◌, option_map};
 ghost use Rattle.contacts_base.specs.Surfaces.{IsSurface};
 ghost use Rattle.plain_world.specs.Formed.{surface_of};

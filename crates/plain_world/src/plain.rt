@@ -1,3 +1,5 @@
+//! A world as plain lists.
+
 ghost use Rattle.std.specs.Prelude.{◌≡◌, ◌<◌, length, map};
 ghost use Rattle.plain_world.specs.KeptColours.{constraints_of, members_at};
 

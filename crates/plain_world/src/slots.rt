@@ -1,3 +1,5 @@
+//! Lists of bodies and joints by slot.
+
 ghost use Rattle.std.specs.Prelude.{◌≡◌, ◌<◌, ◌≤◌, ◌-◌, ◌+◌, vec_len, vec_capacity, IfOk, None, slice_set};
 ghost use Rattle.std.specs.Option.{option_copied};
 ghost use Rattle.std.specs.Result.{IsOkUnless};

@@ -1,3 +1,5 @@
+//! How a run of the program ended, as its exit status.
+
 /// How a run of the program ended.
 #[derive(Clone, Copy, Debug, PartialEq, Eq)]
 pub enum Status {

@@ -1,3 +1,5 @@
+//! Tests of the program's words.
+
 use crate::{Instead, Options, options};
 use std::alloc::Global;
 use std::test::Fail;

@@ -1,3 +1,5 @@
+//! The collide of a step: the shapes of the bodies, given to the contacts.
+
 ghost use Rattle.std.specs.Prelude.{◌≡◌, ◌<◌, ◌≤◌, ◌*◌, ◌+◌, ◌++◌, All, OnOk, IfOk, length, []};
 ghost use Rattle.colour_solver.specs.States.{places_from};
 ghost use Rattle.std.specs.Result.{IsOkUnless};

@@ -1,3 +1,5 @@
+//! A list of commands, applied one after another.
+
 ghost use Rattle.std.specs.Prelude.{◌≡◌, ◌↔◌, IsTrue, IfOk, OnOk, OnErr, Err};
 ghost use Rattle.std.specs.Result.{IsOkUnless};
 ghost use Rattle.world_core.specs.Grown.{GrowsByCalls};

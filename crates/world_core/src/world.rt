@@ -1,3 +1,5 @@
+//! The world: what it keeps, and its invariant.
+
 mod bodies;
 mod enabling;
 mod joints;

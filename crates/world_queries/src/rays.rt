@@ -1,3 +1,5 @@
+//! Rays: the first shape that a ray hits (Box2D: `b2World_CastRayClosest`).
+
 ghost use Rattle.std.specs.Prelude.{◌≡◌, IfOk};
 ghost use Rattle.std.specs.Result.{result_err};
 ghost use Rattle.plain_world.specs.Slots.{body_at};

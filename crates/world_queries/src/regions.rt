@@ -1,3 +1,5 @@
+//! Regions: which shapes overlap a box (Box2D: `b2World_OverlapAABB`).
+
 ghost use Rattle.std.specs.Prelude.{◌≡◌, [], ◌∷◌, ◌++◌, IfOk, OnOk};
 ghost use Rattle.std.specs.Result.{IsOkUnless};
 ghost use Rattle.plain_world.specs.Slots.{body_at};

@@ -1,3 +1,5 @@
+//! A shape by its name, as it lies in the world.
+
 ghost use Rattle.std.specs.Prelude.{◌≡◌, IfSome, option_map};
 ghost use Rattle.plain_world.specs.Placement.{shape_of};
 ghost use Rattle.shape_rays.specs.Hits.{IsPlacedShape};

@@ -1,3 +1,5 @@
+//! The commands of a world, and what an accepted one answers.
+
 ghost use Rattle.std.specs.Prelude.{◌≡◌};
 ghost use Rattle.world_rules.specs.Laws.{push_of};
 

@@ -1,3 +1,5 @@
+//! Two worlds compared, part by part.
+
 use crate::calls::World;
 use crate::trials::stop::{Moment, Part, Stop};
 use graph_colours::COLOURS;

@@ -1,3 +1,5 @@
+//! Why a trial ends early: what differed, and when.
+
 use fixed_geom::Refusal;
 use std::fmt;
 

@@ -1,3 +1,5 @@
+//! One call, tried in a world: what it does, and that a refused one changes nothing.
+
 use crate::calls::{Answer, World};
 use crate::trials::compare::{
     are_same_censuses, are_same_frames, expect, expect_same_lists, expect_same_worlds,

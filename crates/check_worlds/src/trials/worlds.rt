@@ -1,3 +1,5 @@
+//! The three equal worlds of a trial: the one that is called, its copy, and the reference.
+
 use crate::calls::{Answer, World, calls_of};
 use crate::trials::compare::expect_same_worlds;
 use crate::trials::script::world_of;
