@@ -6,7 +6,8 @@ ghost use Rattle.momenta.specs.Motions.{IsMass, IsMotion};
 use crate::assertions::{same, same_items};
 use fixed_geom::{Rot, Vec2};
 use momenta::{
-    BodyState, Ends, Goal, Line, MassData, Momenta64, MomentaPair64, Motion, advance, clamp_speed, inverse_mass, inverse_reciprocal, momenta_pair_64, parting, pull, reciprocals_of, solve_line,
+    BodyState, Ends, Goal, Line, MassData, Momenta64, MomentaPair64, Motion, advance, clamp_speed,
+    inverse_mass, inverse_reciprocal, momenta_pair_64, parting, pull, reciprocals_of, solve_line,
 };
 
 const AHEAD: Rot = Rot { c: 1 << 30, s: 0 };

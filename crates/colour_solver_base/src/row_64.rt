@@ -115,14 +115,7 @@ fn solve_tangent_64(
         high: most,
         total: point.tangent_impulse,
     };
-    solve_line_64(
-        &point.tangent_line(),
-        apart,
-        goal,
-        a,
-        b,
-        after_normal.now,
-    )
+    solve_line_64(&point.tangent_line(), apart, goal, a, b, after_normal.now)
 }
 
 /// The impulse along the normal of a point.
@@ -154,14 +147,7 @@ fn solve_normal_64(
         high: MAX_NORMAL_IMPULSE,
         total: point.normal_impulse,
     };
-    solve_line_64(
-        &point.normal_line(),
-        apart,
-        goal,
-        a,
-        b,
-        now,
-    )
+    solve_line_64(&point.normal_line(), apart, goal, a, b, now)
 }
 
 /// The normal impulse of a point, then its friction.

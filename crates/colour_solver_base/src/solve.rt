@@ -136,12 +136,7 @@ fn solve_normal(bias: i64, apart: Vec2, point: &mut PointRow, ends: &mut Ends)
         high: MAX_NORMAL_IMPULSE,
         total: point.normal_impulse,
     };
-    let total = solve_line(
-        &point.normal_line(),
-        apart,
-        goal,
-        ends,
-    );
+    let total = solve_line(&point.normal_line(), apart, goal, ends);
     point.normal_impulse = total;
 }
 
@@ -198,12 +193,7 @@ fn apply_friction(friction: i64, apart: Vec2, point: &mut PointRow, ends: &mut E
         high: most,
         total: point.tangent_impulse,
     };
-    let total = solve_line(
-        &point.tangent_line(),
-        apart,
-        goal,
-        ends,
-    );
+    let total = solve_line(&point.tangent_line(), apart, goal, ends);
     point.tangent_impulse = total;
 }
 

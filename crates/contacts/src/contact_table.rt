@@ -16,13 +16,13 @@ ghost use Rattle.contacts.specs.Fates.{AreWithin, moved_by};
 ghost use Rattle.contacts.specs.Kept.{CanCollide, IsMadeOf};
 ghost use Rattle.packed_sets.specs.Marks.{AreListed};
 
-use crate::pair_sweep::PairSweep;
 use crate::crowded::are_crowded;
 use crate::due::{Due, Touches, carry_out};
+use crate::fates::ShapesByName;
 use crate::forbidden::ForbiddenPairs;
 use crate::moved_pairs::fresh_of_marked;
+use crate::pair_sweep::PairSweep;
 use crate::stirring::{Stirring, refresh};
-use crate::fates::ShapesByName;
 use crate::update::update_known;
 use contacts_base::{ContactEntry, ContactKey, Contacts, Impulses, SplitContacts};
 use fixed_geom::Refusal;

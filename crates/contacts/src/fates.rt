@@ -13,10 +13,10 @@ ghost use Rattle.contacts.specs.Known.{again, either_moved, found, may_touch, ne
 ghost use Rattle.contacts.specs.Looked.{ending};
 ghost use Rattle.contacts.specs.Fates.{key_if_begun, moved_by, noted, one_stirs_of, outcome, stirs_in, after_fate};
 
-use crate::pair_sweep::PairSweep;
 use crate::changes::contact_with;
 use crate::forbidden::{ForbiddenPairs, is_forbidden};
 use crate::marks::either_moved;
+use crate::pair_sweep::PairSweep;
 use contacts_base::{ContactEntry, ContactKey, PackedContact, Proxy, Renewal, ShapeId, is_near};
 use fixed_geom::{Box2, Refusal};
 

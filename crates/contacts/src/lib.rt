@@ -25,13 +25,13 @@ mod survey;
 mod sweep;
 mod update;
 
-pub use pair_sweep::PairSweep;
 pub use changes::Changes;
 pub use constraint::Constraint;
-pub use due::Touches;
-pub use forbidden::{BodyPair, ForbiddenPairs};
 pub use contact_table::ContactTable;
+pub use due::Touches;
+pub use fates::{Fate, ShapesByName};
+pub use forbidden::{BodyPair, ForbiddenPairs};
 pub use known::{
     all_known_after, contacts_by_codes, contacts_in_parts, known_stays, near_are_known,
 };
-pub use fates::{ShapesByName, Fate};
+pub use pair_sweep::PairSweep;

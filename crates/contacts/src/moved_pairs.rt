@@ -15,9 +15,9 @@ ghost use Rattle.contacts.specs.Fates.{AreWithin, moved_by};
 ghost use Rattle.packed_sets.specs.Marks.{AreListed};
 
 use crate::changes::entry_with;
+use crate::fates::{ShapesByName, may_touch};
 use crate::forbidden::ForbiddenPairs;
 use crate::marks::either_moved;
-use crate::fates::{ShapesByName, may_touch};
 use contacts_base::{ContactEntry, ContactKey, Hint, Proxy, ShapeId, SplitContacts, is_near};
 use fixed_geom::Refusal;
 use shapes::MAX_SHAPES;

@@ -14,9 +14,9 @@ ghost use Rattle.contacts.specs.Fates.{IsAdded, begun_keys, ended_keys, moved_by
 
 use crate::changes::push_key;
 use crate::due::Touches;
+use crate::fates::{Fate, ShapesByName, begun_key, ended_key};
 use crate::forbidden::ForbiddenPairs;
 use crate::stirring::fate_in;
-use crate::fates::{ShapesByName, Fate, begun_key, ended_key};
 use contacts_base::merge::{merge, push_below};
 use contacts_base::{ContactEntry, ContactKey};
 use fixed_geom::Refusal;

@@ -9,8 +9,8 @@ ghost use Rattle.contacts.specs.Stirring.{AreFlagsListed, AreHeld, AreQuiet, is_
 ghost use Rattle.contacts.specs.Fates.{moved_by, outcome, after_fate};
 ghost use Rattle.packed_sets.specs.Marks.{AreListed};
 
+use crate::fates::{Fate, ShapesByName, fate_of};
 use crate::forbidden::ForbiddenPairs;
-use crate::fates::{ShapesByName, Fate, fate_of};
 use contacts_base::{ContactEntry, SplitContacts};
 use fixed_geom::Refusal;
 use std::alloc::Global;

@@ -12,9 +12,9 @@ ghost use Rattle.contacts.specs.Fates.{moved_by, noted};
 
 use crate::changes::push_key;
 use crate::due::Touches;
+use crate::fates::{Fate, ShapesByName, begun_key, ended_key, fate_of, note, note_end};
 use crate::forbidden::ForbiddenPairs;
 use crate::stirring::Stirring;
-use crate::fates::{ShapesByName, Fate, begun_key, ended_key, note, note_end, fate_of};
 use contacts_base::{Renewal, SplitContacts};
 use fixed_geom::Refusal;
 use std::alloc::Global;

@@ -16,11 +16,11 @@ ghost use Rattle.contacts.specs.Stirring.{AreQuiet, one_flagged, stirring_places
 ghost use Rattle.contacts.specs.Fates.{IsMade, moved_by};
 
 use crate::due::{Due, Touches};
+use crate::fates::ShapesByName;
 use crate::forbidden::ForbiddenPairs;
 use crate::rebuild::{Rebuilt, rebuild};
 use crate::stirring::{Stirring, is_one_flagged};
 use crate::survey::look_over;
-use crate::fates::ShapesByName;
 use contacts_base::merge::merge;
 use contacts_base::{ContactEntry, ContactKey, SplitContacts};
 use fixed_geom::Refusal;

@@ -14,7 +14,7 @@ ghost use Rattle.graph_colours.specs.Colours.{list_at, all_members, least_colour
 
 use crate::edited::EditedList;
 use crate::limits::OVERFLOW;
-use crate::lists::{copies, first_with, no_lists, remove_from_first, reserve_all, flush_all};
+use crate::lists::{copies, first_with, flush_all, no_lists, remove_from_first, reserve_all};
 use crate::marks::{first_free, grow, set_marks};
 use crate::{Id, Member, Movers};
 use fixed_geom::Refusal;

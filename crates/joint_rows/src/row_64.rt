@@ -38,14 +38,7 @@ fn solve_with_64(
         high: MAX_JOINT_IMPULSE,
         total: row.impulse,
     };
-    solve_line_64(
-        &row.line,
-        apart,
-        goal,
-        a,
-        b,
-        now,
-    )
+    solve_line_64(&row.line, apart, goal, a, b, now)
 }
 
 /// A joint in a solver pass, as `solve_joint` has it: the accumulated impulse and the two bodies' momenta after it, or `None`

@@ -107,10 +107,5 @@ pub fn solve_joint(row: &mut JointRow, ends: &mut Ends)
         high: MAX_JOINT_IMPULSE,
         total: row.impulse,
     };
-    row.impulse = solve_line(
-        &row.line,
-        apart,
-        goal,
-        ends,
-    );
+    row.impulse = solve_line(&row.line, apart, goal, ends);
 }

@@ -13,8 +13,8 @@ use crate::ranges::{are_in, is_in};
 use crate::state::{carried_back, carried_on};
 use crate::{BodyState, Goal, Line, MAX_ANGULAR_MOMENTUM, MAX_MASS, MIN_INVERSE_MASS, spin};
 use fixed_geom::{
-    MAX_LINE_IMPULSE, MAX_OFFSET, MAX_SPIN, Vec2, ZERO_VECTOR, cross_64, minus, opposite, plus, rdiv_by,
-    share_by,
+    MAX_LINE_IMPULSE, MAX_OFFSET, MAX_SPIN, Vec2, ZERO_VECTOR, cross_64, minus, opposite, plus,
+    rdiv_by, share_by,
 };
 
 /// A component of a momentum up to this has room for the quotient by a mass and for some impulses.

@@ -16,7 +16,7 @@ ghost use Rattle.world_core.specs.Named.{shape_of};
 ghost use Rattle.world_rules.specs.Collide.{body_proxies, proxies_of, contacts_after};
 
 use body_handles::MAX_SLOTS;
-use contacts::{PairSweep, ContactTable, ShapesByName, Touches};
+use contacts::{ContactTable, PairSweep, ShapesByName, Touches};
 use contacts_base::{Proxy, ShapeId};
 use fixed_geom::{Box2, Refusal};
 use plain_world::{Body, surface_of};

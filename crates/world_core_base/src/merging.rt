@@ -88,7 +88,13 @@ fn list_slot(
 }
 
 /// Lists the slots of a group's bodies, which are all in one of two lists, for which there is room.
-pub(crate) fn merge(list: &mut Vec<u32>, group: Group, states: &[BodyState], slots: &[u32], added: &[u32])
+pub(crate) fn merge(
+    list: &mut Vec<u32>,
+    group: Group,
+    states: &[BodyState],
+    slots: &[u32],
+    added: &[u32],
+)
     requires slots { AreSlotsRising slots.now }
     requires added { AreSlotsRising added.now }
     requires all { (slot : ℕ) → is_of group (slice_index_or states.now slot nobody) ≡ true → IsIn slots.now 0 slot ⊎ IsIn added.now 0 slot }
