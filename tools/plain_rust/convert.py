@@ -49,6 +49,7 @@ WRITTEN = [
     (re.compile(r", Error\)\]"), ")]"),
     (re.compile(r": Copy \+ Drop\b"), ": Copy"),
     (re.compile(r": Drop\b"), ""),
+    (re.compile(r"\bvec!\[in (\w+); ([^;\]]+); ([^;\]]+)\]"), r"shim::Vec::filled(\1, \2, \3)"),
 ]
 QUIET = "#![allow(dead_code, unused_imports, unused_variables, unused_mut, unused_must_use)]\n"
 PACKAGE = '[package]\nname = "{name}"\nversion = "0.1.0"\nedition = "2024"\n\n[dependencies]\nshim = {{ path = "../shim" }}\n'

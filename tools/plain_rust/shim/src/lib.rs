@@ -129,6 +129,10 @@ impl<T: PartialEq> Vec<T> {
 }
 
 impl<T: Clone> Vec<T> {
+    pub fn filled(_: Global, item: T, count: usize) -> Result<Self, AllocError> {
+        Ok(Vec(std::vec![item; count]))
+    }
+
     pub fn from_slice(_: Global, items: &[T]) -> Result<Self, AllocError> {
         Ok(Vec(items.to_vec()))
     }
