@@ -2,7 +2,7 @@
 // seconds: 'gravity X Y'; 'circle X Y RADIUS FRICTION' and 'capsule X Y AX AY BX BY RADIUS INERTIA FRICTION', movers, whose inertia is that of a mass of 1;
 // 'segment X Y AX AY BX BY FRICTION' and 'nail X Y', which stand; 'velocity BODY VX VY';
 // 'joint A B LENGTH', between two centres; 'sleep BODY'; 'tick', a step of a 240th of a second; 'step', one of a 60th. A body is named by its place among
-// all bodies. It prints the nanoseconds of processor time of all 'step's together, how many there were, how many movers there are, and how many of them are awake.
+// all bodies. A number of sub-steps may be given: a step is then made by so many, each with its part of the 4 iterations. It prints the nanoseconds of processor time of all 'step's together, how many there were, how many movers there are, and how many of them are awake.
 #include <box2d/box2d.h>
 #include <cstdio>
 #include <cstdlib>
@@ -29,7 +29,8 @@ static b2Vec2 place() {
   return b2Vec2(x, number());
 }
 
-int main() {
+int main(int count, char **words) {
+  const int parts = count > 1 ? std::atoi(words[1]) : 1;
   b2World world(b2Vec2(0, 0));
   std::vector<b2Body *> bodies;
   double took = 0;
@@ -96,7 +97,7 @@ int main() {
       world.Step(1.0f / 240, 4, 1);
     } else {
       double start = nanoseconds();
-      world.Step(1.0f / 60, 4, 1);
+      for (int part = 0; part < parts; part++) world.Step(1.0f / float(60 * parts), 4 / parts, 1);
       took += nanoseconds() - start;
       steps++;
     }
