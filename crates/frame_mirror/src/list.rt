@@ -18,7 +18,7 @@ impl Mirrored for Brand {
 }
 
 /// The rule of the list: its word is its length, and call numbers never go down.
-pub(crate) struct FrameList;
+pub struct FrameList;
 
 impl Rule<Frame, u64> for FrameList {
     ghost use Rattle.std.specs.Prelude.{[]};
@@ -39,7 +39,7 @@ impl Rule<Frame, u64> for FrameList {
 }
 
 /// Who adds a frame trades nothing for it.
-pub(crate) struct NoGain;
+pub struct NoGain;
 
 impl Gain<Frame, u64> for NoGain {
     ghost use base.Fml.{ftrue};
@@ -48,7 +48,7 @@ impl Gain<Frame, u64> for NoGain {
 }
 
 /// The step that adds a frame to the list.
-pub(crate) struct Add;
+pub struct Add;
 
 impl Play<Frame, u64> for Add {
     ghost use Rattle.frame_mirror.specs.Rules.{Adds};

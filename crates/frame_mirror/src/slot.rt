@@ -6,7 +6,7 @@ use std::sync::{Arc, OnceLock};
 
 /// A place for a mark, which is set once its frame stands in the list.
 #[derive(Drop)]
-pub(crate) struct Slot<M> {
+pub struct Slot<M> {
     pub(crate) top: OnceLock<M>,
 }
 
