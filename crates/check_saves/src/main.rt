@@ -1,11 +1,12 @@
 //! Reads saved worlds and parts of them, one a line, and writes each again: the version's number, a tab, the part's word or `world`, a tab and the value. What is told of a
 //! line is the value that was written, or the number of the first clause that was found broken. The word `text` stands for a world whose text is written with no
-//! value between.
+//! value between, and `quick` for one whose text is read with no
+//! value of it: what is told then is how much it has.
 #![tactic(auto)]
 
 mod parts;
 
-use parts::{Part, rewritten};
+use parts::{Part, rewritten, sizes};
 use serde_json::Value;
 use std::alloc::Global;
 use std::io;
@@ -37,12 +38,20 @@ fn request_of(line: &str) -> Option<Request<'_>> {
     })
 }
 
-/// What is told of a value.
-fn answer(alloc: Global, request: &Request) -> Result<String, Broken> {
+/// What is made of a text.
+fn made(alloc: Global, request: &Request) -> Result<String, Broken> {
+    if let Part::Quick = request.part {
+        return sizes(alloc, request.text);
+    }
     let Ok(value) = Value::from_str(alloc, request.text) else {
         return Ok(format!(in alloc; "no JSON")?);
     };
-    match rewritten(alloc, request.version, request.part, &value) {
+    rewritten(alloc, request.version, request.part, &value)
+}
+
+/// What is told of a text.
+fn answer(alloc: Global, request: &Request) -> Result<String, Broken> {
+    match made(alloc, request) {
         Ok(text) => Ok(text),
         Err(Broken::Clause(clause)) => {
             let number = clause.number();

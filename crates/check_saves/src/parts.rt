@@ -4,6 +4,7 @@ use body_handles::Place;
 use contacts_base::{ContactEntry, PackedSurface, Surface};
 use fixed_geom::Refusal;
 use islands::{IslandState, Label};
+use loaded_text::read_text;
 use plain_world::BodyJoint;
 use saved_text::write_text;
 use serde_json::Value;
@@ -34,6 +35,8 @@ pub enum Part {
     World,
     /// A world whose text is written with no value between.
     Text,
+    /// A world whose text is read with no value of it.
+    Quick,
 }
 
 impl Part {
@@ -45,6 +48,7 @@ impl Part {
             "ledger" => Some(Part::Totals),
             "world" => Some(Part::World),
             "text" => Some(Part::Text),
+            "quick" => Some(Part::Quick),
             _ => None,
         }
     }
@@ -76,7 +80,7 @@ fn written_again(
         Part::Joints => joints(alloc, &mut reader, version, value)?,
         Part::Contacts => contacts(alloc, &mut reader, version, value)?,
         Part::Totals => totals(alloc, &mut reader, value)?,
-        Part::World | Part::Text => world(alloc, value)?,
+        Part::World | Part::Text | Part::Quick => world(alloc, value)?,
     };
     reader.verdict(Clause::Momentum)?;
     Ok(written)
@@ -224,4 +228,15 @@ fn text(alloc: Global, value: &Value) -> Result<String, Broken> {
         Ok(text) => Ok(text),
         Err(_) => Err(Broken::NoMemory),
     }
+}
+
+/// What a world has whose text is read with no value of it, if the text is one that a save wrote.
+pub fn sizes(alloc: Global, text: &str) -> Result<String, Broken> {
+    let Some(read) = read_text(alloc, text.as_bytes()) else {
+        return Ok(format!(in alloc; "no save")?);
+    };
+    let (plain, _) = read?;
+    let (slots, contacts) = (plain.places().len(), plain.contacts().len());
+    let (joints, steps) = (plain.joint_places().len(), plain.steps());
+    Ok(format!(in alloc; "{slots} slots, {joints} joints, {contacts} contacts, {steps} steps")?)
 }

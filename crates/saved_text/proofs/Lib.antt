@@ -2,4 +2,4 @@ mod Adding
 mod Ends
 mod Narrow
 mod Objects
-mod Reading
+pub mod Reading

@@ -127,9 +127,12 @@ pub(crate) fn save(alloc: Global, world: &WorldCore) -> Result<String, Refusal> 
     world_desk::text_of(alloc, world)
 }
 
-/// The world of a text that is JSON. Refused 12 with the first clause that it breaks, or 1 where memory is wanting. What can't be a saved world at
-/// the first look is refused before a value is made of it.
+/// The world of a text that is JSON. Refused 12 with the first clause that it breaks, or 1 where memory is wanting. No value is made of a text that
+/// a save wrote, nor of one that can't be a saved world at the first look, which is refused.
 pub(crate) fn load(alloc: Global, text: &str) -> Result<WorldCore, Refusal> {
+    if let Some(read) = world_desk::read_world(alloc, text.as_bytes()) {
+        return read.map_err(|broken| broken.refusal());
+    }
     if !may_be_world(text, &mut Scratch::new(alloc))? {
         return Err(Broken::Clause(Clause::Form).refusal());
     }

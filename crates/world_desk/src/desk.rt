@@ -14,10 +14,10 @@ ghost use Rattle.world_rules.specs.Apply.{IsMade, empty_world, gravity_refusal};
 ghost use Rattle.world_rules.specs.World.{book_of};
 
 use crate::digest::digest_of;
+use crate::loading::world_of_text;
 use crate::text::text_of;
-use crate::unread::{Unread, unread_of};
+use crate::unread::Unread;
 use fixed_geom::{Box2, Refusal, Vec2};
-use serde_json::Value;
 use std::alloc::Global;
 use world_core::{ContactEntry, ShapeId, WorldCore};
 
@@ -76,14 +76,8 @@ impl Desk {
         ensures loaded { IfOk result (λ desk. IsLoaded text.now desk.world) }
         ensures refused { IfErr result (IsUnread text.now) }
     {
-        let value = match Value::from_slice(alloc, text) {
-            Ok(value) => value,
-            Err(error) => return Err(unread_of(&error)),
-        };
-        match WorldCore::load(alloc, &value) {
-            Ok(world) => Ok(Desk::with(alloc, world)),
-            Err(broken) => Err(Unread::Broken(broken)),
-        }
+        let world = world_of_text(alloc, text)?;
+        Ok(Desk::with(alloc, world))
     }
 
     /// Keeps the shapes over a region, in u. Refused 5 where its corners are beyond their limits or exchanged, else 1 where memory is wanting;

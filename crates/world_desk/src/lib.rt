@@ -6,10 +6,12 @@
 
 mod desk;
 mod digest;
+mod loading;
 mod text;
 mod unread;
 
 pub use desk::Desk;
 pub use digest::digest_of;
+pub use loading::read_world;
 pub use text::text_of;
 pub use unread::Unread;

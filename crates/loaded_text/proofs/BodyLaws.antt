@@ -1,0 +1,132 @@
+-- A body that stands in a text is read as this body.
+use Rattle.std.proofs.Common.{◌≡◌, ℕ, ◌≤◌, ◌++◌, ◌∷◌, [], false, true, List, Option, codes, pos, refl, sym, ap, ap₂, ◌∙◌, subst, arith}
+use Rattle.momenta.specs.declared.mass.MassData.{MassData}
+use Rattle.plain_world.specs.Bodies.{IsMassOf}
+use Rattle.plain_world.specs.Kinds.{IsCourseOf}
+use Rattle.plain_world.specs.declared.body.Body.{Body}
+use Rattle.plain_world.specs.declared.kind.Kind.{Kind}
+use Rattle.plain_world.specs.declared.kind.Kind.TheVariants.{Static, Kinematic, Dynamic}
+use Rattle.saved_text.specs.Bodies.{last_of_body}
+use Rattle.saved_text.specs.Leaves.{facing_of}
+use Rattle.serde_json.specs.Data.{Data, Items, boolean, depth, string}
+use Rattle.serde_json.specs.Find.{get}
+use Rattle.serde_json.specs.View.{items_of}
+use Rattle.world_file_base.specs.Asks.{no_asks}
+use Rattle.world_file_base.specs.Reading.{items_in, list_asks, truth_asks, truth_in, unsigned_asks, unsigned_in}
+use Rattle.world_file_base.specs.SavedBodies.{body_asks, body_in, keys_asks, kind_asks, kind_in, kind_name, mass_asks, mass_in, membership_in, motion_asks, motion_in, numbers_asks, sleeping_under, whole_body_asks}
+use Rattle.world_file_base.specs.SavedShapes.{defs_in, fats_in, shapes_asks}
+use Rattle.world_file_base.specs.Written.{Member, decimal_of, integer, list_data, natural, natural_or_null, vector_of}
+use Rattle.world_file_base.specs.declared.saved.Membership.{Membership}
+use Rattle.world_file.proofs.BackNumbers.{unsigned_back}
+use Rattle.loaded_text.specs.Bodies.{BodyHolds, IsFront, front_members, made, membership_of}
+use Rattle.loaded_text.specs.Shapes.{ShapesHold, no_shapes}
+use Rattle.loaded_text.specs.Stands.{MembersStand, key_text}
+use Rattle.loaded_text.specs.declared.bodies.LoadedBody.{LoadedBody}
+use Rattle.loaded_text.specs.declared.body_members.Front.{Front}
+use Rattle.loaded_text.specs.declared.body_members.Last.{Last}
+use Rattle.loaded_text.specs.declared.saved_shapes.LoadedShapes.{LoadedShapes}
+use Rattle.loaded_text.proofs.Back.{truth_back}
+use Rattle.loaded_text.proofs.BodyKeys.{HasCourse, HasKeys, at_key, body_ascends, body_data, body_members, front_by, has_course_of, has_keys_of, kind_read, mass_read, membership_read, motion_read}
+use Rattle.loaded_text.proofs.Joined.{member_then, members_then, object_stands}
+use Rattle.loaded_text.proofs.Parts.{or_null_depth}
+
+-- ---- its value
+
+-- what is known of a body's parts
+pub record AreParts (f : Front) (s : LoadedShapes) (last : Last) : Type 0 where
+  pub front : IsFront f
+  pub course : IsCourseOf last.kind
+  pub mass : IsMassOf last.kind (record { mass = f.mass; inertia = f.inertia })
+  pub still : f.inertia ≡ pos 0 → f.l ≡ pos 0
+  pub whole : whole_body_asks (made f s last).body (made f s last).membership no_asks ≡ no_asks
+
+record IsBodyRead (most : ℕ) (d : Data) (loaded : LoadedBody) : Type 0 where
+  body : body_in most d ≡ loaded.body
+  asks : body_asks most d no_asks ≡ no_asks
+
+body_read : (most : ℕ) (f : Front) (s : LoadedShapes) (last : Last) (items : List Data) (d : Data) → HasKeys d f last.kind items last.timer → HasCourse last.kind d → AreParts f s last → last.timer ≤ most
+    → s.shapes ≡ defs_in (items_of items) → s.fats ≡ fats_in (items_of items) → shapes_asks (items_of items) no_asks ≡ no_asks → IsBodyRead most d (made f s last)
+unfolding body_in body_asks keys_asks numbers_asks
+body_read most f s last items d keys course h timed defs_are fats_are fine =
+    let kind = kind_read last.kind d keys.kind_is h.course course in
+    let m : MassData = record { mass = f.mass; inertia = f.inertia } in
+    let mass = mass_read last.kind m d h.mass keys.mass keys.inertia in
+    let heavy : mass_in (kind_in d) d ≡ m = ap (λ (k : Kind). mass_in k d) kind.value ∙ mass.value in
+    let motion = motion_read f last.kind items last.timer d keys h.front h.still in
+    let moves : motion_in (mass_in (kind_in d) d).inertia d ≡ (made f s last).body.motion = ap (λ (m : MassData). motion_in m.inertia d) heavy ∙ motion.value in
+    let membership = membership_read f last.kind items last.timer d keys h.front in
+    let enabled = at_key truth_in truth_asks (get (codes "enabled") d) (boolean f.enabled) f.enabled keys.enabled (truth_back f.enabled) in
+    let timer = at_key (unsigned_in most) (unsigned_asks most) (get (codes "timer") d) (natural last.timer) last.timer keys.timer_is (unsigned_back most last.timer timed) in
+    let there : items_in (get (codes "shapes") d) ≡ items_of items = ap (λ (o : Option Data). items_in o) keys.shapes_are in
+    let asleep : sleeping_under (membership_in d) ≡ sleeping_under (membership_of f) = ap (λ (m : Membership). sleeping_under m) membership.value in
+    let defs : defs_in (items_in (get (codes "shapes") d)) ≡ s.shapes = ap (λ (ds : Items). defs_in ds) there ∙ sym defs_are in
+    let fats : fats_in (items_in (get (codes "shapes") d)) ≡ s.fats = ap (λ (ds : Items). fats_in ds) there ∙ sym fats_are in
+    let body : body_in most d ≡ (made f s last).body = λ i. record { kind = kind.value i; mass = heavy i; motion = moves i; enabled = enabled.value i; asleep = asleep i; timer = timer.value i; fats = fats i; shapes = defs i } in
+    let numbers : numbers_asks most d no_asks ≡ no_asks =
+    timer.asks _ ∙ enabled.asks _ ∙ membership.asks _
+    ∙ ap (λ (m : MassData). motion_asks m.inertia d (mass_asks (kind_in d) d (kind_asks d no_asks))) heavy ∙ motion.asks _
+    ∙ ap (λ (k : Kind). mass_asks k d (kind_asks d no_asks)) kind.value ∙ mass.asks _
+    ∙ kind.asks no_asks in
+    let listed : list_asks (get (codes "shapes") d) (numbers_asks most d no_asks) ≡ no_asks =
+    ap (λ (o : Option Data). list_asks o (numbers_asks most d no_asks)) keys.shapes_are ∙ numbers in
+    let all : keys_asks most d no_asks ≡ no_asks =
+    ap₂ (λ (ds : Items) r. shapes_asks ds r) there listed ∙ fine in
+    record {
+      body = body;
+      asks = ap₂ (λ (v : Body) (m : Membership). whole_body_asks v m (keys_asks most d no_asks)) body membership.value ∙ ap (λ r. whole_body_asks (made f s last).body (made f s last).membership r) all ∙ h.whole;
+    }
+
+-- ---- its text
+
+front_same : (f : Front) (kind : Kind) (a b : List ℕ) → kind_name kind ≡ kind_name f.kind → MembersStand false (front_members f) a b → MembersStand false (front_by f kind) a b
+front_same f kind a b e h =
+    let named : Member → List Member = λ m.
+    (codes "asleep", boolean f.asleep) ∷ (codes "at", vector_of f.at) ∷ (codes "enabled", boolean f.enabled) ∷ (codes "facing", facing_of f.facing) ∷ (codes "inertia", integer f.inertia) ∷ (codes "island", natural_or_null f.island)
+    ∷ m ∷ (codes "l", decimal_of f.l) ∷ (codes "loose", boolean f.loose) ∷ (codes "mass", integer f.mass) ∷ (codes "p", vector_of f.p) ∷ [] in
+    subst (λ (name : List ℕ). MembersStand false (named (codes "kind", string name)) a b) (sym e) h
+
+front_then : (f : Front) (kind : Kind) (ns : List Member) (a b c : List ℕ) → MembersStand false (front_by f kind) a b → MembersStand true ns b c → MembersStand false (front_by f kind ++ ns) a c
+front_then f kind ns a b c first second =
+    members_then false (codes "asleep", boolean f.asleep)
+    ((codes "at", vector_of f.at) ∷ (codes "enabled", boolean f.enabled) ∷ (codes "facing", facing_of f.facing) ∷ (codes "inertia", integer f.inertia) ∷ (codes "island", natural_or_null f.island)
+    ∷ (codes "kind", string (kind_name kind)) ∷ (codes "l", decimal_of f.l) ∷ (codes "loose", boolean f.loose) ∷ (codes "mass", integer f.mass) ∷ (codes "p", vector_of f.p) ∷ [])
+    ns a b c first second
+
+body_depth : (f : Front) (kind : Kind) (items : List Data) (timer : ℕ) → depth (list_data items) ≤ 4 → depth (body_data f kind items timer) ≤ 5
+body_depth f Static items timer low = omega (arith, low, or_null_depth f.island)
+body_depth f (Kinematic course) items timer low = omega (arith, low, or_null_depth f.island)
+body_depth f Dynamic items timer low = omega (arith, low, or_null_depth f.island)
+
+made_holds : (lead : List ℕ) (f : Front) (s : LoadedShapes) (last : Last) (a b c d e g h : List ℕ) → AreParts f s last → kind_name last.kind ≡ kind_name f.kind
+    → a ≡ lead ++ b → b ≡ 123 ∷ c → MembersStand false (front_members f) c d → ShapesHold (key_text true (codes "shapes")) no_shapes s d e → MembersStand true (last_of_body last.kind last.timer) e g → g ≡ 125 ∷ h
+    → BodyHolds lead (made f s last).body (made f s last).membership a h
+made_holds lead f s last a b c d e g h parts same before begun first middle behind close =
+    let items = middle.items in
+    let keys = has_keys_of f last.kind items last.timer in
+    let course = has_course_of f last.kind items last.timer in
+    let members =
+    front_then f last.kind ((codes "shapes", list_data items) ∷ last_of_body last.kind last.timer) c d g (front_same f last.kind c d same first)
+    (member_then true _ (codes "shapes") (list_data items) (last_of_body last.kind last.timer) d e g refl middle.stands behind) in
+    let read = λ (most : ℕ) (timed : last.timer ≤ most). body_read most f s last items (body_data f last.kind items last.timer) keys course parts timed middle.shapes middle.fats middle.asks in
+    record {
+      value = body_data f last.kind items last.timer;
+      stands = object_stands lead (body_members f last.kind items last.timer) a b c g h before begun members close (body_ascends f last.kind items last.timer);
+      shallow = body_depth f last.kind items last.timer middle.shallow;
+      membership = (membership_read f last.kind items last.timer (body_data f last.kind items last.timer) keys parts.front).value;
+      body = λ most timed. (read most timed).body;
+      asks = λ most timed. (read most timed).asks;
+    }
+
+-- what was found of a body that was made of its members
+pub record IsFitting (loaded : LoadedBody) : Type 0 where
+  pub mass : IsMassOf loaded.body.kind loaded.body.mass
+  pub still : loaded.body.mass.inertia ≡ pos 0 → loaded.body.motion.l ≡ pos 0
+  pub whole : whole_body_asks loaded.body loaded.membership no_asks ≡ no_asks
+
+pub body_holds : (lead : List ℕ) (f : Front) (s : LoadedShapes) (last : Last) (loaded : LoadedBody) (a b c d e g h : List ℕ) → loaded ≡ made f s last → IsFitting loaded → IsFront f → IsCourseOf last.kind → kind_name last.kind ≡ kind_name f.kind
+    → a ≡ lead ++ b → b ≡ 123 ∷ c → MembersStand false (front_members f) c d → ShapesHold (key_text true (codes "shapes")) no_shapes s d e → MembersStand true (last_of_body last.kind last.timer) e g → g ≡ 125 ∷ h
+    → BodyHolds lead loaded.body loaded.membership a h
+body_holds lead f s last loaded a b c d e g h is fits front course same before begun first middle behind close =
+    let own : IsFitting (made f s last) = subst (λ (x : LoadedBody). IsFitting x) is fits in
+    subst (λ (x : LoadedBody). BodyHolds lead x.body x.membership a h) (sym is)
+    (made_holds lead f s last a b c d e g h (record { front = front; course = course; mass = own.mass; still = own.still; whole = own.whole }) same before begun first middle behind close)

@@ -1,0 +1,12 @@
+pub mod Joined
+pub mod Parts
+pub mod Back
+pub mod Printed
+pub mod Lists
+pub mod ShapeLaws
+pub mod BodyKeys
+pub mod BodyLaws
+pub mod SlotLaws
+pub mod JointLaws
+pub mod ContactLaws
+pub mod WorldLaws

@@ -1,0 +1,7 @@
+pub mod Stands
+pub mod Shapes
+pub mod Bodies
+pub mod Joints
+pub mod Contacts
+pub mod Totals
+pub mod Worlds

@@ -1,0 +1,44 @@
+//! A text that is read from its front.
+
+ghost use Rattle.std.specs.Prelude.{◌≡◌, ◌<◌, ◌+◌, ◌++◌, ◌∷◌, true, false, IfNone, IfSome};
+
+/// What is left to be read of a text.
+#[derive(Clone, Copy)]
+pub struct Text<'a> {
+    pub rest: &'a [u8],
+}
+
+impl<'a> Text<'a> {
+    /// Takes these bytes if they stand first, and says whether they did.
+    pub fn take(&mut self, bytes: &[u8]) -> bool
+        ensures taken { result ≡ true → self.old.rest.now ≡ bytes.now ++ self.new.rest.now }
+        ensures kept { result ≡ false → self.new.rest.now ≡ self.old.rest.now }
+    {
+        let stands = self.rest.starts_with(bytes);
+        if stands {
+            self.rest = &self.rest[bytes.len()..];
+        }
+        stands
+    }
+
+    /// Takes these bytes, which have to stand first.
+    pub fn expect(&mut self, bytes: &[u8]) -> Option<()>
+        ensures { IfSome result (λ _. self.old.rest.now ≡ bytes.now ++ self.new.rest.now) }
+    {
+        if self.take(bytes) { Some(()) } else { None }
+    }
+
+    /// Takes a digit if one stands first.
+    pub(crate) fn digit(&mut self) -> Option<u8>
+        ensures digit { IfSome result (λ digit. (digit < 10) × (self.old.rest.now ≡ (48 + digit) ∷ self.new.rest.now)) }
+        ensures none { IfNone result (self.new.rest.now ≡ self.old.rest.now) }
+    {
+        match self.rest.split_first() {
+            Some((byte, rest)) if 48 <= *byte && *byte <= 57 => {
+                self.rest = rest;
+                Some(*byte - 48)
+            }
+            _ => None,
+        }
+    }
+}

@@ -1,0 +1,78 @@
+//! Whole numbers of up to 128 bits, which stand in the text as texts.
+
+ghost use Rattle.std.specs.Prelude.{◌≡◌, ◌<◌, ◌^◌, ◌++◌, decimal, IfSome, neg_ℤ, pos, unsigned_abs};
+ghost use Rattle.std.specs.Fmt.{signed_decimal};
+ghost use Rattle.serde_json.specs.Data.{string};
+ghost use Rattle.printed_json.specs.Leads.{Leads};
+
+use crate::text::Text;
+
+/// The greatest number that may have one more digit.
+const BEFORE_A_DIGIT: u128 = 17_014_118_346_046_923_173_168_730_371_588_410_571;
+
+/// How many digits a number has after its first at most.
+const MORE_DIGITS: u8 = 38;
+
+/// A number below zero of this size.
+fn negative_of(size: u128) -> Option<i128>
+    ensures negative { IfSome result (λ z. z ≡ neg_ℤ (pos size)) }
+    ensures some { IfSome result (λ _. 0 < size) }
+    ensures low { IfSome result (λ _. size < 2 ^ 127) }
+{
+    match i128::try_from(size) {
+        Ok(size) if size > 0 => Some(-size),
+        _ => None,
+    }
+}
+
+fn positive_of(size: u128) -> Option<i128>
+    ensures positive { IfSome result (λ z. z ≡ pos size) }
+    ensures low { IfSome result (λ _. size < 2 ^ 127) }
+{
+    i128::try_from(size).ok()
+}
+
+impl<'a> Text<'a> {
+    /// Takes the digits of a number. No zero stands before others.
+    fn wide_digits(&mut self) -> Option<u128>
+        ensures { IfSome result (λ n. self.old.rest.now ≡ decimal n ++ self.new.rest.now) }
+    {
+        let first = self.digit()?;
+        if first == 0 {
+            return Some(0);
+        }
+        let mut number = u128::from(first);
+        for _ in 0..MORE_DIGITS {
+            let Some(digit) = self.digit() else {
+                return Some(number);
+            };
+            if number > BEFORE_A_DIGIT {
+                return None;
+            }
+            number = number * 10 + u128::from(digit);
+        }
+        Some(number)
+    }
+
+    fn wide_signed(&mut self) -> Option<i128>
+        ensures text { IfSome result (λ z. self.old.rest.now ≡ signed_decimal z ++ self.new.rest.now) }
+        ensures size { IfSome result (λ z. unsigned_abs z < 2 ^ 127) }
+    {
+        if self.take(b"-") {
+            negative_of(self.wide_digits()?)
+        } else {
+            positive_of(self.wide_digits()?)
+        }
+    }
+
+    /// A number with a sign as a text, after these bytes.
+    pub fn decimal(&mut self, lead: &[u8]) -> Option<i128>
+        ensures { IfSome result (λ z. Leads lead.now (string (signed_decimal z)) self.old.rest.now self.new.rest.now) }
+    {
+        self.expect(lead)?;
+        self.expect(b"\"")?;
+        let number = self.wide_signed()?;
+        self.expect(b"\"")?;
+        Some(number)
+    }
+}
