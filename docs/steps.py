@@ -87,8 +87,7 @@ def picture(scenes, colours):
 
 
 def main(words):
-    page = (DOCS / "BENCH.md").read_text()
-    scenes = read_table(page[page.index("## Beside Box2D and Chipmunk") : page.index("## Where a step's time goes")])
+    scenes = read_table((DOCS / "BENCH.md").read_text())
     stale = []
     for name, colours in (("steps.svg", LIGHT), ("steps_dark.svg", DARK)):
         path, drawn = DOCS / "pictures" / name, picture(scenes, colours)

@@ -1,4 +1,4 @@
-pub mod SlotEntries
+pub mod Places
 pub mod Calls
 pub mod Orders
 pub mod IdTexts

@@ -1,6 +1,5 @@
 pub mod Pairs
 pub mod Sweep
-pub mod ChangedKeys
 pub mod Changes
 pub mod Known
 pub mod Fates
@@ -8,9 +7,8 @@ pub mod Stirring
 pub mod NearMarked
 pub mod Constraints
 pub mod Forbidden
-pub mod ByCodes
 pub mod ByPairs
 pub mod Inside
-pub mod PendingUpdates
+pub mod Due
 pub mod Looked
 pub mod Kept

@@ -1,2 +1,2 @@
-pub mod Visited
+pub mod Turned
 pub mod Putting

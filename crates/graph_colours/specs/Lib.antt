@@ -1,10 +1,9 @@
 pub mod Movers
-pub mod FoundMembers
 pub mod Members
 pub mod Colours
 pub mod Edits
 pub mod Gaps
-pub mod TakenColours
+pub mod Marks
 pub mod Graph
 pub mod Given
 pub mod Own

@@ -27,12 +27,12 @@ fn nothing_yet(alloc: Global) -> Saved
 {
     Saved {
         bodies: SavedBodies {
-            slot_entries: Vec::new(alloc),
+            places: Vec::new(alloc),
             bodies: Vec::new(alloc),
             memberships: Vec::new(alloc),
         },
         joints: SavedJoints {
-            slot_entries: Vec::new(alloc),
+            places: Vec::new(alloc),
             joints: Vec::new(alloc),
         },
         contacts: Vec::new(alloc),

@@ -1,5 +1,4 @@
 pub mod Motions
-pub mod ImpulseBounds
 pub mod Impulses
 pub mod Gains
 pub mod Line64

@@ -9,7 +9,6 @@ mod explanation;
 mod extended;
 mod joints;
 mod requests;
-mod saved_lines;
 mod status;
 mod worlds;
 

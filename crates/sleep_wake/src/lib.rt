@@ -12,9 +12,10 @@
 
 mod by_mover;
 mod change;
+mod changing;
 pub mod examples;
 mod gathering;
-mod graph;
+mod growing;
 pub mod laws;
 mod listing;
 mod names;
@@ -24,7 +25,6 @@ mod sets;
 mod splits;
 mod ties;
 mod wake_and_sleep;
-mod work;
 
 pub use change::Change;
 pub use names::{push_some, sort_once};

@@ -5,9 +5,9 @@ ghost use Rattle.std.specs.Option.{option_copied};
 ghost use Rattle.contacts_base.specs.Split.{contacts_in};
 ghost use Rattle.islands.specs.Labels.{label_at};
 ghost use Rattle.plain_world.specs.Slots.{item_at};
-ghost use Rattle.world_core.specs.Quiet.{HasFlagged, KeepFlags, flagged_if, flagged_joined, flagged_pair, flagged_touched};
+ghost use Rattle.world_core.specs.Quiet.{HasMarked, KeepMarks, marked_if, marked_joined, marked_pair, marked_touched};
 
-use crate::sleep_test::flag;
+use crate::sleep_test::mark;
 use contacts::Constraint;
 use contacts_base::{ContactEntry, ContactKey, Hint, SplitContacts};
 use graph_colours::{Colours, Member, OVERFLOW};
@@ -15,47 +15,47 @@ use islands::Islands;
 use plain_world::{Body, BodyJoint, item_at};
 use solver_sets::is_moving_at;
 
-/// Flags the island of the mover in a slot, if what is beside it moves.
-fn flag_if(flags: &mut Vec<bool>, islands: &Islands, moving: bool, slot: u32)
-    ensures { flags.new.items ≡ flagged_if moving (label_at islands.now.labels slot) flags.old.items }
+/// Marks the island of the mover in a slot, if what is beside it moves.
+fn mark_if(marks: &mut Vec<bool>, islands: &Islands, moving: bool, slot: u32)
+    ensures { marks.new.items ≡ marked_if moving (label_at islands.now.labels slot) marks.old.items }
 {
     if moving {
-        flag(flags, islands, slot);
+        mark(marks, islands, slot);
     }
 }
 
-/// Flags the island of each of two bodies that are beside one another, if the other moves.
-fn flag_pair(flags: &mut Vec<bool>, islands: &Islands, bodies: &[Option<Body>], a: u32, b: u32)
-    ensures { flags.new.items ≡ flagged_pair islands.now.labels bodies.now a b flags.old.items }
+/// Marks the island of each of two bodies that are beside one another, if the other moves.
+fn mark_pair(marks: &mut Vec<bool>, islands: &Islands, bodies: &[Option<Body>], a: u32, b: u32)
+    ensures { marks.new.items ≡ marked_pair islands.now.labels bodies.now a b marks.old.items }
 {
-    flag_if(flags, islands, is_moving_at(bodies, b), a);
-    flag_if(flags, islands, is_moving_at(bodies, a), b);
+    mark_if(marks, islands, is_moving_at(bodies, b), a);
+    mark_if(marks, islands, is_moving_at(bodies, a), b);
 }
 
-fn flag_joined(
-    flags: &mut Vec<bool>,
+fn mark_joined(
+    marks: &mut Vec<bool>,
     islands: &Islands,
     bodies: &[Option<Body>],
     joint: Option<&BodyJoint>,
 )
-    ensures { flags.new.items ≡ flagged_joined islands.now.labels bodies.now (option_copied joint.entry) flags.old.items }
+    ensures { marks.new.items ≡ marked_joined islands.now.labels bodies.now (option_copied joint.entry) marks.old.items }
 {
     if let Some(joint) = joint {
-        flag_pair(flags, islands, bodies, joint.a, joint.b);
+        mark_pair(marks, islands, bodies, joint.a, joint.b);
     }
 }
 
-fn flag_touched(
-    flags: &mut Vec<bool>,
+fn mark_touched(
+    marks: &mut Vec<bool>,
     islands: &Islands,
     bodies: &[Option<Body>],
     entry: &ContactEntry,
 )
-    ensures { flags.new.items ≡ flagged_touched islands.now.labels bodies.now (Some entry.now) flags.old.items }
+    ensures { marks.new.items ≡ marked_touched islands.now.labels bodies.now (Some entry.now) marks.old.items }
 {
     if entry.contact.is_touching() {
-        flag_pair(
-            flags,
+        mark_pair(
+            marks,
             islands,
             bodies,
             entry.key.first.slot,
@@ -64,39 +64,39 @@ fn flag_touched(
     }
 }
 
-fn flag_found(
-    flags: &mut Vec<bool>,
+fn mark_found(
+    marks: &mut Vec<bool>,
     islands: &Islands,
     bodies: &[Option<Body>],
     found: Option<&ContactEntry>,
 )
-    ensures { flags.new.items ≡ flagged_touched islands.now.labels bodies.now (option_copied found.entry) flags.old.items }
+    ensures { marks.new.items ≡ marked_touched islands.now.labels bodies.now (option_copied found.entry) marks.old.items }
 {
     if let Some(entry) = found {
-        flag_touched(flags, islands, bodies, entry);
+        mark_touched(marks, islands, bodies, entry);
     }
 }
 
-/// Flags the islands that the contact with this key keeps awake. It is looked for from `hint` on.
-fn flag_contact(
-    flags: &mut Vec<bool>,
+/// Marks the islands that the contact with this key keeps awake. It is looked for from `hint` on.
+fn mark_contact(
+    marks: &mut Vec<bool>,
     islands: &Islands,
     bodies: &[Option<Body>],
     contacts: &SplitContacts,
     hint: &mut Hint,
     key: ContactKey,
 )
-    ensures { (joints : List (Option BodyJoint)) (names timers : List ℕ) → KeepFlags islands.now.labels bodies.now joints (contacts_in contacts.now) timers → HasFlagged names islands.now.labels timers flags.old.items → HasFlagged names islands.now.labels timers flags.new.items }
+    ensures { (joints : List (Option BodyJoint)) (names timers : List ℕ) → KeepMarks islands.now.labels bodies.now joints (contacts_in contacts.now) timers → HasMarked names islands.now.labels timers marks.old.items → HasMarked names islands.now.labels timers marks.new.items }
 {
     if !(is_moving_at(bodies, key.first.slot) || is_moving_at(bodies, key.second.slot)) {
         return;
     }
-    flag_found(flags, islands, bodies, contacts.find(hint, key));
+    mark_found(marks, islands, bodies, contacts.find(hint, key));
 }
 
-/// Flags the islands that a constraint keeps awake, a contact of which is looked for from `hint` on.
-fn flag_by(
-    flags: &mut Vec<bool>,
+/// Marks the islands that a constraint keeps awake, a contact of which is looked for from `hint` on.
+fn mark_by(
+    marks: &mut Vec<bool>,
     islands: &Islands,
     bodies: &[Option<Body>],
     joints: &[Option<BodyJoint>],
@@ -104,36 +104,36 @@ fn flag_by(
     hint: &mut Hint,
     id: Constraint,
 )
-    ensures { (names timers : List ℕ) → KeepFlags islands.now.labels bodies.now joints.now (contacts_in contacts.now) timers → HasFlagged names islands.now.labels timers flags.old.items → HasFlagged names islands.now.labels timers flags.new.items }
+    ensures { (names timers : List ℕ) → KeepMarks islands.now.labels bodies.now joints.now (contacts_in contacts.now) timers → HasMarked names islands.now.labels timers marks.old.items → HasMarked names islands.now.labels timers marks.new.items }
 {
     match id {
         Constraint::Joint(handle) => {
-            flag_joined(
-                flags,
+            mark_joined(
+                marks,
                 islands,
                 bodies,
                 item_at(joints, handle.slot as usize),
             );
         }
-        Constraint::Contact(key) => flag_contact(flags, islands, bodies, contacts, hint, key),
+        Constraint::Contact(key) => mark_contact(marks, islands, bodies, contacts, hint, key),
     }
 }
 
-/// Flags the islands that the constraints of one colour keep awake.
-fn flag_colour(
-    flags: &mut Vec<bool>,
+/// Marks the islands that the constraints of one colour keep awake.
+fn mark_colour(
+    marks: &mut Vec<bool>,
     islands: &Islands,
     bodies: &[Option<Body>],
     joints: &[Option<BodyJoint>],
     contacts: &SplitContacts,
     members: &[Member<Constraint>],
 )
-    ensures { (names timers : List ℕ) → KeepFlags islands.now.labels bodies.now joints.now (contacts_in contacts.now) timers → HasFlagged names islands.now.labels timers flags.old.items → HasFlagged names islands.now.labels timers flags.new.items }
+    ensures { (names timers : List ℕ) → KeepMarks islands.now.labels bodies.now joints.now (contacts_in contacts.now) timers → HasMarked names islands.now.labels timers marks.old.items → HasMarked names islands.now.labels timers marks.new.items }
 {
     let mut hint = Hint { long: 0, short: 0 };
     for place in 0..members.len() {
-        flag_by(
-            flags,
+        mark_by(
+            marks,
             islands,
             bodies,
             joints,
@@ -144,10 +144,10 @@ fn flag_colour(
     }
 }
 
-/// Flags the islands of the movers that touch a kinematic body that moves or are joined to one, by the constraints that act.
+/// Marks the islands of the movers that touch a kinematic body that moves or are joined to one, by the constraints that act.
 #[inline(never)]
-pub(crate) fn flag_beside(
-    flags: &mut Vec<bool>,
+pub(crate) fn mark_beside(
+    marks: &mut Vec<bool>,
     islands: &Islands,
     bodies: &[Option<Body>],
     joints: &[Option<BodyJoint>],
@@ -155,11 +155,11 @@ pub(crate) fn flag_beside(
     colours: &Colours<Constraint>,
 )
     requires { colours.now.pending ≡ 0 }
-    ensures { (names timers : List ℕ) → KeepFlags islands.now.labels bodies.now joints.now (contacts_in contacts.now) timers → HasFlagged names islands.now.labels timers flags.old.items → HasFlagged names islands.now.labels timers flags.new.items }
+    ensures { (names timers : List ℕ) → KeepMarks islands.now.labels bodies.now joints.now (contacts_in contacts.now) timers → HasMarked names islands.now.labels timers marks.old.items → HasMarked names islands.now.labels timers marks.new.items }
 {
     for colour in 0..OVERFLOW + 1 {
-        flag_colour(
-            flags,
+        mark_colour(
+            marks,
             islands,
             bodies,
             joints,

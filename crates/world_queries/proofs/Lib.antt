@@ -1,5 +1,5 @@
 pub mod ByBoxesLaws
 pub mod FramedLaws
-pub mod PosedLaws
+pub mod PlacedLaws
 pub mod ShownLaws
 pub mod ThroughLaws

@@ -1,0 +1,43 @@
+use Rattle.std.proofs.Common.{◌≡◌, ◌+◌, ◌<◌, ◌∷◌, drop, length, sym, ap, ◌∙◌, subst, arith}
+use Rattle.islands.proofs.JoinLemmas.{contains_head}
+use Rattle.sleep_wake.specs.Acting.{Acting, acting, IsConsistent}
+use Rattle.sleep_wake.specs.Changes.{each_ended, ended}
+use Rattle.sleep_wake.specs.ChangeLists.{CanEnd}
+use Rattle.sleep_wake.proofs.SetLemmas.{front_is}
+use Rattle.sleep_wake.proofs.FoldLemmas.{are_up, end_next}
+use Rattle.sleep_wake.proofs.KeptLemmas.{ending_keeps}
+use Rattle.sleep_wake.proofs.changing.end_each.Goals as goal
+
+pub end-requires-clause-there : goal.end-requires-clause-there
+end-requires-clause-there g c =
+    let m = c.index-members-place.result in
+    let rest = drop (c.loop-place.place + 1) c.args.members.now in
+    let lt : c.loop-place.place < length c.args.members.now = omega (arith, c.loop-place-test.true, c.loop-place.auto.place-end) in
+    let front : drop c.loop-place.place c.args.members.now ≡ m ∷ rest = front_is c.args.members.now c.loop-place.place m lt c.index-members-place.is in
+    let now : Acting g.row.C.Denot = acting c.loop-place.ties.items c.loop-place.islands.labels c.loop-place.colours.lists in
+    let can : CanEnd g.C.Id.number (m ∷ rest) now = rw front at c.loop-place.invariant.can in
+    can.there m (contains_head m rest)
+
+pub loop-place-preserved : goal.loop-place-preserved
+loop-place-preserved g c =
+    let n = g.C.Id.number in
+    let m = c.index-members-place.result in
+    let rest = drop (c.loop-place.place + 1) c.args.members.now in
+    let lt : c.loop-place.place < length c.args.members.now = omega (arith, c.loop-place-test.true, c.loop-place.auto.place-end) in
+    let front : drop c.loop-place.place c.args.members.now ≡ m ∷ rest = front_is c.args.members.now c.loop-place.place m lt c.index-members-place.is in
+    let now : Acting g.row.C.Denot = acting c.loop-place.ties.items c.loop-place.islands.labels c.loop-place.colours.lists in
+    let next : Acting g.row.C.Denot = acting c.end.new.ties.items c.end.new.islands.labels c.end.new.colours.lists in
+    let is : next ≡ ended n m now = c.end.ensures.ended in
+    let can : CanEnd n (m ∷ rest) now = rw front at c.loop-place.invariant.can in
+    let left : each_ended n (m ∷ rest) now ≡ each_ended n c.args.members.now (acting c.args.ties.now.items c.args.islands.now.labels c.args.colours.now.lists) = rw front at c.loop-place.invariant.rest in
+    let P : Acting g.row.C.Denot → Type 0 = λ v. CanEnd n rest v in
+    let S : Acting g.row.C.Denot → Type 0 = λ v. IsConsistent n v in
+    record {
+      settled = subst S (sym is) (ending_keeps n now m c.loop-place.invariant.settled (can.there m (contains_head m rest)) (are_up now.labels m.movers (can.awake m (contains_head m rest))).first);
+      can = subst P (sym is) (end_next n m rest now c.loop-place.invariant.settled can);
+      rest = ap (λ (v : Acting g.row.C.Denot). each_ended n rest v) is ∙ left;
+      capacity = omega (arith, c.loop-place.invariant.capacity, c.end.ensures.capacity);
+      islands_room = c.end.ensures.islands_room ∙ c.loop-place.invariant.islands_room;
+      slots = c.end.ensures.slots ∙ c.loop-place.invariant.slots;
+      total = c.end.ensures.room ∙ c.loop-place.invariant.total;
+    }
